@@ -1,0 +1,98 @@
+-- The bits of a unit, and reading from their front.
+use Rattle.std.specs.Prelude.{ℕ, zero, suc, ◌+◌, ◌/◌, ◌%◌, ◌^◌, Bool, true, false, ◌==◌, List, [], ◌∷◌, length, drop, Option, Some, None, Result, Ok, Err}
+use Rattle.std.specs.List.{flat_map}
+use Rattle.avc_types.specs.declared.fault.Fault.{Fault}
+
+-- The RBSP of a unit's body (7.3.1): the 03 of each 00 00 03 is left out, and the count of zeros starts anew after it.
+abbrev pub rbsp : List ℕ → List ℕ
+rbsp (zero ∷ zero ∷ suc (suc (suc zero)) ∷ bytes) = 0 ∷ 0 ∷ rbsp bytes
+rbsp (b ∷ bytes) = b ∷ rbsp bytes
+rbsp [] = []
+
+-- A number as n bits, the most significant first.
+abbrev pub bits_of : ℕ → ℕ → List Bool
+bits_of zero v = []
+bits_of (suc n) v = ((v / 2 ^ n) % 2 == 1) ∷ bits_of n v
+
+-- The number that these bits are, the most significant first.
+abbrev pub number_of : List Bool → ℕ
+number_of [] = 0
+number_of (true ∷ bits) = 2 ^ length bits + number_of bits
+number_of (false ∷ bits) = number_of bits
+
+-- What stands before the last 1 bit, and nothing where there is no 1 bit.
+abbrev pub before_last_one : List Bool → Option (List Bool)
+before_last_one [] = None
+before_last_one (b ∷ bits) = one_before b (before_last_one bits)
+  where
+    one_before : Bool → Option (List Bool) → Option (List Bool)
+    one_before b (Some front) = Some (b ∷ front)
+    one_before true None = Some []
+    one_before false None = None
+
+abbrev pub or_none : Option (List Bool) → List Bool
+or_none (Some bits) = bits
+or_none None = []
+
+-- The bits of an RBSP before its stop bit, which is the last 1 bit (7.2); none where there is no 1 bit.
+abbrev pub bits_before_stop : List ℕ → List Bool
+bits_before_stop bytes = or_none (before_last_one (flat_map (bits_of 8) bytes))
+
+-- What a reader has: how many bits it has passed, and those that stand ahead of it before the stop bit.
+pub record Bits : Type 0 where
+  pub position : ℕ
+  pub ahead : List Bool
+
+-- a reader at the start of an RBSP
+abbrev pub start : List ℕ → Bits
+start bytes = record { position = 0; ahead = bits_before_stop bytes }
+
+-- a reader at a position that is not past the stop bit
+abbrev pub at : List ℕ → (position : ℕ) → Bits
+at bytes position = record { position = position; ahead = drop position (bits_before_stop bytes) }
+
+-- more_rbsp_data (7.2)
+abbrev pub more_data : Bits → Bool
+more_data b = elim b.ahead [ [] ↦ false | _ ∷ _ ↦ true ]
+
+-- A part of the syntax: what it is and what is left after it, or the first fault.
+abbrev pub Read : Type 0 → Type 0
+Read A = Bits → Result (A × Bits) Fault
+
+infixl 10 ◌>>=◌
+abbrev pub ◌>>=◌ : {A B : Type 0} → Read A → (A → Read B) → Read B
+◌>>=◌ {A} {B} part next b = go (part b)
+  where
+    go : Result (A × Bits) Fault → Result (B × Bits) Fault
+    go (Ok r) = next r.0 r.1
+    go (Err f) = Err f
+
+infixl 10 ◌>>◌
+abbrev pub ◌>>◌ : {A B : Type 0} → Read A → Read B → Read B
+first >> second = first >>= λ _. second
+
+-- nothing is read
+abbrev pub give : {A : Type 0} → A → Read A
+give x b = Ok (x, b)
+
+abbrev pub refuse : {A : Type 0} → Fault → Read A
+refuse f b = Err f
+
+-- the fault where the test fails
+abbrev pub check : Bool → Fault → Read (Unit {0})
+check true f = give tt
+check false f = refuse f
+
+-- the part where the flag is true
+abbrev pub where_set : {A : Type 0} → Bool → Read A → Read (Option A)
+where_set true part = part >>= λ x. give (Some x)
+where_set false part = give None
+
+-- the part so many times
+abbrev pub times : {A : Type 0} → ℕ → Read A → Read (List A)
+times zero part = give []
+times (suc n) part = part >>= λ x. times n part >>= λ xs. give (x ∷ xs)
+
+-- whether there is more data, with nothing read
+abbrev pub more : Read Bool
+more b = Ok (more_data b, b)

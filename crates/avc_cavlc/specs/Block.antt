@@ -1,0 +1,86 @@
+-- One residual block of transform coefficient levels (7.3.5.3.2, 9.2).
+use Rattle.std.specs.Prelude.{ℕ, zero, suc, ◌+◌, ◌-◌, ◌*◌, ◌/◌, ◌%◌, ◌^◌, ℤ, pos, neg_ℤ, nat_abs, Bool, true, false, ◌==◌, ◌&&◌, ◌||◌, nat_lt, nat_le, if◌then◌else◌, List, [], ◌∷◌, ◌++◌, length, reverse, replicate}
+use Rattle.std.specs.List.{flat_map, zip}
+use Rattle.avc_types.specs.declared.fault.Fault.TheVariants as faults
+use Rattle.avc_bits.specs.Bits.{Read, ◌>>=◌, ◌>>◌, give, check, times}
+use Rattle.avc_bits.specs.Codes.{u, flag, zeros_before_one}
+use Rattle.avc_vlc.specs.Reading.{Token, coeff_token, total_zeros, run_before}
+
+-- ---- levels (9.2.2)
+
+-- a trailing one: its sign bit
+abbrev pub trailing_one : Read ℤ
+trailing_one = flag >>= λ negative. give (if negative then neg_ℤ (pos 1) else pos 1)
+
+-- how many suffix bits follow the prefix (levelSuffixSize)
+abbrev pub suffix_size : (prefix suffix_length : ℕ) → ℕ
+suffix_size prefix suffix_length =
+    if prefix == 14 && suffix_length == 0 then 4 else if prefix == 15 then 12 else suffix_length
+
+-- levelCode: 0, 1, 2, 3, .. stand for 1, -1, 2, -2, ..
+abbrev pub level_of_code : ℕ → ℤ
+level_of_code code = if code % 2 == 0 then pos ((code + 2) / 2) else neg_ℤ (pos ((code + 1) / 2))
+
+-- one level_prefix and level_suffix; above_one says that the level's size is known to be above 1
+abbrev pub level : (suffix_length : ℕ) → (above_one : Bool) → Read ℤ
+level suffix_length above_one = do
+  prefix ← zeros_before_one 15 faults.BadCode
+  suffix ← u (suffix_size prefix suffix_length)
+  give (level_of_code (prefix * 2 ^ suffix_length + suffix
+      + (if prefix == 15 && suffix_length == 0 then 15 else 0) + (if above_one then 2 else 0)))
+
+-- suffixLength for the level after this one
+abbrev pub next_suffix_length : (suffix_length : ℕ) → ℤ → ℕ
+next_suffix_length suffix_length l =
+    let least = if suffix_length == 0 then 1 else suffix_length in
+    if nat_lt least 6 && nat_lt (3 * 2 ^ (least - 1)) (nat_abs l) then least + 1 else least
+
+-- n levels that are no trailing ones
+abbrev pub levels : (n suffix_length : ℕ) → (above_one : Bool) → Read (List ℤ)
+levels zero suffix_length above_one = give []
+levels (suc n) suffix_length above_one = do
+  l ← level suffix_length above_one
+  others ← levels n (next_suffix_length suffix_length l) false
+  give (l ∷ others)
+
+-- all levels of a token, highest frequency first
+abbrev pub token_levels : Token → Read (List ℤ)
+token_levels t = do
+  ones ← times t.ones trailing_one
+  others ← levels (t.total - t.ones) (if nat_lt 10 t.total && nat_lt t.ones 3 then 1 else 0) (nat_lt t.ones 3)
+  give (ones ++ others)
+
+-- ---- runs (9.2.3)
+
+-- run_before, which is not coded where no zeros are left
+abbrev run_with : (zeros_left : ℕ) → Read ℕ
+run_with zero = give 0
+run_with (suc n) = run_before (suc n)
+
+-- The zeros before each of n coefficients, highest frequency first, where zeros_left zeros are left for them. The last
+-- one has all that are left before it.
+abbrev pub runs : (n zeros_left : ℕ) → Read (List ℕ)
+runs zero zeros_left = give []
+runs (suc zero) zeros_left = give (zeros_left ∷ [])
+runs (suc (suc n)) zeros_left = do
+  run ← run_with zeros_left
+  others ← runs (suc n) (zeros_left - run)
+  give (run ∷ others)
+
+-- The list of max levels from the lowest frequency on: each level after its zeros, then zeros.
+abbrev pub placed : (max : ℕ) → List ℤ → List ℕ → List ℤ
+placed max values zero_runs = filled (flat_map (λ p. replicate p.1 (pos 0) ++ p.0 ∷ []) (reverse (zip values zero_runs)))
+  where
+    filled : List ℤ → List ℤ
+    filled found = found ++ replicate (max - length found) (pos 0)
+
+-- residual_block_cavlc with max coefficients (4 for chroma DC, 15 or 16), where nc is -1 for chroma DC.
+abbrev pub residual_block : (max : ℕ) → (nc : ℤ) → Read (List ℤ)
+residual_block max nc = do
+  t ← coeff_token nc
+  check (nat_le t.total max) faults.TooManyCoefficients
+  values ← token_levels t
+  zeros ← elim (t.total == 0 || t.total == max) [ true ↦ give 0 | false ↦ total_zeros t.total (max == 4) ]
+  check (nat_le (t.total + zeros) max) faults.TooManyCoefficients
+  zero_runs ← runs t.total zeros
+  give (placed max values zero_runs)

@@ -1,0 +1,2 @@
+//! The deblocking filter (8.7).
+#![tactic(auto)]

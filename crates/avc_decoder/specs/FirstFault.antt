@@ -1,0 +1,81 @@
+-- The open picture, and the first fault in it in the order of checks.
+use Rattle.std.specs.Prelude.{ℕ, zero, suc, Bool, true, false, List, [], ◌∷◌, ◌++◌, Option, Some, None, Result, Ok, Err}
+use Rattle.avc_types.specs.declared.fault.Fault.{Fault}
+use Rattle.avc_types.specs.declared.fault.Fault.TheVariants as faults
+use Rattle.avc_types.specs.Pictures.{Samples}
+use Rattle.avc_params.specs.Records.{Sps, Pps}
+use Rattle.avc_slice.specs.Header.{Header}
+use Rattle.avc_picture.specs.Slices.{PictureStart, Slice, Progress, progress, is_full, samples_of}
+use Rattle.avc_decoder_core.specs.History.{History, opened, closed_by, references_of, frame_of}
+
+-- The open picture: the history before it, its parameter sets, its first slice, and its further slices, the newest first.
+pub record Open : Type 0 where
+  pub before : History
+  pub sps : Sps
+  pub pps : Pps
+  pub first : Slice
+  pub later : List Slice
+
+-- all slices, the newest first
+abbrev pub slices_of : Open → List Slice
+slices_of o = o.later ++ o.first ∷ []
+
+abbrev pub last_slice : Open → Slice
+last_slice o = elim o.later [ [] ↦ o.first | s ∷ earlier ↦ s ]
+
+abbrev first_header : Open → Header
+first_header o = (o.first).header
+
+-- the history with the frame numbers that are missing before the picture
+abbrev pub opened_history : Open → Result History Fault
+opened_history o = opened o.sps (first_header o) o.before
+
+-- what the slices are decoded with, on that history
+abbrev pub start_on : Open → History → PictureStart
+start_on o history =
+    record { sps = o.sps; pps = o.pps; references = references_of history; frame_of = frame_of history }
+
+-- the slices so far, on that history
+abbrev pub progress_on : Open → History → Progress
+progress_on o history = progress (start_on o history) (slices_of o)
+
+abbrev pub picture_samples : Open → History → Samples
+picture_samples o history = samples_of (start_on o history) (slices_of o)
+
+-- the history with the picture closed, on that with the missing numbers
+abbrev pub closed_history : Open → History → Result History Fault
+closed_history o history = closed_by o.sps (first_header o) (picture_samples o history) history
+
+abbrev marking_fault : Open → Result History Fault → Option (ℕ × Fault)
+marking_fault o (Ok h) = None
+marking_fault o (Err f) = Some ((last_slice o).unit, f)
+
+-- found at closing, with the picture's last slice
+abbrev closing_fault : Open → History → Option (ℕ × Fault)
+closing_fault o history =
+    elim (is_full (start_on o history) (progress_on o history)) [
+      false ↦ Some ((last_slice o).unit, faults.MissingMacroblocks)
+    | true ↦ marking_fault o (closed_history o history) ]
+
+-- The first fault of the picture, with its unit; `closing` says whether it is being closed.
+abbrev pub first_fault : Open → (closing : Bool) → Option (ℕ × Fault)
+first_fault o closing =
+    elim ((first_header o).first_mb_in_slice) [
+      suc _ ↦ Some ((o.first).unit, faults.MissingMacroblocks)
+    | zero ↦ elim (opened_history o) [
+        Err f ↦ Some ((o.first).unit, f)
+      | Ok history ↦ elim ((progress_on o history).fault) [
+          Some found ↦ Some found
+        | None ↦ elim closing [ true ↦ closing_fault o history | false ↦ None ] ] ] ]
+
+-- The history on which the picture stands: with its missing numbers, where they could be taken in.
+abbrev pub history_of : Open → History
+history_of o = elim ((first_header o).first_mb_in_slice) [
+      suc _ ↦ o.before
+    | zero ↦ elim (opened_history o) [ Err f ↦ o.before | Ok history ↦ history ] ]
+
+-- how many macroblocks of it have been read
+abbrev pub read_of : Open → ℕ
+read_of o = elim ((first_header o).first_mb_in_slice) [
+      suc _ ↦ 0
+    | zero ↦ elim (opened_history o) [ Err f ↦ 0 | Ok history ↦ (progress_on o history).read ] ]

@@ -1,0 +1,2 @@
+//! From bytes to pictures and refusals.
+#![tactic(auto)]

@@ -1,0 +1,172 @@
+-- The history of a sequence of pictures, and what decoding one more picture starts from. A history is written with its
+-- newest entry first; an entry's place is the number of those before it.
+use Rattle.std.specs.Prelude.{ℕ, zero, suc, ◌-◌, ℤ, pos, Bool, true, false, List, [], ◌∷◌, length, map, drop, Option, Some, None, slice_get, Result, Ok, Err}
+use Rattle.avc_types.specs.declared.fault.Fault.{Fault}
+use Rattle.avc_types.specs.declared.fault.Fault.TheVariants as faults
+use Rattle.avc_types.specs.declared.references.Marking.TheVariants.{Idr, SlidingWindow}
+use Rattle.avc_types.specs.References.{Reference}
+use Rattle.avc_types.specs.Pictures.{Samples, Frame}
+use Rattle.avc_params.specs.Records.{Sps}
+use Rattle.avc_params.specs.Limits.{max_frame_num, dpb_size}
+use Rattle.avc_params.specs.Same.{same_sps}
+use Rattle.avc_slice.specs.Header.{Header, is_idr, is_reference, has_operation_5}
+use Rattle.avc_poc.specs.OrderCounts.{Counts, Past, picture, missing, order_counts, order_of}
+use Rattle.avc_marking.specs.Marks.{Step, Marks, marks, previous_number, missing_numbers}
+use Rattle.avc_dpb.specs.Bumping.{Before, keeps, puts_out, drops, Arrival, Buffer, buffer_after, held_ones}
+
+-- A closed picture with its parameter set, its first slice's header and its samples; or a frame number that is missing.
+pub data Entry : Type 0 where
+  closed : Sps → Header → Samples → Entry
+  absent : Sps → (frame_num : ℕ) → Entry
+
+abbrev pub History : Type 0
+History = List Entry
+
+infixl 10 ◌>>=◌
+abbrev pub ◌>>=◌ : {A B : Type 0} → Result A Fault → (A → Result B Fault) → Result B Fault
+(Ok x) >>= f = f x
+(Err e) >>= f = Err e
+
+-- ---- what order counts, marking and output ask of an entry
+
+abbrev past_of : Entry → Past
+past_of (closed sps h samples) = picture sps h
+past_of (absent sps frame_num) = missing sps frame_num
+
+abbrev pub pasts : History → List Past
+pasts h = map past_of h
+
+abbrev pub picture_step : Sps → Header → Step
+picture_step sps h = record {
+  frame_num = h.frame_num;
+  max_frame_num = max_frame_num sps;
+  max_num_ref_frames = sps.max_num_ref_frames;
+  existing = true;
+  marking = h.marking;
+}
+
+abbrev missing_step : Sps → (frame_num : ℕ) → Step
+missing_step sps frame_num = record {
+  frame_num = frame_num;
+  max_frame_num = max_frame_num sps;
+  max_num_ref_frames = sps.max_num_ref_frames;
+  existing = false;
+  marking = Some SlidingWindow;
+}
+
+abbrev step_of : Entry → Step
+step_of (closed sps h samples) = picture_step sps h
+step_of (absent sps frame_num) = missing_step sps frame_num
+
+abbrev pub steps : History → List Step
+steps h = map step_of h
+
+-- the marks after all entries, or the first fault
+abbrev pub marks_of : History → Result Marks Fault
+marks_of h = marks (steps h)
+
+abbrev or_no_references : Result Marks Fault → List Reference
+or_no_references (Ok m) = m.references
+or_no_references (Err f) = []
+
+-- The reference frames after all entries, in decoding order; none where an entry could not be marked.
+abbrev pub references_of : History → List Reference
+references_of h = or_no_references (marks_of h)
+
+abbrev before_of : Header → Before
+before_of h = elim h.marking [ None ↦ keeps | Some m ↦ elim m [
+      Idr no_output long_term ↦ (elim no_output [ true ↦ drops | false ↦ puts_out ])
+    | _ ↦ (elim (has_operation_5 h) [ true ↦ puts_out | false ↦ keeps ]) ] ]
+
+abbrev order_or_0 : Result Counts Fault → ℤ
+order_or_0 (Ok c) = order_of c
+order_or_0 (Err f) = pos 0
+
+abbrev arrival : Entry → (older : History) → Arrival
+arrival (closed sps h samples) older = record {
+  order = order_or_0 (order_counts sps h (pasts older));
+  existing = true;
+  is_reference = is_reference h;
+  before = before_of h;
+  capacity = dpb_size sps;
+  references = map (λ r. r.entry) (references_of (closed sps h samples ∷ older));
+}
+arrival (absent sps frame_num) older = record {
+  order = pos 0;
+  existing = false;
+  is_reference = true;
+  before = keeps;
+  capacity = dpb_size sps;
+  references = map (λ r. r.entry) (references_of (absent sps frame_num ∷ older));
+}
+
+abbrev pub arrivals : History → List Arrival
+arrivals [] = []
+arrivals (e ∷ older) = arrival e older ∷ arrivals older
+
+-- what has gone out, and what is in the buffer
+abbrev pub buffer_of : History → Buffer
+buffer_of h = buffer_after (arrivals h)
+
+-- the places of the pictures that go out where history `old` has become `new`
+abbrev pub gained : (old new : History) → List ℕ
+gained old new = drop (length (buffer_of old).out) (buffer_of new).out
+
+-- the places of the pictures that are held, in the order in which they go out
+abbrev pub all_held : History → List ℕ
+all_held h = map (λ s. s.entry) (held_ones (buffer_of h).frames)
+
+-- ---- entries by their places
+
+abbrev pub entry_at : History → (place : ℕ) → Option Entry
+entry_at h place = elim (length h - place) [ zero ↦ None | suc n ↦ slice_get h n ]
+
+abbrev no_samples : Samples
+no_samples c x y = 0
+
+abbrev samples_in : Option Entry → Samples
+samples_in (Some (closed sps h samples)) = samples
+samples_in (Some (absent sps frame_num)) = no_samples
+samples_in None = no_samples
+
+-- a reference frame with its samples
+abbrev pub frame_of : History → Reference → Frame
+frame_of h r = record { entry = r.entry; existing = r.existing; samples = samples_in (entry_at h r.entry) }
+
+-- ---- opening a picture
+
+-- the parameter set of the sequence: that of the last IDR picture
+abbrev pub sequence_sps : History → Option Sps
+sequence_sps [] = None
+sequence_sps (closed sps h samples ∷ older) = elim (is_idr h) [ true ↦ Some sps | false ↦ sequence_sps older ]
+sequence_sps (absent sps frame_num ∷ older) = sequence_sps older
+
+abbrev is_same : Option Sps → Sps → Bool
+is_same None sps = false
+is_same (Some before) sps = same_sps before sps
+
+-- One entry more for each missing number; each can be marked.
+abbrev with_missing : Sps → List ℕ → History → Result History Fault
+with_missing sps [] h = Ok h
+with_missing sps (n ∷ numbers) h = marks_of (absent sps n ∷ h) >>= λ m. with_missing sps numbers (absent sps n ∷ h)
+
+abbrev counted : Sps → Header → History → Result History Fault
+counted sps h history = order_counts sps h (pasts history) >>= λ c. Ok history
+
+-- The history with the frame numbers that are missing before a picture of this header (7.4.3, 8.2.5.2), or the first of
+-- ParameterSetChanged, FrameNumGap, FrameNumRepeated, TooManyReferences and PocRange.
+abbrev pub opened : Sps → Header → History → Result History Fault
+opened sps h history =
+    elim (is_idr h) [
+      true ↦ counted sps h history
+    | false ↦ elim (is_same (sequence_sps history) sps) [
+        false ↦ Err faults.ParameterSetChanged
+      | true ↦ missing_numbers (previous_number (steps history)) sps.gaps_in_frame_num_value_allowed_flag (picture_step sps h)
+          >>= λ numbers. with_missing sps numbers history >>= λ full. counted sps h full ] ]
+
+-- ---- closing it
+
+-- The history with the picture, or BadMarking or TooManyReferences.
+abbrev pub closed_by : Sps → Header → Samples → History → Result History Fault
+closed_by sps h samples history =
+    marks_of (closed sps h samples ∷ history) >>= λ m. Ok (closed sps h samples ∷ history)

@@ -1,0 +1,2 @@
+//! Output by bumping (C.4).
+#![tactic(auto)]

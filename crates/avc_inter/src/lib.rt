@@ -1,0 +1,2 @@
+//! Inter prediction (8.4.2).
+#![tactic(auto)]

@@ -1,0 +1,78 @@
+-- Worked examples of marking.
+use Rattle.std.specs.Prelude.{◌≡◌, ℕ, true, false, List, [], ◌∷◌, map, Option, Some, Result, Ok, Err, refl}
+use Rattle.avc_types.specs.declared.fault.Fault.{Fault}
+use Rattle.avc_types.specs.declared.fault.Fault.TheVariants as faults
+use Rattle.avc_types.specs.declared.references.Mark.{Mark}
+use Rattle.avc_types.specs.declared.references.Mark.TheVariants.{Short, Long}
+use Rattle.avc_types.specs.declared.references.Marking.{Marking}
+use Rattle.avc_types.specs.declared.references.Marking.TheVariants.{Idr, SlidingWindow, Adaptive}
+use Rattle.avc_types.specs.declared.references.Operation.TheVariants.{ForgetAll, ShortToLong, LimitLong, CurrentToLong}
+use Rattle.avc_marking.specs.Marks.{Step, Marks, marks, missing_numbers, previous_number, missing_step}
+
+abbrev at : ℕ → Option Marking → Step
+at frame_num marking = record { frame_num = frame_num; max_frame_num = 16; max_num_ref_frames = 2; existing = true; marking = marking }
+
+abbrev idr : Step
+idr = at 0 (Some (Idr false false))
+
+abbrev p : ℕ → Step
+p n = at n (Some SlidingWindow)
+
+abbrev seen : Result Marks Fault → Result (List (ℕ × ℕ × Mark)) Fault
+seen (Ok m) = Ok (map (λ r. (r.entry, r.frame_num, r.mark)) m.references)
+seen (Err f) = Err f
+
+slides : seen (marks (p 2 ∷ p 1 ∷ idr ∷ [])) ≡ Ok ((1, 1, Short) ∷ (2, 2, Short) ∷ [])
+slides = refl
+
+to_long : seen (marks (at 1 (Some (Adaptive (LimitLong 1 ∷ ShortToLong 0 0 ∷ []))) ∷ idr ∷ [])) ≡ Ok ((0, 0, Long 0) ∷ (1, 1, Short) ∷ [])
+to_long = refl
+
+no_index : seen (marks (at 1 (Some (Adaptive (ShortToLong 0 0 ∷ []))) ∷ idr ∷ [])) ≡ Err faults.BadMarking
+no_index = refl
+
+all_forgotten : seen (marks (at 2 (Some (Adaptive (ForgetAll ∷ []))) ∷ p 1 ∷ idr ∷ [])) ≡ Ok ((2, 0, Short) ∷ [])
+all_forgotten = refl
+
+too_many : seen (marks (at 2 (Some (Adaptive [])) ∷ p 1 ∷ idr ∷ [])) ≡ Err faults.TooManyReferences
+too_many = refl
+
+gap : missing_numbers (previous_number (p 14 ∷ [])) true (p 1) ≡ Ok (15 ∷ 0 ∷ [])
+gap = refl
+
+no_gap : missing_numbers (previous_number (p 15 ∷ [])) true (p 0) ≡ Ok []
+no_gap = refl
+
+refused_gap : missing_numbers 0 false (p 2) ≡ Err faults.FrameNumGap
+refused_gap = refl
+
+repeated : missing_numbers 0 false (p 0) ≡ Err faults.FrameNumRepeated
+repeated = refl
+
+current_long : seen (marks (at 1 (Some (Adaptive (LimitLong 1 ∷ CurrentToLong 0 ∷ []))) ∷ idr ∷ [])) ≡ Ok ((0, 0, Short) ∷ (1, 1, Long 0) ∷ [])
+current_long = refl
+
+twice_current : seen (marks (at 1 (Some (Adaptive (LimitLong 2 ∷ CurrentToLong 0 ∷ CurrentToLong 1 ∷ []))) ∷ idr ∷ [])) ≡ Err faults.BadMarking
+twice_current = refl
+
+-- the index goes over to the current frame
+taken_index : seen (marks (at 2 (Some (Adaptive (CurrentToLong 0 ∷ []))) ∷ at 1 (Some (Adaptive (LimitLong 1 ∷ ShortToLong 0 0 ∷ []))) ∷ idr ∷ [])) ≡ Ok ((1, 1, Short) ∷ (2, 2, Long 0) ∷ [])
+taken_index = refl
+
+long_idr : seen (marks (at 0 (Some (Idr false true)) ∷ p 1 ∷ idr ∷ [])) ≡ Ok ((2, 0, Long 0) ∷ [])
+long_idr = refl
+
+-- only short-term frames slide, and there is none
+no_short : seen (marks (p 2 ∷ at 1 (Some (Adaptive (LimitLong 2 ∷ ShortToLong 0 0 ∷ CurrentToLong 1 ∷ []))) ∷ idr ∷ [])) ≡ Err faults.TooManyReferences
+no_short = refl
+
+-- 15 is the least PicNum seen from 1
+wrapped : seen (marks (p 1 ∷ p 0 ∷ p 15 ∷ [])) ≡ Ok ((1, 0, Short) ∷ (2, 1, Short) ∷ [])
+wrapped = refl
+
+-- a frame for a missing number may not become long-term
+not_existing : seen (marks (at 2 (Some (Adaptive (LimitLong 1 ∷ ShortToLong 0 0 ∷ []))) ∷ missing_step idr 1 ∷ idr ∷ [])) ≡ Err faults.BadMarking
+not_existing = refl
+
+after_forgetting : previous_number (at 5 (Some (Adaptive (ForgetAll ∷ []))) ∷ idr ∷ []) ≡ 0
+after_forgetting = refl

@@ -1,0 +1,181 @@
+-- One macroblock from its bits (7.3.5, 7.3.5.1 to 7.3.5.3).
+use Rattle.std.specs.Prelude.{ℕ, zero, suc, ◌-◌, ◌/◌, ◌%◌, ◌^◌, ℤ, pos, negsuc, ◌+ℤ◌, nat_abs, Bool, true, false, ◌==◌, nat_le, nat_lt, List, [], ◌∷◌, ◌++◌, length, map, replicate, Option, Some, None}
+use Rattle.std.specs.List.{range_with_len}
+use Rattle.std.specs.Option.{option_map}
+use Rattle.avc_types.specs.declared.vector.Mv.{Mv}
+use Rattle.avc_types.specs.Macroblock.{SubShape, sub_8x8, sub_8x4, sub_4x8, sub_4x4, Shape, whole, upper_lower, left_right, quarters, quarters_ref0, Residual, MbSyntax, i_pcm, i_nxn, i_16x16, p_inter, Mb, parts_of}
+use Rattle.avc_bits.specs.Bits.{Read, ◌>>=◌, ◌>>◌, give, times}
+use Rattle.avc_bits.specs.Codes.{u, flag, ue_to, se, se_within, te_to, align}
+use Rattle.avc_vlc.specs.Reading.{coded_block_pattern}
+use Rattle.avc_cavlc.specs.Block.{residual_block}
+use Rattle.avc_neigh.specs.Counts.{Counts, coefficients, nc}
+
+-- What reading a macroblock asks of its slice and of its neighbours.
+pub record Context : Type 0 where
+  pub is_p : Bool
+  -- num_ref_idx_l0_active_minus1 + 1
+  pub active_count : ℕ
+  -- QP_Y,PRED: that of the macroblock before in the slice, at first the slice's
+  pub qp : ℕ
+  -- of the macroblocks to the left and above, where they are available
+  pub left : Option Counts
+  pub up : Option Counts
+
+-- ---- residual (7.3.5.3)
+
+abbrev no_levels : ℕ → List ℤ
+no_levels max = replicate max (pos 0)
+
+-- Further blocks of a component, after those done, each of max levels where it is coded.
+abbrev pub blocks : (max size : ℕ) → (coded : ℕ → Bool) → (left up : Option (List ℕ)) → (numbers : List ℕ) → (done : List (List ℤ)) → Read (List (List ℤ))
+blocks max size coded left up [] done = give done
+blocks max size coded left up (k ∷ numbers) done = do
+  block ← elim (coded k) [ true ↦ residual_block max (pos (nc size left up (map coefficients done) k)) | false ↦ give (no_levels max) ]
+  blocks max size coded left up numbers (done ++ block ∷ [])
+
+abbrev luma_side : Option Counts → Option (List ℕ)
+luma_side = option_map (λ c. c.luma)
+
+abbrev cb_side : Option Counts → Option (List ℕ)
+cb_side = option_map (λ c. c.cb)
+
+abbrev cr_side : Option Counts → Option (List ℕ)
+cr_side = option_map (λ c. c.cr)
+
+-- the bit of the quarter of luma block k is set
+abbrev pub is_coded : (luma_pattern k : ℕ) → Bool
+is_coded luma_pattern k = (luma_pattern / 2 ^ (k / 4)) % 2 == 1
+
+abbrev chroma_dc : (chroma_pattern : ℕ) → Read (List ℤ)
+chroma_dc zero = give (no_levels 4)
+chroma_dc (suc _) = residual_block 4 (negsuc 0)
+
+-- The residual of these patterns; with_dc says that the macroblock is Intra 16x16.
+abbrev pub residual : Context → (with_dc : Bool) → (luma_pattern chroma_pattern : ℕ) → (mb_qp_delta : ℤ) → Read Residual
+residual c with_dc luma_pattern chroma_pattern mb_qp_delta = do
+  luma_dc ← elim with_dc [ true ↦ residual_block 16 (pos (nc 16 (luma_side c.left) (luma_side c.up) [] 0)) | false ↦ give [] ]
+  luma ← blocks (elim with_dc [ true ↦ 15 | false ↦ 16 ]) 16 (is_coded luma_pattern) (luma_side c.left) (luma_side c.up) (range_with_len 0 16) []
+  cb_dc ← chroma_dc chroma_pattern
+  cr_dc ← chroma_dc chroma_pattern
+  cb_ac ← blocks 15 8 (λ k. chroma_pattern == 2) (cb_side c.left) (cb_side c.up) (range_with_len 0 4) []
+  cr_ac ← blocks 15 8 (λ k. chroma_pattern == 2) (cr_side c.left) (cr_side c.up) (range_with_len 0 4) []
+  give (record {
+    luma_pattern = luma_pattern;
+    chroma_pattern = chroma_pattern;
+    mb_qp_delta = mb_qp_delta;
+    luma_dc = luma_dc;
+    luma = luma;
+    cb_dc = cb_dc;
+    cr_dc = cr_dc;
+    cb_ac = cb_ac;
+    cr_ac = cr_ac;
+  })
+
+abbrev qp_delta : Read ℤ
+qp_delta = se_within (negsuc 25) (pos 25)
+
+-- what follows coded_block_pattern
+abbrev after_pattern : Context → (pattern : ℕ) → Read Residual
+after_pattern c pattern = do
+  delta ← elim (pattern == 0) [ true ↦ give (pos 0) | false ↦ qp_delta ]
+  residual c false (pattern % 16) (pattern / 16) delta
+
+-- QP_Y (7.4.5)
+abbrev pub qp_after : (previous : ℕ) → (mb_qp_delta : ℤ) → ℕ
+qp_after previous delta = nat_abs ((pos previous +ℤ delta) +ℤ pos 52) % 52
+
+abbrev pub with_residual : Context → Residual → MbSyntax → Mb
+with_residual c r syntax = record { syntax = syntax; qp = qp_after c.qp r.mb_qp_delta }
+
+-- ---- I macroblocks
+
+abbrev rem_mode : Read (Option ℕ)
+rem_mode = u 3 >>= λ rem. give (Some rem)
+
+-- prev_intra4x4_pred_mode_flag, and rem_intra4x4_pred_mode where it is 0
+abbrev pub block_mode : Read (Option ℕ)
+block_mode = flag >>= λ predicted. elim predicted [ true ↦ give None | false ↦ rem_mode ]
+
+abbrev pub i_nxn_mb : Context → Read Mb
+i_nxn_mb c = do
+  modes ← times 16 block_mode
+  chroma_mode ← ue_to 3
+  pattern ← coded_block_pattern true
+  r ← after_pattern c pattern
+  give (with_residual c r (i_nxn modes chroma_mode r))
+
+-- n is mb_type - 1
+abbrev pub i_16x16_mb : Context → (n : ℕ) → Read Mb
+i_16x16_mb c n = do
+  chroma_mode ← ue_to 3
+  delta ← qp_delta
+  r ← residual c true (elim (nat_le 12 n) [ true ↦ 15 | false ↦ 0 ]) ((n / 4) % 3) delta
+  give (with_residual c r (i_16x16 (n % 4) chroma_mode r))
+
+abbrev pub i_pcm_mb : Context → Read Mb
+i_pcm_mb c = do
+  align
+  luma ← times 256 (u 8)
+  cb ← times 64 (u 8)
+  cr ← times 64 (u 8)
+  give (record { syntax = i_pcm luma cb cr; qp = c.qp })
+
+-- mb_type of an I slice (Table 7-11)
+abbrev pub i_mb : Context → (mb_type : ℕ) → Read Mb
+i_mb c zero = i_nxn_mb c
+i_mb c (suc n) = elim (n == 24) [ true ↦ i_pcm_mb c | false ↦ i_16x16_mb c n ]
+
+-- ---- P macroblocks
+
+abbrev sub_shape : ℕ → SubShape
+sub_shape zero = sub_8x8
+sub_shape (suc zero) = sub_8x4
+sub_shape (suc (suc zero)) = sub_4x8
+sub_shape (suc (suc (suc _))) = sub_4x4
+
+abbrev sub_shapes : Read (List SubShape)
+sub_shapes = times 4 (ue_to 3 >>= λ t. give (sub_shape t))
+
+-- mb_type 0 to 4 of a P slice (Table 7-13)
+abbrev pub shape : (mb_type : ℕ) → Read Shape
+shape zero = give whole
+shape (suc zero) = give upper_lower
+shape (suc (suc zero)) = give left_right
+shape (suc (suc (suc zero))) = sub_shapes >>= λ subs. give (quarters subs)
+shape (suc (suc (suc (suc _)))) = sub_shapes >>= λ subs. give (quarters_ref0 subs)
+
+-- how many partitions, of which each has a reference index
+abbrev pub partitions : Shape → ℕ
+partitions whole = 1
+partitions upper_lower = 2
+partitions left_right = 2
+partitions (quarters subs) = 4
+partitions (quarters_ref0 subs) = 4
+
+-- ref_idx_l0 of each partition; 0 where it is not coded
+abbrev pub reference_indices : (active_count : ℕ) → Shape → Read (List ℕ)
+reference_indices active_count (quarters_ref0 subs) = give (replicate 4 0)
+reference_indices active_count s =
+    elim (nat_le active_count 1) [ true ↦ give (replicate (partitions s) 0) | false ↦ times (partitions s) (te_to (active_count - 1)) ]
+
+abbrev pub difference : Read Mv
+difference = do
+  x ← se
+  y ← se
+  give (record { x = x; y = y })
+
+abbrev pub p_mb : Context → (mb_type : ℕ) → Read Mb
+p_mb c mb_type = do
+  s ← shape mb_type
+  references ← reference_indices c.active_count s
+  differences ← times (length (parts_of s)) difference
+  pattern ← coded_block_pattern false
+  r ← after_pattern c pattern
+  give (with_residual c r (p_inter s references differences r))
+
+-- macroblock_layer
+abbrev pub macroblock : Context → Read Mb
+macroblock c =
+    elim c.is_p [
+      false ↦ (ue_to 25 >>= λ mb_type. i_mb c mb_type)
+    | true ↦ (ue_to 30 >>= λ mb_type. elim (nat_lt mb_type 5) [ true ↦ p_mb c mb_type | false ↦ i_mb c (mb_type - 5) ]) ]

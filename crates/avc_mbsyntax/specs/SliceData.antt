@@ -1,0 +1,93 @@
+-- The macroblocks of a slice (7.3.4).
+use Rattle.std.specs.Prelude.{ℕ, zero, suc, ◌-◌, Bool, true, false, ◌==◌, nat_lt, List, [], ◌∷◌, ◌++◌, length, replicate, Option, Some, None, Ok, Err}
+use Rattle.std.specs.Option.{option_map}
+use Rattle.avc_types.specs.declared.fault.Fault.{Fault}
+use Rattle.avc_types.specs.declared.fault.Fault.TheVariants as faults
+use Rattle.avc_types.specs.Macroblock.{p_skip, Mb}
+use Rattle.avc_types.specs.Pictures.{PicMb}
+use Rattle.avc_bits.specs.Bits.{Bits, more_data}
+use Rattle.avc_bits.specs.Codes.{ue}
+use Rattle.avc_neigh.specs.Blocks.{left_of, above}
+use Rattle.avc_neigh.specs.Counts.{counts_of}
+use Rattle.avc_mbsyntax.specs.Reading.{Context, macroblock}
+
+-- What a slice's data is read under.
+pub record SliceStart : Type 0 where
+  pub is_p : Bool
+  pub active_count : ℕ
+  -- SliceQP_Y
+  pub qp : ℕ
+  -- the slice's number in the picture
+  pub slice : ℕ
+  -- of the picture, in macroblocks
+  pub width : ℕ
+  pub size : ℕ
+
+-- The macroblocks that could be read, in decoding order, and the fault that came then.
+pub record SliceMbs : Type 0 where
+  pub mbs : List Mb
+  pub fault : Option Fault
+
+abbrev ended : SliceMbs
+ended = record { mbs = []; fault = None }
+
+abbrev stopped : Fault → SliceMbs
+stopped f = record { mbs = []; fault = Some f }
+
+abbrev after : List Mb → SliceMbs → SliceMbs
+after front rest = record { mbs = front ++ rest.mbs; fault = rest.fault }
+
+abbrev placed : SliceStart → Mb → PicMb
+placed s mb = record { slice = s.slice; mb = mb }
+
+abbrev skipped : (qp : ℕ) → Mb
+skipped qp = record { syntax = p_skip; qp = qp }
+
+-- The next macroblock's context: `before` is the picture up to it, qp that of the macroblock before in the slice.
+abbrev pub context : SliceStart → (before : List PicMb) → (qp : ℕ) → Context
+context s before qp = record {
+  is_p = s.is_p;
+  active_count = s.active_count;
+  qp = qp;
+  left = option_map (λ m. counts_of m.syntax) (left_of before s.width s.slice (length before));
+  up = option_map (λ m. counts_of m.syntax) (above before s.width s.slice (length before));
+}
+
+-- In an I slice, where `left` macroblocks of the picture remain: one, and others while there is more data.
+abbrev pub i_data : SliceStart → (left : ℕ) → (before : List PicMb) → (qp : ℕ) → Bits → SliceMbs
+i_data s zero before qp b = stopped faults.TooManyMacroblocks
+i_data s (suc left) before qp b =
+    elim (macroblock (context s before qp) b) [
+      Err f ↦ stopped f
+    | Ok r ↦ after (r.0 ∷ []) (elim (more_data r.1) [
+        true ↦ i_data s left (before ++ placed s r.0 ∷ []) (r.0).qp r.1
+      | false ↦ ended ]) ]
+
+-- What stands after a run of skipped macroblocks, all of them in `before`: nothing, or one macroblock, and then `next`
+-- with the picture up to there, its QP and what is left, where there is more data.
+abbrev after_run : SliceStart → (before : List PicMb) → (qp : ℕ) → Bits → (next : List PicMb → ℕ → Bits → SliceMbs) → SliceMbs
+after_run s before qp b next =
+    elim (more_data b) [ false ↦ ended | true ↦
+    elim (length before == s.size) [ true ↦ stopped faults.TooManyMacroblocks | false ↦
+    elim (macroblock (context s before qp) b) [
+      Err f ↦ stopped f
+    | Ok r ↦ after (r.0 ∷ []) (elim (more_data r.1) [ true ↦ next (before ++ placed s r.0 ∷ []) (r.0).qp r.1 | false ↦ ended ]) ] ] ]
+
+-- In a P slice, in so many turns at most: a run of skipped macroblocks, then as after_run says. There are as many turns as
+-- macroblocks remain, since each but the last reads one.
+abbrev pub p_data : SliceStart → (turns : ℕ) → (before : List PicMb) → (qp : ℕ) → Bits → SliceMbs
+p_data s zero before qp b = stopped faults.TooManyMacroblocks
+p_data s (suc turns) before qp b =
+    elim (length before == s.size) [ true ↦ stopped faults.TooManyMacroblocks | false ↦
+    elim (ue b) [
+      Err f ↦ stopped f
+    | Ok run ↦ elim (nat_lt (s.size - length before) run.0) [ true ↦ stopped faults.TooManyMacroblocks | false ↦
+      after (replicate run.0 (skipped qp))
+        (after_run s (before ++ replicate run.0 (placed s (skipped qp))) qp run.1 (λ before' qp' b'. p_data s turns before' qp' b')) ] ] ]
+
+-- The data of a slice that goes on after `before`, the macroblocks of the picture's earlier slices.
+abbrev pub slice_data : SliceStart → (before : List PicMb) → Bits → SliceMbs
+slice_data s before b =
+    elim s.is_p [
+      true ↦ p_data s (s.size - length before) before s.qp b
+    | false ↦ i_data s (s.size - length before) before s.qp b ]

@@ -1,0 +1,181 @@
+-- Reference indices and motion vectors of P macroblocks, ITU-T H.264 clauses 8.4.1.1 and 8.4.1.3.
+use Rattle.std.specs.Prelude.{ℕ, zero, suc, ◌+◌, ◌==◌, nat_lt, nat_le, ℤ, pos, ◌+ℤ◌, ◌-ℤ◌, int_lt, neg_ℤ, Bool, true, false, not, ◌&&◌, ◌||◌, if◌then◌else◌, List, [], ◌∷◌, ◌++◌, map, replicate, Option, Some, None, slice_get, slice_index, slice_index_or}
+use Rattle.std.specs.List.{range_with_len}
+use Rattle.avc_types.specs.Arithmetic.{median, ◌==ℤ◌}
+use Rattle.avc_types.specs.declared.vector.Mv.{Mv}
+use Rattle.avc_types.specs.Macroblock.{MbSyntax, p_skip, i_pcm, i_nxn, i_16x16, p_inter, Part, Shape, whole, upper_lower, left_right, quarters, quarters_ref0, parts_of}
+use Rattle.avc_types.specs.Pictures.{Coded, PicMb, SliceFacts, Frame}
+use Rattle.avc_neigh.specs.Blocks.{block_x, block_y, spot_at}
+use Rattle.avc_neigh.specs.Nearby.{nearby}
+
+-- What a luma block has for inter prediction: not available, in an intra macroblock, or a reference index and a vector.
+pub data Motion : Type 0 where
+  absent : Motion
+  intra : Motion
+  inter : (reference : ℕ) → (vector : Mv) → Motion
+
+abbrev pub zero_vector : Mv
+zero_vector = record { x = pos 0; y = pos 0 }
+
+abbrev pub is_absent : Motion → Bool
+is_absent absent = true
+is_absent intra = false
+is_absent (inter r v) = false
+
+-- whether the index of a neighbour, -1 without one, is r
+abbrev pub has_reference : ℕ → Motion → Bool
+has_reference r absent = false
+has_reference r intra = false
+has_reference r (inter s v) = s == r
+
+-- the vector of a neighbour, 0 without one
+abbrev pub vector_of : Motion → Mv
+vector_of absent = zero_vector
+vector_of intra = zero_vector
+vector_of (inter r v) = v
+
+-- the neighbours A, B and C of a partition (6.4.11.7)
+pub record Neighbours : Type 0 where
+  pub a : Motion
+  pub b : Motion
+  pub c : Motion
+
+-- C, or D where C is not available
+abbrev pub else_motion : Motion → Motion → Motion
+else_motion absent d = d
+else_motion intra d = intra
+else_motion (inter r v) d = inter r v
+
+-- The neighbours of the partition of this width at (x, y) in macroblock a. `known` is the map of the macroblocks before it,
+-- `mine` that of its own sixteen blocks, absent where they are not decoded yet.
+abbrev pub neighbours_of : Coded → List (List Motion) → List Motion → ℕ → (x y width : ℕ) → Neighbours
+neighbours_of p known mine a x y width =
+    let at : ℤ → ℤ → Motion = λ u v. nearby absent p.mbs known mine a (spot_at p.width a u v) in
+    record {
+      a = at (pos x -ℤ pos 1) (pos y);
+      b = at (pos x) (pos y -ℤ pos 1);
+      c = else_motion (at (pos (x + width)) (pos y -ℤ pos 1)) (at (pos x -ℤ pos 1) (pos y -ℤ pos 1))
+    }
+
+-- ---- prediction (8.4.1.3)
+
+-- where only A is available, B and C are as A
+abbrev pub completed : Neighbours → Neighbours
+completed n =
+    if is_absent n.b && is_absent n.c && not (is_absent n.a) then record { a = n.a; b = n.a; c = n.a } else n
+
+abbrev median_vector : Mv → Mv → Mv → Mv
+median_vector u v w = record { x = median u.x v.x w.x; y = median u.y v.y w.y }
+
+-- the vector of the only neighbour that has the index, or the median of all three
+abbrev only_or_median : Bool → Bool → Bool → Mv → Mv → Mv → Mv
+only_or_median true false false u v w = u
+only_or_median false true false u v w = v
+only_or_median false false true u v w = w
+only_or_median true true c u v w = median_vector u v w
+only_or_median true false true u v w = median_vector u v w
+only_or_median false true true u v w = median_vector u v w
+only_or_median false false false u v w = median_vector u v w
+
+abbrev pub median_prediction : ℕ → Neighbours → Mv
+median_prediction r around =
+    let n = completed around in
+    only_or_median (has_reference r n.a) (has_reference r n.b) (has_reference r n.c) (vector_of n.a) (vector_of n.b) (vector_of n.c)
+
+-- The neighbour that a partition of a macroblock in two halves asks first: upper B, lower A; left A, right C.
+abbrev pub first_asked : Shape → ℕ → Neighbours → Motion
+first_asked upper_lower zero n = n.b
+first_asked upper_lower (suc i) n = n.a
+first_asked left_right zero n = n.a
+first_asked left_right (suc i) n = n.c
+first_asked whole i n = absent
+first_asked (quarters subs) i n = absent
+first_asked (quarters_ref0 subs) i n = absent
+
+-- the prediction for a part with reference index r
+abbrev pub predicted_vector : Shape → ℕ → ℕ → Neighbours → Mv
+predicted_vector shape partition r n =
+    if has_reference r (first_asked shape partition n)
+    then vector_of (first_asked shape partition n)
+    else median_prediction r n
+
+-- a neighbour that makes a skipped macroblock stand still
+abbrev pub is_still : Motion → Bool
+is_still absent = true
+is_still intra = false
+is_still (inter r v) = (r == 0) && (v.x ==ℤ pos 0) && (v.y ==ℤ pos 0)
+
+-- the vector of a skipped macroblock (8.4.1.1)
+abbrev pub skip_vector : Neighbours → Mv
+skip_vector n = if is_still n.a || is_still n.b then zero_vector else median_prediction 0 n
+
+-- ---- a macroblock's blocks
+
+-- the block with this number lies in the part
+abbrev is_in_part : Part → ℕ → Bool
+is_in_part p k =
+    nat_le p.x (block_x k) && nat_lt (block_x k) (p.x + p.width) && nat_le p.y (block_y k) && nat_lt (block_y k) (p.y + p.height)
+
+-- `mine` with a part's blocks filled in
+abbrev pub with_part : List Motion → Part → Motion → List Motion
+with_part mine p m = map (λ k. if is_in_part p k then m else slice_index_or mine k absent) (range_with_len 0 16)
+
+abbrev sum_of_vectors : Mv → Mv → Mv
+sum_of_vectors u v = record { x = u.x +ℤ v.x; y = u.y +ℤ v.y }
+
+-- the parts in decoding order, each with its prediction from what is decoded before it and its difference
+abbrev pub motion_of_parts : Coded → List (List Motion) → ℕ → Shape → List ℕ → List Motion → List Part → List Mv → List Motion
+motion_of_parts p known a shape references mine [] differences = mine
+motion_of_parts p known a shape references mine (part ∷ parts) [] = mine
+motion_of_parts p known a shape references mine (part ∷ parts) (difference ∷ differences) =
+    let r = slice_index references part.partition in
+    let predicted = predicted_vector shape part.partition r (neighbours_of p known mine a part.x part.y part.width) in
+    let filled = with_part mine part (inter r (sum_of_vectors predicted difference)) in
+    motion_of_parts p known a shape references filled parts differences
+
+-- the sixteen blocks of macroblock a
+abbrev pub motion_of : Coded → List (List Motion) → ℕ → MbSyntax → List Motion
+motion_of p known a (i_pcm luma cb cr) = replicate 16 intra
+motion_of p known a (i_nxn modes chroma residual) = replicate 16 intra
+motion_of p known a (i_16x16 mode chroma residual) = replicate 16 intra
+motion_of p known a p_skip = replicate 16 (inter 0 (skip_vector (neighbours_of p known (replicate 16 absent) a 0 0 16)))
+motion_of p known a (p_inter shape references differences residual) =
+    motion_of_parts p known a shape references (replicate 16 absent) (parts_of shape) differences
+
+abbrev motion_of_place : Coded → List (List Motion) → ℕ → Option PicMb → List Motion
+motion_of_place p known a (Some m) = motion_of p known a m.mb.syntax
+motion_of_place p known a None = []
+
+-- the motion of the first n macroblocks of the picture, by recursion on decoding order
+abbrev pub motion_before : Coded → ℕ → List (List Motion)
+motion_before p zero = []
+motion_before p (suc n) =
+    let known = motion_before p n in
+    known ++ motion_of_place p known n (slice_get p.mbs n) ∷ []
+
+-- A vector that can be had: each component is a 16-bit number.
+abbrev pub is_in_range : Motion → Bool
+is_in_range absent = true
+is_in_range intra = true
+is_in_range (inter r v) =
+    not (int_lt v.x (neg_ℤ (pos 32768))) && not (int_lt (pos 32767) v.x) && not (int_lt v.y (neg_ℤ (pos 32768))) && not (int_lt (pos 32767) v.y)
+
+-- ---- what others ask of a macroblock and of its slice
+
+abbrev pub is_intra : MbSyntax → Bool
+is_intra p_skip = false
+is_intra (i_pcm luma cb cr) = true
+is_intra (i_nxn modes chroma residual) = true
+is_intra (i_16x16 mode chroma residual) = true
+is_intra (p_inter shape references differences residual) = false
+
+-- A slice that is not there: part of no picture, but the definitions are total.
+abbrev pub no_slice : SliceFacts
+no_slice = record { is_p = false; references = []; disable_deblocking_filter_idc = 1; filter_offset_a = pos 0; filter_offset_b = pos 0 }
+
+abbrev pub slice_facts : Coded → ℕ → SliceFacts
+slice_facts p slice = slice_index_or p.slices slice no_slice
+
+-- the frame that a reference index names in a slice; no frame where the entry is empty or missing
+abbrev pub frame_named : Coded → (slice reference : ℕ) → Option Frame
+frame_named p slice r = slice_index_or (slice_facts p slice).references r None

@@ -1,0 +1,2 @@
+//! Motion vectors (8.4.1).
+#![tactic(auto)]

@@ -1,0 +1,148 @@
+-- The slices of one picture, in the order of checks.
+use Rattle.std.specs.Prelude.{ℕ, zero, suc, ◌+◌, pos, ◌+ℤ◌, nat_abs, Bool, true, false, ◌==◌, nat_lt, List, [], ◌∷◌, ◌++◌, length, map, Option, Some, None, Result, Ok, Err}
+use Rattle.std.specs.Option.{option_map}
+use Rattle.avc_types.specs.declared.fault.Fault.{Fault}
+use Rattle.avc_types.specs.declared.fault.Fault.TheVariants as faults
+use Rattle.avc_types.specs.declared.references.Modification.{Modification}
+use Rattle.avc_types.specs.References.{Reference}
+use Rattle.avc_types.specs.Pictures.{Samples, Frame, SliceFacts, PicMb, Coded}
+use Rattle.avc_params.specs.Records.{Sps, Pps}
+use Rattle.avc_params.specs.Limits.{width_in_mbs, height_in_mbs, size_in_mbs, max_frame_num}
+use Rattle.avc_bits.specs.Bits.{Bits}
+use Rattle.avc_slice.specs.Header.{Header, Deblocking, is_p, slice_qp}
+use Rattle.avc_reflist.specs.Lists.{reference_list}
+use Rattle.avc_mbsyntax.specs.SliceData.{SliceStart, SliceMbs, slice_data}
+use Rattle.avc_picture_core.specs.Faults.{macroblock_fault}
+use Rattle.avc_picture.specs.Decoded.{deblocked}
+
+-- What a picture's slices are decoded with: its parameter sets, and the reference frames with their samples.
+pub record PictureStart : Type 0 where
+  pub sps : Sps
+  pub pps : Pps
+  pub references : List Reference
+  pub frame_of : Reference → Frame
+
+-- a slice: its unit's number, its header and the bits after that
+pub record Slice : Type 0 where
+  pub unit : ℕ
+  pub header : Header
+  pub bits : Bits
+
+-- ---- one slice
+
+-- no_deblocking is what stands for the fields where they are not coded
+abbrev deblocking_of : Option Deblocking → Deblocking
+deblocking_of (Some d) = d
+deblocking_of None = record { disable_deblocking_filter_idc = 0; slice_alpha_c0_offset_div2 = pos 0; slice_beta_offset_div2 = pos 0 }
+
+abbrev or_empty : Option (List Modification) → List Modification
+or_empty (Some m) = m
+or_empty None = []
+
+-- RefPicList0; in an I slice no entry
+abbrev pub list_of : PictureStart → Header → Result (List (Option Reference)) Fault
+list_of p h =
+    elim (is_p h) [
+      true ↦ reference_list h.frame_num (max_frame_num p.sps) h.active_count p.references (or_empty h.modifications)
+    | false ↦ Ok [] ]
+
+abbrev pub facts_of : PictureStart → Header → List (Option Reference) → SliceFacts
+facts_of p h list =
+    let d = deblocking_of h.deblocking in
+    record {
+      is_p = is_p h;
+      references = map (option_map p.frame_of) list;
+      disable_deblocking_filter_idc = d.disable_deblocking_filter_idc;
+      filter_offset_a = d.slice_alpha_c0_offset_div2 +ℤ d.slice_alpha_c0_offset_div2;
+      filter_offset_b = d.slice_beta_offset_div2 +ℤ d.slice_beta_offset_div2;
+    }
+
+-- what slice number n's data is read under
+abbrev pub start_of : PictureStart → Header → (n : ℕ) → SliceStart
+start_of p h n = record {
+  is_p = is_p h;
+  active_count = h.active_count;
+  qp = nat_abs (slice_qp p.pps h.slice_qp_delta);
+  slice = n;
+  width = width_in_mbs p.sps;
+  size = size_in_mbs p.sps;
+}
+
+-- ---- the slices so far
+
+-- The macroblocks that could be read, what is known of each slice that they lie in, the first fault with its unit, and how
+-- many macroblocks have been read up to there.
+pub record Progress : Type 0 where
+  pub mbs : List PicMb
+  pub slices : List SliceFacts
+  pub fault : Option (ℕ × Fault)
+  pub read : ℕ
+
+abbrev pub none_yet : Progress
+none_yet = record { mbs = []; slices = []; fault = None; read = 0 }
+
+-- the picture as far as it is decoded
+abbrev pub coded_of : PictureStart → Progress → Coded
+coded_of p progress = record {
+  width = width_in_mbs p.sps;
+  height = height_in_mbs p.sps;
+  chroma_qp_index_offset = (p.pps).chroma_qp_index_offset;
+  constrained_intra_pred = (p.pps).constrained_intra_pred_flag;
+  slices = progress.slices;
+  mbs = progress.mbs;
+}
+
+-- The first of n macroblocks from address a on that has VectorRange, RefMissing or IntraUnavailable, as the number of
+-- macroblocks up to it, itself included, and its fault.
+abbrev pub first_mb_fault : Coded → (a n : ℕ) → Option (ℕ × Fault)
+first_mb_fault c a zero = None
+first_mb_fault c a (suc n) =
+    elim (macroblock_fault c a) [ Some f ↦ Some (1, f) | None ↦ option_map (λ found. (found.0 + 1, found.1)) (first_mb_fault c (a + 1) n) ]
+
+abbrev refused : Progress → (unit : ℕ) → Fault → Progress
+refused progress unit f = record progress { fault = Some (unit, f) }
+
+abbrev with_unit : (unit : ℕ) → Option Fault → Option (ℕ × Fault)
+with_unit unit f = option_map (λ g. (unit, g)) f
+
+-- The slice's data has been read: its faults are those of its macroblocks, lowest address first, and then its own.
+abbrev judged : PictureStart → Slice → (before : Progress) → SliceFacts → SliceMbs → Progress
+judged p s before facts ms = verdict (first_mb_fault (coded_of p whole) (length before.mbs) (length ms.mbs))
+  where
+    whole : Progress
+    whole = record {
+      mbs = before.mbs ++ map (λ mb. record { slice = length before.slices; mb = mb }) ms.mbs;
+      slices = before.slices ++ facts ∷ [];
+      fault = with_unit s.unit ms.fault;
+      read = before.read + length ms.mbs;
+    }
+    verdict : Option (ℕ × Fault) → Progress
+    verdict None = whole
+    verdict (Some found) = record whole { fault = Some (s.unit, found.1); read = before.read + found.0 }
+
+-- its list, then its macroblocks
+abbrev listed : PictureStart → Slice → Progress → Result (List (Option Reference)) Fault → Progress
+listed p s before (Err f) = refused before s.unit f
+listed p s before (Ok list) =
+    judged p s before (facts_of p s.header list) (slice_data (start_of p s.header (length before.slices)) before.mbs s.bits)
+
+-- One slice more: its first address, its list, its macroblocks.
+abbrev pub with_slice : PictureStart → Slice → Progress → Progress
+with_slice p s before =
+    elim before.fault [ Some f ↦ before | None ↦
+    elim (nat_lt (length before.mbs) (s.header).first_mb_in_slice) [ true ↦ refused before s.unit faults.MissingMacroblocks | false ↦
+    elim (nat_lt (s.header).first_mb_in_slice (length before.mbs)) [ true ↦ refused before s.unit faults.ArbitrarySliceOrder | false ↦
+      listed p s before (list_of p s.header) ] ] ]
+
+-- After these slices, the newest first.
+abbrev pub progress : PictureStart → List Slice → Progress
+progress p [] = none_yet
+progress p (s ∷ earlier) = with_slice p s (progress p earlier)
+
+-- the picture is full: its next expected address is its number of macroblocks
+abbrev pub is_full : PictureStart → Progress → Bool
+is_full p g = length g.mbs == size_in_mbs p.sps
+
+-- the samples after all filters
+abbrev pub samples_of : PictureStart → List Slice → Samples
+samples_of p slices = deblocked (coded_of p (progress p slices))

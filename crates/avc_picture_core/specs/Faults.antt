@@ -1,0 +1,52 @@
+-- What refuses a macroblock that is read whole: its vectors, its reference pictures, its intra predictions.
+use Rattle.std.specs.Prelude.{ℕ, suc, Bool, true, false, not, ◌&&◌, if◌then◌else◌, Option, Some, None, slice_get, slice_index_or}
+use Rattle.std.specs.List.{range_with_len, list_all}
+use Rattle.avc_types.specs.declared.fault.Fault.{Fault}
+use Rattle.avc_types.specs.declared.fault.Fault.TheVariants.{IntraUnavailable, VectorRange, RefMissing}
+use Rattle.avc_types.specs.Macroblock.{MbSyntax, p_skip, i_pcm, i_nxn, i_16x16, p_inter}
+use Rattle.avc_types.specs.Pictures.{Coded, PicMb, Frame}
+use Rattle.avc_neigh.specs.Modes.{absent, modes_before}
+use Rattle.avc_motion.specs.Motion.{motion_before, is_in_range}
+use Rattle.avc_intra.specs.Luma4x4.{can_predict4x4, mode4x4_of}
+use Rattle.avc_intra.specs.Luma16x16.{can_predict16x16, mode16x16_of}
+use Rattle.avc_intra.specs.Chroma.{can_predict_chroma, mode_chroma_of}
+use Rattle.avc_picture_core.specs.Built.{Place, place_of, sides_of, reference_of, mode_number}
+
+-- a frame that can be predicted from
+abbrev pub is_picture : Option Frame → Bool
+is_picture None = false
+is_picture (Some f) = f.existing
+
+-- each block of the macroblock has a picture to be predicted from
+abbrev pub has_references : Place → MbSyntax → Bool
+has_references p p_skip = list_all (λ m. is_picture (reference_of p.coded p.slice m)) p.motion
+has_references p (p_inter shape references differences r) = list_all (λ m. is_picture (reference_of p.coded p.slice m)) p.motion
+has_references p (i_pcm luma cb cr) = true
+has_references p (i_nxn modes chroma r) = true
+has_references p (i_16x16 m chroma r) = true
+
+-- each intra prediction of the macroblock has the sides that it needs
+abbrev pub has_sides : Place → MbSyntax → Bool
+has_sides p p_skip = true
+has_sides p (p_inter shape references differences r) = true
+has_sides p (i_pcm luma cb cr) = true
+has_sides p (i_16x16 m chroma r) =
+    can_predict16x16 (sides_of p.coded p.address 0) (mode16x16_of m) && can_predict_chroma (sides_of p.coded p.address 0) (mode_chroma_of chroma)
+has_sides p (i_nxn modes chroma r) =
+    list_all (λ k. can_predict4x4 (sides_of p.coded p.address k) (mode4x4_of (mode_number (slice_index_or p.modes k absent)))) (range_with_len 0 16)
+    && can_predict_chroma (sides_of p.coded p.address 0) (mode_chroma_of chroma)
+
+abbrev pub fault_of : Place → Option Fault
+fault_of p =
+    if not (list_all is_in_range p.motion) then Some VectorRange
+    else (if not (has_references p p.mb.syntax) then Some RefMissing
+    else (if not (has_sides p p.mb.syntax) then Some IntraUnavailable
+    else None))
+
+abbrev fault_at : Coded → ℕ → Option PicMb → Option Fault
+fault_at c a None = None
+fault_at c a (Some m) = fault_of (place_of c (modes_before c (suc a)) (motion_before c (suc a)) a m)
+
+-- the fault of the macroblock at address a, if it has one of these three
+abbrev pub macroblock_fault : Coded → ℕ → Option Fault
+macroblock_fault c a = fault_at c a (slice_get c.mbs a)

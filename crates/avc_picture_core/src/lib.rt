@@ -1,0 +1,2 @@
+//! The samples of one macroblock (8.3 to 8.5).
+#![tactic(auto)]

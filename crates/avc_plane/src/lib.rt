@@ -1,0 +1,2 @@
+//! Planes of samples.
+#![tactic(auto)]

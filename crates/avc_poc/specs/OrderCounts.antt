@@ -1,0 +1,178 @@
+-- Picture order counts (8.2.1), from the history: the closed pictures and the missing frame numbers since the decoder last
+-- started running, in decoding order. A history is written with its newest entry first.
+use Rattle.std.specs.Prelude.{ℕ, zero, suc, ◌+◌, ◌-◌, ◌*◌, ◌/◌, ◌%◌, ◌^◌, ℤ, pos, neg_ℤ, ◌+ℤ◌, ◌-ℤ◌, ◌*ℤ◌, int_lt, int_le, Bool, true, false, ◌&&◌, nat_lt, if◌then◌else◌, List, [], ◌∷◌, length, take, Result, Ok, Err}
+use Rattle.std.specs.Int.{int_min}
+use Rattle.avc_types.specs.declared.fault.Fault.{Fault}
+use Rattle.avc_types.specs.declared.fault.Fault.TheVariants as faults
+use Rattle.avc_params.specs.Records.{Sps, OrderCount, type_0, type_1, type_2}
+use Rattle.avc_params.specs.Limits.{max_frame_num}
+use Rattle.avc_slice.specs.Header.{Header, CodedOrder, order_0, order_1, is_idr, is_reference, has_operation_5}
+
+-- an entry of the history
+pub data Past : Type 0 where
+  picture : Sps → Header → Past
+  missing : Sps → (frame_num : ℕ) → Past
+
+-- TopFieldOrderCnt and BottomFieldOrderCnt
+pub record Counts : Type 0 where
+  pub top : ℤ
+  pub bottom : ℤ
+
+-- PicOrderCnt of a frame
+abbrev pub order_of : Counts → ℤ
+order_of c = int_min c.top c.bottom
+
+-- after memory_management_control_operation 5 (8.2.1): both are lowered by the frame's count
+abbrev pub lowered : Counts → Counts
+lowered c = record { top = c.top -ℤ order_of c; bottom = c.bottom -ℤ order_of c }
+
+-- ---- type 0 (8.2.1.1)
+
+-- prevPicOrderCntMsb and prevPicOrderCntLsb
+pub record Previous : Type 0 where
+  pub msb : ℤ
+  pub lsb : ℤ
+
+abbrev no_previous : Previous
+no_previous = record { msb = pos 0; lsb = pos 0 }
+
+-- MaxPicOrderCntLsb
+abbrev pub max_lsb : OrderCount → ℤ
+max_lsb (type_0 log2_minus4) = pos (2 ^ (log2_minus4 + 4))
+max_lsb _ = pos 0
+
+abbrev pub lsb_of : CodedOrder → ℤ
+lsb_of (order_0 lsb bottom) = pos lsb
+lsb_of _ = pos 0
+
+abbrev delta_bottom : CodedOrder → ℤ
+delta_bottom (order_0 lsb bottom) = bottom
+delta_bottom _ = pos 0
+
+-- PicOrderCntMsb
+abbrev pub msb_of : (max : ℤ) → Previous → (lsb : ℤ) → ℤ
+msb_of max previous lsb =
+    if int_lt lsb previous.lsb && int_le max (pos 2 *ℤ (previous.lsb -ℤ lsb)) then previous.msb +ℤ max
+    else (if int_lt previous.lsb lsb && int_lt max (pos 2 *ℤ (lsb -ℤ previous.lsb)) then previous.msb -ℤ max
+    else previous.msb)
+
+abbrev pub counts_0 : Sps → Header → Previous → Counts
+counts_0 sps h previous =
+    let top = msb_of (max_lsb sps.order_count) previous (lsb_of h.order) +ℤ lsb_of h.order in
+    record { top = top; bottom = top +ℤ delta_bottom h.order }
+
+-- what a reference picture leaves to the pictures after it
+abbrev left_by : Sps → Header → Previous → Previous
+left_by sps h previous =
+    if has_operation_5 h then record { msb = pos 0; lsb = (lowered (counts_0 sps h previous)).top }
+    else record { msb = msb_of (max_lsb sps.order_count) previous (lsb_of h.order); lsb = lsb_of h.order }
+
+-- Those of the last reference picture of the history, non-existing frames excepted.
+abbrev pub previous_of : List Past → Previous
+previous_of [] = no_previous
+previous_of (missing sps frame_num ∷ older) = previous_of older
+previous_of (picture sps h ∷ older) =
+    elim (is_reference h) [ false ↦ previous_of older | true ↦
+    elim (is_idr h) [ true ↦ left_by sps h no_previous | false ↦ left_by sps h (previous_of older) ] ]
+
+-- ---- types 1 and 2 (8.2.1.2, 8.2.1.3)
+
+abbrev past_sps : Past → Sps
+past_sps (picture sps h) = sps
+past_sps (missing sps frame_num) = sps
+
+abbrev past_number : Past → ℕ
+past_number (picture sps h) = h.frame_num
+past_number (missing sps frame_num) = frame_num
+
+abbrev past_is_idr : Past → Bool
+past_is_idr (picture sps h) = is_idr h
+past_is_idr (missing sps frame_num) = false
+
+abbrev resets : Past → Bool
+resets (picture sps h) = has_operation_5 h
+resets (missing sps frame_num) = false
+
+-- FrameNumOffset after an entry whose own is `offset`: one MaxFrameNum more where its frame_num is the greater
+abbrev offset_after : (offset : ℕ) → (older newer : Past) → ℕ
+offset_after offset older newer =
+    if resets older then 0
+    else (if nat_lt (past_number newer) (past_number older) then offset + max_frame_num (past_sps newer) else offset)
+
+-- FrameNumOffset of the newest entry
+abbrev pub frame_num_offset : List Past → ℕ
+frame_num_offset [] = 0
+frame_num_offset (newest ∷ []) = 0
+frame_num_offset (newest ∷ older ∷ others) =
+    elim (past_is_idr newest) [ true ↦ 0 | false ↦ offset_after (frame_num_offset (older ∷ others)) older newest ]
+
+abbrev pub sum_ℤ : List ℤ → ℤ
+sum_ℤ [] = pos 0
+sum_ℤ (x ∷ xs) = x +ℤ sum_ℤ xs
+
+-- absFrameNum, from FrameNumOffset + frame_num
+abbrev pub abs_frame_num : (number : ℕ) → (cycle : List ℤ) → (reference : Bool) → ℕ
+abs_frame_num number [] reference = 0
+abs_frame_num number (x ∷ cycle) true = number
+abs_frame_num number (x ∷ cycle) false = number - 1
+
+-- expectedPicOrderCnt without offset_for_non_ref_pic
+abbrev pub expected : (abs : ℕ) → (cycle : List ℤ) → ℤ
+expected zero cycle = pos 0
+expected (suc n) [] = pos 0
+expected (suc n) (x ∷ xs) =
+    pos (n / length (x ∷ xs)) *ℤ sum_ℤ (x ∷ xs) +ℤ sum_ℤ (take (n % length (x ∷ xs) + 1) (x ∷ xs))
+
+abbrev delta_0 : CodedOrder → ℤ
+delta_0 (order_1 a b) = a
+delta_0 _ = pos 0
+
+abbrev delta_1 : CodedOrder → ℤ
+delta_1 (order_1 a b) = b
+delta_1 _ = pos 0
+
+abbrev pub counts_1 : (non_ref top_to_bottom : ℤ) → (cycle : List ℤ) → Header → (number : ℕ) → Counts
+counts_1 non_ref top_to_bottom cycle h number =
+    let due = expected (abs_frame_num number cycle (is_reference h)) cycle in
+    let top = (due +ℤ (if is_reference h then pos 0 else non_ref)) +ℤ delta_0 h.order in
+    record { top = top; bottom = (top +ℤ top_to_bottom) +ℤ delta_1 h.order }
+
+abbrev pub counts_2 : Header → (number : ℕ) → Counts
+counts_2 h number =
+    let count = if is_idr h then pos 0 else (if is_reference h then pos (2 * number) else pos (2 * number) -ℤ pos 1) in
+    record { top = count; bottom = count }
+
+-- ---- all types
+
+-- Of the picture with this header after the older entries, before any lowering.
+abbrev counts_by : OrderCount → Sps → Header → (older : List Past) → Counts
+counts_by (type_0 log2_minus4) sps h older =
+    counts_0 sps h (elim (is_idr h) [ true ↦ no_previous | false ↦ previous_of older ])
+counts_by (type_1 always_zero non_ref top_to_bottom cycle) sps h older =
+    counts_1 non_ref top_to_bottom cycle h (frame_num_offset (picture sps h ∷ older) + h.frame_num)
+counts_by type_2 sps h older = counts_2 h (frame_num_offset (picture sps h ∷ older) + h.frame_num)
+
+abbrev pub raw_counts : Sps → Header → (older : List Past) → Counts
+raw_counts sps h older = counts_by sps.order_count sps h older
+
+abbrev fits : ℤ → Bool
+fits z = int_le (neg_ℤ (pos (2 ^ 31))) z && int_lt z (pos (2 ^ 31))
+
+abbrev pub both_fit : Counts → Bool
+both_fit c = fits c.top && fits c.bottom
+
+-- FrameNumOffset + frame_num stays in 32 signed bits, where it is used
+abbrev number_fits : OrderCount → (number : ℕ) → Bool
+number_fits (type_0 log2_minus4) number = true
+number_fits _ number = nat_lt number (2 ^ 31)
+
+-- the counts as they are answered: lowered where the picture has operation 5
+abbrev pub answered : Header → Counts → Counts
+answered h c = if has_operation_5 h then lowered c else c
+
+-- The counts of the picture with this header after the older entries, or PocRange.
+abbrev pub order_counts : Sps → Header → (older : List Past) → Result Counts Fault
+order_counts sps h older =
+    let c = raw_counts sps h older in
+    if number_fits sps.order_count (frame_num_offset (picture sps h ∷ older) + h.frame_num) && both_fit c && both_fit (answered h c)
+    then Ok (answered h c) else Err faults.PocRange

@@ -1,0 +1,2 @@
+//! Picture order counts (8.2.1).
+#![tactic(auto)]

@@ -1,0 +1,2 @@
+//! Reference picture lists (8.2.4).
+#![tactic(auto)]

@@ -1,0 +1,2 @@
+//! Slice headers (7.3.3).
+#![tactic(auto)]

@@ -1,0 +1,40 @@
+-- Pieces of a stream decode as the stream does.
+use Rattle.std.specs.Prelude.{◌≡◌, ℕ, ◌+◌, ◌-◌, ◌^◌, ◌<◌, Bool, true, false, not, List, [], ◌∷◌, ◌++◌, length, drop, sum_by, Option, Some, Result, Ok, Err, IsTrue}
+use Rattle.std.specs.List.{flat_map, list_all}
+use Rattle.avc_types.specs.declared.fault.Fault.{Fault}
+use Rattle.avc_types.specs.declared.references.Marking.{Marking}
+use Rattle.avc_types.specs.declared.references.Marking.TheVariants.{Idr}
+use Rattle.avc_annexb.specs.Units.{Unit, units}
+use Rattle.avc_bits.specs.Bits.{Bits}
+use Rattle.avc_slice.specs.Header.{Header}
+use Rattle.avc_units.specs.Grouping.{is_start, header_in, tables}
+use Rattle.avc_decoder.specs.Events.{Event, picture, refused, events}
+use Rattle.avc_tools.specs.Pieces.{pieces}
+
+abbrev is_picture : Event → Bool
+is_picture (picture p) = true
+is_picture (refused unit f) = false
+
+abbrev drops_by : Option Marking → Bool
+drops_by (Some (Idr no_output long_term)) = no_output
+drops_by _ = false
+
+abbrev drops_prior : Result (Header × Bits) Fault → Bool
+drops_prior (Ok r) = drops_by (r.0).marking
+drops_prior (Err f) = false
+
+-- no_output_of_prior_pics_flag of each picture that decoding can start with
+abbrev pub drop_flags : (before after : List Unit) → List Bool
+drop_flags before [] = []
+drop_flags before (u ∷ after) =
+    let others = drop_flags (before ++ u ∷ []) after in
+    elim (is_start u) [ true ↦ drops_prior (header_in (tables before) u true) ∷ others | false ↦ others ]
+
+-- Where a stream has no refusal, and no IDR picture but the first drops what is held, its pictures are those of its pieces.
+abbrev pub PiecesDecodeAlike : Type 0
+PiecesDecodeAlike =
+    (max : ℕ) (bytes : List ℕ) →
+      length bytes + sum_by length (pieces bytes) < 2 ^ 64 - 1 →
+      IsTrue (list_all is_picture (events max bytes true)) →
+      IsTrue (list_all (λ f. not f) (drop 1 (drop_flags [] (units max bytes true)))) →
+      events max bytes true ≡ flat_map (λ piece. events max piece true) (pieces bytes)

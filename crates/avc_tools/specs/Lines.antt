@@ -1,0 +1,125 @@
+-- The texts of a stream's units and headers, one line each.
+use Rattle.std.specs.Prelude.{ℕ, ◌+◌, ◌-◌, ◌*◌, ℤ, pos, nat_abs, Bool, true, false, List, [], ◌∷◌, ◌++◌, length, Option, Some, None, Result, Ok, Err, if◌then◌else◌, codes}
+use Rattle.std.specs.List.{flat_map}
+use Rattle.std.specs.Fmt.{decimal}
+use Rattle.avc_types.specs.declared.fault.Fault.{Fault}
+use Rattle.avc_types.specs.declared.fault.Fault.TheVariants as faults
+use Rattle.avc_types.specs.Faults.{number_of, name_of}
+use Rattle.avc_annexb.specs.Units.{Unit, nal_ref_idc, nal_unit_type, forbidden_zero_bit, units}
+use Rattle.avc_bits.specs.Bits.{Bits}
+use Rattle.avc_params.specs.Records.{Sps, Pps, OrderCount, type_0, type_1, type_2, Cropping}
+use Rattle.avc_params.specs.Limits.{width_in_mbs, height_in_mbs, dpb_size}
+use Rattle.avc_params.specs.Reading.{SetFault, sps_of, pps_of}
+use Rattle.avc_params.specs.Tables.{Sets}
+use Rattle.avc_slice.specs.Header.{Header, is_p, is_idr, slice_qp}
+use Rattle.avc_units.specs.Grouping.{Kind, slice, partition, sps, pps, kind, rbsp_of, header_in, tables}
+
+abbrev newline : List ℕ
+newline = 10 ∷ []
+
+-- a space and a number
+abbrev and_number : ℕ → List ℕ
+and_number n = 32 ∷ decimal n
+
+abbrev flag_number : Bool → ℕ
+flag_number b = if b then 1 else 0
+
+-- ---- units
+
+abbrev pub unit_line : Unit → List ℕ
+unit_line u =
+    decimal u.index ++ and_number u.offset ++ and_number u.length
+      ++ and_number (nal_unit_type u.header) ++ and_number (nal_ref_idc u.header) ++ newline
+
+abbrev pub unit_lines : List ℕ → List ℕ
+unit_lines bytes = flat_map unit_line (units (length bytes) bytes true)
+
+-- ---- headers
+
+abbrev cropped : Option Cropping → (Cropping → ℕ) → (size : ℕ) → ℕ
+cropped None offsets size = size
+cropped (Some c) offsets size = size - 2 * offsets c
+
+-- of what is shown
+abbrev pub shown_width : Sps → ℕ
+shown_width s = cropped s.frame_cropping (λ c. c.frame_crop_left_offset + c.frame_crop_right_offset) (16 * width_in_mbs s)
+
+abbrev pub shown_height : Sps → ℕ
+shown_height s = cropped s.frame_cropping (λ c. c.frame_crop_top_offset + c.frame_crop_bottom_offset) (16 * height_in_mbs s)
+
+abbrev pub order_type : OrderCount → ℕ
+order_type (type_0 log2) = 0
+order_type (type_1 always_zero non_ref bottom cycle) = 1
+order_type type_2 = 2
+
+abbrev pub sps_text : Sps → List ℕ
+sps_text s =
+    codes " sps" ++ and_number s.seq_parameter_set_id
+      ++ codes " profile" ++ and_number s.profile_idc
+      ++ codes " level" ++ and_number s.level_idc
+      ++ codes " size" ++ and_number (shown_width s) ++ codes "x" ++ decimal (shown_height s)
+      ++ codes " refs" ++ and_number s.max_num_ref_frames
+      ++ codes " poc" ++ and_number (order_type s.order_count)
+      ++ codes " dpb" ++ and_number (dpb_size s)
+
+abbrev qp_number : ℤ → ℕ
+qp_number qp = nat_abs qp
+
+abbrev pub pps_text : Pps → List ℕ
+pps_text p =
+    codes " pps" ++ and_number p.pic_parameter_set_id
+      ++ codes " sps" ++ and_number p.seq_parameter_set_id
+      ++ codes " qp" ++ and_number (qp_number (slice_qp p (pos 0)))
+      ++ codes " refs" ++ and_number (p.num_ref_idx_l0_default_active_minus1 + 1)
+      ++ codes " control" ++ and_number (flag_number p.deblocking_filter_control_present_flag)
+      ++ codes " constrained" ++ and_number (flag_number p.constrained_intra_pred_flag)
+
+abbrev slice_qp_under : Option Pps → Header → ℕ
+slice_qp_under (Some p) h = qp_number (slice_qp p h.slice_qp_delta)
+slice_qp_under None h = 0
+
+abbrev pub slice_text : Sets → Header → List ℕ
+slice_text sets h =
+    codes " slice" ++ and_number h.first_mb_in_slice
+      ++ codes " type " ++ (if is_p h then codes "P" else codes "I")
+      ++ codes " pps" ++ and_number h.pic_parameter_set_id
+      ++ codes " frame" ++ and_number h.frame_num
+      ++ codes " qp" ++ and_number (slice_qp_under (sets.pps h.pic_parameter_set_id) h)
+      ++ codes " idr" ++ and_number (flag_number (is_idr h))
+
+abbrev pub refused_text : Fault → List ℕ
+refused_text f = codes " refused" ++ and_number (number_of f) ++ codes " " ++ name_of f
+
+abbrev set_text : {A : Type 0} → (A → List ℕ) → Result A SetFault → List ℕ
+set_text text (Ok a) = text a
+set_text text (Err f) = refused_text f.fault
+
+abbrev header_text : Sets → Result (Header × Bits) Fault → List ℕ
+header_text sets (Ok r) = slice_text sets r.0
+header_text sets (Err f) = refused_text f
+
+-- What is said of a unit, if anything is. No unit is too long here.
+abbrev text_of : Sets → Unit → Kind → Option (List ℕ) → Option (List ℕ)
+text_of sets u sps (Some bytes) = Some (set_text sps_text (sps_of bytes))
+text_of sets u pps (Some bytes) = Some (set_text pps_text (pps_of bytes))
+text_of sets u (slice idr) (Some bytes) = Some (header_text sets (header_in sets u idr))
+text_of sets u partition (Some bytes) = Some (refused_text faults.DataPartition)
+text_of sets u _ _ = None
+
+abbrev line_of : ℕ → Option (List ℕ) → List ℕ
+line_of index None = []
+line_of index (Some text) = decimal index ++ text ++ newline
+
+-- under the parameter sets in force before the unit
+abbrev pub header_line : Sets → Unit → List ℕ
+header_line sets u =
+    line_of u.index (elim (forbidden_zero_bit u.header) [
+        true ↦ Some (refused_text faults.ForbiddenBit)
+      | false ↦ text_of sets u (kind u) (rbsp_of u) ])
+
+abbrev pub header_lines_from : (before after : List Unit) → List ℕ
+header_lines_from before [] = []
+header_lines_from before (u ∷ after) = header_line (tables before) u ++ header_lines_from (before ++ u ∷ []) after
+
+abbrev pub header_lines : List ℕ → List ℕ
+header_lines bytes = header_lines_from [] (units (length bytes) bytes true)

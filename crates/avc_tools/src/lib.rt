@@ -1,0 +1,2 @@
+//! Texts of units and headers, and pieces of a stream.
+#![tactic(auto)]

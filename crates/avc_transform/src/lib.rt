@@ -1,0 +1,2 @@
+//! Scaling and inverse transforms (8.5).
+#![tactic(auto)]

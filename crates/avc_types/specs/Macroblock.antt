@@ -1,0 +1,96 @@
+-- One macroblock as the syntax gives it (7.3.5, 7.4.5).
+use Rattle.std.specs.Prelude.{ℕ, ℤ, List, [], ◌∷◌, ◌++◌, ◌+◌, ◌*◌, ◌/◌, ◌%◌, Option}
+use Rattle.avc_types.specs.declared.vector.Mv.{Mv}
+
+-- sub_mb_type of P macroblocks (Table 7-17): how one 8x8 quarter is cut.
+pub data SubShape : Type 0 where
+  sub_8x8 : SubShape
+  sub_8x4 : SubShape
+  sub_4x8 : SubShape
+  sub_4x4 : SubShape
+
+-- mb_type 0 to 4 of P macroblocks (Table 7-13). The last two have one SubShape for each quarter;
+-- in `quarters_ref0` every reference index is 0 and none is coded.
+pub data Shape : Type 0 where
+  whole : Shape
+  upper_lower : Shape
+  left_right : Shape
+  quarters : List SubShape → Shape
+  quarters_ref0 : List SubShape → Shape
+
+-- The coded differences of one macroblock (7.3.5.3). Where a block is not coded its levels are all 0.
+pub record Residual : Type 0 where
+  -- CodedBlockPatternLuma, 0 to 15, and CodedBlockPatternChroma, 0 to 2
+  pub luma_pattern : ℕ
+  pub chroma_pattern : ℕ
+  -- 0 where it is not coded
+  pub mb_qp_delta : ℤ
+  -- the 16 levels of Intra16x16DCLevel, in Intra 16x16 only; else no level
+  pub luma_dc : List ℤ
+  -- for each of the 16 luma blocks, in block order: 16 levels, in Intra 16x16 the last 15
+  pub luma : List (List ℤ)
+  -- four levels each
+  pub cb_dc : List ℤ
+  pub cr_dc : List ℤ
+  -- for each of the four blocks of the component: 15 levels
+  pub cb_ac : List (List ℤ)
+  pub cr_ac : List (List ℤ)
+
+-- What stands in the bits of one macroblock.
+pub data MbSyntax : Type 0 where
+  -- inferred in a P slice by mb_skip_run
+  p_skip : MbSyntax
+  -- 256 luma, 64 Cb and 64 Cr samples, row by row
+  i_pcm : (luma cb cr : List ℕ) → MbSyntax
+  -- For each of the 16 luma blocks: no number where prev_intra4x4_pred_mode_flag is 1, else rem_intra4x4_pred_mode.
+  -- Then intra_chroma_pred_mode.
+  i_nxn : (modes : List (Option ℕ)) → (chroma_mode : ℕ) → Residual → MbSyntax
+  -- Intra16x16PredMode and intra_chroma_pred_mode
+  i_16x16 : (mode chroma_mode : ℕ) → Residual → MbSyntax
+  -- ref_idx_l0 for each partition, and mvd_l0 for each sub-macroblock partition, in decoding order
+  p_inter : Shape → (references : List ℕ) → (differences : List Mv) → Residual → MbSyntax
+
+-- A macroblock with its luma quantiser QP_Y (of I_PCM and of a skipped one: that which it passes on, 7.4.5).
+pub record Mb : Type 0 where
+  pub syntax : MbSyntax
+  pub qp : ℕ
+
+-- A rectangle of luma samples inside the macroblock that has one vector, and the partition (mbPartIdx) whose
+-- reference index it takes (6.4.2).
+pub record Part : Type 0 where
+  pub x : ℕ
+  pub y : ℕ
+  pub width : ℕ
+  pub height : ℕ
+  pub partition : ℕ
+
+abbrev part : ℕ → ℕ → ℕ → ℕ → ℕ → Part
+part x y width height partition =
+    record { x = x; y = y; width = width; height = height; partition = partition }
+
+-- The upper left sample of an 8x8 quarter of a macroblock (6.4.5).
+abbrev pub quarter_x : ℕ → ℕ
+quarter_x q = 8 * (q % 2)
+
+abbrev pub quarter_y : ℕ → ℕ
+quarter_y q = 8 * (q / 2)
+
+-- one quarter at (x, y)
+abbrev pub parts_of_quarter : SubShape → ℕ → ℕ → ℕ → List Part
+parts_of_quarter sub_8x8 x y q = part x y 8 8 q ∷ []
+parts_of_quarter sub_8x4 x y q = part x y 8 4 q ∷ part x (y + 4) 8 4 q ∷ []
+parts_of_quarter sub_4x8 x y q = part x y 4 8 q ∷ part (x + 4) y 4 8 q ∷ []
+parts_of_quarter sub_4x4 x y q =
+    part x y 4 4 q ∷ part (x + 4) y 4 4 q ∷ part x (y + 4) 4 4 q ∷ part (x + 4) (y + 4) 4 4 q ∷ []
+
+abbrev pub parts_of_quarters : List SubShape → ℕ → List Part
+parts_of_quarters [] q = []
+parts_of_quarters (s ∷ subs) q = parts_of_quarter s (quarter_x q) (quarter_y q) q ++ parts_of_quarters subs (q + 1)
+
+-- The parts of a macroblock in decoding order: one for each element of `differences`.
+abbrev pub parts_of : Shape → List Part
+parts_of whole = part 0 0 16 16 0 ∷ []
+parts_of upper_lower = part 0 0 16 8 0 ∷ part 0 8 16 8 1 ∷ []
+parts_of left_right = part 0 0 8 16 0 ∷ part 8 0 8 16 1 ∷ []
+parts_of (quarters subs) = parts_of_quarters subs 0
+parts_of (quarters_ref0 subs) = parts_of_quarters subs 0

@@ -1,0 +1,40 @@
+-- Samples, frames, and what the decoding of one picture's samples starts from.
+use Rattle.std.specs.Prelude.{ℕ, ℤ, Bool, List, Option}
+use Rattle.avc_types.specs.Macroblock.{Mb}
+
+-- The sample of component c (0 luma, 1 Cb, 2 Cr) in column x and row y.
+abbrev pub Samples : Type 0
+Samples = (c x y : ℕ) → ℕ
+
+-- A frame that an inter prediction can name. Two frames are one picture where their entries are equal.
+pub record Frame : Type 0 where
+  -- its place in the history
+  pub entry : ℕ
+  -- no for a non-existing frame, which has no samples
+  pub existing : Bool
+  pub samples : Samples
+
+-- What the samples of a slice's macroblocks depend on, beside the macroblocks (7.4.3).
+pub record SliceFacts : Type 0 where
+  pub is_p : Bool
+  -- RefPicList0; no frame where an entry is empty
+  pub references : List (Option Frame)
+  pub disable_deblocking_filter_idc : ℕ
+  -- FilterOffsetA and FilterOffsetB: twice the coded offsets
+  pub filter_offset_a : ℤ
+  pub filter_offset_b : ℤ
+
+-- A macroblock with the number of its slice in the picture, from 0.
+pub record PicMb : Type 0 where
+  pub slice : ℕ
+  pub mb : Mb
+
+-- A picture's macroblocks so far, in decoding order: the macroblock at place a has the address a.
+pub record Coded : Type 0 where
+  -- in macroblocks
+  pub width : ℕ
+  pub height : ℕ
+  pub chroma_qp_index_offset : ℤ
+  pub constrained_intra_pred : Bool
+  pub slices : List SliceFacts
+  pub mbs : List PicMb

@@ -1,0 +1,22 @@
+//! The types that every layer of the decoder shares.
+#![tactic(auto)]
+
+mod address;
+mod block;
+mod bytes;
+mod fault;
+mod history;
+mod memory;
+mod picture;
+mod references;
+mod vector;
+
+pub use address::MbAddr;
+pub use block::Block;
+pub use bytes::Bytes;
+pub use fault::Fault;
+pub use history::History;
+pub use memory::OutOfMemory;
+pub use picture::{Crop, Picture};
+pub use references::{Mark, Marking, Modification, Operation, Operations};
+pub use vector::Mv;

@@ -1,0 +1,80 @@
+ghost use Rattle.std.specs.Prelude.{◌≡◌, ◌<◌, [], ◌∷◌, ◌++◌, List, length};
+
+use arrayvec::ArrayVec;
+use std::marker::Model;
+
+/// One entry of ref_pic_list_modification (7.3.3.1): modification_of_pic_nums_idc 0, 1 or 2 with its number.
+#[derive(Clone, Copy, Debug, PartialEq, Eq)]
+pub enum Modification {
+    /// 0, with abs_diff_pic_num_minus1.
+    Subtract(u32),
+
+    /// 1, with abs_diff_pic_num_minus1.
+    Add(u32),
+
+    /// 2, with long_term_pic_num.
+    LongTerm(u32),
+}
+
+/// One memory_management_control_operation, 1 to 6 (7.3.3.3).
+#[derive(Clone, Copy, Debug, PartialEq, Eq)]
+pub enum Operation {
+    /// 1: a short-term frame becomes unused, by difference_of_pic_nums_minus1.
+    ForgetShort(u32),
+
+    /// 2: a long-term frame becomes unused, by long_term_pic_num.
+    ForgetLong(u32),
+
+    /// 3: a short-term frame becomes long-term, by difference_of_pic_nums_minus1 and long_term_frame_idx.
+    ShortToLong(u32, u32),
+
+    /// 4: max_long_term_frame_idx_plus1.
+    LimitLong(u32),
+
+    /// 5: all frames become unused.
+    ForgetAll,
+
+    /// 6: the current picture becomes long-term, with long_term_frame_idx.
+    CurrentToLong(u32),
+}
+
+/// At most 64 operations of one picture, in order. A contract sees them as their list.
+#[derive(Drop)]
+pub struct Operations {
+    operations: ArrayVec<Operation, 64>,
+}
+
+impl Model for Operations {
+    ghost use Rattle.std.specs.Prelude.{List};
+    ghost use Rattle.avc_types.specs.declared.references.Operation.{Operation};
+
+    ghost Value = { List Operation };
+
+    ghost view = { λ o. o.operations.items };
+}
+
+/// dec_ref_pic_marking (7.3.3.3), where nal_ref_idc is not 0.
+#[derive(Drop)]
+pub enum Marking {
+    /// Of an IDR picture.
+    Idr {
+        no_output_of_prior_pics_flag: bool,
+        long_term_reference_flag: bool,
+    },
+
+    /// adaptive_ref_pic_marking_mode_flag 0.
+    SlidingWindow,
+
+    /// adaptive_ref_pic_marking_mode_flag 1.
+    Adaptive(Operations),
+}
+
+/// How a reference frame is marked (8.2.5).
+#[derive(Clone, Copy, Debug, PartialEq, Eq)]
+pub enum Mark {
+    /// For short-term reference.
+    Short,
+
+    /// For long-term reference, with LongTermFrameIdx.
+    Long(u32),
+}

@@ -1,0 +1,9 @@
+/// A motion vector (8.4.1), in quarter luma samples.
+#[derive(Clone, Copy, Debug, PartialEq, Eq)]
+pub struct Mv {
+    /// To the right.
+    pub x: i16,
+
+    /// Down.
+    pub y: i16,
+}

@@ -1,0 +1,175 @@
+-- What each unit does to the open picture and to the parameter sets (7.4.1.2, and this project's rules for faults).
+use Rattle.std.specs.Prelude.{ℕ, Bool, true, false, not, ◌==◌, ◌&&◌, ◌||◌, nat_le, List, [], ◌∷◌, ◌++◌, Option, Some, None, Result, Ok, Err, if◌then◌else◌}
+use Rattle.avc_types.specs.declared.fault.Fault.{Fault}
+use Rattle.avc_types.specs.declared.fault.Fault.TheVariants as faults
+use Rattle.avc_annexb.specs.Units.{Unit, forbidden_zero_bit, nal_ref_idc, nal_unit_type}
+use Rattle.avc_bits.specs.Bits.{Bits, rbsp, start}
+use Rattle.avc_bits.specs.Codes.{ue}
+use Rattle.avc_params.specs.Reading.{SetFault, sps_of, pps_of}
+use Rattle.avc_params.specs.Tables.{SetUnit, of_sps, of_pps, Sets, sets_after}
+use Rattle.avc_slice.specs.Header.{Header}
+use Rattle.avc_slice.specs.Reading.{slice_header}
+use Rattle.avc_slice.specs.Begins.{begins}
+
+-- ---- kinds of units (Table 7-1)
+
+pub data Kind : Type 0 where
+  -- type 1, and type 5
+  slice : (idr : Bool) → Kind
+  -- types 2 to 4
+  partition : Kind
+  sps : Kind
+  pps : Kind
+  -- types 6, 9 to 11 and 15 to 18, which end a picture
+  boundary : Kind
+  -- all others, which change nothing
+  other : Kind
+
+abbrev pub kind_of : (nal_unit_type : ℕ) → Kind
+kind_of t =
+    if t == 1 then slice false
+    else (if t == 5 then slice true
+    else (if nat_le 2 t && nat_le t 4 then partition
+    else (if t == 7 then sps
+    else (if t == 8 then pps
+    else (if (nat_le 6 t && nat_le t 11) || (nat_le 15 t && nat_le t 18) then boundary
+    else other)))))
+
+abbrev pub kind : Unit → Kind
+kind u = kind_of (nal_unit_type u.header)
+
+-- the RBSP, where the unit is not too long
+abbrev pub rbsp_of : Unit → Option (List ℕ)
+rbsp_of u = elim u.body [ Some body ↦ Some (rbsp body) | None ↦ None ]
+
+-- ---- parameter sets
+
+abbrev set_of : Kind → Option (List ℕ) → Option SetUnit
+set_of sps (Some bytes) = Some (of_sps bytes)
+set_of pps (Some bytes) = Some (of_pps bytes)
+set_of _ _ = None
+
+-- the parameter set that a unit brings, if it does
+abbrev pub set_unit : Unit → Option SetUnit
+set_unit u = if forbidden_zero_bit u.header then None else set_of (kind u) (rbsp_of u)
+
+abbrev list_of : Option SetUnit → List SetUnit
+list_of None = []
+list_of (Some s) = s ∷ []
+
+abbrev pub set_units : List Unit → List SetUnit
+set_units [] = []
+set_units (u ∷ units) = list_of (set_unit u) ++ set_units units
+
+-- The parameter sets in force after these units.
+abbrev pub tables : List Unit → Sets
+tables units = sets_after (set_units units)
+
+abbrev fault_in : {A : Type 0} → Result A SetFault → Option Fault
+fault_in (Ok a) = None
+fault_in (Err f) = Some f.fault
+
+-- why a unit that should bring a set does not
+abbrev pub set_fault : Kind → Option (List ℕ) → Option Fault
+set_fault sps (Some bytes) = fault_in (sps_of bytes)
+set_fault pps (Some bytes) = fault_in (pps_of bytes)
+set_fault sps None = Some faults.NalTooLong
+set_fault pps None = Some faults.NalTooLong
+set_fault _ _ = None
+
+-- ---- slices
+
+-- the header of a slice's unit and what stands after it, or why it cannot be read
+abbrev pub header_in : Sets → Unit → (idr : Bool) → Result (Header × Bits) Fault
+header_in sets u idr =
+    elim (rbsp_of u) [ None ↦ Err faults.NalTooLong | Some bytes ↦ slice_header (nal_ref_idc u.header) idr sets (start bytes) ]
+
+abbrev reads_zero : Result (ℕ × Bits) Fault → Bool
+reads_zero (Ok r) = r.0 == 0
+reads_zero (Err f) = false
+
+-- A unit of type 5 whose first_mb_in_slice reads as 0: with it decoding can start.
+abbrev pub is_start : Unit → Bool
+is_start u =
+    not (forbidden_zero_bit u.header)
+    && nal_unit_type u.header == 5
+    && elim (rbsp_of u) [ None ↦ false | Some bytes ↦ reads_zero (ue (start bytes)) ]
+
+-- ---- what a unit does
+
+-- after the open picture has been closed, where the unit closes it
+pub data Next : Type 0 where
+  nothing : Next
+  -- this refusal alone; the state stays
+  refusal : Fault → Next
+  -- the open picture has this fault
+  fault_of_open : Fault → Next
+  -- the unit is a faulty picture of its own
+  fault_of_own : Fault → Next
+  -- a slice of a new picture, and of the open one
+  begins_picture : Header → Bits → Next
+  continues_picture : Header → Bits → Next
+
+-- What a unit does: whether it closes the open picture, what it does then where no picture was open or closing was no fault,
+-- and what it does where closing was a fault.
+pub record Step : Type 0 where
+  pub closes : Bool
+  pub next : Next
+  pub otherwise : Next
+
+abbrev pub passes : Step
+passes = record { closes = false; next = nothing; otherwise = nothing }
+
+abbrev refusal_of : Option Fault → Next
+refusal_of None = nothing
+refusal_of (Some f) = refusal f
+
+-- an end of the picture, and then what a parameter set's unit says
+abbrev ends_picture : Next → Step
+ends_picture next = record { closes = true; next = next; otherwise = next }
+
+-- A picture is open: the header of its last slice, and whether it is full.
+pub record OpenPicture : Type 0 where
+  pub last : Header
+  pub full : Bool
+
+-- a slice or partition with an unreadable header
+abbrev unreadable : Option OpenPicture → Fault → Step
+unreadable None f = record { closes = false; next = fault_of_own f; otherwise = nothing }
+unreadable (Some o) f =
+    if o.full then record { closes = true; next = fault_of_own f; otherwise = nothing }
+    else record { closes = false; next = fault_of_open f; otherwise = nothing }
+
+-- A slice with this header; `starts` says that decoding can start with it.
+abbrev readable : Option OpenPicture → (starts : Bool) → Header → Bits → Step
+readable None starts h b = record { closes = false; next = begins_picture h b; otherwise = nothing }
+readable (Some o) starts h b =
+    if begins o.last h then record { closes = true; next = begins_picture h b; otherwise = (if starts then begins_picture h b else nothing) }
+    else record { closes = false; next = continues_picture h b; otherwise = nothing }
+
+abbrev slice_step : Option OpenPicture → (starts : Bool) → Result (Header × Bits) Fault → Step
+slice_step open' starts (Ok r) = readable open' starts r.0 r.1
+slice_step open' starts (Err f) = unreadable open' f
+
+-- By its kind, where decoding runs or starts with the unit.
+abbrev running_step : Sets → Option OpenPicture → Unit → Kind → Step
+running_step sets open' u (slice idr) = slice_step open' (is_start u) (header_in sets u idr)
+running_step sets open' u partition = unreadable open' faults.DataPartition
+running_step sets open' u boundary = ends_picture nothing
+running_step sets open' u other = passes
+running_step sets open' u sps = ends_picture (refusal_of (set_fault sps (rbsp_of u)))
+running_step sets open' u pps = ends_picture (refusal_of (set_fault pps (rbsp_of u)))
+
+-- by its kind, where it waits
+abbrev waiting_step : Sets → Unit → Kind → Step
+waiting_step sets u (slice idr) = if is_start u then running_step sets None u (slice idr) else passes
+waiting_step sets u partition = passes
+waiting_step sets u k = running_step sets None u k
+
+-- What a unit does under the parameter sets in force before it, while decoding runs (with the open picture, if there is one)
+-- or waits for a picture to start with.
+abbrev pub step : Sets → (running : Bool) → Option OpenPicture → Unit → Step
+step sets running open' u =
+    elim (forbidden_zero_bit u.header) [
+      true ↦ record { closes = false; next = refusal faults.ForbiddenBit; otherwise = refusal faults.ForbiddenBit }
+    | false ↦ elim running [ true ↦ running_step sets open' u (kind u) | false ↦ waiting_step sets u (kind u) ] ]

@@ -1,0 +1,19 @@
+-- A worked example of a cropped picture.
+use Rattle.std.specs.Prelude.{◌≡◌, ◌*◌, ◌++◌, replicate, refl}
+use Rattle.std.specs.List.{range_with_len, flat_map}
+use Rattle.avc_types.specs.declared.picture.Picture.{Picture}
+use Rattle.avc_yuv.specs.I420.{i420}
+
+-- 16x16 of which 10x10 are shown; luma sample (x, y) is 16 y + x
+abbrev rising : Picture
+rising = record {
+  width = 16;
+  height = 16;
+  crop = record { left = 0; right = 6; top = 0; bottom = 6 };
+  luma = range_with_len 0 256;
+  cb = replicate 64 0x40;
+  cr = replicate 64 0xC0;
+}
+
+shown : i420 rising ≡ flat_map (λ y. range_with_len (16 * y) 10) (range_with_len 0 10) ++ replicate 25 0x40 ++ replicate 25 0xC0
+shown = refl

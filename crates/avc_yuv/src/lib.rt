@@ -1,0 +1,2 @@
+//! Pictures as they are written.
+#![tactic(auto)]
