@@ -299,5 +299,5 @@ abbrev step_line : List ℕ
 step_line = replicate 16 128 ++ replicate 16 136
 
 half_sample : events max (sps_wide ++ pps_control ++ (0x00 ∷ 0x00 ∷ 0x01 ∷ 0x65 ∷ 0x88 ∷ 0x84 ∷ 0xA2 ∷ 0x72 ∷ 0x62 ∷ 0x80 ∷ 0x01 ∷ 0x2C ∷ []) ++ (0x00 ∷ 0x00 ∷ 0x01 ∷ 0x41 ∷ 0x9A ∷ 0x22 ∷ 0xB2 ∷ 0x6A ∷ [])) true
-  ≡ picture (striped step_line) ∷ picture (striped (replicate 14 128 ++ 127 ∷ 132 ∷ replicate 16 136)) ∷ []
+    ≡ picture (striped step_line) ∷ picture (striped (replicate 14 128 ++ 127 ∷ 132 ∷ replicate 16 136)) ∷ []
 half_sample = refl

@@ -136,7 +136,7 @@ rising = refl
 -- ---- order of output
 
 in_order : events max ((0 ∷ 0 ∷ 0 ∷ 1 ∷ 0x67 ∷ 0x42 ∷ 0xC0 ∷ 0x0A ∷ 0xF4 ∷ 0xE2 ∷ []) ++ pps_plain ++ 0 ∷ 0 ∷ 1 ∷ 0x65 ∷ 0x88 ∷ 0x84 ∷ 0x09 ∷ 0x3C ∷ 0 ∷ 0 ∷ 1 ∷ 0x41 ∷ 0x88 ∷ 0x8A ∷ 0x24 ∷ 0xD6 ∷ 0 ∷ 0 ∷ 1 ∷ 0x01 ∷ 0x88 ∷ 0x91 ∷ 0x49 ∷ 0xE0 ∷ []) true
-  ≡ picture (flat 128 128) ∷ picture (flat 128 128) ∷ picture (flat 129 128) ∷ []
+    ≡ picture (flat 128 128) ∷ picture (flat 128 128) ∷ picture (flat 129 128) ∷ []
 in_order = refl
 
 -- with room for one frame, the first goes out when the second is stored

@@ -116,8 +116,9 @@ closed_picture o = closed_outcome o (closing o)
 abbrev with_slice : (before : History) → (already : ℕ) → Open → Outcome
 with_slice before already o =
     elim (first_fault o false) [
-      Some found ↦ failed_at before found.0 found.1 (read_of o - already)
-    | None ↦ record { events = released before (history_of o); phase = running o.before (Some o); read = read_of o - already } ]
+      | Some found ↦ failed_at before found.0 found.1 (read_of o - already)
+      | None ↦ record { events = released before (history_of o); phase = running o.before (Some o); read = read_of o - already }
+    ]
 
 abbrev slice_at : (unit : ℕ) → Header → Bits → Slice
 slice_at unit h b = record { unit = unit; header = h; bits = b }
@@ -219,6 +220,7 @@ at_end (running h (Some o)) = all_of (closed_picture o)
     held_after : Phase → List Event
     held_after waiting = []
     held_after (running h' o') = emptied h'
+
     all_of : Outcome → List Event
     all_of c = c.events ++ held_after c.phase
 

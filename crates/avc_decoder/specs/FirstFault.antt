@@ -54,28 +54,34 @@ marking_fault o (Err f) = Some ((last_slice o).unit, f)
 abbrev closing_fault : Open → History → Option (ℕ × Fault)
 closing_fault o history =
     elim (is_full (start_on o history) (progress_on o history)) [
-      false ↦ Some ((last_slice o).unit, faults.MissingMacroblocks)
-    | true ↦ marking_fault o (closed_history o history) ]
+      | false ↦ Some ((last_slice o).unit, faults.MissingMacroblocks)
+      | true ↦ marking_fault o (closed_history o history)
+    ]
 
 -- The first fault of the picture, with its unit; `closing` says whether it is being closed.
 abbrev pub first_fault : Open → (closing : Bool) → Option (ℕ × Fault)
 first_fault o closing =
     elim ((first_header o).first_mb_in_slice) [
-      suc _ ↦ Some ((o.first).unit, faults.MissingMacroblocks)
-    | zero ↦ elim (opened_history o) [
-        Err f ↦ Some ((o.first).unit, f)
-      | Ok history ↦ elim ((progress_on o history).fault) [
-          Some found ↦ Some found
-        | None ↦ elim closing [ true ↦ closing_fault o history | false ↦ None ] ] ] ]
+      | suc _ ↦ Some ((o.first).unit, faults.MissingMacroblocks)
+      | zero ↦ elim (opened_history o) [
+        | Err f ↦ Some ((o.first).unit, f)
+        | Ok history ↦ elim ((progress_on o history).fault) [
+          | Some found ↦ Some found
+          | None ↦ elim closing [ true ↦ closing_fault o history | false ↦ None ]
+        ]
+      ]
+    ]
 
 -- The history on which the picture stands: with its missing numbers, where they could be taken in.
 abbrev pub history_of : Open → History
 history_of o = elim ((first_header o).first_mb_in_slice) [
-      suc _ ↦ o.before
-    | zero ↦ elim (opened_history o) [ Err f ↦ o.before | Ok history ↦ history ] ]
+  | suc _ ↦ o.before
+  | zero ↦ elim (opened_history o) [ Err f ↦ o.before | Ok history ↦ history ]
+]
 
 -- how many macroblocks of it have been read
 abbrev pub read_of : Open → ℕ
 read_of o = elim ((first_header o).first_mb_in_slice) [
-      suc _ ↦ 0
-    | zero ↦ elim (opened_history o) [ Err f ↦ 0 | Ok history ↦ (progress_on o history).read ] ]
+  | suc _ ↦ 0
+  | zero ↦ elim (opened_history o) [ Err f ↦ 0 | Ok history ↦ (progress_on o history).read ]
+]

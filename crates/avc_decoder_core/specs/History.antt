@@ -74,9 +74,13 @@ abbrev pub references_of : History → List Reference
 references_of h = or_no_references (marks_of h)
 
 abbrev before_of : Header → Before
-before_of h = elim h.marking [ None ↦ keeps | Some m ↦ elim m [
-      Idr no_output long_term ↦ (elim no_output [ true ↦ drops | false ↦ puts_out ])
-    | _ ↦ (elim (has_operation_5 h) [ true ↦ puts_out | false ↦ keeps ]) ] ]
+before_of h = elim h.marking [
+  | None ↦ keeps
+  | Some m ↦ elim m [
+    | Idr no_output long_term ↦ (elim no_output [ true ↦ drops | false ↦ puts_out ])
+    | _ ↦ (elim (has_operation_5 h) [ true ↦ puts_out | false ↦ keeps ])
+  ]
+]
 
 abbrev order_or_0 : Result Counts Fault → ℤ
 order_or_0 (Ok c) = order_of c
@@ -158,11 +162,13 @@ counted sps h history = order_counts sps h (pasts history) >>= λ c. Ok history
 abbrev pub opened : Sps → Header → History → Result History Fault
 opened sps h history =
     elim (is_idr h) [
-      true ↦ counted sps h history
-    | false ↦ elim (is_same (sequence_sps history) sps) [
-        false ↦ Err faults.ParameterSetChanged
-      | true ↦ missing_numbers (previous_number (steps history)) sps.gaps_in_frame_num_value_allowed_flag (picture_step sps h)
-          >>= λ numbers. with_missing sps numbers history >>= λ full. counted sps h full ] ]
+      | true ↦ counted sps h history
+      | false ↦ elim (is_same (sequence_sps history) sps) [
+        | false ↦ Err faults.ParameterSetChanged
+        | true ↦ missing_numbers (previous_number (steps history)) sps.gaps_in_frame_num_value_allowed_flag (picture_step sps h)
+            >>= λ numbers. with_missing sps numbers history >>= λ full. counted sps h full
+      ]
+    ]
 
 -- ---- closing it
 

@@ -9,7 +9,7 @@ use Rattle.avc_inter.specs.Luma.{Wide}
 abbrev pub bilinear : Wide → ℤ → ℤ → ℕ → ℕ → ℕ
 bilinear s x y p q =
     ((8 - p) * (8 - q) * s x y + p * (8 - q) * s (x +ℤ pos 1) y
-     + (8 - p) * q * s x (y +ℤ pos 1) + p * q * s (x +ℤ pos 1) (y +ℤ pos 1) + 32) / 64
+    + (8 - p) * q * s x (y +ℤ pos 1) + p * q * s (x +ℤ pos 1) (y +ℤ pos 1) + 32) / 64
 
 -- The prediction of the chroma sample (x, y) of the picture by a luma vector, which counts eighths of chroma samples.
 abbrev pub inter_chroma : (width height : ℕ) → (ℕ → ℕ → ℕ) → Mv → ℕ → ℕ → ℕ

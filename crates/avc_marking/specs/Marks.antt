@@ -76,9 +76,12 @@ index_fits index (Some greatest) = nat_le index greatest
 -- was decoded first.
 abbrev pub slid : Step → List Reference → Result (List Reference) Fault
 slid s references =
-    elim (nat_lt (length references) (limit_of s)) [ true ↦ Ok references | false ↦
-      frame_or faults.TooManyReferences (slice_get (sorted_by (λ a b. later_number s.frame_num s.max_frame_num b a) (filter is_short references)) 0)
-        >>= λ least. Ok (without least references) ]
+    elim (nat_lt (length references) (limit_of s)) [
+      | true ↦ Ok references
+      | false ↦
+          frame_or faults.TooManyReferences (slice_get (sorted_by (λ a b. later_number s.frame_num s.max_frame_num b a) (filter is_short references)) 0)
+          >>= λ least. Ok (without least references)
+    ]
 
 -- ---- operations (8.2.5.4)
 
@@ -105,20 +108,20 @@ after_operation s entry t (ForgetLong index) =
     frame_or faults.BadMarking (find (has_long_index index) t.references) >>= λ r. Ok (record t { references = without r t.references })
 after_operation s entry t (ShortToLong d index) =
     named_short s d t.references >>= λ r.
-      refuse_unless (r.existing && index_fits index t.greatest) (record t { references = with_mark r (Long index) (free_index index t.references) })
+    refuse_unless (r.existing && index_fits index t.greatest) (record t { references = with_mark r (Long index) (free_index index t.references) })
 after_operation s entry t (LimitLong plus1) =
     refuse_unless (nat_le plus1 s.max_num_ref_frames)
-      (record t {
-        references = filter (λ r. is_short r || nat_lt (long_index r) plus1) t.references;
-        greatest = elim plus1 [ zero ↦ None | suc greatest ↦ Some greatest ];
-      })
+    (record t {
+      references = filter (λ r. is_short r || nat_lt (long_index r) plus1) t.references;
+      greatest = elim plus1 [ zero ↦ None | suc greatest ↦ Some greatest ];
+    })
 after_operation s entry t ForgetAll = Ok (record t { references = []; greatest = None })
 after_operation s entry t (CurrentToLong index) =
     refuse_unless (not t.assigned && index_fits index t.greatest)
-      (record t {
-        references = free_index index t.references ++ record { entry = entry; frame_num = s.frame_num; existing = s.existing; mark = Long index } ∷ [];
-        assigned = true;
-      })
+    (record t {
+      references = free_index index t.references ++ record { entry = entry; frame_num = s.frame_num; existing = s.existing; mark = Long index } ∷ [];
+      assigned = true;
+    })
 
 abbrev pub after_operations : Step → (entry : ℕ) → Turn → List Operation → Result Turn Fault
 after_operations s entry t [] = Ok t
@@ -146,8 +149,9 @@ abbrev with_own : Step → (entry : ℕ) → Turn → Marks
 with_own s entry t =
     record {
       references = elim t.assigned [
-          true ↦ map (λ r. if r.entry == entry then own s entry r.mark else r) t.references
-        | false ↦ t.references ++ own s entry Short ∷ [] ];
+        | true ↦ map (λ r. if r.entry == entry then own s entry r.mark else r) t.references
+        | false ↦ t.references ++ own s entry Short ∷ []
+      ];
       greatest = t.greatest;
     }
 
@@ -165,7 +169,7 @@ marked_by s entry (Some SlidingWindow) m =
     slid s m.references >>= λ references. Ok (record m { references = references ++ own s entry Short ∷ [] })
 marked_by s entry (Some (Adaptive operations)) m =
     after_operations s entry (record { references = m.references; greatest = m.greatest; assigned = false }) operations
-      >>= λ t. within_limit s (with_own s entry t)
+    >>= λ t. within_limit s (with_own s entry t)
 
 -- The marks that a history leaves, or the first fault. An entry's place is the number of those before it.
 abbrev pub marks : List Step → Result Marks Fault
@@ -188,12 +192,14 @@ numbers_from max a (suc n) = a % max ∷ numbers_from max (a + 1) n
 abbrev pub missing_numbers : (previous : ℕ) → (gaps_allowed : Bool) → Step → Result (List ℕ) Fault
 missing_numbers previous gaps_allowed s =
     elim (s.frame_num == previous) [
-      true ↦ (if is_some s.marking then Err faults.FrameNumRepeated else Ok [])
-    | false ↦ elim (s.frame_num == (previous + 1) % s.max_frame_num) [
-        true ↦ Ok []
-      | false ↦ (if gaps_allowed
-          then Ok (numbers_from s.max_frame_num (previous + 1) ((s.frame_num + s.max_frame_num - previous - 1) % s.max_frame_num))
-          else Err faults.FrameNumGap) ] ]
+      | true ↦ (if is_some s.marking then Err faults.FrameNumRepeated else Ok [])
+      | false ↦ elim (s.frame_num == (previous + 1) % s.max_frame_num) [
+        | true ↦ Ok []
+        | false ↦ (if gaps_allowed
+            then Ok (numbers_from s.max_frame_num (previous + 1) ((s.frame_num + s.max_frame_num - previous - 1) % s.max_frame_num))
+            else Err faults.FrameNumGap)
+      ]
+    ]
 
 -- the entry for a missing number before the picture
 abbrev pub missing_step : Step → (frame_num : ℕ) → Step

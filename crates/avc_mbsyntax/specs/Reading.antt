@@ -177,5 +177,6 @@ p_mb c mb_type = do
 abbrev pub macroblock : Context → Read Mb
 macroblock c =
     elim c.is_p [
-      false ↦ (ue_to 25 >>= λ mb_type. i_mb c mb_type)
-    | true ↦ (ue_to 30 >>= λ mb_type. elim (nat_lt mb_type 5) [ true ↦ p_mb c mb_type | false ↦ i_mb c (mb_type - 5) ]) ]
+      | false ↦ (ue_to 25 >>= λ mb_type. i_mb c mb_type)
+      | true ↦ (ue_to 30 >>= λ mb_type. elim (nat_lt mb_type 5) [ true ↦ p_mb c mb_type | false ↦ i_mb c (mb_type - 5) ])
+    ]

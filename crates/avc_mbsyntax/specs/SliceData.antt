@@ -58,36 +58,53 @@ abbrev pub i_data : SliceStart → (left : ℕ) → (before : List PicMb) → (q
 i_data s zero before qp b = stopped faults.TooManyMacroblocks
 i_data s (suc left) before qp b =
     elim (macroblock (context s before qp) b) [
-      Err f ↦ stopped f
-    | Ok r ↦ after (r.0 ∷ []) (elim (more_data r.1) [
-        true ↦ i_data s left (before ++ placed s r.0 ∷ []) (r.0).qp r.1
-      | false ↦ ended ]) ]
+      | Err f ↦ stopped f
+      | Ok r ↦ after (r.0 ∷ []) (elim (more_data r.1) [
+        | true ↦ i_data s left (before ++ placed s r.0 ∷ []) (r.0).qp r.1
+        | false ↦ ended
+      ])
+    ]
 
 -- What stands after a run of skipped macroblocks, all of them in `before`: nothing, or one macroblock, and then `next`
 -- with the picture up to there, its QP and what is left, where there is more data.
 abbrev after_run : SliceStart → (before : List PicMb) → (qp : ℕ) → Bits → (next : List PicMb → ℕ → Bits → SliceMbs) → SliceMbs
 after_run s before qp b next =
-    elim (more_data b) [ false ↦ ended | true ↦
-    elim (length before == s.size) [ true ↦ stopped faults.TooManyMacroblocks | false ↦
-    elim (macroblock (context s before qp) b) [
-      Err f ↦ stopped f
-    | Ok r ↦ after (r.0 ∷ []) (elim (more_data r.1) [ true ↦ next (before ++ placed s r.0 ∷ []) (r.0).qp r.1 | false ↦ ended ]) ] ] ]
+    elim (more_data b) [
+      | false ↦ ended
+      | true ↦
+          elim (length before == s.size) [
+            | true ↦ stopped faults.TooManyMacroblocks
+            | false ↦
+                elim (macroblock (context s before qp) b) [
+                  | Err f ↦ stopped f
+                  | Ok r ↦ after (r.0 ∷ []) (elim (more_data r.1) [ true ↦ next (before ++ placed s r.0 ∷ []) (r.0).qp r.1 | false ↦ ended ])
+                ]
+          ]
+    ]
 
 -- In a P slice, in so many turns at most: a run of skipped macroblocks, then as after_run says. There are as many turns as
 -- macroblocks remain, since each but the last reads one.
 abbrev pub p_data : SliceStart → (turns : ℕ) → (before : List PicMb) → (qp : ℕ) → Bits → SliceMbs
 p_data s zero before qp b = stopped faults.TooManyMacroblocks
 p_data s (suc turns) before qp b =
-    elim (length before == s.size) [ true ↦ stopped faults.TooManyMacroblocks | false ↦
-    elim (ue b) [
-      Err f ↦ stopped f
-    | Ok run ↦ elim (nat_lt (s.size - length before) run.0) [ true ↦ stopped faults.TooManyMacroblocks | false ↦
-      after (replicate run.0 (skipped qp))
-        (after_run s (before ++ replicate run.0 (placed s (skipped qp))) qp run.1 (λ before' qp' b'. p_data s turns before' qp' b')) ] ] ]
+    elim (length before == s.size) [
+      | true ↦ stopped faults.TooManyMacroblocks
+      | false ↦
+          elim (ue b) [
+            | Err f ↦ stopped f
+            | Ok run ↦ elim (nat_lt (s.size - length before) run.0) [
+              | true ↦ stopped faults.TooManyMacroblocks
+              | false ↦
+                  after (replicate run.0 (skipped qp))
+                  (after_run s (before ++ replicate run.0 (placed s (skipped qp))) qp run.1 (λ before' qp' b'. p_data s turns before' qp' b'))
+            ]
+          ]
+    ]
 
 -- The data of a slice that goes on after `before`, the macroblocks of the picture's earlier slices.
 abbrev pub slice_data : SliceStart → (before : List PicMb) → Bits → SliceMbs
 slice_data s before b =
     elim s.is_p [
-      true ↦ p_data s (s.size - length before) before s.qp b
-    | false ↦ i_data s (s.size - length before) before s.qp b ]
+      | true ↦ p_data s (s.size - length before) before s.qp b
+      | false ↦ i_data s (s.size - length before) before s.qp b
+    ]

@@ -54,7 +54,7 @@ neighbours_of p known mine a x y width =
     record {
       a = at (pos x -ℤ pos 1) (pos y);
       b = at (pos x) (pos y -ℤ pos 1);
-      c = else_motion (at (pos (x + width)) (pos y -ℤ pos 1)) (at (pos x -ℤ pos 1) (pos y -ℤ pos 1))
+      c = else_motion (at (pos (x + width)) (pos y -ℤ pos 1)) (at (pos x -ℤ pos 1) (pos y -ℤ pos 1));
     }
 
 -- ---- prediction (8.4.1.3)

@@ -143,8 +143,11 @@ order_count_1 = do
 abbrev pub order_count : Read OrderCount
 order_count = do
   pic_order_cnt_type ← ue_to 2
-  elim (pic_order_cnt_type == 0) [ true ↦ order_count_0 | false ↦
-    elim (pic_order_cnt_type == 1) [ true ↦ order_count_1 | false ↦ give type_2 ] ]
+  elim (pic_order_cnt_type == 0) [
+    | true ↦ order_count_0
+    | false ↦
+        elim (pic_order_cnt_type == 1) [ true ↦ order_count_1 | false ↦ give type_2 ]
+  ]
 
 -- The four offsets, of a picture of so many luma samples.
 abbrev pub cropping : (width height : ℕ) → Read Cropping

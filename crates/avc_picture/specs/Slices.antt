@@ -43,8 +43,9 @@ or_empty None = []
 abbrev pub list_of : PictureStart → Header → Result (List (Option Reference)) Fault
 list_of p h =
     elim (is_p h) [
-      true ↦ reference_list h.frame_num (max_frame_num p.sps) h.active_count p.references (or_empty h.modifications)
-    | false ↦ Ok [] ]
+      | true ↦ reference_list h.frame_num (max_frame_num p.sps) h.active_count p.references (or_empty h.modifications)
+      | false ↦ Ok []
+    ]
 
 abbrev pub facts_of : PictureStart → Header → List (Option Reference) → SliceFacts
 facts_of p h list =
@@ -116,6 +117,7 @@ judged p s before facts ms = verdict (first_mb_fault (coded_of p whole) (length 
       fault = with_unit s.unit ms.fault;
       read = before.read + length ms.mbs;
     }
+
     verdict : Option (ℕ × Fault) → Progress
     verdict None = whole
     verdict (Some found) = record whole { fault = Some (s.unit, found.1); read = before.read + found.0 }
@@ -129,10 +131,19 @@ listed p s before (Ok list) =
 -- One slice more: its first address, its list, its macroblocks.
 abbrev pub with_slice : PictureStart → Slice → Progress → Progress
 with_slice p s before =
-    elim before.fault [ Some f ↦ before | None ↦
-    elim (nat_lt (length before.mbs) (s.header).first_mb_in_slice) [ true ↦ refused before s.unit faults.MissingMacroblocks | false ↦
-    elim (nat_lt (s.header).first_mb_in_slice (length before.mbs)) [ true ↦ refused before s.unit faults.ArbitrarySliceOrder | false ↦
-      listed p s before (list_of p s.header) ] ] ]
+    elim before.fault [
+      | Some f ↦ before
+      | None ↦
+          elim (nat_lt (length before.mbs) (s.header).first_mb_in_slice) [
+            | true ↦ refused before s.unit faults.MissingMacroblocks
+            | false ↦
+                elim (nat_lt (s.header).first_mb_in_slice (length before.mbs)) [
+                  | true ↦ refused before s.unit faults.ArbitrarySliceOrder
+                  | false ↦
+                      listed p s before (list_of p s.header)
+                ]
+          ]
+    ]
 
 -- After these slices, the newest first.
 abbrev pub progress : PictureStart → List Slice → Progress

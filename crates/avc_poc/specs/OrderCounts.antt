@@ -72,8 +72,11 @@ abbrev pub previous_of : List Past → Previous
 previous_of [] = no_previous
 previous_of (missing sps frame_num ∷ older) = previous_of older
 previous_of (picture sps h ∷ older) =
-    elim (is_reference h) [ false ↦ previous_of older | true ↦
-    elim (is_idr h) [ true ↦ left_by sps h no_previous | false ↦ left_by sps h (previous_of older) ] ]
+    elim (is_reference h) [
+      | false ↦ previous_of older
+      | true ↦
+          elim (is_idr h) [ true ↦ left_by sps h no_previous | false ↦ left_by sps h (previous_of older) ]
+    ]
 
 -- ---- types 1 and 2 (8.2.1.2, 8.2.1.3)
 

@@ -44,8 +44,9 @@ abbrev pub active_override : Pps → Read (Option ℕ)
 active_override pps = do
   num_ref_idx_active_override_flag ← flag
   elim num_ref_idx_active_override_flag [
-      true ↦ overridden_count
-    | false ↦ (check (nat_lt pps.num_ref_idx_l0_default_active_minus1 16) faults.OutOfRange >> give None) ]
+    | true ↦ overridden_count
+    | false ↦ (check (nat_lt pps.num_ref_idx_l0_default_active_minus1 16) faults.OutOfRange >> give None)
+  ]
 
 -- ---- modification of the list (7.3.3.1)
 
@@ -62,10 +63,13 @@ modifications max_frame_num zero = do
   give []
 modifications max_frame_num (suc room) = do
   idc ← ue_to 3
-  elim (idc == 3) [ true ↦ give [] | false ↦ (do
-    one ← modification max_frame_num idc
-    others ← modifications max_frame_num room
-    give (one ∷ others)) ]
+  elim (idc == 3) [
+    | true ↦ give []
+    | false ↦ (do
+      one ← modification max_frame_num idc
+      others ← modifications max_frame_num room
+      give (one ∷ others))
+  ]
 
 abbrev modification_list : (max_frame_num room : ℕ) → Read (Option (List Modification))
 modification_list max_frame_num room = flag >>= λ present. where_set present (modifications max_frame_num room)
@@ -91,10 +95,13 @@ operations zero = do
   give []
 operations (suc room) = do
   number ← ue_to 6
-  elim (number == 0) [ true ↦ give [] | false ↦ (do
-    one ← operation number
-    others ← operations room
-    give (one ∷ others)) ]
+  elim (number == 0) [
+    | true ↦ give []
+    | false ↦ (do
+      one ← operation number
+      others ← operations room
+      give (one ∷ others))
+  ]
 
 abbrev pub most_operations : ℕ
 most_operations = 64
@@ -107,8 +114,9 @@ marking true = do
 marking false = do
   adaptive_ref_pic_marking_mode_flag ← flag
   elim adaptive_ref_pic_marking_mode_flag [
-      true ↦ (operations most_operations >>= λ list. give (Adaptive list))
-    | false ↦ give SlidingWindow ]
+    | true ↦ (operations most_operations >>= λ list. give (Adaptive list))
+    | false ↦ give SlidingWindow
+  ]
 
 -- ---- deblocking
 
@@ -122,8 +130,9 @@ abbrev pub deblocking : Read Deblocking
 deblocking = do
   idc ← ue_to 2
   elim (idc == 1) [
-      true ↦ give (record { disable_deblocking_filter_idc = 1; slice_alpha_c0_offset_div2 = pos 0; slice_beta_offset_div2 = pos 0 })
-    | false ↦ offset_pair idc ]
+    | true ↦ give (record { disable_deblocking_filter_idc = 1; slice_alpha_c0_offset_div2 = pos 0; slice_beta_offset_div2 = pos 0 })
+    | false ↦ offset_pair idc
+  ]
 
 -- ---- the header
 
@@ -182,9 +191,11 @@ back nal_ref_idc idr start pps sps = do
   where
     p : Bool
     p = is_p_type start.slice_type
+
     joined : {A : Type 0} → Option (Option A) → Option A
     joined (Some given) = given
     joined None = None
+
     -- RefPicList0's length: none in an I slice, else the overriding count or the default one
     active : Option (Option ℕ) → ℕ
     active None = 0

@@ -34,7 +34,7 @@ drop_flags before (u ∷ after) =
 abbrev pub PiecesDecodeAlike : Type 0
 PiecesDecodeAlike =
     (max : ℕ) (bytes : List ℕ) →
-      length bytes + sum_by length (pieces bytes) < 2 ^ 64 - 1 →
-      IsTrue (list_all is_picture (events max bytes true)) →
-      IsTrue (list_all (λ f. not f) (drop 1 (drop_flags [] (units max bytes true)))) →
-      events max bytes true ≡ flat_map (λ piece. events max piece true) (pieces bytes)
+    length bytes + sum_by length (pieces bytes) < 2 ^ 64 - 1 →
+    IsTrue (list_all is_picture (events max bytes true)) →
+    IsTrue (list_all (λ f. not f) (drop 1 (drop_flags [] (units max bytes true)))) →
+    events max bytes true ≡ flat_map (λ piece. events max piece true) (pieces bytes)

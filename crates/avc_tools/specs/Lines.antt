@@ -29,7 +29,7 @@ flag_number b = if b then 1 else 0
 abbrev pub unit_line : Unit → List ℕ
 unit_line u =
     decimal u.index ++ and_number u.offset ++ and_number u.length
-      ++ and_number (nal_unit_type u.header) ++ and_number (nal_ref_idc u.header) ++ newline
+    ++ and_number (nal_unit_type u.header) ++ and_number (nal_ref_idc u.header) ++ newline
 
 abbrev pub unit_lines : List ℕ → List ℕ
 unit_lines bytes = flat_map unit_line (units (length bytes) bytes true)
@@ -55,12 +55,12 @@ order_type type_2 = 2
 abbrev pub sps_text : Sps → List ℕ
 sps_text s =
     codes " sps" ++ and_number s.seq_parameter_set_id
-      ++ codes " profile" ++ and_number s.profile_idc
-      ++ codes " level" ++ and_number s.level_idc
-      ++ codes " size" ++ and_number (shown_width s) ++ codes "x" ++ decimal (shown_height s)
-      ++ codes " refs" ++ and_number s.max_num_ref_frames
-      ++ codes " poc" ++ and_number (order_type s.order_count)
-      ++ codes " dpb" ++ and_number (dpb_size s)
+    ++ codes " profile" ++ and_number s.profile_idc
+    ++ codes " level" ++ and_number s.level_idc
+    ++ codes " size" ++ and_number (shown_width s) ++ codes "x" ++ decimal (shown_height s)
+    ++ codes " refs" ++ and_number s.max_num_ref_frames
+    ++ codes " poc" ++ and_number (order_type s.order_count)
+    ++ codes " dpb" ++ and_number (dpb_size s)
 
 abbrev qp_number : ℤ → ℕ
 qp_number qp = nat_abs qp
@@ -68,11 +68,11 @@ qp_number qp = nat_abs qp
 abbrev pub pps_text : Pps → List ℕ
 pps_text p =
     codes " pps" ++ and_number p.pic_parameter_set_id
-      ++ codes " sps" ++ and_number p.seq_parameter_set_id
-      ++ codes " qp" ++ and_number (qp_number (slice_qp p (pos 0)))
-      ++ codes " refs" ++ and_number (p.num_ref_idx_l0_default_active_minus1 + 1)
-      ++ codes " control" ++ and_number (flag_number p.deblocking_filter_control_present_flag)
-      ++ codes " constrained" ++ and_number (flag_number p.constrained_intra_pred_flag)
+    ++ codes " sps" ++ and_number p.seq_parameter_set_id
+    ++ codes " qp" ++ and_number (qp_number (slice_qp p (pos 0)))
+    ++ codes " refs" ++ and_number (p.num_ref_idx_l0_default_active_minus1 + 1)
+    ++ codes " control" ++ and_number (flag_number p.deblocking_filter_control_present_flag)
+    ++ codes " constrained" ++ and_number (flag_number p.constrained_intra_pred_flag)
 
 abbrev slice_qp_under : Option Pps → Header → ℕ
 slice_qp_under (Some p) h = qp_number (slice_qp p h.slice_qp_delta)
@@ -81,11 +81,11 @@ slice_qp_under None h = 0
 abbrev pub slice_text : Sets → Header → List ℕ
 slice_text sets h =
     codes " slice" ++ and_number h.first_mb_in_slice
-      ++ codes " type " ++ (if is_p h then codes "P" else codes "I")
-      ++ codes " pps" ++ and_number h.pic_parameter_set_id
-      ++ codes " frame" ++ and_number h.frame_num
-      ++ codes " qp" ++ and_number (slice_qp_under (sets.pps h.pic_parameter_set_id) h)
-      ++ codes " idr" ++ and_number (flag_number (is_idr h))
+    ++ codes " type " ++ (if is_p h then codes "P" else codes "I")
+    ++ codes " pps" ++ and_number h.pic_parameter_set_id
+    ++ codes " frame" ++ and_number h.frame_num
+    ++ codes " qp" ++ and_number (slice_qp_under (sets.pps h.pic_parameter_set_id) h)
+    ++ codes " idr" ++ and_number (flag_number (is_idr h))
 
 abbrev pub refused_text : Fault → List ℕ
 refused_text f = codes " refused" ++ and_number (number_of f) ++ codes " " ++ name_of f
@@ -114,8 +114,9 @@ line_of index (Some text) = decimal index ++ text ++ newline
 abbrev pub header_line : Sets → Unit → List ℕ
 header_line sets u =
     line_of u.index (elim (forbidden_zero_bit u.header) [
-        true ↦ Some (refused_text faults.ForbiddenBit)
-      | false ↦ text_of sets u (kind u) (rbsp_of u) ])
+      | true ↦ Some (refused_text faults.ForbiddenBit)
+      | false ↦ text_of sets u (kind u) (rbsp_of u)
+    ])
 
 abbrev pub header_lines_from : (before after : List Unit) → List ℕ
 header_lines_from before [] = []

@@ -171,5 +171,6 @@ waiting_step sets u k = running_step sets None u k
 abbrev pub step : Sets → (running : Bool) → Option OpenPicture → Unit → Step
 step sets running open' u =
     elim (forbidden_zero_bit u.header) [
-      true ↦ record { closes = false; next = refusal faults.ForbiddenBit; otherwise = refusal faults.ForbiddenBit }
-    | false ↦ elim running [ true ↦ running_step sets open' u (kind u) | false ↦ waiting_step sets u (kind u) ] ]
+      | true ↦ record { closes = false; next = refusal faults.ForbiddenBit; otherwise = refusal faults.ForbiddenBit }
+      | false ↦ elim running [ true ↦ running_step sets open' u (kind u) | false ↦ waiting_step sets u (kind u) ]
+    ]

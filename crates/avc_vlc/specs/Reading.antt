@@ -83,9 +83,15 @@ tokens_8 =
 abbrev pub token_table : ℤ → Table Token
 token_table (negsuc _) = tokens coeff_token_chroma_dc
 token_table (pos n) =
-    elim (nat_lt n 2) [ true ↦ tokens coeff_token_0 | false ↦
-    elim (nat_lt n 4) [ true ↦ tokens coeff_token_2 | false ↦
-    elim (nat_lt n 8) [ true ↦ tokens coeff_token_4 | false ↦ tokens_8 ] ] ]
+    elim (nat_lt n 2) [
+      | true ↦ tokens coeff_token_0
+      | false ↦
+          elim (nat_lt n 4) [
+            | true ↦ tokens coeff_token_2
+            | false ↦
+                elim (nat_lt n 8) [ true ↦ tokens coeff_token_4 | false ↦ tokens_8 ]
+          ]
+    ]
 
 abbrev pub coeff_token : ℤ → Read Token
 coeff_token nc = table_code (token_table nc)

@@ -23,4 +23,4 @@ chroma_window p samples =
 abbrev pub i420 : Picture → List ℕ
 i420 p =
     window p.width p.luma (p.crop).left (p.crop).top (shown_width p) (shown_height p)
-      ++ chroma_window p p.cb ++ chroma_window p p.cr
+    ++ chroma_window p p.cb ++ chroma_window p p.cr
