@@ -10,7 +10,7 @@ use Rattle.avc_bits.specs.Bits.{Bits}
 use Rattle.avc_params.specs.Records.{Sps, Pps, Cropping}
 use Rattle.avc_params.specs.Limits.{width_in_mbs, height_in_mbs}
 use Rattle.avc_params.specs.Tables.{SetUnit, Sets, sets_after}
-use Rattle.avc_slice.specs.Header.{Header}
+use Rattle.avc_slice.specs.declared.header.Header.{Header}
 use Rattle.avc_units.specs.Grouping.{Next, nothing, refusal, fault_of_open, fault_of_own, begins_picture, continues_picture, OpenPicture, step, set_unit}
 use Rattle.avc_picture.specs.Slices.{Slice, is_full}
 use Rattle.avc_decoder_core.specs.History.{Entry, closed, absent, History, entry_at, gained, all_held}

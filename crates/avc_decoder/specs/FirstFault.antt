@@ -4,7 +4,7 @@ use Rattle.avc_types.specs.declared.fault.Fault.{Fault}
 use Rattle.avc_types.specs.declared.fault.Fault.TheVariants as faults
 use Rattle.avc_types.specs.Pictures.{Samples}
 use Rattle.avc_params.specs.Records.{Sps, Pps}
-use Rattle.avc_slice.specs.Header.{Header}
+use Rattle.avc_slice.specs.declared.header.Header.{Header}
 use Rattle.avc_picture.specs.Slices.{PictureStart, Slice, Progress, progress, is_full, samples_of}
 use Rattle.avc_decoder_core.specs.History.{History, opened, closed_by, references_of, frame_of}
 

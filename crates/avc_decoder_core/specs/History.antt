@@ -9,7 +9,8 @@ use Rattle.avc_types.specs.Pictures.{Samples, Frame}
 use Rattle.avc_params.specs.Records.{Sps}
 use Rattle.avc_params.specs.Limits.{max_frame_num, dpb_size}
 use Rattle.avc_params.specs.Same.{same_sps}
-use Rattle.avc_slice.specs.Header.{Header, is_idr, is_reference, has_operation_5}
+use Rattle.avc_slice.specs.declared.header.Header.{Header}
+use Rattle.avc_slice.specs.Header.{is_idr, is_reference, has_operation_5}
 use Rattle.avc_poc.specs.OrderCounts.{Counts, Past, picture, missing, order_counts, order_of}
 use Rattle.avc_marking.specs.Marks.{Step, Marks, marks, previous_number, missing_numbers}
 use Rattle.avc_dpb.specs.Bumping.{Before, keeps, puts_out, drops, Arrival, Buffer, buffer_after, held_ones}

@@ -3,6 +3,7 @@ use Rattle.std.specs.Prelude.{ℕ, zero, suc, ◌+◌, ◌==◌, nat_lt, nat_le,
 use Rattle.std.specs.List.{range_with_len}
 use Rattle.avc_types.specs.Arithmetic.{median, ◌==ℤ◌}
 use Rattle.avc_types.specs.declared.vector.Mv.{Mv}
+use Rattle.avc_types.specs.declared.edges.FilteredEdges.TheVariants.{NoEdges}
 use Rattle.avc_types.specs.Macroblock.{MbSyntax, p_skip, i_pcm, i_nxn, i_16x16, p_inter, Part, Shape, whole, upper_lower, left_right, quarters, quarters_ref0, parts_of}
 use Rattle.avc_types.specs.Pictures.{Coded, PicMb, SliceFacts, Frame}
 use Rattle.avc_neigh.specs.Blocks.{block_x, block_y, spot_at}
@@ -171,7 +172,7 @@ is_intra (p_inter shape references differences residual) = false
 
 -- A slice that is not there: part of no picture, but the definitions are total.
 abbrev pub no_slice : SliceFacts
-no_slice = record { is_p = false; references = []; disable_deblocking_filter_idc = 1; filter_offset_a = pos 0; filter_offset_b = pos 0 }
+no_slice = record { is_p = false; references = []; disable_deblocking_filter_idc = NoEdges; filter_offset_a = pos 0; filter_offset_b = pos 0 }
 
 abbrev pub slice_facts : Coded → ℕ → SliceFacts
 slice_facts p slice = slice_index_or p.slices slice no_slice

@@ -1,6 +1,7 @@
 -- The slices of one picture, in the order of checks.
 use Rattle.std.specs.Prelude.{ℕ, zero, suc, ◌+◌, pos, ◌+ℤ◌, nat_abs, Bool, true, false, ◌==◌, nat_lt, List, [], ◌∷◌, ◌++◌, length, map, Option, Some, None, Result, Ok, Err}
 use Rattle.std.specs.Option.{option_map}
+use Rattle.avc_types.specs.declared.edges.FilteredEdges.TheVariants.{All}
 use Rattle.avc_types.specs.declared.fault.Fault.{Fault}
 use Rattle.avc_types.specs.declared.fault.Fault.TheVariants as faults
 use Rattle.avc_types.specs.declared.references.Modification.{Modification}
@@ -9,7 +10,9 @@ use Rattle.avc_types.specs.Pictures.{Samples, Frame, SliceFacts, PicMb, Coded}
 use Rattle.avc_params.specs.Records.{Sps, Pps}
 use Rattle.avc_params.specs.Limits.{width_in_mbs, height_in_mbs, size_in_mbs, max_frame_num}
 use Rattle.avc_bits.specs.Bits.{Bits}
-use Rattle.avc_slice.specs.Header.{Header, Deblocking, is_p, slice_qp}
+use Rattle.avc_slice.specs.declared.header.Deblocking.{Deblocking}
+use Rattle.avc_slice.specs.declared.header.Header.{Header}
+use Rattle.avc_slice.specs.Header.{is_p, slice_qp}
 use Rattle.avc_reflist.specs.Lists.{reference_list}
 use Rattle.avc_mbsyntax.specs.SliceData.{SliceStart, SliceMbs, slice_data}
 use Rattle.avc_picture_core.specs.Faults.{macroblock_fault}
@@ -30,10 +33,10 @@ pub record Slice : Type 0 where
 
 -- ---- one slice
 
--- no_deblocking is what stands for the fields where they are not coded
+-- the fields, and what is inferred where they are not coded (7.4.3)
 abbrev deblocking_of : Option Deblocking → Deblocking
 deblocking_of (Some d) = d
-deblocking_of None = record { disable_deblocking_filter_idc = 0; slice_alpha_c0_offset_div2 = pos 0; slice_beta_offset_div2 = pos 0 }
+deblocking_of None = record { disable_deblocking_filter_idc = All; slice_alpha_c0_offset_div2 = pos 0; slice_beta_offset_div2 = pos 0 }
 
 abbrev or_empty : Option (List Modification) → List Modification
 or_empty (Some m) = m

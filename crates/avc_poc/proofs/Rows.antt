@@ -3,7 +3,9 @@ use Rattle.std.specs.Prelude.{◌≡◌, ℕ, ℤ, pos, negsuc, true, false, [],
 use Rattle.avc_types.specs.declared.references.Marking.TheVariants.{Idr, SlidingWindow, Adaptive}
 use Rattle.avc_types.specs.declared.references.Operation.TheVariants.{ForgetAll}
 use Rattle.avc_params.specs.Records.{Sps, OrderCount, type_0, type_1, type_2}
-use Rattle.avc_slice.specs.Header.{Header, order_0, order_1}
+use Rattle.avc_slice.specs.declared.header.CodedOrder.TheVariants.{Type0, Type1}
+use Rattle.avc_slice.specs.declared.header.Header.{Header}
+use Rattle.avc_slice.specs.declared.header.SliceType.TheVariants.{AllP, AllI}
 use Rattle.avc_poc.specs.OrderCounts.{Counts, picture, missing, order_counts}
 
 abbrev sps_of : OrderCount → Sps
@@ -33,11 +35,11 @@ abbrev idr : Header
 idr = record {
   nal_ref_idc = 3;
   first_mb_in_slice = 0;
-  slice_type = 7;
+  slice_type = AllI;
   pic_parameter_set_id = 0;
   frame_num = 0;
   idr_pic_id = Some 0;
-  order = order_0 0 (pos 0);
+  order = Type0 0 (pos 0);
   redundant_pic_cnt = None;
   active_override = None;
   active_count = 0;
@@ -45,11 +47,12 @@ idr = record {
   marking = Some (Idr false false);
   slice_qp_delta = pos 0;
   deblocking = None;
+  position = 0;
 }
 
 abbrev p_at : (nal_ref_idc frame_num lsb : ℕ) → Header
 p_at nal_ref_idc frame_num lsb =
-    record idr { nal_ref_idc = nal_ref_idc; slice_type = 5; frame_num = frame_num; idr_pic_id = None; order = order_0 lsb (pos 0); marking = Some SlidingWindow }
+    record idr { nal_ref_idc = nal_ref_idc; slice_type = AllP; frame_num = frame_num; idr_pic_id = None; order = Type0 lsb (pos 0); marking = Some SlidingWindow }
 
 abbrev type0 : Sps
 type0 = sps_of (type_0 0)
@@ -88,12 +91,12 @@ round = refl
 abbrev type1 : Sps
 type1 = sps_of (type_1 false (negsuc 0) (pos 1) (pos 2 ∷ pos 4 ∷ []))
 
-in_cycle : order_counts type1 (record (p_at 2 3 0) { order = order_1 (pos 0) (pos 0) }) (missing type1 2 ∷ missing type1 1 ∷ picture type1 idr ∷ []) ≡ Ok (record { top = pos 8; bottom = pos 9 })
+in_cycle : order_counts type1 (record (p_at 2 3 0) { order = Type1 (pos 0) (pos 0) }) (missing type1 2 ∷ missing type1 1 ∷ picture type1 idr ∷ []) ≡ Ok (record { top = pos 8; bottom = pos 9 })
 in_cycle = refl
 
 -- operation 5: answered from 0 on, and the next picture counts from there
 abbrev resetting : Header
-resetting = record (p_at 2 3 6) { order = order_0 6 (pos 1); marking = Some (Adaptive (ForgetAll ∷ [])) }
+resetting = record (p_at 2 3 6) { order = Type0 6 (pos 1); marking = Some (Adaptive (ForgetAll ∷ [])) }
 
 reset_counts : order_counts type0 resetting (picture type0 idr ∷ []) ≡ Ok (record { top = pos 0; bottom = pos 1 })
 reset_counts = refl
@@ -102,5 +105,5 @@ after_reset : order_counts type0 (p_at 2 1 2) (picture type0 resetting ∷ pictu
 after_reset = refl
 
 -- in the cycle, a picture that is no reference: one number less, and its offset
-not_in_cycle : order_counts type1 (record (p_at 0 3 0) { order = order_1 (pos 0) (pos 0) }) (missing type1 2 ∷ missing type1 1 ∷ picture type1 idr ∷ []) ≡ Ok (record { top = pos 5; bottom = pos 6 })
+not_in_cycle : order_counts type1 (record (p_at 0 3 0) { order = Type1 (pos 0) (pos 0) }) (missing type1 2 ∷ missing type1 1 ∷ picture type1 idr ∷ []) ≡ Ok (record { top = pos 5; bottom = pos 6 })
 not_in_cycle = refl

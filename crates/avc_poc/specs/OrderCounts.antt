@@ -6,7 +6,10 @@ use Rattle.avc_types.specs.declared.fault.Fault.{Fault}
 use Rattle.avc_types.specs.declared.fault.Fault.TheVariants as faults
 use Rattle.avc_params.specs.Records.{Sps, OrderCount, type_0, type_1, type_2}
 use Rattle.avc_params.specs.Limits.{max_frame_num}
-use Rattle.avc_slice.specs.Header.{Header, CodedOrder, order_0, order_1, is_idr, is_reference, has_operation_5}
+use Rattle.avc_slice.specs.declared.header.CodedOrder.{CodedOrder}
+use Rattle.avc_slice.specs.declared.header.CodedOrder.TheVariants.{Type0, Type1}
+use Rattle.avc_slice.specs.declared.header.Header.{Header}
+use Rattle.avc_slice.specs.Header.{is_idr, is_reference, has_operation_5}
 
 -- an entry of the history
 pub data Past : Type 0 where
@@ -42,11 +45,11 @@ max_lsb (type_0 log2_minus4) = pos (2 ^ (log2_minus4 + 4))
 max_lsb _ = pos 0
 
 abbrev pub lsb_of : CodedOrder → ℤ
-lsb_of (order_0 lsb bottom) = pos lsb
+lsb_of (Type0 lsb bottom) = pos lsb
 lsb_of _ = pos 0
 
 abbrev delta_bottom : CodedOrder → ℤ
-delta_bottom (order_0 lsb bottom) = bottom
+delta_bottom (Type0 lsb bottom) = bottom
 delta_bottom _ = pos 0
 
 -- PicOrderCntMsb
@@ -127,11 +130,11 @@ expected (suc n) (x ∷ xs) =
     pos (n / length (x ∷ xs)) *ℤ sum_ℤ (x ∷ xs) +ℤ sum_ℤ (take (n % length (x ∷ xs) + 1) (x ∷ xs))
 
 abbrev delta_0 : CodedOrder → ℤ
-delta_0 (order_1 a b) = a
+delta_0 (Type1 a b) = a
 delta_0 _ = pos 0
 
 abbrev delta_1 : CodedOrder → ℤ
-delta_1 (order_1 a b) = b
+delta_1 (Type1 a b) = b
 delta_1 _ = pos 0
 
 abbrev pub counts_1 : (non_ref top_to_bottom : ℤ) → (cycle : List ℤ) → Header → (number : ℕ) → Counts

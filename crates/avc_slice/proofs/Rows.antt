@@ -5,26 +5,27 @@ use Rattle.avc_types.specs.declared.fault.Fault.TheVariants as faults
 use Rattle.avc_types.specs.declared.references.Marking.TheVariants.{Idr, SlidingWindow}
 use Rattle.avc_bits.specs.Bits.{start}
 use Rattle.avc_params.specs.Tables.{Sets, sets_after, of_sps, of_pps}
-use Rattle.avc_slice.specs.Header.{Header, order_2}
+use Rattle.avc_slice.specs.declared.header.CodedOrder.TheVariants.{Type2}
+use Rattle.avc_slice.specs.declared.header.Header.{Header}
+use Rattle.avc_slice.specs.declared.header.SliceType.TheVariants.{AllP, AllI}
 use Rattle.avc_slice.specs.Reading.{header_of}
 use Rattle.avc_slice.specs.Begins.{begins}
 
 abbrev sets : Sets
 sets = sets_after (of_sps (0x42 ∷ 0xC0 ∷ 0x0A ∷ 0xDA ∷ 0x71 ∷ []) ∷ of_pps (0xCE ∷ 0x38 ∷ 0x80 ∷ []) ∷ [])
 
--- the header and the position after it
-abbrev header_at : ℕ → List ℕ → Result (Header × ℕ) Fault
-header_at header rbsp = elim (header_of header sets (start rbsp)) [ Ok r ↦ Ok (r.0, r.1.position) | Err f ↦ Err f ]
+abbrev header_at : ℕ → List ℕ → Result Header Fault
+header_at header rbsp = elim (header_of header sets (start rbsp)) [ Ok r ↦ Ok r.0 | Err f ↦ Err f ]
 
 abbrev of_p : Header
 of_p = record {
   nal_ref_idc = 2;
   first_mb_in_slice = 0;
-  slice_type = 5;
+  slice_type = AllP;
   pic_parameter_set_id = 0;
   frame_num = 1;
   idr_pic_id = None;
-  order = order_2;
+  order = Type2;
   redundant_pic_cnt = None;
   active_override = None;
   active_count = 1;
@@ -32,9 +33,10 @@ of_p = record {
   marking = Some SlidingWindow;
   slice_qp_delta = pos 0;
   deblocking = None;
+  position = 15;
 }
 
-p_slice : header_at 0x41 (0x9A ∷ 0x22 ∷ 0xA0 ∷ []) ≡ Ok (of_p, 15)
+p_slice : header_at 0x41 (0x9A ∷ 0x22 ∷ 0xA0 ∷ []) ≡ Ok of_p
 p_slice = refl
 
 two_pairs : header_at 0x41 (0x9A ∷ 0x2F ∷ 0x91 ∷ 0x80 ∷ []) ≡ Err faults.BadRefList
@@ -44,11 +46,11 @@ abbrev of_i : Header
 of_i = record {
   nal_ref_idc = 3;
   first_mb_in_slice = 0;
-  slice_type = 7;
+  slice_type = AllI;
   pic_parameter_set_id = 0;
   frame_num = 0;
   idr_pic_id = Some 1;
-  order = order_2;
+  order = Type2;
   redundant_pic_cnt = None;
   active_override = None;
   active_count = 0;
@@ -56,9 +58,10 @@ of_i = record {
   marking = Some (Idr false false);
   slice_qp_delta = pos 0;
   deblocking = None;
+  position = 17;
 }
 
-i_slice : header_at 0x65 (0x88 ∷ 0x84 ∷ 0x93 ∷ 0xC0 ∷ []) ≡ Ok (record of_i { idr_pic_id = Some 0 }, 17)
+i_slice : header_at 0x65 (0x88 ∷ 0x84 ∷ 0x93 ∷ 0xC0 ∷ []) ≡ Ok (record of_i { idr_pic_id = Some 0 })
 i_slice = refl
 
 b_slice : header_at 0x41 (0x9E ∷ 0x22 ∷ 0xA0 ∷ []) ≡ Err faults.SliceType

@@ -1,6 +1,6 @@
 -- Slice headers from their bits (7.3.3, 7.3.3.1, 7.3.3.3): the elements in their order, each check where its element
 -- stands.
-use Rattle.std.specs.Prelude.{ℕ, zero, suc, ◌+◌, ◌-◌, ◌/◌, ◌%◌, ℤ, pos, negsuc, int_le, Bool, true, false, not, ◌==◌, ◌&&◌, ◌||◌, nat_lt, List, [], ◌∷◌, Option, Some, None, unwrap_or}
+use Rattle.std.specs.Prelude.{ℕ, zero, suc, ◌+◌, ◌-◌, ◌/◌, ◌%◌, ℤ, pos, negsuc, int_le, Bool, true, false, not, ◌==◌, ◌&&◌, ◌||◌, nat_lt, List, [], ◌∷◌, Option, Some, None, unwrap_or, slice_index_or, if◌then◌else◌, Ok}
 use Rattle.avc_types.specs.declared.fault.Fault.{Fault}
 use Rattle.avc_types.specs.declared.fault.Fault.TheVariants as faults
 use Rattle.avc_types.specs.declared.references.Marking.{Marking}
@@ -14,7 +14,15 @@ use Rattle.avc_bits.specs.Codes.{u, flag, ue, ue_to, se, se_within}
 use Rattle.avc_params.specs.Records.{OrderCount, type_0, type_1, type_2, Sps, Pps}
 use Rattle.avc_params.specs.Limits.{size_in_mbs, max_frame_num}
 use Rattle.avc_params.specs.Tables.{Sets}
-use Rattle.avc_slice.specs.Header.{CodedOrder, order_0, order_1, order_2, Deblocking, Header, is_p_type, slice_qp}
+use Rattle.avc_slice.specs.declared.header.CodedOrder.{CodedOrder}
+use Rattle.avc_slice.specs.declared.header.CodedOrder.TheVariants.{Type0, Type1, Type2}
+use Rattle.avc_slice.specs.declared.header.Deblocking.{Deblocking}
+use Rattle.avc_slice.specs.declared.header.Header.{Header}
+use Rattle.avc_slice.specs.declared.header.SliceType.{SliceType}
+use Rattle.avc_slice.specs.declared.header.SliceType.TheVariants as slice_types
+use Rattle.avc_types.specs.declared.edges.FilteredEdges.{FilteredEdges}
+use Rattle.avc_types.specs.declared.edges.FilteredEdges.TheVariants as edges
+use Rattle.avc_slice.specs.Header.{is_p_type, slice_qp}
 
 -- ---- order counts
 
@@ -26,12 +34,12 @@ abbrev pub coded_order : OrderCount → (bottom_present : Bool) → Read CodedOr
 coded_order (type_0 log2_minus4) bottom_present = do
   pic_order_cnt_lsb ← u (log2_minus4 + 4)
   delta_pic_order_cnt_bottom ← optional_se bottom_present
-  give (order_0 pic_order_cnt_lsb delta_pic_order_cnt_bottom)
+  give (Type0 pic_order_cnt_lsb delta_pic_order_cnt_bottom)
 coded_order (type_1 always_zero _ _ _) bottom_present = do
   delta_0 ← optional_se (not always_zero)
   delta_1 ← optional_se (not always_zero && bottom_present)
-  give (order_1 delta_0 delta_1)
-coded_order type_2 bottom_present = give order_2
+  give (Type1 delta_0 delta_1)
+coded_order type_2 bottom_present = give Type2
 
 -- ---- the active count of a P slice
 
@@ -120,19 +128,19 @@ marking false = do
 
 -- ---- deblocking
 
-abbrev offset_pair : ℕ → Read Deblocking
-offset_pair idc = do
+abbrev offset_pair : FilteredEdges → Read Deblocking
+offset_pair filtered = do
   alpha ← se_within (negsuc 5) (pos 6)
   beta ← se_within (negsuc 5) (pos 6)
-  give (record { disable_deblocking_filter_idc = idc; slice_alpha_c0_offset_div2 = alpha; slice_beta_offset_div2 = beta })
+  give (record { disable_deblocking_filter_idc = filtered; slice_alpha_c0_offset_div2 = alpha; slice_beta_offset_div2 = beta })
+
+abbrev no_edges : Deblocking
+no_edges = record { disable_deblocking_filter_idc = edges.NoEdges; slice_alpha_c0_offset_div2 = pos 0; slice_beta_offset_div2 = pos 0 }
 
 abbrev pub deblocking : Read Deblocking
 deblocking = do
   idc ← ue_to 2
-  elim (idc == 1) [
-    | true ↦ give (record { disable_deblocking_filter_idc = 1; slice_alpha_c0_offset_div2 = pos 0; slice_beta_offset_div2 = pos 0 })
-    | false ↦ offset_pair idc
-  ]
+  elim (idc == 1) [ true ↦ give no_edges | false ↦ offset_pair (if idc == 0 then edges.All else edges.WithinSlice) ]
 
 -- ---- the header
 
@@ -141,18 +149,27 @@ abbrev found : {A : Type 0} → Option A → Fault → Read A
 found (Some a) f = give a
 found None f = refuse f
 
+-- the slice_type with this number, where it is one of an I or P slice (Table 7-6)
+abbrev pub slice_type_of : ℕ → Option SliceType
+slice_type_of n = slice_index_or
+    (Some slice_types.P ∷ None ∷ Some slice_types.I ∷ None ∷ None ∷ Some slice_types.AllP ∷ None ∷ Some slice_types.AllI ∷ []) n None
+
+-- how many bits have been read so far
+abbrev position_here : Read ℕ
+position_here b = Ok (b.position, b)
+
 -- What stands in the header up to the picture parameter set's id.
 pub record Front : Type 0 where
   pub first_mb_in_slice : ℕ
-  pub slice_type : ℕ
+  pub slice_type : SliceType
   pub pic_parameter_set_id : ℕ
 
 abbrev pub front : (nal_ref_idc : ℕ) → (idr : Bool) → Read Front
 front nal_ref_idc idr = do
   first_mb_in_slice ← ue
-  slice_type ← ue_to 9
-  check (slice_type % 5 == 0 || slice_type % 5 == 2) faults.SliceType
-  check (not (idr && (nal_ref_idc == 0 || slice_type % 5 == 0))) faults.BadIdr
+  number ← ue_to 9
+  slice_type ← found (slice_type_of number) faults.SliceType
+  check (not (idr && (nal_ref_idc == 0 || is_p_type slice_type))) faults.BadIdr
   pic_parameter_set_id ← ue_to 255
   give (record { first_mb_in_slice = first_mb_in_slice; slice_type = slice_type; pic_parameter_set_id = pic_parameter_set_id })
 
@@ -172,6 +189,7 @@ back nal_ref_idc idr start pps sps = do
   slice_qp_delta ← se
   check (int_le (pos 0) (slice_qp pps slice_qp_delta) && int_le (slice_qp pps slice_qp_delta) (pos 51)) faults.OutOfRange
   deblocking_given ← where_set pps.deblocking_filter_control_present_flag deblocking
+  position ← position_here
   give (record {
     nal_ref_idc = nal_ref_idc;
     first_mb_in_slice = start.first_mb_in_slice;
@@ -187,6 +205,7 @@ back nal_ref_idc idr start pps sps = do
     marking = marking_given;
     slice_qp_delta = slice_qp_delta;
     deblocking = deblocking_given;
+    position = position;
   })
   where
     p : Bool

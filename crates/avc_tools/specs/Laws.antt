@@ -6,7 +6,7 @@ use Rattle.avc_types.specs.declared.references.Marking.{Marking}
 use Rattle.avc_types.specs.declared.references.Marking.TheVariants.{Idr}
 use Rattle.avc_annexb.specs.Units.{Unit, units}
 use Rattle.avc_bits.specs.Bits.{Bits}
-use Rattle.avc_slice.specs.Header.{Header}
+use Rattle.avc_slice.specs.declared.header.Header.{Header}
 use Rattle.avc_units.specs.Grouping.{is_start, header_in, tables}
 use Rattle.avc_decoder.specs.Events.{Event, picture, refused, events}
 use Rattle.avc_tools.specs.Pieces.{pieces}

@@ -11,7 +11,8 @@ use Rattle.avc_params.specs.Records.{Sps, Pps, OrderCount, type_0, type_1, type_
 use Rattle.avc_params.specs.Limits.{width_in_mbs, height_in_mbs, dpb_size}
 use Rattle.avc_params.specs.Reading.{SetFault, sps_of, pps_of}
 use Rattle.avc_params.specs.Tables.{Sets}
-use Rattle.avc_slice.specs.Header.{Header, is_p, is_idr, slice_qp}
+use Rattle.avc_slice.specs.declared.header.Header.{Header}
+use Rattle.avc_slice.specs.Header.{is_p, is_idr, slice_qp}
 use Rattle.avc_units.specs.Grouping.{Kind, slice, partition, sps, pps, kind, rbsp_of, header_in, tables}
 
 abbrev newline : List ℕ

@@ -4,6 +4,7 @@
 mod address;
 mod block;
 mod bytes;
+mod edges;
 mod fault;
 mod history;
 mod memory;
@@ -14,6 +15,7 @@ mod vector;
 pub use address::MbAddr;
 pub use block::Block;
 pub use bytes::Bytes;
+pub use edges::FilteredEdges;
 pub use fault::Fault;
 pub use history::History;
 pub use memory::OutOfMemory;

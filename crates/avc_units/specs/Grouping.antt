@@ -7,7 +7,7 @@ use Rattle.avc_bits.specs.Bits.{Bits, rbsp, start}
 use Rattle.avc_bits.specs.Codes.{ue}
 use Rattle.avc_params.specs.Reading.{SetFault, sps_of, pps_of}
 use Rattle.avc_params.specs.Tables.{SetUnit, of_sps, of_pps, Sets, sets_after}
-use Rattle.avc_slice.specs.Header.{Header}
+use Rattle.avc_slice.specs.declared.header.Header.{Header}
 use Rattle.avc_slice.specs.Reading.{slice_header}
 use Rattle.avc_slice.specs.Begins.{begins}
 

@@ -1,0 +1,88 @@
+use crate::lists::Modifications;
+use avc_types::{FilteredEdges, Marking, MbAddr};
+
+/// slice_type (Table 7-6). The last two say that all slices of the picture have this type.
+#[derive(Clone, Copy, Debug, PartialEq, Eq)]
+pub enum SliceType {
+    /// 0.
+    P,
+
+    /// 2.
+    I,
+
+    /// 5.
+    AllP,
+
+    /// 7.
+    AllI,
+}
+
+/// What the picture order count type brings with it (7.3.3).
+#[derive(Clone, Copy, Debug, PartialEq, Eq)]
+pub enum CodedOrder {
+    /// delta_pic_order_cnt_bottom is 0 where it is not coded.
+    Type0 {
+        pic_order_cnt_lsb: u32,
+        delta_pic_order_cnt_bottom: i32,
+    },
+
+    /// delta_pic_order_cnt[0] and [1], 0 where they are not coded.
+    Type1 {
+        delta_0: i32,
+        delta_1: i32,
+    },
+
+    Type2,
+}
+
+/// The deblocking fields (7.3.3). The offsets are -6 to 6, and 0 where no edge is filtered.
+#[derive(Clone, Copy, Debug, PartialEq, Eq)]
+pub struct Deblocking {
+    pub disable_deblocking_filter_idc: FilteredEdges,
+    pub slice_alpha_c0_offset_div2: i32,
+    pub slice_beta_offset_div2: i32,
+}
+
+/// A slice header (7.3.3), with the fields of the syntax under their names.
+#[derive(Drop)]
+pub struct Header {
+    /// Of the unit's first byte, 0 to 3.
+    pub nal_ref_idc: u8,
+
+    pub first_mb_in_slice: MbAddr,
+
+    pub slice_type: SliceType,
+
+    pub pic_parameter_set_id: u8,
+
+    pub frame_num: u32,
+
+    /// In units of type 5, and in no others: 0 to 65,535.
+    pub idr_pic_id: Option<u32>,
+
+    pub order: CodedOrder,
+
+    /// There where the picture parameter set has redundant_pic_cnt_present_flag 1; 0 then.
+    pub redundant_pic_cnt: Option<u32>,
+
+    /// num_ref_idx_l0_active_minus1, in P slices where the override flag is 1: 0 to 15.
+    pub active_override: Option<u32>,
+
+    /// The length of RefPicList0, with or without override, 1 to 16; 0 in I slices.
+    pub active_count: u32,
+
+    /// In P slices, where ref_pic_list_modification_flag_l0 is 1.
+    pub modifications: Option<Modifications>,
+
+    /// Where nal_ref_idc is not 0.
+    pub marking: Option<Marking>,
+
+    /// SliceQPY less 26 and less pic_init_qp_minus26.
+    pub slice_qp_delta: i32,
+
+    /// Where the picture parameter set has deblocking_filter_control_present_flag 1.
+    pub deblocking: Option<Deblocking>,
+
+    /// The number of bits of the RBSP before the slice data.
+    pub position: u128,
+}
