@@ -4,7 +4,7 @@ use Rattle.std.specs.List.{flat_map, range_with_len}
 use Rattle.avc_types.specs.declared.fault.Fault.{Fault}
 use Rattle.avc_types.specs.declared.picture.Crop.{Crop}
 use Rattle.avc_types.specs.declared.picture.Picture.{Picture}
-use Rattle.avc_types.specs.Pictures.{Samples}
+use Rattle.avc_plane.specs.Planes.{Planes}
 use Rattle.avc_annexb.specs.Units.{Unit, units, held}
 use Rattle.avc_bits.specs.Bits.{Bits}
 use Rattle.avc_params.specs.Records.{Sps, Pps, Cropping}
@@ -22,10 +22,6 @@ pub data Event : Type 0 where
 
 -- ---- pictures as they are handed out
 
--- the samples of a plane row by row
-abbrev pub rows : (width height : ℕ) → (ℕ → ℕ → ℕ) → List ℕ
-rows width height f = map (λ i. f (i % width) (i / width)) (range_with_len 0 (width * height))
-
 abbrev pub crop_of : Option Cropping → Crop
 crop_of None = record { left = 0; right = 0; top = 0; bottom = 0 }
 crop_of (Some c) = record {
@@ -35,19 +31,19 @@ crop_of (Some c) = record {
   bottom = 2 * c.frame_crop_bottom_offset;
 }
 
-abbrev pub picture_of : Sps → Samples → Picture
-picture_of sps samples = record {
+abbrev pub picture_of : Sps → Planes → Picture
+picture_of sps planes = record {
   width = 16 * width_in_mbs sps;
   height = 16 * height_in_mbs sps;
   crop = crop_of sps.frame_cropping;
-  luma = rows (16 * width_in_mbs sps) (16 * height_in_mbs sps) (samples 0);
-  cb = rows (8 * width_in_mbs sps) (8 * height_in_mbs sps) (samples 1);
-  cr = rows (8 * width_in_mbs sps) (8 * height_in_mbs sps) (samples 2);
+  luma = (planes.luma).samples;
+  cb = (planes.cb).samples;
+  cr = (planes.cr).samples;
 }
 
 -- the entry's picture; no event where a number is missing
 abbrev event_of : Option Entry → List Event
-event_of (Some (closed sps h samples)) = picture (picture_of sps samples) ∷ []
+event_of (Some (closed sps h planes)) = picture (picture_of sps planes) ∷ []
 event_of (Some (absent sps frame_num)) = []
 event_of None = []
 

@@ -2,11 +2,11 @@
 use Rattle.std.specs.Prelude.{ℕ, zero, suc, Bool, true, false, List, [], ◌∷◌, ◌++◌, Option, Some, None, Result, Ok, Err}
 use Rattle.avc_types.specs.declared.fault.Fault.{Fault}
 use Rattle.avc_types.specs.declared.fault.Fault.TheVariants as faults
-use Rattle.avc_types.specs.Pictures.{Samples}
+use Rattle.avc_plane.specs.Planes.{Planes}
 use Rattle.avc_params.specs.Records.{Sps, Pps}
 use Rattle.avc_slice.specs.declared.header.Header.{Header}
-use Rattle.avc_picture.specs.Slices.{PictureStart, Slice, Progress, progress, is_full, samples_of}
-use Rattle.avc_decoder_core.specs.History.{History, opened, closed_by, references_of, frame_of}
+use Rattle.avc_picture.specs.Slices.{PictureStart, Slice, Progress, progress, is_full, planes_after_slices}
+use Rattle.avc_decoder_core.specs.History.{History, opened, closed_by, stored_frames}
 
 -- The open picture: the history before it, its parameter sets, its first slice, and its further slices, the newest first.
 pub record Open : Type 0 where
@@ -33,18 +33,18 @@ opened_history o = opened o.sps (first_header o) o.before
 -- what the slices are decoded with, on that history
 abbrev pub start_on : Open → History → PictureStart
 start_on o history =
-    record { sps = o.sps; pps = o.pps; references = references_of history; frame_of = frame_of history }
+    record { sps = o.sps; pps = o.pps; frames = stored_frames history }
 
 -- the slices so far, on that history
 abbrev pub progress_on : Open → History → Progress
 progress_on o history = progress (start_on o history) (slices_of o)
 
-abbrev pub picture_samples : Open → History → Samples
-picture_samples o history = samples_of (start_on o history) (slices_of o)
+abbrev pub picture_planes : Open → History → Planes
+picture_planes o history = planes_after_slices (start_on o history) (slices_of o)
 
 -- the history with the picture closed, on that with the missing numbers
 abbrev pub closed_history : Open → History → Result History Fault
-closed_history o history = closed_by o.sps (first_header o) (picture_samples o history) history
+closed_history o history = closed_by o.sps (first_header o) (picture_planes o history) history
 
 abbrev marking_fault : Open → Result History Fault → Option (ℕ × Fault)
 marking_fault o (Ok h) = None

@@ -5,7 +5,7 @@ use Rattle.avc_types.specs.declared.fault.Fault.{Fault}
 use Rattle.avc_types.specs.declared.fault.Fault.TheVariants as faults
 use Rattle.avc_types.specs.declared.references.Marking.TheVariants.{Idr, SlidingWindow}
 use Rattle.avc_types.specs.References.{Reference}
-use Rattle.avc_types.specs.Pictures.{Samples, Frame}
+use Rattle.avc_plane.specs.Planes.{Planes, StoredFrame}
 use Rattle.avc_params.specs.Records.{Sps}
 use Rattle.avc_params.specs.Limits.{max_frame_num, dpb_size}
 use Rattle.avc_params.specs.Same.{same_sps}
@@ -15,9 +15,9 @@ use Rattle.avc_poc.specs.OrderCounts.{Counts, Past, picture, missing, order_coun
 use Rattle.avc_marking.specs.Marks.{Step, Marks, marks, previous_number, missing_numbers}
 use Rattle.avc_dpb.specs.Bumping.{Before, keeps, puts_out, drops, Arrival, Buffer, buffer_after, held_ones}
 
--- A closed picture with its parameter set, its first slice's header and its samples; or a frame number that is missing.
+-- A closed picture with its parameter set, its first slice's header and its planes; or a frame number that is missing.
 pub data Entry : Type 0 where
-  closed : Sps → Header → Samples → Entry
+  closed : Sps → Header → Planes → Entry
   absent : Sps → (frame_num : ℕ) → Entry
 
 abbrev pub History : Type 0
@@ -31,7 +31,7 @@ abbrev pub ◌>>=◌ : {A B : Type 0} → Result A Fault → (A → Result B Fau
 -- ---- what order counts, marking and output ask of an entry
 
 abbrev past_of : Entry → Past
-past_of (closed sps h samples) = picture sps h
+past_of (closed sps h planes) = picture sps h
 past_of (absent sps frame_num) = missing sps frame_num
 
 abbrev pub pasts : History → List Past
@@ -56,7 +56,7 @@ missing_step sps frame_num = record {
 }
 
 abbrev step_of : Entry → Step
-step_of (closed sps h samples) = picture_step sps h
+step_of (closed sps h planes) = picture_step sps h
 step_of (absent sps frame_num) = missing_step sps frame_num
 
 abbrev pub steps : History → List Step
@@ -88,13 +88,13 @@ order_or_0 (Ok c) = order_of c
 order_or_0 (Err f) = pos 0
 
 abbrev arrival : Entry → (older : History) → Arrival
-arrival (closed sps h samples) older = record {
+arrival (closed sps h planes) older = record {
   order = order_or_0 (order_counts sps h (pasts older));
   existing = true;
   is_reference = is_reference h;
   before = before_of h;
   capacity = dpb_size sps;
-  references = map (λ r. r.entry) (references_of (closed sps h samples ∷ older));
+  references = map (λ r. r.entry) (references_of (closed sps h planes ∷ older));
 }
 arrival (absent sps frame_num) older = record {
   order = pos 0;
@@ -126,24 +126,25 @@ all_held h = map (λ s. s.entry) (held_ones (buffer_of h).frames)
 abbrev pub entry_at : History → (place : ℕ) → Option Entry
 entry_at h place = elim (length h - place) [ zero ↦ None | suc n ↦ slice_get h n ]
 
-abbrev no_samples : Samples
-no_samples c x y = 0
+abbrev planes_in : Option Entry → Option Planes
+planes_in (Some (closed sps h planes)) = Some planes
+planes_in (Some (absent sps frame_num)) = None
+planes_in None = None
 
-abbrev samples_in : Option Entry → Samples
-samples_in (Some (closed sps h samples)) = samples
-samples_in (Some (absent sps frame_num)) = no_samples
-samples_in None = no_samples
+-- a reference frame with its planes; a non-existing one has none
+abbrev pub stored : History → Reference → StoredFrame
+stored h r = record { reference = r; planes = planes_in (entry_at h r.entry) }
 
--- a reference frame with its samples
-abbrev pub frame_of : History → Reference → Frame
-frame_of h r = record { entry = r.entry; existing = r.existing; samples = samples_in (entry_at h r.entry) }
+-- the reference frames after all entries, with their planes, in decoding order
+abbrev pub stored_frames : History → List StoredFrame
+stored_frames h = map (stored h) (references_of h)
 
 -- ---- opening a picture
 
 -- the parameter set of the sequence: that of the last IDR picture
 abbrev pub sequence_sps : History → Option Sps
 sequence_sps [] = None
-sequence_sps (closed sps h samples ∷ older) = elim (is_idr h) [ true ↦ Some sps | false ↦ sequence_sps older ]
+sequence_sps (closed sps h planes ∷ older) = elim (is_idr h) [ true ↦ Some sps | false ↦ sequence_sps older ]
 sequence_sps (absent sps frame_num ∷ older) = sequence_sps older
 
 abbrev is_same : Option Sps → Sps → Bool
@@ -174,6 +175,6 @@ opened sps h history =
 -- ---- closing it
 
 -- The history with the picture, or BadMarking or TooManyReferences.
-abbrev pub closed_by : Sps → Header → Samples → History → Result History Fault
-closed_by sps h samples history =
-    marks_of (closed sps h samples ∷ history) >>= λ m. Ok (closed sps h samples ∷ history)
+abbrev pub closed_by : Sps → Header → Planes → History → Result History Fault
+closed_by sps h planes history =
+    marks_of (closed sps h planes ∷ history) >>= λ m. Ok (closed sps h planes ∷ history)

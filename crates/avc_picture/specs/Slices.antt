@@ -1,6 +1,7 @@
 -- The slices of one picture, in the order of checks.
 use Rattle.std.specs.Prelude.{ℕ, zero, suc, ◌+◌, pos, ◌+ℤ◌, nat_abs, Bool, true, false, ◌==◌, nat_lt, List, [], ◌∷◌, ◌++◌, length, map, Option, Some, None, Result, Ok, Err}
 use Rattle.std.specs.Option.{option_map}
+use Rattle.std.specs.List.{find}
 use Rattle.avc_types.specs.declared.edges.FilteredEdges.TheVariants.{All}
 use Rattle.avc_types.specs.declared.fault.Fault.{Fault}
 use Rattle.avc_types.specs.declared.fault.Fault.TheVariants as faults
@@ -15,6 +16,7 @@ use Rattle.avc_slice.specs.declared.header.Header.{Header}
 use Rattle.avc_slice.specs.Header.{is_p, slice_qp}
 use Rattle.avc_reflist.specs.Lists.{reference_list}
 use Rattle.avc_mbsyntax.specs.SliceData.{SliceStart, SliceMbs, slice_data}
+use Rattle.avc_plane.specs.Planes.{Planes, StoredFrame, samples_of}
 use Rattle.avc_picture_core.specs.Faults.{macroblock_fault}
 use Rattle.avc_picture.specs.Decoded.{deblocked}
 
@@ -22,14 +24,31 @@ use Rattle.avc_picture.specs.Decoded.{deblocked}
 pub record PictureStart : Type 0 where
   pub sps : Sps
   pub pps : Pps
-  pub references : List Reference
-  pub frame_of : Reference → Frame
+  pub frames : List StoredFrame
 
 -- a slice: its unit's number, its header and the bits after that
 pub record Slice : Type 0 where
   pub unit : ℕ
   pub header : Header
   pub bits : Bits
+
+abbrev pub references_in : PictureStart → List Reference
+references_in p = map (λ f. f.reference) p.frames
+
+abbrev no_samples : Samples
+no_samples c x y = 0
+
+abbrev samples_in : Option StoredFrame → Samples
+samples_in None = no_samples
+samples_in (Some f) = elim f.planes [ Some planes ↦ samples_of planes | None ↦ no_samples ]
+
+-- a reference frame as predictions name it
+abbrev pub frame_of : PictureStart → Reference → Frame
+frame_of p r = record {
+  entry = r.entry;
+  existing = r.existing;
+  samples = samples_in (find (λ f. (f.reference).entry == r.entry) p.frames);
+}
 
 -- ---- one slice
 
@@ -46,7 +65,7 @@ or_empty None = []
 abbrev pub list_of : PictureStart → Header → Result (List (Option Reference)) Fault
 list_of p h =
     elim (is_p h) [
-      | true ↦ reference_list h.frame_num (max_frame_num p.sps) h.active_count p.references (or_empty h.modifications)
+      | true ↦ reference_list h.frame_num (max_frame_num p.sps) h.active_count (references_in p) (or_empty h.modifications)
       | false ↦ Ok []
     ]
 
@@ -55,7 +74,7 @@ facts_of p h list =
     let d = deblocking_of h.deblocking in
     record {
       is_p = is_p h;
-      references = map (option_map p.frame_of) list;
+      references = map (option_map (frame_of p)) list;
       disable_deblocking_filter_idc = d.disable_deblocking_filter_idc;
       filter_offset_a = d.slice_alpha_c0_offset_div2 +ℤ d.slice_alpha_c0_offset_div2;
       filter_offset_b = d.slice_beta_offset_div2 +ℤ d.slice_beta_offset_div2;
@@ -157,6 +176,6 @@ progress p (s ∷ earlier) = with_slice p s (progress p earlier)
 abbrev pub is_full : PictureStart → Progress → Bool
 is_full p g = length g.mbs == size_in_mbs p.sps
 
--- the samples after all filters
-abbrev pub samples_of : PictureStart → List Slice → Samples
-samples_of p slices = deblocked (coded_of p (progress p slices))
+-- the planes after all filters
+abbrev pub planes_after_slices : PictureStart → List Slice → Planes
+planes_after_slices p slices = deblocked (coded_of p (progress p slices))
