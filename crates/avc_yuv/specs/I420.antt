@@ -1,12 +1,17 @@
--- A picture as it is written: the samples of the crop window, luma, Cb and Cr, row by row.
-use Rattle.std.specs.Prelude.{ℕ, ◌+◌, ◌-◌, ◌*◌, ◌/◌, ◌%◌, List, ◌++◌, map, slice_index}
-use Rattle.std.specs.List.{range_with_len}
+-- A picture as it is written: the samples of the crop window (the cropping rectangle of 7.4.2.1.1), luma, Cb and Cr, each row by row.
+-- At 4:2:0 (6.2) a chroma plane has half the luma plane's width and half its height.
+use Rattle.std.specs.Prelude.{◌≡◌, ℕ, ◌+◌, ◌-◌, ◌*◌, ◌/◌, ◌≤◌, List, ◌++◌, map, length, slice_index}
+use Rattle.std.specs.List.{range_with_len, flat_map}
 use Rattle.avc_types.specs.declared.picture.Picture.{Picture}
 
--- the samples of a plane with this row length in the window of width x height at (left, top)
+-- one row of a plane whose rows have this length: its samples from column `left` on
+abbrev pub part_of_row : (row_length : ℕ) → List ℕ → (left width y : ℕ) → List ℕ
+part_of_row row_length samples left width y = map (λ x. slice_index samples (y * row_length + x)) (range_with_len left width)
+
+-- the samples of the plane in the window of width x height at (left, top), row by row
 abbrev pub window : (row_length : ℕ) → List ℕ → (left top width height : ℕ) → List ℕ
 window row_length samples left top width height =
-    map (λ i. slice_index samples ((top + i / width) * row_length + (left + i % width))) (range_with_len 0 (width * height))
+    flat_map (part_of_row row_length samples left width) (range_with_len top height)
 
 -- width and height of what is shown
 abbrev pub shown_width : Picture → ℕ
@@ -15,12 +20,22 @@ shown_width p = p.width - ((p.crop).left + (p.crop).right)
 abbrev pub shown_height : Picture → ℕ
 shown_height p = p.height - ((p.crop).top + (p.crop).bottom)
 
--- a chroma plane: everything is half as large
-abbrev chroma_window : Picture → List ℕ → List ℕ
+-- of a plane of luma samples what is shown
+abbrev pub luma_window : Picture → List ℕ → List ℕ
+luma_window p samples = window p.width samples (p.crop).left (p.crop).top (shown_width p) (shown_height p)
+
+-- of a plane of chroma samples what is shown: everything is half as large
+abbrev pub chroma_window : Picture → List ℕ → List ℕ
 chroma_window p samples =
     window (p.width / 2) samples ((p.crop).left / 2) ((p.crop).top / 2) (shown_width p / 2) (shown_height p / 2)
 
 abbrev pub i420 : Picture → List ℕ
-i420 p =
-    window p.width p.luma (p.crop).left (p.crop).top (shown_width p) (shown_height p)
-    ++ chroma_window p p.cb ++ chroma_window p p.cr
+i420 p = luma_window p p.luma ++ chroma_window p p.cb ++ chroma_window p p.cr
+
+-- The planes have as many samples as the size says, and the crop leaves a window inside the picture.
+pub record IsWhole (p : Picture) : Type 0 where
+  pub luma : length p.luma ≡ p.width * p.height
+  pub cb : length p.cb ≡ (p.width / 2) * (p.height / 2)
+  pub cr : length p.cr ≡ (p.width / 2) * (p.height / 2)
+  pub columns : (p.crop).left + (p.crop).right ≤ p.width
+  pub rows : (p.crop).top + (p.crop).bottom ≤ p.height

@@ -1,2 +1,12 @@
 //! Pictures as they are written.
 #![tactic(auto)]
+
+mod fault;
+mod window;
+mod write;
+
+pub use fault::WriteFault;
+pub use write::write_i420;
+
+#[cfg(test)]
+mod tests;

@@ -1,0 +1,98 @@
+ghost use Rattle.std.specs.Prelude.{◌≡◌, ◌+◌, ◌*◌, ◌^◌, ◌<◌, IfOk, length, slice_range};
+ghost use Rattle.avc_plane.specs.Plane.{sample, with_sample, plane_of};
+
+use avc_types::{Bytes, OutOfMemory};
+use std::alloc::Global;
+use std::marker::Model;
+
+/// A plane of samples, in memory with PAD more on each side. A contract sees it as its size and its samples row by row,
+/// without the padding.
+#[derive(Drop)]
+pub struct Plane<const PAD: usize> {
+    width: usize,
+    height: usize,
+
+    /// All rows, those of the padding too.
+    stored: Vec<u8>,
+}
+
+impl<const PAD: usize> Model for Plane<PAD> {
+    ghost use Rattle.avc_plane.specs.Plane.{Plane as SamplesByPlace};
+    ghost use Rattle.avc_plane.specs.Padded.{inner_plane, IsStored};
+
+    ghost Value = { SamplesByPlace };
+
+    ghost view = { λ p. inner_plane PAD p.width p.height p.stored.items };
+
+    ghost invariant = { λ p. IsStored PAD p.width p.height p.stored.items };
+}
+
+impl<const PAD: usize> Plane<PAD> {
+    /// A plane of this many columns and rows, all 0.
+    pub fn new(alloc: Global, width: usize, height: usize) -> Result<Self, OutOfMemory>
+        requires narrow { width + 2 * PAD < 2 ^ 31 }
+        requires low { height + 2 * PAD < 2 ^ 31 }
+        ensures { IfOk result (λ plane. plane ≡ plane_of width height (λ _ _. 0)) }
+    {
+        let stored = vec![in alloc; 0; (height + 2 * PAD) * (width + 2 * PAD)]?;
+        Ok(Plane {
+            width,
+            height,
+            stored,
+        })
+    }
+
+    /// The number of columns.
+    pub fn width(&self) -> usize
+        ensures { result ≡ self.now.width }
+    {
+        self.width
+    }
+
+    /// The number of rows.
+    pub fn height(&self) -> usize
+        ensures { result ≡ self.now.height }
+    {
+        self.height
+    }
+
+    /// The sample in column `x` and row `y`.
+    pub fn get(&self, x: usize, y: usize) -> u8
+        requires column { x < self.now.width }
+        requires row { y < self.now.height }
+        ensures { result ≡ sample self.now x y }
+    {
+        let stride = self.width + 2 * PAD;
+        self.stored[(y + PAD) * stride + (x + PAD)]
+    }
+
+    /// Changes the sample in column `x` and row `y`, and no other.
+    pub fn set(&mut self, x: usize, y: usize, value: u8)
+        requires column { x < self.old.width }
+        requires row { y < self.old.height }
+        ensures { self.new ≡ with_sample self.old x y value }
+    {
+        let stride = self.width + 2 * PAD;
+        let place = (y + PAD) * stride + (x + PAD);
+        self.stored[place] = value;
+    }
+
+    /// The samples of row `y`, from the left.
+    pub fn row(&self, y: usize) -> &[u8]
+        requires { y < self.now.height }
+        ensures { result.now ≡ slice_range self.now.samples (y * self.now.width) (y * self.now.width + self.now.width) }
+    {
+        let stride = self.width + 2 * PAD;
+        let start = (y + PAD) * stride + PAD;
+        &self.stored[start..start + self.width]
+    }
+
+    /// The samples of a plane without padding, row by row.
+    pub fn into_bytes(self) -> Bytes
+        requires { PAD ≡ 0 }
+        ensures samples { result ≡ self.entry.samples }
+        ensures size { length result ≡ self.entry.width * self.entry.height }
+    {
+        Bytes::from_vec(self.stored)
+    }
+}

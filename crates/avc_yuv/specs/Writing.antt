@@ -1,0 +1,11 @@
+-- What a writer was given.
+use Rattle.std.specs.Prelude.{◌≡◌, ℕ, ◌+◌, ◌-◌, ◌<◌, ◌≤◌, List, length, take, Option, MatchResult, Result}
+use Rattle.std.specs.Io.KnownBytes.{Appends}
+use Rattle.avc_yuv.specs.declared.fault.WriteFault.{WriteFault}
+
+-- After `before` bytes, these bytes were written to a writer that held `old` and holds `new`: all of them, with the number of bytes
+-- written by then, or the first of them and not all, with the number that was written by then.
+abbrev pub Writes : (before : ℕ) → List ℕ → (old new : Option (List ℕ)) → Result ℕ WriteFault → Type 0
+Writes before bytes old new result = MatchResult result
+    (λ written. (written ≡ before + length bytes) × Appends old new bytes)
+    (λ fault. (before ≤ fault.written) × (fault.written < before + length bytes) × Appends old new (take (fault.written - before) bytes))
