@@ -2,7 +2,7 @@
 use Rattle.std.specs.Prelude.{◌≡◌, ℕ, List, [], ◌∷◌, Result, Ok, Err, refl}
 use Rattle.avc_types.specs.declared.fault.Fault.{Fault}
 use Rattle.avc_types.specs.declared.fault.Fault.TheVariants as faults
-use Rattle.avc_bits.specs.Bits.{rbsp, start, Read}
+use Rattle.avc_bits.specs.Bits.{start, Read}
 use Rattle.avc_bits.specs.Codes.{ue}
 
 abbrev value_of : {A : Type 0} → Read A → List ℕ → Result A Fault
@@ -16,6 +16,3 @@ ue_truncated = refl
 
 ue_longest : value_of ue (0 ∷ 0 ∷ 0 ∷ 1 ∷ 0 ∷ 0 ∷ 0 ∷ 1 ∷ []) ≡ Ok 2147483647
 ue_longest = refl
-
-unescaped : rbsp (0x65 ∷ 0 ∷ 0 ∷ 3 ∷ 0 ∷ []) ≡ 0x65 ∷ 0 ∷ 0 ∷ 0 ∷ []
-unescaped = refl

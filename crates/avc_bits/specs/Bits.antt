@@ -3,12 +3,6 @@ use Rattle.std.specs.Prelude.{ℕ, zero, suc, ◌+◌, ◌/◌, ◌%◌, ◌^◌
 use Rattle.std.specs.List.{flat_map}
 use Rattle.avc_types.specs.declared.fault.Fault.{Fault}
 
--- The RBSP of a unit's body (7.3.1): the 03 of each 00 00 03 is left out, and the count of zeros starts anew after it.
-abbrev pub rbsp : List ℕ → List ℕ
-rbsp (zero ∷ zero ∷ suc (suc (suc zero)) ∷ bytes) = 0 ∷ 0 ∷ rbsp bytes
-rbsp (b ∷ bytes) = b ∷ rbsp bytes
-rbsp [] = []
-
 -- A number as n bits, the most significant first.
 abbrev pub bits_of : ℕ → ℕ → List Bool
 bits_of zero v = []
@@ -20,23 +14,28 @@ number_of [] = 0
 number_of (true ∷ bits) = 2 ^ length bits + number_of bits
 number_of (false ∷ bits) = number_of bits
 
+-- one more bit in front, of which only a 1 is a last 1 by itself
+abbrev pub one_before : Bool → Option (List Bool) → Option (List Bool)
+one_before b (Some front) = Some (b ∷ front)
+one_before true None = Some []
+one_before false None = None
+
 -- What stands before the last 1 bit, and nothing where there is no 1 bit.
 abbrev pub before_last_one : List Bool → Option (List Bool)
 before_last_one [] = None
 before_last_one (b ∷ bits) = one_before b (before_last_one bits)
-  where
-    one_before : Bool → Option (List Bool) → Option (List Bool)
-    one_before b (Some front) = Some (b ∷ front)
-    one_before true None = Some []
-    one_before false None = None
 
 abbrev pub or_none : Option (List Bool) → List Bool
 or_none (Some bits) = bits
 or_none None = []
 
+-- the bits of bytes
+abbrev pub byte_bits : List ℕ → List Bool
+byte_bits bytes = flat_map (bits_of 8) bytes
+
 -- The bits of an RBSP before its stop bit, which is the last 1 bit (7.2); none where there is no 1 bit.
 abbrev pub bits_before_stop : List ℕ → List Bool
-bits_before_stop bytes = or_none (before_last_one (flat_map (bits_of 8) bytes))
+bits_before_stop bytes = or_none (before_last_one (byte_bits bytes))
 
 -- What a reader has: how many bits it has passed, and those that stand ahead of it before the stop bit.
 pub record Bits : Type 0 where
@@ -50,6 +49,10 @@ start bytes = record { position = 0; ahead = bits_before_stop bytes }
 -- a reader at a position that is not past the stop bit
 abbrev pub at : List ℕ → (position : ℕ) → Bits
 at bytes position = record { position = position; ahead = drop position (bits_before_stop bytes) }
+
+-- after the next n bits
+abbrev pub passed : Bits → (n : ℕ) → Bits
+passed b n = record { position = b.position + n; ahead = drop n b.ahead }
 
 -- more_rbsp_data (7.2)
 abbrev pub more_data : Bits → Bool

@@ -86,7 +86,7 @@ abbrev pub flag : Read Bool
 flag = u 1 >>= λ v. give (v == 1)
 
 -- How many zeros stand before the next 1, at most limit; that 1 is read too. With one more zero, the fault.
-abbrev zeros : ℕ → Fault → ℕ → List Bool → Result (ℕ × List Bool) Fault
+abbrev pub zeros : ℕ → Fault → ℕ → List Bool → Result (ℕ × List Bool) Fault
 zeros limit fault seen [] = Err faults.Truncated
 zeros limit fault seen (true ∷ bits) = Ok (seen, bits)
 zeros limit fault seen (false ∷ bits) = elim (nat_lt seen limit) [ true ↦ zeros limit fault (seen + 1) bits | false ↦ Err fault ]
@@ -135,6 +135,10 @@ te_to range = do
   check (nat_le v range) faults.OutOfRange
   give v
 
+-- so many bits passed over
+abbrev pub skip : ℕ → Read (Unit {0})
+skip n = bits n >>= λ _. give tt
+
 -- To the start of the next byte; no bit where that is here. The bits passed may have any value.
 abbrev pub align : Read (Unit {0})
-align b = (bits ((8 - b.position % 8) % 8) >>= λ _. give tt) b
+align b = skip ((8 - b.position % 8) % 8) b

@@ -5,11 +5,15 @@ use Rattle.avc_types.specs.declared.fault.Fault.{Fault}
 use Rattle.avc_types.specs.declared.picture.Crop.{Crop}
 use Rattle.avc_types.specs.declared.picture.Picture.{Picture}
 use Rattle.avc_plane.specs.Planes.{Planes}
-use Rattle.avc_annexb.specs.Units.{Unit, units, held}
+use Rattle.avc_annexb.specs.Units.{units, held}
+use Rattle.avc_annexb.specs.declared.unit.Unit.{Unit}
 use Rattle.avc_bits.specs.Bits.{Bits}
-use Rattle.avc_params.specs.Records.{Sps, Pps, Cropping}
+use Rattle.avc_params.specs.declared.sps.Sps.{Sps}
+use Rattle.avc_params.specs.declared.pps.Pps.{Pps}
+use Rattle.avc_params.specs.declared.sps.Cropping.{Cropping}
 use Rattle.avc_params.specs.Limits.{width_in_mbs, height_in_mbs}
-use Rattle.avc_params.specs.Tables.{SetUnit, Sets, sets_after}
+use Rattle.avc_params.specs.Tables.{Sets, sets_after}
+use Rattle.avc_params.specs.declared.set_unit.SetUnit.{SetUnit}
 use Rattle.avc_slice.specs.declared.header.Header.{Header}
 use Rattle.avc_units.specs.Grouping.{Next, nothing, refusal, fault_of_open, fault_of_own, begins_picture, continues_picture, OpenPicture, step, set_unit}
 use Rattle.avc_picture.specs.Slices.{Slice, is_full}

@@ -3,7 +3,8 @@ use Rattle.std.specs.Prelude.{ℕ, zero, suc, Bool, true, false, List, [], ◌�
 use Rattle.avc_types.specs.declared.fault.Fault.{Fault}
 use Rattle.avc_types.specs.declared.fault.Fault.TheVariants as faults
 use Rattle.avc_plane.specs.Planes.{Planes}
-use Rattle.avc_params.specs.Records.{Sps, Pps}
+use Rattle.avc_params.specs.declared.sps.Sps.{Sps}
+use Rattle.avc_params.specs.declared.pps.Pps.{Pps}
 use Rattle.avc_slice.specs.declared.header.Header.{Header}
 use Rattle.avc_picture.specs.Slices.{PictureStart, Slice, Progress, progress, is_full, planes_after_slices}
 use Rattle.avc_decoder_core.specs.History.{History, opened, closed_by, stored_frames}

@@ -6,7 +6,7 @@ use Rattle.avc_types.specs.declared.fault.Fault.TheVariants as faults
 use Rattle.avc_types.specs.declared.references.Marking.TheVariants.{Idr, SlidingWindow}
 use Rattle.avc_types.specs.References.{Reference}
 use Rattle.avc_plane.specs.Planes.{Planes, StoredFrame}
-use Rattle.avc_params.specs.Records.{Sps}
+use Rattle.avc_params.specs.declared.sps.Sps.{Sps}
 use Rattle.avc_params.specs.Limits.{max_frame_num, dpb_size}
 use Rattle.avc_params.specs.Same.{same_sps}
 use Rattle.avc_slice.specs.declared.header.Header.{Header}

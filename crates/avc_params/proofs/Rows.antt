@@ -1,28 +1,35 @@
 -- Worked examples of parameter sets.
-use Rattle.std.specs.Prelude.{◌≡◌, ℕ, pos, true, false, [], ◌∷◌, Option, Some, None, Result, Ok, Err, refl}
+use Rattle.std.specs.Prelude.{◌≡◌, ℕ, pos, true, false, List, [], ◌∷◌, Option, Some, None, Result, Ok, Err, refl}
 use Rattle.std.specs.Option.{option_map}
 use Rattle.avc_types.specs.declared.fault.Fault.TheVariants as faults
-use Rattle.avc_bits.specs.Bits.{rbsp}
-use Rattle.avc_params.specs.Records.{Sps, Pps, type_2}
-use Rattle.avc_params.specs.Reading.{SetFault, sps_of, pps_of}
-use Rattle.avc_params.specs.Limits.{restriction_of, dpb_size, width_in_mbs, height_in_mbs}
-use Rattle.avc_params.specs.Tables.{of_sps, of_pps, sps_in_force, pps_in_force}
+use Rattle.avc_params.specs.Limits.{dpb_size, height_in_mbs, max_dpb_mbs, restriction_of, width_in_mbs}
+use Rattle.avc_params.specs.Reading.{pps_of, sps_of}
+use Rattle.avc_params.specs.Same.{same_sps}
+use Rattle.avc_params.specs.Tables.{accepted, pps_in_force, sps_in_force}
+use Rattle.avc_params.specs.declared.pps.Pps.{Pps}
+use Rattle.avc_params.specs.declared.set_fault.SetFault.{SetFault}
+use Rattle.avc_params.specs.declared.set_unit.SetUnit.TheVariants.{OfSps, OfPps}
+use Rattle.avc_params.specs.declared.sps.Cropping.{Cropping}
+use Rattle.avc_params.specs.declared.sps.OrderCount.TheVariants as orders
+use Rattle.avc_params.specs.declared.sps.Sps.{Sps}
 
 -- 16x16, order count type 2, one reference frame
 abbrev small : Sps
 small = record {
   profile_idc = 66;
-  constraint_set0_flag = true;
-  constraint_set1_flag = true;
-  constraint_set2_flag = false;
-  constraint_set3_flag = false;
-  constraint_set4_flag = false;
-  constraint_set5_flag = false;
+  constraint_flags = record {
+    constraint_set0_flag = true;
+    constraint_set1_flag = true;
+    constraint_set2_flag = false;
+    constraint_set3_flag = false;
+    constraint_set4_flag = false;
+    constraint_set5_flag = false;
+  };
   reserved_zero_2bits = 0;
   level_idc = 10;
   seq_parameter_set_id = 0;
   log2_max_frame_num_minus4 = 0;
-  order_count = type_2;
+  order_count = orders.Type2;
   max_num_ref_frames = 1;
   gaps_in_frame_num_value_allowed_flag = false;
   pic_width_in_mbs_minus1 = 0;
@@ -35,8 +42,17 @@ small = record {
 reads_small : sps_of (0x42 ∷ 0xC0 ∷ 0x0A ∷ 0xDA ∷ 0x71 ∷ []) ≡ Ok small
 reads_small = refl
 
+reads_gaps : sps_of (0x42 ∷ 0xC0 ∷ 0x0A ∷ 0xDA ∷ 0xF1 ∷ []) ≡ Ok (record small { gaps_in_frame_num_value_allowed_flag = true })
+reads_gaps = refl
+
 small_dpb : dpb_size small ≡ 16
 small_dpb = refl
+
+same : same_sps small small ≡ true
+same = refl
+
+other_flag : same_sps small (record small { gaps_in_frame_num_value_allowed_flag = true }) ≡ false
+other_flag = refl
 
 abbrev size_of : Result Sps SetFault → ℕ × ℕ
 size_of (Ok s) = (width_in_mbs s, height_in_mbs s)
@@ -45,12 +61,29 @@ size_of (Err _) = (0, 0)
 wide : size_of (sps_of (0x42 ∷ 0xC0 ∷ 0x0A ∷ 0xDA ∷ 0x2C ∷ 0x40 ∷ [])) ≡ (2, 1)
 wide = refl
 
-abbrev limits_of : Result Sps SetFault → Option (ℕ × ℕ)
-limits_of (Ok s) = option_map (λ r. (r.max_num_reorder_frames, r.max_dec_frame_buffering)) (restriction_of s)
+abbrev cropping_of : Result Sps SetFault → Option Cropping
+cropping_of (Ok s) = s.frame_cropping
+cropping_of (Err _) = None
+
+-- six columns at the right and six rows at the bottom are cropped
+cropped : cropping_of (sps_of (0x42 ∷ 0xC0 ∷ 0x0A ∷ 0xDA ∷ 0x76 ∷ 0x49 ∷ 0x10 ∷ []))
+    ≡ Some (record { frame_crop_left_offset = 0; frame_crop_right_offset = 3; frame_crop_top_offset = 0; frame_crop_bottom_offset = 3 })
+cropped = refl
+
+-- of 16 columns 14 may be cropped and 16 not
+cropped_most : cropping_of (sps_of (0x42 ∷ 0xC0 ∷ 0x0A ∷ 0xDA ∷ 0x76 ∷ 0x23 ∷ 0x40 ∷ []))
+    ≡ Some (record { frame_crop_left_offset = 0; frame_crop_right_offset = 7; frame_crop_top_offset = 0; frame_crop_bottom_offset = 0 })
+cropped_most = refl
+
+cropped_whole : sps_of (0x42 ∷ 0xC0 ∷ 0x0A ∷ 0xDA ∷ 0x76 ∷ 0x27 ∷ 0x40 ∷ []) ≡ Err (record { id = Some 0; fault = faults.OutOfRange })
+cropped_whole = refl
+
+abbrev limits_of : Result Sps SetFault → Option (ℕ × ℕ × ℕ)
+limits_of (Ok s) = option_map (λ r. (r.max_num_reorder_frames, r.max_dec_frame_buffering, dpb_size s)) (restriction_of s)
 limits_of (Err _) = None
 
 -- with VUI
-with_restriction : limits_of (sps_of (0x42 ∷ 0xC0 ∷ 0x0A ∷ 0xDA ∷ 0x72 ∷ 0x01 ∷ 0xFD ∷ 0x40 ∷ [])) ≡ Some (0, 1)
+with_restriction : limits_of (sps_of (0x42 ∷ 0xC0 ∷ 0x0A ∷ 0xDA ∷ 0x72 ∷ 0x01 ∷ 0xFD ∷ 0x40 ∷ [])) ≡ Some (0, 1, 1)
 with_restriction = refl
 
 abbrev plain : Pps
@@ -84,15 +117,41 @@ slice_groups = refl
 weighted : pps_of (0xCF ∷ 0x38 ∷ 0x80 ∷ []) ≡ Err (record { id = Some 0; fault = faults.WeightedPrediction })
 weighted = refl
 
+extension : pps_of (0xCE ∷ 0x38 ∷ 0xC0 ∷ []) ≡ Err (record { id = Some 0; fault = faults.PpsExtension })
+extension = refl
+
+nothing : pps_of [] ≡ Err (record { id = None; fault = faults.Truncated })
+nothing = refl
+
 profile : sps_of (0x64 ∷ 0x00 ∷ 0x0A ∷ 0xDA ∷ 0x71 ∷ []) ≡ Err (record { id = Some 0; fault = faults.Profile })
 profile = refl
 
-too_wide : sps_of (rbsp (0x42 ∷ 0xC0 ∷ 0x3E ∷ 0xDA ∷ 0x00 ∷ 0x10 ∷ 0x7C ∷ 0x04 ∷ 0x24 ∷ 0x40 ∷ [])) ≡ Err (record { id = Some 0; fault = faults.PictureSize })
+level : sps_of (0x42 ∷ 0xC0 ∷ 0x08 ∷ 0xDA ∷ 0x71 ∷ []) ≡ Err (record { id = Some 0; fault = faults.Level })
+level = refl
+
+-- the id 32 is out of range, so the set has none
+no_id : sps_of (0x42 ∷ 0xC0 ∷ 0x0A ∷ 0x04 ∷ 0x30 ∷ []) ≡ Err (record { id = None; fault = faults.OutOfRange })
+no_id = refl
+
+interlaced : sps_of (0x42 ∷ 0xC0 ∷ 0x0A ∷ 0xDA ∷ 0x61 ∷ []) ≡ Err (record { id = Some 0; fault = faults.Interlaced })
+interlaced = refl
+
+too_wide : sps_of (0x42 ∷ 0xC0 ∷ 0x3E ∷ 0xDA ∷ 0x00 ∷ 0x10 ∷ 0x7C ∷ 0x04 ∷ 0x24 ∷ 0x40 ∷ []) ≡ Err (record { id = Some 0; fault = faults.PictureSize })
 too_wide = refl
 
-in_force : sps_in_force (of_sps (0x42 ∷ 0xC0 ∷ 0x0A ∷ 0xDA ∷ 0x71 ∷ []) ∷ of_pps (0xCE ∷ 0x38 ∷ 0x80 ∷ []) ∷ []) 0 ≡ Some small
+level_11 : max_dpb_mbs 11 false ≡ Some 900
+level_11 = refl
+
+level_1b : max_dpb_mbs 11 true ≡ Some 396
+level_1b = refl
+
+in_force : sps_in_force (OfSps (0x42 ∷ 0xC0 ∷ 0x0A ∷ 0xDA ∷ 0x71 ∷ []) ∷ OfPps (0xCE ∷ 0x38 ∷ 0x80 ∷ []) ∷ []) 0 ≡ Some small
 in_force = refl
 
 -- a refused set erases the one of its id
-erased : pps_in_force (of_pps (0xCE ∷ 0x38 ∷ 0x80 ∷ []) ∷ of_pps (0xEE ∷ 0x38 ∷ 0x80 ∷ []) ∷ []) 0 ≡ None
+erased : pps_in_force (OfPps (0xCE ∷ 0x38 ∷ 0x80 ∷ []) ∷ OfPps (0xEE ∷ 0x38 ∷ 0x80 ∷ []) ∷ []) 0 ≡ None
 erased = refl
+
+-- and nothing where its id was not read
+stays : pps_in_force (OfPps (0xCE ∷ 0x38 ∷ 0x80 ∷ []) ∷ OfPps [] ∷ []) 0 ≡ Some plain
+stays = refl

@@ -8,7 +8,8 @@ use Rattle.avc_types.specs.declared.fault.Fault.TheVariants as faults
 use Rattle.avc_types.specs.declared.references.Modification.{Modification}
 use Rattle.avc_types.specs.References.{Reference}
 use Rattle.avc_types.specs.Pictures.{Samples, Frame, SliceFacts, PicMb, Coded}
-use Rattle.avc_params.specs.Records.{Sps, Pps}
+use Rattle.avc_params.specs.declared.sps.Sps.{Sps}
+use Rattle.avc_params.specs.declared.pps.Pps.{Pps}
 use Rattle.avc_params.specs.Limits.{width_in_mbs, height_in_mbs, size_in_mbs, max_frame_num}
 use Rattle.avc_bits.specs.Bits.{Bits}
 use Rattle.avc_slice.specs.declared.header.Deblocking.{Deblocking}

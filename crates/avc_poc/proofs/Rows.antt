@@ -2,7 +2,9 @@
 use Rattle.std.specs.Prelude.{◌≡◌, ℕ, ℤ, pos, negsuc, true, false, [], ◌∷◌, Some, None, Ok, refl}
 use Rattle.avc_types.specs.declared.references.Marking.TheVariants.{Idr, SlidingWindow, Adaptive}
 use Rattle.avc_types.specs.declared.references.Operation.TheVariants.{ForgetAll}
-use Rattle.avc_params.specs.Records.{Sps, OrderCount, type_0, type_1, type_2}
+use Rattle.avc_params.specs.declared.sps.Sps.{Sps}
+use Rattle.avc_params.specs.declared.sps.OrderCount.{OrderCount}
+use Rattle.avc_params.specs.declared.sps.OrderCount.TheVariants as orders
 use Rattle.avc_slice.specs.declared.header.CodedOrder.TheVariants.{Type0, Type1}
 use Rattle.avc_slice.specs.declared.header.Header.{Header}
 use Rattle.avc_slice.specs.declared.header.SliceType.TheVariants.{AllP, AllI}
@@ -11,12 +13,14 @@ use Rattle.avc_poc.specs.OrderCounts.{Counts, picture, missing, order_counts}
 abbrev sps_of : OrderCount → Sps
 sps_of order = record {
   profile_idc = 66;
-  constraint_set0_flag = true;
-  constraint_set1_flag = true;
-  constraint_set2_flag = false;
-  constraint_set3_flag = false;
-  constraint_set4_flag = false;
-  constraint_set5_flag = false;
+  constraint_flags = record {
+    constraint_set0_flag = true;
+    constraint_set1_flag = true;
+    constraint_set2_flag = false;
+    constraint_set3_flag = false;
+    constraint_set4_flag = false;
+    constraint_set5_flag = false;
+  };
   reserved_zero_2bits = 0;
   level_idc = 10;
   seq_parameter_set_id = 0;
@@ -55,7 +59,7 @@ p_at nal_ref_idc frame_num lsb =
     record idr { nal_ref_idc = nal_ref_idc; slice_type = AllP; frame_num = frame_num; idr_pic_id = None; order = Type0 lsb (pos 0); marking = Some SlidingWindow }
 
 abbrev type0 : Sps
-type0 = sps_of (type_0 0)
+type0 = sps_of (orders.Type0 0)
 
 abbrev both : ℤ → Counts
 both z = record { top = z; bottom = z }
@@ -78,7 +82,7 @@ above = refl
 
 -- type 2: twice the number, less one for a picture that is no reference
 abbrev type2 : Sps
-type2 = sps_of type_2
+type2 = sps_of orders.Type2
 
 twice : order_counts type2 (p_at 0 1 0) (picture type2 idr ∷ []) ≡ Ok (both (pos 1))
 twice = refl
@@ -89,7 +93,7 @@ round = refl
 
 -- type 1 with the cycle 2, 4
 abbrev type1 : Sps
-type1 = sps_of (type_1 false (negsuc 0) (pos 1) (pos 2 ∷ pos 4 ∷ []))
+type1 = sps_of (orders.Type1 false (negsuc 0) (pos 1) (pos 2 ∷ pos 4 ∷ []))
 
 in_cycle : order_counts type1 (record (p_at 2 3 0) { order = Type1 (pos 0) (pos 0) }) (missing type1 2 ∷ missing type1 1 ∷ picture type1 idr ∷ []) ≡ Ok (record { top = pos 8; bottom = pos 9 })
 in_cycle = refl

@@ -4,7 +4,9 @@ use Rattle.std.specs.Prelude.{ℕ, zero, suc, ◌+◌, ◌-◌, ◌*◌, ◌/◌
 use Rattle.std.specs.Int.{int_min}
 use Rattle.avc_types.specs.declared.fault.Fault.{Fault}
 use Rattle.avc_types.specs.declared.fault.Fault.TheVariants as faults
-use Rattle.avc_params.specs.Records.{Sps, OrderCount, type_0, type_1, type_2}
+use Rattle.avc_params.specs.declared.sps.Sps.{Sps}
+use Rattle.avc_params.specs.declared.sps.OrderCount.{OrderCount}
+use Rattle.avc_params.specs.declared.sps.OrderCount.TheVariants as orders
 use Rattle.avc_params.specs.Limits.{max_frame_num}
 use Rattle.avc_slice.specs.declared.header.CodedOrder.{CodedOrder}
 use Rattle.avc_slice.specs.declared.header.CodedOrder.TheVariants.{Type0, Type1}
@@ -41,7 +43,7 @@ no_previous = record { msb = pos 0; lsb = pos 0 }
 
 -- MaxPicOrderCntLsb
 abbrev pub max_lsb : OrderCount → ℤ
-max_lsb (type_0 log2_minus4) = pos (2 ^ (log2_minus4 + 4))
+max_lsb (orders.Type0 log2_minus4) = pos (2 ^ (log2_minus4 + 4))
 max_lsb _ = pos 0
 
 abbrev pub lsb_of : CodedOrder → ℤ
@@ -152,11 +154,11 @@ counts_2 h number =
 
 -- Of the picture with this header after the older entries, before any lowering.
 abbrev counts_by : OrderCount → Sps → Header → (older : List Past) → Counts
-counts_by (type_0 log2_minus4) sps h older =
+counts_by (orders.Type0 log2_minus4) sps h older =
     counts_0 sps h (elim (is_idr h) [ true ↦ no_previous | false ↦ previous_of older ])
-counts_by (type_1 always_zero non_ref top_to_bottom cycle) sps h older =
+counts_by (orders.Type1 always_zero non_ref top_to_bottom cycle) sps h older =
     counts_1 non_ref top_to_bottom cycle h (frame_num_offset (picture sps h ∷ older) + h.frame_num)
-counts_by type_2 sps h older = counts_2 h (frame_num_offset (picture sps h ∷ older) + h.frame_num)
+counts_by orders.Type2 sps h older = counts_2 h (frame_num_offset (picture sps h ∷ older) + h.frame_num)
 
 abbrev pub raw_counts : Sps → Header → (older : List Past) → Counts
 raw_counts sps h older = counts_by sps.order_count sps h older
@@ -169,7 +171,7 @@ both_fit c = fits c.top && fits c.bottom
 
 -- FrameNumOffset + frame_num stays in 32 signed bits, where it is used
 abbrev number_fits : OrderCount → (number : ℕ) → Bool
-number_fits (type_0 log2_minus4) number = true
+number_fits (orders.Type0 log2_minus4) number = true
 number_fits _ number = nat_lt number (2 ^ 31)
 
 -- the counts as they are answered: lowered where the picture has operation 5

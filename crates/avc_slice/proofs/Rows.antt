@@ -3,19 +3,19 @@ use Rattle.std.specs.Prelude.{◌≡◌, ℕ, pos, true, false, List, [], ◌∷
 use Rattle.avc_types.specs.declared.fault.Fault.{Fault}
 use Rattle.avc_types.specs.declared.fault.Fault.TheVariants as faults
 use Rattle.avc_types.specs.declared.references.Marking.TheVariants.{Idr, SlidingWindow}
-use Rattle.avc_bits.specs.Bits.{start}
-use Rattle.avc_params.specs.Tables.{Sets, sets_after, of_sps, of_pps}
+use Rattle.avc_params.specs.Tables.{Sets, sets_after}
+use Rattle.avc_params.specs.declared.set_unit.SetUnit.TheVariants.{OfSps, OfPps}
 use Rattle.avc_slice.specs.declared.header.CodedOrder.TheVariants.{Type2}
 use Rattle.avc_slice.specs.declared.header.Header.{Header}
 use Rattle.avc_slice.specs.declared.header.SliceType.TheVariants.{AllP, AllI}
-use Rattle.avc_slice.specs.Reading.{header_of}
+use Rattle.avc_slice.specs.Reading.{header_in_rbsp}
 use Rattle.avc_slice.specs.Begins.{begins}
 
 abbrev sets : Sets
-sets = sets_after (of_sps (0x42 ∷ 0xC0 ∷ 0x0A ∷ 0xDA ∷ 0x71 ∷ []) ∷ of_pps (0xCE ∷ 0x38 ∷ 0x80 ∷ []) ∷ [])
+sets = sets_after (OfSps (0x42 ∷ 0xC0 ∷ 0x0A ∷ 0xDA ∷ 0x71 ∷ []) ∷ OfPps (0xCE ∷ 0x38 ∷ 0x80 ∷ []) ∷ [])
 
 abbrev header_at : ℕ → List ℕ → Result Header Fault
-header_at header rbsp = elim (header_of header sets (start rbsp)) [ Ok r ↦ Ok r.0 | Err f ↦ Err f ]
+header_at header rbsp = header_in_rbsp header sets rbsp
 
 abbrev of_p : Header
 of_p = record {

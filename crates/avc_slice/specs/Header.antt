@@ -6,7 +6,7 @@ use Rattle.avc_types.specs.declared.references.Marking.TheVariants.{Adaptive}
 use Rattle.avc_types.specs.declared.references.Modification.{Modification}
 use Rattle.avc_types.specs.declared.references.Operation.{Operation}
 use Rattle.avc_types.specs.declared.references.Operation.TheVariants.{ForgetAll}
-use Rattle.avc_params.specs.Records.{Pps}
+use Rattle.avc_params.specs.declared.pps.Pps.{Pps}
 use Rattle.avc_slice.specs.declared.header.Header.{Header}
 use Rattle.avc_slice.specs.declared.header.SliceType.{SliceType}
 use Rattle.avc_slice.specs.declared.header.SliceType.TheVariants.{P, I, AllP, AllI}

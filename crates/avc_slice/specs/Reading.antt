@@ -1,6 +1,6 @@
 -- Slice headers from their bits (7.3.3, 7.3.3.1, 7.3.3.3): the elements in their order, each check where its element
 -- stands.
-use Rattle.std.specs.Prelude.{ℕ, zero, suc, ◌+◌, ◌-◌, ◌/◌, ◌%◌, ℤ, pos, negsuc, int_le, Bool, true, false, not, ◌==◌, ◌&&◌, ◌||◌, nat_lt, List, [], ◌∷◌, Option, Some, None, unwrap_or, slice_index_or, if◌then◌else◌, Ok}
+use Rattle.std.specs.Prelude.{ℕ, zero, suc, ◌+◌, ◌-◌, ◌/◌, ◌%◌, ℤ, pos, negsuc, int_le, Bool, true, false, not, ◌==◌, ◌&&◌, ◌||◌, nat_lt, List, [], ◌∷◌, Option, Some, None, slice_index_or, if◌then◌else◌, Result, Ok, Err}
 use Rattle.avc_types.specs.declared.fault.Fault.{Fault}
 use Rattle.avc_types.specs.declared.fault.Fault.TheVariants as faults
 use Rattle.avc_types.specs.declared.references.Marking.{Marking}
@@ -9,15 +9,22 @@ use Rattle.avc_types.specs.declared.references.Modification.{Modification}
 use Rattle.avc_types.specs.declared.references.Modification.TheVariants.{Subtract, Add, LongTerm}
 use Rattle.avc_types.specs.declared.references.Operation.{Operation}
 use Rattle.avc_types.specs.declared.references.Operation.TheVariants.{ForgetShort, ForgetLong, ShortToLong, LimitLong, ForgetAll, CurrentToLong}
-use Rattle.avc_bits.specs.Bits.{Read, ◌>>=◌, ◌>>◌, give, refuse, check, where_set}
+use Rattle.avc_bits.specs.Bits.{Bits, Read, start, ◌>>=◌, ◌>>◌, give, refuse, check, where_set}
 use Rattle.avc_bits.specs.Codes.{u, flag, ue, ue_to, se, se_within}
-use Rattle.avc_params.specs.Records.{OrderCount, type_0, type_1, type_2, Sps, Pps}
+use Rattle.avc_params.specs.declared.pps.Pps.{Pps}
+use Rattle.avc_params.specs.declared.sps.OrderCount.{OrderCount}
+use Rattle.avc_params.specs.declared.sps.OrderCount.TheVariants as order_counts
+use Rattle.avc_params.specs.declared.sps.Sps.{Sps}
 use Rattle.avc_params.specs.Limits.{size_in_mbs, max_frame_num}
 use Rattle.avc_params.specs.Tables.{Sets}
 use Rattle.avc_slice.specs.declared.header.CodedOrder.{CodedOrder}
 use Rattle.avc_slice.specs.declared.header.CodedOrder.TheVariants.{Type0, Type1, Type2}
 use Rattle.avc_slice.specs.declared.header.Deblocking.{Deblocking}
 use Rattle.avc_slice.specs.declared.header.Header.{Header}
+use Rattle.avc_slice.specs.declared.parts.Filtering.{Filtering}
+use Rattle.avc_slice.specs.declared.parts.Front.{Front}
+use Rattle.avc_slice.specs.declared.parts.ListPart.{ListPart}
+use Rattle.avc_slice.specs.declared.parts.Numbers.{Numbers}
 use Rattle.avc_slice.specs.declared.header.SliceType.{SliceType}
 use Rattle.avc_slice.specs.declared.header.SliceType.TheVariants as slice_types
 use Rattle.avc_types.specs.declared.edges.FilteredEdges.{FilteredEdges}
@@ -26,20 +33,20 @@ use Rattle.avc_slice.specs.Header.{is_p_type, slice_qp}
 
 -- ---- order counts
 
-abbrev optional_se : Bool → Read ℤ
+abbrev pub optional_se : Bool → Read ℤ
 optional_se true = se
 optional_se false = give (pos 0)
 
 abbrev pub coded_order : OrderCount → (bottom_present : Bool) → Read CodedOrder
-coded_order (type_0 log2_minus4) bottom_present = do
+coded_order (order_counts.Type0 log2_minus4) bottom_present = do
   pic_order_cnt_lsb ← u (log2_minus4 + 4)
   delta_pic_order_cnt_bottom ← optional_se bottom_present
   give (Type0 pic_order_cnt_lsb delta_pic_order_cnt_bottom)
-coded_order (type_1 always_zero _ _ _) bottom_present = do
+coded_order (order_counts.Type1 always_zero _ _ _) bottom_present = do
   delta_0 ← optional_se (not always_zero)
   delta_1 ← optional_se (not always_zero && bottom_present)
   give (Type1 delta_0 delta_1)
-coded_order type_2 bottom_present = give Type2
+coded_order order_counts.Type2 bottom_present = give Type2
 
 -- ---- the active count of a P slice
 
@@ -56,30 +63,39 @@ active_override pps = do
     | false ↦ (check (nat_lt pps.num_ref_idx_l0_default_active_minus1 16) faults.OutOfRange >> give None)
   ]
 
+-- ---- lists that a code ends
+
+-- no item where the list ends here
+abbrev pub unless_ended : {A : Type 0} → Bool → Read (List A) → Read (List A)
+unless_ended true others = give []
+unless_ended false others = others
+
+-- Each item behind its code, until the code is `stop`: so many items may stand, and one more is the fault.
+abbrev pub up_to : {A : Type 0} → (code : Read ℕ) → (stop : ℕ) → (item : ℕ → Read A) → Fault → (room : ℕ) → Read (List A)
+up_to code stop item fault zero = do
+  last ← code
+  check (last == stop) fault
+  give []
+up_to code stop item fault (suc room) = do
+  next ← code
+  unless_ended (next == stop) (do
+    one ← item next
+    others ← up_to code stop item fault room
+    give (one ∷ others))
+
 -- ---- modification of the list (7.3.3.1)
 
-abbrev modification : (max_frame_num idc : ℕ) → Read Modification
-modification max_frame_num zero = ue_to (max_frame_num - 1) >>= λ n. give (Subtract n)
-modification max_frame_num (suc zero) = ue_to (max_frame_num - 1) >>= λ n. give (Add n)
-modification max_frame_num (suc (suc _)) = ue >>= λ n. give (LongTerm n)
+-- abs_diff_pic_num_minus1 is at most this
+abbrev pub modification : (most idc : ℕ) → Read Modification
+modification most zero = ue_to most >>= λ n. give (Subtract n)
+modification most (suc zero) = ue_to most >>= λ n. give (Add n)
+modification most (suc (suc _)) = ue >>= λ n. give (LongTerm n)
 
--- The pairs up to idc 3, of which so many may stand.
+-- The entries up to idc 3, of which so many may stand.
 abbrev pub modifications : (max_frame_num room : ℕ) → Read (List Modification)
-modifications max_frame_num zero = do
-  idc ← ue_to 3
-  check (idc == 3) faults.BadRefList
-  give []
-modifications max_frame_num (suc room) = do
-  idc ← ue_to 3
-  elim (idc == 3) [
-    | true ↦ give []
-    | false ↦ (do
-      one ← modification max_frame_num idc
-      others ← modifications max_frame_num room
-      give (one ∷ others))
-  ]
+modifications max_frame_num room = up_to (ue_to 3) 3 (modification (max_frame_num - 1)) faults.BadRefList room
 
-abbrev modification_list : (max_frame_num room : ℕ) → Read (Option (List Modification))
+abbrev pub modification_list : (max_frame_num room : ℕ) → Read (Option (List Modification))
 modification_list max_frame_num room = flag >>= λ present. where_set present (modifications max_frame_num room)
 
 -- ---- marking (7.3.3.3)
@@ -97,19 +113,11 @@ operation _ = ue >>= λ n. give (CurrentToLong n)
 
 -- the operations up to 0, of which so many may stand
 abbrev pub operations : (room : ℕ) → Read (List Operation)
-operations zero = do
-  number ← ue_to 6
-  check (number == 0) faults.BadMarking
-  give []
-operations (suc room) = do
-  number ← ue_to 6
-  elim (number == 0) [
-    | true ↦ give []
-    | false ↦ (do
-      one ← operation number
-      others ← operations room
-      give (one ∷ others))
-  ]
+operations room = up_to (ue_to 6) 0 operation faults.BadMarking room
+
+-- an operation, none of whose numbers is limited
+abbrev pub any_operation : (most number : ℕ) → Read Operation
+any_operation most number = operation number
 
 abbrev pub most_operations : ℕ
 most_operations = 64
@@ -142,7 +150,7 @@ deblocking = do
   idc ← ue_to 2
   elim (idc == 1) [ true ↦ give no_edges | false ↦ offset_pair (if idc == 0 then edges.All else edges.WithinSlice) ]
 
--- ---- the header
+-- ---- the header, in parts
 
 -- the value that must be there
 abbrev found : {A : Type 0} → Option A → Fault → Read A
@@ -154,16 +162,7 @@ abbrev pub slice_type_of : ℕ → Option SliceType
 slice_type_of n = slice_index_or
     (Some slice_types.P ∷ None ∷ Some slice_types.I ∷ None ∷ None ∷ Some slice_types.AllP ∷ None ∷ Some slice_types.AllI ∷ []) n None
 
--- how many bits have been read so far
-abbrev position_here : Read ℕ
-position_here b = Ok (b.position, b)
-
--- What stands in the header up to the picture parameter set's id.
-pub record Front : Type 0 where
-  pub first_mb_in_slice : ℕ
-  pub slice_type : SliceType
-  pub pic_parameter_set_id : ℕ
-
+-- up to the picture parameter set's id
 abbrev pub front : (nal_ref_idc : ℕ) → (idr : Bool) → Read Front
 front nal_ref_idc idr = do
   first_mb_in_slice ← ue
@@ -173,53 +172,88 @@ front nal_ref_idc idr = do
   pic_parameter_set_id ← ue_to 255
   give (record { first_mb_in_slice = first_mb_in_slice; slice_type = slice_type; pic_parameter_set_id = pic_parameter_set_id })
 
--- The rest of it, under its parameter sets.
+abbrev pub idr_pic_id : (idr : Bool) → Read (Option ℕ)
+idr_pic_id idr = where_set idr (ue_to 65535)
+
+-- 0 where it is present
+abbrev primary : Read ℕ
+primary = do
+  redundant ← ue_to 127
+  check (redundant == 0) faults.RedundantSlice
+  give redundant
+
+abbrev pub redundant_pic_cnt : (present : Bool) → Read (Option ℕ)
+redundant_pic_cnt present = where_set present primary
+
+-- what tells the slice's picture from others
+abbrev pub numbers : (idr : Bool) → Pps → Sps → Read Numbers
+numbers idr pps sps = do
+  frame_num ← u (sps.log2_max_frame_num_minus4 + 4)
+  check (not (idr && not (frame_num == 0))) faults.BadIdr
+  of_idr ← idr_pic_id idr
+  order ← coded_order sps.order_count pps.bottom_field_pic_order_in_frame_present_flag
+  redundant ← redundant_pic_cnt pps.redundant_pic_cnt_present_flag
+  give (record { frame_num = frame_num; idr_pic_id = of_idr; order = order; redundant_pic_cnt = redundant })
+
+-- RefPicList0's length in a P slice: the overriding count or the default one
+abbrev pub active_count : Pps → Option ℕ → ℕ
+active_count pps (Some count_minus1) = count_minus1 + 1
+active_count pps None = pps.num_ref_idx_l0_default_active_minus1 + 1
+
+abbrev pub p_list : Pps → Sps → Read ListPart
+p_list pps sps = do
+  override ← active_override pps
+  given ← modification_list (max_frame_num sps) (active_count pps override)
+  give (record { active_override = override; active_count = active_count pps override; modifications = given })
+
+-- what RefPicList0 is made by; an I slice has none
+abbrev pub list_part : (p : Bool) → Pps → Sps → Read ListPart
+list_part true pps sps = p_list pps sps
+list_part false pps sps = give (record { active_override = None; active_count = 0; modifications = None })
+
+abbrev pub is_qp : ℤ → Bool
+is_qp qp = int_le (pos 0) qp && int_le qp (pos 51)
+
+-- the quantiser and the deblocking fields
+abbrev pub filtering : Pps → Read Filtering
+filtering pps = do
+  slice_qp_delta ← se
+  check (is_qp (slice_qp pps slice_qp_delta)) faults.OutOfRange
+  given ← where_set pps.deblocking_filter_control_present_flag deblocking
+  give (record { slice_qp_delta = slice_qp_delta; deblocking = given })
+
+-- how many bits have been read so far
+abbrev pub position_here : Read ℕ
+position_here b = Ok (b.position, b)
+
+-- ---- the header
+
+-- What stands after the front, under its parameter sets.
 abbrev pub back : (nal_ref_idc : ℕ) → (idr : Bool) → Front → Pps → Sps → Read Header
 back nal_ref_idc idr start pps sps = do
   check (nat_lt start.first_mb_in_slice (size_in_mbs sps)) faults.OutOfRange
-  frame_num ← u (sps.log2_max_frame_num_minus4 + 4)
-  check (not (idr && not (frame_num == 0))) faults.BadIdr
-  idr_pic_id ← where_set idr (ue_to 65535)
-  order ← coded_order sps.order_count pps.bottom_field_pic_order_in_frame_present_flag
-  redundant_pic_cnt ← where_set pps.redundant_pic_cnt_present_flag (ue_to 127)
-  check (unwrap_or redundant_pic_cnt 0 == 0) faults.RedundantSlice
-  override ← where_set p (active_override pps)
-  modifications_given ← where_set p (modification_list (max_frame_num sps) (active override))
-  marking_given ← where_set (not (nal_ref_idc == 0)) (marking idr)
-  slice_qp_delta ← se
-  check (int_le (pos 0) (slice_qp pps slice_qp_delta) && int_le (slice_qp pps slice_qp_delta) (pos 51)) faults.OutOfRange
-  deblocking_given ← where_set pps.deblocking_filter_control_present_flag deblocking
+  of_picture ← numbers idr pps sps
+  list ← list_part (is_p_type start.slice_type) pps sps
+  marked ← where_set (not (nal_ref_idc == 0)) (marking idr)
+  filtered ← filtering pps
   position ← position_here
   give (record {
     nal_ref_idc = nal_ref_idc;
     first_mb_in_slice = start.first_mb_in_slice;
     slice_type = start.slice_type;
     pic_parameter_set_id = start.pic_parameter_set_id;
-    frame_num = frame_num;
-    idr_pic_id = idr_pic_id;
-    order = order;
-    redundant_pic_cnt = redundant_pic_cnt;
-    active_override = joined override;
-    active_count = active override;
-    modifications = joined modifications_given;
-    marking = marking_given;
-    slice_qp_delta = slice_qp_delta;
-    deblocking = deblocking_given;
+    frame_num = of_picture.frame_num;
+    idr_pic_id = of_picture.idr_pic_id;
+    order = of_picture.order;
+    redundant_pic_cnt = of_picture.redundant_pic_cnt;
+    active_override = list.active_override;
+    active_count = list.active_count;
+    modifications = list.modifications;
+    marking = marked;
+    slice_qp_delta = filtered.slice_qp_delta;
+    deblocking = filtered.deblocking;
     position = position;
   })
-  where
-    p : Bool
-    p = is_p_type start.slice_type
-
-    joined : {A : Type 0} → Option (Option A) → Option A
-    joined (Some given) = given
-    joined None = None
-
-    -- RefPicList0's length: none in an I slice, else the overriding count or the default one
-    active : Option (Option ℕ) → ℕ
-    active None = 0
-    active (Some (Some count_minus1)) = count_minus1 + 1
-    active (Some None) = pps.num_ref_idx_l0_default_active_minus1 + 1
 
 -- The header of a unit of type 1, or of type 5 (idr).
 abbrev pub slice_header : (nal_ref_idc : ℕ) → (idr : Bool) → Sets → Read Header
@@ -232,3 +266,11 @@ slice_header nal_ref_idc idr sets = do
 -- Of a unit's first byte.
 abbrev pub header_of : (header : ℕ) → Sets → Read Header
 header_of header sets = slice_header (header / 32 % 4) (header % 32 == 5) sets
+
+abbrev value_or_fault : {A : Type 0} → Result (A × Bits) Fault → Result A Fault
+value_or_fault (Ok r) = Ok r.0
+value_or_fault (Err f) = Err f
+
+-- The header in a unit's RBSP, by the unit's first byte, or the first fault.
+abbrev pub header_in_rbsp : (header : ℕ) → Sets → (rbsp : List ℕ) → Result Header Fault
+header_in_rbsp header sets rbsp = value_or_fault (header_of header sets (start rbsp))

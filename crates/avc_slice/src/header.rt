@@ -1,5 +1,4 @@
-use crate::lists::Modifications;
-use avc_types::{FilteredEdges, Marking, MbAddr};
+use avc_types::{FilteredEdges, Marking, MbAddr, Modification, UpTo};
 
 /// slice_type (Table 7-6). The last two say that all slices of the picture have this type.
 #[derive(Clone, Copy, Debug, PartialEq, Eq)]
@@ -17,7 +16,7 @@ pub enum SliceType {
     AllI,
 }
 
-/// What the picture order count type brings with it (7.3.3).
+/// What a picture's order count is told by (7.3.3), for each kind of order counts.
 #[derive(Clone, Copy, Debug, PartialEq, Eq)]
 pub enum CodedOrder {
     /// delta_pic_order_cnt_bottom is 0 where it is not coded.
@@ -72,7 +71,7 @@ pub struct Header {
     pub active_count: u32,
 
     /// In P slices, where ref_pic_list_modification_flag_l0 is 1.
-    pub modifications: Option<Modifications>,
+    pub modifications: Option<UpTo<Modification, 16>>,
 
     /// Where nal_ref_idc is not 0.
     pub marking: Option<Marking>,

@@ -4,7 +4,8 @@ use Rattle.std.specs.List.{flat_map, list_all}
 use Rattle.avc_types.specs.declared.fault.Fault.{Fault}
 use Rattle.avc_types.specs.declared.references.Marking.{Marking}
 use Rattle.avc_types.specs.declared.references.Marking.TheVariants.{Idr}
-use Rattle.avc_annexb.specs.Units.{Unit, units}
+use Rattle.avc_annexb.specs.Units.{units}
+use Rattle.avc_annexb.specs.declared.unit.Unit.{Unit}
 use Rattle.avc_bits.specs.Bits.{Bits}
 use Rattle.avc_slice.specs.declared.header.Header.{Header}
 use Rattle.avc_units.specs.Grouping.{is_start, header_in, tables}

@@ -5,11 +5,17 @@ use Rattle.std.specs.Fmt.{decimal}
 use Rattle.avc_types.specs.declared.fault.Fault.{Fault}
 use Rattle.avc_types.specs.declared.fault.Fault.TheVariants as faults
 use Rattle.avc_types.specs.Faults.{number_of, name_of}
-use Rattle.avc_annexb.specs.Units.{Unit, nal_ref_idc, nal_unit_type, forbidden_zero_bit, units}
+use Rattle.avc_annexb.specs.Units.{nal_ref_idc, nal_unit_type, forbidden_zero_bit, units}
+use Rattle.avc_annexb.specs.declared.unit.Unit.{Unit}
 use Rattle.avc_bits.specs.Bits.{Bits}
-use Rattle.avc_params.specs.Records.{Sps, Pps, OrderCount, type_0, type_1, type_2, Cropping}
+use Rattle.avc_params.specs.declared.sps.Sps.{Sps}
+use Rattle.avc_params.specs.declared.pps.Pps.{Pps}
+use Rattle.avc_params.specs.declared.sps.OrderCount.{OrderCount}
+use Rattle.avc_params.specs.declared.sps.Cropping.{Cropping}
+use Rattle.avc_params.specs.declared.sps.OrderCount.TheVariants as orders
 use Rattle.avc_params.specs.Limits.{width_in_mbs, height_in_mbs, dpb_size}
-use Rattle.avc_params.specs.Reading.{SetFault, sps_of, pps_of}
+use Rattle.avc_params.specs.Reading.{sps_of, pps_of}
+use Rattle.avc_params.specs.declared.set_fault.SetFault.{SetFault}
 use Rattle.avc_params.specs.Tables.{Sets}
 use Rattle.avc_slice.specs.declared.header.Header.{Header}
 use Rattle.avc_slice.specs.Header.{is_p, is_idr, slice_qp}
@@ -49,9 +55,9 @@ abbrev pub shown_height : Sps → ℕ
 shown_height s = cropped s.frame_cropping (λ c. c.frame_crop_top_offset + c.frame_crop_bottom_offset) (16 * height_in_mbs s)
 
 abbrev pub order_type : OrderCount → ℕ
-order_type (type_0 log2) = 0
-order_type (type_1 always_zero non_ref bottom cycle) = 1
-order_type type_2 = 2
+order_type (orders.Type0 log2) = 0
+order_type (orders.Type1 always_zero non_ref bottom cycle) = 1
+order_type orders.Type2 = 2
 
 abbrev pub sps_text : Sps → List ℕ
 sps_text s =

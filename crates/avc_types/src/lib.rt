@@ -10,6 +10,7 @@ mod history;
 mod memory;
 mod picture;
 mod references;
+mod up_to;
 mod vector;
 
 pub use address::MbAddr;
@@ -20,5 +21,6 @@ pub use fault::Fault;
 pub use history::History;
 pub use memory::OutOfMemory;
 pub use picture::{Crop, Picture};
-pub use references::{Mark, Marking, Modification, Operation, Operations};
+pub use references::{Mark, Marking, Modification, Operation};
+pub use up_to::UpTo;
 pub use vector::Mv;

@@ -1,7 +1,4 @@
-ghost use Rattle.std.specs.Prelude.{◌≡◌, ◌<◌, [], ◌∷◌, ◌++◌, List, length};
-
-use arrayvec::ArrayVec;
-use std::marker::Model;
+use crate::up_to::UpTo;
 
 /// One entry of ref_pic_list_modification (7.3.3.1): modification_of_pic_nums_idc 0, 1 or 2 with its number.
 #[derive(Clone, Copy, Debug, PartialEq, Eq)]
@@ -16,8 +13,15 @@ pub enum Modification {
     LongTerm(u32),
 }
 
+// What the unused places of a list hold.
+impl Default for Modification {
+    fn default() -> Modification {
+        Modification::Subtract(0)
+    }
+}
+
 /// One memory_management_control_operation, 1 to 6 (7.3.3.3).
-#[derive(Clone, Copy, Debug, PartialEq, Eq)]
+#[derive(Clone, Copy, Debug, Default, PartialEq, Eq)]
 pub enum Operation {
     /// 1: a short-term frame becomes unused, by difference_of_pic_nums_minus1.
     ForgetShort(u32),
@@ -32,25 +36,11 @@ pub enum Operation {
     LimitLong(u32),
 
     /// 5: all frames become unused.
+    #[default]
     ForgetAll,
 
     /// 6: the current picture becomes long-term, with long_term_frame_idx.
     CurrentToLong(u32),
-}
-
-/// At most 64 operations of one picture, in order. A contract sees them as their list.
-#[derive(Drop)]
-pub struct Operations {
-    operations: ArrayVec<Operation, 64>,
-}
-
-impl Model for Operations {
-    ghost use Rattle.std.specs.Prelude.{List};
-    ghost use Rattle.avc_types.specs.declared.references.Operation.{Operation};
-
-    ghost Value = { List Operation };
-
-    ghost view = { λ o. o.operations.items };
 }
 
 /// dec_ref_pic_marking (7.3.3.3), where nal_ref_idc is not 0.
@@ -66,7 +56,7 @@ pub enum Marking {
     SlidingWindow,
 
     /// adaptive_ref_pic_marking_mode_flag 1.
-    Adaptive(Operations),
+    Adaptive(UpTo<Operation, 64>),
 }
 
 /// How a reference frame is marked (8.2.5).

@@ -2,11 +2,16 @@
 use Rattle.std.specs.Prelude.{ℕ, Bool, true, false, not, ◌==◌, ◌&&◌, ◌||◌, nat_le, List, [], ◌∷◌, ◌++◌, Option, Some, None, Result, Ok, Err, if◌then◌else◌}
 use Rattle.avc_types.specs.declared.fault.Fault.{Fault}
 use Rattle.avc_types.specs.declared.fault.Fault.TheVariants as faults
-use Rattle.avc_annexb.specs.Units.{Unit, forbidden_zero_bit, nal_ref_idc, nal_unit_type}
-use Rattle.avc_bits.specs.Bits.{Bits, rbsp, start}
+use Rattle.avc_annexb.specs.Units.{forbidden_zero_bit, nal_ref_idc, nal_unit_type}
+use Rattle.avc_annexb.specs.declared.unit.Unit.{Unit}
+use Rattle.avc_annexb.specs.Escapes.{rbsp}
+use Rattle.avc_bits.specs.Bits.{Bits, start}
 use Rattle.avc_bits.specs.Codes.{ue}
-use Rattle.avc_params.specs.Reading.{SetFault, sps_of, pps_of}
-use Rattle.avc_params.specs.Tables.{SetUnit, of_sps, of_pps, Sets, sets_after}
+use Rattle.avc_params.specs.Reading.{sps_of, pps_of}
+use Rattle.avc_params.specs.declared.set_fault.SetFault.{SetFault}
+use Rattle.avc_params.specs.Tables.{Sets, sets_after}
+use Rattle.avc_params.specs.declared.set_unit.SetUnit.{SetUnit}
+use Rattle.avc_params.specs.declared.set_unit.SetUnit.TheVariants.{OfSps, OfPps}
 use Rattle.avc_slice.specs.declared.header.Header.{Header}
 use Rattle.avc_slice.specs.Reading.{slice_header}
 use Rattle.avc_slice.specs.Begins.{begins}
@@ -45,8 +50,8 @@ rbsp_of u = elim u.body [ Some body ↦ Some (rbsp body) | None ↦ None ]
 -- ---- parameter sets
 
 abbrev set_of : Kind → Option (List ℕ) → Option SetUnit
-set_of sps (Some bytes) = Some (of_sps bytes)
-set_of pps (Some bytes) = Some (of_pps bytes)
+set_of sps (Some bytes) = Some (OfSps bytes)
+set_of pps (Some bytes) = Some (OfPps bytes)
 set_of _ _ = None
 
 -- the parameter set that a unit brings, if it does

@@ -1,0 +1,5 @@
+use Rattle.avc_annexb.proofs.Staying.{units_stay_first}
+use Rattle.avc_annexb.proofs.laws.units_stay.Goals as goal
+
+pub returns : goal.returns
+returns c = units_stay_first

@@ -1,0 +1,14 @@
+use Rattle.std.proofs.Common.{◌≡◌, ◌++◌, ◌≤◌, ℕ, ◌-◌, List, length, take}
+use Rattle.avc_annexb.specs.Scanning.{Scans}
+use Rattle.avc_annexb.proofs.scanner.Scanner.take_in.Given as goal
+
+-- the bytes before this place were taken in
+abbrev pub invariant-loop-len : goal.invariant-loop-len
+invariant-loop-len g l = record {
+  scans : (bytes : List ℕ) → Scans g.row.MAX l.initial.self bytes → Scans g.row.MAX l.self (bytes ++ take l.place l.piece);
+  given : l.self.ready.given.items ≡ l.initial.self.ready.given.items;
+  within : l.place ≤ length l.piece;
+}
+
+abbrev pub decreases-loop-len : goal.decreases-loop-len
+decreases-loop-len g l = length l.piece - l.place

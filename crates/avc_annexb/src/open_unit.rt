@@ -1,0 +1,122 @@
+ghost use Rattle.std.specs.Prelude.{◌≡◌, ◌<◌, ◌≤◌, ℕ, [], ◌∷◌, ◌++◌, OnOk, Option, replicate};
+ghost use Rattle.avc_annexb.specs.Scanning.{Keeps, KeepsAny, with_bytes, with_more};
+ghost use Rattle.avc_annexb.specs.Units.{Found, held, unit_of};
+
+use crate::unit::Unit;
+use avc_types::{Bytes, OutOfMemory};
+use std::alloc::Global;
+
+/// A unit whose end has not been seen.
+#[derive(Drop)]
+pub struct OpenUnit<const MAX: usize> {
+    offset: u64,
+    pub length: u64,
+    header: u8,
+    // none once the unit is too long
+    body: Option<Vec<u8>>,
+}
+
+impl<const MAX: usize> OpenUnit<MAX> {
+    /// A unit without bytes yet.
+    pub fn new(alloc: Global, offset: u64) -> Self
+        ensures { (place : ℕ) → offset ≡ held place → Keeps MAX result (record { offset = place; bytes = [] }) }
+    {
+        OpenUnit {
+            offset,
+            length: 0,
+            header: 0,
+            body: Some(Vec::new(alloc)),
+        }
+    }
+
+    /// Adds bytes. After an `Err` the unit is of no use.
+    pub fn append(&mut self, bytes: &[u8]) -> Result<(), OutOfMemory>
+        ensures { OnOk result ((unit : Found) → Keeps MAX self.old unit → Keeps MAX self.new (with_bytes unit bytes.now)) }
+    {
+        let [first, others @ ..] = bytes else {
+            return Ok(());
+        };
+        if self.length == 0 {
+            self.begin(*first);
+            self.extend(others)
+        } else {
+            self.extend(bytes)
+        }
+    }
+
+    // adds the first byte
+    fn begin(&mut self, header: u8)
+        requires { self.old.length ≡ 0 }
+        ensures keeps { (unit : Found) → Keeps MAX self.old unit → Keeps MAX self.new (with_bytes unit (header ∷ [])) }
+        ensures begun { 0 < self.new.length }
+    {
+        if MAX == 0 {
+            self.body = None;
+        }
+        self.header = header;
+        self.length = 1;
+    }
+
+    // adds bytes after the first
+    fn extend(&mut self, bytes: &[u8]) -> Result<(), OutOfMemory>
+        requires { 0 < self.old.length }
+        ensures { OnOk result ((unit : Found) → Keeps MAX self.old unit → Keeps MAX self.new (with_bytes unit bytes.now)) }
+    {
+        let added = bytes.len() as u64;
+        if added > (MAX as u64).saturating_sub(self.length) {
+            self.body = None;
+        } else if let Some(body) = &mut self.body {
+            body.extend_from_slice(bytes)?;
+        }
+        self.length = self.length.saturating_add(added);
+        Ok(())
+    }
+
+    /// Adds some zeros, at most two, and then bytes. After an `Err` the unit is of no use.
+    pub fn append_after(&mut self, zeros: u8, bytes: &[u8]) -> Result<(), OutOfMemory>
+        requires { zeros ≤ 2 }
+        ensures { OnOk result ((unit : Found) → Keeps MAX self.old unit → Keeps MAX self.new (with_bytes unit (replicate zeros 0 ++ bytes.now))) }
+    {
+        self.append(some_zeros(zeros))?;
+        self.append(bytes)
+    }
+
+    /// The whole unit, with its place among the units.
+    pub fn into_unit(self, index: u64) -> Unit
+        ensures { (unit : Found) (place : ℕ) → Keeps MAX self.entry unit → index ≡ held place → result ≡ unit_of MAX place unit }
+    {
+        Unit {
+            index,
+            offset: self.offset,
+            length: self.length,
+            header: self.header,
+            body: self.body.map(Bytes::from_vec),
+        }
+    }
+}
+
+fn some_zeros(count: u8) -> &'static [u8]
+    requires { count ≤ 2 }
+    ensures { result.now ≡ replicate count 0 }
+{
+    match count {
+        0 => &[],
+        1 => &[0],
+        _ => &[0, 0],
+    }
+}
+
+/// Adds some zeros and then bytes, if there is a unit.
+pub fn append_any<const MAX: usize>(
+    unit: &mut Option<OpenUnit<MAX>>,
+    zeros: u8,
+    bytes: &[u8],
+) -> Result<(), OutOfMemory>
+    requires { zeros ≤ 2 }
+    ensures { OnOk result ((found : Option Found) → KeepsAny MAX unit.old found → KeepsAny MAX unit.new (with_more found (replicate zeros 0 ++ bytes.now))) }
+{
+    match unit {
+        Some(unit) => unit.append_after(zeros, bytes),
+        None => Ok(()),
+    }
+}

@@ -1,0 +1,68 @@
+ghost use Rattle.std.specs.Prelude.{◌≡◌, [], ◌++◌, List, OnOk, Option, slice_get, length};
+ghost use Rattle.std.specs.Option.{option_to_list};
+ghost use Rattle.avc_annexb.specs.Scanning.{Holds, Keeps, KeepsAny, closed};
+ghost use Rattle.avc_annexb.specs.Units.{Found, numbered};
+
+use crate::open_unit::OpenUnit;
+use crate::unit::Unit;
+use avc_types::{History, OutOfMemory};
+use std::alloc::Global;
+use std::collections::VecDeque;
+
+/// The units that are whole and were not taken.
+#[derive(Drop)]
+pub struct Ready<const MAX: usize> {
+    units: VecDeque<Unit>,
+    // of all units so far
+    count: u64,
+    // those that were taken
+    given: History<Unit>,
+}
+
+impl<const MAX: usize> Ready<MAX> {
+    pub fn new(alloc: Global) -> Self
+        ensures holds { Holds MAX result [] }
+        ensures given { result.given.items ≡ [] }
+    {
+        Ready {
+            units: VecDeque::new(alloc),
+            count: 0,
+            given: History::new(),
+        }
+    }
+
+    /// Adds a unit at the end, if it has bytes.
+    pub fn add(&mut self, unit: OpenUnit<MAX>) -> Result<(), OutOfMemory>
+        ensures holds { OnOk result ((done : List Found) (found : Found) → Holds MAX self.old done → Keeps MAX unit.entry found → Holds MAX self.new (done ++ closed (Some found))) }
+        ensures given { self.new.given.items ≡ self.old.given.items }
+    {
+        if unit.length == 0 {
+            return Ok(());
+        }
+        self.units.push_back(unit.into_unit(self.count))?;
+        self.count = self.count.saturating_add(1);
+        Ok(())
+    }
+
+    /// Adds a unit at the end, if there is one and it has bytes.
+    pub fn add_any(&mut self, unit: Option<OpenUnit<MAX>>) -> Result<(), OutOfMemory>
+        ensures holds { OnOk result ((done : List Found) (found : Option Found) → Holds MAX self.old done → KeepsAny MAX unit.entry found → Holds MAX self.new (done ++ closed found)) }
+        ensures given { self.new.given.items ≡ self.old.given.items }
+    {
+        match unit {
+            Some(unit) => self.add(unit),
+            None => Ok(()),
+        }
+    }
+
+    /// Takes the first unit.
+    pub fn next(&mut self) -> Option<Unit>
+        ensures unit { (done : List Found) → Holds MAX self.old done → result ≡ slice_get (numbered MAX 0 done) (length self.old.given.items) }
+        ensures holds { (done : List Found) → Holds MAX self.old done → Holds MAX self.new done }
+        ensures given { self.new.given.items ≡ self.old.given.items ++ option_to_list result }
+    {
+        let unit = self.units.pop_front()?;
+        self.given = self.given.with(&unit);
+        Some(unit)
+    }
+}

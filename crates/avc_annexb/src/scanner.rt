@@ -1,0 +1,119 @@
+ghost use Rattle.std.specs.Prelude.{◌≤◌};
+
+use crate::open_unit::{OpenUnit, append_any};
+use crate::ready::Ready;
+use avc_types::OutOfMemory;
+use memchr::memchr;
+use std::alloc::Global;
+
+/// Goes once through a stream and looks for where units begin and end.
+#[derive(Drop)]
+pub struct Scanner<const MAX: usize> {
+    alloc: Global,
+    pub ready: Ready<MAX>,
+    unit: Option<OpenUnit<MAX>>,
+    // the last bytes that are zeros, at most two, which are not yet in the unit
+    zeros: u8,
+    position: u64,
+    ghost few: { zeros ≤ 2 },
+}
+
+impl<const MAX: usize> Scanner<MAX> {
+    ghost use Rattle.std.specs.Prelude.{◌≡◌, ◌≢◌, ◌≤◌, ℕ, true, [], ◌∷◌, ◌++◌, List, OnOk, slice_index};
+    ghost use Rattle.avc_annexb.specs.Scanning.{Scans, HasNoZero, Holds};
+    ghost use Rattle.avc_annexb.specs.Units.{found};
+
+    pub fn new(alloc: Global) -> Self
+        ensures scans { Scans MAX result [] }
+        ensures given { result.ready.given.items ≡ [] }
+    {
+        Scanner {
+            alloc,
+            ready: Ready::new(alloc),
+            unit: None,
+            zeros: 0,
+            position: 0,
+        }
+    }
+
+    /// Takes the next bytes of the stream. After an `Err` the scanner is of no use.
+    pub fn take_in(&mut self, piece: &[u8]) -> Result<(), OutOfMemory>
+        ensures ok { OnOk result ((bytes : List ℕ) → Scans MAX self.old bytes → Scans MAX self.new (bytes ++ piece.now)) }
+        ensures given { self.new.ready.given.items ≡ self.old.ready.given.items }
+    {
+        let mut place = 0;
+        while let Some(len) = memchr(0, &piece[place..]) {
+            self.run(&piece[place..place + len])?;
+            self.zero()?;
+            place = place + len + 1;
+        }
+        self.run(&piece[place..])
+    }
+
+    /// Takes the end of the stream.
+    pub fn end(&mut self) -> Result<(), OutOfMemory>
+        ensures ok { OnOk result ((bytes : List ℕ) → Scans MAX self.old bytes → Holds MAX self.new.ready (found 0 true bytes)) }
+        ensures given { self.new.ready.given.items ≡ self.old.ready.given.items }
+    {
+        // the zeros that are not yet in the unit stay out of it
+        self.ready.add_any(self.unit.take())
+    }
+
+    // bytes that have no zero
+    fn run(&mut self, run: &[u8]) -> Result<(), OutOfMemory>
+        requires { HasNoZero run.now }
+        ensures ok { OnOk result ((bytes : List ℕ) → Scans MAX self.old bytes → Scans MAX self.new (bytes ++ run.now)) }
+        ensures given { self.new.ready.given.items ≡ self.old.ready.given.items }
+    {
+        match run {
+            [] => Ok(()),
+            [1, others @ ..] if self.zeros == 2 => {
+                self.start_code()?;
+                self.pass(others)
+            }
+            _ => self.pass(run),
+        }
+    }
+
+    // bytes of a unit, or between units
+    fn pass(&mut self, run: &[u8]) -> Result<(), OutOfMemory>
+        requires no_zero { HasNoZero run.now }
+        requires no_start { 2 ≤ self.old.zeros → slice_index run.now 0 ≢ 1 }
+        ensures ok { OnOk result ((bytes : List ℕ) → Scans MAX self.old bytes → Scans MAX self.new (bytes ++ run.now)) }
+        ensures given { self.new.ready.given.items ≡ self.old.ready.given.items }
+    {
+        if run.is_empty() {
+            return Ok(());
+        }
+        let zeros = self.zeros;
+        self.zeros = 0;
+        self.position = self.position.saturating_add(run.len() as u64);
+        append_any(&mut self.unit, zeros, run)
+    }
+
+    // a zero, of which a third ends a unit
+    fn zero(&mut self) -> Result<(), OutOfMemory>
+        ensures ok { OnOk result ((bytes : List ℕ) → Scans MAX self.old bytes → Scans MAX self.new (bytes ++ 0 ∷ [])) }
+        ensures given { self.new.ready.given.items ≡ self.old.ready.given.items }
+    {
+        self.position = self.position.saturating_add(1);
+        if self.zeros < 2 {
+            self.zeros += 1;
+            return Ok(());
+        }
+        self.ready.add_any(self.unit.take())
+    }
+
+    // the 01 of a start code, which ends a unit and begins one
+    fn start_code(&mut self) -> Result<(), OutOfMemory>
+        requires { self.old.zeros ≡ 2 }
+        ensures ok { OnOk result ((bytes : List ℕ) → Scans MAX self.old bytes → Scans MAX self.new (bytes ++ 1 ∷ [])) }
+        ensures given { self.new.ready.given.items ≡ self.old.ready.given.items }
+        ensures zeros { self.new.zeros ≡ 0 }
+    {
+        self.position = self.position.saturating_add(1);
+        self.zeros = 0;
+        let ended = self.unit.replace(OpenUnit::new(self.alloc, self.position));
+        self.ready.add_any(ended)
+    }
+}

@@ -1,0 +1,254 @@
+-- Bits and the numbers that they spell.
+use Rattle.std.proofs.Common.{◌≡◌, ℕ, zero, suc, ◌+◌, ◌-◌, ◌*◌, ◌/◌, ◌%◌, ◌^◌, ◌<◌, ◌≤◌, List, [], ◌∷◌, ◌++◌, length, Bool, true, false, eqb, refl, ap, lit<, inl, inr, ◌∙◌, sym, arith, take, drop, get_or, length-append, length-drop}
+use Rattle.std.proofs.lemmas.List.{drop-drop, drop-take, take-take, take-append-drop, take-append-le, drop-append-le, length-take-le, get_or-take, get_or-drop}
+use Rattle.std.proofs.lemmas.Bool.{cases_order}
+use Rattle.std.proofs.lemmas.Grind.{common_steps}
+use Rattle.std.proofs.lemmas.Nat.{pow-add, mod-pow-add, shr-shr, shl-shr, field_of, div-mul-add, mod-mul-add, shl_whole, or_shifted, pow_pos, pow_below, one_shl, and_mask}
+use Rattle.std.specs.Prelude.{bit_or, bit_and, slice_index}
+use Rattle.std.proofs.Math.Nat.{pow-succ', mod-eq_of_lt, mod-lt}
+use Rattle.std.proofs.Math.Seq.{drop-append-add, take-append-add}
+use Rattle.avc_bits.specs.Bits.{bits_of, byte_bits, number_of}
+
+pub length-bits_of : (width n : ℕ) → length (bits_of width n) ≡ width
+length-bits_of zero n = refl
+length-bits_of (suc width) n = ap (λ k. suc k) (length-bits_of width n)
+
+pub number-append : (a b : List Bool) → number_of (a ++ b) ≡ number_of a * 2 ^ length b + number_of b
+number-append [] b = omega arith
+number-append (true ∷ a) b = omega (arith, number-append a b, length-append a b, ap (λ n. 2 ^ n) (length-append a b), pow-add 2 (length a) (length b))
+number-append (false ∷ a) b = omega (arith, number-append a b)
+
+pow_suc : (k : ℕ) → 2 ^ suc k ≡ 2 * 2 ^ k
+pow_suc k = pow-succ' 2 k
+
+pub number_lt : (a : List Bool) → number_of a < 2 ^ length a
+number_lt [] = omega arith
+number_lt (true ∷ a) = omega (arith, number_lt a, pow_suc (length a))
+number_lt (false ∷ a) = omega (arith, number_lt a, pow_suc (length a), pow_pos (length a))
+
+one_bit : (m : ℕ) (bits : List Bool) → m < 2 → number_of (eqb m 1 ∷ bits) ≡ m * 2 ^ length bits + number_of bits
+one_bit zero bits small = omega arith
+one_bit (suc zero) bits small = omega arith
+one_bit (suc (suc m)) bits small = absurd (omega arith)
+
+-- the bits of a number spell it, up to their width
+pub number-bits_of : (width n : ℕ) → number_of (bits_of width n) ≡ n % 2 ^ width
+number-bits_of zero n = omega arith
+number-bits_of (suc width) n =
+    one_bit (n / 2 ^ width % 2) (bits_of width n) (omega arith)
+    ∙ rw (length-bits_of width n, number-bits_of width n)
+    (sym (ap (λ k. n % 2 ^ k) (omega arith) ∙ mod-pow-add n 1 width))
+
+-- as many bits with the same number are the same
+pub number-inj : (a b : List Bool) → length a ≡ length b → number_of a ≡ number_of b → a ≡ b
+number-inj [] [] len same = refl
+number-inj [] (y ∷ b) len same = absurd (omega arith)
+number-inj (x ∷ a) [] len same = absurd (omega arith)
+number-inj (true ∷ a) (true ∷ b) len same = let l : length a ≡ length b = omega arith in ap (λ t. true ∷ t) (number-inj a b l (omega (arith, ap (λ k. 2 ^ k) l)))
+number-inj (false ∷ a) (false ∷ b) len same = ap (λ t. false ∷ t) (number-inj a b (omega arith) same)
+number-inj (true ∷ a) (false ∷ b) len same = let l : length a ≡ length b = omega arith in absurd (omega (arith, ap (λ k. 2 ^ k) l, number_lt b))
+number-inj (false ∷ a) (true ∷ b) len same = let l : length a ≡ length b = omega arith in absurd (omega (arith, ap (λ k. 2 ^ k) l, number_lt a))
+
+pub below_width : (n : ℕ) (bits : List Bool) → length bits ≡ n → number_of bits < 2 ^ n
+below_width n bits len = omega (arith, number_lt bits, ap (λ k. 2 ^ k) len)
+
+-- the bits of the number that bits are
+pub bits_of-number : (n : ℕ) (bits : List Bool) → length bits ≡ n → bits_of n (number_of bits) ≡ bits
+bits_of-number n bits len =
+    number-inj (bits_of n (number_of bits)) bits (length-bits_of n (number_of bits) ∙ sym len) (number-bits_of n (number_of bits) ∙ mod-eq_of_lt (below_width n bits len))
+
+-- a part of a number's bits
+pub drop-bits_of : (first width total n : ℕ) → total ≡ first + width → drop first (bits_of total n) ≡ bits_of width n
+drop-bits_of zero width total n sum = ap (λ k. bits_of k n) (omega arith)
+drop-bits_of (suc first) width zero n sum = absurd (omega arith)
+drop-bits_of (suc first) width (suc total) n sum = drop-bits_of first width total n (omega arith)
+
+pub take-bits_of : (count low total n : ℕ) → total ≡ count + low → take count (bits_of total n) ≡ bits_of count (n / 2 ^ low)
+take-bits_of zero low total n sum = refl
+take-bits_of (suc count) low zero n sum = absurd (omega arith)
+take-bits_of (suc count) low (suc total) n sum =
+    rw (take-bits_of count low total n (omega arith), shr-shr n low count)
+    (ap (λ k. eqb (n / 2 ^ k % 2) 1 ∷ bits_of count (n / 2 ^ low)) (omega arith))
+
+-- the bits of a byte, in the bits of bytes
+pub drop-byte_bits : (bytes : List ℕ) (place : ℕ) → place < length bytes → drop (8 * place) (byte_bits bytes) ≡ bits_of 8 (get_or bytes place 0) ++ byte_bits (drop (place + 1) bytes)
+drop-byte_bits [] place within = absurd (omega arith)
+drop-byte_bits (b ∷ bytes) zero within = refl
+drop-byte_bits (b ∷ bytes) (suc place) within =
+    let len : 8 * suc place ≡ length (bits_of 8 b) + 8 * place = omega (arith, length-bits_of 8 b) in
+    let one : suc place + 1 ≡ suc (place + 1) = omega arith in
+    rw (len, one) (drop-append-add (bits_of 8 b) (byte_bits bytes) (8 * place) ∙ drop-byte_bits bytes place (omega arith))
+
+pub length-byte_bits : (bytes : List ℕ) → length (byte_bits bytes) ≡ 8 * length bytes
+length-byte_bits [] = refl
+length-byte_bits (b ∷ bytes) = omega (arith, length-byte_bits bytes, length-append (bits_of 8 b) (byte_bits bytes), length-bits_of 8 b)
+
+-- some bits of one byte, in the bits of bytes
+pub bits_within : (bytes : List ℕ) (place first count : ℕ) → place < length bytes → first + count ≤ 8 →
+    take count (drop (8 * place + first) (byte_bits bytes)) ≡ take count (drop first (bits_of 8 (get_or bytes place 0)))
+bits_within bytes place first count within fits =
+    let all = bits_of 8 (get_or bytes place 0) in
+    let len : length all ≡ 8 = length-bits_of 8 (get_or bytes place 0) in
+    ap (take count) (sym (drop-drop first (8 * place) (byte_bits bytes)) ∙ ap (drop first) (drop-byte_bits bytes place within) ∙ drop-append-le first all _ (omega (arith, len)))
+    ∙ take-append-le count (drop first all) _ (omega (arith, len, length-drop first all))
+
+-- bits after a number
+pub number-joined : (value field count done : ℕ) (a b : List Bool) → value ≡ number_of a → field ≡ number_of b → length b ≡ count → length a ≡ done → done + count ≤ 32 →
+    bit_or (value * 2 ^ count % 2 ^ 32) field ≡ number_of (a ++ b)
+number-joined value field count done a b va fb lb la fits =
+    let small : value < 2 ^ done = rw (va, ← la) (number_lt a) in
+    let low : field < 2 ^ count = rw (fb, ← lb) (number_lt b) in
+    rw (shl_whole value done count 32 small fits, or_shifted value count field low) (rw (va, fb, ← lb) (sym (number-append a b)))
+
+-- a field of a byte, by a shift and a mask
+pub field_is : (byte first count : ℕ) → first + count ≤ 8 → bit_and (byte / 2 ^ (8 - first - count)) (1 * 2 ^ count % 4294967296 - 1) ≡ number_of (take count (drop first (bits_of 8 byte)))
+field_is byte first count fits =
+    let low = 8 - first - count in
+    rw (one_shl count 32 (omega arith), and_mask (byte / 2 ^ low) count, drop-bits_of first (8 - first) 8 byte (omega arith), take-bits_of count low (8 - first) byte (omega arith))
+    (sym (number-bits_of count (byte / 2 ^ low)))
+
+take-sum : {X : Type 0} (xs : List X) (m n : ℕ) → take (m + n) xs ≡ take m xs ++ take n (drop m xs)
+take-sum xs zero n = ap (λ k. take k xs) (omega arith)
+take-sum [] (suc m) n = grind (arith, common_steps)
+take-sum (x ∷ xs) (suc m) n =
+    let sum : suc m + n ≡ suc (m + n) = omega arith in
+    rw sum (ap (λ t. x ∷ t) (take-sum xs m n))
+
+-- the loop's step: some bits of one byte more
+pub more_bits : (bytes : List ℕ) (position count left place taken value field : ℕ) → count ≤ 32 → position + count ≤ 8 * length bytes → left ≤ count → place + left ≡ position + count → taken ≤ left → place % 8 + taken ≤ 8 → 0 < left →
+    value ≡ number_of (take (count - left) (drop position (byte_bits bytes))) → field ≡ number_of (take taken (drop (place % 8) (bits_of 8 (get_or bytes (place / 8) 0)))) →
+    bit_or (value * 2 ^ taken % 2 ^ 32) field ≡ number_of (take (count - (left - taken)) (drop position (byte_bits bytes)))
+more_bits bytes position count left place taken value field few inside some sum part fits going is_value is_field =
+    let all = drop position (byte_bits bytes) in
+    let done = count - left in
+    let long : length all ≡ 8 * length bytes - position = length-drop position (byte_bits bytes) ∙ ap (λ n. n - position) (length-byte_bits bytes) in
+    let front : length (take done all) ≡ done = length-take-le done all (omega (arith, long)) in
+    let rest : length (take taken (drop done all)) ≡ taken = length-take-le taken (drop done all) (omega (arith, long, length-drop done all)) in
+    let here : take taken (drop done all) ≡ take taken (drop (place % 8) (bits_of 8 (get_or bytes (place / 8) 0))) =
+    ap (take taken) (drop-drop done position (byte_bits bytes) ∙ ap (λ k. drop k (byte_bits bytes)) (omega arith)) ∙ bits_within bytes (place / 8) (place % 8) taken (omega arith) fits in
+    number-joined value field taken done (take done all) (take taken (drop done all)) is_value (is_field ∙ ap number_of (sym here)) rest front (omega arith)
+    ∙ ap number_of (sym (take-sum all done taken) ∙ ap (λ k. take k all) (omega arith))
+
+pub take_front : {X : Type 0} (xs : List X) (place count total : ℕ) → place + count ≤ total → take count (drop place (take total xs)) ≡ take count (drop place xs)
+take_front xs place count total fits =
+    let sum : total ≡ place + (total - place) = omega arith in
+    rw sum (ap (take count) (drop-take place (total - place) xs) ∙ take-take count (total - place) (drop place xs) (omega arith))
+
+-- ---- powers of 2
+
+pub pow_lt_back : (a b : ℕ) → 2 ^ a < 2 ^ b → a < b
+pow_lt_back a b less = elim (cases_order a b) [ inl same ↦ absurd (omega (arith, ap (λ k. 2 ^ k) same)) | inr (inl below) ↦ below | inr (inr above) ↦ absurd (omega (arith, pow_below b a above)) ]
+
+pub pow_lt_trans : (value a b : ℕ) → value < 2 ^ a → a ≤ b → value < 2 ^ b
+pow_lt_trans value a b small less = elim (cases_order a b) [ inl same ↦ rw (← same) small | inr (inl below) ↦ omega (arith, pow_below a b below) | inr (inr above) ↦ absurd (omega arith) ]
+
+-- ---- a window of eight bytes
+
+-- the number of the first bits, and of those after them
+pub number-take : (n : ℕ) (bits : List Bool) → n ≤ length bits → number_of bits / 2 ^ (length bits - n) ≡ number_of (take n bits)
+number-take n bits long =
+    let rest : length (drop n bits) ≡ length bits - n = length-drop n bits in
+    let below : number_of (drop n bits) < 2 ^ (length bits - n) = below_width (length bits - n) (drop n bits) rest in
+    let whole : number_of bits ≡ number_of (take n bits) * 2 ^ (length bits - n) + number_of (drop n bits) =
+    ap number_of (sym (take-append-drop n bits)) ∙ number-append (take n bits) (drop n bits) ∙ ap (λ k. number_of (take n bits) * 2 ^ k + number_of (drop n bits)) rest in
+    ap (λ v. v / 2 ^ (length bits - n)) whole ∙ div-mul-add (number_of (take n bits)) (2 ^ (length bits - n)) (number_of (drop n bits)) below
+
+number-drop : (n : ℕ) (bits : List Bool) → n ≤ length bits → number_of bits % 2 ^ (length bits - n) ≡ number_of (drop n bits)
+number-drop n bits long =
+    let rest : length (drop n bits) ≡ length bits - n = length-drop n bits in
+    let below : number_of (drop n bits) < 2 ^ (length bits - n) = below_width (length bits - n) (drop n bits) rest in
+    let whole : number_of bits ≡ number_of (take n bits) * 2 ^ (length bits - n) + number_of (drop n bits) =
+    ap number_of (sym (take-append-drop n bits)) ∙ number-append (take n bits) (drop n bits) ∙ ap (λ k. number_of (take n bits) * 2 ^ k + number_of (drop n bits)) rest in
+    ap (λ v. v % 2 ^ (length bits - n)) whole ∙ mod-mul-add (number_of (take n bits)) (2 ^ (length bits - n)) (number_of (drop n bits)) below
+
+-- some of the bits
+number-part : (first count total : ℕ) (bits : List Bool) → length bits ≡ total → first + count ≤ total → number_of bits / 2 ^ (total - first - count) % 2 ^ count ≡ number_of (take count (drop first bits))
+number-part first count total bits len fits =
+    let low = total - first - count in
+    let rest : length (drop first bits) ≡ total - first = length-drop first bits ∙ ap (λ k. k - first) len in
+    let sum : length bits - first ≡ count + low = omega (arith, len) in
+    sym (field_of (number_of bits) count low) ∙ ap (λ k. number_of bits % 2 ^ k / 2 ^ low) (sym sum)
+    ∙ ap (λ v. v / 2 ^ low) (number-drop first bits (omega (arith, len)))
+    ∙ ap (λ k. number_of (drop first bits) / 2 ^ k) (omega (arith, rest))
+    ∙ number-take count (drop first bits) (omega (arith, rest))
+
+-- a field of 64 bits, by shifts
+pub field64_is : (eight first count : ℕ) → first + count ≤ 64 → count ≤ 63 → eight * 2 ^ first % 2 ^ 64 / 2 / 2 ^ (63 - count) ≡ eight / 2 ^ (64 - first - count) % 2 ^ count
+field64_is eight first count fits few =
+    let low = 64 - first - count in
+    let sum : 1 + (63 - count) ≡ first + low = omega arith in
+    let whole : 64 ≡ count + (first + low) = omega arith in
+    shr-shr (eight * 2 ^ first % 2 ^ 64) 1 (63 - count)
+    ∙ ap (λ k. eight * 2 ^ first % 2 ^ 64 / 2 ^ k) sum
+    ∙ ap (λ k. eight * 2 ^ first % 2 ^ k / 2 ^ (first + low)) whole
+    ∙ field_of (eight * 2 ^ first) count (first + low)
+    ∙ ap (λ v. v % 2 ^ count) (sym (shr-shr (eight * 2 ^ first) first low) ∙ ap (λ v. v / 2 ^ low) (shl-shr eight first))
+
+pub field_fits : (n count : ℕ) → count ≤ 32 → (n % 2 ^ count < 2 ^ count) × (n % 2 ^ count < 2 ^ 32)
+field_fits n count few =
+    let below : n % 2 ^ count < 2 ^ count = mod-lt n (pow_pos count) in
+    (below, pow_lt_trans (n % 2 ^ count) count 32 below few)
+
+take_bytes : (n : ℕ) (bytes : List ℕ) → take (8 * n) (byte_bits bytes) ≡ byte_bits (take n bytes)
+take_bytes zero bytes = refl
+take_bytes (suc n) [] = grind (arith, common_steps)
+take_bytes (suc n) (b ∷ bytes) =
+    let len : 8 * suc n ≡ length (bits_of 8 b) + 8 * n = omega (arith, length-bits_of 8 b) in
+    rw len (take-append-add (bits_of 8 b) (byte_bits bytes) (8 * n) ∙ ap (λ t. bits_of 8 b ++ t) (take_bytes n bytes))
+
+drop_bytes : (n : ℕ) (bytes : List ℕ) → drop (8 * n) (byte_bits bytes) ≡ byte_bits (drop n bytes)
+drop_bytes zero bytes = refl
+drop_bytes (suc n) [] = grind (arith, common_steps)
+drop_bytes (suc n) (b ∷ bytes) =
+    let len : 8 * suc n ≡ length (bits_of 8 b) + 8 * n = omega (arith, length-bits_of 8 b) in
+    rw len (drop-append-add (bits_of 8 b) (byte_bits bytes) (8 * n) ∙ drop_bytes n bytes)
+
+number-byte : (b : ℕ) (bytes : List ℕ) → b < 256 → number_of (byte_bits (b ∷ bytes)) ≡ b * 2 ^ (8 * length bytes) + number_of (byte_bits bytes)
+number-byte b bytes small =
+    number-append (bits_of 8 b) (byte_bits bytes)
+    ∙ ap (λ k. number_of (bits_of 8 b) * 2 ^ k + number_of (byte_bits bytes)) (length-byte_bits bytes)
+    ∙ ap (λ v. v * 2 ^ (8 * length bytes) + number_of (byte_bits bytes)) (number-bits_of 8 b ∙ mod-eq_of_lt small)
+
+-- eight bytes, the first one the most significant
+eight_number : (es : List ℕ) → length es ≡ 8 → ((k : ℕ) → k < 8 → get_or es k 0 < 256) →
+    slice_index es 0 * 72057594037927936 + slice_index es 1 * 281474976710656 + slice_index es 2 * 1099511627776 + slice_index es 3 * 4294967296
+    + slice_index es 4 * 16777216 + slice_index es 5 * 65536 + slice_index es 6 * 256 + slice_index es 7 ≡ number_of (byte_bits es)
+eight_number (a ∷ b ∷ c ∷ d ∷ e ∷ f ∷ g ∷ h ∷ []) len small =
+    omega (
+      arith,
+      number-byte a (b ∷ c ∷ d ∷ e ∷ f ∷ g ∷ h ∷ []) (small 0 (lit< tt)),
+      number-byte b (c ∷ d ∷ e ∷ f ∷ g ∷ h ∷ []) (small 1 (lit< tt)),
+      number-byte c (d ∷ e ∷ f ∷ g ∷ h ∷ []) (small 2 (lit< tt)),
+      number-byte d (e ∷ f ∷ g ∷ h ∷ []) (small 3 (lit< tt)),
+      number-byte e (f ∷ g ∷ h ∷ []) (small 4 (lit< tt)),
+      number-byte f (g ∷ h ∷ []) (small 5 (lit< tt)),
+      number-byte g (h ∷ []) (small 6 (lit< tt)),
+      number-byte h [] (small 7 (lit< tt)),
+    )
+eight_number [] len small = absurd (omega arith)
+eight_number (a ∷ []) len small = absurd (omega arith)
+eight_number (a ∷ b ∷ []) len small = absurd (omega arith)
+eight_number (a ∷ b ∷ c ∷ []) len small = absurd (omega arith)
+eight_number (a ∷ b ∷ c ∷ d ∷ []) len small = absurd (omega arith)
+eight_number (a ∷ b ∷ c ∷ d ∷ e ∷ []) len small = absurd (omega arith)
+eight_number (a ∷ b ∷ c ∷ d ∷ e ∷ f ∷ []) len small = absurd (omega arith)
+eight_number (a ∷ b ∷ c ∷ d ∷ e ∷ f ∷ g ∷ []) len small = absurd (omega arith)
+eight_number (a ∷ b ∷ c ∷ d ∷ e ∷ f ∷ g ∷ h ∷ x ∷ more) len small = absurd (omega arith)
+
+pub eight_from : (bytes es : List ℕ) (first : ℕ) → first + 8 ≤ length bytes → es ≡ take 8 (drop first bytes) → ((k : ℕ) → get_or bytes k 0 < 256) →
+    slice_index es 0 * 72057594037927936 + slice_index es 1 * 281474976710656 + slice_index es 2 * 1099511627776 + slice_index es 3 * 4294967296
+    + slice_index es 4 * 16777216 + slice_index es 5 * 65536 + slice_index es 6 * 256 + slice_index es 7 ≡ number_of (take 64 (drop (8 * first) (byte_bits bytes)))
+eight_from bytes es first inside is small =
+    eight_number es (ap length is ∙ length-take-le 8 (drop first bytes) (omega (arith, length-drop first bytes))) (λ k below. omega (arith, ap (λ t. get_or t k 0) is, get_or-take 8 (drop first bytes) k 0 below, get_or-drop first bytes k 0, small (first + k)))
+    ∙ ap number_of (ap byte_bits is ∙ sym (take_bytes 8 (drop first bytes)) ∙ ap (take 64) (sym (drop_bytes first bytes)))
+
+-- the bits at a place, by the eight bytes from there on
+pub window_bits : (bytes : List ℕ) (position count eight : ℕ) → position / 8 + 8 ≤ length bytes → count ≤ 32 → eight ≡ number_of (take 64 (drop (8 * (position / 8)) (byte_bits bytes))) →
+    eight / 2 ^ (64 - position % 8 - count) % 2 ^ count ≡ number_of (take count (drop position (byte_bits bytes)))
+window_bits bytes position count eight inside few is =
+    let all = drop (8 * (position / 8)) (byte_bits bytes) in
+    let long : 64 ≤ length all = omega (arith, length-drop (8 * (position / 8)) (byte_bits bytes), length-byte_bits bytes) in
+    ap (λ v. v / 2 ^ (64 - position % 8 - count) % 2 ^ count) is
+    ∙ number-part (position % 8) count 64 (take 64 all) (length-take-le 64 all long) (omega arith)
+    ∙ ap number_of (take_front all (position % 8) count 64 (omega arith))
+    ∙ ap (λ t. number_of (take count t)) (drop-drop (position % 8) (8 * (position / 8)) (byte_bits bytes) ∙ ap (λ k. drop k (byte_bits bytes)) (omega arith))

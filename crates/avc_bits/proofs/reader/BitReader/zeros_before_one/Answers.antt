@@ -1,0 +1,16 @@
+use Rattle.std.proofs.Common.{arith}
+use Rattle.avc_bits.specs.Reader.{reader_bits}
+use Rattle.avc_bits.proofs.Reading.{length-ahead, before_many, before_short, before_from}
+use Rattle.avc_bits.proofs.reader.BitReader.zeros_before_one.Goals as goal
+
+pub returns-then-zeros-limit-clause-read : goal.returns-then-zeros-limit-clause-read
+returns-then-zeros-limit-clause-read c = before_many c.args.limit c.args.fault (reader_bits c.args.self.now) (omega arith)
+
+pub returns-then-self-from-clause-read : goal.returns-then-self-from-clause-read
+returns-then-self-from-clause-read c = before_short c.args.limit c.args.fault (reader_bits c.args.self.now) (omega arith) (omega (arith, length-ahead c.args.self.now))
+
+pub returns-clause-read : goal.returns-clause-read
+returns-clause-read c = (
+  before_from c.args.limit c.args.fault (reader_bits c.args.self.now) (reader_bits c.after.result) c.front-zeros.result.zeros (omega arith) (omega arith) (omega (arith, length-ahead c.args.self.now)) c.after.ensures.bits,
+  c.after.ensures.bytes,
+)

@@ -1,0 +1,89 @@
+//! The bits of bytes as numbers.
+
+ghost use Rattle.std.specs.Prelude.{◌≡◌, ◌+◌, ◌-◌, ◌*◌, ◌/◌, ◌%◌, ◌^◌, ◌<◌, ◌≤◌, length, take, drop};
+ghost use Rattle.avc_bits.specs.Bits.{bits_before_stop, bits_of, byte_bits, number_of};
+
+// the bits at a place, as a number
+#[inline]
+pub(crate) fn bits_at(bytes: &[u8], position: u128, count: u32) -> u32
+    requires few { count ≤ 32 }
+    requires inside { 0 < count → position + count ≤ 8 * length bytes.now }
+    ensures value { result ≡ number_of (take count (drop position (byte_bits bytes.now))) }
+    ensures bound { result < 2 ^ count }
+{
+    let first = position / 8;
+    if first + 8 <= bytes.len() as u128 {
+        let passed = (position % 8) as u32;
+        field_of_eight(eight_bytes(bytes, first as usize), passed, count)
+    } else {
+        bits_near_end(bytes, position, count)
+    }
+}
+
+// eight bytes as a number, the first one the most significant
+#[inline]
+fn eight_bytes(bytes: &[u8], first: usize) -> u64
+    requires { first + 8 ≤ length bytes.now }
+    ensures { result ≡ number_of (take 64 (drop (8 * first) (byte_bits bytes.now))) }
+{
+    let mut eight = [0; 8];
+    eight.copy_from_slice(&bytes[first..first + 8]);
+    u64::from_be_bytes(eight)
+}
+
+// bits of 64, counted from the most significant one
+#[inline]
+fn field_of_eight(eight: u64, first: u32, count: u32) -> u32
+    requires near { first ≤ 7 }
+    requires few { count ≤ 32 }
+    ensures value { result ≡ eight / 2 ^ (64 - first - count) % 2 ^ count }
+    ensures bound { result < 2 ^ count }
+{
+    // in two steps, since count may be 0
+    ((eight << first) >> 1 >> (63 - count)) as u32
+}
+
+// the bits at a place, byte by byte
+#[cold]
+fn bits_near_end(bytes: &[u8], position: u128, count: u32) -> u32
+    requires few { count ≤ 32 }
+    requires inside { 0 < count → position + count ≤ 8 * length bytes.now }
+    ensures value { result ≡ number_of (take count (drop position (byte_bits bytes.now))) }
+    ensures bound { result < 2 ^ count }
+{
+    let mut value = 0u32;
+    let mut place = position;
+    let mut left = count;
+    while left > 0 {
+        let byte = bytes[(place / 8) as usize];
+        let first = (place % 8) as u32;
+        let taken = left.min(8 - first);
+        value = value << taken | field(byte, first, taken);
+        place += taken as u128;
+        left -= taken;
+    }
+    value
+}
+
+// these bits of a byte, counted from the most significant one
+fn field(byte: u8, first: u32, count: u32) -> u32
+    requires { first + count ≤ 8 }
+    ensures { result ≡ number_of (take count (drop first (bits_of 8 byte))) }
+{
+    (byte as u32 >> (8 - first - count)) & ((1 << count) - 1)
+}
+
+// how many bits stand before the last 1 bit, 0 where there is none
+pub(crate) fn stop_bit(bytes: &[u8]) -> u128
+    ensures stop { result ≡ length (bits_before_stop bytes.now) }
+    ensures inside { result ≤ 8 * length bytes.now }
+{
+    let mut len = bytes.len();
+    while len > 0 && bytes[len - 1] == 0 {
+        len -= 1;
+    }
+    if len == 0 {
+        return 0;
+    }
+    8 * (len as u128 - 1) + (7 - bytes[len - 1].trailing_zeros()) as u128
+}

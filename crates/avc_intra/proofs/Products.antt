@@ -1,0 +1,20 @@
+-- Bounds of products with a sign.
+use Rattle.std.proofs.Common.{ℕ, ◌*◌, ◌≤◌, ℤ, pos, negsuc, ◌*ℤ◌, arith}
+use Rattle.std.specs.Int.RustNames.{unsigned_abs}
+use Rattle.std.proofs.Math.Nat.{mul-le-mul}
+use Rattle.std.proofs.lemmas.Int.{ints, unsigned_abs-mul}
+use Rattle.avc_intra.specs.Slopes.{IsWithin}
+
+IsWithin-abs : (n : ℕ) (z : ℤ) → unsigned_abs z ≤ n → IsWithin n z
+IsWithin-abs n (pos k) h = record { low = omega (arith, ints); high = omega (arith, ints) }
+IsWithin-abs n (negsuc k) h = record { low = omega (arith, ints); high = omega (arith, ints) }
+
+abs-within : (n : ℕ) (z : ℤ) → IsWithin n z → unsigned_abs z ≤ n
+abs-within n (pos k) h = omega (arith, ints)
+abs-within n (negsuc k) h = omega (arith, ints)
+
+pub IsWithin-mul : (m n : ℕ) (a b : ℤ) → IsWithin m a → IsWithin n b → IsWithin (m * n) (a *ℤ b)
+IsWithin-mul m n a b first second =
+    let x = abs-within m a first in
+    let y = abs-within n b second in
+    IsWithin-abs (m * n) (a *ℤ b) (rw unsigned_abs-mul (mul-le-mul x y))

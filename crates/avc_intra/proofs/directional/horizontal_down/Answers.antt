@@ -1,0 +1,23 @@
+use Rattle.std.proofs.Common.{pos, negsuc, refl}
+use Rattle.avc_intra.specs.Neighbourhood.{top, left_of}
+use Rattle.avc_intra.proofs.MeanLaws.{mean_of_two-swap, mean_of_three-swap}
+use Rattle.avc_intra.proofs.directional.horizontal_down.Goals as goal
+
+pub returns : goal.returns
+returns c p e =
+    let corner = p (negsuc 0) (negsuc 0) in
+    rw (
+      c.pairs-p.ensures,
+      c.triples-t.ensures,
+      e,
+      mean_of_two-swap (left_of p (pos 3)) (left_of p (pos 2)),
+      mean_of_two-swap (left_of p (pos 2)) (left_of p (pos 1)),
+      mean_of_two-swap (left_of p (pos 1)) (left_of p (pos 0)),
+      mean_of_two-swap (left_of p (pos 0)) corner,
+      mean_of_three-swap (left_of p (pos 3)) (left_of p (pos 2)) (left_of p (pos 1)),
+      mean_of_three-swap (left_of p (pos 2)) (left_of p (pos 1)) (left_of p (pos 0)),
+      mean_of_three-swap (left_of p (pos 1)) (left_of p (pos 0)) corner,
+      mean_of_three-swap (left_of p (pos 0)) corner (top p (pos 0)),
+      mean_of_three-swap corner (top p (pos 0)) (top p (pos 1)),
+      mean_of_three-swap (top p (pos 0)) (top p (pos 1)) (top p (pos 2)),
+    ) refl

@@ -1,0 +1,9 @@
+use Rattle.std.proofs.Common.{◌+◌, slice_index, arith}
+use Rattle.std.proofs.lemmas.List.FromFn.{fill_by_all}
+use Rattle.avc_types.specs.Arithmetic.{mean_of_two}
+use Rattle.avc_intra.proofs.directional.pairs.Goals as goal
+
+pub returns : goal.returns
+returns c =
+    let line = c.args.line.now in
+    fill_by_all (λ i. mean_of_two (slice_index line i) (slice_index line (i + 1))) c.loop-i.means 8 0 c.loop-i.invariant.long (λ k less. c.loop-i.invariant.done k (omega arith))

@@ -1,0 +1,105 @@
+ghost use Rattle.std.specs.Prelude.{◌≡◌, ℕ, ◌+◌, ◌*◌, ◌<◌, pos, ◌+ℤ◌, ◌*ℤ◌, true, slice_index};
+ghost use Rattle.avc_types.specs.Arithmetic.{◌>>ℤ◌};
+ghost use Rattle.avc_intra.specs.Neighbourhood.{Around, Predicts};
+ghost use Rattle.avc_intra.specs.Luma16x16.{Shows16x16, can_predict16x16, intra16x16, predict16x16, predict_dc16x16, predict_plane16x16};
+ghost use Rattle.avc_intra.specs.Slopes.{IsWithin};
+
+use crate::means::{mean_of_sides16, sum_of_sixteen};
+use crate::plane::{height_between, plane_samples, slope};
+use crate::rows::{level, same_columns, same_rows};
+use crate::sides::Sides;
+use avc_types::Fault;
+
+/// The prediction of the luma samples of an Intra 16x16 macroblock (Table 8-4).
+#[derive(Clone, Copy, Debug, PartialEq, Eq)]
+pub enum Mode16x16 {
+    Vertical,
+    Horizontal,
+    Dc,
+    Plane,
+}
+
+impl Mode16x16 {
+    /// The sides that the mode needs are available.
+    fn is_available(self, sides: Sides) -> bool
+        ensures { result ≡ can_predict16x16 sides self }
+    {
+        match self {
+            Mode16x16::Vertical => sides.above,
+            Mode16x16::Horizontal => sides.left,
+            Mode16x16::Dc => true,
+            Mode16x16::Plane => sides.has_corner_sides(),
+        }
+    }
+}
+
+/// The samples around the luma of a macroblock, before deblocking. What stands on a side that is not available counts for
+/// nothing.
+#[derive(Clone, Copy, Debug)]
+pub struct Around16x16 {
+    /// The samples above, from left to right.
+    pub above: [u8; 16],
+    /// The samples on the left, from above down.
+    pub left: [u8; 16],
+    /// The sample above to the left.
+    pub corner: u8,
+    /// Which of them are available.
+    pub sides: Sides,
+}
+
+/// What the plane rises from a column or a row to the next, in 32nds, by the slope of a side.
+fn gradient(slope: i32) -> i32
+    requires { IsWithin 16320 slope }
+    ensures value { result ≡ (pos 5 *ℤ slope +ℤ pos 32 >>ℤ 6) }
+    ensures small { IsWithin 5000 result }
+{
+    (5 * slope + 32) >> 6
+}
+
+impl Around16x16 {
+    /// Intra_16x16_DC.
+    fn dc(&self) -> u8
+        ensures { (p : Around) → Shows16x16 p self.now → result ≡ predict_dc16x16 self.now.sides p }
+    {
+        let above = sum_of_sixteen(&self.above);
+        let left = sum_of_sixteen(&self.left);
+        mean_of_sides16(self.sides.above, self.sides.left, above, left)
+    }
+
+    /// Intra_16x16_Plane.
+    fn plane(&self) -> [u8; 256]
+        requires above { self.now.sides.above ≡ true }
+        requires left { self.now.sides.left ≡ true }
+        requires corner { self.now.sides.corner ≡ true }
+        ensures { (p : Around) → Shows16x16 p self.now → (x y : ℕ) → x < 16 → y < 16 → slice_index result (16 * y + x) ≡ predict_plane16x16 p x y }
+    {
+        let height = height_between(self.left[15], self.above[15]);
+        let across = gradient(slope(&self.above, self.corner));
+        let down = gradient(slope(&self.left, self.corner));
+        plane_samples::<16, 256>(height, across, down)
+    }
+
+    /// The prediction by a mode whose sides are available.
+    fn predicted(&self, mode: Mode16x16) -> [u8; 256]
+        requires { can_predict16x16 self.now.sides mode ≡ true }
+        ensures { (p : Around) → Shows16x16 p self.now → (x y : ℕ) → x < 16 → y < 16 → slice_index result (16 * y + x) ≡ predict16x16 self.now.sides p mode x y }
+    {
+        match mode {
+            Mode16x16::Vertical => same_rows(&self.above),
+            Mode16x16::Horizontal => same_columns(&self.left),
+            Mode16x16::Dc => level(self.dc()),
+            Mode16x16::Plane => self.plane(),
+        }
+    }
+}
+
+/// Predicts the luma samples of an Intra 16x16 macroblock (clause 8.3.3), row by row; `IntraUnavailable` where the mode needs a
+/// side that is not available.
+pub fn predict16(around: &Around16x16, mode: Mode16x16) -> Result<[u8; 256], Fault>
+    ensures { (p : Around) → Shows16x16 p around.now → Predicts 16 16 (intra16x16 around.now.sides p mode) result }
+{
+    if !mode.is_available(around.sides) {
+        return Err(Fault::IntraUnavailable);
+    }
+    Ok(around.predicted(mode))
+}

@@ -1,0 +1,106 @@
+//! Prediction by a plane (clauses 8.3.3.4 and 8.3.4.4), for a block of W columns and rows.
+
+ghost use Rattle.std.specs.Prelude.{◌≡◌, ℕ, ◌+◌, ◌-◌, ◌*◌, ◌/◌, ◌<◌, ◌≤◌, pos, ◌+ℤ◌, ◌-ℤ◌, ◌*ℤ◌, ◌≤ℤ◌, slice_index};
+ghost use Rattle.avc_types.specs.Arithmetic.{◌>>ℤ◌, clip1};
+ghost use Rattle.avc_intra.specs.Luma16x16.{slope};
+ghost use Rattle.avc_intra.specs.Slopes.{IsWithin, side_of};
+
+use crate::rows::set_row;
+
+/// The number of steps from the middle times the difference of two samples.
+fn weighted(weight: i32, after: u8, before: u8) -> i32
+    requires low { pos 0 ≤ℤ weight }
+    requires high { weight ≤ℤ pos 8 }
+    ensures value { result ≡ weight *ℤ (pos after -ℤ pos before) }
+    ensures small { IsWithin 2040 result }
+{
+    weight * (i32::from(after) - i32::from(before))
+}
+
+/// The sample i + 2 places before the middle of a side, of which the farthest is the corner.
+fn before_middle<const W: usize>(side: &[u8; W], corner: u8, i: usize) -> u8
+    requires { i < W / 2 }
+    ensures { result ≡ side_of side.now corner (pos (W / 2) -ℤ pos (i + 2)) }
+{
+    let half = W / 2;
+    if i + 2 <= half {
+        side[half - 2 - i]
+    } else {
+        corner
+    }
+}
+
+/// How much the samples after the middle of a side exceed those before it, far ones counting more.
+pub fn slope<const W: usize>(side: &[u8; W], corner: u8) -> i32
+    requires { W ≤ 16 }
+    ensures value { result ≡ slope (W / 2) (side_of side.now corner) }
+    ensures small { IsWithin (2040 * (W / 2)) result }
+{
+    let half = W / 2;
+    let mut sum = 0;
+    for i in 0..half {
+        sum += weighted(i as i32 + 1, side[half + i], before_middle(side, corner, i));
+    }
+    sum
+}
+
+/// How high the plane lies in the middle of the block, in 32nds, by the last samples of the two sides.
+pub fn height_between(left: u8, above: u8) -> i32
+    ensures value { result ≡ pos (16 * (left + above)) }
+    ensures small { IsWithin 10000 result }
+{
+    16 * (i32::from(left) + i32::from(above))
+}
+
+/// How much the plane rises from its middle to this place.
+fn rise(slope: i32, place: usize, middle: usize) -> i32
+    requires slope { IsWithin 5000 slope }
+    requires places { (place ≤ 16) × (middle ≤ 16) }
+    ensures value { result ≡ slope *ℤ (pos place -ℤ pos middle) }
+    ensures small { IsWithin 80000 result }
+{
+    slope * (place as i32 - middle as i32)
+}
+
+/// The sample that stands for this height, in 32nds.
+fn sample_at(height: i32) -> u8
+    requires { IsWithin 1000000 height }
+    ensures { result ≡ clip1 (height >>ℤ 5) }
+{
+    (height >> 5).clamp(0, 255) as u8
+}
+
+/// One row of the plane.
+fn plane_row<const W: usize>(height: i32, across: i32) -> [u8; W]
+    requires narrow { (1 ≤ W / 2) × (W ≤ 16) }
+    requires height { IsWithin 100000 height }
+    requires across { IsWithin 5000 across }
+    ensures { (x : ℕ) → x < W → slice_index result x ≡ clip1 (height +ℤ across *ℤ (pos x -ℤ pos (W / 2 - 1)) >>ℤ 5) }
+{
+    let middle = W / 2 - 1;
+    let mut row = [0; W];
+    for x in 0..W {
+        row[x] = sample_at(height + rise(across, x, middle));
+    }
+    row
+}
+
+/// The plane with this height in the middle, in 32nds, and these slopes a column and a row. Inlined
+/// into its callers it is unrolled whole, which costs more than the call.
+#[inline(never)]
+pub fn plane_samples<const W: usize, const N: usize>(height: i32, across: i32, down: i32) -> [u8; N]
+    requires narrow { (1 ≤ W / 2) × (W ≤ 16) }
+    requires square { W * W ≡ N }
+    requires height { IsWithin 10000 height }
+    requires across { IsWithin 5000 across }
+    requires down { IsWithin 5000 down }
+    ensures { (x y : ℕ) → x < W → y < W → slice_index result (W * y + x) ≡ clip1 (height +ℤ across *ℤ (pos x -ℤ pos (W / 2 - 1)) +ℤ down *ℤ (pos y -ℤ pos (W / 2 - 1)) +ℤ pos 16 >>ℤ 5) }
+{
+    let middle = W / 2 - 1;
+    let mut samples = [0; N];
+    for y in 0..W {
+        let row = plane_row::<W>(height + rise(down, y, middle) + 16, across);
+        set_row(&mut samples, W * y, &row);
+    }
+    samples
+}

@@ -1,0 +1,9 @@
+use avc_types::Fault;
+
+/// Why a parameter set was refused.
+#[derive(Clone, Copy, Debug, PartialEq, Eq)]
+pub struct SetFault {
+    /// The set's id, where that had been read in range.
+    pub id: Option<u8>,
+    pub fault: Fault,
+}

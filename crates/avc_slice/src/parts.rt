@@ -1,0 +1,34 @@
+use crate::header::{CodedOrder, Deblocking, SliceType};
+use avc_types::{Modification, UpTo};
+
+/// What stands in the header up to the picture parameter set's id.
+#[derive(Clone, Copy)]
+pub struct Front {
+    pub first_mb_in_slice: u32,
+    pub slice_type: SliceType,
+    pub pic_parameter_set_id: u8,
+}
+
+/// What tells the slice's picture from others.
+#[derive(Clone, Copy)]
+pub struct Numbers {
+    pub frame_num: u32,
+    pub idr_pic_id: Option<u32>,
+    pub order: CodedOrder,
+    pub redundant_pic_cnt: Option<u32>,
+}
+
+/// What RefPicList0 is made by.
+#[derive(Drop)]
+pub struct ListPart {
+    pub active_override: Option<u32>,
+    pub active_count: u32,
+    pub modifications: Option<UpTo<Modification, 16>>,
+}
+
+/// The quantiser and the deblocking fields.
+#[derive(Clone, Copy)]
+pub struct Filtering {
+    pub slice_qp_delta: i32,
+    pub deblocking: Option<Deblocking>,
+}

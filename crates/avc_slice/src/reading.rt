@@ -1,0 +1,303 @@
+ghost use Rattle.std.specs.Prelude.{◌≡◌, ◌≤◌, ◌==◌, not, IfOk, IfSome};
+ghost use Rattle.avc_bits.specs.Bits.{where_set};
+ghost use Rattle.avc_bits.specs.Reader.{Reads};
+ghost use Rattle.avc_params.specs.Limits.{max_frame_num};
+ghost use Rattle.avc_params.specs.Tables.{sets_after};
+ghost use Rattle.avc_params.specs.Within.{IsPps, IsSps};
+ghost use Rattle.avc_slice.specs.Header.{is_p_type, slice_qp};
+ghost use Rattle.avc_slice.specs.Reading.{active_count, active_override, back, deblocking, idr_pic_id, is_qp, marking, redundant_pic_cnt, filtering, front, header_in_rbsp, list_part, modification_list, numbers, p_list, slice_type_of};
+
+use crate::deblocking::read_deblocking;
+use crate::header::{Deblocking, Header, SliceType};
+use crate::marking::read_marking;
+use crate::modification::read_modifications;
+use crate::order::read_order;
+use crate::parts::{Filtering, Front, ListPart, Numbers};
+use avc_bits::BitReader;
+use avc_params::{ParamTable, Pps, Sps};
+use avc_types::{Fault, Marking, MbAddr, Modification, UpTo};
+
+/// The slice_type with this number, of an I or P slice (Table 7-6).
+fn slice_type(number: u32) -> Option<SliceType>
+    ensures { result ≡ slice_type_of number }
+{
+    match number {
+        0 => Some(SliceType::P),
+        2 => Some(SliceType::I),
+        5 => Some(SliceType::AllP),
+        7 => Some(SliceType::AllI),
+        _ => None,
+    }
+}
+
+fn is_p(slice_type: SliceType) -> bool
+    ensures { result ≡ is_p_type slice_type }
+{
+    match slice_type {
+        SliceType::P | SliceType::AllP => true,
+        SliceType::I | SliceType::AllI => false,
+    }
+}
+
+/// The header up to the picture parameter set's id.
+fn read_front(reader: &mut BitReader, nal_ref_idc: u8, idr: bool) -> Result<Front, Fault>
+    ensures { Reads result (front nal_ref_idc idr) reader.old reader.new }
+{
+    let first_mb_in_slice = reader.ue()?;
+    let number = reader.ue_to(9)?;
+    let Some(slice_type) = slice_type(number) else {
+        return Err(Fault::SliceType);
+    };
+    if idr & ((nal_ref_idc == 0) | is_p(slice_type)) {
+        return Err(Fault::BadIdr);
+    }
+    let pic_parameter_set_id = reader.ue_to(255)? as u8;
+    Ok(Front {
+        first_mb_in_slice,
+        slice_type,
+        pic_parameter_set_id,
+    })
+}
+
+/// idr_pic_id, in a unit of type 5.
+fn read_idr_pic_id(reader: &mut BitReader, idr: bool) -> Result<Option<u32>, Fault>
+    ensures { Reads result (idr_pic_id idr) reader.old reader.new }
+{
+    if idr {
+        Ok(Some(reader.ue_to(65535)?))
+    } else {
+        Ok(None)
+    }
+}
+
+/// redundant_pic_cnt, where it is `present`: only 0 is taken.
+fn read_redundant_pic_cnt(reader: &mut BitReader, present: bool) -> Result<Option<u32>, Fault>
+    ensures { Reads result (redundant_pic_cnt present) reader.old reader.new }
+{
+    if !present {
+        return Ok(None);
+    }
+    let redundant_pic_cnt = reader.ue_to(127)?;
+    if redundant_pic_cnt != 0 {
+        return Err(Fault::RedundantSlice);
+    }
+    Ok(Some(redundant_pic_cnt))
+}
+
+/// What tells the slice's picture from others.
+fn read_numbers(reader: &mut BitReader, idr: bool, pps: &Pps, sps: &Sps) -> Result<Numbers, Fault>
+    requires { IsSps sps.now }
+    ensures { Reads result (numbers idr pps.now sps.now) reader.old reader.new }
+{
+    let frame_num = reader.u(u32::from(sps.log2_max_frame_num_minus4) + 4)?;
+    if idr & (frame_num != 0) {
+        return Err(Fault::BadIdr);
+    }
+    let idr_pic_id = read_idr_pic_id(reader, idr)?;
+    let order = read_order(
+        reader,
+        &sps.order_count,
+        pps.bottom_field_pic_order_in_frame_present_flag,
+    )?;
+    let redundant_pic_cnt = read_redundant_pic_cnt(reader, pps.redundant_pic_cnt_present_flag)?;
+    Ok(Numbers {
+        frame_num,
+        idr_pic_id,
+        order,
+        redundant_pic_cnt,
+    })
+}
+
+/// num_ref_idx_l0_active_minus1 where the override flag is 1; a default count that is used is at most 16.
+fn read_active_override(reader: &mut BitReader, pps: &Pps) -> Result<Option<u32>, Fault>
+    ensures read { Reads result (active_override pps.now) reader.old reader.new }
+    ensures count { IfOk result (λ active_override. active_count pps.now active_override ≤ 16) }
+    ensures small { IfOk result (λ active_override. IfSome active_override (λ count_minus1. count_minus1 ≤ 15)) }
+{
+    let num_ref_idx_active_override_flag = reader.flag()?;
+    if num_ref_idx_active_override_flag {
+        Ok(Some(reader.ue_to(15)?))
+    } else if pps.num_ref_idx_l0_default_active_minus1 < 16 {
+        Ok(None)
+    } else {
+        Err(Fault::OutOfRange)
+    }
+}
+
+/// The entries of the list modification, where its flag is 1.
+fn read_modification_list(
+    reader: &mut BitReader,
+    max_frame_num: u32,
+    active_count: u32,
+) -> Result<Option<UpTo<Modification, 16>>, Fault>
+    requires numbers { 1 ≤ max_frame_num }
+    requires room { active_count ≤ 16 }
+    ensures { Reads result (modification_list max_frame_num active_count) reader.old reader.new }
+{
+    let ref_pic_list_modification_flag_l0 = reader.flag()?;
+    if ref_pic_list_modification_flag_l0 {
+        Ok(Some(read_modifications(reader, max_frame_num, active_count)?))
+    } else {
+        Ok(None)
+    }
+}
+
+/// RefPicList0's length in a P slice: the overriding count or the default one.
+fn active_count_of(pps: &Pps, active_override: Option<u32>) -> u32
+    requires { IfSome active_override (λ count_minus1. count_minus1 ≤ 15) }
+    ensures { result ≡ active_count pps.now active_override }
+{
+    match active_override {
+        Some(count_minus1) => count_minus1 + 1,
+        None => u32::from(pps.num_ref_idx_l0_default_active_minus1) + 1,
+    }
+}
+
+/// What RefPicList0 of a P slice is made by.
+fn read_p_list(reader: &mut BitReader, pps: &Pps, sps: &Sps) -> Result<ListPart, Fault>
+    requires { IsSps sps.now }
+    ensures { Reads result (p_list pps.now sps.now) reader.old reader.new }
+{
+    let active_override = read_active_override(reader, pps)?;
+    let active_count = active_count_of(pps, active_override);
+    let modifications = read_modification_list(reader, sps.max_frame_num(), active_count)?;
+    Ok(ListPart {
+        active_override,
+        active_count,
+        modifications,
+    })
+}
+
+/// What RefPicList0 is made by; an I slice has none.
+fn read_list_part(reader: &mut BitReader, p: bool, pps: &Pps, sps: &Sps) -> Result<ListPart, Fault>
+    requires { IsSps sps.now }
+    ensures { Reads result (list_part p pps.now sps.now) reader.old reader.new }
+{
+    if p {
+        read_p_list(reader, pps, sps)
+    } else {
+        Ok(ListPart {
+            active_override: None,
+            active_count: 0,
+            modifications: None,
+        })
+    }
+}
+
+/// SliceQPY (7.4.3), which may be no luma quantiser.
+fn slice_qp_of(pps: &Pps, slice_qp_delta: i32) -> i64
+    requires { IsPps pps.now }
+    ensures { result ≡ slice_qp pps.now slice_qp_delta }
+{
+    26 + i64::from(pps.pic_init_qp_minus26) + i64::from(slice_qp_delta)
+}
+
+/// Whether it is a luma quantiser, 0 to 51.
+fn is_quantiser(qp: i64) -> bool
+    ensures { result ≡ is_qp qp }
+{
+    (0 <= qp) & (qp <= 51)
+}
+
+/// The deblocking fields, where they are `present`.
+fn read_optional_deblocking(
+    reader: &mut BitReader,
+    present: bool,
+) -> Result<Option<Deblocking>, Fault>
+    ensures { Reads result (where_set present deblocking) reader.old reader.new }
+{
+    if present {
+        Ok(Some(read_deblocking(reader)?))
+    } else {
+        Ok(None)
+    }
+}
+
+/// The quantiser and the deblocking fields.
+fn read_filtering(reader: &mut BitReader, pps: &Pps) -> Result<Filtering, Fault>
+    requires { IsPps pps.now }
+    ensures { Reads result (filtering pps.now) reader.old reader.new }
+{
+    let slice_qp_delta = reader.se()?;
+    if !is_quantiser(slice_qp_of(pps, slice_qp_delta)) {
+        return Err(Fault::OutOfRange);
+    }
+    let deblocking = read_optional_deblocking(reader, pps.deblocking_filter_control_present_flag)?;
+    Ok(Filtering {
+        slice_qp_delta,
+        deblocking,
+    })
+}
+
+/// dec_ref_pic_marking, where nal_ref_idc is not 0.
+fn read_reference_marking(
+    reader: &mut BitReader,
+    nal_ref_idc: u8,
+    idr: bool,
+) -> Result<Option<Marking>, Fault>
+    ensures { Reads result (where_set (not (nal_ref_idc == 0)) (marking idr)) reader.old reader.new }
+{
+    if nal_ref_idc == 0 {
+        Ok(None)
+    } else {
+        Ok(Some(read_marking(reader, idr)?))
+    }
+}
+
+/// What stands after the front, under its parameter sets.
+fn read_back(
+    reader: &mut BitReader,
+    nal_ref_idc: u8,
+    idr: bool,
+    front: Front,
+    pps: &Pps,
+    sps: &Sps,
+) -> Result<Header, Fault>
+    requires sps { IsSps sps.now }
+    requires pps { IsPps pps.now }
+    ensures { Reads result (back nal_ref_idc idr front pps.now sps.now) reader.old reader.new }
+{
+    if front.first_mb_in_slice >= sps.size_in_mbs() {
+        return Err(Fault::OutOfRange);
+    }
+    let numbers = read_numbers(reader, idr, pps, sps)?;
+    let list = read_list_part(reader, is_p(front.slice_type), pps, sps)?;
+    let marking = read_reference_marking(reader, nal_ref_idc, idr)?;
+    let filtering = read_filtering(reader, pps)?;
+    Ok(Header {
+        nal_ref_idc,
+        first_mb_in_slice: MbAddr::new(front.first_mb_in_slice),
+        slice_type: front.slice_type,
+        pic_parameter_set_id: front.pic_parameter_set_id,
+        frame_num: numbers.frame_num,
+        idr_pic_id: numbers.idr_pic_id,
+        order: numbers.order,
+        redundant_pic_cnt: numbers.redundant_pic_cnt,
+        active_override: list.active_override,
+        active_count: list.active_count,
+        modifications: list.modifications,
+        marking,
+        slice_qp_delta: filtering.slice_qp_delta,
+        deblocking: filtering.deblocking,
+        position: reader.position(),
+    })
+}
+
+/// The slice header of a unit of type 1 or 5 (7.3.3), by the unit's first byte and its RBSP, under the parameter sets in
+/// force; or the first fault in it. Beside those of the codes these are SliceType, BadIdr, NoParameterSet, OutOfRange,
+/// RedundantSlice, BadRefList and BadMarking.
+pub fn read_header(header: u8, rbsp: &[u8], table: &ParamTable) -> Result<Header, Fault>
+    ensures { result ≡ header_in_rbsp header (sets_after table.now) rbsp.now }
+{
+    let nal_ref_idc = header / 32 % 4;
+    let idr = header % 32 == 5;
+    let mut reader = BitReader::new(rbsp);
+    let front = read_front(&mut reader, nal_ref_idc, idr)?;
+    let Some(pps) = table.pps(front.pic_parameter_set_id) else {
+        return Err(Fault::NoParameterSet);
+    };
+    let Some(sps) = table.sps(pps.seq_parameter_set_id) else {
+        return Err(Fault::NoParameterSet);
+    };
+    read_back(&mut reader, nal_ref_idc, idr, front, pps, sps)
+}

@@ -1,0 +1,53 @@
+-- Numbers that are small enough for their 32 bits.
+use Rattle.std.proofs.Common.{ℕ, ℤ, pos, negsuc, zero, suc, neg_ℤ, ◌≡◌, ◌<◌, ◌≤◌, ◌^◌, ◌*◌, ◌/◌, ◌%◌, ◌*ℤ◌, arith, to_z, of_z, w16, w32, List, slice_index_or, ap, ◌∙◌, sym, refl, zero-mul, mul_assoc, false, ◌+◌, ◌-◌, ◌==◌, if◌then◌else◌}
+use Rattle.std.specs.Int.RustNames.{unsigned_abs}
+use Rattle.std.proofs.lemmas.Int.{ints, unsigned_abs-mul}
+use Rattle.std.proofs.lemmas.Bool.Decides.{nat_tests}
+use Rattle.std.proofs.lemmas.Nat.{mul-lt}
+use Rattle.avc_transform.specs.Bounds.{IsBelow}
+use Rattle.avc_transform.specs.Residual.{level, level_scale, scaled, scaled_block_with_dc, zigzag}
+
+-- a small number is what its 32 bits say
+pub cast_back : (z : ℤ) → IsBelow (2 ^ 31) z → to_z w32 (of_z w32 z) ≡ z
+cast_back z small = omega (arith, ints)
+
+pub IsBelow-more : (m n : ℕ) (z : ℤ) → m ≤ n → IsBelow m z → IsBelow n z
+IsBelow-more m n z h small = record { low = omega (arith, ints); high = omega (arith, ints) }
+
+pub IsBelow-abs : (n : ℕ) (z : ℤ) → unsigned_abs z < n → IsBelow n z
+IsBelow-abs n (pos a) h = record { low = omega (arith, ints); high = omega (arith, ints) }
+IsBelow-abs n (negsuc a) h = record { low = omega (arith, ints); high = omega (arith, ints) }
+
+pub abs-IsBelow : (n : ℕ) (z : ℤ) → IsBelow n z → unsigned_abs z < n
+abs-IsBelow n (pos a) h = omega (arith, ints)
+abs-IsBelow n (negsuc a) h = omega (arith, ints)
+
+pub IsBelow-mul : (m n : ℕ) (z : ℤ) (k : ℕ) → IsBelow m z → k < n → IsBelow (m * n) (z *ℤ pos k)
+IsBelow-mul m n z k small h =
+    IsBelow-abs (m * n) (z *ℤ pos k) (rw unsigned_abs-mul (mul-lt (unsigned_abs z) k m n (abs-IsBelow m z small) h))
+
+-- one factor after the other
+neg_times : (m b : ℕ) → neg_ℤ (pos m) *ℤ pos b ≡ neg_ℤ (pos (m * b))
+neg_times zero b = rw zero-mul
+neg_times (suc m) b = refl
+
+pub times_times : (z : ℤ) (a b : ℕ) → z *ℤ pos a *ℤ pos b ≡ z *ℤ pos (a * b)
+times_times (pos n) a b = ap pos (mul_assoc n a b)
+times_times (negsuc n) a b = neg_times (suc n * a) b ∙ ap (λ m. neg_ℤ (pos m)) (mul_assoc (suc n) a b)
+
+-- a level of 16 bits, read into 32
+pub level_read : (levels : List ℤ) (p q : ℕ) (r : ℤ) → IsBelow (2 ^ 12) (level levels p) → p ≡ q → r ≡ to_z w16 (of_z w16 (slice_index_or levels p (pos 0))) → to_z w32 (of_z w32 r) ≡ level levels q
+level_read levels p q r small e told =
+    let narrow : to_z w16 (of_z w16 (slice_index_or levels p (pos 0))) ≡ slice_index_or levels p (pos 0) = omega (arith, ints) in
+    let read = told ∙ narrow in
+    ap (λ z. to_z w32 (of_z w32 z)) read ∙ cast_back _ (IsBelow-more (2 ^ 12) (2 ^ 31) _ (omega arith) small) ∙ ap (level levels) e
+
+pub scaled_is : (qp : ℕ) (c l r : ℤ) (s x y : ℕ) → l ≡ c → s ≡ level_scale (qp % 6) x y * 2 ^ (qp / 6) → r ≡ l *ℤ pos s → r ≡ scaled qp c x y
+scaled_is qp c l r s x y el es told =
+    told ∙ ap (λ z. z *ℤ pos s) el ∙ ap (λ n. c *ℤ pos n) es ∙ sym (times_times c (level_scale (qp % 6) x y) (2 ^ (qp / 6)))
+
+-- behind the DC value the levels are one place nearer
+pub scaled_after_dc : (qp : ℕ) (dc : ℤ) (levels : List ℤ) (x y : ℕ) → 0 < x + y → scaled_block_with_dc qp dc levels x y ≡ scaled qp (level levels (zigzag x y - 1)) x y
+scaled_after_dc qp dc levels x y later =
+    let test : ((x + y) == 0) ≡ false = grind (arith, nat_tests) in
+    ap (λ t. if t then dc else scaled qp (level levels (zigzag x y - 1)) x y) test

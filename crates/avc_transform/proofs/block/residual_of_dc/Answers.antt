@@ -1,0 +1,12 @@
+use Rattle.std.proofs.Common.{ℤ, pos, ◌+ℤ◌, ◌∙◌, ap, sym, rules, w32}
+use Rattle.std.proofs.lemmas.Int.{to_z-of_z}
+use Rattle.avc_types.specs.Arithmetic.{◌>>ℤ◌}
+use Rattle.avc_transform.specs.Laws.{residual_of_dc}
+use Rattle.avc_transform.proofs.block.residual_of_dc.Goals as goal
+
+pub returns-clause-values : goal.returns-clause-values
+returns-clause-values c qp levels x y none =
+    to_z-of_z w32 c.rounded.result (search rules)
+    ∙ c.rounded.ensures.value
+    ∙ ap (λ (z : ℤ). z +ℤ pos 32 >>ℤ 6) (to_z-of_z w32 c.args.dc c.ranges.dc)
+    ∙ sym (residual_of_dc qp c.args.dc levels x y none)

@@ -1,0 +1,40 @@
+use Rattle.std.proofs.Common.{◌≡◌, ℕ, ◌+◌, ◌*◌, ◌/◌, ◌%◌, ◌^◌, ◌<◌, pos, slice_index_or, to_z, of_z, w32, arith, rules, ap, ◌∙◌, sym, add-zero}
+use Rattle.avc_transform.specs.Residual.{transformed_row}
+use Rattle.avc_transform.specs.Bounds.{IsBelow, AllBelow, matrix}
+use Rattle.avc_transform.proofs.Small.{cast_back, IsBelow-more}
+use Rattle.avc_transform.specs.Laws.{same_inverse4}
+use Rattle.avc_transform.proofs.Matrices.{place_of_four}
+use Rattle.avc_transform.proofs.Columns.{columns_more}
+use Rattle.avc_transform.proofs.inverse.rows_to_columns.Goals as goal
+
+pub loop-y-preserved : goal.loop-y-preserved
+loop-y-preserved c =
+    let y = c.loop-y.y in
+    let d = c.args.d.now in
+    let r = c.inverse4-row.result in
+    let same : (i : ℕ) → i < 16 → to_z w32 (of_z w32 (slice_index_or d i (pos 0))) ≡ slice_index_or d i (pos 0) =
+    λ i h. cast_back _ (IsBelow-more (2 ^ 29) (2 ^ 31) _ (omega arith) (c.requires i h)) in
+    let first : to_z w32 (of_z w32 (slice_index_or d (4 * y) (pos 0))) ≡ slice_index_or d (4 * y + 0) (pos 0) =
+    same (4 * y) (omega arith) ∙ ap (λ i. slice_index_or d i (pos 0)) (sym (add-zero (4 * y))) in
+    let told : (x : ℕ) → x < 4 → slice_index_or r x (pos 0) ≡ transformed_row (matrix d) x y =
+    λ x h. c.inverse4-row.ensures.values x h ∙ same_inverse4 _ _ _ _ _ _ _ _ x first (same (4 * y + 1) (omega arith)) (same (4 * y + 2) (omega arith)) (same (4 * y + 3) (omega arith)) in
+    let below : (n i : ℕ) → i < 16 → AllBelow 16 (2 * n) d → IsBelow (2 * n) (to_z w32 (of_z w32 (slice_index_or d i (pos 0)))) =
+    λ n i h all. rw (same i h) (all i h) in
+    let small : (x n : ℕ) → x < 4 → AllBelow 16 (2 * n) d → IsBelow (7 * n) (slice_index_or r x (pos 0)) =
+    λ x n h all. c.inverse4-row.ensures.small x n h (below n (4 * y) (omega arith) all) (below n (4 * y + 1) (omega arith) all) (below n (4 * y + 2) (omega arith) all) (below n (4 * y + 3) (omega arith) all) in
+    let cast : (x : ℕ) → x < 4 → to_z w32 (of_z w32 (slice_index_or r x (pos 0))) ≡ slice_index_or r x (pos 0) =
+    λ x h. cast_back _ (IsBelow-more (7 * 2 ^ 28) (2 ^ 31) _ (omega arith) (small x (2 ^ 28) h c.requires)) in
+    record {
+      long = search rules;
+      values = columns_more _ y _ _ _ _ c.loop-y.invariant.long (omega arith) (λ x k v. v ≡ transformed_row (matrix d) x k) c.loop-y.invariant.values
+          (cast 0 (omega arith) ∙ told 0 (omega arith)) (cast 1 (omega arith) ∙ told 1 (omega arith))
+          (cast 2 (omega arith) ∙ told 2 (omega arith)) (cast 3 (omega arith) ∙ told 3 (omega arith));
+      small = λ n all. columns_more _ y _ _ _ _ c.loop-y.invariant.long (omega arith) (λ x k v. IsBelow (7 * n) v) (c.loop-y.invariant.small n all)
+          (rw (cast 0 (omega arith)) (small 0 n (omega arith) all)) (rw (cast 1 (omega arith)) (small 1 n (omega arith) all))
+          (rw (cast 2 (omega arith)) (small 2 n (omega arith) all)) (rw (cast 3 (omega arith)) (small 3 n (omega arith) all));
+    }
+
+-- each place is in some column
+pub returns-clause-small : goal.returns-clause-small
+returns-clause-small c n all i h =
+    rw (place_of_four i) (c.loop-y.invariant.small n all (i / 4) (i % 4) (omega arith) (omega arith))

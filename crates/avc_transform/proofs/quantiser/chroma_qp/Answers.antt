@@ -1,0 +1,21 @@
+use Rattle.std.proofs.Common.{◌≡◌, ◌+ℤ◌, ◌∙◌, ℤ, ap, pos, nat_abs, of_z, to_z, w16, slice_index, arith}
+use Rattle.std.specs.Int.{int_max, int_min}
+use Rattle.std.proofs.lemmas.Int.{ints}
+use Rattle.avc_types.specs.Arithmetic.{clip3}
+use Rattle.avc_transform.specs.Residual.{chroma_qp_at}
+use Rattle.avc_transform.specs.declared.quantiser.TheConstants.{CHROMA_QP}
+use Rattle.avc_transform.proofs.Tables.{chroma_table}
+use Rattle.avc_transform.proofs.quantiser.chroma_qp.Goals as goal
+
+held : (s : ℤ) → int_max (pos 0) (int_min s (pos 51)) ≡ clip3 (pos 0) (pos 51) s
+held s = grind (arith, ints)
+
+pub returns-else-index-lt30-clause-value : goal.returns-else-index-lt30-clause-value
+returns-else-index-lt30-clause-value c =
+    let sum : to_z w16 (of_z w16 (to_z w16 (of_z w16 c.from.result) +ℤ to_z w16 (of_z w16 c.from-2.result))) ≡ pos c.args.qp +ℤ c.args.offset = omega (arith, ints) in
+    let index = c.clamp-index.result in
+    let same : to_z w16 (of_z w16 index) ≡ clip3 (pos 0) (pos 51) (pos c.args.qp +ℤ c.args.offset) =
+    omega (arith, ints) ∙ c.clamp-index.ensures.value ∙ ap (λ s. int_max (pos 0) (int_min s (pos 51))) sum ∙ held (pos c.args.qp +ℤ c.args.offset) in
+    ap (slice_index CHROMA_QP) c.from-else-index-lt30.ensures
+    ∙ chroma_table (nat_abs (to_z w16 (of_z w16 index))) c.if-index-lt30.false
+    ∙ ap (λ (z : ℤ). chroma_qp_at (nat_abs z)) same
