@@ -1,9 +1,8 @@
 -- What is asked of a slice header (7.3.3).
-use Rattle.std.specs.Prelude.{ℕ, ◌%◌, ℤ, pos, ◌+ℤ◌, Bool, true, false, not, ◌==◌, List, Option, Some, is_some}
+use Rattle.std.specs.Prelude.{ℤ, pos, ◌+ℤ◌, Bool, true, false, not, ◌==◌, Option, Some, is_some}
 use Rattle.std.specs.List.{list_any}
 use Rattle.avc_types.specs.declared.references.Marking.{Marking}
 use Rattle.avc_types.specs.declared.references.Marking.TheVariants.{Adaptive}
-use Rattle.avc_types.specs.declared.references.Modification.{Modification}
 use Rattle.avc_types.specs.declared.references.Operation.{Operation}
 use Rattle.avc_types.specs.declared.references.Operation.TheVariants.{ForgetAll}
 use Rattle.avc_params.specs.declared.pps.Pps.{Pps}

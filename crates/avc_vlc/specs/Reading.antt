@@ -1,10 +1,11 @@
 -- Reading by a table of codewords (9.1.2, 9.2.1, 9.2.3).
-use Rattle.std.specs.Prelude.{◌≡◌, ◌⊎◌, ℕ, zero, suc, ◌+◌, ◌-◌, ◌*◌, ℤ, pos, negsuc, Bool, true, false, not, ◌&&◌, ◌||◌, nat_lt, nat_le, List, [], ◌∷◌, length, map, Option, Some, None, Result, Ok, Err}
+use Rattle.std.specs.Prelude.{◌≡◌, ◌⊎◌, ℕ, zero, suc, ◌+◌, ◌-◌, ◌*◌, ◌≤◌, ℤ, pos, negsuc, Bool, true, false, not, ◌&&◌, ◌||◌, nat_lt, nat_le, List, [], ◌∷◌, length, map, Option, Some, None, Result, Ok, Err}
 use Rattle.std.specs.List.{flat_map, enumerate_from, list_any, list_all, slice_get}
 use Rattle.avc_types.specs.declared.fault.Fault.{Fault}
 use Rattle.avc_types.specs.declared.fault.Fault.TheVariants as faults
 use Rattle.avc_bits.specs.Bits.{Bits, Read, ◌>>=◌, ◌>>◌, give, refuse, check, bits_of}
 use Rattle.avc_bits.specs.Codes.{ue, Code}
+use Rattle.avc_vlc.specs.declared.token.Token.{Token}
 use Rattle.avc_vlc.specs.Tables.{coeff_token_0, coeff_token_2, coeff_token_4, coeff_token_chroma_dc, total_zeros_4x4, total_zeros_chroma_dc, run_before_codes, cbp_intra, cbp_inter}
 
 -- codewords with their values
@@ -55,11 +56,6 @@ row_table row = map (λ e. (bits_of e.1.0 e.1.1, e.0)) (enumerate_from 0 row)
 abbrev pub row_at : List (List (ℕ × ℕ)) → ℕ → List (ℕ × ℕ)
 row_at rows k = elim (slice_get rows k) [ Some row ↦ row | None ↦ [] ]
 
--- TotalCoeff and TrailingOnes
-pub record Token : Type 0 where
-  pub total : ℕ
-  pub ones : ℕ
-
 abbrev pub token : ℕ → ℕ → Token
 token total ones = record { total = total; ones = ones }
 
@@ -93,22 +89,41 @@ token_table (pos n) =
           ]
     ]
 
+-- the ranges of TotalCoeff and TrailingOnes
+pub record IsToken (t : Token) : Type 0 where
+  pub total : t.total ≤ 16
+  pub ones : t.ones ≤ t.total
+  pub few_ones : t.ones ≤ 3
+
 abbrev pub coeff_token : ℤ → Read Token
 coeff_token nc = table_code (token_table nc)
 
+-- The table of total_zeros for TotalCoeff.
+abbrev pub zeros_table : (total : ℕ) → (chroma_dc : Bool) → Table ℕ
+zeros_table total true = row_table (row_at total_zeros_chroma_dc (total - 1))
+zeros_table total false = row_table (row_at total_zeros_4x4 (total - 1))
+
 abbrev pub total_zeros : (total : ℕ) → (chroma_dc : Bool) → Read ℕ
-total_zeros total true = table_code (row_table (row_at total_zeros_chroma_dc (total - 1)))
-total_zeros total false = table_code (row_table (row_at total_zeros_4x4 (total - 1)))
+total_zeros total chroma_dc = table_code (zeros_table total chroma_dc)
+
+-- The table of run_before for zerosLeft.
+abbrev pub run_table : (zeros_left : ℕ) → Table ℕ
+run_table zeros_left = row_table (row_at run_before_codes (elim (nat_le zeros_left 6) [ true ↦ zeros_left - 1 | false ↦ 6 ]))
 
 -- The code is read from the whole table; a run above zerosLeft is then no code.
 abbrev pub run_before : (zeros_left : ℕ) → Read ℕ
 run_before zeros_left = do
-  run ← table_code (row_table (row_at run_before_codes (elim (nat_le zeros_left 6) [ true ↦ zeros_left - 1 | false ↦ 6 ])))
+  run ← table_code (run_table zeros_left)
   check (nat_le run zeros_left) faults.BadCode
   give run
+
+-- the pattern of a number (Table 9-4)
+abbrev pub pattern_at : (intra : Bool) → ℕ → Option ℕ
+pattern_at true number = slice_get cbp_intra number
+pattern_at false number = slice_get cbp_inter number
 
 -- coded_block_pattern: me(v), by ue(v) and a table
 abbrev pub coded_block_pattern : (intra : Bool) → Read ℕ
 coded_block_pattern intra = do
-  k ← ue
-  elim (slice_get (elim intra [ true ↦ cbp_intra | false ↦ cbp_inter ]) k) [ Some pattern ↦ give pattern | None ↦ refuse faults.BadCode ]
+  number ← ue
+  elim (pattern_at intra number) [ Some pattern ↦ give pattern | None ↦ refuse faults.BadCode ]

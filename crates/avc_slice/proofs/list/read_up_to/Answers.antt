@@ -1,6 +1,6 @@
 use Rattle.std.proofs.lemmas.Grind.{common_steps}
-use Rattle.std.proofs.Common.{rules, arith, refl, ◌≡◌, ◌-◌, ◌+◌, suc, ◌∙◌, ap}
-use Rattle.avc_slice.proofs.UpTo.{IsUnderWay, starts, one_more, stops, ends, overflows, no_code, no_item, same_left}
+use Rattle.std.proofs.Common.{rules, arith, refl, ◌≡◌, ◌-◌, ◌+◌, suc, ◌∙◌}
+use Rattle.avc_slice.proofs.UpTo.{starts, one_more, stops, ends, overflows, no_code, no_item, same_left}
 use Rattle.avc_slice.proofs.list.read_up_to.Goals as goal
 
 pub loop-init : goal.loop-init

@@ -1,0 +1,31 @@
+-- The places of an indexed table.
+use Rattle.std.proofs.Common.{◌≡◌, ℕ, ◌-◌, ◌^◌, ◌<◌, List, [], length, map, get_or, refl, ap, ◌∙◌, sym, arith}
+use Rattle.std.specs.Prelude.{Option, Some, None}
+use Rattle.std.specs.List.{range_with_len}
+use Rattle.std.proofs.lemmas.List.{get_or-map}
+use Rattle.std.proofs.lemmas.List.FromFn.{get_or-map-range_with_len}
+use Rattle.avc_vlc.specs.declared.entry.Entry.{Entry}
+use Rattle.avc_vlc.specs.Reading.{Table, tokens_8}
+use Rattle.avc_vlc.specs.Indexing.{IsIndexed, index, entry_of, place_bits, six_bit_entry}
+use Rattle.avc_bits.specs.Bits.{bits_of}
+
+-- the entry at a place
+pub indexed_place : {A : Type 0} (table : Table A) (tail : ℕ) (rows : List (List (Entry A))) (row column : ℕ) (none : List (Entry A)) (e : Entry A) → IsIndexed table tail rows → row < length rows → column < 2 ^ tail → column < length (get_or rows row none) →
+    entry_of table (place_bits (length rows - 1) tail row column) ≡ Some (get_or (get_or rows row none) column e)
+indexed_place {A} table tail rows row column none e is within narrow there =
+    let cell : ℕ → ℕ → Option (Entry A) = λ r c. entry_of table (place_bits (length rows - 1) tail r c) in
+    let here : get_or (index table tail (length rows)) row [] ≡ map (cell row) (range_with_len 0 (2 ^ tail)) =
+    get_or-map-range_with_len (λ r. map (cell r) (range_with_len 0 (2 ^ tail))) 0 (length rows) row row [] within (omega arith) in
+    let given : get_or (index table tail (length rows)) row [] ≡ map Some (get_or rows row none) = ap (λ l. get_or l row []) is.same ∙ get_or-map (map Some) rows row none [] within in
+    sym (get_or-map-range_with_len (cell row) 0 (2 ^ tail) column column None narrow (omega arith))
+    ∙ ap (λ l. get_or l column None) (sym here ∙ given)
+    ∙ get_or-map Some (get_or rows row none) column e None there
+
+six_computed : map (λ n. entry_of tokens_8 (bits_of 6 n)) (range_with_len 0 64) ≡ map (λ n. Some (six_bit_entry n)) (range_with_len 0 64)
+six_computed = refl
+
+pub six_bits_decide : (number : ℕ) → number < 64 → entry_of tokens_8 (bits_of 6 number) ≡ Some (six_bit_entry number)
+six_bits_decide number small =
+    sym (get_or-map-range_with_len (λ n. entry_of tokens_8 (bits_of 6 n)) 0 64 number number None small (omega arith))
+    ∙ ap (λ l. get_or l number None) six_computed
+    ∙ get_or-map-range_with_len (λ n. Some (six_bit_entry n)) 0 64 number number None small (omega arith)

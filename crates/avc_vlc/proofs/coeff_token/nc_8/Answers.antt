@@ -1,0 +1,12 @@
+use Rattle.std.proofs.Common.{ap, sym, ◌∙◌}
+use Rattle.std.specs.Prelude.{Some}
+use Rattle.avc_bits.specs.Bits.{bits_of}
+use Rattle.avc_vlc.proofs.Indexes.{six_bits_decide}
+use Rattle.avc_vlc.proofs.coeff_token.nc_8.Goals as goal
+
+pub returns : goal.returns
+returns c = λ ahead is. record {
+  bits = bits_of 6 c.front.result;
+  is_entry = six_bits_decide c.front.result c.front.ensures.below ∙ ap (λ e. Some e) (sym c.six_bits.ensures);
+  agrees = (c.front.ensures.agrees ahead is).agrees;
+}

@@ -1,0 +1,11 @@
+use Rattle.avc_vlc.specs.Reading.{token_table, zeros_table, run_table}
+use Rattle.avc_vlc.proofs.Codes.{prefix_free}
+use Rattle.avc_vlc.proofs.Tests.{tokens_free, zeros_free, runs_free}
+use Rattle.avc_vlc.proofs.laws.tables_are_prefix_free.Goals as goal
+
+pub returns : goal.returns
+returns c = record {
+  tokens = λ nc. prefix_free (token_table nc) (tokens_free nc);
+  zeros = λ total chroma_dc. prefix_free (zeros_table total chroma_dc) (zeros_free total chroma_dc);
+  runs = λ zeros_left. prefix_free (run_table zeros_left) (runs_free zeros_left);
+}

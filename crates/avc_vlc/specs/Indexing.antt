@@ -1,0 +1,102 @@
+-- Tables that are indexed by the bits ahead: an entry says what the first of these bits decide.
+use Rattle.std.specs.Prelude.{◌≡◌, ℕ, ◌+◌, ◌-◌, ◌/◌, ◌%◌, ◌^◌, ◌<◌, ◌==◌, Bool, true, false, nat_lt, if◌then◌else◌, List, [], ◌∷◌, ◌++◌, length, map, take, replicate, Option, Some, None}
+use Rattle.std.specs.List.{list_any, range_with_len}
+use Rattle.avc_bits.specs.Bits.{bits_of}
+use Rattle.avc_vlc.specs.declared.code.Code.{Code}
+use Rattle.avc_vlc.specs.declared.entry.Entry.{Entry}
+use Rattle.avc_vlc.specs.declared.token.Token.{Token}
+use Rattle.avc_vlc.specs.Reading.{Table, after_word, is_prefix, lookup, token}
+
+-- whether a codeword begins with the bits
+abbrev pub begins : {A : Type 0} → Table A → List Bool → Bool
+begins table bits = list_any (λ entry. is_prefix bits entry.0) table
+
+-- whether a word begins with the bits and goes on behind them
+abbrev pub goes_on : List Bool → List Bool → Bool
+goes_on bits word = elim (after_word bits word) [ None ↦ false | Some left ↦ elim left [ [] ↦ false | _ ∷ _ ↦ true ] ]
+
+-- The entry of bits that are a codeword, and with which no longer one begins.
+abbrev pub word_entry : {A : Type 0} → Table A → List Bool → A × ℕ × List Bool → Option (Entry A)
+word_entry table bits f =
+    elim f.2 [
+      | _ ∷ _ ↦ None
+      | [] ↦
+          elim (list_any (λ entry. goes_on bits entry.0) table) [ true ↦ None | false ↦ Some (record { length = length bits; value = Some f.0 }) ]
+    ]
+
+-- The shortest front of the bits that is a codeword, or with which no codeword begins. It has at least the bits of
+-- `front`, which stand before `bits`.
+abbrev pub entry_from : {A : Type 0} → Table A → (front bits : List Bool) → Option (Entry A)
+entry_from table front [] =
+    elim (lookup table front) [
+      | Some f ↦ word_entry table front f
+      | None ↦
+          elim (begins table front) [ false ↦ Some (record { length = length front; value = None }) | true ↦ None ]
+    ]
+entry_from table front (b ∷ bits) =
+    elim (lookup table front) [
+      | Some f ↦ word_entry table front f
+      | None ↦
+          elim (begins table front) [ false ↦ Some (record { length = length front; value = None }) | true ↦ entry_from table (front ++ b ∷ []) bits ]
+    ]
+
+-- what the bits decide, where they do
+abbrev pub entry_of : {A : Type 0} → Table A → List Bool → Option (Entry A)
+entry_of table bits = entry_from table [] bits
+
+-- two lists of bits are the same as far as both go
+abbrev pub Agree : List Bool → List Bool → Type 0
+Agree [] others = Unit {0}
+Agree (b ∷ bits) [] = Unit {0}
+Agree (b ∷ bits) (o ∷ others) = (b ≡ o) × Agree bits others
+
+-- the entry is what the bits ahead decide
+pub record Decides {A : Type 0} (table : Table A) (ahead : List Bool) (entry : Entry A) : Type 0 where
+  pub bits : List Bool
+  pub is_entry : entry_of table bits ≡ Some entry
+  pub agrees : Agree bits ahead
+
+-- ---- tables by the zeros in front
+
+-- The bits of one place in a table of rows and columns: zeros, and in all rows but the last a 1 and the bits behind it.
+abbrev pub place_bits : (last tail row column : ℕ) → List Bool
+place_bits last tail row column = elim (nat_lt row last) [ true ↦ replicate row false ++ true ∷ bits_of tail column | false ↦ replicate row false ]
+
+-- what each place decides
+abbrev pub index : {A : Type 0} → Table A → (tail rows : ℕ) → List (List (Option (Entry A)))
+index table tail rows =
+    map (λ row. map (λ column. entry_of table (place_bits (rows - 1) tail row column)) (range_with_len 0 (2 ^ tail))) (range_with_len 0 rows)
+
+-- the rows are the index of the table
+pub record IsIndexed {A : Type 0} (table : Table A) (tail : ℕ) (rows : List (List (Entry A))) : Type 0 where
+  pub same : index table tail (length rows) ≡ map (map Some) rows
+
+-- the place is that of the bits ahead
+pub record IsPlaceOf (ahead : List Bool) (last tail row column : ℕ) : Type 0 where
+  pub agrees : Agree (place_bits last tail row column) ahead
+
+-- the number is that of the first n bits ahead
+pub record IsFrontOf (ahead : List Bool) (n number : ℕ) : Type 0 where
+  pub agrees : Agree (bits_of n number) ahead
+
+-- ---- the bits ahead
+
+-- the number's 32 bits are the next ones, and zeros from the stop bit on
+pub record IsAhead (word : ℕ) (ahead : List Bool) : Type 0 where
+  pub bits : bits_of 32 word ≡ take 32 (ahead ++ replicate 32 false)
+  pub below : word < 2 ^ 32
+
+-- a code has the bits ahead
+abbrev pub Shows : {N : ℕ} → Code N → List Bool → Type 0
+Shows code ahead = IsAhead code.word ahead
+
+-- the bits of a code
+abbrev pub code_bits : {N : ℕ} → Code N → List Bool
+code_bits code = take code.count (bits_of 32 code.word)
+
+-- the entry of six bits for nC of 8 and more
+abbrev pub six_bit_entry : ℕ → Entry Token
+six_bit_entry number = record {
+  length = 6;
+  value = if number == 3 then Some (token 0 0) else if nat_lt (number / 4 + 1) (number % 4) then None else Some (token (number / 4 + 1) (number % 4));
+}

@@ -1,0 +1,198 @@
+//! coeff_token (9.2.1, Table 9-5). A table has a row for each number of zeros in front of the first 1, the last for all
+//! that are more, and a column for each value of the three bits behind that 1.
+ghost use Rattle.std.specs.Prelude.{◌≡◌, ◌≤◌, ◌<◌, List, Bool, length, IfOk, OnErr};
+ghost use Rattle.avc_bits.specs.Reader.{Reads};
+ghost use Rattle.avc_vlc.specs.Tables.{coeff_token_0, coeff_token_2, coeff_token_4, coeff_token_chroma_dc};
+ghost use Rattle.avc_vlc.specs.Reading.{IsToken, Table, coeff_token, token_table, tokens, tokens_8};
+ghost use Rattle.avc_vlc.specs.Indexing.{Decides, IsIndexed, Shows, six_bit_entry};
+
+use crate::code::Code;
+use crate::entry::{Entry, entry, row8};
+use crate::token::Token;
+use avc_bits::BitReader;
+use avc_types::Fault;
+
+/// Reads TotalCoeff and TrailingOnes of a block. `nc` is nC: how many levels the blocks beside it have, -1 for chroma DC.
+/// Answers `Truncated`, or `BadCode` where no codeword stands; the reader then stays.
+#[inline]
+pub fn read_coeff_token(reader: &mut BitReader, nc: i8) -> Result<Token, Fault>
+    ensures read { Reads result (coeff_token nc) reader.old reader.new }
+    ensures range { IfOk result IsToken }
+    ensures stays { OnErr result (reader.new ≡ reader.old) }
+{
+    let code = Code::<16>::next(reader);
+    token_entry(code, nc).read(reader)
+}
+
+#[inline(always)]
+fn token_entry(code: Code<16>, nc: i8) -> Entry<Token>
+    ensures { (ahead : List Bool) → Shows code ahead → Decides (token_table nc) ahead result }
+{
+    if nc < 0 {
+        chroma_dc(code)
+    } else if nc < 2 {
+        nc_0(code)
+    } else if nc < 4 {
+        nc_2(code)
+    } else if nc < 8 {
+        nc_4(code)
+    } else {
+        nc_8(code)
+    }
+}
+
+#[inline(always)]
+fn nc_0(code: Code<16>) -> Entry<Token>
+    ensures { (ahead : List Bool) → Shows code ahead → Decides (tokens coeff_token_0) ahead result }
+{
+    token_at(code, &NC_0)
+}
+
+#[inline(always)]
+fn nc_2(code: Code<16>) -> Entry<Token>
+    ensures { (ahead : List Bool) → Shows code ahead → Decides (tokens coeff_token_2) ahead result }
+{
+    token_at(code, &NC_2)
+}
+
+#[inline(always)]
+fn nc_4(code: Code<16>) -> Entry<Token>
+    ensures { (ahead : List Bool) → Shows code ahead → Decides (tokens coeff_token_4) ahead result }
+{
+    token_at(code, &NC_4)
+}
+
+#[inline(always)]
+fn chroma_dc(code: Code<16>) -> Entry<Token>
+    ensures { (ahead : List Bool) → Shows code ahead → Decides (tokens coeff_token_chroma_dc) ahead result }
+{
+    token_at(code, &CHROMA_DC)
+}
+
+// six bits: (TotalCoeff - 1) * 4 + TrailingOnes, and 3 for no coefficient
+#[inline(always)]
+fn nc_8(code: Code<16>) -> Entry<Token>
+    ensures { (ahead : List Bool) → Shows code ahead → Decides tokens_8 ahead result }
+{
+    six_bits(code.front(6))
+}
+
+#[inline(always)]
+fn six_bits(number: u32) -> Entry<Token>
+    requires { number < 64 }
+    ensures { result ≡ six_bit_entry number }
+{
+    let total = (number / 4) as u8 + 1;
+    let ones = (number % 4) as u8;
+    let value = if number == 3 {
+        Some(Token { total: 0, ones: 0 })
+    } else if ones > total {
+        None
+    } else {
+        Some(Token { total, ones })
+    };
+    Entry { length: 6, value }
+}
+
+// what the bits decide by a table
+#[inline(always)]
+fn token_at(code: Code<16>, rows: &[[Entry<Token>; 8]]) -> Entry<Token>
+    requires some { 1 ≤ length rows.now }
+    requires few { length rows.now ≤ 16 }
+    ensures { (table : Table Token) (ahead : List Bool) → IsIndexed table 3 rows.now → Shows code ahead → Decides table ahead result }
+{
+    let (row, column) = code.place(rows.len() - 1, 3);
+    rows[row][column]
+}
+
+// nC 0 and 1
+static NC_0: [[Entry<Token>; 8]; 16] = [
+    row8!((1, 0, 0)),
+    row8!((2, 1, 1)),
+    row8!((3, 2, 2)),
+    row8!((6, 2, 1), (6, 1, 0), (5, 3, 3), (5, 3, 3)),
+    row8!((7, 5, 3), (7, 3, 2), (6, 4, 3), (6, 4, 3)),
+    row8!((8, 6, 3), (8, 4, 2), (8, 3, 1), (8, 2, 0)),
+    row8!((9, 7, 3), (9, 5, 2), (9, 4, 1), (9, 3, 0)),
+    row8!((10, 8, 3), (10, 6, 2), (10, 5, 1), (10, 4, 0)),
+    row8!((11, 9, 3), (11, 7, 2), (11, 6, 1), (11, 5, 0)),
+    row8!(13: 8 0, 9 2, 8 1, 7 0, 10 3, 8 2, 7 1, 6 0),
+    row8!(14: 12 3, 11 2, 10 1, 10 0, 11 3, 10 2, 9 1, 9 0),
+    row8!(15: 14 3, 13 2, 12 1, 12 0, 13 3, 12 2, 11 1, 11 0),
+    row8!(16: 16 3, 15 2, 15 1, 14 0, 15 3, 14 2, 14 1, 13 0),
+    row8!((16, 16, 0), (16, 16, 2), (16, 16, 1), (16, 15, 0)),
+    row8!((15, 13, 1)),
+    row8!((15)),
+];
+
+// nC 2 and 3
+static NC_2: [[Entry<Token>; 8]; 14] = [
+    row8!((2, 1, 1), (2, 0, 0)),
+    row8!((4, 4, 3), (4, 3, 3), (3, 2, 2), (3, 2, 2)),
+    row8!(
+        (6, 6, 3),
+        (6, 3, 2),
+        (6, 3, 1),
+        (6, 1, 0),
+        (5, 5, 3),
+        (5, 5, 3),
+        (5, 2, 1),
+        (5, 2, 1)
+    ),
+    row8!((6, 7, 3), (6, 4, 2), (6, 4, 1), (6, 2, 0)),
+    row8!((7, 8, 3), (7, 5, 2), (7, 5, 1), (7, 3, 0)),
+    row8!((8, 5, 0), (8, 6, 2), (8, 6, 1), (8, 4, 0)),
+    row8!((9, 9, 3), (9, 7, 2), (9, 7, 1), (9, 6, 0)),
+    row8!(11: 11 3, 9 2, 9 1, 8 0, 10 3, 8 2, 8 1, 7 0),
+    row8!(12: 11 0, 11 2, 11 1, 10 0, 12 3, 10 2, 10 1, 9 0),
+    row8!(13: 14 3, 13 2, 13 1, 13 0, 13 3, 12 2, 12 1, 12 0),
+    row8!(
+        (14, 15, 1),
+        (14, 15, 0),
+        (14, 15, 2),
+        (14, 14, 1),
+        (13, 14, 2),
+        (13, 14, 2),
+        (13, 14, 0),
+        (13, 14, 0)
+    ),
+    row8!((14, 16, 3), (14, 16, 2), (14, 16, 1), (14, 16, 0)),
+    row8!((13, 15, 3)),
+    row8!((13)),
+];
+
+// nC 4 to 7
+static NC_4: [[Entry<Token>; 8]; 11] = [
+    row8!(4: 7 3, 6 3, 5 3, 4 3, 3 3, 2 2, 1 1, 0 0),
+    row8!(5: 5 1, 5 2, 4 1, 4 2, 3 1, 8 3, 3 2, 2 1),
+    row8!(6: 3 0, 7 2, 7 1, 2 0, 9 3, 6 2, 6 1, 1 0),
+    row8!(7: 7 0, 6 0, 9 2, 5 0, 10 3, 8 2, 8 1, 4 0),
+    row8!(8: 12 3, 11 2, 10 1, 9 0, 11 3, 10 2, 9 1, 8 0),
+    row8!(9: 12 0, 13 2, 12 1, 11 0, 13 3, 12 2, 11 1, 10 0),
+    row8!(
+        (10, 15, 1),
+        (10, 14, 0),
+        (10, 14, 3),
+        (10, 14, 2),
+        (10, 14, 1),
+        (10, 13, 0),
+        (9, 13, 1),
+        (9, 13, 1)
+    ),
+    row8!((10, 16, 1), (10, 15, 0), (10, 15, 3), (10, 15, 2)),
+    row8!((10, 16, 3), (10, 16, 2)),
+    row8!((10, 16, 0)),
+    row8!((10)),
+];
+
+// chroma DC
+static CHROMA_DC: [[Entry<Token>; 8]; 8] = [
+    row8!((1, 1, 1)),
+    row8!((2, 0, 0)),
+    row8!((3, 2, 2)),
+    row8!((6, 2, 0), (6, 3, 3), (6, 2, 1), (6, 1, 0)),
+    row8!((6, 4, 0), (6, 3, 0)),
+    row8!((7, 3, 2), (7, 3, 1)),
+    row8!((8, 4, 2), (8, 4, 1)),
+    row8!((7, 4, 3)),
+];

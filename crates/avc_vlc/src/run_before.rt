@@ -1,0 +1,84 @@
+//! run_before (9.2.3, Table 9-10). A table has a row for each number of zeros in front of the first 1, the last for all
+//! that are more, and a column for each value of the two bits behind that 1.
+ghost use Rattle.std.specs.Prelude.{◌≡◌, ◌≤◌, IfOk, OnErr};
+ghost use Rattle.avc_bits.specs.Reader.{Reads};
+ghost use Rattle.avc_vlc.specs.Reading.{run_before, run_table, table_code};
+
+use crate::entry::{Entry, entry, number_by, row4};
+use avc_bits::BitReader;
+use avc_types::Fault;
+
+/// Reads how many zeros stand right before a level, where `zeros_left` zeros are left for it and those before it.
+/// Answers `Truncated`, or `BadCode` where no codeword stands or the run is longer; the reader then stays.
+#[inline]
+pub fn read_run_before(reader: &mut BitReader, zeros_left: u8) -> Result<u8, Fault>
+    ensures read { Reads result (run_before zeros_left) reader.old reader.new }
+    ensures most { IfOk result (λ run. run ≤ zeros_left) }
+    ensures stays { OnErr result (reader.new ≡ reader.old) }
+{
+    let mut after = *reader;
+    let run = read_run(&mut after, zeros_left)?;
+    if run > zeros_left {
+        return Err(Fault::BadCode);
+    }
+    *reader = after;
+    Ok(run)
+}
+
+#[inline(always)]
+fn read_run(reader: &mut BitReader, zeros_left: u8) -> Result<u8, Fault>
+    ensures read { Reads result (table_code (run_table zeros_left)) reader.old reader.new }
+    ensures stays { OnErr result (reader.new ≡ reader.old) }
+{
+    match zeros_left {
+        0..=1 => number_by(reader, &LEFT_1),
+        2 => number_by(reader, &LEFT_2),
+        3 => number_by(reader, &LEFT_3),
+        4 => number_by(reader, &LEFT_4),
+        5 => number_by(reader, &LEFT_5),
+        6 => number_by(reader, &LEFT_6),
+        _ => number_by(reader, &LEFT_7),
+    }
+}
+
+static LEFT_1: [[Entry<u8>; 4]; 2] = [row4!((1, 0)), row4!((1, 1))];
+
+static LEFT_2: [[Entry<u8>; 4]; 3] = [row4!((1, 0)), row4!((2, 1)), row4!((2, 2))];
+
+static LEFT_3: [[Entry<u8>; 4]; 3] = [row4!((2, 1), (2, 0)), row4!((2, 2)), row4!((2, 3))];
+
+static LEFT_4: [[Entry<u8>; 4]; 4] = [
+    row4!((2, 1), (2, 0)),
+    row4!((2, 2)),
+    row4!((3, 3)),
+    row4!((3, 4)),
+];
+
+static LEFT_5: [[Entry<u8>; 4]; 4] = [
+    row4!((2, 1), (2, 0)),
+    row4!((3, 3), (3, 2)),
+    row4!((3, 4)),
+    row4!((3, 5)),
+];
+
+static LEFT_6: [[Entry<u8>; 4]; 4] = [
+    row4!((3, 6), (3, 5), (2, 0), (2, 0)),
+    row4!((3, 4), (3, 3)),
+    row4!((3, 2)),
+    row4!((3, 1)),
+];
+
+static LEFT_7: [[Entry<u8>; 4]; 12] = [
+    row4!((3, 3), (3, 2), (3, 1), (3, 0)),
+    row4!((3, 5), (3, 4)),
+    row4!((3, 6)),
+    row4!((4, 7)),
+    row4!((5, 8)),
+    row4!((6, 9)),
+    row4!((7, 10)),
+    row4!((8, 11)),
+    row4!((9, 12)),
+    row4!((10, 13)),
+    row4!((11, 14)),
+    row4!((11)),
+];

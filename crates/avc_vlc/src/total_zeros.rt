@@ -1,0 +1,192 @@
+//! total_zeros (9.2.3, Tables 9-7 to 9-9). A table has a row for each number of zeros in front of the first 1, the last
+//! for all that are more, and a column for each value of the two bits behind that 1.
+ghost use Rattle.std.specs.Prelude.{◌≡◌, ◌≤◌, true, false, OnErr};
+ghost use Rattle.avc_bits.specs.Reader.{Reads};
+ghost use Rattle.avc_vlc.specs.Reading.{total_zeros};
+
+use crate::entry::{Entry, entry, number_by, row4};
+use avc_bits::BitReader;
+use avc_types::Fault;
+
+/// Reads how many zeros stand before the last level of a block with `total` levels (TotalCoeff). Answers `Truncated`, or
+/// `BadCode` where no codeword stands; the reader then stays.
+#[inline]
+pub fn read_total_zeros(reader: &mut BitReader, total: u8, chroma_dc: bool) -> Result<u8, Fault>
+    ensures read { Reads result (total_zeros total chroma_dc) reader.old reader.new }
+    ensures stays { OnErr result (reader.new ≡ reader.old) }
+{
+    if chroma_dc {
+        read_chroma_dc(reader, total)
+    } else {
+        read_4x4(reader, total)
+    }
+}
+
+fn read_4x4(reader: &mut BitReader, total: u8) -> Result<u8, Fault>
+    ensures read { Reads result (total_zeros total false) reader.old reader.new }
+    ensures stays { OnErr result (reader.new ≡ reader.old) }
+{
+    match total {
+        0..=1 => number_by(reader, &TOTAL_1),
+        2 => number_by(reader, &TOTAL_2),
+        3 => number_by(reader, &TOTAL_3),
+        4 => number_by(reader, &TOTAL_4),
+        5 => number_by(reader, &TOTAL_5),
+        6 => number_by(reader, &TOTAL_6),
+        7 => number_by(reader, &TOTAL_7),
+        8 => number_by(reader, &TOTAL_8),
+        9 => number_by(reader, &TOTAL_9),
+        10 => number_by(reader, &TOTAL_10),
+        11 => number_by(reader, &TOTAL_11),
+        12 => number_by(reader, &TOTAL_12),
+        13 => number_by(reader, &TOTAL_13),
+        14 => number_by(reader, &TOTAL_14),
+        15 => number_by(reader, &TOTAL_15),
+        _ => Err(Fault::BadCode),
+    }
+}
+
+fn read_chroma_dc(reader: &mut BitReader, total: u8) -> Result<u8, Fault>
+    ensures read { Reads result (total_zeros total true) reader.old reader.new }
+    ensures stays { OnErr result (reader.new ≡ reader.old) }
+{
+    match total {
+        0..=1 => number_by(reader, &CHROMA_DC_1),
+        2 => number_by(reader, &CHROMA_DC_2),
+        3 => number_by(reader, &CHROMA_DC_3),
+        _ => Err(Fault::BadCode),
+    }
+}
+
+static TOTAL_1: [[Entry<u8>; 4]; 10] = [
+    row4!((1, 0)),
+    row4!((3, 2), (3, 1)),
+    row4!((4, 4), (4, 3)),
+    row4!((5, 6), (5, 5)),
+    row4!((6, 8), (6, 7)),
+    row4!((7, 10), (7, 9)),
+    row4!((8, 12), (8, 11)),
+    row4!((9, 14), (9, 13)),
+    row4!((9, 15)),
+    row4!((9)),
+];
+
+static TOTAL_2: [[Entry<u8>; 4]; 7] = [
+    row4!((3, 3), (3, 2), (3, 1), (3, 0)),
+    row4!((4, 6), (4, 5), (3, 4), (3, 4)),
+    row4!((4, 8), (4, 7)),
+    row4!((5, 10), (5, 9)),
+    row4!((6, 12), (6, 11)),
+    row4!((6, 13)),
+    row4!((6, 14)),
+];
+
+static TOTAL_3: [[Entry<u8>; 4]; 7] = [
+    row4!((3, 6), (3, 3), (3, 2), (3, 1)),
+    row4!((4, 4), (4, 0), (3, 7), (3, 7)),
+    row4!((4, 8), (4, 5)),
+    row4!((5, 10), (5, 9)),
+    row4!((5, 12)),
+    row4!((6, 11)),
+    row4!((6, 13)),
+];
+
+static TOTAL_4: [[Entry<u8>; 4]; 6] = [
+    row4!((3, 6), (3, 5), (3, 4), (3, 1)),
+    row4!((4, 3), (4, 2), (3, 8), (3, 8)),
+    row4!((4, 9), (4, 7)),
+    row4!((5, 10), (5, 0)),
+    row4!((5, 11)),
+    row4!((5, 12)),
+];
+
+static TOTAL_5: [[Entry<u8>; 4]; 6] = [
+    row4!((3, 6), (3, 5), (3, 4), (3, 3)),
+    row4!((4, 1), (4, 0), (3, 7), (3, 7)),
+    row4!((4, 8), (4, 2)),
+    row4!((4, 10)),
+    row4!((5, 9)),
+    row4!((5, 11)),
+];
+
+static TOTAL_6: [[Entry<u8>; 4]; 7] = [
+    row4!((3, 5), (3, 4), (3, 3), (3, 2)),
+    row4!((3, 7), (3, 6)),
+    row4!((3, 9)),
+    row4!((4, 8)),
+    row4!((5, 1)),
+    row4!((6, 0)),
+    row4!((6, 10)),
+];
+
+static TOTAL_7: [[Entry<u8>; 4]; 7] = [
+    row4!((3, 3), (3, 2), (2, 5), (2, 5)),
+    row4!((3, 6), (3, 4)),
+    row4!((3, 8)),
+    row4!((4, 7)),
+    row4!((5, 1)),
+    row4!((6, 0)),
+    row4!((6, 9)),
+];
+
+static TOTAL_8: [[Entry<u8>; 4]; 7] = [
+    row4!((2, 5), (2, 4)),
+    row4!((3, 6), (3, 3)),
+    row4!((3, 7)),
+    row4!((4, 1)),
+    row4!((5, 2)),
+    row4!((6, 0)),
+    row4!((6, 8)),
+];
+
+static TOTAL_9: [[Entry<u8>; 4]; 7] = [
+    row4!((2, 4), (2, 3)),
+    row4!((2, 6)),
+    row4!((3, 5)),
+    row4!((4, 2)),
+    row4!((5, 7)),
+    row4!((6, 0)),
+    row4!((6, 1)),
+];
+
+static TOTAL_10: [[Entry<u8>; 4]; 6] = [
+    row4!((2, 4), (2, 3)),
+    row4!((2, 5)),
+    row4!((3, 2)),
+    row4!((4, 6)),
+    row4!((5, 0)),
+    row4!((5, 1)),
+];
+
+static TOTAL_11: [[Entry<u8>; 4]; 5] = [
+    row4!((1, 4)),
+    row4!((3, 3), (3, 5)),
+    row4!((3, 2)),
+    row4!((4, 1)),
+    row4!((4, 0)),
+];
+
+static TOTAL_12: [[Entry<u8>; 4]; 5] = [
+    row4!((1, 3)),
+    row4!((2, 2)),
+    row4!((3, 4)),
+    row4!((4, 1)),
+    row4!((4, 0)),
+];
+
+static TOTAL_13: [[Entry<u8>; 4]; 4] = [row4!((1, 2)), row4!((2, 3)), row4!((3, 1)), row4!((3, 0))];
+
+static TOTAL_14: [[Entry<u8>; 4]; 3] = [row4!((1, 2)), row4!((2, 1)), row4!((2, 0))];
+
+static TOTAL_15: [[Entry<u8>; 4]; 2] = [row4!((1, 1)), row4!((1, 0))];
+
+static CHROMA_DC_1: [[Entry<u8>; 4]; 4] = [
+    row4!((1, 0)),
+    row4!((2, 1)),
+    row4!((3, 2)),
+    row4!((3, 3)),
+];
+
+static CHROMA_DC_2: [[Entry<u8>; 4]; 3] = [row4!((1, 0)), row4!((2, 1)), row4!((2, 2))];
+
+static CHROMA_DC_3: [[Entry<u8>; 4]; 2] = [row4!((1, 0)), row4!((1, 1))];
