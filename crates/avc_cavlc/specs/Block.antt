@@ -1,10 +1,11 @@
 -- One residual block of transform coefficient levels (7.3.5.3.2, 9.2).
-use Rattle.std.specs.Prelude.{ℕ, zero, suc, ◌+◌, ◌-◌, ◌*◌, ◌/◌, ◌%◌, ◌^◌, ℤ, pos, neg_ℤ, nat_abs, Bool, true, false, ◌==◌, ◌&&◌, ◌||◌, nat_lt, nat_le, if◌then◌else◌, List, [], ◌∷◌, ◌++◌, length, reverse, replicate}
-use Rattle.std.specs.List.{flat_map, zip}
+use Rattle.std.specs.Prelude.{ℕ, zero, suc, ◌+◌, ◌-◌, ◌*◌, ◌/◌, ◌%◌, ◌^◌, ◌≤◌, ℤ, pos, neg_ℤ, ◌≤ℤ◌, nat_abs, Bool, true, false, not, ◌==◌, ◌&&◌, ◌||◌, nat_lt, nat_le, if◌then◌else◌, List, [], ◌∷◌, ◌++◌, length, reverse, replicate}
+use Rattle.std.specs.List.{count_by, flat_map, zip}
 use Rattle.avc_types.specs.declared.fault.Fault.TheVariants as faults
 use Rattle.avc_bits.specs.Bits.{Read, ◌>>=◌, ◌>>◌, give, check, times}
 use Rattle.avc_bits.specs.Codes.{u, flag, zeros_before_one}
-use Rattle.avc_vlc.specs.Reading.{Token, coeff_token, total_zeros, run_before}
+use Rattle.avc_vlc.specs.declared.token.Token.{Token}
+use Rattle.avc_vlc.specs.Reading.{coeff_token, total_zeros, run_before}
 
 -- ---- levels (9.2.2)
 
@@ -21,13 +22,17 @@ suffix_size prefix suffix_length =
 abbrev pub level_of_code : ℕ → ℤ
 level_of_code code = if code % 2 == 0 then pos ((code + 2) / 2) else neg_ℤ (pos ((code + 1) / 2))
 
--- one level_prefix and level_suffix; above_one says that the level's size is known to be above 1
+-- levelCode from level_prefix and level_suffix; above_one says that the level's size is known to be above 1
+abbrev pub level_code : (prefix suffix_length suffix : ℕ) → (above_one : Bool) → ℕ
+level_code prefix suffix_length suffix above_one =
+    prefix * 2 ^ suffix_length + suffix + (if prefix == 15 && suffix_length == 0 then 15 else 0) + (if above_one then 2 else 0)
+
+-- one level_prefix and level_suffix
 abbrev pub level : (suffix_length : ℕ) → (above_one : Bool) → Read ℤ
 level suffix_length above_one = do
   prefix ← zeros_before_one 15 faults.BadCode
   suffix ← u (suffix_size prefix suffix_length)
-  give (level_of_code (prefix * 2 ^ suffix_length + suffix
-      + (if prefix == 15 && suffix_length == 0 then 15 else 0) + (if above_one then 2 else 0)))
+  give (level_of_code (level_code prefix suffix_length suffix above_one))
 
 -- suffixLength for the level after this one
 abbrev pub next_suffix_length : (suffix_length : ℕ) → ℤ → ℕ
@@ -52,27 +57,29 @@ token_levels t = do
 
 -- ---- runs (9.2.3)
 
--- run_before, which is not coded where no zeros are left
-abbrev run_with : (zeros_left : ℕ) → Read ℕ
-run_with zero = give 0
-run_with (suc n) = run_before (suc n)
+-- The zeros before a coefficient, where so many others come after it: the last one has all that are left, and where none
+-- are left the run is not coded.
+abbrev pub run : (others zeros_left : ℕ) → Read ℕ
+run zero zeros_left = give zeros_left
+run (suc others) zero = give 0
+run (suc others) (suc zeros_left) = run_before (suc zeros_left)
 
--- The zeros before each of n coefficients, highest frequency first, where zeros_left zeros are left for them. The last
--- one has all that are left before it.
+-- The zeros before each of n coefficients, highest frequency first, where zeros_left zeros are left for them.
 abbrev pub runs : (n zeros_left : ℕ) → Read (List ℕ)
 runs zero zeros_left = give []
-runs (suc zero) zeros_left = give (zeros_left ∷ [])
-runs (suc (suc n)) zeros_left = do
-  run ← run_with zeros_left
-  others ← runs (suc n) (zeros_left - run)
-  give (run ∷ others)
+runs (suc n) zeros_left = do
+  zeros ← run n zeros_left
+  others ← runs n (zeros_left - zeros)
+  give (zeros ∷ others)
 
--- The list of max levels from the lowest frequency on: each level after its zeros, then zeros.
+-- each level after its zeros, from the lowest frequency on
+abbrev pub each_after_zeros : List ℤ → List ℕ → List ℤ
+each_after_zeros values zero_runs = flat_map (λ p. replicate p.1 (pos 0) ++ p.0 ∷ []) (reverse (zip values zero_runs))
+
+-- the list of max levels: those, then zeros
 abbrev pub placed : (max : ℕ) → List ℤ → List ℕ → List ℤ
-placed max values zero_runs = filled (flat_map (λ p. replicate p.1 (pos 0) ++ p.0 ∷ []) (reverse (zip values zero_runs)))
-  where
-    filled : List ℤ → List ℤ
-    filled found = found ++ replicate (max - length found) (pos 0)
+placed max values zero_runs =
+    let found = each_after_zeros values zero_runs in found ++ replicate (max - length found) (pos 0)
 
 -- residual_block_cavlc with max coefficients (4 for chroma DC, 15 or 16), where nc is -1 for chroma DC.
 abbrev pub residual_block : (max : ℕ) → (nc : ℤ) → Read (List ℤ)
@@ -84,3 +91,19 @@ residual_block max nc = do
   check (nat_le (t.total + zeros) max) faults.TooManyCoefficients
   zero_runs ← runs t.total zeros
   give (placed max values zero_runs)
+
+-- ---- what the levels are
+
+-- a level that is not 0; no code gives a greater one
+pub record IsLevel (l : ℤ) : Type 0 where
+  pub some : 1 ≤ nat_abs l
+  pub most : nat_abs l ≤ 2528
+
+-- a level of a block
+pub record IsSmall (l : ℤ) : Type 0 where
+  pub low : neg_ℤ (pos 2528) ≤ℤ l
+  pub high : l ≤ℤ pos 2528
+
+-- total_coeff: how many levels are not 0
+abbrev pub coefficients : List ℤ → ℕ
+coefficients levels = count_by (λ l. not (nat_abs l == 0)) levels

@@ -1,2 +1,11 @@
 //! Residual blocks (7.3.5.3.2, 9.2).
 #![tactic(auto)]
+
+mod block;
+mod level;
+mod levels;
+mod runs;
+mod values;
+
+pub use block::read_block;
+pub use levels::Levels;

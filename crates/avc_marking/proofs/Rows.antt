@@ -6,7 +6,7 @@ use Rattle.avc_types.specs.declared.references.Mark.{Mark}
 use Rattle.avc_types.specs.declared.references.Mark.TheVariants.{Short, Long}
 use Rattle.avc_types.specs.declared.references.Marking.{Marking}
 use Rattle.avc_types.specs.declared.references.Marking.TheVariants.{Idr, SlidingWindow, Adaptive}
-use Rattle.avc_types.specs.declared.references.Operation.TheVariants.{ForgetAll, ShortToLong, LimitLong, CurrentToLong}
+use Rattle.avc_types.specs.declared.references.Operation.TheVariants.{ForgetShort, ForgetLong, ForgetAll, ShortToLong, LimitLong, CurrentToLong}
 use Rattle.avc_marking.specs.Marks.{Step, Marks, marks, missing_numbers, previous_number, missing_step}
 
 abbrev at : ℕ → Option Marking → Step
@@ -76,3 +76,34 @@ not_existing = refl
 
 after_forgetting : previous_number (at 5 (Some (Adaptive (ForgetAll ∷ []))) ∷ idr ∷ []) ≡ 0
 after_forgetting = refl
+
+short_forgotten : seen (marks (at 2 (Some (Adaptive (ForgetShort 1 ∷ []))) ∷ p 1 ∷ idr ∷ [])) ≡ Ok ((1, 1, Short) ∷ (2, 2, Short) ∷ [])
+short_forgotten = refl
+
+-- a long-term frame, then operations that name it and that limit the indices
+two_long : List Step
+two_long = at 2 (Some (Adaptive (ShortToLong 0 1 ∷ CurrentToLong 0 ∷ []))) ∷ at 1 (Some (Adaptive (LimitLong 2 ∷ ForgetShort 0 ∷ []))) ∷ idr ∷ []
+
+both_long : seen (marks two_long) ≡ Ok ((1, 1, Long 1) ∷ (2, 2, Long 0) ∷ [])
+unfolding two_long
+both_long = refl
+
+long_forgotten : seen (marks (at 3 (Some (Adaptive (ForgetLong 0 ∷ []))) ∷ two_long)) ≡ Ok ((1, 1, Long 1) ∷ (3, 3, Short) ∷ [])
+unfolding two_long
+long_forgotten = refl
+
+indices_limited : seen (marks (at 3 (Some (Adaptive (LimitLong 1 ∷ []))) ∷ two_long)) ≡ Ok ((2, 2, Long 0) ∷ (3, 3, Short) ∷ [])
+unfolding two_long
+indices_limited = refl
+
+no_such_long : seen (marks (at 3 (Some (Adaptive (ForgetLong 2 ∷ []))) ∷ two_long)) ≡ Err faults.BadMarking
+unfolding two_long
+no_such_long = refl
+
+-- the picture's own mark may be taken away again, and it is then no reference frame
+own_mark_taken : seen (marks (at 1 (Some (Adaptive (LimitLong 1 ∷ CurrentToLong 0 ∷ ForgetLong 0 ∷ []))) ∷ idr ∷ [])) ≡ Ok ((0, 0, Short) ∷ [])
+own_mark_taken = refl
+
+-- of two short-term frames with one number the one that was decoded last is named
+later_named : seen (marks (at 2 (Some (Adaptive (ForgetShort 0 ∷ []))) ∷ at 1 (Some (Adaptive [])) ∷ at 1 (Some (Adaptive [])) ∷ [])) ≡ Ok ((0, 1, Short) ∷ (2, 2, Short) ∷ [])
+later_named = refl

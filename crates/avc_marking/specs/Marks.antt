@@ -1,7 +1,7 @@
 -- How frames are marked for reference (8.2.5), and gaps in frame_num (8.2.5.2), from the history. A history is written
 -- with its newest entry first.
 use Rattle.std.specs.Prelude.{ℕ, zero, suc, ◌+◌, ◌-◌, ◌%◌, pos, ◌-ℤ◌, Bool, true, false, not, ◌==◌, ◌&&◌, ◌||◌, nat_lt, nat_le, max, if◌then◌else◌, List, [], ◌∷◌, ◌++◌, length, map, Option, Some, None, is_some, slice_get, Result, Ok, Err}
-use Rattle.std.specs.List.{filter, list_any, find}
+use Rattle.std.specs.List.{filter, list_any}
 use Rattle.avc_types.specs.declared.fault.Fault.{Fault}
 use Rattle.avc_types.specs.declared.fault.Fault.TheVariants as faults
 use Rattle.avc_types.specs.declared.references.Mark.{Mark}
@@ -10,7 +10,7 @@ use Rattle.avc_types.specs.declared.references.Marking.{Marking}
 use Rattle.avc_types.specs.declared.references.Marking.TheVariants.{Idr, SlidingWindow, Adaptive}
 use Rattle.avc_types.specs.declared.references.Operation.{Operation}
 use Rattle.avc_types.specs.declared.references.Operation.TheVariants.{ForgetShort, ForgetLong, ShortToLong, LimitLong, ForgetAll, CurrentToLong}
-use Rattle.avc_types.specs.References.{Reference, is_short, long_index, has_long_index, short_named, sorted_by, later_number}
+use Rattle.avc_types.specs.References.{Reference, is_short, long_index, has_long_index, short_named, long_named, sorted_by, later_number}
 
 -- What marking asks of an entry of the history: a closed picture, or a frame that stands for a missing frame number. Such a
 -- frame is not existing and has the marking `sliding`.
@@ -36,18 +36,19 @@ abbrev pub limit_of : Step → ℕ
 limit_of s = max s.max_num_ref_frames 1
 
 infixl 10 ◌>>=◌
-abbrev ◌>>=◌ : {A B : Type 0} → Result A Fault → (A → Result B Fault) → Result B Fault
+abbrev pub ◌>>=◌ : {A B : Type 0} → Result A Fault → (A → Result B Fault) → Result B Fault
 (Ok x) >>= f = f x
 (Err e) >>= f = Err e
 
 -- the frame where there is one
-abbrev frame_or : Fault → Option Reference → Result Reference Fault
+abbrev pub frame_or : Fault → Option Reference → Result Reference Fault
 frame_or f (Some r) = Ok r
 frame_or f None = Err f
 
-abbrev checked : Bool → Result Marks Fault → Result Marks Fault
-checked true marks = marks
-checked false marks = Err faults.BadMarking
+-- x where the test holds
+abbrev pub refuse_unless : {A : Type 0} → Bool → A → Result A Fault
+refuse_unless true x = Ok x
+refuse_unless false x = Err faults.BadMarking
 
 -- ---- changes of the set
 
@@ -55,7 +56,7 @@ checked false marks = Err faults.BadMarking
 abbrev pub without : Reference → List Reference → List Reference
 without r references = filter (λ s. not (s.entry == r.entry)) references
 
-abbrev marked : Reference → Mark → Reference
+abbrev pub marked : Reference → Mark → Reference
 marked r mark = record r { mark = mark }
 
 -- An index is taken from the frame that has it, which becomes unused.
@@ -66,7 +67,7 @@ abbrev pub with_mark : Reference → Mark → List Reference → List Reference
 with_mark r mark references = map (λ s. if s.entry == r.entry then marked s mark else s) references
 
 -- the index may be given
-abbrev index_fits : ℕ → Option ℕ → Bool
+abbrev pub index_fits : ℕ → Option ℕ → Bool
 index_fits index None = false
 index_fits index (Some greatest) = nat_le index greatest
 
@@ -92,29 +93,43 @@ pub record Turn : Type 0 where
   pub assigned : Bool
 
 -- the short-term frame with picNumX
-abbrev named_short : Step → (difference_minus1 : ℕ) → List Reference → Result Reference Fault
+abbrev pub named_short : Step → (difference_minus1 : ℕ) → List Reference → Result Reference Fault
 named_short s d references =
     frame_or faults.BadMarking (short_named s.frame_num s.max_frame_num (pos s.frame_num -ℤ pos (d + 1)) references)
 
-abbrev refuse_unless : Bool → Turn → Result Turn Fault
-refuse_unless true t = Ok t
-refuse_unless false t = Err faults.BadMarking
+-- 1: the short-term frame becomes unused
+abbrev pub without_short : Step → (difference_minus1 : ℕ) → List Reference → Result (List Reference) Fault
+without_short s d references = named_short s d references >>= λ r. Ok (without r references)
+
+-- 2: the long-term frame becomes unused
+abbrev pub without_long : (index : ℕ) → List Reference → Result (List Reference) Fault
+without_long index references = frame_or faults.BadMarking (long_named index references) >>= λ r. Ok (without r references)
+
+-- 3: the short-term frame becomes long-term
+abbrev pub made_long : Step → (difference_minus1 index : ℕ) → (greatest : Option ℕ) → List Reference → Result (List Reference) Fault
+made_long s d index greatest references =
+    named_short s d references >>= λ r.
+    refuse_unless (r.existing && index_fits index greatest) (with_mark r (Long index) (free_index index references))
+
+-- 4: the long-term frames with these indices and greater ones become unused
+abbrev pub limited : (plus1 : ℕ) → List Reference → List Reference
+limited plus1 references = filter (λ r. is_short r || nat_lt (long_index r) plus1) references
+
+abbrev pub greatest_below : (plus1 : ℕ) → Option ℕ
+greatest_below zero = None
+greatest_below (suc greatest) = Some greatest
+
+abbrev pub with_references : Turn → Result (List Reference) Fault → Result Turn Fault
+with_references t changed = changed >>= λ references. Ok (record t { references = references })
 
 -- The step s is the picture's own, `entry` its place in the history.
 abbrev pub after_operation : Step → (entry : ℕ) → Turn → Operation → Result Turn Fault
-after_operation s entry t (ForgetShort d) =
-    named_short s d t.references >>= λ r. Ok (record t { references = without r t.references })
-after_operation s entry t (ForgetLong index) =
-    frame_or faults.BadMarking (find (has_long_index index) t.references) >>= λ r. Ok (record t { references = without r t.references })
-after_operation s entry t (ShortToLong d index) =
-    named_short s d t.references >>= λ r.
-    refuse_unless (r.existing && index_fits index t.greatest) (record t { references = with_mark r (Long index) (free_index index t.references) })
+after_operation s entry t (ForgetShort d) = with_references t (without_short s d t.references)
+after_operation s entry t (ForgetLong index) = with_references t (without_long index t.references)
+after_operation s entry t (ShortToLong d index) = with_references t (made_long s d index t.greatest t.references)
 after_operation s entry t (LimitLong plus1) =
     refuse_unless (nat_le plus1 s.max_num_ref_frames)
-    (record t {
-      references = filter (λ r. is_short r || nat_lt (long_index r) plus1) t.references;
-      greatest = elim plus1 [ zero ↦ None | suc greatest ↦ Some greatest ];
-    })
+    (record t { references = limited plus1 t.references; greatest = greatest_below plus1 })
 after_operation s entry t ForgetAll = Ok (record t { references = []; greatest = None })
 after_operation s entry t (CurrentToLong index) =
     refuse_unless (not t.assigned && index_fits index t.greatest)
@@ -128,7 +143,7 @@ after_operations s entry t [] = Ok t
 after_operations s entry t (o ∷ operations) =
     after_operation s entry t o >>= λ t'. after_operations s entry t' operations
 
-abbrev is_forget_all : Operation → Bool
+abbrev pub is_forget_all : Operation → Bool
 is_forget_all ForgetAll = true
 is_forget_all _ = false
 
@@ -141,11 +156,11 @@ kept_number s = elim s.marking [ None ↦ s.frame_num | Some m ↦ number_under 
     number_under _ = s.frame_num
 
 -- the entry's own frame
-abbrev own : Step → (entry : ℕ) → Mark → Reference
+abbrev pub own : Step → (entry : ℕ) → Mark → Reference
 own s entry mark = record { entry = entry; frame_num = kept_number s; existing = s.existing; mark = mark }
 
 -- the operations leave this, where the frame that has got no mark by them becomes short-term
-abbrev with_own : Step → (entry : ℕ) → Turn → Marks
+abbrev pub with_own : Step → (entry : ℕ) → Turn → Marks
 with_own s entry t =
     record {
       references = elim t.assigned [
@@ -155,8 +170,14 @@ with_own s entry t =
       greatest = t.greatest;
     }
 
-abbrev within_limit : Step → Marks → Result Marks Fault
+abbrev pub within_limit : Step → Marks → Result Marks Fault
 within_limit s m = if nat_le (length m.references) (limit_of s) then Ok m else Err faults.TooManyReferences
+
+-- the marks after all the operations
+abbrev pub adapted : Step → (entry : ℕ) → Marks → List Operation → Result Marks Fault
+adapted s entry m operations =
+    after_operations s entry (record { references = m.references; greatest = m.greatest; assigned = false }) operations
+    >>= λ t. within_limit s (with_own s entry t)
 
 -- ---- the whole history (8.2.5.1)
 
@@ -167,9 +188,7 @@ marked_by s entry (Some (Idr no_output false)) m = Ok (record { references = own
 marked_by s entry (Some (Idr no_output true)) m = Ok (record { references = own s entry (Long 0) ∷ []; greatest = Some 0 })
 marked_by s entry (Some SlidingWindow) m =
     slid s m.references >>= λ references. Ok (record m { references = references ++ own s entry Short ∷ [] })
-marked_by s entry (Some (Adaptive operations)) m =
-    after_operations s entry (record { references = m.references; greatest = m.greatest; assigned = false }) operations
-    >>= λ t. within_limit s (with_own s entry t)
+marked_by s entry (Some (Adaptive operations)) m = adapted s entry m operations
 
 -- The marks that a history leaves, or the first fault. An entry's place is the number of those before it.
 abbrev pub marks : List Step → Result Marks Fault
@@ -184,7 +203,7 @@ previous_number [] = 0
 previous_number (s ∷ older) = elim (is_some s.marking) [ true ↦ kept_number s | false ↦ previous_number older ]
 
 -- n numbers from a on, modulo max
-abbrev numbers_from : (max a n : ℕ) → List ℕ
+abbrev pub numbers_from : (max a n : ℕ) → List ℕ
 numbers_from max a zero = []
 numbers_from max a (suc n) = a % max ∷ numbers_from max (a + 1) n
 

@@ -1,5 +1,5 @@
 -- What holds of each value that a part of the syntax gives.
-use Rattle.std.proofs.Common.{◌≡◌, ◌≤◌, ℕ, ℤ, ◌≤ℤ◌, zero, suc, Bool, true, false, nat_le, List, [], ◌∷◌, length, Option, Some, None, IfSome, Result, Ok, Err, refl, ap, subst, sym, arith}
+use Rattle.std.proofs.Common.{◌≡◌, ◌≤◌, ℕ, ℤ, ◌≤ℤ◌, zero, suc, Bool, true, false, nat_le, [], ◌∷◌, length, Option, Some, None, IfSome, Result, Ok, Err, refl, ap, subst, sym, arith}
 use Rattle.std.proofs.lemmas.Bool.Decides.{nat_tests}
 use Rattle.std.proofs.lemmas.Int.{ints}
 use Rattle.avc_types.specs.declared.fault.Fault.{Fault}

@@ -1,6 +1,6 @@
 -- An accepted picture parameter set keeps to the ranges of its fields, and has the id that was read.
-use Rattle.std.proofs.Common.{◌≡◌, ℕ, ℤ, pos, negsuc, ◌≤◌, ◌==◌, Bool, true, not, List, Some, Result, Ok, refl, ap, sym}
-use Rattle.avc_bits.specs.Bits.{give, more_data, start}
+use Rattle.std.proofs.Common.{◌≡◌, ℕ, pos, negsuc, ◌≤◌, ◌==◌, not, List, Some, Ok, refl, ap, sym}
+use Rattle.avc_bits.specs.Bits.{more_data, start}
 use Rattle.avc_bits.specs.Codes.{flag, se_within, u_to, ue, ue_to}
 use Rattle.avc_params.specs.PpsReading.{default_counts, pps, pps_after, quantisation, switches}
 use Rattle.avc_params.specs.Reading.{pps_id, pps_of, read_value}

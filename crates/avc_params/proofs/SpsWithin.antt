@@ -1,12 +1,12 @@
 -- An accepted sequence parameter set keeps to the ranges of its fields, and has the id that was read.
-use Rattle.std.proofs.Common.{◌≡◌, ℕ, ◌+◌, ◌*◌, ◌<◌, ◌≤◌, Bool, true, false, nat_lt, nat_le, ◌==◌, ◌&&◌, ◌||◌, List, length, Option, Some, None, IfSome, IsSome, is_some, Result, Ok, Err, refl, ap, sym, ◌∙◌, arith}
+use Rattle.std.proofs.Common.{◌≡◌, ℕ, ◌+◌, ◌*◌, ◌≤◌, Bool, true, false, nat_lt, nat_le, ◌==◌, ◌&&◌, ◌||◌, List, length, Option, Some, None, IfSome, IsSome, is_some, Ok, refl, ap, sym, arith}
 use Rattle.std.proofs.lemmas.Bool.Decides.{nat_tests}
 use Rattle.avc_bits.specs.Bits.{give, start, times}
 use Rattle.avc_bits.specs.Codes.{u, flag, ue, ue_to, se}
 use Rattle.avc_params.specs.Limits.{max_dpb_mbs, max_macroblocks, max_side}
 use Rattle.avc_params.specs.Parsing.{optional}
 use Rattle.avc_params.specs.Reading.{read_value, sps_id, sps_of}
-use Rattle.avc_params.specs.SpsReading.{constraint_flags, cropping, cycle, identity, lsb, order_count, order_count_of, size, sps, sps_after}
+use Rattle.avc_params.specs.SpsReading.{constraint_flags, cropping, cycle, identity, lsb, order_count, size, sps, sps_after}
 use Rattle.avc_params.specs.VuiReading.{vui}
 use Rattle.avc_params.specs.Within.{IsCropping, IsOrderCount, IsSps}
 use Rattle.avc_params.specs.declared.sps.Sps.{Sps}

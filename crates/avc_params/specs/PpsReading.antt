@@ -1,7 +1,7 @@
 -- Picture parameter sets from their bits (7.3.2.2): the elements in their order, each check where its element stands.
 use Rattle.std.specs.Prelude.{ℕ, pos, negsuc, not, ◌==◌}
 use Rattle.avc_types.specs.declared.fault.Fault.TheVariants as faults
-use Rattle.avc_bits.specs.Bits.{Bits, Read, ◌>>=◌, ◌>>◌, give, check, more}
+use Rattle.avc_bits.specs.Bits.{Read, ◌>>=◌, ◌>>◌, give, check, more}
 use Rattle.avc_bits.specs.Codes.{u_to, flag, ue, ue_to, se_within}
 use Rattle.avc_params.specs.declared.pps.Pps.{Pps}
 use Rattle.avc_params.specs.declared.pps_reading.DefaultCounts.{DefaultCounts}

@@ -1,7 +1,7 @@
 -- Sequence parameter sets from their bits (7.3.2.1.1): the elements in their order, each check where its element stands.
-use Rattle.std.specs.Prelude.{ℕ, ◌+◌, ◌*◌, true, false, ◌==◌, ◌&&◌, ◌||◌, nat_le, nat_lt, List, Option, is_some}
+use Rattle.std.specs.Prelude.{ℕ, ◌+◌, ◌*◌, true, false, ◌==◌, ◌&&◌, ◌||◌, nat_le, nat_lt, is_some}
 use Rattle.avc_types.specs.declared.fault.Fault.TheVariants as faults
-use Rattle.avc_bits.specs.Bits.{Bits, Read, ◌>>=◌, ◌>>◌, give, check, times}
+use Rattle.avc_bits.specs.Bits.{Read, ◌>>=◌, ◌>>◌, give, check, times}
 use Rattle.avc_bits.specs.Codes.{u, flag, ue, ue_to, se}
 use Rattle.avc_params.specs.Limits.{max_dpb_mbs, max_macroblocks, max_side}
 use Rattle.avc_params.specs.Parsing.{optional}

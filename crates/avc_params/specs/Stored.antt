@@ -1,5 +1,5 @@
 -- What a parameter table keeps: by id, the sets in force after all units so far.
-use Rattle.std.specs.Prelude.{◌≡◌, ℕ, List, Option, Some, None, slice_index_or}
+use Rattle.std.specs.Prelude.{◌≡◌, ℕ, List, Option, None, slice_index_or}
 use Rattle.avc_params.specs.Tables.{pps_in_force, sps_in_force}
 use Rattle.avc_params.specs.declared.pps.Pps.{Pps}
 use Rattle.avc_params.specs.declared.set_unit.SetUnit.{SetUnit}

@@ -1,6 +1,6 @@
 -- Video usability information from its bits (E.1.1, E.1.2): the elements in their order.
-use Rattle.std.specs.Prelude.{ℕ, ◌+◌, ◌==◌, ◌||◌, List, Option, is_some}
-use Rattle.avc_bits.specs.Bits.{Bits, Read, ◌>>=◌, give, where_set, times}
+use Rattle.std.specs.Prelude.{◌+◌, ◌==◌, ◌||◌, is_some}
+use Rattle.avc_bits.specs.Bits.{Read, ◌>>=◌, give, where_set, times}
 use Rattle.avc_bits.specs.Codes.{u, flag, ue, ue_to}
 use Rattle.avc_params.specs.Parsing.{optional}
 use Rattle.avc_params.specs.declared.vui.ChromaLocation.{ChromaLocation}

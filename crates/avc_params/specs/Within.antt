@@ -1,5 +1,5 @@
 -- What each accepted parameter set keeps to.
-use Rattle.std.specs.Prelude.{◌≡◌, ℕ, ◌+◌, ◌*◌, ◌<◌, ◌≤◌, ℤ, pos, negsuc, ◌≤ℤ◌, List, length, Option, Some, None, IfSome, IsSome, Result, Ok}
+use Rattle.std.specs.Prelude.{◌≡◌, ℕ, ◌+◌, ◌*◌, ◌<◌, ◌≤◌, pos, negsuc, ◌≤ℤ◌, List, length, Some, IfSome, IsSome, Ok}
 use Rattle.avc_params.specs.Limits.{max_dpb_mbs, max_macroblocks, max_side, width_in_mbs, height_in_mbs, size_in_mbs}
 use Rattle.avc_params.specs.Reading.{pps_of, sps_of}
 use Rattle.avc_params.specs.Tables.{pps_in_force, sps_in_force}

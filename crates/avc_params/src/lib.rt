@@ -1,6 +1,7 @@
 //! Sequence and picture parameter sets (7.3.2.1, 7.3.2.2, E.1).
 #![tactic(auto)]
 
+mod copies;
 pub mod laws;
 mod levels;
 mod pps;

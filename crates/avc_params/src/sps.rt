@@ -13,7 +13,7 @@ pub struct ConstraintFlags {
 }
 
 /// How order counts are coded: pic_order_cnt_type and what it brings with it (7.4.2.1.1, 8.2.1).
-#[derive(Clone, Debug, Drop, PartialEq, Eq)]
+#[derive(Debug, Drop, PartialEq, Eq)]
 pub enum OrderCount {
     /// Type 0: each picture carries the low bits of its count.
     Type0 {
@@ -43,7 +43,7 @@ pub struct Cropping {
 }
 
 /// A sequence parameter set (7.3.2.1.1). frame_mbs_only_flag is 1 in each.
-#[derive(Clone, Debug, Drop, PartialEq, Eq)]
+#[derive(Debug, Drop, PartialEq, Eq)]
 pub struct Sps {
     /// 66, 77 or 88.
     pub profile_idc: u8,

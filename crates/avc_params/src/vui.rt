@@ -57,7 +57,7 @@ pub struct HrdEntry {
 }
 
 /// Parameters of the hypothetical reference decoder (E.1.2).
-#[derive(Clone, Debug, Drop, PartialEq, Eq)]
+#[derive(Debug, Drop, PartialEq, Eq)]
 pub struct Hrd {
     pub bit_rate_scale: u8,
     pub cpb_size_scale: u8,
@@ -84,7 +84,7 @@ pub struct Restriction {
 }
 
 /// Video usability information (E.1.1). A part is there where its flag is 1.
-#[derive(Clone, Debug, Drop, PartialEq, Eq)]
+#[derive(Debug, Drop, PartialEq, Eq)]
 pub struct Vui {
     pub aspect: Option<SampleAspect>,
     pub overscan_appropriate_flag: Option<bool>,

@@ -6,3 +6,6 @@ mod plane;
 
 pub use frame::{Frame, Planes};
 pub use plane::Plane;
+
+#[cfg(test)]
+mod tests;

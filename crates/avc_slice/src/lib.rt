@@ -14,3 +14,6 @@ mod reading;
 pub use begins::begins_picture;
 pub use header::{CodedOrder, Deblocking, Header, SliceType};
 pub use reading::read_header;
+
+#[cfg(test)]
+mod tests;

@@ -46,6 +46,20 @@ impl<T: Default + Drop, const MAX: usize> UpTo<T, MAX> {
     }
 }
 
+impl<T: Copy + Default + Drop, const MAX: usize> UpTo<T, MAX> {
+    /// The same items once more. This takes no memory.
+    pub fn copied(&self) -> UpTo<T, MAX>
+        ensures { result ≡ self.now }
+    {
+        let mut copy = UpTo::new();
+        let items = self.items.as_slice();
+        for item in items {
+            copy.push(*item);
+        }
+        copy
+    }
+}
+
 impl<T: Default + Clone, const MAX: usize> Clone for UpTo<T, MAX> {
     ghost is_clone = { AllZip T.is_clone };
 

@@ -1,0 +1,48 @@
+-- How great a levelCode can be.
+use Rattle.std.proofs.Common.{◌≡◌, ◌≢◌, ℕ, zero, suc, ◌+◌, ◌*◌, ◌^◌, ◌<◌, ◌≤◌, Bool, true, false, refl, ap, subst, ◌∙◌, sym, arith, inl, inr, lit<, rules}
+use Rattle.std.specs.Prelude.{◌⊎◌, ◌==◌, ◌&&◌, IsTrue, if◌then◌else◌}
+use Rattle.std.proofs.lemmas.Bool.{cases_lt, ne_eqb}
+use Rattle.std.proofs.Math.Nat.{pow-le-pow_right, mul-le-mul}
+use Rattle.avc_cavlc.specs.Block.{level_code, suffix_size}
+
+-- with prefix 15
+longest : (sl suffix : ℕ) (above_one : Bool) → sl ≤ 6 → suffix < 4096 → (IsTrue above_one → sl ≤ 1) → level_code 15 sl suffix above_one ≤ 5055
+longest zero suffix true few small first = omega arith
+longest zero suffix false few small first = omega arith
+longest (suc zero) suffix true few small first = omega arith
+longest (suc zero) suffix false few small first = omega arith
+longest (suc (suc sl)) suffix true few small first = absurd (let one : suc (suc sl) ≤ 1 = first (search rules) in omega arith)
+longest (suc (suc zero)) suffix false few small first = omega arith
+longest (suc (suc (suc zero))) suffix false few small first = omega arith
+longest (suc (suc (suc (suc zero)))) suffix false few small first = omega arith
+longest (suc (suc (suc (suc (suc zero))))) suffix false few small first = omega arith
+longest (suc (suc (suc (suc (suc (suc zero)))))) suffix false few small first = omega arith
+longest (suc (suc (suc (suc (suc (suc (suc sl))))))) suffix false few small first = absurd (omega arith)
+
+short : (a b : Bool) (sl : ℕ) → b ≡ false → sl ≤ 6 → (if a then 4 else if b then 12 else sl) ≤ 6
+short true b sl e few = omega arith
+short false true sl e few = cc
+short false false sl e few = few
+
+at_most : (b : Bool) (n : ℕ) → (if b then n else 0) ≤ n
+at_most true n = omega arith
+at_most false n = omega arith
+
+shorter : (prefix sl suffix : ℕ) (above_one : Bool) → prefix < 15 → sl ≤ 6 → suffix < 2 ^ suffix_size prefix sl → level_code prefix sl suffix above_one ≤ 5055
+shorter prefix sl suffix above_one less few small =
+    let two : 0 < 2 = lit< tt in
+    let other : prefix ≢ 15 = omega arith in
+    let size : suffix_size prefix sl ≤ 6 = short (prefix == 14 && sl == 0) (prefix == 15) sl (ne_eqb prefix 15 other) few in
+    let power : 2 ^ suffix_size prefix sl ≤ 2 ^ 6 = pow-le-pow_right two size in
+    let scale : 2 ^ sl ≤ 2 ^ 6 = pow-le-pow_right two few in
+    let least : prefix ≤ 15 = omega arith in
+    let product : prefix * 2 ^ sl ≤ 15 * 2 ^ 6 = mul-le-mul least scale in
+    omega (arith, at_most (prefix == 15 && sl == 0) 15, at_most above_one 2)
+
+pub level_code_most : (prefix sl suffix : ℕ) (above_one : Bool) → prefix ≤ 15 → sl ≤ 6 → suffix < 2 ^ suffix_size prefix sl → (IsTrue above_one → sl ≤ 1) → level_code prefix sl suffix above_one ≤ 5055
+level_code_most prefix sl suffix above_one most few small first = elim (cases_lt prefix 15) [
+  | inl less ↦ shorter prefix sl suffix above_one less few small
+  | inr last ↦
+      let same : prefix ≡ 15 = omega arith in
+      rw same (longest sl suffix above_one few (let P : ℕ → Type 0 = λ p. suffix < 2 ^ suffix_size p sl in subst P same small) first)
+]

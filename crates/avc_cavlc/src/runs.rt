@@ -1,0 +1,56 @@
+//! The places of the levels (9.2.3).
+ghost use Rattle.std.specs.Prelude.{◌≡◌, ◌+◌, ◌-◌, ◌≤◌, ◌<◌, ℕ, ℤ, pos, List, length, slice_index_or, IfOk, All};
+ghost use Rattle.avc_bits.specs.Reader.{Reads};
+ghost use Rattle.avc_cavlc.specs.Block.{IsLevel, IsSmall, run};
+ghost use Rattle.avc_cavlc.specs.Steps.{placed_by_runs};
+
+use crate::levels::Levels;
+use crate::values::Values;
+use avc_bits::BitReader;
+use avc_types::Fault;
+use avc_vlc::read_run_before;
+
+/// Reads the run of zeros before each value, and puts the values in their places. `zeros` is how many zeros stand before
+/// the last of them.
+#[inline]
+pub(crate) fn read_placed<const MAXN: usize>(
+    reader: &mut BitReader,
+    values: &Values,
+    zeros: u8,
+) -> Result<Levels<MAXN>, Fault>
+    requires most { MAXN ≤ 16 }
+    requires room { length values.now + zeros ≤ MAXN }
+    requires none { length values.now ≡ 0 → zeros ≡ 0 }
+    requires size { All IsLevel values.now }
+    ensures read { Reads result (placed_by_runs MAXN values.now (length values.now) zeros) reader.old reader.new }
+    ensures small { IfOk result (λ levels. (i : ℕ) → IsSmall (slice_index_or levels i (pos 0))) }
+{
+    let total = values.len();
+    let mut levels = [0; MAXN];
+    let mut zeros_left = zeros;
+    let mut place = total + zeros as usize;
+    'values: for k in 0..total {
+        place -= 1;
+        levels[place] = values.get(k);
+        let zeros = read_run(reader, total - 1 - k, zeros_left)?;
+        zeros_left -= zeros;
+        place -= zeros as usize;
+    }
+    Ok(Levels::new(levels, total as u8))
+}
+
+// The zeros before a value, where so many others come after it.
+#[inline]
+fn read_run(reader: &mut BitReader, others: usize, zeros_left: u8) -> Result<u8, Fault>
+    ensures read { Reads result (run others zeros_left) reader.old reader.new }
+    ensures most { IfOk result (λ zeros. zeros ≤ zeros_left) }
+    ensures last { IfOk result (λ zeros. others ≡ 0 → zeros ≡ zeros_left) }
+{
+    if others == 0 {
+        Ok(zeros_left)
+    } else if zeros_left == 0 {
+        Ok(0)
+    } else {
+        read_run_before(reader, zeros_left)
+    }
+}

@@ -1,0 +1,12 @@
+use Rattle.std.proofs.Common.{sym, ◌∙◌, ap, length}
+use Rattle.std.specs.List.{filter}
+use Rattle.std.specs.Prelude.{is_some}
+use Rattle.std.proofs.lemmas.List.{take_all}
+use Rattle.avc_marking.proofs.Sliding.{length-references}
+use Rattle.avc_marking.proofs.window.count.Goals as goal
+
+pub returns-clause-references : goal.returns-clause-references
+returns-clause-references c = λ entries stand.
+    c.loop-frame.invariant.exact
+    ∙ ap (λ fs. length (filter (λ frame. is_some frame.mark) fs)) (take_all c.loop-frame.frame-index c.args.frames.now c.loop-frame-test.false)
+    ∙ sym (length-references entries c.args.frames.now stand.each)

@@ -1,0 +1,99 @@
+ghost use Rattle.std.specs.Prelude.{◌≡◌, ◌+◌, ◌%◌, ◌++◌, [], ◌<◌};
+ghost use Rattle.std.specs.Option.{option_to_list};
+ghost use Rattle.avc_marking.specs.Marks.{missing_numbers};
+ghost use Rattle.avc_marking.specs.Frames.{step_of};
+
+use crate::frame::NewFrame;
+use avc_types::{Fault, Marking};
+use std::marker::Model;
+
+/// The frame number after another, modulo MaxFrameNum.
+fn after(number: u32, max_frame_num: u32) -> u32
+    requires { number < max_frame_num }
+    ensures value { result ≡ (number + 1) % max_frame_num }
+    ensures below { result < max_frame_num }
+{
+    if number + 1 == max_frame_num {
+        0
+    } else {
+        number + 1
+    }
+}
+
+/// Missing frame numbers, in order. A contract sees them as their list.
+#[derive(Drop)]
+pub struct MissingNumbers {
+    next: u32,
+    left: u32,
+    max_frame_num: u32,
+}
+
+impl Model for MissingNumbers {
+    ghost use Rattle.std.specs.Prelude.{ℕ, List, ◌<◌};
+    ghost use Rattle.avc_marking.specs.Marks.{numbers_from};
+
+    ghost Value = { List ℕ };
+
+    ghost view = { λ m. numbers_from m.max_frame_num m.next m.left };
+
+    ghost invariant = { λ m. m.next < m.max_frame_num };
+}
+
+impl MissingNumbers {
+    fn none(max_frame_num: u32) -> MissingNumbers
+        requires { 0 < max_frame_num }
+        ensures { result ≡ [] }
+    {
+        MissingNumbers {
+            next: 0,
+            left: 0,
+            max_frame_num,
+        }
+    }
+
+    /// The next one.
+    pub fn next(&mut self) -> Option<u32>
+        ensures { self.old ≡ option_to_list result ++ self.new }
+    {
+        if self.left == 0 {
+            return None;
+        }
+        let number = self.next;
+        self.left -= 1;
+        self.next = after(number, self.max_frame_num);
+        Some(number)
+    }
+}
+
+/// The frame numbers that are missing before a picture that is no IDR picture (7.4.3, 8.2.5.2), where `previous` is PrevRefFrameNum.
+/// FrameNumRepeated where a reference picture has PrevRefFrameNum itself, FrameNumGap where numbers are missing and may not be.
+pub fn gap(
+    previous: u32,
+    gaps_allowed: bool,
+    new: NewFrame,
+    marking: &Option<Marking>,
+) -> Result<MissingNumbers, Fault>
+    requires { 0 < new.max_frame_num }
+    ensures { result ≡ missing_numbers previous gaps_allowed (step_of new marking.now) }
+{
+    let max = u64::from(new.max_frame_num);
+    if new.frame_num == previous {
+        if marking.is_some() {
+            return Err(Fault::FrameNumRepeated);
+        }
+        return Ok(MissingNumbers::none(new.max_frame_num));
+    }
+    let first = (u64::from(previous) + 1) % max;
+    if u64::from(new.frame_num) == first {
+        return Ok(MissingNumbers::none(new.max_frame_num));
+    }
+    if !gaps_allowed {
+        return Err(Fault::FrameNumGap);
+    }
+    let left = (u64::from(new.frame_num) + max).saturating_sub(u64::from(previous) + 1) % max;
+    Ok(MissingNumbers {
+        next: first as u32,
+        left: left as u32,
+        max_frame_num: new.max_frame_num,
+    })
+}
