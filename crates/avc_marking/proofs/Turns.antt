@@ -80,6 +80,14 @@ forgotten-ok assigned entries own greatest xs zs ws same kept left =
     ap (λ rs. Ok (record (turn_at entries own xs greatest assigned) { references = rs; greatest = None })) (sym (left ∙ filter-nothing (references_at es zs)))
     ∙ ap (λ fs. Ok (turn_at entries own fs None assigned)) (sym (refilled xs ws (omega (arith, ap length same))))
 
+pub not_assigned : (assigned fits : Bool) → (not assigned && fits) ≡ true → assigned ≡ false
+not_assigned false fits h = refl
+not_assigned true fits h = cc
+
+pub and_fits : (assigned fits : Bool) → (not assigned && fits) ≡ true → fits ≡ true
+and_fits false fits h = h
+and_fits true fits h = cc
+
 pub current-ok : (new : NewFrame) (entries : List ℕ) (own : ℕ) (greatest : Option ℕ) (index : ℕ) (xs ws : List MarkedFrame) → index_fits index greatest ≡ true →
     references_at (entries ++ own ∷ []) ws ≡ free_index index (references_at entries xs) ++ record { entry = own; frame_num = new.frame_num; existing = new.existing; mark = Long index } ∷ [] →
     refuse_unless (true && index_fits index greatest)

@@ -1,5 +1,4 @@
-ghost use Rattle.std.specs.Prelude.{◌≡◌, ◌+◌, ◌%◌, ◌++◌, [], ◌<◌};
-ghost use Rattle.std.specs.Option.{option_to_list};
+ghost use Rattle.std.specs.Prelude.{◌≡◌, ◌+◌, ◌%◌, [], ◌<◌, drop, slice_get};
 ghost use Rattle.avc_marking.specs.Marks.{missing_numbers};
 ghost use Rattle.avc_marking.specs.Frames.{step_of};
 
@@ -53,7 +52,8 @@ impl MissingNumbers {
 
     /// The next one.
     pub fn next(&mut self) -> Option<u32>
-        ensures { self.old ≡ option_to_list result ++ self.new }
+        ensures first { result ≡ slice_get self.old 0 }
+        ensures rest { self.new ≡ drop 1 self.old }
     {
         if self.left == 0 {
             return None;

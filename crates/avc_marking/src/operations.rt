@@ -1,4 +1,4 @@
-ghost use Rattle.std.specs.Prelude.{◌≡◌, ℕ, ◌+◌, ◌<◌, ◌≤◌, ◌++◌, ◌∷◌, [], true, false, ◌&&◌, pos, ◌-ℤ◌, List, Option, Some, None, Ok, length, slice_index_or, IfOk, if◌then◌else◌};
+ghost use Rattle.std.specs.Prelude.{◌≡◌, ℕ, ◌+◌, ◌<◌, ◌≤◌, ◌++◌, ◌∷◌, [], true, false, not, ◌&&◌, pos, ◌-ℤ◌, List, Option, Some, None, Ok, length, slice_index_or, IfOk, if◌then◌else◌};
 ghost use Rattle.avc_types.specs.References.{StandAt, references_at, reference_at, no_frame};
 ghost use Rattle.avc_marking.specs.Marks.{named_short, without_short, without_long, made_long, free_index, index_fits, greatest_below, frame_or, after_operation, after_operations};
 ghost use Rattle.avc_types.specs.References.{long_named};
@@ -63,6 +63,13 @@ fn may_be_long(frame: MarkedFrame, index: u32, greatest: Option<u32>) -> bool
     ensures { result ≡ (frame.existing && index_fits index greatest) }
 {
     frame.existing && index_fits(index, greatest)
+}
+
+/// The current picture, which may have been marked, may get the index.
+fn may_be_current(assigned: bool, index: u32, greatest: Option<u32>) -> bool
+    ensures { result ≡ (not assigned && index_fits index greatest) }
+{
+    !assigned && index_fits(index, greatest)
 }
 
 /// The greatest index where there are so many.
@@ -172,7 +179,7 @@ fn operate(
             Ok(assigned)
         }
         Operation::CurrentToLong(index) => {
-            if assigned || !index_fits(index, *greatest) {
+            if !may_be_current(assigned, index, *greatest) {
                 return Err(Fault::BadMarking);
             }
             current_to_long(frames, new, index);

@@ -24,7 +24,7 @@ shown_height p = p.height - ((p.crop).top + (p.crop).bottom)
 abbrev pub luma_window : Picture → List ℕ → List ℕ
 luma_window p samples = window p.width samples (p.crop).left (p.crop).top (shown_width p) (shown_height p)
 
--- of a plane of chroma samples what is shown: everything is half as large
+-- of a plane of chroma samples what is shown: everything is half as large (each offset of the crop is even)
 abbrev pub chroma_window : Picture → List ℕ → List ℕ
 chroma_window p samples =
     window (p.width / 2) samples ((p.crop).left / 2) ((p.crop).top / 2) (shown_width p / 2) (shown_height p / 2)

@@ -1,12 +1,12 @@
-use Rattle.std.proofs.Common.{◌≡◌, ◌∙◌, ap, sym, arith, true, false, None}
+use Rattle.std.proofs.Common.{◌≡◌, ◌∙◌, ap, sym, arith, true, false, not, ◌&&◌, None}
 use Rattle.std.specs.Prelude.{nat_le}
 use Rattle.std.proofs.lemmas.Bool.Decides.{nat_tests}
 use Rattle.avc_types.specs.declared.references.Operation.TheVariants.{CurrentToLong}
 use Rattle.std.proofs.lemmas.Result.{err_from_is_err_and}
-use Rattle.avc_marking.specs.Marks.{without_short, without_long, made_long, after_operation}
+use Rattle.avc_marking.specs.Marks.{without_short, without_long, made_long, after_operation, index_fits}
 use Rattle.avc_marking.specs.Frames.{step_of, turn_at, entries_with, StandWith}
 use Rattle.avc_marking.proofs.Changes.{stand_as}
-use Rattle.avc_marking.proofs.Turns.{stand_with, changed-ok, changed-err, limited-ok, forgotten-ok, current-ok}
+use Rattle.avc_marking.proofs.Turns.{stand_with, changed-ok, changed-err, limited-ok, forgotten-ok, current-ok, not_assigned, and_fits}
 use Rattle.avc_marking.proofs.operations.operate.Goals as goal
 
 pub returns-in_err-forget_short-in-ForgetShort-clause-turn : goal.returns-in_err-forget_short-in-ForgetShort-clause-turn
@@ -89,10 +89,17 @@ returns-in-ForgetAll-clause-turn c = λ entries own stand.
     ∙ forgotten-ok c.args.assigned entries own c.args.greatest.now xs zs c.leave-in-ForgetAll.new.frames same c.leave-in-ForgetAll.auto.frames
     (c.leave-in-ForgetAll.ensures.references _ (stand_as (entries_with c.args.assigned entries own) xs zs same (stand_with c.args.assigned entries own xs stand)))
 
-pub returns-else-not-index_fits-clause-turn : goal.returns-else-not-index_fits-clause-turn
-returns-else-not-index_fits-clause-turn c = λ entries own stand.
-    let stand' : StandWith false entries own c.args.frames.now.items = rw c.if-assigned.false at stand in
+pub current_to_long-requires : goal.current_to_long-requires
+current_to_long-requires c =
+    c.requires (not_assigned c.args.assigned (index_fits c.in-CurrentToLong.index c.args.greatest.now) (sym c.may_be_current.ensures ∙ c.if-not-may_be_current.false))
+
+pub returns-else-not-may_be_current-clause-turn : goal.returns-else-not-may_be_current-clause-turn
+returns-else-not-may_be_current-clause-turn c = λ entries own stand.
+    let may : (not c.args.assigned && index_fits c.in-CurrentToLong.index c.args.greatest.now) ≡ true = sym c.may_be_current.ensures ∙ c.if-not-may_be_current.false in
+    let fresh : c.args.assigned ≡ false = not_assigned c.args.assigned (index_fits c.in-CurrentToLong.index c.args.greatest.now) may in
+    let stand' : StandWith false entries own c.args.frames.now.items = rw fresh at stand in
     ap (after_operation (step_of c.args.new None) own (turn_at entries own c.args.frames.now.items c.args.greatest.now c.args.assigned)) c.in-CurrentToLong.is
-    ∙ ap (λ b. after_operation (step_of c.args.new None) own (turn_at entries own c.args.frames.now.items c.args.greatest.now b) (CurrentToLong c.in-CurrentToLong.index)) c.if-assigned.false
-    ∙ current-ok c.args.new entries own c.args.greatest.now c.in-CurrentToLong.index c.args.frames.now.items c.current_to_long.new.frames.items (sym c.index_fits.ensures ∙ c.if-not-index_fits.false)
+    ∙ ap (λ b. after_operation (step_of c.args.new None) own (turn_at entries own c.args.frames.now.items c.args.greatest.now b) (CurrentToLong c.in-CurrentToLong.index)) fresh
+    ∙ current-ok c.args.new entries own c.args.greatest.now c.in-CurrentToLong.index c.args.frames.now.items c.current_to_long.new.frames.items
+    (and_fits c.args.assigned (index_fits c.in-CurrentToLong.index c.args.greatest.now) may)
     (c.current_to_long.ensures.references entries own (stand_with false entries own c.args.frames.now.items stand'))

@@ -1,8 +1,13 @@
-use Rattle.std.proofs.Common.{◌∙◌, sym, arith}
+use Rattle.std.proofs.Common.{◌∙◌, ap, sym, drop, slice_get, arith}
 use Rattle.avc_marking.proofs.Numbers.{numbers-next}
 use Rattle.avc_marking.proofs.gaps.MissingNumbers.next.Goals as goal
 
-pub returns : goal.returns
-returns c =
-    sym c.self.view_is
-    ∙ numbers-next c.self.inside.max_frame_num c.self.inside.next c.after-self-inside.result c.self.inside.left c.self.invariant (omega arith) c.after-self-inside.ensures.value
+pub returns-clause-first : goal.returns-clause-first
+returns-clause-first c =
+    ap (λ xs. slice_get xs 0)
+    (sym (numbers-next c.self.inside.max_frame_num c.self.inside.next c.after-self-inside.result c.self.inside.left c.self.invariant (omega arith) c.after-self-inside.ensures.value) ∙ c.self.view_is)
+
+pub returns-clause-rest : goal.returns-clause-rest
+returns-clause-rest c =
+    ap (drop 1)
+    (sym (numbers-next c.self.inside.max_frame_num c.self.inside.next c.after-self-inside.result c.self.inside.left c.self.invariant (omega arith) c.after-self-inside.ensures.value) ∙ c.self.view_is)

@@ -1,0 +1,202 @@
+ghost use Rattle.std.specs.Prelude.{◌≡◌, ◌+◌, ◌<◌, ◌≤◌, ℕ, List, [], ◌∷◌, ◌++◌, true, false, is_some, if◌then◌else◌, length, map, slice_get, slice_set, IfOk, OnErr, OnOk, IsErr, IfSome, Some};
+ghost use Rattle.std.specs.List.{filter};
+ghost use Rattle.avc_dpb.specs.Bumping.{Buffer, empty, joined, all_out, cleared, drops};
+ghost use Rattle.avc_dpb.specs.Contents.{Contents, IsBuffer, Marks, Becomes, arrival_of, with_mark};
+ghost use Rattle.avc_dpb.specs.Places.{stays, staying, picked, told};
+
+use crate::arriving::Arriving;
+use crate::bumping::{is_full, make_room, put_out, replace};
+use crate::frame::BufferedFrame;
+use crate::slot::Slot;
+use arrayvec::ArrayVec;
+use avc_types::{Mark, OutOfMemory};
+use std::alloc::Global;
+use std::marker::Model;
+
+/// The decoded picture buffer (C.4): at most 16 frames, in decoding order. After want of memory it answers so from then on.
+#[derive(Drop)]
+pub struct Dpb<T> {
+    alloc: Global,
+    slots: ArrayVec<Slot, 16>,
+    frames: Vec<T>,
+    failed: bool,
+}
+
+impl<T> Model for Dpb<T> {
+    ghost use Rattle.avc_dpb.specs.Contents.{Contents};
+
+    ghost Value = { Contents T };
+
+    ghost use Rattle.std.specs.Prelude.{◌≡◌, false, length};
+
+    ghost view = { λ d. record { slots = d.slots.items; frames = d.frames.items; failed = d.failed } };
+
+    ghost invariant = { λ d. d.failed ≡ false → length d.frames.items ≡ length d.slots.items };
+}
+
+impl<T: BufferedFrame + Drop> Dpb<T> {
+    /// With no frame.
+    pub fn new(alloc: Global) -> Dpb<T>
+        ensures value { result ≡ record { slots = []; frames = []; failed = false } }
+        ensures buffer { (frame_of : ℕ → T) → IsBuffer result empty 0 frame_of }
+    {
+        Dpb {
+            alloc,
+            slots: ArrayVec::new(),
+            frames: Vec::new(alloc),
+            failed: false,
+        }
+    }
+
+    /// The stored frames, in decoding order.
+    pub fn frames(&self) -> &[T]
+        ensures { result.now ≡ self.now.frames }
+    {
+        self.frames.as_slice()
+    }
+
+    /// Changes the mark of the stored frame at this place; with None it is unused for reference.
+    pub fn mark(&mut self, place: usize, mark: Option<Mark>)
+        requires { place < length self.old.frames }
+        ensures { self.new ≡ with_mark T.marked self.old place mark }
+    {
+        self.frames[place].set_mark(mark);
+    }
+
+    /// Makes room for a frame and stores it, or hands its picture out where there is no room (C.4.5.1, C.4.5.2, C.4.2). The stored frames
+    /// have the marks that they have once this frame is marked. Answers the pictures that go out, in order.
+    pub fn store(&mut self, frame: T, arriving: &Arriving) -> Result<Vec<T::Picture>, OutOfMemory>
+        requires capacity { arriving.now.capacity ≤ 16 }
+        ensures ok { (b : Buffer) (next : ℕ) (frame_of : ℕ → T) (references : List ℕ)
+            → IsBuffer self.old b next frame_of → Marks T.referenced self.old references b → frame_of next ≡ frame
+            → IfOk result (λ out. Becomes T.shown self.new out.items b (joined next (arrival_of arriving.now references) b) (next + 1) frame_of) }
+        ensures err { OnErr result (self.new.failed ≡ true) }
+        ensures failed { self.old.failed ≡ true → IsErr result }
+    {
+        if self.failed {
+            return Err(OutOfMemory);
+        }
+        self.failed = true;
+        tell(&mut self.slots, self.frames.as_slice());
+        let places = make_room(&mut self.slots, arriving);
+        let mut out = pictures(self.alloc, self.frames.as_slice(), places.as_slice())?;
+        let full = is_full(self.slots.as_slice(), arriving.capacity);
+        leave(&mut self.slots, &mut self.frames);
+        if full {
+            at_once(self.alloc, &frame, arriving.existing, &mut out)?;
+            self.failed = false;
+            return Ok(out);
+        }
+        self.frames.push(frame)?;
+        self.slots.push(Slot {
+            order: arriving.order,
+            held: arriving.existing,
+            reference: false,
+        });
+        self.failed = false;
+        Ok(out)
+    }
+
+    /// Hands out all held pictures, by bumping, and is then empty (C.4.4).
+    pub fn bump(&mut self) -> Result<Vec<T::Picture>, OutOfMemory>
+        ensures ok { (b : Buffer) (next : ℕ) (frame_of : ℕ → T) → IsBuffer self.old b next frame_of
+            → IfOk result (λ out. Becomes T.shown self.new out.items b (all_out b) next frame_of) }
+        ensures err { OnErr result (self.new.failed ≡ true) }
+        ensures failed { self.old.failed ≡ true → IsErr result }
+    {
+        if self.failed {
+            return Err(OutOfMemory);
+        }
+        self.failed = true;
+        let places = put_out(&mut self.slots);
+        let out = pictures(self.alloc, self.frames.as_slice(), places.as_slice())?;
+        self.drop_all();
+        self.failed = false;
+        Ok(out)
+    }
+
+    /// Drops all frames; no picture goes out (C.4.4, no_output_of_prior_pics_flag 1).
+    pub fn drop_all(&mut self)
+        ensures value { self.new ≡ record { slots = []; frames = []; failed = self.old.failed } }
+        ensures buffer { (b : Buffer) (next : ℕ) (frame_of : ℕ → T) → IsBuffer self.old b next frame_of
+            → IsBuffer self.new (cleared drops b) next frame_of }
+    {
+        self.slots.clear();
+        self.frames.clear();
+    }
+}
+
+// A picture for which there is no room goes out; a non-existing frame never does.
+fn at_once<T: BufferedFrame>(
+    alloc: Global,
+    frame: &T,
+    existing: bool,
+    out: &mut Vec<T::Picture>,
+) -> Result<(), OutOfMemory>
+    ensures { OnOk result (out.new.items ≡ out.old.items ++ (if existing then T.shown frame.now ∷ [] else [])) }
+{
+    if existing {
+        out.push(frame.show(alloc)?)?;
+        return Ok(());
+    }
+    Ok(())
+}
+
+// The pictures of the frames at these places, in order.
+fn pictures<T: BufferedFrame>(
+    alloc: Global,
+    frames: &[T],
+    places: &[usize],
+) -> Result<Vec<T::Picture>, OutOfMemory>
+    ensures { IfOk result (λ out. out.items ≡ map T.shown (picked places.now frames.now)) }
+{
+    let mut out = Vec::new(alloc);
+    for place in places {
+        show_at(alloc, frames, *place, &mut out)?;
+    }
+    Ok(out)
+}
+
+fn show_at<T: BufferedFrame>(
+    alloc: Global,
+    frames: &[T],
+    place: usize,
+    out: &mut Vec<T::Picture>,
+) -> Result<(), OutOfMemory>
+    ensures { OnOk result (out.new.items ≡ out.old.items ++ map T.shown (picked (place ∷ []) frames.now)) }
+{
+    match frames.get(place) {
+        Some(frame) => {
+            out.push(frame.show(alloc)?)?;
+            Ok(())
+        }
+        None => Ok(()),
+    }
+}
+
+// Each slot learns whether its frame is used for reference.
+fn tell<T: BufferedFrame>(slots: &mut ArrayVec<Slot, 16>, frames: &[T])
+    requires { length frames.now ≡ length slots.old.items }
+    ensures told { slots.new.items ≡ told T.referenced slots.old.items frames.now }
+    ensures long { length slots.new.items ≡ length slots.old.items }
+{
+    for place in 0..slots.len() {
+        let slot = slots[place];
+        let reference = frames[place].is_reference();
+        replace(slots, place, Slot { reference, ..slot });
+    }
+}
+
+// Frames that are needed neither for output nor for reference leave.
+fn leave<T: Drop>(slots: &mut ArrayVec<Slot, 16>, frames: &mut Vec<T>)
+    requires { length frames.old.items ≡ length slots.old.items }
+    ensures slots { slots.new.items ≡ filter stays slots.old.items }
+    ensures frames { frames.new.items ≡ staying slots.old.items frames.old.items }
+{
+    for place in (0..slots.len()).rev() {
+        if !slots[place].stays() {
+            slots.remove(place);
+            frames.remove(place);
+        }
+    }
+}

@@ -1,0 +1,43 @@
+//! Laws of the definition of output: they are what C.4 asks for, in its own words.
+
+ghost use Rattle.avc_dpb.specs.Laws.{LeastGoesOut, AllGoOutByBumping, AllHeldGoOut, StandsInDecodingOrder, OutOnlyGrows, GoesOutInTurn, HoldsAtMost, GoesOutOnce};
+
+/// Bumping puts out the held picture with the least order count, of equals the one that was decoded first (C.4.5.3).
+pub fn least_goes_out()
+    ensures { LeastGoesOut }
+{}
+
+/// Where the buffer is emptied, all held pictures go out by bumping again and again (C.4.4).
+pub fn all_go_out_by_bumping()
+    ensures { AllGoOutByBumping }
+{}
+
+/// What goes out where the buffer is emptied: all that is held, in order.
+pub fn all_held_go_out()
+    ensures { AllHeldGoOut }
+{}
+
+/// After every history the frames of the buffer stand in decoding order.
+pub fn stands_in_decoding_order()
+    ensures { StandsInDecodingOrder }
+{}
+
+/// One entry more only adds to what has gone out.
+pub fn out_only_grows()
+    ensures { OutOnlyGrows }
+{}
+
+/// What goes out before an entry, and then what goes out with it.
+pub fn goes_out_in_turn()
+    ensures { GoesOutInTurn }
+{}
+
+/// The buffer never has more frames than the greatest of its sizes.
+pub fn holds_at_most()
+    ensures { HoldsAtMost }
+{}
+
+/// Each picture goes out once in the end, unless it was dropped, and nothing else goes out.
+pub fn goes_out_once()
+    ensures { GoesOutOnce }
+{}

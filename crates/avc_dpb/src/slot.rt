@@ -1,0 +1,24 @@
+ghost use Rattle.std.specs.Prelude.{◌≡◌};
+ghost use Rattle.avc_dpb.specs.Places.{stays};
+
+/// What output keeps of a stored frame.
+#[derive(Clone, Copy, Default)]
+pub struct Slot {
+    /// PicOrderCnt.
+    pub order: i32,
+
+    /// Needed for output.
+    pub held: bool,
+
+    /// Marked as used for reference when the last frame came.
+    pub reference: bool,
+}
+
+impl Slot {
+    // A frame that is needed for output or for reference stays in the buffer.
+    pub fn stays(&self) -> bool
+        ensures { result ≡ stays self.now }
+    {
+        self.held || self.reference
+    }
+}
