@@ -6,7 +6,7 @@ use Rattle.std.proofs.lemmas.Grind.{common_steps}
 use Rattle.std.proofs.lemmas.Nat.{pow-add, mod-pow-add, shr-shr, shl-shr, field_of, div-mul-add, mod-mul-add, shl_whole, or_shifted, pow_pos, pow_below, one_shl, and_mask}
 use Rattle.std.specs.Prelude.{bit_or, bit_and, slice_index}
 use Rattle.std.proofs.Math.Nat.{pow-succ', mod-eq_of_lt, mod-lt}
-use Rattle.std.proofs.Math.Seq.{drop-append-add, take-append-add}
+use Rattle.std.proofs.Math.Seq.{drop-append-add, drop-cons, take-append-add}
 use Rattle.avc_bits.specs.Bits.{bits_of, byte_bits, number_of}
 
 pub length-bits_of : (width n : ℕ) → length (bits_of width n) ≡ width
@@ -241,6 +241,27 @@ pub eight_from : (bytes es : List ℕ) (first : ℕ) → first + 8 ≤ length by
 eight_from bytes es first inside is small =
     eight_number es (ap length is ∙ length-take-le 8 (drop first bytes) (omega (arith, length-drop first bytes))) (λ k below. omega (arith, ap (λ t. get_or t k 0) is, get_or-take 8 (drop first bytes) k 0 below, get_or-drop first bytes k 0, small (first + k)))
     ∙ ap number_of (ap byte_bits is ∙ sym (take_bytes 8 (drop first bytes)) ∙ ap (take 64) (sym (drop_bytes first bytes)))
+
+next_item : (xs : List ℕ) (first next n : ℕ) → next ≡ first + 1 → first < length xs → take (suc n) (drop first xs) ≡ get_or xs first 0 ∷ take n (drop next xs)
+next_item xs first next n is within =
+    let more : suc first ≡ next = omega arith in
+    ap (take (suc n)) (drop-cons xs first 0 within) ∙ ap (λ k. get_or xs first 0 ∷ take n (drop k xs)) more
+
+-- eight bytes one by one
+pub eight_items : (xs : List ℕ) (first : ℕ) → first + 8 ≤ length xs →
+    get_or xs first 0 ∷ get_or xs (first + 1) 0 ∷ get_or xs (first + 2) 0 ∷ get_or xs (first + 3) 0
+    ∷ get_or xs (first + 4) 0 ∷ get_or xs (first + 5) 0 ∷ get_or xs (first + 6) 0 ∷ get_or xs (first + 7) 0 ∷ [] ≡ take 8 (drop first xs)
+eight_items xs first inside =
+    rw (
+      next_item xs first (first + 1) 7 refl (omega arith),
+      next_item xs (first + 1) (first + 2) 6 (omega arith) (omega arith),
+      next_item xs (first + 2) (first + 3) 5 (omega arith) (omega arith),
+      next_item xs (first + 3) (first + 4) 4 (omega arith) (omega arith),
+      next_item xs (first + 4) (first + 5) 3 (omega arith) (omega arith),
+      next_item xs (first + 5) (first + 6) 2 (omega arith) (omega arith),
+      next_item xs (first + 6) (first + 7) 1 (omega arith) (omega arith),
+      next_item xs (first + 7) (first + 8) 0 (omega arith) (omega arith),
+    ) refl
 
 -- the bits at a place, by the eight bytes from there on
 pub window_bits : (bytes : List ℕ) (position count eight : ℕ) → position / 8 + 8 ≤ length bytes → count ≤ 32 → eight ≡ number_of (take 64 (drop (8 * (position / 8)) (byte_bits bytes))) →

@@ -269,3 +269,13 @@ peek_from bits count there value is_there is =
     let long : length front ≡ there = length-take-le there bits (omega arith) in
     let same : value * 2 ^ (count - there) ≡ number_of (front ++ zeros) = ap (λ v. v * 2 ^ (count - there)) is ∙ ap (λ k. number_of front * 2 ^ k) (sym len) ∙ omega (arith, number-append front zeros, number-zeros (count - there)) in
     ap (bits_of count) same ∙ bits_of-number count (front ++ zeros) (length-append front zeros ∙ omega (arith, len, long)) ∙ sym (padded bits count there is_there)
+
+-- bits of which enough stand ahead
+pub peek_window : (r : BitReader) (count value : ℕ) → count ≤ r.left → count ≤ 32 → value ≡ number_of (take count (drop r.position (byte_bits r.bytes.now))) →
+    bits_of count value ≡ take count ((reader_bits r).ahead ++ replicate count false)
+peek_window r count value there few is =
+    let long : count ≤ length (reader_bits r).ahead = omega (arith, length-ahead r) in
+    let ahead : value ≡ number_of (take count (reader_bits r).ahead) = is ∙ ap number_of (sym (take-ahead r count there)) in
+    ap (bits_of count) ahead
+    ∙ bits_of-number count (take count (reader_bits r).ahead) (length-take-le count (reader_bits r).ahead long)
+    ∙ sym (take-append-le count (reader_bits r).ahead (replicate count false) long)

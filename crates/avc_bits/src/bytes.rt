@@ -22,18 +22,25 @@ pub(crate) fn bits_at(bytes: &[u8], position: u128, count: u32) -> u32
 
 // eight bytes as a number, the first one the most significant
 #[inline]
-fn eight_bytes(bytes: &[u8], first: usize) -> u64
+pub(crate) fn eight_bytes(bytes: &[u8], first: usize) -> u64
     requires { first + 8 ≤ length bytes.now }
     ensures { result ≡ number_of (take 64 (drop (8 * first) (byte_bits bytes.now))) }
 {
-    let mut eight = [0; 8];
-    eight.copy_from_slice(&bytes[first..first + 8]);
-    u64::from_be_bytes(eight)
+    u64::from_be_bytes([
+        bytes[first],
+        bytes[first + 1],
+        bytes[first + 2],
+        bytes[first + 3],
+        bytes[first + 4],
+        bytes[first + 5],
+        bytes[first + 6],
+        bytes[first + 7],
+    ])
 }
 
 // bits of 64, counted from the most significant one
 #[inline]
-fn field_of_eight(eight: u64, first: u32, count: u32) -> u32
+pub(crate) fn field_of_eight(eight: u64, first: u32, count: u32) -> u32
     requires near { first ≤ 7 }
     requires few { count ≤ 32 }
     ensures value { result ≡ eight / 2 ^ (64 - first - count) % 2 ^ count }

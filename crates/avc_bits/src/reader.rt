@@ -2,7 +2,7 @@ ghost use Rattle.std.specs.Prelude.{◌≡◌, ◌+◌, ◌-◌, ◌*◌, ◌^�
 ghost use Rattle.avc_bits.specs.Bits.{at, bits_before_stop, bits_of, more_data, number_of, passed, start};
 ghost use Rattle.avc_bits.specs.Codes.{align, flag, se, se_within, signed_value, skip, te, te_to, u, u_to, ue, ue_to, zeros_before_one};
 
-use crate::bytes::{bits_at, stop_bit};
+use crate::bytes::{bits_at, eight_bytes, field_of_eight, stop_bit};
 use avc_types::Fault;
 
 /// Reads the bits of an RBSP up to its stop bit (7.2).
@@ -70,6 +70,25 @@ impl<'a> BitReader<'a> {
     pub fn peek(&self, count: u32) -> u32
         requires { count ≤ 32 }
         ensures bits { bits_of count result ≡ take count ((reader_bits self.now).ahead ++ replicate count false) }
+        ensures below { result < 2 ^ count }
+    {
+        if self.left >= 64 {
+            let first = (self.position / 8) as usize;
+            field_of_eight(
+                eight_bytes(self.bytes, first),
+                (self.position % 8) as u32,
+                count,
+            )
+        } else {
+            self.peek_near_end(count)
+        }
+    }
+
+    // the same, where the stop bit may be near
+    #[cold]
+    fn peek_near_end(self, count: u32) -> u32
+        requires { count ≤ 32 }
+        ensures bits { bits_of count result ≡ take count ((reader_bits self.entry).ahead ++ replicate count false) }
         ensures below { result < 2 ^ count }
     {
         let there = self.left.min(u128::from(count)) as u32;

@@ -1,14 +1,14 @@
 -- One value more is put in its place.
-use Rattle.std.proofs.Common.{◌≡◌, ◌≢◌, ℕ, zero, suc, ◌+◌, ◌-◌, ◌<◌, ◌≤◌, ℤ, pos, neg_ℤ, ◌≤ℤ◌, Bool, true, false, cond, List, [], ◌∷◌, ◌++◌, length, take, drop, set, get_or, refl, ap, subst, ◌∙◌, sym, arith, append_assoc, append-nil, length-append, length-set, inl, inr, nat_abs}
-use Rattle.std.specs.Prelude.{Result, Ok, Err, replicate, ◌⊎◌, not, ◌==◌}
+use Rattle.std.proofs.Common.{◌≡◌, ℕ, zero, suc, ◌+◌, ◌-◌, ◌<◌, ◌≤◌, ℤ, pos, false, cond, List, [], ◌∷◌, ◌++◌, length, take, drop, set, get_or, refl, ap, subst, ◌∙◌, sym, arith, append_assoc, length-set, inl, inr, nat_abs}
+use Rattle.std.specs.Prelude.{Result, Ok, Err, replicate, not, ◌==◌}
 use Rattle.std.specs.List.{sum_by}
 use Rattle.std.proofs.lemmas.Bool.{ne_eqb, cases_lt, cases_eq}
 use Rattle.std.proofs.lemmas.Int.{ints}
 use Rattle.std.proofs.lemmas.List.{length-replicate, drop-replicate, take-replicate, take-take, take-set-le, drop-set, drop-take, take-append-drop, drop-drop, get_or-set_same, get_or-set_other, get_or-replicate, get_or_past}
 use Rattle.std.proofs.lemmas.List.Sums.{sum_by-append}
 use Rattle.avc_types.specs.declared.fault.Fault.{Fault}
-use Rattle.avc_bits.specs.Bits.{Bits, Read, ◌>>=◌, give}
-use Rattle.avc_cavlc.specs.Block.{IsLevel, IsSmall, coefficients, each_after_zeros, placed, run, runs}
+use Rattle.avc_bits.specs.Bits.{Bits, ◌>>=◌, give}
+use Rattle.avc_cavlc.specs.Block.{IsLevel, IsSmall, coefficients, each_after_zeros, run, runs}
 use Rattle.avc_cavlc.specs.Steps.{placed_before, placed_by_runs}
 use Rattle.avc_cavlc.proofs.RunSteps.{each_more, runs_length}
 

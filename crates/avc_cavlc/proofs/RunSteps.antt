@@ -1,5 +1,5 @@
 -- Reading runs, and how many places they take.
-use Rattle.std.proofs.Common.{◌≡◌, ◌≢◌, ℕ, zero, suc, ◌+◌, ◌-◌, ◌<◌, ◌≤◌, ℤ, pos, Bool, true, false, List, [], ◌∷◌, ◌++◌, length, reverse, refl, ap, subst, ◌∙◌, sym, arith, append_assoc, append-nil, length-append}
+use Rattle.std.proofs.Common.{◌≡◌, ◌≢◌, ℕ, zero, suc, ◌+◌, ◌-◌, ◌≤◌, ℤ, pos, Bool, true, false, List, [], ◌∷◌, ◌++◌, length, reverse, refl, ap, ◌∙◌, sym, arith, append-nil, length-append}
 use Rattle.std.specs.Prelude.{Result, Ok, Err, replicate, nat_le}
 use Rattle.std.specs.List.{flat_map, zip}
 use Rattle.std.proofs.lemmas.Bool.{leb-true}
@@ -9,8 +9,7 @@ use Rattle.avc_types.specs.declared.fault.Fault.{Fault}
 use Rattle.avc_types.specs.declared.fault.Fault.TheVariants as faults
 use Rattle.avc_bits.specs.Bits.{Bits, Read, ◌>>=◌, ◌>>◌, give, check}
 use Rattle.avc_vlc.specs.Reading.{run_before, run_table, table_code}
-use Rattle.avc_cavlc.specs.Block.{each_after_zeros, placed, run, runs}
-use Rattle.avc_cavlc.specs.Steps.{placed_before, placed_by_runs}
+use Rattle.avc_cavlc.specs.Block.{each_after_zeros, run, runs}
 
 -- ---- what came before a value
 

@@ -94,12 +94,12 @@ residual_block max nc = do
 
 -- ---- what the levels are
 
--- a level that is not 0; no code gives a greater one
+-- a level that is coded: it is not 0, and its size is at most what the longest code gives
 pub record IsLevel (l : ℤ) : Type 0 where
   pub some : 1 ≤ nat_abs l
   pub most : nat_abs l ≤ 2528
 
--- a level of a block
+-- a level of a block, coded or 0
 pub record IsSmall (l : ℤ) : Type 0 where
   pub low : neg_ℤ (pos 2528) ≤ℤ l
   pub high : l ≤ℤ pos 2528

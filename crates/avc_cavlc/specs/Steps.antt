@@ -1,5 +1,5 @@
 -- What is left to read of a block when some of it has been read.
-use Rattle.std.specs.Prelude.{ℕ, ◌+◌, ◌-◌, ℤ, pos, Bool, List, ◌++◌, replicate}
+use Rattle.std.specs.Prelude.{ℕ, ℤ, Bool, List, ◌++◌}
 use Rattle.avc_bits.specs.Bits.{Read, ◌>>=◌, give}
 use Rattle.avc_cavlc.specs.Block.{each_after_zeros, levels, placed, runs}
 

@@ -1,8 +1,8 @@
 -- Frames as reference frames: which of them a test finds.
-use Rattle.std.specs.List.{filter, find}
+use Rattle.std.specs.List.{filter, find, list_any}
 use Rattle.std.specs.List.Sorted.{IsStrictlyIncreasing}
 use Rattle.std.proofs.Common.{◌≡◌, ℕ, zero, suc, ◌+◌, ◌<◌, nat_lt, Bool, true, false, cond, ◌&&◌, List, [], ◌∷◌, length, Some, slice_get, refl, ap, ◌∙◌, arith}
-use Rattle.std.specs.Prelude.{slice_index, slice_index_or, is_some}
+use Rattle.std.specs.Prelude.{slice_index, slice_index_or, is_some, ◌==◌, ◌||◌}
 use Rattle.std.proofs.lemmas.List.Kept.{AllPairs-from_increasing}
 use Rattle.std.proofs.lemmas.Bool.Decides.{nat_tests}
 use Rattle.avc_types.specs.declared.marked.MarkedFrame.{MarkedFrame}
@@ -119,3 +119,36 @@ find-filter q (x ∷ xs) = by_test (q x) (find-filter q xs)
     by_test : (b : Bool) → find q xs ≡ slice_get (filter q xs) 0 → cond b (Some x) (find q xs) ≡ slice_get (cond b (x ∷ filter q xs) (filter q xs)) 0
     by_test true h = refl
     by_test false h = h
+
+-- ---- which places are seen
+
+none-seen : (x : ℕ) (es : List ℕ) (fs : List MarkedFrame) → ((k : ℕ) → k < length es → x < slice_index es k) → list_any (λ r. r.entry == x) (references_at es fs) ≡ false
+none-seen x [] fs above = refl
+none-seen x (e ∷ es) [] above = refl
+none-seen x (e ∷ es) (f ∷ fs) above =
+    let h : x < e = above 0 (omega arith) in
+    by_mark (is_some f.mark) (grind (arith, nat_tests)) (none-seen x es fs (λ k h'. above (suc k) (omega arith)))
+  where
+    by_mark : (b : Bool) → (e == x) ≡ false → list_any (λ r. r.entry == x) (references_at es fs) ≡ false →
+        list_any (λ r. r.entry == x) (elim b [ true ↦ reference_of e f ∷ references_at es fs | false ↦ references_at es fs ]) ≡ false
+    by_mark true h more = ap (λ b. b || list_any (λ r. r.entry == x) (references_at es fs)) h ∙ more
+    by_mark false h more = more
+
+pub seen-at : (es : List ℕ) (fs : List MarkedFrame) (p : ℕ) → StandAt es fs → p < length fs →
+    list_any (λ r. r.entry == slice_index es p) (references_at es fs) ≡ is_some (slice_index_or fs p no_frame).mark
+seen-at [] fs p stand within = absurd (omega (arith, stand.each))
+seen-at (e ∷ es) [] p stand within = absurd (omega (arith, within))
+seen-at (e ∷ es) (f ∷ fs) zero stand within = by_mark (is_some f.mark) (grind (arith, nat_tests)) (none-seen e es fs (λ k h. below_rest e es k stand.rising h))
+  where
+    by_mark : (b : Bool) → (e == e) ≡ true → list_any (λ r. r.entry == e) (references_at es fs) ≡ false →
+        list_any (λ r. r.entry == e) (elim b [ true ↦ reference_of e f ∷ references_at es fs | false ↦ references_at es fs ]) ≡ b
+    by_mark true h none = ap (λ b. b || list_any (λ r. r.entry == e) (references_at es fs)) h
+    by_mark false h none = none
+seen-at (e ∷ es) (f ∷ fs) (suc p) stand within =
+    let below : e < slice_index es p = below_rest e es p stand.rising (omega (arith, stand.each, within)) in
+    by_mark (is_some f.mark) (grind (arith, nat_tests)) ∙ seen-at es fs p (stand_rest e es f fs stand) (omega arith)
+  where
+    by_mark : (b : Bool) → (e == slice_index es p) ≡ false →
+        list_any (λ r. r.entry == slice_index es p) (elim b [ true ↦ reference_of e f ∷ references_at es fs | false ↦ references_at es fs ]) ≡ list_any (λ r. r.entry == slice_index es p) (references_at es fs)
+    by_mark true h = ap (λ b. b || list_any (λ r. r.entry == slice_index es p) (references_at es fs)) h
+    by_mark false h = refl

@@ -20,7 +20,7 @@ pub use bytes::Bytes;
 pub use edges::FilteredEdges;
 pub use fault::Fault;
 pub use history::History;
-pub use marked::{MarkedFrame, has_index, long_place, pic_num, short_place};
+pub use marked::{MarkedFrame, has_index, long_place, marks_are_seen, pic_num, short_place};
 pub use memory::OutOfMemory;
 pub use picture::{Crop, Picture};
 pub use references::{Mark, Marking, Modification, Operation};

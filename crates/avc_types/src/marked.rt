@@ -1,5 +1,6 @@
-ghost use Rattle.std.specs.Prelude.{◌≡◌, ◌<◌, ℕ, ℤ, List, length, IfSome, Some, slice_index_or};
+ghost use Rattle.std.specs.Prelude.{◌≡◌, ◌<◌, ℕ, ℤ, ◌==◌, List, length, IfSome, Some, is_some, slice_index, slice_index_or};
 ghost use Rattle.std.specs.Option.{option_map};
+ghost use Rattle.std.specs.List.{list_any};
 ghost use Rattle.avc_types.specs.References.{pic_num_of, StandAt, references_at, reference_at, no_frame, is_marked, has_number, has_long_index, short_named, long_named};
 
 use crate::references::Mark;
@@ -76,3 +77,8 @@ pub fn long_place(frames: &[MarkedFrame], index: u32) -> Option<usize>
     }
     None
 }
+
+/// The frame at a place is among the reference frames exactly where it has a mark. It does nothing at run time.
+pub fn marks_are_seen()
+    ensures { (entries : List ℕ) (frames : List MarkedFrame) (place : ℕ) → StandAt entries frames → place < length frames → list_any (λ r. r.entry == slice_index entries place) (references_at entries frames) ≡ is_some (slice_index_or frames place no_frame).mark }
+{}

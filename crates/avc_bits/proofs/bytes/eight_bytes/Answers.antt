@@ -1,8 +1,12 @@
-use Rattle.std.proofs.Common.{arith, ◌∙◌, ap, take, drop, ◌≡◌, ◌+◌, ◌-◌}
-use Rattle.avc_bits.proofs.Numbers.{eight_from}
+use Rattle.std.proofs.Common.{◌+◌, ◌∷◌, [], get_or, arith, ◌∙◌}
+use Rattle.avc_bits.proofs.Numbers.{eight_from, eight_items}
 use Rattle.avc_bits.proofs.bytes.eight_bytes.Goals as goal
 
 pub returns : goal.returns
 returns c =
-    let eight : c.copy_from_slice.new.self ≡ take 8 (drop c.args.first c.args.bytes.now) = let n : c.args.first + 8 - c.args.first ≡ 8 = omega arith in c.copy_from_slice.ensures.after ∙ ap (λ k. take k (drop c.args.first c.args.bytes.now)) n in
-    c.from_be_bytes.ensures ∙ eight_from c.args.bytes.now c.copy_from_slice.new.self c.args.first c.requires eight (λ k. omega (arith, c.type_inv.bytes k))
+    let at = c.args.first in
+    let bytes = c.args.bytes.now in
+    let eight =
+    get_or bytes at 0 ∷ get_or bytes (at + 1) 0 ∷ get_or bytes (at + 2) 0 ∷ get_or bytes (at + 3) 0
+    ∷ get_or bytes (at + 4) 0 ∷ get_or bytes (at + 5) 0 ∷ get_or bytes (at + 6) 0 ∷ get_or bytes (at + 7) 0 ∷ [] in
+    c.from_be_bytes.ensures ∙ eight_from bytes eight at c.requires (eight_items bytes at c.requires) (λ k. omega (arith, c.type_inv.bytes k))

@@ -1,4 +1,4 @@
-use Rattle.std.proofs.Common.{◌≡◌, ◌<◌, ◌^◌, ℕ, subst, ap, ◌∙◌, arith}
+use Rattle.std.proofs.Common.{◌<◌, ◌^◌, ℕ, subst}
 use Rattle.avc_cavlc.proofs.LevelCodes.{level_code_most}
 use Rattle.avc_cavlc.proofs.level.read_level.Goals as goal
 

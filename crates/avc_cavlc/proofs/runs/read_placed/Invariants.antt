@@ -1,4 +1,4 @@
-use Rattle.std.proofs.Common.{◌≡◌, ◌+◌, ◌-◌, ◌≤◌, ℕ, pos, length, drop, get_or}
+use Rattle.std.proofs.Common.{◌≡◌, ◌+◌, ◌-◌, ℕ, pos, length, drop, get_or}
 use Rattle.avc_bits.specs.Reader.{reader_bits, reader_bytes}
 use Rattle.avc_cavlc.specs.Block.{IsSmall, coefficients}
 use Rattle.avc_cavlc.specs.Steps.{placed_before, placed_by_runs}

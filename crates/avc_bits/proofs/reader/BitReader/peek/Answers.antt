@@ -1,22 +1,9 @@
-use Rattle.std.proofs.Common.{arith, ap, sym, ◌∙◌}
-use Rattle.avc_bits.specs.Bits.{bits_of, number_of}
-use Rattle.avc_bits.specs.Reader.{reader_bits}
-use Rattle.avc_bits.proofs.Reading.{length-ahead, take-ahead, peek_fits, peek_from}
+use Rattle.std.proofs.Common.{arith, ◌∙◌}
+use Rattle.avc_bits.proofs.Numbers.{window_bits}
+use Rattle.avc_bits.proofs.Reading.{peek_window}
 use Rattle.avc_bits.proofs.reader.BitReader.peek.Goals as goal
 
-pub overflow_cast-result-2 : goal.overflow_cast-result-2
-overflow_cast-result-2 c =
-    let fits = peek_fits c.args.count c.min-there.result c.from-value.result (omega arith) (omega arith) (omega (arith, c.bits_at.ensures.bound)) in
-    rw fits.0 (omega (arith, fits.2))
-
-pub returns-clause-bits : goal.returns-clause-bits
-returns-clause-bits c =
-    let fits = peek_fits c.args.count c.min-there.result c.from-value.result (omega arith) (omega arith) (omega (arith, c.bits_at.ensures.bound)) in
-    ap (bits_of c.args.count) fits.0
-    ∙ peek_from (reader_bits c.args.self.now).ahead c.args.count c.min-there.result c.from-value.result (omega (arith, length-ahead c.args.self.now))
-    (c.from-value.ensures ∙ c.bits_at.ensures.value ∙ ap number_of (sym (take-ahead c.args.self.now c.min-there.result (omega arith))))
-
-pub returns-clause-below : goal.returns-clause-below
-returns-clause-below c =
-    let fits = peek_fits c.args.count c.min-there.result c.from-value.result (omega arith) (omega arith) (omega (arith, c.bits_at.ensures.bound)) in
-    omega (arith, fits.0, fits.1)
+pub returns-then-self-ge64-clause-bits : goal.returns-then-self-ge64-clause-bits
+returns-then-self-ge64-clause-bits c =
+    peek_window c.args.self.now c.args.count c.field_of_eight.result (omega arith) c.requires
+    (c.field_of_eight.ensures.value ∙ window_bits c.args.self.now.bytes.now c.args.self.now.position c.args.count c.eight_bytes.result (omega arith) c.requires c.eight_bytes.ensures)

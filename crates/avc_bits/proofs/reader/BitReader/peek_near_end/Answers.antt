@@ -1,0 +1,22 @@
+use Rattle.std.proofs.Common.{arith, ap, sym, ◌∙◌}
+use Rattle.avc_bits.specs.Bits.{bits_of, number_of}
+use Rattle.avc_bits.specs.Reader.{reader_bits}
+use Rattle.avc_bits.proofs.Reading.{length-ahead, take-ahead, peek_fits, peek_from}
+use Rattle.avc_bits.proofs.reader.BitReader.peek_near_end.Goals as goal
+
+pub overflow_cast-result-2 : goal.overflow_cast-result-2
+overflow_cast-result-2 c =
+    let fits = peek_fits c.args.count c.min-there.result c.from-value.result (omega arith) (omega arith) (omega (arith, c.bits_at.ensures.bound)) in
+    rw fits.0 (omega (arith, fits.2))
+
+pub returns-clause-bits : goal.returns-clause-bits
+returns-clause-bits c =
+    let fits = peek_fits c.args.count c.min-there.result c.from-value.result (omega arith) (omega arith) (omega (arith, c.bits_at.ensures.bound)) in
+    ap (bits_of c.args.count) fits.0
+    ∙ peek_from (reader_bits c.args.self).ahead c.args.count c.min-there.result c.from-value.result (omega (arith, length-ahead c.args.self))
+    (c.from-value.ensures ∙ c.bits_at.ensures.value ∙ ap number_of (sym (take-ahead c.args.self c.min-there.result (omega arith))))
+
+pub returns-clause-below : goal.returns-clause-below
+returns-clause-below c =
+    let fits = peek_fits c.args.count c.min-there.result c.from-value.result (omega arith) (omega arith) (omega (arith, c.bits_at.ensures.bound)) in
+    omega (arith, fits.0, fits.1)
