@@ -1,5 +1,6 @@
 -- Worked examples of order counts.
-use Rattle.std.specs.Prelude.{◌≡◌, ℕ, ℤ, pos, negsuc, true, false, [], ◌∷◌, Some, None, Ok, refl}
+use Rattle.std.specs.Prelude.{◌≡◌, ℕ, ℤ, pos, negsuc, true, false, [], ◌∷◌, Some, None, Ok, Err, refl}
+use Rattle.avc_types.specs.declared.fault.Fault.TheVariants.{PocRange}
 use Rattle.avc_types.specs.declared.references.Marking.TheVariants.{Idr, SlidingWindow, Adaptive}
 use Rattle.avc_types.specs.declared.references.Operation.TheVariants.{ForgetAll}
 use Rattle.avc_params.specs.declared.sps.Sps.{Sps}
@@ -111,3 +112,50 @@ after_reset = refl
 -- in the cycle, a picture that is no reference: one number less, and its offset
 not_in_cycle : order_counts type1 (record (p_at 0 3 0) { order = Type1 (pos 0) (pos 0) }) (missing type1 2 ∷ missing type1 1 ∷ picture type1 idr ∷ []) ≡ Ok (record { top = pos 5; bottom = pos 6 })
 not_in_cycle = refl
+
+-- a difference of exactly half of MaxPicOrderCntLsb: up from 12 to 4 (see `above`), but not down from 4 to 12
+half : order_counts type0 (p_at 2 2 12) (picture type0 (p_at 2 1 4) ∷ picture type0 idr ∷ []) ≡ Ok (both (pos 12))
+half = refl
+
+-- the greatest bottom count, and one more
+greatest : order_counts type0 (record (p_at 2 1 1) { order = Type0 1 (pos 2147483646) }) (picture type0 idr ∷ []) ≡ Ok (record { top = pos 1; bottom = pos 2147483647 })
+greatest = refl
+
+too_great : order_counts type0 (record (p_at 2 1 1) { order = Type0 1 (pos 2147483647) }) (picture type0 idr ∷ []) ≡ Err PocRange
+too_great = refl
+
+-- in range before it is lowered, and not after
+too_great_lowered : order_counts type0 (record resetting { order = Type0 0 (negsuc 2147483647) }) (picture type0 idr ∷ []) ≡ Err PocRange
+too_great_lowered = refl
+
+-- type 2 after operation 5: the count is lowered from 6 to 0, and frame_num counts from 0
+abbrev resetting2 : Header
+resetting2 = record (p_at 2 3 0) { marking = Some (Adaptive (ForgetAll ∷ [])) }
+
+reset2 : order_counts type2 resetting2 (picture type2 idr ∷ []) ≡ Ok (both (pos 0))
+reset2 = refl
+
+after_reset2 : order_counts type2 (p_at 0 1 0) (picture type2 resetting2 ∷ picture type2 idr ∷ []) ≡ Ok (both (pos 1))
+after_reset2 = refl
+
+-- frame number 0 is missing after 15
+missing_round : order_counts type2 (p_at 2 1 0) (missing type2 0 ∷ picture type2 (p_at 2 15 0) ∷ picture type2 idr ∷ []) ≡ Ok (both (pos 34))
+missing_round = refl
+
+-- type 1 without a cycle: the coded differences alone
+abbrev bare : Sps
+bare = sps_of (orders.Type1 false (negsuc 1) (pos 1) [])
+
+no_cycle : order_counts bare (record (p_at 2 3 0) { order = Type1 (pos 5) (negsuc 1) }) (picture bare idr ∷ []) ≡ Ok (record { top = pos 5; bottom = pos 4 })
+no_cycle = refl
+
+no_cycle_not_reference : order_counts bare (record (p_at 0 3 0) { order = Type1 (pos 5) (negsuc 1) }) (picture bare idr ∷ []) ≡ Ok (record { top = pos 3; bottom = pos 2 })
+no_cycle_not_reference = refl
+
+-- eight whole cycles of 6 and the first offset: frame number 17
+cycle_round : order_counts type1 (record (p_at 2 1 0) { order = Type1 (pos 0) (pos 0) }) (picture type1 (p_at 2 15 0) ∷ picture type1 idr ∷ []) ≡ Ok (record { top = pos 50; bottom = pos 51 })
+cycle_round = refl
+
+-- seven whole cycles and both offsets, less one for a picture that is no reference
+cycle_round_not_reference : order_counts type1 (record (p_at 0 1 0) { order = Type1 (pos 0) (pos 0) }) (picture type1 (p_at 2 15 0) ∷ picture type1 idr ∷ []) ≡ Ok (record { top = pos 47; bottom = pos 48 })
+cycle_round_not_reference = refl

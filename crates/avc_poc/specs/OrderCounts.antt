@@ -12,6 +12,7 @@ use Rattle.avc_slice.specs.declared.header.CodedOrder.{CodedOrder}
 use Rattle.avc_slice.specs.declared.header.CodedOrder.TheVariants.{Type0, Type1}
 use Rattle.avc_slice.specs.declared.header.Header.{Header}
 use Rattle.avc_slice.specs.Header.{is_idr, is_reference, has_operation_5}
+use Rattle.avc_poc.specs.declared.previous.Previous.{Previous}
 
 -- an entry of the history
 pub data Past : Type 0 where
@@ -33,12 +34,7 @@ lowered c = record { top = c.top -ℤ order_of c; bottom = c.bottom -ℤ order_o
 
 -- ---- type 0 (8.2.1.1)
 
--- prevPicOrderCntMsb and prevPicOrderCntLsb
-pub record Previous : Type 0 where
-  pub msb : ℤ
-  pub lsb : ℤ
-
-abbrev no_previous : Previous
+abbrev pub no_previous : Previous
 no_previous = record { msb = pos 0; lsb = pos 0 }
 
 -- MaxPicOrderCntLsb
@@ -50,7 +46,7 @@ abbrev pub lsb_of : CodedOrder → ℤ
 lsb_of (Type0 lsb bottom) = pos lsb
 lsb_of _ = pos 0
 
-abbrev delta_bottom : CodedOrder → ℤ
+abbrev pub delta_bottom : CodedOrder → ℤ
 delta_bottom (Type0 lsb bottom) = bottom
 delta_bottom _ = pos 0
 
@@ -67,7 +63,7 @@ counts_0 sps h previous =
     record { top = top; bottom = top +ℤ delta_bottom h.order }
 
 -- what a reference picture leaves to the pictures after it
-abbrev left_by : Sps → Header → Previous → Previous
+abbrev pub left_by : Sps → Header → Previous → Previous
 left_by sps h previous =
     if has_operation_5 h then record { msb = pos 0; lsb = (lowered (counts_0 sps h previous)).top }
     else record { msb = msb_of (max_lsb sps.order_count) previous (lsb_of h.order); lsb = lsb_of h.order }
@@ -89,7 +85,7 @@ abbrev past_sps : Past → Sps
 past_sps (picture sps h) = sps
 past_sps (missing sps frame_num) = sps
 
-abbrev past_number : Past → ℕ
+abbrev pub past_number : Past → ℕ
 past_number (picture sps h) = h.frame_num
 past_number (missing sps frame_num) = frame_num
 
@@ -97,7 +93,7 @@ abbrev past_is_idr : Past → Bool
 past_is_idr (picture sps h) = is_idr h
 past_is_idr (missing sps frame_num) = false
 
-abbrev resets : Past → Bool
+abbrev pub resets : Past → Bool
 resets (picture sps h) = has_operation_5 h
 resets (missing sps frame_num) = false
 
@@ -131,11 +127,11 @@ expected (suc n) [] = pos 0
 expected (suc n) (x ∷ xs) =
     pos (n / length (x ∷ xs)) *ℤ sum_ℤ (x ∷ xs) +ℤ sum_ℤ (take (n % length (x ∷ xs) + 1) (x ∷ xs))
 
-abbrev delta_0 : CodedOrder → ℤ
+abbrev pub delta_0 : CodedOrder → ℤ
 delta_0 (Type1 a b) = a
 delta_0 _ = pos 0
 
-abbrev delta_1 : CodedOrder → ℤ
+abbrev pub delta_1 : CodedOrder → ℤ
 delta_1 (Type1 a b) = b
 delta_1 _ = pos 0
 
@@ -152,25 +148,25 @@ counts_2 h number =
 
 -- ---- all types
 
--- Of the picture with this header after the older entries, before any lowering.
-abbrev counts_by : OrderCount → Sps → Header → (older : List Past) → Counts
-counts_by (orders.Type0 log2_minus4) sps h older =
-    counts_0 sps h (elim (is_idr h) [ true ↦ no_previous | false ↦ previous_of older ])
-counts_by (orders.Type1 always_zero non_ref top_to_bottom cycle) sps h older =
-    counts_1 non_ref top_to_bottom cycle h (frame_num_offset (picture sps h ∷ older) + h.frame_num)
-counts_by orders.Type2 sps h older = counts_2 h (frame_num_offset (picture sps h ∷ older) + h.frame_num)
+-- prevPicOrderCntMsb and prevPicOrderCntLsb as the picture with this header takes them: 0 for an IDR picture
+abbrev pub previous_for : Header → Previous → Previous
+previous_for h previous = elim (is_idr h) [ true ↦ no_previous | false ↦ previous ]
 
-abbrev pub raw_counts : Sps → Header → (older : List Past) → Counts
-raw_counts sps h older = counts_by sps.order_count sps h older
+-- Of the picture with this header, before any lowering: from what the last reference picture leaves, and from
+-- FrameNumOffset + frame_num.
+abbrev pub counts_by : OrderCount → Sps → Header → Previous → (number : ℕ) → Counts
+counts_by (orders.Type0 log2_minus4) sps h previous number = counts_0 sps h previous
+counts_by (orders.Type1 always_zero non_ref top_to_bottom cycle) sps h previous number = counts_1 non_ref top_to_bottom cycle h number
+counts_by orders.Type2 sps h previous number = counts_2 h number
 
-abbrev fits : ℤ → Bool
+abbrev pub fits : ℤ → Bool
 fits z = int_le (neg_ℤ (pos (2 ^ 31))) z && int_lt z (pos (2 ^ 31))
 
 abbrev pub both_fit : Counts → Bool
 both_fit c = fits c.top && fits c.bottom
 
 -- FrameNumOffset + frame_num stays in 32 signed bits, where it is used
-abbrev number_fits : OrderCount → (number : ℕ) → Bool
+abbrev pub number_fits : OrderCount → (number : ℕ) → Bool
 number_fits (orders.Type0 log2_minus4) number = true
 number_fits _ number = nat_lt number (2 ^ 31)
 
@@ -178,9 +174,15 @@ number_fits _ number = nat_lt number (2 ^ 31)
 abbrev pub answered : Header → Counts → Counts
 answered h c = if has_operation_5 h then lowered c else c
 
+-- both, before and after lowering, are in range
+abbrev pub in_range : Header → Counts → Result Counts Fault
+in_range h c = if both_fit c && both_fit (answered h c) then Ok (answered h c) else Err faults.PocRange
+
+abbrev pub counts_from : Sps → Header → Previous → (number : ℕ) → Result Counts Fault
+counts_from sps h previous number =
+    if number_fits sps.order_count number then in_range h (counts_by sps.order_count sps h previous number) else Err faults.PocRange
+
 -- The counts of the picture with this header after the older entries, or PocRange.
 abbrev pub order_counts : Sps → Header → (older : List Past) → Result Counts Fault
 order_counts sps h older =
-    let c = raw_counts sps h older in
-    if number_fits sps.order_count (frame_num_offset (picture sps h ∷ older) + h.frame_num) && both_fit c && both_fit (answered h c)
-    then Ok (answered h c) else Err faults.PocRange
+    counts_from sps h (previous_for h (previous_of older)) (frame_num_offset (picture sps h ∷ older) + h.frame_num)

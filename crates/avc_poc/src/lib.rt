@@ -1,2 +1,15 @@
 //! Picture order counts (8.2.1).
 #![tactic(auto)]
+
+mod counting;
+mod cycle;
+mod frame_number;
+mod header;
+mod most_significant;
+mod poc;
+mod previous;
+mod range;
+mod type_0;
+mod types_1_and_2;
+
+pub use poc::Poc;

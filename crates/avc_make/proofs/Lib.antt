@@ -1,0 +1,11 @@
+pub mod Bits
+pub mod Filling
+pub mod PpsBack
+pub mod Putting
+pub mod ReadingBack
+pub mod Removing
+pub mod Rows
+pub mod SpsBack
+pub mod UnitsBack
+pub mod VuiBack
+pub mod Words

@@ -1,0 +1,24 @@
+-- The bits of a unit, read again.
+use Rattle.std.proofs.Common.{◌≡◌, ℕ, zero, suc, List, [], ◌∷◌, ◌++◌, Bool, true, false, drop, Some, None, refl, ap, ◌∙◌, arith, append_assoc}
+use Rattle.std.specs.Prelude.{replicate}
+use Rattle.avc_annexb.specs.Escapes.{rbsp}
+use Rattle.avc_bits.specs.Bits.{before_last_one, or_none, start}
+use Rattle.avc_make.specs.Units.{IsUnit}
+use Rattle.avc_make.proofs.Removing.{removed}
+
+before_none : (n : ℕ) → before_last_one (replicate n false) ≡ None
+before_none zero = refl
+before_none (suc n) = rw (before_none n) refl
+
+before_one : (front : List Bool) (n : ℕ) → before_last_one (front ++ true ∷ replicate n false) ≡ Some front
+before_one [] n = rw (before_none n) refl
+before_one (true ∷ front) n = rw (before_one front n) refl
+before_one (false ∷ front) n = rw (before_one front n) refl
+
+-- the bits before the stop bit
+pub unit_start : (header : ℕ) (bits : List Bool) (unit : List ℕ) → IsUnit header bits unit → start (rbsp (drop 1 unit)) ≡ record { position = 0; ahead = bits }
+unit_start header bits unit is =
+    let raw : rbsp (drop 1 unit) ≡ is.raw = ap (λ u. rbsp (drop 1 u)) is.body ∙ removed 0 is.raw (omega arith) in
+    ap start raw
+    ∙ ap (λ b. record { position = 0; ahead = or_none (before_last_one b) }) (is.filled.filled ∙ append_assoc bits (true ∷ []) (replicate is.padding false))
+    ∙ ap (λ b. record { position = 0; ahead = or_none b }) (before_one bits is.padding)

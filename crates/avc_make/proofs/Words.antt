@@ -1,0 +1,65 @@
+-- The codewords.
+use Rattle.std.proofs.Common.{◌≡◌, ℕ, zero, suc, ◌+◌, ◌-◌, ◌*◌, ◌/◌, ◌%◌, ◌^◌, ◌<◌, ◌≤◌, ◌∷◌, ◌++◌, true, false, ℤ, pos, negsuc, neg_ℤ, ◌<ℤ◌, refl, ap, ◌∙◌, sym, arith}
+use Rattle.std.proofs.lemmas.Int.{ints}
+use Rattle.std.proofs.lemmas.Nat.{leading_length, mod-mul-add}
+use Rattle.std.proofs.Math.Nat.{pow-succ', mod-eq_of_lt}
+use Rattle.std.specs.Int.Count.{count_leading_zeros}
+use Rattle.std.specs.Prelude.{replicate}
+use Rattle.avc_bits.specs.Bits.{bits_of}
+use Rattle.avc_bits.specs.Codes.{IsSe, IsUe, signed_value}
+use Rattle.avc_make.specs.Words.{bits_after_one, se_word, signed_index, ue_word}
+use Rattle.avc_make.proofs.Bits.{length-bits_of, number-bits_of, number-inj}
+
+-- where the first 1 of a number stands
+pub record IsTop (n value : ℕ) : Type 0 where
+  pub few : n ≤ 31
+  pub low : 2 ^ n ≤ value
+  pub high : value < 2 ^ n + 2 ^ n
+
+top_from : (value front m : ℕ) → front + m ≡ 32 → 0 < value → value < 2 ^ m → 2 ^ m ≤ 2 * value + 1 → IsTop (31 - front) value
+top_from value front zero sum some above below = absurd (omega arith)
+top_from value front (suc m) sum some above below =
+    let same : 31 - front ≡ m = omega arith in
+    let double : 2 ^ suc m ≡ 2 * 2 ^ m = pow-succ' 2 m in
+    rw same (record { few = omega arith; low = omega (arith, below, double); high = omega (arith, above, double) })
+
+pub top_of : (value : ℕ) → 0 < value → value < 4294967296 → IsTop (bits_after_one value) value
+top_of value some small =
+    let l = leading_length 32 value small in
+    top_from value (count_leading_zeros 32 value) l.0 l.1 some l.2 l.3
+
+-- the bits after the first 1
+pub low_bits : (n value : ℕ) → IsTop n value → bits_of n value ≡ bits_of n (value - 2 ^ n)
+low_bits n value is =
+    let m = value - 2 ^ n in
+    let small : m < 2 ^ n = omega (arith, is.low, is.high) in
+    let whole : value ≡ 1 * 2 ^ n + m = omega (arith, is.low) in
+    number-inj (bits_of n value) (bits_of n m) (length-bits_of n value ∙ sym (length-bits_of n m))
+    (number-bits_of n value ∙ ap (λ v. v % 2 ^ n) whole ∙ mod-mul-add 1 (2 ^ n) m small ∙ sym (mod-eq_of_lt small) ∙ sym (number-bits_of n m))
+
+pub ue_is_word : (v : ℕ) → v < 4294967295 → IsUe (ue_word v) v
+unfolding ue_word
+ue_is_word v small =
+    let n = bits_after_one (v + 1) in
+    let is = top_of (v + 1) (omega arith) (omega arith) in
+    (n, v + 1 - 2 ^ n, is.few, omega (arith, is.low, is.high), ap (λ t. replicate n false ++ true ∷ t) (low_bits n (v + 1) is), omega (arith, is.low))
+
+-- the value at its place
+pub signed_back : (v : ℤ) → v ≡ signed_value (signed_index v)
+signed_back (pos zero) = refl
+signed_back (pos (suc n)) =
+    let odd : (2 * suc n - 1) % 2 ≡ 1 = omega arith in
+    let half : (2 * suc n - 1 + 1) / 2 ≡ suc n = omega arith in
+    rw (odd, half) refl
+signed_back (negsuc n) =
+    let even : 2 * (n + 1) % 2 ≡ 0 = omega arith in
+    let half : 2 * (n + 1) / 2 ≡ suc n = omega arith in
+    rw (even, half) refl
+
+pub index_small : (v : ℤ) → neg_ℤ (pos 2147483648) <ℤ v → v <ℤ pos 2147483648 → signed_index v < 4294967295
+index_small (pos n) low high = omega (arith, ints)
+index_small (negsuc n) low high = omega (arith, ints)
+
+pub se_is_word : (v : ℤ) → neg_ℤ (pos 2147483648) <ℤ v → v <ℤ pos 2147483648 → IsSe (se_word v) v
+unfolding se_word
+se_is_word v low high = (signed_index v, ue_is_word (signed_index v) (index_small v low high), signed_back v)

@@ -1,0 +1,24 @@
+ghost use Rattle.std.specs.Prelude.{◌≡◌, false, IfOk};
+ghost use Rattle.avc_make.specs.Units.{IsUnit};
+
+use crate::escapes::escape;
+use crate::maker::BitMaker;
+use avc_types::OutOfMemory;
+use std::alloc::Global;
+
+// a unit with this header byte and these bits before its stop bit
+pub(crate) fn unit_of(
+    alloc: Global,
+    header: u8,
+    maker: &mut BitMaker,
+) -> Result<Vec<u8>, OutOfMemory>
+    ensures { IfOk result (λ unit. IsUnit header maker.old.bits unit.items) }
+{
+    // rbsp_stop_one_bit
+    maker.flag(true)?;
+    let body = escape(alloc, maker.bytes())?;
+    let mut unit = Vec::new(alloc);
+    unit.push(header)?;
+    unit.extend_from_slice(&body)?;
+    Ok(unit)
+}

@@ -1,0 +1,142 @@
+ghost use Rattle.std.specs.Prelude.{◌≡◌, ◌≤◌, ◌^◌, List, [], ◌∷◌, true};
+ghost use Rattle.std.specs.Result.{OnErr, OnOk, is_ok};
+ghost use Rattle.avc_params.specs.Within.{IsOrderCount, IsSps};
+ghost use Rattle.avc_poc.specs.Earlier.{IsCounted, IsPrevious, after_picture, answer, counts_after, earlier, picture_offset, previous_after};
+ghost use Rattle.avc_poc.specs.OrderCounts.{Past, missing, order_counts, picture, previous_for};
+
+use crate::counting::counts_from;
+use crate::frame_number::next_offset;
+use crate::header::{has_operation_5, is_idr, is_reference};
+use crate::previous::Previous;
+use crate::type_0::left_by;
+use avc_params::Sps;
+use avc_slice::Header;
+use avc_types::Fault;
+use std::marker::Model;
+
+/// Picture order counts (8.2.1) of pictures in decoding order. It stands for what the earlier pictures and missing frame
+/// numbers leave to the next: prevPicOrderCntMsb, prevPicOrderCntLsb, prevFrameNumOffset and prevFrameNum.
+#[derive(Drop)]
+pub struct Poc {
+    previous: Previous,
+    // prevFrameNumOffset, held at 2^31, and prevFrameNum
+    offset: u32,
+    frame_num: u32,
+}
+
+impl Model for Poc {
+    ghost use Rattle.avc_poc.specs.Earlier.{Earlier, IsPrevious};
+    ghost use Rattle.std.specs.Prelude.{◌≤◌, ◌^◌};
+
+    ghost Value = { Earlier };
+
+    ghost view = { λ p. record { previous = p.previous; offset = p.offset; frame_num = p.frame_num } };
+
+    ghost invariant = { λ p. IsPrevious p.previous × (p.offset ≤ 2 ^ 31) };
+}
+
+// prevPicOrderCntMsb and prevPicOrderCntLsb as the picture takes them.
+fn previous_for(header: &Header, previous: Previous) -> Previous
+    requires { IsPrevious previous }
+    ensures value { result ≡ previous_for header.now previous }
+    ensures small { IsPrevious result }
+{
+    if is_idr(header) {
+        Previous { msb: 0, lsb: 0 }
+    } else {
+        previous
+    }
+}
+
+// prevPicOrderCntMsb and prevPicOrderCntLsb after the picture.
+fn previous_after(header: &Header, sps: &Sps, previous: Previous) -> Previous
+    requires order { IsOrderCount sps.now.order_count }
+    requires previous { IsPrevious previous }
+    requires counted { IsCounted sps.now header.now (previous_for header.now previous) }
+    ensures value { result ≡ previous_after sps.now header.now previous }
+    ensures small { IsPrevious result }
+{
+    if is_reference(header) {
+        left_by(header, sps, previous_for(header, previous))
+    } else {
+        previous
+    }
+}
+
+impl Poc {
+    /// Before the first picture.
+    pub fn new() -> Poc
+        ensures { result ≡ earlier [] }
+    {
+        Poc {
+            previous: Previous { msb: 0, lsb: 0 },
+            offset: 0,
+            frame_num: 0,
+        }
+    }
+
+    // FrameNumOffset of the picture.
+    fn offset_of(&self, header: &Header, sps: &Sps) -> u32
+        requires { sps.now.log2_max_frame_num_minus4 ≤ 12 }
+        ensures value { result ≡ picture_offset sps.now header.now self.now }
+        ensures small { result ≤ 2 ^ 31 }
+    {
+        if is_idr(header) {
+            0
+        } else {
+            next_offset(
+                self.offset,
+                self.frame_num,
+                header.frame_num,
+                sps.max_frame_num(),
+            )
+        }
+    }
+
+    // The counts of the picture.
+    fn counts(&self, header: &Header, sps: &Sps) -> Result<(i32, i32), Fault>
+        requires { IsSps sps.now }
+        ensures { result ≡ answer (counts_after sps.now header.now self.now) }
+    {
+        let number = u64::from(self.offset_of(header, sps)) + u64::from(header.frame_num);
+        counts_from(header, sps, previous_for(header, self.previous), number)
+    }
+
+    // The picture has had its counts.
+    fn record(&mut self, header: &Header, sps: &Sps)
+        requires sps { IsSps sps.now }
+        requires counted { is_ok (counts_after sps.now header.now self.old) ≡ true }
+        ensures { self.new ≡ after_picture sps.now header.now self.old }
+    {
+        let offset = self.offset_of(header, sps);
+        self.previous = previous_after(header, sps, self.previous);
+        if has_operation_5(header) {
+            self.offset = 0;
+            self.frame_num = 0;
+        } else {
+            self.offset = offset;
+            self.frame_num = header.frame_num;
+        }
+    }
+
+    /// TopFieldOrderCnt and BottomFieldOrderCnt of the next picture (8.2.1), or PocRange, and then nothing has changed.
+    pub fn next(&mut self, header: &Header, sps: &Sps) -> Result<(i32, i32), Fault>
+        requires { IsSps sps.now }
+        ensures counts { (older : List Past) → self.old ≡ earlier older → result ≡ answer (order_counts sps.now header.now older) }
+        ensures after { OnOk result ((older : List Past) → self.old ≡ earlier older → self.new ≡ earlier (picture sps.now header.now ∷ older)) }
+        ensures unchanged { OnErr result (self.new ≡ self.old) }
+    {
+        let counts = self.counts(header, sps)?;
+        self.record(header, sps);
+        Ok(counts)
+    }
+
+    /// A frame number is missing before the next picture, and a non-existing frame has it (8.2.5.2).
+    pub fn missing(&mut self, frame_num: u32, sps: &Sps)
+        requires { IsSps sps.now }
+        ensures { (older : List Past) → self.old ≡ earlier older → self.new ≡ earlier (missing sps.now frame_num ∷ older) }
+    {
+        self.offset = next_offset(self.offset, self.frame_num, frame_num, sps.max_frame_num());
+        self.frame_num = frame_num;
+    }
+}

@@ -1,0 +1,58 @@
+ghost use Rattle.std.specs.Prelude.{◌≡◌, ◌^◌, nat_lt, if◌then◌else◌, Ok, Err};
+ghost use Rattle.avc_types.specs.declared.fault.Fault.TheVariants.{PocRange};
+ghost use Rattle.avc_poc.specs.Earlier.{answer, counts_of, pair};
+ghost use Rattle.avc_poc.specs.OrderCounts.{both_fit, fits, in_range, lowered};
+
+use crate::header::has_operation_5;
+use avc_slice::Header;
+use avc_types::Fault;
+
+/// FrameNumOffset + frame_num within 31 bits.
+pub(crate) fn narrow_number(number: u64) -> Result<u32, Fault>
+    ensures { result ≡ (if nat_lt number (2 ^ 31) then Ok number else Err PocRange) }
+{
+    if number < 1 << 31 {
+        Ok(number as u32)
+    } else {
+        Err(Fault::PocRange)
+    }
+}
+
+fn narrow(count: i128) -> Result<i32, Fault>
+    ensures { result ≡ (if fits count then Ok count else Err PocRange) }
+{
+    if -(1 << 31) <= count && count < 1 << 31 {
+        Ok(count as i32)
+    } else {
+        Err(Fault::PocRange)
+    }
+}
+
+// Both counts within 32 signed bits.
+fn both(counts: (i128, i128)) -> Result<(i32, i32), Fault>
+    ensures { result ≡ (if both_fit (counts_of counts) then Ok counts else Err PocRange) }
+{
+    let top = narrow(counts.0)?;
+    let bottom = narrow(counts.1)?;
+    Ok((top, bottom))
+}
+
+// Both less the smaller.
+fn lowered(top: i32, bottom: i32) -> (i128, i128)
+    ensures { result ≡ pair (lowered (counts_of (top, bottom))) }
+{
+    let least = i128::from(top.min(bottom));
+    (i128::from(top) - least, i128::from(bottom) - least)
+}
+
+/// The counts as they are answered: lowered by the smaller where the picture has memory_management_control_operation 5.
+pub(crate) fn in_range(header: &Header, counts: (i128, i128)) -> Result<(i32, i32), Fault>
+    ensures { result ≡ answer (in_range header.now (counts_of counts)) }
+{
+    let (top, bottom) = both(counts)?;
+    if has_operation_5(header) {
+        both(lowered(top, bottom))
+    } else {
+        Ok((top, bottom))
+    }
+}
