@@ -1,6 +1,6 @@
 /// A picture parameter set (7.3.2.2). In each entropy_coding_mode_flag, num_slice_groups_minus1 and weighted_pred_flag
 /// are 0.
-#[derive(Clone, Copy, Debug, PartialEq, Eq)]
+#[derive(Clone, Copy)]
 pub struct Pps {
     /// 0 to 255.
     pub pic_parameter_set_id: u8,

@@ -55,11 +55,9 @@ impl Syntax for DefaultCounts {
     ghost syntax = { default_counts };
 
     fn read(reader: &mut BitReader) -> Result<DefaultCounts, Fault> {
-        let num_ref_idx_l0_default_active_minus1 = reader.ue_to(31)? as u8;
-        let num_ref_idx_l1_default_active_minus1 = reader.ue_to(31)? as u8;
         Ok(DefaultCounts {
-            num_ref_idx_l0_default_active_minus1,
-            num_ref_idx_l1_default_active_minus1,
+            num_ref_idx_l0_default_active_minus1: reader.ue_to(31)? as u8,
+            num_ref_idx_l1_default_active_minus1: reader.ue_to(31)? as u8,
         })
     }
 }
@@ -68,15 +66,11 @@ impl Syntax for Quantisation {
     ghost syntax = { quantisation };
 
     fn read(reader: &mut BitReader) -> Result<Quantisation, Fault> {
-        let weighted_bipred_idc = reader.u_to(2, 2)? as u8;
-        let pic_init_qp_minus26 = reader.se_within(-26, 25)?;
-        let pic_init_qs_minus26 = reader.se_within(-26, 25)?;
-        let chroma_qp_index_offset = reader.se_within(-12, 12)?;
         Ok(Quantisation {
-            weighted_bipred_idc,
-            pic_init_qp_minus26,
-            pic_init_qs_minus26,
-            chroma_qp_index_offset,
+            weighted_bipred_idc: reader.u_to(2, 2)? as u8,
+            pic_init_qp_minus26: reader.se_within(-26, 25)?,
+            pic_init_qs_minus26: reader.se_within(-26, 25)?,
+            chroma_qp_index_offset: reader.se_within(-12, 12)?,
         })
     }
 }
@@ -85,13 +79,10 @@ impl Syntax for Switches {
     ghost syntax = { switches };
 
     fn read(reader: &mut BitReader) -> Result<Switches, Fault> {
-        let deblocking_filter_control_present_flag = reader.flag()?;
-        let constrained_intra_pred_flag = reader.flag()?;
-        let redundant_pic_cnt_present_flag = reader.flag()?;
         Ok(Switches {
-            deblocking_filter_control_present_flag,
-            constrained_intra_pred_flag,
-            redundant_pic_cnt_present_flag,
+            deblocking_filter_control_present_flag: reader.flag()?,
+            constrained_intra_pred_flag: reader.flag()?,
+            redundant_pic_cnt_present_flag: reader.flag()?,
         })
     }
 }

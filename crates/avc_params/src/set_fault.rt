@@ -1,7 +1,7 @@
 use avc_types::Fault;
 
 /// Why a parameter set was refused.
-#[derive(Clone, Copy, Debug, PartialEq, Eq)]
+#[derive(Clone, Copy)]
 pub struct SetFault {
     /// The set's id, where that had been read in range.
     pub id: Option<u8>,

@@ -2,7 +2,7 @@ use crate::vui::Vui;
 use avc_types::UpTo;
 
 /// constraint_set0_flag to constraint_set5_flag (7.4.2.1.1).
-#[derive(Clone, Copy, Debug, PartialEq, Eq)]
+#[derive(Clone, Copy, PartialEq)]
 pub struct ConstraintFlags {
     pub constraint_set0_flag: bool,
     pub constraint_set1_flag: bool,
@@ -13,7 +13,7 @@ pub struct ConstraintFlags {
 }
 
 /// How order counts are coded: pic_order_cnt_type and what it brings with it (7.4.2.1.1, 8.2.1).
-#[derive(Debug, Drop, PartialEq, Eq)]
+#[derive(Drop, PartialEq)]
 pub enum OrderCount {
     /// Type 0: each picture carries the low bits of its count.
     Type0 {
@@ -34,7 +34,7 @@ pub enum OrderCount {
 }
 
 /// The frame cropping offsets as they are coded, in units of two luma samples (7.4.2.1.1).
-#[derive(Clone, Copy, Debug, PartialEq, Eq)]
+#[derive(Clone, Copy, PartialEq)]
 pub struct Cropping {
     pub frame_crop_left_offset: u16,
     pub frame_crop_right_offset: u16,
@@ -43,7 +43,7 @@ pub struct Cropping {
 }
 
 /// A sequence parameter set (7.3.2.1.1). frame_mbs_only_flag is 1 in each.
-#[derive(Debug, Drop, PartialEq, Eq)]
+#[derive(Drop, PartialEq)]
 pub struct Sps {
     /// 66, 77 or 88.
     pub profile_idc: u8,

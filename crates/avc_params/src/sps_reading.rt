@@ -1,4 +1,4 @@
-ghost use Rattle.std.specs.Prelude.{◌≡◌, ◌+◌, ◌*◌, ◌^◌, ◌<◌, ◌≤◌, IfOk};
+ghost use Rattle.std.specs.Prelude.{◌≡◌, ◌+◌, ◌*◌, ◌^◌, ◌<◌, ◌≤◌, ◌==◌, ◌||◌, IfOk};
 ghost use Rattle.avc_bits.specs.Reader.{Reads};
 ghost use Rattle.avc_params.specs.Parsing.{optional};
 ghost use Rattle.avc_params.specs.Reading.{sps_of};
@@ -56,19 +56,13 @@ impl Syntax for ConstraintFlags {
     ghost syntax = { constraint_flags };
 
     fn read(reader: &mut BitReader) -> Result<ConstraintFlags, Fault> {
-        let constraint_set0_flag = reader.flag()?;
-        let constraint_set1_flag = reader.flag()?;
-        let constraint_set2_flag = reader.flag()?;
-        let constraint_set3_flag = reader.flag()?;
-        let constraint_set4_flag = reader.flag()?;
-        let constraint_set5_flag = reader.flag()?;
         Ok(ConstraintFlags {
-            constraint_set0_flag,
-            constraint_set1_flag,
-            constraint_set2_flag,
-            constraint_set3_flag,
-            constraint_set4_flag,
-            constraint_set5_flag,
+            constraint_set0_flag: reader.flag()?,
+            constraint_set1_flag: reader.flag()?,
+            constraint_set2_flag: reader.flag()?,
+            constraint_set3_flag: reader.flag()?,
+            constraint_set4_flag: reader.flag()?,
+            constraint_set5_flag: reader.flag()?,
         })
     }
 }
@@ -77,17 +71,12 @@ impl Syntax for Identity {
     ghost syntax = { identity };
 
     fn read(reader: &mut BitReader) -> Result<Identity, Fault> {
-        let profile_idc = reader.u(8)? as u8;
-        let constraint_flags = ConstraintFlags::read(reader)?;
-        let reserved_zero_2bits = reader.u(2)? as u8;
-        let level_idc = reader.u(8)? as u8;
-        let seq_parameter_set_id = reader.ue_to(31)? as u8;
         Ok(Identity {
-            profile_idc,
-            constraint_flags,
-            reserved_zero_2bits,
-            level_idc,
-            seq_parameter_set_id,
+            profile_idc: reader.u(8)? as u8,
+            constraint_flags: ConstraintFlags::read(reader)?,
+            reserved_zero_2bits: reader.u(2)? as u8,
+            level_idc: reader.u(8)? as u8,
+            seq_parameter_set_id: reader.ue_to(31)? as u8,
         })
     }
 }
@@ -188,11 +177,18 @@ fn read_frame_cropping(reader: &mut BitReader, size: Size) -> Result<Option<Crop
     Ok(Some(read_cropping(reader, width, height)?))
 }
 
+/// profile_idc of Baseline, Main or Extended (A.2).
+fn is_known_profile(profile_idc: u8) -> bool
+    ensures { result ≡ (profile_idc == 66 || profile_idc == 77 || profile_idc == 88) }
+{
+    matches!(profile_idc, 66 | 77 | 88)
+}
+
 /// What follows the id.
 fn read_after(reader: &mut BitReader, head: Identity) -> Result<Sps, Fault>
     ensures read { Reads result (sps_after head) reader.old reader.new }
 {
-    if !matches!(head.profile_idc, 66 | 77 | 88) {
+    if !is_known_profile(head.profile_idc) {
         return Err(Fault::Profile);
     }
     if max_dpb_mbs(head.level_idc, head.constraint_flags.constraint_set3_flag).is_none() {

@@ -1,14 +1,14 @@
 use avc_types::UpTo;
 
 /// sar_width and sar_height: the size of a sample, in units of which only their ratio matters (E.2.1).
-#[derive(Clone, Copy, Debug, PartialEq, Eq)]
+#[derive(Clone, Copy, PartialEq)]
 pub struct SampleSize {
     pub sar_width: u16,
     pub sar_height: u16,
 }
 
 /// The shape of a luma sample (E.2.1).
-#[derive(Clone, Copy, Debug, PartialEq, Eq)]
+#[derive(Clone, Copy, PartialEq)]
 pub struct SampleAspect {
     pub aspect_ratio_idc: u8,
     /// Where aspect_ratio_idc is 255, Extended_SAR.
@@ -16,7 +16,7 @@ pub struct SampleAspect {
 }
 
 /// How colours are described (E.2.1).
-#[derive(Clone, Copy, Debug, PartialEq, Eq)]
+#[derive(Clone, Copy, PartialEq)]
 pub struct Colour {
     pub colour_primaries: u8,
     pub transfer_characteristics: u8,
@@ -24,7 +24,7 @@ pub struct Colour {
 }
 
 /// What the samples' values mean (E.2.1).
-#[derive(Clone, Copy, Debug, PartialEq, Eq)]
+#[derive(Clone, Copy, PartialEq)]
 pub struct VideoSignal {
     /// 0 to 7.
     pub video_format: u8,
@@ -34,14 +34,14 @@ pub struct VideoSignal {
 }
 
 /// Where chroma samples lie among the luma samples (E.2.1).
-#[derive(Clone, Copy, Debug, PartialEq, Eq)]
+#[derive(Clone, Copy, PartialEq)]
 pub struct ChromaLocation {
     pub chroma_sample_loc_type_top_field: u32,
     pub chroma_sample_loc_type_bottom_field: u32,
 }
 
 /// The clock of the stream (E.2.1).
-#[derive(Clone, Copy, Debug, PartialEq, Eq)]
+#[derive(Clone, Copy, PartialEq)]
 pub struct Timing {
     pub num_units_in_tick: u32,
     pub time_scale: u32,
@@ -49,7 +49,7 @@ pub struct Timing {
 }
 
 /// One schedule of the hypothetical reference decoder (E.1.2).
-#[derive(Clone, Copy, Debug, Default, PartialEq, Eq)]
+#[derive(Clone, Copy, Default, PartialEq)]
 pub struct HrdEntry {
     pub bit_rate_value_minus1: u32,
     pub cpb_size_value_minus1: u32,
@@ -57,7 +57,7 @@ pub struct HrdEntry {
 }
 
 /// Parameters of the hypothetical reference decoder (E.1.2).
-#[derive(Debug, Drop, PartialEq, Eq)]
+#[derive(Drop, PartialEq)]
 pub struct Hrd {
     pub bit_rate_scale: u8,
     pub cpb_size_scale: u8,
@@ -70,7 +70,7 @@ pub struct Hrd {
 }
 
 /// What the stream keeps to (E.2.1, bitstream_restriction_flag).
-#[derive(Clone, Copy, Debug, PartialEq, Eq)]
+#[derive(Clone, Copy, PartialEq)]
 pub struct Restriction {
     pub motion_vectors_over_pic_boundaries_flag: bool,
     pub max_bytes_per_pic_denom: u32,
@@ -84,7 +84,7 @@ pub struct Restriction {
 }
 
 /// Video usability information (E.1.1). A part is there where its flag is 1.
-#[derive(Debug, Drop, PartialEq, Eq)]
+#[derive(Drop, PartialEq)]
 pub struct Vui {
     pub aspect: Option<SampleAspect>,
     pub overscan_appropriate_flag: Option<bool>,
