@@ -1,5 +1,7 @@
 #!/bin/sh
-# Proves every crate from nothing, tries the edits that must fail, and runs the tests. The last line is 'N passed, 0 failed'.
+# Proves every crate from nothing, tries the edits that must fail, and runs the tests; then decodes the streams of vectors/ with the
+# built program. Each part ends in a line 'N passed, 0 failed'.
 set -eu
 cd "$(dirname "$0")"
-exec rt ci
+rt ci
+exec vectors/run.sh

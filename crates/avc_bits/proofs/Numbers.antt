@@ -189,14 +189,14 @@ field_fits n count few =
     let below : n % 2 ^ count < 2 ^ count = mod-lt n (pow_pos count) in
     (below, pow_lt_trans (n % 2 ^ count) count 32 below few)
 
-take_bytes : (n : ℕ) (bytes : List ℕ) → take (8 * n) (byte_bits bytes) ≡ byte_bits (take n bytes)
+pub take_bytes : (n : ℕ) (bytes : List ℕ) → take (8 * n) (byte_bits bytes) ≡ byte_bits (take n bytes)
 take_bytes zero bytes = refl
 take_bytes (suc n) [] = grind (arith, common_steps)
 take_bytes (suc n) (b ∷ bytes) =
     let len : 8 * suc n ≡ length (bits_of 8 b) + 8 * n = omega (arith, length-bits_of 8 b) in
     rw len (take-append-add (bits_of 8 b) (byte_bits bytes) (8 * n) ∙ ap (λ t. bits_of 8 b ++ t) (take_bytes n bytes))
 
-drop_bytes : (n : ℕ) (bytes : List ℕ) → drop (8 * n) (byte_bits bytes) ≡ byte_bits (drop n bytes)
+pub drop_bytes : (n : ℕ) (bytes : List ℕ) → drop (8 * n) (byte_bits bytes) ≡ byte_bits (drop n bytes)
 drop_bytes zero bytes = refl
 drop_bytes (suc n) [] = grind (arith, common_steps)
 drop_bytes (suc n) (b ∷ bytes) =

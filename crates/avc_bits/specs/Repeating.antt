@@ -18,8 +18,12 @@ left b (Ok p) = p.1
 left b (Err f) = b
 
 -- one turn and then the others
-one_first : {A : Type 0} (part : Read A) (n : ℕ) (b mid after : Bits) (x : A) (xs : List A) → part b ≡ Ok (x, mid) → times n part mid ≡ Ok (xs, after) → times (suc n) part b ≡ Ok (x ∷ xs, after)
+pub one_first : {A : Type 0} (part : Read A) (n : ℕ) (b mid after : Bits) (x : A) (xs : List A) → part b ≡ Ok (x, mid) → times n part mid ≡ Ok (xs, after) → times (suc n) part b ≡ Ok (x ∷ xs, after)
 one_first part n b mid after x xs first others = rw (first, others) refl
+
+-- a fault after one turn
+pub fault_later : {A : Type 0} (part : Read A) (n : ℕ) (b mid : Bits) (x : A) (f : Fault) → part b ≡ Ok (x, mid) → times n part mid ≡ Err f → times (suc n) part b ≡ Err f
+fault_later part n b mid x f first others = rw (first, others) refl
 
 -- one turn more
 pub times_more : {A : Type 0} (part : Read A) (n : ℕ) (b mid after : Bits) (xs : List A) (x : A) →

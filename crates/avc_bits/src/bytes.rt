@@ -1,6 +1,6 @@
 //! The bits of bytes as numbers.
 
-ghost use Rattle.std.specs.Prelude.{◌≡◌, ◌+◌, ◌-◌, ◌*◌, ◌/◌, ◌%◌, ◌^◌, ◌<◌, ◌≤◌, length, take, drop};
+ghost use Rattle.std.specs.Prelude.{◌≡◌, ℕ, ◌+◌, ◌-◌, ◌*◌, ◌/◌, ◌%◌, ◌^◌, ◌<◌, ◌≤◌, length, slice_index, take, drop};
 ghost use Rattle.avc_bits.specs.Bits.{bits_before_stop, bits_of, byte_bits, number_of};
 
 // the bits at a place, as a number
@@ -36,6 +36,17 @@ pub(crate) fn eight_bytes(bytes: &[u8], first: usize) -> u64
         bytes[first + 6],
         bytes[first + 7],
     ])
+}
+
+// some bytes from a place on
+#[inline]
+pub(crate) fn bytes_at(bytes: &[u8], first: usize, count: usize) -> &[u8]
+    requires { first + count ≤ length bytes.now }
+    ensures part { result.now ≡ take count (drop first bytes.now) }
+    ensures long { length result.now ≡ count }
+    ensures small { (k : ℕ) → slice_index result.now k < 256 }
+{
+    &bytes[first..first + count]
 }
 
 // bits of 64, counted from the most significant one

@@ -1,8 +1,8 @@
-ghost use Rattle.std.specs.Prelude.{◌≡◌, ◌+◌, ◌-◌, ◌*◌, ◌^◌, ◌<◌, ◌≤◌, ◌≤ℤ◌, ◌<ℤ◌, pos, neg_ℤ, length, min, take, replicate, ◌++◌, false, IfOk, OnErr};
-ghost use Rattle.avc_bits.specs.Bits.{at, bits_before_stop, bits_of, more_data, number_of, passed, start};
+ghost use Rattle.std.specs.Prelude.{◌≡◌, ◌+◌, ◌-◌, ◌*◌, ◌%◌, ◌^◌, ◌<◌, ◌≤◌, ◌≤ℤ◌, ◌<ℤ◌, pos, neg_ℤ, length, min, take, replicate, ◌++◌, false, IfOk, Err, MatchResult, Ok, OnErr};
+ghost use Rattle.avc_bits.specs.Bits.{at, bits_before_stop, bits_of, more_data, number_of, passed, start, times};
 ghost use Rattle.avc_bits.specs.Codes.{align, flag, se, se_within, signed_value, skip, te, te_to, u, u_to, ue, ue_to, zeros_before_one};
 
-use crate::bytes::{bits_at, eight_bytes, field_of_eight, stop_bit};
+use crate::bytes::{bits_at, bytes_at, eight_bytes, field_of_eight, stop_bit};
 use avc_types::Fault;
 
 /// Reads the bits of an RBSP up to its stop bit (7.2).
@@ -280,10 +280,32 @@ impl<'a> BitReader<'a> {
     /// Goes to the start of the next byte, or stays where that is here.
     pub fn align(&mut self) -> Result<(), Fault>
         ensures read { Reads result align self.old self.new }
+        ensures aligned { IfOk result (λ _. (reader_bits self.new).position % 8 ≡ 0) }
         ensures stays { OnErr result (self.new ≡ self.old) }
     {
         let count = ((8 - self.position % 8) % 8) as u32;
         self.skip(count)
+    }
+
+    /// The next `count` bytes, at least one, from the start of a byte on: u(8) so many times, or `Truncated`.
+    #[inline]
+    pub fn take_bytes(&mut self, count: usize) -> Result<&'a [u8], Fault>
+        requires some { 0 < count }
+        requires aligned { (reader_bits self.old).position % 8 ≡ 0 }
+        ensures read { MatchResult result
+            (λ taken. (times count (u 8) (reader_bits self.old) ≡ Ok (taken.now, reader_bits self.new)) × (reader_bytes self.new ≡ reader_bytes self.old))
+            (λ fault. times count (u 8) (reader_bits self.old) ≡ Err fault) }
+        ensures long { IfOk result (λ taken. length taken.now ≡ count) }
+        ensures aligned { IfOk result (λ _. (reader_bits self.new).position % 8 ≡ 0) }
+        ensures stays { OnErr result (self.new ≡ self.old) }
+    {
+        if self.left < 8 * count as u128 {
+            return Err(Fault::Truncated);
+        }
+        let first = (self.position / 8) as usize;
+        let bytes = self.bytes;
+        *self = self.after_bytes(count);
+        Ok(bytes_at(bytes, first, count))
     }
 
     // the reader after so many of the bits ahead
@@ -298,6 +320,21 @@ impl<'a> BitReader<'a> {
             bytes: self.bytes,
             position: self.position + u128::from(count),
             left: self.left - u128::from(count),
+        }
+    }
+
+    // the reader after so many bytes of the bits ahead
+    #[tactic(auto, unfolding(crate::specs::Reader::reader_bits, crate::specs::Reader::reader_bytes))]
+    #[inline]
+    fn after_bytes(&self, count: usize) -> Self
+        requires { 8 * count ≤ self.now.left }
+        ensures bits { reader_bits result ≡ passed (reader_bits self.now) (8 * count) }
+        ensures bytes { reader_bytes result ≡ reader_bytes self.now }
+    {
+        BitReader {
+            bytes: self.bytes,
+            position: self.position + 8 * count as u128,
+            left: self.left - 8 * count as u128,
         }
     }
 

@@ -19,7 +19,7 @@ pub record Before {A B : Type 0} (part : Result (A × Bits) Fault) (next : A →
   pub first : part ≡ Ok (value, left)
   pub second : next value left ≡ Ok (y, after)
 
-before : {A B : Type 0} (part : Result (A × Bits) Fault) (next : A → Read B) (b : Bits) (y : B) (after : Bits) → ((λ _. part) >>= next) b ≡ Ok (y, after) → Before part next y after
+pub before : {A B : Type 0} (part : Result (A × Bits) Fault) (next : A → Read B) (b : Bits) (y : B) (after : Bits) → ((λ _. part) >>= next) b ≡ Ok (y, after) → Before part next y after
 before (Ok p) next b y after is = record { value = p.0; left = p.1; first = refl; second = is }
 before (Err f) next b y after is = cc
 
@@ -45,12 +45,12 @@ run_before_most zeros_left gap b after is =
 given : (x y : ℕ) (b after : Bits) → give x b ≡ Ok (y, after) → x ≡ y
 given x y b after is = ap (λ r. elim r [ Ok p ↦ p.0 | Err g ↦ x ]) is
 
-run_most : (others zeros_left gap : ℕ) (b after : Bits) → run others zeros_left b ≡ Ok (gap, after) → gap ≤ zeros_left
+pub run_most : (others zeros_left gap : ℕ) (b after : Bits) → run others zeros_left b ≡ Ok (gap, after) → gap ≤ zeros_left
 run_most zero zeros_left gap b after is = omega (arith, given zeros_left gap b after is)
 run_most (suc others) zero gap b after is = omega (arith, given 0 gap b after is)
 run_most (suc others) (suc zeros_left) gap b after is = run_before_most (suc zeros_left) gap b after is
 
-run_last : (others zeros_left gap : ℕ) (b after : Bits) → run others zeros_left b ≡ Ok (gap, after) → others ≡ 0 → zeros_left ≡ gap
+pub run_last : (others zeros_left gap : ℕ) (b after : Bits) → run others zeros_left b ≡ Ok (gap, after) → others ≡ 0 → zeros_left ≡ gap
 run_last zero zeros_left gap b after is last = given zeros_left gap b after is
 run_last (suc others) zeros_left gap b after is last = absurd (omega arith)
 

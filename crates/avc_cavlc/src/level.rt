@@ -96,9 +96,9 @@ fn read_level(reader: &mut BitReader, suffix_length: u32, above_one: bool) -> Re
     Ok(level_of_code(code))
 }
 
-// how many suffix bits follow the prefix
+/// How many suffix bits follow a prefix (levelSuffixSize), where `suffix_length` (suffixLength) is at most 6.
 #[inline]
-fn suffix_size(prefix: u32, suffix_length: u32) -> u32
+pub fn suffix_size(prefix: u32, suffix_length: u32) -> u32
     requires { suffix_length ≤ 6 }
     ensures value { result ≡ suffix_size prefix suffix_length }
     ensures most { result ≤ 12 }
@@ -112,8 +112,9 @@ fn suffix_size(prefix: u32, suffix_length: u32) -> u32
     }
 }
 
+/// levelCode of a prefix up to 15 and its suffix; `above_one` says that the level's size is known to be above 1.
 #[inline]
-fn level_code(prefix: u32, suffix_length: u32, suffix: u32, above_one: bool) -> u32
+pub fn level_code(prefix: u32, suffix_length: u32, suffix: u32, above_one: bool) -> u32
     requires prefix { prefix ≤ 15 }
     requires length { suffix_length ≤ 6 }
     requires suffix { suffix < 2 ^ suffix_size prefix suffix_length }
@@ -143,9 +144,9 @@ fn level_of_code(code: u32) -> i16
     }
 }
 
-// suffixLength for the level after this one
+/// suffixLength for the level after this one, from 1 to 6.
 #[inline]
-fn next_suffix_length(suffix_length: u32, level: i16) -> u32
+pub fn next_suffix_length(suffix_length: u32, level: i16) -> u32
     requires few { suffix_length ≤ 6 }
     requires size { IsLevel level }
     ensures value { result ≡ next_suffix_length suffix_length level }

@@ -36,6 +36,20 @@ impl<const MAXN: usize> Levels<MAXN> {
         }
     }
 
+    /// These levels.
+    pub fn from_array(levels: [i16; MAXN]) -> Self
+        requires { MAXN ≤ 16 }
+        ensures { result ≡ levels.entry }
+    {
+        let mut count = 0u8;
+        'levels: for k in 0..MAXN {
+            if levels[k] != 0 {
+                count += 1;
+            }
+        }
+        Levels { levels, count }
+    }
+
     // these levels, of which so many are not 0
     pub(crate) fn new(levels: [i16; MAXN], count: u8) -> Self
         requires { count ≡ coefficients levels }

@@ -8,4 +8,5 @@ mod runs;
 mod values;
 
 pub use block::read_block;
+pub use level::{level_code, next_suffix_length, suffix_size};
 pub use levels::Levels;

@@ -1,2 +1,4 @@
 pub mod Status
 pub mod Running
+pub mod Decoding
+pub mod Draining

@@ -1,4 +1,6 @@
+use avc_decoder::DecodeError;
 use avc_types::OutOfMemory;
+use avc_yuv::WriteFault;
 use std::alloc::{AllocError, AllocFailed};
 use thiserror::Error;
 
@@ -19,7 +21,7 @@ pub enum RunFault {
 }
 
 ghost use Rattle.std.specs.Prelude.{◌≡◌};
-ghost use Rattle.avc_cli.specs.declared.fault.RunFault.TheVariants.{Memory};
+ghost use Rattle.avc_cli.specs.declared.fault.RunFault.TheVariants.{Memory, Write as Unwritten};
 
 impl From<OutOfMemory> for RunFault {
     ghost from_gives = { λ _ fault. fault ≡ Memory };
@@ -42,5 +44,22 @@ impl<T: Drop> From<AllocFailed<T>> for RunFault {
 
     fn from(_error: AllocFailed<T>) -> RunFault {
         RunFault::Memory
+    }
+}
+
+impl From<DecodeError> for RunFault {
+    ghost from_gives = { λ _ fault. fault ≡ Memory };
+
+    /// A run feeds nothing after the end, so that want of memory is the only error.
+    fn from(_error: DecodeError) -> RunFault {
+        RunFault::Memory
+    }
+}
+
+impl From<WriteFault> for RunFault {
+    ghost from_gives = { λ _ fault. fault ≡ Unwritten };
+
+    fn from(_error: WriteFault) -> RunFault {
+        RunFault::Write
     }
 }

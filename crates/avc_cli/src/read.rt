@@ -8,10 +8,10 @@ use std::alloc::Global;
 use std::io::Read;
 
 /// The most bytes of one read.
-const PIECE: usize = 65_536;
+pub const PIECE: usize = 65_536;
 
 /// The most reads of one run.
-const READS: u64 = 4_294_967_296;
+pub const READS: u64 = 4_294_967_296;
 
 /// All bytes that are left in the reader. An error of a `read` is a fault, also one that tells of an interruption.
 pub fn read_all<R: Read>(alloc: Global, reader: &mut R) -> Result<Vec<u8>, RunFault>
@@ -30,7 +30,7 @@ pub fn read_all<R: Read>(alloc: Global, reader: &mut R) -> Result<Vec<u8>, RunFa
     Err(RunFault::Read)
 }
 
-fn zeros(alloc: Global, count: usize) -> Result<Vec<u8>, RunFault>
+pub fn zeros(alloc: Global, count: usize) -> Result<Vec<u8>, RunFault>
     ensures ok { IfOk result (λ bytes. length bytes.items ≡ count) }
     ensures err { IfErr result (λ fault. fault ≡ faults.Memory) }
 {
@@ -38,7 +38,7 @@ fn zeros(alloc: Global, count: usize) -> Result<Vec<u8>, RunFault>
 }
 
 // How many bytes one `read` gave: none only where no more come.
-fn read_once<R: Read>(reader: &mut R, piece: &mut [u8]) -> Result<usize, RunFault>
+pub fn read_once<R: Read>(reader: &mut R, piece: &mut [u8]) -> Result<usize, RunFault>
     ensures length { length piece.new ≡ length piece.old }
     ensures within { IfOk result (λ len. len ≤ length piece.new) }
     ensures bytes { IfOk result (λ len. Consumes (R.remaining reader.old) (R.remaining reader.new) (take len piece.new)) }

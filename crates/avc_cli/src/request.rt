@@ -6,19 +6,28 @@ use std::{env, io};
 /// What the words of the command line ask for.
 #[derive(Clone, Copy, Debug, PartialEq, Eq)]
 pub enum Request {
+    /// The pictures of a stream.
+    Decode,
+
     /// A line for each unit.
     Units,
 }
 
+const DECODE: &str = "decode";
+
 const UNITS: &str = "units";
 
 fn command<'a>(alloc: Global) -> Result<Command<'a>, Error> {
+    let decode = Command::new(alloc, DECODE).about(
+        "Writes the decoded pictures as I420, cropped, in output order",
+    );
     let units = Command::new(alloc, UNITS).about("Prints a line for each unit");
     Ok(
         Command::new(alloc, "avcdec")
             .bin_name("avcdec")?
             .about("Reads an H.264 byte stream (Annex B) from standard input")
             .subcommand_required(true)
+            .subcommand(decode)?
             .subcommand(units)?,
     )
 }
@@ -29,6 +38,7 @@ pub fn requested(alloc: Global, words: &[String]) -> Result<Request, Error> {
     let mut command = command(alloc)?;
     let matches = command.try_get_matches_from_mut(words)?;
     match matches.subcommand_name() {
+        Some(DECODE) => Ok(Request::Decode),
         Some(UNITS) => Ok(Request::Units),
         _ => Err(command.error(ErrorKind::MissingSubcommand, "a command is missing")?),
     }

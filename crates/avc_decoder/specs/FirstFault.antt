@@ -1,31 +1,37 @@
 -- The open picture, and the first fault in it in the order of checks.
-use Rattle.std.specs.Prelude.{ℕ, zero, suc, Bool, true, false, List, [], ◌∷◌, ◌++◌, Option, Some, None, Result, Ok, Err}
+use Rattle.std.specs.Prelude.{ℕ, zero, suc, Bool, true, false, List, [], ◌∷◌, Option, Some, None, Result, Ok, Err}
 use Rattle.avc_types.specs.declared.fault.Fault.{Fault}
 use Rattle.avc_types.specs.declared.fault.Fault.TheVariants as faults
 use Rattle.avc_plane.specs.Planes.{Planes}
 use Rattle.avc_params.specs.declared.sps.Sps.{Sps}
 use Rattle.avc_params.specs.declared.pps.Pps.{Pps}
 use Rattle.avc_slice.specs.declared.header.Header.{Header}
-use Rattle.avc_picture.specs.Slices.{PictureStart, Slice, Progress, progress, is_full, planes_after_slices}
+use Rattle.avc_slice.specs.declared.slice.Slice.{Slice}
+use Rattle.avc_picture.specs.Slices.{PictureStart, Progress, progress, is_full, planes_after_slices}
 use Rattle.avc_decoder_core.specs.History.{History, opened, closed_by, stored_frames}
 
--- The open picture: the history before it, its parameter sets, its first slice, and its further slices, the newest first.
+-- The open picture: the history before it, its parameter sets, its last slice so far, and those before that, the newest first.
 pub record Open : Type 0 where
   pub before : History
   pub sps : Sps
   pub pps : Pps
-  pub first : Slice
-  pub later : List Slice
+  pub last : Slice
+  pub earlier : List Slice
 
 -- all slices, the newest first
 abbrev pub slices_of : Open → List Slice
-slices_of o = o.later ++ o.first ∷ []
+slices_of o = o.last ∷ o.earlier
 
-abbrev pub last_slice : Open → Slice
-last_slice o = elim o.later [ [] ↦ o.first | s ∷ earlier ↦ s ]
+-- the oldest of slices, the newest first
+abbrev pub oldest : Slice → List Slice → Slice
+oldest s [] = s
+oldest s (older ∷ others) = oldest older others
 
-abbrev first_header : Open → Header
-first_header o = (o.first).header
+abbrev pub first_slice : Open → Slice
+first_slice o = oldest o.last o.earlier
+
+abbrev pub first_header : Open → Header
+first_header o = (first_slice o).header
 
 -- the history with the frame numbers that are missing before the picture
 abbrev pub opened_history : Open → Result History Fault
@@ -49,23 +55,23 @@ closed_history o history = closed_by o.sps (first_header o) (picture_planes o hi
 
 abbrev marking_fault : Open → Result History Fault → Option (ℕ × Fault)
 marking_fault o (Ok h) = None
-marking_fault o (Err f) = Some ((last_slice o).unit, f)
+marking_fault o (Err f) = Some ((o.last).unit, f)
 
 -- found at closing, with the picture's last slice
 abbrev closing_fault : Open → History → Option (ℕ × Fault)
 closing_fault o history =
     elim (is_full (start_on o history) (progress_on o history)) [
-      | false ↦ Some ((last_slice o).unit, faults.MissingMacroblocks)
+      | false ↦ Some ((o.last).unit, faults.MissingMacroblocks)
       | true ↦ marking_fault o (closed_history o history)
     ]
 
 -- The first fault of the picture, with its unit; `closing` says whether it is being closed.
 abbrev pub first_fault : Open → (closing : Bool) → Option (ℕ × Fault)
 first_fault o closing =
-    elim ((first_header o).first_mb_in_slice) [
-      | suc _ ↦ Some ((o.first).unit, faults.MissingMacroblocks)
+    elim (first_header o).first_mb_in_slice [
+      | suc _ ↦ Some ((first_slice o).unit, faults.MissingMacroblocks)
       | zero ↦ elim (opened_history o) [
-        | Err f ↦ Some ((o.first).unit, f)
+        | Err f ↦ Some ((first_slice o).unit, f)
         | Ok history ↦ elim ((progress_on o history).fault) [
           | Some found ↦ Some found
           | None ↦ elim closing [ true ↦ closing_fault o history | false ↦ None ]
@@ -75,14 +81,14 @@ first_fault o closing =
 
 -- The history on which the picture stands: with its missing numbers, where they could be taken in.
 abbrev pub history_of : Open → History
-history_of o = elim ((first_header o).first_mb_in_slice) [
+history_of o = elim (first_header o).first_mb_in_slice [
   | suc _ ↦ o.before
   | zero ↦ elim (opened_history o) [ Err f ↦ o.before | Ok history ↦ history ]
 ]
 
 -- how many macroblocks of it have been read
 abbrev pub read_of : Open → ℕ
-read_of o = elim ((first_header o).first_mb_in_slice) [
+read_of o = elim (first_header o).first_mb_in_slice [
   | suc _ ↦ 0
   | zero ↦ elim (opened_history o) [ Err f ↦ 0 | Ok history ↦ (progress_on o history).read ]
 ]

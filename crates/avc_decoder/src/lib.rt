@@ -1,2 +1,18 @@
 //! From bytes to pictures and refusals.
 #![tactic(auto)]
+
+mod calls;
+mod decoder;
+mod error;
+mod event;
+mod laws;
+mod open_picture;
+mod pictures;
+mod queue;
+mod stream;
+
+pub use calls::{Call, Reply, make_call, run_calls};
+pub use decoder::Decoder;
+pub use error::DecodeError;
+pub use event::Event;
+pub use laws::{events_only_grow, pictures_are_whole, runs_give_the_events};

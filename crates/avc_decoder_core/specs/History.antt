@@ -55,7 +55,7 @@ missing_step sps frame_num = record {
   marking = Some SlidingWindow;
 }
 
-abbrev step_of : Entry → Step
+abbrev pub step_of : Entry → Step
 step_of (closed sps h planes) = picture_step sps h
 step_of (absent sps frame_num) = missing_step sps frame_num
 
@@ -66,7 +66,7 @@ steps h = map step_of h
 abbrev pub marks_of : History → Result Marks Fault
 marks_of h = marks (steps h)
 
-abbrev or_no_references : Result Marks Fault → List Reference
+abbrev pub or_no_references : Result Marks Fault → List Reference
 or_no_references (Ok m) = m.references
 or_no_references (Err f) = []
 
@@ -74,7 +74,7 @@ or_no_references (Err f) = []
 abbrev pub references_of : History → List Reference
 references_of h = or_no_references (marks_of h)
 
-abbrev before_of : Header → Before
+abbrev pub before_of : Header → Before
 before_of h = elim h.marking [
   | None ↦ keeps
   | Some m ↦ elim m [
@@ -87,7 +87,7 @@ abbrev order_or_0 : Result Counts Fault → ℤ
 order_or_0 (Ok c) = order_of c
 order_or_0 (Err f) = pos 0
 
-abbrev arrival : Entry → (older : History) → Arrival
+abbrev pub arrival : Entry → (older : History) → Arrival
 arrival (closed sps h planes) older = record {
   order = order_or_0 (order_counts sps h (pasts older));
   existing = true;
@@ -147,16 +147,16 @@ sequence_sps [] = None
 sequence_sps (closed sps h planes ∷ older) = elim (is_idr h) [ true ↦ Some sps | false ↦ sequence_sps older ]
 sequence_sps (absent sps frame_num ∷ older) = sequence_sps older
 
-abbrev is_same : Option Sps → Sps → Bool
+abbrev pub is_same : Option Sps → Sps → Bool
 is_same None sps = false
 is_same (Some before) sps = same_sps before sps
 
 -- One entry more for each missing number; each can be marked.
-abbrev with_missing : Sps → List ℕ → History → Result History Fault
+abbrev pub with_missing : Sps → List ℕ → History → Result History Fault
 with_missing sps [] h = Ok h
 with_missing sps (n ∷ numbers) h = marks_of (absent sps n ∷ h) >>= λ m. with_missing sps numbers (absent sps n ∷ h)
 
-abbrev counted : Sps → Header → History → Result History Fault
+abbrev pub counted : Sps → Header → History → Result History Fault
 counted sps h history = order_counts sps h (pasts history) >>= λ c. Ok history
 
 -- The history with the frame numbers that are missing before a picture of this header (7.4.3, 8.2.5.2), or the first of

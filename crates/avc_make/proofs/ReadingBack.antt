@@ -64,7 +64,7 @@ zeros_read limit seen (suc n) f rest few =
     let below : nat_lt seen limit ≡ true = lt-ltb seen limit (omega arith) in
     rw (zeros, below) (zeros_read limit (seen + 1) n f rest (omega arith) ∙ ap (λ k. Ok (k, rest)) (omega arith))
 
-back-zeros : (rest : List Bool) (limit n : ℕ) (f : Fault) → n ≤ limit → ReadsBack rest (zeros_before_one limit f) (replicate n false ++ true ∷ []) n
+pub back-zeros : (rest : List Bool) (limit n : ℕ) (f : Fault) → n ≤ limit → ReadsBack rest (zeros_before_one limit f) (replicate n false ++ true ∷ []) n
 unfolding ReadsBack
 back-zeros rest limit n f few position =
     let from_none : 0 + n ≡ n = omega arith in

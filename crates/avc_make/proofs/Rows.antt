@@ -2,6 +2,8 @@
 use Rattle.std.specs.Prelude.{◌≡◌, pos, negsuc, true, false, [], ◌∷◌, refl}
 use Rattle.std.proofs.Common.{None, arith}
 use Rattle.std.specs.Int.Count.{count_leading_zeros}
+use Rattle.avc_bits.specs.Bits.{byte_bits}
+use Rattle.avc_make.specs.BlockWriting.{block_bits}
 use Rattle.avc_make.specs.Escaping.{escaped, escaped_after}
 use Rattle.avc_make.specs.PpsWriting.{pps_bits}
 use Rattle.avc_make.specs.Units.{IsUnit, pps_header, sps_header}
@@ -23,7 +25,7 @@ minus_one_word : se_word (negsuc 0) ≡ false ∷ true ∷ true ∷ []
 unfolding se_word ue_word count_leading_zeros
 minus_one_word = refl
 
-abbrev plain : Pps
+abbrev pub plain : Pps
 plain = record {
   pic_parameter_set_id = 0;
   seq_parameter_set_id = 0;
@@ -49,7 +51,7 @@ escapes_zeros : escaped (0 ∷ 0 ∷ 0 ∷ 0 ∷ 0 ∷ 1 ∷ 0 ∷ 0 ∷ 4 ∷ [
 unfolding escaped_after
 escapes_zeros = refl
 
-abbrev small : Sps
+abbrev pub small : Sps
 small = record {
   profile_idc = 66;
   constraint_flags = record {
@@ -78,3 +80,7 @@ small = record {
 writes_small : IsUnit sps_header (sps_bits small) (0x67 ∷ 0x42 ∷ 0xC0 ∷ 0x0A ∷ 0xDA ∷ 0x71 ∷ [])
 unfolding escaped_after se_word ue_word count_leading_zeros
 writes_small = record { raw = 0x42 ∷ 0xC0 ∷ 0x0A ∷ 0xDA ∷ 0x71 ∷ []; padding = 0; filled = record { few = omega arith; filled = refl }; body = refl }
+
+-- a block that begins with 0 3 0 1 -1 -1 0 1
+writes_block : block_bits 16 (pos 0) (pos 0 ∷ pos 3 ∷ pos 0 ∷ pos 1 ∷ negsuc 0 ∷ negsuc 0 ∷ pos 0 ∷ pos 1 ∷ pos 0 ∷ pos 0 ∷ pos 0 ∷ pos 0 ∷ pos 0 ∷ pos 0 ∷ pos 0 ∷ pos 0 ∷ []) ≡ byte_bits (0x08 ∷ 0xE5 ∷ 0xED ∷ [])
+writes_block = refl

@@ -1,8 +1,12 @@
 pub mod Escaping
+pub mod HeaderWriting
 pub mod Made
 pub mod Making
 pub mod PpsWriting
+pub mod SliceUnits
+pub mod SliceWriting
 pub mod SpsWriting
 pub mod Units
 pub mod VuiWriting
 pub mod Words
+pub mod BlockWriting

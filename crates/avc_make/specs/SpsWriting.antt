@@ -39,11 +39,14 @@ HasSeValues orders.Type2 = Unit {0}
 abbrev pub cropping_bits : Cropping → List Bool
 cropping_bits c = joined (ue_word c.frame_crop_left_offset ∷ ue_word c.frame_crop_right_offset ∷ ue_word c.frame_crop_top_offset ∷ ue_word c.frame_crop_bottom_offset ∷ [])
 
+abbrev pub size_bits : Sps → List Bool
+size_bits sps = joined (ue_word sps.pic_width_in_mbs_minus1 ∷ ue_word sps.pic_height_in_map_units_minus1 ∷ [])
+
 -- With frame_mbs_only_flag 1.
 abbrev pub sps_bits : Sps → List Bool
 sps_bits sps =
     joined (identity_bits sps ∷ ue_word sps.log2_max_frame_num_minus4 ∷ order_bits sps.order_count ∷ ue_word sps.max_num_ref_frames ∷ flag_bits sps.gaps_in_frame_num_value_allowed_flag
-    ∷ joined (ue_word sps.pic_width_in_mbs_minus1 ∷ ue_word sps.pic_height_in_map_units_minus1 ∷ []) ∷ flag_bits true ∷ flag_bits sps.direct_8x8_inference_flag
+    ∷ size_bits sps ∷ flag_bits true ∷ flag_bits sps.direct_8x8_inference_flag
     ∷ optional_bits cropping_bits sps.frame_cropping ∷ optional_bits vui_bits sps.vui ∷ [])
 
 -- A set that can be written: it is within the limits of the sets that are read, and each field within its code.

@@ -1,5 +1,5 @@
 -- The codewords of syntax elements (9.1).
-use Rattle.std.specs.Prelude.{◌≡◌, ℕ, ◌+◌, ◌-◌, ◌*◌, ℤ, pos, negsuc, Bool, true, false, List, [], ◌∷◌, ◌++◌, length, replicate, Ok}
+use Rattle.std.specs.Prelude.{◌≡◌, ℕ, ◌+◌, ◌-◌, ◌*◌, ℤ, pos, negsuc, Bool, true, false, ◌==◌, if◌then◌else◌, List, [], ◌∷◌, ◌++◌, length, replicate, Ok}
 use Rattle.std.specs.Int.Count.{count_leading_zeros}
 use Rattle.avc_bits.specs.Bits.{Read, bits_of}
 
@@ -19,6 +19,10 @@ signed_index (negsuc n) = 2 * (n + 1)
 -- se(v) of a value above -2 ^ 31
 unfoldable pub se_word : ℤ → List Bool
 se_word v = ue_word (signed_index v)
+
+-- te(v) of a value in 0 .. range: where the range is 1 a bit turned round, else ue(v)
+abbrev pub te_word : (range : ℕ) → ℕ → List Bool
+te_word range v = if range == 1 then (v == 0) ∷ [] else ue_word v
 
 -- words one after another
 abbrev pub joined : List (List Bool) → List Bool

@@ -1,17 +1,20 @@
 //! What is written, read again: laws of the definitions alone.
 
-ghost use Rattle.std.specs.Prelude.{◌≡◌, ◌<◌, ◌<ℤ◌, ℕ, ◌^◌, ℤ, Bool, List, pos, neg_ℤ, ◌∷◌, []};
+ghost use Rattle.std.specs.Prelude.{◌≡◌, ◌<◌, ◌≤◌, ◌<ℤ◌, ℕ, ◌^◌, ℤ, Bool, List, pos, neg_ℤ, ◌∷◌, []};
 ghost use Rattle.avc_annexb.specs.Escapes.{rbsp};
 ghost use Rattle.avc_bits.specs.Bits.{bits_of};
-ghost use Rattle.avc_bits.specs.Codes.{IsSe, IsUe, flag, se, u, ue};
+ghost use Rattle.avc_bits.specs.Codes.{IsSe, IsTe, IsUe, flag, se, te, u, ue};
+ghost use Rattle.avc_make.specs.BlockWriting.{BlocksAreRead, BlocksAreWritable, SmallAreWritable};
 ghost use Rattle.avc_make.specs.Escaping.{HasNoStart, escaped};
+ghost use Rattle.avc_make.specs.SliceUnits.{HeaderIsRead, SliceIsRead};
 ghost use Rattle.avc_make.specs.Units.{PpsIsRead, SpsIsRead};
-ghost use Rattle.avc_make.specs.Words.{ReadsBack, se_word, ue_word};
+ghost use Rattle.avc_make.specs.Words.{ReadsBack, se_word, te_word, ue_word};
 
-/// The words that are put for ue(v) and se(v) are codewords of their values.
+/// The words that are put for ue(v), se(v) and te(v) are codewords of their values.
 pub fn words_are_codewords()
     ensures ue { (v : ℕ) → v < 4294967295 → IsUe (ue_word v) v }
     ensures se { (v : ℤ) → neg_ℤ (pos 2147483648) <ℤ v → v <ℤ pos 2147483648 → IsSe (se_word v) v }
+    ensures te { (range v : ℕ) → 1 ≤ range → v ≤ range → v < 4294967295 → IsTe range (te_word range v) v }
 {}
 
 /// Reading gives the value of a word, and leaves what follows it.
@@ -20,6 +23,7 @@ pub fn words_are_read()
     ensures flag { (rest : List Bool) (b : Bool) → ReadsBack rest flag (b ∷ []) b }
     ensures ue { (rest : List Bool) (v : ℕ) → v < 4294967295 → ReadsBack rest ue (ue_word v) v }
     ensures se { (rest : List Bool) (v : ℤ) → neg_ℤ (pos 2147483648) <ℤ v → v <ℤ pos 2147483648 → ReadsBack rest se (se_word v) v }
+    ensures te { (rest : List Bool) (range v : ℕ) → v ≤ range → v < 4294967295 → ReadsBack rest (te range) (te_word range v) v }
 {}
 
 /// What is escaped is read as it was, and no start code stands inside.
@@ -36,4 +40,29 @@ pub fn pps_is_read()
 /// The unit of a sequence parameter set in its ranges is read as that set, with no fault.
 pub fn sps_is_read()
     ensures { SpsIsRead }
+{}
+
+/// The bits of a residual block that has codes are read as that block, with no fault.
+pub fn blocks_are_read()
+    ensures { BlocksAreRead }
+{}
+
+/// A block can be written if none of its levels is above 2,063 in size.
+pub fn small_levels_are_writable()
+    ensures { SmallAreWritable }
+{}
+
+/// Each block that is read can be written, and its bits are then those that were read.
+pub fn blocks_are_written_as_read()
+    ensures { BlocksAreWritable }
+{}
+
+/// In the unit of a slice whose header is in its ranges, the header is read as it is, at its place, with no fault.
+pub fn header_is_read()
+    ensures { HeaderIsRead }
+{}
+
+/// In the unit of a slice of I_PCM macroblocks, the bits after its header are read as those macroblocks, with no fault.
+pub fn slice_is_read()
+    ensures { SliceIsRead }
 {}

@@ -1,7 +1,7 @@
 ghost use Rattle.std.specs.Prelude.{◌≡◌, ◌-◌, ◌/◌, ◌%◌, ◌*◌, ◌^◌, ◌<◌, ◌≤◌, ◌<ℤ◌, ℕ, Bool, List, pos, neg_ℤ, true, false, [], ◌∷◌, ◌++◌, ◌==◌, length, replicate, IfOk};
 ghost use Rattle.avc_bits.specs.Bits.{bits_of};
 ghost use Rattle.avc_make.specs.Made.{nothing, IsFilled, Puts};
-ghost use Rattle.avc_make.specs.Words.{bits_after_one, se_word, signed_index, ue_word};
+ghost use Rattle.avc_make.specs.Words.{bits_after_one, se_word, signed_index, te_word, ue_word};
 
 use avc_types::OutOfMemory;
 use smallvec::SmallVec;
@@ -92,6 +92,20 @@ impl BitMaker {
     {
         self.ue(index_of(value))?;
         Ok(())
+    }
+
+    /// te(v) of a value in 0..=range.
+    pub fn te(&mut self, range: u32, value: u32) -> Result<(), OutOfMemory>
+        requires some { 1 ≤ range }
+        requires within { value ≤ range }
+        requires short { value < 4294967295 }
+        ensures { Puts result (te_word range value) self.old self.new }
+    {
+        if range == 1 {
+            self.flag(value == 0)
+        } else {
+            self.ue(value)
+        }
     }
 
     /// The bytes of the bits, the last one filled up with 0 bits.

@@ -1,11 +1,12 @@
 -- The macroblocks of a slice (7.3.4).
-use Rattle.std.specs.Prelude.{ℕ, zero, suc, ◌-◌, Bool, true, false, ◌==◌, nat_lt, List, [], ◌∷◌, ◌++◌, length, replicate, Option, Some, None, Ok, Err}
+use Rattle.std.specs.Prelude.{ℕ, zero, suc, ◌-◌, Bool, true, false, ◌==◌, nat_lt, List, [], ◌∷◌, ◌++◌, length, replicate, Option, Some, None, Result, Ok, Err}
 use Rattle.std.specs.Option.{option_map}
 use Rattle.avc_types.specs.declared.fault.Fault.{Fault}
 use Rattle.avc_types.specs.declared.fault.Fault.TheVariants as faults
 use Rattle.avc_types.specs.Macroblock.{p_skip, Mb}
 use Rattle.avc_types.specs.Pictures.{PicMb}
-use Rattle.avc_bits.specs.Bits.{Bits, more_data}
+use Rattle.avc_types.specs.Staged.{takes_mb_type}
+use Rattle.avc_bits.specs.Bits.{Bits, Read, more_data}
 use Rattle.avc_bits.specs.Codes.{ue}
 use Rattle.avc_neigh.specs.Blocks.{left_of, above}
 use Rattle.avc_neigh.specs.Counts.{counts_of}
@@ -53,11 +54,19 @@ context s before qp = record {
   up = option_map (λ m. counts_of m.syntax) (above before s.width s.slice (length before));
 }
 
+abbrev pub is_taken : Result (ℕ × Bits) Fault → Bool
+is_taken (Ok r) = takes_mb_type r.0
+is_taken (Err f) = true
+
+-- A macroblock of an I slice, or NotYet where its mb_type is not yet taken.
+abbrev pub i_macroblock : Context → Read Mb
+i_macroblock c b = elim (is_taken (ue b)) [ true ↦ macroblock c b | false ↦ Err faults.NotYet ]
+
 -- In an I slice, where `left` macroblocks of the picture remain: one, and others while there is more data.
 abbrev pub i_data : SliceStart → (left : ℕ) → (before : List PicMb) → (qp : ℕ) → Bits → SliceMbs
 i_data s zero before qp b = stopped faults.TooManyMacroblocks
 i_data s (suc left) before qp b =
-    elim (macroblock (context s before qp) b) [
+    elim (i_macroblock (context s before qp) b) [
       | Err f ↦ stopped f
       | Ok r ↦ after (r.0 ∷ []) (elim (more_data r.1) [
         | true ↦ i_data s left (before ++ placed s r.0 ∷ []) (r.0).qp r.1

@@ -8,7 +8,8 @@ use Rattle.avc_params.specs.Within.{IsPps}
 use Rattle.avc_params.specs.declared.pps.Pps.{Pps}
 use Rattle.avc_params.specs.declared.pps_reading.DefaultCounts.{DefaultCounts}
 use Rattle.avc_params.specs.declared.pps_reading.Quantisation.{Quantisation}
-use Rattle.avc_params.proofs.Givings.{Gives, IsFrom, bind-ok, gives-any, gives-bind, gives-check, gives-give, gives-se_within, gives-u_to, gives-ue_to, whole-ok}
+use Rattle.avc_bits.specs.Giving.{Gives, IsFrom, bind-ok, gives-any, gives-bind, gives-check, gives-give, gives-se_within, gives-u_to, gives-ue_to}
+use Rattle.avc_params.proofs.Givings.{whole-ok}
 
 record IsCounts (c : DefaultCounts) : Type 0 where
   l0 : c.num_ref_idx_l0_default_active_minus1 ≤ 31

@@ -2,6 +2,7 @@
 use Rattle.std.specs.Prelude.{ℕ, zero, suc, ◌+◌, pos, ◌+ℤ◌, nat_abs, Bool, true, false, ◌==◌, nat_lt, List, [], ◌∷◌, ◌++◌, length, map, Option, Some, None, Result, Ok, Err}
 use Rattle.std.specs.Option.{option_map}
 use Rattle.std.specs.List.{find}
+use Rattle.avc_types.specs.Staged.{takes_deblocking}
 use Rattle.avc_types.specs.declared.edges.FilteredEdges.TheVariants.{All}
 use Rattle.avc_types.specs.declared.fault.Fault.{Fault}
 use Rattle.avc_types.specs.declared.fault.Fault.TheVariants as faults
@@ -11,9 +12,10 @@ use Rattle.avc_types.specs.Pictures.{Samples, Frame, SliceFacts, PicMb, Coded}
 use Rattle.avc_params.specs.declared.sps.Sps.{Sps}
 use Rattle.avc_params.specs.declared.pps.Pps.{Pps}
 use Rattle.avc_params.specs.Limits.{width_in_mbs, height_in_mbs, size_in_mbs, max_frame_num}
-use Rattle.avc_bits.specs.Bits.{Bits}
+use Rattle.avc_bits.specs.Bits.{Bits, at}
 use Rattle.avc_slice.specs.declared.header.Deblocking.{Deblocking}
 use Rattle.avc_slice.specs.declared.header.Header.{Header}
+use Rattle.avc_slice.specs.declared.slice.Slice.{Slice}
 use Rattle.avc_slice.specs.Header.{is_p, slice_qp}
 use Rattle.avc_reflist.specs.Lists.{reference_list}
 use Rattle.avc_mbsyntax.specs.SliceData.{SliceStart, SliceMbs, slice_data}
@@ -27,11 +29,9 @@ pub record PictureStart : Type 0 where
   pub pps : Pps
   pub frames : List StoredFrame
 
--- a slice: its unit's number, its header and the bits after that
-pub record Slice : Type 0 where
-  pub unit : ℕ
-  pub header : Header
-  pub bits : Bits
+-- the bits of a slice after its header
+abbrev pub data_of : Slice → Bits
+data_of s = at s.rbsp (s.header).position
 
 abbrev pub references_in : PictureStart → List Reference
 references_in p = map (λ f. f.reference) p.frames
@@ -54,11 +54,11 @@ frame_of p r = record {
 -- ---- one slice
 
 -- the fields, and what is inferred where they are not coded (7.4.3)
-abbrev deblocking_of : Option Deblocking → Deblocking
+abbrev pub deblocking_of : Option Deblocking → Deblocking
 deblocking_of (Some d) = d
 deblocking_of None = record { disable_deblocking_filter_idc = All; slice_alpha_c0_offset_div2 = pos 0; slice_beta_offset_div2 = pos 0 }
 
-abbrev or_empty : Option (List Modification) → List Modification
+abbrev pub or_empty : Option (List Modification) → List Modification
 or_empty (Some m) = m
 or_empty None = []
 
@@ -123,14 +123,14 @@ first_mb_fault c a zero = None
 first_mb_fault c a (suc n) =
     elim (macroblock_fault c a) [ Some f ↦ Some (1, f) | None ↦ option_map (λ found. (found.0 + 1, found.1)) (first_mb_fault c (a + 1) n) ]
 
-abbrev refused : Progress → (unit : ℕ) → Fault → Progress
+abbrev pub refused : Progress → (unit : ℕ) → Fault → Progress
 refused progress unit f = record progress { fault = Some (unit, f) }
 
-abbrev with_unit : (unit : ℕ) → Option Fault → Option (ℕ × Fault)
+abbrev pub with_unit : (unit : ℕ) → Option Fault → Option (ℕ × Fault)
 with_unit unit f = option_map (λ g. (unit, g)) f
 
 -- The slice's data has been read: its faults are those of its macroblocks, lowest address first, and then its own.
-abbrev judged : PictureStart → Slice → (before : Progress) → SliceFacts → SliceMbs → Progress
+abbrev pub judged : PictureStart → Slice → (before : Progress) → SliceFacts → SliceMbs → Progress
 judged p s before facts ms = verdict (first_mb_fault (coded_of p whole) (length before.mbs) (length ms.mbs))
   where
     whole : Progress
@@ -146,10 +146,16 @@ judged p s before facts ms = verdict (first_mb_fault (coded_of p whole) (length 
     verdict (Some found) = record whole { fault = Some (s.unit, found.1); read = before.read + found.0 }
 
 -- its list, then its macroblocks
-abbrev listed : PictureStart → Slice → Progress → Result (List (Option Reference)) Fault → Progress
+abbrev pub listed : PictureStart → Slice → Progress → Result (List (Option Reference)) Fault → Progress
 listed p s before (Err f) = refused before s.unit f
 listed p s before (Ok list) =
-    judged p s before (facts_of p s.header list) (slice_data (start_of p s.header (length before.slices)) before.mbs s.bits)
+    judged p s before (facts_of p s.header list) (slice_data (start_of p s.header (length before.slices)) before.mbs (data_of s))
+
+-- Its deblocking is one that is taken.
+abbrev pub is_taken : PictureStart → Header → Bool
+is_taken p h =
+    let d = deblocking_of h.deblocking in
+    takes_deblocking d.disable_deblocking_filter_idc (p.pps).chroma_qp_index_offset (d.slice_alpha_c0_offset_div2 +ℤ d.slice_alpha_c0_offset_div2)
 
 -- One slice more: its first address, its list, its macroblocks.
 abbrev pub with_slice : PictureStart → Slice → Progress → Progress
@@ -163,7 +169,10 @@ with_slice p s before =
                 elim (nat_lt (s.header).first_mb_in_slice (length before.mbs)) [
                   | true ↦ refused before s.unit faults.ArbitrarySliceOrder
                   | false ↦
-                      listed p s before (list_of p s.header)
+                      elim (is_taken p s.header) [
+                        | false ↦ refused before s.unit faults.NotYet
+                        | true ↦ listed p s before (list_of p s.header)
+                      ]
                 ]
           ]
     ]

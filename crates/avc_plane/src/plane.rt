@@ -1,5 +1,5 @@
-ghost use Rattle.std.specs.Prelude.{◌≡◌, ◌+◌, ◌*◌, ◌^◌, ◌<◌, IfOk, length, slice_range};
-ghost use Rattle.avc_plane.specs.Plane.{sample, with_sample, plane_of};
+ghost use Rattle.std.specs.Prelude.{◌≡◌, ◌+◌, ◌*◌, ◌^◌, ◌<◌, ◌≤◌, IfOk, length, slice_index, slice_range};
+ghost use Rattle.avc_plane.specs.Plane.{sample, with_block, with_sample, plane_of};
 
 use avc_types::{Bytes, OutOfMemory};
 use std::alloc::Global;
@@ -75,6 +75,39 @@ impl<const PAD: usize> Plane<PAD> {
         let stride = self.width + 2 * PAD;
         let place = (y + PAD) * stride + (x + PAD);
         self.stored[place] = value;
+    }
+
+    /// Changes the samples of a rectangle with `left` columns left of it and `top` rows above it, and no other. `samples` are those of its
+    /// rows from the top on, each from the left.
+    pub fn set_block(
+        &mut self,
+        left: usize,
+        top: usize,
+        width: usize,
+        height: usize,
+        samples: &[u8],
+    )
+        requires columns { left + width ≤ self.old.width }
+        requires rows { top + height ≤ self.old.height }
+        requires all { length samples.now ≡ width * height }
+        ensures { self.new ≡ with_block self.old left top width height (λ x y. slice_index samples.now (width * y + x)) }
+    {
+        let _ = &self.stored;
+        for row in 0..height {
+            self.set_line(left, top + row, &samples[width * row..width * row + width]);
+        }
+    }
+
+    // changes some neighbouring samples of row `y`
+    #[inline]
+    fn set_line(&mut self, left: usize, y: usize, samples: &[u8])
+        requires columns { left + length samples.now ≤ self.old.width }
+        requires row { y < self.old.height }
+        ensures { self.new ≡ with_block self.old left y (length samples.now) 1 (λ x _. slice_index samples.now x) }
+    {
+        let stride = self.width + 2 * PAD;
+        let start = (y + PAD) * stride + (left + PAD);
+        self.stored[start..start + samples.len()].copy_from_slice(samples);
     }
 
     /// The samples of row `y`, from the left.

@@ -1,11 +1,8 @@
 -- What earlier pictures and missing frame numbers leave to the next picture (8.2.1): all that its order counts ask of them.
-use Rattle.std.specs.Prelude.{◌≡◌, ℕ, ◌+◌, ◌^◌, min, ℤ, pos, neg_ℤ, ◌≤ℤ◌, true, false, nat_lt, if◌then◌else◌, List, [], ◌∷◌, Bool, Result, Ok, Err}
-use Rattle.std.specs.List.{list_any}
+use Rattle.std.specs.Prelude.{◌≡◌, ℕ, ◌+◌, ◌^◌, min, ℤ, pos, neg_ℤ, ◌≤ℤ◌, true, false, nat_lt, if◌then◌else◌, List, [], ◌∷◌, Result, Ok, Err}
 use Rattle.std.specs.Result.{is_ok}
 use Rattle.avc_types.specs.declared.fault.Fault.{Fault}
 use Rattle.avc_types.specs.declared.fault.Fault.TheVariants.{PocRange}
-use Rattle.avc_types.specs.declared.references.Operation.{Operation}
-use Rattle.avc_types.specs.declared.references.Operation.TheVariants.{ForgetAll}
 use Rattle.avc_params.specs.declared.sps.Sps.{Sps}
 use Rattle.avc_params.specs.Limits.{max_frame_num}
 use Rattle.avc_slice.specs.declared.header.Header.{Header}
@@ -37,13 +34,6 @@ earlier (newest ∷ older) = record {
 
 abbrev pub offset_held : (offset earlier frame_num max : ℕ) → ℕ
 offset_held offset before frame_num max = if nat_lt frame_num before then held (offset + max) else offset
-
-abbrev is_forget_all : Operation → Bool
-is_forget_all ForgetAll = true
-is_forget_all _ = false
-
-abbrev pub forgets_all : List Operation → Bool
-forgets_all list = list_any is_forget_all list
 
 abbrev pub pair : Counts → ℤ × ℤ
 pair c = (c.top, c.bottom)

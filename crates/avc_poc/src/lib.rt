@@ -4,7 +4,6 @@
 mod counting;
 mod cycle;
 mod frame_number;
-mod header;
 mod most_significant;
 mod poc;
 mod previous;

@@ -6,7 +6,6 @@ ghost use Rattle.avc_poc.specs.OrderCounts.{Past, missing, order_counts, picture
 
 use crate::counting::counts_from;
 use crate::frame_number::next_offset;
-use crate::header::{has_operation_5, is_idr, is_reference};
 use crate::previous::Previous;
 use crate::type_0::left_by;
 use avc_params::Sps;
@@ -41,7 +40,7 @@ fn previous_for(header: &Header, previous: Previous) -> Previous
     ensures value { result ≡ previous_for header.now previous }
     ensures small { IsPrevious result }
 {
-    if is_idr(header) {
+    if header.is_idr() {
         Previous { msb: 0, lsb: 0 }
     } else {
         previous
@@ -56,7 +55,7 @@ fn previous_after(header: &Header, sps: &Sps, previous: Previous) -> Previous
     ensures value { result ≡ previous_after sps.now header.now previous }
     ensures small { IsPrevious result }
 {
-    if is_reference(header) {
+    if header.is_reference() {
         left_by(header, sps, previous_for(header, previous))
     } else {
         previous
@@ -81,7 +80,7 @@ impl Poc {
         ensures value { result ≡ picture_offset sps.now header.now self.now }
         ensures small { result ≤ 2 ^ 31 }
     {
-        if is_idr(header) {
+        if header.is_idr() {
             0
         } else {
             next_offset(
@@ -110,7 +109,7 @@ impl Poc {
     {
         let offset = self.offset_of(header, sps);
         self.previous = previous_after(header, sps, self.previous);
-        if has_operation_5(header) {
+        if header.has_operation_5() {
             self.offset = 0;
             self.frame_num = 0;
         } else {

@@ -3,7 +3,6 @@ ghost use Rattle.avc_types.specs.declared.fault.Fault.TheVariants.{PocRange};
 ghost use Rattle.avc_poc.specs.Earlier.{answer, counts_of, pair};
 ghost use Rattle.avc_poc.specs.OrderCounts.{both_fit, fits, in_range, lowered};
 
-use crate::header::has_operation_5;
 use avc_slice::Header;
 use avc_types::Fault;
 
@@ -50,7 +49,7 @@ pub(crate) fn in_range(header: &Header, counts: (i128, i128)) -> Result<(i32, i3
     ensures { result ≡ answer (in_range header.now (counts_of counts)) }
 {
     let (top, bottom) = both(counts)?;
-    if has_operation_5(header) {
+    if header.has_operation_5() {
         both(lowered(top, bottom))
     } else {
         Ok((top, bottom))

@@ -4,7 +4,6 @@ ghost use Rattle.avc_params.specs.Within.{IsOrderCount};
 ghost use Rattle.avc_poc.specs.Earlier.{IsCounted, IsPrevious, IsNear, pair};
 ghost use Rattle.avc_poc.specs.OrderCounts.{counts_0, left_by};
 
-use crate::header::has_operation_5;
 use crate::most_significant::{coded_lsb, delta_bottom, max_lsb, msb_of};
 use crate::previous::Previous;
 use avc_params::Sps;
@@ -58,7 +57,7 @@ pub(crate) fn left_by(header: &Header, sps: &Sps, previous: Previous) -> Previou
     ensures value { result ≡ left_by sps.now header.now previous }
     ensures small { IsPrevious result }
 {
-    if has_operation_5(header) {
+    if header.has_operation_5() {
         Previous {
             msb: 0,
             lsb: lowered_top(delta_bottom(header.order)),

@@ -3,7 +3,6 @@ ghost use Rattle.avc_poc.specs.Earlier.{IsNear, pair};
 ghost use Rattle.avc_poc.specs.OrderCounts.{counts_1, counts_2, delta_0, delta_1};
 
 use crate::cycle::{abs_frame_num, expected};
-use crate::header::{is_idr, is_reference};
 use avc_slice::{CodedOrder, Header};
 
 /// delta_pic_order_cnt[0] and [1], 0 where there are none.
@@ -43,7 +42,7 @@ pub(crate) fn counts_1(
     requires number { number < 2 ^ 31 }
     ensures { result ≡ pair (counts_1 offset_for_non_ref_pic offset_for_top_to_bottom_field cycle.now header.now number) }
 {
-    let reference = is_reference(header);
+    let reference = header.is_reference();
     let due = expected(abs_frame_num(number, cycle, reference), cycle);
     let (delta_0, delta_1) = deltas(header.order);
     let top = plus(
@@ -58,9 +57,9 @@ pub(crate) fn counts_1(
 pub(crate) fn counts_2(header: &Header, number: u32) -> (i128, i128)
     ensures { result ≡ pair (counts_2 header.now number) }
 {
-    let count = if is_idr(header) {
+    let count = if header.is_idr() {
         0
-    } else if is_reference(header) {
+    } else if header.is_reference() {
         2 * i128::from(number)
     } else {
         2 * i128::from(number) - 1

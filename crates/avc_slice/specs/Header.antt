@@ -2,7 +2,7 @@
 use Rattle.std.specs.Prelude.{ℤ, pos, ◌+ℤ◌, Bool, true, false, not, ◌==◌, Option, Some, is_some}
 use Rattle.std.specs.List.{list_any}
 use Rattle.avc_types.specs.declared.references.Marking.{Marking}
-use Rattle.avc_types.specs.declared.references.Marking.TheVariants.{Adaptive}
+use Rattle.avc_types.specs.declared.references.Marking.TheVariants.{Idr, Adaptive}
 use Rattle.avc_types.specs.declared.references.Operation.{Operation}
 use Rattle.avc_types.specs.declared.references.Operation.TheVariants.{ForgetAll}
 use Rattle.avc_params.specs.declared.pps.Pps.{Pps}
@@ -29,7 +29,7 @@ is_reference h = not (h.nal_ref_idc == 0)
 abbrev pub slice_qp : Pps → (slice_qp_delta : ℤ) → ℤ
 slice_qp pps delta = (pos 26 +ℤ pps.pic_init_qp_minus26) +ℤ delta
 
-abbrev is_forget_all : Operation → Bool
+abbrev pub is_forget_all : Operation → Bool
 is_forget_all ForgetAll = true
 is_forget_all _ = false
 
@@ -40,3 +40,11 @@ marks_all _ = false
 -- the picture has memory_management_control_operation 5
 abbrev pub has_operation_5 : Header → Bool
 has_operation_5 h = marks_all h.marking
+
+-- the marking is one of an IDR picture (7.3.3.3)
+abbrev pub is_idr_marking : Option Marking → Bool
+is_idr_marking (Some (Idr no_output_of_prior_pics_flag long_term_reference_flag)) = true
+is_idr_marking _ = false
+
+abbrev pub has_idr_marking : Header → Bool
+has_idr_marking h = is_idr_marking h.marking

@@ -50,7 +50,7 @@ coded_order order_counts.Type2 bottom_present = give Type2
 
 -- ---- the active count of a P slice
 
-abbrev overridden_count : Read (Option ℕ)
+abbrev pub overridden_count : Read (Option ℕ)
 overridden_count = do
   count_minus1 ← ue_to 15
   give (Some count_minus1)
@@ -100,7 +100,7 @@ modification_list max_frame_num room = flag >>= λ present. where_set present (m
 
 -- ---- marking (7.3.3.3)
 
-abbrev two : (ℕ → ℕ → Operation) → Read Operation
+abbrev pub two : (ℕ → ℕ → Operation) → Read Operation
 two make = ue >>= λ a. ue >>= λ b. give (make a b)
 
 abbrev pub operation : (number : ℕ) → Read Operation
@@ -136,13 +136,13 @@ marking false = do
 
 -- ---- deblocking
 
-abbrev offset_pair : FilteredEdges → Read Deblocking
+abbrev pub offset_pair : FilteredEdges → Read Deblocking
 offset_pair filtered = do
   alpha ← se_within (negsuc 5) (pos 6)
   beta ← se_within (negsuc 5) (pos 6)
   give (record { disable_deblocking_filter_idc = filtered; slice_alpha_c0_offset_div2 = alpha; slice_beta_offset_div2 = beta })
 
-abbrev no_edges : Deblocking
+abbrev pub no_edges : Deblocking
 no_edges = record { disable_deblocking_filter_idc = edges.NoEdges; slice_alpha_c0_offset_div2 = pos 0; slice_beta_offset_div2 = pos 0 }
 
 abbrev pub deblocking : Read Deblocking
@@ -153,7 +153,7 @@ deblocking = do
 -- ---- the header, in parts
 
 -- the value that must be there
-abbrev found : {A : Type 0} → Option A → Fault → Read A
+abbrev pub found : {A : Type 0} → Option A → Fault → Read A
 found (Some a) f = give a
 found None f = refuse f
 
@@ -176,7 +176,7 @@ abbrev pub idr_pic_id : (idr : Bool) → Read (Option ℕ)
 idr_pic_id idr = where_set idr (ue_to 65535)
 
 -- 0 where it is present
-abbrev primary : Read ℕ
+abbrev pub primary : Read ℕ
 primary = do
   redundant ← ue_to 127
   check (redundant == 0) faults.RedundantSlice
@@ -267,7 +267,7 @@ slice_header nal_ref_idc idr sets = do
 abbrev pub header_of : (header : ℕ) → Sets → Read Header
 header_of header sets = slice_header (header / 32 % 4) (header % 32 == 5) sets
 
-abbrev value_or_fault : {A : Type 0} → Result (A × Bits) Fault → Result A Fault
+abbrev pub value_or_fault : {A : Type 0} → Result (A × Bits) Fault → Result A Fault
 value_or_fault (Ok r) = Ok r.0
 value_or_fault (Err f) = Err f
 

@@ -1,11 +1,12 @@
-ghost use Rattle.std.specs.Prelude.{◌≡◌, ◌≤◌, ◌==◌, not, IfOk, IfSome};
+ghost use Rattle.std.specs.Prelude.{◌≡◌, ◌≤◌, ◌==◌, ◌%◌, not, IfOk, IfSome};
 ghost use Rattle.avc_bits.specs.Bits.{where_set};
 ghost use Rattle.avc_bits.specs.Reader.{Reads};
 ghost use Rattle.avc_params.specs.Limits.{max_frame_num};
 ghost use Rattle.avc_params.specs.Tables.{sets_after};
 ghost use Rattle.avc_params.specs.Within.{IsPps, IsSps};
-ghost use Rattle.avc_slice.specs.Header.{is_p_type, slice_qp};
+ghost use Rattle.avc_slice.specs.Header.{is_idr, slice_qp};
 ghost use Rattle.avc_slice.specs.Reading.{active_count, active_override, back, deblocking, idr_pic_id, is_qp, marking, redundant_pic_cnt, filtering, front, header_in_rbsp, list_part, modification_list, numbers, p_list, slice_type_of};
+ghost use Rattle.avc_slice.specs.Within.{IsReadUnder};
 
 use crate::deblocking::read_deblocking;
 use crate::header::{Deblocking, Header, SliceType};
@@ -30,15 +31,6 @@ fn slice_type(number: u32) -> Option<SliceType>
     }
 }
 
-fn is_p(slice_type: SliceType) -> bool
-    ensures { result ≡ is_p_type slice_type }
-{
-    match slice_type {
-        SliceType::P | SliceType::AllP => true,
-        SliceType::I | SliceType::AllI => false,
-    }
-}
-
 /// The header up to the picture parameter set's id.
 fn read_front(reader: &mut BitReader, nal_ref_idc: u8, idr: bool) -> Result<Front, Fault>
     ensures { Reads result (front nal_ref_idc idr) reader.old reader.new }
@@ -48,7 +40,7 @@ fn read_front(reader: &mut BitReader, nal_ref_idc: u8, idr: bool) -> Result<Fron
     let Some(slice_type) = slice_type(number) else {
         return Err(Fault::SliceType);
     };
-    if idr & ((nal_ref_idc == 0) | is_p(slice_type)) {
+    if idr & ((nal_ref_idc == 0) | slice_type.is_p()) {
         return Err(Fault::BadIdr);
     }
     let pic_parameter_set_id = reader.ue_to(255)? as u8;
@@ -261,7 +253,7 @@ fn read_back(
         return Err(Fault::OutOfRange);
     }
     let numbers = read_numbers(reader, idr, pps, sps)?;
-    let list = read_list_part(reader, is_p(front.slice_type), pps, sps)?;
+    let list = read_list_part(reader, front.slice_type.is_p(), pps, sps)?;
     let marking = read_reference_marking(reader, nal_ref_idc, idr)?;
     let filtering = read_filtering(reader, pps)?;
     Ok(Header {
@@ -283,10 +275,8 @@ fn read_back(
     })
 }
 
-/// The slice header of a unit of type 1 or 5 (7.3.3), by the unit's first byte and its RBSP, under the parameter sets in
-/// force; or the first fault in it. Beside those of the codes these are SliceType, BadIdr, NoParameterSet, OutOfRange,
-/// RedundantSlice, BadRefList and BadMarking.
-pub fn read_header(header: u8, rbsp: &[u8], table: &ParamTable) -> Result<Header, Fault>
+// The header, or the first fault in it.
+fn read_fields(header: u8, rbsp: &[u8], table: &ParamTable) -> Result<Header, Fault>
     ensures { result ≡ header_in_rbsp header (sets_after table.now) rbsp.now }
 {
     let nal_ref_idc = header / 32 % 4;
@@ -300,4 +290,15 @@ pub fn read_header(header: u8, rbsp: &[u8], table: &ParamTable) -> Result<Header
         return Err(Fault::NoParameterSet);
     };
     read_back(&mut reader, nal_ref_idc, idr, front, pps, sps)
+}
+
+/// The slice header of a unit of type 1 or 5 (7.3.3), by the unit's first byte and its RBSP, under the parameter sets in
+/// force; or the first fault in it. Beside those of the codes these are SliceType, BadIdr, NoParameterSet, OutOfRange,
+/// RedundantSlice, BadRefList and BadMarking.
+pub fn read_header(header: u8, rbsp: &[u8], table: &ParamTable) -> Result<Header, Fault>
+    ensures header { result ≡ header_in_rbsp header (sets_after table.now) rbsp.now }
+    ensures kept { IfOk result (λ h. IsReadUnder (sets_after table.now) rbsp.now h) }
+    ensures idr { IfOk result (λ h. is_idr h ≡ (header % 32 == 5)) }
+{
+    read_fields(header, rbsp, table)
 }

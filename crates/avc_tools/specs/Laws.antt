@@ -6,22 +6,23 @@ use Rattle.avc_types.specs.declared.references.Marking.{Marking}
 use Rattle.avc_types.specs.declared.references.Marking.TheVariants.{Idr}
 use Rattle.avc_annexb.specs.Units.{units}
 use Rattle.avc_annexb.specs.declared.unit.Unit.{Unit}
-use Rattle.avc_bits.specs.Bits.{Bits}
-use Rattle.avc_slice.specs.declared.header.Header.{Header}
-use Rattle.avc_units.specs.Grouping.{is_start, header_in, tables}
-use Rattle.avc_decoder.specs.Events.{Event, picture, refused, events}
+use Rattle.avc_slice.specs.declared.slice.Slice.{Slice}
+use Rattle.avc_units.specs.Grouping.{is_start, slice_in, tables}
+use Rattle.avc_decoder.specs.Events.{events}
+use Rattle.avc_decoder.specs.declared.event.Event.{Event}
+use Rattle.avc_decoder.specs.declared.event.Event.TheVariants.{Picture, Refused}
 use Rattle.avc_tools.specs.Pieces.{pieces}
 
 abbrev is_picture : Event → Bool
-is_picture (picture p) = true
-is_picture (refused unit f) = false
+is_picture (Picture p) = true
+is_picture (Refused unit f) = false
 
 abbrev drops_by : Option Marking → Bool
 drops_by (Some (Idr no_output long_term)) = no_output
 drops_by _ = false
 
-abbrev drops_prior : Result (Header × Bits) Fault → Bool
-drops_prior (Ok r) = drops_by (r.0).marking
+abbrev drops_prior : Result Slice Fault → Bool
+drops_prior (Ok s) = drops_by (s.header).marking
 drops_prior (Err f) = false
 
 -- no_output_of_prior_pics_flag of each picture that decoding can start with
@@ -29,7 +30,7 @@ abbrev pub drop_flags : (before after : List Unit) → List Bool
 drop_flags before [] = []
 drop_flags before (u ∷ after) =
     let others = drop_flags (before ++ u ∷ []) after in
-    elim (is_start u) [ true ↦ drops_prior (header_in (tables before) u true) ∷ others | false ↦ others ]
+    elim (is_start u) [ true ↦ drops_prior (slice_in (tables before) u) ∷ others | false ↦ others ]
 
 -- Where a stream has no refusal, and no IDR picture but the first drops what is held, its pictures are those of its pieces.
 abbrev pub PiecesDecodeAlike : Type 0

@@ -7,7 +7,6 @@ use Rattle.avc_types.specs.declared.fault.Fault.TheVariants as faults
 use Rattle.avc_types.specs.Faults.{number_of, name_of}
 use Rattle.avc_annexb.specs.Units.{nal_ref_idc, nal_unit_type, forbidden_zero_bit, units}
 use Rattle.avc_annexb.specs.declared.unit.Unit.{Unit}
-use Rattle.avc_bits.specs.Bits.{Bits}
 use Rattle.avc_params.specs.declared.sps.Sps.{Sps}
 use Rattle.avc_params.specs.declared.pps.Pps.{Pps}
 use Rattle.avc_params.specs.declared.sps.OrderCount.{OrderCount}
@@ -18,8 +17,9 @@ use Rattle.avc_params.specs.Reading.{sps_of, pps_of}
 use Rattle.avc_params.specs.declared.set_fault.SetFault.{SetFault}
 use Rattle.avc_params.specs.Tables.{Sets}
 use Rattle.avc_slice.specs.declared.header.Header.{Header}
+use Rattle.avc_slice.specs.declared.slice.Slice.{Slice}
 use Rattle.avc_slice.specs.Header.{is_p, is_idr, slice_qp}
-use Rattle.avc_units.specs.Grouping.{Kind, slice, partition, sps, pps, kind, rbsp_of, header_in, tables}
+use Rattle.avc_units.specs.Grouping.{Kind, slice, partition, sps, pps, kind, rbsp_of, slice_in, tables}
 
 abbrev newline : List ℕ
 newline = 10 ∷ []
@@ -101,15 +101,15 @@ abbrev set_text : {A : Type 0} → (A → List ℕ) → Result A SetFault → Li
 set_text text (Ok a) = text a
 set_text text (Err f) = refused_text f.fault
 
-abbrev header_text : Sets → Result (Header × Bits) Fault → List ℕ
-header_text sets (Ok r) = slice_text sets r.0
+abbrev header_text : Sets → Result Slice Fault → List ℕ
+header_text sets (Ok s) = slice_text sets s.header
 header_text sets (Err f) = refused_text f
 
 -- What is said of a unit, if anything is. No unit is too long here.
 abbrev text_of : Sets → Unit → Kind → Option (List ℕ) → Option (List ℕ)
 text_of sets u sps (Some bytes) = Some (set_text sps_text (sps_of bytes))
 text_of sets u pps (Some bytes) = Some (set_text pps_text (pps_of bytes))
-text_of sets u (slice idr) (Some bytes) = Some (header_text sets (header_in sets u idr))
+text_of sets u (slice idr) (Some bytes) = Some (header_text sets (slice_in sets u))
 text_of sets u partition (Some bytes) = Some (refused_text faults.DataPartition)
 text_of sets u _ _ = None
 

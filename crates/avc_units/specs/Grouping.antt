@@ -1,8 +1,9 @@
--- What each unit does to the open picture and to the parameter sets (7.4.1.2, and this project's rules for faults).
+-- What each unit does to the open picture and to the parameter sets (7.4.1.2, and this decoder's rules for faults).
 use Rattle.std.specs.Prelude.{ℕ, Bool, true, false, not, ◌==◌, ◌&&◌, ◌||◌, nat_le, List, [], ◌∷◌, ◌++◌, Option, Some, None, Result, Ok, Err, if◌then◌else◌}
 use Rattle.avc_types.specs.declared.fault.Fault.{Fault}
 use Rattle.avc_types.specs.declared.fault.Fault.TheVariants as faults
-use Rattle.avc_annexb.specs.Units.{forbidden_zero_bit, nal_ref_idc, nal_unit_type}
+use Rattle.avc_types.specs.Staged.{takes_slices}
+use Rattle.avc_annexb.specs.Units.{forbidden_zero_bit, nal_unit_type}
 use Rattle.avc_annexb.specs.declared.unit.Unit.{Unit}
 use Rattle.avc_annexb.specs.Escapes.{rbsp}
 use Rattle.avc_bits.specs.Bits.{Bits, start}
@@ -13,8 +14,12 @@ use Rattle.avc_params.specs.Tables.{Sets, sets_after}
 use Rattle.avc_params.specs.declared.set_unit.SetUnit.{SetUnit}
 use Rattle.avc_params.specs.declared.set_unit.SetUnit.TheVariants.{OfSps, OfPps}
 use Rattle.avc_slice.specs.declared.header.Header.{Header}
-use Rattle.avc_slice.specs.Reading.{slice_header}
+use Rattle.avc_slice.specs.declared.slice.Slice.{Slice}
+use Rattle.avc_slice.specs.Reading.{header_in_rbsp}
 use Rattle.avc_slice.specs.Begins.{begins}
+use Rattle.avc_units.specs.declared.step.Next.{Next}
+use Rattle.avc_units.specs.declared.step.Next.TheVariants.{Nothing, Refusal, FaultOfOpen, FaultOfOwn, Begins, Continues}
+use Rattle.avc_units.specs.declared.step.Step.{Step}
 
 -- ---- kinds of units (Table 7-1)
 
@@ -49,7 +54,7 @@ rbsp_of u = elim u.body [ Some body ↦ Some (rbsp body) | None ↦ None ]
 
 -- ---- parameter sets
 
-abbrev set_of : Kind → Option (List ℕ) → Option SetUnit
+abbrev pub set_of : Kind → Option (List ℕ) → Option SetUnit
 set_of sps (Some bytes) = Some (OfSps bytes)
 set_of pps (Some bytes) = Some (OfPps bytes)
 set_of _ _ = None
@@ -58,7 +63,7 @@ set_of _ _ = None
 abbrev pub set_unit : Unit → Option SetUnit
 set_unit u = if forbidden_zero_bit u.header then None else set_of (kind u) (rbsp_of u)
 
-abbrev list_of : Option SetUnit → List SetUnit
+abbrev pub list_of : Option SetUnit → List SetUnit
 list_of None = []
 list_of (Some s) = s ∷ []
 
@@ -70,7 +75,7 @@ set_units (u ∷ units) = list_of (set_unit u) ++ set_units units
 abbrev pub tables : List Unit → Sets
 tables units = sets_after (set_units units)
 
-abbrev fault_in : {A : Type 0} → Result A SetFault → Option Fault
+abbrev pub fault_in : {A : Type 0} → Result A SetFault → Option Fault
 fault_in (Ok a) = None
 fault_in (Err f) = Some f.fault
 
@@ -84,12 +89,20 @@ set_fault _ _ = None
 
 -- ---- slices
 
--- the header of a slice's unit and what stands after it, or why it cannot be read
-abbrev pub header_in : Sets → Unit → (idr : Bool) → Result (Header × Bits) Fault
-header_in sets u idr =
-    elim (rbsp_of u) [ None ↦ Err faults.NalTooLong | Some bytes ↦ slice_header (nal_ref_idc u.header) idr sets (start bytes) ]
+abbrev pub with_header : Unit → (rbsp : List ℕ) → Result Header Fault → Result Slice Fault
+with_header u bytes (Ok h) = Ok (record { unit = u.index; header = h; rbsp = bytes })
+with_header u bytes (Err f) = Err f
 
-abbrev reads_zero : Result (ℕ × Bits) Fault → Bool
+-- the slice that a unit brings, or why its header cannot be read
+abbrev pub slice_in : Sets → Unit → Result Slice Fault
+slice_in sets u =
+    elim (rbsp_of u) [ None ↦ Err faults.NalTooLong | Some bytes ↦ with_header u bytes (header_in_rbsp u.header sets bytes) ]
+
+-- or NotYet where the unit's type is not yet taken
+abbrev pub taken_slice : Sets → Unit → (idr : Bool) → Result Slice Fault
+taken_slice sets u idr = elim (takes_slices idr) [ true ↦ slice_in sets u | false ↦ Err faults.NotYet ]
+
+abbrev pub reads_zero : Result (ℕ × Bits) Fault → Bool
 reads_zero (Ok r) = r.0 == 0
 reads_zero (Err f) = false
 
@@ -102,36 +115,17 @@ is_start u =
 
 -- ---- what a unit does
 
--- after the open picture has been closed, where the unit closes it
-pub data Next : Type 0 where
-  nothing : Next
-  -- this refusal alone; the state stays
-  refusal : Fault → Next
-  -- the open picture has this fault
-  fault_of_open : Fault → Next
-  -- the unit is a faulty picture of its own
-  fault_of_own : Fault → Next
-  -- a slice of a new picture, and of the open one
-  begins_picture : Header → Bits → Next
-  continues_picture : Header → Bits → Next
-
--- What a unit does: whether it closes the open picture, what it does then where no picture was open or closing was no fault,
--- and what it does where closing was a fault.
-pub record Step : Type 0 where
-  pub closes : Bool
-  pub next : Next
-  pub otherwise : Next
-
+-- nothing
 abbrev pub passes : Step
-passes = record { closes = false; next = nothing; otherwise = nothing }
+passes = record { closes = false; next = Nothing; even_after_fault = false }
 
-abbrev refusal_of : Option Fault → Next
-refusal_of None = nothing
-refusal_of (Some f) = refusal f
+abbrev pub refusal_of : Option Fault → Next
+refusal_of None = Nothing
+refusal_of (Some f) = Refusal f
 
 -- an end of the picture, and then what a parameter set's unit says
-abbrev ends_picture : Next → Step
-ends_picture next = record { closes = true; next = next; otherwise = next }
+abbrev pub ends_picture : Next → Step
+ends_picture next = record { closes = true; next = next; even_after_fault = true }
 
 -- A picture is open: the header of its last slice, and whether it is full.
 pub record OpenPicture : Type 0 where
@@ -139,43 +133,50 @@ pub record OpenPicture : Type 0 where
   pub full : Bool
 
 -- a slice or partition with an unreadable header
-abbrev unreadable : Option OpenPicture → Fault → Step
-unreadable None f = record { closes = false; next = fault_of_own f; otherwise = nothing }
+abbrev pub unreadable : Option OpenPicture → Fault → Step
+unreadable None f = record { closes = false; next = FaultOfOwn f; even_after_fault = false }
 unreadable (Some o) f =
-    if o.full then record { closes = true; next = fault_of_own f; otherwise = nothing }
-    else record { closes = false; next = fault_of_open f; otherwise = nothing }
+    elim o.full [
+      | true ↦ record { closes = true; next = FaultOfOwn f; even_after_fault = false }
+      | false ↦ record { closes = false; next = FaultOfOpen f; even_after_fault = false }
+    ]
 
--- A slice with this header; `starts` says that decoding can start with it.
-abbrev readable : Option OpenPicture → (starts : Bool) → Header → Bits → Step
-readable None starts h b = record { closes = false; next = begins_picture h b; otherwise = nothing }
-readable (Some o) starts h b =
-    if begins o.last h then record { closes = true; next = begins_picture h b; otherwise = (if starts then begins_picture h b else nothing) }
-    else record { closes = false; next = continues_picture h b; otherwise = nothing }
+-- A slice that can be read; `starts` says that decoding can start with it.
+abbrev pub readable : Option OpenPicture → (starts : Bool) → Slice → Step
+readable None starts s = record { closes = false; next = Begins s; even_after_fault = false }
+readable (Some o) starts s =
+    elim (begins o.last s.header) [
+      | true ↦ record { closes = true; next = Begins s; even_after_fault = starts }
+      | false ↦ record { closes = false; next = Continues s; even_after_fault = false }
+    ]
 
-abbrev slice_step : Option OpenPicture → (starts : Bool) → Result (Header × Bits) Fault → Step
-slice_step open' starts (Ok r) = readable open' starts r.0 r.1
+abbrev pub slice_step : Option OpenPicture → (starts : Bool) → Result Slice Fault → Step
+slice_step open' starts (Ok s) = readable open' starts s
 slice_step open' starts (Err f) = unreadable open' f
 
 -- By its kind, where decoding runs or starts with the unit.
-abbrev running_step : Sets → Option OpenPicture → Unit → Kind → Step
-running_step sets open' u (slice idr) = slice_step open' (is_start u) (header_in sets u idr)
+abbrev pub running_step : Sets → Option OpenPicture → Unit → Kind → Step
+running_step sets open' u (slice idr) = slice_step open' (is_start u) (taken_slice sets u idr)
 running_step sets open' u partition = unreadable open' faults.DataPartition
-running_step sets open' u boundary = ends_picture nothing
+running_step sets open' u boundary = ends_picture Nothing
 running_step sets open' u other = passes
 running_step sets open' u sps = ends_picture (refusal_of (set_fault sps (rbsp_of u)))
 running_step sets open' u pps = ends_picture (refusal_of (set_fault pps (rbsp_of u)))
 
 -- by its kind, where it waits
-abbrev waiting_step : Sets → Unit → Kind → Step
-waiting_step sets u (slice idr) = if is_start u then running_step sets None u (slice idr) else passes
+abbrev pub waiting_step : Sets → Unit → Kind → Step
+waiting_step sets u (slice idr) = elim (is_start u) [ true ↦ running_step sets None u (slice idr) | false ↦ passes ]
 waiting_step sets u partition = passes
-waiting_step sets u k = running_step sets None u k
+waiting_step sets u boundary = running_step sets None u boundary
+waiting_step sets u other = running_step sets None u other
+waiting_step sets u sps = running_step sets None u sps
+waiting_step sets u pps = running_step sets None u pps
 
 -- What a unit does under the parameter sets in force before it, while decoding runs (with the open picture, if there is one)
 -- or waits for a picture to start with.
 abbrev pub step : Sets → (running : Bool) → Option OpenPicture → Unit → Step
 step sets running open' u =
     elim (forbidden_zero_bit u.header) [
-      | true ↦ record { closes = false; next = refusal faults.ForbiddenBit; otherwise = refusal faults.ForbiddenBit }
+      | true ↦ record { closes = false; next = Refusal faults.ForbiddenBit; even_after_fault = true }
       | false ↦ elim running [ true ↦ running_step sets open' u (kind u) | false ↦ waiting_step sets u (kind u) ]
     ]

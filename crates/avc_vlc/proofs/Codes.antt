@@ -94,11 +94,11 @@ both_true false b e = cc
 abbrev is_apart : {A : Type 0} → List Bool × A → Table A → Bool
 is_apart entry table = list_all (λ other. not (is_prefix entry.0 other.0 || is_prefix other.0 entry.0)) table
 
-tests : {A : Type 0} (entry : List Bool × A) (table : Table A) → is_prefix_free (entry ∷ table) ≡ true → (is_apart entry table ≡ true) × (is_prefix_free table ≡ true)
+pub tests : {A : Type 0} (entry : List Bool × A) (table : Table A) → is_prefix_free (entry ∷ table) ≡ true → (is_apart entry table ≡ true) × (is_prefix_free table ≡ true)
 tests entry table test = both_true (is_apart entry table) (is_prefix_free table) test
 
 -- the test at one codeword of the table
-apart : {A : Type 0} (entry : List Bool × A) (table : Table A) (word : List Bool) (value : A) →
+pub apart : {A : Type 0} (entry : List Bool × A) (table : Table A) (word : List Bool) (value : A) →
     is_apart entry table ≡ true → IsIn table word value → not (is_prefix entry.0 word || is_prefix word entry.0) ≡ true
 apart entry [] word value test is = absurd is
 apart entry (other ∷ table) word value test (inl here) =
@@ -106,10 +106,10 @@ apart entry (other ∷ table) word value test (inl here) =
 apart entry (other ∷ table) word value test (inr there) =
     apart entry table word value ((both_true (not (is_prefix entry.0 other.0 || is_prefix other.0 entry.0)) (is_apart entry table) test).1) there
 
-not_first : (a b : Bool) → not (a || b) ≡ true → a ≡ true → ⊥
+pub not_first : (a b : Bool) → not (a || b) ≡ true → a ≡ true → ⊥
 not_first a b e f = let g : not (true || b) ≡ true = rw f at e in cc
 
-not_second : (a b : Bool) → not (a || b) ≡ true → b ≡ true → ⊥
+pub not_second : (a b : Bool) → not (a || b) ≡ true → b ≡ true → ⊥
 not_second true b e f = cc
 not_second false b e f = let g : not b ≡ true = e in let h : not true ≡ true = rw f at g in cc
 

@@ -42,7 +42,7 @@ tokens_tested (pos n) = by_class (nat_lt n 2) (nat_lt n 4) (nat_lt n 8)
     by_class false false true = refl
     by_class false false false = refl
 
-token_tested : (t : Token) → is_token t ≡ true → IsToken t
+pub token_tested : (t : Token) → is_token t ≡ true → IsToken t
 token_tested t test =
     let first = both_true (nat_le t.total 16) (nat_le t.ones t.total && nat_le t.ones 3) test in
     let others = both_true (nat_le t.ones t.total) (nat_le t.ones 3) first.1 in

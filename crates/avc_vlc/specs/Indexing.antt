@@ -1,11 +1,12 @@
 -- Tables that are indexed by the bits ahead: an entry says what the first of these bits decide.
-use Rattle.std.specs.Prelude.{◌≡◌, ℕ, ◌+◌, ◌-◌, ◌/◌, ◌%◌, ◌^◌, ◌<◌, ◌==◌, Bool, true, false, nat_lt, if◌then◌else◌, List, [], ◌∷◌, ◌++◌, length, map, take, replicate, Option, Some, None}
-use Rattle.std.specs.List.{list_any, range_with_len}
+use Rattle.std.specs.Prelude.{◌≡◌, ℕ, ◌+◌, ◌-◌, ◌*◌, ◌/◌, ◌%◌, ◌^◌, ◌<◌, ◌==◌, Bool, true, false, nat_le, nat_lt, if◌then◌else◌, List, [], ◌∷◌, ◌++◌, length, map, take, replicate, Option, Some, None}
+use Rattle.std.specs.List.{enumerate_from, list_all, list_any, range_with_len}
 use Rattle.avc_bits.specs.Bits.{bits_of}
 use Rattle.avc_vlc.specs.declared.code.Code.{Code}
 use Rattle.avc_vlc.specs.declared.entry.Entry.{Entry}
 use Rattle.avc_vlc.specs.declared.token.Token.{Token}
 use Rattle.avc_vlc.specs.Reading.{Table, after_word, is_prefix, lookup, token}
+use Rattle.avc_vlc.specs.Writing.{word_of}
 
 -- whether a codeword begins with the bits
 abbrev pub begins : {A : Type 0} → Table A → List Bool → Bool
@@ -100,3 +101,33 @@ six_bit_entry number = record {
   length = 6;
   value = if number == 3 then Some (token 0 0) else if nat_lt (number / 4 + 1) (number % 4) then None else Some (token (number / 4 + 1) (number % 4));
 }
+
+-- the number whose entry alone can be the token's
+abbrev pub six_bit_number : Token → ℕ
+six_bit_number t = if t.total == 0 then 3 else 4 * (t.total - 1) + t.ones
+
+-- ---- writing by an indexed table
+
+-- the entry is the codeword of the value
+abbrev pub holds : {A : Type 0} → (same : A → A → Bool) → A → Entry A → Bool
+holds same value entry = elim entry.value [ None ↦ false | Some own ↦ same value own ]
+
+-- the word of so many bits at a place
+abbrev pub word_at : (tail row column length : ℕ) → List Bool
+word_at tail row column length = bits_of length ((2 ^ tail + column) / 2 ^ (row + 1 + tail - length))
+
+-- no entry has more than 16 bits
+abbrev pub AreShort : {A : Type 0} → List (List (Entry A)) → Type 0
+AreShort rows = list_all (λ row. list_all (λ entry. nat_le entry.length 16) row) rows ≡ true
+
+-- the codeword of an entry's value in a table
+abbrev pub entry_word : {A : Type 0} → (same : A → A → Bool) → Table A → Entry A → Option (List Bool)
+entry_word same table entry = elim entry.value [ None ↦ None | Some own ↦ word_of (same own) table ]
+
+abbrev pub place_word : {A : Type 0} → (tail row column : ℕ) → Entry A → Option (List Bool)
+place_word tail row column entry = elim entry.value [ None ↦ None | Some own ↦ Some (word_at tail row column entry.length) ]
+
+-- the rows have the words of the table, each at a place of its own
+pub record IsWritten {A : Type 0} (same : A → A → Bool) (table : Table A) (tail : ℕ) (rows : List (List (Entry A))) : Type 0 where
+  pub words : map (λ row. map (entry_word same table) row) rows ≡ map (λ r. map (λ c. place_word tail r.0 c.0 c.1) (enumerate_from 0 r.1)) (enumerate_from 0 rows)
+  pub whole : list_all (λ entry. list_any (λ row. list_any (holds same entry.1) row) rows) table ≡ true

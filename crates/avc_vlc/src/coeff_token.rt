@@ -4,9 +4,12 @@ ghost use Rattle.std.specs.Prelude.{◌≡◌, ◌≤◌, ◌<◌, List, Bool, l
 ghost use Rattle.avc_bits.specs.Reader.{Reads};
 ghost use Rattle.avc_vlc.specs.Tables.{coeff_token_0, coeff_token_2, coeff_token_4, coeff_token_chroma_dc};
 ghost use Rattle.avc_vlc.specs.Reading.{IsToken, Table, coeff_token, token_table, tokens, tokens_8};
-ghost use Rattle.avc_vlc.specs.Indexing.{Decides, IsIndexed, Shows, six_bit_entry};
+ghost use Rattle.avc_vlc.specs.Indexing.{Decides, IsIndexed, Shows, six_bit_entry, six_bit_number};
+ghost use Rattle.avc_vlc.specs.Writing.{is_token_same, token_word, word_bits, word_of};
+ghost use Rattle.std.specs.Option.{option_map};
 
 use crate::code::Code;
+use crate::codeword::Codeword;
 use crate::entry::{Entry, entry, row8};
 use crate::token::Token;
 use avc_bits::BitReader;
@@ -22,6 +25,48 @@ pub fn read_coeff_token(reader: &mut BitReader, nc: i8) -> Result<Token, Fault>
 {
     let code = Code::<16>::next(reader);
     token_entry(code, nc).read(reader)
+}
+
+/// The codeword of TotalCoeff and TrailingOnes, `None` where nC has none for them.
+pub fn coeff_token_word(nc: i8, token: Token) -> Option<Codeword>
+    ensures { option_map word_bits result ≡ token_word nc token }
+{
+    if nc < 0 {
+        Codeword::of(&CHROMA_DC, 3, token)
+    } else if nc < 2 {
+        Codeword::of(&NC_0, 3, token)
+    } else if nc < 4 {
+        Codeword::of(&NC_2, 3, token)
+    } else if nc < 8 {
+        Codeword::of(&NC_4, 3, token)
+    } else {
+        six_bit_word(token)
+    }
+}
+
+fn six_bit_word(token: Token) -> Option<Codeword>
+    ensures { option_map word_bits result ≡ word_of (is_token_same token) tokens_8 }
+{
+    let number = six_bit_number(token);
+    if number >= 64 {
+        return None;
+    }
+    if six_bits(number).holds(token) {
+        Some(Codeword { length: 6, number })
+    } else {
+        None
+    }
+}
+
+// the number whose entry alone can be the token's
+fn six_bit_number(token: Token) -> u32
+    ensures { result ≡ six_bit_number token }
+{
+    if token.total == 0 {
+        3
+    } else {
+        4 * (u32::from(token.total) - 1) + u32::from(token.ones)
+    }
 }
 
 #[inline(always)]

@@ -1,7 +1,8 @@
-ghost use Rattle.std.specs.Prelude.{◌≡◌, ◌≤◌, ℕ, List, Bool, length, OnErr};
+ghost use Rattle.std.specs.Prelude.{◌≡◌, ◌≤◌, ℕ, List, Bool, true, false, length, slice_index_or, ◌<◌, MatchOption, OnErr};
+ghost use Rattle.std.specs.List.{list_any};
 ghost use Rattle.avc_bits.specs.Reader.{Reads, reader_bits};
 ghost use Rattle.avc_vlc.specs.Reading.{Table, table_code};
-ghost use Rattle.avc_vlc.specs.Indexing.{IsIndexed};
+ghost use Rattle.avc_vlc.specs.Indexing.{IsIndexed, holds};
 
 use crate::code::Code;
 use crate::token::Token;
@@ -15,6 +16,55 @@ pub(crate) struct Entry<V> {
     pub(crate) length: u8,
     /// The codeword's value.
     pub(crate) value: Option<V>,
+}
+
+/// What a table has codewords of.
+pub(crate) trait Coded: Copy {
+    ghost same: { Self → Self → Bool };
+
+    /// Whether it is this one.
+    fn is(self, other: Self) -> bool
+        ensures { result ≡ same self other };
+
+    ghost same_is: { (a b : Self) → same a b ≡ true → a ≡ b };
+}
+
+impl Coded for u8 {
+    ghost use Rattle.avc_vlc.specs.Writing.{is_number_same, number_is_same};
+
+    ghost same = { is_number_same };
+
+    ghost same_is = { number_is_same };
+
+    fn is(self, other: u8) -> bool {
+        other == self
+    }
+}
+
+impl Coded for Token {
+    ghost use Rattle.avc_vlc.specs.Writing.{is_token_same, token_is_same};
+
+    ghost same = { is_token_same };
+
+    ghost same_is = { token_is_same };
+
+    fn is(self, other: Token) -> bool {
+        other.total == self.total && other.ones == self.ones
+    }
+}
+
+impl<V: Coded> Entry<V> {
+    ghost use Rattle.avc_vlc.specs.Indexing.{holds};
+
+    // whether it is the codeword of this value
+    pub(crate) fn holds(self, value: V) -> bool
+        ensures { result ≡ holds V.same value self }
+    {
+        match self.value {
+            Some(own) => value.is(own),
+            None => false,
+        }
+    }
 }
 
 impl<V: Copy> Entry<V> {
@@ -38,6 +88,18 @@ impl<V: Copy> Entry<V> {
             Err(fault) => Err(fault),
         }
     }
+}
+
+// the first place in a row whose entry is the codeword of the value
+pub(crate) fn column_of<V: Coded, const N: usize>(row: &[Entry<V>; N], value: V) -> Option<usize>
+    ensures { MatchOption result (list_any (holds V.same value) row.now ≡ false) (λ column. (column < N) × ((e : Entry V) → holds V.same value (slice_index_or row.now column e) ≡ true)) }
+{
+    'columns: for column in 0..N {
+        if row[column].holds(value) {
+            return Some(column);
+        }
+    }
+    None
 }
 
 // Reads a number by a table.

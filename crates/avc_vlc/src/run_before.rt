@@ -3,7 +3,10 @@
 ghost use Rattle.std.specs.Prelude.{◌≡◌, ◌≤◌, IfOk, OnErr};
 ghost use Rattle.avc_bits.specs.Reader.{Reads};
 ghost use Rattle.avc_vlc.specs.Reading.{run_before, run_table, table_code};
+ghost use Rattle.avc_vlc.specs.Writing.{is_number_same, run_word, word_bits, word_of};
+ghost use Rattle.std.specs.Option.{option_map};
 
+use crate::codeword::Codeword;
 use crate::entry::{Entry, entry, number_by, row4};
 use avc_bits::BitReader;
 use avc_types::Fault;
@@ -38,6 +41,32 @@ fn read_run(reader: &mut BitReader, zeros_left: u8) -> Result<u8, Fault>
         5 => number_by(reader, &LEFT_5),
         6 => number_by(reader, &LEFT_6),
         _ => number_by(reader, &LEFT_7),
+    }
+}
+
+/// The codeword of so many zeros right before a level, where `zeros_left` zeros are left for it and those before it;
+/// `None` where there is none or the run is longer.
+pub fn run_before_word(zeros_left: u8, run: u8) -> Option<Codeword>
+    ensures { option_map word_bits result ≡ run_word zeros_left run }
+{
+    if zeros_left < run {
+        None
+    } else {
+        word_of_run(zeros_left, run)
+    }
+}
+
+fn word_of_run(zeros_left: u8, run: u8) -> Option<Codeword>
+    ensures { option_map word_bits result ≡ word_of (is_number_same run) (run_table zeros_left) }
+{
+    match zeros_left {
+        0..=1 => Codeword::of(&LEFT_1, 2, run),
+        2 => Codeword::of(&LEFT_2, 2, run),
+        3 => Codeword::of(&LEFT_3, 2, run),
+        4 => Codeword::of(&LEFT_4, 2, run),
+        5 => Codeword::of(&LEFT_5, 2, run),
+        6 => Codeword::of(&LEFT_6, 2, run),
+        _ => Codeword::of(&LEFT_7, 2, run),
     }
 }
 

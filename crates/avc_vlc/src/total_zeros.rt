@@ -3,7 +3,10 @@
 ghost use Rattle.std.specs.Prelude.{◌≡◌, ◌≤◌, true, false, OnErr};
 ghost use Rattle.avc_bits.specs.Reader.{Reads};
 ghost use Rattle.avc_vlc.specs.Reading.{total_zeros};
+ghost use Rattle.avc_vlc.specs.Writing.{word_bits, zeros_word};
+ghost use Rattle.std.specs.Option.{option_map};
 
+use crate::codeword::Codeword;
 use crate::entry::{Entry, entry, number_by, row4};
 use avc_bits::BitReader;
 use avc_types::Fault;
@@ -55,6 +58,51 @@ fn read_chroma_dc(reader: &mut BitReader, total: u8) -> Result<u8, Fault>
         2 => number_by(reader, &CHROMA_DC_2),
         3 => number_by(reader, &CHROMA_DC_3),
         _ => Err(Fault::BadCode),
+    }
+}
+
+/// The codeword of so many zeros before the last of `total` levels, `None` where there is none.
+pub fn total_zeros_word(total: u8, chroma_dc: bool, zeros: u8) -> Option<Codeword>
+    ensures { option_map word_bits result ≡ zeros_word total chroma_dc zeros }
+{
+    if chroma_dc {
+        chroma_dc_word(total, zeros)
+    } else {
+        word_4x4(total, zeros)
+    }
+}
+
+fn word_4x4(total: u8, zeros: u8) -> Option<Codeword>
+    ensures { option_map word_bits result ≡ zeros_word total false zeros }
+{
+    match total {
+        0..=1 => Codeword::of(&TOTAL_1, 2, zeros),
+        2 => Codeword::of(&TOTAL_2, 2, zeros),
+        3 => Codeword::of(&TOTAL_3, 2, zeros),
+        4 => Codeword::of(&TOTAL_4, 2, zeros),
+        5 => Codeword::of(&TOTAL_5, 2, zeros),
+        6 => Codeword::of(&TOTAL_6, 2, zeros),
+        7 => Codeword::of(&TOTAL_7, 2, zeros),
+        8 => Codeword::of(&TOTAL_8, 2, zeros),
+        9 => Codeword::of(&TOTAL_9, 2, zeros),
+        10 => Codeword::of(&TOTAL_10, 2, zeros),
+        11 => Codeword::of(&TOTAL_11, 2, zeros),
+        12 => Codeword::of(&TOTAL_12, 2, zeros),
+        13 => Codeword::of(&TOTAL_13, 2, zeros),
+        14 => Codeword::of(&TOTAL_14, 2, zeros),
+        15 => Codeword::of(&TOTAL_15, 2, zeros),
+        _ => None,
+    }
+}
+
+fn chroma_dc_word(total: u8, zeros: u8) -> Option<Codeword>
+    ensures { option_map word_bits result ≡ zeros_word total true zeros }
+{
+    match total {
+        0..=1 => Codeword::of(&CHROMA_DC_1, 2, zeros),
+        2 => Codeword::of(&CHROMA_DC_2, 2, zeros),
+        3 => Codeword::of(&CHROMA_DC_3, 2, zeros),
+        _ => None,
     }
 }
 

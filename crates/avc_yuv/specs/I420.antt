@@ -1,6 +1,6 @@
 -- A picture as it is written: the samples of the crop window (the cropping rectangle of 7.4.2.1.1), luma, Cb and Cr, each row by row.
 -- At 4:2:0 (6.2) a chroma plane has half the luma plane's width and half its height.
-use Rattle.std.specs.Prelude.{◌≡◌, ℕ, ◌+◌, ◌-◌, ◌*◌, ◌/◌, ◌≤◌, List, ◌++◌, map, length, slice_index}
+use Rattle.std.specs.Prelude.{ℕ, ◌+◌, ◌-◌, ◌*◌, ◌/◌, List, ◌++◌, map, slice_index}
 use Rattle.std.specs.List.{range_with_len, flat_map}
 use Rattle.avc_types.specs.declared.picture.Picture.{Picture}
 
@@ -31,11 +31,3 @@ chroma_window p samples =
 
 abbrev pub i420 : Picture → List ℕ
 i420 p = luma_window p p.luma ++ chroma_window p p.cb ++ chroma_window p p.cr
-
--- The planes have as many samples as the size says, and the crop leaves a window inside the picture.
-pub record IsWhole (p : Picture) : Type 0 where
-  pub luma : length p.luma ≡ p.width * p.height
-  pub cb : length p.cb ≡ (p.width / 2) * (p.height / 2)
-  pub cr : length p.cr ≡ (p.width / 2) * (p.height / 2)
-  pub columns : (p.crop).left + (p.crop).right ≤ p.width
-  pub rows : (p.crop).top + (p.crop).bottom ≤ p.height

@@ -1,5 +1,5 @@
 ghost use Rattle.std.specs.Prelude.{IfOk};
-ghost use Rattle.avc_yuv.specs.I420.{IsWhole};
+ghost use Rattle.avc_types.specs.Whole.{IsWhole};
 
 use crate::{WriteFault, write_i420};
 use avc_types::{Bytes, Crop, Picture};

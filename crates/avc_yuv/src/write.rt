@@ -1,6 +1,7 @@
 ghost use Rattle.std.specs.Prelude.{◌≡◌, ◌+◌, ◌-◌, ◌*◌, ◌/◌, ◌<◌, ◌≤◌, ◌^◌, length, take, MatchResult, IfOk, IfErr, OnOk};
 ghost use Rattle.std.specs.Io.KnownBytes.{Appends};
-ghost use Rattle.avc_yuv.specs.I420.{i420, window, IsWhole, shown_width, shown_height};
+ghost use Rattle.avc_types.specs.Whole.{IsWhole};
+ghost use Rattle.avc_yuv.specs.I420.{i420, window, shown_width, shown_height};
 ghost use Rattle.avc_yuv.specs.Writing.{Writes};
 
 use crate::fault::WriteFault;

@@ -1,0 +1,23 @@
+-- The events of a stream's units, one after another.
+use Rattle.std.specs.Prelude.{◌≡◌, Bool, false, List, [], ◌∷◌, ◌++◌, refl}
+use Rattle.std.proofs.Common.{ap, sym, ◌∙◌, append_assoc}
+use Rattle.avc_annexb.specs.Laws.{UnitsStay}
+use Rattle.avc_annexb.specs.Units.{units}
+use Rattle.avc_annexb.specs.declared.unit.Unit.{Unit}
+use Rattle.avc_decoder.specs.Events.{State, after_unit, state_after, events_from, first_state}
+use Rattle.avc_decoder.specs.Laws.{EventsOnlyGrow, state_through}
+
+-- of some units and then others
+pub events-append : (s : State) (us vs : List Unit) (ended : Bool) → events_from s (us ++ vs) ended ≡ events_from s us false ++ events_from (state_through s us) vs ended
+events-append s [] vs ended = refl
+events-append s (u ∷ us) vs ended =
+    let o = after_unit s u in
+    ap (λ es. o.events ++ es) (events-append (state_after s u o) us vs ended)
+    ∙ sym (append_assoc o.events (events_from (state_after s u o) us false) (events_from (state_through (state_after s u o) us) vs ended))
+
+pub events_grow : UnitsStay → EventsOnlyGrow
+events_grow stay max bytes more ended =
+    let units_more = stay max bytes more ended in (
+      events_from (state_through first_state (units max bytes false)) units_more.0 ended,
+      ap (λ us. events_from first_state us ended) units_more.1 ∙ events-append first_state (units max bytes false) units_more.0 ended,
+    )

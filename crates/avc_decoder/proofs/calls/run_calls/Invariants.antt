@@ -1,0 +1,6 @@
+use Rattle.std.proofs.Common.{take}
+use Rattle.avc_decoder.specs.Machine.{new_machine, Run}
+use Rattle.avc_decoder.proofs.calls.run_calls.Given as goal
+
+abbrev pub invariant-loop-call : goal.invariant-loop-call
+invariant-loop-call g l = Run g.row.MAX new_machine (take l.call-index l.calls) l.replies.items l.decoder

@@ -1,0 +1,5 @@
+use Rattle.avc_decoder.proofs.Growing.{events_grow}
+use Rattle.avc_decoder.proofs.laws.events_only_grow.Goals as goal
+
+pub returns : goal.returns
+returns c = events_grow c.units_stay.ensures

@@ -1,0 +1,25 @@
+ghost use Rattle.std.specs.Prelude.{◌≡◌};
+ghost use Rattle.avc_decoder.specs.declared.error.DecodeError.TheVariants.{OutOfMemory as NoMemory};
+
+use avc_types::OutOfMemory;
+use thiserror::Error;
+
+/// Why a call of a decoder was not carried out.
+#[derive(Clone, Copy, Debug, PartialEq, Eq, Error)]
+pub enum DecodeError {
+    /// The system gave no memory. Until the decoder is reset each call answers so.
+    #[error("out of memory")]
+    OutOfMemory,
+
+    /// The stream has been ended by a flush. Nothing changes.
+    #[error("the stream has ended")]
+    Ended,
+}
+
+impl From<OutOfMemory> for DecodeError {
+    ghost from_gives = { λ _ error. error ≡ NoMemory };
+
+    fn from(_error: OutOfMemory) -> DecodeError {
+        DecodeError::OutOfMemory
+    }
+}

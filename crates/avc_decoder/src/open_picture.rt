@@ -1,0 +1,147 @@
+ghost use Rattle.std.specs.Prelude.{◌≡◌, false, true, None, Some, IfOk, OnOk, is_none};
+ghost use Rattle.avc_decoder.specs.Events.{begun, continued, failed_at, is_waiting, pictures, running};
+ghost use Rattle.avc_decoder.specs.Kept.{closed_in, opened_by, queued_more, ComesTo, Decodes, IsOpenIn};
+ghost use Rattle.avc_decoder_core.specs.Pictures.{emptied};
+ghost use Rattle.avc_decoder_core.specs.Sequenced.{cleared, standing};
+ghost use Rattle.avc_params.specs.Within.{IsPps, IsSps};
+ghost use Rattle.avc_picture.specs.Decoding.{IsIntra};
+ghost use Rattle.avc_slice.specs.Header.{is_idr};
+ghost use Rattle.avc_slice.specs.Within.{IsHeader};
+
+use crate::queue::Queue;
+use avc_decoder_core::Sequence;
+use avc_params::{Pps, Sps};
+use avc_picture::PictureDecoder;
+use avc_slice::Slice;
+use avc_types::{Fault, OutOfMemory, PictureError};
+use std::alloc::Global;
+
+/// Closes the open picture. Says whether that was a fault.
+pub fn close_picture(
+    sequence: &mut Sequence,
+    queue: &mut Queue,
+    picture: PictureDecoder,
+    last_unit: u64,
+) -> Result<bool, OutOfMemory>
+    requires { IsOpenIn sequence.old last_unit picture }
+    ensures fault { IfOk result (λ fault. fault ≡ is_waiting (closed_in sequence.old.history (opened_by sequence.old.history (Some picture))).phase) }
+    ensures state { OnOk result (ComesTo (closed_in sequence.old.history (opened_by sequence.old.history (Some picture))) queue.old last_unit None sequence.new queue.new) }
+{
+    let planes = match picture.finish() {
+        Ok(planes) => planes,
+        Err(fault) => {
+            fail(sequence, queue, last_unit, fault)?;
+            return Ok(true);
+        }
+    };
+    match sequence.close(planes) {
+        Ok(out) => {
+            queue.show(out)?;
+            Ok(false)
+        }
+        Err(PictureError::Fault(fault)) => {
+            fail(sequence, queue, last_unit, fault)?;
+            Ok(true)
+        }
+        Err(PictureError::OutOfMemory) => Err(OutOfMemory),
+    }
+}
+
+/// Opens a picture with its first slice. There is none where that was a fault.
+pub fn begin_picture(
+    alloc: Global,
+    sequence: &mut Sequence,
+    queue: &mut Queue,
+    slice: &Slice,
+    sps: &Sps,
+    pps: &Pps,
+) -> Result<Option<PictureDecoder>, OutOfMemory>
+    requires going { sequence.old.failed ≡ false }
+    requires rest { sequence.old.opening ≡ None }
+    requires sps { IsSps sps.now }
+    requires pps { IsPps pps.now }
+    requires within { IsHeader sps.now pps.now slice.now.rbsp slice.now.header }
+    requires idr { is_idr slice.now.header ≡ true }
+    ensures fault { IfOk result (λ picture. is_none picture ≡ is_waiting (begun (Some (pps.now, sps.now)) sequence.old.history slice.now).phase) }
+    ensures state { IfOk result (λ picture. ComesTo (begun (Some (pps.now, sps.now)) sequence.old.history slice.now) queue.old slice.now.unit picture sequence.new queue.new) }
+{
+    if slice.header.first_mb_in_slice.get() != 0 {
+        fail(sequence, queue, slice.unit, Fault::MissingMacroblocks)?;
+        return Ok(None);
+    }
+    match sequence.open(&slice.header, sps) {
+        Ok(out) => {
+            queue.show(out)?;
+            let picture = PictureDecoder::begin(alloc, sps, pps)?;
+            let picture = decode_slice(sequence, queue, picture, slice)?;
+            Ok(picture)
+        }
+        Err(PictureError::Fault(fault)) => {
+            fail(sequence, queue, slice.unit, fault)?;
+            Ok(None)
+        }
+        Err(PictureError::OutOfMemory) => Err(OutOfMemory),
+    }
+}
+
+/// Decodes one slice more of the open picture, which is gone where that was a fault.
+pub fn continue_picture(
+    sequence: &mut Sequence,
+    queue: &mut Queue,
+    picture: PictureDecoder,
+    last_unit: u64,
+    slice: &Slice,
+) -> Result<Option<PictureDecoder>, OutOfMemory>
+    requires picture { IsOpenIn sequence.old last_unit picture }
+    requires within { IsIntra picture slice.now }
+    ensures fault { IfOk result (λ picture'. is_none picture' ≡ is_waiting (continued (running sequence.old.history (opened_by sequence.old.history (Some picture))) slice.now).phase) }
+    ensures state { IfOk result (λ picture'. ComesTo (continued (running sequence.old.history (opened_by sequence.old.history (Some picture))) slice.now) queue.old slice.now.unit picture' sequence.new queue.new) }
+{
+    let picture = decode_slice(sequence, queue, picture, slice)?;
+    Ok(picture)
+}
+
+/// Decodes one slice more. At a fault all held pictures go out, and then the refusal.
+fn decode_slice(
+    sequence: &mut Sequence,
+    queue: &mut Queue,
+    mut picture: PictureDecoder,
+    slice: &Slice,
+) -> Result<Option<PictureDecoder>, OutOfMemory>
+    requires { IsIntra picture slice.now }
+    ensures { IfOk result (λ picture'. Decodes picture slice.now sequence.old queue.old picture' sequence.new queue.new) }
+{
+    match picture.slice(slice) {
+        Ok(()) => Ok(Some(picture)),
+        Err(PictureError::Fault(fault)) => {
+            fail(sequence, queue, slice.unit, fault)?;
+            Ok(None)
+        }
+        Err(PictureError::OutOfMemory) => Err(OutOfMemory),
+    }
+}
+
+/// All held pictures go out, and then the refusal; the history is forgotten.
+pub fn fail(
+    sequence: &mut Sequence,
+    queue: &mut Queue,
+    unit: u64,
+    fault: Fault,
+) -> Result<(), OutOfMemory>
+    ensures sequence { OnOk result (sequence.new ≡ cleared) }
+    ensures queue { OnOk result (queue.new ≡ queued_more (failed_at (standing sequence.old) unit fault 0).events queue.old) }
+{
+    empty(sequence, queue)?;
+    queue.refuse(unit, fault)?;
+    Ok(())
+}
+
+/// All held pictures go out, and the history is forgotten.
+pub fn empty(sequence: &mut Sequence, queue: &mut Queue) -> Result<(), OutOfMemory>
+    ensures sequence { OnOk result (sequence.new ≡ cleared) }
+    ensures queue { OnOk result (queue.new ≡ queued_more (pictures (emptied (standing sequence.old))) queue.old) }
+{
+    let out = sequence.clear()?;
+    queue.show(out)?;
+    Ok(())
+}

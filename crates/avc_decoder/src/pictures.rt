@@ -1,0 +1,182 @@
+ghost use Rattle.std.specs.Prelude.{◌≡◌, false, true, None, Some, IfOk, OnOk, slice_get};
+ghost use Rattle.avc_decoder.specs.Events.{begun, continued, failed_at, is_waiting, running};
+ghost use Rattle.avc_decoder.specs.FirstFault.{Open};
+ghost use Rattle.avc_decoder.specs.Kept.{closed_in, emptied_in, history_on, is_full_in, kept_after, kept_taken, nothing_kept, refused_in};
+ghost use Rattle.avc_params.specs.Within.{IsPps, IsSps};
+ghost use Rattle.avc_slice.specs.Header.{is_idr};
+ghost use Rattle.avc_slice.specs.Within.{IsHeader};
+
+use crate::event::Event;
+use crate::open_picture::{begin_picture, close_picture, continue_picture, empty, fail};
+use crate::queue::Queue;
+use avc_decoder_core::Sequence;
+use avc_params::{Pps, Sps};
+use avc_picture::PictureDecoder;
+use avc_slice::Slice;
+use avc_types::{Fault, OutOfMemory};
+use std::alloc::Global;
+use std::marker::Model;
+
+/// The open picture, the closed ones as far as they are needed, and the events that were not taken.
+#[derive(Drop)]
+pub struct Pictures {
+    alloc: Global,
+    sequence: Sequence,
+    picture: Option<PictureDecoder>,
+    // of the open picture's last slice
+    last_unit: u64,
+    queue: Queue,
+    failed: bool,
+}
+
+impl Model for Pictures {
+    ghost use Rattle.std.specs.Prelude.{◌≡◌, false};
+    ghost use Rattle.avc_decoder.specs.Kept.{opened_by, Kept, Works};
+
+    ghost Value = { Kept };
+
+    ghost view = { λ p. record {
+      history = p.sequence.history;
+      opened = opened_by p.sequence.history p.picture;
+      events = p.queue.events;
+      taken = p.queue.taken;
+      failed = p.failed;
+    } };
+
+    ghost invariant = { λ p. p.failed ≡ false → Works p.sequence p.last_unit p.picture };
+}
+
+impl Pictures {
+    /// With no picture.
+    pub fn new(alloc: Global) -> Pictures
+        ensures { result ≡ nothing_kept }
+    {
+        Pictures {
+            alloc,
+            sequence: Sequence::new(alloc),
+            picture: None,
+            last_unit: 0,
+            queue: Queue::new(alloc),
+            failed: false,
+        }
+    }
+
+    /// Whether a picture is open that is full.
+    pub fn is_full(&self) -> bool
+        requires { self.now.failed ≡ false }
+        ensures { result ≡ is_full_in self.now.opened }
+    {
+        match &self.picture {
+            Some(picture) => picture.full(),
+            None => false,
+        }
+    }
+
+    /// Closes the open picture, if there is one. Says whether that was a fault.
+    pub fn close(&mut self) -> Result<bool, OutOfMemory>
+        requires { self.old.failed ≡ false }
+        ensures fault { IfOk result (λ fault. fault ≡ is_waiting (closed_in self.old.history self.old.opened).phase) }
+        ensures state { OnOk result (self.new ≡ kept_after (closed_in self.old.history self.old.opened) self.old) }
+    {
+        let Some(picture) = self.picture.take() else {
+            return Ok(false);
+        };
+        self.failed = true;
+        let fault = close_picture(&mut self.sequence, &mut self.queue, picture, self.last_unit)?;
+        self.failed = false;
+        Ok(fault)
+    }
+
+    /// Opens a picture with its first slice. Says whether that was a fault.
+    pub fn begin(&mut self, slice: Slice, sps: &Sps, pps: &Pps) -> Result<bool, OutOfMemory>
+        requires going { self.old.failed ≡ false }
+        requires rest { self.old.opened ≡ None }
+        requires sps { IsSps sps.now }
+        requires pps { IsPps pps.now }
+        requires within { IsHeader sps.now pps.now slice.rbsp slice.header }
+        requires idr { is_idr slice.header ≡ true }
+        ensures fault { IfOk result (λ fault. fault ≡ is_waiting (begun (Some (pps.now, sps.now)) self.old.history slice).phase) }
+        ensures state { OnOk result (self.new ≡ kept_after (begun (Some (pps.now, sps.now)) self.old.history slice) self.old) }
+    {
+        self.failed = true;
+        self.last_unit = slice.unit;
+        let picture = begin_picture(
+            self.alloc,
+            &mut self.sequence,
+            &mut self.queue,
+            &slice,
+            sps,
+            pps,
+        )?;
+        let fault = picture.is_none();
+        self.picture = picture;
+        self.failed = false;
+        Ok(fault)
+    }
+
+    /// Decodes one slice more of the open picture, if there is one. Says whether that was a fault.
+    pub fn go_on(&mut self, slice: Slice) -> Result<bool, OutOfMemory>
+        requires going { self.old.failed ≡ false }
+        requires within { (o : Open) → self.old.opened ≡ Some o → IsHeader o.sps o.pps slice.rbsp slice.header }
+        requires idr { is_idr slice.header ≡ true }
+        ensures fault { IfOk result (λ fault. fault ≡ is_waiting (continued (running self.old.history self.old.opened) slice).phase) }
+        ensures state { OnOk result (self.new ≡ kept_after (continued (running self.old.history self.old.opened) slice) self.old) }
+    {
+        let Some(picture) = self.picture.take() else {
+            return Ok(false);
+        };
+        self.failed = true;
+        let picture = continue_picture(
+            &mut self.sequence,
+            &mut self.queue,
+            picture,
+            self.last_unit,
+            &slice,
+        )?;
+        self.last_unit = slice.unit;
+        let fault = picture.is_none();
+        self.picture = picture;
+        self.failed = false;
+        Ok(fault)
+    }
+
+    /// A fault of the open picture, or of a unit that is a faulty picture of its own.
+    pub fn fail(&mut self, unit: u64, fault: Fault) -> Result<(), OutOfMemory>
+        requires { self.old.failed ≡ false }
+        ensures { OnOk result (self.new ≡ kept_after (failed_at (history_on self.old) unit fault 0) self.old) }
+    {
+        self.failed = true;
+        self.picture = None;
+        fail(&mut self.sequence, &mut self.queue, unit, fault)?;
+        self.failed = false;
+        Ok(())
+    }
+
+    /// A refusal that changes nothing else.
+    pub fn refuse(&mut self, unit: u64, fault: Fault) -> Result<(), OutOfMemory>
+        requires { self.old.failed ≡ false }
+        ensures { OnOk result (self.new ≡ refused_in unit fault self.old) }
+    {
+        self.queue.refuse(unit, fault)
+    }
+
+    /// Lets all held pictures go out and forgets the others, with the open one, if there is one.
+    pub fn empty(&mut self) -> Result<(), OutOfMemory>
+        requires { self.old.failed ≡ false }
+        ensures { OnOk result (self.new ≡ kept_after (emptied_in (history_on self.old)) self.old) }
+    {
+        self.failed = true;
+        self.picture = None;
+        empty(&mut self.sequence, &mut self.queue)?;
+        self.failed = false;
+        Ok(())
+    }
+
+    /// Takes the first event that was not taken, if there is one.
+    pub fn take(&mut self) -> Option<Event>
+        ensures event { result ≡ slice_get self.old.events self.old.taken }
+        ensures taken { self.new ≡ kept_taken result self.old }
+    {
+        self.queue.take()
+    }
+}

@@ -1,0 +1,160 @@
+ghost use Rattle.std.specs.Prelude.{◌≡◌, None, Some, false, IfOk, OnOk, slice_get};
+ghost use Rattle.avc_decoder.specs.Events.{begun, is_waiting, sets_named};
+ghost use Rattle.avc_decoder.specs.Kept.{closed_if, flow_ended, flow_taken, handled, kept_after, next_in, nothing_flowed, told_if, Agrees, Fits, Handles};
+ghost use Rattle.avc_params.specs.Tables.{sets_after};
+ghost use Rattle.avc_units.specs.Grouped.{IsTaken};
+
+use crate::event::Event;
+use crate::pictures::Pictures;
+use avc_annexb::Unit;
+use avc_slice::Slice;
+use avc_types::OutOfMemory;
+use avc_units::{Grouper, Next};
+use std::alloc::Global;
+use std::marker::Model;
+
+/// Makes events of units. A contract sees what follows the units so far, their events, and how many of these were taken.
+#[derive(Drop)]
+pub struct Stream {
+    grouper: Grouper,
+    pictures: Pictures,
+    failed: bool,
+}
+
+impl Model for Stream {
+    ghost use Rattle.std.specs.Prelude.{◌≡◌, false};
+    ghost use Rattle.avc_decoder.specs.Kept.{state_of, Agrees, Flowed};
+
+    ghost Value = { Flowed };
+
+    ghost view = { λ s. record { state = state_of s.grouper s.pictures; events = s.pictures.events; taken = s.pictures.taken; failed = s.failed } };
+
+    ghost invariant = { λ s. s.failed ≡ false → Agrees s.grouper s.pictures };
+}
+
+impl Stream {
+    /// At the start: it waits for a picture to start with.
+    pub fn new(alloc: Global) -> Stream
+        ensures { result ≡ nothing_flowed }
+    {
+        Stream {
+            grouper: Grouper::new(alloc),
+            pictures: Pictures::new(alloc),
+            failed: false,
+        }
+    }
+
+    /// Takes the next unit.
+    pub fn unit(&mut self, unit: &Unit) -> Result<(), OutOfMemory>
+        requires { self.old.failed ≡ false }
+        ensures { OnOk result (self.new ≡ handled unit.now self.old) }
+    {
+        self.failed = true;
+        handle(&mut self.grouper, &mut self.pictures, unit)?;
+        self.failed = false;
+        Ok(())
+    }
+
+    /// Takes the end of the units: the open picture is closed, and all held pictures go out.
+    pub fn finish(&mut self) -> Result<(), OutOfMemory>
+        requires { self.old.failed ≡ false }
+        ensures { OnOk result (self.new ≡ flow_ended self.old) }
+    {
+        self.failed = true;
+        self.pictures.close()?;
+        self.pictures.empty()?;
+        self.grouper.fault(false);
+        self.failed = false;
+        Ok(())
+    }
+
+    /// Takes the first event that was not taken, if there is one.
+    pub fn take(&mut self) -> Option<Event>
+        ensures event { result ≡ slice_get self.old.events self.old.taken }
+        ensures taken { self.new ≡ flow_taken result self.old }
+    {
+        self.pictures.take()
+    }
+}
+
+/// What the unit closes, begins or continues.
+fn handle(grouper: &mut Grouper, pictures: &mut Pictures, unit: &Unit) -> Result<(), OutOfMemory>
+    requires { Agrees grouper.old pictures.old }
+    ensures { OnOk result (Handles grouper.old pictures.old unit.now grouper.new pictures.new) }
+{
+    let step = grouper.unit(unit, pictures.is_full())?;
+    let fault = close_if(pictures, step.closes)?;
+    if !fault {
+        perform(grouper, pictures, unit.index, step.next)?;
+        return Ok(());
+    }
+    grouper.fault(true);
+    if step.even_after_fault {
+        perform(grouper, pictures, unit.index, step.next)?;
+        return Ok(());
+    }
+    Ok(())
+}
+
+/// Closes the open picture, where the unit does. Says whether that was a fault.
+fn close_if(pictures: &mut Pictures, closes: bool) -> Result<bool, OutOfMemory>
+    requires { pictures.old.failed ≡ false }
+    ensures fault { IfOk result (λ fault. fault ≡ is_waiting (closed_if closes pictures.old).phase) }
+    ensures state { OnOk result (pictures.new ≡ kept_after (closed_if closes pictures.old) pictures.old) }
+{
+    if closes {
+        let fault = pictures.close()?;
+        return Ok(fault);
+    }
+    Ok(false)
+}
+
+/// Does what a unit does once the open picture is closed, where the unit closes it.
+fn perform(
+    grouper: &mut Grouper,
+    pictures: &mut Pictures,
+    unit: u64,
+    next: Next,
+) -> Result<(), OutOfMemory>
+    requires going { pictures.old.failed ≡ false }
+    requires fits { Fits (sets_after grouper.old.sets) next pictures.old.opened }
+    ensures pictures { OnOk result (pictures.new ≡ kept_after (next_in (sets_after grouper.old.sets) unit next pictures.old) pictures.old) }
+    ensures grouper { OnOk result (grouper.new ≡ told_if (is_waiting (next_in (sets_after grouper.old.sets) unit next pictures.old).phase) grouper.old) }
+{
+    let fault = match next {
+        Next::Nothing => false,
+        Next::Refusal(fault) => {
+            pictures.refuse(unit, fault)?;
+            false
+        }
+        Next::FaultOfOpen(fault) | Next::FaultOfOwn(fault) => {
+            pictures.fail(unit, fault)?;
+            true
+        }
+        Next::Begins(slice) => begin(grouper, pictures, slice)?,
+        Next::Continues(slice) => pictures.go_on(slice)?,
+    };
+    if fault {
+        grouper.fault(false);
+    }
+    Ok(())
+}
+
+/// Opens a picture under the parameter sets that its first slice names. Says whether that was a fault.
+fn begin(grouper: &Grouper, pictures: &mut Pictures, slice: Slice) -> Result<bool, OutOfMemory>
+    requires going { pictures.old.failed ≡ false }
+    requires rest { pictures.old.opened ≡ None }
+    requires taken { IsTaken (sets_after grouper.now.sets) slice }
+    ensures fault { IfOk result (λ fault. fault ≡ is_waiting (begun (sets_named (sets_after grouper.now.sets) slice.header) pictures.old.history slice).phase) }
+    ensures state { OnOk result (pictures.new ≡ kept_after (begun (sets_named (sets_after grouper.now.sets) slice.header) pictures.old.history slice) pictures.old) }
+{
+    let table = grouper.table();
+    let Some(pps) = table.pps(slice.header.pic_parameter_set_id) else {
+        return Ok(false);
+    };
+    let Some(sps) = table.sps(pps.seq_parameter_set_id) else {
+        return Ok(false);
+    };
+    let fault = pictures.begin(slice, sps, pps)?;
+    Ok(fault)
+}

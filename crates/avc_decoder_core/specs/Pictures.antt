@@ -1,0 +1,48 @@
+-- The pictures of a history as they are handed out.
+use Rattle.std.specs.Prelude.{ℕ, ◌*◌, List, [], ◌∷◌, Option, Some, None}
+use Rattle.std.specs.List.{flat_map}
+use Rattle.avc_types.specs.declared.picture.Crop.{Crop}
+use Rattle.avc_types.specs.declared.picture.Picture.{Picture}
+use Rattle.avc_plane.specs.Planes.{Planes}
+use Rattle.avc_params.specs.Limits.{width_in_mbs, height_in_mbs}
+use Rattle.avc_params.specs.declared.sps.Cropping.{Cropping}
+use Rattle.avc_params.specs.declared.sps.Sps.{Sps}
+use Rattle.avc_decoder_core.specs.History.{Entry, closed, absent, History, entry_at, gained, all_held}
+
+-- in luma samples (7.4.2.1.1): a unit of the offsets is two of them at 4:2:0
+abbrev pub crop_of : Option Cropping → Crop
+crop_of None = record { left = 0; right = 0; top = 0; bottom = 0 }
+crop_of (Some c) = record {
+  left = 2 * c.frame_crop_left_offset;
+  right = 2 * c.frame_crop_right_offset;
+  top = 2 * c.frame_crop_top_offset;
+  bottom = 2 * c.frame_crop_bottom_offset;
+}
+
+abbrev pub picture_of : Sps → Planes → Picture
+picture_of sps planes = record {
+  width = 16 * width_in_mbs sps;
+  height = 16 * height_in_mbs sps;
+  crop = crop_of sps.frame_cropping;
+  luma = (planes.luma).samples;
+  cb = (planes.cb).samples;
+  cr = (planes.cr).samples;
+}
+
+-- the entry's picture; none where a number is missing
+abbrev pub shown : Option Entry → List Picture
+shown (Some (closed sps h planes)) = picture_of sps planes ∷ []
+shown (Some (absent sps frame_num)) = []
+shown None = []
+
+-- the pictures at these places of the history
+abbrev pub pictures_at : History → List ℕ → List Picture
+pictures_at h places = flat_map (λ place. shown (entry_at h place)) places
+
+-- what goes out where `old` has become `new`
+abbrev pub released : (old new : History) → List Picture
+released old new = pictures_at new (gained old new)
+
+-- all held pictures, in the order in which they go out
+abbrev pub emptied : History → List Picture
+emptied h = pictures_at h (all_held h)

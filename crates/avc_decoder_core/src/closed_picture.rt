@@ -1,0 +1,18 @@
+use avc_params::Sps;
+use avc_plane::Planes;
+use avc_slice::Header;
+
+/// A picture that is being decoded: its parameter set and its first slice's header.
+#[derive(Drop)]
+pub struct OpenPicture {
+    pub sps: Sps,
+    pub header: Header,
+}
+
+/// A closed picture as the history has it.
+#[derive(Drop)]
+pub struct ClosedPicture {
+    pub sps: Sps,
+    pub header: Header,
+    pub planes: Planes<0>,
+}

@@ -1,0 +1,137 @@
+ghost use Rattle.std.specs.Prelude.{◌≡◌, ◌∷◌, true, false, IfOk, IfErr, OnErr, None, Some};
+ghost use Rattle.avc_decoder_core.specs.History.{closed_by, opened, stored_frames};
+ghost use Rattle.avc_decoder_core.specs.Sequenced.{cleared, standing, Fails, IsCleared, IsClosed, IsOpened, Opening, StandFor};
+ghost use Rattle.avc_params.specs.Within.{IsSps};
+ghost use Rattle.avc_plane.specs.Frames.{planes_of};
+ghost use Rattle.avc_slice.specs.Header.{has_idr_marking, is_idr};
+
+use crate::closed_picture::{ClosedPicture, OpenPicture};
+use crate::marking::idr_frame;
+use crate::order::first_counts;
+use crate::output::{make_way, put_out};
+use avc_params::Sps;
+use avc_plane::{Frame, Planes};
+use avc_slice::Header;
+use avc_types::{History, OutOfMemory, Picture, PictureError};
+use std::alloc::Global;
+use std::marker::Model;
+
+/// The closed pictures of a stream since it was cleared, as far as later pictures and output need them.
+#[derive(Drop)]
+pub struct Sequence {
+    alloc: Global,
+
+    /// The last picture, which is the reference frame and is held for output.
+    held: Option<Frame<0>>,
+
+    /// The parameter set of the held picture.
+    sps: Option<Sps>,
+
+    opening: Option<OpenPicture>,
+
+    failed: bool,
+
+    closed: History<ClosedPicture>,
+}
+
+impl Model for Sequence {
+    ghost use Rattle.avc_decoder_core.specs.Sequenced.{Sequenced};
+
+    ghost Value = { Sequenced };
+
+    ghost use Rattle.avc_decoder_core.specs.Kept.{sequenced_by, IsKept};
+
+    ghost view = { sequenced_by };
+
+    ghost invariant = { IsKept };
+}
+
+impl Sequence {
+    /// With no history.
+    pub fn new(alloc: Global) -> Sequence
+        ensures { result ≡ cleared }
+    {
+        Sequence {
+            alloc,
+            held: None,
+            sps: None,
+            opening: None,
+            failed: false,
+            closed: History::new(),
+        }
+    }
+
+    /// Opens a picture whose first slice has this header: checks its parameter set, its frame number and its order count, and
+    /// takes in the frame numbers that are missing before it. Answers the pictures that go out.
+    pub fn open(&mut self, header: &Header, sps: &Sps) -> Result<Vec<Picture>, PictureError>
+        requires rest { self.old.opening ≡ None }
+        requires idr { is_idr header.now ≡ true }
+        requires marking { has_idr_marking header.now ≡ true }
+        requires sps { IsSps sps.now }
+        ensures ok { IfOk result (λ out. IsOpened self.old sps.now header.now out.items self.new) }
+        ensures err { IfErr result (λ error. Fails self.old (opened sps.now header.now self.old.history) error self.new) }
+    {
+        if self.failed {
+            return Err(PictureError::OutOfMemory);
+        }
+        first_counts(header, sps)?;
+        self.opening = Some(OpenPicture {
+            sps: sps.copied(),
+            header: header.copied(),
+        });
+        Ok(Vec::new(self.alloc))
+    }
+
+    /// Closes the open picture, whose samples are these: marks it, and lets pictures go out. Answers these.
+    pub fn close(&mut self, planes: Planes<0>) -> Result<Vec<Picture>, PictureError>
+        requires going { self.old.failed ≡ false }
+        ensures ok { IfOk result (λ out. (o : Opening) → self.old.opening ≡ Some o → IsClosed self.old o (planes_of planes) out.items self.new) }
+        ensures err { IfErr result (λ error. (o : Opening) → self.old.opening ≡ Some o → Fails self.old (closed_by o.sps o.header (planes_of planes) (standing self.old)) error self.new) }
+    {
+        let Some(OpenPicture { sps, header }) = self.opening.take() else {
+            return Ok(Vec::new(self.alloc));
+        };
+        self.failed = true;
+        let out = make_way(self.alloc, &header, self.held.take(), &self.sps)?;
+        let closed = ClosedPicture {
+            sps,
+            header,
+            planes,
+        };
+        self.closed = self.closed.with_newest(&closed);
+        let ClosedPicture {
+            sps,
+            header,
+            planes,
+        } = closed;
+        self.held = Some(idr_frame(&header, planes));
+        self.sps = Some(sps);
+        self.failed = false;
+        Ok(out)
+    }
+
+    /// Hands out all held pictures and forgets the history, with the open picture, if there is one.
+    pub fn clear(&mut self) -> Result<Vec<Picture>, OutOfMemory>
+        ensures ok { IfOk result (λ out. IsCleared self.old out.items self.new) }
+        ensures err { OnErr result (self.new.failed ≡ true) }
+    {
+        if self.failed {
+            return Err(OutOfMemory);
+        }
+        self.failed = true;
+        let out = put_out(self.alloc, self.held.take(), &self.sps)?;
+        self.sps = None;
+        self.opening = None;
+        self.closed = History::new();
+        self.failed = false;
+        Ok(out)
+    }
+
+    /// The stored reference frames, in decoding order.
+    pub fn frames(&self) -> &[Frame<0>]
+        requires { self.now.failed ≡ false }
+        ensures { StandFor result.now (stored_frames (standing self.now)) }
+    {
+        self.held.as_slice()
+    }
+}

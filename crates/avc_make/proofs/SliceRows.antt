@@ -1,0 +1,77 @@
+-- Worked examples of slice headers that are written, and of what stands before the samples of an I_PCM macroblock.
+use Rattle.std.specs.Prelude.{◌≡◌, pos, false, [], ◌∷◌, ◌++◌, take, None, Some, refl}
+use Rattle.std.specs.Int.Count.{count_leading_zeros}
+use Rattle.avc_types.specs.declared.references.Marking.TheVariants.{Idr, SlidingWindow}
+use Rattle.avc_bits.specs.Bits.{byte_bits}
+use Rattle.avc_params.specs.declared.sps.OrderCount.TheVariants as orders
+use Rattle.avc_slice.specs.declared.header.CodedOrder.TheVariants.{Type0, Type2}
+use Rattle.avc_slice.specs.declared.header.Header.{Header}
+use Rattle.avc_slice.specs.declared.header.SliceType.TheVariants.{AllI, AllP}
+use Rattle.avc_make.specs.HeaderWriting.{header_bits, slice_unit_header}
+use Rattle.avc_make.specs.SliceWriting.{pcm_type, run_bits, zeros_to_byte}
+use Rattle.avc_make.specs.Words.{se_word, ue_word}
+use Rattle.avc_make.proofs.Rows.{plain, small}
+
+-- of the only slice of an IDR picture
+abbrev of_i : Header
+of_i = record {
+  nal_ref_idc = 3;
+  first_mb_in_slice = 0;
+  slice_type = AllI;
+  pic_parameter_set_id = 0;
+  frame_num = 0;
+  idr_pic_id = Some 0;
+  order = Type2;
+  redundant_pic_cnt = None;
+  active_override = None;
+  active_count = 0;
+  modifications = None;
+  marking = Some (Idr false false);
+  slice_qp_delta = pos 0;
+  deblocking = None;
+  position = 0;
+}
+
+writes_i : header_bits small plain of_i ≡ take 17 (byte_bits (0x88 ∷ 0x84 ∷ 0x93 ∷ []))
+unfolding se_word ue_word count_leading_zeros
+writes_i = refl
+
+i_byte : slice_unit_header of_i ≡ 0x65
+i_byte = refl
+
+-- what stands before the samples, in bytes
+writes_i_pcm : header_bits small plain of_i ++ (run_bits false ++ (ue_word (pcm_type false) ++ zeros_to_byte 26)) ≡ byte_bits (0x88 ∷ 0x84 ∷ 0x86 ∷ 0x80 ∷ [])
+unfolding se_word ue_word count_leading_zeros
+writes_i_pcm = refl
+
+-- of a P slice of the next picture
+abbrev of_p : Header
+of_p = record {
+  nal_ref_idc = 2;
+  first_mb_in_slice = 0;
+  slice_type = AllP;
+  pic_parameter_set_id = 0;
+  frame_num = 1;
+  idr_pic_id = None;
+  order = Type2;
+  redundant_pic_cnt = None;
+  active_override = None;
+  active_count = 1;
+  modifications = None;
+  marking = Some SlidingWindow;
+  slice_qp_delta = pos 0;
+  deblocking = None;
+  position = 0;
+}
+
+writes_p : header_bits small plain of_p ≡ take 15 (byte_bits (0x9A ∷ 0x22 ∷ []))
+unfolding se_word ue_word count_leading_zeros
+writes_p = refl
+
+p_byte : slice_unit_header of_p ≡ 0x41
+p_byte = refl
+
+-- with pic_order_cnt_lsb 4
+writes_lsb : header_bits (record small { order_count = orders.Type0 0 }) plain (record of_p { slice_type = AllI; active_count = 0; order = Type0 4 (pos 0) }) ≡ take 19 (byte_bits (0x88 ∷ 0x8A ∷ 0x24 ∷ []))
+unfolding se_word ue_word count_leading_zeros
+writes_lsb = refl

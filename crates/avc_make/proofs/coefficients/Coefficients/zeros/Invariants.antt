@@ -1,0 +1,7 @@
+use Rattle.std.proofs.Common.{◌≡◌, take}
+use Rattle.std.specs.List.{sum}
+use Rattle.avc_make.specs.BlockWriting.{runs_of}
+use Rattle.avc_make.proofs.coefficients.Coefficients.zeros.Given as goal
+
+abbrev pub invariant-runs : goal.invariant-runs
+invariant-runs l = l.zeros ≡ sum (take l.k (runs_of l.self))

@@ -1,0 +1,5 @@
+use Rattle.avc_make.proofs.BlockForth.{block_forth}
+use Rattle.avc_make.proofs.laws.blocks_are_written_as_read.Goals as goal
+
+pub returns : goal.returns
+returns c = block_forth

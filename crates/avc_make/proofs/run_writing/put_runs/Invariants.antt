@@ -1,0 +1,14 @@
+use Rattle.std.proofs.Common.{◌≡◌, ◌++◌, ◌+◌, ◌≤◌, drop, length, false}
+use Rattle.std.specs.List.{sum}
+use Rattle.avc_make.specs.BlockWriting.{runs_bits, runs_of}
+use Rattle.avc_make.proofs.run_writing.put_runs.Given as goal
+
+-- what was put and the runs that are left are all
+abbrev pub invariant-runs : goal.invariant-runs
+invariant-runs l = record {
+  going : l.maker.failed ≡ false;
+  put : l.maker.bits ++ runs_bits l.zeros_left (drop l.k (runs_of l.found)) ≡ l.fn.maker.bits ++ runs_bits l.zeros (runs_of l.found);
+  left : sum (drop l.k (runs_of l.found)) ≡ l.zeros_left;
+  few : l.zeros_left ≤ l.zeros;
+  others : l.others + l.k ≡ length l.found;
+}

@@ -1,0 +1,131 @@
+ghost use Rattle.std.specs.Prelude.{◌≡◌, Ok, IfOk, drop};
+ghost use Rattle.avc_annexb.specs.Escapes.{rbsp};
+ghost use Rattle.avc_make.specs.Made.{Puts};
+ghost use Rattle.avc_make.specs.SpsWriting.{HasSeValues, IsWritable, constraint_bits, cropping_bits, identity_bits, order_bits, size_bits, sps_bits};
+ghost use Rattle.avc_make.specs.Units.{IsUnit, sps_header};
+ghost use Rattle.avc_params.specs.Reading.{sps_of};
+ghost use Rattle.avc_params.specs.Within.{IsOrderCount};
+
+use crate::maker::BitMaker;
+use crate::part::{Part, put_each, put_optional};
+use crate::units::unit_of;
+use avc_params::{ConstraintFlags, Cropping, OrderCount, Sps};
+use avc_types::OutOfMemory;
+use std::alloc::Global;
+
+// nal_ref_idc 3 and nal_unit_type 7
+const SPS_HEADER: u8 = 0x67;
+
+/// The unit of a sequence parameter set (7.3.2.1.1), from its header byte on. frame_mbs_only_flag is 1 in it.
+pub fn write_sps(alloc: Global, sps: &Sps) -> Result<Vec<u8>, OutOfMemory>
+    requires { IsWritable sps.now }
+    ensures unit { IfOk result (λ unit. IsUnit sps_header (sps_bits sps.now) unit.items) }
+    ensures read { IfOk result (λ unit. sps_of (rbsp (drop 1 unit.items)) ≡ Ok sps.now) }
+{
+    let mut maker = BitMaker::new(alloc);
+    put_sps(&mut maker, sps)?;
+    let unit = unit_of(alloc, SPS_HEADER, &mut maker)?;
+    Ok(unit)
+}
+
+fn put_sps(maker: &mut BitMaker, sps: &Sps) -> Result<(), OutOfMemory>
+    requires { IsWritable sps.now }
+    ensures { Puts result (sps_bits sps.now) maker.old maker.new }
+{
+    put_identity(maker, sps)?;
+    maker.ue(sps.log2_max_frame_num_minus4 as u32)?;
+    put_order(maker, &sps.order_count)?;
+    maker.ue(sps.max_num_ref_frames as u32)?;
+    maker.flag(sps.gaps_in_frame_num_value_allowed_flag)?;
+    put_size(maker, sps)?;
+    // frame_mbs_only_flag
+    maker.flag(true)?;
+    maker.flag(sps.direct_8x8_inference_flag)?;
+    put_optional(maker, &sps.frame_cropping)?;
+    put_optional(maker, &sps.vui)?;
+    Ok(())
+}
+
+// up to seq_parameter_set_id
+fn put_identity(maker: &mut BitMaker, sps: &Sps) -> Result<(), OutOfMemory>
+    requires { IsWritable sps.now }
+    ensures { Puts result (identity_bits sps.now) maker.old maker.new }
+{
+    maker.put(8, sps.profile_idc as u32)?;
+    put_constraints(maker, sps.constraint_flags)?;
+    maker.put(2, sps.reserved_zero_2bits as u32)?;
+    maker.put(8, sps.level_idc as u32)?;
+    maker.ue(sps.seq_parameter_set_id as u32)?;
+    Ok(())
+}
+
+fn put_constraints(maker: &mut BitMaker, flags: ConstraintFlags) -> Result<(), OutOfMemory>
+    ensures { Puts result (constraint_bits flags) maker.old maker.new }
+{
+    maker.flag(flags.constraint_set0_flag)?;
+    maker.flag(flags.constraint_set1_flag)?;
+    maker.flag(flags.constraint_set2_flag)?;
+    maker.flag(flags.constraint_set3_flag)?;
+    maker.flag(flags.constraint_set4_flag)?;
+    maker.flag(flags.constraint_set5_flag)?;
+    Ok(())
+}
+
+fn put_size(maker: &mut BitMaker, sps: &Sps) -> Result<(), OutOfMemory>
+    ensures { Puts result (size_bits sps.now) maker.old maker.new }
+{
+    maker.ue(sps.pic_width_in_mbs_minus1 as u32)?;
+    maker.ue(sps.pic_height_in_map_units_minus1 as u32)?;
+    Ok(())
+}
+
+// pic_order_cnt_type and what it brings with it
+fn put_order(maker: &mut BitMaker, order: &OrderCount) -> Result<(), OutOfMemory>
+    requires within { IsOrderCount order.now }
+    requires values { HasSeValues order.now }
+    ensures { Puts result (order_bits order.now) maker.old maker.new }
+{
+    match order {
+        OrderCount::Type0 {
+            log2_max_pic_order_cnt_lsb_minus4,
+        } => {
+            maker.ue(0)?;
+            maker.ue(*log2_max_pic_order_cnt_lsb_minus4 as u32)?;
+            Ok(())
+        }
+        OrderCount::Type1 {
+            delta_pic_order_always_zero_flag,
+            offset_for_non_ref_pic,
+            offset_for_top_to_bottom_field,
+            offset_for_ref_frame,
+        } => {
+            let offsets = offset_for_ref_frame.as_slice();
+            maker.ue(1)?;
+            maker.flag(*delta_pic_order_always_zero_flag)?;
+            maker.se(*offset_for_non_ref_pic)?;
+            maker.se(*offset_for_top_to_bottom_field)?;
+            // num_ref_frames_in_pic_order_cnt_cycle
+            maker.ue(offsets.len() as u32)?;
+            put_each(maker, offsets)?;
+            Ok(())
+        }
+        OrderCount::Type2 => {
+            maker.ue(2)?;
+            Ok(())
+        }
+    }
+}
+
+impl Part for Cropping {
+    ghost bits = { cropping_bits };
+
+    ghost fits = { λ _. Unit {0} };
+
+    fn put(&self, maker: &mut BitMaker) -> Result<(), OutOfMemory> {
+        maker.ue(self.frame_crop_left_offset as u32)?;
+        maker.ue(self.frame_crop_right_offset as u32)?;
+        maker.ue(self.frame_crop_top_offset as u32)?;
+        maker.ue(self.frame_crop_bottom_offset as u32)?;
+        Ok(())
+    }
+}

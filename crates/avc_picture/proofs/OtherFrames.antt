@@ -1,0 +1,53 @@
+-- Slices that name no reference frames are decoded the same whichever there are.
+use Rattle.std.specs.Prelude.{◌≡◌, true, false, List, [], ◌∷◌, All, Some, None, Ok, length, nat_lt}
+use Rattle.std.proofs.Common.{refl, ap, ◌∙◌, sym}
+use Rattle.std.proofs.lemmas.List.Elements.{All-head, All-tail}
+use Rattle.avc_types.specs.declared.fault.Fault.TheVariants as faults
+use Rattle.avc_params.specs.Limits.{max_frame_num}
+use Rattle.avc_slice.specs.declared.header.Header.{Header}
+use Rattle.avc_slice.specs.declared.slice.Slice.{Slice}
+use Rattle.avc_slice.specs.Header.{is_p}
+use Rattle.avc_reflist.specs.Lists.{reference_list}
+use Rattle.avc_plane.specs.Planes.{StoredFrame}
+use Rattle.avc_picture.specs.Decoded.{deblocked}
+use Rattle.avc_picture.specs.Slices.{PictureStart, Progress, references_in, or_empty, list_of, coded_of, is_taken, refused, listed, with_slice, progress, planes_after_slices}
+
+pub list_of_intra : (p : PictureStart) (h : Header) → is_p h ≡ false → list_of p h ≡ Ok []
+list_of_intra p h intra =
+    ap (λ b. elim b [ true ↦ reference_list h.frame_num (max_frame_num p.sps) h.active_count (references_in p) (or_empty h.modifications) | false ↦ Ok [] ]) intra
+
+list_of_other : (p : PictureStart) (other : List StoredFrame) (s : Slice) (before : Progress) → is_p s.header ≡ false
+    → listed p s before (list_of p s.header) ≡ listed (record p { frames = other }) s before (list_of (record p { frames = other }) s.header)
+list_of_other p other s before intra =
+    ap (listed p s before) (list_of_intra p s.header intra)
+    ∙ sym (ap (listed (record p { frames = other }) s before) (list_of_intra (record p { frames = other }) s.header intra))
+
+-- one slice
+pub with_slice-other : (p : PictureStart) (other : List StoredFrame) (s : Slice) (before : Progress) → is_p s.header ≡ false
+    → with_slice p s before ≡ with_slice (record p { frames = other }) s before
+with_slice-other p other s before intra =
+    ap (λ last. elim before.fault [
+      | Some f ↦ before
+      | None ↦
+          elim (nat_lt (length before.mbs) (s.header).first_mb_in_slice) [
+            | true ↦ refused before s.unit faults.MissingMacroblocks
+            | false ↦
+                elim (nat_lt (s.header).first_mb_in_slice (length before.mbs)) [
+                  | true ↦ refused before s.unit faults.ArbitrarySliceOrder
+                  | false ↦ elim (is_taken p s.header) [ false ↦ refused before s.unit faults.NotYet | true ↦ last ]
+                ]
+          ]
+    ])
+    (list_of_other p other s before intra)
+
+-- all of them
+pub progress-other : (p : PictureStart) (other : List StoredFrame) (slices : List Slice) → All (λ s. is_p s.header ≡ false) slices
+    → progress p slices ≡ progress (record p { frames = other }) slices
+progress-other p other [] intra = refl
+progress-other p other (s ∷ earlier) intra =
+    ap (with_slice p s) (progress-other p other earlier (All-tail (λ t. is_p t.header ≡ false) s earlier intra))
+    ∙ with_slice-other p other s (progress (record p { frames = other }) earlier) (All-head (λ t. is_p t.header ≡ false) s earlier intra)
+
+pub planes-other : (p : PictureStart) (other : List StoredFrame) (slices : List Slice) → All (λ s. is_p s.header ≡ false) slices
+    → planes_after_slices p slices ≡ planes_after_slices (record p { frames = other }) slices
+planes-other p other slices intra = ap (λ g. deblocked (coded_of p g)) (progress-other p other slices intra)

@@ -1,0 +1,32 @@
+use Rattle.std.proofs.Common.{ℕ, ◌≡◌, ◌+◌, ◌-◌, ◌*◌, ◌∙◌, ◌<◌, ◌≤◌, length, get_or, take, drop, length-drop, arith, ap, subst, mul_comm}
+use Rattle.std.specs.Prelude.{slice_index}
+use Rattle.std.proofs.lemmas.List.{length-take-le, get_or-take, get_or-drop}
+use Rattle.std.proofs.lemmas.Nat.{row_fits}
+use Rattle.avc_plane.specs.Plane.{Plane, with_block}
+use Rattle.avc_plane.specs.Padded.{stored_place}
+use Rattle.avc_plane.specs.Laws.{length-plane_of}
+use Rattle.avc_plane.proofs.Blocks.{no_line, line_more}
+use Rattle.avc_plane.proofs.plane.Plane.set_block.Goals as goal
+
+pub loop-row-init : goal.loop-row-init
+loop-row-init g c =
+    let a = c.self.inside in
+    let long : length c.args.self.now.samples ≡ c.args.self.now.width * c.args.self.now.height =
+    subst (λ (p : Plane). length p.samples ≡ p.width * p.height) c.self.view_is (length-plane_of a.width a.height (λ x y. slice_index a.stored.items (stored_place g.row.PAD a.width x y))) in
+    no_line c.args.self.now c.args.left c.args.top c.args.width (λ x y. slice_index c.args.samples.now (c.args.width * y + x)) long
+
+pub loop-row-preserved : goal.loop-row-preserved
+loop-row-preserved g c =
+    let row = c.loop-row.row in
+    let width = c.args.width in
+    let samples = c.args.samples.now in
+    let line = take (width * row + width - width * row) (drop (width * row) samples) in
+    let fits = row_fits row width c.args.height width c.loop-row-test.true (omega arith) in
+    let whole : width * row + width ≤ length samples = omega (arith, fits, c.requires.all, mul_comm row width, mul_comm c.args.height width) in
+    let many : width * row + width - width * row ≡ width = omega arith in
+    let len : length line ≡ width = length-take-le (width * row + width - width * row) (drop (width * row) samples) (omega (arith, length-drop (width * row) samples)) ∙ many in
+    let same : (x : ℕ) → x < width → get_or line x 0 ≡ get_or samples (width * row + x) 0 =
+    λ x less. get_or-take (width * row + width - width * row) (drop (width * row) samples) x 0 (omega arith) ∙ get_or-drop (width * row) samples x 0 in
+    c.set_line.ensures
+    ∙ ap (λ (p : Plane). with_block p c.args.left (c.args.top + row) (length line) 1 (λ x _. slice_index line x)) c.loop-row.invariant
+    ∙ line_more c.args.self.now c.args.left c.args.top width row line samples len same

@@ -1,0 +1,303 @@
+-- What a slice header that was read keeps to.
+use Rattle.std.proofs.Common.{◌≡◌, ◌<◌, ◌≤◌, ◌+◌, ◌/◌, ◌%◌, ◌==◌, ◌&&◌, ◌||◌, ℕ, ℤ, zero, suc, pos, negsuc, Bool, true, false, not, nat_lt, int_le, List, [], length, Option, Some, None, is_some, IfSome, IfOk, Result, Ok, Err, if◌then◌else◌, refl, ap, sym, ◌∙◌, arith}
+use Rattle.std.proofs.lemmas.Bool.{ltb-true, and_parts}
+use Rattle.std.proofs.lemmas.Int.{ints}
+use Rattle.avc_types.specs.declared.fault.Fault.{Fault}
+use Rattle.avc_types.specs.declared.fault.Fault.TheVariants.{BadMarking, BadRefList, NoParameterSet}
+use Rattle.avc_types.specs.declared.edges.FilteredEdges.{FilteredEdges}
+use Rattle.avc_types.specs.declared.edges.FilteredEdges.TheVariants.{All, NoEdges, WithinSlice}
+use Rattle.avc_types.specs.declared.references.Marking.TheVariants.{Adaptive}
+use Rattle.avc_bits.specs.Bits.{Bits, Read, start, bits_before_stop, ◌>>=◌, give, check, where_set}
+use Rattle.avc_bits.specs.Codes.{flag, se, se_within, u, ue, ue_to}
+use Rattle.avc_bits.specs.Giving.{Gives, IsFrom, bind-ok, gives-bind, gives-check, gives-give, gives-se_within, gives-then, gives-where_set, left, value}
+use Rattle.avc_params.specs.Limits.{max_frame_num, size_in_mbs}
+use Rattle.avc_params.specs.Tables.{Sets}
+use Rattle.avc_params.specs.declared.pps.Pps.{Pps}
+use Rattle.avc_params.specs.declared.sps.OrderCount.{OrderCount}
+use Rattle.avc_params.specs.declared.sps.OrderCount.TheVariants as orders
+use Rattle.avc_params.specs.declared.sps.Sps.{Sps}
+use Rattle.avc_slice.specs.Header.{is_idr, is_p_type, slice_qp}
+use Rattle.avc_slice.specs.Reading.{active_count, active_override, back, coded_order, deblocking, filtering, found, front, header_in_rbsp, header_of, idr_pic_id, is_qp, list_part, marking, modification, modification_list, modifications, most_operations, no_edges, numbers, offset_pair, operation, operations, optional_se, position_here, primary, redundant_pic_cnt, slice_type_of, unless_ended, up_to, value_or_fault}
+use Rattle.avc_slice.specs.Within.{IsDeblocking, IsReadUnder}
+use Rattle.avc_slice.specs.declared.header.Header.{Header}
+use Rattle.avc_slice.specs.declared.parts.Filtering.{Filtering}
+use Rattle.avc_slice.specs.declared.parts.Front.{Front}
+use Rattle.avc_slice.proofs.IdrMarking.{idr_marked}
+use Rattle.avc_slice.proofs.Keeping.{Keeps, total, keeps-bind, keeps-give, keeps-refuse, keeps-check, keeps-where_set, keeps-u, keeps-flag, keeps-ue, keeps-ue_to, keeps-se, keeps-se_within}
+
+-- ---- nothing but what stood ahead is passed
+
+keeps-optional_se : (present : Bool) → Keeps (optional_se present)
+keeps-optional_se true = keeps-se
+keeps-optional_se false = keeps-give (pos 0)
+
+keeps-coded_order : (order : OrderCount) (bottom_present : Bool) → Keeps (coded_order order bottom_present)
+keeps-coded_order (orders.Type0 log2_minus4) bottom_present =
+    keeps-bind (u (log2_minus4 + 4)) _ (keeps-u (log2_minus4 + 4)) (λ lsb. keeps-bind (optional_se bottom_present) _ (keeps-optional_se bottom_present) (λ bottom. keeps-give _))
+keeps-coded_order (orders.Type1 always_zero _ _ _) bottom_present =
+    keeps-bind (optional_se (not always_zero)) _ (keeps-optional_se _) (λ first. keeps-bind (optional_se (not always_zero && bottom_present)) _ (keeps-optional_se _) (λ second. keeps-give _))
+keeps-coded_order orders.Type2 bottom_present = keeps-give _
+
+keeps-unless_ended : {A : Type 0} (ended : Bool) (others : Read (List A)) → Keeps others → Keeps (unless_ended ended others)
+keeps-unless_ended true others g = keeps-give []
+keeps-unless_ended false others g = g
+
+keeps-up_to : {A : Type 0} (code : Read ℕ) (stop : ℕ) (item : ℕ → Read A) (fault : Fault) (room : ℕ) → Keeps code → ((n : ℕ) → Keeps (item n)) → Keeps (up_to code stop item fault room)
+keeps-up_to code stop item fault zero g h = keeps-bind code _ g (λ last. keeps-bind (check (last == stop) fault) _ (keeps-check _ _) (λ _. keeps-give []))
+keeps-up_to code stop item fault (suc room) g h =
+    keeps-bind code _ g (λ next. keeps-unless_ended (next == stop) _
+    (keeps-bind (item next) _ (h next) (λ one. keeps-bind (up_to code stop item fault room) _ (keeps-up_to code stop item fault room g h) (λ others. keeps-give _))))
+
+keeps-modification : (most idc : ℕ) → Keeps (modification most idc)
+keeps-modification most zero = keeps-bind (ue_to most) _ (keeps-ue_to most) (λ n. keeps-give _)
+keeps-modification most (suc zero) = keeps-bind (ue_to most) _ (keeps-ue_to most) (λ n. keeps-give _)
+keeps-modification most (suc (suc _)) = keeps-bind ue _ keeps-ue (λ n. keeps-give _)
+
+keeps-modification_list : (max room : ℕ) → Keeps (modification_list max room)
+keeps-modification_list max room =
+    keeps-bind flag _ keeps-flag (λ present. keeps-where_set present (modifications max room) (keeps-up_to (ue_to 3) 3 (modification _) BadRefList room (keeps-ue_to 3) (keeps-modification _)))
+
+keeps-operation : (number : ℕ) → Keeps (operation number)
+keeps-operation zero = keeps-bind ue _ keeps-ue (λ n. keeps-give _)
+keeps-operation (suc zero) = keeps-bind ue _ keeps-ue (λ n. keeps-give _)
+keeps-operation (suc (suc zero)) = keeps-bind ue _ keeps-ue (λ n. keeps-give _)
+keeps-operation (suc (suc (suc zero))) = keeps-bind ue _ keeps-ue (λ a. keeps-bind ue _ keeps-ue (λ b. keeps-give _))
+keeps-operation (suc (suc (suc (suc zero)))) = keeps-bind ue _ keeps-ue (λ n. keeps-give _)
+keeps-operation (suc (suc (suc (suc (suc zero))))) = keeps-give _
+keeps-operation (suc (suc (suc (suc (suc (suc n)))))) = keeps-bind ue _ keeps-ue (λ n. keeps-give _)
+
+keeps-marking : (idr : Bool) → Keeps (marking idr)
+keeps-marking true = keeps-bind flag _ keeps-flag (λ first. keeps-bind flag _ keeps-flag (λ second. keeps-give _))
+keeps-marking false = keeps-bind flag _ keeps-flag (elim [
+  | true ↦ keeps-bind (operations most_operations) _ (keeps-up_to (ue_to 6) 0 operation BadMarking most_operations (keeps-ue_to 6) keeps-operation) (λ list. keeps-give (Adaptive list))
+  | false ↦ keeps-give _
+])
+
+keeps-active_override : (pps : Pps) → Keeps (active_override pps)
+keeps-active_override pps = keeps-bind flag _ keeps-flag (elim [
+  | true ↦ keeps-bind (ue_to 15) _ (keeps-ue_to 15) (λ count. keeps-give _)
+  | false ↦ keeps-bind (check _ _) _ (keeps-check _ _) (λ _. keeps-give _)
+])
+
+keeps-offset_pair : (filtered : FilteredEdges) → Keeps (offset_pair filtered)
+keeps-offset_pair filtered =
+    keeps-bind (se_within (negsuc 5) (pos 6)) _ (keeps-se_within (negsuc 5) (pos 6)) (λ alpha. keeps-bind (se_within (negsuc 5) (pos 6)) _ (keeps-se_within (negsuc 5) (pos 6)) (λ beta. keeps-give _))
+
+keeps-deblocked : (off : Bool) (filtered : FilteredEdges) → Keeps (elim off [ true ↦ give no_edges | false ↦ offset_pair filtered ])
+keeps-deblocked true filtered = keeps-give no_edges
+keeps-deblocked false filtered = keeps-offset_pair filtered
+
+keeps-deblocking : Keeps deblocking
+keeps-deblocking = keeps-bind (ue_to 2) _ (keeps-ue_to 2) (λ idc. keeps-deblocked (idc == 1) _)
+
+keeps-found : {A : Type 0} (o : Option A) (f : Fault) → Keeps (found o f)
+keeps-found (Some a) f = keeps-give a
+keeps-found None f = keeps-refuse f
+
+keeps-front : (nal_ref_idc : ℕ) (idr : Bool) → Keeps (front nal_ref_idc idr)
+keeps-front nal_ref_idc idr =
+    keeps-bind ue _ keeps-ue (λ first.
+    keeps-bind (ue_to 9) _ (keeps-ue_to 9) (λ number.
+    keeps-bind (found (slice_type_of number) _) _ (keeps-found (slice_type_of number) _) (λ slice_type.
+    keeps-bind (check (not (idr && (nal_ref_idc == 0 || is_p_type slice_type))) _) _ (keeps-check _ _) (λ _.
+    keeps-bind (ue_to 255) _ (keeps-ue_to 255) (λ id. keeps-give _)))))
+
+keeps-redundant_pic_cnt : (present : Bool) → Keeps (redundant_pic_cnt present)
+keeps-redundant_pic_cnt present =
+    keeps-where_set present primary (keeps-bind (ue_to 127) _ (keeps-ue_to 127) (λ redundant. keeps-bind (check (redundant == 0) _) _ (keeps-check _ _) (λ _. keeps-give redundant)))
+
+keeps-numbers : (idr : Bool) (pps : Pps) (sps : Sps) → Keeps (numbers idr pps sps)
+keeps-numbers idr pps sps =
+    keeps-bind (u (sps.log2_max_frame_num_minus4 + 4)) _ (keeps-u (sps.log2_max_frame_num_minus4 + 4)) (λ frame_num.
+    keeps-bind (check (not (idr && not (frame_num == 0))) _) _ (keeps-check _ _) (λ _.
+    keeps-bind (idr_pic_id idr) _ (keeps-where_set idr _ (keeps-ue_to 65535)) (λ of_idr.
+    keeps-bind (coded_order sps.order_count pps.bottom_field_pic_order_in_frame_present_flag) _ (keeps-coded_order sps.order_count _) (λ order.
+    keeps-bind (redundant_pic_cnt pps.redundant_pic_cnt_present_flag) _ (keeps-redundant_pic_cnt pps.redundant_pic_cnt_present_flag) (λ redundant. keeps-give _)))))
+
+keeps-list_part : (p : Bool) (pps : Pps) (sps : Sps) → Keeps (list_part p pps sps)
+keeps-list_part true pps sps =
+    keeps-bind (active_override pps) _ (keeps-active_override pps) (λ override.
+    keeps-bind (modification_list (max_frame_num sps) (active_count pps override)) _ (keeps-modification_list _ (active_count pps override)) (λ given. keeps-give _))
+keeps-list_part false pps sps = keeps-give _
+
+keeps-filtering : (pps : Pps) → Keeps (filtering pps)
+keeps-filtering pps =
+    keeps-bind se _ keeps-se (λ delta.
+    keeps-bind (check (is_qp (slice_qp pps delta)) _) _ (keeps-check _ _) (λ _.
+    keeps-bind (where_set pps.deblocking_filter_control_present_flag deblocking) _ (keeps-where_set pps.deblocking_filter_control_present_flag deblocking keeps-deblocking) (λ given. keeps-give _)))
+
+keeps-back : (nal_ref_idc : ℕ) (idr : Bool) (start : Front) (pps : Pps) (sps : Sps) → Keeps (back nal_ref_idc idr start pps sps)
+keeps-back nal_ref_idc idr start pps sps =
+    keeps-bind (check (nat_lt start.first_mb_in_slice (size_in_mbs sps)) _) _ (keeps-check _ _) (λ _.
+    keeps-bind (numbers idr pps sps) _ (keeps-numbers idr pps sps) (λ of_picture.
+    keeps-bind (list_part (is_p_type start.slice_type) pps sps) _ (keeps-list_part (is_p_type start.slice_type) pps sps) (λ list.
+    keeps-bind (where_set (not (nal_ref_idc == 0)) (marking idr)) _ (keeps-where_set (not (nal_ref_idc == 0)) (marking idr) (keeps-marking idr)) (λ marked.
+    keeps-bind (filtering pps) _ (keeps-filtering pps) (λ filtered.
+    λ b. keeps-give _ b)))))
+
+-- ---- what the fields keep to
+
+not_off : (all : Bool) → (if all then All else WithinSlice) ≡ NoEdges → ⊥
+not_off true e = cc
+not_off false e = cc
+
+gives-deblocked : (off : Bool) (filtered : FilteredEdges) → (filtered ≡ NoEdges → ⊥) → Gives IsDeblocking (elim off [ true ↦ give no_edges | false ↦ offset_pair filtered ])
+gives-deblocked true filtered on =
+    gives-give IsDeblocking no_edges (record { alpha_low = omega (arith, ints); alpha_high = omega (arith, ints); beta_low = omega (arith, ints); beta_high = omega (arith, ints); off = λ _. refl })
+gives-deblocked false filtered on =
+    gives-bind (IsFrom (negsuc 5) (pos 6)) IsDeblocking (se_within (negsuc 5) (pos 6)) _ (gives-se_within (negsuc 5) (pos 6)) (λ alpha is_alpha.
+    gives-bind (IsFrom (negsuc 5) (pos 6)) IsDeblocking (se_within (negsuc 5) (pos 6)) _ (gives-se_within (negsuc 5) (pos 6)) (λ beta is_beta.
+    gives-give IsDeblocking _ (record { alpha_low = is_alpha.least; alpha_high = is_alpha.most; beta_low = is_beta.least; beta_high = is_beta.most; off = λ none. absurd (on none) })))
+
+gives-deblocking : Gives IsDeblocking deblocking
+gives-deblocking = gives-then IsDeblocking (ue_to 2) _ (λ idc. gives-deblocked (idc == 1) (if idc == 0 then All else WithinSlice) (not_off (idc == 0)))
+
+-- A slice_type in a unit of type 5 or not.
+abbrev IsIntra : Bool → Front → Type 0
+IsIntra idr start = idr ≡ true → is_p_type start.slice_type ≡ false
+
+intra : (idr none p : Bool) → not (idr && (none || p)) ≡ true → idr ≡ true → p ≡ false
+intra true true p e is = cc
+intra true false true e is = cc
+intra true false false e is = refl
+intra false none p e is = cc
+
+gives-front : (nal_ref_idc : ℕ) (idr : Bool) → Gives (IsIntra idr) (front nal_ref_idc idr)
+gives-front nal_ref_idc idr =
+    gives-then (IsIntra idr) ue _ (λ first.
+    gives-then (IsIntra idr) (ue_to 9) _ (λ number.
+    gives-then (IsIntra idr) (found (slice_type_of number) _) _ (λ slice_type.
+    gives-check (IsIntra idr) (not (idr && (nal_ref_idc == 0 || is_p_type slice_type))) _ _ (λ checked.
+    gives-then (IsIntra idr) (ue_to 255) _ (λ id.
+    gives-give (IsIntra idr) _ (intra idr (nal_ref_idc == 0) (is_p_type slice_type) checked))))))
+
+abbrev IsOfIdr : Bool → Option ℕ → Type 0
+IsOfIdr idr id = is_some id ≡ idr
+
+gives-idr_pic_id : (idr : Bool) → Gives (IsOfIdr idr) (idr_pic_id idr)
+gives-idr_pic_id true = gives-then (IsOfIdr true) (ue_to 65535) _ (λ id. gives-give (IsOfIdr true) (Some id) refl)
+gives-idr_pic_id false = gives-give (IsOfIdr false) None refl
+
+gives-numbers : (idr : Bool) (pps : Pps) (sps : Sps) → Gives (λ n. IsOfIdr idr n.idr_pic_id) (numbers idr pps sps)
+gives-numbers idr pps sps =
+    gives-then (λ n. IsOfIdr idr n.idr_pic_id) (u (sps.log2_max_frame_num_minus4 + 4)) _ (λ frame_num.
+    gives-then (λ n. IsOfIdr idr n.idr_pic_id) (check (not (idr && not (frame_num == 0))) _) _ (λ _.
+    gives-bind (IsOfIdr idr) (λ n. IsOfIdr idr n.idr_pic_id) (idr_pic_id idr) _ (gives-idr_pic_id idr) (λ of_idr is.
+    gives-then (λ n. IsOfIdr idr n.idr_pic_id) (coded_order sps.order_count pps.bottom_field_pic_order_in_frame_present_flag) _ (λ order.
+    gives-then (λ n. IsOfIdr idr n.idr_pic_id) (redundant_pic_cnt pps.redundant_pic_cnt_present_flag) _ (λ redundant.
+    gives-give (λ n. IsOfIdr idr n.idr_pic_id) _ is)))))
+
+quantiser : (qp : ℤ) → is_qp qp ≡ true → IsFrom (pos 0) (pos 51) qp
+quantiser qp e =
+    let parts = and_parts (int_le (pos 0) qp) (int_le qp (pos 51)) e in
+    record { least = grind (arith, ints); most = grind (arith, ints) }
+
+record IsFiltering (pps : Pps) (f : Filtering) : Type 0 where
+  qp : IsFrom (pos 0) (pos 51) (slice_qp pps f.slice_qp_delta)
+  deblocking : IfSome f.deblocking IsDeblocking
+
+gives-filtering : (pps : Pps) → Gives (IsFiltering pps) (filtering pps)
+gives-filtering pps =
+    gives-then (IsFiltering pps) se _ (λ delta.
+    gives-check (IsFiltering pps) (is_qp (slice_qp pps delta)) _ _ (λ qp.
+    gives-bind (λ d. IfSome d IsDeblocking) (IsFiltering pps) (where_set pps.deblocking_filter_control_present_flag deblocking) _
+    (gives-where_set IsDeblocking pps.deblocking_filter_control_present_flag deblocking gives-deblocking) (λ given is.
+    gives-give (IsFiltering pps) _ (record { qp = quantiser _ qp; deblocking = is }))))
+
+-- What a header has from its parts.
+record IsBack (idr : Bool) (start : Front) (pps : Pps) (sps : Sps) (h : Header) : Type 0 where
+  address : h.first_mb_in_slice < size_in_mbs sps
+  slice_type : h.slice_type ≡ start.slice_type
+  set : h.pic_parameter_set_id ≡ start.pic_parameter_set_id
+  idr_is : is_idr h ≡ idr
+  filters : IsFiltering pps (record { slice_qp_delta = h.slice_qp_delta; deblocking = h.deblocking })
+
+gives-back : (nal_ref_idc : ℕ) (idr : Bool) (start : Front) (pps : Pps) (sps : Sps) → Gives (IsBack idr start pps sps) (back nal_ref_idc idr start pps sps)
+gives-back nal_ref_idc idr start pps sps =
+    gives-check (IsBack idr start pps sps) (nat_lt start.first_mb_in_slice (size_in_mbs sps)) _ _ (λ address.
+    gives-bind (λ n. IsOfIdr idr n.idr_pic_id) (IsBack idr start pps sps) (numbers idr pps sps) _ (gives-numbers idr pps sps) (λ of_picture is_of.
+    gives-then (IsBack idr start pps sps) (list_part (is_p_type start.slice_type) pps sps) _ (λ list.
+    gives-then (IsBack idr start pps sps) (where_set (not (nal_ref_idc == 0)) (marking idr)) _ (λ marked.
+    gives-bind (IsFiltering pps) (IsBack idr start pps sps) (filtering pps) _ (gives-filtering pps) (λ filtered is_filtered.
+    λ b. gives-give (IsBack idr start pps sps) _ (record { address = ltb-true start.first_mb_in_slice (size_in_mbs sps) address; slice_type = refl; set = refl; idr_is = is_of; filters = is_filtered }) b)))))
+
+-- ---- the position is where the reader is
+
+abbrev Ends : Read Header → Type 0
+Ends part = (b next : Bits) (h : Header) → part b ≡ Ok (h, next) → h.position ≡ next.position
+
+ends-then : {A : Type 0} (part : Read A) (after : A → Read Header) → ((x : A) → Ends (after x)) → Ends (part >>= after)
+ends-then part after g b next h e = let between = bind-ok part after b next h e in g between.0 between.1 next h between.3
+
+ends-here : (make : ℕ → Header) → ((n : ℕ) → (make n).position ≡ n) → Ends (position_here >>= λ n. give (make n))
+ends-here make is b next h e =
+    sym (ap (λ r. (value h r).position) e) ∙ is b.position ∙ ap (λ r. (left b r).position) e
+
+ends-back : (nal_ref_idc : ℕ) (idr : Bool) (start : Front) (pps : Pps) (sps : Sps) → Ends (back nal_ref_idc idr start pps sps)
+ends-back nal_ref_idc idr start pps sps =
+    ends-then (check (nat_lt start.first_mb_in_slice (size_in_mbs sps)) _) _ (λ _.
+    ends-then (numbers idr pps sps) _ (λ of_picture.
+    ends-then (list_part (is_p_type start.slice_type) pps sps) _ (λ list.
+    ends-then (where_set (not (nal_ref_idc == 0)) (marking idr)) _ (λ marked.
+    ends-then (filtering pps) _ (λ filtered. ends-here _ (λ n. refl))))))
+
+-- ---- the whole header
+
+found-some : {A : Type 0} (o : Option A) (f : Fault) (b next : Bits) (x : A) → found o f b ≡ Ok (x, next) → o ≡ Some x
+found-some (Some a) f b next x e = gives-give (λ y. Some a ≡ Some y) a refl b next x e
+found-some None f b next x e = cc
+
+read-by : (r : Result (Header × Bits) Fault) (h : Header) → value_or_fault r ≡ Ok h → (next : Bits) × (r ≡ Ok (h, next))
+read-by (Ok p) h e = let same : p.0 ≡ h = cc in (p.1, ap (λ g. Ok (g, p.1)) same)
+read-by (Err f) h e = cc
+
+-- from the start no bit past the stop bit was passed
+reached : (position : ℕ) (next : Bits) (rbsp : List ℕ) → position ≡ next.position → total next ≡ total (start rbsp) → position ≤ length (bits_before_stop rbsp)
+reached position next rbsp is passed = omega (arith, is, passed)
+
+-- A header that was read: under which sets, and that it is one of a unit of type 5 or not.
+pub record IsRead (sets : Sets) (rbsp : List ℕ) (idr : Bool) (h : Header) : Type 0 where
+  pub kept : IsReadUnder sets rbsp h
+  pub idr_is : is_idr h ≡ idr
+
+pub header-read : (header : ℕ) (sets : Sets) (rbsp : List ℕ) (h : Header) → header_in_rbsp header sets rbsp ≡ Ok h → IsRead sets rbsp (header % 32 == 5) h
+header-read header sets rbsp h e =
+    let idr = header % 32 == 5 in
+    let all = read-by (header_of header sets (start rbsp)) h e in
+    let f = bind-ok (front (header / 32 % 4) idr) _ (start rbsp) all.0 h all.1 in
+    let p = bind-ok (found (sets.pps f.0.pic_parameter_set_id) NoParameterSet) _ f.1 all.0 h f.3 in
+    let s = bind-ok (found (sets.sps p.0.seq_parameter_set_id) NoParameterSet) _ p.1 all.0 h p.3 in
+    let is = gives-back (header / 32 % 4) idr f.0 p.0 s.0 s.1 all.0 h s.3 in
+    let position : h.position ≡ all.0.position = ends-back (header / 32 % 4) idr f.0 p.0 s.0 s.1 all.0 h s.3 in
+    let passed : total all.0 ≡ total (start rbsp) =
+    keeps-back (header / 32 % 4) idr f.0 p.0 s.0 s.1 all.0 h s.3
+    ∙ keeps-found (sets.sps p.0.seq_parameter_set_id) NoParameterSet p.1 s.1 s.0 s.2
+    ∙ keeps-found (sets.pps f.0.pic_parameter_set_id) NoParameterSet f.1 p.1 p.0 p.2
+    ∙ keeps-front (header / 32 % 4) idr (start rbsp) f.1 f.0 f.2 in
+    record {
+      kept = record {
+        pps = p.0;
+        sps = s.0;
+        pps_is = ap (λ id. sets.pps id) is.set ∙ found-some _ NoParameterSet f.1 p.1 p.0 p.2;
+        sps_is = found-some _ NoParameterSet p.1 s.1 s.0 s.2;
+        within = record {
+          address = is.address;
+          intra = λ of_idr. ap is_p_type is.slice_type ∙ gives-front (header / 32 % 4) idr (start rbsp) f.1 f.0 f.2 (sym is.idr_is ∙ of_idr);
+          marking = idr_marked header sets rbsp h e;
+          qp_low = is.filters.qp.least;
+          qp_high = is.filters.qp.most;
+          deblocking = is.filters.deblocking;
+          position = reached h.position all.0 rbsp position passed;
+        };
+      };
+      idr_is = is.idr_is;
+    }
+
+-- the same of an answer
+pub answer-kept : (header : ℕ) (sets : Sets) (rbsp : List ℕ) (r : Result Header Fault) → r ≡ header_in_rbsp header sets rbsp → IfOk r (λ h. IsReadUnder sets rbsp h)
+answer-kept header sets rbsp (Ok h) e = (header-read header sets rbsp h (sym e)).kept
+answer-kept header sets rbsp (Err f) e = tt
+
+pub answer-idr : (header : ℕ) (sets : Sets) (rbsp : List ℕ) (r : Result Header Fault) → r ≡ header_in_rbsp header sets rbsp → IfOk r (λ h. is_idr h ≡ (header % 32 == 5))
+answer-idr header sets rbsp (Ok h) e = (header-read header sets rbsp h (sym e)).idr_is
+answer-idr header sets rbsp (Err f) e = tt

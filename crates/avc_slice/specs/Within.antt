@@ -1,0 +1,39 @@
+-- What each slice header that was read keeps to.
+use Rattle.std.specs.Prelude.{◌≡◌, ℕ, ◌<◌, ◌≤◌, pos, negsuc, ◌≤ℤ◌, true, false, List, length, Some, IfSome}
+use Rattle.avc_types.specs.declared.edges.FilteredEdges.TheVariants.{NoEdges}
+use Rattle.avc_bits.specs.Bits.{bits_before_stop}
+use Rattle.avc_params.specs.Limits.{size_in_mbs}
+use Rattle.avc_params.specs.Tables.{Sets}
+use Rattle.avc_params.specs.declared.pps.Pps.{Pps}
+use Rattle.avc_params.specs.declared.sps.Sps.{Sps}
+use Rattle.avc_slice.specs.Header.{is_idr, has_idr_marking, is_p, slice_qp}
+use Rattle.avc_slice.specs.declared.header.Deblocking.{Deblocking}
+use Rattle.avc_slice.specs.declared.header.Header.{Header}
+
+pub record IsDeblocking (d : Deblocking) : Type 0 where
+  pub alpha_low : negsuc 5 ≤ℤ d.slice_alpha_c0_offset_div2
+  pub alpha_high : d.slice_alpha_c0_offset_div2 ≤ℤ pos 6
+  pub beta_low : negsuc 5 ≤ℤ d.slice_beta_offset_div2
+  pub beta_high : d.slice_beta_offset_div2 ≤ℤ pos 6
+  -- the offsets are not coded where no edge is filtered
+  pub off : d.disable_deblocking_filter_idc ≡ NoEdges → d.slice_alpha_c0_offset_div2 ≡ pos 0
+
+-- A header that was read in this RBSP under these sets.
+pub record IsHeader (sps : Sps) (pps : Pps) (rbsp : List ℕ) (h : Header) : Type 0 where
+  pub address : h.first_mb_in_slice < size_in_mbs sps
+  -- an IDR picture has I slices alone
+  pub intra : is_idr h ≡ true → is_p h ≡ false
+  -- and the marking of one
+  pub marking : is_idr h ≡ true → has_idr_marking h ≡ true
+  pub qp_low : pos 0 ≤ℤ slice_qp pps h.slice_qp_delta
+  pub qp_high : slice_qp pps h.slice_qp_delta ≤ℤ pos 51
+  pub deblocking : IfSome h.deblocking IsDeblocking
+  pub position : h.position ≤ length (bits_before_stop rbsp)
+
+-- The sets that a header names, and that it was read under.
+pub record IsReadUnder (sets : Sets) (rbsp : List ℕ) (h : Header) : Type 0 where
+  pub pps : Pps
+  pub sps : Sps
+  pub pps_is : sets.pps h.pic_parameter_set_id ≡ Some pps
+  pub sps_is : sets.sps pps.seq_parameter_set_id ≡ Some sps
+  pub within : IsHeader sps pps rbsp h

@@ -1,0 +1,33 @@
+-- What a parameter set's unit says.
+use Rattle.std.proofs.Common.{◌≡◌, ℕ, List, Option, Some, None, Result, Ok, Err, IfOk, refl, ap}
+use Rattle.std.specs.Option.{option_map}
+use Rattle.avc_types.specs.declared.fault.Fault.{Fault}
+use Rattle.avc_types.specs.declared.memory.OutOfMemory.{OutOfMemory}
+use Rattle.avc_params.specs.Reading.{pps_of, sps_of}
+use Rattle.avc_params.specs.Tables.{refused}
+use Rattle.avc_params.specs.declared.set_fault.SetFault.{SetFault}
+use Rattle.avc_slice.specs.declared.slice.Slice.{Slice}
+use Rattle.avc_units.specs.Grouped.{IfSlice}
+use Rattle.avc_units.specs.Grouping.{ends_picture, fault_in, pps, refusal_of, set_fault, sps}
+use Rattle.avc_units.specs.declared.step.Step.{Step}
+
+fault-refused : {A : Type 0} (r : Result A SetFault) → option_map (λ why. why.fault) (refused r) ≡ fault_in r
+fault-refused (Ok set) = refl
+fault-refused (Err why) = refl
+
+pub sps-refused : (read : Option (List ℕ)) (rbsp seen : List ℕ) (fault : Option SetFault) → read ≡ Some rbsp → seen ≡ rbsp → fault ≡ refused (sps_of seen)
+    → refusal_of (option_map (λ why. why.fault) fault) ≡ refusal_of (set_fault sps read)
+sps-refused read rbsp seen fault is same put = rw (is, put, same) (ap refusal_of (fault-refused (sps_of rbsp)))
+
+pub pps-refused : (read : Option (List ℕ)) (rbsp seen : List ℕ) (fault : Option SetFault) → read ≡ Some rbsp → seen ≡ rbsp → fault ≡ refused (pps_of seen)
+    → refusal_of (option_map (λ why. why.fault) fault) ≡ refusal_of (set_fault pps read)
+pps-refused read rbsp seen fault is same put = rw (is, put, same) (ap refusal_of (fault-refused (pps_of rbsp)))
+
+no-slice : (fault : Option Fault) (P : Slice → Type 0) → IfSlice (refusal_of fault) P
+no-slice None P = tt
+no-slice (Some f) P = tt
+
+-- It is no slice.
+pub set-step : (r : Result Step OutOfMemory) (fault : Option Fault) (P : Slice → Type 0) → IfOk r (λ s. s ≡ ends_picture (refusal_of fault)) → IfOk r (λ s. IfSlice s.next P)
+set-step (Ok s) fault P is = rw is (no-slice fault P)
+set-step (Err e) fault P is = tt

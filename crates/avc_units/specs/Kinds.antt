@@ -1,0 +1,33 @@
+-- What the functions of this crate say of one another.
+use Rattle.std.specs.Prelude.{Bool, true, false, Option, None, Result}
+use Rattle.avc_types.specs.declared.fault.Fault.{Fault}
+use Rattle.avc_annexb.specs.declared.unit.Unit.{Unit}
+use Rattle.avc_params.specs.Tables.{Sets}
+use Rattle.avc_slice.specs.declared.slice.Slice.{Slice}
+use Rattle.avc_units.specs.Grouped.{open_with}
+use Rattle.avc_units.specs.Grouping.{Kind, slice, partition, sps, pps, boundary, other, OpenPicture, passes, running_step, slice_step, waiting_step}
+use Rattle.avc_units.specs.declared.kinds.UnitKind.{UnitKind}
+use Rattle.avc_units.specs.declared.kinds.UnitKind.TheVariants as kinds
+use Rattle.avc_units.specs.declared.step.Step.{Step}
+use Rattle.avc_units.specs.declared.steps.Before.{Before}
+
+abbrev pub meant : UnitKind → Kind
+meant (kinds.Slice idr) = slice idr
+meant kinds.Partition = partition
+meant kinds.Sps = sps
+meant kinds.Pps = pps
+meant kinds.Boundary = boundary
+meant kinds.Other = other
+
+abbrev pub open_before : Before → Option OpenPicture
+open_before b = open_with b.full b.last.now
+
+-- What a unit of this kind does, where decoding runs or waits.
+abbrev pub step_by : Before → Sets → Unit → Kind → Step
+step_by b sets u k = elim b.running [ true ↦ running_step sets (open_before b) u k | false ↦ waiting_step sets u k ]
+
+-- A slice comes, or the fault in its header: where decoding waits it has to start it.
+abbrev pub comes : (running : Bool) → Option OpenPicture → (starts : Bool) → Result Slice Fault → Step
+comes true open' starts read = slice_step open' starts read
+comes false open' true read = slice_step None true read
+comes false open' false read = passes

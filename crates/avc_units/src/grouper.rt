@@ -1,0 +1,118 @@
+ghost use Rattle.std.specs.Prelude.{◌≡◌, false, true, IfOk, OnErr, OnOk};
+ghost use Rattle.avc_params.specs.Tables.{sets_after};
+ghost use Rattle.avc_units.specs.Grouped.{at_fault, begins_one, grouped, last_after, open_with, ungrouped, IfSlice, IsTaken};
+ghost use Rattle.avc_units.specs.Grouping.{step};
+
+use crate::step::{Next, Step};
+use crate::steps::Before;
+use crate::units::step_of;
+use avc_annexb::Unit;
+use avc_params::ParamTable;
+use avc_slice::Header;
+use avc_types::OutOfMemory;
+use std::alloc::Global;
+use std::marker::Model;
+
+/// Says of each unit of a stream what it does to the open picture, and keeps the parameter sets.
+#[derive(Drop)]
+pub struct Grouper {
+    alloc: Global,
+    table: ParamTable,
+    running: bool,
+    // the header of the open picture's last slice
+    last: Option<Header>,
+    // whether the last unit begins a picture also where closing was a fault
+    restarts: bool,
+    failed: bool,
+}
+
+impl Model for Grouper {
+    ghost use Rattle.avc_units.specs.Grouped.{Grouped};
+
+    ghost Value = { Grouped };
+
+    ghost view = { λ g. record { sets = g.table; running = g.running; last = g.last; restarts = g.restarts; failed = g.failed } };
+}
+
+fn begins_one(next: &Next) -> bool
+    ensures { result ≡ begins_one next.now }
+{
+    match next {
+        Next::Begins(_) => true,
+        _ => false,
+    }
+}
+
+/// The header of the open picture's last slice after a step.
+fn last_after(closes: bool, next: &Next, last: Option<Header>) -> Option<Header>
+    ensures { result ≡ last_after closes next.now last }
+{
+    match next {
+        Next::Begins(slice) | Next::Continues(slice) => Some(slice.header.copied()),
+        _ if closes => None,
+        _ => last,
+    }
+}
+
+impl Grouper {
+    /// At the start of a stream: it waits, with no parameter set.
+    pub fn new(alloc: Global) -> Grouper
+        ensures { result ≡ ungrouped }
+    {
+        Grouper {
+            alloc,
+            table: ParamTable::new(alloc),
+            running: false,
+            last: None,
+            restarts: false,
+            failed: false,
+        }
+    }
+
+    /// What the next unit does, where `full` says whether the open picture, if there is one, is full. The answer is carried
+    /// out, or `fault` is called. After want of memory it answers so from then on.
+    pub fn unit(&mut self, unit: &Unit, full: bool) -> Result<Step, OutOfMemory>
+        ensures step { IfOk result (λ s. s ≡ step (sets_after self.old.sets) self.old.running (open_with full self.old.last) unit.now) }
+        ensures state { IfOk result (λ s. self.new ≡ grouped self.old unit.now s) }
+        ensures slice { IfOk result (λ s. IfSlice s.next (IsTaken (sets_after self.new.sets))) }
+        ensures sets { IfOk result (λ s. IfSlice s.next (λ _. self.new.sets ≡ self.old.sets)) }
+        ensures going { OnOk result (self.old.failed ≡ false) }
+        ensures err { OnErr result (self.new.failed ≡ true) }
+    {
+        if self.failed {
+            return Err(OutOfMemory);
+        }
+        // until all of it is done
+        self.failed = true;
+        let before = Before {
+            running: self.running,
+            last: &self.last,
+            full,
+        };
+        let step = step_of(self.alloc, &mut self.table, before, unit)?;
+        self.last = last_after(step.closes, &step.next, self.last.take());
+        self.running = self.running | begins_one(&step.next);
+        self.restarts = step.even_after_fault & begins_one(&step.next);
+        self.failed = false;
+        Ok(step)
+    }
+
+    /// A picture had a fault. `closing` says that it was found at the closing that the last step asked for.
+    pub fn fault(&mut self, closing: bool)
+        ensures { self.new ≡ at_fault closing self.old }
+    {
+        if self.restarts & closing {
+            return;
+        }
+        self.running = false;
+        self.last = None;
+        self.restarts = false;
+    }
+
+    /// The parameter sets in force.
+    pub fn table(&self) -> &ParamTable
+        ensures { result.now ≡ self.now.sets }
+    {
+        &self.table
+    }
+}

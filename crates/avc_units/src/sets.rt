@@ -1,0 +1,66 @@
+ghost use Rattle.std.specs.Prelude.{◌≡◌, ◌++◌, IfOk, OnOk};
+ghost use Rattle.std.specs.Option.{option_map};
+ghost use Rattle.avc_units.specs.Grouping.{ends_picture, list_of, pps, rbsp_of, refusal_of, set_fault, set_of, sps};
+
+use crate::step::{Next, Step};
+use crate::steps::ends_picture;
+use avc_annexb::{Unit, unescape};
+use avc_params::{ParamTable, SetFault};
+use avc_types::{Bytes, Fault, OutOfMemory};
+use std::alloc::Global;
+
+/// The RBSP of a unit that is not too long.
+pub(crate) fn rbsp_of(alloc: Global, unit: &Unit) -> Result<Option<Bytes>, OutOfMemory>
+    ensures { IfOk result (λ bytes. bytes ≡ rbsp_of unit.now) }
+{
+    match &unit.body {
+        Some(body) => Ok(Some(Bytes::from_vec(unescape(alloc, body.as_slice())?))),
+        None => Ok(None),
+    }
+}
+
+/// The refusal of a set that has a fault.
+fn refusal_of(fault: Option<SetFault>) -> Next
+    ensures { result ≡ refusal_of (option_map (λ why. why.fault) fault) }
+{
+    match fault {
+        Some(why) => Next::Refusal(why.fault),
+        None => Next::Nothing,
+    }
+}
+
+/// A sequence parameter set's unit ends the picture, and is refused where it has a fault.
+pub(crate) fn put_sps(
+    alloc: Global,
+    table: &mut ParamTable,
+    unit: &Unit,
+) -> Result<Step, OutOfMemory>
+    ensures step { IfOk result (λ s. s ≡ ends_picture (refusal_of (set_fault sps (rbsp_of unit.now)))) }
+    ensures put { OnOk result (table.new ≡ table.old ++ list_of (set_of sps (rbsp_of unit.now))) }
+{
+    match rbsp_of(alloc, unit)? {
+        Some(rbsp) => {
+            let fault = table.put_sps(rbsp.as_slice())?;
+            Ok(ends_picture(refusal_of(fault)))
+        }
+        None => Ok(ends_picture(Next::Refusal(Fault::NalTooLong))),
+    }
+}
+
+/// A picture parameter set's unit does so too.
+pub(crate) fn put_pps(
+    alloc: Global,
+    table: &mut ParamTable,
+    unit: &Unit,
+) -> Result<Step, OutOfMemory>
+    ensures step { IfOk result (λ s. s ≡ ends_picture (refusal_of (set_fault pps (rbsp_of unit.now)))) }
+    ensures put { OnOk result (table.new ≡ table.old ++ list_of (set_of pps (rbsp_of unit.now))) }
+{
+    match rbsp_of(alloc, unit)? {
+        Some(rbsp) => {
+            let fault = table.put_pps(rbsp.as_slice())?;
+            Ok(ends_picture(refusal_of(fault)))
+        }
+        None => Ok(ends_picture(Next::Refusal(Fault::NalTooLong))),
+    }
+}

@@ -1,0 +1,87 @@
+ghost use Rattle.std.specs.Prelude.{◌≡◌, ◌==◌, ◌%◌, false, true, IfOk};
+ghost use Rattle.avc_annexb.specs.Units.{forbidden_zero_bit};
+ghost use Rattle.avc_bits.specs.Bits.{start};
+ghost use Rattle.avc_bits.specs.Codes.{ue};
+ghost use Rattle.avc_params.specs.Tables.{sets_after};
+ghost use Rattle.avc_slice.specs.Header.{is_idr};
+ghost use Rattle.avc_slice.specs.Reading.{header_in_rbsp};
+ghost use Rattle.avc_slice.specs.Within.{IsReadUnder};
+ghost use Rattle.avc_units.specs.Grouped.{IfSlice, IsTaken};
+ghost use Rattle.avc_units.specs.Grouping.{kind, reads_zero, slice, with_header};
+ghost use Rattle.avc_units.specs.Kinds.{comes, open_before, step_by};
+
+use crate::sets::rbsp_of;
+use crate::step::Step;
+use crate::steps::{Before, comes};
+use avc_annexb::Unit;
+use avc_bits::BitReader;
+use avc_params::ParamTable;
+use avc_slice::{Slice, read_header};
+use avc_types::{Bytes, Fault, OutOfMemory};
+use std::alloc::Global;
+
+/// Whether first_mb_in_slice reads as 0 in the RBSP of a slice.
+fn is_first(rbsp: &[u8]) -> bool
+    ensures { result ≡ reads_zero (ue (start rbsp.now)) }
+{
+    let mut reader = BitReader::new(rbsp);
+    match reader.ue() {
+        Ok(first_mb_in_slice) => first_mb_in_slice == 0,
+        Err(_) => false,
+    }
+}
+
+/// The slice with this RBSP, or the fault in its header.
+fn read_slice(table: &ParamTable, unit: &Unit, rbsp: Bytes) -> Result<Slice, Fault>
+    ensures slice { result ≡ with_header unit.now rbsp (header_in_rbsp unit.now.header (sets_after table.now) rbsp) }
+    ensures kept { IfOk result (λ s. IsReadUnder (sets_after table.now) s.rbsp s.header) }
+    ensures idr { IfOk result (λ s. is_idr s.header ≡ (unit.now.header % 32 == 5)) }
+{
+    let header = read_header(unit.header, rbsp.as_slice(), table)?;
+    Ok(Slice {
+        unit: unit.index,
+        header,
+        rbsp,
+    })
+}
+
+/// A slice's unit of type 5.
+fn idr_unit(
+    alloc: Global,
+    table: &ParamTable,
+    before: Before,
+    unit: &Unit,
+) -> Result<Step, OutOfMemory>
+    requires allowed { forbidden_zero_bit unit.now.header ≡ false }
+    requires kind { kind unit.now ≡ slice true }
+    ensures step { IfOk result (λ s. s ≡ step_by before.entry (sets_after table.now) unit.now (slice true)) }
+    ensures slice { IfOk result (λ s. IfSlice s.next (IsTaken (sets_after table.now))) }
+{
+    match rbsp_of(alloc, unit)? {
+        Some(rbsp) => {
+            let starts = is_first(rbsp.as_slice());
+            Ok(comes(before, starts, read_slice(table, unit, rbsp)))
+        }
+        None => Ok(comes(before, false, Err(Fault::NalTooLong))),
+    }
+}
+
+/// A slice's unit. So far those of type 5 are taken.
+pub(crate) fn slice_unit(
+    alloc: Global,
+    table: &ParamTable,
+    before: Before,
+    unit: &Unit,
+    idr: bool,
+) -> Result<Step, OutOfMemory>
+    requires allowed { forbidden_zero_bit unit.now.header ≡ false }
+    requires kind { kind unit.now ≡ slice idr }
+    ensures step { IfOk result (λ s. s ≡ step_by before.entry (sets_after table.now) unit.now (slice idr)) }
+    ensures slice { IfOk result (λ s. IfSlice s.next (IsTaken (sets_after table.now))) }
+{
+    if idr {
+        idr_unit(alloc, table, before, unit)
+    } else {
+        Ok(comes(before, false, Err(Fault::NotYet)))
+    }
+}

@@ -1,0 +1,63 @@
+ghost use Rattle.std.specs.Prelude.{◌≡◌, ◌++◌, ◌∷◌, [], false, IfOk, OnOk};
+ghost use Rattle.avc_annexb.specs.Units.{forbidden_zero_bit};
+ghost use Rattle.avc_params.specs.Tables.{sets_after};
+ghost use Rattle.avc_units.specs.Grouped.{IfSlice, IsTaken};
+ghost use Rattle.avc_units.specs.Grouping.{kind, list_of, rbsp_of, set_of, set_units, step};
+ghost use Rattle.avc_units.specs.Kinds.{meant, open_before, step_by};
+
+use crate::kinds::{UnitKind, kind_of};
+use crate::sets::{put_pps, put_sps};
+use crate::slices::slice_unit;
+use crate::step::{Next, Step};
+use crate::steps::{Before, comes, ends_picture, passes};
+use avc_annexb::Unit;
+use avc_params::ParamTable;
+use avc_types::{Fault, OutOfMemory};
+use std::alloc::Global;
+
+/// What a unit of this kind does.
+fn step_by(
+    alloc: Global,
+    table: &mut ParamTable,
+    before: Before,
+    unit: &Unit,
+    unit_kind: UnitKind,
+) -> Result<Step, OutOfMemory>
+    requires allowed { forbidden_zero_bit unit.now.header ≡ false }
+    requires kind { kind unit.now ≡ meant unit_kind }
+    ensures step { IfOk result (λ s. s ≡ step_by before.entry (sets_after table.old) unit.now (meant unit_kind)) }
+    ensures put { OnOk result (table.new ≡ table.old ++ list_of (set_of (meant unit_kind) (rbsp_of unit.now))) }
+    ensures slice { IfOk result (λ s. IfSlice s.next (IsTaken (sets_after table.new))) }
+    ensures sets { IfOk result (λ s. IfSlice s.next (λ _. table.new ≡ table.old)) }
+{
+    match unit_kind {
+        UnitKind::Slice { idr } => slice_unit(alloc, table, before, unit, idr),
+        UnitKind::Partition => Ok(comes(before, false, Err(Fault::DataPartition))),
+        UnitKind::Sps => put_sps(alloc, table, unit),
+        UnitKind::Pps => put_pps(alloc, table, unit),
+        UnitKind::Boundary => Ok(ends_picture(Next::Nothing)),
+        UnitKind::Other => Ok(passes()),
+    }
+}
+
+/// What a unit does, and what it puts into the table.
+pub(crate) fn step_of(
+    alloc: Global,
+    table: &mut ParamTable,
+    before: Before,
+    unit: &Unit,
+) -> Result<Step, OutOfMemory>
+    ensures step { IfOk result (λ s. s ≡ step (sets_after table.old) before.entry.running (open_before before.entry) unit.now) }
+    ensures put { OnOk result (table.new ≡ table.old ++ set_units (unit.now ∷ [])) }
+    ensures slice { IfOk result (λ s. IfSlice s.next (IsTaken (sets_after table.new))) }
+    ensures sets { IfOk result (λ s. IfSlice s.next (λ _. table.new ≡ table.old)) }
+{
+    if unit.header >= 128 {
+        return Ok(Step {
+            closes: false,
+            next: Next::Refusal(Fault::ForbiddenBit),
+            even_after_fault: true,
+        });
+    }
+    step_by(alloc, table, before, unit, kind_of(unit.header))
+}
