@@ -7,8 +7,6 @@ mod sets;
 mod slices;
 mod step;
 mod steps;
-#[cfg(test)]
-mod tests;
 mod units;
 
 pub use grouper::Grouper;
