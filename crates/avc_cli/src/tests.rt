@@ -6,6 +6,7 @@ use crate::report::{Refusals, Report};
 use crate::request::{Request, requested};
 use crate::status::{fault_status, status};
 use crate::units::run_units;
+use avc_decoder::{DecodeError, Decoder, Event};
 use avc_types::{Fault, OutOfMemory};
 use clap::error::ErrorKind;
 use std::alloc::{AllocError, Global};
@@ -270,5 +271,38 @@ fn ends_a_decoding_by_a_fault(rt: HostRuntime) -> Result<(), Fail> {
     assert!(rt; written.is_empty(), "nothing is written");
     let unwritten = run(alloc, &mut bytes.as_slice(), &mut Failing { left: 100 }).map(|_| ());
     assert_eq!(rt; fault_of(unwritten)?, Some(RunFault::Write));
+    Ok(())
+}
+
+// How many pictures a stream gives.
+fn pictures_of(decoder: &mut Decoder<1000>, bytes: &[u8]) -> Result<usize, DecodeError> {
+    decoder.feed(bytes)?;
+    decoder.flush()?;
+    let mut count = 0usize;
+    for _ in 0..3 {
+        if let Some(Event::Picture(_)) = decoder.take()? {
+            count = count.saturating_add(1);
+        }
+    }
+    Ok(count)
+}
+
+// Where an allocation is refused inside the decoder, it answers so until it is reset, and then decodes.
+#[test]
+fn decodes_again_after_want_of_memory(rt: HostRuntime) -> Result<(), Fail> {
+    let alloc = rt.alloc();
+    let bytes = stream(alloc, &SMALL, &rising(alloc)?)?;
+    let mut decoder = Decoder::<1000>::new(alloc);
+    match pictures_of(&mut decoder, &bytes) {
+        Ok(count) => assert_eq!(rt; count, 1),
+        Err(error) => {
+            assert_eq!(rt; error, DecodeError::OutOfMemory);
+            assert_eq!(rt; decoder.feed(&bytes), Err(DecodeError::OutOfMemory));
+            assert_eq!(rt; decoder.flush(), Err(DecodeError::OutOfMemory));
+            assert!(rt; decoder.take().is_err(), "nothing can be taken");
+            decoder.reset();
+            assert_eq!(rt; pictures_of(&mut decoder, &bytes), Ok(1));
+        }
+    }
     Ok(())
 }
