@@ -8,7 +8,8 @@ use Rattle.std.proofs.lemmas.List.{length-replicate, drop-replicate, take-replic
 use Rattle.std.proofs.lemmas.List.Sums.{sum_by-append}
 use Rattle.avc_types.specs.declared.fault.Fault.{Fault}
 use Rattle.avc_bits.specs.Bits.{Bits, ◌>>=◌, give}
-use Rattle.avc_cavlc.specs.Block.{IsLevel, IsSmall, coefficients, each_after_zeros, run, runs}
+use Rattle.avc_cavlc.specs.Block.{IsLevel, IsSmall, each_after_zeros, run, runs}
+use Rattle.avc_types.specs.Macroblock.{total_coeff}
 use Rattle.avc_cavlc.specs.Steps.{placed_before, placed_by_runs}
 use Rattle.avc_cavlc.proofs.RunSteps.{each_more, runs_length}
 
@@ -86,10 +87,10 @@ no_weight : (n : ℕ) → sum_by weight (replicate n (pos 0)) ≡ 0
 no_weight zero = refl
 no_weight (suc n) = sum_by-append weight (pos 0 ∷ []) (replicate n (pos 0)) ∙ omega (arith, no_weight n)
 
-pub no_coefficients : (n : ℕ) → coefficients (replicate n (pos 0)) ≡ 0
+pub no_coefficients : (n : ℕ) → total_coeff (replicate n (pos 0)) ≡ 0
 no_coefficients n = no_weight n
 
-pub coefficient_more : (gap : ℕ) (v : ℤ) (done : List ℤ) → IsLevel v → coefficients (replicate gap (pos 0) ++ v ∷ done) ≡ coefficients done + 1
+pub coefficient_more : (gap : ℕ) (v : ℤ) (done : List ℤ) → IsLevel v → total_coeff (replicate gap (pos 0) ++ v ∷ done) ≡ total_coeff done + 1
 coefficient_more gap v done is =
     let some : (nat_abs v == 0) ≡ false = ne_eqb (nat_abs v) 0 (let least : 1 ≤ nat_abs v = is.some in λ e. absurd (omega arith)) in
     let one : weight v ≡ 1 = ap (λ t. cond (not t) 1 0) some in

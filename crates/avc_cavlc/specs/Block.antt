@@ -1,6 +1,6 @@
 -- One residual block of transform coefficient levels (7.3.5.3.2, 9.2).
 use Rattle.std.specs.Prelude.{ℕ, zero, suc, ◌+◌, ◌-◌, ◌*◌, ◌/◌, ◌%◌, ◌^◌, ◌≤◌, ℤ, pos, neg_ℤ, ◌≤ℤ◌, nat_abs, Bool, true, false, not, ◌==◌, ◌&&◌, ◌||◌, nat_lt, nat_le, if◌then◌else◌, List, [], ◌∷◌, ◌++◌, length, reverse, replicate}
-use Rattle.std.specs.List.{count_by, flat_map, zip}
+use Rattle.std.specs.List.{flat_map, zip}
 use Rattle.avc_types.specs.declared.fault.Fault.TheVariants as faults
 use Rattle.avc_bits.specs.Bits.{Read, ◌>>=◌, ◌>>◌, give, check, times}
 use Rattle.avc_bits.specs.Codes.{u, flag, zeros_before_one}
@@ -104,6 +104,3 @@ pub record IsSmall (l : ℤ) : Type 0 where
   pub low : neg_ℤ (pos 2528) ≤ℤ l
   pub high : l ≤ℤ pos 2528
 
--- total_coeff: how many levels are not 0
-abbrev pub coefficients : List ℤ → ℕ
-coefficients levels = count_by (λ l. not (nat_abs l == 0)) levels

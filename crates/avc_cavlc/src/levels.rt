@@ -1,6 +1,6 @@
 //! The levels of a block.
 ghost use Rattle.std.specs.Prelude.{◌≡◌, ◌≤◌, ℤ, pos, List, replicate};
-ghost use Rattle.avc_cavlc.specs.Block.{coefficients};
+ghost use Rattle.avc_types.specs.Macroblock.{total_coeff};
 ghost use Rattle.std.proofs.Common.{ap, sym};
 
 use std::marker::Model;
@@ -18,9 +18,9 @@ impl<const MAXN: usize> Model for Levels<MAXN> {
 
     ghost view = { λ l. l.levels };
 
-    ghost invariant = { λ l. l.count ≡ coefficients l.levels };
+    ghost invariant = { λ l. l.count ≡ total_coeff l.levels };
 
-    ghost inverse = { λ v. record { levels = v; count = coefficients v } };
+    ghost inverse = { λ v. record { levels = v; count = total_coeff v } };
 
     ghost inverse_ok = { λ l is. ap (λ n. record { levels = l.levels; count = n }) (sym is) };
 }
@@ -52,7 +52,7 @@ impl<const MAXN: usize> Levels<MAXN> {
 
     // these levels, of which so many are not 0
     pub(crate) fn new(levels: [i16; MAXN], count: u8) -> Self
-        requires { count ≡ coefficients levels }
+        requires { count ≡ total_coeff levels }
         ensures { result ≡ levels.entry }
     {
         Levels { levels, count }
@@ -66,8 +66,8 @@ impl<const MAXN: usize> Levels<MAXN> {
     }
 
     /// How many of the levels are not 0 (total_coeff).
-    pub fn coefficients(&self) -> u8
-        ensures { result ≡ coefficients self.now }
+    pub fn total_coeff(&self) -> u8
+        ensures { result ≡ total_coeff self.now }
     {
         self.count
     }

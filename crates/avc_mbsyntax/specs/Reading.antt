@@ -3,12 +3,12 @@ use Rattle.std.specs.Prelude.{ℕ, zero, suc, ◌-◌, ◌/◌, ◌%◌, ◌^◌
 use Rattle.std.specs.List.{range_with_len}
 use Rattle.std.specs.Option.{option_map}
 use Rattle.avc_types.specs.declared.vector.Mv.{Mv}
-use Rattle.avc_types.specs.Macroblock.{SubShape, sub_8x8, sub_8x4, sub_4x8, sub_4x4, Shape, whole, upper_lower, left_right, quarters, quarters_ref0, Residual, MbSyntax, i_pcm, i_nxn, i_16x16, p_inter, Mb, parts_of}
+use Rattle.avc_types.specs.Macroblock.{total_coeff, SubShape, sub_8x8, sub_8x4, sub_4x8, sub_4x4, Shape, whole, upper_lower, left_right, quarters, p_8x8ref0, Residual, MbSyntax, i_pcm, i_nxn, i_16x16, p_inter, Mb, parts_of}
 use Rattle.avc_bits.specs.Bits.{Read, ◌>>=◌, ◌>>◌, give, times}
 use Rattle.avc_bits.specs.Codes.{u, flag, ue_to, se, se_within, te_to, align}
 use Rattle.avc_vlc.specs.Reading.{coded_block_pattern}
 use Rattle.avc_cavlc.specs.Block.{residual_block}
-use Rattle.avc_neigh.specs.Counts.{Counts, coefficients, nc}
+use Rattle.avc_neigh.specs.TotalCoeffs.{TotalCoeffs, nc}
 
 -- What reading a macroblock asks of its slice and of its neighbours.
 pub record Context : Type 0 where
@@ -18,8 +18,8 @@ pub record Context : Type 0 where
   -- QP_Y,PRED: that of the macroblock before in the slice, at first the slice's
   pub qp : ℕ
   -- of the macroblocks to the left and above, where they are available
-  pub left : Option Counts
-  pub up : Option Counts
+  pub left : Option TotalCoeffs
+  pub up : Option TotalCoeffs
 
 -- ---- residual (7.3.5.3)
 
@@ -30,16 +30,16 @@ no_levels max = replicate max (pos 0)
 abbrev pub blocks : (max size : ℕ) → (coded : ℕ → Bool) → (left up : Option (List ℕ)) → (numbers : List ℕ) → (done : List (List ℤ)) → Read (List (List ℤ))
 blocks max size coded left up [] done = give done
 blocks max size coded left up (k ∷ numbers) done = do
-  block ← elim (coded k) [ true ↦ residual_block max (pos (nc size left up (map coefficients done) k)) | false ↦ give (no_levels max) ]
+  block ← elim (coded k) [ true ↦ residual_block max (pos (nc size left up (map total_coeff done) k)) | false ↦ give (no_levels max) ]
   blocks max size coded left up numbers (done ++ block ∷ [])
 
-abbrev luma_side : Option Counts → Option (List ℕ)
+abbrev luma_side : Option TotalCoeffs → Option (List ℕ)
 luma_side = option_map (λ c. c.luma)
 
-abbrev cb_side : Option Counts → Option (List ℕ)
+abbrev cb_side : Option TotalCoeffs → Option (List ℕ)
 cb_side = option_map (λ c. c.cb)
 
-abbrev cr_side : Option Counts → Option (List ℕ)
+abbrev cr_side : Option TotalCoeffs → Option (List ℕ)
 cr_side = option_map (λ c. c.cr)
 
 -- the bit of the quarter of luma block k is set
@@ -142,7 +142,7 @@ shape zero = give whole
 shape (suc zero) = give upper_lower
 shape (suc (suc zero)) = give left_right
 shape (suc (suc (suc zero))) = sub_shapes >>= λ subs. give (quarters subs)
-shape (suc (suc (suc (suc _)))) = sub_shapes >>= λ subs. give (quarters_ref0 subs)
+shape (suc (suc (suc (suc _)))) = sub_shapes >>= λ subs. give (p_8x8ref0 subs)
 
 -- how many partitions, of which each has a reference index
 abbrev pub partitions : Shape → ℕ
@@ -150,16 +150,16 @@ partitions whole = 1
 partitions upper_lower = 2
 partitions left_right = 2
 partitions (quarters subs) = 4
-partitions (quarters_ref0 subs) = 4
+partitions (p_8x8ref0 subs) = 4
 
 -- ref_idx_l0 of each partition; 0 where it is not coded
-abbrev pub reference_indices : (active_count : ℕ) → Shape → Read (List ℕ)
-reference_indices active_count (quarters_ref0 subs) = give (replicate 4 0)
-reference_indices active_count s =
+abbrev pub ref_idx_l0 : (active_count : ℕ) → Shape → Read (List ℕ)
+ref_idx_l0 active_count (p_8x8ref0 subs) = give (replicate 4 0)
+ref_idx_l0 active_count s =
     elim (nat_le active_count 1) [ true ↦ give (replicate (partitions s) 0) | false ↦ times (partitions s) (te_to (active_count - 1)) ]
 
-abbrev pub difference : Read Mv
-difference = do
+abbrev pub mvd_l0 : Read Mv
+mvd_l0 = do
   x ← se
   y ← se
   give (record { x = x; y = y })
@@ -167,11 +167,11 @@ difference = do
 abbrev pub p_mb : Context → (mb_type : ℕ) → Read Mb
 p_mb c mb_type = do
   s ← shape mb_type
-  references ← reference_indices c.active_count s
-  differences ← times (length (parts_of s)) difference
+  ref_idx ← ref_idx_l0 c.active_count s
+  mvd ← times (length (parts_of s)) mvd_l0
   pattern ← coded_block_pattern false
   r ← after_pattern c pattern
-  give (with_residual c r (p_inter s references differences r))
+  give (with_residual c r (p_inter s ref_idx mvd r))
 
 -- macroblock_layer
 abbrev pub macroblock : Context → Read Mb

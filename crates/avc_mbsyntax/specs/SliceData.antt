@@ -9,7 +9,7 @@ use Rattle.avc_types.specs.Staged.{takes_mb_type}
 use Rattle.avc_bits.specs.Bits.{Bits, Read, more_data}
 use Rattle.avc_bits.specs.Codes.{ue}
 use Rattle.avc_neigh.specs.Blocks.{left_of, above}
-use Rattle.avc_neigh.specs.Counts.{counts_of}
+use Rattle.avc_neigh.specs.TotalCoeffs.{total_coeffs_of}
 use Rattle.avc_mbsyntax.specs.Reading.{Context, macroblock}
 
 -- What a slice's data is read under.
@@ -50,8 +50,8 @@ context s before qp = record {
   is_p = s.is_p;
   active_count = s.active_count;
   qp = qp;
-  left = option_map (λ m. counts_of m.syntax) (left_of before s.width s.slice (length before));
-  up = option_map (λ m. counts_of m.syntax) (above before s.width s.slice (length before));
+  left = option_map (λ m. total_coeffs_of m.syntax) (left_of before s.width s.slice (length before));
+  up = option_map (λ m. total_coeffs_of m.syntax) (above before s.width s.slice (length before));
 }
 
 abbrev pub is_taken : Result (ℕ × Bits) Fault → Bool

@@ -4,9 +4,9 @@ use Rattle.std.specs.List.{range_with_len}
 use Rattle.avc_types.specs.Arithmetic.{median, ◌==ℤ◌}
 use Rattle.avc_types.specs.declared.vector.Mv.{Mv}
 use Rattle.avc_types.specs.declared.edges.FilteredEdges.TheVariants.{NoEdges}
-use Rattle.avc_types.specs.Macroblock.{MbSyntax, p_skip, i_pcm, i_nxn, i_16x16, p_inter, Part, Shape, whole, upper_lower, left_right, quarters, quarters_ref0, parts_of}
+use Rattle.avc_types.specs.Macroblock.{MbSyntax, p_skip, i_pcm, i_nxn, i_16x16, p_inter, Part, Shape, whole, upper_lower, left_right, quarters, p_8x8ref0, parts_of}
 use Rattle.avc_types.specs.Pictures.{Coded, PicMb, SliceFacts, Frame}
-use Rattle.avc_neigh.specs.Blocks.{block_x, block_y, spot_at}
+use Rattle.avc_neigh.specs.Blocks.{block_x, block_y, location_at}
 use Rattle.avc_neigh.specs.Nearby.{nearby}
 
 -- What a luma block has for inter prediction: not available, in an intra macroblock, or a reference index and a vector.
@@ -51,7 +51,7 @@ else_motion (inter r v) d = inter r v
 -- `mine` that of its own sixteen blocks, absent where they are not decoded yet.
 abbrev pub neighbours_of : Coded → List (List Motion) → List Motion → ℕ → (x y width : ℕ) → Neighbours
 neighbours_of p known mine a x y width =
-    let at : ℤ → ℤ → Motion = λ u v. nearby absent p.mbs known mine a (spot_at p.width a u v) in
+    let at : ℤ → ℤ → Motion = λ u v. nearby absent p.mbs known mine a (location_at p.width a u v) in
     record {
       a = at (pos x -ℤ pos 1) (pos y);
       b = at (pos x) (pos y -ℤ pos 1);
@@ -91,7 +91,7 @@ first_asked left_right zero n = n.a
 first_asked left_right (suc i) n = n.c
 first_asked whole i n = absent
 first_asked (quarters subs) i n = absent
-first_asked (quarters_ref0 subs) i n = absent
+first_asked (p_8x8ref0 subs) i n = absent
 
 -- the prediction for a part with reference index r
 abbrev pub predicted_vector : Shape → ℕ → ℕ → Neighbours → Mv
@@ -124,15 +124,15 @@ with_part mine p m = map (λ k. if is_in_part p k then m else slice_index_or min
 abbrev sum_of_vectors : Mv → Mv → Mv
 sum_of_vectors u v = record { x = u.x +ℤ v.x; y = u.y +ℤ v.y }
 
--- the parts in decoding order, each with its prediction from what is decoded before it and its difference
+-- the parts in decoding order, each with its prediction from what is decoded before it and its mvd
 abbrev pub motion_of_parts : Coded → List (List Motion) → ℕ → Shape → List ℕ → List Motion → List Part → List Mv → List Motion
-motion_of_parts p known a shape references mine [] differences = mine
-motion_of_parts p known a shape references mine (part ∷ parts) [] = mine
-motion_of_parts p known a shape references mine (part ∷ parts) (difference ∷ differences) =
-    let r = slice_index references part.partition in
+motion_of_parts p known a shape ref_idx mine [] mvds = mine
+motion_of_parts p known a shape ref_idx mine (part ∷ parts) [] = mine
+motion_of_parts p known a shape ref_idx mine (part ∷ parts) (mvd ∷ mvds) =
+    let r = slice_index ref_idx part.partition in
     let predicted = predicted_vector shape part.partition r (neighbours_of p known mine a part.x part.y part.width) in
-    let filled = with_part mine part (inter r (sum_of_vectors predicted difference)) in
-    motion_of_parts p known a shape references filled parts differences
+    let filled = with_part mine part (inter r (sum_of_vectors predicted mvd)) in
+    motion_of_parts p known a shape ref_idx filled parts mvds
 
 -- the sixteen blocks of macroblock a
 abbrev pub motion_of : Coded → List (List Motion) → ℕ → MbSyntax → List Motion
@@ -140,8 +140,8 @@ motion_of p known a (i_pcm luma cb cr) = replicate 16 intra
 motion_of p known a (i_nxn modes chroma residual) = replicate 16 intra
 motion_of p known a (i_16x16 mode chroma residual) = replicate 16 intra
 motion_of p known a p_skip = replicate 16 (inter 0 (skip_vector (neighbours_of p known (replicate 16 absent) a 0 0 16)))
-motion_of p known a (p_inter shape references differences residual) =
-    motion_of_parts p known a shape references (replicate 16 absent) (parts_of shape) differences
+motion_of p known a (p_inter shape ref_idx mvd residual) =
+    motion_of_parts p known a shape ref_idx (replicate 16 absent) (parts_of shape) mvd
 
 abbrev motion_of_place : Coded → List (List Motion) → ℕ → Option PicMb → List Motion
 motion_of_place p known a (Some m) = motion_of p known a m.mb.syntax
@@ -168,7 +168,7 @@ is_intra p_skip = false
 is_intra (i_pcm luma cb cr) = true
 is_intra (i_nxn modes chroma residual) = true
 is_intra (i_16x16 mode chroma residual) = true
-is_intra (p_inter shape references differences residual) = false
+is_intra (p_inter shape ref_idx mvd residual) = false
 
 -- A slice that is not there: part of no picture, but the definitions are total.
 abbrev pub no_slice : SliceFacts

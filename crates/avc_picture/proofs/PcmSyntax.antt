@@ -9,4 +9,4 @@ by_pcm P h (i_pcm luma cb cr) is = h luma cb cr
 by_pcm P h p_skip is = absurd (false≢true is)
 by_pcm P h (i_nxn modes chroma r) is = absurd (false≢true is)
 by_pcm P h (i_16x16 mode chroma r) is = absurd (false≢true is)
-by_pcm P h (p_inter shape references differences r) is = absurd (false≢true is)
+by_pcm P h (p_inter shape ref_idx mvd r) is = absurd (false≢true is)

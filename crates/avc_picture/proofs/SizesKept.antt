@@ -40,14 +40,14 @@ with_blocks4x4_sized w h p (suc n) s size =
 
 luma_after_sized : (w h : ℕ) (p : Place) (syntax : MbSyntax) (s : Plane) → HasSize w h s → HasSize w h (luma_after p syntax s)
 luma_after_sized w h p p_skip s size = search with_block_sized
-luma_after_sized w h p (p_inter shape references differences r) s size = search with_block_sized
+luma_after_sized w h p (p_inter shape ref_idx mvd r) s size = search with_block_sized
 luma_after_sized w h p (i_pcm luma cb cr) s size = search with_block_sized
 luma_after_sized w h p (i_16x16 m k r) s size = search with_block_sized
 luma_after_sized w h p (i_nxn m k r) s size = with_blocks4x4_sized w h p 16 s size
 
 chroma_after_sized : (w h : ℕ) (p : Place) (k : ℕ) (syntax : MbSyntax) (s : Plane) → HasSize w h s → HasSize w h (chroma_after p k syntax s)
 chroma_after_sized w h p k p_skip s size = search with_block_sized
-chroma_after_sized w h p k (p_inter shape references differences r) s size = search with_block_sized
+chroma_after_sized w h p k (p_inter shape ref_idx mvd r) s size = search with_block_sized
 chroma_after_sized w h p k (i_pcm luma cb cr) s size = search with_block_sized
 chroma_after_sized w h p k (i_16x16 m n r) s size = search with_block_sized
 chroma_after_sized w h p k (i_nxn m n r) s size = search with_block_sized

@@ -16,7 +16,7 @@ is_pcm p_skip = false
 is_pcm (i_pcm luma cb cr) = true
 is_pcm (i_nxn modes chroma r) = false
 is_pcm (i_16x16 mode chroma r) = false
-is_pcm (p_inter shape references differences r) = false
+is_pcm (p_inter shape ref_idx mvd r) = false
 
 abbrev pub IsPcm : PicMb → Type 0
 IsPcm m = is_pcm m.mb.syntax ≡ true
@@ -35,7 +35,7 @@ with_pcm width a (i_pcm luma cb cr) s = record {
 with_pcm width a p_skip s = s
 with_pcm width a (i_nxn modes chroma r) s = s
 with_pcm width a (i_16x16 mode chroma r) s = s
-with_pcm width a (p_inter shape references differences r) s = s
+with_pcm width a (p_inter shape ref_idx mvd r) s = s
 
 -- the planes with the samples of these macroblocks in them, from address a on
 abbrev pub pcm_planes : (width a : ℕ) → Planes → List PicMb → Planes

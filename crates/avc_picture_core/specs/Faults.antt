@@ -20,7 +20,7 @@ is_picture (Some f) = f.existing
 -- each block of the macroblock has a picture to be predicted from
 abbrev pub has_references : Place → MbSyntax → Bool
 has_references p p_skip = list_all (λ m. is_picture (reference_of p.coded p.slice m)) p.motion
-has_references p (p_inter shape references differences r) = list_all (λ m. is_picture (reference_of p.coded p.slice m)) p.motion
+has_references p (p_inter shape ref_idx mvd r) = list_all (λ m. is_picture (reference_of p.coded p.slice m)) p.motion
 has_references p (i_pcm luma cb cr) = true
 has_references p (i_nxn modes chroma r) = true
 has_references p (i_16x16 m chroma r) = true
@@ -28,7 +28,7 @@ has_references p (i_16x16 m chroma r) = true
 -- each intra prediction of the macroblock has the sides that it needs
 abbrev pub has_sides : Place → MbSyntax → Bool
 has_sides p p_skip = true
-has_sides p (p_inter shape references differences r) = true
+has_sides p (p_inter shape ref_idx mvd r) = true
 has_sides p (i_pcm luma cb cr) = true
 has_sides p (i_16x16 m chroma r) =
     can_predict16x16 (sides_of p.coded p.address 0) (mode16x16_of m) && can_predict_chroma (sides_of p.coded p.address 0) (mode_chroma_of chroma)

@@ -1,5 +1,6 @@
 -- One macroblock as the syntax gives it (7.3.5, 7.4.5).
-use Rattle.std.specs.Prelude.{ℕ, ℤ, List, [], ◌∷◌, ◌++◌, ◌+◌, ◌*◌, ◌/◌, ◌%◌, Option}
+use Rattle.std.specs.Prelude.{ℕ, ℤ, List, [], ◌∷◌, ◌++◌, ◌+◌, ◌*◌, ◌/◌, ◌%◌, ◌==◌, nat_abs, not, Option}
+use Rattle.std.specs.List.{count_by}
 use Rattle.avc_types.specs.declared.vector.Mv.{Mv}
 
 -- sub_mb_type of P macroblocks (Table 7-17): how one 8x8 quarter is cut.
@@ -10,13 +11,13 @@ pub data SubShape : Type 0 where
   sub_4x4 : SubShape
 
 -- mb_type 0 to 4 of P macroblocks (Table 7-13). The last two have one SubShape for each quarter;
--- in `quarters_ref0` every reference index is 0 and none is coded.
+-- in `p_8x8ref0` every reference index is 0 and none is coded.
 pub data Shape : Type 0 where
   whole : Shape
   upper_lower : Shape
   left_right : Shape
   quarters : List SubShape → Shape
-  quarters_ref0 : List SubShape → Shape
+  p_8x8ref0 : List SubShape → Shape
 
 -- The coded differences of one macroblock (7.3.5.3). Where a block is not coded its levels are all 0.
 pub record Residual : Type 0 where
@@ -36,6 +37,10 @@ pub record Residual : Type 0 where
   pub cb_ac : List (List ℤ)
   pub cr_ac : List (List ℤ)
 
+-- total_coeff of a block (9.2.1): how many of its levels are not 0
+abbrev pub total_coeff : List ℤ → ℕ
+total_coeff levels = count_by (λ l. not (nat_abs l == 0)) levels
+
 -- What stands in the bits of one macroblock.
 pub data MbSyntax : Type 0 where
   -- inferred in a P slice by mb_skip_run
@@ -48,7 +53,7 @@ pub data MbSyntax : Type 0 where
   -- Intra16x16PredMode and intra_chroma_pred_mode
   i_16x16 : (mode chroma_mode : ℕ) → Residual → MbSyntax
   -- ref_idx_l0 for each partition, and mvd_l0 for each sub-macroblock partition, in decoding order
-  p_inter : Shape → (references : List ℕ) → (differences : List Mv) → Residual → MbSyntax
+  p_inter : Shape → (ref_idx : List ℕ) → (mvd : List Mv) → Residual → MbSyntax
 
 -- A macroblock with its luma quantiser QP_Y (of I_PCM and of a skipped one: that which it passes on, 7.4.5).
 pub record Mb : Type 0 where
@@ -87,10 +92,10 @@ abbrev pub parts_of_quarters : List SubShape → ℕ → List Part
 parts_of_quarters [] q = []
 parts_of_quarters (s ∷ subs) q = parts_of_quarter s (quarter_x q) (quarter_y q) q ++ parts_of_quarters subs (q + 1)
 
--- The parts of a macroblock in decoding order: one for each element of `differences`.
+-- The parts of a macroblock in decoding order: one for each element of `mvd`.
 abbrev pub parts_of : Shape → List Part
 parts_of whole = part 0 0 16 16 0 ∷ []
 parts_of upper_lower = part 0 0 16 8 0 ∷ part 0 8 16 8 1 ∷ []
 parts_of left_right = part 0 0 8 16 0 ∷ part 8 0 8 16 1 ∷ []
 parts_of (quarters subs) = parts_of_quarters subs 0
-parts_of (quarters_ref0 subs) = parts_of_quarters subs 0
+parts_of (p_8x8ref0 subs) = parts_of_quarters subs 0

@@ -3,7 +3,8 @@ use Rattle.std.proofs.lemmas.Int.{ints}
 use Rattle.std.proofs.lemmas.List.{drop-replicate, length-replicate}
 use Rattle.std.proofs.Math.Seq.{drop-cons}
 use Rattle.avc_bits.specs.Reader.{reader_bits}
-use Rattle.avc_cavlc.specs.Block.{IsLevel, coefficients}
+use Rattle.avc_cavlc.specs.Block.{IsLevel}
+use Rattle.avc_types.specs.Macroblock.{total_coeff}
 use Rattle.avc_cavlc.specs.Steps.{placed_before, placed_by_runs}
 use Rattle.avc_cavlc.proofs.Placing.{run_more, run_fault, first_runs, open_first, open_more, done_more, no_coefficients, coefficient_more, small_none, small_more}
 use Rattle.avc_cavlc.proofs.runs.read_placed.Goals as goal
@@ -25,7 +26,7 @@ values-init g c =
           ∙ ap (λ l. placed_before l c.args.values.now (length c.args.values.now) c.args.zeros (reader_bits c.args.reader.now)) (sym behind)
           ∙ ap (λ k. placed_before (drop (c.len-total.result + c.args.zeros) (replicate g.row.MAXN (pos 0))) c.args.values.now k c.args.zeros (reader_bits c.args.reader.now)) all;
       bytes = refl;
-      count = ap coefficients behind ∙ no_coefficients (g.row.MAXN - (c.len-total.result + c.args.zeros));
+      count = ap total_coeff behind ∙ no_coefficients (g.row.MAXN - (c.len-total.result + c.args.zeros));
       small = λ i. small_none g.row.MAXN i;
     }
 
@@ -68,6 +69,6 @@ values-preserved g c =
           ∙ ap (λ l. placed_before l (drop (c.values.k + 1) c.args.values.now) n (c.values.zeros_left - c.in_ok-zeros.zeros) (reader_bits c.read_run.new.reader)) (sym behind)
           ∙ ap (λ k. placed_before (drop next (set c.values.levels at v)) (drop (c.values.k + 1) c.args.values.now) k (c.values.zeros_left - c.in_ok-zeros.zeros) (reader_bits c.read_run.new.reader)) fewer;
       bytes = c.in_ok-zeros.ensures.read.1 ∙ c.values.invariant.bytes;
-      count = ap coefficients behind ∙ coefficient_more c.in_ok-zeros.zeros v done is ∙ ap (λ k. k + 1) c.values.invariant.count;
+      count = ap total_coeff behind ∙ coefficient_more c.in_ok-zeros.zeros v done is ∙ ap (λ k. k + 1) c.values.invariant.count;
       small = small_more c.values.levels at v c.values.invariant.small is (omega (arith, c.values.invariant.is_open.within));
     })

@@ -1,6 +1,7 @@
 use Rattle.std.proofs.Common.{◌≡◌, ◌+◌, ◌-◌, ℕ, pos, length, drop, get_or}
 use Rattle.avc_bits.specs.Reader.{reader_bits, reader_bytes}
-use Rattle.avc_cavlc.specs.Block.{IsSmall, coefficients}
+use Rattle.avc_cavlc.specs.Block.{IsSmall}
+use Rattle.avc_types.specs.Macroblock.{total_coeff}
 use Rattle.avc_cavlc.specs.Steps.{placed_before, placed_by_runs}
 use Rattle.avc_cavlc.proofs.Placing.{IsOpen}
 use Rattle.avc_cavlc.proofs.runs.read_placed.Given as goal
@@ -13,6 +14,6 @@ invariant-values g l = record {
   is_open : IsOpen l.place l.levels;
   read : placed_by_runs g.row.MAXN l.values (length l.values) l.zeros (reader_bits l.fn.reader) ≡ placed_before (drop l.place l.levels) (drop l.k l.values) (length l.values - l.k) l.zeros_left (reader_bits l.reader);
   bytes : reader_bytes l.reader ≡ reader_bytes l.fn.reader;
-  count : coefficients (drop l.place l.levels) ≡ l.k;
+  count : total_coeff (drop l.place l.levels) ≡ l.k;
   small : (i : ℕ) → IsSmall (get_or l.levels i (pos 0));
 }

@@ -1,0 +1,51 @@
+-- total_coeff of the blocks of a macroblock, and nC (9.2.1).
+use Rattle.std.specs.Prelude.{ℕ, zero, suc, ◌+◌, ◌-◌, ◌/◌, List, map, replicate, Option, Some, None, slice_index}
+use Rattle.std.specs.Option.{option_map}
+use Rattle.avc_types.specs.Macroblock.{total_coeff, Residual, MbSyntax, p_skip, i_pcm, i_nxn, i_16x16, p_inter}
+use Rattle.avc_neigh.specs.Blocks.{block_x, block_y, block_at}
+
+-- total_coeff of each block of a macroblock: 16 of luma, 4 of each chroma component
+pub record TotalCoeffs : Type 0 where
+  pub luma : List ℕ
+  pub cb : List ℕ
+  pub cr : List ℕ
+
+abbrev pub all_total_coeffs : ℕ → TotalCoeffs
+all_total_coeffs n = record { luma = replicate 16 n; cb = replicate 4 n; cr = replicate 4 n }
+
+-- The DC blocks do not count.
+abbrev pub residual_total_coeffs : Residual → TotalCoeffs
+residual_total_coeffs r = record { luma = map total_coeff r.luma; cb = map total_coeff r.cb_ac; cr = map total_coeff r.cr_ac }
+
+abbrev pub total_coeffs_of : MbSyntax → TotalCoeffs
+total_coeffs_of p_skip = all_total_coeffs 0
+total_coeffs_of (i_pcm luma cb cr) = all_total_coeffs 16
+total_coeffs_of (i_nxn modes chroma_mode r) = residual_total_coeffs r
+total_coeffs_of (i_16x16 mode chroma_mode r) = residual_total_coeffs r
+total_coeffs_of (p_inter shape ref_idx mvd r) = residual_total_coeffs r
+
+-- nA or nB for block k of a component: that of the block which covers the sample beside or above it. Inside the macroblock
+-- it is in `mine`, which has the blocks before k; else in the neighbouring macroblock, where that is available.
+-- A macroblock has size x size samples of the component.
+abbrev pub nA : (size : ℕ) → Option (List ℕ) → (mine : List ℕ) → ℕ → Option ℕ
+nA size left mine k =
+    elim (block_x k) [
+      | zero ↦ option_map (λ total_coeffs. slice_index total_coeffs (block_at (size - 1) (block_y k))) left
+      | suc x ↦ Some (slice_index mine (block_at x (block_y k)))
+    ]
+
+abbrev pub nB : (size : ℕ) → Option (List ℕ) → (mine : List ℕ) → ℕ → Option ℕ
+nB size up mine k =
+    elim (block_y k) [
+      | zero ↦ option_map (λ total_coeffs. slice_index total_coeffs (block_at (block_x k) (size - 1))) up
+      | suc y ↦ Some (slice_index mine (block_at (block_x k) y))
+    ]
+
+abbrev mean : Option ℕ → Option ℕ → ℕ
+mean (Some a) (Some b) = (a + b + 1) / 2
+mean (Some a) None = a
+mean None (Some b) = b
+mean None None = 0
+
+abbrev pub nc : (size : ℕ) → (left up : Option (List ℕ)) → (mine : List ℕ) → (k : ℕ) → ℕ
+nc size left up mine k = mean (nA size left mine k) (nB size up mine k)
