@@ -2,13 +2,18 @@
 use Rattle.std.specs.Prelude.{ℕ, zero, suc, ◌-◌, ◌/◌, ◌%◌, ◌^◌, ℤ, pos, negsuc, ◌+ℤ◌, nat_abs, Bool, true, false, ◌==◌, nat_le, nat_lt, List, [], ◌∷◌, ◌++◌, length, map, replicate, Option, Some, None}
 use Rattle.std.specs.List.{range_with_len}
 use Rattle.std.specs.Option.{option_map}
-use Rattle.avc_types.specs.declared.vector.Mv.{Mv}
-use Rattle.avc_types.specs.Macroblock.{total_coeff, SubShape, sub_8x8, sub_8x4, sub_4x8, sub_4x4, Shape, whole, upper_lower, left_right, quarters, p_8x8ref0, Residual, MbSyntax, i_pcm, i_nxn, i_16x16, p_inter, Mb, parts_of}
+use Rattle.avc_types.specs.declared.macroblock.Mvd.{Mvd}
+use Rattle.avc_types.specs.declared.macroblock.PMbType.{PMbType}
+use Rattle.avc_types.specs.declared.macroblock.PMbType.TheVariants.{P16x16, P16x8, P8x16, P8x8, P8x8Ref0}
+use Rattle.avc_types.specs.declared.macroblock.SubMbType.{SubMbType}
+use Rattle.avc_types.specs.declared.macroblock.SubMbType.TheVariants.{Sub8x8, Sub8x4, Sub4x8, Sub4x4}
+use Rattle.avc_types.specs.Macroblock.{total_coeff, Residual, MbSyntax, i_pcm, i_nxn, i_16x16, p_inter, Mb, parts_of}
 use Rattle.avc_bits.specs.Bits.{Read, ◌>>=◌, ◌>>◌, give, times}
 use Rattle.avc_bits.specs.Codes.{u, flag, ue_to, se, se_within, te_to, align}
 use Rattle.avc_vlc.specs.Reading.{coded_block_pattern}
 use Rattle.avc_cavlc.specs.Block.{residual_block}
-use Rattle.avc_neigh.specs.TotalCoeffs.{TotalCoeffs, nc}
+use Rattle.avc_neigh.specs.declared.facts.TotalCoeffs.{TotalCoeffs}
+use Rattle.avc_neigh.specs.TotalCoeffs.{nc}
 
 -- What reading a macroblock asks of its slice and of its neighbours.
 pub record Context : Type 0 where
@@ -127,38 +132,38 @@ i_mb c (suc n) = elim (n == 24) [ true ↦ i_pcm_mb c | false ↦ i_16x16_mb c n
 
 -- ---- P macroblocks
 
-abbrev sub_shape : ℕ → SubShape
-sub_shape zero = sub_8x8
-sub_shape (suc zero) = sub_8x4
-sub_shape (suc (suc zero)) = sub_4x8
-sub_shape (suc (suc (suc _))) = sub_4x4
+abbrev sub_mb_type : ℕ → SubMbType
+sub_mb_type zero = Sub8x8
+sub_mb_type (suc zero) = Sub8x4
+sub_mb_type (suc (suc zero)) = Sub4x8
+sub_mb_type (suc (suc (suc _))) = Sub4x4
 
-abbrev sub_shapes : Read (List SubShape)
-sub_shapes = times 4 (ue_to 3 >>= λ t. give (sub_shape t))
+abbrev sub_mb_types : Read (List SubMbType)
+sub_mb_types = times 4 (ue_to 3 >>= λ t. give (sub_mb_type t))
 
 -- mb_type 0 to 4 of a P slice (Table 7-13)
-abbrev pub shape : (mb_type : ℕ) → Read Shape
-shape zero = give whole
-shape (suc zero) = give upper_lower
-shape (suc (suc zero)) = give left_right
-shape (suc (suc (suc zero))) = sub_shapes >>= λ subs. give (quarters subs)
-shape (suc (suc (suc (suc _)))) = sub_shapes >>= λ subs. give (p_8x8ref0 subs)
+abbrev pub p_mb_type : (mb_type : ℕ) → Read PMbType
+p_mb_type zero = give P16x16
+p_mb_type (suc zero) = give P16x8
+p_mb_type (suc (suc zero)) = give P8x16
+p_mb_type (suc (suc (suc zero))) = sub_mb_types >>= λ subs. give (P8x8 subs)
+p_mb_type (suc (suc (suc (suc _)))) = sub_mb_types >>= λ subs. give (P8x8Ref0 subs)
 
 -- how many partitions, of which each has a reference index
-abbrev pub partitions : Shape → ℕ
-partitions whole = 1
-partitions upper_lower = 2
-partitions left_right = 2
-partitions (quarters subs) = 4
-partitions (p_8x8ref0 subs) = 4
+abbrev pub partitions : PMbType → ℕ
+partitions P16x16 = 1
+partitions P16x8 = 2
+partitions P8x16 = 2
+partitions (P8x8 subs) = 4
+partitions (P8x8Ref0 subs) = 4
 
 -- ref_idx_l0 of each partition; 0 where it is not coded
-abbrev pub ref_idx_l0 : (active_count : ℕ) → Shape → Read (List ℕ)
-ref_idx_l0 active_count (p_8x8ref0 subs) = give (replicate 4 0)
+abbrev pub ref_idx_l0 : (active_count : ℕ) → PMbType → Read (List ℕ)
+ref_idx_l0 active_count (P8x8Ref0 subs) = give (replicate 4 0)
 ref_idx_l0 active_count s =
     elim (nat_le active_count 1) [ true ↦ give (replicate (partitions s) 0) | false ↦ times (partitions s) (te_to (active_count - 1)) ]
 
-abbrev pub mvd_l0 : Read Mv
+abbrev pub mvd_l0 : Read Mvd
 mvd_l0 = do
   x ← se
   y ← se
@@ -166,7 +171,7 @@ mvd_l0 = do
 
 abbrev pub p_mb : Context → (mb_type : ℕ) → Read Mb
 p_mb c mb_type = do
-  s ← shape mb_type
+  s ← p_mb_type mb_type
   ref_idx ← ref_idx_l0 c.active_count s
   mvd ← times (length (parts_of s)) mvd_l0
   pattern ← coded_block_pattern false

@@ -3,17 +3,16 @@ use Rattle.std.specs.Prelude.{ℕ, zero, suc, ◌+◌, ◌==◌, nat_lt, nat_le,
 use Rattle.std.specs.List.{range_with_len}
 use Rattle.avc_types.specs.Arithmetic.{median, ◌==ℤ◌}
 use Rattle.avc_types.specs.declared.vector.Mv.{Mv}
+use Rattle.avc_types.specs.declared.macroblock.Mvd.{Mvd}
+use Rattle.avc_types.specs.declared.macroblock.PMbType.{PMbType}
+use Rattle.avc_types.specs.declared.macroblock.PMbType.TheVariants.{P16x16, P16x8, P8x16, P8x8, P8x8Ref0}
 use Rattle.avc_types.specs.declared.edges.FilteredEdges.TheVariants.{NoEdges}
-use Rattle.avc_types.specs.Macroblock.{MbSyntax, p_skip, i_pcm, i_nxn, i_16x16, p_inter, Part, Shape, whole, upper_lower, left_right, quarters, p_8x8ref0, parts_of}
+use Rattle.avc_types.specs.Macroblock.{MbSyntax, p_skip, i_pcm, i_nxn, i_16x16, p_inter, Part, parts_of}
 use Rattle.avc_types.specs.Pictures.{Coded, PicMb, SliceFacts, Frame}
+use Rattle.avc_neigh.specs.declared.facts.Motion.{Motion}
+use Rattle.avc_neigh.specs.declared.facts.Motion.TheVariants.{Absent as absent, Intra as intra, Inter as inter}
 use Rattle.avc_neigh.specs.Blocks.{block_x, block_y, location_at}
 use Rattle.avc_neigh.specs.Nearby.{nearby}
-
--- What a luma block has for inter prediction: not available, in an intra macroblock, or a reference index and a vector.
-pub data Motion : Type 0 where
-  absent : Motion
-  intra : Motion
-  inter : (reference : ℕ) → (vector : Mv) → Motion
 
 abbrev pub zero_vector : Mv
 zero_vector = record { x = pos 0; y = pos 0 }
@@ -84,17 +83,17 @@ median_prediction r around =
     only_or_median (has_reference r n.a) (has_reference r n.b) (has_reference r n.c) (vector_of n.a) (vector_of n.b) (vector_of n.c)
 
 -- The neighbour that a partition of a macroblock in two halves asks first: upper B, lower A; left A, right C.
-abbrev pub first_asked : Shape → ℕ → Neighbours → Motion
-first_asked upper_lower zero n = n.b
-first_asked upper_lower (suc i) n = n.a
-first_asked left_right zero n = n.a
-first_asked left_right (suc i) n = n.c
-first_asked whole i n = absent
-first_asked (quarters subs) i n = absent
-first_asked (p_8x8ref0 subs) i n = absent
+abbrev pub first_asked : PMbType → ℕ → Neighbours → Motion
+first_asked P16x8 zero n = n.b
+first_asked P16x8 (suc i) n = n.a
+first_asked P8x16 zero n = n.a
+first_asked P8x16 (suc i) n = n.c
+first_asked P16x16 i n = absent
+first_asked (P8x8 subs) i n = absent
+first_asked (P8x8Ref0 subs) i n = absent
 
 -- the prediction for a part with reference index r
-abbrev pub predicted_vector : Shape → ℕ → ℕ → Neighbours → Mv
+abbrev pub predicted_vector : PMbType → ℕ → ℕ → Neighbours → Mv
 predicted_vector shape partition r n =
     if has_reference r (first_asked shape partition n)
     then vector_of (first_asked shape partition n)
@@ -121,17 +120,18 @@ is_in_part p k =
 abbrev pub with_part : List Motion → Part → Motion → List Motion
 with_part mine p m = map (λ k. if is_in_part p k then m else slice_index_or mine k absent) (range_with_len 0 16)
 
-abbrev sum_of_vectors : Mv → Mv → Mv
-sum_of_vectors u v = record { x = u.x +ℤ v.x; y = u.y +ℤ v.y }
+-- 8.4.1: mvL0 = mvpL0 + mvd_l0
+abbrev sum_with_mvd : Mv → Mvd → Mv
+sum_with_mvd u d = record { x = u.x +ℤ d.x; y = u.y +ℤ d.y }
 
 -- the parts in decoding order, each with its prediction from what is decoded before it and its mvd
-abbrev pub motion_of_parts : Coded → List (List Motion) → ℕ → Shape → List ℕ → List Motion → List Part → List Mv → List Motion
+abbrev pub motion_of_parts : Coded → List (List Motion) → ℕ → PMbType → List ℕ → List Motion → List Part → List Mvd → List Motion
 motion_of_parts p known a shape ref_idx mine [] mvds = mine
 motion_of_parts p known a shape ref_idx mine (part ∷ parts) [] = mine
 motion_of_parts p known a shape ref_idx mine (part ∷ parts) (mvd ∷ mvds) =
     let r = slice_index ref_idx part.partition in
     let predicted = predicted_vector shape part.partition r (neighbours_of p known mine a part.x part.y part.width) in
-    let filled = with_part mine part (inter r (sum_of_vectors predicted mvd)) in
+    let filled = with_part mine part (inter r (sum_with_mvd predicted mvd)) in
     motion_of_parts p known a shape ref_idx filled parts mvds
 
 -- the sixteen blocks of macroblock a

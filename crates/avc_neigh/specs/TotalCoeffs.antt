@@ -1,15 +1,11 @@
 -- total_coeff of the blocks of a macroblock, and nC (9.2.1).
 use Rattle.std.specs.Prelude.{ℕ, zero, suc, ◌+◌, ◌-◌, ◌/◌, List, map, replicate, Option, Some, None, slice_index}
 use Rattle.std.specs.Option.{option_map}
+use Rattle.avc_neigh.specs.declared.facts.TotalCoeffs.{TotalCoeffs}
 use Rattle.avc_types.specs.Macroblock.{total_coeff, Residual, MbSyntax, p_skip, i_pcm, i_nxn, i_16x16, p_inter}
 use Rattle.avc_neigh.specs.Blocks.{block_x, block_y, block_at}
 
--- total_coeff of each block of a macroblock: 16 of luma, 4 of each chroma component
-pub record TotalCoeffs : Type 0 where
-  pub luma : List ℕ
-  pub cb : List ℕ
-  pub cr : List ℕ
-
+-- total_coeff of each block of a macroblock
 abbrev pub all_total_coeffs : ℕ → TotalCoeffs
 all_total_coeffs n = record { luma = replicate 16 n; cb = replicate 4 n; cr = replicate 4 n }
 

@@ -1,2 +1,6 @@
-//! Neighbouring blocks and macroblocks (6.4, 8.3.1.1, 9.2.1).
+//! What macroblocks know of their neighbours (6.4).
 #![tactic(auto)]
+
+mod facts;
+
+pub use facts::{Motion, NearMode, NeighbourFacts, TotalCoeffs};

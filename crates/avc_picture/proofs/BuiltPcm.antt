@@ -4,8 +4,10 @@ use Rattle.std.proofs.Common.{refl, ap, ◌∙◌}
 use Rattle.std.proofs.lemmas.List.Elements.{All-head, All-tail}
 use Rattle.avc_types.specs.Macroblock.{MbSyntax}
 use Rattle.avc_types.specs.Pictures.{Coded, PicMb}
-use Rattle.avc_neigh.specs.Modes.{NearMode, modes_before}
-use Rattle.avc_motion.specs.Motion.{Motion, motion_before}
+use Rattle.avc_neigh.specs.declared.facts.NearMode.{NearMode}
+use Rattle.avc_neigh.specs.Modes.{modes_before}
+use Rattle.avc_neigh.specs.declared.facts.Motion.{Motion}
+use Rattle.avc_motion.specs.Motion.{motion_before}
 use Rattle.avc_plane.specs.Planes.{Planes, empty_planes}
 use Rattle.avc_picture_core.specs.Built.{planes_after, place_of, built_on, built}
 use Rattle.avc_picture.specs.Pcm.{is_pcm, IsPcm, ArePcm, with_pcm, pcm_planes}

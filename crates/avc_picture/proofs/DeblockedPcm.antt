@@ -7,7 +7,8 @@ use Rattle.std.proofs.lemmas.List.{set-get_or, get_or_past}
 use Rattle.avc_types.specs.Arithmetic.{distance}
 use Rattle.avc_types.specs.Macroblock.{MbSyntax}
 use Rattle.avc_types.specs.Pictures.{Coded, PicMb, SliceFacts}
-use Rattle.avc_motion.specs.Motion.{Motion, motion_before, no_slice, slice_facts}
+use Rattle.avc_neigh.specs.declared.facts.Motion.{Motion}
+use Rattle.avc_motion.specs.Motion.{motion_before, no_slice, slice_facts}
 use Rattle.avc_transform.specs.Residual.{chroma_qp}
 use Rattle.avc_plane.specs.Plane.{Plane, sample, with_sample}
 use Rattle.avc_plane.specs.Planes.{Planes}

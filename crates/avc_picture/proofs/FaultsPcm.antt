@@ -9,7 +9,9 @@ use Rattle.avc_types.specs.declared.fault.Fault.TheVariants.{IntraUnavailable, V
 use Rattle.avc_types.specs.Macroblock.{MbSyntax}
 use Rattle.avc_types.specs.Pictures.{Coded, PicMb}
 use Rattle.avc_neigh.specs.Modes.{modes_before}
-use Rattle.avc_motion.specs.Motion.{Motion, intra, motion_of, motion_before, is_in_range}
+use Rattle.avc_neigh.specs.declared.facts.Motion.{Motion}
+use Rattle.avc_neigh.specs.declared.facts.Motion.TheVariants.{Intra as intra}
+use Rattle.avc_motion.specs.Motion.{motion_of, motion_before, is_in_range}
 use Rattle.avc_picture_core.specs.Built.{Place, place_of}
 use Rattle.avc_picture_core.specs.Faults.{has_references, has_sides, fault_of, macroblock_fault}
 use Rattle.avc_picture.specs.Pcm.{is_pcm, IsPcm, ArePcm}

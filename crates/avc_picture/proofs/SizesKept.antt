@@ -4,8 +4,10 @@ use Rattle.std.proofs.Common.{refl, ap, ◌∙◌, length-set}
 use Rattle.avc_types.specs.Macroblock.{MbSyntax, p_skip, i_pcm, i_nxn, i_16x16, p_inter}
 use Rattle.avc_types.specs.Pictures.{Coded, PicMb}
 use Rattle.avc_params.specs.Limits.{width_in_mbs, height_in_mbs}
-use Rattle.avc_neigh.specs.Modes.{NearMode, modes_before}
-use Rattle.avc_motion.specs.Motion.{Motion, motion_before}
+use Rattle.avc_neigh.specs.declared.facts.NearMode.{NearMode}
+use Rattle.avc_neigh.specs.Modes.{modes_before}
+use Rattle.avc_neigh.specs.declared.facts.Motion.{Motion}
+use Rattle.avc_motion.specs.Motion.{motion_before}
 use Rattle.avc_plane.specs.Laws.{length-plane_of}
 use Rattle.avc_plane.specs.Plane.{Plane, sample, is_inside, plane_of, with_sample, with_block}
 use Rattle.avc_plane.specs.Planes.{Planes, empty_planes}

@@ -1,23 +1,11 @@
 -- One macroblock as the syntax gives it (7.3.5, 7.4.5).
 use Rattle.std.specs.Prelude.{ℕ, ℤ, List, [], ◌∷◌, ◌++◌, ◌+◌, ◌*◌, ◌/◌, ◌%◌, ◌==◌, nat_abs, not, Option}
 use Rattle.std.specs.List.{count_by}
-use Rattle.avc_types.specs.declared.vector.Mv.{Mv}
-
--- sub_mb_type of P macroblocks (Table 7-17): how one 8x8 quarter is cut.
-pub data SubShape : Type 0 where
-  sub_8x8 : SubShape
-  sub_8x4 : SubShape
-  sub_4x8 : SubShape
-  sub_4x4 : SubShape
-
--- mb_type 0 to 4 of P macroblocks (Table 7-13). The last two have one SubShape for each quarter;
--- in `p_8x8ref0` every reference index is 0 and none is coded.
-pub data Shape : Type 0 where
-  whole : Shape
-  upper_lower : Shape
-  left_right : Shape
-  quarters : List SubShape → Shape
-  p_8x8ref0 : List SubShape → Shape
+use Rattle.avc_types.specs.declared.macroblock.Mvd.{Mvd}
+use Rattle.avc_types.specs.declared.macroblock.SubMbType.{SubMbType}
+use Rattle.avc_types.specs.declared.macroblock.SubMbType.TheVariants.{Sub8x8, Sub8x4, Sub4x8, Sub4x4}
+use Rattle.avc_types.specs.declared.macroblock.PMbType.{PMbType}
+use Rattle.avc_types.specs.declared.macroblock.PMbType.TheVariants.{P16x16, P16x8, P8x16, P8x8, P8x8Ref0}
 
 -- The coded differences of one macroblock (7.3.5.3). Where a block is not coded its levels are all 0.
 pub record Residual : Type 0 where
@@ -53,7 +41,7 @@ pub data MbSyntax : Type 0 where
   -- Intra16x16PredMode and intra_chroma_pred_mode
   i_16x16 : (mode chroma_mode : ℕ) → Residual → MbSyntax
   -- ref_idx_l0 for each partition, and mvd_l0 for each sub-macroblock partition, in decoding order
-  p_inter : Shape → (ref_idx : List ℕ) → (mvd : List Mv) → Residual → MbSyntax
+  p_inter : PMbType → (ref_idx : List ℕ) → (mvd : List Mvd) → Residual → MbSyntax
 
 -- A macroblock with its luma quantiser QP_Y (of I_PCM and of a skipped one: that which it passes on, 7.4.5).
 pub record Mb : Type 0 where
@@ -81,21 +69,21 @@ abbrev pub quarter_y : ℕ → ℕ
 quarter_y q = 8 * (q / 2)
 
 -- one quarter at (x, y)
-abbrev pub parts_of_quarter : SubShape → ℕ → ℕ → ℕ → List Part
-parts_of_quarter sub_8x8 x y q = part x y 8 8 q ∷ []
-parts_of_quarter sub_8x4 x y q = part x y 8 4 q ∷ part x (y + 4) 8 4 q ∷ []
-parts_of_quarter sub_4x8 x y q = part x y 4 8 q ∷ part (x + 4) y 4 8 q ∷ []
-parts_of_quarter sub_4x4 x y q =
+abbrev pub parts_of_quarter : SubMbType → ℕ → ℕ → ℕ → List Part
+parts_of_quarter Sub8x8 x y q = part x y 8 8 q ∷ []
+parts_of_quarter Sub8x4 x y q = part x y 8 4 q ∷ part x (y + 4) 8 4 q ∷ []
+parts_of_quarter Sub4x8 x y q = part x y 4 8 q ∷ part (x + 4) y 4 8 q ∷ []
+parts_of_quarter Sub4x4 x y q =
     part x y 4 4 q ∷ part (x + 4) y 4 4 q ∷ part x (y + 4) 4 4 q ∷ part (x + 4) (y + 4) 4 4 q ∷ []
 
-abbrev pub parts_of_quarters : List SubShape → ℕ → List Part
+abbrev pub parts_of_quarters : List SubMbType → ℕ → List Part
 parts_of_quarters [] q = []
 parts_of_quarters (s ∷ subs) q = parts_of_quarter s (quarter_x q) (quarter_y q) q ++ parts_of_quarters subs (q + 1)
 
 -- The parts of a macroblock in decoding order: one for each element of `mvd`.
-abbrev pub parts_of : Shape → List Part
-parts_of whole = part 0 0 16 16 0 ∷ []
-parts_of upper_lower = part 0 0 16 8 0 ∷ part 0 8 16 8 1 ∷ []
-parts_of left_right = part 0 0 8 16 0 ∷ part 8 0 8 16 1 ∷ []
-parts_of (quarters subs) = parts_of_quarters subs 0
-parts_of (p_8x8ref0 subs) = parts_of_quarters subs 0
+abbrev pub parts_of : PMbType → List Part
+parts_of P16x16 = part 0 0 16 16 0 ∷ []
+parts_of P16x8 = part 0 0 16 8 0 ∷ part 0 8 16 8 1 ∷ []
+parts_of P8x16 = part 0 0 8 16 0 ∷ part 8 0 8 16 1 ∷ []
+parts_of (P8x8 subs) = parts_of_quarters subs 0
+parts_of (P8x8Ref0 subs) = parts_of_quarters subs 0
