@@ -8,7 +8,7 @@ use Rattle.avc_params.specs.Within.{IsPps}
 use Rattle.avc_params.specs.declared.pps.Pps.{Pps}
 use Rattle.avc_params.specs.declared.pps_reading.DefaultCounts.{DefaultCounts}
 use Rattle.avc_params.specs.declared.pps_reading.Quantisation.{Quantisation}
-use Rattle.avc_bits.specs.Giving.{Gives, IsFrom, bind-ok, gives-any, gives-bind, gives-check, gives-give, gives-se_within, gives-u_to, gives-ue_to}
+use Rattle.avc_bits.specs.Giving.{Gives, IsFrom, bind-ok, gives-any, gives-bind, gives-check, gives-give, gives-se_within, gives-then, gives-u_to, gives-ue_to}
 use Rattle.avc_params.proofs.Givings.{whole-ok}
 
 record IsCounts (c : DefaultCounts) : Type 0 where
@@ -29,11 +29,12 @@ record IsQuantisation (q : Quantisation) : Type 0 where
 
 gives-quantisation : Gives IsQuantisation quantisation
 gives-quantisation =
+    gives-then IsQuantisation flag _ (λ explicit.
     gives-bind (λ v. v ≤ 2) IsQuantisation (u_to 2 2) _ (gives-u_to 2 2) (λ weighted is_weighted.
     gives-bind (IsFrom (negsuc 25) (pos 25)) IsQuantisation (se_within (negsuc 25) (pos 25)) _ (gives-se_within _ _) (λ qp is_qp.
     gives-bind (IsFrom (negsuc 25) (pos 25)) IsQuantisation (se_within (negsuc 25) (pos 25)) _ (gives-se_within _ _) (λ qs is_qs.
     gives-bind (IsFrom (negsuc 11) (pos 12)) IsQuantisation (se_within (negsuc 11) (pos 12)) _ (gives-se_within _ _) (λ chroma is_chroma.
-    gives-give IsQuantisation _ (record { weighted = is_weighted; qp = is_qp; qs = is_qs; chroma = is_chroma })))))
+    gives-give IsQuantisation _ (record { weighted = is_weighted; qp = is_qp; qs = is_qs; chroma = is_chroma }))))))
 
 record IsAfter (id : ℕ) (p : Pps) : Type 0 where
   within : id ≤ 255 → IsPps p
@@ -48,8 +49,6 @@ gives-pps_after id =
     gives-bind (λ _. Unit {0}) (IsAfter id) ue _ (gives-any ue) (λ groups _.
     gives-check (IsAfter id) (groups == 0) _ _ (λ one_group.
     gives-bind IsCounts (IsAfter id) default_counts _ gives-default_counts (λ counts is_counts.
-    gives-bind (λ _. Unit {0}) (IsAfter id) flag _ (gives-any flag) (λ weighted _.
-    gives-check (IsAfter id) (not weighted) _ _ (λ unweighted.
     gives-bind IsQuantisation (IsAfter id) quantisation _ gives-quantisation (λ numbers is_numbers.
     gives-bind (λ _. Unit {0}) (IsAfter id) switches _ (gives-any switches) (λ flags _.
     λ b. gives-check (IsAfter id) (not (more_data b)) _ _ (λ last.
@@ -68,7 +67,7 @@ gives-pps_after id =
         chroma_high = is_numbers.chroma.most;
       };
       same = refl;
-    })) b)))))))))))
+    })) b)))))))))
 
 pub record IsAccepted (rbsp : List ℕ) (p : Pps) : Type 0 where
   pub within : IsPps p

@@ -93,6 +93,7 @@ plain = record {
   bottom_field_pic_order_in_frame_present_flag = false;
   num_ref_idx_l0_default_active_minus1 = 0;
   num_ref_idx_l1_default_active_minus1 = 0;
+  weighted_pred_flag = false;
   weighted_bipred_idc = 0;
   pic_init_qp_minus26 = pos 0;
   pic_init_qs_minus26 = pos 0;
@@ -114,7 +115,7 @@ cabac = refl
 slice_groups : pps_of (0xC5 ∷ 0x80 ∷ []) ≡ Err (record { id = Some 0; fault = faults.SliceGroups })
 slice_groups = refl
 
-weighted : pps_of (0xCF ∷ 0x38 ∷ 0x80 ∷ []) ≡ Err (record { id = Some 0; fault = faults.WeightedPrediction })
+weighted : pps_of (0xCF ∷ 0x38 ∷ 0x80 ∷ []) ≡ Ok (record plain { weighted_pred_flag = true })
 weighted = refl
 
 extension : pps_of (0xCE ∷ 0x38 ∷ 0xC0 ∷ []) ≡ Err (record { id = Some 0; fault = faults.PpsExtension })
@@ -136,8 +137,24 @@ no_id = refl
 interlaced : sps_of (0x42 ∷ 0xC0 ∷ 0x0A ∷ 0xDA ∷ 0x61 ∷ []) ≡ Err (record { id = Some 0; fault = faults.Interlaced })
 interlaced = refl
 
-too_wide : sps_of (0x42 ∷ 0xC0 ∷ 0x3E ∷ 0xDA ∷ 0x00 ∷ 0x10 ∷ 0x7C ∷ 0x04 ∷ 0x24 ∷ 0x40 ∷ []) ≡ Err (record { id = Some 0; fault = faults.PictureSize })
+-- the most macroblocks that a picture of this width may have, and one row more
+widest : size_of (sps_of (0x42 ∷ 0xC0 ∷ 0x3E ∷ 0xDA ∷ 0x00 ∷ 0x10 ∷ 0x7C ∷ 0x04 ∷ 0x24 ∷ 0x40 ∷ [])) ≡ (1055, 132)
+widest = refl
+
+too_large : sps_of (0x42 ∷ 0xC0 ∷ 0x3E ∷ 0xDA ∷ 0x00 ∷ 0x10 ∷ 0x7C ∷ 0x04 ∷ 0x2C ∷ 0x40 ∷ []) ≡ Err (record { id = Some 0; fault = faults.PictureSize })
+too_large = refl
+
+too_wide : sps_of (0x42 ∷ 0xC0 ∷ 0x3E ∷ 0xDA ∷ 0x00 ∷ 0x10 ∷ 0x83 ∷ 0x10 ∷ []) ≡ Err (record { id = Some 0; fault = faults.PictureSize })
 too_wide = refl
+
+one_row : size_of (sps_of (0x42 ∷ 0xC0 ∷ 0x3E ∷ 0xDA ∷ 0x00 ∷ 0x22 ∷ 0x0C ∷ 0x40 ∷ [])) ≡ (544, 1)
+one_row = refl
+
+one_column : size_of (sps_of (0x42 ∷ 0xC0 ∷ 0x3E ∷ 0xDA ∷ 0x40 ∷ 0x08 ∷ 0x3F ∷ 0x10 ∷ [])) ≡ (1, 1055)
+one_column = refl
+
+too_high : sps_of (0x42 ∷ 0xC0 ∷ 0x3E ∷ 0xDA ∷ 0x40 ∷ 0x08 ∷ 0x41 ∷ 0x10 ∷ []) ≡ Err (record { id = Some 0; fault = faults.PictureSize })
+too_high = refl
 
 level_11 : max_dpb_mbs 11 false ≡ Some 900
 level_11 = refl

@@ -16,11 +16,13 @@ default_counts = do
 
 abbrev pub quantisation : Read Quantisation
 quantisation = do
+  weighted_pred_flag ← flag
   weighted_bipred_idc ← u_to 2 2
   pic_init_qp_minus26 ← se_within (negsuc 25) (pos 25)
   pic_init_qs_minus26 ← se_within (negsuc 25) (pos 25)
   chroma_qp_index_offset ← se_within (negsuc 11) (pos 12)
   give (record {
+    weighted_pred_flag = weighted_pred_flag;
     weighted_bipred_idc = weighted_bipred_idc;
     pic_init_qp_minus26 = pic_init_qp_minus26;
     pic_init_qs_minus26 = pic_init_qs_minus26;
@@ -48,8 +50,6 @@ pps_after pic_parameter_set_id = do
   num_slice_groups_minus1 ← ue
   check (num_slice_groups_minus1 == 0) faults.SliceGroups
   counts ← default_counts
-  weighted_pred_flag ← flag
-  check (not weighted_pred_flag) faults.WeightedPrediction
   numbers ← quantisation
   flags ← switches
   extension ← more
@@ -60,6 +60,7 @@ pps_after pic_parameter_set_id = do
     bottom_field_pic_order_in_frame_present_flag = bottom_field_pic_order_in_frame_present_flag;
     num_ref_idx_l0_default_active_minus1 = counts.num_ref_idx_l0_default_active_minus1;
     num_ref_idx_l1_default_active_minus1 = counts.num_ref_idx_l1_default_active_minus1;
+    weighted_pred_flag = numbers.weighted_pred_flag;
     weighted_bipred_idc = numbers.weighted_bipred_idc;
     pic_init_qp_minus26 = numbers.pic_init_qp_minus26;
     pic_init_qs_minus26 = numbers.pic_init_qs_minus26;

@@ -24,6 +24,7 @@ pub use set_fault::SetFault;
 pub use set_unit::{Seen, SetUnit};
 pub use sps::{ConstraintFlags, Cropping, OrderCount, Sps};
 pub use sps_reading::read_sps;
+pub use syntax::{Syntax, read_optional, read_times, read_where};
 pub use table::ParamTable;
 pub use vui::{
     ChromaLocation, Colour, Hrd, HrdEntry, Restriction, SampleAspect, SampleSize, Timing,

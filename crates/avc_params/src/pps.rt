@@ -1,5 +1,4 @@
-/// A picture parameter set (7.3.2.2). In each entropy_coding_mode_flag, num_slice_groups_minus1 and weighted_pred_flag
-/// are 0.
+/// A picture parameter set (7.3.2.2). In each entropy_coding_mode_flag and num_slice_groups_minus1 are 0.
 #[derive(Clone, Copy)]
 pub struct Pps {
     /// 0 to 255.
@@ -11,6 +10,8 @@ pub struct Pps {
     pub num_ref_idx_l0_default_active_minus1: u8,
     /// 0 to 31.
     pub num_ref_idx_l1_default_active_minus1: u8,
+    /// P slices bring explicit weights (7.3.3.2).
+    pub weighted_pred_flag: bool,
     /// 0 to 2.
     pub weighted_bipred_idc: u8,
     /// -26 to 25.

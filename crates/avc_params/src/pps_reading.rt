@@ -16,9 +16,10 @@ pub(crate) struct DefaultCounts {
     pub num_ref_idx_l1_default_active_minus1: u8,
 }
 
-/// Weighting of B slices and the quantiser's numbers.
+/// How predictions are weighted, and the quantiser's numbers.
 #[derive(Clone, Copy)]
 pub(crate) struct Quantisation {
+    pub weighted_pred_flag: bool,
     pub weighted_bipred_idc: u8,
     pub pic_init_qp_minus26: i32,
     pub pic_init_qs_minus26: i32,
@@ -34,7 +35,7 @@ pub(crate) struct Switches {
 }
 
 /// The picture parameter set that an RBSP holds (7.3.2.2), or the first fault in it: Truncated, CodeTooLong, OutOfRange,
-/// Cabac, SliceGroups, WeightedPrediction or PpsExtension.
+/// Cabac, SliceGroups or PpsExtension.
 pub fn read_pps(rbsp: &[u8]) -> Result<Pps, SetFault>
     ensures { result ≡ pps_of rbsp.now }
 {
@@ -67,6 +68,7 @@ impl Syntax for Quantisation {
 
     fn read(reader: &mut BitReader) -> Result<Quantisation, Fault> {
         Ok(Quantisation {
+            weighted_pred_flag: reader.flag()?,
             weighted_bipred_idc: reader.u_to(2, 2)? as u8,
             pic_init_qp_minus26: reader.se_within(-26, 25)?,
             pic_init_qs_minus26: reader.se_within(-26, 25)?,
@@ -100,9 +102,6 @@ fn read_after(reader: &mut BitReader, pic_parameter_set_id: u8) -> Result<Pps, F
         return Err(Fault::SliceGroups);
     }
     let counts = DefaultCounts::read(reader)?;
-    if reader.flag()? {
-        return Err(Fault::WeightedPrediction);
-    }
     let numbers = Quantisation::read(reader)?;
     let switches = Switches::read(reader)?;
     if reader.more_data() {
@@ -114,6 +113,7 @@ fn read_after(reader: &mut BitReader, pic_parameter_set_id: u8) -> Result<Pps, F
         bottom_field_pic_order_in_frame_present_flag,
         num_ref_idx_l0_default_active_minus1: counts.num_ref_idx_l0_default_active_minus1,
         num_ref_idx_l1_default_active_minus1: counts.num_ref_idx_l1_default_active_minus1,
+        weighted_pred_flag: numbers.weighted_pred_flag,
         weighted_bipred_idc: numbers.weighted_bipred_idc,
         pic_init_qp_minus26: numbers.pic_init_qp_minus26,
         pic_init_qs_minus26: numbers.pic_init_qs_minus26,

@@ -60,9 +60,9 @@ pub struct Sps {
     /// In frames, 0 to 16.
     pub max_num_ref_frames: u8,
     pub gaps_in_frame_num_value_allowed_flag: bool,
-    /// In macroblocks, 0 to 542.
+    /// In macroblocks, 0 to 1,054.
     pub pic_width_in_mbs_minus1: u16,
-    /// In macroblocks, since frames alone are taken, 0 to 542.
+    /// In macroblocks, since frames alone are taken, 0 to 1,054.
     pub pic_height_in_map_units_minus1: u16,
     pub direct_8x8_inference_flag: bool,
     pub frame_cropping: Option<Cropping>,

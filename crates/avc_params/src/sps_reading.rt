@@ -1,5 +1,6 @@
 ghost use Rattle.std.specs.Prelude.{◌≡◌, ◌+◌, ◌*◌, ◌^◌, ◌<◌, ◌≤◌, ◌==◌, ◌||◌, IfOk};
 ghost use Rattle.avc_bits.specs.Reader.{Reads};
+ghost use Rattle.avc_params.specs.Limits.{max_side};
 ghost use Rattle.avc_params.specs.Parsing.{optional};
 ghost use Rattle.avc_params.specs.Reading.{sps_of};
 ghost use Rattle.avc_params.specs.SpsReading.{constraint_flags, cropping, cycle, identity, lsb, order_count, size, sps_after};
@@ -11,11 +12,11 @@ use crate::syntax::{Syntax, read_optional, read_times};
 use avc_bits::BitReader;
 use avc_types::Fault;
 
-/// The greatest width and height, in macroblocks.
-const MAX_SIDE: u32 = 543;
+/// The greatest width and height, in macroblocks (A.3.1, level 6.2).
+const MAX_SIDE: u32 = 1055;
 
-/// The most macroblocks of a picture.
-const MAX_MACROBLOCKS: u32 = 36_864;
+/// The most macroblocks of a picture: MaxFS of level 6.2 (Table A-1).
+const MAX_MACROBLOCKS: u32 = 139_264;
 
 /// What a sequence parameter set begins with, up to its id.
 #[derive(Clone, Copy)]
@@ -165,8 +166,8 @@ fn read_cropping(reader: &mut BitReader, width: u64, height: u64) -> Result<Crop
 }
 
 fn read_frame_cropping(reader: &mut BitReader, size: Size) -> Result<Option<Cropping>, Fault>
-    requires width { size.pic_width_in_mbs_minus1 < 543 }
-    requires height { size.pic_height_in_map_units_minus1 < 543 }
+    requires width { size.pic_width_in_mbs_minus1 < max_side }
+    requires height { size.pic_height_in_map_units_minus1 < max_side }
     ensures read { Reads result (optional (cropping (16 * (size.pic_width_in_mbs_minus1 + 1)) (16 * (size.pic_height_in_map_units_minus1 + 1)))) reader.old reader.new }
 {
     if !reader.flag()? {

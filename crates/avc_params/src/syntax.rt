@@ -8,7 +8,7 @@ use avc_bits::BitReader;
 use avc_types::{Fault, UpTo};
 
 /// A part of the syntax that is read from bits.
-pub(crate) trait Syntax: Sized {
+pub trait Syntax: Sized {
     ghost syntax: { Read Self };
 
     fn read(reader: &mut BitReader) -> Result<Self, Fault>
@@ -25,10 +25,7 @@ impl Syntax for bool {
 }
 
 /// The part, where `present`.
-pub(crate) fn read_where<T: Syntax>(
-    reader: &mut BitReader,
-    present: bool,
-) -> Result<Option<T>, Fault>
+pub fn read_where<T: Syntax>(reader: &mut BitReader, present: bool) -> Result<Option<T>, Fault>
     ensures read { Reads result (where_set present T.syntax) reader.old reader.new }
 {
     if present {
@@ -39,7 +36,7 @@ pub(crate) fn read_where<T: Syntax>(
 }
 
 /// A flag and, where it is 1, the part.
-pub(crate) fn read_optional<T: Syntax>(reader: &mut BitReader) -> Result<Option<T>, Fault>
+pub fn read_optional<T: Syntax>(reader: &mut BitReader) -> Result<Option<T>, Fault>
     ensures read { Reads result (optional T.syntax) reader.old reader.new }
 {
     let present = reader.flag()?;
@@ -56,7 +53,7 @@ impl Syntax for i32 {
 }
 
 /// The part, `count` times.
-pub(crate) fn read_times<T: Syntax + Default + Drop, const MAX: usize>(
+pub fn read_times<T: Syntax + Default + Drop, const MAX: usize>(
     reader: &mut BitReader,
     count: u32,
 ) -> Result<UpTo<T, MAX>, Fault>

@@ -17,12 +17,15 @@ use Rattle.avc_params.specs.declared.sps.OrderCount.{OrderCount}
 use Rattle.avc_params.specs.declared.sps.OrderCount.TheVariants as orders
 use Rattle.avc_params.specs.declared.sps.Sps.{Sps}
 use Rattle.avc_slice.specs.Header.{is_idr, is_p_type, slice_qp}
-use Rattle.avc_slice.specs.Reading.{active_count, active_override, back, coded_order, deblocking, filtering, found, front, header_in_rbsp, header_of, idr_pic_id, is_qp, list_part, marking, modification, modification_list, modifications, most_operations, no_edges, numbers, offset_pair, operation, operations, optional_se, position_here, primary, redundant_pic_cnt, slice_type_of, unless_ended, up_to, value_or_fault}
-use Rattle.avc_slice.specs.Within.{IsDeblocking, IsReadUnder}
+use Rattle.avc_slice.specs.Reading.{active_count, active_override, back, coded_order, deblocking, filtering, found, front, header_in_rbsp, header_of, idr_pic_id, is_qp, list_part, marking, modification, modification_list, modifications, most_operations, no_edges, numbers, offset_pair, operation, operations, optional_se, p_list, position_here, primary, redundant_pic_cnt, slice_type_of, unless_ended, up_to, value_or_fault}
+use Rattle.avc_slice.specs.WeightsReading.{pred_weight_table}
+use Rattle.avc_slice.specs.Within.{IsDeblocking, IsPredWeightTable, IsReadUnder}
 use Rattle.avc_slice.specs.declared.header.Header.{Header}
 use Rattle.avc_slice.specs.declared.parts.Filtering.{Filtering}
 use Rattle.avc_slice.specs.declared.parts.Front.{Front}
+use Rattle.avc_slice.specs.declared.parts.ListPart.{ListPart}
 use Rattle.avc_slice.proofs.IdrMarking.{idr_marked}
+use Rattle.avc_slice.proofs.WeightsRead.{gives-table, keeps-table}
 use Rattle.avc_slice.proofs.Keeping.{Keeps, total, keeps-bind, keeps-give, keeps-refuse, keeps-check, keeps-where_set, keeps-u, keeps-flag, keeps-ue, keeps-ue_to, keeps-se, keeps-se_within}
 
 -- ---- nothing but what stood ahead is passed
@@ -117,7 +120,9 @@ keeps-numbers idr pps sps =
 keeps-list_part : (p : Bool) (pps : Pps) (sps : Sps) → Keeps (list_part p pps sps)
 keeps-list_part true pps sps =
     keeps-bind (active_override pps) _ (keeps-active_override pps) (λ override.
-    keeps-bind (modification_list (max_frame_num sps) (active_count pps override)) _ (keeps-modification_list _ (active_count pps override)) (λ given. keeps-give _))
+    keeps-bind (modification_list (max_frame_num sps) (active_count pps override)) _ (keeps-modification_list _ (active_count pps override)) (λ given.
+    keeps-bind (where_set pps.weighted_pred_flag (pred_weight_table (active_count pps override))) _
+    (keeps-where_set pps.weighted_pred_flag (pred_weight_table (active_count pps override)) (keeps-table (active_count pps override))) (λ weights. keeps-give _)))
 keeps-list_part false pps sps = keeps-give _
 
 keeps-filtering : (pps : Pps) → Keeps (filtering pps)
@@ -204,22 +209,38 @@ gives-filtering pps =
     (gives-where_set IsDeblocking pps.deblocking_filter_control_present_flag deblocking gives-deblocking) (λ given is.
     gives-give (IsFiltering pps) _ (record { qp = quantiser _ qp; deblocking = is }))))
 
+abbrev HasWeights : ListPart → Type 0
+HasWeights l = IfSome l.pred_weight_table (IsPredWeightTable l.active_count)
+
+gives-p_list : (pps : Pps) (sps : Sps) → Gives HasWeights (p_list pps sps)
+gives-p_list pps sps =
+    gives-then HasWeights (active_override pps) _ (λ override.
+    gives-then HasWeights (modification_list (max_frame_num sps) (active_count pps override)) _ (λ given.
+    gives-bind (λ t. IfSome t (IsPredWeightTable (active_count pps override))) HasWeights (where_set pps.weighted_pred_flag (pred_weight_table (active_count pps override))) _
+    (gives-where_set (IsPredWeightTable (active_count pps override)) pps.weighted_pred_flag (pred_weight_table (active_count pps override)) (gives-table (active_count pps override))) (λ weights is.
+    gives-give HasWeights _ is)))
+
+gives-list_part : (p : Bool) (pps : Pps) (sps : Sps) → Gives HasWeights (list_part p pps sps)
+gives-list_part true pps sps = gives-p_list pps sps
+gives-list_part false pps sps = gives-give HasWeights _ tt
+
 -- What a header has from its parts.
 record IsBack (idr : Bool) (start : Front) (pps : Pps) (sps : Sps) (h : Header) : Type 0 where
   address : h.first_mb_in_slice < size_in_mbs sps
   slice_type : h.slice_type ≡ start.slice_type
   set : h.pic_parameter_set_id ≡ start.pic_parameter_set_id
   idr_is : is_idr h ≡ idr
+  weights : IfSome h.pred_weight_table (IsPredWeightTable h.active_count)
   filters : IsFiltering pps (record { slice_qp_delta = h.slice_qp_delta; deblocking = h.deblocking })
 
 gives-back : (nal_ref_idc : ℕ) (idr : Bool) (start : Front) (pps : Pps) (sps : Sps) → Gives (IsBack idr start pps sps) (back nal_ref_idc idr start pps sps)
 gives-back nal_ref_idc idr start pps sps =
     gives-check (IsBack idr start pps sps) (nat_lt start.first_mb_in_slice (size_in_mbs sps)) _ _ (λ address.
     gives-bind (λ n. IsOfIdr idr n.idr_pic_id) (IsBack idr start pps sps) (numbers idr pps sps) _ (gives-numbers idr pps sps) (λ of_picture is_of.
-    gives-then (IsBack idr start pps sps) (list_part (is_p_type start.slice_type) pps sps) _ (λ list.
+    gives-bind HasWeights (IsBack idr start pps sps) (list_part (is_p_type start.slice_type) pps sps) _ (gives-list_part (is_p_type start.slice_type) pps sps) (λ list is_list.
     gives-then (IsBack idr start pps sps) (where_set (not (nal_ref_idc == 0)) (marking idr)) _ (λ marked.
     gives-bind (IsFiltering pps) (IsBack idr start pps sps) (filtering pps) _ (gives-filtering pps) (λ filtered is_filtered.
-    λ b. gives-give (IsBack idr start pps sps) _ (record { address = ltb-true start.first_mb_in_slice (size_in_mbs sps) address; slice_type = refl; set = refl; idr_is = is_of; filters = is_filtered }) b)))))
+    λ b. gives-give (IsBack idr start pps sps) _ (record { address = ltb-true start.first_mb_in_slice (size_in_mbs sps) address; slice_type = refl; set = refl; idr_is = is_of; weights = is_list; filters = is_filtered }) b)))))
 
 -- ---- the position is where the reader is
 
@@ -287,6 +308,7 @@ header-read header sets rbsp h e =
           qp_low = is.filters.qp.least;
           qp_high = is.filters.qp.most;
           deblocking = is.filters.deblocking;
+          weights = is.weights;
           position = reached h.position all.0 rbsp position passed;
         };
       };

@@ -4,7 +4,7 @@ use Rattle.std.specs.List.{list_any}
 use Rattle.avc_types.specs.declared.references.Marking.{Marking}
 use Rattle.avc_types.specs.declared.references.Marking.TheVariants.{Idr, Adaptive}
 use Rattle.avc_types.specs.declared.references.Operation.{Operation}
-use Rattle.avc_types.specs.declared.references.Operation.TheVariants.{ForgetAll}
+use Rattle.avc_types.specs.declared.references.Operation.TheVariants.{UnmarkAll}
 use Rattle.avc_params.specs.declared.pps.Pps.{Pps}
 use Rattle.avc_slice.specs.declared.header.Header.{Header}
 use Rattle.avc_slice.specs.declared.header.SliceType.{SliceType}
@@ -29,12 +29,12 @@ is_reference h = not (h.nal_ref_idc == 0)
 abbrev pub slice_qp : Pps → (slice_qp_delta : ℤ) → ℤ
 slice_qp pps delta = (pos 26 +ℤ pps.pic_init_qp_minus26) +ℤ delta
 
-abbrev pub is_forget_all : Operation → Bool
-is_forget_all ForgetAll = true
-is_forget_all _ = false
+abbrev pub is_unmark_all : Operation → Bool
+is_unmark_all UnmarkAll = true
+is_unmark_all _ = false
 
 abbrev marks_all : Option Marking → Bool
-marks_all (Some (Adaptive list)) = list_any is_forget_all list
+marks_all (Some (Adaptive list)) = list_any is_unmark_all list
 marks_all _ = false
 
 -- the picture has memory_management_control_operation 5

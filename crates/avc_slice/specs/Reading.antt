@@ -1,4 +1,4 @@
--- Slice headers from their bits (7.3.3, 7.3.3.1, 7.3.3.3): the elements in their order, each check where its element
+-- Slice headers from their bits (7.3.3, 7.3.3.1, 7.3.3.3; 7.3.3.2 is in WeightsReading): the elements in their order, each check where its element
 -- stands.
 use Rattle.std.specs.Prelude.{ℕ, zero, suc, ◌+◌, ◌-◌, ◌/◌, ◌%◌, ℤ, pos, negsuc, int_le, Bool, true, false, not, ◌==◌, ◌&&◌, ◌||◌, nat_lt, List, [], ◌∷◌, Option, Some, None, slice_index_or, if◌then◌else◌, Result, Ok, Err}
 use Rattle.avc_types.specs.declared.fault.Fault.{Fault}
@@ -8,7 +8,7 @@ use Rattle.avc_types.specs.declared.references.Marking.TheVariants.{Idr, Sliding
 use Rattle.avc_types.specs.declared.references.Modification.{Modification}
 use Rattle.avc_types.specs.declared.references.Modification.TheVariants.{Subtract, Add, LongTerm}
 use Rattle.avc_types.specs.declared.references.Operation.{Operation}
-use Rattle.avc_types.specs.declared.references.Operation.TheVariants.{ForgetShort, ForgetLong, ShortToLong, LimitLong, ForgetAll, CurrentToLong}
+use Rattle.avc_types.specs.declared.references.Operation.TheVariants.{UnmarkShortTerm, UnmarkLongTerm, AssignLongTerm, MaxLongTermFrameIdx, UnmarkAll, CurrentToLongTerm}
 use Rattle.avc_bits.specs.Bits.{Bits, Read, start, ◌>>=◌, ◌>>◌, give, refuse, check, where_set}
 use Rattle.avc_bits.specs.Codes.{u, flag, ue, ue_to, se, se_within}
 use Rattle.avc_params.specs.declared.pps.Pps.{Pps}
@@ -30,6 +30,7 @@ use Rattle.avc_slice.specs.declared.header.SliceType.TheVariants as slice_types
 use Rattle.avc_types.specs.declared.edges.FilteredEdges.{FilteredEdges}
 use Rattle.avc_types.specs.declared.edges.FilteredEdges.TheVariants as edges
 use Rattle.avc_slice.specs.Header.{is_p_type, slice_qp}
+use Rattle.avc_slice.specs.WeightsReading.{pred_weight_table}
 
 -- ---- order counts
 
@@ -104,12 +105,12 @@ abbrev pub two : (ℕ → ℕ → Operation) → Read Operation
 two make = ue >>= λ a. ue >>= λ b. give (make a b)
 
 abbrev pub operation : (number : ℕ) → Read Operation
-operation (suc zero) = ue >>= λ n. give (ForgetShort n)
-operation (suc (suc zero)) = ue >>= λ n. give (ForgetLong n)
-operation (suc (suc (suc zero))) = two ShortToLong
-operation (suc (suc (suc (suc zero)))) = ue >>= λ n. give (LimitLong n)
-operation (suc (suc (suc (suc (suc zero))))) = give ForgetAll
-operation _ = ue >>= λ n. give (CurrentToLong n)
+operation (suc zero) = ue >>= λ n. give (UnmarkShortTerm n)
+operation (suc (suc zero)) = ue >>= λ n. give (UnmarkLongTerm n)
+operation (suc (suc (suc zero))) = two AssignLongTerm
+operation (suc (suc (suc (suc zero)))) = ue >>= λ n. give (MaxLongTermFrameIdx n)
+operation (suc (suc (suc (suc (suc zero))))) = give UnmarkAll
+operation _ = ue >>= λ n. give (CurrentToLongTerm n)
 
 -- the operations up to 0, of which so many may stand
 abbrev pub operations : (room : ℕ) → Read (List Operation)
@@ -204,12 +205,13 @@ abbrev pub p_list : Pps → Sps → Read ListPart
 p_list pps sps = do
   override ← active_override pps
   given ← modification_list (max_frame_num sps) (active_count pps override)
-  give (record { active_override = override; active_count = active_count pps override; modifications = given })
+  weights ← where_set pps.weighted_pred_flag (pred_weight_table (active_count pps override))
+  give (record { active_override = override; active_count = active_count pps override; modifications = given; pred_weight_table = weights })
 
--- what RefPicList0 is made by; an I slice has none
+-- what RefPicList0 is made by, and by what its predictions are weighted; an I slice has neither
 abbrev pub list_part : (p : Bool) → Pps → Sps → Read ListPart
 list_part true pps sps = p_list pps sps
-list_part false pps sps = give (record { active_override = None; active_count = 0; modifications = None })
+list_part false pps sps = give (record { active_override = None; active_count = 0; modifications = None; pred_weight_table = None })
 
 abbrev pub is_qp : ℤ → Bool
 is_qp qp = int_le (pos 0) qp && int_le qp (pos 51)
@@ -249,6 +251,7 @@ back nal_ref_idc idr start pps sps = do
     active_override = list.active_override;
     active_count = list.active_count;
     modifications = list.modifications;
+    pred_weight_table = list.pred_weight_table;
     marking = marked;
     slice_qp_delta = filtered.slice_qp_delta;
     deblocking = filtered.deblocking;

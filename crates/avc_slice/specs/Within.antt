@@ -1,5 +1,6 @@
 -- What each slice header that was read keeps to.
 use Rattle.std.specs.Prelude.{◌≡◌, ℕ, ◌<◌, ◌≤◌, pos, negsuc, ◌≤ℤ◌, true, false, List, length, Some, IfSome}
+use Rattle.std.specs.List.{All}
 use Rattle.avc_types.specs.declared.edges.FilteredEdges.TheVariants.{NoEdges}
 use Rattle.avc_bits.specs.Bits.{bits_before_stop}
 use Rattle.avc_params.specs.Limits.{size_in_mbs}
@@ -9,6 +10,10 @@ use Rattle.avc_params.specs.declared.sps.Sps.{Sps}
 use Rattle.avc_slice.specs.Header.{is_idr, has_idr_marking, is_p, slice_qp}
 use Rattle.avc_slice.specs.declared.header.Deblocking.{Deblocking}
 use Rattle.avc_slice.specs.declared.header.Header.{Header}
+use Rattle.avc_slice.specs.declared.weights.ChromaWeights.{ChromaWeights}
+use Rattle.avc_slice.specs.declared.weights.CodedWeight.{CodedWeight}
+use Rattle.avc_slice.specs.declared.weights.EntryWeights.{EntryWeights}
+use Rattle.avc_slice.specs.declared.weights.PredWeightTable.{PredWeightTable}
 
 pub record IsDeblocking (d : Deblocking) : Type 0 where
   pub alpha_low : negsuc 5 ≤ℤ d.slice_alpha_c0_offset_div2
@@ -17,6 +22,28 @@ pub record IsDeblocking (d : Deblocking) : Type 0 where
   pub beta_high : d.slice_beta_offset_div2 ≤ℤ pos 6
   -- the offsets are not coded where no edge is filtered
   pub off : d.disable_deblocking_filter_idc ≡ NoEdges → d.slice_alpha_c0_offset_div2 ≡ pos 0
+
+-- each -128 to 127 (7.4.3.2)
+pub record IsCodedWeight (c : CodedWeight) : Type 0 where
+  pub weight_low : negsuc 127 ≤ℤ c.weight
+  pub weight_high : c.weight ≤ℤ pos 127
+  pub offset_low : negsuc 127 ≤ℤ c.offset
+  pub offset_high : c.offset ≤ℤ pos 127
+
+pub record IsChromaWeights (c : ChromaWeights) : Type 0 where
+  pub cb : IsCodedWeight c.cb
+  pub cr : IsCodedWeight c.cr
+
+pub record IsEntryWeights (e : EntryWeights) : Type 0 where
+  pub luma : IfSome e.luma IsCodedWeight
+  pub chroma : IfSome e.chroma IsChromaWeights
+
+-- an entry for each reference index
+pub record IsPredWeightTable (active_count : ℕ) (t : PredWeightTable) : Type 0 where
+  pub luma_denom : t.luma_log2_weight_denom ≤ 7
+  pub chroma_denom : t.chroma_log2_weight_denom ≤ 7
+  pub count : length t.entries ≡ active_count
+  pub entries : All IsEntryWeights t.entries
 
 -- A header that was read in this RBSP under these sets.
 pub record IsHeader (sps : Sps) (pps : Pps) (rbsp : List ℕ) (h : Header) : Type 0 where
@@ -28,6 +55,7 @@ pub record IsHeader (sps : Sps) (pps : Pps) (rbsp : List ℕ) (h : Header) : Typ
   pub qp_low : pos 0 ≤ℤ slice_qp pps h.slice_qp_delta
   pub qp_high : slice_qp pps h.slice_qp_delta ≤ℤ pos 51
   pub deblocking : IfSome h.deblocking IsDeblocking
+  pub weights : IfSome h.pred_weight_table (IsPredWeightTable h.active_count)
   pub position : h.position ≤ length (bits_before_stop rbsp)
 
 -- The sets that a header names, and that it was read under.

@@ -1,6 +1,7 @@
 ghost use Rattle.std.specs.Prelude.{◌≡◌};
 
 use crate::header::Header;
+use crate::weights::PredWeightTable;
 use avc_types::{Marking, Modification, UpTo};
 
 fn copied_modifications(
@@ -10,6 +11,19 @@ fn copied_modifications(
 {
     match modifications {
         Some(modifications) => Some(modifications.copied()),
+        None => None,
+    }
+}
+
+fn copied_weights(table: &Option<PredWeightTable>) -> Option<PredWeightTable>
+    ensures { result ≡ table.now }
+{
+    match table {
+        Some(table) => Some(PredWeightTable {
+            luma_log2_weight_denom: table.luma_log2_weight_denom,
+            chroma_log2_weight_denom: table.chroma_log2_weight_denom,
+            entries: table.entries.copied(),
+        }),
         None => None,
     }
 }
@@ -50,6 +64,7 @@ impl Header {
             active_override: self.active_override,
             active_count: self.active_count,
             modifications: copied_modifications(&self.modifications),
+            pred_weight_table: copied_weights(&self.pred_weight_table),
             marking: copied_marking(&self.marking),
             slice_qp_delta: self.slice_qp_delta,
             deblocking: self.deblocking,

@@ -1,4 +1,11 @@
-use avc_types::{FilteredEdges, Marking, MbAddr, Modification, UpTo};
+ghost use Rattle.std.specs.Prelude.{◌≡◌, IfSome, slice_get};
+ghost use Rattle.std.specs.List.{list_any};
+ghost use Rattle.avc_slice.specs.Header.{has_operation_5, is_unmark_all, is_idr, is_p, is_p_type, is_reference};
+ghost use Rattle.avc_slice.specs.Weights.{weights};
+ghost use Rattle.avc_slice.specs.Within.{IsPredWeightTable};
+
+use crate::weights::PredWeightTable;
+use avc_types::{FilteredEdges, Marking, MbAddr, Modification, Operation, UpTo, Weights};
 
 /// slice_type (Table 7-6). The last two say that all slices of the picture have this type.
 #[derive(Clone, Copy, Debug, PartialEq, Eq)]
@@ -73,6 +80,9 @@ pub struct Header {
     /// In P slices, where ref_pic_list_modification_flag_l0 is 1.
     pub modifications: Option<UpTo<Modification, 16>>,
 
+    /// In P slices, where the picture parameter set has weighted_pred_flag 1.
+    pub pred_weight_table: Option<PredWeightTable>,
+
     /// Where nal_ref_idc is not 0.
     pub marking: Option<Marking>,
 
@@ -84,4 +94,72 @@ pub struct Header {
 
     /// The number of bits of the RBSP before the slice data.
     pub position: u128,
+}
+
+impl SliceType {
+    /// P, with or without its word on the other slices of the picture.
+    pub(crate) fn is_p(self) -> bool
+        ensures { result ≡ is_p_type self }
+    {
+        match self {
+            SliceType::P | SliceType::AllP => true,
+            SliceType::I | SliceType::AllI => false,
+        }
+    }
+}
+
+fn has_unmark_all(operations: &[Operation]) -> bool
+    ensures { result ≡ list_any is_unmark_all operations.now }
+{
+    for operation in operations {
+        match operation {
+            Operation::UnmarkAll => return true,
+            _ => {}
+        }
+    }
+    false
+}
+
+impl Header {
+    /// The slice is one of an IDR picture (nal_unit_type 5).
+    pub fn is_idr(&self) -> bool
+        ensures { result ≡ is_idr self.now }
+    {
+        self.idr_pic_id.is_some()
+    }
+
+    /// The slice is one of a reference picture.
+    pub fn is_reference(&self) -> bool
+        ensures { result ≡ is_reference self.now }
+    {
+        self.nal_ref_idc != 0
+    }
+
+    /// The slice is a P slice; else it is an I slice.
+    pub fn is_p(&self) -> bool
+        ensures { result ≡ is_p self.now }
+    {
+        self.slice_type.is_p()
+    }
+
+    /// By what predictions from a reference index are weighted (8.4.2.3), where the slice has explicit weights.
+    pub fn weights(&self, reference_index: usize) -> Option<Weights>
+        requires { IfSome self.now.pred_weight_table (IsPredWeightTable self.now.active_count) }
+        ensures { result ≡ slice_get (weights self.now) reference_index }
+    {
+        match &self.pred_weight_table {
+            Some(table) => table.weights(reference_index),
+            None => None,
+        }
+    }
+
+    /// The picture has memory_management_control_operation 5 (7.4.3.3).
+    pub fn has_operation_5(&self) -> bool
+        ensures { result ≡ has_operation_5 self.now }
+    {
+        match &self.marking {
+            Some(Marking::Adaptive(operations)) => has_unmark_all(operations.as_slice()),
+            _ => false,
+        }
+    }
 }

@@ -10,14 +10,13 @@ mod marking;
 mod modification;
 mod order;
 mod parts;
-mod questions;
 mod reading;
 mod slice;
+mod weights;
+mod weights_reading;
 
 pub use begins::begins_picture;
 pub use header::{CodedOrder, Deblocking, Header, SliceType};
 pub use reading::read_header;
 pub use slice::Slice;
-
-#[cfg(test)]
-mod tests;
+pub use weights::{ChromaWeights, CodedWeight, EntryWeights, PredWeightTable};

@@ -15,16 +15,16 @@ impl Coded for Operation {
 
     fn read_item(reader: &mut BitReader, _most: u32, code: u32) -> Result<Operation, Fault> {
         match code {
-            1 => Ok(Operation::ForgetShort(reader.ue()?)),
-            2 => Ok(Operation::ForgetLong(reader.ue()?)),
+            1 => Ok(Operation::UnmarkShortTerm(reader.ue()?)),
+            2 => Ok(Operation::UnmarkLongTerm(reader.ue()?)),
             3 => {
                 let difference_of_pic_nums_minus1 = reader.ue()?;
                 let long_term_frame_idx = reader.ue()?;
-                Ok(Operation::ShortToLong(difference_of_pic_nums_minus1, long_term_frame_idx))
+                Ok(Operation::AssignLongTerm(difference_of_pic_nums_minus1, long_term_frame_idx))
             }
-            4 => Ok(Operation::LimitLong(reader.ue()?)),
-            5 => Ok(Operation::ForgetAll),
-            _ => Ok(Operation::CurrentToLong(reader.ue()?)),
+            4 => Ok(Operation::MaxLongTermFrameIdx(reader.ue()?)),
+            5 => Ok(Operation::UnmarkAll),
+            _ => Ok(Operation::CurrentToLongTerm(reader.ue()?)),
         }
     }
 }

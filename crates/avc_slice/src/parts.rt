@@ -1,4 +1,5 @@
 use crate::header::{CodedOrder, Deblocking, SliceType};
+use crate::weights::PredWeightTable;
 use avc_types::{Modification, UpTo};
 
 /// What stands in the header up to the picture parameter set's id.
@@ -18,12 +19,13 @@ pub struct Numbers {
     pub redundant_pic_cnt: Option<u32>,
 }
 
-/// What RefPicList0 is made by.
+/// What RefPicList0 is made by, and by what its predictions are weighted.
 #[derive(Drop)]
 pub struct ListPart {
     pub active_override: Option<u32>,
     pub active_count: u32,
     pub modifications: Option<UpTo<Modification, 16>>,
+    pub pred_weight_table: Option<PredWeightTable>,
 }
 
 /// The quantiser and the deblocking fields.

@@ -6,6 +6,7 @@ ghost use Rattle.avc_params.specs.Tables.{sets_after};
 ghost use Rattle.avc_params.specs.Within.{IsPps, IsSps};
 ghost use Rattle.avc_slice.specs.Header.{is_idr, slice_qp};
 ghost use Rattle.avc_slice.specs.Reading.{active_count, active_override, back, deblocking, idr_pic_id, is_qp, marking, redundant_pic_cnt, filtering, front, header_in_rbsp, list_part, modification_list, numbers, p_list, slice_type_of};
+ghost use Rattle.avc_slice.specs.WeightsReading.{pred_weight_table};
 ghost use Rattle.avc_slice.specs.Within.{IsReadUnder};
 
 use crate::deblocking::read_deblocking;
@@ -14,6 +15,8 @@ use crate::marking::read_marking;
 use crate::modification::read_modifications;
 use crate::order::read_order;
 use crate::parts::{Filtering, Front, ListPart, Numbers};
+use crate::weights::PredWeightTable;
+use crate::weights_reading::read_pred_weight_table;
 use avc_bits::BitReader;
 use avc_params::{ParamTable, Pps, Sps};
 use avc_types::{Fault, Marking, MbAddr, Modification, UpTo};
@@ -145,7 +148,23 @@ fn active_count_of(pps: &Pps, active_override: Option<u32>) -> u32
     }
 }
 
-/// What RefPicList0 of a P slice is made by.
+/// pred_weight_table, where it is `present`.
+fn read_optional_weights(
+    reader: &mut BitReader,
+    present: bool,
+    active_count: u32,
+) -> Result<Option<PredWeightTable>, Fault>
+    requires { active_count ≤ 16 }
+    ensures { Reads result (where_set present (pred_weight_table active_count)) reader.old reader.new }
+{
+    if present {
+        Ok(Some(read_pred_weight_table(reader, active_count)?))
+    } else {
+        Ok(None)
+    }
+}
+
+/// What RefPicList0 of a P slice is made by, and by what its predictions are weighted.
 fn read_p_list(reader: &mut BitReader, pps: &Pps, sps: &Sps) -> Result<ListPart, Fault>
     requires { IsSps sps.now }
     ensures { Reads result (p_list pps.now sps.now) reader.old reader.new }
@@ -153,14 +172,16 @@ fn read_p_list(reader: &mut BitReader, pps: &Pps, sps: &Sps) -> Result<ListPart,
     let active_override = read_active_override(reader, pps)?;
     let active_count = active_count_of(pps, active_override);
     let modifications = read_modification_list(reader, sps.max_frame_num(), active_count)?;
+    let pred_weight_table = read_optional_weights(reader, pps.weighted_pred_flag, active_count)?;
     Ok(ListPart {
         active_override,
         active_count,
         modifications,
+        pred_weight_table,
     })
 }
 
-/// What RefPicList0 is made by; an I slice has none.
+/// The part of P slices; an I slice has none.
 fn read_list_part(reader: &mut BitReader, p: bool, pps: &Pps, sps: &Sps) -> Result<ListPart, Fault>
     requires { IsSps sps.now }
     ensures { Reads result (list_part p pps.now sps.now) reader.old reader.new }
@@ -172,6 +193,7 @@ fn read_list_part(reader: &mut BitReader, p: bool, pps: &Pps, sps: &Sps) -> Resu
             active_override: None,
             active_count: 0,
             modifications: None,
+            pred_weight_table: None,
         })
     }
 }
@@ -268,6 +290,7 @@ fn read_back(
         active_override: list.active_override,
         active_count: list.active_count,
         modifications: list.modifications,
+        pred_weight_table: list.pred_weight_table,
         marking,
         slice_qp_delta: filtering.slice_qp_delta,
         deblocking: filtering.deblocking,

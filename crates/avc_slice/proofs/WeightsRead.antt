@@ -1,0 +1,88 @@
+-- The table of explicit weights that was read: its ranges, and that nothing is passed but what stood ahead.
+use Rattle.std.proofs.Common.{◌≡◌, ℕ, zero, suc, ◌≤◌, pos, negsuc, List, [], ◌∷◌, length, IfSome}
+use Rattle.std.specs.List.{All}
+use Rattle.std.proofs.lemmas.List.Elements.{All-cons, All-nil}
+use Rattle.avc_bits.specs.Bits.{Read, times}
+use Rattle.avc_bits.specs.Codes.{flag, se_within, ue_to}
+use Rattle.avc_bits.specs.Giving.{Gives, IsFrom, gives-bind, gives-give, gives-se_within, gives-then, gives-times, gives-ue_to, gives-where_set}
+use Rattle.avc_params.specs.Parsing.{optional}
+use Rattle.avc_slice.specs.WeightsReading.{chroma_weights, coded_weight, entry_weights, pred_weight_table}
+use Rattle.avc_slice.specs.declared.weights.EntryWeights.{EntryWeights}
+use Rattle.avc_slice.specs.Within.{IsChromaWeights, IsCodedWeight, IsEntryWeights, IsPredWeightTable}
+use Rattle.avc_slice.proofs.Keeping.{Keeps, keeps-bind, keeps-flag, keeps-give, keeps-se_within, keeps-ue_to, keeps-where_set}
+
+-- ---- nothing but what stood ahead is passed
+
+keeps-optional : {A : Type 0} (part : Read A) → Keeps part → Keeps (optional part)
+keeps-optional part g = keeps-bind flag _ keeps-flag (λ present. keeps-where_set present part g)
+
+keeps-times : {A : Type 0} (n : ℕ) (part : Read A) → Keeps part → Keeps (times n part)
+keeps-times zero part g = keeps-give []
+keeps-times (suc n) part g = keeps-bind part _ g (λ x. keeps-bind (times n part) _ (keeps-times n part g) (λ xs. keeps-give (x ∷ xs)))
+
+keeps-coded_weight : Keeps coded_weight
+keeps-coded_weight =
+    keeps-bind (se_within (negsuc 127) (pos 127)) _ (keeps-se_within (negsuc 127) (pos 127)) (λ weight.
+    keeps-bind (se_within (negsuc 127) (pos 127)) _ (keeps-se_within (negsuc 127) (pos 127)) (λ offset. keeps-give _))
+
+keeps-chroma_weights : Keeps chroma_weights
+keeps-chroma_weights = keeps-bind coded_weight _ keeps-coded_weight (λ cb. keeps-bind coded_weight _ keeps-coded_weight (λ cr. keeps-give _))
+
+keeps-entry_weights : Keeps entry_weights
+keeps-entry_weights =
+    keeps-bind (optional coded_weight) _ (keeps-optional coded_weight keeps-coded_weight) (λ luma.
+    keeps-bind (optional chroma_weights) _ (keeps-optional chroma_weights keeps-chroma_weights) (λ chroma. keeps-give _))
+
+pub keeps-table : (n : ℕ) → Keeps (pred_weight_table n)
+keeps-table n =
+    keeps-bind (ue_to 7) _ (keeps-ue_to 7) (λ luma.
+    keeps-bind (ue_to 7) _ (keeps-ue_to 7) (λ chroma.
+    keeps-bind (times n entry_weights) _ (keeps-times n entry_weights keeps-entry_weights) (λ entries. keeps-give _)))
+
+-- ---- the ranges
+
+gives-coded_weight : Gives IsCodedWeight coded_weight
+gives-coded_weight =
+    gives-bind (IsFrom (negsuc 127) (pos 127)) IsCodedWeight (se_within (negsuc 127) (pos 127)) _ (gives-se_within (negsuc 127) (pos 127)) (λ weight is_weight.
+    gives-bind (IsFrom (negsuc 127) (pos 127)) IsCodedWeight (se_within (negsuc 127) (pos 127)) _ (gives-se_within (negsuc 127) (pos 127)) (λ offset is_offset.
+    gives-give IsCodedWeight _ (record { weight_low = is_weight.least; weight_high = is_weight.most; offset_low = is_offset.least; offset_high = is_offset.most })))
+
+gives-chroma_weights : Gives IsChromaWeights chroma_weights
+gives-chroma_weights =
+    gives-bind IsCodedWeight IsChromaWeights coded_weight _ gives-coded_weight (λ cb is_cb.
+    gives-bind IsCodedWeight IsChromaWeights coded_weight _ gives-coded_weight (λ cr is_cr.
+    gives-give IsChromaWeights _ (record { cb = is_cb; cr = is_cr })))
+
+gives-optional : {A : Type 0} (P : A → Type 0) (part : Read A) → Gives P part → Gives (λ o. IfSome o P) (optional part)
+gives-optional P part g = gives-then (λ o. IfSome o P) flag _ (λ present. gives-where_set P present part g)
+
+gives-entry_weights : Gives IsEntryWeights entry_weights
+gives-entry_weights =
+    gives-bind (λ o. IfSome o IsCodedWeight) IsEntryWeights (optional coded_weight) _ (gives-optional IsCodedWeight coded_weight gives-coded_weight) (λ luma is_luma.
+    gives-bind (λ o. IfSome o IsChromaWeights) IsEntryWeights (optional chroma_weights) _ (gives-optional IsChromaWeights chroma_weights gives-chroma_weights) (λ chroma is_chroma.
+    gives-give IsEntryWeights _ (record { luma = is_luma; chroma = is_chroma })))
+
+gives-each : {A : Type 0} (P : A → Type 0) (n : ℕ) (part : Read A) → Gives P part → Gives (All P) (times n part)
+gives-each P zero part g = gives-give (All P) [] (All-nil P)
+gives-each P (suc n) part g =
+    gives-bind P (All P) part _ g (λ x p.
+    gives-bind (All P) (All P) (times n part) _ (gives-each P n part g) (λ xs ps.
+    gives-give (All P) (x ∷ xs) (All-cons P x xs p ps)))
+
+-- as many as were asked for, and each in its ranges
+record AreEntries (n : ℕ) (entries : List EntryWeights) : Type 0 where
+  count : length entries ≡ n
+  each : All IsEntryWeights entries
+
+gives-entries : (n : ℕ) → Gives (AreEntries n) (times n entry_weights)
+gives-entries n b next entries e = record {
+  count = gives-times n entry_weights b next entries e;
+  each = gives-each IsEntryWeights n entry_weights gives-entry_weights b next entries e;
+}
+
+pub gives-table : (n : ℕ) → Gives (IsPredWeightTable n) (pred_weight_table n)
+gives-table n =
+    gives-bind (λ v. v ≤ 7) (IsPredWeightTable n) (ue_to 7) _ (gives-ue_to 7) (λ luma few_luma.
+    gives-bind (λ v. v ≤ 7) (IsPredWeightTable n) (ue_to 7) _ (gives-ue_to 7) (λ chroma few_chroma.
+    gives-bind (AreEntries n) (IsPredWeightTable n) (times n entry_weights) _ (gives-entries n) (λ entries are.
+    gives-give (IsPredWeightTable n) _ (record { luma_denom = few_luma; chroma_denom = few_chroma; count = are.count; entries = are.each }))))

@@ -1,7 +1,0 @@
-use Rattle.std.proofs.Common.{◌≡◌, drop}
-use Rattle.std.specs.List.{list_any}
-use Rattle.avc_slice.specs.Header.{is_forget_all}
-use Rattle.avc_slice.proofs.questions.forgets_all.Given as goal
-
-abbrev pub invariant-loop-operation : goal.invariant-loop-operation
-invariant-loop-operation l = list_any is_forget_all (drop l.operation-index l.operations) ≡ list_any is_forget_all l.operations
