@@ -1,20 +1,20 @@
 -- The units that are over stay.
 use Rattle.std.proofs.Common.{ℕ, zero, suc, ◌+◌, ◌≤◌, List, [], ◌∷◌, ◌++◌, length, Option, None, ap, ◌∙◌, sym, arith, subst, append_assoc, append-nil}
 use Rattle.std.specs.Prelude.{◌≢◌}
-use Rattle.avc_annexb.specs.Units.{Found, numbered}
+use Rattle.avc_annexb.specs.Units.{PlacedUnit, numbered}
 use Rattle.avc_annexb.specs.Laws.{UnitsStay}
-use Rattle.avc_annexb.specs.Scanning.{Scanned, HasNoZero, found_after}
+use Rattle.avc_annexb.specs.Scanning.{ScannedBytes, HasNoZero, placed_units_after}
 use Rattle.avc_annexb.proofs.Scanning.{scanned_first, scanned_zero, scanned_third, scanned_start, scanned_run, scanned_so_far}
 use Rattle.avc_annexb.proofs.Taking.{numbered-append}
 
 -- a scanner may have gone through these bytes
 record Reached (bytes : List ℕ) : Type 0 where
-  done : List Found
-  current : Option Found
+  done : List PlacedUnit
+  current : Option PlacedUnit
   count : ℕ
-  scanned : Scanned bytes done current count
+  scanned : ScannedBytes bytes done current count
 
-reached_run : (bytes : List ℕ) (done : List Found) (current : Option Found) (count b : ℕ) → Scanned bytes done current count → b ≢ 0 → (2 ≤ count → b ≢ 1) → Reached (bytes ++ b ∷ [])
+reached_run : (bytes : List ℕ) (done : List PlacedUnit) (current : Option PlacedUnit) (count b : ℕ) → ScannedBytes bytes done current count → b ≢ 0 → (2 ≤ count → b ≢ 1) → Reached (bytes ++ b ∷ [])
 reached_run bytes done current count b s other no_start =
     record { done = _; current = _; count = _; scanned = scanned_run bytes done current count (b ∷ []) s free (omega arith) no_start }
   where
@@ -22,7 +22,7 @@ reached_run bytes done current count b s other no_start =
     free zero within = other
     free (suc k) within = absurd (omega arith)
 
-reached_byte : (b : ℕ) (bytes : List ℕ) (done : List Found) (current : Option Found) (count : ℕ) → Scanned bytes done current count → Reached (bytes ++ b ∷ [])
+reached_byte : (b : ℕ) (bytes : List ℕ) (done : List PlacedUnit) (current : Option PlacedUnit) (count : ℕ) → ScannedBytes bytes done current count → Reached (bytes ++ b ∷ [])
 reached_byte zero bytes done current zero s = record { done = _; current = _; count = _; scanned = scanned_zero bytes done current 0 s (omega arith) }
 reached_byte zero bytes done current (suc zero) s = record { done = _; current = _; count = _; scanned = scanned_zero bytes done current 1 s (omega arith) }
 reached_byte zero bytes done current (suc (suc zero)) s = record { done = _; current = _; count = _; scanned = scanned_third bytes done current s }
@@ -42,7 +42,7 @@ reached bytes = reached-append [] bytes (record { done = []; current = None; cou
 pub units_stay_first : UnitsStay
 units_stay_first max bytes more ended =
     let r = reached bytes in
-    let others = found_after (length bytes) r.current r.count ended more in (
+    let others = placed_units_after (length bytes) r.current r.count ended more in (
       numbered max (0 + length r.done) others,
       ap (numbered max 0) (r.scanned.rest ended more) ∙ numbered-append max 0 r.done others
           ∙ ap (λ d. numbered max 0 d ++ numbered max (0 + length r.done) others) (sym (scanned_so_far bytes r.done r.current r.count r.scanned)),

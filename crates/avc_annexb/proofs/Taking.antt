@@ -5,17 +5,17 @@ use Rattle.std.specs.Option.{option_to_list}
 use Rattle.std.proofs.lemmas.List.{take_more, get_or-drop, length_push}
 use Rattle.std.proofs.lemmas.Option.{slice_get_within}
 use Rattle.std.proofs.Math.Seq.{take-add}
-use Rattle.avc_annexb.specs.Units.{Found, found, units, numbered, unit_of, unit_at}
-use Rattle.avc_annexb.specs.Scanning.{Holds, Keeps, closed, with_bytes, IsSplitIn, has_ended, has_failed}
+use Rattle.avc_annexb.specs.Units.{PlacedUnit, placed_units, units, numbered, unit_of, unit_at}
+use Rattle.avc_annexb.specs.Scanning.{AreReady, IsOpenUnit, closed_unit, with_bytes, IsSplitterStateIn, has_ended, has_failed}
 use Rattle.avc_annexb.specs.declared.unit.Unit.{Unit}
-use Rattle.avc_annexb.specs.Splitting.{Splitting, next_of, taking, waiting}
+use Rattle.avc_annexb.specs.SplitterState.{SplitterState, next_unit_of, after_next_unit, units_waiting}
 use Rattle.avc_annexb.specs.declared.scanner.Scanner.{Scanner}
-use Rattle.avc_annexb.specs.declared.splitter.Progress.{Progress}
-use Rattle.avc_annexb.specs.declared.splitter.Progress.TheVariants.{Running, Ended, Failed}
+use Rattle.avc_annexb.specs.declared.splitter.SplitterPhase.{SplitterPhase}
+use Rattle.avc_annexb.specs.declared.splitter.SplitterPhase.TheVariants.{Running, Ended, Failed}
 use Rattle.avc_annexb.proofs.Scanning.{scanned_so_far}
 use Rattle.avc_annexb.specs.declared.open_unit.OpenUnit.{OpenUnit}
 
-pub numbered-append : (max index : ℕ) (done more : List Found) → numbered max index (done ++ more) ≡ numbered max index done ++ numbered max (index + length done) more
+pub numbered-append : (max index : ℕ) (done more : List PlacedUnit) → numbered max index (done ++ more) ≡ numbered max index done ++ numbered max (index + length done) more
 numbered-append max index [] more = ap (λ n. numbered max n more) (omega arith)
 numbered-append max index (unit ∷ done) more =
     ap (λ us. unit_of max index unit ∷ us) (numbered-append max (index + 1) done more ∙ ap (λ n. numbered max (index + 1) done ++ numbered max n more) (omega arith))
@@ -25,13 +25,13 @@ one_closed_at offset [] some = absurd (some refl)
 one_closed_at offset (b ∷ bytes) some = refl
 
 -- a unit with bytes is added
-pub closed_some : (unit : Found) → (length unit.bytes ≡ 0 → ⊥) → closed (Some unit) ≡ unit ∷ []
+pub closed_some : (unit : PlacedUnit) → (length unit.bytes ≡ 0 → ⊥) → closed_unit (Some unit) ≡ unit ∷ []
 closed_some unit some = one_closed_at unit.offset unit.bytes some
 
-pub keeps-append : (max : ℕ) (o : OpenUnit max) (unit : Found) (a b : List ℕ) → Keeps max o (with_bytes (with_bytes unit a) b) → Keeps max o (with_bytes unit (a ++ b))
+pub keeps-append : (max : ℕ) (o : OpenUnit max) (unit : PlacedUnit) (a b : List ℕ) → IsOpenUnit max o (with_bytes (with_bytes unit a) b) → IsOpenUnit max o (with_bytes unit (a ++ b))
 keeps-append max o unit a b k = rw append_assoc at k
 
-pub units_pushed : (max : ℕ) (given : List Unit) (done : List Found) (unit : Found) (old : List Unit) (u : Unit) → given ++ old ≡ numbered max 0 done → u ≡ unit_of max (length done) unit →
+pub units_pushed : (max : ℕ) (given : List Unit) (done : List PlacedUnit) (unit : PlacedUnit) (old : List Unit) (u : Unit) → given ++ old ≡ numbered max 0 done → u ≡ unit_of max (length done) unit →
     given ++ (old ++ u ∷ []) ≡ numbered max 0 (done ++ unit ∷ [])
 units_pushed max given done unit old u is made =
     sym (append_assoc given old (u ∷ [])) ∙ ap (λ us. us ++ u ∷ []) is ∙ ap (λ v. numbered max 0 done ++ v ∷ []) made
@@ -50,16 +50,16 @@ run_and_zero front piece place count within is =
     (ap (λ t. front ++ t) (ap (λ b. take (place + count) piece ++ b ∷ []) (sym is ∙ get_or-drop place piece count 0) ∙ sym (take_more piece (place + count) 0 within)))
 
 -- what comes next is what is ready first
-pub next_in : (p : Progress) (max : ℕ) (s : Scanner max) (bytes : List ℕ) (unit : Option Unit) → IsSplitIn p max s bytes → (p ≡ Running) ⊎ (p ≡ Ended) →
-    ((done : List Found) → Holds max s.ready done → unit ≡ slice_get (numbered max 0 done) (length s.ready.given.items)) →
-    unit ≡ next_of max (record { bytes = bytes; ended = has_ended p; taken = length s.ready.given.items; failed = has_failed p })
+pub next_in : (p : SplitterPhase) (max : ℕ) (s : Scanner max) (bytes : List ℕ) (unit : Option Unit) → IsSplitterStateIn p max s bytes → (p ≡ Running) ⊎ (p ≡ Ended) →
+    ((done : List PlacedUnit) → AreReady max s.ready done → unit ≡ slice_get (numbered max 0 done) (length s.ready.given.items)) →
+    unit ≡ next_unit_of max (record { bytes = bytes; ended = has_ended p; taken = length s.ready.given.items; failed = has_failed p })
 next_in Running max s bytes unit is going first = rw (scanned_so_far bytes is.done is.current s.zeros is.scanned) (first is.done is.ready)
-next_in Ended max s bytes unit is going first = first (found 0 true bytes) is
+next_in Ended max s bytes unit is going first = first (placed_units 0 true bytes) is
 next_in Failed max s bytes unit is (inl e) first = (cc)
 next_in Failed max s bytes unit is (inr e) first = (cc)
 
 -- one more was taken, if there was one
-pub taken_more : (s : Splitting) (given given' : List Unit) (unit : Option Unit) → s.taken ≡ length given → given' ≡ given ++ option_to_list unit → record s { taken = length given' } ≡ taking s unit
+pub taken_more : (s : SplitterState) (given given' : List Unit) (unit : Option Unit) → s.taken ≡ length given → given' ≡ given ++ option_to_list unit → record s { taken = length given' } ≡ after_next_unit s unit
 taken_more s given given' None count is = ap (λ n. record s { taken = n }) (ap length (is ∙ append-nil given) ∙ sym count)
 taken_more s given given' (Some unit) count is = ap (λ n. record s { taken = n }) (ap length is ∙ length_push given unit ∙ ap (λ n. n + 1) (sym count))
 
@@ -68,9 +68,9 @@ there_is : (failed : Bool) (us : List Unit) (taken : ℕ) (unit : Unit) → Some
 there_is true us taken unit is = (cc)
 there_is false us taken unit is = slice_get_within us taken unit (sym is)
 
-pub fewer_wait : (max : ℕ) (s new : Splitting) (unit : Option Unit) → unit ≡ next_of max s → new ≡ taking s unit → IfSome unit (λ _. waiting max new < waiting max s)
+pub fewer_wait : (max : ℕ) (s new : SplitterState) (unit : Option Unit) → unit ≡ next_unit_of max s → new ≡ after_next_unit s unit → IfSome unit (λ _. units_waiting max new < units_waiting max s)
 fewer_wait max s new None is after = tt
 fewer_wait max s new (Some unit) is after =
     let within : s.taken < length (units max s.bytes s.ended) = there_is s.failed (units max s.bytes s.ended) s.taken unit is in
-    let fewer : waiting max (taking s (Some unit)) < waiting max s = omega arith in
+    let fewer : units_waiting max (after_next_unit s (Some unit)) < units_waiting max s = omega arith in
     rw after fewer

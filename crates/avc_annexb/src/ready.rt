@@ -1,7 +1,7 @@
 ghost use Rattle.std.specs.Prelude.{◌≡◌, [], ◌++◌, List, OnOk, Option, slice_get, length};
 ghost use Rattle.std.specs.Option.{option_to_list};
-ghost use Rattle.avc_annexb.specs.Scanning.{Holds, Keeps, KeepsAny, closed};
-ghost use Rattle.avc_annexb.specs.Units.{Found, numbered};
+ghost use Rattle.avc_annexb.specs.Scanning.{AreReady, IsOpenUnit, IsOpenUnitIfAny, closed_unit};
+ghost use Rattle.avc_annexb.specs.Units.{PlacedUnit, numbered};
 
 use crate::open_unit::OpenUnit;
 use crate::unit::Unit;
@@ -21,7 +21,7 @@ pub struct Ready<const MAX: usize> {
 
 impl<const MAX: usize> Ready<MAX> {
     pub fn new(alloc: Global) -> Self
-        ensures holds { Holds MAX result [] }
+        ensures holds { AreReady MAX result [] }
         ensures given { result.given.items ≡ [] }
     {
         Ready {
@@ -33,7 +33,7 @@ impl<const MAX: usize> Ready<MAX> {
 
     /// Adds a unit at the end, if it has bytes.
     pub fn add(&mut self, unit: OpenUnit<MAX>) -> Result<(), OutOfMemory>
-        ensures holds { OnOk result ((done : List Found) (found : Found) → Holds MAX self.old done → Keeps MAX unit.entry found → Holds MAX self.new (done ++ closed (Some found))) }
+        ensures holds { OnOk result ((done : List PlacedUnit) (placed : PlacedUnit) → AreReady MAX self.old done → IsOpenUnit MAX unit.entry placed → AreReady MAX self.new (done ++ closed_unit (Some placed))) }
         ensures given { self.new.given.items ≡ self.old.given.items }
     {
         if unit.length == 0 {
@@ -46,7 +46,7 @@ impl<const MAX: usize> Ready<MAX> {
 
     /// Adds a unit at the end, if there is one and it has bytes.
     pub fn add_any(&mut self, unit: Option<OpenUnit<MAX>>) -> Result<(), OutOfMemory>
-        ensures holds { OnOk result ((done : List Found) (found : Option Found) → Holds MAX self.old done → KeepsAny MAX unit.entry found → Holds MAX self.new (done ++ closed found)) }
+        ensures holds { OnOk result ((done : List PlacedUnit) (placed : Option PlacedUnit) → AreReady MAX self.old done → IsOpenUnitIfAny MAX unit.entry placed → AreReady MAX self.new (done ++ closed_unit placed)) }
         ensures given { self.new.given.items ≡ self.old.given.items }
     {
         match unit {
@@ -57,8 +57,8 @@ impl<const MAX: usize> Ready<MAX> {
 
     /// Takes the first unit.
     pub fn next(&mut self) -> Option<Unit>
-        ensures unit { (done : List Found) → Holds MAX self.old done → result ≡ slice_get (numbered MAX 0 done) (length self.old.given.items) }
-        ensures holds { (done : List Found) → Holds MAX self.old done → Holds MAX self.new done }
+        ensures unit { (done : List PlacedUnit) → AreReady MAX self.old done → result ≡ slice_get (numbered MAX 0 done) (length self.old.given.items) }
+        ensures holds { (done : List PlacedUnit) → AreReady MAX self.old done → AreReady MAX self.new done }
         ensures given { self.new.given.items ≡ self.old.given.items ++ option_to_list result }
     {
         let unit = self.units.pop_front()?;

@@ -20,11 +20,11 @@ pub struct Scanner<const MAX: usize> {
 
 impl<const MAX: usize> Scanner<MAX> {
     ghost use Rattle.std.specs.Prelude.{◌≡◌, ◌≢◌, ◌≤◌, ℕ, true, [], ◌∷◌, ◌++◌, List, OnOk, slice_index};
-    ghost use Rattle.avc_annexb.specs.Scanning.{Scans, HasNoZero, Holds};
-    ghost use Rattle.avc_annexb.specs.Units.{found};
+    ghost use Rattle.avc_annexb.specs.Scanning.{HasScanned, HasNoZero, AreReady};
+    ghost use Rattle.avc_annexb.specs.Units.{placed_units};
 
     pub fn new(alloc: Global) -> Self
-        ensures scans { Scans MAX result [] }
+        ensures scans { HasScanned MAX result [] }
         ensures given { result.ready.given.items ≡ [] }
     {
         Scanner {
@@ -38,7 +38,7 @@ impl<const MAX: usize> Scanner<MAX> {
 
     /// Takes the next bytes of the stream. After an `Err` the scanner is of no use.
     pub fn take_in(&mut self, piece: &[u8]) -> Result<(), OutOfMemory>
-        ensures ok { OnOk result ((bytes : List ℕ) → Scans MAX self.old bytes → Scans MAX self.new (bytes ++ piece.now)) }
+        ensures ok { OnOk result ((bytes : List ℕ) → HasScanned MAX self.old bytes → HasScanned MAX self.new (bytes ++ piece.now)) }
         ensures given { self.new.ready.given.items ≡ self.old.ready.given.items }
     {
         let mut place = 0;
@@ -52,7 +52,7 @@ impl<const MAX: usize> Scanner<MAX> {
 
     /// Takes the end of the stream.
     pub fn end(&mut self) -> Result<(), OutOfMemory>
-        ensures ok { OnOk result ((bytes : List ℕ) → Scans MAX self.old bytes → Holds MAX self.new.ready (found 0 true bytes)) }
+        ensures ok { OnOk result ((bytes : List ℕ) → HasScanned MAX self.old bytes → AreReady MAX self.new.ready (placed_units 0 true bytes)) }
         ensures given { self.new.ready.given.items ≡ self.old.ready.given.items }
     {
         // the zeros that are not yet in the unit stay out of it
@@ -62,7 +62,7 @@ impl<const MAX: usize> Scanner<MAX> {
     // bytes that have no zero
     fn run(&mut self, run: &[u8]) -> Result<(), OutOfMemory>
         requires { HasNoZero run.now }
-        ensures ok { OnOk result ((bytes : List ℕ) → Scans MAX self.old bytes → Scans MAX self.new (bytes ++ run.now)) }
+        ensures ok { OnOk result ((bytes : List ℕ) → HasScanned MAX self.old bytes → HasScanned MAX self.new (bytes ++ run.now)) }
         ensures given { self.new.ready.given.items ≡ self.old.ready.given.items }
     {
         match run {
@@ -79,7 +79,7 @@ impl<const MAX: usize> Scanner<MAX> {
     fn pass(&mut self, run: &[u8]) -> Result<(), OutOfMemory>
         requires no_zero { HasNoZero run.now }
         requires no_start { 2 ≤ self.old.zeros → slice_index run.now 0 ≢ 1 }
-        ensures ok { OnOk result ((bytes : List ℕ) → Scans MAX self.old bytes → Scans MAX self.new (bytes ++ run.now)) }
+        ensures ok { OnOk result ((bytes : List ℕ) → HasScanned MAX self.old bytes → HasScanned MAX self.new (bytes ++ run.now)) }
         ensures given { self.new.ready.given.items ≡ self.old.ready.given.items }
     {
         if run.is_empty() {
@@ -93,7 +93,7 @@ impl<const MAX: usize> Scanner<MAX> {
 
     // a zero, of which a third ends a unit
     fn zero(&mut self) -> Result<(), OutOfMemory>
-        ensures ok { OnOk result ((bytes : List ℕ) → Scans MAX self.old bytes → Scans MAX self.new (bytes ++ 0 ∷ [])) }
+        ensures ok { OnOk result ((bytes : List ℕ) → HasScanned MAX self.old bytes → HasScanned MAX self.new (bytes ++ 0 ∷ [])) }
         ensures given { self.new.ready.given.items ≡ self.old.ready.given.items }
     {
         self.position = self.position.saturating_add(1);
@@ -107,7 +107,7 @@ impl<const MAX: usize> Scanner<MAX> {
     // the 01 of a start code, which ends a unit and begins one
     fn start_code(&mut self) -> Result<(), OutOfMemory>
         requires { self.old.zeros ≡ 2 }
-        ensures ok { OnOk result ((bytes : List ℕ) → Scans MAX self.old bytes → Scans MAX self.new (bytes ++ 1 ∷ [])) }
+        ensures ok { OnOk result ((bytes : List ℕ) → HasScanned MAX self.old bytes → HasScanned MAX self.new (bytes ++ 1 ∷ [])) }
         ensures given { self.new.ready.given.items ≡ self.old.ready.given.items }
         ensures zeros { self.new.zeros ≡ 0 }
     {

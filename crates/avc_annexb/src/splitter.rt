@@ -1,5 +1,5 @@
 ghost use Rattle.std.specs.Prelude.{◌≡◌, ◌<◌, true, false, OnErr, OnOk, IsOk, IfSome};
-ghost use Rattle.avc_annexb.specs.Splitting.{unfed, fed, finished, failing, next_of, taking, waiting};
+ghost use Rattle.avc_annexb.specs.SplitterState.{new_splitter, after_feed, after_finish, after_failure, next_unit_of, after_next_unit, units_waiting};
 
 use crate::scanner::Scanner;
 use crate::unit::Unit;
@@ -8,7 +8,7 @@ use std::alloc::Global;
 use std::marker::Model;
 
 #[derive(Clone, Copy)]
-enum Progress {
+enum SplitterPhase {
     Running,
     Ended,
     Failed,
@@ -19,30 +19,30 @@ enum Progress {
 /// how many units were taken, and whether memory was refused.
 #[derive(Drop)]
 pub struct Splitter<const MAX: usize> {
-    progress: Progress,
+    progress: SplitterPhase,
     scanner: Scanner<MAX>,
     bytes: History<u8>,
 }
 
 impl<const MAX: usize> Model for Splitter<MAX> {
-    ghost use Rattle.avc_annexb.specs.Splitting.{Splitting};
+    ghost use Rattle.avc_annexb.specs.SplitterState.{SplitterState};
 
-    ghost Value = { Splitting };
+    ghost Value = { SplitterState };
 
-    ghost use Rattle.avc_annexb.specs.Scanning.{split_by, IsSplit};
+    ghost use Rattle.avc_annexb.specs.Scanning.{splitter_state, IsSplitterState};
 
-    ghost view = { split_by };
+    ghost view = { splitter_state };
 
-    ghost invariant = { IsSplit };
+    ghost invariant = { IsSplitterState };
 }
 
 impl<const MAX: usize> Splitter<MAX> {
     /// A splitter at the start of a stream.
     pub fn new(alloc: Global) -> Self
-        ensures { result ≡ unfed }
+        ensures { result ≡ new_splitter }
     {
         Splitter {
-            progress: Progress::Running,
+            progress: SplitterPhase::Running,
             scanner: Scanner::new(alloc),
             bytes: History::new(),
         }
@@ -51,21 +51,21 @@ impl<const MAX: usize> Splitter<MAX> {
     /// Takes the next bytes of the stream. After an `Ok` of `finish` nothing changes. Once it answers an `Err`, for want of
     /// memory, it goes on to do so and asks for none.
     pub fn feed(&mut self, piece: &[u8]) -> Result<(), OutOfMemory>
-        ensures ok { OnOk result (self.new ≡ fed self.old piece.now) }
+        ensures ok { OnOk result (self.new ≡ after_feed self.old piece.now) }
         ensures going { OnOk result (self.old.failed ≡ false) }
-        ensures err { OnErr result (self.new ≡ failing self.old) }
+        ensures err { OnErr result (self.new ≡ after_failure self.old) }
         ensures ended { self.old.ended ≡ true → self.old.failed ≡ false → IsOk result }
     {
         match self.progress {
             // no memory is asked for again
-            Progress::Failed => Err(OutOfMemory),
-            Progress::Ended => Ok(()),
-            Progress::Running => {
+            SplitterPhase::Failed => Err(OutOfMemory),
+            SplitterPhase::Ended => Ok(()),
+            SplitterPhase::Running => {
                 // until all of it is done
-                self.progress = Progress::Failed;
+                self.progress = SplitterPhase::Failed;
                 self.scanner.take_in(piece)?;
                 self.bytes = self.bytes.with_all(piece);
-                self.progress = Progress::Running;
+                self.progress = SplitterPhase::Running;
                 Ok(())
             }
         }
@@ -74,18 +74,18 @@ impl<const MAX: usize> Splitter<MAX> {
     /// Ends the stream, and with it the last unit. A second call changes nothing. Once it answers an `Err`, for want of
     /// memory, it goes on to do so and asks for none.
     pub fn finish(&mut self) -> Result<(), OutOfMemory>
-        ensures ok { OnOk result (self.new ≡ finished self.old) }
+        ensures ok { OnOk result (self.new ≡ after_finish self.old) }
         ensures going { OnOk result (self.old.failed ≡ false) }
-        ensures err { OnErr result (self.new ≡ failing self.old) }
+        ensures err { OnErr result (self.new ≡ after_failure self.old) }
         ensures ended { self.old.ended ≡ true → self.old.failed ≡ false → IsOk result }
     {
         match self.progress {
-            Progress::Failed => Err(OutOfMemory),
-            Progress::Ended => Ok(()),
-            Progress::Running => {
-                self.progress = Progress::Failed;
+            SplitterPhase::Failed => Err(OutOfMemory),
+            SplitterPhase::Ended => Ok(()),
+            SplitterPhase::Running => {
+                self.progress = SplitterPhase::Failed;
                 self.scanner.end()?;
-                self.progress = Progress::Ended;
+                self.progress = SplitterPhase::Ended;
                 Ok(())
             }
         }
@@ -93,13 +93,13 @@ impl<const MAX: usize> Splitter<MAX> {
 
     /// The next unit whose end has been seen, if there is one. After want of memory there is none.
     pub fn next_unit(&mut self) -> Option<Unit>
-        ensures unit { result ≡ next_of MAX self.old }
-        ensures taken { self.new ≡ taking self.old result }
-        ensures fewer { IfSome result (λ _. waiting MAX self.new < waiting MAX self.old) }
+        ensures unit { result ≡ next_unit_of MAX self.old }
+        ensures taken { self.new ≡ after_next_unit self.old result }
+        ensures fewer { IfSome result (λ _. units_waiting MAX self.new < units_waiting MAX self.old) }
     {
         match self.progress {
-            Progress::Failed => None,
-            Progress::Running | Progress::Ended => self.scanner.ready.next(),
+            SplitterPhase::Failed => None,
+            SplitterPhase::Running | SplitterPhase::Ended => self.scanner.ready.next(),
         }
     }
 }

@@ -103,4 +103,3 @@ pub record IsLevel (l : ℤ) : Type 0 where
 pub record IsSmall (l : ℤ) : Type 0 where
   pub low : neg_ℤ (pos 2528) ≤ℤ l
   pub high : l ≤ℤ pos 2528
-

@@ -4,10 +4,9 @@ ghost use Rattle.avc_bits.specs.Reader.{Reads};
 ghost use Rattle.avc_cavlc.specs.Block.{IsSmall, residual_block};
 
 use crate::level::read_levels;
-use crate::levels::Levels;
 use crate::runs::read_placed;
 use avc_bits::BitReader;
-use avc_types::Fault;
+use avc_types::{Fault, Levels};
 use avc_vlc::{read_coeff_token, read_total_zeros};
 
 /// Reads the MAXN levels of a block (residual_block_cavlc): 4 of chroma DC, where `nc` is -1, or 15 or 16, where it is nC.

@@ -3,10 +3,8 @@
 
 mod block;
 mod level;
-mod levels;
 mod runs;
 mod values;
 
 pub use block::read_block;
 pub use level::{level_code, next_suffix_length, suffix_size};
-pub use levels::Levels;

@@ -4,10 +4,9 @@ ghost use Rattle.avc_bits.specs.Reader.{Reads};
 ghost use Rattle.avc_cavlc.specs.Block.{IsLevel, IsSmall, run};
 ghost use Rattle.avc_cavlc.specs.Steps.{placed_by_runs};
 
-use crate::levels::Levels;
 use crate::values::Values;
 use avc_bits::BitReader;
-use avc_types::Fault;
+use avc_types::{Fault, Levels};
 use avc_vlc::read_run_before;
 
 /// Reads the run of zeros before each value, and puts the values in their places. `zeros` is how many zeros stand before

@@ -6,14 +6,14 @@ use Rattle.std.proofs.lemmas.List.{drop_at, map-append, length-map}
 use Rattle.std.specs.Option.{option_map}
 use Rattle.std.specs.List.{filter, cons_option}
 use Rattle.avc_dpb.specs.declared.slot.Slot.{Slot}
-use Rattle.avc_dpb.specs.declared.arriving.Arriving.{Arriving}
-use Rattle.avc_dpb.specs.Bumping.{Stored, Buffer, is_named, kept, bumped_while, made_room, joined, placed, gained}
+use Rattle.avc_dpb.specs.declared.arriving_frame.ArrivingFrame.{ArrivingFrame}
+use Rattle.avc_dpb.specs.Bumping.{Stored, Buffer, is_reference_in, needed_frames, after_bumping_while, after_making_room, after_frame, with_frame_placed, new_output}
 use Rattle.avc_dpb.specs.Bumping as buffer
-use Rattle.avc_dpb.specs.Contents.{Contents, IsRising, IsBuffer, Marks, Becomes, arrival_of}
-use Rattle.avc_dpb.specs.Places.{Turn, stays, staying, at_first, told, turns, turns_while, picked}
+use Rattle.avc_dpb.specs.Contents.{Contents, IsRising, IsBuffer, AreReferences, HasBuffer, arrival_of}
+use Rattle.avc_dpb.specs.Places.{OutputState, is_needed, needed_items, before_output, with_references, outputs, outputs_while, items_at}
 use Rattle.avc_dpb.specs.Places as places
 use Rattle.avc_dpb.proofs.Held.{cell, rest_rising, later}
-use Rattle.avc_dpb.proofs.Telling.{told_orders, told_holds, told_references}
+use Rattle.avc_dpb.proofs.SettingReferences.{told_orders, told_holds, told_references}
 use Rattle.avc_dpb.proofs.Simulation.{IsAt, all_turns, same_test, same_full, count_held, staying_cells}
 
 -- ---- decoding order
@@ -70,14 +70,14 @@ same_head x y xs ys e = ap (head_or x) e
 pub same_tail : {A : Type 0} (x y : A) (xs ys : List A) → x ∷ xs ≡ y ∷ ys → xs ≡ ys
 same_tail x y xs ys e = ap (drop 1) e
 
-slot_is : (references : List ℕ) (x : Slot) (s : Stored) → x.order ≡ s.order → x.held ≡ s.held → x.reference ≡ is_named references s → x ≡ cell references s
+slot_is : (references : List ℕ) (x : Slot) (s : Stored) → x.order ≡ s.order → x.held ≡ s.held → x.reference ≡ is_reference_in references s → x ≡ cell references s
 slot_is references x s order held reference =
     ap (λ o. record { order = o; held = x.held; reference = x.reference }) order
     ∙ ap (λ h. record { order = s.order; held = h; reference = x.reference }) held
     ∙ ap (λ r. record { order = s.order; held = s.held; reference = r }) reference
 
 pub cells_of : (references : List ℕ) (slots : List Slot) (frames : List Stored) → map (λ s. s.order) slots ≡ map (λ s. s.order) frames → map (λ s. s.held) slots ≡ map (λ s. s.held) frames
-    → map (λ s. s.reference) slots ≡ map (is_named references) frames → slots ≡ map (cell references) frames
+    → map (λ s. s.reference) slots ≡ map (is_reference_in references) frames → slots ≡ map (cell references) frames
 cells_of references [] [] o h r = refl
 cells_of references [] (s ∷ frames) o h r = absurd (no_length (length frames) (ap length h ∙ ap suc (length-map frames (λ s. s.held))))
   where
@@ -108,21 +108,21 @@ staying_one : {T : Type 0} (b : Bool) (name : Stored → T) (s : Stored) (left :
 staying_one true name s left right e = ap (λ l. name s ∷ l) e
 staying_one false name s left right e = e
 
-staying_named : {T : Type 0} (references : List ℕ) (name : Stored → T) (frames : List Stored) → staying (map (cell references) frames) (map name frames) ≡ map name (kept references frames)
+staying_named : {T : Type 0} (references : List ℕ) (name : Stored → T) (frames : List Stored) → needed_items (map (cell references) frames) (map name frames) ≡ map name (needed_frames references frames)
 staying_named references name [] = refl
 staying_named references name (s ∷ frames) =
-    staying_one (s.held || is_named references s) name s (staying (map (cell references) frames) (map name frames)) (kept references frames) (staying_named references name frames)
+    staying_one (s.held || is_reference_in references s) name s (needed_items (map (cell references) frames) (map name frames)) (needed_frames references frames) (staying_named references name frames)
 
 -- ---- pictures
 
-picked-map_one : {A B : Type 0} (f : A → B) (o : Option A) (l : List A) (r : List B) → r ≡ map f l → cons_option (option_map f o) r ≡ map f (cons_option o l)
-picked-map_one f None l r e = e
-picked-map_one f (Some x) l r e = ap (λ r. f x ∷ r) e
+items_at-map_one : {A B : Type 0} (f : A → B) (o : Option A) (l : List A) (r : List B) → r ≡ map f l → cons_option (option_map f o) r ≡ map f (cons_option o l)
+items_at-map_one f None l r e = e
+items_at-map_one f (Some x) l r e = ap (λ r. f x ∷ r) e
 
-pub picked-map : {A B : Type 0} (f : A → B) (at : List ℕ) (xs : List A) → picked at (map f xs) ≡ map f (picked at xs)
-picked-map f [] xs = refl
-picked-map f (place ∷ at) xs =
-    ap (λ o. cons_option o (picked at (map f xs))) (slice_get-map f xs place) ∙ picked-map_one f (slice_get xs place) (picked at xs) (picked at (map f xs)) (picked-map f at xs)
+pub items_at-map : {A B : Type 0} (f : A → B) (at : List ℕ) (xs : List A) → items_at at (map f xs) ≡ map f (items_at at xs)
+items_at-map f [] xs = refl
+items_at-map f (place ∷ at) xs =
+    ap (λ o. cons_option o (items_at at (map f xs))) (slice_get-map f xs place) ∙ items_at-map_one f (slice_get xs place) (items_at at xs) (items_at at (map f xs)) (items_at-map f at xs)
 
 pub map_twice : {A B C : Type 0} (f : A → B) (g : B → C) (xs : List A) → map g (map f xs) ≡ map (λ x. g (f x)) xs
 map_twice f g [] = refl
@@ -131,35 +131,35 @@ map_twice f g (x ∷ xs) = ap (λ l. g (f x) ∷ l) (map_twice f g xs)
 -- ---- all together
 
 -- The slots and frames that stay are those of the buffer b1, and the pictures at the places that went out are what b1 has put out since b.
-pub record HasTurned {T P : Type 0} (shown : T → P) (references : List ℕ) (stored : List T) (b b1 : Buffer) (next : ℕ) (frame_of : ℕ → T) (t : Turn) : Type 0 where
-  pub slots : filter stays t.slots ≡ map (cell references) b1.frames
-  pub frames : staying t.slots stored ≡ map (λ s. frame_of s.entry) b1.frames
+pub record HasTurned {T P : Type 0} (shown : T → P) (references : List ℕ) (with_frame : List T) (b b1 : Buffer) (next : ℕ) (frame_of : ℕ → T) (t : OutputState) : Type 0 where
+  pub slots : filter is_needed t.slots ≡ map (cell references) b1.frames
+  pub frames : needed_items t.slots with_frame ≡ map (λ s. frame_of s.entry) b1.frames
   pub rising : IsRising b1.frames next
-  pub out : b1.out ≡ b.out ++ gained b b1
-  pub pictures : map shown (picked t.out stored) ≡ map (λ e. shown (frame_of e)) (gained b b1)
+  pub out : b1.out ≡ b.out ++ new_output b b1
+  pub pictures : map shown (items_at t.out with_frame) ≡ map (λ e. shown (frame_of e)) (new_output b b1)
   pub full : (capacity : ℕ) → places.is_full capacity t.slots ≡ buffer.is_full capacity b1
 
-pub turned : {T P : Type 0} (shown : T → P) (references : List ℕ) (stored : List T) (b b1 : Buffer) (next : ℕ) (frame_of : ℕ → T) (all : List Stored) (t : Turn)
-    → stored ≡ map (λ s. frame_of s.entry) b.frames → IsAt references (map (λ s. s.entry) b.frames) b.out next all t b1
-    → HasTurned shown references stored b b1 next frame_of t
-turned shown references stored b b1 next frame_of all t names h =
+pub turned : {T P : Type 0} (shown : T → P) (references : List ℕ) (with_frame : List T) (b b1 : Buffer) (next : ℕ) (frame_of : ℕ → T) (all : List Stored) (t : OutputState)
+    → with_frame ≡ map (λ s. frame_of s.entry) b.frames → IsAt references (map (λ s. s.entry) b.frames) b.out next all t b1
+    → HasTurned shown references with_frame b b1 next frame_of t
+turned shown references with_frame b b1 next frame_of all t names h =
     let at = map (λ s. s.entry) b.frames in
-    let is : stored ≡ map frame_of at = names ∙ named frame_of b.frames in
-    let beside : stored ≡ map (λ s. frame_of s.entry) all = is ∙ ap (map frame_of) (sym h.entries) ∙ sym (named frame_of all) in
-    let since : gained b b1 ≡ picked t.out at = ap (drop (length b.out)) h.out ∙ drop_at b.out (picked t.out at) (length b.out) refl in
+    let is : with_frame ≡ map frame_of at = names ∙ named frame_of b.frames in
+    let beside : with_frame ≡ map (λ s. frame_of s.entry) all = is ∙ ap (map frame_of) (sym h.entries) ∙ sym (named frame_of all) in
+    let since : new_output b b1 ≡ items_at t.out at = ap (drop (length b.out)) h.out ∙ drop_at b.out (items_at t.out at) (length b.out) refl in
     record {
-      slots = ap (filter stays) h.slots ∙ staying_cells references all ∙ ap (map (cell references)) (sym h.frames);
-      frames = ap₂ staying h.slots beside ∙ staying_named references (λ s. frame_of s.entry) all ∙ ap (map (λ s. frame_of s.entry)) (sym h.frames);
-      rising = subst (λ l. IsRising l next) (sym h.frames) (filter_rising (λ s. s.held || is_named references s) all next h.rising);
+      slots = ap (filter is_needed) h.slots ∙ staying_cells references all ∙ ap (map (cell references)) (sym h.frames);
+      frames = ap₂ needed_items h.slots beside ∙ staying_named references (λ s. frame_of s.entry) all ∙ ap (map (λ s. frame_of s.entry)) (sym h.frames);
+      rising = subst (λ l. IsRising l next) (sym h.frames) (filter_rising (λ s. s.held || is_reference_in references s) all next h.rising);
       out = h.out ∙ ap (λ l. b.out ++ l) (sym since);
-      pictures = ap (λ l. map shown (picked t.out l)) is ∙ ap (map shown) (picked-map frame_of t.out at) ∙ map_twice frame_of shown (picked t.out at)
+      pictures = ap (λ l. map shown (items_at t.out l)) is ∙ ap (map shown) (items_at-map frame_of t.out at) ∙ map_twice frame_of shown (items_at t.out at)
           ∙ ap (map (λ e. shown (frame_of e))) (sym since);
       full = λ capacity. ap (places.is_full capacity) h.slots ∙ same_full capacity references all ∙ ap (λ l. nat_le capacity (length l)) (sym h.frames);
     }
 
 -- before any turn
 at_start : (references : List ℕ) (b : Buffer) (next : ℕ) (slots : List Slot) → slots ≡ map (cell references) b.frames → IsRising b.frames next
-    → IsAt references (map (λ s. s.entry) b.frames) b.out next b.frames (at_first slots) (record b { frames = kept references b.frames })
+    → IsAt references (map (λ s. s.entry) b.frames) b.out next b.frames (before_output slots) (record b { frames = needed_frames references b.frames })
 at_start references b next slots is rising = record {
   slots = is;
   frames = refl;
@@ -169,34 +169,34 @@ at_start references b next slots is rising = record {
 }
 
 -- the buffer once room was made for the arriving frame
-abbrev pub with_room : Arriving → List ℕ → Buffer → Buffer
-with_room a references b = made_room (buffer.must_bump (arrival_of a references)) references (record b { frames = kept references b.frames })
+abbrev pub with_room : ArrivingFrame → List ℕ → Buffer → Buffer
+with_room a references b = after_making_room (buffer.must_bump (arrival_of a references)) references (record b { frames = needed_frames references b.frames })
 
-pub room_made : {T P : Type 0} (shown : T → P) (referenced : T → Bool) (a : Arriving) (references : List ℕ) (c : Contents T) (b : Buffer) (next : ℕ) (frame_of : ℕ → T)
-    → length c.frames ≡ length c.slots → IsBuffer c b next frame_of → Marks referenced c references b
-    → HasTurned shown references c.frames b (with_room a references b) next frame_of (turns (places.must_bump a) (told referenced c.slots c.frames))
+pub room_made : {T P : Type 0} (shown : T → P) (referenced : T → Bool) (a : ArrivingFrame) (references : List ℕ) (c : Contents T) (b : Buffer) (next : ℕ) (frame_of : ℕ → T)
+    → length c.frames ≡ length c.slots → IsBuffer c b next frame_of → AreReferences referenced c references b
+    → HasTurned shown references c.frames b (with_room a references b) next frame_of (outputs (places.must_bump a) (with_references referenced c.slots c.frames))
 room_made shown referenced a references c b next frame_of beside h marks =
-    let now = told referenced c.slots c.frames in
+    let now = with_references referenced c.slots c.frames in
     let cells = cells_of references now b.frames (told_orders referenced c.slots c.frames ∙ h.orders) (told_holds referenced c.slots c.frames ∙ h.holds)
     (told_references referenced c.slots c.frames beside ∙ marks) in
-    let count : count_by (λ s. s.held) now ≡ count_by (λ s. s.held) (kept references b.frames) = ap (count_by (λ s. s.held)) cells ∙ count_held references b.frames in
+    let count : count_by (λ s. s.held) now ≡ count_by (λ s. s.held) (needed_frames references b.frames) = ap (count_by (λ s. s.held)) cells ∙ count_held references b.frames in
     let at = all_turns (places.must_bump a) (buffer.must_bump (arrival_of a references)) references (map (λ s. s.entry) b.frames) b.out next
-    (count_by (λ s. s.held) (kept references b.frames)) b.frames (at_first now) (record b { frames = kept references b.frames })
+    (count_by (λ s. s.held) (needed_frames references b.frames)) b.frames (before_output now) (record b { frames = needed_frames references b.frames })
     (λ all b. same_test a references all b) (at_start references b next now cells h.rising) in
-    turned shown references c.frames b (with_room a references b) next frame_of at.0 (turns (places.must_bump a) now) h.frames
-    (subst (λ n. IsAt references (map (λ s. s.entry) b.frames) b.out next at.0 (turns_while (places.must_bump a) n (at_first now)) (with_room a references b)) (sym count) at.1)
+    turned shown references c.frames b (with_room a references b) next frame_of at.0 (outputs (places.must_bump a) now) h.frames
+    (subst (λ n. IsAt references (map (λ s. s.entry) b.frames) b.out next at.0 (outputs_while (places.must_bump a) n (before_output now)) (with_room a references b)) (sym count) at.1)
 
-placed_full : (next : ℕ) (a : Arriving) (references : List ℕ) (b : Buffer) → buffer.is_full a.capacity (with_room a references b) ≡ true
-    → joined next (arrival_of a references) b ≡ buffer.at_once next (arrival_of a references) (with_room a references b)
+placed_full : (next : ℕ) (a : ArrivingFrame) (references : List ℕ) (b : Buffer) → buffer.is_full a.capacity (with_room a references b) ≡ true
+    → after_frame next (arrival_of a references) b ≡ buffer.with_direct_output next (arrival_of a references) (with_room a references b)
 placed_full next a references b full =
     let d = with_room a references b in
-    ap (λ f. if f then buffer.at_once next (arrival_of a references) d else buffer.stored next (arrival_of a references) d) full
+    ap (λ f. if f then buffer.with_direct_output next (arrival_of a references) d else buffer.with_frame next (arrival_of a references) d) full
 
-placed_stored : (next : ℕ) (a : Arriving) (references : List ℕ) (b : Buffer) → buffer.is_full a.capacity (with_room a references b) ≡ false
-    → joined next (arrival_of a references) b ≡ buffer.stored next (arrival_of a references) (with_room a references b)
+placed_stored : (next : ℕ) (a : ArrivingFrame) (references : List ℕ) (b : Buffer) → buffer.is_full a.capacity (with_room a references b) ≡ false
+    → after_frame next (arrival_of a references) b ≡ buffer.with_frame next (arrival_of a references) (with_room a references b)
 placed_stored next a references b full =
     let d = with_room a references b in
-    ap (λ f. if f then buffer.at_once next (arrival_of a references) d else buffer.stored next (arrival_of a references) d) full
+    ap (λ f. if f then buffer.with_direct_output next (arrival_of a references) d else buffer.with_frame next (arrival_of a references) d) full
 
 shown_if : {T P : Type 0} (shown : T → P) (frame_of : ℕ → T) (next : ℕ) (frame : T) (b : Bool) → frame_of next ≡ frame
     → (if b then shown frame ∷ [] else []) ≡ map (λ e. shown (frame_of e)) (if b then next ∷ [] else [])
@@ -204,20 +204,20 @@ shown_if shown frame_of next frame true is = ap (λ f. shown f ∷ []) (sym is)
 shown_if shown frame_of next frame false is = refl
 
 -- The arriving frame finds no room.
-pub goes_at_once : {T P : Type 0} (shown : T → P) (referenced : T → Bool) (a : Arriving) (references : List ℕ) (c new : Contents T) (b : Buffer) (next : ℕ) (frame_of : ℕ → T) (frame : T) (out out' : List P)
-    → length c.frames ≡ length c.slots → IsBuffer c b next frame_of → Marks referenced c references b → frame_of next ≡ frame
-    → places.is_full a.capacity (turns (places.must_bump a) (told referenced c.slots c.frames)).slots ≡ true
-    → new ≡ record { slots = filter stays (turns (places.must_bump a) (told referenced c.slots c.frames)).slots; frames = staying (turns (places.must_bump a) (told referenced c.slots c.frames)).slots c.frames; failed = false }
-    → out ≡ map shown (picked (turns (places.must_bump a) (told referenced c.slots c.frames)).out c.frames) → out' ≡ out ++ (if a.existing then shown frame ∷ [] else [])
-    → Becomes shown new out' b (joined next (arrival_of a references) b) (next + 1) frame_of
+pub goes_at_once : {T P : Type 0} (shown : T → P) (referenced : T → Bool) (a : ArrivingFrame) (references : List ℕ) (c new : Contents T) (b : Buffer) (next : ℕ) (frame_of : ℕ → T) (frame : T) (out out' : List P)
+    → length c.frames ≡ length c.slots → IsBuffer c b next frame_of → AreReferences referenced c references b → frame_of next ≡ frame
+    → places.is_full a.capacity (outputs (places.must_bump a) (with_references referenced c.slots c.frames)).slots ≡ true
+    → new ≡ record { slots = filter is_needed (outputs (places.must_bump a) (with_references referenced c.slots c.frames)).slots; frames = needed_items (outputs (places.must_bump a) (with_references referenced c.slots c.frames)).slots c.frames; failed = false }
+    → out ≡ map shown (items_at (outputs (places.must_bump a) (with_references referenced c.slots c.frames)).out c.frames) → out' ≡ out ++ (if a.existing then shown frame ∷ [] else [])
+    → HasBuffer shown new out' b (after_frame next (arrival_of a references) b) (next + 1) frame_of
 goes_at_once shown referenced a references c new b next frame_of frame out out' beside h marks is full new_is out_is out'_is =
     let d = with_room a references b in
     let r = room_made shown referenced a references c b next frame_of beside h marks in
     let last : List ℕ = if a.existing then next ∷ [] else [] in
-    let since : drop (length b.out) (d.out ++ last) ≡ gained b d ++ last =
-    ap (λ l. drop (length b.out) (l ++ last)) r.out ∙ ap (drop (length b.out)) (append_assoc b.out (gained b d) last) ∙ drop_at b.out (gained b d ++ last) (length b.out) refl in
-    subst (λ e. Becomes shown new out' b e (next + 1) frame_of) (sym (placed_full next a references b (sym (r.full a.capacity) ∙ full))) (record {
-      buffer = subst (λ n. IsBuffer n (buffer.at_once next (arrival_of a references) d) (next + 1) frame_of) (sym new_is) (record {
+    let since : drop (length b.out) (d.out ++ last) ≡ new_output b d ++ last =
+    ap (λ l. drop (length b.out) (l ++ last)) r.out ∙ ap (drop (length b.out)) (append_assoc b.out (new_output b d) last) ∙ drop_at b.out (new_output b d ++ last) (length b.out) refl in
+    subst (λ e. HasBuffer shown new out' b e (next + 1) frame_of) (sym (placed_full next a references b (sym (r.full a.capacity) ∙ full))) (record {
+      buffer = subst (λ n. IsBuffer n (buffer.with_direct_output next (arrival_of a references) d) (next + 1) frame_of) (sym new_is) (record {
         works = refl;
         orders = ap (map (λ s. s.order)) r.slots ∙ orders_of_cells references d.frames;
         holds = ap (map (λ s. s.held)) r.slots ∙ holds_of_cells references d.frames;
@@ -225,27 +225,27 @@ goes_at_once shown referenced a references c new b next frame_of frame out out' 
         rising = rising_more d.frames next r.rising;
       });
       pictures = out'_is ∙ ap₂ (λ l m. l ++ m) (out_is ∙ r.pictures) (shown_if shown frame_of next frame a.existing is)
-          ∙ sym (map-append (λ e. shown (frame_of e)) (gained b d) last) ∙ ap (map (λ e. shown (frame_of e))) (sym since);
+          ∙ sym (map-append (λ e. shown (frame_of e)) (new_output b d) last) ∙ ap (map (λ e. shown (frame_of e))) (sym since);
     })
 
 -- The arriving frame is stored.
-pub is_stored : {T P : Type 0} (shown : T → P) (referenced : T → Bool) (a : Arriving) (references : List ℕ) (c new : Contents T) (b : Buffer) (next : ℕ) (frame_of : ℕ → T) (frame : T) (out : List P)
-    → length c.frames ≡ length c.slots → IsBuffer c b next frame_of → Marks referenced c references b → frame_of next ≡ frame
-    → places.is_full a.capacity (turns (places.must_bump a) (told referenced c.slots c.frames)).slots ≡ false
+pub is_stored : {T P : Type 0} (shown : T → P) (referenced : T → Bool) (a : ArrivingFrame) (references : List ℕ) (c new : Contents T) (b : Buffer) (next : ℕ) (frame_of : ℕ → T) (frame : T) (out : List P)
+    → length c.frames ≡ length c.slots → IsBuffer c b next frame_of → AreReferences referenced c references b → frame_of next ≡ frame
+    → places.is_full a.capacity (outputs (places.must_bump a) (with_references referenced c.slots c.frames)).slots ≡ false
     → new ≡ record {
-      slots = filter stays (turns (places.must_bump a) (told referenced c.slots c.frames)).slots ++ record { order = a.order; held = a.existing; reference = false } ∷ [];
-      frames = staying (turns (places.must_bump a) (told referenced c.slots c.frames)).slots c.frames ++ frame ∷ [];
+      slots = filter is_needed (outputs (places.must_bump a) (with_references referenced c.slots c.frames)).slots ++ record { order = a.order; held = a.existing; reference = false } ∷ [];
+      frames = needed_items (outputs (places.must_bump a) (with_references referenced c.slots c.frames)).slots c.frames ++ frame ∷ [];
       failed = false;
     }
-    → out ≡ map shown (picked (turns (places.must_bump a) (told referenced c.slots c.frames)).out c.frames)
-    → Becomes shown new out b (joined next (arrival_of a references) b) (next + 1) frame_of
+    → out ≡ map shown (items_at (outputs (places.must_bump a) (with_references referenced c.slots c.frames)).out c.frames)
+    → HasBuffer shown new out b (after_frame next (arrival_of a references) b) (next + 1) frame_of
 is_stored {T} shown referenced a references c new b next frame_of frame out beside h marks is full new_is out_is =
     let d = with_room a references b in
     let r = room_made shown referenced a references c b next frame_of beside h marks in
     let s : Stored = record { entry = next; order = a.order; held = a.existing } in
     let e : Slot = record { order = a.order; held = a.existing; reference = false } in
-    subst (λ e. Becomes shown new out b e (next + 1) frame_of) (sym (placed_stored next a references b (sym (r.full a.capacity) ∙ full))) (record {
-      buffer = subst (λ n. IsBuffer n (buffer.stored next (arrival_of a references) d) (next + 1) frame_of) (sym new_is) (record {
+    subst (λ e. HasBuffer shown new out b e (next + 1) frame_of) (sym (placed_stored next a references b (sym (r.full a.capacity) ∙ full))) (record {
+      buffer = subst (λ n. IsBuffer n (buffer.with_frame next (arrival_of a references) d) (next + 1) frame_of) (sym new_is) (record {
         works = refl;
         orders = ap (λ l. map (λ s. s.order) (l ++ e ∷ [])) r.slots ∙ map-append (λ s. s.order) (map (cell references) d.frames) (e ∷ [])
             ∙ ap (λ l. l ++ a.order ∷ []) (orders_of_cells references d.frames) ∙ sym (map-append (λ s. s.order) d.frames (s ∷ []));

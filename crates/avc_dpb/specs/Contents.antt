@@ -1,9 +1,9 @@
 -- What the buffer's type holds, and the buffer that it stands for.
-use Rattle.std.specs.Prelude.{◌≡◌, ℕ, zero, suc, ◌<◌, Bool, false, List, [], ◌∷◌, map, Option}
+use Rattle.std.specs.Prelude.{◌≡◌, ℕ, zero, suc, ◌<◌, Bool, false, List, [], ◌∷◌, map, Option, ◌+◌}
 use Rattle.avc_types.specs.declared.references.Mark.{Mark}
 use Rattle.avc_dpb.specs.declared.slot.Slot.{Slot}
-use Rattle.avc_dpb.specs.declared.arriving.Arriving.{Arriving}
-use Rattle.avc_dpb.specs.Bumping.{Arrival, keeps, Stored, Buffer, is_named, gained}
+use Rattle.avc_dpb.specs.declared.arriving_frame.ArrivingFrame.{ArrivingFrame}
+use Rattle.avc_dpb.specs.Bumping.{Arrival, remain, Stored, Buffer, is_reference_in, new_output, after_frame, after_prior_pictures, are_dropped, with_all_output}
 
 -- the stored frames in decoding order, and beside each what output keeps of it; whether memory was refused
 pub record Contents (T : Type 0) : Type 0 where
@@ -27,25 +27,49 @@ pub record IsBuffer {T : Type 0} (c : Contents T) (b : Buffer) (next : ℕ) (fra
   pub rising : IsRising b.frames next
 
 -- The marks of the contents' frames say which are among these reference frames.
-abbrev pub Marks : {T : Type 0} (referenced : T → Bool) → Contents T → List ℕ → Buffer → Type 0
-Marks referenced c references b = map referenced c.frames ≡ map (is_named references) b.frames
+abbrev pub AreReferences : {T : Type 0} (referenced : T → Bool) → Contents T → List ℕ → Buffer → Type 0
+AreReferences referenced c references b = map referenced c.frames ≡ map (is_reference_in references) b.frames
 
 -- An arriving frame as an entry of the history, with the places of the reference frames once it is marked. What becomes of the pictures
 -- before it is asked for by other calls.
-abbrev pub arrival_of : Arriving → (references : List ℕ) → Arrival
+abbrev pub arrival_of : ArrivingFrame → (references : List ℕ) → Arrival
 arrival_of a references = record {
   order = a.order;
   existing = a.existing;
   is_reference = a.is_reference;
-  before = keeps;
+  prior_pictures = remain;
   capacity = a.capacity;
   references = references;
 }
 
 -- The buffer b became the buffer b', for which the contents stand, and what b' has put out was handed out.
-pub record Becomes {T P : Type 0} (shown : T → P) (new : Contents T) (out : List P) (b b' : Buffer) (next : ℕ) (frame_of : ℕ → T) : Type 0 where
+pub record HasBuffer {T P : Type 0} (shown : T → P) (new : Contents T) (out : List P) (b b' : Buffer)
+    (next : ℕ) (frame_of : ℕ → T) : Type 0 where
   pub buffer : IsBuffer new b' next frame_of
-  pub pictures : out ≡ map (λ entry. shown (frame_of entry)) (gained b b')
+  pub pictures : out ≡ map (λ entry. shown (frame_of entry)) (new_output b b')
+
+-- ---- what a call makes of every buffer that the contents stand for, and what it hands out
+
+-- A frame is stored, or its picture goes out where there is no room (C.4.5); the contents' frames have the marks that they
+-- have once this frame is marked.
+abbrev pub Stores : {T P : Type 0} → (shown : T → P) (referenced : T → Bool) (old : Contents T) (frame : T) →
+    ArrivingFrame → (out : List P) (new : Contents T) → Type 0
+Stores {T} {P} shown referenced old frame arriving out new =
+    (b : Buffer) (next : ℕ) (frame_of : ℕ → T) (references : List ℕ) → IsBuffer old b next frame_of →
+    AreReferences referenced old references b → frame_of next ≡ frame →
+    HasBuffer shown new out b (after_frame next (arrival_of arriving references) b) (next + 1) frame_of
+
+-- All held pictures go out (C.4.4).
+abbrev pub OutputsAll : {T P : Type 0} → (shown : T → P) (old : Contents T) (out : List P) (new : Contents T) → Type 0
+OutputsAll {T} {P} shown old out new =
+    (b : Buffer) (next : ℕ) (frame_of : ℕ → T) → IsBuffer old b next frame_of →
+    HasBuffer shown new out b (with_all_output b) next frame_of
+
+-- All frames are dropped, and no picture goes out (C.4.4, no_output_of_prior_pics_flag 1).
+abbrev pub DropsAll : {T : Type 0} → (old new : Contents T) → Type 0
+DropsAll {T} old new =
+    (b : Buffer) (next : ℕ) (frame_of : ℕ → T) → IsBuffer old b next frame_of →
+    IsBuffer new (after_prior_pictures are_dropped b) next frame_of
 
 -- the list with the element at one place changed
 abbrev pub changed_at : {A : Type 0} → (A → A) → List A → (place : ℕ) → List A
@@ -55,4 +79,8 @@ changed_at change (x ∷ xs) (suc place) = x ∷ changed_at change xs place
 
 -- the contents with the mark of the frame at this place changed, where `marked` is a frame with another mark
 abbrev pub with_mark : {T : Type 0} (marked : T → Option Mark → T) → Contents T → (place : ℕ) → Option Mark → Contents T
-with_mark marked c place mark = record { slots = c.slots; frames = changed_at (λ frame. marked frame mark) c.frames place; failed = c.failed }
+with_mark marked c place mark = record {
+  slots = c.slots;
+  frames = changed_at (λ frame. marked frame mark) c.frames place;
+  failed = c.failed;
+}

@@ -1,12 +1,12 @@
 ghost use Rattle.std.specs.Prelude.{◌≡◌, ◌+◌, ◌<◌, ◌≤◌, ℕ, List, [], ◌∷◌, ◌++◌, true, false, is_some, if◌then◌else◌, length, map, slice_get, slice_set, IfOk, OnErr, OnOk, IsErr, IfSome, Some};
 ghost use Rattle.std.specs.List.{filter};
-ghost use Rattle.avc_dpb.specs.Bumping.{Buffer, empty, joined, all_out, cleared, drops};
-ghost use Rattle.avc_dpb.specs.Contents.{Contents, IsBuffer, Marks, Becomes, arrival_of, with_mark};
-ghost use Rattle.avc_dpb.specs.Places.{stays, staying, picked, told};
+ghost use Rattle.avc_dpb.specs.Bumping.{empty_buffer};
+ghost use Rattle.avc_dpb.specs.Contents.{DropsAll, IsBuffer, OutputsAll, Stores, with_mark};
+ghost use Rattle.avc_dpb.specs.Places.{is_needed, needed_items, items_at, with_references};
 
-use crate::arriving::Arriving;
-use crate::bumping::{is_full, make_room, put_out, replace};
-use crate::frame::BufferedFrame;
+use crate::arriving_frame::ArrivingFrame;
+use crate::buffered_frame::BufferedFrame;
+use crate::bumping::{is_full, make_room, output_all, replace};
 use crate::slot::Slot;
 use arrayvec::ArrayVec;
 use avc_types::{Mark, OutOfMemory};
@@ -38,7 +38,7 @@ impl<T: BufferedFrame + Drop> Dpb<T> {
     /// With no frame.
     pub fn new(alloc: Global) -> Dpb<T>
         ensures value { result ≡ record { slots = []; frames = []; failed = false } }
-        ensures buffer { (frame_of : ℕ → T) → IsBuffer result empty 0 frame_of }
+        ensures buffer { (frame_of : ℕ → T) → IsBuffer result empty_buffer 0 frame_of }
     {
         Dpb {
             alloc,
@@ -65,11 +65,13 @@ impl<T: BufferedFrame + Drop> Dpb<T> {
 
     /// Makes room for a frame and stores it, or hands its picture out where there is no room (C.4.5.1, C.4.5.2, C.4.2). The stored frames
     /// have the marks that they have once this frame is marked. Answers the pictures that go out, in order.
-    pub fn store(&mut self, frame: T, arriving: &Arriving) -> Result<Vec<T::Picture>, OutOfMemory>
+    pub fn store(
+        &mut self,
+        frame: T,
+        arriving: &ArrivingFrame,
+    ) -> Result<Vec<T::Picture>, OutOfMemory>
         requires capacity { arriving.now.capacity ≤ 16 }
-        ensures ok { (b : Buffer) (next : ℕ) (frame_of : ℕ → T) (references : List ℕ)
-            → IsBuffer self.old b next frame_of → Marks T.referenced self.old references b → frame_of next ≡ frame
-            → IfOk result (λ out. Becomes T.shown self.new out.items b (joined next (arrival_of arriving.now references) b) (next + 1) frame_of) }
+        ensures ok { IfOk result (λ out. Stores T.shown T.referenced self.old frame arriving.now out.items self.new) }
         ensures err { OnErr result (self.new.failed ≡ true) }
         ensures failed { self.old.failed ≡ true → IsErr result }
     {
@@ -77,11 +79,11 @@ impl<T: BufferedFrame + Drop> Dpb<T> {
             return Err(OutOfMemory);
         }
         self.failed = true;
-        tell(&mut self.slots, self.frames.as_slice());
+        set_references(&mut self.slots, self.frames.as_slice());
         let places = make_room(&mut self.slots, arriving);
         let mut out = pictures(self.alloc, self.frames.as_slice(), places.as_slice())?;
         let full = is_full(self.slots.as_slice(), arriving.capacity);
-        leave(&mut self.slots, &mut self.frames);
+        remove_needless(&mut self.slots, &mut self.frames);
         if full {
             at_once(self.alloc, &frame, arriving.existing, &mut out)?;
             self.failed = false;
@@ -98,9 +100,8 @@ impl<T: BufferedFrame + Drop> Dpb<T> {
     }
 
     /// Hands out all held pictures, by bumping, and is then empty (C.4.4).
-    pub fn bump(&mut self) -> Result<Vec<T::Picture>, OutOfMemory>
-        ensures ok { (b : Buffer) (next : ℕ) (frame_of : ℕ → T) → IsBuffer self.old b next frame_of
-            → IfOk result (λ out. Becomes T.shown self.new out.items b (all_out b) next frame_of) }
+    pub fn empty(&mut self) -> Result<Vec<T::Picture>, OutOfMemory>
+        ensures ok { IfOk result (λ out. OutputsAll T.shown self.old out.items self.new) }
         ensures err { OnErr result (self.new.failed ≡ true) }
         ensures failed { self.old.failed ≡ true → IsErr result }
     {
@@ -108,7 +109,7 @@ impl<T: BufferedFrame + Drop> Dpb<T> {
             return Err(OutOfMemory);
         }
         self.failed = true;
-        let places = put_out(&mut self.slots);
+        let places = output_all(&mut self.slots);
         let out = pictures(self.alloc, self.frames.as_slice(), places.as_slice())?;
         self.drop_all();
         self.failed = false;
@@ -118,8 +119,7 @@ impl<T: BufferedFrame + Drop> Dpb<T> {
     /// Drops all frames; no picture goes out (C.4.4, no_output_of_prior_pics_flag 1).
     pub fn drop_all(&mut self)
         ensures value { self.new ≡ record { slots = []; frames = []; failed = self.old.failed } }
-        ensures buffer { (b : Buffer) (next : ℕ) (frame_of : ℕ → T) → IsBuffer self.old b next frame_of
-            → IsBuffer self.new (cleared drops b) next frame_of }
+        ensures buffer { DropsAll self.old self.new }
     {
         self.slots.clear();
         self.frames.clear();
@@ -148,22 +148,22 @@ fn pictures<T: BufferedFrame>(
     frames: &[T],
     places: &[usize],
 ) -> Result<Vec<T::Picture>, OutOfMemory>
-    ensures { IfOk result (λ out. out.items ≡ map T.shown (picked places.now frames.now)) }
+    ensures { IfOk result (λ out. out.items ≡ map T.shown (items_at places.now frames.now)) }
 {
     let mut out = Vec::new(alloc);
     for place in places {
-        show_at(alloc, frames, *place, &mut out)?;
+        push_picture_at(alloc, frames, *place, &mut out)?;
     }
     Ok(out)
 }
 
-fn show_at<T: BufferedFrame>(
+fn push_picture_at<T: BufferedFrame>(
     alloc: Global,
     frames: &[T],
     place: usize,
     out: &mut Vec<T::Picture>,
 ) -> Result<(), OutOfMemory>
-    ensures { OnOk result (out.new.items ≡ out.old.items ++ map T.shown (picked (place ∷ []) frames.now)) }
+    ensures { OnOk result (out.new.items ≡ out.old.items ++ map T.shown (items_at (place ∷ []) frames.now)) }
 {
     match frames.get(place) {
         Some(frame) => {
@@ -175,9 +175,9 @@ fn show_at<T: BufferedFrame>(
 }
 
 // Each slot learns whether its frame is used for reference.
-fn tell<T: BufferedFrame>(slots: &mut ArrayVec<Slot, 16>, frames: &[T])
+fn set_references<T: BufferedFrame>(slots: &mut ArrayVec<Slot, 16>, frames: &[T])
     requires { length frames.now ≡ length slots.old.items }
-    ensures told { slots.new.items ≡ told T.referenced slots.old.items frames.now }
+    ensures with_references { slots.new.items ≡ with_references T.referenced slots.old.items frames.now }
     ensures long { length slots.new.items ≡ length slots.old.items }
 {
     for place in 0..slots.len() {
@@ -188,13 +188,13 @@ fn tell<T: BufferedFrame>(slots: &mut ArrayVec<Slot, 16>, frames: &[T])
 }
 
 // Frames that are needed neither for output nor for reference leave.
-fn leave<T: Drop>(slots: &mut ArrayVec<Slot, 16>, frames: &mut Vec<T>)
+fn remove_needless<T: Drop>(slots: &mut ArrayVec<Slot, 16>, frames: &mut Vec<T>)
     requires { length frames.old.items ≡ length slots.old.items }
-    ensures slots { slots.new.items ≡ filter stays slots.old.items }
-    ensures frames { frames.new.items ≡ staying slots.old.items frames.old.items }
+    ensures slots { slots.new.items ≡ filter is_needed slots.old.items }
+    ensures frames { frames.new.items ≡ needed_items slots.old.items frames.old.items }
 {
     for place in (0..slots.len()).rev() {
-        if !slots[place].stays() {
+        if !slots[place].is_needed() {
             slots.remove(place);
             frames.remove(place);
         }

@@ -1,16 +1,16 @@
 //! Output by bumping (C.4).
 #![tactic(auto)]
 
-mod arriving;
+mod arriving_frame;
+mod buffered_frame;
 mod bumping;
 mod dpb;
-mod frame;
 pub mod laws;
 mod slot;
 
-pub use arriving::Arriving;
+pub use arriving_frame::ArrivingFrame;
+pub use buffered_frame::BufferedFrame;
 pub use dpb::Dpb;
-pub use frame::BufferedFrame;
 
 #[cfg(test)]
 mod tests;

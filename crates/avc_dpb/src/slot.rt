@@ -1,5 +1,5 @@
 ghost use Rattle.std.specs.Prelude.{◌≡◌};
-ghost use Rattle.avc_dpb.specs.Places.{stays};
+ghost use Rattle.avc_dpb.specs.Places.{is_needed};
 
 /// What output keeps of a stored frame.
 #[derive(Clone, Copy, Default)]
@@ -16,8 +16,8 @@ pub struct Slot {
 
 impl Slot {
     // A frame that is needed for output or for reference stays in the buffer.
-    pub fn stays(&self) -> bool
-        ensures { result ≡ stays self.now }
+    pub fn is_needed(&self) -> bool
+        ensures { result ≡ is_needed self.now }
     {
         self.held || self.reference
     }

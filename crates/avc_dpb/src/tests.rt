@@ -1,6 +1,6 @@
 ghost use Rattle.std.specs.Prelude.{◌≡◌, is_some};
 
-use crate::{Arriving, BufferedFrame, Dpb};
+use crate::{ArrivingFrame, BufferedFrame, Dpb};
 use avc_types::{Mark, OutOfMemory};
 use std::alloc::{AllocError, Global};
 use std::test::Fail;
@@ -34,10 +34,10 @@ impl BufferedFrame for Numbered {
     }
 }
 
-fn reference(order: i32, capacity: usize) -> Arriving
+fn reference(order: i32, capacity: usize) -> ArrivingFrame
     ensures { result.capacity ≡ capacity }
 {
-    Arriving {
+    ArrivingFrame {
         order,
         existing: true,
         is_reference: true,
@@ -45,10 +45,10 @@ fn reference(order: i32, capacity: usize) -> Arriving
     }
 }
 
-fn other(order: i32, capacity: usize) -> Arriving
+fn other(order: i32, capacity: usize) -> ArrivingFrame
     ensures { result.capacity ≡ capacity }
 {
-    Arriving {
+    ArrivingFrame {
         order,
         existing: true,
         is_reference: false,
@@ -56,10 +56,10 @@ fn other(order: i32, capacity: usize) -> Arriving
     }
 }
 
-fn missing(capacity: usize) -> Arriving
+fn missing(capacity: usize) -> ArrivingFrame
     ensures { result.capacity ≡ capacity }
 {
-    Arriving {
+    ArrivingFrame {
         order: 0,
         existing: false,
         is_reference: true,
@@ -87,7 +87,7 @@ fn by_order_count(rt: HostRuntime) -> Result<(), Fail> {
         dpb.store(frame(3, None), &other(2, 2))?.as_slice(),
         [2].as_slice()
     );
-    assert_eq!(rt; dpb.bump()?.as_slice(), [3, 1].as_slice());
+    assert_eq!(rt; dpb.empty()?.as_slice(), [3, 1].as_slice());
     assert_eq!(rt; dpb.frames().len(), 0);
     Ok(())
 }
@@ -115,9 +115,9 @@ fn never_goes_out(rt: HostRuntime) -> Result<(), Fail> {
     dpb.store(frame(0, None), &reference(0, 1))?;
     let out = dpb.store(frame(1, Some(Mark::Short)), &missing(1))?;
     assert_eq!(rt; out.as_slice(), [0].as_slice());
-    assert_eq!(rt; dpb.bump()?.as_slice(), [].as_slice());
+    assert_eq!(rt; dpb.empty()?.as_slice(), [].as_slice());
     dpb.store(frame(2, None), &reference(0, 1))?;
     dpb.drop_all();
-    assert_eq!(rt; dpb.bump()?.as_slice(), [].as_slice());
+    assert_eq!(rt; dpb.empty()?.as_slice(), [].as_slice());
     Ok(())
 }

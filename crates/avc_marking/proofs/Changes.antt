@@ -6,10 +6,10 @@ use Rattle.std.specs.Prelude.{slice_index, slice_index_or, slice_set, is_some, �
 use Rattle.std.proofs.lemmas.List.{drop_all, take_all, append-nil}
 use Rattle.std.proofs.lemmas.List.Kept.{AllPairs-from_increasing}
 use Rattle.std.proofs.lemmas.Bool.Decides.{nat_tests}
-use Rattle.avc_types.specs.declared.marked.MarkedFrame.{MarkedFrame}
+use Rattle.avc_types.specs.declared.marked_frame.MarkedFrame.{MarkedFrame}
 use Rattle.avc_types.specs.References.{Reference, StandAt, reference_of, references_at, reference_at, no_frame}
-use Rattle.avc_marking.specs.Marks.{without}
-use Rattle.avc_marking.specs.Frames.{unmarked, unless}
+use Rattle.avc_marking.specs.Marks.{without_frame}
+use Rattle.avc_marking.specs.Frames.{unmarked, unmarked_if}
 
 -- ---- rising entries
 
@@ -41,17 +41,17 @@ references-append (d ∷ es) (g ∷ fs) e f same = by_mark (is_some g.mark) (ref
 
 -- ---- frames become unused
 
-pub references-unless : (q : Reference → Bool) (free : (e : ℕ) (f : MarkedFrame) → q (reference_of e f) ≡ q (reference_of 0 f))
+pub references-unmarked_if : (q : Reference → Bool) (free : (e : ℕ) (f : MarkedFrame) → q (reference_of e f) ≡ q (reference_of 0 f))
     (es : List ℕ) (fs gs : List MarkedFrame) → length es ≡ length fs → length gs ≡ length fs →
-    ((k : ℕ) → k < length fs → slice_index_or gs k no_frame ≡ unless q (slice_index_or fs k no_frame)) →
+    ((k : ℕ) → k < length fs → slice_index_or gs k no_frame ≡ unmarked_if q (slice_index_or fs k no_frame)) →
     references_at es gs ≡ filter (λ r. not (q r)) (references_at es fs)
-references-unless q free [] fs gs same same' each = refl
-references-unless q free (e ∷ es) [] gs same same' each = absurd (omega (arith, same))
-references-unless q free (e ∷ es) (f ∷ fs) [] same same' each = absurd (omega (arith, same'))
-references-unless q free (e ∷ es) (f ∷ fs) (g ∷ gs) same same' each =
+references-unmarked_if q free [] fs gs same same' each = refl
+references-unmarked_if q free (e ∷ es) [] gs same same' each = absurd (omega (arith, same))
+references-unmarked_if q free (e ∷ es) (f ∷ fs) [] same same' each = absurd (omega (arith, same'))
+references-unmarked_if q free (e ∷ es) (f ∷ fs) (g ∷ gs) same same' each =
     ap (λ h. references_at (e ∷ es) (h ∷ gs)) (each 0 (omega arith))
     ∙ by_test (is_some f.mark) (q (reference_of 0 f)) refl (free e f)
-    (references-unless q free es fs gs (omega (arith, same)) (omega (arith, same')) (λ k h. each (suc k) (omega arith)))
+    (references-unmarked_if q free es fs gs (omega (arith, same)) (omega (arith, same')) (λ k h. each (suc k) (omega arith)))
   where
     by_test : (marked passes : Bool) → is_some f.mark ≡ marked → q (reference_of e f) ≡ passes → references_at es gs ≡ filter (λ r. not (q r)) (references_at es fs) →
         references_at (e ∷ es) (elim (marked && passes) [ true ↦ unmarked f | false ↦ f ] ∷ gs)
@@ -81,7 +81,7 @@ others-kept x (e ∷ es) (f ∷ fs) above = by_mark (is_some f.mark) other (othe
     by_mark false h more = more
 
 pub references-forgotten : (es : List ℕ) (fs : List MarkedFrame) (p : ℕ) → StandAt es fs → p < length fs →
-    references_at es (slice_set fs p (unmarked (slice_index_or fs p no_frame))) ≡ without (reference_at es fs p) (references_at es fs)
+    references_at es (slice_set fs p (unmarked (slice_index_or fs p no_frame))) ≡ without_frame (reference_at es fs p) (references_at es fs)
 references-forgotten [] fs p stand within = absurd (omega (arith, stand.each))
 references-forgotten (e ∷ es) [] p stand within = absurd (omega (arith, within))
 references-forgotten (e ∷ es) (f ∷ fs) zero stand within =

@@ -5,14 +5,17 @@ use Rattle.std.specs.Prelude.{nat_le, ◌==◌, if◌then◌else◌}
 use Rattle.std.proofs.lemmas.Bool.Decides.{nat_tests}
 use Rattle.std.proofs.lemmas.List.Elements.{All-head, All-tail}
 use Rattle.std.proofs.lemmas.List.Sums.{length-filter, count_by-le-length}
+use Rattle.avc_types.specs.declared.current_frame_num.CurrentFrameNum.{CurrentFrameNum}
 use Rattle.avc_types.specs.declared.fault.Fault.{Fault}
 use Rattle.avc_types.specs.declared.fault.Fault.TheVariants.{TooManyReferences}
 use Rattle.avc_types.specs.declared.references.Mark.TheVariants.{Short, Long}
 use Rattle.avc_types.specs.declared.references.Marking.{Marking}
 use Rattle.avc_types.specs.declared.references.Marking.TheVariants.{Idr, SlidingWindow, Adaptive}
 use Rattle.avc_types.specs.References.{Reference, is_short, sorted_by}
-use Rattle.avc_marking.specs.Marks.{Step, Marks, limit_of, slid, without, own, with_own, within_limit, after_operations, marked_by, marks, frame_or, ◌>>=◌}
-use Rattle.avc_marking.specs.Frames.{goes_first, first_of, first_short}
+use Rattle.avc_marking.specs.Marks.{first_in_window}
+use Rattle.avc_marking.specs.Marks.{precedes_in_window}
+use Rattle.avc_marking.specs.Marks.{MarkingEntry, Marks, limit_of, after_sliding_window, without_frame, current_frame, with_current_frame, within_limit, after_operations, marks_after, marks, frame_or, ◌>>=◌}
+use Rattle.avc_marking.specs.Frames.{first_in_window_of}
 use Rattle.avc_marking.specs.Laws.{StaysLimited, IsLimited}
 use Rattle.avc_marking.proofs.Sliding.{first-placed}
 
@@ -37,11 +40,11 @@ there-filter p r (x ∷ xs) h = by_test (p x) h (there-filter p r xs)
     by_test true k more = later_too (x.entry == r.entry) (is_there r (filter p xs)) (is_there r xs) more k
     by_test false k more = later_too (x.entry == r.entry) true (is_there r xs) (λ _. more k) (always (x.entry == r.entry))
 
-there-sorted : (current max_frame_num : ℕ) (r : Reference) (xs : List Reference) → slice_get (sorted_by (goes_first current max_frame_num) xs) 0 ≡ Some r → is_there r xs ≡ true
-there-sorted current max_frame_num r [] h = cc
-there-sorted current max_frame_num r (x ∷ xs) h =
-    by_first (slice_get (sorted_by (goes_first current max_frame_num) xs) 0) (sym (first-placed current max_frame_num x (sorted_by (goes_first current max_frame_num) xs)) ∙ h)
-    (there-sorted current max_frame_num r xs)
+there-sorted : (current : CurrentFrameNum) (r : Reference) (xs : List Reference) → slice_get (sorted_by (precedes_in_window current) xs) 0 ≡ Some r → is_there r xs ≡ true
+there-sorted current r [] h = cc
+there-sorted current r (x ∷ xs) h =
+    by_first (slice_get (sorted_by (precedes_in_window current) xs) 0) (sym (first-placed current x (sorted_by (precedes_in_window current) xs)) ∙ h)
+    (there-sorted current r xs)
   where
     here : x ≡ r → ((x.entry == r.entry) || is_there r xs) ≡ true
     here e = ap (λ b. b || is_there r xs) (ap (λ y. y.entry == r.entry) e ∙ itself r.entry)
@@ -49,49 +52,49 @@ there-sorted current max_frame_num r (x ∷ xs) h =
         itself : (n : ℕ) → (n == n) ≡ true
         itself n = grind (arith, nat_tests)
 
-    by_first : (o : Option Reference) → first_of current max_frame_num x o ≡ Some r → (o ≡ Some r → is_there r xs ≡ true) → ((x.entry == r.entry) || is_there r xs) ≡ true
+    by_first : (o : Option Reference) → first_in_window_of current x o ≡ Some r → (o ≡ Some r → is_there r xs ≡ true) → ((x.entry == r.entry) || is_there r xs) ≡ true
     by_first None k more = here cc
-    by_first (Some y) k more = by_test (goes_first current max_frame_num y x) k
+    by_first (Some y) k more = by_test (precedes_in_window current y x) k
       where
         by_test : (b : Bool) → ◌≡◌ {A = Option Reference} (elim b [ true ↦ Some y | false ↦ Some x ]) (Some r) → ((x.entry == r.entry) || is_there r xs) ≡ true
         by_test true e = later_too (x.entry == r.entry) true (is_there r xs) (λ _. more e) (always (x.entry == r.entry))
         by_test false e = here cc
 
-fewer : (r : Reference) (xs : List Reference) → is_there r xs ≡ true → length (without r xs) + 1 ≤ length xs
+fewer : (r : Reference) (xs : List Reference) → is_there r xs ≡ true → length (without_frame r xs) + 1 ≤ length xs
 fewer r [] h = cc
 fewer r (x ∷ xs) h = by_test (x.entry == r.entry) h (at_most r xs) (fewer r xs)
   where
-    at_most : (s : Reference) (ys : List Reference) → length (without s ys) ≤ length ys
+    at_most : (s : Reference) (ys : List Reference) → length (without_frame s ys) ≤ length ys
     at_most s ys = omega (arith, length-filter (λ t. not (t.entry == s.entry)) ys, count_by-le-length (λ t. not (t.entry == s.entry)) ys)
 
-    by_test : (same : Bool) → (same || is_there r xs) ≡ true → length (without r xs) ≤ length xs → (is_there r xs ≡ true → length (without r xs) + 1 ≤ length xs) →
-        length {A = Reference} (cond (not same) (x ∷ without r xs) (without r xs)) + 1 ≤ suc (length xs)
+    by_test : (same : Bool) → (same || is_there r xs) ≡ true → length (without_frame r xs) ≤ length xs → (is_there r xs ≡ true → length (without_frame r xs) + 1 ≤ length xs) →
+        length {A = Reference} (cond (not same) (x ∷ without_frame r xs) (without_frame r xs)) + 1 ≤ suc (length xs)
     by_test true k most more = omega (arith, most)
     by_test false k most more = omega (arith, more k)
 
 -- ---- one entry
 
-slid-fewer : (n : ℕ) (s : Step) (xs ys : List Reference) → limit_of s ≤ n → length xs ≤ n → slid s xs ≡ Ok ys → length ys + 1 ≤ n
-slid-fewer n s xs ys most few h = by_test (nat_lt (length xs) (limit_of s)) refl h
+after_sliding_window-fewer : (n : ℕ) (s : MarkingEntry) (xs ys : List Reference) → limit_of s ≤ n → length xs ≤ n → after_sliding_window s xs ≡ Ok ys → length ys + 1 ≤ n
+after_sliding_window-fewer n s xs ys most few h = by_test (nat_lt (length xs) (limit_of s)) refl h
   where
     first : Option Reference
-    first = first_short s.frame_num s.max_frame_num xs
+    first = first_in_window s.current xs
 
-    by_first : (o : Option Reference) → (λ (x : Option Reference). x) first ≡ o → (frame_or TooManyReferences o >>= λ least. Ok (without least xs)) ≡ Ok ys → length ys + 1 ≤ n
+    by_first : (o : Option Reference) → (λ (x : Option Reference). x) first ≡ o → (frame_or TooManyReferences o >>= λ least. Ok (without_frame least xs)) ≡ Ok ys → length ys + 1 ≤ n
     by_first None e k = cc
     by_first (Some r) e k =
-        let same : without r xs ≡ ys = cc in
-        omega (arith, fewer r xs (there-filter is_short r xs (there-sorted s.frame_num s.max_frame_num r (filter is_short xs) e)), ap length same)
+        let same : without_frame r xs ≡ ys = cc in
+        omega (arith, fewer r xs (there-filter is_short r xs (there-sorted s.current r (filter is_short xs) e)), ap length same)
 
     by_test : (b : Bool) → nat_lt (length xs) (limit_of s) ≡ b →
-        ◌≡◌ {A = Result (List Reference) Fault} (elim b [ true ↦ Ok xs | false ↦ (frame_or TooManyReferences first >>= λ least. Ok (without least xs)) ]) (Ok ys) → length ys + 1 ≤ n
+        ◌≡◌ {A = Result (List Reference) Fault} (elim b [ true ↦ Ok xs | false ↦ (frame_or TooManyReferences first >>= λ least. Ok (without_frame least xs)) ]) (Ok ys) → length ys + 1 ≤ n
     by_test true t k =
         let same : xs ≡ ys = cc in
         let less : length xs < limit_of s = grind (arith, nat_tests) in
         omega (arith, ap length same)
     by_test false t k = by_first first refl k
 
-within-limit : (n : ℕ) (s : Step) (m m' : Marks) → limit_of s ≤ n → within_limit s m ≡ Ok m' → length m'.references ≤ n
+within-limit : (n : ℕ) (s : MarkingEntry) (m m' : Marks) → limit_of s ≤ n → within_limit s m ≡ Ok m' → length m'.references ≤ n
 within-limit n s m m' most h = by_test (nat_le (length m.references) (limit_of s)) refl h
   where
     by_test : (b : Bool) → nat_le (length m.references) (limit_of s) ≡ b → (if b then Ok m else Err TooManyReferences) ≡ Ok m' → length m'.references ≤ n
@@ -106,32 +109,32 @@ after : {A : Type 0} (r : Result A Fault) (next : A → Result Marks Fault) (m' 
 after (Ok x) next m' P h k = k x refl h
 after (Err f) next m' P h k = cc
 
-pub stays-limited : StaysLimited
-stays-limited n s entry m m' most few h = by_marking s.marking h
+pub stays-with_max_long_term_frame_idx : StaysLimited
+stays-with_max_long_term_frame_idx n s entry m m' most few h = by_marking s.marking h
   where
     there_is_one : 1 ≤ n
     there_is_one = omega arith
 
-    by_marking : (marking : Option Marking) → marked_by s entry marking m ≡ Ok m' → length m'.references ≤ n
+    by_marking : (marking : Option Marking) → marks_after s entry marking m ≡ Ok m' → length m'.references ≤ n
     by_marking None k = let same : m ≡ m' = cc in omega (arith, ap (λ x. length x.references) same)
     by_marking (Some (Idr no_output false)) k =
-        let same : ◌≡◌ {A = Marks} (record { references = own s entry Short ∷ []; greatest = None }) m' = cc in
+        let same : ◌≡◌ {A = Marks} (record { references = current_frame s entry Short ∷ []; max_long_term_frame_idx = None }) m' = cc in
         omega (arith, ap (λ x. length x.references) same, there_is_one)
     by_marking (Some (Idr no_output true)) k =
-        let same : ◌≡◌ {A = Marks} (record { references = own s entry (Long 0) ∷ []; greatest = Some 0 }) m' = cc in
+        let same : ◌≡◌ {A = Marks} (record { references = current_frame s entry (Long 0) ∷ []; max_long_term_frame_idx = Some 0 }) m' = cc in
         omega (arith, ap (λ x. length x.references) same, there_is_one)
     by_marking (Some SlidingWindow) k =
-        after (slid s m.references) (λ references. Ok (record { references = references ++ own s entry Short ∷ []; greatest = m.greatest })) m' (length m'.references ≤ n) k
+        after (after_sliding_window s m.references) (λ references. Ok (record { references = references ++ current_frame s entry Short ∷ []; max_long_term_frame_idx = m.max_long_term_frame_idx })) m' (length m'.references ≤ n) k
         (λ references e e'.
-        let same : ◌≡◌ {A = Marks} (record { references = references ++ own s entry Short ∷ []; greatest = m.greatest }) m' = cc in
-        omega (arith, slid-fewer n s m.references references most few e, length-append references (own s entry Short ∷ []), ap (λ x. length x.references) same))
+        let same : ◌≡◌ {A = Marks} (record { references = references ++ current_frame s entry Short ∷ []; max_long_term_frame_idx = m.max_long_term_frame_idx }) m' = cc in
+        omega (arith, after_sliding_window-fewer n s m.references references most few e, length-append references (current_frame s entry Short ∷ []), ap (λ x. length x.references) same))
     by_marking (Some (Adaptive operations)) k =
-        after (after_operations s entry (record { references = m.references; greatest = m.greatest; assigned = false }) operations) (λ t. within_limit s (with_own s entry t)) m' (length m'.references ≤ n) k
-        (λ t e e'. within-limit n s (with_own s entry t) m' most e')
+        after (after_operations s entry (record { references = m.references; max_long_term_frame_idx = m.max_long_term_frame_idx; assigned = false }) operations) (λ t. within_limit s (with_current_frame s entry t)) m' (length m'.references ≤ n) k
+        (λ t e e'. within-limit n s (with_current_frame s entry t) m' most e')
 
-pub is-limited : IsLimited
-is-limited n [] m all h = let same : ◌≡◌ {A = Marks} (record { references = []; greatest = None }) m = cc in omega (arith, ap (λ x. length x.references) same)
-is-limited n (s ∷ older) m all h =
-    after (marks older) (λ before. marked_by s (length older) s.marking before) m (length m.references ≤ n) h
+pub is-with_max_long_term_frame_idx : IsLimited
+is-with_max_long_term_frame_idx n [] m all h = let same : ◌≡◌ {A = Marks} (record { references = []; max_long_term_frame_idx = None }) m = cc in omega (arith, ap (λ x. length x.references) same)
+is-with_max_long_term_frame_idx n (s ∷ older) m all h =
+    after (marks older) (λ before. marks_after s (length older) s.marking before) m (length m.references ≤ n) h
     (λ before e e'.
-    stays-limited n s (length older) before m (All-head (λ t. limit_of t ≤ n) s older all) (is-limited n older before (All-tail (λ t. limit_of t ≤ n) s older all) e) e')
+    stays-with_max_long_term_frame_idx n s (length older) before m (All-head (λ t. limit_of t ≤ n) s older all) (is-with_max_long_term_frame_idx n older before (All-tail (λ t. limit_of t ≤ n) s older all) e) e')

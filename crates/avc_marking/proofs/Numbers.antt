@@ -4,35 +4,35 @@ use Rattle.std.proofs.Math.Nat.{mod-add-mod, mod-eq_of_lt}
 use Rattle.std.specs.Prelude.{◌==◌, if◌then◌else◌, is_some}
 use Rattle.avc_types.specs.declared.fault.Fault.{Fault}
 use Rattle.avc_types.specs.declared.fault.Fault.TheVariants.{FrameNumRepeated, FrameNumGap}
-use Rattle.avc_marking.specs.Marks.{Step, numbers_from, missing_numbers}
+use Rattle.avc_marking.specs.Marks.{MarkingEntry, frame_nums_from, missing_frame_nums}
 
 -- they depend on the first one modulo MaxFrameNum alone
-pub numbers-mod : (max a n : ℕ) → numbers_from max (a % max) n ≡ numbers_from max a n
+pub numbers-mod : (max a n : ℕ) → frame_nums_from max (a % max) n ≡ frame_nums_from max a n
 numbers-mod max a zero = refl
 numbers-mod max a (suc n) =
     let head : a % max % max ≡ a % max = ap (λ x. x % max) (sym (add-zero (a % max))) ∙ mod-add-mod a max 0 ∙ ap (λ x. x % max) (add-zero a) in
-    let tail : numbers_from max (a % max + 1) n ≡ numbers_from max (a + 1) n =
-    sym (numbers-mod max (a % max + 1) n) ∙ ap (λ x. numbers_from max x n) (mod-add-mod a max 1) ∙ numbers-mod max (a + 1) n in
-    ap (λ x. x ∷ numbers_from max (a % max + 1) n) head ∙ ap (λ xs. a % max ∷ xs) tail
+    let tail : frame_nums_from max (a % max + 1) n ≡ frame_nums_from max (a + 1) n =
+    sym (numbers-mod max (a % max + 1) n) ∙ ap (λ x. frame_nums_from max x n) (mod-add-mod a max 1) ∙ numbers-mod max (a + 1) n in
+    ap (λ x. x ∷ frame_nums_from max (a % max + 1) n) head ∙ ap (λ xs. a % max ∷ xs) tail
 
 pub numbers-next : (max next after left : ℕ) → next < max → 0 < left → after ≡ (next + 1) % max →
-    numbers_from max next left ≡ next ∷ numbers_from max after (left - 1)
+    frame_nums_from max next left ≡ next ∷ frame_nums_from max after (left - 1)
 numbers-next max next after left below more moved =
     let one : left ≡ suc (left - 1) = omega arith in
-    ap (numbers_from max next) one
-    ∙ ap (λ x. x ∷ numbers_from max (next + 1) (left - 1)) (mod-eq_of_lt below)
-    ∙ ap (λ xs. next ∷ xs) (sym (ap (λ x. numbers_from max x (left - 1)) moved ∙ numbers-mod max (next + 1) (left - 1)))
+    ap (frame_nums_from max next) one
+    ∙ ap (λ x. x ∷ frame_nums_from max (next + 1) (left - 1)) (mod-eq_of_lt below)
+    ∙ ap (λ xs. next ∷ xs) (sym (ap (λ x. frame_nums_from max x (left - 1)) moved ∙ numbers-mod max (next + 1) (left - 1)))
 
 -- where numbers are missing and may be
-pub gap-is : (previous : ℕ) (s : Step) (first left : ℕ) → (s.frame_num == previous) ≡ false → (s.frame_num == (previous + 1) % s.max_frame_num) ≡ false →
-    first ≡ (previous + 1) % s.max_frame_num → left ≡ (s.frame_num + s.max_frame_num - previous - 1) % s.max_frame_num →
-    ◌≡◌ {A = Result (List ℕ) Fault} (Ok (numbers_from s.max_frame_num first left)) (missing_numbers previous true s)
-gap-is previous s first left other not_next is_first is_left =
-    let n = (s.frame_num + s.max_frame_num - previous - 1) % s.max_frame_num in
-    let tested : missing_numbers previous true s ≡ Ok (numbers_from s.max_frame_num (previous + 1) ((s.frame_num + s.max_frame_num - previous - 1) % s.max_frame_num)) =
-    ap (λ b. tests b (s.frame_num == (previous + 1) % s.max_frame_num)) other ∙ ap (λ b. tests false b) not_next in
+pub missing_frame_nums-is : (previous : ℕ) (s : MarkingEntry) (first left : ℕ) → (s.current.frame_num == previous) ≡ false → (s.current.frame_num == (previous + 1) % s.current.max_frame_num) ≡ false →
+    first ≡ (previous + 1) % s.current.max_frame_num → left ≡ (s.current.frame_num + s.current.max_frame_num - previous - 1) % s.current.max_frame_num →
+    ◌≡◌ {A = Result (List ℕ) Fault} (Ok (frame_nums_from s.current.max_frame_num first left)) (missing_frame_nums previous true s)
+missing_frame_nums-is previous s first left other not_next is_first is_left =
+    let n = (s.current.frame_num + s.current.max_frame_num - previous - 1) % s.current.max_frame_num in
+    let tested : missing_frame_nums previous true s ≡ Ok (frame_nums_from s.current.max_frame_num (previous + 1) ((s.current.frame_num + s.current.max_frame_num - previous - 1) % s.current.max_frame_num)) =
+    ap (λ b. tests b (s.current.frame_num == (previous + 1) % s.current.max_frame_num)) other ∙ ap (λ b. tests false b) not_next in
     sym (tested
-    ∙ ap Ok (sym (ap (λ a. numbers_from s.max_frame_num a left) is_first ∙ ap (λ m. numbers_from s.max_frame_num ((previous + 1) % s.max_frame_num) m) is_left ∙ numbers-mod s.max_frame_num (previous + 1) n)))
+    ∙ ap Ok (sym (ap (λ a. frame_nums_from s.current.max_frame_num a left) is_first ∙ ap (λ m. frame_nums_from s.current.max_frame_num ((previous + 1) % s.current.max_frame_num) m) is_left ∙ numbers-mod s.current.max_frame_num (previous + 1) n)))
   where
     tests : (same next : Bool) → Result (List ℕ) Fault
     tests same next = elim same [
@@ -40,7 +40,7 @@ gap-is previous s first left other not_next is_first is_left =
       | false ↦ elim next [
         | true ↦ Ok []
         | false ↦ (if true
-            then Ok (numbers_from s.max_frame_num (previous + 1) ((s.frame_num + s.max_frame_num - previous - 1) % s.max_frame_num))
+            then Ok (frame_nums_from s.current.max_frame_num (previous + 1) ((s.current.frame_num + s.current.max_frame_num - previous - 1) % s.current.max_frame_num))
             else Err FrameNumGap)
       ]
     ]

@@ -5,9 +5,13 @@ use Rattle.std.specs.Prelude.{slice_index, slice_index_or, is_some, ℤ, int_lt}
 use Rattle.std.specs.Option.{option_map}
 use Rattle.std.proofs.lemmas.List.Kept.{AllPairs-from_increasing}
 use Rattle.avc_types.specs.Arithmetic.{◌==ℤ◌}
-use Rattle.avc_types.specs.declared.marked.MarkedFrame.{MarkedFrame}
-use Rattle.avc_types.specs.References.{Reference, StandAt, reference_of, references_at, reference_at, references_with, references_without, is_marked, is_short, sorted_by, placed_by, placed_behind, placed_here, no_frame}
-use Rattle.avc_marking.specs.Frames.{goes_first, first_of, first_short}
+use Rattle.avc_types.specs.declared.current_frame_num.CurrentFrameNum.{CurrentFrameNum}
+use Rattle.avc_types.specs.declared.marked_frame.MarkedFrame.{MarkedFrame}
+use Rattle.avc_types.proofs.ReferencesAt.{placed_behind, placed_here, references_with, references_without}
+use Rattle.avc_types.specs.References.{Reference, StandAt, reference_of, references_at, reference_at, is_marked, is_short, sorted_by, placed_by, no_frame}
+use Rattle.avc_marking.specs.Marks.{first_in_window}
+use Rattle.avc_marking.specs.Marks.{precedes_in_window}
+use Rattle.avc_marking.specs.Frames.{first_in_window_of}
 
 pub length-references : (es : List ℕ) (fs : List MarkedFrame) → length es ≡ length fs → length (references_at es fs) ≡ length (filter {X = MarkedFrame} (λ f. is_some f.mark) fs)
 length-references [] [] same = refl
@@ -31,33 +35,33 @@ only_less a b = by_test (int_lt b a)
 
 -- ---- among those from a place on
 
-pub first-placed : (current max : ℕ) (r : Reference) (rs : List Reference) →
-    slice_get (placed_by (goes_first current max) r rs) 0 ≡ first_of current max r (slice_get rs 0)
-first-placed current max r [] = refl
-first-placed current max r (s ∷ rs) = by_test (goes_first current max s r) refl
+pub first-placed : (current : CurrentFrameNum) (r : Reference) (rs : List Reference) →
+    slice_get (placed_by (precedes_in_window current) r rs) 0 ≡ first_in_window_of current r (slice_get rs 0)
+first-placed current r [] = refl
+first-placed current r (s ∷ rs) = by_test (precedes_in_window current s r) refl
   where
-    by_test : (b : Bool) → goes_first current max s r ≡ b →
-        slice_get (placed_by (goes_first current max) r (s ∷ rs)) 0 ≡ elim b [ true ↦ Some s | false ↦ Some r ]
-    by_test true h = ap (λ xs. slice_get xs 0) (placed_behind (goes_first current max) r s rs h)
-    by_test false h = ap (λ xs. slice_get xs 0) (placed_here (goes_first current max) r s rs h)
+    by_test : (b : Bool) → precedes_in_window current s r ≡ b →
+        slice_get (placed_by (precedes_in_window current) r (s ∷ rs)) 0 ≡ elim b [ true ↦ Some s | false ↦ Some r ]
+    by_test true h = ap (λ xs. slice_get xs 0) (placed_behind (precedes_in_window current) r s rs h)
+    by_test false h = ap (λ xs. slice_get xs 0) (placed_here (precedes_in_window current) r s rs h)
 
-pub first-with : (current max : ℕ) (es : List ℕ) (fs : List MarkedFrame) (p n : ℕ) → n ≡ suc p → length es ≡ length fs → p < length fs → is_marked is_short (slice_index_or fs p no_frame) ≡ true →
-    first_short current max (references_at (drop p es) (drop p fs)) ≡ first_of current max (reference_at es fs p) (first_short current max (references_at (drop n es) (drop n fs)))
-first-with current max es fs p n e same within h =
+pub first-with : (current : CurrentFrameNum) (es : List ℕ) (fs : List MarkedFrame) (p n : ℕ) → n ≡ suc p → length es ≡ length fs → p < length fs → is_marked is_short (slice_index_or fs p no_frame) ≡ true →
+    first_in_window current (references_at (drop p es) (drop p fs)) ≡ first_in_window_of current (reference_at es fs p) (first_in_window current (references_at (drop n es) (drop n fs)))
+first-with current es fs p n e same within h =
     let f = slice_index_or fs p no_frame in
     let parts = both (is_some (slice_index_or fs p no_frame).mark) (is_short (reference_of 0 (slice_index_or fs p no_frame))) h in
-    ap (first_short current max) (references_with es fs p n e (omega (arith, same)) within parts.0)
-    ∙ ap (λ b. slice_get (sorted_by (goes_first current max) (cond b (reference_at es fs p ∷ filter is_short (references_at (drop n es) (drop n fs))) (filter is_short (references_at (drop n es) (drop n fs))))) 0) parts.1
-    ∙ first-placed current max (reference_at es fs p) (sorted_by (goes_first current max) (filter is_short (references_at (drop n es) (drop n fs))))
+    ap (first_in_window current) (references_with es fs p n e (omega (arith, same)) within parts.0)
+    ∙ ap (λ b. slice_get (sorted_by (precedes_in_window current) (cond b (reference_at es fs p ∷ filter is_short (references_at (drop n es) (drop n fs))) (filter is_short (references_at (drop n es) (drop n fs))))) 0) parts.1
+    ∙ first-placed current (reference_at es fs p) (sorted_by (precedes_in_window current) (filter is_short (references_at (drop n es) (drop n fs))))
   where
     both : (a b : Bool) → (a && b) ≡ true → (a ≡ true) × (b ≡ true)
     both true true h = (refl, refl)
     both true false h = cc
     both false b h = cc
 
-pub first-without : (current max : ℕ) (es : List ℕ) (fs : List MarkedFrame) (p n : ℕ) → n ≡ suc p → length es ≡ length fs → p < length fs → is_marked is_short (slice_index_or fs p no_frame) ≡ false →
-    first_short current max (references_at (drop p es) (drop p fs)) ≡ first_short current max (references_at (drop n es) (drop n fs))
-first-without current max es fs p n e same within h = by_mark (is_some (slice_index_or fs p no_frame).mark) refl
+pub first-without_frame : (current : CurrentFrameNum) (es : List ℕ) (fs : List MarkedFrame) (p n : ℕ) → n ≡ suc p → length es ≡ length fs → p < length fs → is_marked is_short (slice_index_or fs p no_frame) ≡ false →
+    first_in_window current (references_at (drop p es) (drop p fs)) ≡ first_in_window current (references_at (drop n es) (drop n fs))
+first-without_frame current es fs p n e same within h = by_mark (is_some (slice_index_or fs p no_frame).mark) refl
   where
     rest : List Reference
     rest = references_at (drop n es) (drop n fs)
@@ -66,35 +70,35 @@ first-without current max es fs p n e same within h = by_mark (is_some (slice_in
     long m = sym (ap (λ b. b && is_short (reference_of 0 (slice_index_or fs p no_frame))) m) ∙ h
 
     by_mark : (b : Bool) → is_some (slice_index_or fs p no_frame).mark ≡ b →
-        first_short current max (references_at (drop p es) (drop p fs)) ≡ first_short current max (references_at (drop n es) (drop n fs))
-    by_mark false m = ap (first_short current max) (references_without es fs p n e (omega (arith, same)) within m)
+        first_in_window current (references_at (drop p es) (drop p fs)) ≡ first_in_window current (references_at (drop n es) (drop n fs))
+    by_mark false m = ap (first_in_window current) (references_without es fs p n e (omega (arith, same)) within m)
     by_mark true m =
-        ap (first_short current max) (references_with es fs p n e (omega (arith, same)) within m)
-        ∙ ap (λ b. slice_get (sorted_by (goes_first current max) (cond b (reference_at es fs p ∷ filter is_short (references_at (drop n es) (drop n fs))) (filter is_short (references_at (drop n es) (drop n fs))))) 0) (long m)
+        ap (first_in_window current) (references_with es fs p n e (omega (arith, same)) within m)
+        ∙ ap (λ b. slice_get (sorted_by (precedes_in_window current) (cond b (reference_at es fs p ∷ filter is_short (references_at (drop n es) (drop n fs))) (filter is_short (references_at (drop n es) (drop n fs))))) 0) (long m)
 
 pub entry_above : (es : List ℕ) (fs : List MarkedFrame) (p q : ℕ) → StandAt es fs → p < q → q < length fs → slice_index es p < slice_index es q
 entry_above es fs p q stand h within = AllPairs-from_increasing es stand.rising p q 0 h (omega (arith, within, stand.each))
 
-pub first-kept : (current max : ℕ) (ref : ℕ → Reference) (p q : ℕ) (later : Option ℕ) → later ≡ Some q → goes_first current max (ref q) (ref p) ≡ true →
-    Some (ref q) ≡ first_of current max (ref p) (option_map ref later)
-first-kept current max ref p q later e h =
-    sym (ap (λ o. first_of current max (ref p) (option_map ref o)) e ∙ ap (λ b. elim b [ true ↦ Some (ref q) | false ↦ Some (ref p) ]) h)
+pub first-kept : (current : CurrentFrameNum) (ref : ℕ → Reference) (p q : ℕ) (later : Option ℕ) → later ≡ Some q → precedes_in_window current (ref q) (ref p) ≡ true →
+    Some (ref q) ≡ first_in_window_of current (ref p) (option_map ref later)
+first-kept current ref p q later e h =
+    sym (ap (λ o. first_in_window_of current (ref p) (option_map ref o)) e ∙ ap (λ b. elim b [ true ↦ Some (ref q) | false ↦ Some (ref p) ]) h)
 
-pub first-changed : (current max : ℕ) (ref : ℕ → Reference) (p q : ℕ) (later : Option ℕ) → later ≡ Some q → goes_first current max (ref q) (ref p) ≡ false →
-    Some (ref p) ≡ first_of current max (ref p) (option_map ref later)
-first-changed current max ref p q later e h =
-    sym (ap (λ o. first_of current max (ref p) (option_map ref o)) e ∙ ap (λ b. elim b [ true ↦ Some (ref q) | false ↦ Some (ref p) ]) h)
+pub first-changed : (current : CurrentFrameNum) (ref : ℕ → Reference) (p q : ℕ) (later : Option ℕ) → later ≡ Some q → precedes_in_window current (ref q) (ref p) ≡ false →
+    Some (ref p) ≡ first_in_window_of current (ref p) (option_map ref later)
+first-changed current ref p q later e h =
+    sym (ap (λ o. first_in_window_of current (ref p) (option_map ref o)) e ∙ ap (λ b. elim b [ true ↦ Some (ref q) | false ↦ Some (ref p) ]) h)
 
-pub first-step : (current max : ℕ) (es : List ℕ) (fs : List MarkedFrame) (p n : ℕ) (first before : Option ℕ) → n ≡ suc p → StandAt es fs → p < length fs →
+pub first-step : (current : CurrentFrameNum) (es : List ℕ) (fs : List MarkedFrame) (p n : ℕ) (first before : Option ℕ) → n ≡ suc p → StandAt es fs → p < length fs →
     (is_marked is_short (slice_index_or fs p no_frame) ≡ false → first ≡ before) →
-    (is_marked is_short (slice_index_or fs p no_frame) ≡ true → (es' : List ℕ) → StandAt es' fs → option_map (reference_at es' fs) first ≡ first_of current max (reference_at es' fs p) (option_map (reference_at es' fs) before)) →
-    first_short current max (references_at (drop n es) (drop n fs)) ≡ option_map (reference_at es fs) before →
-    first_short current max (references_at (drop p es) (drop p fs)) ≡ option_map (reference_at es fs) first
-first-step current max es fs p n first before e stand within long short so_far = by_test (is_marked is_short (slice_index_or fs p no_frame)) refl
+    (is_marked is_short (slice_index_or fs p no_frame) ≡ true → (es' : List ℕ) → StandAt es' fs → option_map (reference_at es' fs) first ≡ first_in_window_of current (reference_at es' fs p) (option_map (reference_at es' fs) before)) →
+    first_in_window current (references_at (drop n es) (drop n fs)) ≡ option_map (reference_at es fs) before →
+    first_in_window current (references_at (drop p es) (drop p fs)) ≡ option_map (reference_at es fs) first
+first-step current es fs p n first before e stand within long short so_far = by_test (is_marked is_short (slice_index_or fs p no_frame)) refl
   where
     by_test : (b : Bool) → is_marked is_short (slice_index_or fs p no_frame) ≡ b →
-        first_short current max (references_at (drop p es) (drop p fs)) ≡ option_map (reference_at es fs) first
+        first_in_window current (references_at (drop p es) (drop p fs)) ≡ option_map (reference_at es fs) first
     by_test true h =
-        first-with current max es fs p n e stand.each within h ∙ ap (first_of current max (reference_at es fs p)) so_far ∙ sym (short h es stand)
+        first-with current es fs p n e stand.each within h ∙ ap (first_in_window_of current (reference_at es fs p)) so_far ∙ sym (short h es stand)
     by_test false h =
-        first-without current max es fs p n e stand.each within h ∙ so_far ∙ ap (option_map (reference_at es fs)) (sym (long h))
+        first-without_frame current es fs p n e stand.each within h ∙ so_far ∙ ap (option_map (reference_at es fs)) (sym (long h))

@@ -1,20 +1,21 @@
 -- The marks of frames in decoding order, and what a call makes of them.
-use Rattle.std.specs.Prelude.{ℕ, Bool, true, false, not, ◌||◌, nat_lt, List, [], ◌∷◌, ◌++◌, length, Option, None, Some, slice_get, Result, Ok, Err, ◌≡◌}
-use Rattle.std.specs.List.{filter}
+use Rattle.std.specs.Prelude.{ℕ, ◌<◌, Bool, true, false, not, ◌||◌, nat_lt, List, [], ◌∷◌, ◌++◌, length, Option, None, Some, slice_index_or, Result, Ok, Err, ◌≡◌}
+use Rattle.std.specs.Option.{option_map}
 use Rattle.std.specs.List.Sorted.{IsStrictlyIncreasing}
+use Rattle.avc_types.specs.declared.current_frame_num.CurrentFrameNum.{CurrentFrameNum}
 use Rattle.avc_types.specs.declared.fault.Fault.{Fault}
-use Rattle.avc_types.specs.declared.marked.MarkedFrame.{MarkedFrame}
+use Rattle.avc_types.specs.declared.marked_frame.MarkedFrame.{MarkedFrame}
+use Rattle.avc_types.specs.declared.references.Mark.{Mark}
 use Rattle.avc_types.specs.declared.references.Marking.{Marking}
-use Rattle.avc_types.specs.References.{Reference, references_at, is_marked, is_short, long_index, has_long_index, later_number, sorted_by}
+use Rattle.avc_types.specs.References.{Reference, StandAt, references_at, reference_at, reference_of, result_map, is_marked, is_short, long_term_frame_idx, has_long_term_frame_idx, no_frame}
 use Rattle.avc_marking.specs.declared.frame.NewFrame.{NewFrame}
-use Rattle.avc_marking.specs.declared.frame.Leaving.{Leaving}
-use Rattle.avc_marking.specs.declared.frame.Leaving.TheVariants.{Index, From, Every}
-use Rattle.avc_marking.specs.Marks.{Step, Marks, Turn}
+use Rattle.avc_marking.specs.declared.frame.FramesToUnmark.{FramesToUnmark}
+use Rattle.avc_marking.specs.declared.frame.FramesToUnmark.TheVariants.{Index, From, Every}
+use Rattle.avc_marking.specs.Marks.{MarkingEntry, Marks, OperationState, precedes_in_window, with_current_frame, without_frame}
 
-abbrev pub step_of : NewFrame → Option Marking → Step
-step_of new marking = record {
-  frame_num = new.frame_num;
-  max_frame_num = new.max_frame_num;
+abbrev pub marking_entry : NewFrame → Option Marking → MarkingEntry
+marking_entry new marking = record {
+  current = new.current;
   max_num_ref_frames = new.max_num_ref_frames;
   existing = new.existing;
   marking = marking;
@@ -25,14 +26,23 @@ pub record StandBefore (entries : List ℕ) (entry : ℕ) (frames : List MarkedF
   pub each : length entries ≡ length frames
   pub rising : IsStrictlyIncreasing (entries ++ entry ∷ [])
 
+-- the frame of an entry with this mark and its own frame_num
+abbrev pub marked_frame : MarkingEntry → (entry : ℕ) → Mark → Reference
+marked_frame s entry mark = record {
+  entry = entry;
+  frame_num = s.current.frame_num;
+  existing = s.existing;
+  mark = mark;
+}
+
 -- the marks of frames that are these entries of the history
-abbrev pub marks_at : (entries : List ℕ) → List MarkedFrame → (greatest : Option ℕ) → Marks
-marks_at entries frames greatest = record { references = references_at entries frames; greatest = greatest }
+abbrev pub marks_at : (entries : List ℕ) → List MarkedFrame → (idx : Option ℕ) → Marks
+marks_at entries frames idx = record { references = references_at entries frames; max_long_term_frame_idx = idx }
 
 -- The call's answer with what it has left, where that was no fault.
-abbrev pub told : {A B : Type 0} → Result A Fault → B → Result B Fault
-told (Ok done) left = Ok left
-told (Err f) left = Err f
+abbrev pub or_fault : {A B : Type 0} → Result A Fault → B → Result B Fault
+or_fault (Ok done) left = Ok left
+or_fault (Err f) left = Err f
 
 -- ---- while the operations of a picture are gone through
 
@@ -45,35 +55,109 @@ pub record StandWith (assigned : Bool) (entries : List ℕ) (own : ℕ) (frames 
   pub each : length (entries_with assigned entries own) ≡ length frames
   pub rising : IsStrictlyIncreasing (entries ++ own ∷ [])
 
-abbrev pub turn_at : (entries : List ℕ) → (own : ℕ) → List MarkedFrame → (greatest : Option ℕ) → (assigned : Bool) → Turn
-turn_at entries own frames greatest assigned =
-    record { references = references_at (entries_with assigned entries own) frames; greatest = greatest; assigned = assigned }
+abbrev pub operation_state : (entries : List ℕ) → (own : ℕ) → List MarkedFrame →
+    (idx : Option ℕ) → (assigned : Bool) → OperationState
+operation_state entries own frames idx assigned = record {
+  references = references_at (entries_with assigned entries own) frames;
+  max_long_term_frame_idx = idx;
+  assigned = assigned;
+}
 
 -- the frames that become unused
-abbrev pub leaves : Leaving → Reference → Bool
-leaves (Index index) r = has_long_index index r
-leaves (From index) r = not (is_short r || nat_lt (long_index r) index)
-leaves Every r = true
+abbrev pub is_to_unmark : FramesToUnmark → Reference → Bool
+is_to_unmark (Index index) r = has_long_term_frame_idx index r
+is_to_unmark (From index) r = not (is_short r || nat_lt (long_term_frame_idx r) index)
+is_to_unmark Every r = true
 
 abbrev pub unmarked : MarkedFrame → MarkedFrame
 unmarked f = record f { mark = None }
 
-abbrev pub unless : (Reference → Bool) → MarkedFrame → MarkedFrame
-unless test f = elim (is_marked test f) [ true ↦ unmarked f | false ↦ f ]
+abbrev pub unmarked_if : (Reference → Bool) → MarkedFrame → MarkedFrame
+unmarked_if test f = elim (is_marked test f) [ true ↦ unmarked f | false ↦ f ]
 
--- ---- the frame that goes first from the sliding window
+-- ---- what a call makes of frames, whichever entries of the history they are
 
-abbrev pub goes_first : (current max_frame_num : ℕ) → Reference → Reference → Bool
-goes_first current max_frame_num a b = later_number current max_frame_num b a
+-- so many of them are used for reference
+abbrev pub CountsReferences : List MarkedFrame → (count : ℕ) → Type 0
+CountsReferences frames count =
+    (entries : List ℕ) → StandAt entries frames → count ≡ length (references_at entries frames)
+
+-- each frame that passes the test has become unused for reference
+abbrev pub UnmarksEach : (Reference → Bool) → (old new : List MarkedFrame) → Type 0
+UnmarksEach test old new =
+    (k : ℕ) → k < length old → slice_index_or new k no_frame ≡ unmarked_if test (slice_index_or old k no_frame)
+
+-- The reference frames are what `change` makes of those before.
+abbrev pub ChangesFrames : (change : List Reference → List Reference) → (old new : List MarkedFrame) → Type 0
+ChangesFrames change old new =
+    (entries : List ℕ) → StandAt entries old → references_at entries new ≡ change (references_at entries old)
+
+-- the frame at a place is no more among them
+abbrev pub UnmarksPlace : (place : ℕ) → (old new : List MarkedFrame) → Type 0
+UnmarksPlace place old new =
+    (entries : List ℕ) → StandAt entries old →
+    references_at entries new ≡ without_frame (reference_at entries old place) (references_at entries old)
+
+-- They are what `change` makes of those before, or the call has its fault.
+abbrev pub MayChangeFrames : (change : List Reference → Result (List Reference) Fault) →
+    (old : List MarkedFrame) → Result (Unit {0}) Fault → (new : List MarkedFrame) → Type 0
+MayChangeFrames change old result new =
+    (entries : List ℕ) → StandAt entries old →
+    change (references_at entries old) ≡ or_fault result (references_at entries new)
+
+-- The current picture's frame has come last, and the reference frames are what `change` makes of its entry and those before.
+abbrev pub AddsFrame : (change : ℕ → List Reference → List Reference) → (old new : List MarkedFrame) → Type 0
+AddsFrame change old new =
+    (entries : List ℕ) (entry : ℕ) → StandBefore entries entry old →
+    references_at (entries ++ entry ∷ []) new ≡ change entry (references_at entries old)
+
+-- `step` takes the state of operations from the frames before to those after, or the call has its fault.
+abbrev pub Operates : (assigned : Bool) → (step : ℕ → OperationState → Result OperationState Fault) →
+    (old : List MarkedFrame) (old_idx : Option ℕ) → Result Bool Fault → (new : List MarkedFrame) (new_idx : Option ℕ) → Type 0
+Operates assigned step old old_idx result new new_idx =
+    (entries : List ℕ) (own : ℕ) → StandWith assigned entries own old →
+    step own (operation_state entries own old old_idx assigned) ≡ result_map (operation_state entries own new new_idx) result
+
+-- the same from before the first operation
+abbrev pub OperatesAll : (steps : ℕ → OperationState → Result OperationState Fault) →
+    (old : List MarkedFrame) (old_idx : Option ℕ) → Result Bool Fault → (new : List MarkedFrame) (new_idx : Option ℕ) → Type 0
+OperatesAll steps old old_idx result new new_idx =
+    (entries : List ℕ) (own : ℕ) → StandBefore entries own old →
+    steps own (operation_state entries own old old_idx false) ≡ result_map (operation_state entries own new new_idx) result
+
+-- The current picture's frame stands last, and is short-term where the operations have not marked it.
+abbrev pub MarksCurrent : MarkingEntry → (assigned : Bool) → (old new : List MarkedFrame) → Type 0
+MarksCurrent s assigned old new =
+    (entries : List ℕ) (entry : ℕ) (idx : Option ℕ) → StandWith assigned entries entry old →
+    with_current_frame s entry (operation_state entries entry old idx assigned) ≡ marks_at (entries ++ entry ∷ []) new idx
+
+-- The current picture's frame has come last, and the marks are what `marking` makes of its entry and those before; or the call
+-- has its fault.
+abbrev pub MarksFrame : (marking : ℕ → Marks → Result Marks Fault) →
+    (old : List MarkedFrame) (old_idx : Option ℕ) → Result (Unit {0}) Fault → (new : List MarkedFrame) (new_idx : Option ℕ) → Type 0
+MarksFrame marking old old_idx result new new_idx =
+    (entries : List ℕ) (entry : ℕ) → StandBefore entries entry old →
+    marking entry (marks_at entries old old_idx) ≡ or_fault result (marks_at (entries ++ entry ∷ []) new new_idx)
+
+-- ---- the sliding window
+
+-- Of two frames, whether `later`, which was decoded after `earlier`, becomes unused first, whichever entries they are.
+abbrev pub LaterPrecedes : CurrentFrameNum → (later earlier : MarkedFrame) → Bool → Type 0
+LaterPrecedes current later earlier does =
+    (e e' : ℕ) → e' < e → does ≡ precedes_in_window current (reference_of e later) (reference_of e' earlier)
 
 -- of one frame and the first of those that were decoded later
-abbrev pub first_of : (current max_frame_num : ℕ) → Reference → Option Reference → Option Reference
-first_of current max_frame_num r None = Some r
-first_of current max_frame_num r (Some other) = elim (goes_first current max_frame_num other r) [ true ↦ Some other | false ↦ Some r ]
+abbrev pub first_in_window_of : CurrentFrameNum → Reference → Option Reference → Option Reference
+first_in_window_of current r None = Some r
+first_in_window_of current r (Some other) =
+    elim (precedes_in_window current other r) [ true ↦ Some other | false ↦ Some r ]
 
-abbrev pub first_short : (current max_frame_num : ℕ) → List Reference → Option Reference
-first_short current max_frame_num references = slice_get (sorted_by (goes_first current max_frame_num) (filter is_short references)) 0
+abbrev pub IsShortAt : List MarkedFrame → (place : ℕ) → Bool → Type 0
+IsShortAt frames place is = is_marked is_short (slice_index_or frames place no_frame) ≡ is
 
-abbrev pub result_map : {A B : Type 0} → (A → B) → Result A Fault → Result B Fault
-result_map f (Ok x) = Ok (f x)
-result_map f (Err e) = Err e
+-- the same of places
+abbrev pub IsFirstOf : CurrentFrameNum → List MarkedFrame → (place : ℕ) (later first : Option ℕ) → Type 0
+IsFirstOf current frames place later first =
+    (entries : List ℕ) → StandAt entries frames →
+    option_map (reference_at entries frames) first
+    ≡ first_in_window_of current (reference_at entries frames place) (option_map (reference_at entries frames) later)

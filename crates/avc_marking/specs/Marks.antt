@@ -2,6 +2,7 @@
 -- with its newest entry first.
 use Rattle.std.specs.Prelude.{ℕ, zero, suc, ◌+◌, ◌-◌, ◌%◌, pos, ◌-ℤ◌, Bool, true, false, not, ◌==◌, ◌&&◌, ◌||◌, nat_lt, nat_le, max, if◌then◌else◌, List, [], ◌∷◌, ◌++◌, length, map, Option, Some, None, is_some, slice_get, Result, Ok, Err}
 use Rattle.std.specs.List.{filter, list_any}
+use Rattle.avc_types.specs.declared.current_frame_num.CurrentFrameNum.{CurrentFrameNum}
 use Rattle.avc_types.specs.declared.fault.Fault.{Fault}
 use Rattle.avc_types.specs.declared.fault.Fault.TheVariants as faults
 use Rattle.avc_types.specs.declared.references.Mark.{Mark}
@@ -9,15 +10,14 @@ use Rattle.avc_types.specs.declared.references.Mark.TheVariants.{Short, Long}
 use Rattle.avc_types.specs.declared.references.Marking.{Marking}
 use Rattle.avc_types.specs.declared.references.Marking.TheVariants.{Idr, SlidingWindow, Adaptive}
 use Rattle.avc_types.specs.declared.references.Operation.{Operation}
-use Rattle.avc_types.specs.declared.references.Operation.TheVariants.{ForgetShort, ForgetLong, ShortToLong, LimitLong, ForgetAll, CurrentToLong}
-use Rattle.avc_types.specs.References.{Reference, is_short, long_index, has_long_index, short_named, long_named, sorted_by, later_number}
+use Rattle.avc_types.specs.declared.references.Operation.TheVariants.{UnmarkShortTerm, UnmarkLongTerm, AssignLongTerm, MaxLongTermFrameIdx, UnmarkAll, CurrentToLongTerm}
+use Rattle.avc_types.specs.References.{Reference, is_short, long_term_frame_idx, has_long_term_frame_idx, short_term_frame, long_term_frame, sorted_by, has_greater_pic_num}
 
 -- What marking asks of an entry of the history: a closed picture, or a frame that stands for a missing frame number. Such a
 -- frame is not existing and has the marking `sliding`.
-pub record Step : Type 0 where
-  pub frame_num : ℕ
-  -- MaxFrameNum and max_num_ref_frames of its sequence parameter set
-  pub max_frame_num : ℕ
+pub record MarkingEntry : Type 0 where
+  -- its frame_num, and MaxFrameNum and max_num_ref_frames of its sequence parameter set
+  pub current : CurrentFrameNum
   pub max_num_ref_frames : ℕ
   pub existing : Bool
   -- dec_ref_pic_marking; none where nal_ref_idc is 0
@@ -26,13 +26,13 @@ pub record Step : Type 0 where
 -- The reference frames in decoding order, and the greatest long-term index, if there may be long-term frames.
 pub record Marks : Type 0 where
   pub references : List Reference
-  pub greatest : Option ℕ
+  pub max_long_term_frame_idx : Option ℕ
 
 abbrev pub no_marks : Marks
-no_marks = record { references = []; greatest = None }
+no_marks = record { references = []; max_long_term_frame_idx = None }
 
 -- how many reference frames there may be
-abbrev pub limit_of : Step → ℕ
+abbrev pub limit_of : MarkingEntry → ℕ
 limit_of s = max s.max_num_ref_frames 1
 
 infixl 10 ◌>>=◌
@@ -53,173 +53,224 @@ refuse_unless false x = Err faults.BadMarking
 -- ---- changes of the set
 
 -- this frame becomes unused for reference
-abbrev pub without : Reference → List Reference → List Reference
-without r references = filter (λ s. not (s.entry == r.entry)) references
+abbrev pub without_frame : Reference → List Reference → List Reference
+without_frame r references = filter (λ s. not (s.entry == r.entry)) references
 
-abbrev pub marked : Reference → Mark → Reference
-marked r mark = record r { mark = mark }
+abbrev pub with_other_mark : Reference → Mark → Reference
+with_other_mark r mark = record r { mark = mark }
 
 -- An index is taken from the frame that has it, which becomes unused.
-abbrev pub free_index : ℕ → List Reference → List Reference
-free_index index references = filter (λ s. not (has_long_index index s)) references
+abbrev pub without_long_term_frame_idx : ℕ → List Reference → List Reference
+without_long_term_frame_idx index references = filter (λ s. not (has_long_term_frame_idx index s)) references
 
 abbrev pub with_mark : Reference → Mark → List Reference → List Reference
-with_mark r mark references = map (λ s. if s.entry == r.entry then marked s mark else s) references
+with_mark r mark references = map (λ s. if s.entry == r.entry then with_other_mark s mark else s) references
 
 -- the index may be given
-abbrev pub index_fits : ℕ → Option ℕ → Bool
-index_fits index None = false
-index_fits index (Some greatest) = nat_le index greatest
+abbrev pub is_index_allowed : ℕ → Option ℕ → Bool
+is_index_allowed index None = false
+is_index_allowed index (Some max_long_term_frame_idx) = nat_le index max_long_term_frame_idx
 
 -- ---- sliding window (8.2.5.3)
 
--- Where there are as many frames as there may be, the short-term one with the least PicNum goes, of equals the one that
--- was decoded first.
-abbrev pub slid : Step → List Reference → Result (List Reference) Fault
-slid s references =
+-- The short-term frame with the least PicNum, of equals the one that was decoded first.
+abbrev pub precedes_in_window : CurrentFrameNum → Reference → Reference → Bool
+precedes_in_window current a b = has_greater_pic_num current b a
+
+abbrev pub first_in_window : CurrentFrameNum → List Reference → Option Reference
+first_in_window current references = slice_get (sorted_by (precedes_in_window current) (filter is_short references)) 0
+
+-- Where there are as many frames as there may be, that one becomes unused for reference.
+abbrev pub after_sliding_window : MarkingEntry → List Reference → Result (List Reference) Fault
+after_sliding_window s references =
     elim (nat_lt (length references) (limit_of s)) [
       | true ↦ Ok references
       | false ↦
-          frame_or faults.TooManyReferences (slice_get (sorted_by (λ a b. later_number s.frame_num s.max_frame_num b a) (filter is_short references)) 0)
-          >>= λ least. Ok (without least references)
+          frame_or faults.TooManyReferences (first_in_window s.current references)
+          >>= λ least. Ok (without_frame least references)
     ]
 
 -- ---- operations (8.2.5.4)
 
 -- The marks while the operations of an entry are gone through, and whether the entry's own frame has been marked.
-pub record Turn : Type 0 where
+pub record OperationState : Type 0 where
   pub references : List Reference
-  pub greatest : Option ℕ
+  pub max_long_term_frame_idx : Option ℕ
   pub assigned : Bool
 
 -- the short-term frame with picNumX
-abbrev pub named_short : Step → (difference_minus1 : ℕ) → List Reference → Result Reference Fault
-named_short s d references =
-    frame_or faults.BadMarking (short_named s.frame_num s.max_frame_num (pos s.frame_num -ℤ pos (d + 1)) references)
+abbrev pub frame_with_pic_num_x : MarkingEntry → (difference_minus1 : ℕ) → List Reference → Result Reference Fault
+frame_with_pic_num_x s d references =
+    frame_or faults.BadMarking (short_term_frame s.current (pos s.current.frame_num -ℤ pos (d + 1)) references)
 
 -- 1: the short-term frame becomes unused
-abbrev pub without_short : Step → (difference_minus1 : ℕ) → List Reference → Result (List Reference) Fault
-without_short s d references = named_short s d references >>= λ r. Ok (without r references)
+abbrev pub without_short_term : MarkingEntry → (difference_minus1 : ℕ) → List Reference → Result (List Reference) Fault
+without_short_term s d references = frame_with_pic_num_x s d references >>= λ r. Ok (without_frame r references)
 
 -- 2: the long-term frame becomes unused
-abbrev pub without_long : (index : ℕ) → List Reference → Result (List Reference) Fault
-without_long index references = frame_or faults.BadMarking (long_named index references) >>= λ r. Ok (without r references)
+abbrev pub long_term_frame_or_fault : (index : ℕ) → List Reference → Result Reference Fault
+long_term_frame_or_fault index references = frame_or faults.BadMarking (long_term_frame index references)
+
+abbrev pub without_long_term : (index : ℕ) → List Reference → Result (List Reference) Fault
+without_long_term index references = long_term_frame_or_fault index references >>= λ r. Ok (without_frame r references)
 
 -- 3: the short-term frame becomes long-term
-abbrev pub made_long : Step → (difference_minus1 index : ℕ) → (greatest : Option ℕ) → List Reference → Result (List Reference) Fault
-made_long s d index greatest references =
-    named_short s d references >>= λ r.
-    refuse_unless (r.existing && index_fits index greatest) (with_mark r (Long index) (free_index index references))
+abbrev pub with_long_term : MarkingEntry → (difference_minus1 index : ℕ) → (max_long_term_frame_idx : Option ℕ) →
+    List Reference → Result (List Reference) Fault
+with_long_term s d index max_long_term_frame_idx references =
+    frame_with_pic_num_x s d references >>= λ r.
+    refuse_unless (r.existing && is_index_allowed index max_long_term_frame_idx)
+    (with_mark r (Long index) (without_long_term_frame_idx index references))
 
 -- 4: the long-term frames with these indices and greater ones become unused
-abbrev pub limited : (plus1 : ℕ) → List Reference → List Reference
-limited plus1 references = filter (λ r. is_short r || nat_lt (long_index r) plus1) references
+abbrev pub with_max_long_term_frame_idx : (plus1 : ℕ) → List Reference → List Reference
+with_max_long_term_frame_idx plus1 references = filter (λ r. is_short r || nat_lt (long_term_frame_idx r) plus1) references
 
-abbrev pub greatest_below : (plus1 : ℕ) → Option ℕ
-greatest_below zero = None
-greatest_below (suc greatest) = Some greatest
+abbrev pub max_long_term_frame_idx_below : (plus1 : ℕ) → Option ℕ
+max_long_term_frame_idx_below zero = None
+max_long_term_frame_idx_below (suc max_long_term_frame_idx) = Some max_long_term_frame_idx
 
-abbrev pub with_references : Turn → Result (List Reference) Fault → Result Turn Fault
+abbrev pub with_references : OperationState → Result (List Reference) Fault → Result OperationState Fault
 with_references t changed = changed >>= λ references. Ok (record t { references = references })
 
--- The step s is the picture's own, `entry` its place in the history.
-abbrev pub after_operation : Step → (entry : ℕ) → Turn → Operation → Result Turn Fault
-after_operation s entry t (ForgetShort d) = with_references t (without_short s d t.references)
-after_operation s entry t (ForgetLong index) = with_references t (without_long index t.references)
-after_operation s entry t (ShortToLong d index) = with_references t (made_long s d index t.greatest t.references)
-after_operation s entry t (LimitLong plus1) =
+-- 6: the picture's own frame
+abbrev pub long_term_current : MarkingEntry → (entry index : ℕ) → Reference
+long_term_current s entry index = record {
+  entry = entry;
+  frame_num = s.current.frame_num;
+  existing = s.existing;
+  mark = Long index;
+}
+
+abbrev pub with_long_term_current : MarkingEntry → (index entry : ℕ) → List Reference → List Reference
+with_long_term_current s index entry references =
+    without_long_term_frame_idx index references ++ long_term_current s entry index ∷ []
+
+-- s is the picture's own entry, `entry` its place in the history.
+abbrev pub after_operation : MarkingEntry → (entry : ℕ) → OperationState → Operation → Result OperationState Fault
+after_operation s entry t (UnmarkShortTerm d) = with_references t (without_short_term s d t.references)
+after_operation s entry t (UnmarkLongTerm index) = with_references t (without_long_term index t.references)
+after_operation s entry t (AssignLongTerm d index) =
+    with_references t (with_long_term s d index t.max_long_term_frame_idx t.references)
+after_operation s entry t (MaxLongTermFrameIdx plus1) =
     refuse_unless (nat_le plus1 s.max_num_ref_frames)
-    (record t { references = limited plus1 t.references; greatest = greatest_below plus1 })
-after_operation s entry t ForgetAll = Ok (record t { references = []; greatest = None })
-after_operation s entry t (CurrentToLong index) =
-    refuse_unless (not t.assigned && index_fits index t.greatest)
     (record t {
-      references = free_index index t.references ++ record { entry = entry; frame_num = s.frame_num; existing = s.existing; mark = Long index } ∷ [];
+      references = with_max_long_term_frame_idx plus1 t.references;
+      max_long_term_frame_idx = max_long_term_frame_idx_below plus1;
+    })
+after_operation s entry t UnmarkAll = Ok (record t { references = []; max_long_term_frame_idx = None })
+after_operation s entry t (CurrentToLongTerm index) =
+    refuse_unless (not t.assigned && is_index_allowed index t.max_long_term_frame_idx)
+    (record t {
+      references = with_long_term_current s index entry t.references;
       assigned = true;
     })
 
-abbrev pub after_operations : Step → (entry : ℕ) → Turn → List Operation → Result Turn Fault
+abbrev pub after_operations : MarkingEntry → (entry : ℕ) → OperationState → List Operation → Result OperationState Fault
 after_operations s entry t [] = Ok t
 after_operations s entry t (o ∷ operations) =
     after_operation s entry t o >>= λ t'. after_operations s entry t' operations
 
-abbrev pub is_forget_all : Operation → Bool
-is_forget_all ForgetAll = true
-is_forget_all _ = false
+abbrev pub is_unmark_all : Operation → Bool
+is_unmark_all UnmarkAll = true
+is_unmark_all _ = false
 
 -- FrameNum of the entry's frame from then on: 0 after operation 5
-abbrev pub kept_number : Step → ℕ
-kept_number s = elim s.marking [ None ↦ s.frame_num | Some m ↦ number_under m ]
+abbrev pub frame_num_after_marking : MarkingEntry → ℕ
+frame_num_after_marking s = elim s.marking [ None ↦ s.current.frame_num | Some m ↦ number_under m ]
   where
     number_under : Marking → ℕ
-    number_under (Adaptive operations) = if list_any is_forget_all operations then 0 else s.frame_num
-    number_under _ = s.frame_num
+    number_under (Adaptive operations) = if list_any is_unmark_all operations then 0 else s.current.frame_num
+    number_under _ = s.current.frame_num
 
 -- the entry's own frame
-abbrev pub own : Step → (entry : ℕ) → Mark → Reference
-own s entry mark = record { entry = entry; frame_num = kept_number s; existing = s.existing; mark = mark }
+abbrev pub current_frame : MarkingEntry → (entry : ℕ) → Mark → Reference
+current_frame s entry mark = record {
+  entry = entry;
+  frame_num = frame_num_after_marking s;
+  existing = s.existing;
+  mark = mark;
+}
 
 -- the operations leave this, where the frame that has got no mark by them becomes short-term
-abbrev pub with_own : Step → (entry : ℕ) → Turn → Marks
-with_own s entry t =
+abbrev pub with_current_frame : MarkingEntry → (entry : ℕ) → OperationState → Marks
+with_current_frame s entry t =
     record {
       references = elim t.assigned [
-        | true ↦ map (λ r. if r.entry == entry then own s entry r.mark else r) t.references
-        | false ↦ t.references ++ own s entry Short ∷ []
+        | true ↦ map (λ r. if r.entry == entry then current_frame s entry r.mark else r) t.references
+        | false ↦ t.references ++ current_frame s entry Short ∷ []
       ];
-      greatest = t.greatest;
+      max_long_term_frame_idx = t.max_long_term_frame_idx;
     }
 
-abbrev pub within_limit : Step → Marks → Result Marks Fault
+abbrev pub within_limit : MarkingEntry → Marks → Result Marks Fault
 within_limit s m = if nat_le (length m.references) (limit_of s) then Ok m else Err faults.TooManyReferences
 
+abbrev pub before_operations : Marks → OperationState
+before_operations m = record {
+  references = m.references;
+  max_long_term_frame_idx = m.max_long_term_frame_idx;
+  assigned = false;
+}
+
 -- the marks after all the operations
-abbrev pub adapted : Step → (entry : ℕ) → Marks → List Operation → Result Marks Fault
-adapted s entry m operations =
-    after_operations s entry (record { references = m.references; greatest = m.greatest; assigned = false }) operations
-    >>= λ t. within_limit s (with_own s entry t)
+abbrev pub after_adaptive_marking : MarkingEntry → (entry : ℕ) → Marks → List Operation → Result Marks Fault
+after_adaptive_marking s entry m operations =
+    after_operations s entry (before_operations m) operations
+    >>= λ t. within_limit s (with_current_frame s entry t)
 
 -- ---- the whole history (8.2.5.1)
 
 -- The marks after an entry, from those before it.
-abbrev pub marked_by : Step → (entry : ℕ) → Option Marking → Marks → Result Marks Fault
-marked_by s entry None m = Ok m
-marked_by s entry (Some (Idr no_output false)) m = Ok (record { references = own s entry Short ∷ []; greatest = None })
-marked_by s entry (Some (Idr no_output true)) m = Ok (record { references = own s entry (Long 0) ∷ []; greatest = Some 0 })
-marked_by s entry (Some SlidingWindow) m =
-    slid s m.references >>= λ references. Ok (record m { references = references ++ own s entry Short ∷ [] })
-marked_by s entry (Some (Adaptive operations)) m = adapted s entry m operations
+abbrev pub marks_after : MarkingEntry → (entry : ℕ) → Option Marking → Marks → Result Marks Fault
+marks_after s entry None m = Ok m
+marks_after s entry (Some (Idr no_output false)) m =
+    Ok (record { references = current_frame s entry Short ∷ []; max_long_term_frame_idx = None })
+marks_after s entry (Some (Idr no_output true)) m =
+    Ok (record { references = current_frame s entry (Long 0) ∷ []; max_long_term_frame_idx = Some 0 })
+marks_after s entry (Some SlidingWindow) m =
+    after_sliding_window s m.references
+    >>= λ references. Ok (record m { references = references ++ current_frame s entry Short ∷ [] })
+marks_after s entry (Some (Adaptive operations)) m = after_adaptive_marking s entry m operations
 
 -- The marks that a history leaves, or the first fault. An entry's place is the number of those before it.
-abbrev pub marks : List Step → Result Marks Fault
+abbrev pub marks : List MarkingEntry → Result Marks Fault
 marks [] = Ok no_marks
-marks (s ∷ older) = marks older >>= λ m. marked_by s (length older) s.marking m
+marks (s ∷ older) = marks older >>= λ m. marks_after s (length older) s.marking m
 
 -- ---- gaps in frame_num (7.4.3, 8.2.5.2)
 
 -- PrevRefFrameNum: of the last reference picture or non-existing frame, 0 after operation 5
-abbrev pub previous_number : List Step → ℕ
-previous_number [] = 0
-previous_number (s ∷ older) = elim (is_some s.marking) [ true ↦ kept_number s | false ↦ previous_number older ]
+abbrev pub prev_ref_frame_num : List MarkingEntry → ℕ
+prev_ref_frame_num [] = 0
+prev_ref_frame_num (s ∷ older) = elim (is_some s.marking) [ true ↦ frame_num_after_marking s | false ↦ prev_ref_frame_num older ]
 
 -- n numbers from a on, modulo max
-abbrev pub numbers_from : (max a n : ℕ) → List ℕ
-numbers_from max a zero = []
-numbers_from max a (suc n) = a % max ∷ numbers_from max (a + 1) n
+abbrev pub frame_nums_from : (max a n : ℕ) → List ℕ
+frame_nums_from max a zero = []
+frame_nums_from max a (suc n) = a % max ∷ frame_nums_from max (a + 1) n
+
+-- how many numbers stand between PrevRefFrameNum and frame_num, modulo MaxFrameNum
+abbrev pub gap_of : (previous : ℕ) → CurrentFrameNum → ℕ
+gap_of previous current = (current.frame_num + current.max_frame_num - previous - 1) % current.max_frame_num
 
 -- The frame numbers that are missing before a picture that is no IDR picture, or the fault.
-abbrev pub missing_numbers : (previous : ℕ) → (gaps_allowed : Bool) → Step → Result (List ℕ) Fault
-missing_numbers previous gaps_allowed s =
-    elim (s.frame_num == previous) [
+abbrev pub missing_frame_nums : (previous : ℕ) → (gaps_allowed : Bool) → MarkingEntry → Result (List ℕ) Fault
+missing_frame_nums previous gaps_allowed s =
+    elim (s.current.frame_num == previous) [
       | true ↦ (if is_some s.marking then Err faults.FrameNumRepeated else Ok [])
-      | false ↦ elim (s.frame_num == (previous + 1) % s.max_frame_num) [
+      | false ↦ elim (s.current.frame_num == (previous + 1) % s.current.max_frame_num) [
         | true ↦ Ok []
         | false ↦ (if gaps_allowed
-            then Ok (numbers_from s.max_frame_num (previous + 1) ((s.frame_num + s.max_frame_num - previous - 1) % s.max_frame_num))
+            then Ok (frame_nums_from s.current.max_frame_num (previous + 1) (gap_of previous s.current))
             else Err faults.FrameNumGap)
       ]
     ]
 
 -- the entry for a missing number before the picture
-abbrev pub missing_step : Step → (frame_num : ℕ) → Step
-missing_step s frame_num = record s { frame_num = frame_num; existing = false; marking = Some SlidingWindow }
+abbrev pub missing_frame_entry : MarkingEntry → (frame_num : ℕ) → MarkingEntry
+missing_frame_entry s frame_num = record s {
+  current = record { frame_num = frame_num; max_frame_num = s.current.max_frame_num };
+  existing = false;
+  marking = Some SlidingWindow;
+}

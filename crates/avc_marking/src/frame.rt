@@ -1,21 +1,17 @@
-ghost use Rattle.std.specs.Prelude.{◌≡◌, ℕ, ◌<◌, List, length, filter, not, slice_index_or};
-ghost use Rattle.avc_types.specs.References.{StandAt, references_at, reference_at, is_marked, no_frame};
-ghost use Rattle.avc_marking.specs.Marks.{without};
-ghost use Rattle.avc_marking.specs.Frames.{leaves, unless};
+ghost use Rattle.std.specs.Prelude.{◌≡◌, ◌<◌, filter, length, not};
+ghost use Rattle.avc_types.specs.References.{is_marked};
+ghost use Rattle.avc_marking.specs.Frames.{ChangesFrames, UnmarksEach, UnmarksPlace, is_to_unmark, unmarked_if};
 
-use avc_types::{Mark, MarkedFrame, has_index};
+use avc_types::{CurrentFrameNum, Mark, MarkedFrame, has_long_term_frame_idx};
 
 /// What marking asks of a frame that comes to the buffer: of a decoded picture, or of one that stands for a missing frame number.
 #[derive(Clone, Copy, Debug, PartialEq, Eq)]
 pub struct NewFrame {
-    /// frame_num.
-    pub frame_num: u32,
+    /// Its frame_num, and MaxFrameNum of its sequence parameter set.
+    pub current: CurrentFrameNum,
 
     /// It is a decoded picture, and doesn't stand for a missing frame number.
     pub existing: bool,
-
-    /// MaxFrameNum of its sequence parameter set.
-    pub max_frame_num: u32,
 
     /// max_num_ref_frames of its sequence parameter set.
     pub max_num_ref_frames: u32,
@@ -23,7 +19,7 @@ pub struct NewFrame {
 
 /// Which frames become unused for reference.
 #[derive(Clone, Copy)]
-pub enum Leaving {
+pub enum FramesToUnmark {
     /// The long-term frame with an index.
     Index(u32),
 
@@ -34,20 +30,21 @@ pub enum Leaving {
     Every,
 }
 
-fn is_leaving(frame: MarkedFrame, leaving: Leaving) -> bool
-    ensures { result ≡ is_marked (leaves leaving) frame }
+fn is_to_unmark(frame: MarkedFrame, to_unmark: FramesToUnmark) -> bool
+    ensures { result ≡ is_marked (is_to_unmark to_unmark) frame }
 {
-    match leaving {
-        Leaving::Index(index) => has_index(frame, index),
-        Leaving::From(index) => matches!(frame.mark, Some(Mark::Long(kept)) if kept >= index),
-        Leaving::Every => frame.mark.is_some(),
+    match to_unmark {
+        FramesToUnmark::Index(index) => has_long_term_frame_idx(frame, index),
+        FramesToUnmark::From(index) =>
+            matches!(frame.mark, Some(Mark::Long(kept)) if kept >= index),
+        FramesToUnmark::Every => frame.mark.is_some(),
     }
 }
 
-fn without_leaving(frame: MarkedFrame, leaving: Leaving) -> MarkedFrame
-    ensures { result ≡ unless (leaves leaving) frame }
+fn unmarked_if(frame: MarkedFrame, to_unmark: FramesToUnmark) -> MarkedFrame
+    ensures { result ≡ unmarked_if (is_to_unmark to_unmark) frame }
 {
-    if is_leaving(frame, leaving) {
+    if is_to_unmark(frame, to_unmark) {
         MarkedFrame {
             mark: None,
             ..frame
@@ -58,19 +55,19 @@ fn without_leaving(frame: MarkedFrame, leaving: Leaving) -> MarkedFrame
 }
 
 /// The frames become unused.
-pub fn leave(frames: &mut [MarkedFrame], leaving: Leaving)
-    ensures each { (k : ℕ) → k < length frames.old → slice_index_or frames.new k no_frame ≡ unless (leaves leaving) (slice_index_or frames.old k no_frame) }
-    ensures references { (entries : List ℕ) → StandAt entries frames.old → references_at entries frames.new ≡ filter (λ r. not (leaves leaving r)) (references_at entries frames.old) }
+pub fn unmark_frames(frames: &mut [MarkedFrame], to_unmark: FramesToUnmark)
+    ensures each { UnmarksEach (is_to_unmark to_unmark) frames.old frames.new }
+    ensures references { ChangesFrames (filter (λ r. not (is_to_unmark to_unmark r))) frames.old frames.new }
 {
     for place in 0..frames.len() {
-        frames[place] = without_leaving(frames[place], leaving);
+        frames[place] = unmarked_if(frames[place], to_unmark);
     }
 }
 
 /// One frame becomes unused.
-pub fn forget(frames: &mut [MarkedFrame], place: usize)
+pub fn unmark(frames: &mut [MarkedFrame], place: usize)
     requires { place < length frames.old }
-    ensures { (entries : List ℕ) → StandAt entries frames.old → references_at entries frames.new ≡ without (reference_at entries frames.old place) (references_at entries frames.old) }
+    ensures { UnmarksPlace place frames.old frames.new }
 {
     frames[place].mark = None;
 }

@@ -1,13 +1,13 @@
 ghost use Rattle.std.specs.Prelude.{◌≡◌, ◌+◌, ◌%◌, [], ◌<◌, drop, slice_get};
-ghost use Rattle.avc_marking.specs.Marks.{missing_numbers};
-ghost use Rattle.avc_marking.specs.Frames.{step_of};
+ghost use Rattle.avc_marking.specs.Marks.{missing_frame_nums};
+ghost use Rattle.avc_marking.specs.Frames.{marking_entry};
 
 use crate::frame::NewFrame;
 use avc_types::{Fault, Marking};
 use std::marker::Model;
 
 /// The frame number after another, modulo MaxFrameNum.
-fn after(number: u32, max_frame_num: u32) -> u32
+fn next_frame_num(number: u32, max_frame_num: u32) -> u32
     requires { number < max_frame_num }
     ensures value { result ≡ (number + 1) % max_frame_num }
     ensures below { result < max_frame_num }
@@ -21,29 +21,29 @@ fn after(number: u32, max_frame_num: u32) -> u32
 
 /// Missing frame numbers, in order. A contract sees them as their list.
 #[derive(Drop)]
-pub struct MissingNumbers {
+pub struct MissingFrameNums {
     next: u32,
     left: u32,
     max_frame_num: u32,
 }
 
-impl Model for MissingNumbers {
+impl Model for MissingFrameNums {
     ghost use Rattle.std.specs.Prelude.{ℕ, List, ◌<◌};
-    ghost use Rattle.avc_marking.specs.Marks.{numbers_from};
+    ghost use Rattle.avc_marking.specs.Marks.{frame_nums_from};
 
     ghost Value = { List ℕ };
 
-    ghost view = { λ m. numbers_from m.max_frame_num m.next m.left };
+    ghost view = { λ m. frame_nums_from m.max_frame_num m.next m.left };
 
     ghost invariant = { λ m. m.next < m.max_frame_num };
 }
 
-impl MissingNumbers {
-    fn none(max_frame_num: u32) -> MissingNumbers
+impl MissingFrameNums {
+    fn none(max_frame_num: u32) -> MissingFrameNums
         requires { 0 < max_frame_num }
         ensures { result ≡ [] }
     {
-        MissingNumbers {
+        MissingFrameNums {
             next: 0,
             left: 0,
             max_frame_num,
@@ -60,40 +60,41 @@ impl MissingNumbers {
         }
         let number = self.next;
         self.left -= 1;
-        self.next = after(number, self.max_frame_num);
+        self.next = next_frame_num(number, self.max_frame_num);
         Some(number)
     }
 }
 
 /// The frame numbers that are missing before a picture that is no IDR picture (7.4.3, 8.2.5.2), where `previous` is PrevRefFrameNum.
 /// FrameNumRepeated where a reference picture has PrevRefFrameNum itself, FrameNumGap where numbers are missing and may not be.
-pub fn gap(
+pub fn missing_frame_nums(
     previous: u32,
     gaps_allowed: bool,
     new: NewFrame,
     marking: &Option<Marking>,
-) -> Result<MissingNumbers, Fault>
-    requires { 0 < new.max_frame_num }
-    ensures { result ≡ missing_numbers previous gaps_allowed (step_of new marking.now) }
+) -> Result<MissingFrameNums, Fault>
+    requires { 0 < new.current.max_frame_num }
+    ensures { result ≡ missing_frame_nums previous gaps_allowed (marking_entry new marking.now) }
 {
-    let max = u64::from(new.max_frame_num);
-    if new.frame_num == previous {
+    let max = u64::from(new.current.max_frame_num);
+    if new.current.frame_num == previous {
         if marking.is_some() {
             return Err(Fault::FrameNumRepeated);
         }
-        return Ok(MissingNumbers::none(new.max_frame_num));
+        return Ok(MissingFrameNums::none(new.current.max_frame_num));
     }
     let first = (u64::from(previous) + 1) % max;
-    if u64::from(new.frame_num) == first {
-        return Ok(MissingNumbers::none(new.max_frame_num));
+    if u64::from(new.current.frame_num) == first {
+        return Ok(MissingFrameNums::none(new.current.max_frame_num));
     }
     if !gaps_allowed {
         return Err(Fault::FrameNumGap);
     }
-    let left = (u64::from(new.frame_num) + max).saturating_sub(u64::from(previous) + 1) % max;
-    Ok(MissingNumbers {
+    let left = (u64::from(new.current.frame_num) + max).saturating_sub(u64::from(previous) + 1)
+        % max;
+    Ok(MissingFrameNums {
         next: first as u32,
         left: left as u32,
-        max_frame_num: new.max_frame_num,
+        max_frame_num: new.current.max_frame_num,
     })
 }

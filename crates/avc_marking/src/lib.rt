@@ -3,13 +3,12 @@
 
 mod frame;
 mod gaps;
-mod laws;
+pub mod laws;
+mod marking;
 mod operations;
-mod whole;
 mod window;
 
 pub use frame::NewFrame;
-pub use gaps::{MissingNumbers, gap};
-pub use laws::references_are_limited;
-pub use whole::{kept_number, mark};
-pub use window::slide;
+pub use gaps::{MissingFrameNums, missing_frame_nums};
+pub use marking::{frame_num_after_marking, mark};
+pub use window::sliding_window;

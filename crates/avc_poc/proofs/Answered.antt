@@ -10,8 +10,8 @@ use Rattle.avc_params.specs.declared.sps.OrderCount.TheVariants as orders
 use Rattle.avc_slice.specs.declared.header.Header.{Header}
 use Rattle.avc_slice.specs.Header.{has_operation_5}
 use Rattle.avc_poc.specs.declared.previous.Previous.{Previous}
-use Rattle.avc_poc.specs.OrderCounts.{Counts, both_fit, fits, answered, lowered, in_range, number_fits, counts_by, counts_0, counts_from, msb_of, max_lsb, lsb_of}
-use Rattle.avc_poc.specs.Earlier.{IsNear, IsPrevious, answer, pair}
+use Rattle.avc_poc.specs.OrderCounts.{Counts, both_in_32_bits, in_32_bits, final_counts, lowered_by_operation_5, in_range, number_in_range, counts_by, counts_0, counts_from, msb_of, max_lsb, lsb_of}
+use Rattle.avc_poc.specs.OrderCountState.{IsNear, IsPrevious, count_pair, pair}
 
 abbrev IsValue : Result (ℤ × ℤ) Fault → Type 0
 IsValue (Ok p) = Unit {0}
@@ -25,17 +25,17 @@ pub ok_is : (b : Bool) (p q : ℤ × ℤ) → ◌≡◌ {A = Result (ℤ × ℤ)
 ok_is true p q e = (refl, ap value e)
 ok_is false p q e = absurd (subst IsValue e tt)
 
-pub counted : (r : Result Counts Fault) (p : ℤ × ℤ) → ◌≡◌ {A = Result (ℤ × ℤ) Fault} (Ok p) (answer r) → is_ok r ≡ true
+pub counted : (r : Result Counts Fault) (p : ℤ × ℤ) → ◌≡◌ {A = Result (ℤ × ℤ) Fault} (Ok p) (count_pair r) → is_ok r ≡ true
 counted (Ok c) p e = refl
 counted (Err f) p e = absurd (subst IsValue e tt)
 
-answer_tested : (b : Bool) (c : Counts) → ◌≡◌ {A = Result (ℤ × ℤ) Fault} (if b then Ok (pair c) else Err PocRange) (answer (if b then Ok c else Err PocRange))
+answer_tested : (b : Bool) (c : Counts) → ◌≡◌ {A = Result (ℤ × ℤ) Fault} (if b then Ok (pair c) else Err PocRange) (count_pair (if b then Ok c else Err PocRange))
 answer_tested true c = refl
 answer_tested false c = refl
 
-pub in_range_lowered : (h : Header) (c : Counts) → has_operation_5 h ≡ true → both_fit c ≡ true
-    → ◌≡◌ {A = Result (ℤ × ℤ) Fault} (if both_fit (lowered c) then Ok (pair (lowered c)) else Err PocRange) (answer (in_range h c))
-in_range_lowered h c five fit = rw (five, fit) (answer_tested (both_fit (lowered c)) (lowered c))
+pub in_range_lowered : (h : Header) (c : Counts) → has_operation_5 h ≡ true → both_in_32_bits c ≡ true
+    → ◌≡◌ {A = Result (ℤ × ℤ) Fault} (if both_in_32_bits (lowered_by_operation_5 c) then Ok (pair (lowered_by_operation_5 c)) else Err PocRange) (count_pair (in_range h c))
+in_range_lowered h c five fit = rw (five, fit) (answer_tested (both_in_32_bits (lowered_by_operation_5 c)) (lowered_by_operation_5 c))
 
 and_left : (a b : Bool) → (a && b) ≡ true → a ≡ true
 and_left true b e = refl
@@ -46,7 +46,7 @@ and_right true b e = e
 and_right false true e = refl
 and_right false false e = e
 
-fits_is : (z : ℤ) → fits z ≡ true → IsNear 31 z
+fits_is : (z : ℤ) → in_32_bits z ≡ true → IsNear 31 z
 fits_is z e =
     let low : int_le (neg_ℤ (pos (2 ^ 31))) z ≡ true = and_left (int_le (neg_ℤ (pos (2 ^ 31))) z) (int_lt z (pos (2 ^ 31))) e in
     let high : int_lt z (pos (2 ^ 31)) ≡ true = and_right (int_le (neg_ℤ (pos (2 ^ 31))) z) (int_lt z (pos (2 ^ 31))) e in
@@ -69,12 +69,12 @@ msb_unmoved max p lsb e near =
 
 -- A picture that has counts leaves an msb that is small enough.
 kept : (o : OrderCount) (sps : Sps) (h : Header) (p : Previous) (n : ℕ) → max_lsb sps.order_count ≡ max_lsb o → IsPrevious p → IsNear 33 (lsb_of h.order)
-    → is_ok (if number_fits o n then in_range h (counts_by o sps h p n) else Err PocRange) ≡ true
+    → is_ok (if number_in_range o n then in_range h (counts_by o sps h p n) else Err PocRange) ≡ true
     → IsNear 34 (msb_of (max_lsb sps.order_count) p (lsb_of h.order))
 kept (orders.Type0 log2) sps h p n e near low ok =
     let c : Counts = counts_0 sps h p in
     let top : IsNear 31 (msb_of (max_lsb sps.order_count) p (lsb_of h.order) +ℤ lsb_of h.order) =
-    fits_is _ (and_left (fits c.top) (fits c.bottom) (and_left (both_fit c) (both_fit (answered h c)) (tested (both_fit c && both_fit (answered h c)) (answered h c) ok))) in
+    fits_is _ (and_left (in_32_bits c.top) (in_32_bits c.bottom) (and_left (both_in_32_bits c) (both_in_32_bits (final_counts h c)) (tested (both_in_32_bits c && both_in_32_bits (final_counts h c)) (final_counts h c) ok))) in
     near_part _ _ top low
   where
     near_part : (m l : ℤ) → IsNear 31 (m +ℤ l) → IsNear 33 l → IsNear 34 m

@@ -3,7 +3,7 @@ use Rattle.std.proofs.Common.{◌≡◌, ℤ, pos, ◌+ℤ◌, ◌-ℤ◌, ◌*�
 use Rattle.std.proofs.lemmas.Int.{ints}
 use Rattle.avc_poc.specs.declared.previous.Previous.{Previous}
 use Rattle.avc_poc.specs.OrderCounts.{msb_of}
-use Rattle.avc_poc.specs.Earlier.{IsNear, IsPrevious}
+use Rattle.avc_poc.specs.OrderCountState.{IsNear, IsPrevious}
 use Rattle.std.specs.Int.{int_min}
 
 pub lt_yes : (a b : ℤ) → a <ℤ b → int_lt a b ≡ true

@@ -10,77 +10,77 @@ use Rattle.avc_params.specs.Limits.{max_frame_num}
 use Rattle.avc_slice.specs.declared.header.Header.{Header}
 use Rattle.avc_slice.specs.Header.{is_idr, is_reference, has_operation_5}
 use Rattle.avc_poc.specs.declared.previous.Previous.{Previous}
-use Rattle.avc_poc.specs.OrderCounts.{Past, picture, frame_num_offset, previous_for, previous_of, number_fits, in_range, counts_by, counts_from, order_counts, resets, past_number, left_by, no_previous}
-use Rattle.avc_poc.specs.Earlier.{Earlier, earlier, held, offset_held, picture_offset, after_picture, previous_after, counts_after}
+use Rattle.avc_poc.specs.OrderCounts.{Past, picture, frame_num_offset, previous_for, previous_of, number_in_range, in_range, counts_by, counts_from, order_counts, resets_order_counts, past_number, previous_from, no_previous}
+use Rattle.avc_poc.specs.OrderCountState.{OrderCountState, order_count_state, saturated, next_offset, picture_offset, after_picture, previous_after, counts_after}
 
 none_below : (n : ℕ) → nat_lt n 0 ≡ false
 none_below n = grind (arith, nat_tests)
 
-held_more : (b : Bool) (o m : ℕ) → (if b then held (held o + m) else held o) ≡ held (if b then o + m else o)
+held_more : (b : Bool) (o m : ℕ) → (if b then saturated (saturated o + m) else saturated o) ≡ saturated (if b then o + m else o)
 held_more true o m = omega arith
 held_more false o m = refl
 
 held_step : (idr reset : Bool) (o before n m : ℕ)
-    → elim idr as (λ x. ℕ) [ true ↦ 0 | false ↦ offset_held (if reset then 0 else held o) (if reset then 0 else before) n m ]
-    ≡ held (elim idr as (λ x. ℕ) [ true ↦ 0 | false ↦ (if reset then 0 else (if nat_lt n before then o + m else o)) ])
+    → elim idr as (λ x. ℕ) [ true ↦ 0 | false ↦ next_offset (if reset then 0 else saturated o) (if reset then 0 else before) n m ]
+    ≡ saturated (elim idr as (λ x. ℕ) [ true ↦ 0 | false ↦ (if reset then 0 else (if nat_lt n before then o + m else o)) ])
 held_step true reset o before n m = refl
 held_step false true o before n m = rw (none_below n)
 held_step false false o before n m = held_more (nat_lt n before) o m
 
-pub offset_law : (sps : Sps) (h : Header) (older : List Past) → picture_offset sps h (earlier older) ≡ held (frame_num_offset (picture sps h ∷ older))
+pub offset_law : (sps : Sps) (h : Header) (older : List Past) → picture_offset sps h (order_count_state older) ≡ saturated (frame_num_offset (picture sps h ∷ older))
 offset_law sps h [] = held_step (is_idr h) true 0 0 h.frame_num (max_frame_num sps) ∙ at_first (is_idr h)
   where
-    at_first : (b : Bool) → held (elim b as (λ x. ℕ) [ true ↦ 0 | false ↦ 0 ]) ≡ 0
+    at_first : (b : Bool) → saturated (elim b as (λ x. ℕ) [ true ↦ 0 | false ↦ 0 ]) ≡ 0
     at_first true = refl
     at_first false = refl
-offset_law sps h (x ∷ others) = held_step (is_idr h) (resets x) (frame_num_offset (x ∷ others)) (past_number x) h.frame_num (max_frame_num sps)
+offset_law sps h (x ∷ others) = held_step (is_idr h) (resets_order_counts x) (frame_num_offset (x ∷ others)) (past_number x) h.frame_num (max_frame_num sps)
 
 -- FrameNumOffset may be held at 2^31, since no count is answered from there on
 tested : {A : Type 0} (f : ℕ → A) (z : A) (x n : ℕ) (b : Bool) → nat_lt x (2 ^ 31) ≡ b
-    → (if nat_lt (held x + n) (2 ^ 31) then f (held x + n) else z) ≡ (if nat_lt (x + n) (2 ^ 31) then f (x + n) else z)
+    → (if nat_lt (saturated x + n) (2 ^ 31) then f (saturated x + n) else z) ≡ (if nat_lt (x + n) (2 ^ 31) then f (x + n) else z)
 tested f z x n true e =
-    let below : held x ≡ x = grind (arith, nat_tests) in
+    let below : saturated x ≡ x = grind (arith, nat_tests) in
     ap (λ k. if nat_lt (k + n) (2 ^ 31) then f (k + n) else z) below
 tested f z x n false e =
-    let first : nat_lt (held x + n) (2 ^ 31) ≡ false = grind (arith, nat_tests) in
+    let first : nat_lt (saturated x + n) (2 ^ 31) ≡ false = grind (arith, nat_tests) in
     let second : nat_lt (x + n) (2 ^ 31) ≡ false = grind (arith, nat_tests) in
     rw (first, second)
 
 held_counts : (o : OrderCount) (sps : Sps) (h : Header) (p : Previous) (x n : ℕ)
-    → ◌≡◌ {A = Result _ Fault} (if number_fits o (held x + n) then in_range h (counts_by o sps h p (held x + n)) else Err PocRange)
-    (if number_fits o (x + n) then in_range h (counts_by o sps h p (x + n)) else Err PocRange)
+    → ◌≡◌ {A = Result _ Fault} (if number_in_range o (saturated x + n) then in_range h (counts_by o sps h p (saturated x + n)) else Err PocRange)
+    (if number_in_range o (x + n) then in_range h (counts_by o sps h p (x + n)) else Err PocRange)
 held_counts (orders.Type0 log2) sps h p x n = refl
 held_counts (orders.Type1 z a b cycle) sps h p x n =
     tested (λ k. in_range h (counts_by (orders.Type1 z a b cycle) sps h p k)) (Err PocRange) x n (nat_lt x (2 ^ 31)) refl
 held_counts orders.Type2 sps h p x n = tested (λ k. in_range h (counts_by orders.Type2 sps h p k)) (Err PocRange) x n (nat_lt x (2 ^ 31)) refl
 
-previous_law : (older : List Past) → (earlier older).previous ≡ previous_of older
+previous_law : (older : List Past) → (order_count_state older).previous ≡ previous_of older
 previous_law [] = refl
 previous_law (x ∷ others) = refl
 
-pub counts_law : (sps : Sps) (h : Header) (older : List Past) → counts_after sps h (earlier older) ≡ order_counts sps h older
+pub counts_law : (sps : Sps) (h : Header) (older : List Past) → counts_after sps h (order_count_state older) ≡ order_counts sps h older
 counts_law sps h older =
-    ap (λ p. counts_from sps h (previous_for h p) (picture_offset sps h (earlier older) + h.frame_num)) (previous_law older)
+    ap (λ p. counts_from sps h (previous_for h p) (picture_offset sps h (order_count_state older) + h.frame_num)) (previous_law older)
     ∙ ap (λ (k : ℕ). counts_from sps h (previous_for h (previous_of older)) (k + h.frame_num)) (offset_law sps h older)
     ∙ held_counts sps.order_count sps h (previous_for h (previous_of older)) (frame_num_offset (picture sps h ∷ older)) h.frame_num
 
-previous_after_law : (sps : Sps) (h : Header) (older : List Past) → previous_after sps h (earlier older).previous ≡ previous_of (picture sps h ∷ older)
+previous_after_law : (sps : Sps) (h : Header) (older : List Past) → previous_after sps h (order_count_state older).previous ≡ previous_of (picture sps h ∷ older)
 previous_after_law sps h older = ap (previous_after sps h) (previous_law older) ∙ same (is_reference h) (is_idr h)
   where
     same : (reference idr : Bool)
-        → elim reference as (λ x. Previous) [ false ↦ previous_of older | true ↦ left_by sps h (elim idr as (λ x. Previous) [ true ↦ no_previous | false ↦ previous_of older ]) ]
-        ≡ elim reference as (λ x. Previous) [ false ↦ previous_of older | true ↦ elim idr as (λ x. Previous) [ true ↦ left_by sps h no_previous | false ↦ left_by sps h (previous_of older) ] ]
+        → elim reference as (λ x. Previous) [ false ↦ previous_of older | true ↦ previous_from sps h (elim idr as (λ x. Previous) [ true ↦ no_previous | false ↦ previous_of older ]) ]
+        ≡ elim reference as (λ x. Previous) [ false ↦ previous_of older | true ↦ elim idr as (λ x. Previous) [ true ↦ previous_from sps h no_previous | false ↦ previous_from sps h (previous_of older) ] ]
     same false idr = refl
     same true true = refl
     same true false = refl
 
-after_is : (sps : Sps) (h : Header) (s : Earlier) (p : Previous) (k : ℕ) → previous_after sps h s.previous ≡ p → picture_offset sps h s ≡ k
+after_is : (sps : Sps) (h : Header) (s : OrderCountState) (p : Previous) (k : ℕ) → previous_after sps h s.previous ≡ p → picture_offset sps h s ≡ k
     → after_picture sps h s ≡ record { previous = p; offset = if has_operation_5 h then 0 else k; frame_num = if has_operation_5 h then 0 else h.frame_num }
 after_is sps h s p k e f =
     ap (λ (x : Previous). after x (picture_offset sps h s)) e ∙ ap (λ (x : ℕ). after p x) f
   where
-    after : Previous → ℕ → Earlier
+    after : Previous → ℕ → OrderCountState
     after x y = record { previous = x; offset = if has_operation_5 h then 0 else y; frame_num = if has_operation_5 h then 0 else h.frame_num }
 
-pub after_law : (sps : Sps) (h : Header) (older : List Past) → after_picture sps h (earlier older) ≡ earlier (picture sps h ∷ older)
-after_law sps h older = after_is sps h (earlier older) _ _ (previous_after_law sps h older) (offset_law sps h older)
+pub after_law : (sps : Sps) (h : Header) (older : List Past) → after_picture sps h (order_count_state older) ≡ order_count_state (picture sps h ∷ older)
+after_law sps h older = after_is sps h (order_count_state older) _ _ (previous_after_law sps h older) (offset_law sps h older)

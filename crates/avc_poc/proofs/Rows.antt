@@ -2,7 +2,7 @@
 use Rattle.std.specs.Prelude.{◌≡◌, ℕ, ℤ, pos, negsuc, true, false, [], ◌∷◌, Some, None, Ok, Err, refl}
 use Rattle.avc_types.specs.declared.fault.Fault.TheVariants.{PocRange}
 use Rattle.avc_types.specs.declared.references.Marking.TheVariants.{Idr, SlidingWindow, Adaptive}
-use Rattle.avc_types.specs.declared.references.Operation.TheVariants.{ForgetAll}
+use Rattle.avc_types.specs.declared.references.Operation.TheVariants.{UnmarkAll}
 use Rattle.avc_params.specs.declared.sps.Sps.{Sps}
 use Rattle.avc_params.specs.declared.sps.OrderCount.{OrderCount}
 use Rattle.avc_params.specs.declared.sps.OrderCount.TheVariants as orders
@@ -49,6 +49,7 @@ idr = record {
   active_override = None;
   active_count = 0;
   modifications = None;
+  pred_weight_table = None;
   marking = Some (Idr false false);
   slice_qp_delta = pos 0;
   deblocking = None;
@@ -101,7 +102,7 @@ in_cycle = refl
 
 -- operation 5: answered from 0 on, and the next picture counts from there
 abbrev resetting : Header
-resetting = record (p_at 2 3 6) { order = Type0 6 (pos 1); marking = Some (Adaptive (ForgetAll ∷ [])) }
+resetting = record (p_at 2 3 6) { order = Type0 6 (pos 1); marking = Some (Adaptive (UnmarkAll ∷ [])) }
 
 reset_counts : order_counts type0 resetting (picture type0 idr ∷ []) ≡ Ok (record { top = pos 0; bottom = pos 1 })
 reset_counts = refl
@@ -130,7 +131,7 @@ too_great_lowered = refl
 
 -- type 2 after operation 5: the count is lowered from 6 to 0, and frame_num counts from 0
 abbrev resetting2 : Header
-resetting2 = record (p_at 2 3 0) { marking = Some (Adaptive (ForgetAll ∷ [])) }
+resetting2 = record (p_at 2 3 0) { marking = Some (Adaptive (UnmarkAll ∷ [])) }
 
 reset2 : order_counts type2 resetting2 (picture type2 idr ∷ []) ≡ Ok (both (pos 0))
 reset2 = refl

@@ -4,8 +4,8 @@ use Rattle.std.proofs.lemmas.Int.{ints}
 use mir.Syntax.{w128}
 use Rattle.std.proofs.lemmas.Nat.{mul-le}
 use Rattle.std.proofs.lemmas.List.{drop_more, take-append-drop, take_all}
-use Rattle.avc_poc.specs.OrderCounts.{sum_ℤ, expected}
-use Rattle.avc_poc.specs.Earlier.{IsNear}
+use Rattle.avc_poc.specs.OrderCounts.{sum_ℤ, expected_order_count}
+use Rattle.avc_poc.specs.OrderCountState.{IsNear}
 use Rattle.std.specs.Int.RustNames.{unsigned_abs}
 use Rattle.std.proofs.lemmas.Int.{unsigned_abs-mul}
 use Rattle.std.proofs.lemmas.Bool.Decides.{nat_tests}
@@ -25,7 +25,7 @@ sum_whole cycle k first rest h e f =
     ∙ sym (sum_parts (take k cycle) (drop k cycle)) ∙ ap sum_ℤ (take-append-drop k cycle)
 
 pub expected_is : (abs : ℕ) (cycle : List ℤ) → (abs ≡ 0 → ⊥) → (length cycle == 0) ≡ false
-    → expected abs cycle ≡ pos ((abs - 1) / length cycle) *ℤ sum_ℤ cycle +ℤ sum_ℤ (take ((abs - 1) % length cycle + 1) cycle)
+    → expected_order_count abs cycle ≡ pos ((abs - 1) / length cycle) *ℤ sum_ℤ cycle +ℤ sum_ℤ (take ((abs - 1) % length cycle + 1) cycle)
 expected_is zero cycle some more = absurd (some refl)
 expected_is (suc n) [] some more = absurd (grind (arith, nat_tests))
 expected_is (suc n) (x ∷ xs) some more =

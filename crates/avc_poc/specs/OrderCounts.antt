@@ -29,8 +29,8 @@ abbrev pub order_of : Counts → ℤ
 order_of c = int_min c.top c.bottom
 
 -- after memory_management_control_operation 5 (8.2.1): both are lowered by the frame's count
-abbrev pub lowered : Counts → Counts
-lowered c = record { top = c.top -ℤ order_of c; bottom = c.bottom -ℤ order_of c }
+abbrev pub lowered_by_operation_5 : Counts → Counts
+lowered_by_operation_5 c = record { top = c.top -ℤ order_of c; bottom = c.bottom -ℤ order_of c }
 
 -- ---- type 0 (8.2.1.1)
 
@@ -63,9 +63,9 @@ counts_0 sps h previous =
     record { top = top; bottom = top +ℤ delta_bottom h.order }
 
 -- what a reference picture leaves to the pictures after it
-abbrev pub left_by : Sps → Header → Previous → Previous
-left_by sps h previous =
-    if has_operation_5 h then record { msb = pos 0; lsb = (lowered (counts_0 sps h previous)).top }
+abbrev pub previous_from : Sps → Header → Previous → Previous
+previous_from sps h previous =
+    if has_operation_5 h then record { msb = pos 0; lsb = (lowered_by_operation_5 (counts_0 sps h previous)).top }
     else record { msb = msb_of (max_lsb sps.order_count) previous (lsb_of h.order); lsb = lsb_of h.order }
 
 -- Those of the last reference picture of the history, non-existing frames excepted.
@@ -76,7 +76,7 @@ previous_of (picture sps h ∷ older) =
     elim (is_reference h) [
       | false ↦ previous_of older
       | true ↦
-          elim (is_idr h) [ true ↦ left_by sps h no_previous | false ↦ left_by sps h (previous_of older) ]
+          elim (is_idr h) [ true ↦ previous_from sps h no_previous | false ↦ previous_from sps h (previous_of older) ]
     ]
 
 -- ---- types 1 and 2 (8.2.1.2, 8.2.1.3)
@@ -93,14 +93,14 @@ abbrev past_is_idr : Past → Bool
 past_is_idr (picture sps h) = is_idr h
 past_is_idr (missing sps frame_num) = false
 
-abbrev pub resets : Past → Bool
-resets (picture sps h) = has_operation_5 h
-resets (missing sps frame_num) = false
+abbrev pub resets_order_counts : Past → Bool
+resets_order_counts (picture sps h) = has_operation_5 h
+resets_order_counts (missing sps frame_num) = false
 
 -- FrameNumOffset after an entry whose own is `offset`: one MaxFrameNum more where its frame_num is the greater
 abbrev offset_after : (offset : ℕ) → (older newer : Past) → ℕ
 offset_after offset older newer =
-    if resets older then 0
+    if resets_order_counts older then 0
     else (if nat_lt (past_number newer) (past_number older) then offset + max_frame_num (past_sps newer) else offset)
 
 -- FrameNumOffset of the newest entry
@@ -121,10 +121,10 @@ abs_frame_num number (x ∷ cycle) true = number
 abs_frame_num number (x ∷ cycle) false = number - 1
 
 -- expectedPicOrderCnt without offset_for_non_ref_pic
-abbrev pub expected : (abs : ℕ) → (cycle : List ℤ) → ℤ
-expected zero cycle = pos 0
-expected (suc n) [] = pos 0
-expected (suc n) (x ∷ xs) =
+abbrev pub expected_order_count : (abs : ℕ) → (cycle : List ℤ) → ℤ
+expected_order_count zero cycle = pos 0
+expected_order_count (suc n) [] = pos 0
+expected_order_count (suc n) (x ∷ xs) =
     pos (n / length (x ∷ xs)) *ℤ sum_ℤ (x ∷ xs) +ℤ sum_ℤ (take (n % length (x ∷ xs) + 1) (x ∷ xs))
 
 abbrev pub delta_0 : CodedOrder → ℤ
@@ -137,8 +137,8 @@ delta_1 _ = pos 0
 
 abbrev pub counts_1 : (non_ref top_to_bottom : ℤ) → (cycle : List ℤ) → Header → (number : ℕ) → Counts
 counts_1 non_ref top_to_bottom cycle h number =
-    let due = expected (abs_frame_num number cycle (is_reference h)) cycle in
-    let top = (due +ℤ (if is_reference h then pos 0 else non_ref)) +ℤ delta_0 h.order in
+    let expected_delta = expected_order_count (abs_frame_num number cycle (is_reference h)) cycle in
+    let top = (expected_delta +ℤ (if is_reference h then pos 0 else non_ref)) +ℤ delta_0 h.order in
     record { top = top; bottom = (top +ℤ top_to_bottom) +ℤ delta_1 h.order }
 
 abbrev pub counts_2 : Header → (number : ℕ) → Counts
@@ -159,28 +159,28 @@ counts_by (orders.Type0 log2_minus4) sps h previous number = counts_0 sps h prev
 counts_by (orders.Type1 always_zero non_ref top_to_bottom cycle) sps h previous number = counts_1 non_ref top_to_bottom cycle h number
 counts_by orders.Type2 sps h previous number = counts_2 h number
 
-abbrev pub fits : ℤ → Bool
-fits z = int_le (neg_ℤ (pos (2 ^ 31))) z && int_lt z (pos (2 ^ 31))
+abbrev pub in_32_bits : ℤ → Bool
+in_32_bits z = int_le (neg_ℤ (pos (2 ^ 31))) z && int_lt z (pos (2 ^ 31))
 
-abbrev pub both_fit : Counts → Bool
-both_fit c = fits c.top && fits c.bottom
+abbrev pub both_in_32_bits : Counts → Bool
+both_in_32_bits c = in_32_bits c.top && in_32_bits c.bottom
 
 -- FrameNumOffset + frame_num stays in 32 signed bits, where it is used
-abbrev pub number_fits : OrderCount → (number : ℕ) → Bool
-number_fits (orders.Type0 log2_minus4) number = true
-number_fits _ number = nat_lt number (2 ^ 31)
+abbrev pub number_in_range : OrderCount → (number : ℕ) → Bool
+number_in_range (orders.Type0 log2_minus4) number = true
+number_in_range _ number = nat_lt number (2 ^ 31)
 
 -- the counts as they are answered: lowered where the picture has operation 5
-abbrev pub answered : Header → Counts → Counts
-answered h c = if has_operation_5 h then lowered c else c
+abbrev pub final_counts : Header → Counts → Counts
+final_counts h c = if has_operation_5 h then lowered_by_operation_5 c else c
 
 -- both, before and after lowering, are in range
 abbrev pub in_range : Header → Counts → Result Counts Fault
-in_range h c = if both_fit c && both_fit (answered h c) then Ok (answered h c) else Err faults.PocRange
+in_range h c = if both_in_32_bits c && both_in_32_bits (final_counts h c) then Ok (final_counts h c) else Err faults.PocRange
 
 abbrev pub counts_from : Sps → Header → Previous → (number : ℕ) → Result Counts Fault
 counts_from sps h previous number =
-    if number_fits sps.order_count number then in_range h (counts_by sps.order_count sps h previous number) else Err faults.PocRange
+    if number_in_range sps.order_count number then in_range h (counts_by sps.order_count sps h previous number) else Err faults.PocRange
 
 -- The counts of the picture with this header after the older entries, or PocRange.
 abbrev pub order_counts : Sps → Header → (older : List Past) → Result Counts Fault

@@ -1,6 +1,6 @@
 ghost use Rattle.std.specs.Prelude.{◌≡◌};
 ghost use Rattle.avc_params.specs.Within.{IsOrderCount};
-ghost use Rattle.avc_poc.specs.Earlier.{IsPrevious, answer, raw_counts};
+ghost use Rattle.avc_poc.specs.OrderCountState.{IsPrevious, count_pair, raw_counts};
 ghost use Rattle.avc_poc.specs.OrderCounts.{counts_from};
 
 use crate::previous::Previous;
@@ -55,7 +55,7 @@ pub(crate) fn counts_from(
 ) -> Result<(i32, i32), Fault>
     requires order { IsOrderCount sps.now.order_count }
     requires previous { IsPrevious previous }
-    ensures counts { result ≡ answer (counts_from sps.now header.now previous number) }
+    ensures counts { result ≡ count_pair (counts_from sps.now header.now previous number) }
 {
     let raw = raw_counts(header, sps, previous, number)?;
     in_range(header, raw)

@@ -1,6 +1,6 @@
 ghost use Rattle.std.specs.Prelude.{◌≡◌, ◌≤◌, ◌<◌, ◌^◌, ◌+ℤ◌, ◌*ℤ◌, length, pos};
-ghost use Rattle.avc_poc.specs.Earlier.{IsNear};
-ghost use Rattle.avc_poc.specs.OrderCounts.{abs_frame_num, expected, sum_ℤ};
+ghost use Rattle.avc_poc.specs.OrderCountState.{IsNear};
+ghost use Rattle.avc_poc.specs.OrderCounts.{abs_frame_num, expected_order_count, sum_ℤ};
 
 /// The sum of at most 255 offsets.
 fn sum(offsets: &[i32]) -> i64
@@ -41,10 +41,10 @@ fn cycles(count: u32, whole: i64, first: i64) -> i128
 }
 
 /// expectedPicOrderCnt without offset_for_non_ref_pic (8.2.1.2).
-pub(crate) fn expected(abs: u32, cycle: &[i32]) -> i128
+pub(crate) fn expected_order_count(abs: u32, cycle: &[i32]) -> i128
     requires length { length cycle.now ≤ 255 }
     requires abs { abs < 2 ^ 31 }
-    ensures value { result ≡ expected abs cycle.now }
+    ensures value { result ≡ expected_order_count abs cycle.now }
     ensures small { IsNear 75 result }
 {
     if abs == 0 || cycle.is_empty() {

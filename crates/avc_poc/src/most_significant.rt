@@ -1,6 +1,6 @@
 ghost use Rattle.std.specs.Prelude.{◌≡◌, ◌^◌, pos, false};
 ghost use Rattle.avc_params.specs.Within.{IsOrderCount};
-ghost use Rattle.avc_poc.specs.Earlier.{IsNear};
+ghost use Rattle.avc_poc.specs.OrderCountState.{IsNear};
 ghost use Rattle.avc_poc.specs.OrderCounts.{delta_bottom, lsb_of, max_lsb, msb_of};
 
 use crate::previous::Previous;

@@ -1,13 +1,13 @@
 ghost use Rattle.std.specs.Prelude.{◌≡◌, ◌≤◌, ◌^◌, List, [], ◌∷◌, true};
 ghost use Rattle.std.specs.Result.{OnErr, OnOk, is_ok};
 ghost use Rattle.avc_params.specs.Within.{IsOrderCount, IsSps};
-ghost use Rattle.avc_poc.specs.Earlier.{IsCounted, IsPrevious, after_picture, answer, counts_after, earlier, picture_offset, previous_after};
+ghost use Rattle.avc_poc.specs.OrderCountState.{IsCounted, IsPrevious, after_picture, count_pair, counts_after, order_count_state, picture_offset, previous_after};
 ghost use Rattle.avc_poc.specs.OrderCounts.{Past, missing, order_counts, picture, previous_for};
 
 use crate::counting::counts_from;
 use crate::frame_number::next_offset;
 use crate::previous::Previous;
-use crate::type_0::left_by;
+use crate::type_0::previous_from;
 use avc_params::Sps;
 use avc_slice::Header;
 use avc_types::Fault;
@@ -24,10 +24,10 @@ pub struct Poc {
 }
 
 impl Model for Poc {
-    ghost use Rattle.avc_poc.specs.Earlier.{Earlier, IsPrevious};
+    ghost use Rattle.avc_poc.specs.OrderCountState.{OrderCountState, IsPrevious};
     ghost use Rattle.std.specs.Prelude.{◌≤◌, ◌^◌};
 
-    ghost Value = { Earlier };
+    ghost Value = { OrderCountState };
 
     ghost view = { λ p. record { previous = p.previous; offset = p.offset; frame_num = p.frame_num } };
 
@@ -56,7 +56,7 @@ fn previous_after(header: &Header, sps: &Sps, previous: Previous) -> Previous
     ensures small { IsPrevious result }
 {
     if header.is_reference() {
-        left_by(header, sps, previous_for(header, previous))
+        previous_from(header, sps, previous_for(header, previous))
     } else {
         previous
     }
@@ -65,7 +65,7 @@ fn previous_after(header: &Header, sps: &Sps, previous: Previous) -> Previous
 impl Poc {
     /// Before the first picture.
     pub fn new() -> Poc
-        ensures { result ≡ earlier [] }
+        ensures { result ≡ order_count_state [] }
     {
         Poc {
             previous: Previous { msb: 0, lsb: 0 },
@@ -95,7 +95,7 @@ impl Poc {
     // The counts of the picture.
     fn counts(&self, header: &Header, sps: &Sps) -> Result<(i32, i32), Fault>
         requires { IsSps sps.now }
-        ensures { result ≡ answer (counts_after sps.now header.now self.now) }
+        ensures { result ≡ count_pair (counts_after sps.now header.now self.now) }
     {
         let number = u64::from(self.offset_of(header, sps)) + u64::from(header.frame_num);
         counts_from(header, sps, previous_for(header, self.previous), number)
@@ -121,8 +121,8 @@ impl Poc {
     /// TopFieldOrderCnt and BottomFieldOrderCnt of the next picture (8.2.1), or PocRange, and then nothing has changed.
     pub fn next(&mut self, header: &Header, sps: &Sps) -> Result<(i32, i32), Fault>
         requires { IsSps sps.now }
-        ensures counts { (older : List Past) → self.old ≡ earlier older → result ≡ answer (order_counts sps.now header.now older) }
-        ensures after { OnOk result ((older : List Past) → self.old ≡ earlier older → self.new ≡ earlier (picture sps.now header.now ∷ older)) }
+        ensures counts { (older : List Past) → self.old ≡ order_count_state older → result ≡ count_pair (order_counts sps.now header.now older) }
+        ensures after { OnOk result ((older : List Past) → self.old ≡ order_count_state older → self.new ≡ order_count_state (picture sps.now header.now ∷ older)) }
         ensures unchanged { OnErr result (self.new ≡ self.old) }
     {
         let counts = self.counts(header, sps)?;
@@ -133,7 +133,7 @@ impl Poc {
     /// A frame number is missing before the next picture, and a non-existing frame has it (8.2.5.2).
     pub fn missing(&mut self, frame_num: u32, sps: &Sps)
         requires { IsSps sps.now }
-        ensures { (older : List Past) → self.old ≡ earlier older → self.new ≡ earlier (missing sps.now frame_num ∷ older) }
+        ensures { (older : List Past) → self.old ≡ order_count_state older → self.new ≡ order_count_state (missing sps.now frame_num ∷ older) }
     {
         self.offset = next_offset(self.offset, self.frame_num, frame_num, sps.max_frame_num());
         self.frame_num = frame_num;

@@ -1,7 +1,7 @@
 ghost use Rattle.std.specs.Prelude.{◌≡◌, ◌^◌, nat_lt, if◌then◌else◌, Ok, Err};
 ghost use Rattle.avc_types.specs.declared.fault.Fault.TheVariants.{PocRange};
-ghost use Rattle.avc_poc.specs.Earlier.{answer, counts_of, pair};
-ghost use Rattle.avc_poc.specs.OrderCounts.{both_fit, fits, in_range, lowered};
+ghost use Rattle.avc_poc.specs.OrderCountState.{count_pair, counts_of, pair};
+ghost use Rattle.avc_poc.specs.OrderCounts.{both_in_32_bits, in_32_bits, in_range, lowered_by_operation_5};
 
 use avc_slice::Header;
 use avc_types::Fault;
@@ -18,7 +18,7 @@ pub(crate) fn narrow_number(number: u64) -> Result<u32, Fault>
 }
 
 fn narrow(count: i128) -> Result<i32, Fault>
-    ensures { result ≡ (if fits count then Ok count else Err PocRange) }
+    ensures { result ≡ (if in_32_bits count then Ok count else Err PocRange) }
 {
     if -(1 << 31) <= count && count < 1 << 31 {
         Ok(count as i32)
@@ -29,7 +29,7 @@ fn narrow(count: i128) -> Result<i32, Fault>
 
 // Both counts within 32 signed bits.
 fn both(counts: (i128, i128)) -> Result<(i32, i32), Fault>
-    ensures { result ≡ (if both_fit (counts_of counts) then Ok counts else Err PocRange) }
+    ensures { result ≡ (if both_in_32_bits (counts_of counts) then Ok counts else Err PocRange) }
 {
     let top = narrow(counts.0)?;
     let bottom = narrow(counts.1)?;
@@ -37,8 +37,8 @@ fn both(counts: (i128, i128)) -> Result<(i32, i32), Fault>
 }
 
 // Both less the smaller.
-fn lowered(top: i32, bottom: i32) -> (i128, i128)
-    ensures { result ≡ pair (lowered (counts_of (top, bottom))) }
+fn lowered_by_operation_5(top: i32, bottom: i32) -> (i128, i128)
+    ensures { result ≡ pair (lowered_by_operation_5 (counts_of (top, bottom))) }
 {
     let least = i128::from(top.min(bottom));
     (i128::from(top) - least, i128::from(bottom) - least)
@@ -46,11 +46,11 @@ fn lowered(top: i32, bottom: i32) -> (i128, i128)
 
 /// The counts as they are answered: lowered by the smaller where the picture has memory_management_control_operation 5.
 pub(crate) fn in_range(header: &Header, counts: (i128, i128)) -> Result<(i32, i32), Fault>
-    ensures { result ≡ answer (in_range header.now (counts_of counts)) }
+    ensures { result ≡ count_pair (in_range header.now (counts_of counts)) }
 {
     let (top, bottom) = both(counts)?;
     if header.has_operation_5() {
-        both(lowered(top, bottom))
+        both(lowered_by_operation_5(top, bottom))
     } else {
         Ok((top, bottom))
     }

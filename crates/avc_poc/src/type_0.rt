@@ -1,8 +1,8 @@
 ghost use Rattle.std.specs.Prelude.{◌≡◌, ◌+ℤ◌, ◌-ℤ◌, ℤ};
 ghost use Rattle.std.specs.Int.{int_min};
 ghost use Rattle.avc_params.specs.Within.{IsOrderCount};
-ghost use Rattle.avc_poc.specs.Earlier.{IsCounted, IsPrevious, IsNear, pair};
-ghost use Rattle.avc_poc.specs.OrderCounts.{counts_0, left_by};
+ghost use Rattle.avc_poc.specs.OrderCountState.{IsCounted, IsPrevious, IsNear, pair};
+ghost use Rattle.avc_poc.specs.OrderCounts.{counts_0, previous_from};
 
 use crate::most_significant::{coded_lsb, delta_bottom, max_lsb, msb_of};
 use crate::previous::Previous;
@@ -50,11 +50,11 @@ fn lowered_top(delta: i64) -> i64
 }
 
 /// What a reference picture leaves to the pictures after it (8.2.1.1).
-pub(crate) fn left_by(header: &Header, sps: &Sps, previous: Previous) -> Previous
+pub(crate) fn previous_from(header: &Header, sps: &Sps, previous: Previous) -> Previous
     requires order { IsOrderCount sps.now.order_count }
     requires previous { IsPrevious previous }
     requires counted { IsCounted sps.now header.now previous }
-    ensures value { result ≡ left_by sps.now header.now previous }
+    ensures value { result ≡ previous_from sps.now header.now previous }
     ensures small { IsPrevious result }
 {
     if header.has_operation_5() {

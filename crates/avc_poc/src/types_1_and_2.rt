@@ -1,8 +1,8 @@
 ghost use Rattle.std.specs.Prelude.{◌≡◌, ◌≤◌, ◌<◌, ◌^◌, ◌+ℤ◌, if◌then◌else◌, length, pos};
-ghost use Rattle.avc_poc.specs.Earlier.{IsNear, pair};
+ghost use Rattle.avc_poc.specs.OrderCountState.{IsNear, pair};
 ghost use Rattle.avc_poc.specs.OrderCounts.{counts_1, counts_2, delta_0, delta_1};
 
-use crate::cycle::{abs_frame_num, expected};
+use crate::cycle::{abs_frame_num, expected_order_count};
 use avc_slice::{CodedOrder, Header};
 
 /// delta_pic_order_cnt[0] and [1], 0 where there are none.
@@ -43,10 +43,10 @@ pub(crate) fn counts_1(
     ensures { result ≡ pair (counts_1 offset_for_non_ref_pic offset_for_top_to_bottom_field cycle.now header.now number) }
 {
     let reference = header.is_reference();
-    let due = expected(abs_frame_num(number, cycle, reference), cycle);
+    let expected_delta = expected_order_count(abs_frame_num(number, cycle, reference), cycle);
     let (delta_0, delta_1) = deltas(header.order);
     let top = plus(
-        due,
+        expected_delta,
         non_ref_offset(reference, offset_for_non_ref_pic),
         delta_0,
     );

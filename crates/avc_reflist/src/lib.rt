@@ -1,11 +1,11 @@
 //! Reference picture lists (8.2.4).
 #![tactic(auto)]
 
+mod initialisation;
 mod list;
-mod named;
-mod start;
-mod whole;
+mod modification;
+mod named_frames;
 
+pub use initialisation::initial_list;
 pub use list::ReferenceList;
-pub use start::initial;
-pub use whole::modified;
+pub use modification::reference_list;

@@ -3,13 +3,13 @@ use Rattle.std.proofs.Common.{◌≡◌, ◌+◌, ℕ, List, [], ◌∷◌, ◌+
 use Rattle.std.specs.List.{flat_map, slice_get}
 use Rattle.std.proofs.lemmas.Option.{slice_get_cases, slice_get_within, get_or_from_slice_get}
 use Rattle.std.proofs.lemmas.List.{drop_more, drop_all}
-use Rattle.avc_annexb.specs.Units.{Found, found, numbered, unit_of, units}
-use Rattle.avc_annexb.specs.Splitting.{Splitting, next_of, taking}
+use Rattle.avc_annexb.specs.Units.{PlacedUnit, placed_units, numbered, unit_of, units}
+use Rattle.avc_annexb.specs.SplitterState.{SplitterState, next_unit_of, after_next_unit}
 use Rattle.avc_annexb.specs.declared.unit.Unit.{Unit}
 use Rattle.avc_tools.specs.Lines.{unit_line, unit_lines}
 
 -- No line tells of a body, so it makes no difference how long a body is kept.
-same_lines : (few many index : ℕ) (all : List Found) → flat_map unit_line (numbered few index all) ≡ flat_map unit_line (numbered many index all)
+same_lines : (few many index : ℕ) (all : List PlacedUnit) → flat_map unit_line (numbered few index all) ≡ flat_map unit_line (numbered many index all)
 same_lines few many index [] = refl
 same_lines few many index (u ∷ us) = ap (λ t. unit_line (unit_of many index u) ++ t) (same_lines few many (index + 1) us)
 
@@ -25,24 +25,24 @@ no_more us k e = drop_all k us (elim (slice_get_cases us k).1 [
 ])
 
 -- The splitter has the whole stream, and the text has the lines of the units that were taken.
-pub record IsListed (bytes : List ℕ) (s : Splitting) (text : List ℕ) : Type 0 where
+pub record IsListed (bytes : List ℕ) (s : SplitterState) (text : List ℕ) : Type 0 where
   pub bytes_are : s.bytes ≡ bytes
   pub ended : s.ended ≡ true
   pub going : s.failed ≡ false
   pub lines : text ++ flat_map unit_line (drop s.taken (units 1 bytes true)) ≡ flat_map unit_line (units 1 bytes true)
 
-next_is : (bytes : List ℕ) (s : Splitting) (text : List ℕ) → IsListed bytes s text → next_of 1 s ≡ slice_get (units 1 bytes true) s.taken
+next_is : (bytes : List ℕ) (s : SplitterState) (text : List ℕ) → IsListed bytes s text → next_unit_of 1 s ≡ slice_get (units 1 bytes true) s.taken
 next_is bytes s text h =
     ap (λ x. if x then None else slice_get (units 1 s.bytes s.ended) s.taken) h.going
     ∙ ap (λ x. slice_get (units 1 s.bytes x) s.taken) h.ended
     ∙ ap (λ x. slice_get (units 1 x true) s.taken) h.bytes_are
 
-pub listed_more : (bytes : List ℕ) (s new : Splitting) (text more : List ℕ) (next : Option Unit) (u : Unit) → IsListed bytes s text
-    → next ≡ next_of 1 s → new ≡ taking s next → next ≡ Some u → more ≡ text ++ unit_line u → IsListed bytes new more
+pub listed_more : (bytes : List ℕ) (s new : SplitterState) (text more : List ℕ) (next : Option Unit) (u : Unit) → IsListed bytes s text
+    → next ≡ next_unit_of 1 s → new ≡ after_next_unit s next → next ≡ Some u → more ≡ text ++ unit_line u → IsListed bytes new more
 listed_more bytes s new text more next u h gives takes is added =
     let us = units 1 bytes true in
     let at : slice_get us s.taken ≡ Some u = sym (next_is bytes s text h) ∙ sym gives ∙ is in
-    let moved : new ≡ taking s (Some u) = takes ∙ ap (λ x. taking s x) is in
+    let moved : new ≡ after_next_unit s (Some u) = takes ∙ ap (λ x. after_next_unit s x) is in
     record {
       bytes_are = ap (λ x. x.bytes) moved ∙ h.bytes_are;
       ended = ap (λ x. x.ended) moved ∙ h.ended;
@@ -55,10 +55,10 @@ listed_more bytes s new text more next u h gives takes is added =
           ∙ h.lines;
     }
 
-pub listed_all : (bytes : List ℕ) (s : Splitting) (text : List ℕ) (next : Option Unit) → IsListed bytes s text → next ≡ next_of 1 s → next ≡ None → text ≡ unit_lines bytes
+pub listed_all : (bytes : List ℕ) (s : SplitterState) (text : List ℕ) (next : Option Unit) → IsListed bytes s text → next ≡ next_unit_of 1 s → next ≡ None → text ≡ unit_lines bytes
 listed_all bytes s text next h gives is =
     let none : drop s.taken (units 1 bytes true) ≡ [] = no_more (units 1 bytes true) s.taken (sym (next_is bytes s text h) ∙ sym gives ∙ is) in
     sym (append-nil text)
     ∙ ap (λ t. text ++ flat_map unit_line t) (sym none)
     ∙ h.lines
-    ∙ same_lines 1 (length bytes) 0 (found 0 true bytes)
+    ∙ same_lines 1 (length bytes) 0 (placed_units 0 true bytes)

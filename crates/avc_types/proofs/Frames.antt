@@ -5,8 +5,9 @@ use Rattle.std.proofs.Common.{◌≡◌, ℕ, zero, suc, ◌+◌, ◌<◌, nat_l
 use Rattle.std.specs.Prelude.{slice_index, slice_index_or, is_some, ◌==◌, ◌||◌}
 use Rattle.std.proofs.lemmas.List.Kept.{AllPairs-from_increasing}
 use Rattle.std.proofs.lemmas.Bool.Decides.{nat_tests}
-use Rattle.avc_types.specs.declared.marked.MarkedFrame.{MarkedFrame}
-use Rattle.avc_types.specs.References.{Reference, StandAt, reference_of, references_at, reference_at, is_marked, sorted_by, placed_by, placed_behind, no_frame}
+use Rattle.avc_types.specs.declared.marked_frame.MarkedFrame.{MarkedFrame}
+use Rattle.avc_types.specs.References.{Reference, StandAt, reference_of, references_at, reference_at, is_marked, sorted_by, placed_by, no_frame}
+use Rattle.avc_types.proofs.ReferencesAt.{placed_behind}
 
 -- ---- rising entries
 

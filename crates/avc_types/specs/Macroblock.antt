@@ -2,6 +2,7 @@
 use Rattle.std.specs.Prelude.{ℕ, ℤ, List, [], ◌∷◌, ◌++◌, ◌+◌, ◌*◌, ◌/◌, ◌%◌, ◌==◌, nat_abs, not, Option}
 use Rattle.std.specs.List.{count_by}
 use Rattle.avc_types.specs.declared.macroblock.Mvd.{Mvd}
+use Rattle.avc_types.specs.declared.macroblock.Part.{Part}
 use Rattle.avc_types.specs.declared.macroblock.SubMbType.{SubMbType}
 use Rattle.avc_types.specs.declared.macroblock.SubMbType.TheVariants.{Sub8x8, Sub8x4, Sub4x8, Sub4x4}
 use Rattle.avc_types.specs.declared.macroblock.PMbType.{PMbType}
@@ -48,16 +49,7 @@ pub record Mb : Type 0 where
   pub syntax : MbSyntax
   pub qp : ℕ
 
--- A rectangle of luma samples inside the macroblock that has one vector, and the partition (mbPartIdx) whose
--- reference index it takes (6.4.2).
-pub record Part : Type 0 where
-  pub x : ℕ
-  pub y : ℕ
-  pub width : ℕ
-  pub height : ℕ
-  pub partition : ℕ
-
-abbrev part : ℕ → ℕ → ℕ → ℕ → ℕ → Part
+abbrev pub part : ℕ → ℕ → ℕ → ℕ → ℕ → Part
 part x y width height partition =
     record { x = x; y = y; width = width; height = height; partition = partition }
 
@@ -87,3 +79,11 @@ parts_of P16x8 = part 0 0 16 8 0 ∷ part 0 8 16 8 1 ∷ []
 parts_of P8x16 = part 0 0 8 16 0 ∷ part 8 0 8 16 1 ∷ []
 parts_of (P8x8 subs) = parts_of_quarters subs 0
 parts_of (P8x8Ref0 subs) = parts_of_quarters subs 0
+
+-- how many partitions a macroblock has, each with a reference index (Table 7-13)
+abbrev pub partitions : PMbType → ℕ
+partitions P16x16 = 1
+partitions P16x8 = 2
+partitions P8x16 = 2
+partitions (P8x8 subs) = 4
+partitions (P8x8Ref0 subs) = 4

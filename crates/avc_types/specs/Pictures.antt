@@ -1,6 +1,7 @@
 -- Samples, frames, and what the decoding of one picture's samples starts from.
 use Rattle.std.specs.Prelude.{ℕ, ℤ, Bool, List, Option}
 use Rattle.avc_types.specs.declared.edges.FilteredEdges.{FilteredEdges}
+use Rattle.avc_types.specs.declared.weight.Weights.{Weights}
 use Rattle.avc_types.specs.Macroblock.{Mb}
 
 -- The sample of component c (0 luma, 1 Cb, 2 Cr) in column x and row y.
@@ -20,6 +21,8 @@ pub record SliceFacts : Type 0 where
   pub is_p : Bool
   -- RefPicList0; no frame where an entry is empty
   pub references : List (Option Frame)
+  -- by reference index, where predictions are explicitly weighted (8.4.2.3); else none
+  pub weights : List Weights
   pub disable_deblocking_filter_idc : FilteredEdges
   -- FilterOffsetA and FilterOffsetB: twice the coded offsets
   pub filter_offset_a : ℤ

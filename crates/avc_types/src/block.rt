@@ -1,5 +1,7 @@
 ghost use Rattle.std.specs.Prelude.{◌≡◌, ◌+◌, ◌*◌, ◌<◌, ◌≤◌, List, ℕ, length, take, replicate, slice_index, slice_set};
+ghost use Rattle.avc_types.specs.Blocks.{block_of};
 
+use crate::rows::copy_rows;
 use std::marker::Model;
 
 /// The samples of a block of W columns and H rows, each 1 to 16. A contract sees it as their list, row by row.
@@ -28,6 +30,16 @@ impl<const W: usize, const H: usize> Block<W, H> {
         }
     }
 
+    /// Gives the block other samples: row y becomes the W samples at the place `first` + y * `stride`.
+    #[inline(always)]
+    pub fn set_rows(&mut self, samples: &[u8], first: usize, stride: usize)
+        requires source { (y : ℕ) → y < H → first + y * stride + 16 ≤ length samples.now }
+        ensures { self.new ≡ block_of W H (λ x y. slice_index samples.now (first + y * stride + x)) }
+    {
+        let rows = &mut self.samples;
+        copy_rows(samples, first, stride, W, H, rows);
+    }
+
     /// The sample in column `x` and row `y`.
     pub fn get(&self, x: usize, y: usize) -> u8
         requires column { x < W }
@@ -50,7 +62,8 @@ impl<const W: usize, const H: usize> Block<W, H> {
 
     /// All samples, row by row.
     pub fn as_slice(&self) -> &[u8]
-        ensures { result.now ≡ self.now }
+        ensures value { result.now ≡ self.now }
+        ensures long { length result.now ≡ W * H }
     {
         let samples = &self.samples;
         &samples[..W * H]

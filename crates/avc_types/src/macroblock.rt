@@ -42,3 +42,20 @@ pub struct Mvd {
     /// Down.
     pub y: i32,
 }
+
+/// A rectangle inside a macroblock that has one vector (6.4.2), in luma samples.
+#[derive(Clone, Copy, Debug, PartialEq, Eq)]
+pub struct Part {
+    /// Of the upper left sample, from the left.
+    pub x: u8,
+
+    /// Of the upper left sample, from above.
+    pub y: u8,
+
+    pub width: u8,
+
+    pub height: u8,
+
+    /// The partition (mbPartIdx) whose reference index it takes.
+    pub partition: u8,
+}

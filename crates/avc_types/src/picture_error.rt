@@ -2,7 +2,6 @@ ghost use Rattle.std.specs.Prelude.{◌≡◌};
 ghost use Rattle.avc_types.specs.declared.picture_error.PictureError.TheVariants.{Fault as Faulty, OutOfMemory as NoMemory};
 
 use crate::{Fault, OutOfMemory};
-use std::alloc::{AllocError, AllocFailed};
 
 /// Why a picture is not decoded.
 #[derive(Clone, Copy)]
@@ -26,22 +25,6 @@ impl From<OutOfMemory> for PictureError {
     ghost from_gives = { λ _ error. error ≡ NoMemory };
 
     fn from(_error: OutOfMemory) -> PictureError {
-        PictureError::OutOfMemory
-    }
-}
-
-impl From<AllocError> for PictureError {
-    ghost from_gives = { λ _ error. error ≡ NoMemory };
-
-    fn from(_error: AllocError) -> PictureError {
-        PictureError::OutOfMemory
-    }
-}
-
-impl<T: Drop> From<AllocFailed<T>> for PictureError {
-    ghost from_gives = { λ _ error. error ≡ NoMemory };
-
-    fn from(_error: AllocFailed<T>) -> PictureError {
         PictureError::OutOfMemory
     }
 }

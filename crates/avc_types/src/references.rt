@@ -24,23 +24,23 @@ impl Default for Modification {
 #[derive(Clone, Copy, Debug, Default, PartialEq, Eq)]
 pub enum Operation {
     /// 1: a short-term frame becomes unused, by difference_of_pic_nums_minus1.
-    ForgetShort(u32),
+    UnmarkShortTerm(u32),
 
     /// 2: a long-term frame becomes unused, by long_term_pic_num.
-    ForgetLong(u32),
+    UnmarkLongTerm(u32),
 
     /// 3: a short-term frame becomes long-term, by difference_of_pic_nums_minus1 and long_term_frame_idx.
-    ShortToLong(u32, u32),
+    AssignLongTerm(u32, u32),
 
     /// 4: max_long_term_frame_idx_plus1.
-    LimitLong(u32),
+    MaxLongTermFrameIdx(u32),
 
     /// 5: all frames become unused.
     #[default]
-    ForgetAll,
+    UnmarkAll,
 
     /// 6: the current picture becomes long-term, with long_term_frame_idx.
-    CurrentToLong(u32),
+    CurrentToLongTerm(u32),
 }
 
 /// dec_ref_pic_marking (7.3.3.3), where nal_ref_idc is not 0.

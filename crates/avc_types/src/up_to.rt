@@ -1,9 +1,7 @@
 ghost use Rattle.std.specs.Prelude.{◌≡◌, ◌<◌, [], ◌∷◌, ◌++◌, List, length};
-ghost use Rattle.std.specs.List.{AllZip};
 ghost use Rattle.std.specs.Cmp.Lexicographic.{lists_equiv, lists_per, pointwise};
 
 use arrayvec::ArrayVec;
-use std::alloc::AllocError;
 use std::marker::Model;
 
 /// At most `MAX` items, in order. A contract sees them as their list.
@@ -57,16 +55,6 @@ impl<T: Copy + Default + Drop, const MAX: usize> UpTo<T, MAX> {
             copy.push(*item);
         }
         copy
-    }
-}
-
-impl<T: Default + Clone, const MAX: usize> Clone for UpTo<T, MAX> {
-    ghost is_clone = { AllZip T.is_clone };
-
-    fn clone(&self) -> Result<UpTo<T, MAX>, AllocError> {
-        Ok(UpTo {
-            items: self.items.clone()?,
-        })
     }
 }
 

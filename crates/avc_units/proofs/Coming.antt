@@ -11,20 +11,20 @@ use Rattle.avc_slice.specs.Header.{is_idr}
 use Rattle.avc_slice.specs.Reading.{header_in_rbsp}
 use Rattle.avc_slice.specs.Within.{IsReadUnder}
 use Rattle.avc_slice.specs.declared.slice.Slice.{Slice}
-use Rattle.avc_units.specs.Grouped.{IfSlice, IsTaken}
-use Rattle.avc_units.specs.Grouping.{slice, partition, sps, pps, boundary, other, OpenPicture, is_start, kind, kind_of, rbsp_of, reads_zero, readable, running_step, slice_in, slice_step, taken_slice, unreadable, waiting_step, with_header}
-use Rattle.avc_units.specs.Kinds.{comes}
+use Rattle.avc_units.specs.GrouperState.{IfSlice, IsTaken}
+use Rattle.avc_units.specs.Grouping.{slice, partition, sps, pps, boundary, other, OpenPictureFacts, is_start, kind, kind_of, rbsp_of, reads_zero, readable, running_step, slice_in, slice_step, taken_slice, unreadable, waiting_step, with_header}
+use Rattle.avc_units.specs.Kinds.{slice_or_start}
 use Rattle.avc_units.specs.declared.step.Step.{Step}
 
 -- A slice's unit with its RBSP.
 abbrev read_from : Sets → Unit → List ℕ → Result Slice Fault
 read_from sets u rbsp = with_header u rbsp (header_in_rbsp u.header sets rbsp)
 
-by-start : (running starts : Bool) (open' : Option OpenPicture) (sets : Sets) (u : Unit) (read : Result Slice Fault) → is_start u ≡ starts → taken_slice sets u true ≡ read
-    → comes running open' starts read ≡ elim running [ true ↦ running_step sets open' u (slice true) | false ↦ waiting_step sets u (slice true) ]
-by-start true starts open' sets u read is is_read = rw (is, is_read) refl
-by-start false true open' sets u read is is_read = rw (waiting_step, is, is_read) refl
-by-start false false open' sets u read is is_read = rw (waiting_step, is) refl
+by-start : (running starts : Bool) (open_picture : Option OpenPictureFacts) (sets : Sets) (u : Unit) (read : Result Slice Fault) → is_start u ≡ starts → taken_slice sets u true ≡ read
+    → slice_or_start running open_picture starts read ≡ elim running [ true ↦ running_step sets open_picture u (slice true) | false ↦ waiting_step sets u (slice true) ]
+by-start true starts open_picture sets u read is is_read = rw (is, is_read) refl
+by-start false true open_picture sets u read is is_read = rw (waiting_step, is, is_read) refl
+by-start false false open_picture sets u read is is_read = rw (waiting_step, is) refl
 
 idr_by : (one five parts seven eight others : Bool)
     → (if one then slice false else (if five then slice true else (if parts then partition else (if seven then sps else (if eight then pps else (if others then boundary else other)))))) ≡ slice true
@@ -47,11 +47,11 @@ taken-by : (sets : Sets) (u : Unit) (rbsp : List ℕ) → rbsp_of u ≡ Some rbs
 taken-by sets u rbsp read = rw (taken_slice, slice_in, read) refl
 
 -- with its RBSP
-pub comes-idr : (running : Bool) (open' : Option OpenPicture) (sets : Sets) (u : Unit) (rbsp seen : List ℕ) (starts : Bool) (read : Result Slice Fault)
+pub slice_or_start-idr : (running : Bool) (open_picture : Option OpenPictureFacts) (sets : Sets) (u : Unit) (rbsp seen : List ℕ) (starts : Bool) (read : Result Slice Fault)
     → forbidden_zero_bit u.header ≡ false → kind u ≡ slice true → rbsp_of u ≡ Some rbsp → seen ≡ rbsp → starts ≡ reads_zero (ue (start seen)) → read ≡ read_from sets u rbsp
-    → comes running open' starts read ≡ elim running [ true ↦ running_step sets open' u (slice true) | false ↦ waiting_step sets u (slice true) ]
-comes-idr running open' sets u rbsp seen starts read allowed is has same is_starts is_read =
-    by-start running starts open' sets u read (starts-by u rbsp allowed is has ∙ ap (λ bytes. reads_zero (ue (start bytes))) (sym same) ∙ sym is_starts) (taken-by sets u rbsp has ∙ sym is_read)
+    → slice_or_start running open_picture starts read ≡ elim running [ true ↦ running_step sets open_picture u (slice true) | false ↦ waiting_step sets u (slice true) ]
+slice_or_start-idr running open_picture sets u rbsp seen starts read allowed is has same is_starts is_read =
+    by-start running starts open_picture sets u read (starts-by u rbsp allowed is has ∙ ap (λ bytes. reads_zero (ue (start bytes))) (sym same) ∙ sym is_starts) (taken-by sets u rbsp has ∙ sym is_read)
 
 -- ---- a slice that comes was read
 
@@ -60,7 +60,7 @@ taken-kept : (read : Result Slice Fault) (sets : Sets) (u : Unit) → kind u ≡
 taken-kept (Ok s) sets u is kept of_idr = record { read = kept; idr = of_idr ∙ idr_type (nal_unit_type u.header) is }
 taken-kept (Err f) sets u is kept of_idr = tt
 
-step-kept : (P : Slice → Type 0) (open' : Option OpenPicture) (starts : Bool) (read : Result Slice Fault) → IfOk read P → IfSlice (slice_step open' starts read).next P
+step-kept : (P : Slice → Type 0) (open_picture : Option OpenPictureFacts) (starts : Bool) (read : Result Slice Fault) → IfOk read P → IfSlice (slice_step open_picture starts read).next P
 step-kept P None starts (Ok s) kept = kept
 step-kept P (Some o) starts (Ok s) kept = by-picture (begins o.last s.header) refl
   where
@@ -74,12 +74,12 @@ step-kept P (Some o) starts (Err f) kept = by-full o.full refl
     by-full true is = rw (unreadable, is) tt
     by-full false is = rw (unreadable, is) tt
 
-comes-kept : (P : Slice → Type 0) (running : Bool) (open' : Option OpenPicture) (starts : Bool) (read : Result Slice Fault) → IfOk read P → IfSlice (comes running open' starts read).next P
-comes-kept P true open' starts read kept = step-kept P open' starts read kept
-comes-kept P false open' true read kept = step-kept P None true read kept
-comes-kept P false open' false read kept = tt
+slice_or_start-kept : (P : Slice → Type 0) (running : Bool) (open_picture : Option OpenPictureFacts) (starts : Bool) (read : Result Slice Fault) → IfOk read P → IfSlice (slice_or_start running open_picture starts read).next P
+slice_or_start-kept P true open_picture starts read kept = step-kept P open_picture starts read kept
+slice_or_start-kept P false open_picture true read kept = step-kept P None true read kept
+slice_or_start-kept P false open_picture false read kept = tt
 
-pub comes-taken : (step : Step) (running : Bool) (open' : Option OpenPicture) (starts : Bool) (read : Result Slice Fault) (sets : Sets) (u : Unit) → step ≡ comes running open' starts read
+pub slice_or_start-taken : (step : Step) (running : Bool) (open_picture : Option OpenPictureFacts) (starts : Bool) (read : Result Slice Fault) (sets : Sets) (u : Unit) → step ≡ slice_or_start running open_picture starts read
     → kind u ≡ slice true → IfOk read (λ s. IsReadUnder sets s.rbsp s.header) → IfOk read (λ s. is_idr s.header ≡ (u.header % 32 == 5)) → IfSlice step.next (IsTaken sets)
-comes-taken step running open' starts read sets u same is kept of_idr =
-    rw same (comes-kept (IsTaken sets) running open' starts read (taken-kept read sets u is kept of_idr))
+slice_or_start-taken step running open_picture starts read sets u same is kept of_idr =
+    rw same (slice_or_start-kept (IsTaken sets) running open_picture starts read (taken-kept read sets u is kept of_idr))

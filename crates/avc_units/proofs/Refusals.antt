@@ -7,7 +7,7 @@ use Rattle.avc_params.specs.Reading.{pps_of, sps_of}
 use Rattle.avc_params.specs.Tables.{refused}
 use Rattle.avc_params.specs.declared.set_fault.SetFault.{SetFault}
 use Rattle.avc_slice.specs.declared.slice.Slice.{Slice}
-use Rattle.avc_units.specs.Grouped.{IfSlice}
+use Rattle.avc_units.specs.GrouperState.{IfSlice}
 use Rattle.avc_units.specs.Grouping.{ends_picture, fault_in, pps, refusal_of, set_fault, sps}
 use Rattle.avc_units.specs.declared.step.Step.{Step}
 

@@ -116,8 +116,8 @@ is_start u =
 -- ---- what a unit does
 
 -- nothing
-abbrev pub passes : Step
-passes = record { closes = false; next = Nothing; even_after_fault = false }
+abbrev pub no_effect : Step
+no_effect = record { closes = false; next = Nothing; even_after_fault = false }
 
 abbrev pub refusal_of : Option Fault → Next
 refusal_of None = Nothing
@@ -128,12 +128,12 @@ abbrev pub ends_picture : Next → Step
 ends_picture next = record { closes = true; next = next; even_after_fault = true }
 
 -- A picture is open: the header of its last slice, and whether it is full.
-pub record OpenPicture : Type 0 where
+pub record OpenPictureFacts : Type 0 where
   pub last : Header
   pub full : Bool
 
 -- a slice or partition with an unreadable header
-abbrev pub unreadable : Option OpenPicture → Fault → Step
+abbrev pub unreadable : Option OpenPictureFacts → Fault → Step
 unreadable None f = record { closes = false; next = FaultOfOwn f; even_after_fault = false }
 unreadable (Some o) f =
     elim o.full [
@@ -142,7 +142,7 @@ unreadable (Some o) f =
     ]
 
 -- A slice that can be read; `starts` says that decoding can start with it.
-abbrev pub readable : Option OpenPicture → (starts : Bool) → Slice → Step
+abbrev pub readable : Option OpenPictureFacts → (starts : Bool) → Slice → Step
 readable None starts s = record { closes = false; next = Begins s; even_after_fault = false }
 readable (Some o) starts s =
     elim (begins o.last s.header) [
@@ -150,23 +150,23 @@ readable (Some o) starts s =
       | false ↦ record { closes = false; next = Continues s; even_after_fault = false }
     ]
 
-abbrev pub slice_step : Option OpenPicture → (starts : Bool) → Result Slice Fault → Step
-slice_step open' starts (Ok s) = readable open' starts s
-slice_step open' starts (Err f) = unreadable open' f
+abbrev pub slice_step : Option OpenPictureFacts → (starts : Bool) → Result Slice Fault → Step
+slice_step open_picture starts (Ok s) = readable open_picture starts s
+slice_step open_picture starts (Err f) = unreadable open_picture f
 
 -- By its kind, where decoding runs or starts with the unit.
-abbrev pub running_step : Sets → Option OpenPicture → Unit → Kind → Step
-running_step sets open' u (slice idr) = slice_step open' (is_start u) (taken_slice sets u idr)
-running_step sets open' u partition = unreadable open' faults.DataPartition
-running_step sets open' u boundary = ends_picture Nothing
-running_step sets open' u other = passes
-running_step sets open' u sps = ends_picture (refusal_of (set_fault sps (rbsp_of u)))
-running_step sets open' u pps = ends_picture (refusal_of (set_fault pps (rbsp_of u)))
+abbrev pub running_step : Sets → Option OpenPictureFacts → Unit → Kind → Step
+running_step sets open_picture u (slice idr) = slice_step open_picture (is_start u) (taken_slice sets u idr)
+running_step sets open_picture u partition = unreadable open_picture faults.DataPartition
+running_step sets open_picture u boundary = ends_picture Nothing
+running_step sets open_picture u other = no_effect
+running_step sets open_picture u sps = ends_picture (refusal_of (set_fault sps (rbsp_of u)))
+running_step sets open_picture u pps = ends_picture (refusal_of (set_fault pps (rbsp_of u)))
 
 -- by its kind, where it waits
 abbrev pub waiting_step : Sets → Unit → Kind → Step
-waiting_step sets u (slice idr) = elim (is_start u) [ true ↦ running_step sets None u (slice idr) | false ↦ passes ]
-waiting_step sets u partition = passes
+waiting_step sets u (slice idr) = elim (is_start u) [ true ↦ running_step sets None u (slice idr) | false ↦ no_effect ]
+waiting_step sets u partition = no_effect
 waiting_step sets u boundary = running_step sets None u boundary
 waiting_step sets u other = running_step sets None u other
 waiting_step sets u sps = running_step sets None u sps
@@ -174,9 +174,9 @@ waiting_step sets u pps = running_step sets None u pps
 
 -- What a unit does under the parameter sets in force before it, while decoding runs (with the open picture, if there is one)
 -- or waits for a picture to start with.
-abbrev pub step : Sets → (running : Bool) → Option OpenPicture → Unit → Step
-step sets running open' u =
+abbrev pub step : Sets → (running : Bool) → Option OpenPictureFacts → Unit → Step
+step sets running open_picture u =
     elim (forbidden_zero_bit u.header) [
       | true ↦ record { closes = false; next = Refusal faults.ForbiddenBit; even_after_fault = true }
-      | false ↦ elim running [ true ↦ running_step sets open' u (kind u) | false ↦ waiting_step sets u (kind u) ]
+      | false ↦ elim running [ true ↦ running_step sets open_picture u (kind u) | false ↦ waiting_step sets u (kind u) ]
     ]

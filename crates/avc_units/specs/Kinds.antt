@@ -4,12 +4,12 @@ use Rattle.avc_types.specs.declared.fault.Fault.{Fault}
 use Rattle.avc_annexb.specs.declared.unit.Unit.{Unit}
 use Rattle.avc_params.specs.Tables.{Sets}
 use Rattle.avc_slice.specs.declared.slice.Slice.{Slice}
-use Rattle.avc_units.specs.Grouped.{open_with}
-use Rattle.avc_units.specs.Grouping.{Kind, slice, partition, sps, pps, boundary, other, OpenPicture, passes, running_step, slice_step, waiting_step}
+use Rattle.avc_units.specs.GrouperState.{open_picture_of}
+use Rattle.avc_units.specs.Grouping.{Kind, slice, partition, sps, pps, boundary, other, OpenPictureFacts, no_effect, running_step, slice_step, waiting_step}
 use Rattle.avc_units.specs.declared.kinds.UnitKind.{UnitKind}
 use Rattle.avc_units.specs.declared.kinds.UnitKind.TheVariants as kinds
 use Rattle.avc_units.specs.declared.step.Step.{Step}
-use Rattle.avc_units.specs.declared.steps.Before.{Before}
+use Rattle.avc_units.specs.declared.step_cases.UnitContext.{UnitContext}
 
 abbrev pub meant : UnitKind → Kind
 meant (kinds.Slice idr) = slice idr
@@ -19,15 +19,15 @@ meant kinds.Pps = pps
 meant kinds.Boundary = boundary
 meant kinds.Other = other
 
-abbrev pub open_before : Before → Option OpenPicture
-open_before b = open_with b.full b.last.now
+abbrev pub open_picture_in : UnitContext → Option OpenPictureFacts
+open_picture_in b = open_picture_of b.full b.last.now
 
 -- What a unit of this kind does, where decoding runs or waits.
-abbrev pub step_by : Before → Sets → Unit → Kind → Step
-step_by b sets u k = elim b.running [ true ↦ running_step sets (open_before b) u k | false ↦ waiting_step sets u k ]
+abbrev pub step_by : UnitContext → Sets → Unit → Kind → Step
+step_by b sets u k = elim b.running [ true ↦ running_step sets (open_picture_in b) u k | false ↦ waiting_step sets u k ]
 
 -- A slice comes, or the fault in its header: where decoding waits it has to start it.
-abbrev pub comes : (running : Bool) → Option OpenPicture → (starts : Bool) → Result Slice Fault → Step
-comes true open' starts read = slice_step open' starts read
-comes false open' true read = slice_step None true read
-comes false open' false read = passes
+abbrev pub slice_or_start : (running : Bool) → Option OpenPictureFacts → (starts : Bool) → Result Slice Fault → Step
+slice_or_start true open_picture starts read = slice_step open_picture starts read
+slice_or_start false open_picture true read = slice_step None true read
+slice_or_start false open_picture false read = no_effect

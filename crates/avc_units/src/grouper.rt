@@ -1,10 +1,10 @@
 ghost use Rattle.std.specs.Prelude.{◌≡◌, false, true, IfOk, OnErr, OnOk};
 ghost use Rattle.avc_params.specs.Tables.{sets_after};
-ghost use Rattle.avc_units.specs.Grouped.{at_fault, begins_one, grouped, last_after, open_with, ungrouped, IfSlice, IsTaken};
+ghost use Rattle.avc_units.specs.GrouperState.{after_fault, begins_a_picture, after_step, last_header_after, open_picture_of, new_grouper, IfSlice, IsTaken};
 ghost use Rattle.avc_units.specs.Grouping.{step};
 
 use crate::step::{Next, Step};
-use crate::steps::Before;
+use crate::step_cases::UnitContext;
 use crate::units::step_of;
 use avc_annexb::Unit;
 use avc_params::ParamTable;
@@ -27,15 +27,15 @@ pub struct Grouper {
 }
 
 impl Model for Grouper {
-    ghost use Rattle.avc_units.specs.Grouped.{Grouped};
+    ghost use Rattle.avc_units.specs.GrouperState.{GrouperState};
 
-    ghost Value = { Grouped };
+    ghost Value = { GrouperState };
 
     ghost view = { λ g. record { sets = g.table; running = g.running; last = g.last; restarts = g.restarts; failed = g.failed } };
 }
 
-fn begins_one(next: &Next) -> bool
-    ensures { result ≡ begins_one next.now }
+fn begins_a_picture(next: &Next) -> bool
+    ensures { result ≡ begins_a_picture next.now }
 {
     match next {
         Next::Begins(_) => true,
@@ -44,8 +44,8 @@ fn begins_one(next: &Next) -> bool
 }
 
 /// The header of the open picture's last slice after a step.
-fn last_after(closes: bool, next: &Next, last: Option<Header>) -> Option<Header>
-    ensures { result ≡ last_after closes next.now last }
+fn last_header_after(closes: bool, next: &Next, last: Option<Header>) -> Option<Header>
+    ensures { result ≡ last_header_after closes next.now last }
 {
     match next {
         Next::Begins(slice) | Next::Continues(slice) => Some(slice.header.copied()),
@@ -57,7 +57,7 @@ fn last_after(closes: bool, next: &Next, last: Option<Header>) -> Option<Header>
 impl Grouper {
     /// At the start of a stream: it waits, with no parameter set.
     pub fn new(alloc: Global) -> Grouper
-        ensures { result ≡ ungrouped }
+        ensures { result ≡ new_grouper }
     {
         Grouper {
             alloc,
@@ -72,8 +72,8 @@ impl Grouper {
     /// What the next unit does, where `full` says whether the open picture, if there is one, is full. The answer is carried
     /// out, or `fault` is called. After want of memory it answers so from then on.
     pub fn unit(&mut self, unit: &Unit, full: bool) -> Result<Step, OutOfMemory>
-        ensures step { IfOk result (λ s. s ≡ step (sets_after self.old.sets) self.old.running (open_with full self.old.last) unit.now) }
-        ensures state { IfOk result (λ s. self.new ≡ grouped self.old unit.now s) }
+        ensures step { IfOk result (λ s. s ≡ step (sets_after self.old.sets) self.old.running (open_picture_of full self.old.last) unit.now) }
+        ensures state { IfOk result (λ s. self.new ≡ after_step self.old unit.now s) }
         ensures slice { IfOk result (λ s. IfSlice s.next (IsTaken (sets_after self.new.sets))) }
         ensures sets { IfOk result (λ s. IfSlice s.next (λ _. self.new.sets ≡ self.old.sets)) }
         ensures going { OnOk result (self.old.failed ≡ false) }
@@ -84,22 +84,22 @@ impl Grouper {
         }
         // until all of it is done
         self.failed = true;
-        let before = Before {
+        let context = UnitContext {
             running: self.running,
             last: &self.last,
             full,
         };
-        let step = step_of(self.alloc, &mut self.table, before, unit)?;
-        self.last = last_after(step.closes, &step.next, self.last.take());
-        self.running = self.running | begins_one(&step.next);
-        self.restarts = step.even_after_fault & begins_one(&step.next);
+        let step = step_of(self.alloc, &mut self.table, context, unit)?;
+        self.last = last_header_after(step.closes, &step.next, self.last.take());
+        self.running = self.running | begins_a_picture(&step.next);
+        self.restarts = step.even_after_fault & begins_a_picture(&step.next);
         self.failed = false;
         Ok(step)
     }
 
     /// A picture had a fault. `closing` says that it was found at the closing that the last step asked for.
     pub fn fault(&mut self, closing: bool)
-        ensures { self.new ≡ at_fault closing self.old }
+        ensures { self.new ≡ after_fault closing self.old }
     {
         if self.restarts & closing {
             return;

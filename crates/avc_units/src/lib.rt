@@ -6,7 +6,7 @@ mod kinds;
 mod sets;
 mod slices;
 mod step;
-mod steps;
+mod step_cases;
 mod units;
 
 pub use grouper::Grouper;

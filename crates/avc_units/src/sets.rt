@@ -3,7 +3,7 @@ ghost use Rattle.std.specs.Option.{option_map};
 ghost use Rattle.avc_units.specs.Grouping.{ends_picture, list_of, pps, rbsp_of, refusal_of, set_fault, set_of, sps};
 
 use crate::step::{Next, Step};
-use crate::steps::ends_picture;
+use crate::step_cases::ends_picture;
 use avc_annexb::{Unit, unescape};
 use avc_params::{ParamTable, SetFault};
 use avc_types::{Bytes, Fault, OutOfMemory};

@@ -6,13 +6,13 @@ ghost use Rattle.avc_params.specs.Tables.{sets_after};
 ghost use Rattle.avc_slice.specs.Header.{is_idr};
 ghost use Rattle.avc_slice.specs.Reading.{header_in_rbsp};
 ghost use Rattle.avc_slice.specs.Within.{IsReadUnder};
-ghost use Rattle.avc_units.specs.Grouped.{IfSlice, IsTaken};
+ghost use Rattle.avc_units.specs.GrouperState.{IfSlice, IsTaken};
 ghost use Rattle.avc_units.specs.Grouping.{kind, reads_zero, slice, with_header};
-ghost use Rattle.avc_units.specs.Kinds.{comes, open_before, step_by};
+ghost use Rattle.avc_units.specs.Kinds.{slice_or_start, open_picture_in, step_by};
 
 use crate::sets::rbsp_of;
 use crate::step::Step;
-use crate::steps::{Before, comes};
+use crate::step_cases::{UnitContext, slice_or_start};
 use avc_annexb::Unit;
 use avc_bits::BitReader;
 use avc_params::ParamTable;
@@ -49,20 +49,20 @@ fn read_slice(table: &ParamTable, unit: &Unit, rbsp: Bytes) -> Result<Slice, Fau
 fn idr_unit(
     alloc: Global,
     table: &ParamTable,
-    before: Before,
+    context: UnitContext,
     unit: &Unit,
 ) -> Result<Step, OutOfMemory>
     requires allowed { forbidden_zero_bit unit.now.header ≡ false }
     requires kind { kind unit.now ≡ slice true }
-    ensures step { IfOk result (λ s. s ≡ step_by before.entry (sets_after table.now) unit.now (slice true)) }
+    ensures step { IfOk result (λ s. s ≡ step_by context.entry (sets_after table.now) unit.now (slice true)) }
     ensures slice { IfOk result (λ s. IfSlice s.next (IsTaken (sets_after table.now))) }
 {
     match rbsp_of(alloc, unit)? {
         Some(rbsp) => {
             let starts = is_first(rbsp.as_slice());
-            Ok(comes(before, starts, read_slice(table, unit, rbsp)))
+            Ok(slice_or_start(context, starts, read_slice(table, unit, rbsp)))
         }
-        None => Ok(comes(before, false, Err(Fault::NalTooLong))),
+        None => Ok(slice_or_start(context, false, Err(Fault::NalTooLong))),
     }
 }
 
@@ -70,18 +70,18 @@ fn idr_unit(
 pub(crate) fn slice_unit(
     alloc: Global,
     table: &ParamTable,
-    before: Before,
+    context: UnitContext,
     unit: &Unit,
     idr: bool,
 ) -> Result<Step, OutOfMemory>
     requires allowed { forbidden_zero_bit unit.now.header ≡ false }
     requires kind { kind unit.now ≡ slice idr }
-    ensures step { IfOk result (λ s. s ≡ step_by before.entry (sets_after table.now) unit.now (slice idr)) }
+    ensures step { IfOk result (λ s. s ≡ step_by context.entry (sets_after table.now) unit.now (slice idr)) }
     ensures slice { IfOk result (λ s. IfSlice s.next (IsTaken (sets_after table.now))) }
 {
     if idr {
-        idr_unit(alloc, table, before, unit)
+        idr_unit(alloc, table, context, unit)
     } else {
-        Ok(comes(before, false, Err(Fault::NotYet)))
+        Ok(slice_or_start(context, false, Err(Fault::NotYet)))
     }
 }

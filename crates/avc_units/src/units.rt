@@ -1,15 +1,15 @@
 ghost use Rattle.std.specs.Prelude.{◌≡◌, ◌++◌, ◌∷◌, [], false, IfOk, OnOk};
 ghost use Rattle.avc_annexb.specs.Units.{forbidden_zero_bit};
 ghost use Rattle.avc_params.specs.Tables.{sets_after};
-ghost use Rattle.avc_units.specs.Grouped.{IfSlice, IsTaken};
+ghost use Rattle.avc_units.specs.GrouperState.{IfSlice, IsTaken};
 ghost use Rattle.avc_units.specs.Grouping.{kind, list_of, rbsp_of, set_of, set_units, step};
-ghost use Rattle.avc_units.specs.Kinds.{meant, open_before, step_by};
+ghost use Rattle.avc_units.specs.Kinds.{meant, open_picture_in, step_by};
 
 use crate::kinds::{UnitKind, kind_of};
 use crate::sets::{put_pps, put_sps};
 use crate::slices::slice_unit;
 use crate::step::{Next, Step};
-use crate::steps::{Before, comes, ends_picture, passes};
+use crate::step_cases::{UnitContext, ends_picture, no_effect, slice_or_start};
 use avc_annexb::Unit;
 use avc_params::ParamTable;
 use avc_types::{Fault, OutOfMemory};
@@ -19,24 +19,24 @@ use std::alloc::Global;
 fn step_by(
     alloc: Global,
     table: &mut ParamTable,
-    before: Before,
+    context: UnitContext,
     unit: &Unit,
     unit_kind: UnitKind,
 ) -> Result<Step, OutOfMemory>
     requires allowed { forbidden_zero_bit unit.now.header ≡ false }
     requires kind { kind unit.now ≡ meant unit_kind }
-    ensures step { IfOk result (λ s. s ≡ step_by before.entry (sets_after table.old) unit.now (meant unit_kind)) }
+    ensures step { IfOk result (λ s. s ≡ step_by context.entry (sets_after table.old) unit.now (meant unit_kind)) }
     ensures put { OnOk result (table.new ≡ table.old ++ list_of (set_of (meant unit_kind) (rbsp_of unit.now))) }
     ensures slice { IfOk result (λ s. IfSlice s.next (IsTaken (sets_after table.new))) }
     ensures sets { IfOk result (λ s. IfSlice s.next (λ _. table.new ≡ table.old)) }
 {
     match unit_kind {
-        UnitKind::Slice { idr } => slice_unit(alloc, table, before, unit, idr),
-        UnitKind::Partition => Ok(comes(before, false, Err(Fault::DataPartition))),
+        UnitKind::Slice { idr } => slice_unit(alloc, table, context, unit, idr),
+        UnitKind::Partition => Ok(slice_or_start(context, false, Err(Fault::DataPartition))),
         UnitKind::Sps => put_sps(alloc, table, unit),
         UnitKind::Pps => put_pps(alloc, table, unit),
         UnitKind::Boundary => Ok(ends_picture(Next::Nothing)),
-        UnitKind::Other => Ok(passes()),
+        UnitKind::Other => Ok(no_effect()),
     }
 }
 
@@ -44,10 +44,10 @@ fn step_by(
 pub(crate) fn step_of(
     alloc: Global,
     table: &mut ParamTable,
-    before: Before,
+    context: UnitContext,
     unit: &Unit,
 ) -> Result<Step, OutOfMemory>
-    ensures step { IfOk result (λ s. s ≡ step (sets_after table.old) before.entry.running (open_before before.entry) unit.now) }
+    ensures step { IfOk result (λ s. s ≡ step (sets_after table.old) context.entry.running (open_picture_in context.entry) unit.now) }
     ensures put { OnOk result (table.new ≡ table.old ++ set_units (unit.now ∷ [])) }
     ensures slice { IfOk result (λ s. IfSlice s.next (IsTaken (sets_after table.new))) }
     ensures sets { IfOk result (λ s. IfSlice s.next (λ _. table.new ≡ table.old)) }
@@ -59,5 +59,5 @@ pub(crate) fn step_of(
             even_after_fault: true,
         });
     }
-    step_by(alloc, table, before, unit, kind_of(unit.header))
+    step_by(alloc, table, context, unit, kind_of(unit.header))
 }

@@ -18,12 +18,13 @@ pub fn read_cbp(reader: &mut BitReader, intra: bool) -> Result<u8, Fault>
     if number > 47 {
         return Err(Fault::BadCode);
     }
-    let pattern = pattern_of(number, intra);
+    let pattern = cbp_of(number, intra);
     *reader = after;
     Ok(pattern)
 }
 
-fn pattern_of(number: u32, intra: bool) -> u8
+/// CodedBlockPatternLuma + 16 * CodedBlockPatternChroma of a codeNum of me(v), in an intra macroblock or in another.
+pub fn cbp_of(number: u32, intra: bool) -> u8
     requires { number < 48 }
     ensures value { pattern_at intra number ≡ Some result }
     ensures below { result < 48 }

@@ -6,19 +6,15 @@ mod coded_block_pattern;
 mod codeword;
 mod coeff_token;
 mod entry;
-mod laws;
+pub mod laws;
 mod run_before;
 mod token;
 mod total_zeros;
 
 pub use code::Code;
-pub use coded_block_pattern::read_cbp;
+pub use coded_block_pattern::{cbp_of, read_cbp};
 pub use codeword::Codeword;
 pub use coeff_token::{coeff_token_word, read_coeff_token};
-pub use laws::{
-    tables_are_prefix_free, tables_are_read, words_are_read, words_are_the_only_ones,
-    words_are_whole,
-};
 pub use run_before::{read_run_before, run_before_word};
 pub use token::Token;
 pub use total_zeros::{read_total_zeros, total_zeros_word};

@@ -1,6 +1,6 @@
 use Rattle.std.proofs.Common.{◌≡◌, map, take}
-use Rattle.avc_dpb.specs.Places.{picked}
+use Rattle.avc_dpb.specs.Places.{items_at}
 use Rattle.avc_dpb.proofs.dpb.pictures.Given as goal
 
 abbrev pub invariant-loop-place : goal.invariant-loop-place
-invariant-loop-place g l = (l.out).items ≡ map g.T.BufferedFrame.shown (picked (take l.place-index l.places) l.frames)
+invariant-loop-place g l = (l.out).items ≡ map g.T.BufferedFrame.shown (items_at (take l.place-index l.places) l.frames)

@@ -1,8 +1,8 @@
-use Rattle.avc_marking.proofs.Limits.{stays-limited, is-limited}
+use Rattle.avc_marking.proofs.Limits.{stays-with_max_long_term_frame_idx, is-with_max_long_term_frame_idx}
 use Rattle.avc_marking.proofs.laws.references_are_limited.Goals as goal
 
 pub returns-clause-entry : goal.returns-clause-entry
-returns-clause-entry c = stays-limited
+returns-clause-entry c = stays-with_max_long_term_frame_idx
 
 pub returns-clause-history : goal.returns-clause-history
-returns-clause-history c = is-limited
+returns-clause-history c = is-with_max_long_term_frame_idx

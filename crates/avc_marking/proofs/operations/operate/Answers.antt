@@ -1,105 +1,105 @@
 use Rattle.std.proofs.Common.{◌≡◌, ◌∙◌, ap, sym, arith, true, false, not, ◌&&◌, None}
 use Rattle.std.specs.Prelude.{nat_le}
 use Rattle.std.proofs.lemmas.Bool.Decides.{nat_tests}
-use Rattle.avc_types.specs.declared.references.Operation.TheVariants.{CurrentToLong}
+use Rattle.avc_types.specs.declared.references.Operation.TheVariants.{CurrentToLongTerm}
 use Rattle.std.proofs.lemmas.Result.{err_from_is_err_and}
-use Rattle.avc_marking.specs.Marks.{without_short, without_long, made_long, after_operation, index_fits}
-use Rattle.avc_marking.specs.Frames.{step_of, turn_at, entries_with, StandWith}
+use Rattle.avc_marking.specs.Marks.{without_short_term, without_long_term, with_long_term, after_operation, is_index_allowed}
+use Rattle.avc_marking.specs.Frames.{marking_entry, operation_state, entries_with, StandWith}
 use Rattle.avc_marking.proofs.Changes.{stand_as}
-use Rattle.avc_marking.proofs.Turns.{stand_with, changed-ok, changed-err, limited-ok, forgotten-ok, current-ok, not_assigned, and_fits}
+use Rattle.avc_marking.proofs.OperationStates.{stand_with, changed-ok, changed-err, with_max_long_term_frame_idx-ok, forgotten-ok, current-ok, not_assigned, and_fits}
 use Rattle.avc_marking.proofs.operations.operate.Goals as goal
 
-pub returns-in_err-forget_short-in-ForgetShort-clause-turn : goal.returns-in_err-forget_short-in-ForgetShort-clause-turn
-returns-in_err-forget_short-in-ForgetShort-clause-turn c = λ entries own stand.
+pub returns-in_err-unmark_short_term-in-UnmarkShortTerm-clause-turn : goal.returns-in_err-unmark_short_term-in-UnmarkShortTerm-clause-turn
+returns-in_err-unmark_short_term-in-UnmarkShortTerm-clause-turn c = λ entries own stand.
     let xs = c.args.frames.now.items in
     let zs = c.as_mut_slice.result.now in
-    let t = turn_at entries own c.args.frames.now.items c.args.greatest.now c.args.assigned in
+    let t = operation_state entries own c.args.frames.now.items c.args.max_long_term_frame_idx.now c.args.assigned in
     let stands = stand_as (entries_with c.args.assigned entries own) xs zs c.as_mut_slice.ensures.value (stand_with c.args.assigned entries own xs stand) in
     let p = err_from_is_err_and c.from_residual.result c.from_residual.ensures.1 in
     rw (p.1, p.2)
-    (ap (after_operation (step_of c.args.new None) own t) c.in-ForgetShort.is
-    ∙ changed-err (without_short (step_of c.args.new None) c.in-ForgetShort.difference_minus1) c.args.assigned entries own c.args.greatest.now xs zs c.as_mut_slice.ensures.value _ (c.in_err-forget_short-in-ForgetShort.ensures _ stands))
+    (ap (after_operation (marking_entry c.args.new None) own t) c.in-UnmarkShortTerm.is
+    ∙ changed-err (without_short_term (marking_entry c.args.new None) c.in-UnmarkShortTerm.difference_minus1) c.args.assigned entries own c.args.max_long_term_frame_idx.now xs zs c.as_mut_slice.ensures.value _ (c.in_err-unmark_short_term-in-UnmarkShortTerm.ensures _ stands))
 
-pub returns-in_ok-forget_short-in-ForgetShort-clause-turn : goal.returns-in_ok-forget_short-in-ForgetShort-clause-turn
-returns-in_ok-forget_short-in-ForgetShort-clause-turn c = λ entries own stand.
+pub returns-in_ok-unmark_short_term-in-UnmarkShortTerm-clause-turn : goal.returns-in_ok-unmark_short_term-in-UnmarkShortTerm-clause-turn
+returns-in_ok-unmark_short_term-in-UnmarkShortTerm-clause-turn c = λ entries own stand.
     let xs = c.args.frames.now.items in
     let zs = c.as_mut_slice.result.now in
-    let t = turn_at entries own c.args.frames.now.items c.args.greatest.now c.args.assigned in
+    let t = operation_state entries own c.args.frames.now.items c.args.max_long_term_frame_idx.now c.args.assigned in
     let stands = stand_as (entries_with c.args.assigned entries own) xs zs c.as_mut_slice.ensures.value (stand_with c.args.assigned entries own xs stand) in
-    ap (after_operation (step_of c.args.new None) own t) c.in-ForgetShort.is
-    ∙ changed-ok (without_short (step_of c.args.new None) c.in-ForgetShort.difference_minus1) c.args.assigned entries own c.args.greatest.now xs zs c.as_mut_slice.ensures.value c.forget_short.new.frames c.forget_short.auto.frames (c.in_ok-forget_short-in-ForgetShort.ensures _ stands)
+    ap (after_operation (marking_entry c.args.new None) own t) c.in-UnmarkShortTerm.is
+    ∙ changed-ok (without_short_term (marking_entry c.args.new None) c.in-UnmarkShortTerm.difference_minus1) c.args.assigned entries own c.args.max_long_term_frame_idx.now xs zs c.as_mut_slice.ensures.value c.unmark_short_term.new.frames c.unmark_short_term.auto.frames (c.in_ok-unmark_short_term-in-UnmarkShortTerm.ensures _ stands)
 
-pub returns-in_err-forget_long-in-ForgetLong-clause-turn : goal.returns-in_err-forget_long-in-ForgetLong-clause-turn
-returns-in_err-forget_long-in-ForgetLong-clause-turn c = λ entries own stand.
+pub returns-in_err-unmark_long_term-in-UnmarkLongTerm-clause-turn : goal.returns-in_err-unmark_long_term-in-UnmarkLongTerm-clause-turn
+returns-in_err-unmark_long_term-in-UnmarkLongTerm-clause-turn c = λ entries own stand.
     let xs = c.args.frames.now.items in
-    let zs = c.as_mut_slice-in-ForgetLong.result.now in
-    let t = turn_at entries own c.args.frames.now.items c.args.greatest.now c.args.assigned in
-    let stands = stand_as (entries_with c.args.assigned entries own) xs zs c.as_mut_slice-in-ForgetLong.ensures.value (stand_with c.args.assigned entries own xs stand) in
-    let p = err_from_is_err_and c.from_residual-in_err-forget_long-in-ForgetLong.result c.from_residual-in_err-forget_long-in-ForgetLong.ensures.1 in
+    let zs = c.as_mut_slice-in-UnmarkLongTerm.result.now in
+    let t = operation_state entries own c.args.frames.now.items c.args.max_long_term_frame_idx.now c.args.assigned in
+    let stands = stand_as (entries_with c.args.assigned entries own) xs zs c.as_mut_slice-in-UnmarkLongTerm.ensures.value (stand_with c.args.assigned entries own xs stand) in
+    let p = err_from_is_err_and c.from_residual-in_err-unmark_long_term-in-UnmarkLongTerm.result c.from_residual-in_err-unmark_long_term-in-UnmarkLongTerm.ensures.1 in
     rw (p.1, p.2)
-    (ap (after_operation (step_of c.args.new None) own t) c.in-ForgetLong.is
-    ∙ changed-err (without_long c.in-ForgetLong.index) c.args.assigned entries own c.args.greatest.now xs zs c.as_mut_slice-in-ForgetLong.ensures.value _ (c.in_err-forget_long-in-ForgetLong.ensures _ stands))
+    (ap (after_operation (marking_entry c.args.new None) own t) c.in-UnmarkLongTerm.is
+    ∙ changed-err (without_long_term c.in-UnmarkLongTerm.index) c.args.assigned entries own c.args.max_long_term_frame_idx.now xs zs c.as_mut_slice-in-UnmarkLongTerm.ensures.value _ (c.in_err-unmark_long_term-in-UnmarkLongTerm.ensures _ stands))
 
-pub returns-in_ok-forget_long-in-ForgetLong-clause-turn : goal.returns-in_ok-forget_long-in-ForgetLong-clause-turn
-returns-in_ok-forget_long-in-ForgetLong-clause-turn c = λ entries own stand.
+pub returns-in_ok-unmark_long_term-in-UnmarkLongTerm-clause-turn : goal.returns-in_ok-unmark_long_term-in-UnmarkLongTerm-clause-turn
+returns-in_ok-unmark_long_term-in-UnmarkLongTerm-clause-turn c = λ entries own stand.
     let xs = c.args.frames.now.items in
-    let zs = c.as_mut_slice-in-ForgetLong.result.now in
-    let t = turn_at entries own c.args.frames.now.items c.args.greatest.now c.args.assigned in
-    let stands = stand_as (entries_with c.args.assigned entries own) xs zs c.as_mut_slice-in-ForgetLong.ensures.value (stand_with c.args.assigned entries own xs stand) in
-    ap (after_operation (step_of c.args.new None) own t) c.in-ForgetLong.is
-    ∙ changed-ok (without_long c.in-ForgetLong.index) c.args.assigned entries own c.args.greatest.now xs zs c.as_mut_slice-in-ForgetLong.ensures.value c.forget_long.new.frames c.forget_long.auto.frames (c.in_ok-forget_long-in-ForgetLong.ensures _ stands)
+    let zs = c.as_mut_slice-in-UnmarkLongTerm.result.now in
+    let t = operation_state entries own c.args.frames.now.items c.args.max_long_term_frame_idx.now c.args.assigned in
+    let stands = stand_as (entries_with c.args.assigned entries own) xs zs c.as_mut_slice-in-UnmarkLongTerm.ensures.value (stand_with c.args.assigned entries own xs stand) in
+    ap (after_operation (marking_entry c.args.new None) own t) c.in-UnmarkLongTerm.is
+    ∙ changed-ok (without_long_term c.in-UnmarkLongTerm.index) c.args.assigned entries own c.args.max_long_term_frame_idx.now xs zs c.as_mut_slice-in-UnmarkLongTerm.ensures.value c.unmark_long_term.new.frames c.unmark_long_term.auto.frames (c.in_ok-unmark_long_term-in-UnmarkLongTerm.ensures _ stands)
 
-pub returns-in_err-make_long-in-ShortToLong-clause-turn : goal.returns-in_err-make_long-in-ShortToLong-clause-turn
-returns-in_err-make_long-in-ShortToLong-clause-turn c = λ entries own stand.
+pub returns-in_err-assign_long_term-in-AssignLongTerm-clause-turn : goal.returns-in_err-assign_long_term-in-AssignLongTerm-clause-turn
+returns-in_err-assign_long_term-in-AssignLongTerm-clause-turn c = λ entries own stand.
     let xs = c.args.frames.now.items in
-    let zs = c.as_mut_slice-in-ShortToLong.result.now in
-    let t = turn_at entries own c.args.frames.now.items c.args.greatest.now c.args.assigned in
-    let stands = stand_as (entries_with c.args.assigned entries own) xs zs c.as_mut_slice-in-ShortToLong.ensures.value (stand_with c.args.assigned entries own xs stand) in
-    let p = err_from_is_err_and c.from_residual-in_err-make_long-in-ShortToLong.result c.from_residual-in_err-make_long-in-ShortToLong.ensures.1 in
+    let zs = c.as_mut_slice-in-AssignLongTerm.result.now in
+    let t = operation_state entries own c.args.frames.now.items c.args.max_long_term_frame_idx.now c.args.assigned in
+    let stands = stand_as (entries_with c.args.assigned entries own) xs zs c.as_mut_slice-in-AssignLongTerm.ensures.value (stand_with c.args.assigned entries own xs stand) in
+    let p = err_from_is_err_and c.from_residual-in_err-assign_long_term-in-AssignLongTerm.result c.from_residual-in_err-assign_long_term-in-AssignLongTerm.ensures.1 in
     rw (p.1, p.2)
-    (ap (after_operation (step_of c.args.new None) own t) c.in-ShortToLong.is
-    ∙ changed-err (made_long (step_of c.args.new None) c.in-ShortToLong.difference_minus1 c.in-ShortToLong.index c.args.greatest.now) c.args.assigned entries own c.args.greatest.now xs zs c.as_mut_slice-in-ShortToLong.ensures.value _ (c.in_err-make_long-in-ShortToLong.ensures _ stands))
+    (ap (after_operation (marking_entry c.args.new None) own t) c.in-AssignLongTerm.is
+    ∙ changed-err (with_long_term (marking_entry c.args.new None) c.in-AssignLongTerm.difference_minus1 c.in-AssignLongTerm.index c.args.max_long_term_frame_idx.now) c.args.assigned entries own c.args.max_long_term_frame_idx.now xs zs c.as_mut_slice-in-AssignLongTerm.ensures.value _ (c.in_err-assign_long_term-in-AssignLongTerm.ensures _ stands))
 
-pub returns-in_ok-make_long-in-ShortToLong-clause-turn : goal.returns-in_ok-make_long-in-ShortToLong-clause-turn
-returns-in_ok-make_long-in-ShortToLong-clause-turn c = λ entries own stand.
+pub returns-in_ok-assign_long_term-in-AssignLongTerm-clause-turn : goal.returns-in_ok-assign_long_term-in-AssignLongTerm-clause-turn
+returns-in_ok-assign_long_term-in-AssignLongTerm-clause-turn c = λ entries own stand.
     let xs = c.args.frames.now.items in
-    let zs = c.as_mut_slice-in-ShortToLong.result.now in
-    let t = turn_at entries own c.args.frames.now.items c.args.greatest.now c.args.assigned in
-    let stands = stand_as (entries_with c.args.assigned entries own) xs zs c.as_mut_slice-in-ShortToLong.ensures.value (stand_with c.args.assigned entries own xs stand) in
-    ap (after_operation (step_of c.args.new None) own t) c.in-ShortToLong.is
-    ∙ changed-ok (made_long (step_of c.args.new None) c.in-ShortToLong.difference_minus1 c.in-ShortToLong.index c.args.greatest.now) c.args.assigned entries own c.args.greatest.now xs zs c.as_mut_slice-in-ShortToLong.ensures.value c.make_long.new.frames c.make_long.auto.frames (c.in_ok-make_long-in-ShortToLong.ensures _ stands)
+    let zs = c.as_mut_slice-in-AssignLongTerm.result.now in
+    let t = operation_state entries own c.args.frames.now.items c.args.max_long_term_frame_idx.now c.args.assigned in
+    let stands = stand_as (entries_with c.args.assigned entries own) xs zs c.as_mut_slice-in-AssignLongTerm.ensures.value (stand_with c.args.assigned entries own xs stand) in
+    ap (after_operation (marking_entry c.args.new None) own t) c.in-AssignLongTerm.is
+    ∙ changed-ok (with_long_term (marking_entry c.args.new None) c.in-AssignLongTerm.difference_minus1 c.in-AssignLongTerm.index c.args.max_long_term_frame_idx.now) c.args.assigned entries own c.args.max_long_term_frame_idx.now xs zs c.as_mut_slice-in-AssignLongTerm.ensures.value c.assign_long_term.new.frames c.assign_long_term.auto.frames (c.in_ok-assign_long_term-in-AssignLongTerm.ensures _ stands)
 
 pub returns-else-new-plus1-clause-turn : goal.returns-else-new-plus1-clause-turn
 returns-else-new-plus1-clause-turn c = λ entries own stand.
     let xs = c.args.frames.now.items in
-    let zs = c.as_mut_slice-in-LimitLong.result.now in
-    let same : c.as_mut_slice-in-LimitLong.result.now ≡ c.args.frames.now.items = c.as_mut_slice-in-LimitLong.ensures.value in
-    let fits : nat_le c.in-LimitLong.plus1 c.args.new.max_num_ref_frames ≡ true = grind (arith, nat_tests) in
-    ap (after_operation (step_of c.args.new None) own (turn_at entries own c.args.frames.now.items c.args.greatest.now c.args.assigned)) c.in-LimitLong.is
-    ∙ limited-ok c.args.assigned entries own c.args.greatest.now c.greatest_below.result xs zs c.leave.new.frames c.in-LimitLong.plus1 c.args.new.max_num_ref_frames same c.leave.auto.frames fits
-    c.greatest_below.ensures
-    (c.leave.ensures.references _ (stand_as (entries_with c.args.assigned entries own) xs zs same (stand_with c.args.assigned entries own xs stand)))
+    let zs = c.as_mut_slice-in-MaxLongTermFrameIdx.result.now in
+    let same : c.as_mut_slice-in-MaxLongTermFrameIdx.result.now ≡ c.args.frames.now.items = c.as_mut_slice-in-MaxLongTermFrameIdx.ensures.value in
+    let fits : nat_le c.in-MaxLongTermFrameIdx.plus1 c.args.new.max_num_ref_frames ≡ true = grind (arith, nat_tests) in
+    ap (after_operation (marking_entry c.args.new None) own (operation_state entries own c.args.frames.now.items c.args.max_long_term_frame_idx.now c.args.assigned)) c.in-MaxLongTermFrameIdx.is
+    ∙ with_max_long_term_frame_idx-ok c.args.assigned entries own c.args.max_long_term_frame_idx.now c.max_long_term_frame_idx_below.result xs zs c.unmark_frames.new.frames c.in-MaxLongTermFrameIdx.plus1 c.args.new.max_num_ref_frames same c.unmark_frames.auto.frames fits
+    c.max_long_term_frame_idx_below.ensures
+    (c.unmark_frames.ensures.references _ (stand_as (entries_with c.args.assigned entries own) xs zs same (stand_with c.args.assigned entries own xs stand)))
 
-pub returns-in-ForgetAll-clause-turn : goal.returns-in-ForgetAll-clause-turn
-returns-in-ForgetAll-clause-turn c = λ entries own stand.
+pub returns-in-UnmarkAll-clause-turn : goal.returns-in-UnmarkAll-clause-turn
+returns-in-UnmarkAll-clause-turn c = λ entries own stand.
     let xs = c.args.frames.now.items in
-    let zs = c.as_mut_slice-in-ForgetAll.result.now in
-    let same : c.as_mut_slice-in-ForgetAll.result.now ≡ c.args.frames.now.items = c.as_mut_slice-in-ForgetAll.ensures.value in
-    ap (after_operation (step_of c.args.new None) own (turn_at entries own c.args.frames.now.items c.args.greatest.now c.args.assigned)) c.in-ForgetAll.is
-    ∙ forgotten-ok c.args.assigned entries own c.args.greatest.now xs zs c.leave-in-ForgetAll.new.frames same c.leave-in-ForgetAll.auto.frames
-    (c.leave-in-ForgetAll.ensures.references _ (stand_as (entries_with c.args.assigned entries own) xs zs same (stand_with c.args.assigned entries own xs stand)))
+    let zs = c.as_mut_slice-in-UnmarkAll.result.now in
+    let same : c.as_mut_slice-in-UnmarkAll.result.now ≡ c.args.frames.now.items = c.as_mut_slice-in-UnmarkAll.ensures.value in
+    ap (after_operation (marking_entry c.args.new None) own (operation_state entries own c.args.frames.now.items c.args.max_long_term_frame_idx.now c.args.assigned)) c.in-UnmarkAll.is
+    ∙ forgotten-ok c.args.assigned entries own c.args.max_long_term_frame_idx.now xs zs c.unmark_frames-in-UnmarkAll.new.frames same c.unmark_frames-in-UnmarkAll.auto.frames
+    (c.unmark_frames-in-UnmarkAll.ensures.references _ (stand_as (entries_with c.args.assigned entries own) xs zs same (stand_with c.args.assigned entries own xs stand)))
 
-pub current_to_long-requires : goal.current_to_long-requires
-current_to_long-requires c =
-    c.requires (not_assigned c.args.assigned (index_fits c.in-CurrentToLong.index c.args.greatest.now) (sym c.may_be_current.ensures ∙ c.if-not-may_be_current.false))
+pub current_to_long_term-requires : goal.current_to_long_term-requires
+current_to_long_term-requires c =
+    c.requires (not_assigned c.args.assigned (is_index_allowed c.in-CurrentToLongTerm.index c.args.max_long_term_frame_idx.now) (sym c.may_current_be_long_term.ensures ∙ c.if-not-may_current_be_long_term.false))
 
-pub returns-else-not-may_be_current-clause-turn : goal.returns-else-not-may_be_current-clause-turn
-returns-else-not-may_be_current-clause-turn c = λ entries own stand.
-    let may : (not c.args.assigned && index_fits c.in-CurrentToLong.index c.args.greatest.now) ≡ true = sym c.may_be_current.ensures ∙ c.if-not-may_be_current.false in
-    let fresh : c.args.assigned ≡ false = not_assigned c.args.assigned (index_fits c.in-CurrentToLong.index c.args.greatest.now) may in
+pub returns-else-not-may_current_be_long_term-clause-turn : goal.returns-else-not-may_current_be_long_term-clause-turn
+returns-else-not-may_current_be_long_term-clause-turn c = λ entries own stand.
+    let may : (not c.args.assigned && is_index_allowed c.in-CurrentToLongTerm.index c.args.max_long_term_frame_idx.now) ≡ true = sym c.may_current_be_long_term.ensures ∙ c.if-not-may_current_be_long_term.false in
+    let fresh : c.args.assigned ≡ false = not_assigned c.args.assigned (is_index_allowed c.in-CurrentToLongTerm.index c.args.max_long_term_frame_idx.now) may in
     let stand' : StandWith false entries own c.args.frames.now.items = rw fresh at stand in
-    ap (after_operation (step_of c.args.new None) own (turn_at entries own c.args.frames.now.items c.args.greatest.now c.args.assigned)) c.in-CurrentToLong.is
-    ∙ ap (λ b. after_operation (step_of c.args.new None) own (turn_at entries own c.args.frames.now.items c.args.greatest.now b) (CurrentToLong c.in-CurrentToLong.index)) fresh
-    ∙ current-ok c.args.new entries own c.args.greatest.now c.in-CurrentToLong.index c.args.frames.now.items c.current_to_long.new.frames.items
-    (and_fits c.args.assigned (index_fits c.in-CurrentToLong.index c.args.greatest.now) may)
-    (c.current_to_long.ensures.references entries own (stand_with false entries own c.args.frames.now.items stand'))
+    ap (after_operation (marking_entry c.args.new None) own (operation_state entries own c.args.frames.now.items c.args.max_long_term_frame_idx.now c.args.assigned)) c.in-CurrentToLongTerm.is
+    ∙ ap (λ b. after_operation (marking_entry c.args.new None) own (operation_state entries own c.args.frames.now.items c.args.max_long_term_frame_idx.now b) (CurrentToLongTerm c.in-CurrentToLongTerm.index)) fresh
+    ∙ current-ok c.args.new entries own c.args.max_long_term_frame_idx.now c.in-CurrentToLongTerm.index c.args.frames.now.items c.current_to_long_term.new.frames.items
+    (and_fits c.args.assigned (is_index_allowed c.in-CurrentToLongTerm.index c.args.max_long_term_frame_idx.now) may)
+    (c.current_to_long_term.ensures.references entries own (record { each = stand'.each; rising = stand'.rising }))

@@ -1,13 +1,13 @@
 use Rattle.std.proofs.Common.{◌≡◌, ℕ, ◌+◌, List, length, drop, false, None}
 use Rattle.std.specs.Prelude.{if◌then◌else◌}
 use Rattle.avc_marking.specs.Marks.{after_operations}
-use Rattle.avc_marking.specs.Frames.{step_of, turn_at, StandBefore}
+use Rattle.avc_marking.specs.Frames.{marking_entry, operation_state, StandBefore}
 use Rattle.avc_marking.proofs.operations.operate_all.Given as goal
 
 abbrev pub invariant-loop-operation : goal.invariant-loop-operation
 invariant-loop-operation l = record {
   length : length l.frames.items ≡ length l.initial.frames.items + (if l.assigned then 1 else 0);
   turn : (entries : List ℕ) (own : ℕ) → StandBefore entries own l.initial.frames.items →
-      after_operations (step_of l.new None) own (turn_at entries own l.initial.frames.items l.initial.greatest false) l.operations
-      ≡ after_operations (step_of l.new None) own (turn_at entries own l.frames.items l.greatest l.assigned) (drop l.operation-index l.operations);
+      after_operations (marking_entry l.new None) own (operation_state entries own l.initial.frames.items l.initial.max_long_term_frame_idx false) l.operations
+      ≡ after_operations (marking_entry l.new None) own (operation_state entries own l.frames.items l.max_long_term_frame_idx l.assigned) (drop l.operation-index l.operations);
 }

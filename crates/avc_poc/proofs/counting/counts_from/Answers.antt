@@ -1,11 +1,11 @@
 use Rattle.std.proofs.Common.{ap, ◌∙◌}
-use Rattle.avc_poc.specs.OrderCounts.{counts_by, in_range, number_fits}
-use Rattle.avc_poc.specs.Earlier.{answer, counts_of, pair}
+use Rattle.avc_poc.specs.OrderCounts.{counts_by, in_range, number_in_range}
+use Rattle.avc_poc.specs.OrderCountState.{count_pair, counts_of, pair}
 use Rattle.avc_poc.proofs.Answered.{ok_is}
 use Rattle.avc_poc.proofs.counting.counts_from.Goals as goal
 
 pub returns : goal.returns
 returns c =
     let sps = c.args.sps.now in
-    let ok = ok_is (number_fits sps.order_count c.args.number) (pair (counts_by sps.order_count sps c.args.header.now c.args.previous c.args.number)) c.in_ok-raw.raw c.in_ok-raw.ensures in
-    record { counts = rw ok.0 (c.in_range.ensures ∙ ap (λ p. answer (in_range c.args.header.now (counts_of p))) ok.1) }
+    let ok = ok_is (number_in_range sps.order_count c.args.number) (pair (counts_by sps.order_count sps c.args.header.now c.args.previous c.args.number)) c.in_ok-raw.raw c.in_ok-raw.ensures in
+    record { counts = rw ok.0 (c.in_range.ensures ∙ ap (λ p. count_pair (in_range c.args.header.now (counts_of p))) ok.1) }

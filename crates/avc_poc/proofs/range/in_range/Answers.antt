@@ -2,18 +2,18 @@ use Rattle.std.proofs.Common.{◌≡◌, true, ap, ◌∙◌, sym, Ok, Err, if�
 use Rattle.std.proofs.lemmas.Int.{to_z-of_z}
 use Rattle.avc_types.specs.declared.fault.Fault.TheVariants.{PocRange}
 use Rattle.avc_slice.specs.Header.{has_operation_5}
-use Rattle.avc_poc.specs.OrderCounts.{both_fit, lowered}
-use Rattle.avc_poc.specs.Earlier.{counts_of, pair}
+use Rattle.avc_poc.specs.OrderCounts.{both_in_32_bits, lowered_by_operation_5}
+use Rattle.avc_poc.specs.OrderCountState.{counts_of, pair}
 use Rattle.avc_poc.proofs.Answered.{both_are, ok_is, in_range_lowered}
 use Rattle.avc_poc.proofs.range.in_range.Goals as goal
 
 pub returns-then-has_operation_5 : goal.returns-then-has_operation_5
 returns-then-has_operation_5 c =
     let five : has_operation_5 c.args.header.now ≡ true = sym c.has_operation_5.ensures ∙ c.if-has_operation_5.true in
-    let ok = ok_is (both_fit (counts_of c.args.counts)) c.args.counts (c.in_ok-top.top, c.in_ok-top.bottom) c.in_ok-top.ensures in
+    let ok = ok_is (both_in_32_bits (counts_of c.args.counts)) c.args.counts (c.in_ok-top.top, c.in_ok-top.bottom) c.in_ok-top.ensures in
     let top_fits : SFits w32 c.in_ok-top.top = search rules in
     let bottom_fits : SFits w32 c.in_ok-top.bottom = search rules in
-    let less : c.lowered.result ≡ pair (lowered (counts_of c.args.counts)) = c.lowered.ensures ∙ ap (λ p. pair (lowered (counts_of p))) (both_are _ _ _ _ (to_z-of_z w32 _ top_fits) (to_z-of_z w32 _ bottom_fits) ∙ ok.1) in
+    let less : c.lowered_by_operation_5.result ≡ pair (lowered_by_operation_5 (counts_of c.args.counts)) = c.lowered_by_operation_5.ensures ∙ ap (λ p. pair (lowered_by_operation_5 (counts_of p))) (both_are _ _ _ _ (to_z-of_z w32 _ top_fits) (to_z-of_z w32 _ bottom_fits) ∙ ok.1) in
     c.both-then-has_operation_5.ensures
-    ∙ ap (λ p. if both_fit (counts_of p) then Ok p else Err PocRange) less
+    ∙ ap (λ p. if both_in_32_bits (counts_of p) then Ok p else Err PocRange) less
     ∙ in_range_lowered c.args.header.now (counts_of c.args.counts) five ok.0

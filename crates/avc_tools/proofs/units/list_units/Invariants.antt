@@ -1,5 +1,5 @@
 use Rattle.std.proofs.Common.{string_bytes}
-use Rattle.avc_annexb.specs.Splitting.{waiting}
+use Rattle.avc_annexb.specs.SplitterState.{units_waiting}
 use Rattle.avc_tools.proofs.Listing.{IsListed}
 use Rattle.avc_tools.proofs.units.list_units.Given as goal
 
@@ -7,4 +7,4 @@ abbrev pub invariant-loop-unit : goal.invariant-loop-unit
 invariant-loop-unit l = record { listed : IsListed l.bytes l.splitter (string_bytes l.text) }
 
 abbrev pub decreases-loop-unit : goal.decreases-loop-unit
-decreases-loop-unit l = waiting 1 l.splitter
+decreases-loop-unit l = units_waiting 1 l.splitter

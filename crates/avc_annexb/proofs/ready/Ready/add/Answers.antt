@@ -3,10 +3,10 @@ use Rattle.avc_annexb.proofs.Taking.{closed_some, units_pushed}
 use Rattle.avc_annexb.proofs.ready.Ready.add.Goals as goal
 
 pub returns-clause-holds : goal.returns-clause-holds
-returns-clause-holds g c = λ done found h k.
-    let some : length found.bytes ≡ 0 → ⊥ = λ e. omega (arith, k.len, e) in
-    rw (closed_some found some)
+returns-clause-holds g c = λ done placed h k.
+    let some : length placed.bytes ≡ 0 → ⊥ = λ e. omega (arith, k.len, e) in
+    rw (closed_some placed some)
     record {
-      units = rw c.in_ok-push_back.ensures.items (units_pushed g.row.MAX c.args.self.now.given.items done found c.args.self.now.units.items c.into_unit.result h.units (c.into_unit.ensures found (length done) k h.count));
-      count = omega (arith, h.count, length-append done (found ∷ []), c.saturating_add-self.ensures);
+      units = rw c.in_ok-push_back.ensures.items (units_pushed g.row.MAX c.args.self.now.given.items done placed c.args.self.now.units.items c.into_unit.result h.units (c.into_unit.ensures placed (length done) k h.count));
+      count = omega (arith, h.count, length-append done (placed ∷ []), c.saturating_add-self.ensures);
     }

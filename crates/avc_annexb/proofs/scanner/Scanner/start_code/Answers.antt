@@ -1,13 +1,13 @@
 use Rattle.std.proofs.Common.{◌+◌, ◌++◌, [], Some, length, arith}
 use Rattle.std.proofs.lemmas.List.{length_push}
 use Rattle.std.proofs.lemmas.Result.{on_ok_weaker}
-use Rattle.avc_annexb.specs.Scanning.{closed}
+use Rattle.avc_annexb.specs.Scanning.{closed_unit}
 use Rattle.avc_annexb.proofs.Scanning.{scanned_start}
 use Rattle.avc_annexb.proofs.scanner.Scanner.start_code.Goals as goal
 
 pub returns-clause-ok : goal.returns-clause-ok
 returns-clause-ok g c = on_ok_weaker c.add_any.result (λ added. λ bytes s. record {
-  done = s.done ++ closed s.current;
+  done = s.done ++ closed_unit s.current;
   current = Some (record { offset = length bytes + 1; bytes = [] });
   scanned = scanned_start bytes s.done s.current (rw c.requires at s.scanned);
   unit = rw c.replace-ended.ensures.after (c.new.ensures (length bytes + 1) (omega (arith, s.position)));

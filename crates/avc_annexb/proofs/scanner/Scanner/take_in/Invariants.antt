@@ -1,11 +1,11 @@
 use Rattle.std.proofs.Common.{◌≡◌, ◌++◌, ◌≤◌, ℕ, ◌-◌, List, length, take}
-use Rattle.avc_annexb.specs.Scanning.{Scans}
+use Rattle.avc_annexb.specs.Scanning.{HasScanned}
 use Rattle.avc_annexb.proofs.scanner.Scanner.take_in.Given as goal
 
 -- the bytes before this place were taken in
 abbrev pub invariant-loop-len : goal.invariant-loop-len
 invariant-loop-len g l = record {
-  scans : (bytes : List ℕ) → Scans g.row.MAX l.initial.self bytes → Scans g.row.MAX l.self (bytes ++ take l.place l.piece);
+  scans : (bytes : List ℕ) → HasScanned g.row.MAX l.initial.self bytes → HasScanned g.row.MAX l.self (bytes ++ take l.place l.piece);
   given : l.self.ready.given.items ≡ l.initial.self.ready.given.items;
   within : l.place ≤ length l.piece;
 }

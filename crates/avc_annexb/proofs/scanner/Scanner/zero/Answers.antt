@@ -1,7 +1,7 @@
 use Rattle.std.proofs.Common.{◌≡◌, ◌++◌, None, arith}
 use Rattle.std.proofs.lemmas.List.{length_push}
 use Rattle.std.proofs.lemmas.Result.{on_ok_weaker}
-use Rattle.avc_annexb.specs.Scanning.{closed}
+use Rattle.avc_annexb.specs.Scanning.{closed_unit}
 use Rattle.avc_annexb.proofs.Scanning.{scanned_zero, scanned_third}
 use Rattle.avc_annexb.proofs.scanner.Scanner.zero.Goals as goal
 
@@ -19,7 +19,7 @@ pub returns-clause-ok : goal.returns-clause-ok
 returns-clause-ok g c = on_ok_weaker c.add_any.result (λ added. λ bytes s.
     let two : c.args.self.now.zeros ≡ 2 = omega (arith, s.scanned.few) in
     record {
-      done = s.done ++ closed s.current;
+      done = s.done ++ closed_unit s.current;
       current = None;
       scanned = rw two (scanned_third bytes s.done s.current (rw two at s.scanned));
       unit = rw c.take.ensures.after tt;

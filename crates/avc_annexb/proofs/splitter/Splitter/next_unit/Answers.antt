@@ -1,5 +1,5 @@
 use Rattle.std.proofs.Common.{refl}
-use Rattle.avc_annexb.specs.Scanning.{split_by}
+use Rattle.avc_annexb.specs.Scanning.{splitter_state}
 use Rattle.avc_annexb.proofs.Taking.{next_in, taken_more, fewer_wait}
 use Rattle.avc_annexb.proofs.splitter.Splitter.next_unit.Goals as goal
 
@@ -8,5 +8,5 @@ returns-in-Running g c =
     let s = c.self.inside in
     let unit = c.next.result in
     let is = next_in s.progress g.row.MAX s.scanner s.bytes.items unit c.self.invariant c.in-Running.is c.next.ensures.unit in
-    let taken = taken_more (split_by s) s.scanner.ready.given.items c.next.new.self.given.items unit refl c.next.ensures.given in
-    rw (← c.self.view_is) (record { unit = is; taken = taken; fewer = fewer_wait g.row.MAX (split_by s) _ unit is taken })
+    let taken = taken_more (splitter_state s) s.scanner.ready.given.items c.next.new.self.given.items unit refl c.next.ensures.given in
+    rw (← c.self.view_is) (record { unit = is; taken = taken; fewer = fewer_wait g.row.MAX (splitter_state s) _ unit is taken })

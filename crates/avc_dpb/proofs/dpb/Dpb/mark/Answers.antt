@@ -1,6 +1,6 @@
 use Rattle.std.proofs.Common.{◌<◌, length, slice_set, ap, ◌∙◌, sym, subst}
 use Rattle.avc_dpb.specs.Contents.{with_mark}
-use Rattle.avc_dpb.proofs.Leaving.{changed_read}
+use Rattle.avc_dpb.proofs.Removing.{changed_read}
 use Rattle.avc_dpb.proofs.dpb.Dpb.mark.Goals as goal
 
 pub returns : goal.returns

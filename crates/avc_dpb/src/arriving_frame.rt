@@ -1,0 +1,16 @@
+/// What output asks of a frame that comes into the buffer: a decoded picture, or a non-existing frame, which stands for a missing
+/// frame number.
+#[derive(Clone, Copy, Debug)]
+pub struct ArrivingFrame {
+    /// PicOrderCnt; any number for a non-existing frame.
+    pub order: i32,
+
+    /// No for a non-existing frame.
+    pub existing: bool,
+
+    /// nal_ref_idc is not 0. A non-existing frame is stored like a reference picture, whatever stands here.
+    pub is_reference: bool,
+
+    /// The buffer's size in frames, 1 to 16.
+    pub capacity: usize,
+}

@@ -1,0 +1,18 @@
+use Rattle.std.proofs.Common.{◌≡◌, ℕ, arith, refl}
+use Rattle.avc_types.specs.declared.marked_frame.MarkedFrame.{MarkedFrame}
+use Rattle.avc_types.specs.References.{reference_of}
+use Rattle.avc_marking.specs.declared.frame.FramesToUnmark.{FramesToUnmark}
+use Rattle.avc_marking.specs.declared.frame.FramesToUnmark.TheVariants.{Index, From, Every}
+use Rattle.avc_marking.specs.Frames.{is_to_unmark}
+use Rattle.avc_marking.proofs.Changes.{references-unmarked_if}
+use Rattle.avc_marking.proofs.frame.unmark_frames.Goals as goal
+
+no_entry : (l : FramesToUnmark) (e : ℕ) (f : MarkedFrame) → is_to_unmark l (reference_of e f) ≡ is_to_unmark l (reference_of 0 f)
+no_entry (Index index) e f = refl
+no_entry (From index) e f = refl
+no_entry Every e f = refl
+
+pub returns-clause-references : goal.returns-clause-references
+returns-clause-references c = λ entries stand.
+    references-unmarked_if (is_to_unmark c.args.to_unmark) (no_entry c.args.to_unmark) entries c.args.frames.now c.loop-place.frames stand.each c.loop-place.auto.frames
+    (λ k h. c.loop-place.invariant.done k (omega arith))

@@ -1,0 +1,14 @@
+use Rattle.std.proofs.Common.{◌≡◌, ℕ, ◌<◌, ◌≤◌, List, length, drop}
+use Rattle.std.specs.Prelude.{IfSome}
+use Rattle.std.specs.Option.{option_map}
+use Rattle.avc_types.specs.References.{StandAt, references_at, reference_at}
+use Rattle.avc_marking.specs.Marks.{first_in_window}
+use Rattle.avc_marking.proofs.window.first_in_window.Given as goal
+
+abbrev pub invariant-loop-place : goal.invariant-loop-place
+invariant-loop-place l = record {
+  later : IfSome l.first (λ other. l.place ≤ other);
+  within : IfSome l.first (λ other. other < length l.frames);
+  first : (entries : List ℕ) → StandAt entries l.frames →
+      first_in_window l.new.current (references_at (drop l.place entries) (drop l.place l.frames)) ≡ option_map (reference_at entries l.frames) l.first;
+}

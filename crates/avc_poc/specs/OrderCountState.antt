@@ -1,0 +1,83 @@
+-- What earlier pictures and missing frame numbers leave to the next picture (8.2.1): all that its order counts ask of them.
+use Rattle.std.specs.Prelude.{◌≡◌, ℕ, ◌+◌, ◌^◌, min, ℤ, pos, neg_ℤ, ◌≤ℤ◌, true, false, nat_lt, if◌then◌else◌, List, [], ◌∷◌, Result, Ok, Err}
+use Rattle.std.specs.Result.{is_ok}
+use Rattle.avc_types.specs.declared.fault.Fault.{Fault}
+use Rattle.avc_types.specs.declared.fault.Fault.TheVariants.{PocRange}
+use Rattle.avc_params.specs.declared.sps.Sps.{Sps}
+use Rattle.avc_params.specs.Limits.{max_frame_num}
+use Rattle.avc_slice.specs.declared.header.Header.{Header}
+use Rattle.avc_slice.specs.Header.{is_idr, is_reference, has_operation_5}
+use Rattle.avc_poc.specs.declared.previous.Previous.{Previous}
+use Rattle.avc_poc.specs.OrderCounts.{Counts, Past, past_number, previous_of, no_previous, frame_num_offset, resets_order_counts, previous_for, previous_from, counts_from, counts_by, number_in_range}
+
+pub record OrderCountState : Type 0 where
+  -- prevPicOrderCntMsb and prevPicOrderCntLsb
+  pub previous : Previous
+  -- prevFrameNumOffset, held at 2^31: from there on no picture of type 1 or 2 has counts
+  pub offset : ℕ
+  -- prevFrameNum
+  pub frame_num : ℕ
+
+abbrev pub saturated : ℕ → ℕ
+saturated offset = min offset (2 ^ 31)
+
+-- After operation 5 the offset and frame_num count as 0.
+abbrev pub order_count_state : List Past → OrderCountState
+order_count_state [] = record { previous = no_previous; offset = 0; frame_num = 0 }
+order_count_state (newest ∷ older) = record {
+  previous = previous_of (newest ∷ older);
+  offset = if resets_order_counts newest then 0 else saturated (frame_num_offset (newest ∷ older));
+  frame_num = if resets_order_counts newest then 0 else past_number newest;
+}
+
+-- ---- what the functions of this crate say of one another
+
+abbrev pub next_offset : (offset before frame_num max : ℕ) → ℕ
+next_offset offset before frame_num max = if nat_lt frame_num before then saturated (offset + max) else offset
+
+abbrev pub pair : Counts → ℤ × ℤ
+pair c = (c.top, c.bottom)
+
+abbrev pub counts_of : ℤ × ℤ → Counts
+counts_of p = record { top = p.0; bottom = p.1 }
+
+-- top and bottom
+abbrev pub count_pair : Result Counts Fault → Result (ℤ × ℤ) Fault
+count_pair (Ok c) = Ok (pair c)
+count_pair (Err f) = Err f
+
+-- before any lowering
+abbrev pub raw_counts : Sps → Header → Previous → (number : ℕ) → Result (ℤ × ℤ) Fault
+raw_counts sps h previous number =
+    if number_in_range sps.order_count number then Ok (pair (counts_by sps.order_count sps h previous number)) else Err PocRange
+
+-- prevPicOrderCntMsb and prevPicOrderCntLsb after a picture, from those before it
+abbrev pub previous_after : Sps → Header → Previous → Previous
+previous_after sps h before = elim (is_reference h) [ false ↦ before | true ↦ previous_from sps h (previous_for h before) ]
+
+-- FrameNumOffset of a picture
+abbrev pub picture_offset : Sps → Header → OrderCountState → ℕ
+picture_offset sps h s = elim (is_idr h) [ true ↦ 0 | false ↦ next_offset s.offset s.frame_num h.frame_num (max_frame_num sps) ]
+
+abbrev pub after_picture : Sps → Header → OrderCountState → OrderCountState
+after_picture sps h s = record {
+  previous = previous_after sps h s.previous;
+  offset = if has_operation_5 h then 0 else picture_offset sps h s;
+  frame_num = if has_operation_5 h then 0 else h.frame_num;
+}
+
+abbrev pub counts_after : Sps → Header → OrderCountState → Result Counts Fault
+counts_after sps h s = counts_from sps h (previous_for h s.previous) (picture_offset sps h s + h.frame_num)
+
+-- no further from 0 than 2 to the power of this number of bits
+pub record IsNear (bits : ℕ) (z : ℤ) : Type 0 where
+  pub low : neg_ℤ (pos (2 ^ bits)) ≤ℤ z
+  pub high : z ≤ℤ pos (2 ^ bits)
+
+pub record IsPrevious (p : Previous) : Type 0 where
+  pub msb : IsNear 34 p.msb
+  pub lsb : IsNear 33 p.lsb
+
+-- With some FrameNumOffset + frame_num the picture has counts.
+abbrev pub IsCounted : Sps → Header → Previous → Type 0
+IsCounted sps h previous = (number : ℕ) × is_ok (counts_from sps h previous number) ≡ true

@@ -1,0 +1,15 @@
+use Rattle.std.proofs.Common.{◌≡◌, ℕ, ◌<◌, ◌≤◌, ◌++◌, List, length, map, take, drop}
+use Rattle.std.specs.Prelude.{All}
+use Rattle.avc_types.specs.References.{StandAt, references_at, reference_at, result_map}
+use Rattle.avc_reflist.specs.Lists.{modification_frames}
+use Rattle.avc_reflist.proofs.named_frames.modification_places.Given as goal
+
+abbrev pub invariant-loop-modification : goal.invariant-loop-modification
+invariant-loop-modification l = record {
+  few : length l.list.items ≤ l.count;
+  within : All (λ place. place < length l.frames) l.list.items;
+  frames : (entries : List ℕ) → StandAt entries l.frames →
+      result_map (take l.count) (modification_frames l.current l.current.frame_num l.modifications (references_at entries l.frames))
+      ≡ result_map (λ rest. take l.count (map (reference_at entries l.frames) l.list.items ++ rest))
+      (modification_frames l.current l.number (drop l.modification-index l.modifications) (references_at entries l.frames));
+}

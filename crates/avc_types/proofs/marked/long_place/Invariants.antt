@@ -1,7 +1,0 @@
-use Rattle.std.proofs.Common.{◌≡◌, ℕ, ◌<◌, false}
-use Rattle.std.specs.Prelude.{slice_index_or}
-use Rattle.avc_types.specs.References.{is_marked, has_long_index, no_frame}
-use Rattle.avc_types.proofs.marked.long_place.Given as goal
-
-abbrev pub invariant-loop-place : goal.invariant-loop-place
-invariant-loop-place l = (k : ℕ) → k < l.place → is_marked (has_long_index l.index) (slice_index_or l.frames k no_frame) ≡ false

@@ -1,5 +1,0 @@
-use Rattle.avc_types.proofs.Frames.{seen-at}
-use Rattle.avc_types.proofs.marked.marks_are_seen.Goals as goal
-
-pub returns : goal.returns
-returns c = seen-at

@@ -1,0 +1,7 @@
+use Rattle.std.proofs.Common.{◌≡◌, ℕ, ◌<◌, ◌≤◌, false, length}
+use Rattle.std.specs.Prelude.{slice_index_or}
+use Rattle.avc_types.specs.References.{is_marked, has_pic_num, no_frame}
+use Rattle.avc_types.proofs.marked_frame.short_term_place.Given as goal
+
+abbrev pub invariant-loop-place : goal.invariant-loop-place
+invariant-loop-place l = (k : ℕ) → l.place ≤ k → k < length l.frames → is_marked (has_pic_num l.current l.number) (slice_index_or l.frames k no_frame) ≡ false
