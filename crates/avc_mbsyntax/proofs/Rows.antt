@@ -4,7 +4,8 @@ use Rattle.avc_types.specs.declared.fault.Fault.{Fault}
 use Rattle.avc_types.specs.declared.fault.Fault.TheVariants as faults
 use Rattle.avc_types.specs.Macroblock.{Residual, i_16x16, Mb}
 use Rattle.avc_bits.specs.Bits.{start}
-use Rattle.avc_mbsyntax.specs.Reading.{Context, macroblock}
+use Rattle.avc_mbsyntax.specs.Reading.{blocks, macroblock}
+use Rattle.avc_mbsyntax.specs.declared.context.Context.{Context}
 
 abbrev first : Context
 first = record { is_p = false; active_count = 0; qp = 26; left = None; up = None }
@@ -26,10 +27,13 @@ one_level = record {
 }
 
 intra_16x16 : mb_at (0x26 ∷ 0xB0 ∷ []) ≡ Ok (record { syntax = i_16x16 2 0 one_level; qp = 26 }, 11)
+unfolding blocks
 intra_16x16 = refl
 
 cut_short : mb_at (0x26 ∷ 0xA0 ∷ []) ≡ Err faults.Truncated
+unfolding blocks
 cut_short = refl
 
 no_type : mb_at (0x0D ∷ 0xC0 ∷ []) ≡ Err faults.OutOfRange
+unfolding blocks
 no_type = refl

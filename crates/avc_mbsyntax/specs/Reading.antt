@@ -1,5 +1,5 @@
 -- One macroblock from its bits (7.3.5, 7.3.5.1 to 7.3.5.3).
-use Rattle.std.specs.Prelude.{ℕ, zero, suc, ◌-◌, ◌/◌, ◌%◌, ◌^◌, ℤ, pos, negsuc, ◌+ℤ◌, nat_abs, Bool, true, false, ◌==◌, nat_le, nat_lt, List, [], ◌∷◌, ◌++◌, length, map, replicate, Option, Some, None}
+use Rattle.std.specs.Prelude.{ℕ, zero, suc, ◌-◌, ◌/◌, ◌%◌, ◌^◌, ℤ, pos, negsuc, ◌+ℤ◌, nat_abs, Bool, true, false, not, ◌==◌, nat_le, nat_lt, List, [], ◌∷◌, ◌++◌, length, map, replicate, Option, Some, None}
 use Rattle.std.specs.List.{range_with_len}
 use Rattle.std.specs.Option.{option_map}
 use Rattle.avc_types.specs.declared.macroblock.Mvd.{Mvd}
@@ -7,59 +7,57 @@ use Rattle.avc_types.specs.declared.macroblock.PMbType.{PMbType}
 use Rattle.avc_types.specs.declared.macroblock.PMbType.TheVariants.{P16x16, P16x8, P8x16, P8x8, P8x8Ref0}
 use Rattle.avc_types.specs.declared.macroblock.SubMbType.{SubMbType}
 use Rattle.avc_types.specs.declared.macroblock.SubMbType.TheVariants.{Sub8x8, Sub8x4, Sub4x8, Sub4x4}
-use Rattle.avc_types.specs.Macroblock.{total_coeff, Residual, MbSyntax, i_pcm, i_nxn, i_16x16, p_inter, Mb, parts_of}
+use Rattle.avc_types.specs.Macroblock.{total_coeff, Residual, MbSyntax, i_pcm, i_nxn, i_16x16, p_inter, Mb, parts_of, partitions}
 use Rattle.avc_bits.specs.Bits.{Read, ◌>>=◌, ◌>>◌, give, times}
 use Rattle.avc_bits.specs.Codes.{u, flag, ue_to, se, se_within, te_to, align}
 use Rattle.avc_vlc.specs.Reading.{coded_block_pattern}
 use Rattle.avc_cavlc.specs.Block.{residual_block}
 use Rattle.avc_neigh.specs.declared.facts.TotalCoeffs.{TotalCoeffs}
 use Rattle.avc_neigh.specs.TotalCoeffs.{nc}
-
--- What reading a macroblock asks of its slice and of its neighbours.
-pub record Context : Type 0 where
-  pub is_p : Bool
-  -- num_ref_idx_l0_active_minus1 + 1
-  pub active_count : ℕ
-  -- QP_Y,PRED: that of the macroblock before in the slice, at first the slice's
-  pub qp : ℕ
-  -- of the macroblocks to the left and above, where they are available
-  pub left : Option TotalCoeffs
-  pub up : Option TotalCoeffs
+use Rattle.avc_mbsyntax.specs.declared.context.Context.{Context}
 
 -- ---- residual (7.3.5.3)
 
-abbrev no_levels : ℕ → List ℤ
+abbrev pub no_levels : ℕ → List ℤ
 no_levels max = replicate max (pos 0)
 
+-- A block of max levels, where it is coded.
+abbrev pub block_where : (max : ℕ) → (coded : Bool) → (nC : ℕ) → Read (List ℤ)
+block_where max true nC = residual_block max (pos nC)
+block_where max false nC = give (no_levels max)
+
 -- Further blocks of a component, after those done, each of max levels where it is coded.
-abbrev pub blocks : (max size : ℕ) → (coded : ℕ → Bool) → (left up : Option (List ℕ)) → (numbers : List ℕ) → (done : List (List ℤ)) → Read (List (List ℤ))
+unfoldable pub blocks : (max size : ℕ) → (coded : ℕ → Bool) → (left up : Option (List ℕ)) → (numbers : List ℕ) → (done : List (List ℤ)) → Read (List (List ℤ))
 blocks max size coded left up [] done = give done
 blocks max size coded left up (k ∷ numbers) done = do
-  block ← elim (coded k) [ true ↦ residual_block max (pos (nc size left up (map total_coeff done) k)) | false ↦ give (no_levels max) ]
+  block ← block_where max (coded k) (nc size left up (map total_coeff done) k)
   blocks max size coded left up numbers (done ++ block ∷ [])
 
-abbrev luma_side : Option TotalCoeffs → Option (List ℕ)
+abbrev pub luma_side : Option TotalCoeffs → Option (List ℕ)
 luma_side = option_map (λ c. c.luma)
 
-abbrev cb_side : Option TotalCoeffs → Option (List ℕ)
+abbrev pub cb_side : Option TotalCoeffs → Option (List ℕ)
 cb_side = option_map (λ c. c.cb)
 
-abbrev cr_side : Option TotalCoeffs → Option (List ℕ)
+abbrev pub cr_side : Option TotalCoeffs → Option (List ℕ)
 cr_side = option_map (λ c. c.cr)
 
 -- the bit of the quarter of luma block k is set
 abbrev pub is_coded : (luma_pattern k : ℕ) → Bool
 is_coded luma_pattern k = (luma_pattern / 2 ^ (k / 4)) % 2 == 1
 
-abbrev chroma_dc : (chroma_pattern : ℕ) → Read (List ℤ)
+abbrev pub chroma_dc : (chroma_pattern : ℕ) → Read (List ℤ)
 chroma_dc zero = give (no_levels 4)
 chroma_dc (suc _) = residual_block 4 (negsuc 0)
 
--- The residual of these patterns; with_dc says that the macroblock is Intra 16x16.
-abbrev pub residual : Context → (with_dc : Bool) → (luma_pattern chroma_pattern : ℕ) → (mb_qp_delta : ℤ) → Read Residual
-residual c with_dc luma_pattern chroma_pattern mb_qp_delta = do
-  luma_dc ← elim with_dc [ true ↦ residual_block 16 (pos (nc 16 (luma_side c.left) (luma_side c.up) [] 0)) | false ↦ give [] ]
-  luma ← blocks (elim with_dc [ true ↦ 15 | false ↦ 16 ]) 16 (is_coded luma_pattern) (luma_side c.left) (luma_side c.up) (range_with_len 0 16) []
+-- Intra16x16DCLevel
+abbrev pub luma_dc_levels : Context → Read (List ℤ)
+luma_dc_levels c = residual_block 16 (pos (nc 16 (luma_side c.left) (luma_side c.up) [] 0))
+
+-- The residual of these patterns behind luma_dc, where a luma block has max levels.
+abbrev pub residual_blocks : Context → (max : ℕ) → (luma_dc : List ℤ) → (luma_pattern chroma_pattern : ℕ) → (mb_qp_delta : ℤ) → Read Residual
+residual_blocks c max luma_dc luma_pattern chroma_pattern mb_qp_delta = do
+  luma ← blocks max 16 (is_coded luma_pattern) (luma_side c.left) (luma_side c.up) (range_with_len 0 16) []
   cb_dc ← chroma_dc chroma_pattern
   cr_dc ← chroma_dc chroma_pattern
   cb_ac ← blocks 15 8 (λ k. chroma_pattern == 2) (cb_side c.left) (cb_side c.up) (range_with_len 0 4) []
@@ -76,13 +74,24 @@ residual c with_dc luma_pattern chroma_pattern mb_qp_delta = do
     cr_ac = cr_ac;
   })
 
-abbrev qp_delta : Read ℤ
+-- The residual of these patterns; with_dc says that the macroblock is Intra 16x16.
+abbrev pub residual : Context → (with_dc : Bool) → (luma_pattern chroma_pattern : ℕ) → (mb_qp_delta : ℤ) → Read Residual
+residual c true luma_pattern chroma_pattern mb_qp_delta = do
+  luma_dc ← luma_dc_levels c
+  residual_blocks c 15 luma_dc luma_pattern chroma_pattern mb_qp_delta
+residual c false luma_pattern chroma_pattern mb_qp_delta = residual_blocks c 16 [] luma_pattern chroma_pattern mb_qp_delta
+
+abbrev pub qp_delta : Read ℤ
 qp_delta = se_within (negsuc 25) (pos 25)
 
+abbrev pub qp_delta_where : (coded : Bool) → Read ℤ
+qp_delta_where true = qp_delta
+qp_delta_where false = give (pos 0)
+
 -- what follows coded_block_pattern
-abbrev after_pattern : Context → (pattern : ℕ) → Read Residual
+abbrev pub after_pattern : Context → (pattern : ℕ) → Read Residual
 after_pattern c pattern = do
-  delta ← elim (pattern == 0) [ true ↦ give (pos 0) | false ↦ qp_delta ]
+  delta ← qp_delta_where (not (pattern == 0))
   residual c false (pattern % 16) (pattern / 16) delta
 
 -- QP_Y (7.4.5)
@@ -94,7 +103,7 @@ with_residual c r syntax = record { syntax = syntax; qp = qp_after c.qp r.mb_qp_
 
 -- ---- I macroblocks
 
-abbrev rem_mode : Read (Option ℕ)
+abbrev pub rem_mode : Read (Option ℕ)
 rem_mode = u 3 >>= λ rem. give (Some rem)
 
 -- prev_intra4x4_pred_mode_flag, and rem_intra4x4_pred_mode where it is 0
@@ -109,12 +118,16 @@ i_nxn_mb c = do
   r ← after_pattern c pattern
   give (with_residual c r (i_nxn modes chroma_mode r))
 
+-- CodedBlockPatternLuma (Table 7-11)
+abbrev pub luma_pattern_of : (n : ℕ) → ℕ
+luma_pattern_of n = elim (nat_le 12 n) [ true ↦ 15 | false ↦ 0 ]
+
 -- n is mb_type - 1
 abbrev pub i_16x16_mb : Context → (n : ℕ) → Read Mb
 i_16x16_mb c n = do
   chroma_mode ← ue_to 3
   delta ← qp_delta
-  r ← residual c true (elim (nat_le 12 n) [ true ↦ 15 | false ↦ 0 ]) ((n / 4) % 3) delta
+  r ← residual c true (luma_pattern_of n) ((n / 4) % 3) delta
   give (with_residual c r (i_16x16 (n % 4) chroma_mode r))
 
 abbrev pub i_pcm_mb : Context → Read Mb
@@ -132,14 +145,17 @@ i_mb c (suc n) = elim (n == 24) [ true ↦ i_pcm_mb c | false ↦ i_16x16_mb c n
 
 -- ---- P macroblocks
 
-abbrev sub_mb_type : ℕ → SubMbType
+abbrev pub sub_mb_type : ℕ → SubMbType
 sub_mb_type zero = Sub8x8
 sub_mb_type (suc zero) = Sub8x4
 sub_mb_type (suc (suc zero)) = Sub4x8
 sub_mb_type (suc (suc (suc _))) = Sub4x4
 
-abbrev sub_mb_types : Read (List SubMbType)
-sub_mb_types = times 4 (ue_to 3 >>= λ t. give (sub_mb_type t))
+abbrev pub sub_mb_type_code : Read SubMbType
+sub_mb_type_code = ue_to 3 >>= λ t. give (sub_mb_type t)
+
+abbrev pub sub_mb_types : Read (List SubMbType)
+sub_mb_types = times 4 sub_mb_type_code
 
 -- mb_type 0 to 4 of a P slice (Table 7-13)
 abbrev pub p_mb_type : (mb_type : ℕ) → Read PMbType
@@ -148,14 +164,6 @@ p_mb_type (suc zero) = give P16x8
 p_mb_type (suc (suc zero)) = give P8x16
 p_mb_type (suc (suc (suc zero))) = sub_mb_types >>= λ subs. give (P8x8 subs)
 p_mb_type (suc (suc (suc (suc _)))) = sub_mb_types >>= λ subs. give (P8x8Ref0 subs)
-
--- how many partitions, of which each has a reference index
-abbrev pub partitions : PMbType → ℕ
-partitions P16x16 = 1
-partitions P16x8 = 2
-partitions P8x16 = 2
-partitions (P8x8 subs) = 4
-partitions (P8x8Ref0 subs) = 4
 
 -- ref_idx_l0 of each partition; 0 where it is not coded
 abbrev pub ref_idx_l0 : (active_count : ℕ) → PMbType → Read (List ℕ)

@@ -9,8 +9,10 @@ use Rattle.avc_types.specs.Staged.{takes_mb_type}
 use Rattle.avc_bits.specs.Bits.{Bits, Read, more_data}
 use Rattle.avc_bits.specs.Codes.{ue}
 use Rattle.avc_neigh.specs.Blocks.{left_of, above}
+use Rattle.avc_neigh.specs.declared.facts.TotalCoeffs.{TotalCoeffs}
 use Rattle.avc_neigh.specs.TotalCoeffs.{total_coeffs_of}
-use Rattle.avc_mbsyntax.specs.Reading.{Context, macroblock}
+use Rattle.avc_mbsyntax.specs.Reading.{macroblock}
+use Rattle.avc_mbsyntax.specs.declared.context.Context.{Context}
 
 -- What a slice's data is read under.
 pub record SliceStart : Type 0 where
@@ -29,20 +31,28 @@ pub record SliceMbs : Type 0 where
   pub mbs : List Mb
   pub fault : Option Fault
 
-abbrev ended : SliceMbs
+abbrev pub ended : SliceMbs
 ended = record { mbs = []; fault = None }
 
-abbrev stopped : Fault → SliceMbs
+abbrev pub stopped : Fault → SliceMbs
 stopped f = record { mbs = []; fault = Some f }
 
-abbrev after : List Mb → SliceMbs → SliceMbs
+abbrev pub after : List Mb → SliceMbs → SliceMbs
 after front rest = record { mbs = front ++ rest.mbs; fault = rest.fault }
 
-abbrev placed : SliceStart → Mb → PicMb
+abbrev pub placed : SliceStart → Mb → PicMb
 placed s mb = record { slice = s.slice; mb = mb }
 
-abbrev skipped : (qp : ℕ) → Mb
+abbrev pub skipped : (qp : ℕ) → Mb
 skipped qp = record { syntax = p_skip; qp = qp }
+
+-- total_coeff of the macroblocks to the left of the next one and above it, where these are available; `before` is the
+-- picture up to it.
+abbrev pub left_total_coeffs : SliceStart → (before : List PicMb) → Option TotalCoeffs
+left_total_coeffs s before = option_map (λ m. total_coeffs_of m.syntax) (left_of before s.width s.slice (length before))
+
+abbrev pub up_total_coeffs : SliceStart → (before : List PicMb) → Option TotalCoeffs
+up_total_coeffs s before = option_map (λ m. total_coeffs_of m.syntax) (above before s.width s.slice (length before))
 
 -- The next macroblock's context: `before` is the picture up to it, qp that of the macroblock before in the slice.
 abbrev pub context : SliceStart → (before : List PicMb) → (qp : ℕ) → Context
@@ -50,8 +60,8 @@ context s before qp = record {
   is_p = s.is_p;
   active_count = s.active_count;
   qp = qp;
-  left = option_map (λ m. total_coeffs_of m.syntax) (left_of before s.width s.slice (length before));
-  up = option_map (λ m. total_coeffs_of m.syntax) (above before s.width s.slice (length before));
+  left = left_total_coeffs s before;
+  up = up_total_coeffs s before;
 }
 
 abbrev pub is_taken : Result (ℕ × Bits) Fault → Bool
@@ -62,21 +72,21 @@ is_taken (Err f) = true
 abbrev pub i_macroblock : Context → Read Mb
 i_macroblock c b = elim (is_taken (ue b)) [ true ↦ macroblock c b | false ↦ Err faults.NotYet ]
 
--- In an I slice, where `left` macroblocks of the picture remain: one, and others while there is more data.
-abbrev pub i_data : SliceStart → (left : ℕ) → (before : List PicMb) → (qp : ℕ) → Bits → SliceMbs
-i_data s zero before qp b = stopped faults.TooManyMacroblocks
-i_data s (suc left) before qp b =
-    elim (i_macroblock (context s before qp) b) [
+-- In an I slice, where `left` macroblocks of the picture remain: one, read by `part`, and others while there is more data.
+abbrev pub i_data : (part : Context → Read Mb) → SliceStart → (left : ℕ) → (before : List PicMb) → (qp : ℕ) → Bits → SliceMbs
+i_data part s zero before qp b = stopped faults.TooManyMacroblocks
+i_data part s (suc left) before qp b =
+    elim (part (context s before qp) b) [
       | Err f ↦ stopped f
       | Ok r ↦ after (r.0 ∷ []) (elim (more_data r.1) [
-        | true ↦ i_data s left (before ++ placed s r.0 ∷ []) (r.0).qp r.1
+        | true ↦ i_data part s left (before ++ placed s r.0 ∷ []) (r.0).qp r.1
         | false ↦ ended
       ])
     ]
 
 -- What stands after a run of skipped macroblocks, all of them in `before`: nothing, or one macroblock, and then `next`
 -- with the picture up to there, its QP and what is left, where there is more data.
-abbrev after_run : SliceStart → (before : List PicMb) → (qp : ℕ) → Bits → (next : List PicMb → ℕ → Bits → SliceMbs) → SliceMbs
+abbrev pub after_run : SliceStart → (before : List PicMb) → (qp : ℕ) → Bits → (next : List PicMb → ℕ → Bits → SliceMbs) → SliceMbs
 after_run s before qp b next =
     elim (more_data b) [
       | false ↦ ended
@@ -110,10 +120,18 @@ p_data s (suc turns) before qp b =
           ]
     ]
 
+-- The data from a macroblock of an I slice or a run of a P slice on; qp is that of the macroblock before in the slice.
+abbrev pub data_from : (part : Context → Read Mb) → SliceStart → (before : List PicMb) → (qp : ℕ) → Bits → SliceMbs
+data_from part s before qp b =
+    elim s.is_p [
+      | true ↦ p_data s (s.size - length before) before qp b
+      | false ↦ i_data part s (s.size - length before) before qp b
+    ]
+
 -- The data of a slice that goes on after `before`, the macroblocks of the picture's earlier slices.
 abbrev pub slice_data : SliceStart → (before : List PicMb) → Bits → SliceMbs
-slice_data s before b =
-    elim s.is_p [
-      | true ↦ p_data s (s.size - length before) before s.qp b
-      | false ↦ i_data s (s.size - length before) before s.qp b
-    ]
+slice_data s before b = data_from macroblock s before s.qp b
+
+-- The same, as far as the macroblocks of I slices are taken.
+abbrev pub staged_slice_data : SliceStart → (before : List PicMb) → Bits → SliceMbs
+staged_slice_data s before b = data_from i_macroblock s before s.qp b

@@ -1,0 +1,9 @@
+mod Rows
+pub mod Agreeing
+pub mod Apart
+pub mod Components
+pub mod Filling
+pub mod Placed
+pub mod Ranges
+pub mod Stepping
+pub mod Whole

@@ -1,18 +1,24 @@
 -- Reference indices and motion vectors of P macroblocks, ITU-T H.264 clauses 8.4.1.1 and 8.4.1.3.
-use Rattle.std.specs.Prelude.{ℕ, zero, suc, ◌+◌, ◌==◌, nat_lt, nat_le, ℤ, pos, ◌+ℤ◌, ◌-ℤ◌, int_lt, neg_ℤ, Bool, true, false, not, ◌&&◌, ◌||◌, if◌then◌else◌, List, [], ◌∷◌, ◌++◌, map, replicate, Option, Some, None, slice_get, slice_index, slice_index_or}
-use Rattle.std.specs.List.{range_with_len}
+use Rattle.std.specs.Prelude.{◌≡◌, ℕ, zero, suc, ◌+◌, ◌==◌, nat_lt, nat_le, ℤ, pos, ◌+ℤ◌, ◌-ℤ◌, int_lt, neg_ℤ, Bool, true, false, not, ◌&&◌, ◌||◌, if◌then◌else◌, List, [], ◌∷◌, ◌++◌, map, replicate, Option, Some, None, Result, Ok, Err, slice_get, slice_index, slice_index_or}
+use Rattle.std.specs.List.{list_all, range_with_len}
 use Rattle.avc_types.specs.Arithmetic.{median, ◌==ℤ◌}
+use Rattle.avc_types.specs.declared.fault.Fault.{Fault}
+use Rattle.avc_types.specs.declared.fault.Fault.TheVariants.{VectorRange}
 use Rattle.avc_types.specs.declared.vector.Mv.{Mv}
 use Rattle.avc_types.specs.declared.macroblock.Mvd.{Mvd}
+use Rattle.avc_types.specs.declared.macroblock.Part.{Part}
 use Rattle.avc_types.specs.declared.macroblock.PMbType.{PMbType}
 use Rattle.avc_types.specs.declared.macroblock.PMbType.TheVariants.{P16x16, P16x8, P8x16, P8x8, P8x8Ref0}
 use Rattle.avc_types.specs.declared.edges.FilteredEdges.TheVariants.{NoEdges}
-use Rattle.avc_types.specs.Macroblock.{MbSyntax, p_skip, i_pcm, i_nxn, i_16x16, p_inter, Part, parts_of}
+use Rattle.avc_types.specs.Macroblock.{MbSyntax, p_skip, i_pcm, i_nxn, i_16x16, p_inter, parts_of}
 use Rattle.avc_types.specs.Pictures.{Coded, PicMb, SliceFacts, Frame}
 use Rattle.avc_neigh.specs.declared.facts.Motion.{Motion}
 use Rattle.avc_neigh.specs.declared.facts.Motion.TheVariants.{Absent as absent, Intra as intra, Inter as inter}
+use Rattle.avc_motion.specs.declared.neighbouring.NeighbouringPartitions.{NeighbouringPartitions}
 use Rattle.avc_neigh.specs.Blocks.{block_x, block_y, location_at}
 use Rattle.avc_neigh.specs.Nearby.{nearby}
+use Rattle.avc_neigh.specs.Around.{Around}
+use Rattle.avc_neigh.specs.BlockNear.{MotionIsAround}
 
 abbrev pub zero_vector : Mv
 zero_vector = record { x = pos 0; y = pos 0 }
@@ -34,41 +40,41 @@ vector_of absent = zero_vector
 vector_of intra = zero_vector
 vector_of (inter r v) = v
 
--- the neighbours A, B and C of a partition (6.4.11.7)
-pub record Neighbours : Type 0 where
-  pub a : Motion
-  pub b : Motion
-  pub c : Motion
-
 -- C, or D where C is not available
 abbrev pub else_motion : Motion → Motion → Motion
 else_motion absent d = d
 else_motion intra d = intra
 else_motion (inter r v) d = inter r v
 
--- The neighbours of the partition of this width at (x, y) in macroblock a. `known` is the map of the macroblocks before it,
--- `mine` that of its own sixteen blocks, absent where they are not decoded yet.
-abbrev pub neighbours_of : Coded → List (List Motion) → List Motion → ℕ → (x y width : ℕ) → Neighbours
-neighbours_of p known mine a x y width =
-    let at : ℤ → ℤ → Motion = λ u v. nearby absent p.mbs known mine a (location_at p.width a u v) in
-    record {
-      a = at (pos x -ℤ pos 1) (pos y);
-      b = at (pos x) (pos y -ℤ pos 1);
-      c = else_motion (at (pos (x + width)) (pos y -ℤ pos 1)) (at (pos x -ℤ pos 1) (pos y -ℤ pos 1));
-    }
+-- What the block has that covers this luma sample, counted from the upper left sample of the macroblock in hand. The list is
+-- that of the macroblock's own sixteen blocks, absent where they are not decoded yet.
+abbrev pub Near : Type 0
+Near = List Motion → ℤ → ℤ → Motion
+
+-- for macroblock a, where `known` is the map of the macroblocks before it
+abbrev pub near_in : Coded → List (List Motion) → ℕ → Near
+near_in p known a mine x y = nearby absent p.mbs known mine a (location_at p.width a x y)
+
+-- the neighbours of the partition of this width at (x, y) (6.4.11.7)
+abbrev pub neighbours_of : Near → List Motion → (x y width : ℕ) → NeighbouringPartitions
+neighbours_of near mine x y width = record {
+  a = near mine (pos x -ℤ pos 1) (pos y);
+  b = near mine (pos x) (pos y -ℤ pos 1);
+  c = else_motion (near mine (pos (x + width)) (pos y -ℤ pos 1)) (near mine (pos x -ℤ pos 1) (pos y -ℤ pos 1));
+}
 
 -- ---- prediction (8.4.1.3)
 
 -- where only A is available, B and C are as A
-abbrev pub completed : Neighbours → Neighbours
+abbrev pub completed : NeighbouringPartitions → NeighbouringPartitions
 completed n =
     if is_absent n.b && is_absent n.c && not (is_absent n.a) then record { a = n.a; b = n.a; c = n.a } else n
 
-abbrev median_vector : Mv → Mv → Mv → Mv
+abbrev pub median_vector : Mv → Mv → Mv → Mv
 median_vector u v w = record { x = median u.x v.x w.x; y = median u.y v.y w.y }
 
 -- the vector of the only neighbour that has the index, or the median of all three
-abbrev only_or_median : Bool → Bool → Bool → Mv → Mv → Mv → Mv
+abbrev pub only_or_median : Bool → Bool → Bool → Mv → Mv → Mv → Mv
 only_or_median true false false u v w = u
 only_or_median false true false u v w = v
 only_or_median false false true u v w = w
@@ -77,13 +83,13 @@ only_or_median true false true u v w = median_vector u v w
 only_or_median false true true u v w = median_vector u v w
 only_or_median false false false u v w = median_vector u v w
 
-abbrev pub median_prediction : ℕ → Neighbours → Mv
+abbrev pub median_prediction : ℕ → NeighbouringPartitions → Mv
 median_prediction r around =
     let n = completed around in
     only_or_median (has_reference r n.a) (has_reference r n.b) (has_reference r n.c) (vector_of n.a) (vector_of n.b) (vector_of n.c)
 
 -- The neighbour that a partition of a macroblock in two halves asks first: upper B, lower A; left A, right C.
-abbrev pub first_asked : PMbType → ℕ → Neighbours → Motion
+abbrev pub first_asked : PMbType → ℕ → NeighbouringPartitions → Motion
 first_asked P16x8 zero n = n.b
 first_asked P16x8 (suc i) n = n.a
 first_asked P8x16 zero n = n.a
@@ -93,7 +99,7 @@ first_asked (P8x8 subs) i n = absent
 first_asked (P8x8Ref0 subs) i n = absent
 
 -- the prediction for a part with reference index r
-abbrev pub predicted_vector : PMbType → ℕ → ℕ → Neighbours → Mv
+abbrev pub predicted_vector : PMbType → ℕ → ℕ → NeighbouringPartitions → Mv
 predicted_vector shape partition r n =
     if has_reference r (first_asked shape partition n)
     then vector_of (first_asked shape partition n)
@@ -106,42 +112,52 @@ is_still intra = false
 is_still (inter r v) = (r == 0) && (v.x ==ℤ pos 0) && (v.y ==ℤ pos 0)
 
 -- the vector of a skipped macroblock (8.4.1.1)
-abbrev pub skip_vector : Neighbours → Mv
+abbrev pub skip_vector : NeighbouringPartitions → Mv
 skip_vector n = if is_still n.a || is_still n.b then zero_vector else median_prediction 0 n
 
 -- ---- a macroblock's blocks
 
 -- the block with this number lies in the part
-abbrev is_in_part : Part → ℕ → Bool
+abbrev pub is_in_part : Part → ℕ → Bool
 is_in_part p k =
     nat_le p.x (block_x k) && nat_lt (block_x k) (p.x + p.width) && nat_le p.y (block_y k) && nat_lt (block_y k) (p.y + p.height)
 
 -- `mine` with a part's blocks filled in
-abbrev pub with_part : List Motion → Part → Motion → List Motion
+unfoldable pub with_part : List Motion → Part → Motion → List Motion
 with_part mine p m = map (λ k. if is_in_part p k then m else slice_index_or mine k absent) (range_with_len 0 16)
 
 -- 8.4.1: mvL0 = mvpL0 + mvd_l0
-abbrev sum_with_mvd : Mv → Mvd → Mv
+abbrev pub sum_with_mvd : Mv → Mvd → Mv
 sum_with_mvd u d = record { x = u.x +ℤ d.x; y = u.y +ℤ d.y }
 
--- the parts in decoding order, each with its prediction from what is decoded before it and its mvd
-abbrev pub motion_of_parts : Coded → List (List Motion) → ℕ → PMbType → List ℕ → List Motion → List Part → List Mvd → List Motion
-motion_of_parts p known a shape ref_idx mine [] mvds = mine
-motion_of_parts p known a shape ref_idx mine (part ∷ parts) [] = mine
-motion_of_parts p known a shape ref_idx mine (part ∷ parts) (mvd ∷ mvds) =
-    let r = slice_index ref_idx part.partition in
-    let predicted = predicted_vector shape part.partition r (neighbours_of p known mine a part.x part.y part.width) in
-    let filled = with_part mine part (inter r (sum_with_mvd predicted mvd)) in
-    motion_of_parts p known a shape ref_idx filled parts mvds
+-- what the blocks of a part with reference index r have
+abbrev pub motion_of_part : Near → PMbType → ℕ → List Motion → Part → Mvd → Motion
+motion_of_part near shape r mine part mvd =
+    inter r (sum_with_mvd (predicted_vector shape part.partition r (neighbours_of near mine part.x part.y part.width)) mvd)
 
--- the sixteen blocks of macroblock a
+-- the parts in decoding order, each with its prediction from what is decoded before it and its mvd
+abbrev pub motion_of_parts : Near → PMbType → List ℕ → List Motion → List Part → List Mvd → List Motion
+motion_of_parts near shape ref_idx mine [] mvds = mine
+motion_of_parts near shape ref_idx mine (part ∷ parts) [] = mine
+motion_of_parts near shape ref_idx mine (part ∷ parts) (mvd ∷ mvds) =
+    let filled = with_part mine part (motion_of_part near shape (slice_index ref_idx part.partition) mine part mvd) in
+    motion_of_parts near shape ref_idx filled parts mvds
+
+-- no block of the macroblock is decoded yet
+abbrev pub no_motion : List Motion
+no_motion = replicate 16 absent
+
+-- the sixteen blocks of a macroblock
+abbrev pub motion_by : Near → MbSyntax → List Motion
+motion_by near (i_pcm luma cb cr) = replicate 16 intra
+motion_by near (i_nxn modes chroma residual) = replicate 16 intra
+motion_by near (i_16x16 mode chroma residual) = replicate 16 intra
+motion_by near p_skip = replicate 16 (inter 0 (skip_vector (neighbours_of near no_motion 0 0 16)))
+motion_by near (p_inter shape ref_idx mvd residual) = motion_of_parts near shape ref_idx no_motion (parts_of shape) mvd
+
+-- those of macroblock a
 abbrev pub motion_of : Coded → List (List Motion) → ℕ → MbSyntax → List Motion
-motion_of p known a (i_pcm luma cb cr) = replicate 16 intra
-motion_of p known a (i_nxn modes chroma residual) = replicate 16 intra
-motion_of p known a (i_16x16 mode chroma residual) = replicate 16 intra
-motion_of p known a p_skip = replicate 16 (inter 0 (skip_vector (neighbours_of p known (replicate 16 absent) a 0 0 16)))
-motion_of p known a (p_inter shape ref_idx mvd residual) =
-    motion_of_parts p known a shape ref_idx (replicate 16 absent) (parts_of shape) mvd
+motion_of p known a syntax = motion_by (near_in p known a) syntax
 
 abbrev motion_of_place : Coded → List (List Motion) → ℕ → Option PicMb → List Motion
 motion_of_place p known a (Some m) = motion_of p known a m.mb.syntax
@@ -154,12 +170,33 @@ motion_before p (suc n) =
     let known = motion_before p n in
     known ++ motion_of_place p known n (slice_get p.mbs n) ∷ []
 
+abbrev pub is_16_bit : ℤ → Bool
+is_16_bit z = not (int_lt z (neg_ℤ (pos 32768))) && not (int_lt (pos 32767) z)
+
 -- A vector that can be had: each component is a 16-bit number.
 abbrev pub is_in_range : Motion → Bool
 is_in_range absent = true
 is_in_range intra = true
-is_in_range (inter r v) =
-    not (int_lt v.x (neg_ℤ (pos 32768))) && not (int_lt (pos 32767) v.x) && not (int_lt v.y (neg_ℤ (pos 32768))) && not (int_lt (pos 32767) v.y)
+is_in_range (inter r v) = is_16_bit v.x && is_16_bit v.y
+
+-- what the blocks of a macroblock have, or the fault where one of its vectors can't be had
+abbrev pub motion_or_fault : List Motion → Result (List Motion) Fault
+motion_or_fault motion = if list_all is_in_range motion then Ok motion else Err VectorRange
+
+-- likewise their vectors alone
+abbrev pub vectors_or_fault : List Motion → Result (List Mv) Fault
+vectors_or_fault motion = if list_all is_in_range motion then Ok (map vector_of motion) else Err VectorRange
+
+-- The result is that of every macroblock with this syntax and these neighbours, in every picture.
+abbrev pub HasMotion : Around → MbSyntax → Result (List Motion) Fault → Type 0
+HasMotion n syntax result =
+    (p : Coded) (known : List (List Motion)) (a : ℕ) → MotionIsAround n p.mbs p.width known a
+    → result ≡ motion_or_fault (motion_of p known a syntax)
+
+abbrev pub HasVectors : Around → MbSyntax → Result (List Mv) Fault → Type 0
+HasVectors n syntax result =
+    (p : Coded) (known : List (List Motion)) (a : ℕ) → MotionIsAround n p.mbs p.width known a
+    → result ≡ vectors_or_fault (motion_of p known a syntax)
 
 -- ---- what others ask of a macroblock and of its slice
 
@@ -172,7 +209,7 @@ is_intra (p_inter shape ref_idx mvd residual) = false
 
 -- A slice that is not there: part of no picture, but the definitions are total.
 abbrev pub no_slice : SliceFacts
-no_slice = record { is_p = false; references = []; disable_deblocking_filter_idc = NoEdges; filter_offset_a = pos 0; filter_offset_b = pos 0 }
+no_slice = record { is_p = false; references = []; weights = []; disable_deblocking_filter_idc = NoEdges; filter_offset_a = pos 0; filter_offset_b = pos 0 }
 
 abbrev pub slice_facts : Coded → ℕ → SliceFacts
 slice_facts p slice = slice_index_or p.slices slice no_slice

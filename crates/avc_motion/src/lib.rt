@@ -1,2 +1,10 @@
-//! Motion vectors (8.4.1).
+//! Reference indices and motion vectors of inter macroblocks (8.4.1).
 #![tactic(auto)]
+
+mod macroblock;
+mod neighbouring;
+mod parts;
+mod prediction;
+
+pub use macroblock::{motion, vectors};
+pub use neighbouring::NeighbouringPartitions;

@@ -1,0 +1,6 @@
+pub mod Sixteen
+pub mod RowKeeping
+pub mod Asked
+pub mod NearModes
+pub mod ByAddress
+pub mod Found

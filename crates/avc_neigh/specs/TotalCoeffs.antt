@@ -37,7 +37,7 @@ nB size up mine k =
       | suc y ↦ Some (slice_index mine (block_at (block_x k) y))
     ]
 
-abbrev mean : Option ℕ → Option ℕ → ℕ
+abbrev pub mean : Option ℕ → Option ℕ → ℕ
 mean (Some a) (Some b) = (a + b + 1) / 2
 mean (Some a) None = a
 mean None (Some b) = b

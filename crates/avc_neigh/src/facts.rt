@@ -1,3 +1,5 @@
+ghost use Rattle.std.specs.Prelude.{◌≡◌};
+
 use avc_types::Mv;
 
 /// total_coeff of each block of a macroblock (9.2.1), in block order.
@@ -52,4 +54,19 @@ pub struct NeighbourFacts {
 
     /// Of the luma blocks, in block order.
     pub motion: [Motion; 16],
+}
+
+impl NeighbourFacts {
+    ghost use Rattle.avc_neigh.specs.Around.{is_intra_facts};
+
+    /// Whether the macroblock is intra.
+    #[inline]
+    pub fn is_intra(&self) -> bool
+        ensures { result ≡ is_intra_facts self.now }
+    {
+        match self.motion[0] {
+            Motion::Intra => true,
+            _ => false,
+        }
+    }
 }

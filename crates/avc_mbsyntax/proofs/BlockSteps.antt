@@ -1,0 +1,85 @@
+-- One block more.
+use Rattle.std.proofs.Common.{◌≡◌, ℕ, suc, ◌+◌, ◌<◌, ◌≤◌, min, ℤ, pos, Bool, true, false, List, [], ◌∷◌, ◌++◌, length, take, set, map, refl, ap, ◌∙◌, sym, arith, inl, inr}
+use Rattle.std.specs.Prelude.{Ok, Err, Option, ◌==◌, ◌||◌, nat_le, nat_lt}
+use Rattle.std.specs.List.{range_with_len}
+use Rattle.std.proofs.lemmas.Bool.{cases_lt, le-ltb}
+use Rattle.std.proofs.lemmas.List.{take_more_set, map-append}
+use Rattle.avc_types.specs.Macroblock.{total_coeff}
+use Rattle.avc_types.specs.declared.fault.Fault.{Fault}
+use Rattle.avc_types.specs.declared.fault.Fault.TheVariants as faults
+use Rattle.avc_bits.specs.Bits.{Bits, Read, ◌>>=◌, ◌>>◌, give, check}
+use Rattle.avc_vlc.specs.declared.token.Token.{Token}
+use Rattle.avc_vlc.specs.Tables.{coeff_token_0, coeff_token_2, coeff_token_4}
+use Rattle.avc_vlc.specs.Reading.{Table, table_code, token_table, tokens, tokens_8, total_zeros}
+use Rattle.avc_cavlc.specs.Block.{placed, residual_block, runs, token_levels}
+use Rattle.avc_neigh.specs.TotalCoeffs.{nc}
+use Rattle.avc_mbsyntax.specs.Reading.{block_where, blocks}
+
+-- ---- nC above 8
+
+abbrev table_by : (a b c : Bool) → Table Token
+table_by a b c = elim a [ true ↦ tokens coeff_token_0 | false ↦ elim b [ true ↦ tokens coeff_token_2 | false ↦ elim c [ true ↦ tokens coeff_token_4 | false ↦ tokens_8 ] ] ]
+
+table_of_many : (n : ℕ) (a b c : Bool) → a ≡ false → b ≡ false → c ≡ false → table_by a b c ≡ tokens_8
+table_of_many n a b c e f g = rw (e, f, g) refl
+
+many_levels : (n : ℕ) → 8 ≤ n → token_table (pos n) ≡ tokens_8
+many_levels n many = table_of_many n (nat_lt n 2) (nat_lt n 4) (nat_lt n 8) (le-ltb n 2 (omega (arith, many))) (le-ltb n 4 (omega (arith, many))) (le-ltb n 8 many)
+
+pub token_capped : (n : ℕ) → token_table (pos (min n 8)) ≡ token_table (pos n)
+token_capped n = elim (cases_lt n 8) [
+  | inl few ↦ ap (λ m. token_table (pos m)) (let same : min n 8 ≡ n = omega (arith, few) in same)
+  | inr many ↦ many_levels (min n 8) (omega (arith, many)) ∙ sym (many_levels n many)
+]
+
+abbrev by_table : (max : ℕ) → Table Token → Read (List ℤ)
+by_table max table = do
+  t ← table_code table
+  check (nat_le t.total max) faults.TooManyCoefficients
+  values ← token_levels t
+  zeros ← elim (t.total == 0 || t.total == max) [ true ↦ give 0 | false ↦ total_zeros t.total (max == 4) ]
+  check (nat_le (t.total + zeros) max) faults.TooManyCoefficients
+  zero_runs ← runs t.total zeros
+  give (placed max values zero_runs)
+
+pub block_capped : (max n : ℕ) (b : Bits) → residual_block max (pos (min n 8)) b ≡ residual_block max (pos n) b
+block_capped max n b = ap (λ t. by_table max t b) (token_capped n)
+
+-- ---- blocks in turn
+
+next_block : (max size : ℕ) (coded : ℕ → Bool) (left up : Option (List ℕ)) (k : ℕ) (numbers : List ℕ) (done : List (List ℤ)) (block : List ℤ) (b mid : Bits) →
+    block_where max (coded k) (nc size left up (map total_coeff done) k) b ≡ Ok (block, mid) →
+    blocks max size coded left up (k ∷ numbers) done b ≡ blocks max size coded left up numbers (done ++ block ∷ []) mid
+unfolding blocks
+next_block max size coded left up k numbers done block b mid is = rw is refl
+
+no_block : (max size : ℕ) (coded : ℕ → Bool) (left up : Option (List ℕ)) (k : ℕ) (numbers : List ℕ) (done : List (List ℤ)) (f : Fault) (b : Bits) →
+    block_where max (coded k) (nc size left up (map total_coeff done) k) b ≡ Err f → blocks max size coded left up (k ∷ numbers) done b ≡ Err f
+unfolding blocks
+no_block max size coded left up k numbers done f b is = rw is refl
+
+pub all_blocks : (max size : ℕ) (coded : ℕ → Bool) (left up : Option (List ℕ)) (numbers : List ℕ) (done all : List (List ℤ)) (b : Bits) → numbers ≡ [] → done ≡ all →
+    blocks max size coded left up numbers done b ≡ Ok (all, b)
+unfolding blocks
+all_blocks max size coded left up numbers done all b none whole = rw (none, whole) refl
+
+pub blocks_more : (max size : ℕ) (coded : ℕ → Bool) (left up : Option (List ℕ)) (k n more : ℕ) (done : List (List ℤ)) (mine : List ℕ) (block : List ℤ) (b mid : Bits) → more ≡ suc n → mine ≡ map total_coeff done →
+    block_where max (coded k) (nc size left up mine k) b ≡ Ok (block, mid) →
+    blocks max size coded left up (range_with_len k more) done b ≡ blocks max size coded left up (range_with_len (k + 1) n) (done ++ block ∷ []) mid
+blocks_more max size coded left up k n more done mine block b mid is_more is_mine is =
+    let here : block_where max (coded k) (nc size left up (map total_coeff done) k) b ≡ Ok (block, mid) = ap (λ m. block_where max (coded k) (nc size left up m k) b) (sym is_mine) ∙ is in
+    rw is_more (next_block max size coded left up k (range_with_len (k + 1) n) done block b mid here)
+
+pub blocks_fault : (max size : ℕ) (coded : ℕ → Bool) (left up : Option (List ℕ)) (k n more : ℕ) (done : List (List ℤ)) (mine : List ℕ) (f : Fault) (b : Bits) → more ≡ suc n → mine ≡ map total_coeff done →
+    block_where max (coded k) (nc size left up mine k) b ≡ Err f → blocks max size coded left up (range_with_len k more) done b ≡ Err f
+blocks_fault max size coded left up k n more done mine f b is_more is_mine is =
+    let here : block_where max (coded k) (nc size left up (map total_coeff done) k) b ≡ Err f = ap (λ m. block_where max (coded k) (nc size left up m k) b) (sym is_mine) ∙ is in
+    rw is_more (no_block max size coded left up k (range_with_len (k + 1) n) done f b here)
+
+pub counts_more : (counts : List ℕ) (bs : List (List ℤ)) (k : ℕ) (b : List ℤ) → k < length counts → k < length bs → take k counts ≡ map total_coeff (take k bs) →
+    take (k + 1) (set counts k (total_coeff b)) ≡ map total_coeff (take (k + 1) (set bs k b))
+counts_more counts bs k b within inside so_far =
+    take_more_set counts k (total_coeff b) within
+    ∙ ap (λ l. l ++ total_coeff b ∷ []) so_far
+    ∙ sym (map-append total_coeff (take k bs) (b ∷ []))
+    ∙ sym (ap (map total_coeff) (take_more_set bs k b inside))

@@ -1,0 +1,61 @@
+use Rattle.std.proofs.Common.{◌≡◌, ℕ, ◌<◌, ◌≤◌, ◌+◌, ◌-◌, ◌++◌, ◌∷◌, [], suc, Err, arith, rules, ap, refl, ◌∙◌, sym, length, take, length-set}
+use Rattle.std.specs.List.{range_with_len}
+use Rattle.std.specs.Option.{option_copied}
+use Rattle.std.proofs.lemmas.List.Elements.{All-replicate, All-set}
+use Rattle.std.proofs.lemmas.List.{length-replicate, take_all, take_more_set}
+use Rattle.avc_types.specs.Macroblock.{total_coeff}
+use Rattle.avc_bits.specs.Reader.{reader_bits}
+use Rattle.avc_cavlc.proofs.Placing.{small_none}
+use Rattle.avc_mbsyntax.specs.Ranges.{AreSmall}
+use Rattle.avc_mbsyntax.specs.Reading.{blocks, is_coded}
+use Rattle.avc_mbsyntax.proofs.BlockSteps.{all_blocks, blocks_fault, blocks_more, counts_more}
+use Rattle.avc_mbsyntax.proofs.blocks.read_luma_blocks.Goals as goal
+
+pub returns-in_err-block-clause-read : goal.returns-in_err-block-clause-read
+returns-in_err-block-clause-read g c =
+    let more : 16 - c.each.k ≡ suc (15 - c.each.k) = omega arith in
+    let here = rw (c.is_coded.ensures, c.nc_luma-nc.ensures) at c.in_err-block.ensures.read in
+    let fault : blocks g.row.MAXN 16 (is_coded c.args.luma_pattern) (option_copied c.args.left) (option_copied c.args.up) (range_with_len 0 16) [] (reader_bits c.args.reader.now) ≡ Err c.in_err-block.field-0.0 =
+    c.each.invariant.read
+    ∙ blocks_fault g.row.MAXN 16 (is_coded c.args.luma_pattern) (option_copied c.args.left) (option_copied c.args.up) c.each.k (15 - c.each.k) (16 - c.each.k) (take c.each.k c.each.levels) (take c.each.k c.each.total_coeffs) c.in_err-block.field-0.0 (reader_bits c.each.reader) more c.each.invariant.counts here in
+    search rules
+
+pub each-preserved : goal.each-preserved
+each-preserved g c =
+    let more : 16 - c.each.k ≡ suc (15 - c.each.k) = omega arith in
+    let fewer : 15 - c.each.k ≡ 16 - (c.each.k + 1) = omega arith in
+    let within : c.each.k < length c.each.levels = omega (arith, c.each.invariant.long) in
+    let inside : c.each.k < length c.each.total_coeffs = omega (arith, c.each.invariant.counts_long) in
+    let here = rw (c.is_coded.ensures, c.nc_luma-nc.ensures) at c.in_ok-block.ensures.read.0 in
+    rw c.total_coeff.ensures (record {
+      long = length-set c.each.levels c.each.k c.in_ok-block.block ∙ c.each.invariant.long;
+      counts_long = length-set c.each.total_coeffs c.each.k (total_coeff c.in_ok-block.block) ∙ c.each.invariant.counts_long;
+      counts = counts_more c.each.total_coeffs c.each.levels c.each.k c.in_ok-block.block inside within c.each.invariant.counts;
+      read = c.each.invariant.read
+          ∙ blocks_more g.row.MAXN 16 (is_coded c.args.luma_pattern) (option_copied c.args.left) (option_copied c.args.up) c.each.k (15 - c.each.k) (16 - c.each.k) (take c.each.k c.each.levels) (take c.each.k c.each.total_coeffs) c.in_ok-block.block (reader_bits c.each.reader) (reader_bits c.read_block_where.new.reader) more c.each.invariant.counts here
+          ∙ ap (λ n. blocks g.row.MAXN 16 (is_coded c.args.luma_pattern) (option_copied c.args.left) (option_copied c.args.up) (range_with_len (c.each.k + 1) n) (take c.each.k c.each.levels ++ c.in_ok-block.block ∷ []) (reader_bits c.read_block_where.new.reader)) fewer
+          ∙ ap (λ l. blocks g.row.MAXN 16 (is_coded c.args.luma_pattern) (option_copied c.args.left) (option_copied c.args.up) (range_with_len (c.each.k + 1) (16 - (c.each.k + 1))) l (reader_bits c.read_block_where.new.reader)) (sym (take_more_set c.each.levels c.each.k c.in_ok-block.block within));
+      small = All-set AreSmall c.each.levels c.each.k c.in_ok-block.block c.in_ok-block.ensures.small c.each.invariant.small;
+      bytes = c.in_ok-block.ensures.read.1 ∙ c.each.invariant.bytes;
+    })
+
+pub returns-clause-read : goal.returns-clause-read
+returns-clause-read g c =
+    let none : 16 - c.each.k ≡ 0 = omega arith in
+    let past : length c.each.levels ≤ c.each.k = omega (arith, c.each.invariant.long) in (
+      c.each.invariant.read
+          ∙ all_blocks g.row.MAXN 16 (is_coded c.args.luma_pattern) (option_copied c.args.left) (option_copied c.args.up) (range_with_len c.each.k (16 - c.each.k)) (take c.each.k c.each.levels) c.each.levels (reader_bits c.each.reader) (ap (range_with_len c.each.k) none) (take_all c.each.k c.each.levels past),
+      c.each.invariant.bytes,
+    )
+
+pub each-init : goal.each-init
+each-init g c =
+    let zeros : AreSmall c.zero-levels.result = rw c.zero-levels.ensures (λ i. small_none g.row.MAXN i) in
+    record {
+      long = length-replicate 16 c.zero-levels.result;
+      counts_long = length-replicate {A = ℕ} 16 0;
+      counts = refl;
+      read = refl;
+      small = All-replicate AreSmall 16 c.zero-levels.result zeros;
+      bytes = refl;
+    }

@@ -1,0 +1,13 @@
+use Rattle.std.proofs.Common.{ap, arith, sym}
+use Rattle.avc_bits.specs.Reader.{reader_bits}
+use Rattle.avc_mbsyntax.specs.Reading.{macroblock}
+use Rattle.avc_mbsyntax.specs.SliceData.{data_from}
+use Rattle.avc_mbsyntax.specs.Rest.{rest_of}
+use Rattle.avc_mbsyntax.proofs.slice_data.SliceData.new.Goals as goal
+
+pub returns : goal.returns
+unfolding rest_of
+returns c = λ s before is_p active_count qp size. (
+  record { is_p = is_p; active_count = active_count; size = size; quantiser = λ small. omega (arith, small, qp); stage = tt },
+  ap (λ q. data_from macroblock s before q (reader_bits c.args.reader)) (sym qp),
+)

@@ -1,0 +1,20 @@
+use avc_neigh::TotalCoeffs;
+
+/// What reading a macroblock asks of its slice and of its neighbours.
+#[derive(Clone, Copy, Debug)]
+pub struct Context {
+    /// Whether the slice is a P slice.
+    pub is_p: bool,
+
+    /// num_ref_idx_l0_active_minus1 + 1 of a P slice.
+    pub active_count: u8,
+
+    /// QP_Y,PRED (7.4.5): that of the macroblock before in the slice, at first the slice's.
+    pub qp: u8,
+
+    /// Of the macroblock to the left, where it is available.
+    pub left: Option<TotalCoeffs>,
+
+    /// Of the macroblock above, where it is available.
+    pub up: Option<TotalCoeffs>,
+}

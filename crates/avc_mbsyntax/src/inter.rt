@@ -1,0 +1,143 @@
+//! Inter macroblocks whose vectors are coded (7.3.5, 7.3.5.1, 7.3.5.2).
+ghost use Rattle.std.specs.Prelude.{◌≡◌, ◌≤◌, length, take, IfOk, All, ◌-◌};
+ghost use Rattle.avc_types.specs.Macroblock.{parts_of, parts_of_quarter, parts_of_quarters, partitions};
+ghost use Rattle.avc_bits.specs.Bits.{times};
+ghost use Rattle.avc_bits.specs.Reader.{Reads};
+ghost use Rattle.avc_mbsyntax.specs.Ranges.{IsSyntax};
+ghost use Rattle.avc_mbsyntax.specs.Reading.{mvd_l0, p_mb, p_mb_type, ref_idx_l0, sub_mb_types};
+ghost use Rattle.avc_mbsyntax.specs.Steps.{ReadsAs, is_ref0};
+
+use crate::context::Context;
+use crate::elements::read_elements;
+use crate::residual::{qp_after, read_after_pattern};
+use avc_bits::BitReader;
+use avc_types::{Fault, Mb, Mvd, PMbType, SubMbType, Syntax};
+use avc_vlc::read_cbp;
+
+/// A macroblock with this mb_type of a P slice, at most 4 (Table 7-13).
+pub(crate) fn read_p_mb(
+    reader: &mut BitReader,
+    context: &Context,
+    mb_type: u32,
+) -> Result<Mb, Fault>
+    ensures read { Reads result (p_mb context.now mb_type) reader.old reader.new }
+    ensures range { IfOk result (λ mb. IsSyntax context.now.active_count mb.syntax) }
+    ensures quantiser { context.now.qp ≤ 51 → IfOk result (λ mb. mb.qp ≤ 51) }
+{
+    let mb_type = read_p_mb_type(reader, mb_type)?;
+    let active_count = context.active_count;
+    let ref_idx = read_ref_idx(reader, active_count, &mb_type)?;
+    let mvd = read_mvd(reader, &mb_type)?;
+    let pattern = read_cbp(reader, false)?;
+    let levels = read_after_pattern(reader, context, pattern)?;
+    let qp = qp_after(context.qp, levels.mb_qp_delta);
+    Ok(Mb {
+        syntax: Syntax::PInter {
+            mb_type,
+            ref_idx,
+            mvd,
+            levels,
+        },
+        qp,
+    })
+}
+
+fn read_sub_mb_types(reader: &mut BitReader) -> Result<[SubMbType; 4], Fault>
+    ensures { Reads result sub_mb_types reader.old reader.new }
+{
+    read_elements(reader, 4, 1, SubMbType::Sub8x8)
+}
+
+fn read_p_mb_type(reader: &mut BitReader, mb_type: u32) -> Result<PMbType, Fault>
+    ensures { Reads result (p_mb_type mb_type) reader.old reader.new }
+{
+    match mb_type {
+        0 => Ok(PMbType::P16x16),
+        1 => Ok(PMbType::P16x8),
+        2 => Ok(PMbType::P8x16),
+        3 => Ok(PMbType::P8x8(read_sub_mb_types(reader)?)),
+        _ => Ok(PMbType::P8x8Ref0(read_sub_mb_types(reader)?)),
+    }
+}
+
+fn read_ref_idx(
+    reader: &mut BitReader,
+    active_count: u8,
+    mb_type: &PMbType,
+) -> Result<[u8; 4], Fault>
+    ensures range { IfOk result (λ ref_idx. All (λ ref. ref ≤ active_count - 1) (take (partitions mb_type.now) ref_idx)) }
+    ensures read { ReadsAs (take (partitions mb_type.now)) result (ref_idx_l0 active_count mb_type.now) reader.old reader.new }
+{
+    if is_ref0(mb_type) {
+        return Ok([0; 4]);
+    }
+    if active_count <= 1 {
+        return Ok([0; 4]);
+    }
+    let most = u32::from(active_count) - 1;
+    read_elements(reader, partitions(mb_type), most, 0)
+}
+
+fn read_mvd(reader: &mut BitReader, mb_type: &PMbType) -> Result<[Mvd; 16], Fault>
+    ensures { ReadsAs (take (length (parts_of mb_type.now))) result (times (length (parts_of mb_type.now)) mvd_l0) reader.old reader.new }
+{
+    read_elements(reader, part_count(mb_type), 1, Mvd { x: 0, y: 0 })
+}
+
+fn is_ref0(mb_type: &PMbType) -> bool
+    ensures { result ≡ is_ref0 mb_type.now }
+{
+    match mb_type {
+        PMbType::P8x8Ref0(_) => true,
+        _ => false,
+    }
+}
+
+/// How many partitions a macroblock has, each with a reference index (Table 7-13).
+pub fn partitions(mb_type: &PMbType) -> usize
+    ensures value { result ≡ partitions mb_type.now }
+    ensures most { result ≤ 4 }
+{
+    match mb_type {
+        PMbType::P16x16 => 1,
+        PMbType::P16x8 | PMbType::P8x16 => 2,
+        PMbType::P8x8(_) | PMbType::P8x8Ref0(_) => 4,
+    }
+}
+
+/// How many parts a macroblock has, each with a vector (7.3.5.1, 7.3.5.2).
+pub fn part_count(mb_type: &PMbType) -> usize
+    ensures value { result ≡ length (parts_of mb_type.now) }
+    ensures most { result ≤ 16 }
+{
+    match mb_type {
+        PMbType::P16x16 => 1,
+        PMbType::P16x8 | PMbType::P8x16 => 2,
+        PMbType::P8x8(subs) => parts_of_quarters(subs),
+        PMbType::P8x8Ref0(subs) => parts_of_quarters(subs),
+    }
+}
+
+// of the four quarters
+fn parts_of_quarters(subs: &[SubMbType; 4]) -> usize
+    ensures value { result ≡ length (parts_of_quarters subs.now 0) }
+    ensures most { result ≤ 16 }
+{
+    let [first, second, third, fourth] = *subs;
+    parts_of_quarter(first)
+        + parts_of_quarter(second)
+        + parts_of_quarter(third)
+        + parts_of_quarter(fourth)
+}
+
+// of one quarter
+fn parts_of_quarter(sub_mb_type: SubMbType) -> usize
+    ensures value { result ≡ length (parts_of_quarter sub_mb_type 0 0 0) }
+    ensures most { result ≤ 4 }
+{
+    match sub_mb_type {
+        SubMbType::Sub8x8 => 1,
+        SubMbType::Sub8x4 | SubMbType::Sub4x8 => 2,
+        SubMbType::Sub4x4 => 4,
+    }
+}

@@ -1,0 +1,164 @@
+//! The data of a slice (7.3.4), one macroblock at a time.
+ghost use Rattle.std.specs.Prelude.{◌≡◌, ◌+◌, ◌<◌, List, length, true, IfOk};
+ghost use Rattle.avc_types.specs.Pictures.{PicMb};
+ghost use Rattle.avc_bits.specs.Reader.{reader_bits};
+ghost use Rattle.avc_mbsyntax.specs.SliceData.{SliceStart, left_total_coeffs, slice_data, up_total_coeffs};
+
+use crate::context::Context;
+use crate::macroblock::read_macroblock;
+use crate::stage::{Stage, stage_after};
+use avc_bits::BitReader;
+use avc_neigh::TotalCoeffs;
+use avc_types::{Fault, Mb, Syntax};
+
+/// The data of a slice that is being read. It keeps no macroblock.
+#[derive(Clone, Copy, Debug)]
+pub struct SliceData<'a> {
+    reader: BitReader<'a>,
+    is_p: bool,
+    active_count: u8,
+    // QP_Y of the macroblock before in the slice, at first SliceQP_Y
+    qp: u8,
+    // how many macroblocks of the picture remain
+    remaining: u32,
+    stage: Stage,
+}
+
+impl<'a> SliceData<'a> {
+    ghost use Rattle.avc_mbsyntax.specs.Rest.{Follows, IsHandedOut, IsOneMore, IsRun, IsSkipped, rest_of};
+    ghost use Rattle.avc_mbsyntax.specs.declared.stage.Stage.TheVariants.{Next, Skipped};
+
+    /// The data that a reader has ahead: of a P slice or an I slice, with `active_count` entries in RefPicList0 and the
+    /// quantiser `qp` (SliceQP_Y), where so many macroblocks of the picture remain.
+    pub fn new(reader: BitReader<'a>, is_p: bool, active_count: u8, qp: u8, remaining: u32) -> Self
+        ensures { (s : SliceStart) (before : List PicMb) → s.is_p ≡ is_p → s.active_count ≡ active_count → s.qp ≡ qp
+            → s.size ≡ length before + remaining
+            → Follows s before result × (rest_of s before result ≡ slice_data s before (reader_bits reader.entry)) }
+    {
+        SliceData {
+            reader,
+            is_p,
+            active_count,
+            qp,
+            remaining,
+            stage: Stage::Next,
+        }
+    }
+
+    /// The next macroblock, or `None` where the data has ended, or the first fault in the data, which then comes again.
+    /// `left` and `up` have total_coeff of the macroblocks to the left of it and above, where these are available.
+    pub fn next(
+        &mut self,
+        left: Option<TotalCoeffs>,
+        up: Option<TotalCoeffs>,
+    ) -> Result<Option<Mb>, Fault>
+        ensures { (s : SliceStart) (before : List PicMb) → Follows s before self.old → left ≡ left_total_coeffs s before
+            → up ≡ up_total_coeffs s before → IsHandedOut s before result self.old self.new }
+    {
+        match self.stage {
+            Stage::Next => self.start(left, up),
+            Stage::Skipped(count) => self.go_on(count, left, up),
+            Stage::Ended => Ok(None),
+        }
+    }
+
+    // from a macroblock of an I slice, or a run of a P slice
+    fn start(
+        &mut self,
+        left: Option<TotalCoeffs>,
+        up: Option<TotalCoeffs>,
+    ) -> Result<Option<Mb>, Fault>
+        requires { self.old.stage ≡ Next }
+        ensures { (s : SliceStart) (before : List PicMb) → Follows s before self.old → left ≡ left_total_coeffs s before
+            → up ≡ up_total_coeffs s before → IsHandedOut s before result self.old self.new }
+    {
+        let is_p = self.is_p;
+        if is_p {
+            let count = self.read_run()?;
+            self.go_on(count, left, up)
+        } else {
+            let mb = self.read_one(left, up)?;
+            Ok(Some(mb))
+        }
+    }
+
+    // mb_skip_run
+    fn read_run(&mut self) -> Result<u32, Fault>
+        requires { self.old.stage ≡ Next }
+        ensures stage { IfOk result (λ count. self.new.stage ≡ Skipped count) }
+        ensures run { (s : SliceStart) (before : List PicMb) → Follows s before self.old → s.is_p ≡ true → IsRun s before result self.old self.new }
+    {
+        if self.remaining == 0 {
+            return Err(Fault::TooManyMacroblocks);
+        }
+        let mut reader = self.reader;
+        let count = reader.ue()?;
+        if count > self.remaining {
+            return Err(Fault::TooManyMacroblocks);
+        }
+        self.reader = reader;
+        self.stage = Stage::Skipped(count);
+        Ok(count)
+    }
+
+    // from so many skipped macroblocks on
+    fn go_on(
+        &mut self,
+        count: u32,
+        left: Option<TotalCoeffs>,
+        up: Option<TotalCoeffs>,
+    ) -> Result<Option<Mb>, Fault>
+        requires { self.old.stage ≡ Skipped count }
+        ensures { (s : SliceStart) (before : List PicMb) → Follows s before self.old → left ≡ left_total_coeffs s before
+            → up ≡ up_total_coeffs s before → IsHandedOut s before result self.old self.new }
+    {
+        if count > 0 {
+            return Ok(Some(self.skip(count)));
+        }
+        let more = self.reader.more_data();
+        if more {
+            let mb = self.read_one(left, up)?;
+            return Ok(Some(mb));
+        }
+        self.stage = Stage::Ended;
+        Ok(None)
+    }
+
+    // a skipped macroblock, the first of so many
+    fn skip(&mut self, count: u32) -> Mb
+        requires stage { self.old.stage ≡ Skipped count }
+        requires some { 0 < count }
+        ensures { (s : SliceStart) (before : List PicMb) → Follows s before self.old → IsSkipped s before count result self.old self.new }
+    {
+        self.stage = Stage::Skipped(count - 1);
+        self.remaining = self.remaining.saturating_sub(1);
+        Mb {
+            syntax: Syntax::PSkip,
+            qp: self.qp,
+        }
+    }
+
+    // a macroblock that is coded
+    fn read_one(&mut self, left: Option<TotalCoeffs>, up: Option<TotalCoeffs>) -> Result<Mb, Fault>
+        ensures { (s : SliceStart) (before : List PicMb) → Follows s before self.old → left ≡ left_total_coeffs s before
+            → up ≡ up_total_coeffs s before → IsOneMore s before result self.old self.new }
+    {
+        if self.remaining == 0 {
+            return Err(Fault::TooManyMacroblocks);
+        }
+        let context = Context {
+            is_p: self.is_p,
+            active_count: self.active_count,
+            qp: self.qp,
+            left,
+            up,
+        };
+        let mut reader = self.reader;
+        let mb = read_macroblock(&mut reader, &context)?;
+        self.stage = stage_after(&reader);
+        self.reader = reader;
+        self.remaining -= 1;
+        self.qp = mb.qp;
+        Ok(mb)
+    }
+}

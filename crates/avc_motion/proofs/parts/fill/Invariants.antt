@@ -1,0 +1,11 @@
+use Rattle.std.proofs.Common.{◌≡◌, ◌≤◌, ◌<◌, ℕ, length, slice_index_or}
+use Rattle.avc_neigh.specs.declared.facts.Motion.TheVariants.{Absent as absent}
+use Rattle.avc_motion.specs.Motion.{with_part}
+use Rattle.avc_motion.proofs.parts.fill.Given as goal
+
+abbrev pub invariant-loop-k : goal.invariant-loop-k
+invariant-loop-k l = record {
+  long : length l.mine ≡ 16;
+  done : (k : ℕ) → k < l.k → slice_index_or l.mine k absent ≡ slice_index_or (with_part l.fn.mine l.part l.motion) k absent;
+  left : (k : ℕ) → l.k ≤ k → slice_index_or l.mine k absent ≡ slice_index_or l.fn.mine k absent;
+}

@@ -1,0 +1,84 @@
+ghost use Rattle.std.specs.Prelude.{◌≡◌, true, map};
+ghost use Rattle.std.specs.List.{list_all};
+ghost use Rattle.avc_types.specs.Macroblock.{p_skip};
+ghost use Rattle.avc_neigh.specs.Around.{facts_of};
+ghost use Rattle.avc_neigh.specs.BlockNear.{motion_near};
+ghost use Rattle.avc_motion.specs.Motion.{HasMotion, HasVectors, is_in_range, motion_by, vector_of as motion_vector};
+ghost use Rattle.avc_motion.specs.Decoding.{blocks_or_fault, decoded_whole, HasFourQuarters};
+
+use crate::neighbouring::NeighbouringPartitions;
+use crate::parts::Inter;
+use crate::prediction::vector_of;
+use avc_neigh::{Motion, Neighbours};
+use avc_types::{Fault, Mb, Mv, Mvd, PMbType, Syntax};
+
+/// The blocks of a skipped macroblock (8.4.1.1).
+fn skipped(neighbours: &Neighbours<'_>) -> [Motion; 16]
+    ensures motion { result ≡ motion_by (motion_near (facts_of neighbours.now)) p_skip }
+    ensures within { list_all is_in_range result ≡ true }
+{
+    let around = NeighbouringPartitions::of(neighbours, &[Motion::Absent; 16], 0, 0, 16);
+    let mv = around.skip_vector();
+    [Motion::Inter { ref_idx: 0, mv }; 16]
+}
+
+/// The blocks of an inter macroblock whose vectors are coded.
+fn inter(
+    mb_type: &PMbType,
+    ref_idx: &[u8; 4],
+    mvd: &[Mvd; 16],
+    neighbours: &Neighbours<'_>,
+) -> Result<[Motion; 16], Fault>
+    ensures motion { let near = motion_near (facts_of neighbours.now) in result ≡ blocks_or_fault (decoded_whole near mb_type.now ref_idx.now mvd.now) }
+    ensures quarters { HasFourQuarters mb_type.now }
+{
+    let inter = Inter {
+        mb_type,
+        ref_idx,
+        neighbours,
+    };
+    let mut mine = [Motion::Absent; 16];
+    inter.decode(&mut mine, mvd)?;
+    Ok(mine)
+}
+
+/// The reference index and the vector of each luma block of a macroblock (8.4.1), in block order. `neighbours` are those of
+/// the macroblock. `VectorRange` where a component of a vector is no 16-bit number.
+pub fn motion(mb: &Mb, neighbours: &Neighbours<'_>) -> Result<[Motion; 16], Fault>
+    ensures { HasMotion (facts_of neighbours.now) mb.now.syntax result }
+{
+    match &mb.syntax {
+        Syntax::PSkip => Ok(skipped(neighbours)),
+        Syntax::PInter {
+            mb_type,
+            ref_idx,
+            mvd,
+            ..
+        } => inter(mb_type, ref_idx, mvd, neighbours),
+        Syntax::IPcm { .. } | Syntax::INxN { .. } | Syntax::I16x16 { .. } => Ok(
+            [Motion::Intra; 16],
+        ),
+    }
+}
+
+/// The vectors alone.
+fn vectors_of(motion: &[Motion; 16]) -> [Mv; 16]
+    ensures { result ≡ map motion_vector motion.now }
+{
+    let mut vectors = [Mv { x: 0, y: 0 }; 16];
+    for k in 0..16 {
+        vectors[k] = vector_of(motion[k]);
+    }
+    vectors
+}
+
+/// The vector of each luma block of a macroblock (8.4.1), in block order, in quarter luma samples: 0 in an intra macroblock.
+/// `neighbours` are those of the macroblock. `VectorRange` where a component of a vector is no 16-bit number.
+pub fn vectors(mb: &Mb, neighbours: &Neighbours<'_>) -> Result<[Mv; 16], Fault>
+    ensures { HasVectors (facts_of neighbours.now) mb.now.syntax result }
+{
+    match motion(mb, neighbours) {
+        Ok(motion) => Ok(vectors_of(&motion)),
+        Err(fault) => Err(fault),
+    }
+}

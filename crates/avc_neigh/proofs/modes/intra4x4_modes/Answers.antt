@@ -1,0 +1,42 @@
+use Rattle.std.proofs.Common.{◌≡◌, ◌<◌, ◌∙◌, [], Option, None, get_or, length, take, refl, sym, ap, arith, length-set, ℕ}
+use Rattle.std.proofs.lemmas.List.{get_or_default}
+use Rattle.avc_neigh.specs.Around.{facts_of}
+use Rattle.avc_neigh.specs.Modes.{chosen_mode}
+use Rattle.avc_neigh.specs.declared.facts.NearMode.TheVariants.{Absent as absent}
+use Rattle.avc_neigh.proofs.NearModes.{modes_end, modes_more, modes_near, modes_step, prediction_near, same_modes, small_mode}
+use Rattle.avc_neigh.proofs.modes.intra4x4_modes.Goals as goal
+
+pub returns-clause-modes : goal.returns-clause-modes
+returns-clause-modes c = λ p known a constrained near.
+    let n = facts_of c.args.neighbours.now in
+    sym (
+    same_modes n p known a near [] c.args.coded.now (omega (arith, c.told-coded))
+    ∙ ap (λ b. modes_near n b [] c.args.coded.now) constrained
+    ∙ c.loop-k.invariant.done
+    ∙ modes_end n c.args.constrained_intra_pred c.loop-k.k c.loop-k.modes c.args.coded.now c.loop-k-test.false c.loop-k.invariant.long c.told-coded)
+
+pub returns-clause-within : goal.returns-clause-within
+returns-clause-within c = λ a b k d h.
+    rw (get_or_default c.loop-k.modes k d absent h) (c.loop-k.invariant.within a b k (omega (arith, h, c.loop-k.invariant.long, c.loop-k-test.false)))
+
+pub loop-k-preserved : goal.loop-k-preserved
+loop-k-preserved c =
+    let n = facts_of c.args.neighbours.now in
+    let x : Option ℕ = get_or c.args.coded.now c.loop-k.k None in
+    let below : c.loop-k.k < 16 = c.loop-k-test.true in
+    let many : c.loop-k.k < length c.args.coded.now = omega (arith, c.told-coded) in
+    let predicted : c.predicted.result ≡ prediction_near n c.args.constrained_intra_pred (take c.loop-k.k c.loop-k.modes) c.loop-k.k =
+    rw (c.predicted.ensures, c.brought-left.ensures, c.mode_at_left.ensures, c.brought-above.ensures, c.mode_above.ensures) refl in
+    let chosen : c.chosen.result ≡ chosen_mode (prediction_near n c.args.constrained_intra_pred (take c.loop-k.k c.loop-k.modes) c.loop-k.k) x =
+    c.chosen.ensures ∙ ap (λ p. chosen_mode p x) predicted in
+    record {
+      long = length-set c.loop-k.modes c.loop-k.k _ ∙ c.loop-k.invariant.long;
+      done =
+          c.loop-k.invariant.done
+          ∙ modes_step n c.args.constrained_intra_pred c.loop-k.k c.loop-k.modes c.args.coded.now c.chosen.result x below c.loop-k.invariant.long c.told-coded
+          (get_or_default c.args.coded.now c.loop-k.k None x many) chosen;
+      within = λ a b.
+          let all = c.loop-k.invariant.within a b in
+          modes_more c.loop-k.k c.loop-k.modes c.chosen.result (omega (arith, c.loop-k.invariant.long)) all
+          (small_mode n c.args.constrained_intra_pred c.loop-k.k c.loop-k.modes x c.chosen.result below all a b (c.requires c.loop-k.k None many) chosen);
+    }

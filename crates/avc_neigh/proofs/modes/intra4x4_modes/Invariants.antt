@@ -1,0 +1,16 @@
+use Rattle.std.proofs.Common.{◌≡◌, ℕ, ◌<◌, [], length, take, drop}
+use Rattle.std.specs.List.{slice_index_or}
+use Rattle.std.specs.Option.{option_copied}
+use Rattle.avc_neigh.specs.Around.{facts_of}
+use Rattle.avc_neigh.specs.BlockNear.{HasModes}
+use Rattle.avc_neigh.specs.Modes.{IsMode}
+use Rattle.avc_neigh.specs.declared.facts.NearMode.TheVariants.{Absent as absent}
+use Rattle.avc_neigh.proofs.NearModes.{modes_near}
+use Rattle.avc_neigh.proofs.modes.intra4x4_modes.Given as goal
+
+abbrev pub invariant-loop-k : goal.invariant-loop-k
+invariant-loop-k l = record {
+  long : length l.modes ≡ 16;
+  done : modes_near (facts_of l.neighbours) l.constrained_intra_pred [] l.coded ≡ modes_near (facts_of l.neighbours) l.constrained_intra_pred (take l.k l.modes) (drop l.k l.coded);
+  within : HasModes (option_copied l.neighbours.a) → HasModes (option_copied l.neighbours.b) → (i : ℕ) → i < l.k → IsMode (slice_index_or l.modes i absent);
+}

@@ -1,0 +1,74 @@
+-- Neighbours by address are those by sample coordinates (6.4.8, 6.4.9, 6.4.12).
+use Rattle.std.specs.Prelude.{◌≡◌, ℕ, ◌<◌, ◌==◌, nat_lt, ◌&&◌, ◌||◌, Bool, false, ℤ, pos, negsuc, if◌then◌else◌, List, ◌++◌, map, Option, Some, None, slice_get}
+use Rattle.std.specs.Option.{option_map}
+use Rattle.avc_types.specs.Pictures.{PicMb}
+use Rattle.avc_neigh.specs.declared.facts.NeighbourFacts.{NeighbourFacts}
+use Rattle.avc_neigh.specs.declared.facts.Motion.TheVariants as motions
+use Rattle.avc_neigh.specs.declared.facts.NearMode.TheVariants as modes
+use Rattle.avc_neigh.specs.Around.{PictureFacts, next_address, mb_a, mb_b, Around, around}
+use Rattle.avc_neigh.specs.BlockNear.{AreAround, IsAsked}
+use Rattle.avc_neigh.specs.Blocks.{Location, location_at, same_slice, left_of, above}
+use Rattle.avc_neigh.specs.TotalCoeffs.{total_coeffs_of}
+
+-- What is said of a picture's macroblocks, these facts say of its first ones.
+abbrev pub FactsTell : {Y : Type 0} → (PicMb → Y) → (NeighbourFacts → Y) → List PicMb → List NeighbourFacts → Type 0
+FactsTell {Y} of_mb of_facts mbs facts = (rest : List Y) × (map of_mb mbs ≡ map of_facts facts ++ rest)
+
+abbrev pub TellSlices : List PicMb → List NeighbourFacts → Type 0
+TellSlices = FactsTell (λ m. m.slice) (λ f. f.slice)
+
+abbrev pub TellTotalCoeffs : List PicMb → List NeighbourFacts → Type 0
+TellTotalCoeffs = FactsTell (λ m. total_coeffs_of m.mb.syntax) (λ f. f.total_coeffs)
+
+-- p has the facts of the macroblocks of a picture before the next one, which is of this slice. Later ones may be there.
+pub record IsNext (mbs : List PicMb) (p : PictureFacts) (slice : ℕ) : Type 0 where
+  pub wide : 0 < p.width
+  pub slices : TellSlices mbs p.facts
+  pub next : option_map (λ m. m.slice) (slice_get mbs (next_address p)) ≡ Some slice
+
+-- The neighbours' blocks are those that are found by sample coordinates.
+abbrev pub BlocksAreFound : {X : Type 0} → X → (NeighbourFacts → List X) → Type 0
+BlocksAreFound absent blocks =
+    (mbs : List PicMb) (p : PictureFacts) (slice : ℕ) → IsNext mbs p slice
+    → AreAround absent blocks (around p slice) mbs p.width (map blocks p.facts) (next_address p)
+
+abbrev pub MotionIsFound : Type 0
+MotionIsFound = BlocksAreFound motions.Absent (λ f. f.motion)
+
+abbrev pub ModesAreFound : Type 0
+ModesAreFound = BlocksAreFound modes.Absent (λ f. f.modes)
+
+-- total_coeff of the neighbours A and B is that of the macroblocks that are found so. The next macroblock need not be there.
+abbrev pub TotalCoeffsAreFound : Type 0
+TotalCoeffsAreFound =
+    (mbs : List PicMb) (p : PictureFacts) (slice : ℕ) → 0 < p.width → TellSlices mbs p.facts → TellTotalCoeffs mbs p.facts
+    → (option_map (λ m. total_coeffs_of m.syntax) (left_of mbs p.width slice (next_address p)) ≡ option_map (λ f. f.total_coeffs) (mb_a p slice))
+    × (option_map (λ m. total_coeffs_of m.syntax) (above mbs p.width slice (next_address p)) ≡ option_map (λ f. f.total_coeffs) (mb_b p slice))
+
+-- The sample at this location is there for a block of macroblock a: of its slice, decoded before the block, and of a macroblock
+-- that passes the test. `earlier` says which samples of macroblock a itself are decoded before the block.
+abbrev pub is_there_by : (test : Option PicMb → Bool) → (earlier : (x y : ℕ) → Bool) → List PicMb → (a : ℕ) → Option Location → Bool
+is_there_by test earlier mbs a None = false
+is_there_by test earlier mbs a (Some s) =
+    same_slice mbs a s.address
+    && (nat_lt s.address a || ((s.address == a) && earlier s.x s.y))
+    && test (slice_get mbs s.address)
+
+abbrev pub holds_of : (NeighbourFacts → Bool) → Option NeighbourFacts → Bool
+holds_of told None = false
+holds_of told (Some f) = told f
+
+-- the same by the neighbour that covers the sample (Table 6-4); `mine` is for samples of the macroblock itself
+abbrev pub is_there_near : (told : NeighbourFacts → Bool) → (mine : (x y : ℕ) → Bool) → Around → (x y : ℤ) → Bool
+is_there_near told mine n (pos x) (pos y) = if nat_lt x 16 then mine x y else false
+is_there_near told mine n (negsuc _) (pos y) = holds_of told n.a
+is_there_near told mine n (pos x) (negsuc _) = if nat_lt x 16 then holds_of told n.b else holds_of told n.c
+is_there_near told mine n (negsuc _) (negsuc _) = holds_of told n.d
+
+-- Where the facts tell what the test says, as whether a macroblock is intra, the neighbours say which samples are there.
+abbrev pub AvailabilityIsFound : Type 0
+AvailabilityIsFound =
+    (test : Option PicMb → Bool) (told : NeighbourFacts → Bool) (earlier : (x y : ℕ) → Bool) (mbs : List PicMb) (p : PictureFacts) (slice : ℕ)
+    → IsNext mbs p slice → FactsTell (λ m. test (Some m)) told mbs p.facts → (x y : ℤ) → IsAsked x y
+    → is_there_by test earlier mbs (next_address p) (location_at p.width (next_address p) x y)
+    ≡ is_there_near told (λ u v. earlier u v && test (slice_get mbs (next_address p))) (around p slice) x y

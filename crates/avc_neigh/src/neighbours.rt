@@ -1,0 +1,18 @@
+use crate::facts::NeighbourFacts;
+
+/// The neighbouring macroblocks of the one that comes next (6.4.9), each where it is available: in the picture, decoded
+/// earlier and of the same slice.
+#[derive(Clone, Copy)]
+pub struct Neighbours<'a> {
+    /// mbAddrA, to the left.
+    pub a: Option<&'a NeighbourFacts>,
+
+    /// mbAddrB, above.
+    pub b: Option<&'a NeighbourFacts>,
+
+    /// mbAddrC, above right.
+    pub c: Option<&'a NeighbourFacts>,
+
+    /// mbAddrD, above left.
+    pub d: Option<&'a NeighbourFacts>,
+}
