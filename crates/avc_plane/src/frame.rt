@@ -1,7 +1,9 @@
 ghost use Rattle.std.specs.Prelude.{◌≡◌, ◌+◌, ◌*◌, ◌^◌, ◌<◌, IfOk};
+ghost use Rattle.avc_plane.specs.Plane.{HasSamples};
 ghost use Rattle.avc_plane.specs.Planes.{empty_planes};
-ghost use Rattle.avc_plane.specs.Frames.{planes_of};
+ghost use Rattle.avc_plane.specs.Frames.{planes_of, padded_planes_of};
 
+use crate::padded::PaddedPlane;
 use crate::plane::Plane;
 use avc_types::{Mark, OutOfMemory};
 use std::alloc::Global;
@@ -28,6 +30,43 @@ impl<const PAD: usize> Planes<PAD> {
             cb: Plane::new(alloc, 8 * width, 8 * height)?,
             cr: Plane::new(alloc, 8 * width, 8 * height)?,
         })
+    }
+
+    /// The same planes with their nearest samples around them, to be read alone.
+    pub fn pad(self) -> PaddedPlanes<PAD>
+        requires luma { HasSamples self.luma }
+        requires cb { HasSamples self.cb }
+        requires cr { HasSamples self.cr }
+        ensures { padded_planes_of result ≡ planes_of self.entry }
+    {
+        PaddedPlanes {
+            luma: self.luma.pad(),
+            cb: self.cb.pad(),
+            cr: self.cr.pad(),
+        }
+    }
+}
+
+/// The planes of a picture that can't be changed any more, as inter prediction reads them.
+#[derive(Drop)]
+pub struct PaddedPlanes<const PAD: usize> {
+    pub luma: PaddedPlane<PAD>,
+
+    pub cb: PaddedPlane<PAD>,
+
+    pub cr: PaddedPlane<PAD>,
+}
+
+impl<const PAD: usize> PaddedPlanes<PAD> {
+    /// The planes, to be changed again.
+    pub fn into_planes(self) -> Planes<PAD>
+        ensures { planes_of result ≡ padded_planes_of self.entry }
+    {
+        Planes {
+            luma: self.luma.into_plane(),
+            cb: self.cb.into_plane(),
+            cr: self.cr.into_plane(),
+        }
     }
 }
 

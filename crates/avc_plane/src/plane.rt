@@ -1,6 +1,12 @@
 ghost use Rattle.std.specs.Prelude.{◌≡◌, ◌+◌, ◌*◌, ◌^◌, ◌<◌, ◌≤◌, IfOk, length, slice_index, slice_range};
-ghost use Rattle.avc_plane.specs.Plane.{sample, with_block, with_sample, plane_of};
+ghost use Rattle.avc_plane.specs.Plane.{sample, HasSamples, with_block, with_sample, plane_of};
+ghost use Rattle.avc_plane.specs.Padded.{inner_plane, IsStored};
 
+mod rectangle;
+
+use crate::block::BlockMut;
+use crate::extension::extend;
+use crate::padded::PaddedPlane;
 use avc_types::{Bytes, OutOfMemory};
 use std::alloc::Global;
 use std::marker::Model;
@@ -40,6 +46,18 @@ impl<const PAD: usize> Plane<PAD> {
             height,
             stored,
         })
+    }
+
+    /// The plane whose padded rows are these.
+    pub(crate) fn from_rows(width: usize, height: usize, stored: Vec<u8>) -> Self
+        requires { IsStored PAD width height stored.items }
+        ensures { result ≡ inner_plane PAD width height stored.items }
+    {
+        Plane {
+            width,
+            height,
+            stored,
+        }
     }
 
     /// The number of columns.
@@ -98,9 +116,25 @@ impl<const PAD: usize> Plane<PAD> {
         }
     }
 
+    /// Lends the block of W columns and H rows that has `left` columns left of it and `top` rows above it.
+    pub fn block_mut<const W: usize, const H: usize>(
+        &mut self,
+        left: usize,
+        top: usize,
+    ) -> BlockMut<'_, W, H, PAD>
+        requires columns { left + W ≤ self.old.width }
+        requires rows { top + H ≤ self.old.height }
+        ensures same_reference { result.plane.ghost_name ≡ self.entry.ghost_name }
+        ensures samples { result.plane.now ≡ self.old }
+        ensures place { (result.left ≡ left) × (result.top ≡ top) }
+    {
+        let _ = &self.stored;
+        BlockMut::new(self, left, top)
+    }
+
     // changes some neighbouring samples of row `y`
     #[inline]
-    fn set_line(&mut self, left: usize, y: usize, samples: &[u8])
+    pub(crate) fn set_line(&mut self, left: usize, y: usize, samples: &[u8])
         requires columns { left + length samples.now ≤ self.old.width }
         requires row { y < self.old.height }
         ensures { self.new ≡ with_block self.old left y (length samples.now) 1 (λ x _. slice_index samples.now x) }
@@ -127,5 +161,17 @@ impl<const PAD: usize> Plane<PAD> {
         ensures size { length result ≡ self.entry.width * self.entry.height }
     {
         Bytes::from_vec(self.stored)
+    }
+
+    /// The same plane with its nearest samples around it, to be read alone.
+    pub fn pad(self) -> PaddedPlane<PAD>
+        requires { HasSamples self }
+        ensures { result ≡ self.entry }
+    {
+        let width = self.width;
+        let height = self.height;
+        let mut stored = self.stored;
+        extend(stored.as_mut_slice(), width, height, PAD);
+        PaddedPlane::from_rows(width, height, stored)
     }
 }

@@ -1,0 +1,49 @@
+-- Lanes one by one.
+use Rattle.std.proofs.Common.{ℕ, ℤ, zero, suc, ◌+◌, ◌*◌, ◌≤◌, ◌<◌, ◌-ℤ◌, ◌≡◌, arith, refl, ap, ◌∙◌, FitsSigned, Fits, w16, w32, to_z, of_z, pos, List, [], ◌∷◌, map, get_or, length, replicate, subst, sym, ⊎_elim, ◌-◌}
+use Rattle.std.proofs.lemmas.List.{length-map}
+use Rattle.std.proofs.lemmas.Bool.{cases_lt}
+use Rattle.std.proofs.Math.Nat.{mul-le-mul_right}
+use Rattle.std.proofs.lemmas.Int.{ints, to_z-of_z}
+use Rattle.std.proofs.lemmas.Simd.{Each1-zip2, Each2-of, get_or-put_chunk_below, get_or-put_chunk_at}
+use Rattle.std.specs.Simd.Lanes.{zip2, Each1, Each2, put_chunk}
+use Rattle.avc_inter.specs.Luma.{six_taps}
+
+pub sums_small : (m n : ℕ) (a b : List ℕ) → Each1 (λ x. x ≤ m) a → Each1 (λ y. y ≤ n) b → Each1 (λ z. z ≤ m + n) (zip2 (λ x y. x + y) a b)
+sums_small m n a b p q =
+    Each1-zip2 (λ x y. x + y) (λ z. z ≤ m + n) a b (Each2-of (λ x. x ≤ m) (λ y. y ≤ n) (λ x y. x + y ≤ m + n) (λ x y h k. omega arith) a b p q)
+
+pub multiples_small : (m by : ℕ) (a : List ℕ) → Each1 (λ x. x ≤ m) a → Each1 (λ z. z ≤ m * by) (map (λ x. x * by) a)
+multiples_small m by [] p = tt
+multiples_small m by (x ∷ xs) p = (mul-le-mul_right by p.0, multiples_small m by xs p.1)
+
+pub get_or-multiples : (by : ℕ) (a : List ℕ) (k : ℕ) → get_or (map (λ x. x * by) a) k 0 ≡ get_or a k 0 * by
+get_or-multiples by [] k = omega arith
+get_or-multiples by (x ∷ xs) zero = refl
+get_or-multiples by (x ∷ xs) (suc k) = get_or-multiples by xs k
+
+-- numbers that fit stay as they are through their bits
+pub get_or-through_bits : (ds : List ℤ) (k : ℕ) → FitsSigned w32 (get_or ds k (pos 0)) → get_or (map (to_z w32) (map (of_z w32) ds)) k (pos 0) ≡ get_or ds k (pos 0)
+get_or-through_bits [] k h = refl
+get_or-through_bits (d ∷ ds) zero h = to_z-of_z w32 d h
+get_or-through_bits (d ∷ ds) (suc k) h = get_or-through_bits ds k h
+
+-- the taps, positive ones apart from negative ones
+pub six_taps_apart : (e f g h i j s m : ℕ) → s ≡ e + j + (g + h) * 20 → m ≡ (f + i) * 5 → pos s -ℤ pos m ≡ six_taps (pos e) (pos f) (pos g) (pos h) (pos i) (pos j)
+six_taps_apart e f g h i j s m p q = omega (arith, ints)
+
+-- a store of sixteen results behind those that are there
+pub stored_more : (P : ℕ → ℤ → Type 0) (dst r : List ℤ) (at : ℕ) → at + 16 ≤ length dst → length r ≡ 16 →
+    ((k : ℕ) → k < 16 → FitsSigned w32 (get_or r k (pos 0))) →
+    ((k : ℕ) → k < at → P k (get_or dst k (pos 0))) → ((j : ℕ) → j < 16 → P (at + j) (get_or r j (pos 0))) →
+    (k : ℕ) → k < at + 16 → P k (get_or (put_chunk at dst (map (to_z w32) (map (of_z w32) r))) k (pos 0))
+stored_more P dst r at room long fits old new k h =
+    let ys = map (to_z w32) (map (of_z w32) r) in
+    let n : length ys ≡ 16 = length-map (map (of_z w32) r) (to_z w32) ∙ length-map r (of_z w32) ∙ long in
+    ⊎_elim (λ below. subst (P k) (sym (get_or-put_chunk_below at dst ys k (pos 0) below)) (old k below))
+    (λ above.
+    let j = k - at in
+    let place : at + j ≡ k = omega arith in
+    let within : j < 16 = omega arith in
+    let value = get_or-put_chunk_at at dst ys j (pos 0) (omega arith) (omega arith) ∙ get_or-through_bits r j (fits j within) in
+    subst (λ i. P i (get_or (put_chunk at dst ys) i (pos 0))) place (subst (P (at + j)) (sym value) (new j within)))
+    (cases_lt k at)

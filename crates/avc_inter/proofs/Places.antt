@@ -1,0 +1,60 @@
+-- Places on and about a plane: in sixty-four bits, and in its padded rows.
+use Rattle.std.proofs.Common.{ℕ, ℤ, ◌≡◌, ◌+◌, ◌-◌, ◌*◌, ◌^◌, ◌<◌, ◌≤◌, arith, ap, ◌∙◌, subst, pos, ◌+ℤ◌, ◌-ℤ◌, to_z, of_z, w64, slice_index, List, length}
+use Rattle.std.specs.Prelude.{Option, Some, IfSome, nat_abs}
+use Rattle.std.proofs.lemmas.Int.{ints}
+use Rattle.std.proofs.lemmas.Nat.{row_fits}
+use Rattle.std.proofs.Math.Nat.{add-mul}
+use Rattle.avc_types.specs.Arithmetic.{clip3}
+use Rattle.avc_plane.specs.Plane.{Plane, sample, clamped}
+use Rattle.avc_plane.specs.Padded.{IsSurrounded}
+use Rattle.avc_inter.specs.Bounds.{IsPlace}
+use Rattle.avc_inter.specs.Luma.{Wide}
+
+pub at_some : {X : Type 0} (r : Option X) (P : X → Type 0) (x : X) → r ≡ Some x → IfSome r P → P x
+at_some {X} r P x is holds = subst (λ (o : Option X). IfSome o P) is holds
+
+-- a place that a call sees through its bits, and one further on
+pub place_back : (z : ℤ) → IsPlace z → to_z w64 (of_z w64 z) ≡ z
+place_back z p = omega (arith, ints, p.low, p.high)
+
+pub moved_back : (z : ℤ) (i : ℕ) → IsPlace z → i < 2 ^ 16 → to_z w64 (of_z w64 (to_z w64 (of_z w64 z) +ℤ to_z w64 i)) ≡ z +ℤ pos i
+moved_back z i p q =
+    let low = p.low in
+    let high = p.high in
+    let first : to_z w64 (of_z w64 z) ≡ z = place_back z p in
+    let second : to_z w64 i ≡ pos i = omega (arith, ints) in
+    rw (first, second) (omega (arith, ints))
+
+-- a coordinate held inside a width that a call gave, of a place that it saw through its bits
+pub held_moved : (u n width : ℕ) (z : ℤ) (i : ℕ) → IsPlace z → i < 2 ^ 16 → n ≡ width →
+    u ≡ nat_abs (clip3 (pos 0) (pos n -ℤ pos 1) (to_z w64 (of_z w64 (to_z w64 (of_z w64 z) +ℤ to_z w64 i)))) →
+    u ≡ nat_abs (clip3 (pos 0) (pos width -ℤ pos 1) (z +ℤ pos i))
+held_moved u n width z i p q same is =
+    is ∙ ap (λ v. nat_abs (clip3 (pos 0) (pos n -ℤ pos 1) v)) (moved_back z i p q) ∙ ap (λ m. nat_abs (clip3 (pos 0) (pos m -ℤ pos 1) (z +ℤ pos i))) same
+
+same_place : (s : Wide) (u v u' v' : ℤ) → u ≡ u' → v ≡ v' → s u v ≡ s u' v'
+same_place s u v u' v' p q = ap (λ z. s z v) p ∙ ap (λ z. s u' z) q
+
+pub moved_sample : (s : Wide) (left top : ℤ) (i j : ℕ) → IsPlace left → IsPlace top →
+    s (to_z w64 (of_z w64 left) +ℤ pos i) (to_z w64 (of_z w64 top) +ℤ pos j) ≡ s (left +ℤ pos i) (top +ℤ pos j)
+moved_sample s left top i j p q = same_place s _ _ _ _ (ap (λ z. z +ℤ pos i) (place_back left p)) (ap (λ z. z +ℤ pos j) (place_back top q))
+
+-- the padded rows from the place (left, top) of the plane on, which is in column `column` and row `row` of them
+module _ (pad : ℕ) (p : Plane) (rows : List ℕ) (all : IsSurrounded pad p rows) (left top : ℤ) (column row columns count : ℕ) (place_left : IsPlace left) (place_top : IsPlace top)
+    (is_column : pos column ≡ to_z w64 (of_z w64 left) +ℤ pos pad) (is_row : pos row ≡ to_z w64 (of_z w64 top) +ℤ pos pad)
+    (within : column + columns ≤ p.width + 2 * pad) (below : row + count ≤ p.height + 2 * pad) where
+  abbrev stride : ℕ
+  stride = p.width + 2 * pad
+
+  pub row_is_there : (j : ℕ) → j < count → row * stride + column + j * stride + columns ≤ length rows
+  row_is_there j less =
+      omega (arith, all.long, row_fits (row + j) stride (p.height + 2 * pad) stride (omega arith) (omega arith), add-mul row j stride)
+
+  pub sample_there : (i j : ℕ) → i < columns → j < count →
+      slice_index rows (row * stride + column + j * stride + i) ≡ clamped p.width p.height (sample p) (left +ℤ pos i) (top +ℤ pos j)
+  sample_there i j less under =
+      let l = place_back left place_left in
+      let t = place_back top place_top in
+      ap (λ k. slice_index rows k) (omega (arith, add-mul row j stride))
+      ∙ all.near (column + i) (row + j) (omega arith) (omega arith)
+      ∙ same_place (clamped p.width p.height (sample p)) (pos (column + i) -ℤ pos pad) (pos (row + j) -ℤ pos pad) (left +ℤ pos i) (top +ℤ pos j) (omega (arith, ints)) (omega (arith, ints))

@@ -1,0 +1,13 @@
+use Rattle.std.proofs.Common.{ℕ, ◌≡◌, ◌+◌, ◌-◌, ◌*◌, ◌<◌, arith, ap, sym, ◌∙◌}
+use Rattle.std.proofs.Math.Nat.{add-mul}
+use Rattle.avc_inter.proofs.bilinear.BilinearWeights.new.Goals as goal
+
+all_shares : (r d : ℕ) → r < 8 → d < 8 → (8 - r) * (8 - d) + r * (8 - d) + (8 - r) * d + r * d ≡ 64
+all_shares r d p q =
+    let eight : 8 - r + r ≡ 8 = omega arith in
+    let upper : (8 - r) * (8 - d) + r * (8 - d) ≡ 8 * (8 - d) = sym (add-mul (8 - r) r (8 - d)) ∙ ap (λ n. n * (8 - d)) eight in
+    let lower : (8 - r) * d + r * d ≡ 8 * d = sym (add-mul (8 - r) r d) ∙ ap (λ n. n * d) eight in
+    omega (arith, upper, lower)
+
+pub returns-clause-whole : goal.returns-clause-whole
+returns-clause-whole c = record { whole = all_shares c.from-right.result c.from-down.result (omega arith) (omega arith) }

@@ -1,0 +1,7 @@
+use Rattle.std.proofs.Common.{◌≡◌, ℕ, ◌+◌, ◌*◌, ◌<◌, slice_index, pos, ◌+ℤ◌}
+use Rattle.avc_plane.specs.Plane.{sample, clamped}
+use Rattle.avc_inter.proofs.patch.fetch_held.Given as goal
+
+abbrev pub invariant-loop-j : goal.invariant-loop-j
+invariant-loop-j g l = (i j : ℕ) → i < l.columns → j < l.j →
+    slice_index l.patch (j * l.columns + i) ≡ clamped l.plane.width l.plane.height (sample l.plane) (l.fn.left +ℤ pos i) (l.fn.top +ℤ pos j)

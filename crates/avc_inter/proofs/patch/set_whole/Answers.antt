@@ -1,0 +1,30 @@
+use Rattle.std.proofs.Common.{◌≡◌, ℕ, List, to_z, of_z, w64, arith, ◌∙◌}
+use Rattle.avc_plane.specs.Plane.{sample, clamped}
+use Rattle.avc_plane.specs.Padded.{IsSurrounded}
+use Rattle.avc_inter.specs.Patch.{IsThere}
+use Rattle.avc_inter.proofs.Places.{at_some}
+use Rattle.avc_inter.proofs.Predicted.{back_moved, there_is, moved_is}
+use Rattle.avc_inter.proofs.patch.set_whole.Goals as goal
+
+pub set_rows-requires : goal.set_rows-requires
+set_rows-requires g c =
+    let pad = g.row.PAD in
+    let p = c.args.plane.now in
+    let there = at_some _ (λ at. (rows : List ℕ) → IsSurrounded pad p rows → IsThere (clamped p.width p.height (sample p)) (to_z w64 (of_z w64 c.args.left)) (to_z w64 (of_z w64 c.args.top)) g.row.W g.row.H at.first at.stride rows)
+    c.in-Some.at c.in-Some.is c.find_within.ensures c.padded_rows.result.now c.padded_rows.ensures in
+    (omega arith, there.sixteen)
+
+pub returns-in-Some : goal.returns-in-Some
+returns-in-Some g c =
+    let pad = g.row.PAD in
+    let p = c.args.plane.now in
+    let there = at_some _ (λ at. (rows : List ℕ) → IsSurrounded pad p rows → IsThere (clamped p.width p.height (sample p)) (to_z w64 (of_z w64 c.args.left)) (to_z w64 (of_z w64 c.args.top)) g.row.W g.row.H at.first at.stride rows)
+    c.in-Some.at c.in-Some.is c.find_within.ensures c.padded_rows.result.now c.padded_rows.ensures in
+    c.set_rows.ensures
+    ∙ there_is (clamped p.width p.height (sample p)) c.args.left _ c.args.top _ g.row.W g.row.H _ _ c.padded_rows.result.now there (back_moved c.args.left c.requires.left) (back_moved c.args.top c.requires.top)
+
+pub returns-in-None : goal.returns-in-None
+returns-in-None g c =
+    let p = c.args.plane.now in
+    c.set_held.ensures
+    ∙ moved_is (clamped p.width p.height (sample p)) c.args.left (to_z w64 (of_z w64 c.args.left)) c.args.top (to_z w64 (of_z w64 c.args.top)) g.row.W g.row.H (back_moved c.args.left c.requires.left) (back_moved c.args.top c.requires.top)

@@ -1,0 +1,101 @@
+-- The six-tap filter over samples that lie in a list, each a step behind the last.
+use Rattle.std.specs.Prelude.{ℕ, zero, suc, ◌+◌, ◌*◌, ◌/◌, ◌<◌, ◌≤◌, ◌≡◌, ℤ, pos, ◌+ℤ◌, ◌-ℤ◌, List, length, slice_index, slice_index_or}
+use Rattle.avc_types.specs.Arithmetic.{◌>>ℤ◌, clip1, mean_of_two}
+use Rattle.avc_inter.specs.Luma.{Wide, six_taps}
+use Rattle.avc_inter.specs.declared.bilinear.BilinearWeights.{BilinearWeights}
+
+abbrev pub taps_along : List ℕ → (at step : ℕ) → ℤ
+taps_along p at step = six_taps (pos (slice_index p at)) (pos (slice_index p (at + step))) (pos (slice_index p (at + 2 * step)))
+    (pos (slice_index p (at + 3 * step))) (pos (slice_index p (at + 4 * step))) (pos (slice_index p (at + 5 * step)))
+
+abbrev pub half_along : List ℕ → (at step : ℕ) → ℕ
+half_along p at step = clip1 (taps_along p at step +ℤ pos 16 >>ℤ 5)
+
+-- over unrounded sums
+abbrev pub sums_along : List ℤ → (at step : ℕ) → ℤ
+sums_along m at step = six_taps (slice_index_or m at (pos 0)) (slice_index_or m (at + step) (pos 0)) (slice_index_or m (at + 2 * step) (pos 0))
+    (slice_index_or m (at + 3 * step) (pos 0)) (slice_index_or m (at + 4 * step) (pos 0)) (slice_index_or m (at + 5 * step) (pos 0))
+
+abbrev pub centre_along : List ℤ → (at step : ℕ) → ℕ
+centre_along m at step = clip1 (sums_along m at step +ℤ pos 512 >>ℤ 10)
+
+-- A block in a list of samples with S of them in a row, which has two columns and two rows of samples more in front and three behind.
+-- k is the place of a sample's two rows and columns before it.
+
+-- the sample itself, that right of it, and that below it
+abbrev pub whole : List ℕ → (stride k : ℕ) → ℕ
+whole p stride k = slice_index p (2 * stride + 2 + k)
+
+abbrev pub whole_right : List ℕ → (stride k : ℕ) → ℕ
+whole_right p stride k = slice_index p (2 * stride + 3 + k)
+
+abbrev pub whole_below : List ℕ → (stride k : ℕ) → ℕ
+whole_below p stride k = slice_index p (3 * stride + 2 + k)
+
+-- the half samples
+abbrev pub b_of : List ℕ → (stride k : ℕ) → ℕ
+b_of p stride k = half_along p (2 * stride + k) 1
+
+abbrev pub s_of : List ℕ → (stride k : ℕ) → ℕ
+s_of p stride k = half_along p (3 * stride + k) 1
+
+abbrev pub h_of : List ℕ → (stride k : ℕ) → ℕ
+h_of p stride k = half_along p (2 + k) stride
+
+abbrev pub m_of : List ℕ → (stride k : ℕ) → ℕ
+m_of p stride k = half_along p (3 + k) stride
+
+abbrev pub j_of : List ℕ → (stride k : ℕ) → ℕ
+j_of p stride k = clip1 (six_taps (taps_along p k 1) (taps_along p (k + stride) 1) (taps_along p (k + 2 * stride) 1)
+    (taps_along p (k + 3 * stride) 1) (taps_along p (k + 4 * stride) 1) (taps_along p (k + 5 * stride) 1) +ℤ pos 512 >>ℤ 10)
+
+-- the sixteen positions by the fraction of x, for each fraction of y, as in `quarter`
+abbrev pub row_0_of : List ℕ → (stride k fx : ℕ) → ℕ
+row_0_of p stride k zero = whole p stride k
+row_0_of p stride k (suc zero) = mean_of_two (whole p stride k) (b_of p stride k)
+row_0_of p stride k (suc (suc zero)) = b_of p stride k
+row_0_of p stride k (suc (suc (suc f))) = mean_of_two (whole_right p stride k) (b_of p stride k)
+
+abbrev pub row_1_of : List ℕ → (stride k fx : ℕ) → ℕ
+row_1_of p stride k zero = mean_of_two (whole p stride k) (h_of p stride k)
+row_1_of p stride k (suc zero) = mean_of_two (b_of p stride k) (h_of p stride k)
+row_1_of p stride k (suc (suc zero)) = mean_of_two (b_of p stride k) (j_of p stride k)
+row_1_of p stride k (suc (suc (suc f))) = mean_of_two (b_of p stride k) (m_of p stride k)
+
+abbrev pub row_2_of : List ℕ → (stride k fx : ℕ) → ℕ
+row_2_of p stride k zero = h_of p stride k
+row_2_of p stride k (suc zero) = mean_of_two (h_of p stride k) (j_of p stride k)
+row_2_of p stride k (suc (suc zero)) = j_of p stride k
+row_2_of p stride k (suc (suc (suc f))) = mean_of_two (j_of p stride k) (m_of p stride k)
+
+abbrev pub row_3_of : List ℕ → (stride k fx : ℕ) → ℕ
+row_3_of p stride k zero = mean_of_two (whole_below p stride k) (h_of p stride k)
+row_3_of p stride k (suc zero) = mean_of_two (h_of p stride k) (s_of p stride k)
+row_3_of p stride k (suc (suc zero)) = mean_of_two (j_of p stride k) (s_of p stride k)
+row_3_of p stride k (suc (suc (suc f))) = mean_of_two (m_of p stride k) (s_of p stride k)
+
+abbrev pub quarter_of : List ℕ → (stride k fx fy : ℕ) → ℕ
+quarter_of p stride k fx zero = row_0_of p stride k fx
+quarter_of p stride k fx (suc zero) = row_1_of p stride k fx
+quarter_of p stride k fx (suc (suc zero)) = row_2_of p stride k fx
+quarter_of p stride k fx (suc (suc (suc f))) = row_3_of p stride k fx
+
+-- p shows the samples of the map s in so many columns from `left` on and rows from `top` on, row by row
+pub record IsPatch (s : Wide) (left top : ℤ) (columns rows : ℕ) (p : List ℕ) : Type 0 where
+  pub at : (i j : ℕ) → i < columns → j < rows → slice_index p (j * columns + i) ≡ s (left +ℤ pos i) (top +ℤ pos j)
+
+-- the samples of the map s in so many columns and rows from `left` and `top` on are in rows that lie `stride` apart, from place `first` on;
+-- each of them, and sixteen from its first one on, is there
+pub record IsThere (s : Wide) (left top : ℤ) (columns count first stride : ℕ) (rows : List ℕ) : Type 0 where
+  pub row : (j : ℕ) → j < count → first + j * stride + columns ≤ length rows
+  pub sixteen : (j : ℕ) → j < count → first + j * stride + 16 ≤ length rows
+  pub at : (i j : ℕ) → i < columns → j < count → slice_index rows (first + j * stride + i) ≡ s (left +ℤ pos i) (top +ℤ pos j)
+
+-- by four weights, the mean of a sample, that right of it and the two below them
+abbrev pub blend_of : BilinearWeights → List ℕ → (stride k : ℕ) → ℕ
+blend_of w p stride k =
+    (w.here * slice_index p k + w.right * slice_index p (k + 1) + w.below * slice_index p (k + stride) + w.across * slice_index p (k + stride + 1) + 32) / 64
+
+-- the weights are 64 together
+pub record IsWhole (w : BilinearWeights) : Type 0 where
+  pub whole : w.here + w.right + w.below + w.across ≡ 64

@@ -1,0 +1,214 @@
+//! Samples of a reference plane around a block, fetched into one list.
+
+ghost use Rattle.std.specs.Prelude.{◌≡◌, ℕ, ℤ, ◌+◌, ◌*◌, ◌<◌, ◌≤◌, ◌^◌, pos, neg_ℤ, nat_abs, ◌+ℤ◌, ◌-ℤ◌, ◌≤ℤ◌, IfSome, List, length, slice_index};
+ghost use Rattle.avc_types.specs.Arithmetic.{clip3};
+ghost use Rattle.avc_plane.specs.Plane.{sample, clamped};
+ghost use Rattle.avc_types.specs.Blocks.{block_of};
+ghost use Rattle.avc_inter.specs.Bounds.{IsMoved, IsPlace};
+ghost use Rattle.avc_plane.specs.Padded.{IsSurrounded};
+ghost use Rattle.avc_inter.specs.Patch.{IsPatch, IsThere};
+
+use avc_plane::PaddedPlane;
+use avc_types::{Block, copy_rows};
+
+/// Where in a padded size `count` samples from this place of the plane on begin, if they are all there.
+#[inline(always)]
+fn begin_within(place: i64, count: usize, size: usize, pad: usize) -> Option<usize>
+    requires place { IsPlace place }
+    requires few { count < 2 ^ 16 }
+    requires small { size + 2 * pad < 2 ^ 31 }
+    ensures { IfSome result (λ first. (pos first ≡ place +ℤ pos pad) × (first + count ≤ size + 2 * pad)) }
+{
+    let first = place + pad as i64;
+    if first < 0 {
+        return None;
+    }
+    let first = first as usize;
+    if first + count > size + 2 * pad {
+        return None;
+    }
+    Some(first)
+}
+
+fn at_least_sixteen(count: usize) -> usize
+    requires { count < 2 ^ 16 }
+    ensures more { count ≤ result }
+    ensures sixteen { 16 ≤ result }
+    ensures few { result < 2 ^ 16 }
+{
+    if count < 16 { 16 } else { count }
+}
+
+/// A coordinate held inside a size.
+fn held(place: i64, size: usize) -> usize
+    requires some { 0 < size }
+    requires small { size < 2 ^ 31 }
+    ensures value { result ≡ nat_abs (clip3 (pos 0) (pos size -ℤ pos 1) place) }
+    ensures inside { result < size }
+{
+    if place < 0 {
+        0
+    } else if place as usize >= size {
+        size - 1
+    } else {
+        place as usize
+    }
+}
+
+/// Fetches a row, each column held inside the plane.
+fn fetch_held_row<const PAD: usize>(
+    plane: &PaddedPlane<PAD>,
+    left: i64,
+    row: usize,
+    columns: usize,
+    patch: &mut [u8],
+    to: usize,
+)
+    requires left { IsPlace left }
+    requires row { row < plane.now.height }
+    requires few { columns < 2 ^ 16 }
+    requires target { to + columns ≤ length patch.old }
+    ensures before { (k : ℕ) → k < to → slice_index patch.new k ≡ slice_index patch.old k }
+    ensures here { (i : ℕ) → i < columns →
+        slice_index patch.new (to + i) ≡ sample plane.now (nat_abs (clip3 (pos 0) (pos plane.now.width -ℤ pos 1) (left +ℤ pos i))) row }
+{
+    let width = plane.width();
+    for i in 0..columns {
+        patch[to + i] = plane.get(held(left + i as i64, width), row);
+    }
+}
+
+/// Fetches rows, each coordinate held inside the plane.
+fn fetch_held<const PAD: usize>(
+    plane: &PaddedPlane<PAD>,
+    left: i64,
+    top: i64,
+    columns: usize,
+    count: usize,
+    patch: &mut [u8],
+)
+    requires left { IsPlace left }
+    requires top { IsPlace top }
+    requires narrow { columns < 2 ^ 16 }
+    requires low { count < 2 ^ 16 }
+    requires target { count * columns ≤ length patch.old }
+    ensures { IsPatch (clamped plane.now.width plane.now.height (sample plane.now)) left top columns count patch.new }
+{
+    let height = plane.height();
+    for j in 0..count {
+        let row = held(top + j as i64, height);
+        fetch_held_row(plane, left, row, columns, patch, j * columns);
+    }
+}
+
+/// Where a patch lies in the padded rows of its plane.
+#[derive(Clone, Copy)]
+struct Within {
+    /// The place of its first sample.
+    first: usize,
+    /// From a row to the next.
+    stride: usize,
+}
+
+/// Where the padded rows of a plane have the samples in `columns` columns from `left` on, or sixteen, and `count` rows from `top` on; None
+/// where they don't have them all.
+#[inline(always)]
+fn find_within<const PAD: usize>(
+    plane: &PaddedPlane<PAD>,
+    left: i64,
+    top: i64,
+    columns: usize,
+    count: usize,
+) -> Option<Within>
+    requires left { IsPlace left }
+    requires top { IsPlace top }
+    requires narrow { columns < 2 ^ 16 }
+    requires low { count < 2 ^ 16 }
+    ensures { IfSome result (λ at. (rows : List ℕ) → IsSurrounded PAD plane.now rows →
+        IsThere (clamped plane.now.width plane.now.height (sample plane.now)) left top columns count at.first at.stride rows) }
+{
+    let width = plane.width();
+    let height = plane.height();
+    let wide = at_least_sixteen(columns);
+    let first_column = begin_within(left, wide, width, PAD);
+    let first_row = begin_within(top, count, height, PAD);
+    match (first_column, first_row) {
+        (Some(column), Some(row)) => {
+            let stride = width + 2 * PAD;
+            Some(Within {
+                first: row * stride + column,
+                stride,
+            })
+        }
+        _ => None,
+    }
+}
+
+/// Fetches the samples in `columns` columns from `left` on and `count` rows from `top` on. Where they lie inside the padding, whole
+/// rows are copied.
+#[inline(always)]
+pub fn fetch<const PAD: usize>(
+    plane: &PaddedPlane<PAD>,
+    left: i64,
+    top: i64,
+    columns: usize,
+    count: usize,
+    patch: &mut [u8],
+)
+    requires left { IsPlace left }
+    requires top { IsPlace top }
+    requires narrow { columns ≤ 32 }
+    requires low { count < 2 ^ 16 }
+    requires target { count * columns + 16 ≤ length patch.old }
+    ensures { IsPatch (clamped plane.now.width plane.now.height (sample plane.now)) left top columns count patch.new }
+{
+    match find_within(plane, left, top, columns, count) {
+        Some(at) => copy_rows(
+            plane.padded_rows(),
+            at.first,
+            at.stride,
+            columns,
+            count,
+            patch,
+        ),
+        None => fetch_held(plane, left, top, columns, count, patch),
+    }
+}
+
+/// Gives a block the whole samples from `left` and `top` on, each coordinate held inside the plane.
+fn set_held<const W: usize, const H: usize, const PAD: usize>(
+    plane: &PaddedPlane<PAD>,
+    left: i64,
+    top: i64,
+    block: &mut Block<W, H>,
+)
+    requires columns { W ≤ 16 }
+    requires rows { H ≤ 16 }
+    requires left { IsMoved left }
+    requires top { IsMoved top }
+    ensures { block.new ≡ block_of W H (λ i j. clamped plane.now.width plane.now.height (sample plane.now) (left +ℤ pos i) (top +ℤ pos j)) }
+{
+    let mut patch = [0; 272];
+    fetch_held(plane, left, top, W, H, &mut patch);
+    block.set_rows(&patch, 0, W);
+}
+
+/// Gives a block the whole samples from `left` and `top` on.
+#[inline(always)]
+pub fn set_whole<const W: usize, const H: usize, const PAD: usize>(
+    plane: &PaddedPlane<PAD>,
+    left: i64,
+    top: i64,
+    block: &mut Block<W, H>,
+)
+    requires columns { W ≤ 16 }
+    requires rows { H ≤ 16 }
+    requires left { IsMoved left }
+    requires top { IsMoved top }
+    ensures { block.new ≡ block_of W H (λ i j. clamped plane.now.width plane.now.height (sample plane.now) (left +ℤ pos i) (top +ℤ pos j)) }
+{
+    match find_within(plane, left, top, W, H) {
+        Some(at) => block.set_rows(plane.padded_rows(), at.first, at.stride),
+        None => set_held(plane, left, top, block),
+    }
+}

@@ -1,0 +1,31 @@
+use Rattle.std.proofs.Common.{ℕ, ◌≡◌, ◌+◌, ◌-◌, ◌*◌, ◌∙◌, ◌++◌, List, length, take, drop, slice_range, arith, ap, sym, subst, mul_comm}
+use Rattle.std.proofs.Math.Seq.{take-add, take-length}
+use Rattle.avc_plane.specs.Plane.{Plane}
+use Rattle.avc_plane.specs.Padded.{stored_place}
+use Rattle.std.specs.Prelude.{slice_index}
+use Rattle.avc_plane.specs.Laws.{length-plane_of}
+use Rattle.avc_plane.proofs.padded.PaddedPlane.to_bytes.Goals as goal
+
+-- one row more
+row_more : (samples bytes row : List ℕ) (y width : ℕ) → bytes ≡ take (y * width) samples → row ≡ slice_range samples (y * width) (y * width + width) → bytes ++ row ≡ take ((y + 1) * width) samples
+row_more samples bytes row y width so_far here =
+    ap (λ xs. xs ++ row) so_far
+    ∙ ap (λ xs. take (y * width) samples ++ xs) here
+    ∙ ap (λ n. take (y * width) samples ++ take n (drop (y * width) samples)) (omega arith)
+    ∙ sym (take-add (y * width) width samples)
+    ∙ ap (λ n. take n samples) (omega arith)
+
+all_rows : (p : Plane) (bytes : List ℕ) (y : ℕ) → length p.samples ≡ p.width * p.height → y ≡ p.height → bytes ≡ take (y * p.width) p.samples → bytes ≡ p.samples
+all_rows p bytes y long last so_far =
+    so_far ∙ ap (λ n. take n p.samples) (ap (λ v. v * p.width) last ∙ mul_comm p.height p.width ∙ sym long) ∙ take-length p.samples
+
+pub loop-y-preserved : goal.loop-y-preserved
+loop-y-preserved g c = c.in_ok-extend_from_slice.ensures.items ∙ row_more c.args.self.now.samples c.loop-y.bytes.items c.row.result.now c.loop-y.y c.args.self.now.width c.loop-y.invariant c.row.ensures
+
+pub returns : goal.returns
+returns g c =
+    let a = c.self.inside in
+    let long : length c.args.self.now.samples ≡ c.args.self.now.width * c.args.self.now.height =
+    subst (λ (p : Plane). length p.samples ≡ p.width * p.height) c.self.view_is (length-plane_of a.width a.height (λ x y. slice_index a.stored.items (stored_place g.row.PAD a.width x y))) in
+    let rows : a.height ≡ c.args.self.now.height = ap (λ (p : Plane). p.height) c.self.view_is in
+    c.from_vec.ensures ∙ all_rows c.args.self.now c.loop-y.bytes.items c.loop-y.y long (omega arith) c.loop-y.invariant
