@@ -1,2 +1,22 @@
 //! The deblocking filter (8.7).
 #![tactic(auto)]
+
+mod block;
+mod block_strength;
+mod chroma_edge;
+mod edge;
+mod edge_strengths;
+mod facts;
+mod filter;
+pub mod laws;
+mod line;
+mod lines;
+mod macroblock;
+mod pair;
+mod planes_edge;
+mod strengths;
+mod thresholds;
+
+pub use block_strength::strength;
+pub use facts::MbFacts;
+pub use filter::{picture, row};

@@ -1,0 +1,34 @@
+-- A line at strength 4 from its six new samples.
+use Rattle.std.proofs.Common.{◌≡◌, ℕ, Bool, true, false, nat_lt, ◌&&◌, if◌then◌else◌, refl, ap, ◌∙◌, sym}
+use Rattle.avc_types.specs.Arithmetic.{distance}
+use Rattle.avc_deblock.specs.Line.{Setting, Line, mirrored, filtered, filtered_strongly, strong_p0, strong_p1, strong_p2}
+use Rattle.avc_deblock.specs.Rows.{line, IsStrong, strong_at}
+
+-- the new samples, from whether the line is filtered
+pub record IsMoved (s : Setting) (l : Line) (on : Bool) (n2 n1 n0 m0 m1 m2 : ℕ) : Type 0 where
+  pub p0_is : n0 ≡ (if on then strong_p0 s l else l.p0)
+  pub p1_is : n1 ≡ (if on then strong_p1 s l else l.p1)
+  pub p2_is : n2 ≡ (if on then strong_p2 s l else l.p2)
+  pub q0_is : m0 ≡ (if on then strong_p0 s (mirrored l) else l.q0)
+  pub q1_is : m1 ≡ (if on then strong_p1 s (mirrored l) else l.q1)
+  pub q2_is : m2 ≡ (if on then strong_p2 s (mirrored l) else l.q2)
+
+moved : (s : Setting) (l : Line) (on : Bool) (n2 n1 n0 m0 m1 m2 : ℕ) → IsMoved s l on n2 n1 n0 m0 m1 m2 →
+    (if on then filtered_strongly s l else l) ≡ line l.p3 n2 n1 n0 m0 m1 m2 l.q3
+moved s l true n2 n1 n0 m0 m1 m2 h = rw (h.p0_is, h.p1_is, h.p2_is, h.q0_is, h.q1_is, h.q2_is) refl
+moved s l false n2 n1 n0 m0 m1 m2 h = rw (h.p0_is, h.p1_is, h.p2_is, h.q0_is, h.q1_is, h.q2_is) refl
+
+abbrev any_at : (f : Bool) (n a b t : ℕ) → Setting
+any_at f n a b t = record { is_luma = f; strength = n; alpha = a; beta = b; tc0 = t }
+
+setting_is : (s : Setting) (alpha beta : ℕ) → IsStrong s alpha beta → s ≡ strong_at alpha beta s.tc0
+setting_is s alpha beta w =
+    rw (w.alpha_is, w.beta_is) (ap (λ (f : Bool). any_at f s.strength s.alpha s.beta s.tc0) w.luma ∙ ap (λ (n : ℕ). any_at true n s.alpha s.beta s.tc0) w.strong)
+
+pub strong_is : (s : Setting) (alpha beta : ℕ) (l : Line) (on : Bool) (n2 n1 n0 m0 m1 m2 : ℕ) → IsStrong s alpha beta →
+    on ≡ (nat_lt (distance l.p0 l.q0) alpha && nat_lt (distance l.p1 l.p0) beta && nat_lt (distance l.q1 l.q0) beta) →
+    IsMoved (strong_at alpha beta s.tc0) l on n2 n1 n0 m0 m1 m2 → filtered s l ≡ line l.p3 n2 n1 n0 m0 m1 m2 l.q3
+strong_is s alpha beta l on n2 n1 n0 m0 m1 m2 w is h =
+    ap (λ (t : Setting). filtered t l) (setting_is s alpha beta w)
+    ∙ ap (λ (f : Bool). if f then filtered_strongly (strong_at alpha beta s.tc0) l else l) (sym is)
+    ∙ moved (strong_at alpha beta s.tc0) l on n2 n1 n0 m0 m1 m2 h

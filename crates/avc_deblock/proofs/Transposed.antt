@@ -1,0 +1,25 @@
+-- Four riffles of sixteen rows of eight samples make eight rows of sixteen, and three more make them sixteen rows of eight again.
+use Rattle.std.proofs.Common.{◌≡◌, ℕ, zero, suc, ◌+◌, ◌*◌, ◌/◌, ◌%◌, ◌<◌, List, slice_index, arith, ap, ◌∙◌, sym}
+use Rattle.avc_deblock.specs.Rows.{IsRiffled, IsTransposed}
+
+riffle_bit : (t u : List ℕ) (k b : ℕ) → IsRiffled t u → k < 64 → b < 2 → slice_index u (2 * k + b) ≡ slice_index t (64 * b + k)
+riffle_bit t u k zero h low bit = ap (slice_index u) (omega arith) ∙ h.even k low ∙ ap (slice_index t) (omega arith)
+riffle_bit t u k (suc zero) h low bit = h.odd k low
+riffle_bit t u k (suc (suc b)) h low bit = absurd (omega arith)
+
+-- where the sample at j comes from
+back : (t u : List ℕ) (j k b m : ℕ) → IsRiffled t u → k < 64 → b < 2 → j ≡ 2 * k + b → m ≡ 64 * b + k → slice_index u j ≡ slice_index t m
+back t u j k b m h low bit e f = ap (slice_index u) e ∙ riffle_bit t u k b h low bit ∙ ap (slice_index t) (sym f)
+
+pub four_riffles : (t a b c u : List ℕ) → IsRiffled t a → IsRiffled a b → IsRiffled b c → IsRiffled c u → IsTransposed t u
+four_riffles t a b c u h1 h2 h3 h4 row column r_low c_low =
+    back c u (16 * column + row) (8 * column + row / 2) (row % 2) (64 * (row % 2) + (8 * column + row / 2)) h4 (omega arith) (omega arith) (omega arith) (omega arith)
+    ∙ back b c (64 * (row % 2) + (8 * column + row / 2)) (32 * (row % 2) + 4 * column + row / 4) (row / 2 % 2) (64 * (row / 2 % 2) + (32 * (row % 2) + 4 * column + row / 4)) h3 (omega arith) (omega arith) (omega arith) (omega arith)
+    ∙ back a b (64 * (row / 2 % 2) + (32 * (row % 2) + 4 * column + row / 4)) (32 * (row / 2 % 2) + 16 * (row % 2) + 2 * column + row / 8) (row / 4 % 2) (64 * (row / 4 % 2) + (32 * (row / 2 % 2) + 16 * (row % 2) + 2 * column + row / 8)) h2 (omega arith) (omega arith) (omega arith) (omega arith)
+    ∙ back t a (64 * (row / 4 % 2) + (32 * (row / 2 % 2) + 16 * (row % 2) + 2 * column + row / 8)) (32 * (row / 4 % 2) + 16 * (row / 2 % 2) + 8 * (row % 2) + column) (row / 8) (8 * row + column) h1 (omega arith) (omega arith) (omega arith) (omega arith)
+
+pub three_riffles : (t a b u : List ℕ) → IsRiffled t a → IsRiffled a b → IsRiffled b u → IsTransposed u t
+three_riffles t a b u h1 h2 h3 row column r_low c_low = sym
+    (back b u (8 * row + column) (4 * row + column / 2) (column % 2) (64 * (column % 2) + (4 * row + column / 2)) h3 (omega arith) (omega arith) (omega arith) (omega arith)
+    ∙ back a b (64 * (column % 2) + (4 * row + column / 2)) (32 * (column % 2) + 2 * row + column / 4) (column / 2 % 2) (64 * (column / 2 % 2) + (32 * (column % 2) + 2 * row + column / 4)) h2 (omega arith) (omega arith) (omega arith) (omega arith)
+    ∙ back t a (64 * (column / 2 % 2) + (32 * (column % 2) + 2 * row + column / 4)) (32 * (column / 2 % 2) + 16 * (column % 2) + row) (column / 4) (16 * column + row) h1 (omega arith) (omega arith) (omega arith) (omega arith))

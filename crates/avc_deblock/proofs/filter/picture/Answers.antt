@@ -1,0 +1,44 @@
+use Rattle.std.proofs.Common.{◌≡◌, ◌∙◌, ℕ, ◌+◌, ◌-◌, ◌*◌, length, w8, arith, refl, sym, ap, subst}
+use Rattle.std.specs.List.{range_with_len, flat_map}
+use Rattle.std.proofs.lemmas.Int.{to_z-of_z}
+use Rattle.avc_plane.specs.Frames.{planes_of}
+use Rattle.avc_deblock.specs.Edges.{all_filtered, mb_lines, row_lines}
+use Rattle.avc_deblock.specs.Facts.{HaveFacts}
+use Rattle.avc_deblock.proofs.Macroblocks.{one_row_more, part_facts, rows_are_all}
+use Rattle.avc_deblock.proofs.filter.picture.Goals as goal
+
+pub row-requires : goal.row-requires
+row-requires g c =
+    let y = c.loop-y.y in (
+      omega arith,
+      (
+        c.row_of-above.ensures.long ∙ sym c.row_of.ensures.long,
+        λ column low. c.loop-y.invariant.room column y (c.requires.room column y (omega (arith, low, c.row_of.ensures.long)) c.loop-y-test.true),
+      ),
+    )
+
+pub loop-y-preserved : goal.loop-y-preserved
+loop-y-preserved g c = record {
+  room = λ column row h. c.row.ensures.room column row (c.loop-y.invariant.room column row h);
+  lines = λ coded motion names width offset have.
+      let y = c.loop-y.y in
+      let facts = c.args.facts.now in
+      let w = c.args.width in
+      one_row_more coded motion y (y + 1) (planes_of c.args.planes.now) (planes_of c.loop-y.planes) (planes_of c.row.new.planes) refl
+      (c.loop-y.invariant.lines coded motion names width offset have)
+      (c.row.ensures.lines coded motion names (width ∙ sym c.row_of.ensures.long) offset
+      (part_facts coded motion names facts c.row_of.result.now w y c.args.height width c.requires.all c.loop-y-test.true c.row_of.ensures.long c.row_of.ensures.value have)
+      (λ some.
+      let before : c.max.result - 1 ≡ y - 1 = omega (arith, c.max.ensures, some) in
+      subst (λ (r : ℕ). HaveFacts coded motion names (r * coded.width) c.row_of-above.result.now) before
+      (part_facts coded motion names facts c.row_of-above.result.now w (c.max.result - 1) c.args.height width c.requires.all (omega (arith, before, c.loop-y-test.true)) c.row_of-above.ensures.long c.row_of-above.ensures.value have)));
+}
+
+pub returns-clause-lines : goal.returns-clause-lines
+returns-clause-lines g c coded motion names width all offset have =
+    let s = planes_of c.args.planes.now in
+    let done : c.loop-y.y ≡ c.args.height = omega arith in
+    let many : c.args.height * coded.width ≡ length coded.mbs = ap (λ (n : ℕ). c.args.height * n) width ∙ sym all in
+    c.loop-y.invariant.lines coded motion names width (offset ∙ sym (to_z-of_z w8 c.args.chroma_qp_index_offset c.ranges.chroma_qp_index_offset)) have
+    ∙ ap (λ (k : ℕ). all_filtered coded motion s (flat_map (row_lines coded) (range_with_len 0 k))) done
+    ∙ ap (all_filtered coded motion s) (rows_are_all coded c.args.height ∙ ap (λ (n : ℕ). flat_map (mb_lines coded) (range_with_len 0 n)) many)

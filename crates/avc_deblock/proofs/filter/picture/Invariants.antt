@@ -1,0 +1,16 @@
+use Rattle.std.proofs.Common.{◌≡◌, ℕ, List}
+use Rattle.std.specs.List.{range_with_len, flat_map}
+use Rattle.avc_types.specs.Pictures.{Coded}
+use Rattle.avc_neigh.specs.declared.facts.Motion.{Motion}
+use Rattle.avc_plane.specs.Frames.{planes_of}
+use Rattle.avc_deblock.specs.Edges.{all_filtered, row_lines}
+use Rattle.avc_deblock.specs.OneEdge.{HasRoom}
+use Rattle.avc_deblock.specs.Facts.{Names, HaveFacts}
+use Rattle.avc_deblock.proofs.filter.picture.Given as goal
+
+abbrev pub invariant-loop-y : goal.invariant-loop-y
+invariant-loop-y g l = record {
+  room : (column row : ℕ) → HasRoom column row (planes_of l.fn.planes) → HasRoom column row (planes_of l.planes);
+  lines : (c : Coded) (motion : List (List Motion)) (names : Names) → c.width ≡ l.width → c.chroma_qp_index_offset ≡ l.chroma_qp_index_offset →
+      HaveFacts c motion names 0 l.facts → planes_of l.planes ≡ all_filtered c motion (planes_of l.fn.planes) (flat_map (row_lines c) (range_with_len 0 l.y));
+}

@@ -1,0 +1,12 @@
+use Rattle.std.proofs.Common.{arith, rules, ◌∙◌, below_more}
+use Rattle.avc_deblock.proofs.Rows.{inner_before, inner_here}
+use Rattle.avc_deblock.proofs.lines.weak_chroma_lines.Goals as goal
+
+pub loop-i-preserved : goal.loop-i-preserved
+loop-i-preserved c = record {
+  long0 = search rules;
+  far0 = search rules;
+  done = λ p3 p2 q2 q3 s. below_more _ _
+      (λ k h w. c.loop-i.invariant.done p3 p2 q2 q3 s k h w ∙ inner_before p3 p2 q2 q3 _ _ _ _ _ _ c.loop-i.i k h)
+      (λ w. c.weak_chroma_line-nearest.ensures p3 p2 q2 q3 s w ∙ inner_here p3 p2 q2 q3 _ _ _ _ _ _ c.loop-i.i (omega arith) (omega arith));
+}

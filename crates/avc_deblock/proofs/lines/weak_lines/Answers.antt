@@ -1,0 +1,15 @@
+use Rattle.std.proofs.Common.{arith, rules, ◌∙◌, below_more}
+use Rattle.avc_deblock.proofs.Rows.{line_before, line_here}
+use Rattle.avc_deblock.proofs.lines.weak_lines.Goals as goal
+
+pub loop-i-preserved : goal.loop-i-preserved
+loop-i-preserved c = record {
+  long1 = search rules;
+  long0 = search rules;
+  far0 = search rules;
+  far1 = search rules;
+  done = λ p3 q3 s. below_more _ _
+      (λ k h w. c.loop-i.invariant.done p3 q3 s k h w ∙ line_before p3 q3 _ _ _ _ _ _ _ _ _ _ c.loop-i.i k h)
+      (λ w. c.weak_line-inner.ensures p3 q3 s w
+      ∙ line_here p3 q3 _ _ _ _ _ _ _ _ _ _ c.loop-i.i (omega arith) (omega arith) (omega arith) (omega arith));
+}

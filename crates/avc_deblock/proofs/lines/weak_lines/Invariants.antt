@@ -1,0 +1,14 @@
+use Rattle.std.proofs.Common.{◌≡◌, ◌<◌, ℕ, length, slice_index}
+use Rattle.avc_deblock.specs.Line.{Setting, filtered}
+use Rattle.avc_deblock.specs.Rows.{line_within, IsWeak}
+use Rattle.avc_deblock.proofs.lines.weak_lines.Given as goal
+
+abbrev pub invariant-loop-i : goal.invariant-loop-i
+invariant-loop-i l = record {
+  long1 : length l.o1 ≡ 16;
+  long0 : length l.o0 ≡ 16;
+  far0 : length l.r0 ≡ 16;
+  far1 : length l.r1 ≡ 16;
+  done : (p3 q3 : ℕ) (s : Setting) (k : ℕ) → k < l.i → IsWeak s (slice_index l.alpha k) l.beta (slice_index l.tc0 k) →
+      filtered s (line_within p3 q3 l.p2 l.a1 l.a0 l.b0 l.b1 l.q2 k) ≡ line_within p3 q3 l.p2 l.o1 l.o0 l.r0 l.r1 l.q2 k;
+}

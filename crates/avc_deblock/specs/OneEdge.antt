@@ -1,0 +1,110 @@
+-- The samples of one component after the lines of one edge, ITU-T H.264 clause 8.7.1.
+use Rattle.std.specs.Prelude.{ℕ, ◌+◌, ◌*◌, ◌/◌, ◌%◌, ◌==◌, ◌<◌, ◌≤◌, Bool, true, false, if◌then◌else◌, List, [], ◌∷◌, slice_index}
+use Rattle.std.specs.List.{range_with_len}
+use Rattle.avc_plane.specs.Plane.{Plane}
+use Rattle.avc_deblock.specs.Line.{Setting, setting_of}
+use Rattle.avc_types.specs.Pictures.{Coded}
+use Rattle.avc_neigh.specs.declared.facts.Motion.{Motion}
+use Rattle.avc_plane.specs.Planes.{Planes}
+use Rattle.avc_deblock.specs.Edges.{line_filtered, luma_per_sample, setting_at, filters_vertical, filters_horizontal, filters_edge_to}
+use Rattle.avc_deblock.specs.declared.strengths.Strengths.{Strengths}
+use Rattle.avc_deblock.specs.declared.strengths.Strengths.TheVariants.{Four, BelowFour}
+use Rattle.avc_deblock.specs.declared.thresholds.EdgeQp.{EdgeQp}
+
+-- Some lines of an edge, one after another. Line 0 has q0 at (x, y); line i lies i rows below it, or i columns to its right
+-- where the edge is horizontal.
+abbrev pub lines_filtered : (ℕ → Setting) → Bool → (x y : ℕ) → List ℕ → Plane → Plane
+lines_filtered setting true x y [] s = s
+lines_filtered setting true x y (i ∷ is) s =
+    lines_filtered setting true x y is (line_filtered (setting i) true x (y + i) s)
+lines_filtered setting false x y [] s = s
+lines_filtered setting false x y (i ∷ is) s =
+    lines_filtered setting false x y is (line_filtered (setting i) false (x + i) y s)
+
+-- the first n lines, in order
+unfoldable pub edge_filtered : (ℕ → Setting) → Bool → (x y n : ℕ) → Plane → Plane
+edge_filtered setting is_vertical x y n s = lines_filtered setting is_vertical x y (range_with_len 0 n) s
+
+-- ---- the settings of an edge's lines
+
+-- the strength of each quarter of an edge
+abbrev pub strength_along : Strengths → ℕ → ℕ
+strength_along Four k = 4
+strength_along (BelowFour strengths) k = slice_index strengths k
+
+abbrev pub AreStrengths : Strengths → Type 0
+AreStrengths Four = Unit {0}
+AreStrengths (BelowFour strengths) = (k : ℕ) → k < 4 → slice_index strengths k < 4
+
+-- line i of sixteen
+abbrev pub luma_setting : Strengths → EdgeQp → ℕ → Setting
+luma_setting strengths qp i = setting_of true (strength_along strengths (i / 4)) qp.p qp.q qp.offset_a qp.offset_b
+
+-- line i of eight
+abbrev pub chroma_setting : Strengths → EdgeQp → ℕ → Setting
+chroma_setting strengths qp i = setting_of false (strength_along strengths (i / 2)) qp.p qp.q qp.offset_a qp.offset_b
+
+-- ---- the edges of a macroblock
+
+-- The samples of component k after the edge of macroblock a that lies e samples right of its left side, or below its upper side.
+abbrev pub component_edge : Coded → List (List Motion) → (k : ℕ) → Bool → (a e : ℕ) → Plane → Plane
+component_edge c motion k true a e s =
+    let n = 16 / luma_per_sample k in
+    let x = n * (a % c.width) + e in
+    let y = n * (a / c.width) in
+    edge_filtered (λ i. setting_at c motion (record { component = k; is_vertical = true; x = x; y = y + i })) true x y n s
+component_edge c motion k false a e s =
+    let n = 16 / luma_per_sample k in
+    let x = n * (a % c.width) in
+    let y = n * (a / c.width) + e in
+    edge_filtered (λ i. setting_at c motion (record { component = k; is_vertical = false; x = x + i; y = y })) false x y n s
+
+-- The planes after edge n of macroblock a, from the left side or the upper side on, 0 to 3. Chroma has every second of them.
+abbrev pub planes_edge : Coded → List (List Motion) → Bool → (a n : ℕ) → Planes → Planes
+planes_edge c motion v a n s = record {
+  luma = component_edge c motion 0 v a (4 * n) s.luma;
+  cb = if n % 2 == 0 then component_edge c motion 1 v a (2 * n) s.cb else s.cb;
+  cr = if n % 2 == 0 then component_edge c motion 2 v a (2 * n) s.cr else s.cr;
+}
+
+abbrev pub planes_edges : Coded → List (List Motion) → Bool → (outer inner : Bool) → (a : ℕ) → Planes → Planes
+planes_edges c motion v outer inner a s =
+    let t = if outer then planes_edge c motion v a 0 s else s in
+    if inner then planes_edge c motion v a 3 (planes_edge c motion v a 2 (planes_edge c motion v a 1 t)) else t
+
+-- The planes after all edges of macroblock a: vertical ones and then horizontal ones.
+abbrev pub planes_mb : Coded → List (List Motion) → ℕ → Planes → Planes
+planes_mb c motion a s =
+    planes_edges c motion false (filters_horizontal c a 0) (filters_edge_to c a a) a
+    (planes_edges c motion true (filters_vertical c a 0) (filters_edge_to c a a) a s)
+
+-- ---- the same from strengths and QPs
+
+-- a chroma plane after edge n of the macroblock in this column and row of macroblocks: chroma has every second edge
+abbrev pub chroma_of_edge : Bool → (column row n : ℕ) → Strengths → EdgeQp → Plane → Plane
+chroma_of_edge true column row n strengths qp s =
+    if n % 2 == 0 then edge_filtered (chroma_setting strengths qp) true (8 * column + 2 * n) (8 * row) 8 s else s
+chroma_of_edge false column row n strengths qp s =
+    if n % 2 == 0 then edge_filtered (chroma_setting strengths qp) false (8 * column) (8 * row + 2 * n) 8 s else s
+
+-- the planes after that edge
+abbrev pub lines_of_edge : Bool → (column row n : ℕ) → Strengths → (luma chroma : EdgeQp) → Planes → Planes
+lines_of_edge true column row n strengths luma chroma s = record {
+  luma = edge_filtered (luma_setting strengths luma) true (16 * column + 4 * n) (16 * row) 16 s.luma;
+  cb = chroma_of_edge true column row n strengths chroma s.cb;
+  cr = chroma_of_edge true column row n strengths chroma s.cr;
+}
+lines_of_edge false column row n strengths luma chroma s = record {
+  luma = edge_filtered (luma_setting strengths luma) false (16 * column) (16 * row + 4 * n) 16 s.luma;
+  cb = chroma_of_edge false column row n strengths chroma s.cb;
+  cr = chroma_of_edge false column row n strengths chroma s.cr;
+}
+
+-- the planes have the macroblock in this column and row
+pub record HasRoom (column row : ℕ) (s : Planes) : Type 0 where
+  pub luma_columns : 16 * column + 16 ≤ s.luma.width
+  pub luma_rows : 16 * row + 16 ≤ s.luma.height
+  pub cb_columns : 8 * column + 8 ≤ s.cb.width
+  pub cb_rows : 8 * row + 8 ≤ s.cb.height
+  pub cr_columns : 8 * column + 8 ≤ s.cr.width
+  pub cr_rows : 8 * row + 8 ≤ s.cr.height

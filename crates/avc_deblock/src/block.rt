@@ -1,0 +1,149 @@
+ghost use Rattle.std.specs.Prelude.{◌≡◌, ℕ, ◌+◌, ◌/◌, ◌<◌, ◌≤◌, slice_index};
+ghost use Rattle.avc_deblock.specs.Line.{Setting, filtered};
+ghost use Rattle.avc_deblock.specs.Rows.{IsRiffled, IsTransposed, IsRowSet, IsWeak, IsStrong, IsWeakChroma, IsStrongChroma, line_down};
+
+use crate::lines::{strong_chroma_lines, strong_lines, weak_chroma_lines, weak_lines};
+
+/// The halves of a table, one sample of each in turn.
+#[inline(always)]
+pub(crate) fn riffled(t: &[u8; 128]) -> [u8; 128]
+    ensures { IsRiffled t.now result }
+{
+    let mut out = *t;
+    for k in 0..64 {
+        out[2 * k] = t[k];
+        out[2 * k + 1] = t[64 + k];
+    }
+    out
+}
+
+/// Sixteen rows of eight samples as eight rows of sixteen.
+#[inline(always)]
+pub(crate) fn columns(t: &[u8; 128]) -> [u8; 128]
+    ensures { IsTransposed t.now result }
+{
+    let once = riffled(t);
+    let twice = riffled(&once);
+    let thrice = riffled(&twice);
+    riffled(&thrice)
+}
+
+/// Eight rows of sixteen samples as sixteen rows of eight.
+#[inline(always)]
+pub(crate) fn rows_of(t: &[u8; 128]) -> [u8; 128]
+    ensures { IsTransposed result t.now }
+{
+    let once = riffled(t);
+    let twice = riffled(&once);
+    riffled(&twice)
+}
+
+/// Sixteen samples of a table.
+#[inline(always)]
+pub(crate) fn row(t: &[u8; 128], from: usize) -> [u8; 16]
+    requires { from + 16 ≤ 128 }
+    ensures { (k : ℕ) → k < 16 → slice_index result k ≡ slice_index t.now (from + k) }
+{
+    let mut out = [0; 16];
+    for k in 0..16 {
+        out[k] = t[from + k];
+    }
+    out
+}
+
+#[inline(always)]
+pub(crate) fn set_row(t: &mut [u8; 128], from: usize, r: &[u8; 16])
+    requires { from + 16 ≤ 128 }
+    ensures { IsRowSet from r.now t.old t.new }
+{
+    for k in 0..16 {
+        t[from + k] = r[k];
+    }
+}
+
+/// A value for each four lines, at each line.
+#[inline(always)]
+pub(crate) fn spread(v: &[u8; 4]) -> [u8; 16]
+    ensures { (k : ℕ) → k < 16 → slice_index result k ≡ slice_index v.now (k / 4) }
+{
+    let mut out = [0; 16];
+    for k in 0..16 {
+        out[k] = v[k / 4];
+    }
+    out
+}
+
+/// Filters the sixteen lines of luma down a block of eight rows of sixteen samples, at strengths of 0 to 3.
+#[inline(always)]
+pub(crate) fn weak_luma(t: &mut [u8; 128], alpha: &[u8; 16], beta: u8, tc0: &[u8; 16])
+    ensures { (s : Setting) (i : ℕ) → i < 16 → IsWeak s (slice_index alpha.now i) beta (slice_index tc0.now i) →
+        filtered s (line_down t.old i) ≡ line_down t.new i }
+{
+    let p2 = row(t, 16);
+    let mut p1 = row(t, 32);
+    let mut p0 = row(t, 48);
+    let mut q0 = row(t, 64);
+    let mut q1 = row(t, 80);
+    let q2 = row(t, 96);
+    weak_lines(
+        &p2, &mut p1, &mut p0, &mut q0, &mut q1, &q2, alpha, beta, tc0,
+    );
+    set_row(t, 32, &p1);
+    set_row(t, 48, &p0);
+    set_row(t, 64, &q0);
+    set_row(t, 80, &q1);
+}
+
+/// The same at strength 4.
+#[inline(always)]
+pub(crate) fn strong_luma(t: &mut [u8; 128], alpha: u8, beta: u8)
+    ensures { (s : Setting) (i : ℕ) → i < 16 → IsStrong s alpha beta → filtered s (line_down t.old i) ≡ line_down t.new i }
+{
+    let p3 = row(t, 0);
+    let mut p2 = row(t, 16);
+    let mut p1 = row(t, 32);
+    let mut p0 = row(t, 48);
+    let mut q0 = row(t, 64);
+    let mut q1 = row(t, 80);
+    let mut q2 = row(t, 96);
+    let q3 = row(t, 112);
+    strong_lines(
+        &p3, &mut p2, &mut p1, &mut p0, &mut q0, &mut q1, &mut q2, &q3, alpha, beta,
+    );
+    set_row(t, 16, &p2);
+    set_row(t, 32, &p1);
+    set_row(t, 48, &p0);
+    set_row(t, 64, &q0);
+    set_row(t, 80, &q1);
+    set_row(t, 96, &q2);
+}
+
+/// Filters the sixteen lines of chroma down a block of eight rows of sixteen samples, at strengths of 0 to 3.
+#[inline(always)]
+pub(crate) fn weak_chroma(t: &mut [u8; 128], alpha: &[u8; 16], beta: u8, tc0: &[u8; 16])
+    ensures { (s : Setting) (i : ℕ) → i < 16 → IsWeakChroma s (slice_index alpha.now i) beta (slice_index tc0.now i) →
+        filtered s (line_down t.old i) ≡ line_down t.new i }
+{
+    let p1 = row(t, 32);
+    let mut p0 = row(t, 48);
+    let mut q0 = row(t, 64);
+    let q1 = row(t, 80);
+    weak_chroma_lines(&p1, &mut p0, &mut q0, &q1, alpha, beta, tc0);
+    set_row(t, 48, &p0);
+    set_row(t, 64, &q0);
+}
+
+/// The same at strength 4.
+#[inline(always)]
+pub(crate) fn strong_chroma(t: &mut [u8; 128], alpha: u8, beta: u8)
+    ensures { (s : Setting) (i : ℕ) → i < 16 → IsStrongChroma s alpha beta →
+        filtered s (line_down t.old i) ≡ line_down t.new i }
+{
+    let p1 = row(t, 32);
+    let mut p0 = row(t, 48);
+    let mut q0 = row(t, 64);
+    let q1 = row(t, 80);
+    strong_chroma_lines(&p1, &mut p0, &mut q0, &q1, alpha, beta);
+    set_row(t, 48, &p0);
+    set_row(t, 64, &q0);
+}

@@ -1,0 +1,61 @@
+ghost use Rattle.std.specs.Prelude.{◌≡◌, ℕ, ◌/◌, ◌<◌, ◌==◌, ◌-ℤ◌, nat_le, nat_abs, List, not, ◌||◌, slice_index, slice_index_or};
+ghost use Rattle.avc_types.specs.Pictures.{Coded};
+ghost use Rattle.avc_neigh.specs.declared.facts.Motion.{Motion};
+ghost use Rattle.avc_motion.specs.Motion.{zero_vector};
+ghost use Rattle.avc_deblock.specs.Edges.{strength_between};
+ghost use Rattle.avc_deblock.specs.Facts.{Names, HasFacts, has_bit, are_far, inter_strength};
+
+use crate::facts::MbFacts;
+use avc_types::Mv;
+
+#[inline(always)]
+fn are_far(u: Mv, v: Mv) -> bool
+    ensures { result ≡ are_far u v }
+{
+    u.x.abs_diff(v.x) >= 4 || u.y.abs_diff(v.y) >= 4
+}
+
+impl MbFacts {
+    #[inline(always)]
+    fn has_coefficients(&self, block: usize) -> bool
+        requires { block < 16 }
+        ensures { result ≡ has_bit self.now.coefficients block }
+    {
+        (self.coefficients >> block) % 2 == 1
+    }
+
+    /// The strength between two blocks of inter macroblocks.
+    #[inline(always)]
+    pub(crate) fn inter_strength(&self, block: usize, q: &MbFacts, q_block: usize) -> u8
+        requires p { block < 16 }
+        requires q { q_block < 16 }
+        ensures value { result ≡ inter_strength self.now block q.now q_block }
+        ensures low { result < 3 }
+    {
+        if self.has_coefficients(block) || q.has_coefficients(q_block) {
+            2
+        } else if self.pictures[block / 4] != q.pictures[q_block / 4]
+            || are_far(self.vectors[block], q.vectors[q_block])
+        {
+            1
+        } else {
+            0
+        }
+    }
+}
+
+/// The filter strength bS between luma block `p_block` of macroblock `p` and luma block `q_block` of macroblock `q` (8.7.2.1), 0 to 4.
+/// `is_inside` says that they are one macroblock.
+pub fn strength(p: &MbFacts, p_block: usize, q: &MbFacts, q_block: usize, is_inside: bool) -> u8
+    requires p { p_block < 16 }
+    requires q { q_block < 16 }
+    ensures { (c : Coded) (motion : List (List Motion)) (names : Names) (ap aq : ℕ) →
+        HasFacts c motion names ap p.now → HasFacts c motion names aq q.now → is_inside ≡ (ap == aq) →
+        result ≡ strength_between c motion ap p_block aq q_block }
+{
+    if p.is_intra || q.is_intra {
+        if is_inside { 3 } else { 4 }
+    } else {
+        p.inter_strength(p_block, q, q_block)
+    }
+}

@@ -1,0 +1,61 @@
+ghost use Rattle.std.specs.Prelude.{◌≡◌, ℕ, ◌+◌, ◌%◌, ◌<◌, ◌==◌, List, not};
+ghost use Rattle.avc_types.specs.Pictures.{Coded};
+ghost use Rattle.avc_neigh.specs.declared.facts.Motion.{Motion};
+ghost use Rattle.avc_deblock.specs.Edges.{strength_between};
+ghost use Rattle.avc_deblock.specs.OneEdge.{AreStrengths, strength_along};
+ghost use Rattle.avc_deblock.specs.Facts.{Names, HasFacts, edge_block, inter_strength};
+ghost use Rattle.std.specs.Prelude.{slice_index};
+
+use crate::facts::MbFacts;
+use crate::strengths::Strengths;
+
+/// The luma block on the q side of edge `n` in its quarter `k`.
+#[inline(always)]
+fn edge_block(is_vertical: bool, n: usize, k: usize) -> usize
+    requires n { n < 4 }
+    requires k { k < 4 }
+    ensures value { result ≡ edge_block is_vertical n k }
+    ensures low { result < 16 }
+{
+    let (x, y) = if is_vertical { (n, k) } else { (k, n) };
+    8 * (y / 2) + 4 * (x / 2) + 2 * (y % 2) + x % 2
+}
+
+#[inline(always)]
+fn inter_strengths(p: &MbFacts, q: &MbFacts, is_vertical: bool, n: usize) -> [u8; 4]
+    requires { n < 4 }
+    ensures value { (k : ℕ) → k < 4 →
+        slice_index result k ≡ inter_strength p.now (edge_block is_vertical ((n + 3) % 4) k) q.now (edge_block is_vertical n k) }
+    ensures low { (k : ℕ) → k < 4 → slice_index result k < 4 }
+{
+    let mut strengths = [0; 4];
+    for k in 0..4 {
+        strengths[k] = p.inter_strength(
+            edge_block(is_vertical, (n + 3) % 4, k),
+            q,
+            edge_block(is_vertical, n, k),
+        );
+    }
+    strengths
+}
+
+/// The strengths along edge `n` of macroblock `q`, from its left or upper edge with number 0 on; `p` is the macroblock on the other side.
+#[inline(always)]
+pub(crate) fn edge_strengths(p: &MbFacts, q: &MbFacts, is_vertical: bool, n: usize) -> Strengths
+    requires { n < 4 }
+    ensures low { AreStrengths result }
+    ensures value { (c : Coded) (motion : List (List Motion)) (names : Names) (pa qa k : ℕ) →
+        HasFacts c motion names pa p.now → HasFacts c motion names qa q.now →
+        (pa == qa) ≡ not (n == 0) → k < 4 →
+        strength_along result k ≡ strength_between c motion pa (edge_block is_vertical ((n + 3) % 4) k) qa (edge_block is_vertical n k) }
+{
+    if p.is_intra | q.is_intra {
+        if n == 0 {
+            Strengths::Four
+        } else {
+            Strengths::BelowFour([3; 4])
+        }
+    } else {
+        Strengths::BelowFour(inter_strengths(p, q, is_vertical, n))
+    }
+}

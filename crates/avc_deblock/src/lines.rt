@@ -1,0 +1,136 @@
+ghost use Rattle.std.specs.Prelude.{◌≡◌, ℕ, ◌<◌, slice_index};
+ghost use Rattle.avc_deblock.specs.Line.{Setting, filtered};
+ghost use Rattle.avc_deblock.specs.Rows.{line_of_rows, line_within, line_inside, IsWeak, IsStrong, IsWeakChroma, IsStrongChroma};
+
+use crate::line::{strong_chroma_line, strong_line, weak_chroma_line, weak_line};
+
+/// The edge of sixteen lines of luma, at a strength of 1 to 3.
+#[inline(always)]
+pub(crate) fn weak_lines(
+    p2: &[u8; 16],
+    p1: &mut [u8; 16],
+    p0: &mut [u8; 16],
+    q0: &mut [u8; 16],
+    q1: &mut [u8; 16],
+    q2: &[u8; 16],
+    alpha: &[u8; 16],
+    beta: u8,
+    tc0: &[u8; 16],
+)
+    ensures { (p3 q3 : ℕ) (s : Setting) (i : ℕ) → i < 16 → IsWeak s (slice_index alpha.now i) beta (slice_index tc0.now i) →
+        filtered s (line_within p3 q3 p2.now p1.old p0.old q0.old q1.old q2.now i) ≡ line_within p3 q3 p2.now p1.new p0.new q0.new q1.new q2.now i }
+{
+    let (p2, a1, a0, b0, b1, q2, alpha, tc0) = (*p2, *p1, *p0, *q0, *q1, *q2, *alpha, *tc0);
+    let mut o1 = a1;
+    let mut o0 = a0;
+    let mut r0 = b0;
+    let mut r1 = b1;
+    for i in 0..16 {
+        let inner = weak_line(
+            p2[i], a1[i], a0[i], b0[i], b1[i], q2[i], alpha[i], beta, tc0[i],
+        );
+        o1[i] = inner.p1;
+        o0[i] = inner.p0;
+        r0[i] = inner.q0;
+        r1[i] = inner.q1;
+    }
+    *p1 = o1;
+    *p0 = o0;
+    *q0 = r0;
+    *q1 = r1;
+}
+
+/// The edge of sixteen lines of luma, at strength 4.
+#[inline(always)]
+pub(crate) fn strong_lines(
+    p3: &[u8; 16],
+    p2: &mut [u8; 16],
+    p1: &mut [u8; 16],
+    p0: &mut [u8; 16],
+    q0: &mut [u8; 16],
+    q1: &mut [u8; 16],
+    q2: &mut [u8; 16],
+    q3: &[u8; 16],
+    alpha: u8,
+    beta: u8,
+)
+    ensures { (s : Setting) (i : ℕ) → i < 16 → IsStrong s alpha beta →
+        filtered s (line_of_rows p3.now p2.old p1.old p0.old q0.old q1.old q2.old q3.now i)
+        ≡ line_of_rows p3.now p2.new p1.new p0.new q0.new q1.new q2.new q3.now i }
+{
+    let (p3, a2, a1, a0, b0, b1, b2, q3) = (*p3, *p2, *p1, *p0, *q0, *q1, *q2, *q3);
+    let mut o2 = a2;
+    let mut o1 = a1;
+    let mut o0 = a0;
+    let mut r0 = b0;
+    let mut r1 = b1;
+    let mut r2 = b2;
+    for i in 0..16 {
+        let sides = strong_line(
+            p3[i], a2[i], a1[i], a0[i], b0[i], b1[i], b2[i], q3[i], alpha, beta,
+        );
+        o2[i] = sides.p.p2;
+        o1[i] = sides.p.p1;
+        o0[i] = sides.p.p0;
+        r0[i] = sides.q.p0;
+        r1[i] = sides.q.p1;
+        r2[i] = sides.q.p2;
+    }
+    *p2 = o2;
+    *p1 = o1;
+    *p0 = o0;
+    *q0 = r0;
+    *q1 = r1;
+    *q2 = r2;
+}
+
+/// Sixteen lines of chroma, at strengths of 1 to 3.
+#[inline(always)]
+pub(crate) fn weak_chroma_lines(
+    p1: &[u8; 16],
+    p0: &mut [u8; 16],
+    q0: &mut [u8; 16],
+    q1: &[u8; 16],
+    alpha: &[u8; 16],
+    beta: u8,
+    tc0: &[u8; 16],
+)
+    ensures { (p3 p2 q2 q3 : ℕ) (s : Setting) (i : ℕ) → i < 16 → IsWeakChroma s (slice_index alpha.now i) beta (slice_index tc0.now i) →
+        filtered s (line_inside p3 p2 q2 q3 p1.now p0.old q0.old q1.now i) ≡ line_inside p3 p2 q2 q3 p1.now p0.new q0.new q1.now i }
+{
+    let (p1, a0, b0, q1, alpha, tc0) = (*p1, *p0, *q0, *q1, *alpha, *tc0);
+    let mut o0 = a0;
+    let mut r0 = b0;
+    for i in 0..16 {
+        let nearest = weak_chroma_line(p1[i], a0[i], b0[i], q1[i], alpha[i], beta, tc0[i]);
+        o0[i] = nearest.p0;
+        r0[i] = nearest.q0;
+    }
+    *p0 = o0;
+    *q0 = r0;
+}
+
+/// Sixteen lines of chroma, at strength 4.
+#[inline(always)]
+pub(crate) fn strong_chroma_lines(
+    p1: &[u8; 16],
+    p0: &mut [u8; 16],
+    q0: &mut [u8; 16],
+    q1: &[u8; 16],
+    alpha: u8,
+    beta: u8,
+)
+    ensures { (p3 p2 q2 q3 : ℕ) (s : Setting) (i : ℕ) → i < 16 → IsStrongChroma s alpha beta →
+        filtered s (line_inside p3 p2 q2 q3 p1.now p0.old q0.old q1.now i) ≡ line_inside p3 p2 q2 q3 p1.now p0.new q0.new q1.now i }
+{
+    let (p1, a0, b0, q1) = (*p1, *p0, *q0, *q1);
+    let mut o0 = a0;
+    let mut r0 = b0;
+    for i in 0..16 {
+        let nearest = strong_chroma_line(p1[i], a0[i], b0[i], q1[i], alpha, beta);
+        o0[i] = nearest.p0;
+        r0[i] = nearest.q0;
+    }
+    *p0 = o0;
+    *q0 = r0;
+}

@@ -1,0 +1,101 @@
+ghost use Rattle.std.specs.Prelude.{◌≡◌, ℕ, ◌+◌, ◌-◌, ◌*◌, ◌^◌, ◌<◌, ◌≤◌, List, true, false};
+ghost use Rattle.avc_types.specs.Pictures.{Coded};
+ghost use Rattle.avc_neigh.specs.declared.facts.Motion.{Motion};
+ghost use Rattle.avc_plane.specs.Frames.{planes_of};
+ghost use Rattle.avc_deblock.specs.OneEdge.{planes_edges, planes_mb, HasRoom};
+ghost use Rattle.avc_deblock.specs.Facts.{Names, HasFacts, IsAt, p_address, filters_between};
+
+use crate::facts::MbFacts;
+use crate::line::both;
+use crate::planes_edge::{Place, edge};
+use avc_plane::Planes;
+use avc_types::FilteredEdges;
+
+impl MbFacts {
+    /// The edge to macroblock `other`, which may be this one itself, is filtered.
+    #[inline(always)]
+    fn filters_edge_to(&self, other: &MbFacts) -> bool
+        ensures { result ≡ filters_between self.now other.now }
+    {
+        match self.filtered_edges {
+            FilteredEdges::All => true,
+            FilteredEdges::NoEdges => false,
+            FilteredEdges::WithinSlice => self.slice == other.slice,
+        }
+    }
+}
+
+#[inline(always)]
+fn outer_edge<const PAD: usize>(
+    planes: &mut Planes<PAD>,
+    p: &MbFacts,
+    q: &MbFacts,
+    is_vertical: bool,
+    filters: bool,
+    place: Place,
+)
+    requires vertical { filters ≡ true → is_vertical ≡ true → 1 ≤ place.column }
+    requires horizontal { filters ≡ true → is_vertical ≡ false → 1 ≤ place.row }
+    requires columns_fit { 16 * place.column + 16 < 2 ^ 64 }
+    requires rows_fit { 16 * place.row + 16 < 2 ^ 64 }
+    requires room { HasRoom place.column place.row (planes_of planes.old) }
+    ensures room { (column row : ℕ) → HasRoom column row (planes_of planes.old) → HasRoom column row (planes_of planes.new) }
+    ensures lines { (c : Coded) (motion : List (List Motion)) (names : Names) (a : ℕ) → IsAt c place.column place.row a →
+        place.chroma_qp_index_offset ≡ c.chroma_qp_index_offset →
+        (filters ≡ true → HasFacts c motion names (p_address c is_vertical 0 a) p.now) →
+        HasFacts c motion names a q.now → planes_of planes.new ≡ planes_edges c motion is_vertical filters false a (planes_of planes.old) }
+{
+    if filters {
+        edge(planes, p, q, is_vertical, 0, place);
+    }
+}
+
+#[inline(always)]
+fn inner_edges<const PAD: usize>(
+    planes: &mut Planes<PAD>,
+    q: &MbFacts,
+    is_vertical: bool,
+    filters: bool,
+    place: Place,
+)
+    requires columns_fit { 16 * place.column + 16 < 2 ^ 64 }
+    requires rows_fit { 16 * place.row + 16 < 2 ^ 64 }
+    requires room { HasRoom place.column place.row (planes_of planes.old) }
+    ensures room { (column row : ℕ) → HasRoom column row (planes_of planes.old) → HasRoom column row (planes_of planes.new) }
+    ensures lines { (c : Coded) (motion : List (List Motion)) (names : Names) (a : ℕ) → IsAt c place.column place.row a →
+        place.chroma_qp_index_offset ≡ c.chroma_qp_index_offset → HasFacts c motion names a q.now →
+        planes_of planes.new ≡ planes_edges c motion is_vertical false filters a (planes_of planes.old) }
+{
+    if filters {
+        edge(planes, q, q, is_vertical, 1, place);
+        edge(planes, q, q, is_vertical, 2, place);
+        edge(planes, q, q, is_vertical, 3, place);
+    }
+}
+
+/// Filters all edges of macroblock `mb`. `left` and `above` are the macroblocks there, and any where there is none.
+pub(crate) fn macroblock<const PAD: usize>(
+    planes: &mut Planes<PAD>,
+    mb: &MbFacts,
+    left: &MbFacts,
+    above: &MbFacts,
+    place: Place,
+)
+    requires columns_fit { 16 * place.column + 16 < 2 ^ 64 }
+    requires rows_fit { 16 * place.row + 16 < 2 ^ 64 }
+    requires room { HasRoom place.column place.row (planes_of planes.old) }
+    ensures room { (column row : ℕ) → HasRoom column row (planes_of planes.old) → HasRoom column row (planes_of planes.new) }
+    ensures lines { (c : Coded) (motion : List (List Motion)) (names : Names) (a : ℕ) → IsAt c place.column place.row a →
+        place.chroma_qp_index_offset ≡ c.chroma_qp_index_offset → HasFacts c motion names a mb.now →
+        (1 ≤ place.column → HasFacts c motion names (a - 1) left.now) →
+        (1 ≤ place.row → HasFacts c motion names (a - c.width) above.now) →
+        planes_of planes.new ≡ planes_mb c motion a (planes_of planes.old) }
+{
+    let inner = mb.filters_edge_to(mb);
+    let from_left = both(place.column > 0, mb.filters_edge_to(left));
+    let from_above = both(place.row > 0, mb.filters_edge_to(above));
+    outer_edge(planes, left, mb, true, from_left, place);
+    inner_edges(planes, mb, true, inner, place);
+    outer_edge(planes, above, mb, false, from_above, place);
+    inner_edges(planes, mb, false, inner, place);
+}

@@ -1,0 +1,71 @@
+ghost use Rattle.std.specs.Prelude.{◌≡◌, ℕ, ◌+◌, ◌*◌, ◌/◌, ◌%◌, ◌<◌, ◌≤◌, slice_index};
+
+/// Eight rows of eight samples, and behind them eight others.
+#[inline(always)]
+pub(crate) fn joined(a: &[u8; 64], b: &[u8; 64]) -> [u8; 128]
+    ensures first { (k : ℕ) → k < 64 → slice_index result k ≡ slice_index a.now k }
+    ensures second { (k : ℕ) → k < 64 → slice_index result (64 + k) ≡ slice_index b.now k }
+{
+    let mut out = [0; 128];
+    for k in 0..64 {
+        out[k] = a[k];
+        out[64 + k] = b[k];
+    }
+    out
+}
+
+/// Half of such rows.
+#[inline(always)]
+pub(crate) fn half(t: &[u8; 128], from: usize) -> [u8; 64]
+    requires { from + 64 ≤ 128 }
+    ensures { (k : ℕ) → k < 64 → slice_index result k ≡ slice_index t.now (from + k) }
+{
+    let mut out = [0; 64];
+    for k in 0..64 {
+        out[k] = t[from + k];
+    }
+    out
+}
+
+/// Eight rows of eight samples, and to their right eight others.
+#[inline(always)]
+pub(crate) fn beside(a: &[u8; 64], b: &[u8; 64]) -> [u8; 128]
+    ensures left { (r c : ℕ) → r < 8 → c < 8 → slice_index result (16 * r + c) ≡ slice_index a.now (8 * r + c) }
+    ensures right { (r c : ℕ) → r < 8 → c < 8 → slice_index result (16 * r + (8 + c)) ≡ slice_index b.now (8 * r + c) }
+{
+    let mut out = [0; 128];
+    for r in 0..8 {
+        for c in 0..8 {
+            out[16 * r + c] = a[8 * r + c];
+            out[16 * r + (8 + c)] = b[8 * r + c];
+        }
+    }
+    out
+}
+
+/// The left or the right half of such rows.
+#[inline(always)]
+pub(crate) fn side(t: &[u8; 128], from: usize) -> [u8; 64]
+    requires { from + 8 ≤ 16 }
+    ensures { (r c : ℕ) → r < 8 → c < 8 → slice_index result (8 * r + c) ≡ slice_index t.now (16 * r + (from + c)) }
+{
+    let mut out = [0; 64];
+    for r in 0..8 {
+        for c in 0..8 {
+            out[8 * r + c] = t[16 * r + (from + c)];
+        }
+    }
+    out
+}
+
+/// A value for each quarter of an edge, at each line of the first eight and at each of the second.
+#[inline(always)]
+pub(crate) fn spread_twice(v: &[u8; 4]) -> [u8; 16]
+    ensures { (k : ℕ) → k < 16 → slice_index result k ≡ slice_index v.now (k % 8 / 2) }
+{
+    let mut out = [0; 16];
+    for k in 0..16 {
+        out[k] = v[k % 8 / 2];
+    }
+    out
+}
