@@ -15,8 +15,9 @@ use Rattle.avc_make.specs.Words.{ReadsBack, bits_after_one, ue_word}
 use Rattle.avc_make.specs.declared.slice.PcmMacroblock.{PcmMacroblock}
 use Rattle.avc_make.proofs.Placing.{ReadsAt, at_place, at-bind}
 use Rattle.avc_make.proofs.ReadingBack.{back-bind, back-bits, back-give, back-last, back-then, back-times, back-u, back-ue, back-ue_to}
-use Rattle.avc_mbsyntax.specs.Reading.{Context, i_mb, i_pcm_mb, macroblock, p_mb}
-use Rattle.avc_mbsyntax.specs.SliceData.{SliceMbs, SliceStart, context, i_data, i_macroblock, is_taken, p_data, slice_data}
+use Rattle.avc_mbsyntax.specs.declared.context.Context.{Context}
+use Rattle.avc_mbsyntax.specs.Reading.{i_mb, i_pcm_mb, macroblock, p_mb}
+use Rattle.avc_mbsyntax.specs.SliceData.{SliceMbs, SliceStart, context, i_data, p_data, slice_data}
 
 -- ---- one macroblock
 
@@ -72,16 +73,6 @@ back-run : (position : ℕ) (w v rest : List Bool) (n : ℕ) → ReadsBack (v ++
 unfolding ReadsBack
 back-run position w v rest n back = ap (λ t. ue (record { position = position; ahead = t })) (append_assoc w v rest) ∙ back position
 
--- in an I slice, where mb_type 25 is one that is taken
-at-i_macroblock : (position : ℕ) (rest : List Bool) (c : Context) (m : PcmMacroblock) → c.is_p ≡ false → IsPcm m → ReadsAt position rest (pcm_bits false position m) (i_macroblock c) (pcm_mb c.qp m)
-at-i_macroblock position rest c m same is =
-    let word = ue_word 25 in
-    let others = zeros_to_byte (position + length word) ++ samples_bits m in
-    let b : Bits = record { position = position; ahead = pcm_bits false position m ++ rest } in
-    let type = back-run position word others rest 25 (back-ue (others ++ rest) 25 (omega arith)) in
-    let whole = at-macroblock false position rest c m same is in
-    record { read = ap (λ t. elim t [ true ↦ macroblock c b | false ↦ Err faults.NotYet ]) (ap is_taken type) ∙ whole.read }
-
 -- ---- whether there is more data
 
 more_true : (position : ℕ) (ahead : List Bool) → 0 < length ahead → more_data (record { position = position; ahead = ahead }) ≡ true
@@ -118,17 +109,17 @@ one_before mb rest = record { mbs = mb ∷ rest.mbs; fault = rest.fault }
 abbrev placed : SliceStart → Mb → PicMb
 placed s mb = record { slice = s.slice; mb = mb }
 
-i_step : (s : SliceStart) (left : ℕ) (before : List PicMb) (qp : ℕ) (b b' : Bits) (mb : Mb) → i_macroblock (context s before qp) b ≡ Ok (mb, b') →
-    i_data s (suc left) before qp b ≡ one_before mb (elim (more_data b') [ true ↦ i_data s left (before ++ placed s mb ∷ []) mb.qp b' | false ↦ no_mbs ])
+i_step : (s : SliceStart) (left : ℕ) (before : List PicMb) (qp : ℕ) (b b' : Bits) (mb : Mb) → macroblock (context s before qp) b ≡ Ok (mb, b') →
+    i_data macroblock s (suc left) before qp b ≡ one_before mb (elim (more_data b') [ true ↦ i_data macroblock s left (before ++ placed s mb ∷ []) mb.qp b' | false ↦ no_mbs ])
 i_step s left before qp b b' mb read = rw (i_data, read) refl
 
-at-i_mb : (position : ℕ) (rest : List Bool) (c : Context) (m : PcmMacroblock) → c.is_p ≡ false → IsPcm m → ReadsAt position rest (mb_bits false position m) (i_macroblock c) (pcm_mb c.qp m)
+at-i_mb : (position : ℕ) (rest : List Bool) (c : Context) (m : PcmMacroblock) → c.is_p ≡ false → IsPcm m → ReadsAt position rest (mb_bits false position m) (macroblock c) (pcm_mb c.qp m)
 at-i_mb position rest c m same is =
     let none : position ≡ position + length {A = Bool} [] = omega arith in
-    subst (λ k. ReadsAt position rest (pcm_bits false k m) (i_macroblock c) (pcm_mb c.qp m)) none (at-i_macroblock position rest c m same is)
+    subst (λ k. ReadsAt position rest (pcm_bits false k m) (macroblock c) (pcm_mb c.qp m)) none (at-macroblock false position rest c m same is)
 
 i_read : (s : SliceStart) (m : PcmMacroblock) (ms : List PcmMacroblock) (left : ℕ) (before : List PicMb) (qp position : ℕ) → s.is_p ≡ false → IsPcm m → Each IsPcm ms → length (m ∷ ms) ≤ left →
-    i_data s left before qp (record { position = position; ahead = data_bits false position (m ∷ ms) }) ≡ pcm_mbs qp (m ∷ ms)
+    i_data macroblock s left before qp (record { position = position; ahead = data_bits false position (m ∷ ms) }) ≡ pcm_mbs qp (m ∷ ms)
 unfolding data_bits
 i_read s m ms zero before qp position same is all few = absurd (omega (arith, few))
 i_read s m [] (suc left) before qp position same is all few =
@@ -214,7 +205,7 @@ p_read s m (m' ∷ ms) (suc turns) before qp position same is all few room =
 -- ---- the data of a slice
 
 abbrev data_where : (p : Bool) → SliceStart → List PicMb → Bits → SliceMbs
-data_where p s before b = elim p [ true ↦ p_data s (s.size - length before) before s.qp b | false ↦ i_data s (s.size - length before) before s.qp b ]
+data_where p s before b = elim p [ true ↦ p_data s (s.size - length before) before s.qp b | false ↦ i_data macroblock s (s.size - length before) before s.qp b ]
 
 data_where_read : (p : Bool) (s : SliceStart) (m : PcmMacroblock) (ms : List PcmMacroblock) (before : List PicMb) (position : ℕ) → s.is_p ≡ p → IsPcm m → Each IsPcm ms → length before + length (m ∷ ms) ≤ s.size →
     data_where p s before (record { position = position; ahead = data_bits p position (m ∷ ms) }) ≡ pcm_mbs s.qp (m ∷ ms)

@@ -14,7 +14,7 @@ use Rattle.avc_types.specs.declared.references.Marking.TheVariants.{Idr, Sliding
 use Rattle.avc_types.specs.declared.references.Modification.{Modification}
 use Rattle.avc_types.specs.declared.references.Modification.TheVariants.{Subtract, Add, LongTerm}
 use Rattle.avc_types.specs.declared.references.Operation.{Operation}
-use Rattle.avc_types.specs.declared.references.Operation.TheVariants.{ForgetShort, ForgetLong, ShortToLong, LimitLong, ForgetAll, CurrentToLong}
+use Rattle.avc_types.specs.declared.references.Operation.TheVariants.{UnmarkShortTerm, UnmarkLongTerm, AssignLongTerm, MaxLongTermFrameIdx, UnmarkAll, CurrentToLongTerm}
 use Rattle.avc_annexb.specs.Escapes.{rbsp}
 use Rattle.avc_bits.specs.Bits.{Bits, Read, ◌>>=◌, ◌>>◌, bits_of, check, give, refuse, where_set}
 use Rattle.avc_bits.specs.Codes.{flag, se, se_within, u, ue, ue_to}
@@ -37,16 +37,21 @@ use Rattle.avc_slice.specs.declared.parts.Filtering.{Filtering}
 use Rattle.avc_slice.specs.declared.parts.Front.{Front}
 use Rattle.avc_slice.specs.declared.parts.ListPart.{ListPart}
 use Rattle.avc_slice.specs.declared.parts.Numbers.{Numbers}
+use Rattle.avc_slice.specs.declared.weights.PredWeightTable.{PredWeightTable}
+use Rattle.avc_slice.specs.WeightsReading.{pred_weight_table}
+use Rattle.avc_slice.specs.Within.{IsPredWeightTable}
 use Rattle.avc_make.specs.HeaderWriting.{IsDeblocking, IsDeblockingOf, IsHeader, IsIdr, IsListWhere, IsMarkingOf, IsModification, IsModificationList, IsOffset, IsOperation, IsOrderOf, IsOverride, IsQp, IsSeWhere, coded_order_bits, deblocking_bits, deblocking_bits_of, filtering_bits, front_bits, header_bits, list_bits, list_bits_where, marking_bits, modification_bits, modifications_bits, numbers_bits, operation_bits, se_where, slice_type_number, slice_unit_header}
 use Rattle.avc_make.specs.SliceUnits.{AreInForce, placed_header}
 use Rattle.avc_make.specs.SpsWriting.{IsSeValue}
 use Rattle.avc_make.specs.Units.{IsUnit}
 use Rattle.avc_make.specs.VuiWriting.{Each, optional_bits, where_bits}
+use Rattle.avc_make.specs.WeightsWriting.{pred_weight_table_bits}
 use Rattle.avc_make.specs.Words.{ReadsBack, se_word, ue_word}
 use Rattle.avc_make.proofs.Placing.{ReadsAt, at_place, at-bind, at-then}
 use Rattle.avc_make.proofs.ReadingBack.{back-bind, back-check, back-flag, back-give, back-last, back-se, back-se_within, back-then, back-u, back-ue, back-ue_to}
 use Rattle.avc_make.proofs.UnitsBack.{unit_start}
 use Rattle.avc_make.proofs.VuiBack.{back-optional, back-where}
+use Rattle.avc_make.proofs.WeightsBack.{back-table}
 
 -- ---- up to the picture parameter set's id
 
@@ -227,11 +232,11 @@ back-override rest pps None is =
     back-then rest (false ∷ []) flag _ false None (back-flag rest false)
     (back-then rest [] (check (nat_lt l0 16) faults.OutOfRange) _ tt None (back-check rest (nat_lt l0 16) faults.OutOfRange (lt-ltb l0 16 is)) (back-give rest None))
 
-abbrev list_of : Option ℕ → ℕ → Option (List Modification) → ListPart
-list_of override count list = record { active_override = override; active_count = count; modifications = list }
+abbrev list_of : Option ℕ → ℕ → Option (List Modification) → Option PredWeightTable → ListPart
+list_of override count list weights = record { active_override = override; active_count = count; modifications = list; pred_weight_table = weights }
 
 abbrev list_in : Header → ListPart
-list_in h = record { active_override = h.active_override; active_count = h.active_count; modifications = h.modifications }
+list_in h = list_of h.active_override h.active_count h.modifications h.pred_weight_table
 
 pub max_frame_num_few : (sps : Sps) → IsSps sps → max_frame_num sps ≤ 65536
 max_frame_num_few sps is =
@@ -243,39 +248,45 @@ back-list : (rest : List Bool) (p : Bool) (sps : Sps) (pps : Pps) (h : Header) �
 back-list rest true sps pps h within is =
     let n = max_frame_num sps in
     let room = active_count pps h.active_override in
-    let last = optional_bits modifications_bits h.modifications in
-    let read : ListPart = record { active_override = h.active_override; active_count = room; modifications = h.modifications } in
-    let same : read ≡ list_in h = ap (λ k. record { active_override = h.active_override; active_count = k; modifications = h.modifications }) (sym is.count) in
+    let given = optional_bits modifications_bits h.modifications in
+    let last = where_bits pred_weight_table_bits h.pred_weight_table in
+    let read : ListPart = list_of h.active_override room h.modifications h.pred_weight_table in
+    let same : read ≡ list_in h = ap (λ k. list_of h.active_override k h.modifications h.pred_weight_table) (sym is.count) in
+    let weights : IfSome h.pred_weight_table (IsPredWeightTable room) = subst (λ k. IfSome h.pred_weight_table (IsPredWeightTable k)) is.count is.weights in
     subst (λ l. ReadsBack rest (list_part true pps sps) (list_bits h) l) same
-    (back-bind rest (optional_bits ue_word h.active_override) last (active_override pps) _ h.active_override read (back-override (last ++ rest) pps h.active_override is.override)
-    (back-last rest last (modification_list n room) _ h.modifications
-    (back-optional rest (modifications n room) modifications_bits (IsModificationList n room) h.modifications (back-modifications n room (max_frame_num_few sps within)) is.list)))
+    (back-bind rest (optional_bits ue_word h.active_override) (given ++ last) (active_override pps) _ h.active_override read (back-override ((given ++ last) ++ rest) pps h.active_override is.override)
+    (back-bind rest given last (modification_list n room) _ h.modifications read
+    (back-optional (last ++ rest) (modifications n room) modifications_bits (IsModificationList n room) h.modifications (back-modifications n room (max_frame_num_few sps within)) is.list)
+    (back-last rest last (where_set pps.weighted_pred_flag (pred_weight_table room)) _ h.pred_weight_table
+    (back-where rest (pred_weight_table room) pred_weight_table_bits (IsPredWeightTable room) h.pred_weight_table pps.weighted_pred_flag (back-table room) is.is_weighted weights))))
 back-list rest false sps pps h within is =
-    let same : list_in h ≡ list_of None 0 None = ap (λ o. list_of o h.active_count h.modifications) is.override ∙ ap (λ k. list_of None k h.modifications) is.count ∙ ap (λ l. list_of None 0 l) is.list in
+    let same : list_in h ≡ list_of None 0 None None =
+    ap (λ o. list_of o h.active_count h.modifications h.pred_weight_table) is.override ∙ ap (λ k. list_of None k h.modifications h.pred_weight_table) is.count
+    ∙ ap (λ l. list_of None 0 l h.pred_weight_table) is.list ∙ ap (λ t. list_of None 0 None t) is.weights in
     subst (λ l. ReadsBack rest (give l) [] (list_in h)) same (back-give rest (list_in h))
 
 -- ---- marking
 
 operation_coded : (o : Operation) → IsOperation o → IsCoded (ue_to 6) 0 operation (operation_bits o) o
-operation_coded (ForgetShort n) is = record {
+operation_coded (UnmarkShortTerm n) is = record {
   number = 1;
   first = ue_word 1;
   second = ue_word n;
   is_word = refl;
   goes_on = refl;
   code_back = λ after. back-ue_to after 6 1 (omega arith) (omega arith);
-  item_back = λ after. back-last after (ue_word n) ue (λ k. ForgetShort k) n (back-ue after n is);
+  item_back = λ after. back-last after (ue_word n) ue (λ k. UnmarkShortTerm k) n (back-ue after n is);
 }
-operation_coded (ForgetLong n) is = record {
+operation_coded (UnmarkLongTerm n) is = record {
   number = 2;
   first = ue_word 2;
   second = ue_word n;
   is_word = refl;
   goes_on = refl;
   code_back = λ after. back-ue_to after 6 2 (omega arith) (omega arith);
-  item_back = λ after. back-last after (ue_word n) ue (λ k. ForgetLong k) n (back-ue after n is);
+  item_back = λ after. back-last after (ue_word n) ue (λ k. UnmarkLongTerm k) n (back-ue after n is);
 }
-operation_coded (ShortToLong n index) is = record {
+operation_coded (AssignLongTerm n index) is = record {
   number = 3;
   first = ue_word 3;
   second = ue_word n ++ ue_word index;
@@ -283,35 +294,35 @@ operation_coded (ShortToLong n index) is = record {
   goes_on = refl;
   code_back = λ after. back-ue_to after 6 3 (omega arith) (omega arith);
   item_back =
-      λ after. back-bind after (ue_word n) (ue_word index) ue _ n (ShortToLong n index) (back-ue (ue_word index ++ after) n is.0)
-      (back-last after (ue_word index) ue (λ k. ShortToLong n k) index (back-ue after index is.1));
+      λ after. back-bind after (ue_word n) (ue_word index) ue _ n (AssignLongTerm n index) (back-ue (ue_word index ++ after) n is.0)
+      (back-last after (ue_word index) ue (λ k. AssignLongTerm n k) index (back-ue after index is.1));
 }
-operation_coded (LimitLong n) is = record {
+operation_coded (MaxLongTermFrameIdx n) is = record {
   number = 4;
   first = ue_word 4;
   second = ue_word n;
   is_word = refl;
   goes_on = refl;
   code_back = λ after. back-ue_to after 6 4 (omega arith) (omega arith);
-  item_back = λ after. back-last after (ue_word n) ue (λ k. LimitLong k) n (back-ue after n is);
+  item_back = λ after. back-last after (ue_word n) ue (λ k. MaxLongTermFrameIdx k) n (back-ue after n is);
 }
-operation_coded ForgetAll is = record {
+operation_coded UnmarkAll is = record {
   number = 5;
   first = ue_word 5;
   second = [];
   is_word = sym (append-nil (ue_word 5));
   goes_on = refl;
   code_back = λ after. back-ue_to after 6 5 (omega arith) (omega arith);
-  item_back = λ after. back-give after ForgetAll;
+  item_back = λ after. back-give after UnmarkAll;
 }
-operation_coded (CurrentToLong n) is = record {
+operation_coded (CurrentToLongTerm n) is = record {
   number = 6;
   first = ue_word 6;
   second = ue_word n;
   is_word = refl;
   goes_on = refl;
   code_back = λ after. back-ue_to after 6 6 (omega arith) (omega arith);
-  item_back = λ after. back-last after (ue_word n) ue (λ k. CurrentToLong k) n (back-ue after n is);
+  item_back = λ after. back-last after (ue_word n) ue (λ k. CurrentToLongTerm k) n (back-ue after n is);
 }
 
 back-marking : (idr : Bool) (rest : List Bool) (m : Marking) → IsMarkingOf idr m → ReadsBack rest (marking idr) (marking_bits m) m

@@ -8,6 +8,7 @@ use Rattle.avc_params.specs.declared.pps.Pps.{Pps}
 use Rattle.avc_params.specs.declared.sps.Sps.{Sps}
 use Rattle.avc_slice.specs.Header.{is_p}
 use Rattle.avc_slice.specs.Reading.{active_count}
+use Rattle.avc_slice.specs.Within.{IsPredWeightTable}
 use Rattle.avc_slice.specs.declared.header.Header.{Header}
 use Rattle.avc_make.specs.HeaderWriting.{IsHeader, IsListWhere, IsModification, IsModificationList}
 use Rattle.avc_make.specs.VuiWriting.{Each}
@@ -29,6 +30,13 @@ some_small n room few (Some list) is = each_small n few list is.1
 list_small : (p : Bool) (sps : Sps) (pps : Pps) (h : Header) → IsSps sps → IsListWhere p sps pps h → IfSome h.modifications (Each (IsModification 65536))
 list_small true sps pps h within is = some_small (max_frame_num sps) (active_count pps h.active_override) (max_frame_num_few sps within) h.modifications is.list
 list_small false sps pps h within is = subst (λ o. IfSome o (Each (IsModification 65536))) (sym is.list) tt
+
+weights_where : (p : Bool) (sps : Sps) (pps : Pps) (h : Header) → IsListWhere p sps pps h → IfSome h.pred_weight_table (IsPredWeightTable h.active_count)
+weights_where true sps pps h is = is.weights
+weights_where false sps pps h is = subst (λ o. IfSome o (IsPredWeightTable h.active_count)) (sym is.weights) tt
+
+pub weights_small : (sps : Sps) (pps : Pps) (h : Header) → IsHeader sps pps h → IfSome h.pred_weight_table (IsPredWeightTable h.active_count)
+weights_small sps pps h is = weights_where (is_p h) sps pps h is.list
 
 pub modifications_small : (sps : Sps) (pps : Pps) (h : Header) → IsHeader sps pps h → IfSome h.modifications (Each (IsModification 65536))
 modifications_small sps pps h is = list_small (is_p h) sps pps h is.sps_within is.list

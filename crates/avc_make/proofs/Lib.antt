@@ -1,14 +1,19 @@
 pub mod Bits
+pub mod CodedSliceBack
 pub mod DataBack
 pub mod Filling
 pub mod HeaderBack
 pub mod HeaderRanges
+pub mod MbRows
+pub mod PatternNumbers
 pub mod Placing
 pub mod PpsBack
 pub mod Putting
 pub mod PuttingData
 pub mod PuttingEach
 pub mod ReadingBack
+pub mod ResidualPutting
+pub mod RefIdxPutting
 pub mod Removing
 pub mod Rows
 pub mod SliceBack
@@ -16,6 +21,7 @@ pub mod SliceRows
 pub mod SpsBack
 pub mod UnitsBack
 pub mod VuiBack
+pub mod WeightsBack
 pub mod Words
 pub mod BlockBack
 pub mod BlockForth
@@ -23,3 +29,6 @@ pub mod BlockPutting
 pub mod LevelWords
 pub mod SmallLevels
 pub mod TruncatedWords
+pub mod MbBack
+pub mod SliceDataBack
+pub mod DataAlone

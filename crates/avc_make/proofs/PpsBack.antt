@@ -24,6 +24,7 @@ counts_in p = record { num_ref_idx_l0_default_active_minus1 = p.num_ref_idx_l0_d
 
 abbrev numbers_in : Pps → of_part quantisation
 numbers_in p = record {
+  weighted_pred_flag = p.weighted_pred_flag;
   weighted_bipred_idc = p.weighted_bipred_idc;
   pic_init_qp_minus26 = p.pic_init_qp_minus26;
   pic_init_qs_minus26 = p.pic_init_qs_minus26;
@@ -49,10 +50,12 @@ back-numbers rest p is =
     let qp = se_word p.pic_init_qp_minus26 in
     let qs = se_word p.pic_init_qs_minus26 in
     let chroma = se_word p.chroma_qp_index_offset in
-    back-bind rest (bits_of 2 p.weighted_bipred_idc) (qp ++ (qs ++ chroma)) (u_to 2 2) _ p.weighted_bipred_idc (numbers_in p) (back-u_to ((qp ++ (qs ++ chroma)) ++ rest) 2 2 p.weighted_bipred_idc is.weighted (omega (arith, is.weighted)))
+    let bipred = bits_of 2 p.weighted_bipred_idc in
+    back-bind rest (p.weighted_pred_flag ∷ []) (bipred ++ (qp ++ (qs ++ chroma))) flag _ p.weighted_pred_flag (numbers_in p) (back-flag ((bipred ++ (qp ++ (qs ++ chroma))) ++ rest) p.weighted_pred_flag)
+    (back-bind rest bipred (qp ++ (qs ++ chroma)) (u_to 2 2) _ p.weighted_bipred_idc (numbers_in p) (back-u_to ((qp ++ (qs ++ chroma)) ++ rest) 2 2 p.weighted_bipred_idc is.weighted (omega (arith, is.weighted)))
     (back-bind rest qp (qs ++ chroma) (se_within (negsuc 25) (pos 25)) _ p.pic_init_qp_minus26 (numbers_in p) (back-se_within ((qs ++ chroma) ++ rest) (negsuc 25) (pos 25) p.pic_init_qp_minus26 is.qp_low is.qp_high (omega (arith, ints, is.qp_low)) (omega (arith, ints, is.qp_high)))
     (back-bind rest qs chroma (se_within (negsuc 25) (pos 25)) _ p.pic_init_qs_minus26 (numbers_in p) (back-se_within (chroma ++ rest) (negsuc 25) (pos 25) p.pic_init_qs_minus26 is.qs_low is.qs_high (omega (arith, ints, is.qs_low)) (omega (arith, ints, is.qs_high)))
-    (back-last rest chroma (se_within (negsuc 11) (pos 12)) _ p.chroma_qp_index_offset (back-se_within (rest) (negsuc 11) (pos 12) p.chroma_qp_index_offset is.chroma_low is.chroma_high (omega (arith, ints, is.chroma_low)) (omega (arith, ints, is.chroma_high))))))
+    (back-last rest chroma (se_within (negsuc 11) (pos 12)) _ p.chroma_qp_index_offset (back-se_within (rest) (negsuc 11) (pos 12) p.chroma_qp_index_offset is.chroma_low is.chroma_high (omega (arith, ints, is.chroma_low)) (omega (arith, ints, is.chroma_high)))))))
 
 back-switches : (rest : List Bool) (p : Pps) → ReadsBack rest switches (switches_bits p) (switches_in p)
 back-switches rest p =
@@ -66,8 +69,7 @@ back-switches rest p =
 back-pps : (p : Pps) → IsPps p → ReadsBack [] pps (pps_bits p) p
 back-pps p is =
     let last = switches_bits p in
-    let after_weighted = quantisation_bits p ++ last in
-    let after_counts = (false ∷ []) ++ after_weighted in
+    let after_counts = quantisation_bits p ++ last in
     let after_groups = default_counts_bits p ++ after_counts in
     let after_bottom = ue_word 0 ++ after_groups in
     let bottom = p.bottom_field_pic_order_in_frame_present_flag in
@@ -80,10 +82,9 @@ back-pps p is =
     (back-bind [] (bottom ∷ []) after_bottom flag _ bottom p (back-flag (after_bottom ++ []) bottom)
     (back-bind [] (ue_word 0) after_groups ue _ 0 p (back-ue (after_groups ++ []) 0 (omega arith))
     (back-bind [] (default_counts_bits p) after_counts default_counts _ (counts_in p) p (back-counts (after_counts ++ []) p is)
-    (back-bind [] (false ∷ []) after_weighted flag _ false p (back-flag (after_weighted ++ []) false)
     (back-bind [] (quantisation_bits p) last quantisation _ (numbers_in p) p (back-numbers (last ++ []) p is)
     (back-then [] last switches _ (switches_in p) p (back-switches [] p)
-    (back-then [] [] more (λ extension. check (not extension) faults.PpsExtension >> give p) false p back-more (back-give [] p))))))))))
+    (back-then [] [] more (λ extension. check (not extension) faults.PpsExtension >> give p) false p back-more (back-give [] p)))))))))
 
 pub pps_unit_is_read : (p : Pps) (unit : List ℕ) → IsPps p → IsUnit pps_header (pps_bits p) unit → pps_of (rbsp (drop 1 unit)) ≡ Ok p
 unfolding ReadsBack

@@ -32,6 +32,7 @@ plain = record {
   bottom_field_pic_order_in_frame_present_flag = false;
   num_ref_idx_l0_default_active_minus1 = 0;
   num_ref_idx_l1_default_active_minus1 = 0;
+  weighted_pred_flag = false;
   weighted_bipred_idc = 0;
   pic_init_qp_minus26 = pos 0;
   pic_init_qs_minus26 = pos 0;
@@ -84,3 +85,8 @@ writes_small = record { raw = 0x42 ∷ 0xC0 ∷ 0x0A ∷ 0xDA ∷ 0x71 ∷ []; p
 -- a block that begins with 0 3 0 1 -1 -1 0 1
 writes_block : block_bits 16 (pos 0) (pos 0 ∷ pos 3 ∷ pos 0 ∷ pos 1 ∷ negsuc 0 ∷ negsuc 0 ∷ pos 0 ∷ pos 1 ∷ pos 0 ∷ pos 0 ∷ pos 0 ∷ pos 0 ∷ pos 0 ∷ pos 0 ∷ pos 0 ∷ pos 0 ∷ []) ≡ byte_bits (0x08 ∷ 0xE5 ∷ 0xED ∷ [])
 writes_block = refl
+
+-- with weighted_pred_flag 1
+writes_weighted : IsUnit pps_header (pps_bits (record plain { weighted_pred_flag = true })) (0x68 ∷ 0xCF ∷ 0x38 ∷ 0x80 ∷ [])
+unfolding escaped_after se_word ue_word count_leading_zeros
+writes_weighted = record { raw = 0xCF ∷ 0x38 ∷ 0x80 ∷ []; padding = 7; filled = record { few = omega arith; filled = refl }; body = refl }

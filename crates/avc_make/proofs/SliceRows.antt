@@ -1,5 +1,5 @@
 -- Worked examples of slice headers that are written, and of what stands before the samples of an I_PCM macroblock.
-use Rattle.std.specs.Prelude.{◌≡◌, pos, false, [], ◌∷◌, ◌++◌, take, None, Some, refl}
+use Rattle.std.specs.Prelude.{◌≡◌, pos, true, false, [], ◌∷◌, ◌++◌, take, None, Some, refl}
 use Rattle.std.specs.Int.Count.{count_leading_zeros}
 use Rattle.avc_types.specs.declared.references.Marking.TheVariants.{Idr, SlidingWindow}
 use Rattle.avc_bits.specs.Bits.{byte_bits}
@@ -26,6 +26,7 @@ of_i = record {
   active_override = None;
   active_count = 0;
   modifications = None;
+  pred_weight_table = None;
   marking = Some (Idr false false);
   slice_qp_delta = pos 0;
   deblocking = None;
@@ -58,6 +59,7 @@ of_p = record {
   active_override = None;
   active_count = 1;
   modifications = None;
+  pred_weight_table = None;
   marking = Some SlidingWindow;
   slice_qp_delta = pos 0;
   deblocking = None;
@@ -75,3 +77,15 @@ p_byte = refl
 writes_lsb : header_bits (record small { order_count = orders.Type0 0 }) plain (record of_p { slice_type = AllI; active_count = 0; order = Type0 4 (pos 0) }) ≡ take 19 (byte_bits (0x88 ∷ 0x8A ∷ 0x24 ∷ []))
 unfolding se_word ue_word count_leading_zeros
 writes_lsb = refl
+
+-- with weight 1 and offset 2 of luma
+writes_weights : header_bits small (record plain { weighted_pred_flag = true })
+    (record of_p {
+      pred_weight_table = Some (record {
+        luma_log2_weight_denom = 0;
+        chroma_log2_weight_denom = 0;
+        entries = record { luma = Some (record { weight = pos 1; offset = pos 2 }); chroma = None } ∷ [];
+      });
+    }) ≡ take 27 (byte_bits (0x9A ∷ 0x27 ∷ 0x44 ∷ 0x2A ∷ []))
+unfolding se_word ue_word count_leading_zeros
+writes_weights = refl

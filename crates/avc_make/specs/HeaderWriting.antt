@@ -8,10 +8,11 @@ use Rattle.avc_types.specs.declared.references.Marking.TheVariants.{Idr, Sliding
 use Rattle.avc_types.specs.declared.references.Modification.{Modification}
 use Rattle.avc_types.specs.declared.references.Modification.TheVariants.{Subtract, Add, LongTerm}
 use Rattle.avc_types.specs.declared.references.Operation.{Operation}
-use Rattle.avc_types.specs.declared.references.Operation.TheVariants.{ForgetShort, ForgetLong, ShortToLong, LimitLong, ForgetAll, CurrentToLong}
+use Rattle.avc_types.specs.declared.references.Operation.TheVariants.{UnmarkShortTerm, UnmarkLongTerm, AssignLongTerm, MaxLongTermFrameIdx, UnmarkAll, CurrentToLongTerm}
 use Rattle.avc_bits.specs.Bits.{bits_of}
 use Rattle.avc_make.specs.SpsWriting.{IsSeValue}
 use Rattle.avc_make.specs.VuiWriting.{Each, IsUeValue, flag_bits, optional_bits, where_bits}
+use Rattle.avc_make.specs.WeightsWriting.{pred_weight_table_bits}
 use Rattle.avc_make.specs.Words.{joined, se_word, ue_word}
 use Rattle.avc_params.specs.Limits.{max_frame_num, size_in_mbs}
 use Rattle.avc_params.specs.Within.{IsPps, IsSps}
@@ -21,6 +22,7 @@ use Rattle.avc_params.specs.declared.sps.OrderCount.TheVariants as orders
 use Rattle.avc_params.specs.declared.sps.Sps.{Sps}
 use Rattle.avc_slice.specs.Header.{is_idr, is_p, is_reference, slice_qp}
 use Rattle.avc_slice.specs.Reading.{active_count, most_operations}
+use Rattle.avc_slice.specs.Within.{IsPredWeightTable}
 use Rattle.avc_slice.specs.declared.header.CodedOrder.{CodedOrder}
 use Rattle.avc_slice.specs.declared.header.CodedOrder.TheVariants.{Type0, Type1, Type2}
 use Rattle.avc_slice.specs.declared.header.Deblocking.{Deblocking}
@@ -58,9 +60,9 @@ modification_bits (LongTerm n) = joined (ue_word 2 ∷ ue_word n ∷ [])
 abbrev pub modifications_bits : List Modification → List Bool
 modifications_bits list = joined (flat_map modification_bits list ∷ ue_word 3 ∷ [])
 
--- num_ref_idx_active_override_flag and ref_pic_list_modification_flag_l0 with what they bring, in P slices
+-- num_ref_idx_active_override_flag and ref_pic_list_modification_flag_l0 with what they bring, and the weights, in P slices
 abbrev pub list_bits : Header → List Bool
-list_bits h = joined (optional_bits ue_word h.active_override ∷ optional_bits modifications_bits h.modifications ∷ [])
+list_bits h = joined (optional_bits ue_word h.active_override ∷ optional_bits modifications_bits h.modifications ∷ where_bits pred_weight_table_bits h.pred_weight_table ∷ [])
 
 abbrev pub list_bits_where : (p : Bool) → Header → List Bool
 list_bits_where true h = list_bits h
@@ -68,12 +70,12 @@ list_bits_where false h = []
 
 -- memory_management_control_operation and its numbers (7.3.3.3)
 abbrev pub operation_bits : Operation → List Bool
-operation_bits (ForgetShort n) = joined (ue_word 1 ∷ ue_word n ∷ [])
-operation_bits (ForgetLong n) = joined (ue_word 2 ∷ ue_word n ∷ [])
-operation_bits (ShortToLong n index) = joined (ue_word 3 ∷ ue_word n ∷ ue_word index ∷ [])
-operation_bits (LimitLong n) = joined (ue_word 4 ∷ ue_word n ∷ [])
-operation_bits ForgetAll = ue_word 5
-operation_bits (CurrentToLong index) = joined (ue_word 6 ∷ ue_word index ∷ [])
+operation_bits (UnmarkShortTerm n) = joined (ue_word 1 ∷ ue_word n ∷ [])
+operation_bits (UnmarkLongTerm n) = joined (ue_word 2 ∷ ue_word n ∷ [])
+operation_bits (AssignLongTerm n index) = joined (ue_word 3 ∷ ue_word n ∷ ue_word index ∷ [])
+operation_bits (MaxLongTermFrameIdx n) = joined (ue_word 4 ∷ ue_word n ∷ [])
+operation_bits UnmarkAll = ue_word 5
+operation_bits (CurrentToLongTerm index) = joined (ue_word 6 ∷ ue_word index ∷ [])
 
 abbrev pub marking_bits : Marking → List Bool
 marking_bits (Idr no_output_of_prior_pics_flag long_term_reference_flag) = joined (flag_bits no_output_of_prior_pics_flag ∷ flag_bits long_term_reference_flag ∷ [])
@@ -144,23 +146,26 @@ pub record IsListOf (sps : Sps) (pps : Pps) (h : Header) : Type 0 where
   pub override : IsOverride pps h.active_override
   pub count : h.active_count ≡ active_count pps h.active_override
   pub list : IfSome h.modifications (IsModificationList (max_frame_num sps) (active_count pps h.active_override))
+  pub is_weighted : is_some h.pred_weight_table ≡ pps.weighted_pred_flag
+  pub weights : IfSome h.pred_weight_table (IsPredWeightTable h.active_count)
 
 pub record HasNoList (h : Header) : Type 0 where
   pub override : h.active_override ≡ None
   pub count : h.active_count ≡ 0
   pub list : h.modifications ≡ None
+  pub weights : h.pred_weight_table ≡ None
 
 abbrev pub IsListWhere : (p : Bool) → Sps → Pps → Header → Type 0
 IsListWhere true sps pps h = IsListOf sps pps h
 IsListWhere false sps pps h = HasNoList h
 
 abbrev pub IsOperation : Operation → Type 0
-IsOperation (ForgetShort n) = IsUeValue n
-IsOperation (ForgetLong n) = IsUeValue n
-IsOperation (ShortToLong n index) = IsUeValue n × IsUeValue index
-IsOperation (LimitLong n) = IsUeValue n
-IsOperation ForgetAll = Unit {0}
-IsOperation (CurrentToLong index) = IsUeValue index
+IsOperation (UnmarkShortTerm n) = IsUeValue n
+IsOperation (UnmarkLongTerm n) = IsUeValue n
+IsOperation (AssignLongTerm n index) = IsUeValue n × IsUeValue index
+IsOperation (MaxLongTermFrameIdx n) = IsUeValue n
+IsOperation UnmarkAll = Unit {0}
+IsOperation (CurrentToLongTerm index) = IsUeValue index
 
 -- of an IDR picture or of another
 abbrev pub IsMarkingOf : (idr : Bool) → Marking → Type 0

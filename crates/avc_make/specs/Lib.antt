@@ -10,3 +10,7 @@ pub mod Units
 pub mod VuiWriting
 pub mod Words
 pub mod BlockWriting
+pub mod WeightsWriting
+pub mod MbWriting
+pub mod DataWriting
+pub mod SliceMbs

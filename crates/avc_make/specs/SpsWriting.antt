@@ -1,10 +1,11 @@
 -- Sequence parameter sets as bits (7.3.2.1.1): the elements in their order, and the ranges in which they can be written.
-use Rattle.std.specs.Prelude.{◌≡◌, ◌<◌, ◌==◌, ◌||◌, ℤ, pos, neg_ℤ, ◌<ℤ◌, Bool, true, List, [], ◌∷◌, length, IfSome}
+use Rattle.std.specs.Prelude.{◌≡◌, ℕ, ◌*◌, ◌<◌, ◌≤◌, ◌==◌, ◌||◌, ℤ, pos, neg_ℤ, ◌<ℤ◌, Bool, true, List, [], ◌∷◌, length, IfSome, IsSome}
 use Rattle.std.specs.List.{flat_map}
 use Rattle.avc_bits.specs.Bits.{bits_of}
 use Rattle.avc_make.specs.VuiWriting.{Each, IsVui, flag_bits, optional_bits, vui_bits}
 use Rattle.avc_make.specs.Words.{joined, se_word, ue_word}
-use Rattle.avc_params.specs.Within.{IsSps}
+use Rattle.avc_params.specs.Limits.{height_in_mbs, max_dpb_mbs, width_in_mbs}
+use Rattle.avc_params.specs.Within.{IsCropping, IsOrderCount}
 use Rattle.avc_params.specs.declared.sps.ConstraintFlags.{ConstraintFlags}
 use Rattle.avc_params.specs.declared.sps.Cropping.{Cropping}
 use Rattle.avc_params.specs.declared.sps.OrderCount.{OrderCount}
@@ -49,12 +50,23 @@ sps_bits sps =
     ∷ size_bits sps ∷ flag_bits true ∷ flag_bits sps.direct_8x8_inference_flag
     ∷ optional_bits cropping_bits sps.frame_cropping ∷ optional_bits vui_bits sps.vui ∷ [])
 
--- A set that can be written: it is within the limits of the sets that are read, and each field within its code.
+-- the greatest width and height that can be written, in macroblocks
+abbrev pub max_written_side : ℕ
+max_written_side = 4096
+
+-- A set that can be written: each field within its code and its range. Its size may be one that no set is read with.
 pub record IsWritable (sps : Sps) : Type 0 where
-  pub within : IsSps sps
   pub profile : (sps.profile_idc == 66 || sps.profile_idc == 77 || sps.profile_idc == 88) ≡ true
   pub profile_fits : sps.profile_idc < 256
   pub reserved : sps.reserved_zero_2bits < 4
+  pub level : IsSome (max_dpb_mbs sps.level_idc sps.constraint_flags.constraint_set3_flag)
   pub level_fits : sps.level_idc < 256
-  pub order : HasSeValues sps.order_count
+  pub id : sps.seq_parameter_set_id ≤ 31
+  pub frame_num : sps.log2_max_frame_num_minus4 ≤ 12
+  pub order : IsOrderCount sps.order_count
+  pub order_values : HasSeValues sps.order_count
+  pub references : sps.max_num_ref_frames ≤ 16
+  pub width : width_in_mbs sps ≤ max_written_side
+  pub height : height_in_mbs sps ≤ max_written_side
+  pub crop : IfSome sps.frame_cropping (IsCropping (16 * width_in_mbs sps) (16 * height_in_mbs sps))
   pub usability : IfSome sps.vui IsVui

@@ -6,7 +6,7 @@ use Rattle.avc_make.specs.Made.{IsFilled}
 use Rattle.avc_make.specs.PpsWriting.{pps_bits}
 use Rattle.avc_make.specs.SpsWriting.{IsWritable, sps_bits}
 use Rattle.avc_params.specs.Reading.{pps_of, sps_of}
-use Rattle.avc_params.specs.Within.{IsPps}
+use Rattle.avc_params.specs.Within.{IsPps, IsSps}
 use Rattle.avc_params.specs.declared.pps.Pps.{Pps}
 use Rattle.avc_params.specs.declared.sps.Sps.{Sps}
 
@@ -29,6 +29,6 @@ pub record IsUnit (header : ℕ) (bits : List Bool) (unit : List ℕ) : Type 0 w
 abbrev pub PpsIsRead : Type 0
 PpsIsRead = (pps : Pps) (unit : List ℕ) → IsPps pps → IsUnit pps_header (pps_bits pps) unit → pps_of (rbsp (drop 1 unit)) ≡ Ok pps
 
--- The unit of a sequence parameter set in its ranges is read as that set.
+-- The unit of a sequence parameter set in its ranges and of a size that is taken is read as that set.
 abbrev pub SpsIsRead : Type 0
-SpsIsRead = (sps : Sps) (unit : List ℕ) → IsWritable sps → IsUnit sps_header (sps_bits sps) unit → sps_of (rbsp (drop 1 unit)) ≡ Ok sps
+SpsIsRead = (sps : Sps) (unit : List ℕ) → IsWritable sps → IsSps sps → IsUnit sps_header (sps_bits sps) unit → sps_of (rbsp (drop 1 unit)) ≡ Ok sps

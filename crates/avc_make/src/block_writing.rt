@@ -11,8 +11,7 @@ use crate::coefficients::Coefficients;
 use crate::level_writing::put_levels;
 use crate::maker::BitMaker;
 use crate::run_writing::{put_runs, put_zeros};
-use avc_cavlc::Levels;
-use avc_types::OutOfMemory;
+use avc_types::{Levels, OutOfMemory};
 use avc_vlc::{Codeword, Token, coeff_token_word};
 
 /// Puts the MAXN levels of a block (residual_block_cavlc): 4 of chroma DC, where `nc` is -1, or 15 or 16, where it is nC.

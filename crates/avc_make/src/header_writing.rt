@@ -6,6 +6,7 @@ ghost use Rattle.avc_make.specs.VuiWriting.{Each, IsUeValue};
 ghost use Rattle.avc_make.specs.Words.{se_word, ue_word};
 ghost use Rattle.avc_params.specs.Within.{IsOrderCount};
 ghost use Rattle.avc_slice.specs.Header.{is_p, is_p_type};
+ghost use Rattle.avc_slice.specs.Within.{IsPredWeightTable};
 
 use crate::maker::BitMaker;
 use crate::part::{Part, put_optional, put_where};
@@ -153,16 +154,18 @@ fn put_se_where(maker: &mut BitMaker, coded: bool, value: i32) -> Result<(), Out
     Ok(())
 }
 
-// what RefPicList0 is made by, in P slices
+// what RefPicList0 is made by, and by what its predictions are weighted, in P slices
 fn put_list(maker: &mut BitMaker, header: &Header) -> Result<(), OutOfMemory>
     requires going { maker.old.failed ≡ false }
     requires count { IfSome header.now.active_override IsUeValue }
     requires list { IfSome header.now.modifications (Each (IsModification 65536)) }
+    requires weights { IfSome header.now.pred_weight_table (IsPredWeightTable header.now.active_count) }
     ensures { Puts result (list_bits_where (is_p header.now) header.now) maker.old maker.new }
 {
     if is_p(header.slice_type) {
         put_optional(maker, &header.active_override)?;
         put_optional(maker, &header.modifications)?;
+        put_where(maker, &header.pred_weight_table)?;
     }
     Ok(())
 }

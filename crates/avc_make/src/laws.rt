@@ -5,7 +5,10 @@ ghost use Rattle.avc_annexb.specs.Escapes.{rbsp};
 ghost use Rattle.avc_bits.specs.Bits.{bits_of};
 ghost use Rattle.avc_bits.specs.Codes.{IsSe, IsTe, IsUe, flag, se, te, u, ue};
 ghost use Rattle.avc_make.specs.BlockWriting.{BlocksAreRead, BlocksAreWritable, SmallAreWritable};
+ghost use Rattle.avc_make.specs.DataWriting.{DataIsRead, DataStandsAlone};
 ghost use Rattle.avc_make.specs.Escaping.{HasNoStart, escaped};
+ghost use Rattle.avc_make.specs.MbWriting.{MbIsRead};
+ghost use Rattle.avc_make.specs.SliceMbs.{CodedSlicesAreRead};
 ghost use Rattle.avc_make.specs.SliceUnits.{HeaderIsRead, SliceIsRead};
 ghost use Rattle.avc_make.specs.Units.{PpsIsRead, SpsIsRead};
 ghost use Rattle.avc_make.specs.Words.{ReadsBack, se_word, te_word, ue_word};
@@ -37,7 +40,7 @@ pub fn pps_is_read()
     ensures { PpsIsRead }
 {}
 
-/// The unit of a sequence parameter set in its ranges is read as that set, with no fault.
+/// The unit of a sequence parameter set in its ranges and of a size that is taken is read as that set, with no fault.
 pub fn sps_is_read()
     ensures { SpsIsRead }
 {}
@@ -62,7 +65,28 @@ pub fn header_is_read()
     ensures { HeaderIsRead }
 {}
 
+/// The bits of a macroblock whose elements are in their ranges are read as that macroblock, with no fault.
+pub fn macroblocks_are_read()
+    ensures { MbIsRead }
+{}
+
+/// The data of a slice of macroblocks that can follow one another is read as those macroblocks, with no fault.
+pub fn data_is_read()
+    ensures { DataIsRead }
+{}
+
+/// The data of a slice depends on no macroblock of another slice, but for how many stand before.
+pub fn data_stands_alone()
+    ensures { DataStandsAlone }
+{}
+
 /// In the unit of a slice of I_PCM macroblocks, the bits after its header are read as those macroblocks, with no fault.
 pub fn slice_is_read()
     ensures { SliceIsRead }
+{}
+
+/// In the unit of a slice of any macroblocks that can follow one another, header and macroblocks are read as they are, with no
+/// fault, whatever the picture's earlier slices are.
+pub fn coded_slices_are_read()
+    ensures { CodedSlicesAreRead }
 {}

@@ -1,32 +1,32 @@
 //! Writing the syntax of H.264 (7.3): bits and codes, parameter sets, and their units with escapes.
 #![tactic(auto)]
 
-#[cfg(test)]
-mod block_tests;
 mod block_writing;
 mod coefficients;
 mod escapes;
 mod header_writing;
+mod inter_writing;
 pub mod laws;
 mod level_writing;
+mod macroblock_writing;
 mod maker;
 mod part;
 mod pps_writing;
 mod reference_writing;
+mod residual_writing;
 mod run_writing;
 mod slice;
 mod slice_writing;
 mod sps_writing;
 mod units;
 mod vui_writing;
+mod weights_writing;
 
 pub use block_writing::write_block;
 pub use escapes::escape;
+pub use macroblock_writing::write_macroblock;
 pub use maker::BitMaker;
 pub use pps_writing::write_pps;
 pub use slice::{Macroblocks, PcmMacroblock, Slice};
 pub use slice_writing::write_slice;
 pub use sps_writing::write_sps;
-
-#[cfg(test)]
-mod tests;

@@ -39,8 +39,6 @@ fn put_pps(maker: &mut BitMaker, pps: &Pps) -> Result<(), OutOfMemory>
     // num_slice_groups_minus1
     maker.ue(0)?;
     put_default_counts(maker, pps)?;
-    // weighted_pred_flag
-    maker.flag(false)?;
     put_quantisation(maker, pps)?;
     put_switches(maker, pps)?;
     Ok(())
@@ -58,6 +56,7 @@ fn put_quantisation(maker: &mut BitMaker, pps: &Pps) -> Result<(), OutOfMemory>
     requires { IsPps pps.now }
     ensures { Puts result (quantisation_bits pps.now) maker.old maker.new }
 {
+    maker.flag(pps.weighted_pred_flag)?;
     maker.put(2, pps.weighted_bipred_idc as u32)?;
     maker.se(pps.pic_init_qp_minus26)?;
     maker.se(pps.pic_init_qs_minus26)?;

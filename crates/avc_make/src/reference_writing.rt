@@ -47,32 +47,32 @@ impl Part for Operation {
 
     fn put(&self, maker: &mut BitMaker) -> Result<(), OutOfMemory> {
         match *self {
-            Operation::ForgetShort(number) => {
+            Operation::UnmarkShortTerm(number) => {
                 maker.ue(1)?;
                 maker.ue(number)?;
                 Ok(())
             }
-            Operation::ForgetLong(number) => {
+            Operation::UnmarkLongTerm(number) => {
                 maker.ue(2)?;
                 maker.ue(number)?;
                 Ok(())
             }
-            Operation::ShortToLong(number, index) => {
+            Operation::AssignLongTerm(number, index) => {
                 maker.ue(3)?;
                 maker.ue(number)?;
                 maker.ue(index)?;
                 Ok(())
             }
-            Operation::LimitLong(number) => {
+            Operation::MaxLongTermFrameIdx(number) => {
                 maker.ue(4)?;
                 maker.ue(number)?;
                 Ok(())
             }
-            Operation::ForgetAll => {
+            Operation::UnmarkAll => {
                 maker.ue(5)?;
                 Ok(())
             }
-            Operation::CurrentToLong(index) => {
+            Operation::CurrentToLongTerm(index) => {
                 maker.ue(6)?;
                 maker.ue(index)?;
                 Ok(())

@@ -87,8 +87,8 @@ fn put_type(maker: &mut BitMaker, p: bool) -> Result<(), OutOfMemory>
     Ok(())
 }
 
-// pcm_alignment_zero_bit, up to the next byte
-fn put_alignment(maker: &mut BitMaker) -> Result<(), OutOfMemory>
+/// pcm_alignment_zero_bit, up to the next byte.
+pub(crate) fn put_alignment(maker: &mut BitMaker) -> Result<(), OutOfMemory>
     requires { maker.old.failed ≡ false }
     ensures { Puts result (zeros_to_byte (length maker.old.bits)) maker.old maker.new }
 {
@@ -109,7 +109,8 @@ fn put_samples(maker: &mut BitMaker, macroblock: &PcmMacroblock) -> Result<(), O
     Ok(())
 }
 
-fn put_bytes(maker: &mut BitMaker, bytes: &[u8]) -> Result<(), OutOfMemory>
+/// Bytes one after another.
+pub(crate) fn put_bytes(maker: &mut BitMaker, bytes: &[u8]) -> Result<(), OutOfMemory>
     requires { maker.old.failed ≡ false }
     ensures put { Puts result (byte_bits bytes.now) maker.old maker.new }
     ensures bytes { OnOk result (Each (λ v. v < 256) bytes.now) }

@@ -4,7 +4,7 @@ ghost use Rattle.avc_make.specs.Made.{Puts};
 ghost use Rattle.avc_make.specs.SpsWriting.{HasSeValues, IsWritable, constraint_bits, cropping_bits, identity_bits, order_bits, size_bits, sps_bits};
 ghost use Rattle.avc_make.specs.Units.{IsUnit, sps_header};
 ghost use Rattle.avc_params.specs.Reading.{sps_of};
-ghost use Rattle.avc_params.specs.Within.{IsOrderCount};
+ghost use Rattle.avc_params.specs.Within.{IsOrderCount, IsSps};
 
 use crate::maker::BitMaker;
 use crate::part::{Part, put_each, put_optional};
@@ -16,11 +16,12 @@ use std::alloc::Global;
 // nal_ref_idc 3 and nal_unit_type 7
 const SPS_HEADER: u8 = 0x67;
 
-/// The unit of a sequence parameter set (7.3.2.1.1), from its header byte on. frame_mbs_only_flag is 1 in it.
+/// The unit of a sequence parameter set (7.3.2.1.1), from its header byte on. frame_mbs_only_flag is 1 in it. Width and
+/// height are 1 to 4,096 macroblocks, more than a decoder takes.
 pub fn write_sps(alloc: Global, sps: &Sps) -> Result<Vec<u8>, OutOfMemory>
     requires { IsWritable sps.now }
     ensures unit { IfOk result (λ unit. IsUnit sps_header (sps_bits sps.now) unit.items) }
-    ensures read { IfOk result (λ unit. sps_of (rbsp (drop 1 unit.items)) ≡ Ok sps.now) }
+    ensures read { IsSps sps.now → IfOk result (λ unit. sps_of (rbsp (drop 1 unit.items)) ≡ Ok sps.now) }
 {
     let mut maker = BitMaker::new(alloc);
     put_sps(&mut maker, sps)?;

@@ -1,0 +1,5 @@
+use Rattle.avc_make.proofs.DataAlone.{data_alone}
+use Rattle.avc_make.proofs.laws.data_stands_alone.Goals as goal
+
+pub returns : goal.returns
+returns c = data_alone

@@ -1,0 +1,157 @@
+//! Inter macroblocks whose vectors are coded (7.3.5.1, 7.3.5.2).
+ghost use Rattle.std.specs.Prelude.{◌≡◌, ◌≤◌, ◌<◌, ◌++◌, Bool, List, true, false, [], length, take};
+ghost use Rattle.std.specs.List.{flat_map};
+ghost use Rattle.avc_types.specs.Macroblock.{parts_of, partitions};
+ghost use Rattle.avc_types.specs.MacroblockFields.{residual_of};
+ghost use Rattle.avc_make.specs.Made.{Puts};
+ghost use Rattle.avc_make.specs.MbWriting.{IsMvd, IsPInter, IsRefIdx, has_ref_idx, mvd_bits, p_inter_bits, p_mb_number, ref_idx_bits, sub_mb_number, sub_mb_types_bits};
+ghost use Rattle.avc_make.specs.VuiWriting.{Each};
+ghost use Rattle.avc_make.specs.Words.{te_word, ue_word};
+
+use crate::macroblock_writing::put_pattern;
+use crate::maker::BitMaker;
+use crate::part::{Part, put_each};
+use avc_mbsyntax::{Context, part_count, partitions};
+use avc_types::{BlockLevels, Mvd, OutOfMemory, PMbType, SubMbType};
+
+/// Puts mb_type and what follows it.
+pub(crate) fn put_p_inter(
+    maker: &mut BitMaker,
+    context: &Context,
+    mb_type: &PMbType,
+    ref_idx: &[u8; 4],
+    mvd: &[Mvd; 16],
+    levels: &BlockLevels<16>,
+) -> Result<(), OutOfMemory>
+    requires going { maker.old.failed ≡ false }
+    requires ranges { IsPInter context.now mb_type.now (take (partitions mb_type.now) ref_idx.now) (take (length (parts_of mb_type.now)) mvd.now) (residual_of [] levels.now) }
+    ensures { Puts result (ue_word (p_mb_number mb_type.now) ++ p_inter_bits context.now mb_type.now (take (partitions mb_type.now) ref_idx.now) (take (length (parts_of mb_type.now)) mvd.now) (residual_of [] levels.now)) maker.old maker.new }
+{
+    put_p_type(maker, mb_type)?;
+    put_sub_mb_types(maker, mb_type)?;
+    put_ref_idx(maker, context.active_count, mb_type, ref_idx)?;
+    put_mvd(maker, mb_type, mvd)?;
+    put_pattern(maker, context, false, levels)?;
+    Ok(())
+}
+
+fn put_p_type(maker: &mut BitMaker, mb_type: &PMbType) -> Result<(), OutOfMemory>
+    ensures { Puts result (ue_word (p_mb_number mb_type.now)) maker.old maker.new }
+{
+    maker.ue(number_of(mb_type))
+}
+
+// mvd_l0 of each part
+fn put_mvd(maker: &mut BitMaker, mb_type: &PMbType, mvd: &[Mvd; 16]) -> Result<(), OutOfMemory>
+    requires going { maker.old.failed ≡ false }
+    requires ranges { Each IsMvd (take (length (parts_of mb_type.now)) mvd.now) }
+    ensures { Puts result (flat_map mvd_bits (take (length (parts_of mb_type.now)) mvd.now)) maker.old maker.new }
+{
+    put_each(maker, &mvd[..part_count(mb_type)])
+}
+
+// mb_type (Table 7-13)
+fn number_of(mb_type: &PMbType) -> u32
+    ensures value { result ≡ p_mb_number mb_type.now }
+    ensures few { result ≤ 4 }
+{
+    match mb_type {
+        PMbType::P16x16 => 0,
+        PMbType::P16x8 => 1,
+        PMbType::P8x16 => 2,
+        PMbType::P8x8(_) => 3,
+        PMbType::P8x8Ref0(_) => 4,
+    }
+}
+
+fn put_sub_mb_types(maker: &mut BitMaker, mb_type: &PMbType) -> Result<(), OutOfMemory>
+    requires { maker.old.failed ≡ false }
+    ensures { Puts result (sub_mb_types_bits mb_type.now) maker.old maker.new }
+{
+    match mb_type {
+        PMbType::P16x16 | PMbType::P16x8 | PMbType::P8x16 => Ok(()),
+        PMbType::P8x8(subs) => put_each(maker, subs),
+        PMbType::P8x8Ref0(subs) => put_each(maker, subs),
+    }
+}
+
+// ref_idx_l0 of each partition, where there is more than one index
+fn put_ref_idx(
+    maker: &mut BitMaker,
+    active_count: u8,
+    mb_type: &PMbType,
+    ref_idx: &[u8; 4],
+) -> Result<(), OutOfMemory>
+    requires going { maker.old.failed ≡ false }
+    requires ranges { IsRefIdx active_count (partitions mb_type.now) (has_ref_idx active_count mb_type.now) (take (partitions mb_type.now) ref_idx.now) }
+    ensures { Puts result (ref_idx_bits active_count (has_ref_idx active_count mb_type.now) (take (partitions mb_type.now) ref_idx.now)) maker.old maker.new }
+{
+    if has_ref_idx(active_count, mb_type) {
+        put_indices(
+            maker,
+            active_count as u32 - 1,
+            &ref_idx[..partitions(mb_type)],
+        )
+    } else {
+        Ok(())
+    }
+}
+
+fn has_ref_idx(active_count: u8, mb_type: &PMbType) -> bool
+    ensures value { result ≡ has_ref_idx active_count mb_type.now }
+    ensures many { result ≡ true → 2 ≤ active_count }
+{
+    match mb_type {
+        PMbType::P8x8Ref0(_) => false,
+        _ => active_count > 1,
+    }
+}
+
+// te(v) of each index
+fn put_indices(maker: &mut BitMaker, most: u32, ref_idx: &[u8]) -> Result<(), OutOfMemory>
+    requires going { maker.old.failed ≡ false }
+    requires some { 1 ≤ most }
+    requires within { Each (λ i. (i ≤ most) × (i < 4294967295)) ref_idx.now }
+    ensures { Puts result (flat_map (te_word most) ref_idx.now) maker.old maker.new }
+{
+    for index in ref_idx {
+        maker.te(most, *index as u32)?;
+    }
+    Ok(())
+}
+
+// sub_mb_type
+impl Part for SubMbType {
+    ghost bits = { λ s. ue_word (sub_mb_number s) };
+
+    ghost fits = { λ _. Unit {0} };
+
+    fn put(&self, maker: &mut BitMaker) -> Result<(), OutOfMemory> {
+        maker.ue(sub_mb_number(*self))
+    }
+}
+
+// sub_mb_type (Table 7-17)
+fn sub_mb_number(sub_mb_type: SubMbType) -> u32
+    ensures value { result ≡ sub_mb_number sub_mb_type }
+    ensures few { result ≤ 3 }
+{
+    match sub_mb_type {
+        SubMbType::Sub8x8 => 0,
+        SubMbType::Sub8x4 => 1,
+        SubMbType::Sub4x8 => 2,
+        SubMbType::Sub4x4 => 3,
+    }
+}
+
+// mvd_l0
+impl Part for Mvd {
+    ghost bits = { mvd_bits };
+
+    ghost fits = { IsMvd };
+
+    fn put(&self, maker: &mut BitMaker) -> Result<(), OutOfMemory> {
+        maker.se(self.x)?;
+        maker.se(self.y)
+    }
+}

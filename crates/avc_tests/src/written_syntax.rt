@@ -1,0 +1,157 @@
+// No clause says that memory is found. Where an allocation is refused (`rt try --test --fail-alloc N`), the test ends in that
+// error, and not at an assertion.
+ghost use Rattle.std.specs.Prelude.{◌≤◌};
+
+use avc_make::{
+    BitMaker, Macroblocks, PcmMacroblock, Slice, write_block, write_pps, write_slice, write_sps,
+};
+use avc_params::{ConstraintFlags, OrderCount, Pps, Sps, read_sps};
+use avc_slice::{CodedOrder, Header, SliceType};
+use avc_types::{Fault, Levels, Marking, MbAddr};
+use std::alloc::Global;
+use std::test::Fail;
+
+// 16x16 luma samples, order count type 2, one reference frame
+const SPS: Sps = Sps {
+    profile_idc: 66,
+    constraint_flags: ConstraintFlags {
+        constraint_set0_flag: true,
+        constraint_set1_flag: true,
+        constraint_set2_flag: false,
+        constraint_set3_flag: false,
+        constraint_set4_flag: false,
+        constraint_set5_flag: false,
+    },
+    reserved_zero_2bits: 0,
+    level_idc: 10,
+    seq_parameter_set_id: 0,
+    log2_max_frame_num_minus4: 0,
+    order_count: OrderCount::Type2,
+    max_num_ref_frames: 1,
+    gaps_in_frame_num_value_allowed_flag: false,
+    pic_width_in_mbs_minus1: 0,
+    pic_height_in_map_units_minus1: 0,
+    direct_8x8_inference_flag: false,
+    frame_cropping: None,
+    vui: None,
+};
+
+// no deblocking fields in slices
+const PPS: Pps = Pps {
+    pic_parameter_set_id: 0,
+    seq_parameter_set_id: 0,
+    bottom_field_pic_order_in_frame_present_flag: false,
+    num_ref_idx_l0_default_active_minus1: 0,
+    num_ref_idx_l1_default_active_minus1: 0,
+    weighted_pred_flag: false,
+    weighted_bipred_idc: 0,
+    pic_init_qp_minus26: 0,
+    pic_init_qs_minus26: 0,
+    chroma_qp_index_offset: 0,
+    deblocking_filter_control_present_flag: false,
+    constrained_intra_pred_flag: false,
+    redundant_pic_cnt_present_flag: false,
+};
+
+#[test]
+fn writes_parameter_sets(rt: HostRuntime) -> Result<(), Fail> {
+    let sps = SPS;
+    let unit = write_sps(rt.alloc(), &sps)?;
+    assert_eq!(rt;
+        unit.as_slice(),
+        [0x67, 0x42, 0xC0, 0x0A, 0xDA, 0x71].as_slice()
+    );
+    let unit = write_pps(rt.alloc(), &PPS)?;
+    assert_eq!(rt; unit.as_slice(), [0x68, 0xCE, 0x38, 0x80].as_slice());
+    Ok(())
+}
+
+// Why the set that was written with so many macroblocks is refused, if it is.
+fn fault_of_size(alloc: Global, width: u16, height: u16) -> Result<Option<Fault>, Fail>
+    requires width { width ≤ 4096 }
+    requires height { height ≤ 4096 }
+    requires some { 1 ≤ width }
+    requires any { 1 ≤ height }
+{
+    let mut sps = SPS;
+    sps.pic_width_in_mbs_minus1 = width - 1;
+    sps.pic_height_in_map_units_minus1 = height - 1;
+    let unit = write_sps(alloc, &sps)?;
+    match read_sps(&unit.as_slice()[1..]) {
+        Ok(_) => Ok(None),
+        Err(refused) => Ok(Some(refused.fault)),
+    }
+}
+
+#[test]
+fn writes_sizes_that_are_not_taken(rt: HostRuntime) -> Result<(), Fail> {
+    let refused = Some(Fault::PictureSize);
+    assert_eq!(rt; fault_of_size(rt.alloc(), 1055, 132)?, None);
+    assert_eq!(rt; fault_of_size(rt.alloc(), 544, 1)?, None);
+    assert_eq!(rt; fault_of_size(rt.alloc(), 1, 1055)?, None);
+    assert_eq!(rt; fault_of_size(rt.alloc(), 1055, 133)?, refused);
+    assert_eq!(rt; fault_of_size(rt.alloc(), 1056, 1)?, refused);
+    assert_eq!(rt; fault_of_size(rt.alloc(), 4096, 4096)?, refused);
+    Ok(())
+}
+
+#[test]
+fn writes_a_slice(rt: HostRuntime) -> Result<(), Fail> {
+    let mut luma = [0; 256];
+    for k in 0..256usize {
+        luma[k] = k as u8;
+    }
+    let mut macroblocks = Vec::new(rt.alloc());
+    macroblocks.push(PcmMacroblock {
+        luma,
+        cb: [0x40; 64],
+        cr: [0xC0; 64],
+    })?;
+    // of the only slice of an IDR picture
+    let header = Header {
+        nal_ref_idc: 3,
+        first_mb_in_slice: MbAddr::new(0),
+        slice_type: SliceType::AllI,
+        pic_parameter_set_id: 0,
+        frame_num: 0,
+        idr_pic_id: Some(0),
+        order: CodedOrder::Type2,
+        redundant_pic_cnt: None,
+        active_override: None,
+        active_count: 0,
+        modifications: None,
+        pred_weight_table: None,
+        marking: Some(Marking::Idr {
+            no_output_of_prior_pics_flag: false,
+            long_term_reference_flag: false,
+        }),
+        slice_qp_delta: 0,
+        deblocking: None,
+        position: 0,
+    };
+    let slice = Slice {
+        sps: SPS,
+        pps: PPS,
+        header,
+        macroblocks: Macroblocks::from_vec(macroblocks),
+    };
+    let unit = write_slice(rt.alloc(), &slice)?;
+    let unit = unit.as_slice();
+    assert_eq!(rt; unit.len(), 390);
+    assert_eq!(rt; &unit[..5], [0x65, 0x88, 0x84, 0x86, 0x80].as_slice());
+    assert_eq!(rt; &unit[5..261], luma.as_slice());
+    assert_eq!(rt; &unit[261..325], [0x40; 64].as_slice());
+    assert_eq!(rt; &unit[325..389], [0xC0; 64].as_slice());
+    assert_eq!(rt; unit[389], 0x80);
+    Ok(())
+}
+
+#[test]
+fn writes_a_block(rt: HostRuntime) -> Result<(), Fail> {
+    let levels = Levels::from_array([0, 3, 0, 1, -1, -1, 0, 1, 0, 0, 0, 0, 0, 0, 0, 0]);
+    let mut maker = BitMaker::new(rt.alloc());
+    write_block::<16>(&mut maker, 0, &levels)?;
+    assert_eq!(rt; maker.len(), 24);
+    assert_eq!(rt; maker.bytes(), [0x08, 0xE5, 0xED].as_slice());
+    Ok(())
+}
