@@ -1,34 +1,102 @@
 #!/bin/sh
-# Decodes each stream of this folder with the built program, and compares what it writes with what must come out. NAME.264 is a
-# stream, NAME.md5 the md5 of its pictures as I420, and NAME.refused, where there is one, the standard error with status 1; else
-# nothing is written there, and the status is 0. The last line is 'N passed, M failed'.
+# Runs the built program and compares what it writes, its standard error and its status with what must come. NAME.264 is a stream,
+# NAME.md5 the md5 of its pictures as I420, NAME.refused, where there is one, the standard error with status 1 (else nothing is
+# written there, and the status is 0), and NAME.units, where there is one, what `units` writes. Words and faults of reading and
+# writing are tried after that. The last line is 'N passed, M failed'.
 set -u
 here=$(cd "$(dirname "$0")" && pwd)
-told=$(mktemp)
-trap 'rm -f "$told"' EXIT
+program=$here/../avcdec
+work=$(mktemp -d)
+trap 'rm -rf "$work"' EXIT
 passed=0
 failed=0
 
 # builds the program, where that has not been done
-"$here/../avcdec" --help >"$told" || exit 1
+"$program" --help >"$work/help" || exit 1
 
-for stream in "$here"/*/*.264; do
-    name=${stream%.264}
-    sum=$("$here/../avcdec" decode <"$stream" 2>"$told" | md5sum | cut -d ' ' -f 1)
-    "$here/../avcdec" decode <"$stream" >/dev/null 2>&1
-    status=$?
-    wanted=0
-    refused=/dev/null
-    if [ -f "$name.refused" ]; then
-        wanted=1
-        refused=$name.refused
-    fi
-    if [ "$sum" = "$(cut -d ' ' -f 1 <"$name.md5")" ] && [ "$status" = "$wanted" ] && cmp -s "$told" "$refused"; then
+# judges the last run: its name, its status, the status that is wanted, and the standard error that is wanted
+judge() {
+    if [ "$2" = "$3" ] && printf '%s' "$4" | cmp -s - "$work/told"; then
         passed=$((passed + 1))
     else
         failed=$((failed + 1))
-        echo "failed: ${name#"$here"/}"
+        echo "failed: $1: status $2"
+        cat "$work/told"
+    fi
+}
+
+# counts a test by its name, where the command after it says so
+holds() {
+    name=$1
+    shift
+    if "$@"; then
+        passed=$((passed + 1))
+    else
+        failed=$((failed + 1))
+        echo "failed: $name"
+    fi
+}
+
+# whether the pictures have this md5, the status is the wanted one, and this was told
+is_decoded() {
+    [ "$(md5sum <"$work/pictures" | cut -d ' ' -f 1)" = "$(cut -d ' ' -f 1 <"$1")" ] && [ "$2" = "$3" ] && cmp -s "$work/told" "$4"
+}
+
+for stream in "$here"/*/*.264; do
+    name=${stream%.264}
+    if [ -f "$name.md5" ]; then
+        "$program" decode <"$stream" >"$work/pictures" 2>"$work/told"
+        status=$?
+        wanted=0
+        refused=/dev/null
+        if [ -f "$name.refused" ]; then
+            wanted=1
+            refused=$name.refused
+        fi
+        holds "${name#"$here"/}" is_decoded "$name.md5" "$status" "$wanted" "$refused"
+    fi
+    if [ -f "$name.units" ]; then
+        "$program" units <"$stream" >"$work/lines" 2>"$work/told"
+        judge "units of ${name#"$here"/}" $? 0 ''
+        holds "lines of ${name#"$here"/}" cmp -s "$work/lines" "$name.units"
     fi
 done
+
+picture=$here/pcm/pcm_1.264
+for command in decode units; do
+    "$program" "$command" <"$here" >"$work/written" 2>"$work/told"
+    judge "$command of what cannot be read" $? 3 'avcdec: read fault
+'
+    holds "nothing is written" [ ! -s "$work/written" ]
+    "$program" "$command" <"$picture" >/dev/full 2>"$work/told"
+    judge "$command to a full device" $? 3 'avcdec: write fault
+'
+    "$program" "$command" <"$picture" >/dev/full 2>/dev/full
+    status=$?
+    : >"$work/told"
+    judge "$command where nothing can be told" "$status" 3 ''
+    "$program" "$command" </dev/null >"$work/written" 2>"$work/told"
+    judge "$command of nothing" $? 0 ''
+    holds "nothing is written" [ ! -s "$work/written" ]
+done
+
+# wrong words have a text on the standard error, and help that is asked for on the standard output
+for words in '' unit 'units more' 'decode --fast'; do
+    # shellcheck disable=SC2086
+    "$program" $words <"$picture" >"$work/written" 2>"$work/told"
+    holds "status of '$words'" [ $? = 2 ]
+    holds "text of '$words'" [ -s "$work/told" ]
+    holds "nothing is written after '$words'" [ ! -s "$work/written" ]
+done
+for words in --help 'help units' 'decode --help'; do
+    # shellcheck disable=SC2086
+    "$program" $words <"$picture" >"$work/written" 2>"$work/told"
+    judge "$words" $? 0 ''
+    holds "text of $words" [ -s "$work/written" ]
+done
+"$program" --help </dev/null >/dev/full 2>"$work/told"
+judge 'help to a full device' $? 3 'avcdec: write fault
+'
+
 echo "$passed passed, $failed failed"
 [ "$failed" = 0 ] && [ "$passed" -gt 0 ]

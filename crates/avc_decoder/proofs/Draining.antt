@@ -2,14 +2,14 @@
 use Rattle.std.proofs.Common.{◌≡◌, ◌+◌, ℕ, zero, suc, Bool, true, false, List, [], ◌∷◌, ◌++◌, length, drop, Option, Some, None, refl, ap, sym, ◌∙◌, arith, add-one, append_assoc, append-nil, length-append, subst}
 use Rattle.std.specs.Prelude.{slice_get}
 use Rattle.std.proofs.Math.Seq.{drop-append_seam}
-use Rattle.avc_annexb.specs.Splitting.{Splitting, fed, finished, next_of, taking}
+use Rattle.avc_annexb.specs.SplitterState.{SplitterState, after_feed, after_finish, next_unit_of, after_next_unit}
 use Rattle.avc_annexb.specs.Units.{units}
 use Rattle.avc_annexb.specs.declared.unit.Unit.{Unit as Piece}
 use Rattle.avc_annexb.proofs.Staying.{units_stay_first}
 use Rattle.avc_decoder.specs.Events.{State, after_unit, at_end, events_from, first_state, state_after}
 use Rattle.avc_decoder.specs.Laws.{state_through}
 use Rattle.avc_decoder.proofs.Growing.{events-append}
-use Rattle.avc_decoder.specs.Kept.{Flowed, IsDecoded, all_handled, flow_ended, handled}
+use Rattle.avc_decoder.specs.States.{StreamState, IsDecoded, after_units_in_stream, after_stream_end, after_unit_in_stream}
 
 drop_some : {A : Type 0} (xs : List A) (n : ℕ) (x : A) → Some x ≡ slice_get xs n → drop n xs ≡ x ∷ drop (suc n) xs
 drop_some [] n x e = cc
@@ -25,39 +25,39 @@ drop_none (y ∷ ys) (suc n) e = drop_none ys n e
 -- ---- the units that wait, one after another
 
 -- from the first state on, some units were handled
-pub record Left (max : ℕ) (first : Splitting) (flow : Flowed) (s : Splitting) (t : Flowed) : Type 0 where
+pub record Left (max : ℕ) (first : SplitterState) (flow : StreamState) (s : SplitterState) (t : StreamState) : Type 0 where
   pub splitter : s ≡ record first { taken = s.taken }
   pub going : first.failed ≡ false
   pub on : t.failed ≡ false
-  pub handles : all_handled (drop s.taken (units max first.bytes first.ended)) t ≡ all_handled (drop first.taken (units max first.bytes first.ended)) flow
+  pub handles : after_units_in_stream (drop s.taken (units max first.bytes first.ended)) t ≡ after_units_in_stream (drop first.taken (units max first.bytes first.ended)) flow
   pub counts : s.taken + length (drop s.taken (units max first.bytes first.ended)) ≡ first.taken + length (drop first.taken (units max first.bytes first.ended))
 
-next_at : (max : ℕ) (first s : Splitting) → s ≡ record first { taken = s.taken } → first.failed ≡ false → next_of max s ≡ slice_get (units max first.bytes first.ended) s.taken
-next_at max first s e on = ap (next_of max) e ∙ rw on refl
+next_at : (max : ℕ) (first s : SplitterState) → s ≡ record first { taken = s.taken } → first.failed ≡ false → next_unit_of max s ≡ slice_get (units max first.bytes first.ended) s.taken
+next_at max first s e on = ap (next_unit_of max) e ∙ rw on refl
 
-pub one_more : (max : ℕ) (first : Splitting) (flow : Flowed) (s s1 : Splitting) (t t1 : Flowed) (u : Piece) → Left max first flow s t → Some u ≡ next_of max s → s1 ≡ taking s (Some u) → t1 ≡ handled u t
+pub one_more : (max : ℕ) (first : SplitterState) (flow : StreamState) (s s1 : SplitterState) (t t1 : StreamState) (u : Piece) → Left max first flow s t → Some u ≡ next_unit_of max s → s1 ≡ after_next_unit s (Some u) → t1 ≡ after_unit_in_stream u t
     → Left max first flow s1 t1
 one_more max first flow s s1 t t1 u l e es et =
     let all = units max first.bytes first.ended in
     let next = drop_some all s.taken u (e ∙ next_at max first s l.splitter l.going) in
     rw (es, et, add-one) (record {
-      splitter = ap (λ (x : Splitting). record x { taken = suc s.taken }) l.splitter;
+      splitter = ap (λ (x : SplitterState). record x { taken = suc s.taken }) l.splitter;
       going = l.going;
       on = refl;
-      handles = sym (ap (λ us. all_handled us t) next) ∙ l.handles;
+      handles = sym (ap (λ us. after_units_in_stream us t) next) ∙ l.handles;
       counts = omega (arith, l.counts, ap length next);
     })
 
 -- with no further unit, all were handled
-pub no_more : (max : ℕ) (first : Splitting) (flow : Flowed) (s s1 : Splitting) (t : Flowed) → Left max first flow s t → None ≡ next_of max s → s1 ≡ taking s None
+pub no_more : (max : ℕ) (first : SplitterState) (flow : StreamState) (s s1 : SplitterState) (t : StreamState) → Left max first flow s t → None ≡ next_unit_of max s → s1 ≡ after_next_unit s None
     → (s1 ≡ record first { taken = first.taken + length (drop first.taken (units max first.bytes first.ended)) })
-    × (t ≡ all_handled (drop first.taken (units max first.bytes first.ended)) flow)
+    × (t ≡ after_units_in_stream (drop first.taken (units max first.bytes first.ended)) flow)
 no_more max first flow s s1 t l e es =
     let all = units max first.bytes first.ended in
     let none : drop s.taken all ≡ [] = drop_none all s.taken (e ∙ next_at max first s l.splitter l.going) in
     let counted : s.taken ≡ first.taken + length (drop first.taken all) = omega (arith, l.counts, ap length none) in (
       es ∙ l.splitter ∙ ap (λ n. record first { taken = n }) counted,
-      sym (ap (λ us. all_handled us t) none) ∙ l.handles,
+      sym (ap (λ us. after_units_in_stream us t) none) ∙ l.handles,
     )
 
 -- ---- what the handled units come to
@@ -67,56 +67,56 @@ state_through-append s [] vs = refl
 state_through-append s (u ∷ us) vs = state_through-append (state_after s u (after_unit s u)) us vs
 
 -- Units were handled.
-pub record Handled (us : List Piece) (f f' : Flowed) : Type 0 where
+pub record Handled (us : List Piece) (f f' : StreamState) : Type 0 where
   pub state : f'.state ≡ state_through f.state us
   pub events : f'.events ≡ f.events ++ events_from f.state us false
   pub taken : f'.taken ≡ f.taken
   pub on : f'.failed ≡ false
 
-handled_all : (us : List Piece) (f : Flowed) → f.failed ≡ false → Handled us f (all_handled us f)
+handled_all : (us : List Piece) (f : StreamState) → f.failed ≡ false → Handled us f (after_units_in_stream us f)
 handled_all [] f on = record { state = refl; events = sym (append-nil f.events); taken = refl; on = on }
 handled_all (u ∷ us) f on =
-    let h = handled_all us (handled u f) refl in
+    let h = handled_all us (after_unit_in_stream u f) refl in
     record { state = h.state; events = h.events ∙ append_assoc f.events _ _; taken = h.taken; on = h.on }
 
 -- all units of s1
-pub record HandlesAll (max : ℕ) (s1 s2 : Splitting) (t t2 : Flowed) : Type 0 where
+pub record HandlesAll (max : ℕ) (s1 s2 : SplitterState) (t t2 : StreamState) : Type 0 where
   pub splitter : s2 ≡ record s1 { taken = s1.taken + length (drop s1.taken (units max s1.bytes s1.ended)) }
-  pub stream : t2 ≡ all_handled (drop s1.taken (units max s1.bytes s1.ended)) t
+  pub stream : t2 ≡ after_units_in_stream (drop s1.taken (units max s1.bytes s1.ended)) t
 
 -- of all units, so many had been handled
-pub record AllHandled (all : List Piece) (n : ℕ) (t2 : Flowed) (t : Flowed) : Type 0 where
+pub record AllHandled (all : List Piece) (n : ℕ) (t2 : StreamState) (t : StreamState) : Type 0 where
   pub counted : n + length (drop n all) ≡ length all
   pub state : t2.state ≡ state_through first_state all
   pub events : (ended : Bool) → t2.events ++ events_from (state_through first_state all) [] ended ≡ events_from first_state all ended
   pub taken : t2.taken ≡ t.taken
   pub on : t2.failed ≡ false
 
-rest_handled : (us more all : List Piece) (n : ℕ) (t t2 : Flowed) → all ≡ us ++ more → n ≡ length us → t.failed ≡ false → t.state ≡ state_through first_state us → t.events ≡ events_from first_state us false
-    → t2 ≡ all_handled (drop n all) t → AllHandled all n t2 t
+rest_handled : (us more all : List Piece) (n : ℕ) (t t2 : StreamState) → all ≡ us ++ more → n ≡ length us → t.failed ≡ false → t.state ≡ state_through first_state us → t.events ≡ events_from first_state us false
+    → t2 ≡ after_units_in_stream (drop n all) t → AllHandled all n t2 t
 rest_handled us more all n t t2 e len on at es et =
     let d : drop n all ≡ more = ap (λ m. drop m all) len ∙ ap (drop (length us)) e ∙ drop-append_seam us more in
     let h = handled_all more t on in
-    let is : t2 ≡ all_handled more t = et ∙ ap (λ ps. all_handled ps t) d in
-    let state : t2.state ≡ state_through first_state all = ap (λ (f : Flowed). f.state) is ∙ h.state ∙ ap (λ x. state_through x more) at ∙ sym (state_through-append first_state us more) ∙ ap (state_through first_state) (sym e) in
+    let is : t2 ≡ after_units_in_stream more t = et ∙ ap (λ ps. after_units_in_stream ps t) d in
+    let state : t2.state ≡ state_through first_state all = ap (λ (f : StreamState). f.state) is ∙ h.state ∙ ap (λ x. state_through x more) at ∙ sym (state_through-append first_state us more) ∙ ap (state_through first_state) (sym e) in
     let so_far : t2.events ≡ events_from first_state all false =
-    ap (λ (f : Flowed). f.events) is ∙ h.events ∙ ap (λ xs. xs ++ events_from t.state more false) es ∙ ap (λ x. events_from first_state us false ++ events_from x more false) at ∙ sym (events-append first_state us more false)
+    ap (λ (f : StreamState). f.events) is ∙ h.events ∙ ap (λ xs. xs ++ events_from t.state more false) es ∙ ap (λ x. events_from first_state us false ++ events_from x more false) at ∙ sym (events-append first_state us more false)
     ∙ ap (λ ps. events_from first_state ps false) (sym e) in
     record {
       counted = ap (λ x. n + length x) d ∙ ap (λ m. m + length more) len ∙ sym (length-append us more) ∙ ap length (sym e);
       state = state;
       events = λ ended. ap (λ xs. xs ++ events_from (state_through first_state all) [] ended) so_far ∙ sym (events-append first_state all [] ended) ∙ ap (λ ps. events_from first_state ps ended) (append-nil all);
-      taken = ap (λ (f : Flowed). f.taken) is ∙ h.taken;
-      on = ap (λ (f : Flowed). f.failed) is ∙ h.on;
+      taken = ap (λ (f : StreamState). f.taken) is ∙ h.taken;
+      on = ap (λ (f : StreamState). f.failed) is ∙ h.on;
     }
 
 -- The decoder has come to this: all units are handled.
-pub record Decoded (max : ℕ) (bytes : List ℕ) (ended : Bool) (taken : ℕ) (s : Splitting) (t : Flowed) : Type 0 where
+pub record Decoded (max : ℕ) (bytes : List ℕ) (ended : Bool) (taken : ℕ) (s : SplitterState) (t : StreamState) : Type 0 where
   pub decoded : IsDecoded max s ended t
   pub bytes_are : s.bytes ≡ bytes
   pub taken_are : t.taken ≡ taken
 
-fed_at : (max : ℕ) (s s2 : Splitting) (t t2 : Flowed) (piece : List ℕ) → IsDecoded max s false t → HandlesAll max (record s { bytes = s.bytes ++ piece; ended = false }) s2 t t2 → Decoded max (s.bytes ++ piece) false t.taken s2 t2
+fed_at : (max : ℕ) (s s2 : SplitterState) (t t2 : StreamState) (piece : List ℕ) → IsDecoded max s false t → HandlesAll max (record s { bytes = s.bytes ++ piece; ended = false }) s2 t t2 → Decoded max (s.bytes ++ piece) false t.taken s2 t2
 fed_at max s s2 t t2 piece d h =
     let stay = units_stay_first max s.bytes piece false in
     let all = units max (s.bytes ++ piece) false in
@@ -127,17 +127,17 @@ fed_at max s s2 t t2 piece d h =
       taken_are = r.taken;
     })
 
-pub decoded_fed : (max : ℕ) (ended : Bool) (s s1 s2 : Splitting) (t t2 : Flowed) (piece : List ℕ) → IsDecoded max s ended t → ended ≡ false → s1 ≡ fed s piece → HandlesAll max s1 s2 t t2
+pub decoded_fed : (max : ℕ) (ended : Bool) (s s1 s2 : SplitterState) (t t2 : StreamState) (piece : List ℕ) → IsDecoded max s ended t → ended ≡ false → s1 ≡ after_feed s piece → HandlesAll max s1 s2 t t2
     → Decoded max (s.bytes ++ piece) ended t.taken s2 t2
 decoded_fed max true s s1 s2 t t2 piece d e is h = cc
 decoded_fed max false s s1 s2 t t2 piece d e is h =
     let is' : s1 ≡ record s { bytes = s.bytes ++ piece; ended = false } = is ∙ fed_going s d.ends in
     fed_at max s s2 t t2 piece d (subst (λ x. HandlesAll max x s2 t t2) is' h)
   where
-    fed_going : (x : Splitting) → x.ended ≡ false → fed x piece ≡ record x { bytes = x.bytes ++ piece; ended = false }
+    fed_going : (x : SplitterState) → x.ended ≡ false → after_feed x piece ≡ record x { bytes = x.bytes ++ piece; ended = false }
     fed_going x off = rw off refl
 
-finished_at : (max : ℕ) (s s2 : Splitting) (t t2 t3 : Flowed) → IsDecoded max s false t → HandlesAll max (record s { ended = true }) s2 t t2 → t3 ≡ flow_ended t2 → Decoded max s.bytes true t.taken s2 t3
+finished_at : (max : ℕ) (s s2 : SplitterState) (t t2 t3 : StreamState) → IsDecoded max s false t → HandlesAll max (record s { ended = true }) s2 t t2 → t3 ≡ after_stream_end t2 → Decoded max s.bytes true t.taken s2 t3
 finished_at max s s2 t t2 t3 d h e =
     let stay = units_stay_first max s.bytes [] true in
     let all = units max s.bytes true in
@@ -148,14 +148,14 @@ finished_at max s s2 t t2 t3 d h e =
       taken_are = r.taken;
     })
   where
-    absurd_bool : true ≡ false → (flow_ended t2).state ≡ state_through first_state (units max s.bytes false)
+    absurd_bool : true ≡ false → (after_stream_end t2).state ≡ state_through first_state (units max s.bytes false)
     absurd_bool off = cc
 
-pub decoded_finished : (max : ℕ) (ended : Bool) (s s1 s2 : Splitting) (t t2 t3 : Flowed) → IsDecoded max s ended t → ended ≡ false → s1 ≡ finished s → HandlesAll max s1 s2 t t2 → t3 ≡ flow_ended t2
+pub decoded_finished : (max : ℕ) (ended : Bool) (s s1 s2 : SplitterState) (t t2 t3 : StreamState) → IsDecoded max s ended t → ended ≡ false → s1 ≡ after_finish s → HandlesAll max s1 s2 t t2 → t3 ≡ after_stream_end t2
     → Decoded max s.bytes true t.taken s2 t3
 decoded_finished max true s s1 s2 t t2 t3 d e is h f = cc
 decoded_finished max false s s1 s2 t t2 t3 d e is h f = finished_at max s s2 t t2 t3 d (subst (λ x. HandlesAll max x s2 t t2) is h) f
 
 -- the units that were handled before the end
-pub still_going : (max : ℕ) (s : Splitting) (t t2 : Flowed) → t.failed ≡ false → t2 ≡ all_handled (drop s.taken (units max s.bytes s.ended)) t → t2.failed ≡ false
-still_going max s t t2 on e = ap (λ (f : Flowed). f.failed) e ∙ (handled_all (drop s.taken (units max s.bytes s.ended)) t on).on
+pub still_going : (max : ℕ) (s : SplitterState) (t t2 : StreamState) → t.failed ≡ false → t2 ≡ after_units_in_stream (drop s.taken (units max s.bytes s.ended)) t → t2.failed ≡ false
+still_going max s t t2 on e = ap (λ (f : StreamState). f.failed) e ∙ (handled_all (drop s.taken (units max s.bytes s.ended)) t on).on

@@ -4,38 +4,38 @@ use Rattle.avc_types.specs.declared.fault.Fault.{Fault}
 use Rattle.avc_types.specs.declared.fault.Fault.TheVariants.{MissingMacroblocks}
 use Rattle.avc_picture.specs.Slices.{is_full}
 use Rattle.avc_decoder_core.specs.History.{History}
-use Rattle.avc_decoder.specs.FirstFault.{Open, first_header, opened_history, progress_on, start_on, closed_history, first_fault, history_of}
-use Rattle.avc_decoder.specs.Events.{closing}
+use Rattle.avc_decoder.specs.FirstFault.{OpenPicture, first_header, history_at_opening_of, progress_on, start_on, closed_history, first_fault, history_of}
+use Rattle.avc_decoder.specs.Events.{closing_result}
 
 -- The picture's macroblocks begin at 0, and it stands on this history.
-pub record Stands (o : Open) (h : History) : Type 0 where
+pub record Stands (o : OpenPicture) (h : History) : Type 0 where
   pub first : (first_header o).first_mb_in_slice ≡ 0
-  pub stands : opened_history o ≡ Ok h
+  pub stands : history_at_opening_of o ≡ Ok h
 
-pub history_is : (o : Open) (h : History) → Stands o h → history_of o ≡ h
+pub history_is : (o : OpenPicture) (h : History) → Stands o h → history_of o ≡ h
 history_is o h s = cc (s.first, s.stands)
 
-pub slice_fault : (o : Open) (h : History) (closing : Bool) (found : ℕ × Fault) → Stands o h → (progress_on o h).fault ≡ Some found → first_fault o closing ≡ Some found
+pub slice_fault : (o : OpenPicture) (h : History) (closing : Bool) (found : ℕ × Fault) → Stands o h → (progress_on o h).fault ≡ Some found → first_fault o closing ≡ Some found
 slice_fault o h closing found s e = cc (s.first, s.stands, e)
 
-pub no_fault : (o : Open) (h : History) → Stands o h → (progress_on o h).fault ≡ None → first_fault o false ≡ None
+pub no_fault : (o : OpenPicture) (h : History) → Stands o h → (progress_on o h).fault ≡ None → first_fault o false ≡ None
 no_fault o h s e = cc (s.first, s.stands, e)
 
-none_closing : (o : Open) (h h' : History) → Stands o h → (progress_on o h).fault ≡ None → is_full (start_on o h) (progress_on o h) ≡ true → closed_history o h ≡ Ok h'
+none_closing : (o : OpenPicture) (h h' : History) → Stands o h → (progress_on o h).fault ≡ None → is_full (start_on o h) (progress_on o h) ≡ true → closed_history o h ≡ Ok h'
     → first_fault o true ≡ None
 none_closing o h h' s e f c = cc (s.first, s.stands, e, f, c)
 
-pub closed_ok : (o : Open) (h h' : History) → Stands o h → (progress_on o h).fault ≡ None → is_full (start_on o h) (progress_on o h) ≡ true → closed_history o h ≡ Ok h'
-    → closing o ≡ Ok h'
+pub closed_ok : (o : OpenPicture) (h h' : History) → Stands o h → (progress_on o h).fault ≡ None → is_full (start_on o h) (progress_on o h) ≡ true → closed_history o h ≡ Ok h'
+    → closing_result o ≡ Ok h'
 closed_ok o h h' s e f c =
     let none = none_closing o h h' s e f c in
     let same : closed_history o (history_of o) ≡ Ok h' = ap (closed_history o) (history_is o h s) ∙ c in
     cc (none, same)
 
-pub not_full : (o : Open) (h : History) → Stands o h → (progress_on o h).fault ≡ None → is_full (start_on o h) (progress_on o h) ≡ false
-    → closing o ≡ Err ((o.last).unit, MissingMacroblocks)
+pub not_full : (o : OpenPicture) (h : History) → Stands o h → (progress_on o h).fault ≡ None → is_full (start_on o h) (progress_on o h) ≡ false
+    → closing_result o ≡ Err ((o.last).unit, MissingMacroblocks)
 not_full o h s e f = cc (s.first, s.stands, e, f)
 
-pub marking_fails : (o : Open) (h : History) (g : Fault) → Stands o h → (progress_on o h).fault ≡ None → is_full (start_on o h) (progress_on o h) ≡ true → closed_history o h ≡ Err g
-    → closing o ≡ Err ((o.last).unit, g)
+pub marking_fails : (o : OpenPicture) (h : History) (g : Fault) → Stands o h → (progress_on o h).fault ≡ None → is_full (start_on o h) (progress_on o h) ≡ true → closed_history o h ≡ Err g
+    → closing_result o ≡ Err ((o.last).unit, g)
 marking_fails o h g s e f c = cc (s.first, s.stands, e, f, c)

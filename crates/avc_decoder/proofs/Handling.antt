@@ -8,16 +8,16 @@ use Rattle.avc_params.specs.declared.set_unit.SetUnit.{SetUnit}
 use Rattle.avc_slice.specs.Within.{IsHeader}
 use Rattle.avc_slice.specs.declared.header.Header.{Header}
 use Rattle.avc_slice.specs.declared.slice.Slice.{Slice}
-use Rattle.avc_units.specs.Grouped.{Grouped, IfSlice, IsTaken, at_fault, begins_one, grouped, last_after, open_with}
-use Rattle.avc_units.specs.Grouping.{OpenPicture, set_units, step}
+use Rattle.avc_units.specs.GrouperState.{GrouperState, IfSlice, IsTaken, after_fault, begins_a_picture, after_step, last_header_after, open_picture_of}
+use Rattle.avc_units.specs.Grouping.{OpenPictureFacts, set_units, step}
 use Rattle.avc_units.specs.declared.step.Next.{Next}
 use Rattle.avc_units.specs.declared.step.Next.TheVariants.{Begins, Continues, FaultOfOpen, FaultOfOwn, Nothing, Refusal}
 use Rattle.avc_units.specs.declared.step.Step.{Step}
 use Rattle.avc_decoder_core.specs.History.{History}
-use Rattle.avc_decoder_core.specs.Pictures.{released}
-use Rattle.avc_decoder.specs.FirstFault.{Open, first_fault, history_of}
-use Rattle.avc_decoder.specs.Events.{Outcome, Phase, after_closing, after_next, after_unit, base_in, closed_outcome, closing, failed_at, history_in, in_phase, is_running, is_waiting, open_in, open_info, pictures, running, sets_named, stays, waiting}
-use Rattle.avc_decoder.specs.Kept.{Agrees, Fits, Handles, IsNamed, Kept, closed_if, closed_in, is_full_in, kept_after, last_header, next_in, opened_in, phase_of, state_of, told_if}
+use Rattle.avc_decoder_core.specs.Pictures.{output_pictures}
+use Rattle.avc_decoder.specs.FirstFault.{OpenPicture, first_fault, history_of}
+use Rattle.avc_decoder.specs.Events.{Outcome, Phase, after_closing, after_next, after_unit, base_in, closed_outcome, closing_result, failed_at, history_in, in_phase, is_running, is_waiting, open_facts_in, open_picture_facts, pictures, running, sets_named, no_change, waiting}
+use Rattle.avc_decoder.specs.States.{Agrees, Fits, Handles, IsNamed, PicturesState, closed_if, closed_in, is_full_in, after_outcome, last_header, next_in, open_picture_in, phase_of, state_of, after_fault_if}
 use Rattle.avc_decoder.specs.declared.event.Event.{Event}
 use Rattle.avc_decoder.proofs.Keeping.{some_is, within_named}
 use Rattle.avc_decoder.proofs.Stepping.{Brings, BringsNext, brings_step, keeps_sets, same_set}
@@ -32,45 +32,45 @@ differ false e f = cc
 
 -- ---- before the step's `next` is done
 
-abbrev kept_at : Phase → List Event → (taken : ℕ) → Kept
-kept_at p es t = record { history = base_in p; opened = opened_in p; events = es; taken = t; failed = false }
+abbrev kept_at : Phase → List Event → (taken : ℕ) → PicturesState
+kept_at p es t = record { history = base_in p; open_picture = open_picture_in p; events = es; taken = t; failed = false }
 
 -- a further slice finds its picture open
-abbrev OpenFor : Next → Option Open → Type 0
-OpenFor (Begins s) opened = opened ≡ None
+abbrev OpenFor : Next → Option OpenPicture → Type 0
+OpenFor (Begins s) open_picture = open_picture ≡ None
 OpenFor (Continues s) None = ⊥
 OpenFor (Continues s) (Some o) = ((o.last).header).pic_parameter_set_id ≡ (s.header).pic_parameter_set_id
-OpenFor _ opened = Unit {0}
+OpenFor _ open_picture = Unit {0}
 
-abbrev LastIs : Next → Option Header → Option Open → Type 0
-LastIs (Begins s) last opened = last ≡ Some s.header
-LastIs (Continues s) last opened = last ≡ Some s.header
-LastIs _ last opened = last ≡ last_header opened
+abbrev LastIs : Next → Option Header → Option OpenPicture → Type 0
+LastIs (Begins s) last open_picture = last ≡ Some s.header
+LastIs (Continues s) last open_picture = last ≡ Some s.header
+LastIs _ last open_picture = last ≡ last_header open_picture
 
-pub record Ready (g : Grouped) (k : Kept) (p : Phase) (next : Next) : Type 0 where
+pub record Ready (g : GrouperState) (k : PicturesState) (p : Phase) (next : Next) : Type 0 where
   pub kept : k ≡ kept_at p k.events k.taken
-  pub runs : g.running ≡ (is_running p || begins_one next)
-  pub last : LastIs next g.last (opened_in p)
-  pub named : IfSome (opened_in p) (IsNamed (sets_after g.sets))
-  pub for_next : OpenFor next (opened_in p)
+  pub runs : g.running ≡ (is_running p || begins_a_picture next)
+  pub last : LastIs next g.last (open_picture_in p)
+  pub named : IfSome (open_picture_in p) (IsNamed (sets_after g.sets))
+  pub for_next : OpenFor next (open_picture_in p)
 
 -- ---- once it is done
 
-pub record Done (g g' : Grouped) (k k' : Kept) (x : Outcome) : Type 0 where
+pub record Done (g g' : GrouperState) (k k' : PicturesState) (x : Outcome) : Type 0 where
   pub agrees : Agrees g' k'
   pub phase : phase_of g'.running k' ≡ x.phase
   pub sets : g'.sets ≡ g.sets
   pub events : k'.events ≡ k.events ++ x.events
   pub taken : k'.taken ≡ k.taken
 
-abbrev DoneAt : Sets → Grouped → Phase → (unit : ℕ) → Next → List Event → (taken : ℕ) → Type 0
+abbrev DoneAt : Sets → GrouperState → Phase → (unit : ℕ) → Next → List Event → (taken : ℕ) → Type 0
 DoneAt sets g p unit next es t =
     let x = next_in sets unit next (kept_at p es t) in
-    Done g (told_if (is_waiting x.phase) g) (kept_at p es t) (kept_after x (kept_at p es t)) (after_next sets unit p next)
+    Done g (after_fault_if (is_waiting x.phase) g) (kept_at p es t) (after_outcome x (kept_at p es t)) (after_next sets unit p next)
 
 -- only events
-stays_done : (g : Grouped) (p : Phase) (es more : List Event) (t : ℕ) → g.running ≡ (is_running p || false) → g.last ≡ last_header (opened_in p) → IfSome (opened_in p) (IsNamed (sets_after g.sets))
-    → Done g g (kept_at p es t) (kept_after (record { events = more; phase = running (base_in p) (opened_in p); read = 0 }) (kept_at p es t)) (record { events = more; phase = p; read = 0 })
+stays_done : (g : GrouperState) (p : Phase) (es more : List Event) (t : ℕ) → g.running ≡ (is_running p || false) → g.last ≡ last_header (open_picture_in p) → IfSome (open_picture_in p) (IsNamed (sets_after g.sets))
+    → Done g g (kept_at p es t) (after_outcome (record { events = more; phase = running (base_in p) (open_picture_in p); read = 0 }) (kept_at p es t)) (record { events = more; phase = p; read = 0 })
 stays_done g waiting es more t runs last named = record {
   agrees = record { going = refl; last = last; no_history = λ _. refl; no_picture = λ _. refl; named = named };
   phase = ap (λ b. phase_of b (kept_at waiting (es ++ more) t)) runs;
@@ -86,34 +86,34 @@ stays_done g (running h o) es more t runs last named = record {
   taken = refl;
 }
 
-fault_by : (restarts : Bool) (g : Grouped) → elim (restarts && false) as (λ _. Grouped) [ true ↦ g | false ↦ record g { running = false; last = None; restarts = false } ] ≡ record g { running = false; last = None; restarts = false }
+fault_by : (restarts : Bool) (g : GrouperState) → elim (restarts && false) as (λ _. GrouperState) [ true ↦ g | false ↦ record g { running = false; last = None; restarts = false } ] ≡ record g { running = false; last = None; restarts = false }
 fault_by true g = refl
 fault_by false g = refl
 
-pub at_fault_is : (g : Grouped) → at_fault false g ≡ record g { running = false; last = None; restarts = false }
+pub at_fault_is : (g : GrouperState) → after_fault false g ≡ record g { running = false; last = None; restarts = false }
 at_fault_is g = fault_by g.restarts g
 
-history_same : (p : Phase) → history_in (running (base_in p) (opened_in p)) ≡ history_in p
+history_same : (p : Phase) → history_in (running (base_in p) (open_picture_in p)) ≡ history_in p
 history_same waiting = refl
 history_same (running h None) = refl
 history_same (running h (Some o)) = refl
 
-fault_done : (g : Grouped) (k : Kept) (h : History) (unit : ℕ) (f : Fault) (read : ℕ) → Done g (at_fault false g) k (kept_after (failed_at h unit f read) k) (failed_at h unit f read)
+fault_done : (g : GrouperState) (k : PicturesState) (h : History) (unit : ℕ) (f : Fault) (read : ℕ) → Done g (after_fault false g) k (after_outcome (failed_at h unit f read) k) (failed_at h unit f read)
 fault_done g k h unit f read =
     rw (at_fault_is g) (record { agrees = record { going = refl; last = refl; no_history = λ _. refl; no_picture = λ _. refl; named = tt }; phase = refl; sets = refl; events = refl; taken = refl })
 
-abbrev slice_outcome : Option (ℕ × Fault) → History → Open → (read : ℕ) → List Event → Outcome
+abbrev slice_outcome : Option (ℕ × Fault) → History → OpenPicture → (read : ℕ) → List Event → Outcome
 slice_outcome m h o read es = elim m [
   | Some found ↦ failed_at h found.0 found.1 read
   | None ↦ record { events = es; phase = running o.before (Some o); read = read }
 ]
 
-slice_done : (m : Option (ℕ × Fault)) (g : Grouped) (k : Kept) (h : History) (o : Open) (read : ℕ) (es : List Event) → g.running ≡ true → g.last ≡ Some (o.last).header → IsNamed (sets_after g.sets) o
-    → Done g (told_if (is_waiting (slice_outcome m h o read es).phase) g) k (kept_after (slice_outcome m h o read es) k) (slice_outcome m h o read es)
+slice_done : (m : Option (ℕ × Fault)) (g : GrouperState) (k : PicturesState) (h : History) (o : OpenPicture) (read : ℕ) (es : List Event) → g.running ≡ true → g.last ≡ Some (o.last).header → IsNamed (sets_after g.sets) o
+    → Done g (after_fault_if (is_waiting (slice_outcome m h o read es).phase) g) k (after_outcome (slice_outcome m h o read es) k) (slice_outcome m h o read es)
 slice_done (Some found) g k h o read es runs last named = fault_done g k h found.0 found.1 read
 slice_done None g k h o read es runs last named = record {
   agrees = record { going = refl; last = last; no_history = λ off. absurd (differ g.running runs off); no_picture = λ off. absurd (differ g.running runs off); named = named };
-  phase = ap (λ b. phase_of b (kept_after (slice_outcome None h o read es) k)) runs;
+  phase = ap (λ b. phase_of b (after_outcome (slice_outcome None h o read es) k)) runs;
   sets = refl;
   events = refl;
   taken = refl;
@@ -122,21 +122,21 @@ slice_done None g k h o read es runs last named = record {
 named_is : (sets : Sets) (s : Slice) (t : IsTaken sets s) → sets_named sets s.header ≡ Some (t.read.pps, t.read.sps)
 named_is sets s t = cc (t.read.pps_is, t.read.sps_is)
 
-begins_done : (g : Grouped) (p : Phase) (unit : ℕ) (s : Slice) (es : List Event) (t : ℕ) → g.running ≡ (is_running p || true) → g.last ≡ Some s.header → IsTaken (sets_after g.sets) s → DoneAt (sets_after g.sets) g p unit (Begins s) es t
+begins_done : (g : GrouperState) (p : Phase) (unit : ℕ) (s : Slice) (es : List Event) (t : ℕ) → g.running ≡ (is_running p || true) → g.last ≡ Some s.header → IsTaken (sets_after g.sets) s → DoneAt (sets_after g.sets) g p unit (Begins s) es t
 begins_done g p unit s es t runs last taken =
-    let o : Open = record { before = base_in p; sps = taken.read.sps; pps = taken.read.pps; last = s; earlier = [] } in
+    let o : OpenPicture = record { before = base_in p; sps = taken.read.sps; pps = taken.read.pps; last = s; earlier = [] } in
     rw (named_is (sets_after g.sets) s taken)
-    (slice_done (first_fault o false) g (kept_at p es t) (base_in p) o _ (pictures (released (base_in p) (history_of o))) (runs ∙ or_true (is_running p)) last (record { pps = taken.read.pps_is; sps = taken.read.sps_is }))
+    (slice_done (first_fault o false) g (kept_at p es t) (base_in p) o _ (pictures (output_pictures (base_in p) (history_of o))) (runs ∙ or_true (is_running p)) last (record { pps = taken.read.pps_is; sps = taken.read.sps_is }))
 
-continues_done : (g : Grouped) (h : History) (o : Open) (unit : ℕ) (s : Slice) (es : List Event) (t : ℕ) → g.running ≡ true → g.last ≡ Some s.header → IsNamed (sets_after g.sets) o
+continues_done : (g : GrouperState) (h : History) (o : OpenPicture) (unit : ℕ) (s : Slice) (es : List Event) (t : ℕ) → g.running ≡ true → g.last ≡ Some s.header → IsNamed (sets_after g.sets) o
     → ((o.last).header).pic_parameter_set_id ≡ (s.header).pic_parameter_set_id → DoneAt (sets_after g.sets) g (running h (Some o)) unit (Continues s) es t
 continues_done g h o unit s es t runs last named same =
-    let o' : Open = record o { last = s; earlier = o.last ∷ o.earlier } in
-    slice_done (first_fault o' false) g (kept_at (running h (Some o)) es t) (history_of o) o' _ (pictures (released (history_of o) (history_of o'))) runs last
+    let o' : OpenPicture = record o { last = s; earlier = o.last ∷ o.earlier } in
+    slice_done (first_fault o' false) g (kept_at (running h (Some o)) es t) (history_of o) o' _ (pictures (output_pictures (history_of o) (history_of o'))) runs last
     (record { pps = ap (sets_after g.sets).pps (sym same) ∙ named.pps; sps = named.sps })
 
-done_at : (g : Grouped) (p : Phase) (unit : ℕ) (next : Next) (es : List Event) (t : ℕ) → g.running ≡ (is_running p || begins_one next) → LastIs next g.last (opened_in p)
-    → IfSome (opened_in p) (IsNamed (sets_after g.sets)) → OpenFor next (opened_in p) → IfSlice next (IsTaken (sets_after g.sets)) → DoneAt (sets_after g.sets) g p unit next es t
+done_at : (g : GrouperState) (p : Phase) (unit : ℕ) (next : Next) (es : List Event) (t : ℕ) → g.running ≡ (is_running p || begins_a_picture next) → LastIs next g.last (open_picture_in p)
+    → IfSome (open_picture_in p) (IsNamed (sets_after g.sets)) → OpenFor next (open_picture_in p) → IfSlice next (IsTaken (sets_after g.sets)) → DoneAt (sets_after g.sets) g p unit next es t
 done_at g p unit Nothing es t runs last named open' taken = stays_done g p es [] t runs last named
 done_at g p unit (Refusal f) es t runs last named open' taken = stays_done g p es _ t runs last named
 done_at g p unit (FaultOfOpen f) es t runs last named open' taken = rw (history_same p) (fault_done g (kept_at p es t) (history_in p) unit f 0)
@@ -146,20 +146,20 @@ done_at g waiting unit (Continues s) es t runs last named open' taken = absurd o
 done_at g (running h None) unit (Continues s) es t runs last named open' taken = absurd open'
 done_at g (running h (Some o)) unit (Continues s) es t runs last named open' taken = continues_done g h o unit s es t runs last named open'
 
-done : (g g' : Grouped) (k k' : Kept) (p : Phase) (unit : ℕ) (next : Next) → Ready g k p next → IfSlice next (IsTaken (sets_after g.sets))
-    → k' ≡ kept_after (next_in (sets_after g.sets) unit next k) k → g' ≡ told_if (is_waiting (next_in (sets_after g.sets) unit next k).phase) g
+done : (g g' : GrouperState) (k k' : PicturesState) (p : Phase) (unit : ℕ) (next : Next) → Ready g k p next → IfSlice next (IsTaken (sets_after g.sets))
+    → k' ≡ after_outcome (next_in (sets_after g.sets) unit next k) k → g' ≡ after_fault_if (is_waiting (next_in (sets_after g.sets) unit next k).phase) g
     → Done g g' k k' (after_next (sets_after g.sets) unit p next)
 done g g' k k' p unit next r taken ek eg = rw (ek, eg, r.kept) (done_at g p unit next k.events k.taken r.runs r.last r.named r.for_next taken)
 
 -- what comes next can be carried out
-fits_at : (next : Next) (sets : Sets) (opened : Option Open) → OpenFor next opened → IfSome opened (IsNamed sets) → IfSlice next (IsTaken sets) → Fits sets next opened
-fits_at Nothing sets opened open' named taken = tt
-fits_at (Refusal f) sets opened open' named taken = tt
-fits_at (FaultOfOpen f) sets opened open' named taken = tt
-fits_at (FaultOfOwn f) sets opened open' named taken = tt
-fits_at (Begins s) sets opened open' named taken = (taken, open')
+fits_at : (next : Next) (sets : Sets) (open_picture : Option OpenPicture) → OpenFor next open_picture → IfSome open_picture (IsNamed sets) → IfSlice next (IsTaken sets) → Fits sets next open_picture
+fits_at Nothing sets open_picture open' named taken = tt
+fits_at (Refusal f) sets open_picture open' named taken = tt
+fits_at (FaultOfOpen f) sets open_picture open' named taken = tt
+fits_at (FaultOfOwn f) sets open_picture open' named taken = tt
+fits_at (Begins s) sets open_picture open' named taken = (taken, open')
 fits_at (Continues s) sets None open' named taken = absurd open'
-fits_at (Continues s) sets (Some o) open' named taken = (taken, λ q e. subst (λ (x : Open). IsHeader x.sps x.pps s.rbsp s.header) (some_is o q e) (within_named sets s o.pps o.sps taken (ap sets.pps (sym open') ∙ named.pps) named.sps))
+fits_at (Continues s) sets (Some o) open' named taken = (taken, λ q e. subst (λ (x : OpenPicture). IsHeader x.sps x.pps s.rbsp s.header) (some_is o q e) (within_named sets s o.pps o.sps taken (ap sets.pps (sym open') ∙ named.pps) named.sps))
 
 -- the sets before a slice are those after it
 same_next : (next : Next) (sets sets' : List SetUnit) (unit : ℕ) (p : Phase) → IfSlice next (λ _. sets' ≡ sets) → after_next (sets_after sets') unit p next ≡ after_next (sets_after sets) unit p next
@@ -173,7 +173,7 @@ same_next (Continues s) sets sets' unit p e = refl
 -- ---- between closing and what comes next
 
 -- The open picture is closed, where the unit closes it, and then comes what the unit does next.
-pub record Between (sets : Sets) (g1 : Grouped) (k k1 : Kept) (u : Piece) (next : Next) (y : Outcome) : Type 0 where
+pub record Between (sets : Sets) (g1 : GrouperState) (k k1 : PicturesState) (u : Piece) (next : Next) (y : Outcome) : Type 0 where
   pub phase : Phase
   pub ready : Ready g1 k1 phase next
   pub before : List Event
@@ -182,17 +182,17 @@ pub record Between (sets : Sets) (g1 : Grouped) (k k1 : Kept) (u : Piece) (next 
   pub events : y.events ≡ before ++ (after_next sets u.index phase next).events
   pub rest : y.phase ≡ (after_next sets u.index phase next).phase
 
-last_ready : (closes : Bool) (next : Next) (last : Option Header) (opened : Option Open) → (closes ≡ true → last_header opened ≡ None) → (closes ≡ false → last ≡ last_header opened) → LastIs next (last_after closes next last) opened
-last_ready closes (Begins s) last opened shut stays' = refl
-last_ready closes (Continues s) last opened shut stays' = refl
-last_ready true Nothing last opened shut stays' = sym (shut refl)
-last_ready true (Refusal f) last opened shut stays' = sym (shut refl)
-last_ready true (FaultOfOpen f) last opened shut stays' = sym (shut refl)
-last_ready true (FaultOfOwn f) last opened shut stays' = sym (shut refl)
-last_ready false Nothing last opened shut stays' = stays' refl
-last_ready false (Refusal f) last opened shut stays' = stays' refl
-last_ready false (FaultOfOpen f) last opened shut stays' = stays' refl
-last_ready false (FaultOfOwn f) last opened shut stays' = stays' refl
+last_ready : (closes : Bool) (next : Next) (last : Option Header) (open_picture : Option OpenPicture) → (closes ≡ true → last_header open_picture ≡ None) → (closes ≡ false → last ≡ last_header open_picture) → LastIs next (last_header_after closes next last) open_picture
+last_ready closes (Begins s) last open_picture shut no_change' = refl
+last_ready closes (Continues s) last open_picture shut no_change' = refl
+last_ready true Nothing last open_picture shut no_change' = sym (shut refl)
+last_ready true (Refusal f) last open_picture shut no_change' = sym (shut refl)
+last_ready true (FaultOfOpen f) last open_picture shut no_change' = sym (shut refl)
+last_ready true (FaultOfOwn f) last open_picture shut no_change' = sym (shut refl)
+last_ready false Nothing last open_picture shut no_change' = no_change' refl
+last_ready false (Refusal f) last open_picture shut no_change' = no_change' refl
+last_ready false (FaultOfOpen f) last open_picture shut no_change' = no_change' refl
+last_ready false (FaultOfOwn f) last open_picture shut no_change' = no_change' refl
 
 -- no picture is open
 none_for : (closes : Bool) (next : Next) → BringsNext None closes next → OpenFor next None
@@ -204,7 +204,7 @@ none_for closes (FaultOfOpen f) b = tt
 none_for closes (FaultOfOwn f) b = tt
 
 -- it was closed
-closed_for : (next : Next) (open' : Option OpenPicture) → BringsNext open' true next → OpenFor next None
+closed_for : (next : Next) (open' : Option OpenPictureFacts) → BringsNext open' true next → OpenFor next None
 closed_for (Begins s) open' b = refl
 closed_for (Continues s) open' b = let e = b.0 in cc
 closed_for Nothing open' b = tt
@@ -213,7 +213,7 @@ closed_for (FaultOfOpen f) open' b = tt
 closed_for (FaultOfOwn f) open' b = tt
 
 -- it stays open
-open_for : (next : Next) (info : OpenPicture) (o : Open) → info.last ≡ (o.last).header → BringsNext (Some info) false next → OpenFor next (Some o)
+open_for : (next : Next) (info : OpenPictureFacts) (o : OpenPicture) → info.last ≡ (o.last).header → BringsNext (Some info) false next → OpenFor next (Some o)
 open_for (Begins s) info o e b = cc
 open_for (Continues s) info o e b = ap (λ (h : Header). h.pic_parameter_set_id) (sym e) ∙ same_set info.last s.header b.1
 open_for Nothing info o e b = tt
@@ -222,29 +222,29 @@ open_for (FaultOfOpen f) info o e b = tt
 open_for (FaultOfOwn f) info o e b = tt
 
 -- At a phase: the grouper's state and the step's parts one by one.
-pub record IsAt (g : Grouped) (p : Phase) : Type 0 where
+pub record IsAt (g : GrouperState) (p : Phase) : Type 0 where
   pub runs : g.running ≡ is_running p
-  pub last : g.last ≡ last_header (opened_in p)
-  pub named : IfSome (opened_in p) (IsNamed (sets_after g.sets))
+  pub last : g.last ≡ last_header (open_picture_in p)
+  pub named : IfSome (open_picture_in p) (IsNamed (sets_after g.sets))
 
 abbrev step_at : (closes : Bool) → Next → (even : Bool) → Step
 step_at closes next even = record { closes = closes; next = next; even_after_fault = even }
 
 -- no picture is open, so that none is closed
-closed_none : (closes : Bool) (k : Kept) → k.opened ≡ None → closed_if closes k ≡ stays (running k.history None)
+closed_none : (closes : Bool) (k : PicturesState) → k.open_picture ≡ None → closed_if closes k ≡ no_change (running k.history None)
 closed_none true k e = ap (closed_in k.history) e
-closed_none false k e = ap (λ o. stays (running k.history o)) e
+closed_none false k e = ap (λ o. no_change (running k.history o)) e
 
-between_none : (sets : Sets) (g : Grouped) (p : Phase) (u : Piece) (closes : Bool) (next : Next) (even : Bool) (es : List Event) (t : ℕ) → IsAt g p → opened_in p ≡ None → open_in p ≡ None
-    → BringsNext (open_in p) closes next → in_phase sets u.index (step_at closes next even) p ≡ after_next sets u.index p next
-    → Between sets (grouped g u (step_at closes next even)) (kept_at p es t) (kept_after (closed_if closes (kept_at p es t)) (kept_at p es t)) u next (in_phase sets u.index (step_at closes next even) p)
+between_none : (sets : Sets) (g : GrouperState) (p : Phase) (u : Piece) (closes : Bool) (next : Next) (even : Bool) (es : List Event) (t : ℕ) → IsAt g p → open_picture_in p ≡ None → open_facts_in p ≡ None
+    → BringsNext (open_facts_in p) closes next → in_phase sets u.index (step_at closes next even) p ≡ after_next sets u.index p next
+    → Between sets (after_step g u (step_at closes next even)) (kept_at p es t) (after_outcome (closed_if closes (kept_at p es t)) (kept_at p es t)) u next (in_phase sets u.index (step_at closes next even) p)
 between_none sets g p u closes next even es t a none none' b is = rw (closed_none closes (kept_at p es t) none) (record {
   phase = p;
   ready = record {
-    kept = ap (λ o. record { history = base_in p; opened = o; events = es ++ []; taken = t; failed = false }) (sym none);
-    runs = ap (λ b'. b' || begins_one next) a.runs;
-    last = last_ready closes next g.last (opened_in p) (λ _. ap last_header none) (λ _. a.last);
-    named = subst (λ (o : Option Open). IfSome o (IsNamed (sets_after (g.sets ++ set_units (u ∷ []))))) (sym none) tt;
+    kept = ap (λ o. record { history = base_in p; open_picture = o; events = es ++ []; taken = t; failed = false }) (sym none);
+    runs = ap (λ b'. b' || begins_a_picture next) a.runs;
+    last = last_ready closes next g.last (open_picture_in p) (λ _. ap last_header none) (λ _. a.last);
+    named = subst (λ (o : Option OpenPicture). IfSome o (IsNamed (sets_after (g.sets ++ set_units (u ∷ []))))) (sym none) tt;
     for_next = subst (OpenFor next) (sym none) (none_for closes next (subst (λ o. BringsNext o closes next) none' b));
   };
   before = [];
@@ -255,18 +255,18 @@ between_none sets g p u closes next even es t a none none' b is = rw (closed_non
 })
 
 -- it stays open
-between_open : (sets : Sets) (g : Grouped) (h : History) (o : Open) (u : Piece) (next : Next) (even : Bool) (es : List Event) (t : ℕ) → IsAt g (running h (Some o))
-    → BringsNext (open_in (running h (Some o))) false next → set_units (u ∷ []) ≡ []
-    → Between sets (grouped g u (step_at false next even)) (kept_at (running h (Some o)) es t) (kept_after (closed_if false (kept_at (running h (Some o)) es t)) (kept_at (running h (Some o)) es t)) u next
+between_open : (sets : Sets) (g : GrouperState) (h : History) (o : OpenPicture) (u : Piece) (next : Next) (even : Bool) (es : List Event) (t : ℕ) → IsAt g (running h (Some o))
+    → BringsNext (open_facts_in (running h (Some o))) false next → set_units (u ∷ []) ≡ []
+    → Between sets (after_step g u (step_at false next even)) (kept_at (running h (Some o)) es t) (after_outcome (closed_if false (kept_at (running h (Some o)) es t)) (kept_at (running h (Some o)) es t)) u next
     (in_phase sets u.index (step_at false next even) (running h (Some o)))
 between_open sets g h o u next even es t a b no_set = record {
   phase = running h (Some o);
   ready = record {
     kept = refl;
-    runs = ap (λ b'. b' || begins_one next) a.runs;
+    runs = ap (λ b'. b' || begins_a_picture next) a.runs;
     last = last_ready false next g.last (Some o) (λ e. cc) (λ _. a.last);
     named = subst (λ ss. IsNamed (sets_after ss) o) (sym (ap (λ ss. g.sets ++ ss) no_set ∙ append-nil g.sets)) a.named;
-    for_next = open_for next (open_info o) o refl b;
+    for_next = open_for next (open_picture_facts o) o refl b;
   };
   before = [];
   so_far = refl;
@@ -279,19 +279,19 @@ abbrev close_outcome : Sets → (unit : ℕ) → Next → (even : Bool) → Outc
 close_outcome sets unit next even c = after_closing sets unit (step_at true next even) c
 
 -- it was closed
-between_closed : (x : Result History (ℕ × Fault)) (sets : Sets) (g : Grouped) (h : History) (o : Open) (u : Piece) (next : Next) (even : Bool) (es : List Event) (t : ℕ) → IsAt g (running h (Some o))
-    → BringsNext (open_in (running h (Some o))) true next → is_waiting (closed_outcome o x).phase ≡ false
-    → Between sets (grouped g u (step_at true next even)) (kept_at (running h (Some o)) es t) (kept_after (closed_outcome o x) (kept_at (running h (Some o)) es t)) u next
+between_closed : (x : Result History (ℕ × Fault)) (sets : Sets) (g : GrouperState) (h : History) (o : OpenPicture) (u : Piece) (next : Next) (even : Bool) (es : List Event) (t : ℕ) → IsAt g (running h (Some o))
+    → BringsNext (open_facts_in (running h (Some o))) true next → is_waiting (closed_outcome o x).phase ≡ false
+    → Between sets (after_step g u (step_at true next even)) (kept_at (running h (Some o)) es t) (after_outcome (closed_outcome o x) (kept_at (running h (Some o)) es t)) u next
     (close_outcome sets u.index next even (closed_outcome o x))
 between_closed (Err found) sets g h o u next even es t a b found' = cc
 between_closed (Ok h') sets g h o u next even es t a b found = record {
   phase = running h' None;
   ready = record {
     kept = refl;
-    runs = ap (λ b'. b' || begins_one next) a.runs;
+    runs = ap (λ b'. b' || begins_a_picture next) a.runs;
     last = last_ready true next g.last None (λ _. refl) (λ e. cc);
     named = tt;
-    for_next = closed_for next (open_in (running h (Some o))) b;
+    for_next = closed_for next (open_facts_in (running h (Some o))) b;
   };
   before = (closed_outcome o (Ok h')).events;
   so_far = refl;
@@ -300,22 +300,22 @@ between_closed (Ok h') sets g h o u next even es t a b found = record {
   rest = refl;
 }
 
-abbrev BetweenAt : Sets → Grouped → Phase → Piece → (closes : Bool) → Next → (even : Bool) → List Event → (taken : ℕ) → Type 0
+abbrev BetweenAt : Sets → GrouperState → Phase → Piece → (closes : Bool) → Next → (even : Bool) → List Event → (taken : ℕ) → Type 0
 BetweenAt sets g p u closes next even es t =
-    Between sets (grouped g u (step_at closes next even)) (kept_at p es t) (kept_after (closed_if closes (kept_at p es t)) (kept_at p es t)) u next (in_phase sets u.index (step_at closes next even) p)
+    Between sets (after_step g u (step_at closes next even)) (kept_at p es t) (after_outcome (closed_if closes (kept_at p es t)) (kept_at p es t)) u next (in_phase sets u.index (step_at closes next even) p)
 
-between_at : (closes : Bool) (p : Phase) (sets : Sets) (g : Grouped) (u : Piece) (next : Next) (even : Bool) (es : List Event) (t : ℕ) → IsAt g p → BringsNext (open_in p) closes next
+between_at : (closes : Bool) (p : Phase) (sets : Sets) (g : GrouperState) (u : Piece) (next : Next) (even : Bool) (es : List Event) (t : ℕ) → IsAt g p → BringsNext (open_facts_in p) closes next
     → (closes ≡ false → set_units (u ∷ []) ≡ []) → is_waiting (closed_if closes (kept_at p es t)).phase ≡ false → BetweenAt sets g p u closes next even es t
 between_at closes waiting sets g u next even es t a b keeps found = between_none sets g waiting u closes next even es t a refl refl b refl
 between_at closes (running h None) sets g u next even es t a b keeps found = between_none sets g (running h None) u closes next even es t a refl refl b refl
 between_at false (running h (Some o)) sets g u next even es t a b keeps found = between_open sets g h o u next even es t a b (keeps refl)
-between_at true (running h (Some o)) sets g u next even es t a b keeps found = between_closed (closing o) sets g h o u next even es t a b found
+between_at true (running h (Some o)) sets g u next even es t a b keeps found = between_closed (closing_result o) sets g h o u next even es t a b found
 
 -- ---- closing was a fault
 
 -- the unit begins a picture all the same, or decoding waits
-ready_fault : (next : Next) (g : Grouped) (u : Piece) (open' : Option OpenPicture) (es : List Event) (t : ℕ) → BringsNext open' true next
-    → Ready (at_fault true (grouped g u (step_at true next true))) (kept_at waiting es t) waiting next
+ready_fault : (next : Next) (g : GrouperState) (u : Piece) (open' : Option OpenPictureFacts) (es : List Event) (t : ℕ) → BringsNext open' true next
+    → Ready (after_fault true (after_step g u (step_at true next true))) (kept_at waiting es t) waiting next
 ready_fault (Begins s) g u open' es t b = record { kept = refl; runs = or_true g.running; last = refl; named = tt; for_next = refl }
 ready_fault (Continues s) g u open' es t b = let e = b.0 in cc
 ready_fault Nothing g u open' es t b = record { kept = refl; runs = refl; last = refl; named = tt; for_next = tt }
@@ -323,14 +323,14 @@ ready_fault (Refusal f) g u open' es t b = record { kept = refl; runs = refl; la
 ready_fault (FaultOfOpen f) g u open' es t b = record { kept = refl; runs = refl; last = refl; named = tt; for_next = tt }
 ready_fault (FaultOfOwn f) g u open' es t b = record { kept = refl; runs = refl; last = refl; named = tt; for_next = tt }
 
-between_faulty : (x : Result History (ℕ × Fault)) (sets : Sets) (g : Grouped) (h : History) (o : Open) (u : Piece) (next : Next) (es : List Event) (t : ℕ)
-    → BringsNext (open_in (running h (Some o))) true next → is_waiting (closed_outcome o x).phase ≡ true
-    → Between sets (at_fault true (grouped g u (step_at true next true))) (kept_at (running h (Some o)) es t) (kept_after (closed_outcome o x) (kept_at (running h (Some o)) es t)) u next
+between_faulty : (x : Result History (ℕ × Fault)) (sets : Sets) (g : GrouperState) (h : History) (o : OpenPicture) (u : Piece) (next : Next) (es : List Event) (t : ℕ)
+    → BringsNext (open_facts_in (running h (Some o))) true next → is_waiting (closed_outcome o x).phase ≡ true
+    → Between sets (after_fault true (after_step g u (step_at true next true))) (kept_at (running h (Some o)) es t) (after_outcome (closed_outcome o x) (kept_at (running h (Some o)) es t)) u next
     (close_outcome sets u.index next true (closed_outcome o x))
 between_faulty (Ok h') sets g h o u next es t b found = cc
 between_faulty (Err f) sets g h o u next es t b found = record {
   phase = waiting;
-  ready = ready_fault next g u (open_in (running h (Some o))) (es ++ (closed_outcome o (Err f)).events) t b;
+  ready = ready_fault next g u (open_facts_in (running h (Some o))) (es ++ (closed_outcome o (Err f)).events) t b;
   before = (closed_outcome o (Err f)).events;
   so_far = refl;
   taken = refl;
@@ -338,17 +338,17 @@ between_faulty (Err f) sets g h o u next es t b found = record {
   rest = refl;
 }
 
-between_fault_at : (closes : Bool) (p : Phase) (sets : Sets) (g : Grouped) (u : Piece) (next : Next) (es : List Event) (t : ℕ) → BringsNext (open_in p) closes next
+between_fault_at : (closes : Bool) (p : Phase) (sets : Sets) (g : GrouperState) (u : Piece) (next : Next) (es : List Event) (t : ℕ) → BringsNext (open_facts_in p) closes next
     → is_waiting (closed_if closes (kept_at p es t)).phase ≡ true
-    → Between sets (at_fault true (grouped g u (step_at closes next true))) (kept_at p es t) (kept_after (closed_if closes (kept_at p es t)) (kept_at p es t)) u next (in_phase sets u.index (step_at closes next true) p)
+    → Between sets (after_fault true (after_step g u (step_at closes next true))) (kept_at p es t) (after_outcome (closed_if closes (kept_at p es t)) (kept_at p es t)) u next (in_phase sets u.index (step_at closes next true) p)
 between_fault_at false p sets g u next es t b found = cc
 between_fault_at true waiting sets g u next es t b found = cc
 between_fault_at true (running h None) sets g u next es t b found = cc
-between_fault_at true (running h (Some o)) sets g u next es t b found = between_faulty (closing o) sets g h o u next es t b found
+between_fault_at true (running h (Some o)) sets g u next es t b found = between_faulty (closing_result o) sets g h o u next es t b found
 
 -- and nothing comes after it
-faulty_done : (x : Result History (ℕ × Fault)) (sets : Sets) (g : Grouped) (h : History) (o : Open) (u : Piece) (next : Next) (es : List Event) (t : ℕ) → is_waiting (closed_outcome o x).phase ≡ true
-    → Done (grouped g u (step_at true next false)) (at_fault true (grouped g u (step_at true next false))) (kept_at (running h (Some o)) es t) (kept_after (closed_outcome o x) (kept_at (running h (Some o)) es t))
+faulty_done : (x : Result History (ℕ × Fault)) (sets : Sets) (g : GrouperState) (h : History) (o : OpenPicture) (u : Piece) (next : Next) (es : List Event) (t : ℕ) → is_waiting (closed_outcome o x).phase ≡ true
+    → Done (after_step g u (step_at true next false)) (after_fault true (after_step g u (step_at true next false))) (kept_at (running h (Some o)) es t) (after_outcome (closed_outcome o x) (kept_at (running h (Some o)) es t))
     (close_outcome sets u.index next false (closed_outcome o x))
 faulty_done (Ok h') sets g h o u next es t found = cc
 faulty_done (Err f) sets g h o u next es t found = record {
@@ -359,97 +359,97 @@ faulty_done (Err f) sets g h o u next es t found = record {
   taken = refl;
 }
 
-fault_done_at : (closes : Bool) (p : Phase) (sets : Sets) (g : Grouped) (u : Piece) (next : Next) (es : List Event) (t : ℕ) → is_waiting (closed_if closes (kept_at p es t)).phase ≡ true
-    → Done (grouped g u (step_at closes next false)) (at_fault true (grouped g u (step_at closes next false))) (kept_at p es t) (kept_after (closed_if closes (kept_at p es t)) (kept_at p es t))
+fault_done_at : (closes : Bool) (p : Phase) (sets : Sets) (g : GrouperState) (u : Piece) (next : Next) (es : List Event) (t : ℕ) → is_waiting (closed_if closes (kept_at p es t)).phase ≡ true
+    → Done (after_step g u (step_at closes next false)) (after_fault true (after_step g u (step_at closes next false))) (kept_at p es t) (after_outcome (closed_if closes (kept_at p es t)) (kept_at p es t))
     (in_phase sets u.index (step_at closes next false) p)
 fault_done_at false p sets g u next es t found = cc
 fault_done_at true waiting sets g u next es t found = cc
 fault_done_at true (running h None) sets g u next es t found = cc
-fault_done_at true (running h (Some o)) sets g u next es t found = faulty_done (closing o) sets g h o u next es t found
+fault_done_at true (running h (Some o)) sets g u next es t found = faulty_done (closing_result o) sets g h o u next es t found
 
 -- ---- the step of a unit
 
-pub record Stepped (g : Grouped) (k : Kept) (u : Piece) (w : Step) : Type 0 where
+pub record Stepped (g : GrouperState) (k : PicturesState) (u : Piece) (w : Step) : Type 0 where
   pub kept : k ≡ kept_at (phase_of g.running k) k.events k.taken
   pub is_at : IsAt g (phase_of g.running k)
-  pub brings : BringsNext (open_in (phase_of g.running k)) w.closes w.next
+  pub brings : BringsNext (open_facts_in (phase_of g.running k)) w.closes w.next
   pub keeps : w.closes ≡ false → set_units (u ∷ []) ≡ []
   pub outcome : after_unit (state_of g k) u ≡ in_phase (sets_after g.sets) u.index w (phase_of g.running k)
 
-kept_by : (r : Bool) (k : Kept) → k.failed ≡ false → (r ≡ false → k.history ≡ []) → (r ≡ false → k.opened ≡ None) → k ≡ kept_at (phase_of r k) k.events k.taken
+kept_by : (r : Bool) (k : PicturesState) → k.failed ≡ false → (r ≡ false → k.history ≡ []) → (r ≡ false → k.open_picture ≡ None) → k ≡ kept_at (phase_of r k) k.events k.taken
 kept_by true k on no_history no_picture = ap (λ f. record k { failed = f }) on
 kept_by false k on no_history no_picture =
-    ap (λ f. record k { failed = f }) on ∙ ap (λ h. record k { history = h; failed = false }) (no_history refl) ∙ ap (λ o. record k { history = []; opened = o; failed = false }) (no_picture refl)
+    ap (λ f. record k { failed = f }) on ∙ ap (λ h. record k { history = h; failed = false }) (no_history refl) ∙ ap (λ o. record k { history = []; open_picture = o; failed = false }) (no_picture refl)
 
-at_by : (r : Bool) (g : Grouped) (k : Kept) → g.running ≡ r → g.last ≡ last_header k.opened → (r ≡ false → k.opened ≡ None) → IfSome k.opened (IsNamed (sets_after g.sets)) → IsAt g (phase_of r k)
+at_by : (r : Bool) (g : GrouperState) (k : PicturesState) → g.running ≡ r → g.last ≡ last_header k.open_picture → (r ≡ false → k.open_picture ≡ None) → IfSome k.open_picture (IsNamed (sets_after g.sets)) → IsAt g (phase_of r k)
 at_by true g k e last no_picture named = record { runs = e; last = last; named = named }
 at_by false g k e last no_picture named = record { runs = e; last = last ∙ ap last_header (no_picture refl); named = tt }
 
-open_by : (r : Bool) (k : Kept) (last : Option Header) (full : Bool) → last ≡ last_header k.opened → full ≡ is_full_in k.opened → (r ≡ false → k.opened ≡ None) → open_with full last ≡ open_in (phase_of r k)
-open_by false k last full e f no_picture = ap (open_with full) (e ∙ ap last_header (no_picture refl))
-open_by true k last full e f no_picture = rw (e, f) (open_same k.history k.opened)
+open_by : (r : Bool) (k : PicturesState) (last : Option Header) (full : Bool) → last ≡ last_header k.open_picture → full ≡ is_full_in k.open_picture → (r ≡ false → k.open_picture ≡ None) → open_picture_of full last ≡ open_facts_in (phase_of r k)
+open_by false k last full e f no_picture = ap (open_picture_of full) (e ∙ ap last_header (no_picture refl))
+open_by true k last full e f no_picture = rw (e, f) (open_same k.history k.open_picture)
   where
-    open_same : (h : History) (opened : Option Open) → open_with (is_full_in opened) (last_header opened) ≡ open_in (running h opened)
+    open_same : (h : History) (open_picture : Option OpenPicture) → open_picture_of (is_full_in open_picture) (last_header open_picture) ≡ open_facts_in (running h open_picture)
     open_same h None = refl
     open_same h (Some o) = refl
 
-running_by : (r : Bool) (k : Kept) → is_running (phase_of r k) ≡ r
+running_by : (r : Bool) (k : PicturesState) → is_running (phase_of r k) ≡ r
 running_by true k = refl
 running_by false k = refl
 
-waits_open : (r : Bool) (k : Kept) → is_running (phase_of r k) ≡ false → open_in (phase_of r k) ≡ None
+waits_open : (r : Bool) (k : PicturesState) → is_running (phase_of r k) ≡ false → open_facts_in (phase_of r k) ≡ None
 waits_open true k e = cc
 waits_open false k e = refl
 
-stepped : (g : Grouped) (k : Kept) (u : Piece) (full : Bool) (w : Step) → Agrees g k → full ≡ is_full_in k.opened → w ≡ step (sets_after g.sets) g.running (open_with full g.last) u → Stepped g k u w
+stepped : (g : GrouperState) (k : PicturesState) (u : Piece) (full : Bool) (w : Step) → Agrees g k → full ≡ is_full_in k.open_picture → w ≡ step (sets_after g.sets) g.running (open_picture_of full g.last) u → Stepped g k u w
 stepped g k u full w a f i =
     let p = phase_of g.running k in
     let sets = sets_after g.sets in
-    let is : w ≡ step sets (is_running p) (open_in p) u = i ∙ ap (λ r. step sets r (open_with full g.last) u) (sym (running_by g.running k)) ∙ ap (λ o. step sets (is_running p) o u) (open_by g.running k g.last full a.last f a.no_picture) in
-    let brings = brings_step sets (is_running p) (open_in p) u (waits_open g.running k) in
+    let is : w ≡ step sets (is_running p) (open_facts_in p) u = i ∙ ap (λ r. step sets r (open_picture_of full g.last) u) (sym (running_by g.running k)) ∙ ap (λ o. step sets (is_running p) o u) (open_by g.running k g.last full a.last f a.no_picture) in
+    let brings = brings_step sets (is_running p) (open_facts_in p) u (waits_open g.running k) in
     record {
       kept = kept_by g.running k a.going a.no_history a.no_picture;
       is_at = at_by g.running g k refl a.last a.no_picture a.named;
-      brings = (subst (Brings (open_in p)) (sym is) brings).brings;
-      keeps = λ e. keeps_sets sets (is_running p) (open_in p) u (ap (λ (x : Step). x.closes) (sym is) ∙ e);
+      brings = (subst (Brings (open_facts_in p)) (sym is) brings).brings;
+      keeps = λ e. keeps_sets sets (is_running p) (open_facts_in p) u (ap (λ (x : Step). x.closes) (sym is) ∙ e);
       outcome = ap (λ x. in_phase sets u.index x p) (sym is);
     }
 
 -- ---- the same of what the calls say
 
-pub between : (g g1 : Grouped) (k k1 : Kept) (u : Piece) (full found : Bool) (w : Step) → Agrees g k → full ≡ is_full_in k.opened → w ≡ step (sets_after g.sets) g.running (open_with full g.last) u
-    → g1 ≡ grouped g u w → k1 ≡ kept_after (closed_if w.closes k) k → found ≡ is_waiting (closed_if w.closes k).phase → found ≡ false
+pub between : (g g1 : GrouperState) (k k1 : PicturesState) (u : Piece) (full found : Bool) (w : Step) → Agrees g k → full ≡ is_full_in k.open_picture → w ≡ step (sets_after g.sets) g.running (open_picture_of full g.last) u
+    → g1 ≡ after_step g u w → k1 ≡ after_outcome (closed_if w.closes k) k → found ≡ is_waiting (closed_if w.closes k).phase → found ≡ false
     → Between (sets_after g.sets) g1 k k1 u w.next (after_unit (state_of g k) u)
 between g g1 k k1 u full found w a f i i1 j d sound =
     let s = stepped g k u full w a f i in
     let p = phase_of g.running k in
-    let sound' : is_waiting (closed_if w.closes (kept_at p k.events k.taken)).phase ≡ false = ap (λ (x : Kept). is_waiting (closed_if w.closes x).phase) (sym s.kept) ∙ sym d ∙ sound in
+    let sound' : is_waiting (closed_if w.closes (kept_at p k.events k.taken)).phase ≡ false = ap (λ (x : PicturesState). is_waiting (closed_if w.closes x).phase) (sym s.kept) ∙ sym d ∙ sound in
     let b = between_at w.closes p (sets_after g.sets) g u w.next w.even_after_fault k.events k.taken s.is_at s.brings s.keeps sound' in
-    rw (i1, j, s.outcome) (subst (λ (x : Kept). Between (sets_after g.sets) (grouped g u w) x (kept_after (closed_if w.closes x) x) u w.next (in_phase (sets_after g.sets) u.index w p)) (sym s.kept) b)
+    rw (i1, j, s.outcome) (subst (λ (x : PicturesState). Between (sets_after g.sets) (after_step g u w) x (after_outcome (closed_if w.closes x) x) u w.next (in_phase (sets_after g.sets) u.index w p)) (sym s.kept) b)
 
 -- closing was a fault, and the unit goes on all the same
-pub between_fault : (g g1 g2 : Grouped) (k k1 : Kept) (u : Piece) (full found : Bool) (w : Step) → Agrees g k → full ≡ is_full_in k.opened → w ≡ step (sets_after g.sets) g.running (open_with full g.last) u
-    → g1 ≡ grouped g u w → k1 ≡ kept_after (closed_if w.closes k) k → found ≡ is_waiting (closed_if w.closes k).phase → found ≡ true → g2 ≡ at_fault true g1 → w.even_after_fault ≡ true
+pub between_fault : (g g1 g2 : GrouperState) (k k1 : PicturesState) (u : Piece) (full found : Bool) (w : Step) → Agrees g k → full ≡ is_full_in k.open_picture → w ≡ step (sets_after g.sets) g.running (open_picture_of full g.last) u
+    → g1 ≡ after_step g u w → k1 ≡ after_outcome (closed_if w.closes k) k → found ≡ is_waiting (closed_if w.closes k).phase → found ≡ true → g2 ≡ after_fault true g1 → w.even_after_fault ≡ true
     → Between (sets_after g.sets) g2 k k1 u w.next (after_unit (state_of g k) u)
 between_fault g g1 g2 k k1 u full found w a f i i1 j d faulty i2 even =
     let s = stepped g k u full w a f i in
     let p = phase_of g.running k in
-    let faulty' : is_waiting (closed_if w.closes (kept_at p k.events k.taken)).phase ≡ true = ap (λ (x : Kept). is_waiting (closed_if w.closes x).phase) (sym s.kept) ∙ sym d ∙ faulty in
+    let faulty' : is_waiting (closed_if w.closes (kept_at p k.events k.taken)).phase ≡ true = ap (λ (x : PicturesState). is_waiting (closed_if w.closes x).phase) (sym s.kept) ∙ sym d ∙ faulty in
     let b = between_fault_at w.closes p (sets_after g.sets) g u w.next k.events k.taken s.brings faulty' in
-    let b' = subst (λ (e : Bool). Between (sets_after g.sets) (at_fault true (grouped g u (step_at w.closes w.next e))) (kept_at p k.events k.taken) (kept_after (closed_if w.closes (kept_at p k.events k.taken)) (kept_at p k.events k.taken)) u w.next (in_phase (sets_after g.sets) u.index (step_at w.closes w.next e) p)) (sym even) b in
-    rw (i2, i1, j, s.outcome) (subst (λ (x : Kept). Between (sets_after g.sets) (at_fault true (grouped g u w)) x (kept_after (closed_if w.closes x) x) u w.next (in_phase (sets_after g.sets) u.index w p)) (sym s.kept) b')
+    let b' = subst (λ (e : Bool). Between (sets_after g.sets) (after_fault true (after_step g u (step_at w.closes w.next e))) (kept_at p k.events k.taken) (after_outcome (closed_if w.closes (kept_at p k.events k.taken)) (kept_at p k.events k.taken)) u w.next (in_phase (sets_after g.sets) u.index (step_at w.closes w.next e) p)) (sym even) b in
+    rw (i2, i1, j, s.outcome) (subst (λ (x : PicturesState). Between (sets_after g.sets) (after_fault true (after_step g u w)) x (after_outcome (closed_if w.closes x) x) u w.next (in_phase (sets_after g.sets) u.index w p)) (sym s.kept) b')
 
 -- what comes next can be carried out
-pub between_fits : (sets : Sets) (g : Grouped) (k k1 : Kept) (u : Piece) (next : Next) (y : Outcome) → Between sets g k k1 u next y → IfSlice next (IsTaken (sets_after g.sets)) → Fits (sets_after g.sets) next k1.opened
-between_fits sets g k k1 u next y b taken = rw b.ready.kept (fits_at next (sets_after g.sets) (opened_in b.phase) b.ready.for_next b.ready.named taken)
+pub between_fits : (sets : Sets) (g : GrouperState) (k k1 : PicturesState) (u : Piece) (next : Next) (y : Outcome) → Between sets g k k1 u next y → IfSlice next (IsTaken (sets_after g.sets)) → Fits (sets_after g.sets) next k1.open_picture
+between_fits sets g k k1 u next y b taken = rw b.ready.kept (fits_at next (sets_after g.sets) (open_picture_in b.phase) b.ready.for_next b.ready.named taken)
 
-handles_of : (g g1 g' : Grouped) (k k' : Kept) (u : Piece) → g1.sets ≡ g.sets ++ set_units (u ∷ []) → Done g1 g' k k' (after_unit (state_of g k) u) → Handles g k u g' k'
+handles_of : (g g1 g' : GrouperState) (k k' : PicturesState) (u : Piece) → g1.sets ≡ g.sets ++ set_units (u ∷ []) → Done g1 g' k k' (after_unit (state_of g k) u) → Handles g k u g' k'
 handles_of g g1 g' k k' u sets d = record { agrees = d.agrees; state = rw (d.phase, d.sets, sets) refl; events = d.events; taken = d.taken }
 
 -- what came next was done
-pub handles : (g g1 g' : Grouped) (k k1 k' : Kept) (u : Piece) (next : Next) → g1.sets ≡ g.sets ++ set_units (u ∷ []) → Between (sets_after g.sets) g1 k k1 u next (after_unit (state_of g k) u)
-    → IfSlice next (IsTaken (sets_after g1.sets)) → IfSlice next (λ _. g1.sets ≡ g.sets) → k' ≡ kept_after (next_in (sets_after g1.sets) u.index next k1) k1
-    → g' ≡ told_if (is_waiting (next_in (sets_after g1.sets) u.index next k1).phase) g1 → Handles g k u g' k'
+pub handles : (g g1 g' : GrouperState) (k k1 k' : PicturesState) (u : Piece) (next : Next) → g1.sets ≡ g.sets ++ set_units (u ∷ []) → Between (sets_after g.sets) g1 k k1 u next (after_unit (state_of g k) u)
+    → IfSlice next (IsTaken (sets_after g1.sets)) → IfSlice next (λ _. g1.sets ≡ g.sets) → k' ≡ after_outcome (next_in (sets_after g1.sets) u.index next k1) k1
+    → g' ≡ after_fault_if (is_waiting (next_in (sets_after g1.sets) u.index next k1).phase) g1 → Handles g k u g' k'
 handles g g1 g' k k1 k' u next sets b taken same ek eg =
     let d = done g1 g' k1 k' b.phase u.index next b.ready taken ek eg in
     let is = same_next next g.sets g1.sets u.index b.phase same in
@@ -462,21 +462,21 @@ handles g g1 g' k k1 k' u next sets b taken same ek eg =
     })
 
 -- closing was a fault, and nothing comes after it
-pub handles_fault : (g g1 g2 : Grouped) (k k1 : Kept) (u : Piece) (full found : Bool) (w : Step) → Agrees g k → full ≡ is_full_in k.opened → w ≡ step (sets_after g.sets) g.running (open_with full g.last) u
-    → g1 ≡ grouped g u w → k1 ≡ kept_after (closed_if w.closes k) k → found ≡ is_waiting (closed_if w.closes k).phase → found ≡ true → g2 ≡ at_fault true g1 → w.even_after_fault ≡ false
+pub handles_fault : (g g1 g2 : GrouperState) (k k1 : PicturesState) (u : Piece) (full found : Bool) (w : Step) → Agrees g k → full ≡ is_full_in k.open_picture → w ≡ step (sets_after g.sets) g.running (open_picture_of full g.last) u
+    → g1 ≡ after_step g u w → k1 ≡ after_outcome (closed_if w.closes k) k → found ≡ is_waiting (closed_if w.closes k).phase → found ≡ true → g2 ≡ after_fault true g1 → w.even_after_fault ≡ false
     → Handles g k u g2 k1
 handles_fault g g1 g2 k k1 u full found w a f i i1 j d faulty i2 even =
     let s = stepped g k u full w a f i in
     let p = phase_of g.running k in
-    let faulty' : is_waiting (closed_if w.closes (kept_at p k.events k.taken)).phase ≡ true = ap (λ (x : Kept). is_waiting (closed_if w.closes x).phase) (sym s.kept) ∙ sym d ∙ faulty in
+    let faulty' : is_waiting (closed_if w.closes (kept_at p k.events k.taken)).phase ≡ true = ap (λ (x : PicturesState). is_waiting (closed_if w.closes x).phase) (sym s.kept) ∙ sym d ∙ faulty in
     let b = fault_done_at w.closes p (sets_after g.sets) g u w.next k.events k.taken faulty' in
-    let b' = subst (λ (e : Bool). Done (grouped g u (step_at w.closes w.next e)) (at_fault true (grouped g u (step_at w.closes w.next e))) (kept_at p k.events k.taken) (kept_after (closed_if w.closes (kept_at p k.events k.taken)) (kept_at p k.events k.taken)) (in_phase (sets_after g.sets) u.index (step_at w.closes w.next e) p)) (sym even) b in
-    let b'' = subst (λ (x : Kept). Done (grouped g u w) (at_fault true (grouped g u w)) x (kept_after (closed_if w.closes x) x) (in_phase (sets_after g.sets) u.index w p)) (sym s.kept) b' in
-    rw (i2, i1, j) (handles_of g (grouped g u w) (at_fault true (grouped g u w)) k (kept_after (closed_if w.closes k) k) u refl (rw s.outcome b''))
+    let b' = subst (λ (e : Bool). Done (after_step g u (step_at w.closes w.next e)) (after_fault true (after_step g u (step_at w.closes w.next e))) (kept_at p k.events k.taken) (after_outcome (closed_if w.closes (kept_at p k.events k.taken)) (kept_at p k.events k.taken)) (in_phase (sets_after g.sets) u.index (step_at w.closes w.next e) p)) (sym even) b in
+    let b'' = subst (λ (x : PicturesState). Done (after_step g u w) (after_fault true (after_step g u w)) x (after_outcome (closed_if w.closes x) x) (in_phase (sets_after g.sets) u.index w p)) (sym s.kept) b' in
+    rw (i2, i1, j) (handles_of g (after_step g u w) (after_fault true (after_step g u w)) k (after_outcome (closed_if w.closes k) k) u refl (rw s.outcome b''))
 
-pub fault_sets : (closing : Bool) (g : Grouped) → (at_fault closing g).sets ≡ g.sets
+pub fault_sets : (closing : Bool) (g : GrouperState) → (after_fault closing g).sets ≡ g.sets
 fault_sets closing g = by (g.restarts && closing)
   where
-    by : (b : Bool) → (elim b as (λ _. Grouped) [ true ↦ g | false ↦ record g { running = false; last = None; restarts = false } ]).sets ≡ g.sets
+    by : (b : Bool) → (elim b as (λ _. GrouperState) [ true ↦ g | false ↦ record g { running = false; last = None; restarts = false } ]).sets ≡ g.sets
     by true = refl
     by false = refl

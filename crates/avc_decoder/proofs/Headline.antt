@@ -2,9 +2,9 @@
 use Rattle.std.specs.Prelude.{◌≡◌, ℕ, ◌+◌, Bool, true, false, List, [], ◌∷◌, ◌++◌, length, Some, None, Ok, Err, slice_get, refl}
 use Rattle.std.proofs.Common.{ap, sym, subst, ◌∙◌, append_assoc, append-nil, length-append}
 use Rattle.avc_decoder.specs.Events.{events}
-use Rattle.avc_decoder.specs.Headline.{Since, nothing, with_call, since, defined, TakesThem, TakesAll}
+use Rattle.avc_decoder.specs.Headline.{SinceReset, no_call, with_call, since_reset, defined_events, TakesThem, TakesAll}
 use Rattle.avc_decoder.specs.Laws.{EventsOnlyGrow}
-use Rattle.avc_decoder.specs.Machine.{Machine, new_machine, Run, Step, fed, flushed, taken_from, next_event}
+use Rattle.avc_decoder.specs.Machine.{Machine, new_machine, Run, IsCallAnswer, after_feed, after_flush, after_take, next_event}
 use Rattle.avc_decoder.specs.declared.calls.Call.{Call}
 use Rattle.avc_decoder.specs.declared.calls.Call.TheVariants.{Feed, Take, Flush, Reset}
 use Rattle.avc_decoder.specs.declared.calls.Reply.{Reply}
@@ -13,16 +13,16 @@ use Rattle.avc_decoder.specs.declared.error.DecodeError.TheVariants.{OutOfMemory
 use Rattle.avc_decoder.specs.declared.event.Event.{Event}
 
 -- a machine that was not refused memory is as the calls and replies tell
-pub record Agrees (m : Machine) (s : Since) : Type 0 where
+pub record Agrees (m : Machine) (s : SinceReset) : Type 0 where
   pub bytes : m.bytes ≡ s.bytes
   pub ended : m.ended ≡ s.ended
   pub taken : m.taken ≡ length s.taken
 
 -- the events that were taken are the first that are defined
-abbrev pub IsFirst : (max : ℕ) → Since → Type 0
-IsFirst max s = (others : List Event) × (defined max s ≡ s.taken ++ others)
+abbrev pub IsFirst : (max : ℕ) → SinceReset → Type 0
+IsFirst max s = (others : List Event) × (defined_events max s ≡ s.taken ++ others)
 
-pub record Tells (max : ℕ) (m : Machine) (s : Since) : Type 0 where
+pub record Tells (max : ℕ) (m : Machine) (s : SinceReset) : Type 0 where
   pub agrees : m.failed ≡ false → Agrees m s
   pub first : IsFirst max s
 
@@ -40,14 +40,14 @@ none_left (y ∷ front) others e = none_left front others e
 
 -- ---- one call
 
-unchanged : (max : ℕ) (m m' : Machine) (s : Since) → m' ≡ m → Tells max m s → Tells max m' s
+unchanged : (max : ℕ) (m m' : Machine) (s : SinceReset) → m' ≡ m → Tells max m s → Tells max m' s
 unchanged max m m' s e t = subst (λ n. Tells max n s) (sym e) t
 
-refused_tells : (max : ℕ) (m m' : Machine) (s : Since) → m'.failed ≡ true → Tells max m s → Tells max m' s
+refused_tells : (max : ℕ) (m m' : Machine) (s : SinceReset) → m'.failed ≡ true → Tells max m s → Tells max m' s
 refused_tells max m m' s failed t = record { agrees = λ going. let q : true ≡ false = sym failed ∙ going in cc; first = t.first }
 
 -- with more bytes, or with the end said
-grown : EventsOnlyGrow → (max : ℕ) (s : Since) (more : List ℕ) (ended : Bool) → s.ended ≡ false → IsFirst max s →
+grown : EventsOnlyGrow → (max : ℕ) (s : SinceReset) (more : List ℕ) (ended : Bool) → s.ended ≡ false → IsFirst max s →
     (others : List Event) × (events max (s.bytes ++ more) ended ≡ s.taken ++ others)
 grown grow max s more ended going f =
     let later = grow max s.bytes more ended in (
@@ -55,8 +55,8 @@ grown grow max s more ended going f =
       later.1 ∙ ap (λ e. events max s.bytes e ++ later.0) (sym going) ∙ ap (λ es. es ++ later.0) f.1 ∙ append_assoc s.taken f.0 later.0,
     )
 
-fed_tells : EventsOnlyGrow → (max : ℕ) (m : Machine) (s : Since) (piece : List ℕ) → m.failed ≡ false → m.ended ≡ false → Tells max m s →
-    Tells max (fed piece m) (record s { bytes = s.bytes ++ piece })
+fed_tells : EventsOnlyGrow → (max : ℕ) (m : Machine) (s : SinceReset) (piece : List ℕ) → m.failed ≡ false → m.ended ≡ false → Tells max m s →
+    Tells max (after_feed piece m) (record s { bytes = s.bytes ++ piece })
 fed_tells grow max m s piece going unended t =
     let a = t.agrees going in
     let f = grown grow max s piece false (sym a.ended ∙ unended) t.first in
@@ -65,8 +65,8 @@ fed_tells grow max m s piece going unended t =
       first = (f.0, ap (λ e. events max (s.bytes ++ piece) e) (sym a.ended ∙ unended) ∙ f.1);
     }
 
-flushed_tells : EventsOnlyGrow → (max : ℕ) (m : Machine) (s : Since) → m.failed ≡ false → m.ended ≡ false → Tells max m s →
-    Tells max (flushed m) (record s { ended = true })
+flushed_tells : EventsOnlyGrow → (max : ℕ) (m : Machine) (s : SinceReset) → m.failed ≡ false → m.ended ≡ false → Tells max m s →
+    Tells max (after_flush m) (record s { ended = true })
 flushed_tells grow max m s going unended t =
     let a = t.agrees going in
     let f = grown grow max s [] true (sym a.ended ∙ unended) t.first in
@@ -76,15 +76,15 @@ flushed_tells grow max m s going unended t =
     }
 
 -- what a machine would hand out next, by what was taken
-next_by : (max : ℕ) (m : Machine) (s : Since) → Agrees m s → (f : IsFirst max s) → next_event max m ≡ slice_get (s.taken ++ f.0) (length s.taken)
+next_by : (max : ℕ) (m : Machine) (s : SinceReset) → Agrees m s → (f : IsFirst max s) → next_event max m ≡ slice_get (s.taken ++ f.0) (length s.taken)
 next_by max m s a f =
     ap (λ bs. slice_get (events max bs m.ended) m.taken) a.bytes
     ∙ ap (λ e. slice_get (events max s.bytes e) m.taken) a.ended
     ∙ ap (λ n. slice_get (events max s.bytes s.ended) n) a.taken
     ∙ ap (λ es. slice_get es (length s.taken)) f.1
 
-taken_tells : (max : ℕ) (m : Machine) (s : Since) (e : Event) → m.failed ≡ false → Some e ≡ next_event max m → Tells max m s →
-    Tells max (taken_from (Some e) m) (record s { taken = s.taken ++ e ∷ [] })
+taken_tells : (max : ℕ) (m : Machine) (s : SinceReset) (e : Event) → m.failed ≡ false → Some e ≡ next_event max m → Tells max m s →
+    Tells max (after_take (Some e) m) (record s { taken = s.taken ++ e ∷ [] })
 taken_tells max m s e going is t =
     let a = t.agrees going in
     let r = next_is s.taken t.first.0 e (sym (is ∙ next_by max m s a t.first)) in
@@ -93,22 +93,22 @@ taken_tells max m s e going is t =
       first = (r.0, t.first.1 ∙ ap (λ os. s.taken ++ os) r.1 ∙ sym (append_assoc s.taken (e ∷ []) r.0));
     }
 
-at_first : (max : ℕ) (m : Machine) → m ≡ new_machine → Tells max m nothing
-at_first max m e = unchanged max new_machine m nothing e (record {
+at_first : (max : ℕ) (m : Machine) → m ≡ new_machine → Tells max m no_call
+at_first max m e = unchanged max new_machine m no_call e (record {
   agrees = λ _. record { bytes = refl; ended = refl; taken = refl };
   first = (events max [] false, refl);
 })
 
-answered : EventsOnlyGrow → (max : ℕ) (m m' : Machine) (s : Since) (call : Call) (reply : Reply) → Tells max m s → Step max m call reply m' → Tells max m' (with_call s call reply)
+answered : EventsOnlyGrow → (max : ℕ) (m m' : Machine) (s : SinceReset) (call : Call) (reply : Reply) → Tells max m s → IsCallAnswer max m call reply m' → Tells max m' (with_call s call reply)
 answered grow max m m' s (Feed piece) (replies.Fed (Ok done)) t g =
-    unchanged max (fed piece m) m' (record s { bytes = s.bytes ++ piece }) g.2 (fed_tells grow max m s piece g.0 g.1 t)
+    unchanged max (after_feed piece m) m' (record s { bytes = s.bytes ++ piece }) g.2 (fed_tells grow max m s piece g.0 g.1 t)
 answered grow max m m' s (Feed piece) (replies.Fed (Err Ended)) t g = unchanged max m m' s g.2 t
 answered grow max m m' s (Feed piece) (replies.Fed (Err OutOfMemory)) t g = refused_tells max m m' s g.refused t
 answered grow max m m' s (Feed piece) (replies.Taken answer) t g = absurd g
 answered grow max m m' s (Feed piece) (replies.Flushed answer) t g = absurd g
 answered grow max m m' s (Feed piece) replies.Reset t g = absurd g
 answered grow max m m' s Take (replies.Taken (Ok (Some e))) t g =
-    unchanged max (taken_from (Some e) m) m' (record s { taken = s.taken ++ e ∷ [] }) g.2 (taken_tells max m s e g.0 g.1 t)
+    unchanged max (after_take (Some e) m) m' (record s { taken = s.taken ++ e ∷ [] }) g.2 (taken_tells max m s e g.0 g.1 t)
 answered grow max m m' s Take (replies.Taken (Ok None)) t g = unchanged max m m' s g.2 t
 answered grow max m m' s Take (replies.Taken (Err OutOfMemory)) t g = unchanged max m m' s g.1 t
 answered grow max m m' s Take (replies.Taken (Err Ended)) t g = absurd g
@@ -116,7 +116,7 @@ answered grow max m m' s Take (replies.Fed answer) t g = absurd g
 answered grow max m m' s Take (replies.Flushed answer) t g = absurd g
 answered grow max m m' s Take replies.Reset t g = absurd g
 answered grow max m m' s Flush (replies.Flushed (Ok done)) t g =
-    unchanged max (flushed m) m' (record s { ended = true }) g.2 (flushed_tells grow max m s g.0 g.1 t)
+    unchanged max (after_flush m) m' (record s { ended = true }) g.2 (flushed_tells grow max m s g.0 g.1 t)
 answered grow max m m' s Flush (replies.Flushed (Err Ended)) t g = unchanged max m m' s g.2 t
 answered grow max m m' s Flush (replies.Flushed (Err OutOfMemory)) t g = refused_tells max m m' s g.refused t
 answered grow max m m' s Flush (replies.Fed answer) t g = absurd g
@@ -129,8 +129,8 @@ answered grow max m m' s Reset (replies.Flushed answer) t g = absurd g
 
 -- ---- any calls
 
-run_tells : EventsOnlyGrow → (max : ℕ) (m last : Machine) (s : Since) (calls : List Call) (answers : List Reply) → Tells max m s → Run max m calls answers last →
-    Tells max last (since s calls answers)
+run_tells : EventsOnlyGrow → (max : ℕ) (m last : Machine) (s : SinceReset) (calls : List Call) (answers : List Reply) → Tells max m s → Run max m calls answers last →
+    Tells max last (since_reset s calls answers)
 run_tells grow max m last s [] [] t r = unchanged max m last s r t
 run_tells grow max m last s (call ∷ calls) (reply ∷ answers) t r =
     run_tells grow max r.0 last (with_call s call reply) calls answers (answered grow max m r.0 s call reply t r.1) r.2
@@ -138,12 +138,12 @@ run_tells grow max m last s [] (reply ∷ answers) t r = absurd r
 run_tells grow max m last s (call ∷ calls) [] t r = absurd r
 
 pub takes_them : EventsOnlyGrow → TakesThem
-takes_them grow max calls answers last r = (run_tells grow max new_machine last nothing calls answers (at_first max new_machine refl) r).first
+takes_them grow max calls answers last r = (run_tells grow max new_machine last no_call calls answers (at_first max new_machine refl) r).first
 
 pub takes_all : EventsOnlyGrow → TakesAll
 takes_all grow max calls answers before last r none =
-    let s = since nothing calls answers in
-    let t = run_tells grow max new_machine before nothing calls answers (at_first max new_machine refl) r in
+    let s = since_reset no_call calls answers in
+    let t = run_tells grow max new_machine before no_call calls answers (at_first max new_machine refl) r in
     let g = none.1 in
     let left = none_left s.taken t.first.0 (sym (g.1 ∙ next_by max before s (t.agrees g.0) t.first)) in
     t.first.1 ∙ ap (λ os. s.taken ++ os) left ∙ append-nil s.taken

@@ -75,9 +75,6 @@ cabac = refl
 slice_groups : seen_all (sps_small ++ (0 ∷ 0 ∷ 0 ∷ 1 ∷ 0x68 ∷ 0xC5 ∷ 0x80 ∷ []) ++ idr) true ≡ refusal 1 faults.SliceGroups ∷ refusal 2 faults.NoParameterSet ∷ []
 slice_groups = refl
 
-weighted_prediction : seen_all (sps_small ++ (0 ∷ 0 ∷ 0 ∷ 1 ∷ 0x68 ∷ 0xCF ∷ 0x38 ∷ 0x80 ∷ []) ++ idr) true ≡ refusal 1 faults.WeightedPrediction ∷ refusal 2 faults.NoParameterSet ∷ []
-weighted_prediction = refl
-
 forbidden : seen_all (0 ∷ 0 ∷ 1 ∷ 0xE7 ∷ 0x42 ∷ []) true ≡ refusal 0 faults.ForbiddenBit ∷ []
 forbidden = refl
 
@@ -91,6 +88,10 @@ too_long = refl
 
 intra_macroblock : seen_all (sets ++ idr) true ≡ refusal 2 faults.NotYet ∷ []
 intra_macroblock = refl
+
+-- weighted_pred_flag 1 refuses nothing
+weighted_set : seen_all (sps_small ++ (0 ∷ 0 ∷ 0 ∷ 1 ∷ 0x68 ∷ 0xCF ∷ 0x38 ∷ 0x80 ∷ []) ++ idr) true ≡ refusal 2 faults.NotYet ∷ []
+weighted_set = refl
 
 -- a picture that is not full has the fault of the unit that cannot be read
 p_slice : seen_all (sets ++ pcm first_mb (of_one 80) ++ skipping) true ≡ shown 80 256 ∷ refusal 3 faults.NotYet ∷ []

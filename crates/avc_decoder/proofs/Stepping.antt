@@ -10,63 +10,63 @@ use Rattle.avc_params.specs.Tables.{Sets}
 use Rattle.avc_slice.specs.Begins.{begins}
 use Rattle.avc_slice.specs.declared.header.Header.{Header}
 use Rattle.avc_slice.specs.declared.slice.Slice.{Slice}
-use Rattle.avc_units.specs.Grouping.{Kind, OpenPicture, boundary, is_start, kind, other, partition, passes, pps, running_step, set_fault, set_units, rbsp_of, slice, slice_step, sps, step, taken_slice, unreadable, waiting_step}
+use Rattle.avc_units.specs.Grouping.{Kind, OpenPictureFacts, boundary, is_start, kind, other, partition, no_effect, pps, running_step, set_fault, set_units, rbsp_of, slice, slice_step, sps, step, taken_slice, unreadable, waiting_step}
 use Rattle.avc_units.specs.declared.step.Next.{Next}
 use Rattle.avc_units.specs.declared.step.Next.TheVariants.{Begins, Continues, FaultOfOpen, FaultOfOwn, Refusal}
 use Rattle.avc_units.specs.declared.step.Step.{Step}
 
 -- no picture is open after closing
-abbrev pub rests : (closes : Bool) → Option OpenPicture → Bool
+abbrev pub rests : (closes : Bool) → Option OpenPictureFacts → Bool
 rests true open' = true
 rests false None = true
 rests false (Some o) = false
 
-abbrev pub GoesOn : Option OpenPicture → Slice → Type 0
+abbrev pub GoesOn : Option OpenPictureFacts → Slice → Type 0
 GoesOn None s = ⊥
 GoesOn (Some o) s = begins o.last s.header ≡ false
 
-abbrev pub BringsNext : Option OpenPicture → (closes : Bool) → Next → Type 0
+abbrev pub BringsNext : Option OpenPictureFacts → (closes : Bool) → Next → Type 0
 BringsNext open' closes (Begins s) = rests closes open' ≡ true
 BringsNext open' closes (Continues s) = (closes ≡ false) × GoesOn open' s
 BringsNext open' closes _ = Unit {0}
 
 -- A picture begins where none is open, and goes on where the last slice is of the same one.
-pub record Brings (open' : Option OpenPicture) (w : Step) : Type 0 where
+pub record Brings (open' : Option OpenPictureFacts) (w : Step) : Type 0 where
   pub brings : BringsNext open' w.closes w.next
 
-brings_readable : (b : Bool) (o : OpenPicture) (starts : Bool) (s : Slice) → begins o.last s.header ≡ b → Brings (Some o) (elim b [
+brings_readable : (b : Bool) (o : OpenPictureFacts) (starts : Bool) (s : Slice) → begins o.last s.header ≡ b → Brings (Some o) (elim b [
   | true ↦ record { closes = true; next = Begins s; even_after_fault = starts }
   | false ↦ record { closes = false; next = Continues s; even_after_fault = false }
 ])
 brings_readable true o starts s e = record { brings = refl }
 brings_readable false o starts s e = record { brings = (refl, e) }
 
-brings_full : (b : Bool) (open' : Option OpenPicture) (f : Fault) → Brings open' (elim b [
+brings_full : (b : Bool) (open' : Option OpenPictureFacts) (f : Fault) → Brings open' (elim b [
   | true ↦ record { closes = true; next = FaultOfOwn f; even_after_fault = false }
   | false ↦ record { closes = false; next = FaultOfOpen f; even_after_fault = false }
 ])
 brings_full true open' f = record { brings = tt }
 brings_full false open' f = record { brings = tt }
 
-brings_unreadable : (open' : Option OpenPicture) (f : Fault) → Brings open' (unreadable open' f)
+brings_unreadable : (open' : Option OpenPictureFacts) (f : Fault) → Brings open' (unreadable open' f)
 brings_unreadable None f = record { brings = tt }
 brings_unreadable (Some o) f = brings_full o.full (Some o) f
 
-brings_slice : (open' : Option OpenPicture) (starts : Bool) (r : Result Slice Fault) → Brings open' (slice_step open' starts r)
+brings_slice : (open' : Option OpenPictureFacts) (starts : Bool) (r : Result Slice Fault) → Brings open' (slice_step open' starts r)
 brings_slice None starts (Ok s) = record { brings = refl }
 brings_slice (Some o) starts (Ok s) = brings_readable (begins o.last s.header) o starts s refl
 brings_slice open' starts (Err f) = brings_unreadable open' f
 
 -- ends_picture with what a parameter set's unit says
-sps_step : (sets : Sets) (open' : Option OpenPicture) (u : Piece) (f : Option Fault) → set_fault sps (rbsp_of u) ≡ f → Brings open' (running_step sets open' u sps)
+sps_step : (sets : Sets) (open' : Option OpenPictureFacts) (u : Piece) (f : Option Fault) → set_fault sps (rbsp_of u) ≡ f → Brings open' (running_step sets open' u sps)
 sps_step sets open' u None e = rw e (record { brings = tt })
 sps_step sets open' u (Some f) e = rw e (record { brings = tt })
 
-pps_step : (sets : Sets) (open' : Option OpenPicture) (u : Piece) (f : Option Fault) → set_fault pps (rbsp_of u) ≡ f → Brings open' (running_step sets open' u pps)
+pps_step : (sets : Sets) (open' : Option OpenPictureFacts) (u : Piece) (f : Option Fault) → set_fault pps (rbsp_of u) ≡ f → Brings open' (running_step sets open' u pps)
 pps_step sets open' u None e = rw e (record { brings = tt })
 pps_step sets open' u (Some f) e = rw e (record { brings = tt })
 
-brings_running : (sets : Sets) (open' : Option OpenPicture) (u : Piece) (k : Kind) → Brings open' (running_step sets open' u k)
+brings_running : (sets : Sets) (open' : Option OpenPictureFacts) (u : Piece) (k : Kind) → Brings open' (running_step sets open' u k)
 brings_running sets open' u (slice idr) = brings_slice open' (is_start u) (taken_slice sets u idr)
 brings_running sets open' u partition = brings_unreadable open' DataPartition
 brings_running sets open' u boundary = record { brings = tt }
@@ -74,7 +74,7 @@ brings_running sets open' u other = record { brings = tt }
 brings_running sets open' u sps = sps_step sets open' u (set_fault sps (rbsp_of u)) refl
 brings_running sets open' u pps = pps_step sets open' u (set_fault pps (rbsp_of u)) refl
 
-brings_start : (b : Bool) (sets : Sets) (u : Piece) (idr : Bool) → Brings None (elim b [ true ↦ running_step sets None u (slice idr) | false ↦ passes ])
+brings_start : (b : Bool) (sets : Sets) (u : Piece) (idr : Bool) → Brings None (elim b [ true ↦ running_step sets None u (slice idr) | false ↦ no_effect ])
 brings_start true sets u idr = brings_running sets None u (slice idr)
 brings_start false sets u idr = record { brings = tt }
 
@@ -86,7 +86,7 @@ brings_waiting sets u other = brings_running sets None u other
 brings_waiting sets u sps = brings_running sets None u sps
 brings_waiting sets u pps = brings_running sets None u pps
 
-brings_by : (forbidden running : Bool) (sets : Sets) (open' : Option OpenPicture) (u : Piece) → (running ≡ false → open' ≡ None) → Brings open' (elim forbidden [
+brings_by : (forbidden running : Bool) (sets : Sets) (open' : Option OpenPictureFacts) (u : Piece) → (running ≡ false → open' ≡ None) → Brings open' (elim forbidden [
   | true ↦ record { closes = false; next = Refusal ForbiddenBit; even_after_fault = true }
   | false ↦ elim running [ true ↦ running_step sets open' u (kind u) | false ↦ waiting_step sets u (kind u) ]
 ])
@@ -94,7 +94,7 @@ brings_by true running sets open' u w = record { brings = tt }
 brings_by false true sets open' u w = brings_running sets open' u (kind u)
 brings_by false false sets open' u w = rw (w refl) (brings_waiting sets u (kind u))
 
-pub brings_step : (sets : Sets) (running : Bool) (open' : Option OpenPicture) (u : Piece) → (running ≡ false → open' ≡ None) → Brings open' (step sets running open' u)
+pub brings_step : (sets : Sets) (running : Bool) (open' : Option OpenPictureFacts) (u : Piece) → (running ≡ false → open' ≡ None) → Brings open' (step sets running open' u)
 brings_step sets running open' u w = brings_by (forbidden_zero_bit u.header) running sets open' u w
 
 -- ---- the parameter sets
@@ -114,24 +114,24 @@ no_set_boundary u e k = cc (e, k)
 no_set_other : (u : Piece) → forbidden_zero_bit u.header ≡ false → kind u ≡ other → set_units (u ∷ []) ≡ []
 no_set_other u e k = cc (e, k)
 
-abbrev at_kind : Sets → Option OpenPicture → Piece → (running : Bool) → Kind → Step
+abbrev at_kind : Sets → Option OpenPictureFacts → Piece → (running : Bool) → Kind → Step
 at_kind sets open' u running k = elim running [ true ↦ running_step sets open' u k | false ↦ waiting_step sets u k ]
 
-abbrev at_bit : Sets → Option OpenPicture → Piece → (running forbidden : Bool) → Step
+abbrev at_bit : Sets → Option OpenPictureFacts → Piece → (running forbidden : Bool) → Step
 at_bit sets open' u running forbidden = elim forbidden [
   | true ↦ record { closes = false; next = Refusal ForbiddenBit; even_after_fault = true }
   | false ↦ at_kind sets open' u running (kind u)
 ]
 
-sps_closes : (running : Bool) (sets : Sets) (open' : Option OpenPicture) (u : Piece) → (at_kind sets open' u running sps).closes ≡ true
+sps_closes : (running : Bool) (sets : Sets) (open' : Option OpenPictureFacts) (u : Piece) → (at_kind sets open' u running sps).closes ≡ true
 sps_closes true sets open' u = refl
 sps_closes false sets open' u = refl
 
-pps_closes : (running : Bool) (sets : Sets) (open' : Option OpenPicture) (u : Piece) → (at_kind sets open' u running pps).closes ≡ true
+pps_closes : (running : Bool) (sets : Sets) (open' : Option OpenPictureFacts) (u : Piece) → (at_kind sets open' u running pps).closes ≡ true
 pps_closes true sets open' u = refl
 pps_closes false sets open' u = refl
 
-keeps_by_kind : (k : Kind) (running : Bool) (sets : Sets) (open' : Option OpenPicture) (u : Piece) → forbidden_zero_bit u.header ≡ false → kind u ≡ k
+keeps_by_kind : (k : Kind) (running : Bool) (sets : Sets) (open' : Option OpenPictureFacts) (u : Piece) → forbidden_zero_bit u.header ≡ false → kind u ≡ k
     → (at_kind sets open' u running k).closes ≡ false → set_units (u ∷ []) ≡ []
 keeps_by_kind (slice idr) running sets open' u e k h = no_set_slice u idr e k
 keeps_by_kind partition running sets open' u e k h = no_set_partition u e k
@@ -140,12 +140,12 @@ keeps_by_kind other running sets open' u e k h = no_set_other u e k
 keeps_by_kind sps running sets open' u e k h = let differ = sym (sps_closes running sets open' u) ∙ h in cc
 keeps_by_kind pps running sets open' u e k h = let differ = sym (pps_closes running sets open' u) ∙ h in cc
 
-keeps_by : (forbidden running : Bool) (sets : Sets) (open' : Option OpenPicture) (u : Piece) → forbidden_zero_bit u.header ≡ forbidden → (at_bit sets open' u running forbidden).closes ≡ false → set_units (u ∷ []) ≡ []
+keeps_by : (forbidden running : Bool) (sets : Sets) (open' : Option OpenPictureFacts) (u : Piece) → forbidden_zero_bit u.header ≡ forbidden → (at_bit sets open' u running forbidden).closes ≡ false → set_units (u ∷ []) ≡ []
 keeps_by true running sets open' u e h = no_set_forbidden u e
 keeps_by false running sets open' u e h = keeps_by_kind (kind u) running sets open' u e refl h
 
 -- a unit that does not end the open picture brings none
-pub keeps_sets : (sets : Sets) (running : Bool) (open' : Option OpenPicture) (u : Piece) → (step sets running open' u).closes ≡ false → set_units (u ∷ []) ≡ []
+pub keeps_sets : (sets : Sets) (running : Bool) (open' : Option OpenPictureFacts) (u : Piece) → (step sets running open' u).closes ≡ false → set_units (u ∷ []) ≡ []
 keeps_sets sets running open' u h = keeps_by (forbidden_zero_bit u.header) running sets open' u refl h
 
 -- ---- a further slice

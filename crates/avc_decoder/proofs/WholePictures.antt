@@ -16,7 +16,7 @@ use Rattle.avc_params.specs.declared.sps.Cropping.{Cropping}
 use Rattle.avc_params.specs.declared.sps.Sps.{Sps}
 use Rattle.avc_plane.specs.Planes.{Planes}
 use Rattle.avc_poc.specs.OrderCounts.{Counts, order_counts}
-use Rattle.avc_marking.specs.Marks.{Marks, previous_number, missing_numbers}
+use Rattle.avc_marking.specs.Marks.{Marks, prev_ref_frame_num, missing_frame_nums}
 use Rattle.avc_slice.specs.Header.{is_idr}
 use Rattle.avc_slice.specs.declared.header.Header.{Header}
 use Rattle.avc_slice.specs.declared.slice.Slice.{Slice}
@@ -25,10 +25,10 @@ use Rattle.avc_units.specs.Grouping.{step}
 use Rattle.avc_units.specs.declared.step.Next.{Next}
 use Rattle.avc_units.specs.declared.step.Next.TheVariants.{Nothing, Refusal, FaultOfOpen, FaultOfOwn, Begins, Continues}
 use Rattle.avc_units.specs.declared.step.Step.{Step}
-use Rattle.avc_decoder_core.specs.History.{◌>>=◌, is_same, with_missing, counted, Entry, closed, absent, History, gained, all_held, entry_at, pasts, steps, marks_of, picture_step, opened, closed_by, sequence_sps}
-use Rattle.avc_decoder_core.specs.Pictures.{crop_of, picture_of, shown, pictures_at, released, emptied}
-use Rattle.avc_decoder.specs.FirstFault.{Open, first_header, first_fault, opened_history, history_of, read_of, picture_planes, closed_history, start_on, slices_of}
-use Rattle.avc_decoder.specs.Events.{pictures, Phase, waiting, running, State, first_state, Outcome, failed_at, at_last, closing, closed_outcome, closed_picture, with_slice, sets_named, both, begun, continued, base_in, history_in, after_next, is_waiting, then_also, after_closing, in_phase, after_unit, state_after, held_after, at_end, is_running, open_in, events_from, events}
+use Rattle.avc_decoder_core.specs.History.{◌>>=◌, is_same_sps, with_missing, with_order_counts, Entry, decoded_picture, missing_frame, History, new_output, all_held, entry_at, pasts, marking_entries, marks_of, picture_entry, history_at_opening, history_after_closing, sequence_sps}
+use Rattle.avc_decoder_core.specs.Pictures.{crop_of, picture_of, entry_pictures, pictures_at, output_pictures, held_pictures}
+use Rattle.avc_decoder.specs.FirstFault.{OpenPicture, first_header, first_fault, history_at_opening_of, history_of, read_of, picture_planes, closed_history, start_on, slices_of}
+use Rattle.avc_decoder.specs.Events.{pictures, Phase, waiting, running, State, first_state, Outcome, failed_at, at_last_slice, closing_result, closed_outcome, closed_picture, with_slice, sets_named, both, after_first_slice, after_next_slice, base_in, history_in, after_next, is_waiting, followed_by, after_closing, in_phase, after_unit, state_after, held_after, at_end, is_running, open_facts_in, events_from, events}
 use Rattle.avc_decoder.specs.declared.event.Event.{Event}
 use Rattle.avc_decoder.specs.declared.event.Event.TheVariants.{Picture, Refused}
 use Rattle.avc_decoder.specs.Laws.{PicturesAreWhole}
@@ -37,8 +37,8 @@ use Rattle.avc_decoder.specs.Laws.{PicturesAreWhole}
 
 -- a closed picture has the size of its parameter set
 abbrev Good : Entry → Type 0
-Good (closed sps h planes) = IsSps sps × IsSized (width_in_mbs sps) (height_in_mbs sps) planes
-Good (absent sps frame_num) = Unit {0}
+Good (decoded_picture sps h planes) = IsSps sps × IsSized (width_in_mbs sps) (height_in_mbs sps) planes
+Good (missing_frame sps frame_num) = Unit {0}
 
 abbrev AllGood : History → Type 0
 AllGood [] = Unit {0}
@@ -49,54 +49,54 @@ ok_is a b e = cc
 
 good_missing : (sps : Sps) (numbers : List ℕ) (h h' : History) → AllGood h → with_missing sps numbers h ≡ Ok h' → AllGood h'
 good_missing sps [] h h' g e = subst AllGood (ok_is h h' e) g
-good_missing sps (n ∷ numbers) h h' g e = by_marks (marks_of (absent sps n ∷ h)) (good_missing sps numbers (absent sps n ∷ h) h' (tt, g)) e
+good_missing sps (n ∷ numbers) h h' g e = by_marks (marks_of (missing_frame sps n ∷ h)) (good_missing sps numbers (missing_frame sps n ∷ h) h' (tt, g)) e
   where
-    by_marks : (r : Result Marks Fault) → (with_missing sps numbers (absent sps n ∷ h) ≡ Ok h' → AllGood h') → (r >>= λ m. with_missing sps numbers (absent sps n ∷ h)) ≡ Ok h' → AllGood h'
+    by_marks : (r : Result Marks Fault) → (with_missing sps numbers (missing_frame sps n ∷ h) ≡ Ok h' → AllGood h') → (r >>= λ m. with_missing sps numbers (missing_frame sps n ∷ h)) ≡ Ok h' → AllGood h'
     by_marks (Ok m) then' e' = then' e'
     by_marks (Err f) then' e' = cc
 
-good_counted : (sps : Sps) (hd : Header) (h h' : History) → AllGood h → counted sps hd h ≡ Ok h' → AllGood h'
+good_counted : (sps : Sps) (hd : Header) (h h' : History) → AllGood h → with_order_counts sps hd h ≡ Ok h' → AllGood h'
 good_counted sps hd h h' g e = by_counts (order_counts sps hd (pasts h)) e
   where
     by_counts : (r : Result Counts Fault) → (r >>= λ c. Ok h) ≡ Ok h' → AllGood h'
     by_counts (Ok c) e' = subst AllGood (ok_is h h' e') g
     by_counts (Err f) e' = cc
 
-good_opened : (sps : Sps) (hd : Header) (h h' : History) → AllGood h → opened sps hd h ≡ Ok h' → AllGood h'
+good_opened : (sps : Sps) (hd : Header) (h h' : History) → AllGood h → history_at_opening sps hd h ≡ Ok h' → AllGood h'
 good_opened sps hd h h' g e = by_idr (is_idr hd) e
   where
-    by_full : (r : Result History Fault) → ((full : History) → r ≡ Ok full → AllGood full) → (r >>= λ full. counted sps hd full) ≡ Ok h' → AllGood h'
+    by_full : (r : Result History Fault) → ((full : History) → r ≡ Ok full → AllGood full) → (r >>= λ full. with_order_counts sps hd full) ≡ Ok h' → AllGood h'
     by_full (Ok full) good e' = good_counted sps hd full h' (good full refl) e'
     by_full (Err f) good e' = cc
 
-    by_numbers : (r : Result (List ℕ) Fault) → (r >>= λ numbers. with_missing sps numbers h >>= λ full. counted sps hd full) ≡ Ok h' → AllGood h'
+    by_numbers : (r : Result (List ℕ) Fault) → (r >>= λ numbers. with_missing sps numbers h >>= λ full. with_order_counts sps hd full) ≡ Ok h' → AllGood h'
     by_numbers (Ok numbers) e' = by_full (with_missing sps numbers h) (λ full same. good_missing sps numbers h full g same) e'
     by_numbers (Err f) e' = cc
 
     by_same : (b : Bool) → ◌≡◌ {A = Result History Fault} (elim b [
       | false ↦ Err faults.ParameterSetChanged
-      | true ↦ missing_numbers (previous_number (steps h)) sps.gaps_in_frame_num_value_allowed_flag (picture_step sps hd)
-          >>= λ numbers. with_missing sps numbers h >>= λ full. counted sps hd full
+      | true ↦ missing_frame_nums (prev_ref_frame_num (marking_entries h)) sps.gaps_in_frame_num_value_allowed_flag (picture_entry sps hd)
+          >>= λ numbers. with_missing sps numbers h >>= λ full. with_order_counts sps hd full
     ]) (Ok h') → AllGood h'
-    by_same true e' = by_numbers (missing_numbers (previous_number (steps h)) sps.gaps_in_frame_num_value_allowed_flag (picture_step sps hd)) e'
+    by_same true e' = by_numbers (missing_frame_nums (prev_ref_frame_num (marking_entries h)) sps.gaps_in_frame_num_value_allowed_flag (picture_entry sps hd)) e'
     by_same false e' = cc
 
     by_idr : (b : Bool) → ◌≡◌ {A = Result History Fault} (elim b [
-      | true ↦ counted sps hd h
-      | false ↦ elim (is_same (sequence_sps h) sps) [
+      | true ↦ with_order_counts sps hd h
+      | false ↦ elim (is_same_sps (sequence_sps h) sps) [
         | false ↦ Err faults.ParameterSetChanged
-        | true ↦ missing_numbers (previous_number (steps h)) sps.gaps_in_frame_num_value_allowed_flag (picture_step sps hd)
-            >>= λ numbers. with_missing sps numbers h >>= λ full. counted sps hd full
+        | true ↦ missing_frame_nums (prev_ref_frame_num (marking_entries h)) sps.gaps_in_frame_num_value_allowed_flag (picture_entry sps hd)
+            >>= λ numbers. with_missing sps numbers h >>= λ full. with_order_counts sps hd full
       ]
     ]) (Ok h') → AllGood h'
     by_idr true e' = good_counted sps hd h h' g e'
-    by_idr false e' = by_same (is_same (sequence_sps h) sps) e'
+    by_idr false e' = by_same (is_same_sps (sequence_sps h) sps) e'
 
-good_closed_by : (sps : Sps) (hd : Header) (planes : Planes) (h h' : History) → Good (closed sps hd planes) → AllGood h → closed_by sps hd planes h ≡ Ok h' → AllGood h'
-good_closed_by sps hd planes h h' new g e = by_marks (marks_of (closed sps hd planes ∷ h)) e
+good_closed_by : (sps : Sps) (hd : Header) (planes : Planes) (h h' : History) → Good (decoded_picture sps hd planes) → AllGood h → history_after_closing sps hd planes h ≡ Ok h' → AllGood h'
+good_closed_by sps hd planes h h' new g e = by_marks (marks_of (decoded_picture sps hd planes ∷ h)) e
   where
-    by_marks : (r : Result Marks Fault) → (r >>= λ m. Ok (closed sps hd planes ∷ h)) ≡ Ok h' → AllGood h'
-    by_marks (Ok m) e' = subst AllGood (ok_is (closed sps hd planes ∷ h) h' e') (new, g)
+    by_marks : (r : Result Marks Fault) → (r >>= λ m. Ok (decoded_picture sps hd planes ∷ h)) ≡ Ok h' → AllGood h'
+    by_marks (Ok m) e' = subst AllGood (ok_is (decoded_picture sps hd planes ∷ h) h' e') (new, g)
     by_marks (Err f) e' = cc
 
 -- ---- pictures
@@ -152,9 +152,9 @@ good_at h place g = by_difference (length h - place)
     by_difference zero = tt
     by_difference (suc n) = good_get h n g
 
-shown_whole : (e : Option Entry) (more : List Decoded) → GoodAt e → AllWhole (pictures more) → AllWhole (pictures (shown e ++ more))
-shown_whole (Some (closed sps h planes)) more g w = (picture_whole sps planes g.0 g.1, w)
-shown_whole (Some (absent sps frame_num)) more g w = w
+shown_whole : (e : Option Entry) (more : List Decoded) → GoodAt e → AllWhole (pictures more) → AllWhole (pictures (entry_pictures e ++ more))
+shown_whole (Some (decoded_picture sps h planes)) more g w = (picture_whole sps planes g.0 g.1, w)
+shown_whole (Some (missing_frame sps frame_num)) more g w = w
 shown_whole None more g w = w
 
 pictures_whole : (h : History) (places : List ℕ) → AllGood h → AllWhole (pictures (pictures_at h places))
@@ -163,28 +163,28 @@ pictures_whole h (place ∷ places) g = shown_whole (entry_at h place) (pictures
 
 -- ---- the open picture
 
-abbrev GoodOpen : Open → Type 0
+abbrev GoodOpen : OpenPicture → Type 0
 GoodOpen o = AllGood o.before × IsSps o.sps
 
-good_history_of : (o : Open) → GoodOpen o → AllGood (history_of o)
+good_history_of : (o : OpenPicture) → GoodOpen o → AllGood (history_of o)
 good_history_of o g = by_address (first_header o).first_mb_in_slice
   where
     by_opened : (r : Result History Fault) → ((h : History) → r ≡ Ok h → AllGood h) → AllGood (elim r [ Err f ↦ o.before | Ok history ↦ history ])
     by_opened (Ok h) good = good h refl
     by_opened (Err f) good = g.0
 
-    by_address : (n : ℕ) → AllGood (elim n [ suc _ ↦ o.before | zero ↦ elim (opened_history o) [ Err f ↦ o.before | Ok history ↦ history ] ])
-    by_address zero = by_opened (opened_history o) (λ h same. good_opened o.sps (first_header o) o.before h g.0 same)
+    by_address : (n : ℕ) → AllGood (elim n [ suc _ ↦ o.before | zero ↦ elim (history_at_opening_of o) [ Err f ↦ o.before | Ok history ↦ history ] ])
+    by_address zero = by_opened (history_at_opening_of o) (λ h same. good_opened o.sps (first_header o) o.before h g.0 same)
     by_address (suc n) = g.0
 
-good_closing : PicturesAreSized → (o : Open) → GoodOpen o → (h : History) → closing o ≡ Ok h → AllGood h
+good_closing : PicturesAreSized → (o : OpenPicture) → GoodOpen o → (h : History) → closing_result o ≡ Ok h → AllGood h
 good_closing sized o g h e = by_fault (first_fault o true) e
   where
-    by_last : (r : Result History Fault) → ((h' : History) → r ≡ Ok h' → AllGood h') → at_last o r ≡ Ok h → AllGood h
+    by_last : (r : Result History Fault) → ((h' : History) → r ≡ Ok h' → AllGood h') → at_last_slice o r ≡ Ok h → AllGood h
     by_last (Ok h') good e' = good h (let same : h' ≡ h = cc in ap (λ x. Ok x) same)
     by_last (Err f) good e' = cc
 
-    by_fault : (f : Option (ℕ × Fault)) → ◌≡◌ {A = Result History (ℕ × Fault)} (elim f [ Some found ↦ Err found | None ↦ at_last o (closed_history o (history_of o)) ]) (Ok h) → AllGood h
+    by_fault : (f : Option (ℕ × Fault)) → ◌≡◌ {A = Result History (ℕ × Fault)} (elim f [ Some found ↦ Err found | None ↦ at_last_slice o (closed_history o (history_of o)) ]) (Ok h) → AllGood h
     by_fault (Some found) e' = cc
     by_fault None e' =
         by_last (closed_history o (history_of o))
@@ -200,24 +200,24 @@ abbrev GoodOutcome : Outcome → Type 0
 GoodOutcome o = AllWhole o.events × GoodPhase o.phase
 
 failed_good : (h : History) (unit : ℕ) (f : Fault) (read : ℕ) → AllGood h → GoodOutcome (failed_at h unit f read)
-failed_good h unit f read g = (whole-append (pictures (emptied h)) (Refused unit f ∷ []) (pictures_whole h (all_held h) g) (tt, tt), tt)
+failed_good h unit f read g = (whole-append (pictures (held_pictures h)) (Refused unit f ∷ []) (pictures_whole h (all_held h) g) (tt, tt), tt)
 
-closed_good : PicturesAreSized → (o : Open) → GoodOpen o → GoodOutcome (closed_picture o)
-closed_good sized o g = by_closing (closing o) (good_closing sized o g)
+closed_good : PicturesAreSized → (o : OpenPicture) → GoodOpen o → GoodOutcome (closed_picture o)
+closed_good sized o g = by_closing (closing_result o) (good_closing sized o g)
   where
     by_closing : (r : Result History (ℕ × Fault)) → ((h : History) → r ≡ Ok h → AllGood h) → GoodOutcome (closed_outcome o r)
-    by_closing (Ok h) good = (pictures_whole h (gained (history_of o) h) (good h refl), good h refl)
+    by_closing (Ok h) good = (pictures_whole h (new_output (history_of o) h) (good h refl), good h refl)
     by_closing (Err found) good = failed_good (history_of o) found.0 found.1 0 (good_history_of o g)
 
-with_slice_good : (before : History) (already : ℕ) (o : Open) → AllGood before → GoodOpen o → GoodOutcome (with_slice before already o)
+with_slice_good : (before : History) (already : ℕ) (o : OpenPicture) → AllGood before → GoodOpen o → GoodOutcome (with_slice before already o)
 with_slice_good before already o b g = by_fault (first_fault o false)
   where
     by_fault : (f : Option (ℕ × Fault)) → GoodOutcome (elim f [
       | Some found ↦ failed_at before found.0 found.1 (read_of o - already)
-      | None ↦ record { events = pictures (released before (history_of o)); phase = running o.before (Some o); read = read_of o - already }
+      | None ↦ record { events = pictures (output_pictures before (history_of o)); phase = running o.before (Some o); read = read_of o - already }
     ])
     by_fault (Some found) = failed_good before found.0 found.1 (read_of o - already) b
-    by_fault None = (pictures_whole (history_of o) (gained before (history_of o)) (good_history_of o g), (g.0, g))
+    by_fault None = (pictures_whole (history_of o) (new_output before (history_of o)) (good_history_of o g), (g.0, g))
 
 -- ---- one unit
 
@@ -236,7 +236,7 @@ good_named keeps units hd = by_pps ((sets_after units).pps hd.pic_parameter_set_
     by_pps None = tt
     by_pps (Some pps) = by_sps pps ((sets_after units).sps pps.seq_parameter_set_id) (λ sps same. (keeps units pps.seq_parameter_set_id sps same).within)
 
-begun_good : (named : Option (Pps × Sps)) (before : History) (s : Slice) → GoodNamed named → AllGood before → GoodOutcome (begun named before s)
+begun_good : (named : Option (Pps × Sps)) (before : History) (s : Slice) → GoodNamed named → AllGood before → GoodOutcome (after_first_slice named before s)
 begun_good None before s n b = (tt, b)
 begun_good (Some named) before s n b =
     with_slice_good before 0 (record { before = before; sps = named.1; pps = named.0; last = s; earlier = [] }) b (b, n)
@@ -251,7 +251,7 @@ good_history_in waiting g = tt
 good_history_in (running h None) g = g
 good_history_in (running h (Some o)) g = good_history_of o g.1
 
-continued_good : (p : Phase) (s : Slice) → GoodPhase p → GoodOutcome (continued p s)
+continued_good : (p : Phase) (s : Slice) → GoodPhase p → GoodOutcome (after_next_slice p s)
 continued_good waiting s g = (tt, g)
 continued_good (running h None) s g = (tt, g)
 continued_good (running h (Some o)) s g =
@@ -265,13 +265,13 @@ after_next_good keeps units unit p (FaultOfOwn f) g = failed_good (history_in p)
 after_next_good keeps units unit p (Begins s) g = begun_good (sets_named (sets_after units) s.header) (base_in p) s (good_named keeps units s.header) (good_base p g)
 after_next_good keeps units unit p (Continues s) g = continued_good p s g
 
-then_good : (a b : Outcome) → GoodOutcome a → GoodOutcome b → GoodOutcome (then_also a b)
+then_good : (a b : Outcome) → GoodOutcome a → GoodOutcome b → GoodOutcome (followed_by a b)
 then_good a b g h = (whole-append a.events b.events g.0 h.0, h.1)
 
 after_closing_good : SpsInForceKeepsLimits → (units : List SetUnit) (unit : ℕ) (what : Step) (o : Outcome) → GoodOutcome o → GoodOutcome (after_closing (sets_after units) unit what o)
 after_closing_good keeps units unit what o g = by_test (is_waiting o.phase && not what.even_after_fault)
   where
-    by_test : (b : Bool) → GoodOutcome (elim b [ true ↦ o | false ↦ then_also o (after_next (sets_after units) unit o.phase what.next) ])
+    by_test : (b : Bool) → GoodOutcome (elim b [ true ↦ o | false ↦ followed_by o (after_next (sets_after units) unit o.phase what.next) ])
     by_test true = g
     by_test false = then_good o (after_next (sets_after units) unit o.phase what.next) g (after_next_good keeps units unit o.phase what.next g.1)
 
@@ -306,7 +306,7 @@ events_whole sized keeps s [] true g = at_end_whole sized s.phase g
 events_whole sized keeps s [] false g = tt
 events_whole sized keeps s (u ∷ us) ended g =
     let o = after_unit s u in
-    let good = in_phase_good sized keeps s.sets u.index (step (sets_after s.sets) (is_running s.phase) (open_in s.phase) u) s.phase g in
+    let good = in_phase_good sized keeps s.sets u.index (step (sets_after s.sets) (is_running s.phase) (open_facts_in s.phase) u) s.phase g in
     whole-append o.events (events_from (state_after s u o) us ended) good.0 (events_whole sized keeps (state_after s u o) us ended good.1)
 
 one_whole : (es : List Event) (k : ℕ) (p : Decoded) → AllWhole es → slice_get es k ≡ Some (Picture p) → IsWhole p

@@ -2,7 +2,7 @@
 use Rattle.std.specs.Prelude.{ℕ, ◌+◌, ◌-◌, Bool, true, false, not, ◌&&◌, List, [], ◌∷◌, ◌++◌, map, Option, Some, None, Result, Ok, Err}
 use Rattle.avc_types.specs.declared.fault.Fault.{Fault}
 use Rattle.avc_types.specs.declared.picture.Picture.{Picture as Decoded}
-use Rattle.avc_annexb.specs.Units.{units, held}
+use Rattle.avc_annexb.specs.Units.{units, saturated}
 use Rattle.avc_annexb.specs.declared.unit.Unit.{Unit}
 use Rattle.avc_params.specs.declared.sps.Sps.{Sps}
 use Rattle.avc_params.specs.declared.pps.Pps.{Pps}
@@ -10,14 +10,14 @@ use Rattle.avc_params.specs.Tables.{Sets, sets_after}
 use Rattle.avc_params.specs.declared.set_unit.SetUnit.{SetUnit}
 use Rattle.avc_slice.specs.declared.header.Header.{Header}
 use Rattle.avc_slice.specs.declared.slice.Slice.{Slice}
-use Rattle.avc_units.specs.Grouping.{OpenPicture, step, set_units}
+use Rattle.avc_units.specs.Grouping.{OpenPictureFacts, step, set_units}
 use Rattle.avc_units.specs.declared.step.Next.{Next}
 use Rattle.avc_units.specs.declared.step.Next.TheVariants.{Nothing, Refusal, FaultOfOpen, FaultOfOwn, Begins, Continues}
 use Rattle.avc_units.specs.declared.step.Step.{Step}
 use Rattle.avc_picture.specs.Slices.{is_full}
 use Rattle.avc_decoder_core.specs.History.{History}
-use Rattle.avc_decoder_core.specs.Pictures.{released, emptied}
-use Rattle.avc_decoder.specs.FirstFault.{Open, first_fault, history_of, read_of, start_on, progress_on, closed_history}
+use Rattle.avc_decoder_core.specs.Pictures.{output_pictures, held_pictures}
+use Rattle.avc_decoder.specs.FirstFault.{OpenPicture, first_fault, history_of, read_of, start_on, progress_on, closed_history}
 use Rattle.avc_decoder.specs.declared.event.Event.{Event}
 use Rattle.avc_decoder.specs.declared.event.Event.TheVariants.{Picture, Refused}
 
@@ -30,7 +30,7 @@ pub data Phase : Type 0 where
   -- for a unit to start with
   waiting : Phase
   -- with the history since decoding last started, and the open picture, if there is one
-  running : History → Option Open → Phase
+  running : History → Option OpenPicture → Phase
 
 pub record State : Type 0 where
   -- the units that brought parameter sets, in order
@@ -46,40 +46,40 @@ pub record Outcome : Type 0 where
   pub phase : Phase
   pub read : ℕ
 
-abbrev pub stays : Phase → Outcome
-stays p = record { events = []; phase = p; read = 0 }
+abbrev pub no_change : Phase → Outcome
+no_change p = record { events = []; phase = p; read = 0 }
 
 -- a fault in a picture: all held pictures go out, then the refusal, and decoding waits
 abbrev pub failed_at : History → (unit : ℕ) → Fault → (read : ℕ) → Outcome
-failed_at h unit f read = record { events = pictures (emptied h) ++ Refused unit f ∷ []; phase = waiting; read = read }
+failed_at h unit f read = record { events = pictures (held_pictures h) ++ Refused unit f ∷ []; phase = waiting; read = read }
 
 -- ---- closing the open picture
 
 -- a fault is named with the last slice's unit
-abbrev pub at_last : Open → Result History Fault → Result History (ℕ × Fault)
-at_last o (Ok h) = Ok h
-at_last o (Err f) = Err ((o.last).unit, f)
+abbrev pub at_last_slice : OpenPicture → Result History Fault → Result History (ℕ × Fault)
+at_last_slice o (Ok h) = Ok h
+at_last_slice o (Err f) = Err ((o.last).unit, f)
 
 -- its fault, or the history with it
-abbrev pub closing : Open → Result History (ℕ × Fault)
-closing o = elim (first_fault o true) [ Some found ↦ Err found | None ↦ at_last o (closed_history o (history_of o)) ]
+abbrev pub closing_result : OpenPicture → Result History (ℕ × Fault)
+closing_result o = elim (first_fault o true) [ Some found ↦ Err found | None ↦ at_last_slice o (closed_history o (history_of o)) ]
 
-abbrev pub closed_outcome : Open → Result History (ℕ × Fault) → Outcome
-closed_outcome o (Ok h) = record { events = pictures (released (history_of o) h); phase = running h None; read = 0 }
+abbrev pub closed_outcome : OpenPicture → Result History (ℕ × Fault) → Outcome
+closed_outcome o (Ok h) = record { events = pictures (output_pictures (history_of o) h); phase = running h None; read = 0 }
 closed_outcome o (Err found) = failed_at (history_of o) found.0 found.1 0
 
-abbrev pub closed_picture : Open → Outcome
-closed_picture o = closed_outcome o (closing o)
+abbrev pub closed_picture : OpenPicture → Outcome
+closed_picture o = closed_outcome o (closing_result o)
 
 -- ---- a slice of the open picture
 
 -- The picture with one slice more, of which the history before was `before` and so many macroblocks had been read. At a fault
 -- all pictures go out that `before` holds: first those that missing numbers let out, then the rest, which is one order.
-abbrev pub with_slice : (before : History) → (already : ℕ) → Open → Outcome
+abbrev pub with_slice : (before : History) → (already : ℕ) → OpenPicture → Outcome
 with_slice before already o =
     elim (first_fault o false) [
       | Some found ↦ failed_at before found.0 found.1 (read_of o - already)
-      | None ↦ record { events = pictures (released before (history_of o)); phase = running o.before (Some o); read = read_of o - already }
+      | None ↦ record { events = pictures (output_pictures before (history_of o)); phase = running o.before (Some o); read = read_of o - already }
     ]
 
 abbrev pub both : {A B : Type 0} → Option A → Option B → Option (A × B)
@@ -91,9 +91,9 @@ both None b = None
 abbrev pub sets_named : Sets → Header → Option (Pps × Sps)
 sets_named sets h = elim (sets.pps h.pic_parameter_set_id) [ None ↦ None | Some pps ↦ both (Some pps) (sets.sps pps.seq_parameter_set_id) ]
 
-abbrev pub begun : Option (Pps × Sps) → History → Slice → Outcome
-begun None before s = stays (running before None)
-begun (Some named) before s =
+abbrev pub after_first_slice : Option (Pps × Sps) → History → Slice → Outcome
+after_first_slice None before s = no_change (running before None)
+after_first_slice (Some named) before s =
     with_slice before 0 (record { before = before; sps = named.1; pps = named.0; last = s; earlier = [] })
 
 -- ---- one unit
@@ -108,38 +108,38 @@ abbrev pub base_in : Phase → History
 base_in waiting = []
 base_in (running h o) = h
 
-abbrev pub continued : Phase → Slice → Outcome
-continued (running h (Some o)) s = with_slice (history_of o) (read_of o) (record o { last = s; earlier = o.last ∷ o.earlier })
-continued p s = stays p
+abbrev pub after_next_slice : Phase → Slice → Outcome
+after_next_slice (running h (Some o)) s = with_slice (history_of o) (read_of o) (record o { last = s; earlier = o.last ∷ o.earlier })
+after_next_slice p s = no_change p
 
 -- what the unit with this number does next
 abbrev pub after_next : Sets → (unit : ℕ) → Phase → Next → Outcome
-after_next sets unit p Nothing = stays p
+after_next sets unit p Nothing = no_change p
 after_next sets unit p (Refusal f) = record { events = Refused unit f ∷ []; phase = p; read = 0 }
 after_next sets unit p (FaultOfOpen f) = failed_at (history_in p) unit f 0
 after_next sets unit p (FaultOfOwn f) = failed_at (history_in p) unit f 0
-after_next sets unit p (Begins s) = begun (sets_named sets s.header) (base_in p) s
-after_next sets unit p (Continues s) = continued p s
+after_next sets unit p (Begins s) = after_first_slice (sets_named sets s.header) (base_in p) s
+after_next sets unit p (Continues s) = after_next_slice p s
 
 abbrev pub is_running : Phase → Bool
 is_running waiting = false
 is_running (running h o) = true
 
-abbrev pub open_info : Open → OpenPicture
-open_info o =
+abbrev pub open_picture_facts : OpenPicture → OpenPictureFacts
+open_picture_facts o =
     record {
       last = (o.last).header;
       full = is_full (start_on o (history_of o)) (progress_on o (history_of o));
     }
 
-abbrev pub open_in : Phase → Option OpenPicture
-open_in waiting = None
-open_in (running h None) = None
-open_in (running h (Some o)) = Some (open_info o)
+abbrev pub open_facts_in : Phase → Option OpenPictureFacts
+open_facts_in waiting = None
+open_facts_in (running h None) = None
+open_facts_in (running h (Some o)) = Some (open_picture_facts o)
 
 -- the events of a first outcome stand before those of a second
-abbrev pub then_also : Outcome → Outcome → Outcome
-then_also a b = record { events = a.events ++ b.events; phase = b.phase; read = a.read + b.read }
+abbrev pub followed_by : Outcome → Outcome → Outcome
+followed_by a b = record { events = a.events ++ b.events; phase = b.phase; read = a.read + b.read }
 
 abbrev pub is_waiting : Phase → Bool
 is_waiting waiting = true
@@ -148,7 +148,7 @@ is_waiting (running h o) = false
 -- After the open picture has been closed: what the step says, unless that was a fault and the step says nothing then.
 abbrev pub after_closing : Sets → (unit : ℕ) → Step → Outcome → Outcome
 after_closing sets unit what o =
-    elim (is_waiting o.phase && not what.even_after_fault) [ true ↦ o | false ↦ then_also o (after_next sets unit o.phase what.next) ]
+    elim (is_waiting o.phase && not what.even_after_fault) [ true ↦ o | false ↦ followed_by o (after_next sets unit o.phase what.next) ]
 
 abbrev pub in_phase : Sets → (unit : ℕ) → Step → Phase → Outcome
 in_phase sets unit what waiting = after_next sets unit waiting what.next
@@ -163,23 +163,23 @@ in_phase sets unit what (running h (Some o)) =
 abbrev pub after_unit : State → Unit → Outcome
 after_unit s u =
     let sets = sets_after s.sets in
-    in_phase sets u.index (step sets (is_running s.phase) (open_in s.phase) u) s.phase
+    in_phase sets u.index (step sets (is_running s.phase) (open_facts_in s.phase) u) s.phase
 
 abbrev pub state_after : State → Unit → Outcome → State
 state_after s u o = record { sets = s.sets ++ set_units (u ∷ []); phase = o.phase }
 
 abbrev pub held_after : Phase → List Event
 held_after waiting = []
-held_after (running h o) = pictures (emptied h)
+held_after (running h o) = pictures (held_pictures h)
 
-abbrev pub and_held : Outcome → List Event
-and_held o = o.events ++ held_after o.phase
+abbrev pub events_and_held : Outcome → List Event
+events_and_held o = o.events ++ held_after o.phase
 
 -- the end of a stream that has ended: the open picture is closed and all held pictures go out
 abbrev pub at_end : Phase → List Event
 at_end waiting = []
-at_end (running h None) = pictures (emptied h)
-at_end (running h (Some o)) = and_held (closed_picture o)
+at_end (running h None) = pictures (held_pictures h)
+at_end (running h (Some o)) = events_and_held (closed_picture o)
 
 -- ---- a whole stream
 
@@ -201,4 +201,4 @@ read_from s (u ∷ units) =
     o.read + read_from (state_after s u o) units
 
 abbrev pub turns : (max : ℕ) → List ℕ → (ended : Bool) → ℕ
-turns max bytes ended = held (read_from first_state (units max bytes ended))
+turns max bytes ended = saturated (read_from first_state (units max bytes ended))

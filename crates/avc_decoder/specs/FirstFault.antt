@@ -8,10 +8,10 @@ use Rattle.avc_params.specs.declared.pps.Pps.{Pps}
 use Rattle.avc_slice.specs.declared.header.Header.{Header}
 use Rattle.avc_slice.specs.declared.slice.Slice.{Slice}
 use Rattle.avc_picture.specs.Slices.{PictureStart, Progress, progress, is_full, planes_after_slices}
-use Rattle.avc_decoder_core.specs.History.{History, opened, closed_by, stored_frames}
+use Rattle.avc_decoder_core.specs.History.{History, history_at_opening, history_after_closing, stored_frames}
 
 -- The open picture: the history before it, its parameter sets, its last slice so far, and those before that, the newest first.
-pub record Open : Type 0 where
+pub record OpenPicture : Type 0 where
   pub before : History
   pub sps : Sps
   pub pps : Pps
@@ -19,7 +19,7 @@ pub record Open : Type 0 where
   pub earlier : List Slice
 
 -- all slices, the newest first
-abbrev pub slices_of : Open → List Slice
+abbrev pub slices_of : OpenPicture → List Slice
 slices_of o = o.last ∷ o.earlier
 
 -- the oldest of slices, the newest first
@@ -27,38 +27,38 @@ abbrev pub oldest : Slice → List Slice → Slice
 oldest s [] = s
 oldest s (older ∷ others) = oldest older others
 
-abbrev pub first_slice : Open → Slice
+abbrev pub first_slice : OpenPicture → Slice
 first_slice o = oldest o.last o.earlier
 
-abbrev pub first_header : Open → Header
+abbrev pub first_header : OpenPicture → Header
 first_header o = (first_slice o).header
 
 -- the history with the frame numbers that are missing before the picture
-abbrev pub opened_history : Open → Result History Fault
-opened_history o = opened o.sps (first_header o) o.before
+abbrev pub history_at_opening_of : OpenPicture → Result History Fault
+history_at_opening_of o = history_at_opening o.sps (first_header o) o.before
 
 -- what the slices are decoded with, on that history
-abbrev pub start_on : Open → History → PictureStart
+abbrev pub start_on : OpenPicture → History → PictureStart
 start_on o history =
     record { sps = o.sps; pps = o.pps; frames = stored_frames history }
 
 -- the slices so far, on that history
-abbrev pub progress_on : Open → History → Progress
+abbrev pub progress_on : OpenPicture → History → Progress
 progress_on o history = progress (start_on o history) (slices_of o)
 
-abbrev pub picture_planes : Open → History → Planes
+abbrev pub picture_planes : OpenPicture → History → Planes
 picture_planes o history = planes_after_slices (start_on o history) (slices_of o)
 
 -- the history with the picture closed, on that with the missing numbers
-abbrev pub closed_history : Open → History → Result History Fault
-closed_history o history = closed_by o.sps (first_header o) (picture_planes o history) history
+abbrev pub closed_history : OpenPicture → History → Result History Fault
+closed_history o history = history_after_closing o.sps (first_header o) (picture_planes o history) history
 
-abbrev marking_fault : Open → Result History Fault → Option (ℕ × Fault)
+abbrev marking_fault : OpenPicture → Result History Fault → Option (ℕ × Fault)
 marking_fault o (Ok h) = None
 marking_fault o (Err f) = Some ((o.last).unit, f)
 
 -- found at closing, with the picture's last slice
-abbrev closing_fault : Open → History → Option (ℕ × Fault)
+abbrev closing_fault : OpenPicture → History → Option (ℕ × Fault)
 closing_fault o history =
     elim (is_full (start_on o history) (progress_on o history)) [
       | false ↦ Some ((o.last).unit, faults.MissingMacroblocks)
@@ -66,11 +66,11 @@ closing_fault o history =
     ]
 
 -- The first fault of the picture, with its unit; `closing` says whether it is being closed.
-abbrev pub first_fault : Open → (closing : Bool) → Option (ℕ × Fault)
+abbrev pub first_fault : OpenPicture → (closing : Bool) → Option (ℕ × Fault)
 first_fault o closing =
     elim (first_header o).first_mb_in_slice [
       | suc _ ↦ Some ((first_slice o).unit, faults.MissingMacroblocks)
-      | zero ↦ elim (opened_history o) [
+      | zero ↦ elim (history_at_opening_of o) [
         | Err f ↦ Some ((first_slice o).unit, f)
         | Ok history ↦ elim ((progress_on o history).fault) [
           | Some found ↦ Some found
@@ -80,15 +80,15 @@ first_fault o closing =
     ]
 
 -- The history on which the picture stands: with its missing numbers, where they could be taken in.
-abbrev pub history_of : Open → History
+abbrev pub history_of : OpenPicture → History
 history_of o = elim (first_header o).first_mb_in_slice [
   | suc _ ↦ o.before
-  | zero ↦ elim (opened_history o) [ Err f ↦ o.before | Ok history ↦ history ]
+  | zero ↦ elim (history_at_opening_of o) [ Err f ↦ o.before | Ok history ↦ history ]
 ]
 
 -- how many macroblocks of it have been read
-abbrev pub read_of : Open → ℕ
+abbrev pub read_of : OpenPicture → ℕ
 read_of o = elim (first_header o).first_mb_in_slice [
   | suc _ ↦ 0
-  | zero ↦ elim (opened_history o) [ Err f ↦ 0 | Ok history ↦ (progress_on o history).read ]
+  | zero ↦ elim (history_at_opening_of o) [ Err f ↦ 0 | Ok history ↦ (progress_on o history).read ]
 ]

@@ -9,40 +9,40 @@ use Rattle.avc_decoder.specs.declared.calls.Reply.TheVariants as replies
 use Rattle.avc_decoder.specs.declared.event.Event.{Event}
 
 -- Since the last reset: the bytes that were fed, whether they were said to be all, and the events that were taken, in order.
-pub record Since : Type 0 where
+pub record SinceReset : Type 0 where
   pub bytes : List ℕ
   pub ended : Bool
   pub taken : List Event
 
-abbrev pub nothing : Since
-nothing = record { bytes = []; ended = false; taken = [] }
+abbrev pub no_call : SinceReset
+no_call = record { bytes = []; ended = false; taken = [] }
 
 -- One call more; one that was not carried out changes nothing.
-abbrev pub with_call : Since → Call → Reply → Since
+abbrev pub with_call : SinceReset → Call → Reply → SinceReset
 with_call s (Feed piece) (replies.Fed (Ok done)) = record s { bytes = s.bytes ++ piece }
 with_call s Flush (replies.Flushed (Ok done)) = record s { ended = true }
 with_call s Take (replies.Taken (Ok (Some event))) = record s { taken = s.taken ++ event ∷ [] }
-with_call s Reset reply = nothing
+with_call s Reset reply = no_call
 with_call s call reply = s
 
-abbrev pub since : Since → List Call → List Reply → Since
-since s (call ∷ calls) (reply ∷ replies) = since (with_call s call reply) calls replies
-since s _ _ = s
+abbrev pub since_reset : SinceReset → List Call → List Reply → SinceReset
+since_reset s (call ∷ calls) (reply ∷ replies) = since_reset (with_call s call reply) calls replies
+since_reset s _ _ = s
 
 -- the events that the bytes since the last reset define
-abbrev pub defined : (max : ℕ) → Since → List Event
-defined max s = events max s.bytes s.ended
+abbrev pub defined_events : (max : ℕ) → SinceReset → List Event
+defined_events max s = events max s.bytes s.ended
 
 -- However a decoder is called, the n-th event that was taken since the last reset is the n-th that is defined on the bytes
 -- since then.
 abbrev pub TakesThem : Type 0
 TakesThem =
     (max : ℕ) (calls : List Call) (answers : List Reply) (last : Machine) → Run max new_machine calls answers last →
-    (others : List Event) × (defined max (since nothing calls answers) ≡ (since nothing calls answers).taken ++ others)
+    (others : List Event) × (defined_events max (since_reset no_call calls answers) ≡ (since_reset no_call calls answers).taken ++ others)
 
 -- Where a call of `take` after these calls is answered by None, these are all.
 abbrev pub TakesAll : Type 0
 TakesAll =
     (max : ℕ) (calls : List Call) (answers : List Reply) (before last : Machine) → Run max new_machine calls answers before →
     Run max before (Take ∷ []) (replies.Taken (Ok None) ∷ []) last →
-    defined max (since nothing calls answers) ≡ (since nothing calls answers).taken
+    defined_events max (since_reset no_call calls answers) ≡ (since_reset no_call calls answers).taken

@@ -1,5 +1,5 @@
 ghost use Rattle.std.specs.Prelude.{IfOk};
-ghost use Rattle.avc_decoder.specs.Machine.{new_machine, Machine, Run, Step};
+ghost use Rattle.avc_decoder.specs.Machine.{new_machine, Machine, Run, IsCallAnswer};
 
 use crate::decoder::Decoder;
 use crate::error::DecodeError;
@@ -27,7 +27,7 @@ pub enum Reply {
 
 /// Makes one call.
 pub fn make_call<const MAX: usize>(decoder: &mut Decoder<MAX>, call: &Call) -> Reply
-    ensures { Step MAX decoder.old call.now result decoder.new }
+    ensures { IsCallAnswer MAX decoder.old call.now result decoder.new }
 {
     match call {
         Call::Feed(piece) => Reply::Fed(decoder.feed(piece.as_slice())),

@@ -1,7 +1,7 @@
 ghost use Rattle.std.specs.Prelude.{◌≡◌, ◌+◌, drop, false, length, OnOk};
 ghost use Rattle.avc_annexb.specs.Units.{units};
-ghost use Rattle.avc_decoder.specs.Kept.{all_handled};
-ghost use Rattle.avc_decoder.specs.Machine.{fed, flushed, new_machine, Gives, Takes};
+ghost use Rattle.avc_decoder.specs.States.{after_units_in_stream};
+ghost use Rattle.avc_decoder.specs.Machine.{after_feed, after_flush, new_machine, IsFeedAnswer, IsTakeAnswer};
 
 use crate::error::DecodeError;
 use crate::event::Event;
@@ -23,7 +23,7 @@ pub struct Decoder<const MAX: usize> {
 
 impl<const MAX: usize> Model for Decoder<MAX> {
     ghost use Rattle.std.specs.Prelude.{◌≡◌, false};
-    ghost use Rattle.avc_decoder.specs.Kept.{IsDecoded};
+    ghost use Rattle.avc_decoder.specs.States.{IsDecoded};
     ghost use Rattle.avc_decoder.specs.Machine.{Machine};
 
     ghost Value = { Machine };
@@ -49,7 +49,7 @@ impl<const MAX: usize> Decoder<MAX> {
 
     /// Takes the next bytes of the stream.
     pub fn feed(&mut self, piece: &[u8]) -> Result<(), DecodeError>
-        ensures { Gives self.old (fed piece.now self.old) result self.new }
+        ensures { IsFeedAnswer self.old (after_feed piece.now self.old) result self.new }
     {
         if self.failed {
             return Err(DecodeError::OutOfMemory);
@@ -67,7 +67,7 @@ impl<const MAX: usize> Decoder<MAX> {
 
     /// The next event that the bytes so far define, if there is one.
     pub fn take(&mut self) -> Result<Option<Event>, DecodeError>
-        ensures { Takes MAX self.old result self.new }
+        ensures { IsTakeAnswer MAX self.old result self.new }
     {
         if self.failed {
             return Err(DecodeError::OutOfMemory);
@@ -77,7 +77,7 @@ impl<const MAX: usize> Decoder<MAX> {
 
     /// Ends the stream: the bytes so far are all.
     pub fn flush(&mut self) -> Result<(), DecodeError>
-        ensures { Gives self.old (flushed self.old) result self.new }
+        ensures { IsFeedAnswer self.old (after_flush self.old) result self.new }
     {
         if self.failed {
             return Err(DecodeError::OutOfMemory);
@@ -98,7 +98,10 @@ impl<const MAX: usize> Decoder<MAX> {
     pub fn reset(&mut self)
         ensures { self.new ≡ new_machine }
     {
-        *self = Decoder::new(self.alloc);
+        self.splitter = Splitter::new(self.alloc);
+        self.stream.reset(self.alloc);
+        self.ended = false;
+        self.failed = false;
     }
 }
 
@@ -112,7 +115,7 @@ fn handle_units<const MAX: usize>(
     ensures splitter { OnOk result (splitter.new ≡ record splitter.old {
       taken = splitter.old.taken + length (drop splitter.old.taken (units MAX splitter.old.bytes splitter.old.ended));
     }) }
-    ensures stream { OnOk result (stream.new ≡ all_handled (drop splitter.old.taken (units MAX splitter.old.bytes splitter.old.ended)) stream.old) }
+    ensures stream { OnOk result (stream.new ≡ after_units_in_stream (drop splitter.old.taken (units MAX splitter.old.bytes splitter.old.ended)) stream.old) }
 {
     while let Some(unit) = splitter.next_unit() {
         stream.unit(&unit)?;

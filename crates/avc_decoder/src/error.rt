@@ -9,11 +9,22 @@ use thiserror::Error;
 pub enum DecodeError {
     /// The system gave no memory. Until the decoder is reset each call answers so.
     #[error("out of memory")]
-    OutOfMemory,
+    OutOfMemory = 1,
 
     /// The stream has been ended by a flush. Nothing changes.
     #[error("the stream has ended")]
-    Ended,
+    Ended = 2,
+}
+
+impl DecodeError {
+    ghost use Rattle.avc_decoder.specs.Errors.{number_of};
+
+    /// The number by which programs tell errors apart.
+    pub fn number(self) -> u8
+        ensures { result ≡ number_of self }
+    {
+        self as u8
+    }
 }
 
 impl From<OutOfMemory> for DecodeError {

@@ -3,7 +3,7 @@
 ghost use Rattle.avc_decoder.specs.Headline.{TakesAll, TakesThem};
 ghost use Rattle.avc_decoder.specs.Laws.{EventsOnlyGrow, PicturesAreWhole};
 
-use avc_annexb::units_stay;
+use avc_annexb::laws::units_stay;
 use avc_params::laws::sps_in_force_keeps_limits;
 use avc_picture::laws::pictures_are_sized;
 

@@ -1,8 +1,8 @@
 ghost use Rattle.std.specs.Prelude.{◌≡◌, false, true, None, Some, IfOk, OnOk, is_none};
-ghost use Rattle.avc_decoder.specs.Events.{begun, continued, failed_at, is_waiting, pictures, running};
-ghost use Rattle.avc_decoder.specs.Kept.{closed_in, opened_by, queued_more, ComesTo, Decodes, IsOpenIn};
-ghost use Rattle.avc_decoder_core.specs.Pictures.{emptied};
-ghost use Rattle.avc_decoder_core.specs.Sequenced.{cleared, standing};
+ghost use Rattle.avc_decoder.specs.Events.{after_first_slice, after_next_slice, failed_at, is_waiting, pictures, running};
+ghost use Rattle.avc_decoder.specs.States.{closed_in, open_picture_of, with_events, HasOutcome, Decodes, IsOpenIn};
+ghost use Rattle.avc_decoder_core.specs.Pictures.{held_pictures};
+ghost use Rattle.avc_decoder_core.specs.SequenceState.{empty_sequence, current_history};
 ghost use Rattle.avc_params.specs.Within.{IsPps, IsSps};
 ghost use Rattle.avc_picture.specs.Decoding.{IsIntra};
 ghost use Rattle.avc_slice.specs.Header.{is_idr};
@@ -24,15 +24,16 @@ pub fn close_picture(
     last_unit: u64,
 ) -> Result<bool, OutOfMemory>
     requires { IsOpenIn sequence.old last_unit picture }
-    ensures fault { IfOk result (λ fault. fault ≡ is_waiting (closed_in sequence.old.history (opened_by sequence.old.history (Some picture))).phase) }
-    ensures state { OnOk result (ComesTo (closed_in sequence.old.history (opened_by sequence.old.history (Some picture))) queue.old last_unit None sequence.new queue.new) }
+    ensures fault { IfOk result (λ fault. fault ≡ is_waiting (closed_in sequence.old.history (open_picture_of sequence.old.history (Some picture))).phase) }
+    ensures state { OnOk result (HasOutcome (closed_in sequence.old.history (open_picture_of sequence.old.history (Some picture))) queue.old last_unit None sequence.new queue.new) }
 {
     let planes = match picture.finish() {
         Ok(planes) => planes,
-        Err(fault) => {
+        Err(PictureError::Fault(fault)) => {
             fail(sequence, queue, last_unit, fault)?;
             return Ok(true);
         }
+        Err(PictureError::OutOfMemory) => return Err(OutOfMemory),
     };
     match sequence.close(planes) {
         Ok(out) => {
@@ -57,13 +58,13 @@ pub fn begin_picture(
     pps: &Pps,
 ) -> Result<Option<PictureDecoder>, OutOfMemory>
     requires going { sequence.old.failed ≡ false }
-    requires rest { sequence.old.opening ≡ None }
+    requires rest { sequence.old.open_picture ≡ None }
     requires sps { IsSps sps.now }
     requires pps { IsPps pps.now }
     requires within { IsHeader sps.now pps.now slice.now.rbsp slice.now.header }
     requires idr { is_idr slice.now.header ≡ true }
-    ensures fault { IfOk result (λ picture. is_none picture ≡ is_waiting (begun (Some (pps.now, sps.now)) sequence.old.history slice.now).phase) }
-    ensures state { IfOk result (λ picture. ComesTo (begun (Some (pps.now, sps.now)) sequence.old.history slice.now) queue.old slice.now.unit picture sequence.new queue.new) }
+    ensures fault { IfOk result (λ picture. is_none picture ≡ is_waiting (after_first_slice (Some (pps.now, sps.now)) sequence.old.history slice.now).phase) }
+    ensures state { IfOk result (λ picture. HasOutcome (after_first_slice (Some (pps.now, sps.now)) sequence.old.history slice.now) queue.old slice.now.unit picture sequence.new queue.new) }
 {
     if slice.header.first_mb_in_slice.get() != 0 {
         fail(sequence, queue, slice.unit, Fault::MissingMacroblocks)?;
@@ -94,8 +95,8 @@ pub fn continue_picture(
 ) -> Result<Option<PictureDecoder>, OutOfMemory>
     requires picture { IsOpenIn sequence.old last_unit picture }
     requires within { IsIntra picture slice.now }
-    ensures fault { IfOk result (λ picture'. is_none picture' ≡ is_waiting (continued (running sequence.old.history (opened_by sequence.old.history (Some picture))) slice.now).phase) }
-    ensures state { IfOk result (λ picture'. ComesTo (continued (running sequence.old.history (opened_by sequence.old.history (Some picture))) slice.now) queue.old slice.now.unit picture' sequence.new queue.new) }
+    ensures fault { IfOk result (λ picture'. is_none picture' ≡ is_waiting (after_next_slice (running sequence.old.history (open_picture_of sequence.old.history (Some picture))) slice.now).phase) }
+    ensures state { IfOk result (λ picture'. HasOutcome (after_next_slice (running sequence.old.history (open_picture_of sequence.old.history (Some picture))) slice.now) queue.old slice.now.unit picture' sequence.new queue.new) }
 {
     let picture = decode_slice(sequence, queue, picture, slice)?;
     Ok(picture)
@@ -128,8 +129,8 @@ pub fn fail(
     unit: u64,
     fault: Fault,
 ) -> Result<(), OutOfMemory>
-    ensures sequence { OnOk result (sequence.new ≡ cleared) }
-    ensures queue { OnOk result (queue.new ≡ queued_more (failed_at (standing sequence.old) unit fault 0).events queue.old) }
+    ensures sequence { OnOk result (sequence.new ≡ empty_sequence) }
+    ensures queue { OnOk result (queue.new ≡ with_events (failed_at (current_history sequence.old) unit fault 0).events queue.old) }
 {
     empty(sequence, queue)?;
     queue.refuse(unit, fault)?;
@@ -138,8 +139,8 @@ pub fn fail(
 
 /// All held pictures go out, and the history is forgotten.
 pub fn empty(sequence: &mut Sequence, queue: &mut Queue) -> Result<(), OutOfMemory>
-    ensures sequence { OnOk result (sequence.new ≡ cleared) }
-    ensures queue { OnOk result (queue.new ≡ queued_more (pictures (emptied (standing sequence.old))) queue.old) }
+    ensures sequence { OnOk result (sequence.new ≡ empty_sequence) }
+    ensures queue { OnOk result (queue.new ≡ with_events (pictures (held_pictures (current_history sequence.old))) queue.old) }
 {
     let out = sequence.clear()?;
     queue.show(out)?;

@@ -1,7 +1,7 @@
 ghost use Rattle.std.specs.Prelude.{◌≡◌, false, true, None, Some, IfOk, OnOk, slice_get};
-ghost use Rattle.avc_decoder.specs.Events.{begun, continued, failed_at, is_waiting, running};
-ghost use Rattle.avc_decoder.specs.FirstFault.{Open};
-ghost use Rattle.avc_decoder.specs.Kept.{closed_in, emptied_in, history_on, is_full_in, kept_after, kept_taken, nothing_kept, refused_in};
+ghost use Rattle.avc_decoder.specs.Events.{after_first_slice, after_next_slice, failed_at, is_waiting, running};
+ghost use Rattle.avc_decoder.specs.FirstFault.{OpenPicture};
+ghost use Rattle.avc_decoder.specs.States.{closed_in, held_outcome, history_on, is_full_in, after_outcome, after_pictures_take, no_pictures, refused_in};
 ghost use Rattle.avc_params.specs.Within.{IsPps, IsSps};
 ghost use Rattle.avc_slice.specs.Header.{is_idr};
 ghost use Rattle.avc_slice.specs.Within.{IsHeader};
@@ -31,25 +31,25 @@ pub struct Pictures {
 
 impl Model for Pictures {
     ghost use Rattle.std.specs.Prelude.{◌≡◌, false};
-    ghost use Rattle.avc_decoder.specs.Kept.{opened_by, Kept, Works};
+    ghost use Rattle.avc_decoder.specs.States.{open_picture_of, PicturesState, HasOpenPicture};
 
-    ghost Value = { Kept };
+    ghost Value = { PicturesState };
 
     ghost view = { λ p. record {
       history = p.sequence.history;
-      opened = opened_by p.sequence.history p.picture;
+      open_picture = open_picture_of p.sequence.history p.picture;
       events = p.queue.events;
       taken = p.queue.taken;
       failed = p.failed;
     } };
 
-    ghost invariant = { λ p. p.failed ≡ false → Works p.sequence p.last_unit p.picture };
+    ghost invariant = { λ p. p.failed ≡ false → HasOpenPicture p.sequence p.last_unit p.picture };
 }
 
 impl Pictures {
     /// With no picture.
     pub fn new(alloc: Global) -> Pictures
-        ensures { result ≡ nothing_kept }
+        ensures { result ≡ no_pictures }
     {
         Pictures {
             alloc,
@@ -64,7 +64,7 @@ impl Pictures {
     /// Whether a picture is open that is full.
     pub fn is_full(&self) -> bool
         requires { self.now.failed ≡ false }
-        ensures { result ≡ is_full_in self.now.opened }
+        ensures { result ≡ is_full_in self.now.open_picture }
     {
         match &self.picture {
             Some(picture) => picture.full(),
@@ -75,8 +75,8 @@ impl Pictures {
     /// Closes the open picture, if there is one. Says whether that was a fault.
     pub fn close(&mut self) -> Result<bool, OutOfMemory>
         requires { self.old.failed ≡ false }
-        ensures fault { IfOk result (λ fault. fault ≡ is_waiting (closed_in self.old.history self.old.opened).phase) }
-        ensures state { OnOk result (self.new ≡ kept_after (closed_in self.old.history self.old.opened) self.old) }
+        ensures fault { IfOk result (λ fault. fault ≡ is_waiting (closed_in self.old.history self.old.open_picture).phase) }
+        ensures state { OnOk result (self.new ≡ after_outcome (closed_in self.old.history self.old.open_picture) self.old) }
     {
         let Some(picture) = self.picture.take() else {
             return Ok(false);
@@ -90,13 +90,13 @@ impl Pictures {
     /// Opens a picture with its first slice. Says whether that was a fault.
     pub fn begin(&mut self, slice: Slice, sps: &Sps, pps: &Pps) -> Result<bool, OutOfMemory>
         requires going { self.old.failed ≡ false }
-        requires rest { self.old.opened ≡ None }
+        requires rest { self.old.open_picture ≡ None }
         requires sps { IsSps sps.now }
         requires pps { IsPps pps.now }
         requires within { IsHeader sps.now pps.now slice.rbsp slice.header }
         requires idr { is_idr slice.header ≡ true }
-        ensures fault { IfOk result (λ fault. fault ≡ is_waiting (begun (Some (pps.now, sps.now)) self.old.history slice).phase) }
-        ensures state { OnOk result (self.new ≡ kept_after (begun (Some (pps.now, sps.now)) self.old.history slice) self.old) }
+        ensures fault { IfOk result (λ fault. fault ≡ is_waiting (after_first_slice (Some (pps.now, sps.now)) self.old.history slice).phase) }
+        ensures state { OnOk result (self.new ≡ after_outcome (after_first_slice (Some (pps.now, sps.now)) self.old.history slice) self.old) }
     {
         self.failed = true;
         self.last_unit = slice.unit;
@@ -115,12 +115,12 @@ impl Pictures {
     }
 
     /// Decodes one slice more of the open picture, if there is one. Says whether that was a fault.
-    pub fn go_on(&mut self, slice: Slice) -> Result<bool, OutOfMemory>
+    pub fn next_slice(&mut self, slice: Slice) -> Result<bool, OutOfMemory>
         requires going { self.old.failed ≡ false }
-        requires within { (o : Open) → self.old.opened ≡ Some o → IsHeader o.sps o.pps slice.rbsp slice.header }
+        requires within { (o : OpenPicture) → self.old.open_picture ≡ Some o → IsHeader o.sps o.pps slice.rbsp slice.header }
         requires idr { is_idr slice.header ≡ true }
-        ensures fault { IfOk result (λ fault. fault ≡ is_waiting (continued (running self.old.history self.old.opened) slice).phase) }
-        ensures state { OnOk result (self.new ≡ kept_after (continued (running self.old.history self.old.opened) slice) self.old) }
+        ensures fault { IfOk result (λ fault. fault ≡ is_waiting (after_next_slice (running self.old.history self.old.open_picture) slice).phase) }
+        ensures state { OnOk result (self.new ≡ after_outcome (after_next_slice (running self.old.history self.old.open_picture) slice) self.old) }
     {
         let Some(picture) = self.picture.take() else {
             return Ok(false);
@@ -143,7 +143,7 @@ impl Pictures {
     /// A fault of the open picture, or of a unit that is a faulty picture of its own.
     pub fn fail(&mut self, unit: u64, fault: Fault) -> Result<(), OutOfMemory>
         requires { self.old.failed ≡ false }
-        ensures { OnOk result (self.new ≡ kept_after (failed_at (history_on self.old) unit fault 0) self.old) }
+        ensures { OnOk result (self.new ≡ after_outcome (failed_at (history_on self.old) unit fault 0) self.old) }
     {
         self.failed = true;
         self.picture = None;
@@ -163,7 +163,7 @@ impl Pictures {
     /// Lets all held pictures go out and forgets the others, with the open one, if there is one.
     pub fn empty(&mut self) -> Result<(), OutOfMemory>
         requires { self.old.failed ≡ false }
-        ensures { OnOk result (self.new ≡ kept_after (emptied_in (history_on self.old)) self.old) }
+        ensures { OnOk result (self.new ≡ after_outcome (held_outcome (history_on self.old)) self.old) }
     {
         self.failed = true;
         self.picture = None;
@@ -175,7 +175,7 @@ impl Pictures {
     /// Takes the first event that was not taken, if there is one.
     pub fn take(&mut self) -> Option<Event>
         ensures event { result ≡ slice_get self.old.events self.old.taken }
-        ensures taken { self.new ≡ kept_taken result self.old }
+        ensures taken { self.new ≡ after_pictures_take result self.old }
     {
         self.queue.take()
     }

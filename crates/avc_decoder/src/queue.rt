@@ -1,6 +1,6 @@
 ghost use Rattle.std.specs.Prelude.{◌≡◌, [], ◌∷◌, ◌++◌, map, OnOk, slice_get};
 ghost use Rattle.avc_decoder.specs.Events.{pictures};
-ghost use Rattle.avc_decoder.specs.Kept.{queue_taken, queued_more};
+ghost use Rattle.avc_decoder.specs.States.{after_queue_take, with_events};
 ghost use Rattle.avc_decoder.specs.declared.event.Event.TheVariants.{Refused};
 
 use crate::event::Event;
@@ -18,9 +18,9 @@ pub struct Queue {
 
 impl Model for Queue {
     ghost use Rattle.std.specs.Prelude.{◌++◌, length};
-    ghost use Rattle.avc_decoder.specs.Kept.{Queued};
+    ghost use Rattle.avc_decoder.specs.States.{QueueState};
 
-    ghost Value = { Queued };
+    ghost Value = { QueueState };
 
     ghost view = { λ q. record { events = q.given.items ++ q.waiting.items; taken = length q.given.items } };
 }
@@ -38,14 +38,14 @@ impl Queue {
 
     /// Adds pictures, in this order.
     pub fn show(&mut self, out: Vec<Picture>) -> Result<(), OutOfMemory>
-        ensures { OnOk result (self.new ≡ queued_more (pictures out.items) self.old) }
+        ensures { OnOk result (self.new ≡ with_events (pictures out.items) self.old) }
     {
         push_all(&mut self.waiting, out)
     }
 
     /// Adds a refusal.
     pub fn refuse(&mut self, unit: u64, fault: Fault) -> Result<(), OutOfMemory>
-        ensures { OnOk result (self.new ≡ queued_more (Refused unit fault ∷ []) self.old) }
+        ensures { OnOk result (self.new ≡ with_events (Refused unit fault ∷ []) self.old) }
     {
         self.waiting.push_back(Event::Refused { unit, fault })?;
         Ok(())
@@ -54,7 +54,7 @@ impl Queue {
     /// Takes the first event, if there is one.
     pub fn take(&mut self) -> Option<Event>
         ensures event { result ≡ slice_get self.old.events self.old.taken }
-        ensures taken { self.new ≡ queue_taken result self.old }
+        ensures taken { self.new ≡ after_queue_take result self.old }
     {
         let event = self.waiting.pop_front()?;
         self.given = self.given.with(&event);

@@ -1,8 +1,8 @@
 ghost use Rattle.std.specs.Prelude.{◌≡◌, None, Some, false, IfOk, OnOk, slice_get};
-ghost use Rattle.avc_decoder.specs.Events.{begun, is_waiting, sets_named};
-ghost use Rattle.avc_decoder.specs.Kept.{closed_if, flow_ended, flow_taken, handled, kept_after, next_in, nothing_flowed, told_if, Agrees, Fits, Handles};
+ghost use Rattle.avc_decoder.specs.Events.{after_first_slice, is_waiting, sets_named};
+ghost use Rattle.avc_decoder.specs.States.{closed_if, after_stream_end, after_stream_take, after_unit_in_stream, after_outcome, next_in, new_stream, after_fault_if, Agrees, Fits, Handles};
 ghost use Rattle.avc_params.specs.Tables.{sets_after};
-ghost use Rattle.avc_units.specs.Grouped.{IsTaken};
+ghost use Rattle.avc_units.specs.GrouperState.{IsTaken};
 
 use crate::event::Event;
 use crate::pictures::Pictures;
@@ -23,9 +23,9 @@ pub struct Stream {
 
 impl Model for Stream {
     ghost use Rattle.std.specs.Prelude.{◌≡◌, false};
-    ghost use Rattle.avc_decoder.specs.Kept.{state_of, Agrees, Flowed};
+    ghost use Rattle.avc_decoder.specs.States.{state_of, Agrees, StreamState};
 
-    ghost Value = { Flowed };
+    ghost Value = { StreamState };
 
     ghost view = { λ s. record { state = state_of s.grouper s.pictures; events = s.pictures.events; taken = s.pictures.taken; failed = s.failed } };
 
@@ -35,7 +35,7 @@ impl Model for Stream {
 impl Stream {
     /// At the start: it waits for a picture to start with.
     pub fn new(alloc: Global) -> Stream
-        ensures { result ≡ nothing_flowed }
+        ensures { result ≡ new_stream }
     {
         Stream {
             grouper: Grouper::new(alloc),
@@ -44,10 +44,17 @@ impl Stream {
         }
     }
 
+    /// Forgets everything, parameter sets too.
+    pub fn reset(&mut self, alloc: Global)
+        ensures { self.new ≡ new_stream }
+    {
+        *self = Stream::new(alloc);
+    }
+
     /// Takes the next unit.
     pub fn unit(&mut self, unit: &Unit) -> Result<(), OutOfMemory>
         requires { self.old.failed ≡ false }
-        ensures { OnOk result (self.new ≡ handled unit.now self.old) }
+        ensures { OnOk result (self.new ≡ after_unit_in_stream unit.now self.old) }
     {
         self.failed = true;
         handle(&mut self.grouper, &mut self.pictures, unit)?;
@@ -58,7 +65,7 @@ impl Stream {
     /// Takes the end of the units: the open picture is closed, and all held pictures go out.
     pub fn finish(&mut self) -> Result<(), OutOfMemory>
         requires { self.old.failed ≡ false }
-        ensures { OnOk result (self.new ≡ flow_ended self.old) }
+        ensures { OnOk result (self.new ≡ after_stream_end self.old) }
     {
         self.failed = true;
         self.pictures.close()?;
@@ -71,7 +78,7 @@ impl Stream {
     /// Takes the first event that was not taken, if there is one.
     pub fn take(&mut self) -> Option<Event>
         ensures event { result ≡ slice_get self.old.events self.old.taken }
-        ensures taken { self.new ≡ flow_taken result self.old }
+        ensures taken { self.new ≡ after_stream_take result self.old }
     {
         self.pictures.take()
     }
@@ -100,7 +107,7 @@ fn handle(grouper: &mut Grouper, pictures: &mut Pictures, unit: &Unit) -> Result
 fn close_if(pictures: &mut Pictures, closes: bool) -> Result<bool, OutOfMemory>
     requires { pictures.old.failed ≡ false }
     ensures fault { IfOk result (λ fault. fault ≡ is_waiting (closed_if closes pictures.old).phase) }
-    ensures state { OnOk result (pictures.new ≡ kept_after (closed_if closes pictures.old) pictures.old) }
+    ensures state { OnOk result (pictures.new ≡ after_outcome (closed_if closes pictures.old) pictures.old) }
 {
     if closes {
         let fault = pictures.close()?;
@@ -117,9 +124,9 @@ fn perform(
     next: Next,
 ) -> Result<(), OutOfMemory>
     requires going { pictures.old.failed ≡ false }
-    requires fits { Fits (sets_after grouper.old.sets) next pictures.old.opened }
-    ensures pictures { OnOk result (pictures.new ≡ kept_after (next_in (sets_after grouper.old.sets) unit next pictures.old) pictures.old) }
-    ensures grouper { OnOk result (grouper.new ≡ told_if (is_waiting (next_in (sets_after grouper.old.sets) unit next pictures.old).phase) grouper.old) }
+    requires fits { Fits (sets_after grouper.old.sets) next pictures.old.open_picture }
+    ensures pictures { OnOk result (pictures.new ≡ after_outcome (next_in (sets_after grouper.old.sets) unit next pictures.old) pictures.old) }
+    ensures grouper { OnOk result (grouper.new ≡ after_fault_if (is_waiting (next_in (sets_after grouper.old.sets) unit next pictures.old).phase) grouper.old) }
 {
     let fault = match next {
         Next::Nothing => false,
@@ -132,7 +139,7 @@ fn perform(
             true
         }
         Next::Begins(slice) => begin(grouper, pictures, slice)?,
-        Next::Continues(slice) => pictures.go_on(slice)?,
+        Next::Continues(slice) => pictures.next_slice(slice)?,
     };
     if fault {
         grouper.fault(false);
@@ -143,10 +150,10 @@ fn perform(
 /// Opens a picture under the parameter sets that its first slice names. Says whether that was a fault.
 fn begin(grouper: &Grouper, pictures: &mut Pictures, slice: Slice) -> Result<bool, OutOfMemory>
     requires going { pictures.old.failed ≡ false }
-    requires rest { pictures.old.opened ≡ None }
+    requires rest { pictures.old.open_picture ≡ None }
     requires taken { IsTaken (sets_after grouper.now.sets) slice }
-    ensures fault { IfOk result (λ fault. fault ≡ is_waiting (begun (sets_named (sets_after grouper.now.sets) slice.header) pictures.old.history slice).phase) }
-    ensures state { OnOk result (pictures.new ≡ kept_after (begun (sets_named (sets_after grouper.now.sets) slice.header) pictures.old.history slice) pictures.old) }
+    ensures fault { IfOk result (λ fault. fault ≡ is_waiting (after_first_slice (sets_named (sets_after grouper.now.sets) slice.header) pictures.old.history slice).phase) }
+    ensures state { OnOk result (pictures.new ≡ after_outcome (after_first_slice (sets_named (sets_after grouper.now.sets) slice.header) pictures.old.history slice) pictures.old) }
 {
     let table = grouper.table();
     let Some(pps) = table.pps(slice.header.pic_parameter_set_id) else {

@@ -1,6 +1,7 @@
 -- The history of a sequence of pictures, and what decoding one more picture starts from. A history is written with its
 -- newest entry first; an entry's place is the number of those before it.
 use Rattle.std.specs.Prelude.{ℕ, zero, suc, ◌-◌, ℤ, pos, Bool, true, false, List, [], ◌∷◌, length, map, drop, Option, Some, None, slice_get, Result, Ok, Err}
+use Rattle.avc_types.specs.declared.current_frame_num.CurrentFrameNum.{CurrentFrameNum}
 use Rattle.avc_types.specs.declared.fault.Fault.{Fault}
 use Rattle.avc_types.specs.declared.fault.Fault.TheVariants as faults
 use Rattle.avc_types.specs.declared.references.Marking.TheVariants.{Idr, SlidingWindow}
@@ -12,13 +13,13 @@ use Rattle.avc_params.specs.Same.{same_sps}
 use Rattle.avc_slice.specs.declared.header.Header.{Header}
 use Rattle.avc_slice.specs.Header.{is_idr, is_reference, has_operation_5}
 use Rattle.avc_poc.specs.OrderCounts.{Counts, Past, picture, missing, order_counts, order_of}
-use Rattle.avc_marking.specs.Marks.{Step, Marks, marks, previous_number, missing_numbers}
-use Rattle.avc_dpb.specs.Bumping.{Before, keeps, puts_out, drops, Arrival, Buffer, buffer_after, held_ones}
+use Rattle.avc_marking.specs.Marks.{MarkingEntry, Marks, marks, prev_ref_frame_num, missing_frame_nums}
+use Rattle.avc_dpb.specs.Bumping.{PriorPictures, remain, are_output, are_dropped, Arrival, Buffer, buffer_after, held_in_output_order}
 
 -- A closed picture with its parameter set, its first slice's header and its planes; or a frame number that is missing.
 pub data Entry : Type 0 where
-  closed : Sps → Header → Planes → Entry
-  absent : Sps → (frame_num : ℕ) → Entry
+  decoded_picture : Sps → Header → Planes → Entry
+  missing_frame : Sps → (frame_num : ℕ) → Entry
 
 abbrev pub History : Type 0
 History = List Entry
@@ -31,40 +32,41 @@ abbrev pub ◌>>=◌ : {A B : Type 0} → Result A Fault → (A → Result B Fau
 -- ---- what order counts, marking and output ask of an entry
 
 abbrev past_of : Entry → Past
-past_of (closed sps h planes) = picture sps h
-past_of (absent sps frame_num) = missing sps frame_num
+past_of (decoded_picture sps h planes) = picture sps h
+past_of (missing_frame sps frame_num) = missing sps frame_num
 
 abbrev pub pasts : History → List Past
 pasts h = map past_of h
 
-abbrev pub picture_step : Sps → Header → Step
-picture_step sps h = record {
-  frame_num = h.frame_num;
-  max_frame_num = max_frame_num sps;
+abbrev pub current_in : Sps → (frame_num : ℕ) → CurrentFrameNum
+current_in sps frame_num = record { frame_num = frame_num; max_frame_num = max_frame_num sps }
+
+abbrev pub picture_entry : Sps → Header → MarkingEntry
+picture_entry sps h = record {
+  current = current_in sps h.frame_num;
   max_num_ref_frames = sps.max_num_ref_frames;
   existing = true;
   marking = h.marking;
 }
 
-abbrev missing_step : Sps → (frame_num : ℕ) → Step
-missing_step sps frame_num = record {
-  frame_num = frame_num;
-  max_frame_num = max_frame_num sps;
+abbrev missing_frame_entry : Sps → (frame_num : ℕ) → MarkingEntry
+missing_frame_entry sps frame_num = record {
+  current = current_in sps frame_num;
   max_num_ref_frames = sps.max_num_ref_frames;
   existing = false;
   marking = Some SlidingWindow;
 }
 
-abbrev pub step_of : Entry → Step
-step_of (closed sps h planes) = picture_step sps h
-step_of (absent sps frame_num) = missing_step sps frame_num
+abbrev pub marking_entry : Entry → MarkingEntry
+marking_entry (decoded_picture sps h planes) = picture_entry sps h
+marking_entry (missing_frame sps frame_num) = missing_frame_entry sps frame_num
 
-abbrev pub steps : History → List Step
-steps h = map step_of h
+abbrev pub marking_entries : History → List MarkingEntry
+marking_entries h = map marking_entry h
 
 -- the marks after all entries, or the first fault
 abbrev pub marks_of : History → Result Marks Fault
-marks_of h = marks (steps h)
+marks_of h = marks (marking_entries h)
 
 abbrev pub or_no_references : Result Marks Fault → List Reference
 or_no_references (Ok m) = m.references
@@ -74,12 +76,12 @@ or_no_references (Err f) = []
 abbrev pub references_of : History → List Reference
 references_of h = or_no_references (marks_of h)
 
-abbrev pub before_of : Header → Before
-before_of h = elim h.marking [
-  | None ↦ keeps
+abbrev pub prior_pictures_of : Header → PriorPictures
+prior_pictures_of h = elim h.marking [
+  | None ↦ remain
   | Some m ↦ elim m [
-    | Idr no_output long_term ↦ (elim no_output [ true ↦ drops | false ↦ puts_out ])
-    | _ ↦ (elim (has_operation_5 h) [ true ↦ puts_out | false ↦ keeps ])
+    | Idr no_output long_term ↦ (elim no_output [ true ↦ are_dropped | false ↦ are_output ])
+    | _ ↦ (elim (has_operation_5 h) [ true ↦ are_output | false ↦ remain ])
   ]
 ]
 
@@ -88,21 +90,21 @@ order_or_0 (Ok c) = order_of c
 order_or_0 (Err f) = pos 0
 
 abbrev pub arrival : Entry → (older : History) → Arrival
-arrival (closed sps h planes) older = record {
+arrival (decoded_picture sps h planes) older = record {
   order = order_or_0 (order_counts sps h (pasts older));
   existing = true;
   is_reference = is_reference h;
-  before = before_of h;
+  prior_pictures = prior_pictures_of h;
   capacity = dpb_size sps;
-  references = map (λ r. r.entry) (references_of (closed sps h planes ∷ older));
+  references = map (λ r. r.entry) (references_of (decoded_picture sps h planes ∷ older));
 }
-arrival (absent sps frame_num) older = record {
+arrival (missing_frame sps frame_num) older = record {
   order = pos 0;
   existing = false;
   is_reference = true;
-  before = keeps;
+  prior_pictures = remain;
   capacity = dpb_size sps;
-  references = map (λ r. r.entry) (references_of (absent sps frame_num ∷ older));
+  references = map (λ r. r.entry) (references_of (missing_frame sps frame_num ∷ older));
 }
 
 abbrev pub arrivals : History → List Arrival
@@ -114,12 +116,12 @@ abbrev pub buffer_of : History → Buffer
 buffer_of h = buffer_after (arrivals h)
 
 -- the places of the pictures that go out where history `old` has become `new`
-abbrev pub gained : (old new : History) → List ℕ
-gained old new = drop (length (buffer_of old).out) (buffer_of new).out
+abbrev pub new_output : (old new : History) → List ℕ
+new_output old new = drop (length (buffer_of old).out) (buffer_of new).out
 
 -- the places of the pictures that are held, in the order in which they go out
 abbrev pub all_held : History → List ℕ
-all_held h = map (λ s. s.entry) (held_ones (buffer_of h).frames)
+all_held h = map (λ s. s.entry) (held_in_output_order (buffer_of h).frames)
 
 -- ---- entries by their places
 
@@ -127,8 +129,8 @@ abbrev pub entry_at : History → (place : ℕ) → Option Entry
 entry_at h place = elim (length h - place) [ zero ↦ None | suc n ↦ slice_get h n ]
 
 abbrev planes_in : Option Entry → Option Planes
-planes_in (Some (closed sps h planes)) = Some planes
-planes_in (Some (absent sps frame_num)) = None
+planes_in (Some (decoded_picture sps h planes)) = Some planes
+planes_in (Some (missing_frame sps frame_num)) = None
 planes_in None = None
 
 -- a reference frame with its planes; a non-existing one has none
@@ -144,37 +146,37 @@ stored_frames h = map (stored h) (references_of h)
 -- the parameter set of the sequence: that of the last IDR picture
 abbrev pub sequence_sps : History → Option Sps
 sequence_sps [] = None
-sequence_sps (closed sps h planes ∷ older) = elim (is_idr h) [ true ↦ Some sps | false ↦ sequence_sps older ]
-sequence_sps (absent sps frame_num ∷ older) = sequence_sps older
+sequence_sps (decoded_picture sps h planes ∷ older) = elim (is_idr h) [ true ↦ Some sps | false ↦ sequence_sps older ]
+sequence_sps (missing_frame sps frame_num ∷ older) = sequence_sps older
 
-abbrev pub is_same : Option Sps → Sps → Bool
-is_same None sps = false
-is_same (Some before) sps = same_sps before sps
+abbrev pub is_same_sps : Option Sps → Sps → Bool
+is_same_sps None sps = false
+is_same_sps (Some before) sps = same_sps before sps
 
 -- One entry more for each missing number; each can be marked.
 abbrev pub with_missing : Sps → List ℕ → History → Result History Fault
 with_missing sps [] h = Ok h
-with_missing sps (n ∷ numbers) h = marks_of (absent sps n ∷ h) >>= λ m. with_missing sps numbers (absent sps n ∷ h)
+with_missing sps (n ∷ numbers) h = marks_of (missing_frame sps n ∷ h) >>= λ m. with_missing sps numbers (missing_frame sps n ∷ h)
 
-abbrev pub counted : Sps → Header → History → Result History Fault
-counted sps h history = order_counts sps h (pasts history) >>= λ c. Ok history
+abbrev pub with_order_counts : Sps → Header → History → Result History Fault
+with_order_counts sps h history = order_counts sps h (pasts history) >>= λ c. Ok history
 
 -- The history with the frame numbers that are missing before a picture of this header (7.4.3, 8.2.5.2), or the first of
 -- ParameterSetChanged, FrameNumGap, FrameNumRepeated, TooManyReferences and PocRange.
-abbrev pub opened : Sps → Header → History → Result History Fault
-opened sps h history =
+abbrev pub history_at_opening : Sps → Header → History → Result History Fault
+history_at_opening sps h history =
     elim (is_idr h) [
-      | true ↦ counted sps h history
-      | false ↦ elim (is_same (sequence_sps history) sps) [
+      | true ↦ with_order_counts sps h history
+      | false ↦ elim (is_same_sps (sequence_sps history) sps) [
         | false ↦ Err faults.ParameterSetChanged
-        | true ↦ missing_numbers (previous_number (steps history)) sps.gaps_in_frame_num_value_allowed_flag (picture_step sps h)
-            >>= λ numbers. with_missing sps numbers history >>= λ full. counted sps h full
+        | true ↦ missing_frame_nums (prev_ref_frame_num (marking_entries history)) sps.gaps_in_frame_num_value_allowed_flag (picture_entry sps h)
+            >>= λ numbers. with_missing sps numbers history >>= λ full. with_order_counts sps h full
       ]
     ]
 
 -- ---- closing it
 
 -- The history with the picture, or BadMarking or TooManyReferences.
-abbrev pub closed_by : Sps → Header → Planes → History → Result History Fault
-closed_by sps h planes history =
-    marks_of (closed sps h planes ∷ history) >>= λ m. Ok (closed sps h planes ∷ history)
+abbrev pub history_after_closing : Sps → Header → Planes → History → Result History Fault
+history_after_closing sps h planes history =
+    marks_of (decoded_picture sps h planes ∷ history) >>= λ m. Ok (decoded_picture sps h planes ∷ history)

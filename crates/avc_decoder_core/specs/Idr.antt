@@ -12,9 +12,9 @@ use Rattle.avc_params.specs.declared.sps.Sps.{Sps}
 use Rattle.avc_params.specs.Within.{IsSps}
 use Rattle.avc_slice.specs.declared.header.Header.{Header}
 use Rattle.avc_slice.specs.Header.{is_idr, has_idr_marking}
-use Rattle.avc_decoder_core.specs.History.{Entry, closed, absent, History, opened}
+use Rattle.avc_decoder_core.specs.History.{Entry, decoded_picture, missing_frame, History, history_at_opening}
 use Rattle.avc_decoder_core.specs.Pictures.{picture_of}
-use Rattle.avc_decoder_core.specs.Sequenced.{Opening}
+use Rattle.avc_decoder_core.specs.SequenceState.{OpenPictureStart}
 
 -- an IDR picture's header
 pub record IsIdr (h : Header) : Type 0 where
@@ -23,8 +23,8 @@ pub record IsIdr (h : Header) : Type 0 where
 
 -- the entry is an IDR picture
 abbrev pub IsIdrEntry : Entry → Type 0
-IsIdrEntry (closed sps h planes) = IsIdr h
-IsIdrEntry (absent sps frame_num) = ⊥
+IsIdrEntry (decoded_picture sps h planes) = IsIdr h
+IsIdrEntry (missing_frame sps frame_num) = ⊥
 
 -- all entries are
 abbrev pub AreIdr : History → Type 0
@@ -58,14 +58,14 @@ frame_of h planes = record {
 -- The frame in the buffer: the last picture, which is held for output too.
 abbrev pub held_frame : History → Option (Frame 0)
 held_frame [] = None
-held_frame (closed sps h planes ∷ older) = Some (frame_of h planes)
-held_frame (absent sps frame_num ∷ older) = None
+held_frame (decoded_picture sps h planes ∷ older) = Some (frame_of h planes)
+held_frame (missing_frame sps frame_num ∷ older) = None
 
 -- its parameter set
 abbrev pub held_sps : History → Option Sps
 held_sps [] = None
-held_sps (closed sps h planes ∷ older) = Some sps
-held_sps (absent sps frame_num ∷ older) = None
+held_sps (decoded_picture sps h planes ∷ older) = Some sps
+held_sps (missing_frame sps frame_num ∷ older) = None
 
 -- the picture of the frame in the buffer
 abbrev pub shown_frame : Option (Frame 0) → Option Sps → List Picture
@@ -73,19 +73,19 @@ shown_frame (Some frame) (Some sps) = picture_of sps (planes_of frame.planes) �
 shown_frame _ _ = []
 
 -- The open picture can stand on the history: it is an IDR picture, and its order counts are in range.
-pub record CanStand (history : History) (o : Opening) : Type 0 where
+pub record CanStand (history : History) (o : OpenPictureStart) : Type 0 where
   pub idr : IsIdr o.header
   pub limits : IsSps o.sps
-  pub stands : opened o.sps o.header history ≡ Ok history
+  pub stands : history_at_opening o.sps o.header history ≡ Ok history
 
-abbrev pub CanStandIf : History → Option Opening → Type 0
+abbrev pub CanStandIf : History → Option OpenPictureStart → Type 0
 CanStandIf history None = Unit {0}
 CanStandIf history (Some o) = CanStand history o
 
 -- what is kept of a history of IDR pictures, with the open one
-pub record Keeps (history : History) (opening : Option Opening) (held : Option (Frame 0)) (sps : Option Sps) : Type 0 where
+pub record IsStateAfter (history : History) (open_picture : Option OpenPictureStart) (held : Option (Frame 0)) (sps : Option Sps) : Type 0 where
   pub pictures : AreIdr history
-  pub stands : CanStandIf history opening
+  pub stands : CanStandIf history open_picture
   pub frame : held ≡ held_frame history
   pub set : sps ≡ held_sps history
   pub limits : IfSome sps IsSps

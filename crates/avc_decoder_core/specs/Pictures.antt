@@ -7,7 +7,7 @@ use Rattle.avc_plane.specs.Planes.{Planes}
 use Rattle.avc_params.specs.Limits.{width_in_mbs, height_in_mbs}
 use Rattle.avc_params.specs.declared.sps.Cropping.{Cropping}
 use Rattle.avc_params.specs.declared.sps.Sps.{Sps}
-use Rattle.avc_decoder_core.specs.History.{Entry, closed, absent, History, entry_at, gained, all_held}
+use Rattle.avc_decoder_core.specs.History.{Entry, decoded_picture, missing_frame, History, entry_at, new_output, all_held}
 
 -- in luma samples (7.4.2.1.1): a unit of the offsets is two of them at 4:2:0
 abbrev pub crop_of : Option Cropping → Crop
@@ -30,19 +30,19 @@ picture_of sps planes = record {
 }
 
 -- the entry's picture; none where a number is missing
-abbrev pub shown : Option Entry → List Picture
-shown (Some (closed sps h planes)) = picture_of sps planes ∷ []
-shown (Some (absent sps frame_num)) = []
-shown None = []
+abbrev pub entry_pictures : Option Entry → List Picture
+entry_pictures (Some (decoded_picture sps h planes)) = picture_of sps planes ∷ []
+entry_pictures (Some (missing_frame sps frame_num)) = []
+entry_pictures None = []
 
 -- the pictures at these places of the history
 abbrev pub pictures_at : History → List ℕ → List Picture
-pictures_at h places = flat_map (λ place. shown (entry_at h place)) places
+pictures_at h places = flat_map (λ place. entry_pictures (entry_at h place)) places
 
 -- what goes out where `old` has become `new`
-abbrev pub released : (old new : History) → List Picture
-released old new = pictures_at new (gained old new)
+abbrev pub output_pictures : (old new : History) → List Picture
+output_pictures old new = pictures_at new (new_output old new)
 
 -- all held pictures, in the order in which they go out
-abbrev pub emptied : History → List Picture
-emptied h = pictures_at h (all_held h)
+abbrev pub held_pictures : History → List Picture
+held_pictures h = pictures_at h (all_held h)

@@ -4,7 +4,7 @@ use avc_slice::Header;
 
 /// A picture that is being decoded: its parameter set and its first slice's header.
 #[derive(Drop)]
-pub struct OpenPicture {
+pub struct OpenPictureHeader {
     pub sps: Sps,
     pub header: Header,
 }

@@ -2,8 +2,8 @@
 #![tactic(auto)]
 
 mod closed_picture;
+mod first_counts;
 mod marking;
-mod order;
 mod output;
 mod picture;
 mod sequence;

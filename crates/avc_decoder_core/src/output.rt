@@ -11,7 +11,7 @@ use avc_types::{OutOfMemory, Picture};
 use std::alloc::Global;
 
 /// The held picture goes out, where there is one. It has this parameter set.
-pub(crate) fn put_out(
+pub(crate) fn output_held(
     alloc: Global,
     held: Option<Frame<0>>,
     sps: &Option<Sps>,
@@ -28,7 +28,7 @@ pub(crate) fn put_out(
 }
 
 /// What becomes of the held picture where an IDR picture comes: it goes out or is dropped (C.4.4).
-pub(crate) fn make_way(
+pub(crate) fn output_prior_pictures(
     alloc: Global,
     header: &Header,
     held: Option<Frame<0>>,
@@ -40,6 +40,6 @@ pub(crate) fn make_way(
     if drops_output(header) {
         Ok(Vec::new(alloc))
     } else {
-        put_out(alloc, held, sps)
+        output_held(alloc, held, sps)
     }
 }

@@ -1,14 +1,14 @@
 ghost use Rattle.std.specs.Prelude.{◌≡◌, ◌∷◌, true, false, IfOk, IfErr, OnErr, None, Some};
-ghost use Rattle.avc_decoder_core.specs.History.{closed_by, opened, stored_frames};
-ghost use Rattle.avc_decoder_core.specs.Sequenced.{cleared, standing, Fails, IsCleared, IsClosed, IsOpened, Opening, StandFor};
+ghost use Rattle.avc_decoder_core.specs.History.{history_after_closing, history_at_opening, stored_frames};
+ghost use Rattle.avc_decoder_core.specs.SequenceState.{empty_sequence, current_history, Fails, IsCleared, IsClosed, IsOpened, OpenPictureStart, StandFor};
 ghost use Rattle.avc_params.specs.Within.{IsSps};
 ghost use Rattle.avc_plane.specs.Frames.{planes_of};
 ghost use Rattle.avc_slice.specs.Header.{has_idr_marking, is_idr};
 
-use crate::closed_picture::{ClosedPicture, OpenPicture};
+use crate::closed_picture::{ClosedPicture, OpenPictureHeader};
+use crate::first_counts::first_counts;
 use crate::marking::idr_frame;
-use crate::order::first_counts;
-use crate::output::{make_way, put_out};
+use crate::output::{output_held, output_prior_pictures};
 use avc_params::Sps;
 use avc_plane::{Frame, Planes};
 use avc_slice::Header;
@@ -16,7 +16,8 @@ use avc_types::{History, OutOfMemory, Picture, PictureError};
 use std::alloc::Global;
 use std::marker::Model;
 
-/// The closed pictures of a stream since it was cleared, as far as later pictures and output need them.
+/// The closed pictures of a stream since it was cleared, as far as later pictures and output need them. After want of memory it
+/// answers so from then on.
 #[derive(Drop)]
 pub struct Sequence {
     alloc: Global,
@@ -27,7 +28,7 @@ pub struct Sequence {
     /// The parameter set of the held picture.
     sps: Option<Sps>,
 
-    opening: Option<OpenPicture>,
+    open_picture: Option<OpenPictureHeader>,
 
     failed: bool,
 
@@ -35,27 +36,27 @@ pub struct Sequence {
 }
 
 impl Model for Sequence {
-    ghost use Rattle.avc_decoder_core.specs.Sequenced.{Sequenced};
+    ghost use Rattle.avc_decoder_core.specs.SequenceState.{SequenceState};
 
-    ghost Value = { Sequenced };
+    ghost Value = { SequenceState };
 
-    ghost use Rattle.avc_decoder_core.specs.Kept.{sequenced_by, IsKept};
+    ghost use Rattle.avc_decoder_core.specs.SequenceFields.{sequence_state, IsSequenceState};
 
-    ghost view = { sequenced_by };
+    ghost view = { sequence_state };
 
-    ghost invariant = { IsKept };
+    ghost invariant = { IsSequenceState };
 }
 
 impl Sequence {
     /// With no history.
     pub fn new(alloc: Global) -> Sequence
-        ensures { result ≡ cleared }
+        ensures { result ≡ empty_sequence }
     {
         Sequence {
             alloc,
             held: None,
             sps: None,
-            opening: None,
+            open_picture: None,
             failed: false,
             closed: History::new(),
         }
@@ -64,18 +65,18 @@ impl Sequence {
     /// Opens a picture whose first slice has this header: checks its parameter set, its frame number and its order count, and
     /// takes in the frame numbers that are missing before it. Answers the pictures that go out.
     pub fn open(&mut self, header: &Header, sps: &Sps) -> Result<Vec<Picture>, PictureError>
-        requires rest { self.old.opening ≡ None }
+        requires rest { self.old.open_picture ≡ None }
         requires idr { is_idr header.now ≡ true }
         requires marking { has_idr_marking header.now ≡ true }
         requires sps { IsSps sps.now }
         ensures ok { IfOk result (λ out. IsOpened self.old sps.now header.now out.items self.new) }
-        ensures err { IfErr result (λ error. Fails self.old (opened sps.now header.now self.old.history) error self.new) }
+        ensures err { IfErr result (λ error. Fails self.old (history_at_opening sps.now header.now self.old.history) error self.new) }
     {
         if self.failed {
             return Err(PictureError::OutOfMemory);
         }
         first_counts(header, sps)?;
-        self.opening = Some(OpenPicture {
+        self.open_picture = Some(OpenPictureHeader {
             sps: sps.copied(),
             header: header.copied(),
         });
@@ -84,15 +85,17 @@ impl Sequence {
 
     /// Closes the open picture, whose samples are these: marks it, and lets pictures go out. Answers these.
     pub fn close(&mut self, planes: Planes<0>) -> Result<Vec<Picture>, PictureError>
-        requires going { self.old.failed ≡ false }
-        ensures ok { IfOk result (λ out. (o : Opening) → self.old.opening ≡ Some o → IsClosed self.old o (planes_of planes) out.items self.new) }
-        ensures err { IfErr result (λ error. (o : Opening) → self.old.opening ≡ Some o → Fails self.old (closed_by o.sps o.header (planes_of planes) (standing self.old)) error self.new) }
+        ensures ok { IfOk result (λ out. (o : OpenPictureStart) → self.old.open_picture ≡ Some o → IsClosed self.old o (planes_of planes) out.items self.new) }
+        ensures err { IfErr result (λ error. (o : OpenPictureStart) → self.old.open_picture ≡ Some o → Fails self.old (history_after_closing o.sps o.header (planes_of planes) (current_history self.old)) error self.new) }
     {
-        let Some(OpenPicture { sps, header }) = self.opening.take() else {
+        if self.failed {
+            return Err(PictureError::OutOfMemory);
+        }
+        let Some(OpenPictureHeader { sps, header }) = self.open_picture.take() else {
             return Ok(Vec::new(self.alloc));
         };
         self.failed = true;
-        let out = make_way(self.alloc, &header, self.held.take(), &self.sps)?;
+        let out = output_prior_pictures(self.alloc, &header, self.held.take(), &self.sps)?;
         let closed = ClosedPicture {
             sps,
             header,
@@ -119,18 +122,17 @@ impl Sequence {
             return Err(OutOfMemory);
         }
         self.failed = true;
-        let out = put_out(self.alloc, self.held.take(), &self.sps)?;
+        let out = output_held(self.alloc, self.held.take(), &self.sps)?;
         self.sps = None;
-        self.opening = None;
+        self.open_picture = None;
         self.closed = History::new();
         self.failed = false;
         Ok(out)
     }
 
-    /// The stored reference frames, in decoding order.
+    /// The stored reference frames, in decoding order. After want of memory they are any.
     pub fn frames(&self) -> &[Frame<0>]
-        requires { self.now.failed ≡ false }
-        ensures { StandFor result.now (stored_frames (standing self.now)) }
+        ensures { self.now.failed ≡ false → StandFor result.now (stored_frames (current_history self.now)) }
     {
         self.held.as_slice()
     }

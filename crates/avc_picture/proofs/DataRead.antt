@@ -8,11 +8,12 @@ use Rattle.avc_types.specs.Macroblock.{Mb, MbSyntax}
 use Rattle.avc_types.specs.Pictures.{PicMb}
 use Rattle.avc_bits.specs.Bits.{Bits, Read, ◌>>=◌, give, check, times, more_data}
 use Rattle.avc_bits.specs.Codes.{u, ue, align}
-use Rattle.avc_mbsyntax.specs.Reading.{Context, i_mb, i_pcm_mb}
+use Rattle.avc_mbsyntax.specs.declared.context.Context.{Context}
+use Rattle.avc_mbsyntax.specs.Reading.{i_mb, i_pcm_mb}
 use Rattle.avc_mbsyntax.specs.SliceData.{SliceStart, SliceMbs, context, i_macroblock, i_data}
 use Rattle.avc_plane.specs.Planes.{Planes}
 use Rattle.avc_picture.specs.Pcm.{with_pcm, pcm_planes}
-use Rattle.avc_picture.specs.Data.{pcm_alone, pcm_type, pcm_samples, pcm_mb, laid_in, macroblock_planes, Laid, going_on, planes_data}
+use Rattle.avc_picture.specs.Data.{only_pcm, pcm_type, pcm_samples, pcm_mb, constructed_in, macroblock_planes, Construction, if_more_data, planes_data}
 use Rattle.avc_picture.proofs.ReadPcm.{is_type_taken, macroblock_of_intra}
 
 -- ---- one macroblock
@@ -57,7 +58,7 @@ at_type c v b left true true h k = of_greater_type c v left (grind (arith, nat_t
 at_type c v b left true false h k = of_type_25 c v left (grind (arith, nat_tests))
 
 at_read : (c : Context) (b : Bits) (x : Result (ℕ × Bits) Fault)
-    → ((λ _. pcm_alone x) >>= λ _. pcm_samples) b
+    → ((λ _. only_pcm x) >>= λ _. pcm_samples) b
     ≡ syntax_of (elim (is_type_taken x) [ true ↦ (((λ _. x) >>= λ v. check (nat_le v 25) faults.OutOfRange >>= λ _. give v) >>= λ mb_type. i_mb c mb_type) b | false ↦ Err faults.NotYet ])
 at_read c b (Err f) = refl
 at_read c b (Ok r) = at_type c r.0 b r.1 (nat_le 25 r.0) (nat_lt 25 r.0) refl refl
@@ -69,17 +70,17 @@ macroblock_read c b intra =
     ∙ sym (ap (λ m. syntax_of (elim (is_type_taken (ue b)) [ true ↦ m | false ↦ Err faults.NotYet ])) (macroblock_of_intra c b intra))
 
 -- the planes with a macroblock that was read
-abbrev laid : (width a : ℕ) → Planes → Result (Mb × Bits) Fault → Result (Planes × Bits) Fault
-laid width a s (Ok r) = Ok (with_pcm width a (r.0).syntax s, r.1)
-laid width a s (Err f) = Err f
+abbrev constructed : (width a : ℕ) → Planes → Result (Mb × Bits) Fault → Result (Planes × Bits) Fault
+constructed width a s (Ok r) = Ok (with_pcm width a (r.0).syntax s, r.1)
+constructed width a s (Err f) = Err f
 
-laid_of : (width a : ℕ) (s : Planes) (o : Result (Mb × Bits) Fault) → laid_in width a s (syntax_of o) ≡ laid width a s o
+laid_of : (width a : ℕ) (s : Planes) (o : Result (Mb × Bits) Fault) → constructed_in width a s (syntax_of o) ≡ constructed width a s o
 laid_of width a s (Ok r) = refl
 laid_of width a s (Err f) = refl
 
-macroblock_laid : (width a : ℕ) (s : Planes) (c : Context) (b : Bits) → c.is_p ≡ false → macroblock_planes width a s b ≡ laid width a s (i_macroblock c b)
+macroblock_laid : (width a : ℕ) (s : Planes) (c : Context) (b : Bits) → c.is_p ≡ false → macroblock_planes width a s b ≡ constructed width a s (i_macroblock c b)
 unfolding macroblock_planes
-macroblock_laid width a s c b intra = ap (laid_in width a s) (macroblock_read c b intra) ∙ laid_of width a s (i_macroblock c b)
+macroblock_laid width a s c b intra = ap (constructed_in width a s) (macroblock_read c b intra) ∙ laid_of width a s (i_macroblock c b)
 
 -- ---- a slice
 
@@ -87,7 +88,7 @@ abbrev pub placed : (slice : ℕ) → List Mb → List PicMb
 placed slice mbs = map (λ mb. record { slice = slice; mb = mb }) mbs
 
 -- the next address and the planes after the macroblocks that were read, or the fault that came then
-abbrev pub slice_laid : (width a slice : ℕ) → Planes → SliceMbs → Laid
+abbrev pub slice_laid : (width a slice : ℕ) → Planes → SliceMbs → Construction
 slice_laid width a slice t ms =
     elim ms.fault [ None ↦ Ok (a + length ms.mbs, pcm_planes width a t (placed slice ms.mbs)) | Some f ↦ Err f ]
 
@@ -104,23 +105,23 @@ slice_laid-more width a slice t mb mbs (Some f) = refl
 abbrev no_more : SliceMbs
 no_more = record { mbs = []; fault = None }
 
-one_laid : (width a slice : ℕ) (t : Planes) (mb : Mb) (is_more : Bool) (others : SliceMbs) (others_laid : Laid)
+one_laid : (width a slice : ℕ) (t : Planes) (mb : Mb) (is_more : Bool) (others : SliceMbs) (others_laid : Construction)
     → others_laid ≡ slice_laid width (a + 1) slice (with_pcm width a mb.syntax t) others
-    → going_on is_more others_laid (Ok (a + 1, with_pcm width a mb.syntax t)) ≡ slice_laid width a slice t (one_before mb (elim is_more [ true ↦ others | false ↦ no_more ]))
+    → if_more_data is_more others_laid (Ok (a + 1, with_pcm width a mb.syntax t)) ≡ slice_laid width a slice t (one_before mb (elim is_more [ true ↦ others | false ↦ no_more ]))
 one_laid width a slice t mb true others others_laid h = h ∙ slice_laid-more width a slice t mb others.mbs others.fault
 one_laid width a slice t mb false others others_laid h = refl
 
 data_laid_by : (s : SliceStart) (left a : ℕ) (before : List PicMb) (qp : ℕ) (t : Planes) (b : Bits) (o : Result (Mb × Bits) Fault)
-    → i_macroblock (context s before qp) b ≡ o → macroblock_planes s.width a t b ≡ laid s.width a t o
-    → ((before' : List PicMb) (qp' : ℕ) (t' : Planes) (b' : Bits) → planes_data s.width left (a + 1) t' b' ≡ slice_laid s.width (a + 1) s.slice t' (i_data s left before' qp' b'))
-    → planes_data s.width (suc left) a t b ≡ slice_laid s.width a s.slice t (i_data s (suc left) before qp b)
+    → i_macroblock (context s before qp) b ≡ o → macroblock_planes s.width a t b ≡ constructed s.width a t o
+    → ((before' : List PicMb) (qp' : ℕ) (t' : Planes) (b' : Bits) → planes_data s.width left (a + 1) t' b' ≡ slice_laid s.width (a + 1) s.slice t' (i_data i_macroblock s left before' qp' b'))
+    → planes_data s.width (suc left) a t b ≡ slice_laid s.width a s.slice t (i_data i_macroblock s (suc left) before qp b)
 unfolding planes_data
 data_laid_by s left a before qp t b (Err f) is lays others = rw (is, i_data, lays) refl
 data_laid_by s left a before qp t b (Ok r) is lays others =
     rw (is, i_data, lays) (one_laid s.width a s.slice t r.0 (more_data r.1) _ _ (others _ _ _ _))
 
 pub data_laid : (s : SliceStart) (left a : ℕ) (before : List PicMb) (qp : ℕ) (t : Planes) (b : Bits) → s.is_p ≡ false
-    → planes_data s.width left a t b ≡ slice_laid s.width a s.slice t (i_data s left before qp b)
+    → planes_data s.width left a t b ≡ slice_laid s.width a s.slice t (i_data i_macroblock s left before qp b)
 unfolding planes_data
 data_laid s zero a before qp t b intra = refl
 data_laid s (suc left) a before qp t b intra =

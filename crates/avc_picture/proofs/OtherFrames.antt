@@ -10,17 +10,17 @@ use Rattle.avc_slice.specs.Header.{is_p}
 use Rattle.avc_reflist.specs.Lists.{reference_list}
 use Rattle.avc_plane.specs.Planes.{StoredFrame}
 use Rattle.avc_picture.specs.Decoded.{deblocked}
-use Rattle.avc_picture.specs.Slices.{PictureStart, Progress, references_in, or_empty, list_of, coded_of, is_taken, refused, listed, with_slice, progress, planes_after_slices}
+use Rattle.avc_picture.specs.Slices.{PictureStart, Progress, current_of, references_in, or_empty, list_of, coded_of, is_taken, refused, with_reference_list, with_slice, progress, planes_after_slices}
 
 pub list_of_intra : (p : PictureStart) (h : Header) → is_p h ≡ false → list_of p h ≡ Ok []
 list_of_intra p h intra =
-    ap (λ b. elim b [ true ↦ reference_list h.frame_num (max_frame_num p.sps) h.active_count (references_in p) (or_empty h.modifications) | false ↦ Ok [] ]) intra
+    ap (λ b. elim b [ true ↦ reference_list (current_of p h) h.active_count (or_empty h.modifications) (references_in p) | false ↦ Ok [] ]) intra
 
 list_of_other : (p : PictureStart) (other : List StoredFrame) (s : Slice) (before : Progress) → is_p s.header ≡ false
-    → listed p s before (list_of p s.header) ≡ listed (record p { frames = other }) s before (list_of (record p { frames = other }) s.header)
+    → with_reference_list p s before (list_of p s.header) ≡ with_reference_list (record p { frames = other }) s before (list_of (record p { frames = other }) s.header)
 list_of_other p other s before intra =
-    ap (listed p s before) (list_of_intra p s.header intra)
-    ∙ sym (ap (listed (record p { frames = other }) s before) (list_of_intra (record p { frames = other }) s.header intra))
+    ap (with_reference_list p s before) (list_of_intra p s.header intra)
+    ∙ sym (ap (with_reference_list (record p { frames = other }) s before) (list_of_intra (record p { frames = other }) s.header intra))
 
 -- one slice
 pub with_slice-other : (p : PictureStart) (other : List StoredFrame) (s : Slice) (before : Progress) → is_p s.header ≡ false

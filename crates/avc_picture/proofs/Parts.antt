@@ -7,25 +7,25 @@ use Rattle.avc_types.specs.declared.fault.Fault.TheVariants.{NotYet, OutOfRange}
 use Rattle.avc_types.specs.Macroblock.{MbSyntax, i_pcm}
 use Rattle.avc_bits.specs.Bits.{Bits, Read}
 use Rattle.avc_plane.specs.Planes.{Planes}
-use Rattle.avc_picture.specs.Data.{macroblock_planes, pcm_alone, pcm_parts, pcm_samples, pcm_type}
+use Rattle.avc_picture.specs.Data.{macroblock_planes, only_pcm, pcm_parts, pcm_samples, pcm_type}
 use Rattle.avc_picture.specs.Pcm.{with_pcm}
 
 -- ---- mb_type
 
 module _ (r : Result (ℕ × Bits) Fault) (rest : Bits) (v : ℕ) where
-  pub no_type : (f : Fault) → r ≡ Err f → pcm_alone r ≡ Err f
-  no_type f e = ap pcm_alone e
+  pub no_type : (f : Fault) → r ≡ Err f → only_pcm r ≡ Err f
+  no_type f e = ap only_pcm e
 
-  pub type_not_yet : r ≡ Ok (v, rest) → v < 25 → pcm_alone r ≡ Err NotYet
+  pub type_not_yet : r ≡ Ok (v, rest) → v < 25 → only_pcm r ≡ Err NotYet
   type_not_yet e less = let no : nat_le 25 v ≡ false = grind (arith, nat_tests) in rw (e, no) refl
 
-  pub type_too_great : r ≡ Ok (v, rest) → 25 < v → pcm_alone r ≡ Err OutOfRange
+  pub type_too_great : r ≡ Ok (v, rest) → 25 < v → only_pcm r ≡ Err OutOfRange
   type_too_great e more =
       let yes : nat_le 25 v ≡ true = grind (arith, nat_tests) in
       let no : nat_lt 25 v ≡ true = grind (arith, nat_tests) in
       rw (e, yes, no) refl
 
-  pub type_is_pcm : r ≡ Ok (v, rest) → v ≡ 25 → pcm_alone r ≡ Ok (tt, rest)
+  pub type_is_pcm : r ≡ Ok (v, rest) → v ≡ 25 → only_pcm r ≡ Ok (tt, rest)
   type_is_pcm e is = rw (e, is) refl
 
 -- ---- the samples

@@ -7,13 +7,13 @@ use Rattle.avc_types.specs.declared.fault.Fault.TheVariants as faults
 use Rattle.avc_types.specs.Pictures.{SliceFacts}
 use Rattle.avc_slice.specs.declared.slice.Slice.{Slice}
 use Rattle.avc_slice.specs.Header.{is_p}
-use Rattle.avc_mbsyntax.specs.SliceData.{SliceMbs, slice_data}
+use Rattle.avc_mbsyntax.specs.SliceData.{SliceMbs, staged_slice_data}
 use Rattle.avc_params.specs.Limits.{width_in_mbs, height_in_mbs}
 use Rattle.avc_plane.specs.Planes.{empty_planes}
 use Rattle.avc_picture_core.specs.Built.{built}
 use Rattle.avc_picture.specs.Decoded.{deblocked}
 use Rattle.avc_picture.specs.Pcm.{IsPcm, ArePcm, IsFlat, IsIntraUnder, IsPcmSoFar, pcm_planes}
-use Rattle.avc_picture.specs.Slices.{PictureStart, Progress, coded_of, data_of, start_of, facts_of, list_of, is_taken, with_unit, refused, judged, listed, with_slice, progress, planes_after_slices}
+use Rattle.avc_picture.specs.Slices.{PictureStart, Progress, coded_of, data_of, start_of, facts_of, list_of, is_taken, with_unit, refused, with_slice_data, with_reference_list, with_slice, progress, planes_after_slices}
 use Rattle.avc_picture.proofs.BuiltPcm.{built_pcm}
 use Rattle.avc_picture.proofs.DeblockedPcm.{deblocked_pcm}
 use Rattle.avc_picture.proofs.FaultsPcm.{first_mb_fault_pcm}
@@ -33,12 +33,12 @@ read_on s before facts ms = record {
 }
 
 pub judged_pcm : (p : PictureStart) (s : Slice) (before : Progress) (facts : SliceFacts) (ms : SliceMbs)
-    → ArePcm (read_on s before facts ms).mbs → judged p s before facts ms ≡ read_on s before facts ms
+    → ArePcm (read_on s before facts ms).mbs → with_slice_data p s before facts ms ≡ read_on s before facts ms
 judged_pcm p s before facts ms h = rw (first_mb_fault_pcm (coded_of p (read_on s before facts ms)) (length before.mbs) (length ms.mbs) h) refl
 
 -- its data
 abbrev pub data_read : PictureStart → Slice → Progress → SliceMbs
-data_read p s before = slice_data (start_of p s.header (length before.slices)) before.mbs (data_of s)
+data_read p s before = staged_slice_data (start_of p s.header (length before.slices)) before.mbs (data_of s)
 
 read_pcm : (p : PictureStart) (s : Slice) (before : Progress) (facts : SliceFacts) → is_p s.header ≡ false → ArePcm before.mbs
     → ArePcm (read_on s before facts (data_read p s before)).mbs
@@ -48,9 +48,9 @@ read_pcm p s before facts intra h =
     (slice_data_pcm (start_of p s.header (length before.slices)) before.mbs (data_of s) intra))
 
 pub listed_pcm : (p : PictureStart) (s : Slice) (before : Progress) → is_p s.header ≡ false → ArePcm before.mbs
-    → listed p s before (list_of p s.header) ≡ read_on s before (facts_of p s.header []) (data_read p s before)
+    → with_reference_list p s before (list_of p s.header) ≡ read_on s before (facts_of p s.header []) (data_read p s before)
 listed_pcm p s before intra h =
-    ap (listed p s before) (list_of_intra p s.header intra)
+    ap (with_reference_list p s before) (list_of_intra p s.header intra)
     ∙ judged_pcm p s before (facts_of p s.header []) (data_read p s before) (read_pcm p s before (facts_of p s.header []) intra h)
 
 -- ---- one slice
@@ -82,14 +82,14 @@ pub with_slice_read : (p : PictureStart) (s : Slice) (before : Progress)
     → with_slice p s before ≡ read_on s before (facts_of p s.header []) (data_read p s before)
 with_slice_read p s before none not_less not_more taken intra h =
     to_read before.fault (nat_lt (length before.mbs) (s.header).first_mb_in_slice) (nat_lt (s.header).first_mb_in_slice (length before.mbs)) (is_taken p s.header)
-    before (refused before s.unit faults.MissingMacroblocks) (refused before s.unit faults.ArbitrarySliceOrder) (refused before s.unit faults.NotYet) (listed p s before (list_of p s.header))
+    before (refused before s.unit faults.MissingMacroblocks) (refused before s.unit faults.ArbitrarySliceOrder) (refused before s.unit faults.NotYet) (with_reference_list p s before (list_of p s.header))
     none not_less not_more taken
     ∙ listed_pcm p s before intra h
 
 with_slice_pcm : (p : PictureStart) (s : Slice) (before : Progress) → (p.pps).chroma_qp_index_offset ≤ℤ pos 12 → IsIntraUnder p.sps p.pps s → IsPcmSoFar p before → IsPcmSoFar p (with_slice p s before)
 with_slice_pcm p s before high h so_far =
     of_steps (IsPcmSoFar p) before.fault (nat_lt (length before.mbs) (s.header).first_mb_in_slice) (nat_lt (s.header).first_mb_in_slice (length before.mbs)) (is_taken p s.header)
-    before (refused before s.unit faults.MissingMacroblocks) (refused before s.unit faults.ArbitrarySliceOrder) (refused before s.unit faults.NotYet) (listed p s before (list_of p s.header))
+    before (refused before s.unit faults.MissingMacroblocks) (refused before s.unit faults.ArbitrarySliceOrder) (refused before s.unit faults.NotYet) (with_reference_list p s before (list_of p s.header))
     so_far
     (record { mbs = so_far.mbs; slices = so_far.slices })
     (record { mbs = so_far.mbs; slices = so_far.slices })

@@ -10,8 +10,9 @@ use Rattle.avc_types.specs.Pictures.{PicMb}
 use Rattle.avc_types.specs.Staged.{takes_mb_type}
 use Rattle.avc_bits.specs.Bits.{Bits, Read, ◌>>=◌, give, check, times, more_data}
 use Rattle.avc_bits.specs.Codes.{u, ue, ue_to, align}
-use Rattle.avc_mbsyntax.specs.Reading.{Context, macroblock, i_mb, i_pcm_mb}
-use Rattle.avc_mbsyntax.specs.SliceData.{SliceStart, SliceMbs, context, i_macroblock, i_data, p_data, slice_data}
+use Rattle.avc_mbsyntax.specs.declared.context.Context.{Context}
+use Rattle.avc_mbsyntax.specs.Reading.{macroblock, i_mb, i_pcm_mb}
+use Rattle.avc_mbsyntax.specs.SliceData.{SliceStart, SliceMbs, context, i_macroblock, i_data, p_data, staged_slice_data}
 use Rattle.avc_picture.specs.Pcm.{is_pcm}
 
 -- ---- reading
@@ -85,22 +86,22 @@ one_of true x y h k = h
 one_of false x y h k = k
 
 i_data_by : (s : SliceStart) (left : ℕ) (before : List PicMb) (qp : ℕ) (b : Bits) (o : Result (Mb × Bits) Fault) → i_macroblock (context s before qp) b ≡ o
-    → IfOk o GivesPcm → ((before' : List PicMb) (qp' : ℕ) (b' : Bits) → All IsPcmMb (i_data s left before' qp' b').mbs)
-    → All IsPcmMb (i_data s (suc left) before qp b).mbs
+    → IfOk o GivesPcm → ((before' : List PicMb) (qp' : ℕ) (b' : Bits) → All IsPcmMb (i_data i_macroblock s left before' qp' b').mbs)
+    → All IsPcmMb (i_data i_macroblock s (suc left) before qp b).mbs
 i_data_by s left before qp b (Err f) is gives others = rw (is, i_data) (All-nil IsPcmMb)
 i_data_by s left before qp b (Ok r) is gives others =
     rw (is, i_data) (All-cons IsPcmMb r.0 _ gives (one_of (more_data r.1) _ _ (others _ _ _) (All-nil IsPcmMb)))
 
-i_data_pcm : (s : SliceStart) (left : ℕ) (before : List PicMb) (qp : ℕ) (b : Bits) → s.is_p ≡ false → All IsPcmMb (i_data s left before qp b).mbs
+i_data_pcm : (s : SliceStart) (left : ℕ) (before : List PicMb) (qp : ℕ) (b : Bits) → s.is_p ≡ false → All IsPcmMb (i_data i_macroblock s left before qp b).mbs
 i_data_pcm s zero before qp b intra = All-nil IsPcmMb
 i_data_pcm s (suc left) before qp b intra =
     i_data_by s left before qp b (i_macroblock (context s before qp) b) refl (i_macroblock_gives (context s before qp) b intra)
     (λ before' qp' b'. i_data_pcm s left before' qp' b' intra)
 
-pub slice_data_of_i : (s : SliceStart) (before : List PicMb) (b : Bits) → s.is_p ≡ false → slice_data s before b ≡ i_data s (s.size - length before) before s.qp b
+pub slice_data_of_i : (s : SliceStart) (before : List PicMb) (b : Bits) → s.is_p ≡ false → staged_slice_data s before b ≡ i_data i_macroblock s (s.size - length before) before s.qp b
 slice_data_of_i s before b intra =
-    ap (λ p. elim p [ true ↦ p_data s (s.size - length before) before s.qp b | false ↦ i_data s (s.size - length before) before s.qp b ]) intra
+    ap (λ p. elim p [ true ↦ p_data s (s.size - length before) before s.qp b | false ↦ i_data i_macroblock s (s.size - length before) before s.qp b ]) intra
 
-pub slice_data_pcm : (s : SliceStart) (before : List PicMb) (b : Bits) → s.is_p ≡ false → All (λ mb. is_pcm mb.syntax ≡ true) (slice_data s before b).mbs
+pub slice_data_pcm : (s : SliceStart) (before : List PicMb) (b : Bits) → s.is_p ≡ false → All (λ mb. is_pcm mb.syntax ≡ true) (staged_slice_data s before b).mbs
 slice_data_pcm s before b intra =
     subst (λ (ms : SliceMbs). All IsPcmMb ms.mbs) (sym (slice_data_of_i s before b intra)) (i_data_pcm s (s.size - length before) before s.qp b intra)

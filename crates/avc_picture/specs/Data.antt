@@ -18,12 +18,12 @@ use Rattle.avc_picture.specs.Pcm.{with_pcm}
 -- ---- one macroblock
 
 -- mb_type 25, that of an I_PCM macroblock, which is the greatest (Table 7-11)
-abbrev pub pcm_alone : Result (ℕ × Bits) Fault → Result (Unit {0} × Bits) Fault
-pcm_alone (Err f) = Err f
-pcm_alone (Ok r) = if not (takes_mb_type r.0) then Err faults.NotYet else (if nat_lt 25 r.0 then Err faults.OutOfRange else Ok (tt, r.1))
+abbrev pub only_pcm : Result (ℕ × Bits) Fault → Result (Unit {0} × Bits) Fault
+only_pcm (Err f) = Err f
+only_pcm (Ok r) = if not (takes_mb_type r.0) then Err faults.NotYet else (if nat_lt 25 r.0 then Err faults.OutOfRange else Ok (tt, r.1))
 
 unfoldable pub pcm_type : Read (Unit {0})
-pcm_type b = pcm_alone (ue b)
+pcm_type b = only_pcm (ue b)
 
 abbrev pub pcm_parts : Read (Unit {0}) → (luma chroma : Read (List ℕ)) → Read MbSyntax
 pcm_parts align luma chroma = do
@@ -41,33 +41,33 @@ pcm_samples = pcm_parts align (times 256 (u 8)) (times 64 (u 8))
 abbrev pub pcm_mb : Read MbSyntax
 pcm_mb = pcm_type >> pcm_samples
 
-abbrev pub laid_in : (width a : ℕ) → Planes → Result (MbSyntax × Bits) Fault → Result (Planes × Bits) Fault
-laid_in width a s (Err f) = Err f
-laid_in width a s (Ok r) = Ok (with_pcm width a r.0 s, r.1)
+abbrev pub constructed_in : (width a : ℕ) → Planes → Result (MbSyntax × Bits) Fault → Result (Planes × Bits) Fault
+constructed_in width a s (Err f) = Err f
+constructed_in width a s (Ok r) = Ok (with_pcm width a r.0 s, r.1)
 
 -- the planes with macroblock a in them
 unfoldable pub macroblock_planes : (width a : ℕ) → Planes → Read Planes
-macroblock_planes width a s b = laid_in width a s (pcm_mb b)
+macroblock_planes width a s b = constructed_in width a s (pcm_mb b)
 
 -- ---- the macroblocks of a slice
 
 -- the next address and the planes, or the first fault
-abbrev pub Laid : Type 0
-Laid = Result (ℕ × Planes) Fault
+abbrev pub Construction : Type 0
+Construction = Result (ℕ × Planes) Fault
 
-abbrev pub going_on : Bool → (rest here : Laid) → Laid
-going_on true rest here = rest
-going_on false rest here = here
+abbrev pub if_more_data : Bool → (rest here : Construction) → Construction
+if_more_data true rest here = rest
+if_more_data false rest here = here
 
-abbrev pub after_one : Result (Planes × Bits) Fault → (Planes → Bits → Laid) → Laid
-after_one (Err f) next = Err f
-after_one (Ok r) next = next r.0 r.1
+abbrev pub after_macroblock : Result (Planes × Bits) Fault → (Planes → Bits → Construction) → Construction
+after_macroblock (Err f) next = Err f
+after_macroblock (Ok r) next = next r.0 r.1
 
 -- From address a on, where `left` macroblocks of the picture remain.
-unfoldable pub planes_data : (width left a : ℕ) → Planes → Bits → Laid
+unfoldable pub planes_data : (width left a : ℕ) → Planes → Bits → Construction
 planes_data width zero a s b = Err faults.TooManyMacroblocks
 planes_data width (suc left) a s b =
-    after_one (macroblock_planes width a s b) (λ t rest. going_on (more_data rest) (planes_data width left (a + 1) t rest) (Ok (a + 1, t)))
+    after_macroblock (macroblock_planes width a s b) (λ t rest. if_more_data (more_data rest) (planes_data width left (a + 1) t rest) (Ok (a + 1, t)))
 
 -- ---- a slice
 
@@ -84,11 +84,11 @@ header_fault pps next h =
     else (if nat_lt h.first_mb_in_slice next then Some faults.ArbitrarySliceOrder
     else (if takes_header pps h then None else Some faults.NotYet))
 
-abbrev pub unless_faulty : Option Fault → Laid → Laid
+abbrev pub unless_faulty : Option Fault → Construction → Construction
 unless_faulty (Some f) r = Err f
 unless_faulty None r = r
 
 -- One slice more.
-abbrev pub slice_planes : Sps → Pps → (next : ℕ) → Planes → Slice → Laid
+abbrev pub slice_planes : Sps → Pps → (next : ℕ) → Planes → Slice → Construction
 slice_planes sps pps next s slice =
     unless_faulty (header_fault pps next slice.header) (planes_data (width_in_mbs sps) (size_in_mbs sps - next) next s (data_of slice))

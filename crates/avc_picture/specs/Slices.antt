@@ -3,6 +3,7 @@ use Rattle.std.specs.Prelude.{ℕ, zero, suc, ◌+◌, pos, ◌+ℤ◌, nat_abs,
 use Rattle.std.specs.Option.{option_map}
 use Rattle.std.specs.List.{find}
 use Rattle.avc_types.specs.Staged.{takes_deblocking}
+use Rattle.avc_types.specs.declared.current_frame_num.CurrentFrameNum.{CurrentFrameNum}
 use Rattle.avc_types.specs.declared.edges.FilteredEdges.TheVariants.{All}
 use Rattle.avc_types.specs.declared.fault.Fault.{Fault}
 use Rattle.avc_types.specs.declared.fault.Fault.TheVariants as faults
@@ -17,8 +18,9 @@ use Rattle.avc_slice.specs.declared.header.Deblocking.{Deblocking}
 use Rattle.avc_slice.specs.declared.header.Header.{Header}
 use Rattle.avc_slice.specs.declared.slice.Slice.{Slice}
 use Rattle.avc_slice.specs.Header.{is_p, slice_qp}
+use Rattle.avc_slice.specs.Weights.{weights}
 use Rattle.avc_reflist.specs.Lists.{reference_list}
-use Rattle.avc_mbsyntax.specs.SliceData.{SliceStart, SliceMbs, slice_data}
+use Rattle.avc_mbsyntax.specs.SliceData.{SliceStart, SliceMbs, staged_slice_data}
 use Rattle.avc_plane.specs.Planes.{Planes, StoredFrame, samples_of}
 use Rattle.avc_picture_core.specs.Faults.{macroblock_fault}
 use Rattle.avc_picture.specs.Decoded.{deblocked}
@@ -62,11 +64,15 @@ abbrev pub or_empty : Option (List Modification) → List Modification
 or_empty (Some m) = m
 or_empty None = []
 
+-- frame_num of the picture, and MaxFrameNum
+abbrev pub current_of : PictureStart → Header → CurrentFrameNum
+current_of p h = record { frame_num = h.frame_num; max_frame_num = max_frame_num p.sps }
+
 -- RefPicList0; in an I slice no entry
 abbrev pub list_of : PictureStart → Header → Result (List (Option Reference)) Fault
 list_of p h =
     elim (is_p h) [
-      | true ↦ reference_list h.frame_num (max_frame_num p.sps) h.active_count (references_in p) (or_empty h.modifications)
+      | true ↦ reference_list (current_of p h) h.active_count (or_empty h.modifications) (references_in p)
       | false ↦ Ok []
     ]
 
@@ -76,6 +82,7 @@ facts_of p h list =
     record {
       is_p = is_p h;
       references = map (option_map (frame_of p)) list;
+      weights = weights h;
       disable_deblocking_filter_idc = d.disable_deblocking_filter_idc;
       filter_offset_a = d.slice_alpha_c0_offset_div2 +ℤ d.slice_alpha_c0_offset_div2;
       filter_offset_b = d.slice_beta_offset_div2 +ℤ d.slice_beta_offset_div2;
@@ -130,8 +137,8 @@ abbrev pub with_unit : (unit : ℕ) → Option Fault → Option (ℕ × Fault)
 with_unit unit f = option_map (λ g. (unit, g)) f
 
 -- The slice's data has been read: its faults are those of its macroblocks, lowest address first, and then its own.
-abbrev pub judged : PictureStart → Slice → (before : Progress) → SliceFacts → SliceMbs → Progress
-judged p s before facts ms = verdict (first_mb_fault (coded_of p whole) (length before.mbs) (length ms.mbs))
+abbrev pub with_slice_data : PictureStart → Slice → (before : Progress) → SliceFacts → SliceMbs → Progress
+with_slice_data p s before facts ms = with_first_fault (first_mb_fault (coded_of p whole) (length before.mbs) (length ms.mbs))
   where
     whole : Progress
     whole = record {
@@ -141,15 +148,15 @@ judged p s before facts ms = verdict (first_mb_fault (coded_of p whole) (length 
       read = before.read + length ms.mbs;
     }
 
-    verdict : Option (ℕ × Fault) → Progress
-    verdict None = whole
-    verdict (Some found) = record whole { fault = Some (s.unit, found.1); read = before.read + found.0 }
+    with_first_fault : Option (ℕ × Fault) → Progress
+    with_first_fault None = whole
+    with_first_fault (Some found) = record whole { fault = Some (s.unit, found.1); read = before.read + found.0 }
 
 -- its list, then its macroblocks
-abbrev pub listed : PictureStart → Slice → Progress → Result (List (Option Reference)) Fault → Progress
-listed p s before (Err f) = refused before s.unit f
-listed p s before (Ok list) =
-    judged p s before (facts_of p s.header list) (slice_data (start_of p s.header (length before.slices)) before.mbs (data_of s))
+abbrev pub with_reference_list : PictureStart → Slice → Progress → Result (List (Option Reference)) Fault → Progress
+with_reference_list p s before (Err f) = refused before s.unit f
+with_reference_list p s before (Ok list) =
+    with_slice_data p s before (facts_of p s.header list) (staged_slice_data (start_of p s.header (length before.slices)) before.mbs (data_of s))
 
 -- Its deblocking is one that is taken.
 abbrev pub is_taken : PictureStart → Header → Bool
@@ -171,7 +178,7 @@ with_slice p s before =
                   | false ↦
                       elim (is_taken p s.header) [
                         | false ↦ refused before s.unit faults.NotYet
-                        | true ↦ listed p s before (list_of p s.header)
+                        | true ↦ with_reference_list p s before (list_of p s.header)
                       ]
                 ]
           ]

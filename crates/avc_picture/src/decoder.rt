@@ -1,8 +1,9 @@
-ghost use Rattle.std.specs.Prelude.{◌≡◌, false, IfOk};
+ghost use Rattle.std.specs.Prelude.{◌≡◌, ◌==◌, false, IfOk};
+ghost use Rattle.avc_params.specs.Limits.{size_in_mbs};
 ghost use Rattle.avc_params.specs.Within.{IsPps, IsSps};
-ghost use Rattle.avc_picture.specs.Decoding.{begun, Finishes, IsFull, IsIntra, IsWell, Takes};
+ghost use Rattle.avc_picture.specs.Decoding.{no_slice_yet, IsFinishAnswer, IsFull, IsIntra, HasNoFault, IsSliceAnswer};
 
-use crate::slice_data::lay_unless_faulty;
+use crate::slice_data::construct_unless_faulty;
 use avc_params::{Pps, Sps};
 use avc_plane::Planes;
 use avc_slice::Slice;
@@ -28,13 +29,13 @@ impl Model for PictureDecoder {
     ghost use Rattle.std.specs.Prelude.{false};
     ghost use Rattle.avc_plane.specs.Frames.{planes_of};
     ghost use Rattle.avc_picture.specs.Decoding.{Decoding};
-    ghost use Rattle.avc_picture.specs.Keeping.{IsKept};
+    ghost use Rattle.avc_picture.specs.DecoderState.{IsDecoderState};
 
     ghost Value = { Decoding };
 
     ghost view = { λ d. record { sps = d.sps; pps = d.pps; slices = d.slices.items; failed = false } };
 
-    ghost invariant = { λ d. IsKept d.sps d.pps d.slices.items (planes_of d.planes) d.next d.fault };
+    ghost invariant = { λ d. IsDecoderState d.sps d.pps d.slices.items (planes_of d.planes) d.next d.fault };
 }
 
 impl PictureDecoder {
@@ -42,7 +43,7 @@ impl PictureDecoder {
     pub fn begin(alloc: Global, sps: &Sps, pps: &Pps) -> Result<PictureDecoder, OutOfMemory>
         requires sps { IsSps sps.now }
         requires pps { IsPps pps.now }
-        ensures { IfOk result (λ d. d ≡ begun sps.now pps.now) }
+        ensures { IfOk result (λ d. d ≡ no_slice_yet sps.now pps.now) }
     {
         let width = sps.width_in_mbs() as usize;
         let height = sps.height_in_mbs() as usize;
@@ -61,9 +62,9 @@ impl PictureDecoder {
     /// same from then on.
     pub fn slice(&mut self, slice: &Slice) -> Result<(), PictureError>
         requires { IsIntra self.old slice.now }
-        ensures { Takes self.old slice.now result self.new }
+        ensures { IsSliceAnswer self.old slice.now result self.new }
     {
-        let laid = lay_unless_faulty(
+        let constructed = construct_unless_faulty(
             self.fault,
             &self.sps,
             &self.pps,
@@ -72,7 +73,7 @@ impl PictureDecoder {
             &mut self.planes,
         );
         self.slices = self.slices.with_newest(slice);
-        match laid {
+        match constructed {
             Ok(next) => {
                 self.next = next;
                 Ok(())
@@ -87,22 +88,32 @@ impl PictureDecoder {
     /// Whether the slices so far hold all macroblocks of the picture.
     pub fn full(&self) -> bool
         requires going { self.now.failed ≡ false }
-        requires well { IsWell self.now }
+        requires well { HasNoFault self.now }
         ensures { IsFull result self.now }
     {
-        self.next == self.sps.size_in_mbs()
+        holds_all(self.next, &self.sps)
     }
 
-    /// The samples of the picture after deblocking, or MissingMacroblocks.
-    pub fn finish(self) -> Result<Planes<0>, Fault>
-        requires going { self.failed ≡ false }
-        requires well { IsWell self }
-        ensures { Finishes self result }
+    /// The samples of the picture after deblocking. Where the slices have a fault it answers the first, and else
+    /// MissingMacroblocks where they do not hold all macroblocks.
+    pub fn finish(self) -> Result<Planes<0>, PictureError>
+        ensures { IsFinishAnswer self result }
     {
-        if self.full() {
+        if let Some(fault) = self.fault {
+            return Err(PictureError::Fault(fault));
+        }
+        if holds_all(self.next, &self.sps) {
             Ok(self.planes)
         } else {
-            Err(Fault::MissingMacroblocks)
+            Err(PictureError::Fault(Fault::MissingMacroblocks))
         }
     }
+}
+
+// Whether a picture of this set with so many macroblocks has all.
+fn holds_all(count: u32, sps: &Sps) -> bool
+    requires { IsSps sps.now }
+    ensures { result ≡ (count == size_in_mbs sps.now) }
+{
+    count == sps.size_in_mbs()
 }

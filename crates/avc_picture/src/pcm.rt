@@ -6,7 +6,7 @@ ghost use Rattle.avc_params.specs.Limits.{max_side};
 ghost use Rattle.avc_bits.specs.Reader.{Reads, reader_bits, reader_bytes};
 ghost use Rattle.avc_plane.specs.Frames.{planes_of};
 ghost use Rattle.avc_picture.specs.Data.{macroblock_planes, pcm_samples, pcm_type};
-ghost use Rattle.avc_picture.specs.Keeping.{AreSized};
+ghost use Rattle.avc_picture.specs.DecoderState.{AreSized};
 ghost use Rattle.avc_picture.specs.Pcm.{with_pcm};
 
 use avc_bits::BitReader;
@@ -51,7 +51,7 @@ pub(crate) fn macroblock(
 {
     take_type(reader)?;
     let samples = take_samples(reader)?;
-    lay(planes, width, height, address, &samples);
+    construct(planes, width, height, address, &samples);
     Ok(())
 }
 
@@ -83,7 +83,7 @@ fn take_samples<'a>(reader: &mut BitReader<'a>) -> Result<PcmSamples<'a>, Fault>
 }
 
 // lays the samples into the planes at the macroblock's place (6.4.1)
-fn lay(
+fn construct(
     planes: &mut Planes<0>,
     width: usize,
     height: usize,
@@ -94,7 +94,7 @@ fn lay(
     requires down { height ≤ max_side }
     requires sized { AreSized width height (planes_of planes.old) }
     requires inside { address < width * height }
-    ensures laid { planes_of planes.new ≡ with_pcm width address (i_pcm samples.now.luma.now samples.now.cb.now samples.now.cr.now) (planes_of planes.old) }
+    ensures constructed { planes_of planes.new ≡ with_pcm width address (i_pcm samples.now.luma.now samples.now.cb.now samples.now.cr.now) (planes_of planes.old) }
     ensures sized { AreSized width height (planes_of planes.new) }
 {
     let column = address % width;

@@ -1,5 +1,5 @@
 -- Bytes that are written in parts, and the rows of a window.
-use Rattle.std.proofs.Common.{◌≡◌, ℕ, zero, suc, ◌+◌, ◌-◌, ◌*◌, ◌/◌, ◌^◌, ◌<◌, ◌≤◌, List, [], ◌∷◌, ◌++◌, length, take, drop, Option, Result, Err, IfErr, refl, sym, ap, ◌∙◌, subst, arith, get_or, append_assoc, length-append, append-nil, length-drop}
+use Rattle.std.proofs.Common.{◌≡◌, ℕ, zero, suc, ◌+◌, ◌-◌, ◌*◌, ◌/◌, ◌^◌, ◌<◌, ◌≤◌, ◌==◌, Bool, true, false, List, [], ◌∷◌, ◌++◌, length, take, drop, Option, Result, Ok, Err, if◌then◌else◌, IfErr, refl, sym, ap, ◌∙◌, subst, arith, get_or, append_assoc, length-append, append-nil, length-drop}
 use Rattle.std.proofs.Math.Seq.{take-add, take-append-add}
 use Rattle.std.proofs.Math.Nat.{mul-le-mul_right, mul-le-mul}
 use Rattle.std.proofs.lemmas.List.{take-append-le, take_rest, length-take-le, same_lists, get_or-take, get_or-drop, get_or_default}
@@ -10,9 +10,17 @@ use Rattle.std.specs.List.{range_with_len, flat_map}
 use Rattle.avc_yuv.specs.I420.{part_of_row, window, luma_window, chroma_window, i420}
 use Rattle.avc_types.specs.declared.picture.Picture.{Picture}
 use Rattle.avc_yuv.specs.declared.fault.WriteFault.{WriteFault}
-use Rattle.avc_yuv.specs.Writing.{Writes}
+use Rattle.avc_yuv.specs.Writing.{Writes, done_after}
 use Rattle.std.specs.Io.KnownBytes.{Appends}
 use Rattle.std.proofs.KnownBytes.{Appends-trans}
+
+done_by : (e : WriteFault) (b : Bool) (more next : ℕ) → Ok next ≡ (if b then Err e else Ok more) → next ≡ more
+done_by e true more next is = cc
+done_by e false more next is = cc
+
+-- a `write` that took some
+pub done_is : (before done taken next : ℕ) → Ok next ≡ done_after before done taken → next ≡ done + taken
+done_is before done taken next is = done_by (record { written = before + done }) (taken == 0) (done + taken) next is
 
 -- a row of which d bytes were taken, and then t more
 pub row_more : (old mid new : Option (List ℕ)) (row : List ℕ) (d t : ℕ) → Appends old mid (take d row) → Appends mid new (take t (take (length row - d) (drop d row)))

@@ -1,6 +1,6 @@
 use Rattle.std.proofs.Common.{true, ap, ◌∙◌}
 use Rattle.avc_params.specs.Tables.{sets_after}
-use Rattle.avc_decoder.specs.Kept.{state_of}
+use Rattle.avc_decoder.specs.States.{state_of}
 use Rattle.avc_decoder.specs.Events.{after_unit}
 use Rattle.avc_decoder.proofs.Handling.{between, between_fault, between_fits, fault_sets, handles, handles_fault}
 use Rattle.avc_decoder.proofs.stream.handle.Goals as goal

@@ -25,6 +25,6 @@ returns-clause-read c =
     let s = c.in_ok-samples.samples in (
       whole_macroblock c.args.width c.args.address (planes_of c.args.planes.now) (reader_bits c.args.reader.now) (reader_bits c.take_type.new.reader) (reader_bits c.take_samples.new.reader)
           (i_pcm s.luma.now s.cb.now s.cr.now) c.in_ok-take_type.ensures.0 c.in_ok-samples.ensures.0
-          ∙ ap (λ t. Ok (t, reader_bits c.take_samples.new.reader)) (sym c.lay.ensures.laid),
+          ∙ ap (λ t. Ok (t, reader_bits c.take_samples.new.reader)) (sym c.construct.ensures.constructed),
       c.in_ok-samples.ensures.1 ∙ c.in_ok-take_type.ensures.1,
     )

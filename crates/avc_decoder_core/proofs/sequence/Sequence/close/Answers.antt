@@ -2,7 +2,7 @@ use Rattle.std.proofs.Common.{◌≡◌, false, Some, [], if◌then◌else◌, a
 use Rattle.std.specs.Option.{option_map}
 use Rattle.avc_plane.specs.Frames.{planes_of}
 use Rattle.avc_decoder_core.specs.Idr.{drops_output, shown_frame}
-use Rattle.avc_decoder_core.specs.Kept.{opening_of, sequenced_by}
+use Rattle.avc_decoder_core.specs.SequenceFields.{open_picture_of, sequence_state}
 use Rattle.avc_decoder_core.proofs.Idr.{is_closed, keeps_seen, with_closed}
 use Rattle.avc_decoder_core.proofs.sequence.Sequence.close.Goals as goal
 
@@ -10,10 +10,11 @@ pub returns-clause-ok : goal.returns-clause-ok
 returns-clause-ok c =
     let s = c.self.inside in
     let old = c.args.self.now in
-    let on : s.failed ≡ false = ap (λ v. v.failed) c.self.view_is ∙ c.requires.going in
-    let kept = keeps_seen (sequenced_by s) old s.held s.sps c.self.view_is (c.self.invariant on) in
-    let o = opening_of c.in-Some.field-0 in
-    let open' : old.opening ≡ Some o = sym (ap (λ v. v.opening) c.self.view_is) ∙ ap (option_map opening_of) (sym c.take.ensures.value ∙ c.in-Some.is) in
-    is_closed old _ o (planes_of c.args.planes) c.in_ok-out.out.items s.held s.sps c.requires.going kept open'
+    let on : s.failed ≡ false = c.if-self.false in
+    let going : old.failed ≡ false = sym (ap (λ v. v.failed) c.self.view_is) ∙ on in
+    let kept = keeps_seen (sequence_state s) old s.held s.sps c.self.view_is (c.self.invariant on) in
+    let o = open_picture_of c.in-Some.field-0 in
+    let open' : old.open_picture ≡ Some o = sym (ap (λ v. v.open_picture) c.self.view_is) ∙ ap (option_map open_picture_of) (sym c.take.ensures.value ∙ c.in-Some.is) in
+    is_closed old _ o (planes_of c.args.planes) c.in_ok-out.out.items s.held s.sps going kept open'
     (rw (c.with_newest-self-inside.ensures, c.take.ensures.after) (ap (with_closed o (planes_of c.args.planes)) c.self.view_is))
     (c.in_ok-out.ensures ∙ ap (λ f. if drops_output c.in-Some.field-0.header.marking then [] else shown_frame f s.sps) c.take-2.ensures.value)

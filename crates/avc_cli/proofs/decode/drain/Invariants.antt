@@ -1,9 +1,0 @@
-use Rattle.std.proofs.Common.{ℕ, List}
-use Rattle.avc_cli.specs.Draining.{left_in, IsDraining}
-use Rattle.avc_cli.proofs.decode.drain.Given as goal
-
-abbrev pub invariant-events : goal.invariant-events
-invariant-events g l = IsDraining l.initial.decoder l.decoder l.initial.report l.report (g.W.Write.contents l.initial.writer) (g.W.Write.contents l.writer)
-
-abbrev pub decreases-events : goal.decreases-events
-decreases-events g l = left_in l.decoder

@@ -1,9 +1,0 @@
-use Rattle.std.proofs.Common.{length, ◌<◌}
-use Rattle.std.specs.Io.KnownBytes.{Consumes}
-use Rattle.avc_cli.proofs.read.read_all.Given as goal
-
-abbrev pub invariant-loop : goal.invariant-loop
-invariant-loop g l = record {
-  room : 0 < length (l.piece).items;
-  read : Consumes (g.R.Read.remaining l.initial.reader) (g.R.Read.remaining l.reader) (l.bytes).items;
-}

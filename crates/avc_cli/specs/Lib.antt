@@ -1,4 +1,0 @@
-pub mod Status
-pub mod Running
-pub mod Decoding
-pub mod Draining

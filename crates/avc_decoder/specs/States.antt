@@ -1,0 +1,223 @@
+-- What the decoder's parts keep.
+use Rattle.std.specs.Prelude.{◌≡◌, ℕ, ◌+◌, Bool, true, false, List, [], ◌∷◌, ◌++◌, length, Option, Some, None, IfSome, Ok}
+use Rattle.avc_types.specs.declared.fault.Fault.{Fault}
+use Rattle.avc_annexb.specs.SplitterState.{SplitterState}
+use Rattle.avc_annexb.specs.Units.{units}
+use Rattle.avc_annexb.specs.declared.unit.Unit.{Unit as Piece}
+use Rattle.avc_params.specs.Tables.{Sets, sets_after}
+use Rattle.avc_params.specs.declared.sps.Sps.{Sps}
+use Rattle.avc_params.specs.declared.pps.Pps.{Pps}
+use Rattle.avc_slice.specs.declared.header.Header.{Header}
+use Rattle.avc_slice.specs.declared.slice.Slice.{Slice}
+use Rattle.avc_slice.specs.Within.{IsHeader}
+use Rattle.avc_picture.specs.Decoding.{Decoding, HasNoFault, Refuses, with_slice_more}
+use Rattle.avc_units.specs.GrouperState.{GrouperState, IsTaken, after_fault}
+use Rattle.avc_units.specs.declared.step.Next.{Next}
+use Rattle.avc_units.specs.declared.step.Next.TheVariants.{Begins, Continues}
+use Rattle.avc_decoder_core.specs.History.{History, history_at_opening}
+use Rattle.avc_decoder_core.specs.Pictures.{held_pictures}
+use Rattle.avc_decoder_core.specs.SequenceState.{SequenceState, empty_sequence, current_history}
+use Rattle.avc_decoder.specs.FirstFault.{OpenPicture, oldest}
+use Rattle.avc_decoder.specs.Events.{Phase, waiting, running, State, first_state, Outcome, no_change, pictures, closed_picture, after_next, after_unit, state_after, base_in, events, open_picture_facts, failed_at, history_in, at_end}
+use Rattle.avc_decoder.specs.Laws.{state_through}
+use Rattle.avc_decoder.specs.declared.event.Event.{Event}
+use Rattle.avc_decoder.specs.declared.event.Event.TheVariants.{Refused}
+
+-- ---- events
+
+-- the events so far, and how many of them were taken
+pub record QueueState : Type 0 where
+  pub events : List Event
+  pub taken : ℕ
+
+abbrev pub with_events : List Event → QueueState → QueueState
+with_events more q = record q { events = q.events ++ more }
+
+abbrev pub after_queue_take : Option Event → QueueState → QueueState
+after_queue_take None q = q
+after_queue_take (Some e) q = record q { taken = q.taken + 1 }
+
+-- ---- pictures
+
+-- The history of closed pictures, the open picture, if there is one, the events so far, how many of them were taken, and
+-- whether memory was refused.
+pub record PicturesState : Type 0 where
+  pub history : History
+  pub open_picture : Option OpenPicture
+  pub events : List Event
+  pub taken : ℕ
+  pub failed : Bool
+
+abbrev pub no_pictures : PicturesState
+no_pictures = record { history = []; open_picture = None; events = []; taken = 0; failed = false }
+
+abbrev pub open_picture_in : Phase → Option OpenPicture
+open_picture_in waiting = None
+open_picture_in (running h o) = o
+
+abbrev pub after_outcome : Outcome → PicturesState → PicturesState
+after_outcome o k = record { history = base_in o.phase; open_picture = open_picture_in o.phase; events = k.events ++ o.events; taken = k.taken; failed = false }
+
+abbrev pub after_pictures_take : Option Event → PicturesState → PicturesState
+after_pictures_take None k = k
+after_pictures_take (Some e) k = record k { taken = k.taken + 1 }
+
+-- the open picture of these slices, the newest first
+abbrev pub open_picture_from : History → Sps → Pps → List Slice → Option OpenPicture
+open_picture_from h sps pps [] = None
+open_picture_from h sps pps (s ∷ earlier) = Some (record { before = h; sps = sps; pps = pps; last = s; earlier = earlier })
+
+abbrev pub open_picture_of : History → Option Decoding → Option OpenPicture
+open_picture_of h None = None
+open_picture_of h (Some d) = open_picture_from h d.sps d.pps d.slices
+
+-- A picture is open in the sequence, and its slices so far have no fault; the last one is of this unit.
+pub record IsOpenIn (s : SequenceState) (last_unit : ℕ) (d : Decoding) : Type 0 where
+  pub last : Slice
+  pub earlier : List Slice
+  pub going : d.failed ≡ false
+  pub on : s.failed ≡ false
+  pub slices : d.slices ≡ last ∷ earlier
+  pub unit : last_unit ≡ last.unit
+  pub well : HasNoFault d
+  pub open_picture : s.open_picture ≡ Some (record { sps = d.sps; header = (oldest last earlier).header })
+  pub first : ((oldest last earlier).header).first_mb_in_slice ≡ 0
+  pub stands : history_at_opening d.sps (oldest last earlier).header s.history ≡ Ok (current_history s)
+
+abbrev pub IsOpen : SequenceState → (last_unit : ℕ) → Option Decoding → Type 0
+IsOpen s last_unit None = (s.failed ≡ false) × (s.open_picture ≡ None)
+IsOpen s last_unit (Some d) = IsOpenIn s last_unit d
+
+pub record HasOpenPicture (s : SequenceState) (last_unit : ℕ) (picture : Option Decoding) : Type 0 where
+  pub works : IsOpen s last_unit picture
+
+-- A step of an open picture has come to this outcome: which picture is open then, and what stands in the queue.
+pub record HasOutcome (o : Outcome) (q : QueueState) (last_unit : ℕ) (picture : Option Decoding) (s' : SequenceState) (q' : QueueState) : Type 0 where
+  pub works : HasOpenPicture s' last_unit picture
+  pub history : s'.history ≡ base_in o.phase
+  pub open_picture : open_picture_of s'.history picture ≡ open_picture_in o.phase
+  pub queue : q' ≡ with_events o.events q
+
+-- One slice more was decoded, or its fault went out.
+abbrev pub Decodes : (d : Decoding) → Slice → SequenceState → QueueState → Option Decoding → SequenceState → QueueState → Type 0
+Decodes d slice s q (Some d') s' q' = (d.failed ≡ false) × (d' ≡ with_slice_more slice d) × HasNoFault d' × (s' ≡ s) × (q' ≡ q)
+Decodes d slice s q None s' q' =
+    (f : Fault) × Refuses d slice f (with_slice_more slice d) × (s' ≡ empty_sequence) × (q' ≡ with_events (failed_at (current_history s) slice.unit f 0).events q)
+
+-- what closing the open picture gives, if there is one
+abbrev pub closed_in : History → Option OpenPicture → Outcome
+closed_in h None = no_change (running h None)
+closed_in h (Some o) = closed_picture o
+
+-- the same where a unit closes the open picture, and else nothing
+abbrev pub closed_if : (closes : Bool) → PicturesState → Outcome
+closed_if true k = closed_in k.history k.open_picture
+closed_if false k = no_change (running k.history k.open_picture)
+
+abbrev pub is_full_in : Option OpenPicture → Bool
+is_full_in None = false
+is_full_in (Some o) = (open_picture_facts o).full
+
+-- the history that is held, with the missing numbers before the open picture
+abbrev pub history_on : PicturesState → History
+history_on k = history_in (running k.history k.open_picture)
+
+abbrev pub refused_in : (unit : ℕ) → Fault → PicturesState → PicturesState
+refused_in unit f k = record k { events = k.events ++ Refused unit f ∷ [] }
+
+-- all held pictures go out
+abbrev pub held_outcome : History → Outcome
+held_outcome h = record { events = pictures (held_pictures h); phase = waiting; read = 0 }
+
+-- ---- units
+
+-- The units' state, the events so far, how many of them were taken, and whether memory was refused.
+pub record StreamState : Type 0 where
+  pub state : State
+  pub events : List Event
+  pub taken : ℕ
+  pub failed : Bool
+
+abbrev pub new_stream : StreamState
+new_stream = record { state = first_state; events = []; taken = 0; failed = false }
+
+-- one unit more
+abbrev pub after_unit_in_stream : Piece → StreamState → StreamState
+after_unit_in_stream u f =
+    let o = after_unit f.state u in
+    record { state = state_after f.state u o; events = f.events ++ o.events; taken = f.taken; failed = false }
+
+abbrev pub after_units_in_stream : List Piece → StreamState → StreamState
+after_units_in_stream [] f = f
+after_units_in_stream (u ∷ us) f = after_units_in_stream us (after_unit_in_stream u f)
+
+-- at the end
+abbrev pub after_stream_end : StreamState → StreamState
+after_stream_end f = record {
+  state = record { sets = (f.state).sets; phase = waiting };
+  events = f.events ++ at_end (f.state).phase;
+  taken = f.taken;
+  failed = false;
+}
+
+abbrev pub after_stream_take : Option Event → StreamState → StreamState
+after_stream_take None f = f
+after_stream_take (Some e) f = record f { taken = f.taken + 1 }
+
+abbrev pub phase_of : (running : Bool) → PicturesState → Phase
+phase_of false k = waiting
+phase_of true k = running k.history k.open_picture
+
+abbrev pub state_of : GrouperState → PicturesState → State
+state_of g k = record { sets = g.sets; phase = phase_of g.running k }
+
+-- the header of the open picture's last slice
+abbrev pub last_header : Option OpenPicture → Option Header
+last_header None = None
+last_header (Some o) = Some (o.last).header
+
+-- The open picture's parameter sets are those that its last slice names.
+pub record IsNamed (sets : Sets) (o : OpenPicture) : Type 0 where
+  pub pps : sets.pps ((o.last).header).pic_parameter_set_id ≡ Some o.pps
+  pub sps : sets.sps (o.pps).seq_parameter_set_id ≡ Some o.sps
+
+-- The grouper knows the open picture. Where it waits, there is no history.
+pub record Agrees (g : GrouperState) (k : PicturesState) : Type 0 where
+  pub going : k.failed ≡ false
+  pub last : g.last ≡ last_header k.open_picture
+  pub no_history : g.running ≡ false → k.history ≡ []
+  pub no_picture : g.running ≡ false → k.open_picture ≡ None
+  pub named : IfSome k.open_picture (IsNamed (sets_after g.sets))
+
+-- What a step brings can be carried out.
+abbrev pub Fits : Sets → Next → Option OpenPicture → Type 0
+Fits sets (Begins s) open_picture = IsTaken sets s × (open_picture ≡ None)
+Fits sets (Continues s) open_picture = IsTaken sets s × ((o : OpenPicture) → open_picture ≡ Some o → IsHeader o.sps o.pps s.rbsp s.header)
+Fits sets _ open_picture = Unit {0}
+
+-- what a step does once the open picture is closed, where it closes it
+abbrev pub next_in : Sets → (unit : ℕ) → Next → PicturesState → Outcome
+next_in sets unit next k = after_next sets unit (running k.history k.open_picture) next
+
+-- where there was a fault the grouper is told
+abbrev pub after_fault_if : Bool → GrouperState → GrouperState
+after_fault_if true g = after_fault false g
+after_fault_if false g = g
+
+-- The unit was handled.
+pub record Handles (g : GrouperState) (k : PicturesState) (u : Piece) (g' : GrouperState) (k' : PicturesState) : Type 0 where
+  pub agrees : Agrees g' k'
+  pub state : state_of g' k' ≡ state_after (state_of g k) u (after_unit (state_of g k) u)
+  pub events : k'.events ≡ k.events ++ (after_unit (state_of g k) u).events
+  pub taken : k'.taken ≡ k.taken
+
+-- ---- bytes
+
+-- All units of the bytes were handled.
+pub record IsDecoded (max : ℕ) (s : SplitterState) (ended : Bool) (f : StreamState) : Type 0 where
+  pub going : s.failed ≡ false
+  pub flows : f.failed ≡ false
+  pub ends : s.ended ≡ ended
+  pub counted : s.taken ≡ length (units max s.bytes ended)
+  pub state : ended ≡ false → f.state ≡ state_through first_state (units max s.bytes false)
+  pub events : f.events ≡ events max s.bytes ended

@@ -1,0 +1,79 @@
+-- What a sequence stands for, and how it answers.
+use Rattle.std.specs.Prelude.{◌≡◌, ℕ, Bool, true, false, List, [], ◌∷◌, Option, Some, None, Result, Ok, Err}
+use Rattle.avc_types.specs.declared.fault.Fault.{Fault}
+use Rattle.avc_types.specs.declared.picture.Picture.{Picture}
+use Rattle.avc_types.specs.declared.picture_error.PictureError.{PictureError}
+use Rattle.avc_types.specs.declared.picture_error.PictureError.TheVariants.{Fault as Faulty, OutOfMemory}
+use Rattle.avc_plane.specs.Planes.{Planes, StoredFrame}
+use Rattle.avc_plane.specs.Frames.{planes_of}
+use Rattle.avc_plane.specs.declared.frame.Frame.{Frame}
+use Rattle.avc_params.specs.declared.sps.Sps.{Sps}
+use Rattle.avc_slice.specs.declared.header.Header.{Header}
+use Rattle.avc_decoder_core.specs.History.{History, history_at_opening, history_after_closing}
+use Rattle.avc_decoder_core.specs.Pictures.{output_pictures, held_pictures}
+
+-- the parameter set and the first slice's header of a picture that is being decoded
+pub record OpenPictureStart : Type 0 where
+  pub sps : Sps
+  pub header : Header
+
+-- The history of closed pictures and missing numbers since the sequence was cleared, the picture that was opened on it, if there
+-- is one, and whether memory was refused.
+pub record SequenceState : Type 0 where
+  pub history : History
+  pub open_picture : Option OpenPictureStart
+  pub failed : Bool
+
+-- with no history
+abbrev pub empty_sequence : SequenceState
+empty_sequence = record { history = []; open_picture = None; failed = false }
+
+abbrev pub with_open_picture : Sps → Header → SequenceState → SequenceState
+with_open_picture sps h s = record s { open_picture = Some (record { sps = sps; header = h }) }
+
+abbrev or_before : History → Result History Fault → History
+or_before before (Ok h) = h
+or_before before (Err f) = before
+
+-- the history that the open picture stands on: with the numbers that are missing before it
+abbrev pub current_history : SequenceState → History
+current_history s = elim s.open_picture [ None ↦ s.history | Some o ↦ or_before s.history (history_at_opening o.sps o.header s.history) ]
+
+-- A picture was opened, and these pictures go out, let out by the missing numbers.
+pub record IsOpened (old : SequenceState) (sps : Sps) (h : Header) (out : List Picture) (new : SequenceState) : Type 0 where
+  pub going : old.failed ≡ false
+  pub state : new ≡ with_open_picture sps h old
+  pub stands : history_at_opening sps h old.history ≡ Ok (current_history new)
+  pub pictures : out ≡ output_pictures old.history (current_history new)
+
+-- The open picture was closed with these planes, and these pictures go out.
+pub record IsClosed (old : SequenceState) (o : OpenPictureStart) (planes : Planes) (out : List Picture) (new : SequenceState) : Type 0 where
+  pub going : old.failed ≡ false
+  pub state : new ≡ record { history = new.history; open_picture = None; failed = false }
+  pub closes : history_after_closing o.sps o.header planes (current_history old) ≡ Ok new.history
+  pub pictures : out ≡ output_pictures (current_history old) new.history
+
+-- A call failed: with the fault in place of a history, and nothing changed, or for want of memory.
+abbrev pub Fails : (old : SequenceState) → Result History Fault → PictureError → (new : SequenceState) → Type 0
+Fails old what (Faulty f) new = (old.failed ≡ false) × (new ≡ old) × (what ≡ Err f)
+Fails old what OutOfMemory new = new.failed ≡ true
+
+-- All that was held goes out, and the history is forgotten.
+pub record IsCleared (old : SequenceState) (out : List Picture) (new : SequenceState) : Type 0 where
+  pub going : old.failed ≡ false
+  pub state : new ≡ empty_sequence
+  pub pictures : out ≡ held_pictures (current_history old)
+
+-- a stored frame stands for a reference frame of the history
+pub record StandsFor {PAD : ℕ} (frame : Frame PAD) (stored : StoredFrame) : Type 0 where
+  pub frame_num : frame.frame_num ≡ (stored.reference).frame_num
+  pub existing : frame.existing ≡ (stored.reference).existing
+  pub mark : frame.mark ≡ Some (stored.reference).mark
+  pub planes : (p : Planes) → stored.planes ≡ Some p → planes_of frame.planes ≡ p
+
+-- one each, in decoding order
+abbrev pub StandFor : {PAD : ℕ} → List (Frame PAD) → List StoredFrame → Type 0
+StandFor [] [] = Unit {0}
+StandFor (frame ∷ frames) (stored ∷ others) = StandsFor frame stored × StandFor frames others
+StandFor [] (stored ∷ others) = ⊥
+StandFor (frame ∷ frames) [] = ⊥

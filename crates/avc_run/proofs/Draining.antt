@@ -1,0 +1,175 @@
+-- Events that are taken one after another.
+use Rattle.std.specs.Prelude.{◌≡◌, ℕ, zero, suc, ◌+◌, ◌-◌, ◌<◌, ◌≤◌, min, ◌^◌, List, [], ◌∷◌, ◌++◌, length, take, drop, Option, Some, None, Result, Ok, Err, IfErr, IsErrAnd, slice_get, refl}
+use Rattle.std.proofs.Common.{ap, sym, subst, ◌∙◌, arith, append_assoc, append-nil, length-append, drop-cons}
+use Rattle.std.proofs.Math.Seq.{drop-nil}
+use Rattle.std.proofs.lemmas.List.{take-append-le}
+use Rattle.std.proofs.lemmas.Option.{slice_get_within, get_or_from_slice_get}
+use Rattle.std.specs.Io.KnownBytes.{Appends}
+use Rattle.std.proofs.KnownBytes.{Appends-trans}
+use Rattle.avc_types.specs.declared.fault.Fault.{Fault}
+use Rattle.avc_annexb.specs.Units.{saturated}
+use Rattle.avc_yuv.specs.I420.{i420}
+use Rattle.avc_decoder.specs.Machine.{Machine, next_event, after_take}
+use Rattle.avc_decoder.specs.declared.event.Event.{Event}
+use Rattle.avc_decoder.specs.declared.event.Event.TheVariants.{Picture, Refused}
+use Rattle.avc_run.specs.Decoding.{max_unit, pictures_in, refusals_in, shown, report_of}
+use Rattle.avc_run.specs.Draining.{come, due, drained, left_in, reported, BreaksOff, IsDraining, IsHandled}
+use Rattle.avc_run.specs.Reading.{WritesFirst, WritesSome}
+use Rattle.avc_run.specs.declared.fault.RunFault.{RunFault}
+use Rattle.avc_run.specs.declared.fault.RunFault.TheVariants.{Read, Write, Memory}
+use Rattle.avc_run.specs.declared.report.Report.{Report}
+
+-- ---- lists of events
+
+pub shown-append : (a b : List Event) → shown (a ++ b) ≡ shown a ++ shown b
+shown-append [] b = refl
+shown-append (Picture p ∷ a) b = ap (λ bs. i420 p ++ bs) (shown-append a b) ∙ sym (append_assoc (i420 p) (shown a) (shown b))
+shown-append (Refused unit f ∷ a) b = shown-append a b
+
+pub reported-append : (r : Report) (a b : List Event) → reported r (a ++ b) ≡ reported (reported r a) b
+reported-append r [] b = refl
+reported-append r (Picture p ∷ a) b = reported-append (record r { pictures = saturated (r.pictures + 1) }) a b
+reported-append r (Refused unit f ∷ a) b = reported-append (record r { refused = r.refused ++ (unit, f) ∷ [] }) a b
+
+held_more : (m : ℕ) → saturated (saturated m + 1) ≡ saturated (m + 1)
+held_more m = omega arith
+
+pub reported_is : (m : ℕ) (refused : List (ℕ × Fault)) (events : List Event)
+    → reported (record { pictures = saturated m; refused = refused }) events ≡ record { pictures = saturated (m + length (pictures_in events)); refused = refused ++ refusals_in events }
+reported_is m refused [] =
+    let same : m ≡ m + 0 = omega arith in
+    ap (λ rs. record { pictures = saturated m; refused = rs }) (sym (append-nil refused)) ∙ ap (λ k. record { pictures = saturated k; refused = refused ++ [] }) same
+reported_is m refused (Picture p ∷ events) =
+    let n = length (pictures_in events) in
+    let same : m + 1 + n ≡ m + suc n = omega arith in
+    ap (λ k. reported (record { pictures = k; refused = refused }) events) (held_more m)
+    ∙ reported_is (m + 1) refused events
+    ∙ ap (λ k. record { pictures = saturated k; refused = refused ++ refusals_in events }) same
+reported_is m refused (Refused unit f ∷ events) =
+    reported_is m (refused ++ (unit, f) ∷ []) events
+    ∙ ap (λ rs. record { pictures = saturated (m + length (pictures_in events)); refused = rs }) (append_assoc refused ((unit, f) ∷ []) (refusals_in events))
+
+-- ---- the next one
+
+drop_next : {A : Type 0} (xs : List A) (k : ℕ) (x : A) → slice_get xs k ≡ Some x → drop k xs ≡ x ∷ drop (suc k) xs
+drop_next xs k x e =
+    drop-cons xs k x (slice_get_within xs k x e) ∙ ap (λ y. y ∷ drop (suc k) xs) (get_or_from_slice_get xs k x x e)
+
+drop_none : {A : Type 0} (xs : List A) (k : ℕ) → slice_get xs k ≡ None → drop k xs ≡ []
+drop_none [] k e = drop-nil k
+drop_none (x ∷ xs) zero e = cc
+drop_none (x ∷ xs) (suc k) e = drop_none xs k e
+
+-- ---- one event more
+
+-- where an event is taken
+due_next : (d : Machine) (e : Event) → Some e ≡ next_event max_unit d → due d ≡ e ∷ due (after_take (Some e) d)
+due_next d e is = drop_next (come d) d.taken e (sym is) ∙ ap (λ k. e ∷ drop k (come d)) (let same : suc d.taken ≡ d.taken + 1 = omega arith in same)
+
+pub begun : (d : Machine) (r : Report) (held : Option (List ℕ)) → Appends held held [] → IsDraining d d r r held held
+begun d r holds nothing = record { done = []; rest = refl; machine = ap (λ k. record d { taken = k }) (let same : d.taken ≡ d.taken + 0 = omega arith in same); report = refl; written = nothing }
+
+pub one_more : (d0 d d' : Machine) (r0 r r' : Report) (w0 w w' : Option (List ℕ)) (e : Event)
+    → Some e ≡ next_event max_unit d → d' ≡ after_take (Some e) d → r' ≡ reported r (e ∷ []) → Appends w w' (shown (e ∷ []))
+    → IsDraining d0 d r0 r w0 w → IsDraining d0 d' r0 r' w0 w'
+one_more d0 d d' r0 r r' w0 w w' e next taken told wrote i =
+    let after = i.done ++ e ∷ [] in
+    let count : length after ≡ length i.done + 1 = length-append i.done (e ∷ []) in
+    let more : (d0.taken + length i.done) + 1 ≡ d0.taken + length after = omega (arith, count) in
+    record {
+      done = after;
+      rest = i.rest ∙ ap (λ es. i.done ++ es) (due_next d e next ∙ ap (λ m. e ∷ due m) (sym taken)) ∙ sym (append_assoc i.done (e ∷ []) (due d'));
+      machine = taken ∙ ap (λ m. after_take (Some e) m) i.machine ∙ ap (λ k. record d0 { taken = k }) more;
+      report = told ∙ ap (λ q. reported q (e ∷ [])) i.report ∙ sym (reported-append r0 i.done (e ∷ []));
+      written = subst (Appends w0 w') (sym (shown-append i.done (e ∷ []))) (Appends-trans w0 w w' (shown i.done) (shown (e ∷ [])) i.written wrote);
+    }
+
+-- ---- the end
+
+-- all that were due are done
+all_done : (d0 d : Machine) (r0 r : Report) (w0 w : Option (List ℕ)) → None ≡ next_event max_unit d → (i : IsDraining d0 d r0 r w0 w) → i.done ≡ due d0
+all_done d0 d r0 r w0 w none i = sym (i.rest ∙ ap (λ es. i.done ++ es) (drop_none (come d) d.taken (sym none)) ∙ append-nil i.done)
+
+pub handled : (d0 d d' : Machine) (r0 r : Report) (w0 w : Option (List ℕ)) → None ≡ next_event max_unit d → d' ≡ d → IsDraining d0 d r0 r w0 w → IsHandled d0 d' r0 r w0 w
+handled d0 d d' r0 r w0 w none same i =
+    let all = all_done d0 d r0 r w0 w none i in
+    record {
+      machine = same ∙ i.machine ∙ ap (λ es. record d0 { taken = d0.taken + length es }) all;
+      report = i.report ∙ ap (λ es. reported r0 es) all;
+      written = subst (λ es. Appends w0 w (shown es)) all i.written;
+    }
+
+-- ---- a fault
+
+pub take_front : (a b : List ℕ) → take (length a) (a ++ b) ≡ a
+take_front [] b = refl
+take_front (x ∷ a) b = ap (λ xs. x ∷ xs) (take_front a b)
+
+pub take_more : (a b c : List ℕ) (n : ℕ) → n ≤ length b → take (length a + n) (a ++ (b ++ c)) ≡ a ++ take n b
+take_more [] b c n within = ap (λ k. take k (b ++ c)) (let same : 0 + n ≡ n = omega arith in same) ∙ take-append-le n b c within
+take_more (x ∷ a) b c n within =
+    let same : length (x ∷ a) + n ≡ suc (length a + n) = omega arith in
+    ap (λ k. take k (x ∷ (a ++ (b ++ c)))) same ∙ ap (λ xs. x ∷ xs) (take_more a b c n within)
+
+-- all of a, and then n bytes of b, before what would have followed
+parts : (w0 w w' : Option (List ℕ)) (a b c : List ℕ) (n : ℕ) → n ≤ length b → Appends w0 w a → Appends w w' (take n b) → Appends w0 w' (take (length a + n) (a ++ (b ++ c)))
+parts w0 w w' a b c n within all some = subst (Appends w0 w') (sym (take_more a b c n within)) (Appends-trans w0 w w' a (take n b) all some)
+
+-- a fault in b, after all of a and before c
+pub breaks_later : (fault : RunFault) (w0 w w' : Option (List ℕ)) (a b c : List ℕ) → Appends w0 w a → BreaksOff fault w w' b → BreaksOff fault w0 w' (a ++ (b ++ c))
+breaks_later Read w0 w w' a b c all some = some
+breaks_later Write w0 w w' a b c all some = record {
+  count = length a + some.count;
+  fewer = omega (arith, length-append a (b ++ c), length-append b c, some.fewer);
+  written = parts w0 w w' a b c some.count (omega (arith, some.fewer)) all some.written;
+}
+breaks_later Memory w0 w w' a b c all some = record {
+  count = length a + some.count;
+  within = omega (arith, length-append a (b ++ c), length-append b c, some.within);
+  written = parts w0 w w' a b c some.count some.within all some.written;
+}
+
+-- before an event was taken
+pub stopped : (d0 d : Machine) (r0 r : Report) (w0 w : Option (List ℕ)) → IsDraining d0 d r0 r w0 w → WritesSome w0 w (shown (due d0))
+stopped d0 d r0 r w0 w i =
+    let a = shown i.done in
+    let all : shown (due d0) ≡ a ++ shown (due d) = ap (λ es. shown es) i.rest ∙ shown-append i.done (due d) in
+    record {
+      count = length a;
+      within = omega (arith, ap (λ bs. length bs) all, length-append a (shown (due d)));
+      written = subst (Appends w0 w) (sym (ap (λ bs. take (length a) bs) all ∙ take_front a (shown (due d)))) i.written;
+    }
+
+-- in the midst of one
+pub stopped_in : (fault : RunFault) (d0 d : Machine) (r0 r : Report) (w0 w w' : Option (List ℕ)) (e : Event)
+    → Some e ≡ next_event max_unit d → BreaksOff fault w w' (shown (e ∷ [])) → IsDraining d0 d r0 r w0 w → BreaksOff fault w0 w' (shown (due d0))
+stopped_in fault d0 d r0 r w0 w w' e next some i =
+    let a = shown i.done in
+    let b = shown (e ∷ []) in
+    let c = shown (due (after_take (Some e) d)) in
+    let all : shown (due d0) ≡ a ++ (b ++ c) =
+    ap (λ es. shown es) i.rest ∙ shown-append i.done (due d) ∙ ap (λ es. a ++ shown es) (due_next d e next) ∙ ap (λ bs. a ++ bs) (shown-append (e ∷ []) (due (after_take (Some e) d))) in
+    subst (BreaksOff fault w0 w') (sym all) (breaks_later fault w0 w w' a b c i.written some)
+
+-- ---- faults that are passed on
+
+-- an error that is want of memory
+pub by_memory : {A : Type 0} (r : Result A RunFault) (Q : RunFault → Type 0) → IsErrAnd r (λ fault. fault ≡ Memory) → Q Memory → IfErr r Q
+by_memory (Ok a) Q is q = absurd is
+by_memory (Err fault) Q is q = subst Q (sym is) q
+
+-- an error that is this one
+pub by_fault : {A : Type 0} (r : Result A RunFault) (f : RunFault) (Q : RunFault → Type 0) → r ≡ Err f → Q f → IfErr r Q
+by_fault r f Q is q = subst (λ r. IfErr r Q) (sym is) q
+
+-- ---- as the loop says it
+
+pub smaller : (d d' : Machine) (e : Event) → Some e ≡ next_event max_unit d → d' ≡ after_take (Some e) d → left_in d' < left_in d
+smaller d d' e next taken =
+    let within = slice_get_within (come d) d.taken e (sym next) in
+    let less : length (come d) - (d.taken + 1) < length (come d) - d.taken = omega (arith, within) in
+    subst (λ m. left_in m < left_in d) (sym taken) less
+
+pub is_none : {A : Type 0} (o : Option A) → ((x : A) → o ≡ Some x → ⊥) → o ≡ None
+is_none None other = refl
+is_none (Some x) other = absurd (other x refl)

@@ -1,0 +1,4 @@
+pub mod Reading
+pub mod Draining
+pub mod Running
+pub mod Lines

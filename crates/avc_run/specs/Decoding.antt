@@ -1,0 +1,54 @@
+-- What `decode` writes and reports.
+use Rattle.std.specs.Prelude.{◌≡◌, ℕ, Bool, true, false, List, [], ◌∷◌, length, Option, Result, Ok, Err}
+use Rattle.std.specs.List.{flat_map}
+use Rattle.std.specs.Io.KnownBytes.{Appends}
+use Rattle.avc_types.specs.declared.fault.Fault.{Fault}
+use Rattle.avc_types.specs.declared.picture.Picture.{Picture as Decoded}
+use Rattle.avc_annexb.specs.Units.{saturated}
+use Rattle.avc_yuv.specs.I420.{i420}
+use Rattle.avc_decoder.specs.Events.{events}
+use Rattle.avc_decoder.specs.declared.event.Event.{Event}
+use Rattle.avc_decoder.specs.declared.event.Event.TheVariants.{Picture, Refused}
+use Rattle.avc_run.specs.Reading.{HasRead, WritesFirst, WritesSome}
+use Rattle.avc_run.specs.declared.fault.RunFault.{RunFault}
+use Rattle.avc_run.specs.declared.fault.RunFault.TheVariants.{Read, Write, Memory}
+use Rattle.avc_run.specs.declared.report.Report.{Report}
+
+-- A unit of more bytes is too long.
+abbrev pub max_unit : ℕ
+max_unit = 134217728
+
+abbrev pub pictures_in : List Event → List Decoded
+pictures_in [] = []
+pictures_in (Picture p ∷ events) = p ∷ pictures_in events
+pictures_in (Refused unit f ∷ events) = pictures_in events
+
+abbrev pub refusals_in : List Event → List (ℕ × Fault)
+refusals_in [] = []
+refusals_in (Picture p ∷ events) = refusals_in events
+refusals_in (Refused unit f ∷ events) = (unit, f) ∷ refusals_in events
+
+-- I420 of all pictures among these events, in order
+abbrev pub shown : List Event → List ℕ
+shown events = flat_map i420 (pictures_in events)
+
+-- all that a whole stream defines
+abbrev pub defined : (bytes : List ℕ) → List Event
+defined bytes = events max_unit bytes true
+
+-- The report on these events: how many pictures there are (or the greatest number, once there), and each refusal.
+abbrev pub report_of : List Event → Report
+report_of events = record { pictures = saturated (length (pictures_in events)); refused = refusals_in events }
+
+-- Of all bytes that the reader had, the defined pictures are written, and the report is on what they define. After a read fault
+-- exactly the pictures are written that the bytes read so far define, after a write fault fewer than all of these, and after want
+-- of memory a first part of them.
+abbrev pub Decodes : (unread left held holds : Option (List ℕ)) → Result Report RunFault → Type 0
+Decodes unread left held holds (Ok report) =
+    (bytes : List ℕ) × HasRead unread left bytes true × Appends held holds (shown (defined bytes)) × (report ≡ report_of (defined bytes))
+Decodes unread left held holds (Err Read) =
+    (bytes : List ℕ) × HasRead unread left bytes false × Appends held holds (shown (events max_unit bytes false))
+Decodes unread left held holds (Err Write) =
+    (bytes : List ℕ) × (all : Bool) × HasRead unread left bytes all × WritesFirst held holds (shown (events max_unit bytes all))
+Decodes unread left held holds (Err Memory) =
+    (bytes : List ℕ) × (all : Bool) × HasRead unread left bytes all × WritesSome held holds (shown (events max_unit bytes all))

@@ -1,0 +1,67 @@
+-- Taking all events that have come: these words are the crate's own.
+use Rattle.std.specs.Prelude.{◌≡◌, ℕ, false, ◌+◌, ◌-◌, List, [], ◌∷◌, ◌++◌, length, drop, Option}
+use Rattle.avc_types.specs.declared.picture.Picture.{Picture as Decoded}
+use Rattle.avc_annexb.specs.Units.{saturated}
+use Rattle.avc_decoder.specs.Events.{events}
+use Rattle.avc_decoder.specs.Machine.{Machine}
+use Rattle.avc_decoder.specs.declared.event.Event.{Event}
+use Rattle.avc_decoder.specs.declared.event.Event.TheVariants.{Picture, Refused}
+use Rattle.std.specs.Io.KnownBytes.{Appends, Consumes}
+use Rattle.avc_run.specs.Decoding.{max_unit, report_of, shown}
+use Rattle.avc_run.specs.Reading.{WritesFirst, WritesSome}
+use Rattle.avc_run.specs.declared.fault.RunFault.{RunFault}
+use Rattle.avc_run.specs.declared.fault.RunFault.TheVariants.{Read, Write, Memory}
+use Rattle.avc_run.specs.declared.report.Report.{Report}
+
+abbrev pub come : Machine → List Event
+come m = events max_unit m.bytes m.ended
+
+-- the events that were not taken
+abbrev pub due : Machine → List Event
+due m = drop m.taken (come m)
+
+-- after all were taken
+abbrev pub drained : Machine → Machine
+drained m = record m { taken = m.taken + length (due m) }
+
+-- how many are left
+abbrev pub left_in : Machine → ℕ
+left_in m = length (come m) - m.taken
+
+-- a report with these events more
+abbrev pub reported : Report → List Event → Report
+reported r [] = r
+reported r (Picture p ∷ events) = reported (record r { pictures = saturated (r.pictures + 1) }) events
+reported r (Refused unit f ∷ events) = reported (record r { refused = r.refused ++ (unit, f) ∷ [] }) events
+
+abbrev pub IfPicture : Event → (Decoded → Type 0) → Type 0
+IfPicture (Picture p) holds = holds p
+IfPicture (Refused unit f) holds = Unit {0}
+
+-- From `old` all events that were due were taken, told in the report and written.
+pub record IsHandled (old new : Machine) (before now : Report) (held holds : Option (List ℕ)) : Type 0 where
+  pub machine : new ≡ drained old
+  pub report : now ≡ reported before (due old)
+  pub written : Appends held holds (shown (due old))
+
+-- From `old` some events were taken and handled.
+pub record IsDraining (old new : Machine) (before now : Report) (held holds : Option (List ℕ)) : Type 0 where
+  pub done : List Event
+  pub rest : due old ≡ done ++ due new
+  pub machine : new ≡ record old { taken = old.taken + length done }
+  pub report : now ≡ reported before done
+  pub written : Appends held holds (shown done)
+
+-- These bytes were read, and the events that they define were taken, told and written.
+pub record IsRunning (unread left held holds : Option (List ℕ)) (m : Machine) (r : Report) : Type 0 where
+  pub bytes : List ℕ
+  pub consumed : Consumes unread left bytes
+  pub machine : m ≡ record { bytes = bytes; ended = false; taken = length (events max_unit bytes false); failed = false }
+  pub report : r ≡ report_of (events max_unit bytes false)
+  pub written : Appends held holds (shown (events max_unit bytes false))
+
+-- A fault broke off the writing of these bytes. None comes from reading here.
+abbrev pub BreaksOff : RunFault → (old new : Option (List ℕ)) → List ℕ → Type 0
+BreaksOff Read old new bytes = ⊥
+BreaksOff Write old new bytes = WritesFirst old new bytes
+BreaksOff Memory old new bytes = WritesSome old new bytes

@@ -1,0 +1,7 @@
+pub mod Reading
+pub mod Decoding
+pub mod Listing
+pub mod Status
+pub mod Telling
+pub mod Program
+pub mod Draining

@@ -1,0 +1,32 @@
+-- What the program tells by its exit status.
+use Rattle.std.specs.Prelude.{ℕ, List, [], ◌∷◌, Result, Ok, Err}
+use Rattle.avc_types.specs.declared.fault.Fault.{Fault}
+use Rattle.avc_run.specs.declared.fault.RunFault.{RunFault}
+use Rattle.avc_run.specs.declared.fault.RunFault.TheVariants.{Read, Write, Memory}
+use Rattle.avc_run.specs.declared.report.Report.{Report}
+use Rattle.avc_run.specs.declared.exit.Answer.{Answer}
+use Rattle.avc_run.specs.declared.exit.Answer.TheVariants.{Help, Misuse}
+
+abbrev pub fault_status : RunFault → ℕ
+fault_status Read = 3
+fault_status Write = 3
+fault_status Memory = 4
+
+-- 1 where something was refused
+abbrev pub refused_status : List (ℕ × Fault) → ℕ
+refused_status [] = 0
+refused_status (_ ∷ _) = 1
+
+abbrev pub status_of : Result Report RunFault → ℕ
+status_of (Ok report) = refused_status report.refused
+status_of (Err fault) = fault_status fault
+
+abbrev pub units_status : Result (Unit {0}) RunFault → ℕ
+units_status (Ok _) = 0
+units_status (Err fault) = fault_status fault
+
+-- after words that name nothing to do
+abbrev pub answer_status : Result Answer RunFault → ℕ
+answer_status (Ok Help) = 0
+answer_status (Ok Misuse) = 2
+answer_status (Err fault) = fault_status fault

@@ -1,0 +1,30 @@
+-- What the program tells on the standard error.
+use Rattle.std.specs.Prelude.{ℕ, List, ◌∷◌, ◌++◌, [], Result, Ok, Err, codes}
+use Rattle.std.specs.List.{flat_map}
+use Rattle.std.specs.Fmt.{decimal}
+use Rattle.avc_types.specs.declared.fault.Fault.{Fault}
+use Rattle.avc_types.specs.Faults.{number_of, name_of}
+use Rattle.avc_run.specs.declared.fault.RunFault.{RunFault}
+use Rattle.avc_run.specs.declared.fault.RunFault.TheVariants.{Read, Write, Memory}
+use Rattle.avc_run.specs.declared.report.Report.{Report}
+
+abbrev newline : List ℕ
+newline = 10 ∷ []
+
+-- of the unit at this place among the stream's units, which has this fault
+abbrev pub refusal_line : ℕ × Fault → List ℕ
+refusal_line (unit, fault) =
+    codes "refused unit " ++ decimal unit ++ codes ": " ++ decimal (number_of fault) ++ codes " " ++ name_of fault ++ newline
+
+abbrev pub refusal_lines : Report → List ℕ
+refusal_lines report = flat_map refusal_line report.refused
+
+abbrev pub fault_line : RunFault → List ℕ
+fault_line Read = codes "avcdec: read fault" ++ newline
+fault_line Write = codes "avcdec: write fault" ++ newline
+fault_line Memory = codes "avcdec: out of memory" ++ newline
+
+-- of a run
+abbrev pub text_of : Result Report RunFault → List ℕ
+text_of (Ok report) = refusal_lines report
+text_of (Err fault) = fault_line fault

@@ -1,0 +1,108 @@
+ghost use Rattle.std.specs.Prelude.{◌≡◌, ◌∷◌, [], IfErr, OnOk};
+ghost use Rattle.std.specs.Io.KnownBytes.{Appends};
+ghost use Rattle.avc_types.specs.Whole.{IsWhole};
+ghost use Rattle.avc_run.specs.Decoding.{shown, Decodes};
+ghost use Rattle.avc_run.specs.Draining.{due, reported, BreaksOff, IfPicture, IsHandled};
+ghost use Rattle.avc_decoder.specs.Machine.{after_feed, after_flush};
+
+use crate::fault::RunFault;
+use crate::read::{PIECE, READS, read_once, zeros};
+use crate::report::{Refusals, Report};
+use avc_decoder::laws::{events_only_grow, pictures_are_whole};
+use avc_decoder::{Decoder, Event};
+use avc_yuv::write_i420;
+use std::alloc::Global;
+use std::io::{Read, Write};
+
+/// The most bytes of a unit.
+const MAX_UNIT: usize = 134_217_728;
+
+/// Decodes a byte stream (Annex B) and writes its pictures as I420, each as soon as it is decoded.
+pub fn run<R: Read, W: Write>(
+    alloc: Global,
+    reader: &mut R,
+    writer: &mut W,
+) -> Result<Report, RunFault>
+    ensures { Decodes (R.remaining reader.old) (R.remaining reader.new) (W.contents writer.old) (W.contents writer.new) result }
+{
+    events_only_grow();
+    let mut decoder = Decoder::<MAX_UNIT>::new(alloc);
+    let mut report = Report {
+        pictures: 0,
+        refused: Refusals::new(alloc),
+    };
+    let mut piece = zeros(alloc, PIECE)?;
+    'pieces: for _ in 0..READS {
+        let len = read_once(reader, &mut piece)?;
+        if len == 0 {
+            finish(&mut decoder, writer, &mut report)?;
+            return Ok(report);
+        }
+        take_in(&mut decoder, &piece[..len], writer, &mut report)?;
+    }
+    Err(RunFault::Read)
+}
+
+// The next bytes of the stream, and all events that come by them.
+fn take_in<W: Write>(
+    decoder: &mut Decoder<MAX_UNIT>,
+    piece: &[u8],
+    writer: &mut W,
+    report: &mut Report,
+) -> Result<(), RunFault>
+    ensures ok { OnOk result (IsHandled (after_feed piece.now decoder.old) decoder.new report.old report.new (W.contents writer.old) (W.contents writer.new)) }
+    ensures err { IfErr result (λ fault. BreaksOff fault (W.contents writer.old) (W.contents writer.new) (shown (due (after_feed piece.now decoder.old)))) }
+{
+    decoder.feed(piece)?;
+    drain(decoder, writer, report)?;
+    Ok(())
+}
+
+// The end of the stream, and all events that come by it.
+fn finish<W: Write>(
+    decoder: &mut Decoder<MAX_UNIT>,
+    writer: &mut W,
+    report: &mut Report,
+) -> Result<(), RunFault>
+    ensures ok { OnOk result (IsHandled (after_flush decoder.old) decoder.new report.old report.new (W.contents writer.old) (W.contents writer.new)) }
+    ensures err { IfErr result (λ fault. BreaksOff fault (W.contents writer.old) (W.contents writer.new) (shown (due (after_flush decoder.old)))) }
+{
+    decoder.flush()?;
+    drain(decoder, writer, report)?;
+    Ok(())
+}
+
+// Takes all events that have come.
+fn drain<W: Write>(
+    decoder: &mut Decoder<MAX_UNIT>,
+    writer: &mut W,
+    report: &mut Report,
+) -> Result<(), RunFault>
+    ensures ok { OnOk result (IsHandled decoder.old decoder.new report.old report.new (W.contents writer.old) (W.contents writer.new)) }
+    ensures err { IfErr result (λ fault. BreaksOff fault (W.contents writer.old) (W.contents writer.new) (shown (due decoder.old))) }
+{
+    pictures_are_whole();
+    'events: while let Some(event) = decoder.take()? {
+        handle(event, writer, report)?;
+    }
+    Ok(())
+}
+
+fn handle<W: Write>(event: Event, writer: &mut W, report: &mut Report) -> Result<(), RunFault>
+    requires { IfPicture event IsWhole }
+    ensures report { OnOk result (report.new ≡ reported report.old (event ∷ [])) }
+    ensures written { OnOk result (Appends (W.contents writer.old) (W.contents writer.new) (shown (event ∷ []))) }
+    ensures err { IfErr result (λ fault. BreaksOff fault (W.contents writer.old) (W.contents writer.new) (shown (event ∷ []))) }
+{
+    match event {
+        Event::Picture(picture) => {
+            write_i420(&picture, writer)?;
+            report.pictures = report.pictures.saturating_add(1);
+            Ok(())
+        }
+        Event::Refused { unit, fault } => {
+            report.refused.push(unit, fault)?;
+            Ok(())
+        }
+    }
+}

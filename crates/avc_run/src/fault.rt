@@ -1,0 +1,65 @@
+use avc_decoder::DecodeError;
+use avc_types::OutOfMemory;
+use avc_yuv::WriteFault;
+use std::alloc::{AllocError, AllocFailed};
+use thiserror::Error;
+
+/// What ended a run before its end.
+#[derive(Clone, Copy, Debug, PartialEq, Eq, Error)]
+pub enum RunFault {
+    /// A `read` answered an error, or the input had no end within the reads that a run may take.
+    #[error("read fault")]
+    Read,
+
+    /// A `write` answered an error, or took no byte.
+    #[error("write fault")]
+    Write,
+
+    /// The system gave no memory.
+    #[error("out of memory")]
+    Memory,
+}
+
+ghost use Rattle.std.specs.Prelude.{◌≡◌};
+ghost use Rattle.avc_run.specs.declared.fault.RunFault.TheVariants.{Memory, Write as Unwritten};
+
+impl From<OutOfMemory> for RunFault {
+    ghost from_gives = { λ _ fault. fault ≡ Memory };
+
+    fn from(_error: OutOfMemory) -> RunFault {
+        RunFault::Memory
+    }
+}
+
+impl From<AllocError> for RunFault {
+    ghost from_gives = { λ _ fault. fault ≡ Memory };
+
+    fn from(_error: AllocError) -> RunFault {
+        RunFault::Memory
+    }
+}
+
+impl<T: Drop> From<AllocFailed<T>> for RunFault {
+    ghost from_gives = { λ _ fault. fault ≡ Memory };
+
+    fn from(_error: AllocFailed<T>) -> RunFault {
+        RunFault::Memory
+    }
+}
+
+impl From<DecodeError> for RunFault {
+    ghost from_gives = { λ _ fault. fault ≡ Memory };
+
+    /// A run feeds nothing after the end, so that want of memory is the only error.
+    fn from(_error: DecodeError) -> RunFault {
+        RunFault::Memory
+    }
+}
+
+impl From<WriteFault> for RunFault {
+    ghost from_gives = { λ _ fault. fault ≡ Unwritten };
+
+    fn from(_error: WriteFault) -> RunFault {
+        RunFault::Write
+    }
+}

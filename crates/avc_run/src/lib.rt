@@ -1,0 +1,21 @@
+//! What the program does with a byte stream, what it tells of it, and how it ends.
+#![tactic(auto)]
+
+mod decoding;
+mod exit;
+mod fault;
+mod listing;
+mod program;
+mod read;
+mod report;
+mod telling;
+#[cfg(test)]
+mod tests;
+
+pub use decoding::run;
+pub use exit::{Answer, answer_status, fault_status, status};
+pub use fault::RunFault;
+pub use listing::run_units;
+pub use program::{decode, units};
+pub use report::{Refusals, Report};
+pub use telling::{fault_line, refusal_lines};

@@ -1,0 +1,86 @@
+ghost use Rattle.std.specs.Prelude.{◌≡◌, IfErr, OnOk};
+ghost use Rattle.std.specs.Io.KnownBytes.{Keeps};
+ghost use Rattle.avc_tools.specs.Lines.{unit_lines};
+ghost use Rattle.avc_run.specs.Program.{EndsDecoding, EndsListing};
+ghost use Rattle.avc_run.specs.Reading.{WritesSome};
+ghost use Rattle.avc_run.specs.Status.{fault_status};
+ghost use Rattle.avc_run.specs.Telling.{fault_line, text_of};
+ghost use Rattle.avc_run.specs.declared.fault.RunFault.TheVariants as faults;
+
+use crate::decoding::run;
+use crate::exit::{fault_status, status};
+use crate::fault::RunFault;
+use crate::listing::run_units;
+use crate::report::Report;
+use crate::telling::{fault_line, refusal_lines, write_text};
+use std::alloc::Global;
+use std::io::{Read, Write};
+
+/// The command `decode`: writes the pictures of a byte stream (Annex B) as I420, and tells of its refusals, or of the fault that
+/// ended the run, on `errors`. Answers the exit status. Where `errors` takes nothing, the status alone tells.
+pub fn decode<R: Read, W: Write, E: Write>(
+    alloc: Global,
+    reader: &mut R,
+    writer: &mut W,
+    errors: &mut E,
+) -> u8
+    ensures { EndsDecoding (R.remaining reader.old) (R.remaining reader.new) (W.contents writer.old) (W.contents writer.new)
+        (E.contents errors.old) (E.contents errors.new) result }
+{
+    let run = run(alloc, reader, writer);
+    match tell(alloc, &run, errors) {
+        Ok(()) => status(&run),
+        Err(fault) => fail(fault, errors),
+    }
+}
+
+// Tells of a run. An error is want of memory for the text.
+fn tell<E: Write>(
+    alloc: Global,
+    run: &Result<Report, RunFault>,
+    errors: &mut E,
+) -> Result<(), RunFault>
+    ensures ok { OnOk result (WritesSome (E.contents errors.old) (E.contents errors.new) (text_of run.now)) }
+    ensures err { IfErr result (λ fault. (fault ≡ faults.Memory) × Keeps (E.contents errors.old) (E.contents errors.new)) }
+{
+    match run {
+        Ok(report) => {
+            let text = refusal_lines(alloc, report)?;
+            write_what_is_taken(&text, errors);
+        }
+        Err(fault) => write_what_is_taken(fault_line(*fault), errors),
+    }
+    Ok(())
+}
+
+// Tells of a fault, and answers its exit status.
+fn fail<E: Write>(fault: RunFault, errors: &mut E) -> u8
+    ensures status { result ≡ fault_status fault }
+    ensures told { WritesSome (E.contents errors.old) (E.contents errors.new) (fault_line fault) }
+{
+    write_what_is_taken(fault_line(fault), errors);
+    fault_status(fault)
+}
+
+fn write_what_is_taken<E: Write>(text: &str, errors: &mut E)
+    ensures { WritesSome (E.contents errors.old) (E.contents errors.new) text.now }
+{
+    let _ = write_text(text, errors);
+}
+
+/// The command `units`: writes a line for each unit of a byte stream (Annex B), and tells of a fault on `errors`. Answers the exit
+/// status.
+pub fn units<R: Read, W: Write, E: Write>(
+    alloc: Global,
+    reader: &mut R,
+    writer: &mut W,
+    errors: &mut E,
+) -> u8
+    ensures { EndsListing unit_lines (R.remaining reader.old) (R.remaining reader.new) (W.contents writer.old) (W.contents writer.new)
+        (E.contents errors.old) (E.contents errors.new) result }
+{
+    match run_units(alloc, reader, writer) {
+        Ok(()) => 0,
+        Err(fault) => fail(fault, errors),
+    }
+}

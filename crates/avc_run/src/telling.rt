@@ -1,0 +1,52 @@
+ghost use Rattle.std.specs.Prelude.{◌≡◌, ◌++◌, IfErr, IfOk, OnOk, string_bytes};
+ghost use Rattle.std.specs.Io.KnownBytes.{Appends};
+ghost use Rattle.avc_run.specs.Reading.{WritesFirst};
+ghost use Rattle.avc_run.specs.Telling.{fault_line, refusal_line, refusal_lines};
+ghost use Rattle.avc_run.specs.declared.fault.RunFault.TheVariants as faults;
+
+use crate::fault::RunFault;
+use crate::report::Report;
+use avc_types::{Fault, OutOfMemory};
+use avc_yuv::write_bytes;
+use std::alloc::Global;
+use std::io::Write;
+
+/// The line of the standard error that tells of a fault.
+pub fn fault_line(fault: RunFault) -> &'static str
+    ensures { result.now ≡ fault_line fault }
+{
+    match fault {
+        RunFault::Read => "avcdec: read fault\n",
+        RunFault::Write => "avcdec: write fault\n",
+        RunFault::Memory => "avcdec: out of memory\n",
+    }
+}
+
+/// The lines of the standard error that tell of the refusals, one each, in order.
+pub fn refusal_lines(alloc: Global, report: &Report) -> Result<String, OutOfMemory>
+    ensures { IfOk result (λ text. string_bytes text ≡ refusal_lines report.now) }
+{
+    let mut text = String::new(alloc);
+    for &(unit, fault) in report.refused.as_slice() {
+        add_line(&mut text, unit, fault)?;
+    }
+    Ok(text)
+}
+
+fn add_line(text: &mut String, unit: u64, fault: Fault) -> Result<(), OutOfMemory>
+    ensures { OnOk result (string_bytes text.new ≡ string_bytes text.old ++ refusal_line (unit, fault)) }
+{
+    let number = fault.number();
+    let name = fault.name();
+    writeln!(text, "refused unit {unit}: {number} {name}")?;
+    Ok(())
+}
+
+/// Writes a text.
+pub(crate) fn write_text<W: Write>(text: &str, writer: &mut W) -> Result<(), RunFault>
+    ensures ok { OnOk result (Appends (W.contents writer.old) (W.contents writer.new) text.now) }
+    ensures err { IfErr result (λ fault. (fault ≡ faults.Write) × WritesFirst (W.contents writer.old) (W.contents writer.new) text.now) }
+{
+    write_bytes(text.as_bytes(), 0, writer)?;
+    Ok(())
+}
