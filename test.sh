@@ -1,7 +1,14 @@
 #!/bin/sh
-# Proves every crate from nothing, tries the edits that must fail, and runs the tests; then decodes the streams of vectors/ with the
-# built program. Each part ends in a line 'N passed, 0 failed'.
+# Proves every crate from nothing, tries the edits that must fail, and runs the tests; sees that docs/TRUSTED.md is up to date;
+# then decodes the streams of vectors/ with the built program. Each part that counts ends in a line 'N passed, 0 failed'.
 set -eu
 cd "$(dirname "$0")"
+trusted=$(mktemp)
+trap 'rm -f "$trusted"' EXIT
+scripts/trusted.sh >"$trusted"
+if ! cmp -s "$trusted" docs/TRUSTED.md; then
+    echo 'docs/TRUSTED.md is out of date: scripts/trusted.sh >docs/TRUSTED.md' >&2
+    exit 1
+fi
 rt ci
-exec vectors/run.sh
+vectors/run.sh
