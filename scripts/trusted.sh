@@ -2,6 +2,7 @@
 # Writes docs/TRUSTED.md to standard output: what a reader must believe so that the headline means what it says. It follows the
 # imports of the headline's definitions, through all crates; what a file is about is its first comment.
 set -eu
+export LC_ALL=C
 cd "$(dirname "$0")/.."
 
 # the files of definitions that a file imports, and the Rust types that definitions use, a line each
