@@ -1,4 +1,5 @@
--- What a stream's units hand out: pictures and refusals, in order.
+-- What a stream's units hand out: pictures and refusals, in order. Pictures go out by C.4; what is said of refusals is this
+-- decoder's rule.
 use Rattle.std.specs.Prelude.{ℕ, ◌+◌, ◌-◌, Bool, true, false, not, ◌&&◌, List, [], ◌∷◌, ◌++◌, map, Option, Some, None, Result, Ok, Err}
 use Rattle.avc_types.specs.declared.fault.Fault.{Fault}
 use Rattle.avc_types.specs.declared.picture.Picture.{Picture as Decoded}
@@ -21,22 +22,26 @@ use Rattle.avc_decoder.specs.FirstFault.{OpenPicture, first_fault, history_of, r
 use Rattle.avc_decoder.specs.declared.event.Event.{Event}
 use Rattle.avc_decoder.specs.declared.event.Event.TheVariants.{Picture, Refused}
 
+-- pictures as events
 abbrev pub pictures : List Decoded → List Event
 pictures out = map (λ p. Picture p) out
 
--- ---- the state between units
+-- ---- the state between units (this decoder's rule)
 
+-- what decoding waits for, or goes on with
 pub data Phase : Type 0 where
   -- for a unit to start with
   waiting : Phase
   -- with the history since decoding last started, and the open picture, if there is one
   running : History → Option OpenPicture → Phase
 
+-- what the units before leave
 pub record State : Type 0 where
   -- the units that brought parameter sets, in order
   pub sets : List SetUnit
   pub phase : Phase
 
+-- before the first unit
 abbrev pub first_state : State
 first_state = record { sets = []; phase = waiting }
 
@@ -46,6 +51,7 @@ pub record Outcome : Type 0 where
   pub phase : Phase
   pub read : ℕ
 
+-- no events, and nothing read
 abbrev pub no_change : Phase → Outcome
 no_change p = record { events = []; phase = p; read = 0 }
 
@@ -53,7 +59,7 @@ no_change p = record { events = []; phase = p; read = 0 }
 abbrev pub failed_at : History → (unit : ℕ) → Fault → (read : ℕ) → Outcome
 failed_at h unit f read = record { events = pictures (held_pictures h) ++ Refused unit f ∷ []; phase = waiting; read = read }
 
--- ---- closing the open picture
+-- ---- closing the open picture (8.2.5, C.4.4, C.4.5, and this decoder's rule for faults)
 
 -- a fault is named with the last slice's unit
 abbrev pub at_last_slice : OpenPicture → Result History Fault → Result History (ℕ × Fault)
@@ -64,14 +70,16 @@ at_last_slice o (Err f) = Err ((o.last).unit, f)
 abbrev pub closing_result : OpenPicture → Result History (ℕ × Fault)
 closing_result o = elim (first_fault o true) [ Some found ↦ Err found | None ↦ at_last_slice o (closed_history o (history_of o)) ]
 
+-- what closing gives: the pictures that go out (C.4.5), or the refusal
 abbrev pub closed_outcome : OpenPicture → Result History (ℕ × Fault) → Outcome
 closed_outcome o (Ok h) = record { events = pictures (output_pictures (history_of o) h); phase = running h None; read = 0 }
 closed_outcome o (Err found) = failed_at (history_of o) found.0 found.1 0
 
+-- the open picture is closed
 abbrev pub closed_picture : OpenPicture → Outcome
 closed_picture o = closed_outcome o (closing_result o)
 
--- ---- a slice of the open picture
+-- ---- a slice of the open picture (C.4.2, and this decoder's rule for faults)
 
 -- The picture with one slice more, of which the history before was `before` and so many macroblocks had been read. At a fault
 -- all pictures go out that `before` holds: first those that missing numbers let out, then the rest, which is one order.
@@ -82,22 +90,25 @@ with_slice before already o =
       | None ↦ record { events = pictures (output_pictures before (history_of o)); phase = running o.before (Some o); read = read_of o - already }
     ]
 
+-- two values, where both are there
 abbrev pub both : {A B : Type 0} → Option A → Option B → Option (A × B)
 both (Some a) (Some b) = Some (a, b)
 both (Some a) None = None
 both None b = None
 
--- the sets that a readable header names; both are there
+-- the sets that a readable header names, where both are there (7.4.1.2.1)
 abbrev pub sets_named : Sets → Header → Option (Pps × Sps)
 sets_named sets h = elim (sets.pps h.pic_parameter_set_id) [ None ↦ None | Some pps ↦ both (Some pps) (sets.sps pps.seq_parameter_set_id) ]
 
+-- a slice that begins a picture, under the sets that it names
 abbrev pub after_first_slice : Option (Pps × Sps) → History → Slice → Outcome
 after_first_slice None before s = no_change (running before None)
 after_first_slice (Some named) before s =
     with_slice before 0 (record { before = before; sps = named.1; pps = named.0; last = s; earlier = [] })
 
--- ---- one unit
+-- ---- one unit (7.4.1.2, and this decoder's rule for faults)
 
+-- the history whose held pictures go out at a fault
 abbrev pub history_in : Phase → History
 history_in waiting = []
 history_in (running h None) = h
@@ -108,6 +119,7 @@ abbrev pub base_in : Phase → History
 base_in waiting = []
 base_in (running h o) = h
 
+-- a slice that continues the open picture
 abbrev pub after_next_slice : Phase → Slice → Outcome
 after_next_slice (running h (Some o)) s = with_slice (history_of o) (read_of o) (record o { last = s; earlier = o.last ∷ o.earlier })
 after_next_slice p s = no_change p
@@ -121,10 +133,12 @@ after_next sets unit p (FaultOfOwn f) = failed_at (history_in p) unit f 0
 after_next sets unit p (Begins s) = after_first_slice (sets_named sets s.header) (base_in p) s
 after_next sets unit p (Continues s) = after_next_slice p s
 
+-- decoding runs
 abbrev pub is_running : Phase → Bool
 is_running waiting = false
 is_running (running h o) = true
 
+-- what the next unit asks of the open picture: its last header, and whether it is full
 abbrev pub open_picture_facts : OpenPicture → OpenPictureFacts
 open_picture_facts o =
     record {
@@ -132,6 +146,7 @@ open_picture_facts o =
       full = is_full (start_on o (history_of o)) (progress_on o (history_of o));
     }
 
+-- those of the open picture, if there is one
 abbrev pub open_facts_in : Phase → Option OpenPictureFacts
 open_facts_in waiting = None
 open_facts_in (running h None) = None
@@ -141,6 +156,7 @@ open_facts_in (running h (Some o)) = Some (open_picture_facts o)
 abbrev pub followed_by : Outcome → Outcome → Outcome
 followed_by a b = record { events = a.events ++ b.events; phase = b.phase; read = a.read + b.read }
 
+-- decoding waits
 abbrev pub is_waiting : Phase → Bool
 is_waiting waiting = true
 is_waiting (running h o) = false
@@ -150,6 +166,7 @@ abbrev pub after_closing : Sets → (unit : ℕ) → Step → Outcome → Outcom
 after_closing sets unit what o =
     elim (is_waiting o.phase && not what.even_after_fault) [ true ↦ o | false ↦ followed_by o (after_next sets unit o.phase what.next) ]
 
+-- what the step says, by the phase: the open picture is closed first where it says so
 abbrev pub in_phase : Sets → (unit : ℕ) → Step → Phase → Outcome
 in_phase sets unit what waiting = after_next sets unit waiting what.next
 in_phase sets unit what (running h None) = after_next sets unit (running h None) what.next
@@ -159,19 +176,22 @@ in_phase sets unit what (running h (Some o)) =
       | false ↦ after_next sets unit (running h (Some o)) what.next
     ]
 
--- One unit more.
+-- One unit more (7.4.1.2, and this decoder's rules).
 abbrev pub after_unit : State → Unit → Outcome
 after_unit s u =
     let sets = sets_after s.sets in
     in_phase sets u.index (step sets (is_running s.phase) (open_facts_in s.phase) u) s.phase
 
+-- what that unit leaves to the next one
 abbrev pub state_after : State → Unit → Outcome → State
 state_after s u o = record { sets = s.sets ++ set_units (u ∷ []); phase = o.phase }
 
+-- all held pictures, where decoding runs
 abbrev pub held_after : Phase → List Event
 held_after waiting = []
 held_after (running h o) = pictures (held_pictures h)
 
+-- the events, and then all held pictures
 abbrev pub events_and_held : Outcome → List Event
 events_and_held o = o.events ++ held_after o.phase
 
@@ -181,8 +201,9 @@ at_end waiting = []
 at_end (running h None) = pictures (held_pictures h)
 at_end (running h (Some o)) = events_and_held (closed_picture o)
 
--- ---- a whole stream
+-- ---- a whole stream (Annex B)
 
+-- the events of these units after a state; at the end of the stream those of the end too
 abbrev pub events_from : State → List Unit → (ended : Bool) → List Event
 events_from s [] true = at_end s.phase
 events_from s [] false = []
@@ -190,6 +211,7 @@ events_from s (u ∷ units) ended =
     let o = after_unit s u in
     o.events ++ events_from (state_after s u o) units ended
 
+-- the events of a stream of these bytes (Annex B), where a unit has max bytes at most
 abbrev pub events : (max : ℕ) → List ℕ → (ended : Bool) → List Event
 events max bytes ended = events_from first_state (units max bytes ended) ended
 
@@ -200,5 +222,6 @@ read_from s (u ∷ units) =
     let o = after_unit s u in
     o.read + read_from (state_after s u o) units
 
+-- how many macroblocks of a stream of these bytes are read, as far as a u64 counts (this decoder's rule)
 abbrev pub turns : (max : ℕ) → List ℕ → (ended : Bool) → ℕ
 turns max bytes ended = saturated (read_from first_state (units max bytes ended))

@@ -1,4 +1,4 @@
--- The open picture, and the first fault in it in the order of checks.
+-- The open picture, and the first fault in it in the order of checks, which is this decoder's rule.
 use Rattle.std.specs.Prelude.{ℕ, zero, suc, Bool, true, false, List, [], ◌∷◌, Option, Some, None, Result, Ok, Err}
 use Rattle.avc_types.specs.declared.fault.Fault.{Fault}
 use Rattle.avc_types.specs.declared.fault.Fault.TheVariants as faults
@@ -27,13 +27,15 @@ abbrev pub oldest : Slice → List Slice → Slice
 oldest s [] = s
 oldest s (older ∷ others) = oldest older others
 
+-- the picture's first slice (7.4.1.2.4)
 abbrev pub first_slice : OpenPicture → Slice
 first_slice o = oldest o.last o.earlier
 
+-- its header, by which the picture is numbered and marked (marking by it is this decoder's rule)
 abbrev pub first_header : OpenPicture → Header
 first_header o = (first_slice o).header
 
--- the history with the frame numbers that are missing before the picture
+-- the history with the frame numbers that are missing before the picture (8.2.5.2)
 abbrev pub history_at_opening_of : OpenPicture → Result History Fault
 history_at_opening_of o = history_at_opening o.sps (first_header o) o.before
 
@@ -46,6 +48,7 @@ start_on o history =
 abbrev pub progress_on : OpenPicture → History → Progress
 progress_on o history = progress (start_on o history) (slices_of o)
 
+-- the planes after all slices so far, on that history (clause 8)
 abbrev pub picture_planes : OpenPicture → History → Planes
 picture_planes o history = planes_after_slices (start_on o history) (slices_of o)
 
@@ -53,11 +56,13 @@ picture_planes o history = planes_after_slices (start_on o history) (slices_of o
 abbrev pub closed_history : OpenPicture → History → Result History Fault
 closed_history o history = history_after_closing o.sps (first_header o) (picture_planes o history) history
 
+-- the fault of marking, with the last slice's unit
 abbrev marking_fault : OpenPicture → Result History Fault → Option (ℕ × Fault)
 marking_fault o (Ok h) = None
 marking_fault o (Err f) = Some ((o.last).unit, f)
 
--- found at closing, with the picture's last slice
+-- found at closing, with the picture's last slice: macroblocks are missing, or marking is
+-- refused (this decoder's rule)
 abbrev closing_fault : OpenPicture → History → Option (ℕ × Fault)
 closing_fault o history =
     elim (is_full (start_on o history) (progress_on o history)) [
@@ -65,7 +70,8 @@ closing_fault o history =
       | true ↦ marking_fault o (closed_history o history)
     ]
 
--- The first fault of the picture, with its unit; `closing` says whether it is being closed.
+-- The first fault of the picture, with its unit; `closing` says whether it is being
+-- closed (this decoder's rule).
 abbrev pub first_fault : OpenPicture → (closing : Bool) → Option (ℕ × Fault)
 first_fault o closing =
     elim (first_header o).first_mb_in_slice [

@@ -16,31 +16,38 @@ use Rattle.avc_poc.specs.OrderCounts.{Counts, Past, picture, missing, order_coun
 use Rattle.avc_marking.specs.Marks.{MarkingEntry, Marks, marks, prev_ref_frame_num, missing_frame_nums}
 use Rattle.avc_dpb.specs.Bumping.{PriorPictures, remain, are_output, are_dropped, Arrival, Buffer, buffer_after, held_in_output_order}
 
--- A closed picture with its parameter set, its first slice's header and its planes; or a frame number that is missing.
+-- A closed picture with its parameter set, its first slice's header and its planes; or a frame number
+-- that is missing (8.2.5.2).
 pub data Entry : Type 0 where
   decoded_picture : Sps → Header → Planes → Entry
   missing_frame : Sps → (frame_num : ℕ) → Entry
 
+-- all entries since decoding last started, the newest first
 abbrev pub History : Type 0
 History = List Entry
 
 infixl 10 ◌>>=◌
+-- what follows a value; a fault stays
 abbrev pub ◌>>=◌ : {A B : Type 0} → Result A Fault → (A → Result B Fault) → Result B Fault
 (Ok x) >>= f = f x
 (Err e) >>= f = Err e
 
--- ---- what order counts, marking and output ask of an entry
+-- ---- what order counts, marking and output ask of an entry (8.2.1, 8.2.5, C.4)
 
+-- what order counts ask of an entry (8.2.1)
 abbrev past_of : Entry → Past
 past_of (decoded_picture sps h planes) = picture sps h
 past_of (missing_frame sps frame_num) = missing sps frame_num
 
+-- that of all entries
 abbrev pub pasts : History → List Past
 pasts h = map past_of h
 
+-- frame_num and MaxFrameNum (8.2.4.1)
 abbrev pub current_in : Sps → (frame_num : ℕ) → CurrentFrameNum
 current_in sps frame_num = record { frame_num = frame_num; max_frame_num = max_frame_num sps }
 
+-- what marking asks of a picture (8.2.5)
 abbrev pub picture_entry : Sps → Header → MarkingEntry
 picture_entry sps h = record {
   current = current_in sps h.frame_num;
@@ -49,6 +56,7 @@ picture_entry sps h = record {
   marking = h.marking;
 }
 
+-- what marking asks of a missing frame number: a non-existing frame, by the sliding window (8.2.5.2)
 abbrev missing_frame_entry : Sps → (frame_num : ℕ) → MarkingEntry
 missing_frame_entry sps frame_num = record {
   current = current_in sps frame_num;
@@ -57,25 +65,31 @@ missing_frame_entry sps frame_num = record {
   marking = Some SlidingWindow;
 }
 
+-- what marking asks of an entry (8.2.5)
 abbrev pub marking_entry : Entry → MarkingEntry
 marking_entry (decoded_picture sps h planes) = picture_entry sps h
 marking_entry (missing_frame sps frame_num) = missing_frame_entry sps frame_num
 
+-- that of all entries
 abbrev pub marking_entries : History → List MarkingEntry
 marking_entries h = map marking_entry h
 
--- the marks after all entries, or the first fault
+-- the marks after all entries, or the first fault (8.2.5)
 abbrev pub marks_of : History → Result Marks Fault
 marks_of h = marks (marking_entries h)
 
+-- the reference frames; none at a fault
 abbrev pub or_no_references : Result Marks Fault → List Reference
 or_no_references (Ok m) = m.references
 or_no_references (Err f) = []
 
--- The reference frames after all entries, in decoding order; none where an entry could not be marked.
+-- The reference frames after all entries, in decoding order; none where an entry could not be marked (8.2.5).
 abbrev pub references_of : History → List Reference
 references_of h = or_no_references (marks_of h)
 
+-- what becomes of the pictures before: at an IDR picture they go out, or are dropped by
+-- no_output_of_prior_pics_flag; with operation 5 they go out (C.4.4). That the flag is never
+-- inferred is this decoder's rule.
 abbrev pub prior_pictures_of : Header → PriorPictures
 prior_pictures_of h = elim h.marking [
   | None ↦ remain
@@ -85,10 +99,12 @@ prior_pictures_of h = elim h.marking [
   ]
 ]
 
+-- PicOrderCnt (8.2.1); 0 at a fault, at which there is no picture
 abbrev order_or_0 : Result Counts Fault → ℤ
 order_or_0 (Ok c) = order_of c
 order_or_0 (Err f) = pos 0
 
+-- what output asks of an entry: PicOrderCnt, and the reference frames once it is marked (C.4.2, C.4.4, C.4.5)
 abbrev pub arrival : Entry → (older : History) → Arrival
 arrival (decoded_picture sps h planes) older = record {
   order = order_or_0 (order_counts sps h (pasts older));
@@ -107,62 +123,68 @@ arrival (missing_frame sps frame_num) older = record {
   references = map (λ r. r.entry) (references_of (missing_frame sps frame_num ∷ older));
 }
 
+-- that of all entries
 abbrev pub arrivals : History → List Arrival
 arrivals [] = []
 arrivals (e ∷ older) = arrival e older ∷ arrivals older
 
--- what has gone out, and what is in the buffer
+-- what has gone out, and what is in the buffer (C.4)
 abbrev pub buffer_of : History → Buffer
 buffer_of h = buffer_after (arrivals h)
 
--- the places of the pictures that go out where history `old` has become `new`
+-- the places of the pictures that go out where history `old` has become `new` (C.4.5.3)
 abbrev pub new_output : (old new : History) → List ℕ
 new_output old new = drop (length (buffer_of old).out) (buffer_of new).out
 
--- the places of the pictures that are held, in the order in which they go out
+-- the places of the pictures that are held, in the order in which they go out (C.4.5.3)
 abbrev pub all_held : History → List ℕ
 all_held h = map (λ s. s.entry) (held_in_output_order (buffer_of h).frames)
 
--- ---- entries by their places
+-- ---- entries by their places (this decoder's form of the buffer's frames)
 
+-- the entry at a place, if there is one
 abbrev pub entry_at : History → (place : ℕ) → Option Entry
 entry_at h place = elim (length h - place) [ zero ↦ None | suc n ↦ slice_get h n ]
 
+-- the planes of an entry; a missing frame number has none
 abbrev planes_in : Option Entry → Option Planes
 planes_in (Some (decoded_picture sps h planes)) = Some planes
 planes_in (Some (missing_frame sps frame_num)) = None
 planes_in None = None
 
--- a reference frame with its planes; a non-existing one has none
+-- a reference frame with its planes; a non-existing one has none (8.2.5.2)
 abbrev pub stored : History → Reference → StoredFrame
 stored h r = record { reference = r; planes = planes_in (entry_at h r.entry) }
 
--- the reference frames after all entries, with their planes, in decoding order
+-- the reference frames after all entries, with their planes, in decoding order (8.2.5)
 abbrev pub stored_frames : History → List StoredFrame
 stored_frames h = map (stored h) (references_of h)
 
--- ---- opening a picture
+-- ---- opening a picture (7.4.1.2.1, 7.4.3, 8.2.5.2)
 
--- the parameter set of the sequence: that of the last IDR picture
+-- the parameter set of the sequence: that of the last IDR picture (7.4.1.2.1)
 abbrev pub sequence_sps : History → Option Sps
 sequence_sps [] = None
 sequence_sps (decoded_picture sps h planes ∷ older) = elim (is_idr h) [ true ↦ Some sps | false ↦ sequence_sps older ]
 sequence_sps (missing_frame sps frame_num ∷ older) = sequence_sps older
 
+-- there is one, and the other has the same contents (7.4.1.2.1)
 abbrev pub is_same_sps : Option Sps → Sps → Bool
 is_same_sps None sps = false
 is_same_sps (Some before) sps = same_sps before sps
 
--- One entry more for each missing number; each can be marked.
+-- One entry more for each missing number (8.2.5.2); each can be marked.
 abbrev pub with_missing : Sps → List ℕ → History → Result History Fault
 with_missing sps [] h = Ok h
 with_missing sps (n ∷ numbers) h = marks_of (missing_frame sps n ∷ h) >>= λ m. with_missing sps numbers (missing_frame sps n ∷ h)
 
+-- the history, if the picture after it has order counts (8.2.1), else PocRange
 abbrev pub with_order_counts : Sps → Header → History → Result History Fault
 with_order_counts sps h history = order_counts sps h (pasts history) >>= λ c. Ok history
 
--- The history with the frame numbers that are missing before a picture of this header (7.4.3, 8.2.5.2), or the first of
--- ParameterSetChanged, FrameNumGap, FrameNumRepeated, TooManyReferences and PocRange.
+-- The history with the frame numbers that are missing before a picture of this header (7.4.3,
+-- 8.2.5.2), or the first of ParameterSetChanged, FrameNumGap, FrameNumRepeated, TooManyReferences and
+-- PocRange (this decoder's rule).
 abbrev pub history_at_opening : Sps → Header → History → Result History Fault
 history_at_opening sps h history =
     elim (is_idr h) [
@@ -174,9 +196,9 @@ history_at_opening sps h history =
       ]
     ]
 
--- ---- closing it
+-- ---- closing it (8.2.5)
 
--- The history with the picture, or BadMarking or TooManyReferences.
+-- The history with the picture marked (8.2.5), or BadMarking or TooManyReferences.
 abbrev pub history_after_closing : Sps → Header → Planes → History → Result History Fault
 history_after_closing sps h planes history =
     marks_of (decoded_picture sps h planes ∷ history) >>= λ m. Ok (decoded_picture sps h planes ∷ history)

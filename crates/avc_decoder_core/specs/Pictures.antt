@@ -1,4 +1,4 @@
--- The pictures of a history as they are handed out.
+-- The pictures of a history as they are handed out (7.4.2.1.1, C.4).
 use Rattle.std.specs.Prelude.{ℕ, ◌*◌, List, [], ◌∷◌, Option, Some, None}
 use Rattle.std.specs.List.{flat_map}
 use Rattle.avc_types.specs.declared.picture.Crop.{Crop}
@@ -9,7 +9,7 @@ use Rattle.avc_params.specs.declared.sps.Cropping.{Cropping}
 use Rattle.avc_params.specs.declared.sps.Sps.{Sps}
 use Rattle.avc_decoder_core.specs.History.{Entry, decoded_picture, missing_frame, History, entry_at, new_output, all_held}
 
--- in luma samples (7.4.2.1.1): a unit of the offsets is two of them at 4:2:0
+-- the cropping rectangle in luma samples (7.4.2.1.1): a unit of the offsets is two of them at 4:2:0
 abbrev pub crop_of : Option Cropping → Crop
 crop_of None = record { left = 0; right = 0; top = 0; bottom = 0 }
 crop_of (Some c) = record {
@@ -19,6 +19,7 @@ crop_of (Some c) = record {
   bottom = 2 * c.frame_crop_bottom_offset;
 }
 
+-- the picture as it is handed out: coded size, cropping rectangle and planes (6.2, 7.4.2.1.1)
 abbrev pub picture_of : Sps → Planes → Picture
 picture_of sps planes = record {
   width = 16 * width_in_mbs sps;
@@ -39,10 +40,10 @@ entry_pictures None = []
 abbrev pub pictures_at : History → List ℕ → List Picture
 pictures_at h places = flat_map (λ place. entry_pictures (entry_at h place)) places
 
--- what goes out where `old` has become `new`
+-- what goes out where `old` has become `new` (C.4.5.3)
 abbrev pub output_pictures : (old new : History) → List Picture
 output_pictures old new = pictures_at new (new_output old new)
 
--- all held pictures, in the order in which they go out
+-- all held pictures, in the order in which they go out (C.4.5.3)
 abbrev pub held_pictures : History → List Picture
 held_pictures h = pictures_at h (all_held h)

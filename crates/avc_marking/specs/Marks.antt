@@ -13,8 +13,8 @@ use Rattle.avc_types.specs.declared.references.Operation.{Operation}
 use Rattle.avc_types.specs.declared.references.Operation.TheVariants.{UnmarkShortTerm, UnmarkLongTerm, AssignLongTerm, MaxLongTermFrameIdx, UnmarkAll, CurrentToLongTerm}
 use Rattle.avc_types.specs.References.{Reference, is_short, long_term_frame_idx, has_long_term_frame_idx, short_term_frame, long_term_frame, sorted_by, has_greater_pic_num}
 
--- What marking asks of an entry of the history: a closed picture, or a frame that stands for a missing frame number. Such a
--- frame is not existing and has the marking `sliding`.
+-- What marking asks of an entry of the history: a closed picture, or a frame that stands for a missing frame
+-- number (8.2.5.2). Such a frame is not existing and has the marking `sliding`.
 pub record MarkingEntry : Type 0 where
   -- its frame_num, and MaxFrameNum and max_num_ref_frames of its sequence parameter set
   pub current : CurrentFrameNum
@@ -23,64 +23,70 @@ pub record MarkingEntry : Type 0 where
   -- dec_ref_pic_marking; none where nal_ref_idc is 0
   pub marking : Option Marking
 
--- The reference frames in decoding order, and the greatest long-term index, if there may be long-term frames.
+-- The reference frames in decoding order, and MaxLongTermFrameIdx, if there may be long-term frames (8.2.5).
 pub record Marks : Type 0 where
   pub references : List Reference
   pub max_long_term_frame_idx : Option ℕ
 
+-- no reference frames, and no long-term indices
 abbrev pub no_marks : Marks
 no_marks = record { references = []; max_long_term_frame_idx = None }
 
--- how many reference frames there may be
+-- how many reference frames there may be: Max( max_num_ref_frames, 1 ) (8.2.5.3)
 abbrev pub limit_of : MarkingEntry → ℕ
 limit_of s = max s.max_num_ref_frames 1
 
 infixl 10 ◌>>=◌
+-- what follows a value; a fault stays
 abbrev pub ◌>>=◌ : {A B : Type 0} → Result A Fault → (A → Result B Fault) → Result B Fault
 (Ok x) >>= f = f x
 (Err e) >>= f = Err e
 
--- the frame where there is one
+-- the frame where there is one, else the fault (this decoder's rule)
 abbrev pub frame_or : Fault → Option Reference → Result Reference Fault
 frame_or f (Some r) = Ok r
 frame_or f None = Err f
 
--- x where the test holds
+-- x where the test holds, else BadMarking (this decoder's rule)
 abbrev pub refuse_unless : {A : Type 0} → Bool → A → Result A Fault
 refuse_unless true x = Ok x
 refuse_unless false x = Err faults.BadMarking
 
--- ---- changes of the set
+-- ---- changes of the set (8.2.5.3, 8.2.5.4)
 
--- this frame becomes unused for reference
+-- this frame becomes unused for reference (8.2.5.3, 8.2.5.4)
 abbrev pub without_frame : Reference → List Reference → List Reference
 without_frame r references = filter (λ s. not (s.entry == r.entry)) references
 
+-- the frame with this mark
 abbrev pub with_other_mark : Reference → Mark → Reference
 with_other_mark r mark = record r { mark = mark }
 
--- An index is taken from the frame that has it, which becomes unused.
+-- An index is taken from the frame that has it, which becomes unused (8.2.5.4.3, 8.2.5.4.6).
 abbrev pub without_long_term_frame_idx : ℕ → List Reference → List Reference
 without_long_term_frame_idx index references = filter (λ s. not (has_long_term_frame_idx index s)) references
 
+-- the frames, one of them with this mark
 abbrev pub with_mark : Reference → Mark → List Reference → List Reference
 with_mark r mark references = map (λ s. if s.entry == r.entry then with_other_mark s mark else s) references
 
--- the index may be given
+-- the index is not above MaxLongTermFrameIdx, if there is one (7.4.3.3)
 abbrev pub is_index_allowed : ℕ → Option ℕ → Bool
 is_index_allowed index None = false
 is_index_allowed index (Some max_long_term_frame_idx) = nat_le index max_long_term_frame_idx
 
 -- ---- sliding window (8.2.5.3)
 
--- The short-term frame with the least PicNum, of equals the one that was decoded first.
+-- a has the smaller PicNum (8.2.5.3), or the same one and was decoded first, which is this decoder's rule
 abbrev pub precedes_in_window : CurrentFrameNum → Reference → Reference → Bool
 precedes_in_window current a b = has_greater_pic_num current b a
 
+-- the short-term frame with the least PicNum (8.2.5.3)
 abbrev pub first_in_window : CurrentFrameNum → List Reference → Option Reference
 first_in_window current references = slice_get (sorted_by (precedes_in_window current) (filter is_short references)) 0
 
--- Where there are as many frames as there may be, that one becomes unused for reference.
+-- Where there are as many frames as there may be, that one becomes unused for reference (8.2.5.3);
+-- TooManyReferences is this decoder's rule.
 abbrev pub after_sliding_window : MarkingEntry → List Reference → Result (List Reference) Fault
 after_sliding_window s references =
     elim (nat_lt (length references) (limit_of s)) [
@@ -92,29 +98,31 @@ after_sliding_window s references =
 
 -- ---- operations (8.2.5.4)
 
--- The marks while the operations of an entry are gone through, and whether the entry's own frame has been marked.
+-- The marks while the operations of an entry are gone through, and whether the entry's own frame
+-- has been marked (8.2.5.4).
 pub record OperationState : Type 0 where
   pub references : List Reference
   pub max_long_term_frame_idx : Option ℕ
   pub assigned : Bool
 
--- the short-term frame with picNumX
+-- the short-term frame with picNumX (8.2.5.4.1)
 abbrev pub frame_with_pic_num_x : MarkingEntry → (difference_minus1 : ℕ) → List Reference → Result Reference Fault
 frame_with_pic_num_x s d references =
     frame_or faults.BadMarking (short_term_frame s.current (pos s.current.frame_num -ℤ pos (d + 1)) references)
 
--- 1: the short-term frame becomes unused
+-- 1: the short-term frame becomes unused (8.2.5.4.1)
 abbrev pub without_short_term : MarkingEntry → (difference_minus1 : ℕ) → List Reference → Result (List Reference) Fault
 without_short_term s d references = frame_with_pic_num_x s d references >>= λ r. Ok (without_frame r references)
 
--- 2: the long-term frame becomes unused
+-- the long-term frame with this LongTermPicNum (8.2.5.4.2)
 abbrev pub long_term_frame_or_fault : (index : ℕ) → List Reference → Result Reference Fault
 long_term_frame_or_fault index references = frame_or faults.BadMarking (long_term_frame index references)
 
+-- 2: the long-term frame becomes unused (8.2.5.4.2)
 abbrev pub without_long_term : (index : ℕ) → List Reference → Result (List Reference) Fault
 without_long_term index references = long_term_frame_or_fault index references >>= λ r. Ok (without_frame r references)
 
--- 3: the short-term frame becomes long-term
+-- 3: the short-term frame becomes long-term (8.2.5.4.3)
 abbrev pub with_long_term : MarkingEntry → (difference_minus1 index : ℕ) → (max_long_term_frame_idx : Option ℕ) →
     List Reference → Result (List Reference) Fault
 with_long_term s d index max_long_term_frame_idx references =
@@ -122,18 +130,20 @@ with_long_term s d index max_long_term_frame_idx references =
     refuse_unless (r.existing && is_index_allowed index max_long_term_frame_idx)
     (with_mark r (Long index) (without_long_term_frame_idx index references))
 
--- 4: the long-term frames with these indices and greater ones become unused
+-- 4: the long-term frames with these indices and greater ones become unused (8.2.5.4.4)
 abbrev pub with_max_long_term_frame_idx : (plus1 : ℕ) → List Reference → List Reference
 with_max_long_term_frame_idx plus1 references = filter (λ r. is_short r || nat_lt (long_term_frame_idx r) plus1) references
 
+-- MaxLongTermFrameIdx from max_long_term_frame_idx_plus1; 0 is no long-term frame indices (8.2.5.4.4)
 abbrev pub max_long_term_frame_idx_below : (plus1 : ℕ) → Option ℕ
 max_long_term_frame_idx_below zero = None
 max_long_term_frame_idx_below (suc max_long_term_frame_idx) = Some max_long_term_frame_idx
 
+-- the state with the frames as an operation has changed them
 abbrev pub with_references : OperationState → Result (List Reference) Fault → Result OperationState Fault
 with_references t changed = changed >>= λ references. Ok (record t { references = references })
 
--- 6: the picture's own frame
+-- 6: the picture's own frame (8.2.5.4.6)
 abbrev pub long_term_current : MarkingEntry → (entry index : ℕ) → Reference
 long_term_current s entry index = record {
   entry = entry;
@@ -142,11 +152,13 @@ long_term_current s entry index = record {
   mark = Long index;
 }
 
+-- 6: it becomes long-term (8.2.5.4.6)
 abbrev pub with_long_term_current : MarkingEntry → (index entry : ℕ) → List Reference → List Reference
 with_long_term_current s index entry references =
     without_long_term_frame_idx index references ++ long_term_current s entry index ∷ []
 
--- s is the picture's own entry, `entry` its place in the history.
+-- One memory_management_control_operation (8.2.5.4, Table 7-9): s is the picture's own entry, `entry` its
+-- place in the history. 5 (UnmarkAll) leaves no frame and no long-term indices (8.2.5.4.5).
 abbrev pub after_operation : MarkingEntry → (entry : ℕ) → OperationState → Operation → Result OperationState Fault
 after_operation s entry t (UnmarkShortTerm d) = with_references t (without_short_term s d t.references)
 after_operation s entry t (UnmarkLongTerm index) = with_references t (without_long_term index t.references)
@@ -166,16 +178,18 @@ after_operation s entry t (CurrentToLongTerm index) =
       assigned = true;
     })
 
+-- all of them in their order (8.2.5.4)
 abbrev pub after_operations : MarkingEntry → (entry : ℕ) → OperationState → List Operation → Result OperationState Fault
 after_operations s entry t [] = Ok t
 after_operations s entry t (o ∷ operations) =
     after_operation s entry t o >>= λ t'. after_operations s entry t' operations
 
+-- memory_management_control_operation 5 (Table 7-9)
 abbrev pub is_unmark_all : Operation → Bool
 is_unmark_all UnmarkAll = true
 is_unmark_all _ = false
 
--- FrameNum of the entry's frame from then on: 0 after operation 5
+-- FrameNum of the entry's frame from then on: 0 after operation 5 (7.4.3)
 abbrev pub frame_num_after_marking : MarkingEntry → ℕ
 frame_num_after_marking s = elim s.marking [ None ↦ s.current.frame_num | Some m ↦ number_under m ]
   where
@@ -183,7 +197,7 @@ frame_num_after_marking s = elim s.marking [ None ↦ s.current.frame_num | Some
     number_under (Adaptive operations) = if list_any is_unmark_all operations then 0 else s.current.frame_num
     number_under _ = s.current.frame_num
 
--- the entry's own frame
+-- the entry's own frame (8.2.5.1)
 abbrev pub current_frame : MarkingEntry → (entry : ℕ) → Mark → Reference
 current_frame s entry mark = record {
   entry = entry;
@@ -192,7 +206,7 @@ current_frame s entry mark = record {
   mark = mark;
 }
 
--- the operations leave this, where the frame that has got no mark by them becomes short-term
+-- the operations leave this, where the frame that has got no mark by them becomes short-term (8.2.5.1)
 abbrev pub with_current_frame : MarkingEntry → (entry : ℕ) → OperationState → Marks
 with_current_frame s entry t =
     record {
@@ -203,9 +217,12 @@ with_current_frame s entry t =
       max_long_term_frame_idx = t.max_long_term_frame_idx;
     }
 
+-- the marks, where there are no more reference frames than there may be (8.2.5.1);
+-- TooManyReferences is this decoder's rule
 abbrev pub within_limit : MarkingEntry → Marks → Result Marks Fault
 within_limit s m = if nat_le (length m.references) (limit_of s) then Ok m else Err faults.TooManyReferences
 
+-- the marks as the operations find them
 abbrev pub before_operations : Marks → OperationState
 before_operations m = record {
   references = m.references;
@@ -213,7 +230,7 @@ before_operations m = record {
   assigned = false;
 }
 
--- the marks after all the operations
+-- the marks after all the operations (8.2.5.4)
 abbrev pub after_adaptive_marking : MarkingEntry → (entry : ℕ) → Marks → List Operation → Result Marks Fault
 after_adaptive_marking s entry m operations =
     after_operations s entry (before_operations m) operations
@@ -221,7 +238,7 @@ after_adaptive_marking s entry m operations =
 
 -- ---- the whole history (8.2.5.1)
 
--- The marks after an entry, from those before it.
+-- The marks after an entry, from those before it (8.2.5.1).
 abbrev pub marks_after : MarkingEntry → (entry : ℕ) → Option Marking → Marks → Result Marks Fault
 marks_after s entry None m = Ok m
 marks_after s entry (Some (Idr no_output false)) m =
@@ -233,28 +250,30 @@ marks_after s entry (Some SlidingWindow) m =
     >>= λ references. Ok (record m { references = references ++ current_frame s entry Short ∷ [] })
 marks_after s entry (Some (Adaptive operations)) m = after_adaptive_marking s entry m operations
 
--- The marks that a history leaves, or the first fault. An entry's place is the number of those before it.
+-- The marks that a history leaves, or the first fault. An entry's place is the number of
+-- those before it (8.2.5.1).
 abbrev pub marks : List MarkingEntry → Result Marks Fault
 marks [] = Ok no_marks
 marks (s ∷ older) = marks older >>= λ m. marks_after s (length older) s.marking m
 
 -- ---- gaps in frame_num (7.4.3, 8.2.5.2)
 
--- PrevRefFrameNum: of the last reference picture or non-existing frame, 0 after operation 5
+-- PrevRefFrameNum: of the last reference picture or non-existing frame, 0 after operation 5 (7.4.3)
 abbrev pub prev_ref_frame_num : List MarkingEntry → ℕ
 prev_ref_frame_num [] = 0
 prev_ref_frame_num (s ∷ older) = elim (is_some s.marking) [ true ↦ frame_num_after_marking s | false ↦ prev_ref_frame_num older ]
 
--- n numbers from a on, modulo max
+-- n numbers from a on, modulo max (UnusedShortTermFrameNum, 7.4.3)
 abbrev pub frame_nums_from : (max a n : ℕ) → List ℕ
 frame_nums_from max a zero = []
 frame_nums_from max a (suc n) = a % max ∷ frame_nums_from max (a + 1) n
 
--- how many numbers stand between PrevRefFrameNum and frame_num, modulo MaxFrameNum
+-- how many numbers stand between PrevRefFrameNum and frame_num, modulo MaxFrameNum (7.4.3)
 abbrev pub gap_of : (previous : ℕ) → CurrentFrameNum → ℕ
 gap_of previous current = (current.frame_num + current.max_frame_num - previous - 1) % current.max_frame_num
 
--- The frame numbers that are missing before a picture that is no IDR picture, or the fault.
+-- The frame numbers that are missing before a picture that is no IDR picture (7.4.3), or the
+-- fault (this decoder's rule).
 abbrev pub missing_frame_nums : (previous : ℕ) → (gaps_allowed : Bool) → MarkingEntry → Result (List ℕ) Fault
 missing_frame_nums previous gaps_allowed s =
     elim (s.current.frame_num == previous) [
@@ -267,7 +286,7 @@ missing_frame_nums previous gaps_allowed s =
       ]
     ]
 
--- the entry for a missing number before the picture
+-- the entry for a missing number before the picture (8.2.5.2)
 abbrev pub missing_frame_entry : MarkingEntry → (frame_num : ℕ) → MarkingEntry
 missing_frame_entry s frame_num = record s {
   current = record { frame_num = frame_num; max_frame_num = s.current.max_frame_num };

@@ -18,43 +18,48 @@ use Rattle.avc_mbsyntax.specs.declared.context.Context.{Context}
 
 -- ---- residual (7.3.5.3)
 
+-- a block that is not coded: its levels are 0 (7.3.5.3)
 abbrev pub no_levels : ℕ → List ℤ
 no_levels max = replicate max (pos 0)
 
--- A block of max levels, where it is coded.
+-- A block of max levels, where it is coded (7.3.5.3).
 abbrev pub block_where : (max : ℕ) → (coded : Bool) → (nC : ℕ) → Read (List ℤ)
 block_where max true nC = residual_block max (pos nC)
 block_where max false nC = give (no_levels max)
 
--- Further blocks of a component, after those done, each of max levels where it is coded.
+-- Further blocks of a component, after those done, each of max levels where it is coded (7.3.5.3, 7.3.5.3.1).
 unfoldable pub blocks : (max size : ℕ) → (coded : ℕ → Bool) → (left up : Option (List ℕ)) → (numbers : List ℕ) → (done : List (List ℤ)) → Read (List (List ℤ))
 blocks max size coded left up [] done = give done
 blocks max size coded left up (k ∷ numbers) done = do
   block ← block_where max (coded k) (nc size left up (map total_coeff done) k)
   blocks max size coded left up numbers (done ++ block ∷ [])
 
+-- total_coeff of a neighbour's luma blocks (9.2.1)
 abbrev pub luma_side : Option TotalCoeffs → Option (List ℕ)
 luma_side = option_map (λ c. c.luma)
 
+-- of its Cb blocks (9.2.1)
 abbrev pub cb_side : Option TotalCoeffs → Option (List ℕ)
 cb_side = option_map (λ c. c.cb)
 
+-- of its Cr blocks (9.2.1)
 abbrev pub cr_side : Option TotalCoeffs → Option (List ℕ)
 cr_side = option_map (λ c. c.cr)
 
--- the bit of the quarter of luma block k is set
+-- the bit of the quarter of luma block k in CodedBlockPatternLuma is set (7.4.5)
 abbrev pub is_coded : (luma_pattern k : ℕ) → Bool
 is_coded luma_pattern k = (luma_pattern / 2 ^ (k / 4)) % 2 == 1
 
+-- ChromaDCLevel of one component, coded where CodedBlockPatternChroma is not 0 (7.3.5.3)
 abbrev pub chroma_dc : (chroma_pattern : ℕ) → Read (List ℤ)
 chroma_dc zero = give (no_levels 4)
 chroma_dc (suc _) = residual_block 4 (negsuc 0)
 
--- Intra16x16DCLevel
+-- Intra16x16DCLevel, at nC of block 0 (7.3.5.3.1, 9.2.1)
 abbrev pub luma_dc_levels : Context → Read (List ℤ)
 luma_dc_levels c = residual_block 16 (pos (nc 16 (luma_side c.left) (luma_side c.up) [] 0))
 
--- The residual of these patterns behind luma_dc, where a luma block has max levels.
+-- The residual of these patterns behind luma_dc, where a luma block has max levels (7.3.5.3).
 abbrev pub residual_blocks : Context → (max : ℕ) → (luma_dc : List ℤ) → (luma_pattern chroma_pattern : ℕ) → (mb_qp_delta : ℤ) → Read Residual
 residual_blocks c max luma_dc luma_pattern chroma_pattern mb_qp_delta = do
   luma ← blocks max 16 (is_coded luma_pattern) (luma_side c.left) (luma_side c.up) (range_with_len 0 16) []
@@ -74,21 +79,23 @@ residual_blocks c max luma_dc luma_pattern chroma_pattern mb_qp_delta = do
     cr_ac = cr_ac;
   })
 
--- The residual of these patterns; with_dc says that the macroblock is Intra 16x16.
+-- residual( ) of these patterns (7.3.5.3); with_dc says that the macroblock is Intra 16x16
 abbrev pub residual : Context → (with_dc : Bool) → (luma_pattern chroma_pattern : ℕ) → (mb_qp_delta : ℤ) → Read Residual
 residual c true luma_pattern chroma_pattern mb_qp_delta = do
   luma_dc ← luma_dc_levels c
   residual_blocks c 15 luma_dc luma_pattern chroma_pattern mb_qp_delta
 residual c false luma_pattern chroma_pattern mb_qp_delta = residual_blocks c 16 [] luma_pattern chroma_pattern mb_qp_delta
 
+-- mb_qp_delta, -26 to 25 at 8 bits (7.4.5)
 abbrev pub qp_delta : Read ℤ
 qp_delta = se_within (negsuc 25) (pos 25)
 
+-- mb_qp_delta, which is 0 where it is not coded (7.3.5, 7.4.5)
 abbrev pub qp_delta_where : (coded : Bool) → Read ℤ
 qp_delta_where true = qp_delta
 qp_delta_where false = give (pos 0)
 
--- what follows coded_block_pattern
+-- what follows coded_block_pattern: CodedBlockPatternLuma is its remainder by 16 (7.3.5, 7.4.5)
 abbrev pub after_pattern : Context → (pattern : ℕ) → Read Residual
 after_pattern c pattern = do
   delta ← qp_delta_where (not (pattern == 0))
@@ -98,18 +105,21 @@ after_pattern c pattern = do
 abbrev pub qp_after : (previous : ℕ) → (mb_qp_delta : ℤ) → ℕ
 qp_after previous delta = nat_abs ((pos previous +ℤ delta) +ℤ pos 52) % 52
 
+-- a macroblock with this residual, and its QP_Y (7.4.5)
 abbrev pub with_residual : Context → Residual → MbSyntax → Mb
 with_residual c r syntax = record { syntax = syntax; qp = qp_after c.qp r.mb_qp_delta }
 
 -- ---- I macroblocks
 
+-- rem_intra4x4_pred_mode (7.3.5.1)
 abbrev pub rem_mode : Read (Option ℕ)
 rem_mode = u 3 >>= λ rem. give (Some rem)
 
--- prev_intra4x4_pred_mode_flag, and rem_intra4x4_pred_mode where it is 0
+-- prev_intra4x4_pred_mode_flag, and rem_intra4x4_pred_mode where it is 0 (7.3.5.1)
 abbrev pub block_mode : Read (Option ℕ)
 block_mode = flag >>= λ predicted. elim predicted [ true ↦ give None | false ↦ rem_mode ]
 
+-- an I_NxN macroblock, with Intra_4x4 prediction (7.3.5, 7.3.5.1)
 abbrev pub i_nxn_mb : Context → Read Mb
 i_nxn_mb c = do
   modes ← times 16 block_mode
@@ -118,11 +128,11 @@ i_nxn_mb c = do
   r ← after_pattern c pattern
   give (with_residual c r (i_nxn modes chroma_mode r))
 
--- CodedBlockPatternLuma (Table 7-11)
+-- CodedBlockPatternLuma of an Intra 16x16 macroblock (Table 7-11); n is mb_type - 1
 abbrev pub luma_pattern_of : (n : ℕ) → ℕ
 luma_pattern_of n = elim (nat_le 12 n) [ true ↦ 15 | false ↦ 0 ]
 
--- n is mb_type - 1
+-- an Intra 16x16 macroblock (7.3.5, Table 7-11); n is mb_type - 1
 abbrev pub i_16x16_mb : Context → (n : ℕ) → Read Mb
 i_16x16_mb c n = do
   chroma_mode ← ue_to 3
@@ -130,6 +140,7 @@ i_16x16_mb c n = do
   r ← residual c true (luma_pattern_of n) ((n / 4) % 3) delta
   give (with_residual c r (i_16x16 (n % 4) chroma_mode r))
 
+-- an I_PCM macroblock, behind pcm_alignment_zero_bit: 256 luma samples, 64 Cb and 64 Cr samples (7.3.5)
 abbrev pub i_pcm_mb : Context → Read Mb
 i_pcm_mb c = do
   align
@@ -145,19 +156,22 @@ i_mb c (suc n) = elim (n == 24) [ true ↦ i_pcm_mb c | false ↦ i_16x16_mb c n
 
 -- ---- P macroblocks
 
+-- sub_mb_type of a P macroblock by its number (Table 7-17)
 abbrev pub sub_mb_type : ℕ → SubMbType
 sub_mb_type zero = Sub8x8
 sub_mb_type (suc zero) = Sub8x4
 sub_mb_type (suc (suc zero)) = Sub4x8
 sub_mb_type (suc (suc (suc _))) = Sub4x4
 
+-- sub_mb_type, 0 to 3 (7.3.5.2, Table 7-17)
 abbrev pub sub_mb_type_code : Read SubMbType
 sub_mb_type_code = ue_to 3 >>= λ t. give (sub_mb_type t)
 
+-- those of the four quarters (7.3.5.2)
 abbrev pub sub_mb_types : Read (List SubMbType)
 sub_mb_types = times 4 sub_mb_type_code
 
--- mb_type 0 to 4 of a P slice (Table 7-13)
+-- mb_type 0 to 4 of a P slice, with the four of sub_mb_type in 3 and 4 (Table 7-13, 7.3.5.2)
 abbrev pub p_mb_type : (mb_type : ℕ) → Read PMbType
 p_mb_type zero = give P16x16
 p_mb_type (suc zero) = give P16x8
@@ -165,18 +179,20 @@ p_mb_type (suc (suc zero)) = give P8x16
 p_mb_type (suc (suc (suc zero))) = sub_mb_types >>= λ subs. give (P8x8 subs)
 p_mb_type (suc (suc (suc (suc _)))) = sub_mb_types >>= λ subs. give (P8x8Ref0 subs)
 
--- ref_idx_l0 of each partition; 0 where it is not coded
+-- ref_idx_l0 of each partition (7.3.5.1, 7.3.5.2); 0 where it is not coded (7.4.5.1, 7.4.5.2)
 abbrev pub ref_idx_l0 : (active_count : ℕ) → PMbType → Read (List ℕ)
 ref_idx_l0 active_count (P8x8Ref0 subs) = give (replicate 4 0)
 ref_idx_l0 active_count s =
     elim (nat_le active_count 1) [ true ↦ give (replicate (partitions s) 0) | false ↦ times (partitions s) (te_to (active_count - 1)) ]
 
+-- mvd_l0 of a part, its horizontal and its vertical component (7.3.5.1, 7.3.5.2)
 abbrev pub mvd_l0 : Read Mvd
 mvd_l0 = do
   x ← se
   y ← se
   give (record { x = x; y = y })
 
+-- a P macroblock, mb_type 0 to 4 (7.3.5)
 abbrev pub p_mb : Context → (mb_type : ℕ) → Read Mb
 p_mb c mb_type = do
   s ← p_mb_type mb_type
@@ -186,7 +202,7 @@ p_mb c mb_type = do
   r ← after_pattern c pattern
   give (with_residual c r (p_inter s ref_idx mvd r))
 
--- macroblock_layer
+-- macroblock_layer: mb_type 5 to 30 of a P slice is that of an I slice plus 5 (7.3.5, Table 7-13)
 abbrev pub macroblock : Context → Read Mb
 macroblock c =
     elim c.is_p [

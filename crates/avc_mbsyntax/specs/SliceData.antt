@@ -14,7 +14,7 @@ use Rattle.avc_neigh.specs.TotalCoeffs.{total_coeffs_of}
 use Rattle.avc_mbsyntax.specs.Reading.{macroblock}
 use Rattle.avc_mbsyntax.specs.declared.context.Context.{Context}
 
--- What a slice's data is read under.
+-- What a slice's data is read under (7.3.3).
 pub record SliceStart : Type 0 where
   pub is_p : Bool
   pub active_count : ℕ
@@ -26,35 +26,42 @@ pub record SliceStart : Type 0 where
   pub width : ℕ
   pub size : ℕ
 
--- The macroblocks that could be read, in decoding order, and the fault that came then.
+-- The macroblocks that could be read, in decoding order, and the fault that came then (this decoder's rule).
 pub record SliceMbs : Type 0 where
   pub mbs : List Mb
   pub fault : Option Fault
 
+-- no more macroblocks, and no fault: the end of slice_data (7.3.4)
 abbrev pub ended : SliceMbs
 ended = record { mbs = []; fault = None }
 
+-- no more macroblocks, for this fault (this decoder's rule)
 abbrev pub stopped : Fault → SliceMbs
 stopped f = record { mbs = []; fault = Some f }
 
+-- macroblocks, and then others
 abbrev pub after : List Mb → SliceMbs → SliceMbs
 after front rest = record { mbs = front ++ rest.mbs; fault = rest.fault }
 
+-- a macroblock in the picture: with the number of its slice
 abbrev pub placed : SliceStart → Mb → PicMb
 placed s mb = record { slice = s.slice; mb = mb }
 
+-- a macroblock that mb_skip_run passes over: P_Skip, at the QP_Y of the one before (7.3.4, 7.4.5)
 abbrev pub skipped : (qp : ℕ) → Mb
 skipped qp = record { syntax = p_skip; qp = qp }
 
--- total_coeff of the macroblocks to the left of the next one and above it, where these are available; `before` is the
--- picture up to it.
+-- total_coeff of the macroblock to the left of the next one, where that is available (9.2.1);
+-- `before` is the picture up to it.
 abbrev pub left_total_coeffs : SliceStart → (before : List PicMb) → Option TotalCoeffs
 left_total_coeffs s before = option_map (λ m. total_coeffs_of m.syntax) (left_of before s.width s.slice (length before))
 
+-- total_coeff of the macroblock above it, likewise (9.2.1)
 abbrev pub up_total_coeffs : SliceStart → (before : List PicMb) → Option TotalCoeffs
 up_total_coeffs s before = option_map (λ m. total_coeffs_of m.syntax) (above before s.width s.slice (length before))
 
--- The next macroblock's context: `before` is the picture up to it, qp that of the macroblock before in the slice.
+-- The next macroblock's context: `before` is the picture up to it, qp that of the macroblock before in the
+-- slice (QP_Y,PRED, 7.4.5).
 abbrev pub context : SliceStart → (before : List PicMb) → (qp : ℕ) → Context
 context s before qp = record {
   is_p = s.is_p;
@@ -64,15 +71,17 @@ context s before qp = record {
   up = up_total_coeffs s before;
 }
 
+-- its mb_type is one that is taken (this decoder's rule)
 abbrev pub is_taken : Result (ℕ × Bits) Fault → Bool
 is_taken (Ok r) = takes_mb_type r.0
 is_taken (Err f) = true
 
--- A macroblock of an I slice, or NotYet where its mb_type is not yet taken.
+-- A macroblock of an I slice, or NotYet where its mb_type is not yet taken (this decoder's rule).
 abbrev pub i_macroblock : Context → Read Mb
 i_macroblock c b = elim (is_taken (ue b)) [ true ↦ macroblock c b | false ↦ Err faults.NotYet ]
 
--- In an I slice, where `left` macroblocks of the picture remain: one, read by `part`, and others while there is more data.
+-- In an I slice, where `left` macroblocks of the picture remain: one, read by `part`, and others while there
+-- is more data (7.3.4). TooManyMacroblocks is this decoder's rule.
 abbrev pub i_data : (part : Context → Read Mb) → SliceStart → (left : ℕ) → (before : List PicMb) → (qp : ℕ) → Bits → SliceMbs
 i_data part s zero before qp b = stopped faults.TooManyMacroblocks
 i_data part s (suc left) before qp b =
@@ -84,8 +93,9 @@ i_data part s (suc left) before qp b =
       ])
     ]
 
--- What stands after a run of skipped macroblocks, all of them in `before`: nothing, or one macroblock, and then `next`
--- with the picture up to there, its QP and what is left, where there is more data.
+-- What stands after a run of skipped macroblocks (7.3.4), all of them in `before`: nothing,
+-- or one macroblock, and then `next` with the picture up to there, its QP and what is left,
+-- where there is more data.
 abbrev pub after_run : SliceStart → (before : List PicMb) → (qp : ℕ) → Bits → (next : List PicMb → ℕ → Bits → SliceMbs) → SliceMbs
 after_run s before qp b next =
     elim (more_data b) [
@@ -101,8 +111,8 @@ after_run s before qp b next =
           ]
     ]
 
--- In a P slice, in so many turns at most: a run of skipped macroblocks, then as after_run says. There are as many turns as
--- macroblocks remain, since each but the last reads one.
+-- In a P slice, in so many turns at most: mb_skip_run, then as after_run says (7.3.4). There are as many
+-- turns as macroblocks remain, since each but the last reads one. TooManyMacroblocks is this decoder's rule.
 abbrev pub p_data : SliceStart → (turns : ℕ) → (before : List PicMb) → (qp : ℕ) → Bits → SliceMbs
 p_data s zero before qp b = stopped faults.TooManyMacroblocks
 p_data s (suc turns) before qp b =
@@ -120,7 +130,8 @@ p_data s (suc turns) before qp b =
           ]
     ]
 
--- The data from a macroblock of an I slice or a run of a P slice on; qp is that of the macroblock before in the slice.
+-- The data from a macroblock of an I slice or a run of a P slice on (7.3.4); qp is that of the
+-- macroblock before in the slice.
 abbrev pub data_from : (part : Context → Read Mb) → SliceStart → (before : List PicMb) → (qp : ℕ) → Bits → SliceMbs
 data_from part s before qp b =
     elim s.is_p [
@@ -128,10 +139,10 @@ data_from part s before qp b =
       | false ↦ i_data part s (s.size - length before) before qp b
     ]
 
--- The data of a slice that goes on after `before`, the macroblocks of the picture's earlier slices.
+-- slice_data of a slice that goes on after `before`, the macroblocks of the picture's earlier slices (7.3.4).
 abbrev pub slice_data : SliceStart → (before : List PicMb) → Bits → SliceMbs
 slice_data s before b = data_from macroblock s before s.qp b
 
--- The same, as far as the macroblocks of I slices are taken.
+-- The same, as far as the macroblocks of I slices are taken (this decoder's rule).
 abbrev pub staged_slice_data : SliceStart → (before : List PicMb) → Bits → SliceMbs
 staged_slice_data s before b = data_from i_macroblock s before s.qp b

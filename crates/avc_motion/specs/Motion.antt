@@ -20,42 +20,44 @@ use Rattle.avc_neigh.specs.Nearby.{nearby}
 use Rattle.avc_neigh.specs.Around.{Around}
 use Rattle.avc_neigh.specs.BlockNear.{MotionIsAround}
 
+-- the vector of a neighbour without one, and of a macroblock that stands still (8.4.1.1, 8.4.1.3.2)
 abbrev pub zero_vector : Mv
 zero_vector = record { x = pos 0; y = pos 0 }
 
+-- a partition that is not available (6.4.11.7)
 abbrev pub is_absent : Motion → Bool
 is_absent absent = true
 is_absent intra = false
 is_absent (inter r v) = false
 
--- whether the index of a neighbour, -1 without one, is r
+-- whether refIdxL0 of a neighbour, -1 without one, is r (8.4.1.3.2)
 abbrev pub has_reference : ℕ → Motion → Bool
 has_reference r absent = false
 has_reference r intra = false
 has_reference r (inter s v) = s == r
 
--- the vector of a neighbour, 0 without one
+-- the vector of a neighbour, 0 without one (8.4.1.3.2)
 abbrev pub vector_of : Motion → Mv
 vector_of absent = zero_vector
 vector_of intra = zero_vector
 vector_of (inter r v) = v
 
--- C, or D where C is not available
+-- C, or D where C is not available (8.4.1.3.2)
 abbrev pub else_motion : Motion → Motion → Motion
 else_motion absent d = d
 else_motion intra d = intra
 else_motion (inter r v) d = inter r v
 
 -- What the block has that covers this luma sample, counted from the upper left sample of the macroblock in hand. The list is
--- that of the macroblock's own sixteen blocks, absent where they are not decoded yet.
+-- that of the macroblock's own sixteen blocks, absent where they are not decoded yet (6.4.12).
 abbrev pub Near : Type 0
 Near = List Motion → ℤ → ℤ → Motion
 
--- for macroblock a, where `known` is the map of the macroblocks before it
+-- for macroblock a, where `known` is the map of the macroblocks before it (6.4.12)
 abbrev pub near_in : Coded → List (List Motion) → ℕ → Near
 near_in p known a mine x y = nearby absent p.mbs known mine a (location_at p.width a x y)
 
--- the neighbours of the partition of this width at (x, y) (6.4.11.7)
+-- the neighbours of the partition of this width at (x, y) (6.4.11.7, 8.4.1.3.2)
 abbrev pub neighbours_of : Near → List Motion → (x y width : ℕ) → NeighbouringPartitions
 neighbours_of near mine x y width = record {
   a = near mine (pos x -ℤ pos 1) (pos y);
@@ -65,15 +67,16 @@ neighbours_of near mine x y width = record {
 
 -- ---- prediction (8.4.1.3)
 
--- where only A is available, B and C are as A
+-- where only A is available, B and C are as A (8.4.1.3.1)
 abbrev pub completed : NeighbouringPartitions → NeighbouringPartitions
 completed n =
     if is_absent n.b && is_absent n.c && not (is_absent n.a) then record { a = n.a; b = n.a; c = n.a } else n
 
+-- the median of each component (8.4.1.3.1)
 abbrev pub median_vector : Mv → Mv → Mv → Mv
 median_vector u v w = record { x = median u.x v.x w.x; y = median u.y v.y w.y }
 
--- the vector of the only neighbour that has the index, or the median of all three
+-- the vector of the only neighbour that has the index, or the median of all three (8.4.1.3.1)
 abbrev pub only_or_median : Bool → Bool → Bool → Mv → Mv → Mv → Mv
 only_or_median true false false u v w = u
 only_or_median false true false u v w = v
@@ -83,12 +86,14 @@ only_or_median true false true u v w = median_vector u v w
 only_or_median false true true u v w = median_vector u v w
 only_or_median false false false u v w = median_vector u v w
 
+-- mvpL0 by the median (8.4.1.3.1)
 abbrev pub median_prediction : ℕ → NeighbouringPartitions → Mv
 median_prediction r around =
     let n = completed around in
     only_or_median (has_reference r n.a) (has_reference r n.b) (has_reference r n.c) (vector_of n.a) (vector_of n.b) (vector_of n.c)
 
--- The neighbour that a partition of a macroblock in two halves asks first: upper B, lower A; left A, right C.
+-- The neighbour that a partition of a macroblock in two halves asks first: upper B, lower A;
+-- left A, right C (8.4.1.3).
 abbrev pub first_asked : PMbType → ℕ → NeighbouringPartitions → Motion
 first_asked P16x8 zero n = n.b
 first_asked P16x8 (suc i) n = n.a
@@ -98,14 +103,14 @@ first_asked P16x16 i n = absent
 first_asked (P8x8 subs) i n = absent
 first_asked (P8x8Ref0 subs) i n = absent
 
--- the prediction for a part with reference index r
+-- mvpL0 of a part with reference index r (8.4.1.3)
 abbrev pub predicted_vector : PMbType → ℕ → ℕ → NeighbouringPartitions → Mv
 predicted_vector shape partition r n =
     if has_reference r (first_asked shape partition n)
     then vector_of (first_asked shape partition n)
     else median_prediction r n
 
--- a neighbour that makes a skipped macroblock stand still
+-- a neighbour that makes a skipped macroblock stand still (8.4.1.1)
 abbrev pub is_still : Motion → Bool
 is_still absent = true
 is_still intra = false
@@ -115,14 +120,14 @@ is_still (inter r v) = (r == 0) && (v.x ==ℤ pos 0) && (v.y ==ℤ pos 0)
 abbrev pub skip_vector : NeighbouringPartitions → Mv
 skip_vector n = if is_still n.a || is_still n.b then zero_vector else median_prediction 0 n
 
--- ---- a macroblock's blocks
+-- ---- a macroblock's blocks (8.4.1)
 
--- the block with this number lies in the part
+-- the block with this number lies in the part (6.4.2)
 abbrev pub is_in_part : Part → ℕ → Bool
 is_in_part p k =
     nat_le p.x (block_x k) && nat_lt (block_x k) (p.x + p.width) && nat_le p.y (block_y k) && nat_lt (block_y k) (p.y + p.height)
 
--- `mine` with a part's blocks filled in
+-- `mine` with a part's blocks filled in (6.4.2)
 unfoldable pub with_part : List Motion → Part → Motion → List Motion
 with_part mine p m = map (λ k. if is_in_part p k then m else slice_index_or mine k absent) (range_with_len 0 16)
 
@@ -130,12 +135,12 @@ with_part mine p m = map (λ k. if is_in_part p k then m else slice_index_or min
 abbrev pub sum_with_mvd : Mv → Mvd → Mv
 sum_with_mvd u d = record { x = u.x +ℤ d.x; y = u.y +ℤ d.y }
 
--- what the blocks of a part with reference index r have
+-- what the blocks of a part with reference index r have (8.4.1)
 abbrev pub motion_of_part : Near → PMbType → ℕ → List Motion → Part → Mvd → Motion
 motion_of_part near shape r mine part mvd =
     inter r (sum_with_mvd (predicted_vector shape part.partition r (neighbours_of near mine part.x part.y part.width)) mvd)
 
--- the parts in decoding order, each with its prediction from what is decoded before it and its mvd
+-- the parts in decoding order, each with its prediction from what is decoded before it and its mvd (8.4.1)
 abbrev pub motion_of_parts : Near → PMbType → List ℕ → List Motion → List Part → List Mvd → List Motion
 motion_of_parts near shape ref_idx mine [] mvds = mine
 motion_of_parts near shape ref_idx mine (part ∷ parts) [] = mine
@@ -147,7 +152,7 @@ motion_of_parts near shape ref_idx mine (part ∷ parts) (mvd ∷ mvds) =
 abbrev pub no_motion : List Motion
 no_motion = replicate 16 absent
 
--- the sixteen blocks of a macroblock
+-- the sixteen blocks of a macroblock: intra ones have no vector, skipped ones one for all (8.4.1, 8.4.1.1)
 abbrev pub motion_by : Near → MbSyntax → List Motion
 motion_by near (i_pcm luma cb cr) = replicate 16 intra
 motion_by near (i_nxn modes chroma residual) = replicate 16 intra
@@ -155,31 +160,34 @@ motion_by near (i_16x16 mode chroma residual) = replicate 16 intra
 motion_by near p_skip = replicate 16 (inter 0 (skip_vector (neighbours_of near no_motion 0 0 16)))
 motion_by near (p_inter shape ref_idx mvd residual) = motion_of_parts near shape ref_idx no_motion (parts_of shape) mvd
 
--- those of macroblock a
+-- those of macroblock a (8.4.1)
 abbrev pub motion_of : Coded → List (List Motion) → ℕ → MbSyntax → List Motion
 motion_of p known a syntax = motion_by (near_in p known a) syntax
 
+-- those of the macroblock that stands there, if there is one
 abbrev motion_of_place : Coded → List (List Motion) → ℕ → Option PicMb → List Motion
 motion_of_place p known a (Some m) = motion_of p known a m.mb.syntax
 motion_of_place p known a None = []
 
--- the motion of the first n macroblocks of the picture, by recursion on decoding order
+-- the motion of the first n macroblocks of the picture, by recursion on decoding order (8.4.1)
 abbrev pub motion_before : Coded → ℕ → List (List Motion)
 motion_before p zero = []
 motion_before p (suc n) =
     let known = motion_before p n in
     known ++ motion_of_place p known n (slice_get p.mbs n) ∷ []
 
+-- -32768 to 32767 (this decoder's rule)
 abbrev pub is_16_bit : ℤ → Bool
 is_16_bit z = not (int_lt z (neg_ℤ (pos 32768))) && not (int_lt (pos 32767) z)
 
--- A vector that can be had: each component is a 16-bit number.
+-- A vector that can be had: each component is a 16-bit number (this decoder's rule).
 abbrev pub is_in_range : Motion → Bool
 is_in_range absent = true
 is_in_range intra = true
 is_in_range (inter r v) = is_16_bit v.x && is_16_bit v.y
 
--- what the blocks of a macroblock have, or the fault where one of its vectors can't be had
+-- what the blocks of a macroblock have, or VectorRange where one of its vectors can't be
+-- had (this decoder's rule)
 abbrev pub motion_or_fault : List Motion → Result (List Motion) Fault
 motion_or_fault motion = if list_all is_in_range motion then Ok motion else Err VectorRange
 
@@ -193,13 +201,15 @@ HasMotion n syntax result =
     (p : Coded) (known : List (List Motion)) (a : ℕ) → MotionIsAround n p.mbs p.width known a
     → result ≡ motion_or_fault (motion_of p known a syntax)
 
+-- The same of the vectors alone.
 abbrev pub HasVectors : Around → MbSyntax → Result (List Mv) Fault → Type 0
 HasVectors n syntax result =
     (p : Coded) (known : List (List Motion)) (a : ℕ) → MotionIsAround n p.mbs p.width known a
     → result ≡ vectors_or_fault (motion_of p known a syntax)
 
--- ---- what others ask of a macroblock and of its slice
+-- ---- what others ask of a macroblock and of its slice (7.3.5, 8.4.2.1)
 
+-- a macroblock of an Intra macroblock prediction mode (Table 7-11)
 abbrev pub is_intra : MbSyntax → Bool
 is_intra p_skip = false
 is_intra (i_pcm luma cb cr) = true
@@ -211,9 +221,10 @@ is_intra (p_inter shape ref_idx mvd residual) = false
 abbrev pub no_slice : SliceFacts
 no_slice = record { is_p = false; references = []; weights = []; disable_deblocking_filter_idc = NoEdges; filter_offset_a = pos 0; filter_offset_b = pos 0 }
 
+-- the facts of the slice with this number
 abbrev pub slice_facts : Coded → ℕ → SliceFacts
 slice_facts p slice = slice_index_or p.slices slice no_slice
 
--- the frame that a reference index names in a slice; no frame where the entry is empty or missing
+-- the frame that a reference index names in a slice; no frame where the entry is empty or missing (8.4.2.1)
 abbrev pub frame_named : Coded → (slice reference : ℕ) → Option Frame
 frame_named p slice r = slice_index_or (slice_facts p slice).references r None

@@ -1,4 +1,4 @@
--- The block that covers a sample beside a macroblock, from the macroblock's four neighbours (6.4.12).
+-- The block that covers a sample beside a macroblock, from the macroblock's four neighbours (6.4.12.1).
 use Rattle.std.specs.Prelude.{◌≡◌, ℕ, nat_lt, Bool, ℤ, pos, negsuc, ◌≤ℤ◌, if◌then◌else◌, List, [], Option, Some, None, slice_index_or, All}
 use Rattle.avc_types.specs.Pictures.{Coded, PicMb}
 use Rattle.avc_neigh.specs.declared.facts.NeighbourFacts.{NeighbourFacts}
@@ -11,13 +11,14 @@ use Rattle.avc_neigh.specs.Blocks.{block_at, location_at}
 use Rattle.avc_neigh.specs.Modes.{nxn_modes, IsMode}
 use Rattle.avc_neigh.specs.Nearby.{nearby}
 
--- what block k of a neighbour has, where that is available
+-- what block k of a neighbour has, where that is available (6.4.8)
 abbrev pub block_of : {X : Type 0} → X → (NeighbourFacts → List X) → Option NeighbourFacts → (k : ℕ) → X
 block_of absent blocks None k = absent
 block_of absent blocks (Some f) k = slice_index_or (blocks f) k absent
 
--- The block that covers the sample (x, y) as seen from the upper left one of the macroblock: x from -1 to 16 and y from -1 to 15
--- (Table 6-4). `mine` has the macroblock's own blocks, and `blocks` says what a neighbour's have.
+-- The block that covers the sample (x, y) as seen from the upper left one of the macroblock: x from -1
+-- to 16 and y from -1 to 15 (6.4.12.1, Table 6-3). `mine` has the macroblock's own blocks, and `blocks`
+-- says what a neighbour's have.
 abbrev pub block_near : {X : Type 0} → X → (NeighbourFacts → List X) → Around → (mine : List X) → (x y : ℤ) → X
 block_near absent blocks n mine (pos x) (pos y) = if nat_lt x 16 then slice_index_or mine (block_at x y) absent else absent
 block_near absent blocks n mine (negsuc _) (pos y) = block_of absent blocks n.a (block_at 15 y)
@@ -25,29 +26,33 @@ block_near absent blocks n mine (pos x) (negsuc _) =
     if nat_lt x 16 then block_of absent blocks n.b (block_at x 15) else block_of absent blocks n.c (block_at 0 15)
 block_near absent blocks n mine (negsuc _) (negsuc _) = block_of absent blocks n.d (block_at 15 15)
 
+-- the same of motion (6.4.11.7)
 abbrev pub motion_near : Around → (mine : List Motion) → (x y : ℤ) → Motion
 motion_near = block_near motions.Absent (λ f. f.motion)
 
+-- the same of prediction modes (6.4.11.4)
 abbrev pub mode_near : Around → (mine : List NearMode) → (x y : ℤ) → NearMode
 mode_near = block_near modes.Absent (λ f. f.modes)
 
--- a place whose block a macroblock may ask for
+-- a place whose block a macroblock may ask for (6.4.12.1)
 pub record IsAsked (x y : ℤ) : Type 0 where
   pub left : negsuc 0 ≤ℤ x
   pub right : x ≤ℤ pos 16
   pub top : negsuc 0 ≤ℤ y
   pub bottom : y ≤ℤ pos 15
 
--- These are the neighbours of macroblock a: their blocks are those that are found by sample coordinates. `known` has the blocks
--- of the macroblocks before a.
+-- These are the neighbours of macroblock a: their blocks are those that are found by sample coordinates
+-- (6.4.12.1). `known` has the blocks of the macroblocks before a.
 pub record AreAround {X : Type 0} (absent : X) (blocks : NeighbourFacts → List X) (n : Around)
     (mbs : List PicMb) (width : ℕ) (known : List (List X)) (a : ℕ) : Type 0 where
   pub block : (mine : List X) (x y : ℤ) → IsAsked x y
       → nearby absent mbs known mine a (location_at width a x y) ≡ block_near absent blocks n mine x y
 
+-- the same of motion (6.4.11.7)
 abbrev pub MotionIsAround : Around → List PicMb → (width : ℕ) → (known : List (List Motion)) → (a : ℕ) → Type 0
 MotionIsAround = AreAround motions.Absent (λ f. f.motion)
 
+-- the same of prediction modes (6.4.11.4)
 abbrev pub ModesAreAround : Around → List PicMb → (width : ℕ) → (known : List (List NearMode)) → (a : ℕ) → Type 0
 ModesAreAround = AreAround modes.Absent (λ f. f.modes)
 
@@ -57,7 +62,7 @@ AreNxnModes n constrained_intra_pred coded modes =
     (c : Coded) (known : List (List NearMode)) (a : ℕ) → c.constrained_intra_pred ≡ constrained_intra_pred
     → ModesAreAround n c.mbs c.width known a → modes ≡ nxn_modes c known a [] coded
 
--- The modes of a neighbour, where it is available, are 0 to 8.
+-- The modes of a neighbour, where it is available, are 0 to 8 (Table 8-2).
 abbrev pub HasModes : Option NeighbourFacts → Type 0
 HasModes None = Unit {0}
 HasModes (Some f) = All IsMode f.modes

@@ -58,7 +58,7 @@ abbrev pub holds_of : (NeighbourFacts → Bool) → Option NeighbourFacts → Bo
 holds_of told None = false
 holds_of told (Some f) = told f
 
--- the same by the neighbour that covers the sample (Table 6-4); `mine` is for samples of the macroblock itself
+-- the same by the neighbour that covers the sample (6.4.12.1, Table 6-3); `mine` is for samples of the macroblock itself
 abbrev pub is_there_near : (told : NeighbourFacts → Bool) → (mine : (x y : ℕ) → Bool) → Around → (x y : ℤ) → Bool
 is_there_near told mine n (pos x) (pos y) = if nat_lt x 16 then mine x y else false
 is_there_near told mine n (negsuc _) (pos y) = holds_of told n.a

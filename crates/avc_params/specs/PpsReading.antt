@@ -8,12 +8,14 @@ use Rattle.avc_params.specs.declared.pps_reading.DefaultCounts.{DefaultCounts}
 use Rattle.avc_params.specs.declared.pps_reading.Quantisation.{Quantisation}
 use Rattle.avc_params.specs.declared.pps_reading.Switches.{Switches}
 
+-- num_ref_idx_l0_default_active_minus1 and num_ref_idx_l1_default_active_minus1, each 0 to 31 (7.4.2.2)
 abbrev pub default_counts : Read DefaultCounts
 default_counts = do
   num_ref_idx_l0_default_active_minus1 ← ue_to 31
   num_ref_idx_l1_default_active_minus1 ← ue_to 31
   give (record { num_ref_idx_l0_default_active_minus1 = num_ref_idx_l0_default_active_minus1; num_ref_idx_l1_default_active_minus1 = num_ref_idx_l1_default_active_minus1 })
 
+-- weighted_pred_flag to chroma_qp_index_offset, in their ranges at 8 bits (7.3.2.2, 7.4.2.2)
 abbrev pub quantisation : Read Quantisation
 quantisation = do
   weighted_pred_flag ← flag
@@ -29,6 +31,7 @@ quantisation = do
     chroma_qp_index_offset = chroma_qp_index_offset;
   })
 
+-- deblocking_filter_control_present_flag to redundant_pic_cnt_present_flag (7.3.2.2)
 abbrev pub switches : Read Switches
 switches = do
   deblocking_filter_control_present_flag ← flag
@@ -40,7 +43,7 @@ switches = do
     redundant_pic_cnt_present_flag = redundant_pic_cnt_present_flag;
   })
 
--- what follows the id
+-- what follows the id (7.3.2.2); that Cabac, SliceGroups and PpsExtension are refused is this decoder's rule
 abbrev pub pps_after : (pic_parameter_set_id : ℕ) → Read Pps
 pps_after pic_parameter_set_id = do
   seq_parameter_set_id ← ue_to 31
@@ -70,5 +73,6 @@ pps_after pic_parameter_set_id = do
     redundant_pic_cnt_present_flag = flags.redundant_pic_cnt_present_flag;
   })
 
+-- pic_parameter_set_rbsp; its id is 0 to 255 (7.3.2.2, 7.4.2.2)
 abbrev pub pps : Read Pps
 pps = ue_to 255 >>= pps_after

@@ -14,6 +14,7 @@ use Rattle.avc_params.specs.declared.sps.Sps.{Sps}
 use Rattle.avc_params.specs.declared.sps_reading.Identity.{Identity}
 use Rattle.avc_params.specs.declared.sps_reading.Size.{Size}
 
+-- constraint_set0_flag to constraint_set5_flag (7.3.2.1.1)
 abbrev pub constraint_flags : Read ConstraintFlags
 constraint_flags = do
   constraint_set0_flag ← flag
@@ -31,7 +32,7 @@ constraint_flags = do
     constraint_set5_flag = constraint_set5_flag;
   })
 
--- what a set begins with, up to its id
+-- what a set begins with, profile_idc to seq_parameter_set_id, which is 0 to 31 (7.3.2.1.1, 7.4.2.1.1)
 abbrev pub identity : Read Identity
 identity = do
   profile_idc ← u 8
@@ -47,11 +48,13 @@ identity = do
     seq_parameter_set_id = seq_parameter_set_id;
   })
 
+-- log2_max_pic_order_cnt_lsb_minus4, 0 to 12, at pic_order_cnt_type 0 (7.3.2.1.1, 7.4.2.1.1)
 abbrev pub lsb : Read OrderCount
 lsb = do
   log2_max_pic_order_cnt_lsb_minus4 ← ue_to 12
   give (orders.Type0 log2_max_pic_order_cnt_lsb_minus4)
 
+-- delta_pic_order_always_zero_flag to offset_for_ref_frame, at pic_order_cnt_type 1 (7.3.2.1.1)
 abbrev pub cycle : Read OrderCount
 cycle = do
   delta_pic_order_always_zero_flag ← flag
@@ -61,14 +64,16 @@ cycle = do
   offset_for_ref_frame ← times num_ref_frames_in_pic_order_cnt_cycle se
   give (orders.Type1 delta_pic_order_always_zero_flag offset_for_non_ref_pic offset_for_top_to_bottom_field offset_for_ref_frame)
 
--- what follows pic_order_cnt_type
+-- what follows pic_order_cnt_type (7.3.2.1.1)
 abbrev pub order_count_of : ℕ → Read OrderCount
 order_count_of kind =
     elim (kind == 0) [ true ↦ lsb | false ↦ elim (kind == 1) [ true ↦ cycle | false ↦ give orders.Type2 ] ]
 
+-- pic_order_cnt_type, 0 to 2, and what follows it (7.3.2.1.1, 7.4.2.1.1)
 abbrev pub order_count : Read OrderCount
 order_count = ue_to 2 >>= λ pic_order_cnt_type. order_count_of pic_order_cnt_type
 
+-- pic_width_in_mbs_minus1 and pic_height_in_map_units_minus1 (7.3.2.1.1); the limits are those of A.3.1
 abbrev pub size : Read Size
 size = do
   pic_width_in_mbs_minus1 ← ue
@@ -77,7 +82,7 @@ size = do
   check (nat_lt pic_height_in_map_units_minus1 max_side && nat_le ((pic_width_in_mbs_minus1 + 1) * (pic_height_in_map_units_minus1 + 1)) max_macroblocks) faults.PictureSize
   give (record { pic_width_in_mbs_minus1 = pic_width_in_mbs_minus1; pic_height_in_map_units_minus1 = pic_height_in_map_units_minus1 })
 
--- The four offsets, of a picture of so many luma samples.
+-- The four offsets, of a picture of so many luma samples, of which some have to be left (7.3.2.1.1, 7.4.2.1.1).
 abbrev pub cropping : (width height : ℕ) → Read Cropping
 cropping width height = do
   left ← ue
@@ -88,7 +93,8 @@ cropping width height = do
   check (nat_lt (2 * (top + bottom)) height) faults.OutOfRange
   give (record { frame_crop_left_offset = left; frame_crop_right_offset = right; frame_crop_top_offset = top; frame_crop_bottom_offset = bottom })
 
--- what follows the id
+-- what follows the id (7.3.2.1.1); that other profiles, levels and interlaced coding are
+-- refused is this decoder's rule
 abbrev pub sps_after : Identity → Read Sps
 sps_after head = do
   check (head.profile_idc == 66 || head.profile_idc == 77 || head.profile_idc == 88) faults.Profile
@@ -120,5 +126,6 @@ sps_after head = do
     vui = usability;
   })
 
+-- seq_parameter_set_data (7.3.2.1.1)
 abbrev pub sps : Read Sps
 sps = identity >>= sps_after

@@ -14,6 +14,7 @@ use Rattle.avc_params.specs.declared.vui.Timing.{Timing}
 use Rattle.avc_params.specs.declared.vui.VideoSignal.{VideoSignal}
 use Rattle.avc_params.specs.declared.vui.Vui.{Vui}
 
+-- bit_rate_value_minus1 to cbr_flag of one CPB (E.1.2)
 abbrev pub hrd_entry : Read HrdEntry
 hrd_entry = do
   bit_rate_value_minus1 ← ue
@@ -21,6 +22,7 @@ hrd_entry = do
   cbr_flag ← flag
   give (record { bit_rate_value_minus1 = bit_rate_value_minus1; cpb_size_value_minus1 = cpb_size_value_minus1; cbr_flag = cbr_flag })
 
+-- hrd_parameters; cpb_cnt_minus1 is 0 to 31 (E.1.2, E.2.2)
 abbrev pub hrd : Read Hrd
 hrd = do
   cpb_cnt_minus1 ← ue_to 31
@@ -41,19 +43,21 @@ hrd = do
     time_offset_length = time_offset_length;
   })
 
+-- sar_width and sar_height (E.1.1)
 abbrev pub sample_size : Read SampleSize
 sample_size = do
   sar_width ← u 16
   sar_height ← u 16
   give (record { sar_width = sar_width; sar_height = sar_height })
 
--- 255 is Extended_SAR
+-- aspect_ratio_idc and what follows it; 255 is Extended_SAR (E.1.1, Table E-1)
 abbrev pub sample_aspect : Read SampleAspect
 sample_aspect = do
   aspect_ratio_idc ← u 8
   extended ← where_set (aspect_ratio_idc == 255) sample_size
   give (record { aspect_ratio_idc = aspect_ratio_idc; extended = extended })
 
+-- colour_primaries to matrix_coefficients (E.1.1)
 abbrev pub colour : Read Colour
 colour = do
   colour_primaries ← u 8
@@ -61,6 +65,7 @@ colour = do
   matrix_coefficients ← u 8
   give (record { colour_primaries = colour_primaries; transfer_characteristics = transfer_characteristics; matrix_coefficients = matrix_coefficients })
 
+-- video_format to the colour description (E.1.1)
 abbrev pub video_signal : Read VideoSignal
 video_signal = do
   video_format ← u 3
@@ -68,12 +73,14 @@ video_signal = do
   described ← optional colour
   give (record { video_format = video_format; video_full_range_flag = video_full_range_flag; colour = described })
 
+-- chroma_sample_loc_type_top_field and chroma_sample_loc_type_bottom_field (E.1.1)
 abbrev pub chroma_location : Read ChromaLocation
 chroma_location = do
   top ← ue
   bottom ← ue
   give (record { chroma_sample_loc_type_top_field = top; chroma_sample_loc_type_bottom_field = bottom })
 
+-- num_units_in_tick to fixed_frame_rate_flag (E.1.1)
 abbrev pub timing : Read Timing
 timing = do
   num_units_in_tick ← u 32
@@ -81,6 +88,7 @@ timing = do
   fixed_frame_rate_flag ← flag
   give (record { num_units_in_tick = num_units_in_tick; time_scale = time_scale; fixed_frame_rate_flag = fixed_frame_rate_flag })
 
+-- motion_vectors_over_pic_boundaries_flag to max_dec_frame_buffering (E.1.1)
 abbrev pub restriction : Read Restriction
 restriction = do
   motion_vectors_over_pic_boundaries_flag ← flag
@@ -100,6 +108,7 @@ restriction = do
     max_dec_frame_buffering = max_dec_frame_buffering;
   })
 
+-- vui_parameters (E.1.1)
 abbrev pub vui : Read Vui
 vui = do
   aspect ← optional sample_aspect

@@ -3,6 +3,7 @@ use Rattle.std.specs.Prelude.{ℕ, List, codes}
 use Rattle.avc_types.specs.declared.fault.Fault.{Fault}
 use Rattle.avc_types.specs.declared.fault.Fault.TheVariants as faults
 
+-- the number that a refusal is told by (this decoder's rule)
 abbrev pub number_of : Fault → ℕ
 number_of faults.Truncated = 1
 number_of faults.CodeTooLong = 2
@@ -39,6 +40,7 @@ number_of faults.VectorRange = 44
 number_of faults.RefMissing = 45
 number_of faults.NotYet = 46
 
+-- the name that is printed for it (this decoder's rule)
 abbrev pub name_of : Fault → List ℕ
 name_of faults.Truncated = codes "Truncated"
 name_of faults.CodeTooLong = codes "CodeTooLong"

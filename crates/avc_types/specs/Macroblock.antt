@@ -30,7 +30,7 @@ pub record Residual : Type 0 where
 abbrev pub total_coeff : List ℤ → ℕ
 total_coeff levels = count_by (λ l. not (nat_abs l == 0)) levels
 
--- What stands in the bits of one macroblock.
+-- What stands in the bits of one macroblock, by its mb_type (7.3.5, Tables 7-11 and 7-13).
 pub data MbSyntax : Type 0 where
   -- inferred in a P slice by mb_skip_run
   p_skip : MbSyntax
@@ -49,18 +49,20 @@ pub record Mb : Type 0 where
   pub syntax : MbSyntax
   pub qp : ℕ
 
+-- a part of a macroblock at (x, y), of this size, in the macroblock partition with this number (6.4.2)
 abbrev pub part : ℕ → ℕ → ℕ → ℕ → ℕ → Part
 part x y width height partition =
     record { x = x; y = y; width = width; height = height; partition = partition }
 
--- The upper left sample of an 8x8 quarter of a macroblock (6.4.5).
+-- The column of the upper left sample of an 8x8 quarter of a macroblock (6.4.5).
 abbrev pub quarter_x : ℕ → ℕ
 quarter_x q = 8 * (q % 2)
 
+-- the row of that sample (6.4.5)
 abbrev pub quarter_y : ℕ → ℕ
 quarter_y q = 8 * (q / 2)
 
--- one quarter at (x, y)
+-- the sub-macroblock partitions of the quarter q at (x, y) (6.4.2.2, Table 7-17)
 abbrev pub parts_of_quarter : SubMbType → ℕ → ℕ → ℕ → List Part
 parts_of_quarter Sub8x8 x y q = part x y 8 8 q ∷ []
 parts_of_quarter Sub8x4 x y q = part x y 8 4 q ∷ part x (y + 4) 8 4 q ∷ []
@@ -68,11 +70,12 @@ parts_of_quarter Sub4x8 x y q = part x y 4 8 q ∷ part (x + 4) y 4 8 q ∷ []
 parts_of_quarter Sub4x4 x y q =
     part x y 4 4 q ∷ part (x + 4) y 4 4 q ∷ part x (y + 4) 4 4 q ∷ part (x + 4) (y + 4) 4 4 q ∷ []
 
+-- those of the quarters from q on, one after another (6.4.2.2)
 abbrev pub parts_of_quarters : List SubMbType → ℕ → List Part
 parts_of_quarters [] q = []
 parts_of_quarters (s ∷ subs) q = parts_of_quarter s (quarter_x q) (quarter_y q) q ++ parts_of_quarters subs (q + 1)
 
--- The parts of a macroblock in decoding order: one for each element of `mvd`.
+-- The parts of a macroblock in decoding order: one for each element of `mvd` (6.4.2, Tables 7-13 and 7-17).
 abbrev pub parts_of : PMbType → List Part
 parts_of P16x16 = part 0 0 16 16 0 ∷ []
 parts_of P16x8 = part 0 0 16 8 0 ∷ part 0 8 16 8 1 ∷ []

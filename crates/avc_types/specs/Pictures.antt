@@ -4,11 +4,12 @@ use Rattle.avc_types.specs.declared.edges.FilteredEdges.{FilteredEdges}
 use Rattle.avc_types.specs.declared.weight.Weights.{Weights}
 use Rattle.avc_types.specs.Macroblock.{Mb}
 
--- The sample of component c (0 luma, 1 Cb, 2 Cr) in column x and row y.
+-- The sample of component c (0 luma, 1 Cb, 2 Cr) in column x and row y (6.2).
 abbrev pub Samples : Type 0
 Samples = (c x y : ℕ) → ℕ
 
--- A frame that an inter prediction can name. Two frames are one picture where their entries are equal.
+-- A frame that an inter prediction can name (8.4.2.1). Two frames are one picture
+-- where their entries are equal.
 pub record Frame : Type 0 where
   -- its place in the history
   pub entry : ℕ
@@ -28,12 +29,12 @@ pub record SliceFacts : Type 0 where
   pub filter_offset_a : ℤ
   pub filter_offset_b : ℤ
 
--- A macroblock with the number of its slice in the picture, from 0.
+-- A macroblock with the number of its slice in the picture, from 0 (6.3).
 pub record PicMb : Type 0 where
   pub slice : ℕ
   pub mb : Mb
 
--- A picture's macroblocks so far, in decoding order: the macroblock at place a has the address a.
+-- A picture's macroblocks so far, in decoding order: the macroblock at place a has the address a (6.3, 6.4.1).
 pub record Coded : Type 0 where
   -- in macroblocks
   pub width : ℕ
