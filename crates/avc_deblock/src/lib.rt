@@ -14,6 +14,7 @@ mod lines;
 mod macroblock;
 mod pair;
 mod planes_edge;
+mod still;
 mod strengths;
 mod thresholds;
 

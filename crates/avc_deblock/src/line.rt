@@ -41,7 +41,7 @@ fn is_near(a: u8, b: u8, limit: u8) -> bool
 }
 
 #[inline(always)]
-fn all_three(a: bool, b: bool, c: bool) -> bool
+pub(crate) fn all_three(a: bool, b: bool, c: bool) -> bool
     ensures { result ≡ (a && b && c) }
 {
     a & b & c

@@ -91,7 +91,7 @@ pub(crate) fn macroblock<const PAD: usize>(
         (1 ≤ place.row → HasFacts c motion names (a - c.width) above.now) →
         planes_of planes.new ≡ planes_mb c motion a (planes_of planes.old) }
 {
-    let inner = mb.filters_edge_to(mb);
+    let inner = both(mb.filters_edge_to(mb), !mb.is_still());
     let from_left = both(place.column > 0, mb.filters_edge_to(left));
     let from_above = both(place.row > 0, mb.filters_edge_to(above));
     outer_edge(planes, left, mb, true, from_left, place);

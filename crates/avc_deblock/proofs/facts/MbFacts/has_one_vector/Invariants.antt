@@ -1,0 +1,7 @@
+use Rattle.std.proofs.Common.{◌≡◌, ◌<◌, ℕ, true}
+use Rattle.std.specs.Prelude.{slice_index_or}
+use Rattle.avc_motion.specs.Motion.{zero_vector}
+use Rattle.avc_deblock.proofs.facts.MbFacts.has_one_vector.Given as goal
+
+abbrev pub invariant-loop-k : goal.invariant-loop-k
+invariant-loop-k l = l.same ≡ true → (k : ℕ) → k < l.k → slice_index_or l.self.vectors k zero_vector ≡ slice_index_or l.self.vectors 0 zero_vector

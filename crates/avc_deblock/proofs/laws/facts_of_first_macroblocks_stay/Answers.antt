@@ -1,0 +1,37 @@
+use Rattle.std.proofs.Common.{◌≡◌, ◌∙◌, ◌<◌, ℕ, ◌+◌, List, [], arith, sym, ap}
+use Rattle.std.specs.Prelude.{slice_index_or, None}
+use Rattle.avc_types.specs.Pictures.{Coded, PicMb, SliceFacts}
+use Rattle.avc_neigh.specs.declared.facts.Motion.{Motion}
+use Rattle.avc_neigh.specs.declared.facts.Motion.TheVariants.{Absent as absent}
+use Rattle.avc_motion.specs.Motion.{is_intra}
+use Rattle.avc_deblock.specs.Edges.{mb_at, slice_at, entry_of_frame, filter_qp, has_coefficients}
+use Rattle.avc_deblock.specs.Facts.{Names, HasFacts, HasMotion}
+use Rattle.avc_deblock.specs.declared.facts.MbFacts.{MbFacts}
+use Rattle.avc_deblock.proofs.laws.facts_of_first_macroblocks_stay.Goals as goal
+
+module _ (c d : Coded) (names : Names) (a : ℕ) (f : MbFacts) (same_mb : mb_at d a ≡ mb_at c a) (same_slice : slice_at d a ≡ slice_at c a) where
+  motion_stays : (k : ℕ) (m n : Motion) → n ≡ m → HasMotion c names a f k m → HasMotion d names a f k n
+  motion_stays k m n same h = record {
+    reference = h.reference;
+    is = same ∙ h.is;
+    picture = ap (λ (s : SliceFacts). entry_of_frame (slice_index_or s.references h.reference None)) same_slice ∙ h.picture;
+    named = h.named;
+  }
+
+  facts_stay : (motion_c motion_d : List (List Motion)) → slice_index_or motion_d a [] ≡ slice_index_or motion_c a [] → HasFacts c motion_c names a f → HasFacts d motion_d names a f
+  facts_stay motion_c motion_d same h = record {
+    intra_is = h.intra_is ∙ ap (λ (m : PicMb). is_intra m.mb.syntax) (sym same_mb);
+    coefficients_is = λ k low. h.coefficients_is k low ∙ ap (λ (m : PicMb). has_coefficients m.mb.syntax k) (sym same_mb);
+    motion_is = λ inter k low. motion_stays k (slice_index_or (slice_index_or motion_c a []) k absent) (slice_index_or (slice_index_or motion_d a []) k absent)
+        (ap (λ (l : List Motion). slice_index_or l k absent) same) (h.motion_is inter k low);
+    qp_is = h.qp_is ∙ ap (λ (m : PicMb). filter_qp m.mb.qp m.mb.syntax) (sym same_mb);
+    slice_is = h.slice_is ∙ ap (λ (m : PicMb). m.slice) (sym same_mb);
+    edges_is = h.edges_is ∙ ap (λ (s : SliceFacts). s.disable_deblocking_filter_idc) (sym same_slice);
+    offset_a_is = h.offset_a_is ∙ ap (λ (s : SliceFacts). s.filter_offset_a) (sym same_slice);
+    offset_b_is = h.offset_b_is ∙ ap (λ (s : SliceFacts). s.filter_offset_b) (sym same_slice);
+  }
+
+pub returns : goal.returns
+returns call n c d motion_c motion_d names first facts agree within have k other low =
+    let below : first + k < n = omega arith in
+    facts_stay c d names (first + k) (slice_index_or facts k other) (agree.mbs (first + k) below) (agree.slices (first + k) below) motion_c motion_d (agree.motion (first + k) below) (have k other low)
