@@ -8,26 +8,28 @@ use Rattle.avc_types.specs.declared.picture.Picture.{Picture as Decoded}
 use Rattle.avc_plane.specs.Planes.{Planes, StoredFrame}
 use Rattle.avc_slice.specs.declared.slice.Slice.{Slice}
 use Rattle.avc_picture.specs.Slices.{is_full, progress, planes_after_slices}
-use Rattle.avc_picture.specs.Decoding.{Decoding, IsFinishAnswer, IsFull, HasNoFault, end_fault, fault_at_end, progress_with, start_with}
+use Rattle.avc_picture.specs.Decoding.{Decoding, IsFinishAnswer, fault_at_end}
 use Rattle.avc_decoder_core.specs.History.{History, history_after_closing, stored_frames}
 use Rattle.avc_decoder_core.specs.Pictures.{output_pictures}
 use Rattle.avc_decoder_core.specs.SequenceState.{Fails, IsClosed, OpenPictureStart, SequenceState, empty_sequence, current_history}
 use Rattle.avc_decoder.specs.FirstFault.{OpenPicture, closed_history, history_of, oldest}
 use Rattle.avc_decoder.specs.Events.{Outcome, closed_outcome, closing_result, failed_at, is_waiting, pictures}
 use Rattle.avc_decoder.specs.States.{HasOutcome, IsOpenIn, QueueState, closed_in, open_picture_from, open_picture_of, with_events}
+use Rattle.avc_decoder.specs.IdrPictures.{EndsWith, HasPlanes, IsFaultless, IsFullAlways, IsIntraPicture, progress_with, start_with}
+use Rattle.avc_decoder.proofs.IdrPictures.{ends_with}
 use Rattle.avc_decoder.proofs.FirstFaults.{Stands, closed_ok, history_is, marking_fails, not_full}
 
 -- the open picture of a sequence and a picture decoder with these slices
-abbrev pub opened_as : SequenceState → Decoding → Slice → List Slice → OpenPicture
+abbrev pub opened_as : SequenceState → Decoding 32 → Slice → List Slice → OpenPicture
 opened_as s d last earlier = record { before = s.history; sps = d.sps; pps = d.pps; last = last; earlier = earlier }
 
-pub stands_as : (s : SequenceState) (unit : ℕ) (d : Decoding) (w : IsOpenIn s unit d) → Stands (opened_as s d w.last w.earlier) (current_history s)
+pub stands_as : (s : SequenceState) (unit : ℕ) (d : Decoding 32) (w : IsOpenIn s unit d) → Stands (opened_as s d w.last w.earlier) (current_history s)
 stands_as s unit d w = record { first = w.first; stands = w.stands }
 
-pub well_at : (d : Decoding) (last : Slice) (earlier : List Slice) (frames : List StoredFrame) → d.slices ≡ last ∷ earlier → HasNoFault d → (progress (start_with frames d) (last ∷ earlier)).fault ≡ None
+pub well_at : (d : Decoding 32) (last : Slice) (earlier : List Slice) (frames : List StoredFrame) → d.slices ≡ last ∷ earlier → IsFaultless d → (progress (start_with frames d) (last ∷ earlier)).fault ≡ None
 well_at d last earlier frames e w = ap (λ ss. (progress (start_with frames d) ss).fault) (sym e) ∙ w frames
 
-full_at : (d : Decoding) (last : Slice) (earlier : List Slice) (frames : List StoredFrame) (full : Bool) → d.slices ≡ last ∷ earlier → IsFull full d → is_full (start_with frames d) (progress (start_with frames d) (last ∷ earlier)) ≡ full
+full_at : (d : Decoding 32) (last : Slice) (earlier : List Slice) (frames : List StoredFrame) (full : Bool) → d.slices ≡ last ∷ earlier → IsFullAlways full d → is_full (start_with frames d) (progress (start_with frames d) (last ∷ earlier)) ≡ full
 full_at d last earlier frames full e f = ap (λ ss. is_full (start_with frames d) (progress (start_with frames d) ss)) (sym e) ∙ f frames
 
 -- Closing has come to this outcome.
@@ -35,7 +37,7 @@ pub record Closes (x : Outcome) (found : Bool) (q : QueueState) (unit : ℕ) (s'
   pub fault : found ≡ is_waiting x.phase
   pub state : HasOutcome x q unit None s' q'
 
-abbrev ClosesAs : SequenceState → Decoding → (fault : Bool) → QueueState → ℕ → SequenceState → QueueState → List Slice → Type 0
+abbrev ClosesAs : SequenceState → Decoding 32 → (fault : Bool) → QueueState → ℕ → SequenceState → QueueState → List Slice → Type 0
 ClosesAs s d fault q unit s' q' slices = Closes (closed_in s.history (open_picture_from s.history d.sps d.pps slices)) fault q unit s' q'
 
 failed_comes : (x : Result History (ℕ × Fault)) (o : OpenPicture) (h : History) (unit last_unit : ℕ) (f : Fault) (q q' : QueueState) (s' : SequenceState) → x ≡ Err (unit, f) → history_of o ≡ h
@@ -59,21 +61,21 @@ short_alone None true f none e = cc
 short_alone None false f none e = (refl, cc)
 short_alone (Some found) full f none e = cc
 
-pub ends_full : (d : Decoding) → HasNoFault d → ((frames : List StoredFrame) → end_fault frames d ≡ None) → IsFull true d
+pub ends_full : (d : Decoding 32) → IsFaultless d → EndsWith None d → IsFullAlways true d
 ends_full d w e = λ frames. full_alone (progress_with frames d).fault (is_full (start_with frames d) (progress_with frames d)) (w frames) (e frames)
 
-ends_short : (d : Decoding) (f : Fault) → HasNoFault d → ((frames : List StoredFrame) → end_fault frames d ≡ Some f) → (frames : List StoredFrame)
+ends_short : (d : Decoding 32) (f : Fault) → IsFaultless d → EndsWith (Some f) d → (frames : List StoredFrame)
     → (is_full (start_with frames d) (progress_with frames d) ≡ false) × (f ≡ MissingMacroblocks)
 ends_short d f w e frames = short_alone (progress_with frames d).fault (is_full (start_with frames d) (progress_with frames d)) f (w frames) (e frames)
 
-pub ends_by : (PAD : ℕ) (d : Decoding) (e : PictureError) (f : Fault) → e ≡ Faulty f → IsFinishAnswer {PAD = PAD} d (Err e) → (frames : List StoredFrame) → end_fault frames d ≡ Some f
-ends_by PAD d e f is h = (subst (λ x. IsFinishAnswer {PAD = PAD} d (Err x)) is h).1
+pub ends_by : (d : Decoding 32) (e : PictureError) (f : Fault) → IsIntraPicture d → e ≡ Faulty f → IsFinishAnswer d (Err e) → EndsWith (Some f) d
+ends_by d e f i is h = ends_with d (Some f) i (subst (λ x. IsFinishAnswer d (Err x)) is h).1
 
 -- macroblocks are missing
-pub closes_short : (s s' : SequenceState) (q q' : QueueState) (unit : ℕ) (d : Decoding) (f : Fault) → IsOpenIn s unit d → ((frames : List StoredFrame) → end_fault frames d ≡ Some f)
+pub closes_short : (s s' : SequenceState) (q q' : QueueState) (unit : ℕ) (d : Decoding 32) (f : Fault) → IsOpenIn s unit d → EndsWith (Some f) d
     → s' ≡ empty_sequence → q' ≡ with_events (failed_at (current_history s) unit f 0).events q → Closes (closed_in s.history (open_picture_of s.history (Some d))) true q unit s' q'
 closes_short s s' q q' unit d f w end_is es eq =
-    let short : IsFull false d = λ frames. (ends_short d f w.well end_is frames).0 in
+    let short : IsFullAlways false d = λ frames. (ends_short d f w.well end_is frames).0 in
     let is : f ≡ MissingMacroblocks = (ends_short d f w.well end_is []).1 in
     let o = opened_as s d w.last w.earlier in
     let st = stands_as s unit d w in
@@ -82,14 +84,14 @@ closes_short s s' q q' unit d f w end_is es eq =
     subst (ClosesAs s d true q unit s' q') (sym w.slices) (failed_comes (closing_result o) o (current_history s) unit unit f q q' s' c (history_is o (current_history s) st) es eq)
 
 -- the history that the sequence closes the picture on
-planes_at : (s : SequenceState) (unit : ℕ) (d : Decoding) (w : IsOpenIn s unit d) (planes : Planes) → ((frames : List StoredFrame) → planes ≡ planes_after_slices (start_with frames d) d.slices)
+planes_at : (s : SequenceState) (unit : ℕ) (d : Decoding 32) (w : IsOpenIn s unit d) (planes : Planes) → HasPlanes planes d
     → closed_history (opened_as s d w.last w.earlier) (current_history s) ≡ history_after_closing d.sps (oldest w.last w.earlier).header planes (current_history s)
 planes_at s unit d w planes p =
     let frames = stored_frames (current_history s) in
     ap (λ (ps : Planes). history_after_closing d.sps (oldest w.last w.earlier).header ps (current_history s)) (ap (planes_after_slices (start_with frames d)) (sym w.slices) ∙ sym (p frames))
 
-pub closes_done : (s s' : SequenceState) (q q' : QueueState) (unit : ℕ) (d : Decoding) (planes : Planes) (out : List Decoded) → IsOpenIn s unit d → IsFull true d
-    → ((frames : List StoredFrame) → planes ≡ planes_after_slices (start_with frames d) d.slices)
+pub closes_done : (s s' : SequenceState) (q q' : QueueState) (unit : ℕ) (d : Decoding 32) (planes : Planes) (out : List Decoded) → IsOpenIn s unit d → IsFullAlways true d
+    → HasPlanes planes d
     → ((p : OpenPictureStart) → s.open_picture ≡ Some p → IsClosed s p planes out s') → q' ≡ with_events (pictures out) q → Closes (closed_in s.history (open_picture_of s.history (Some d))) false q unit s' q'
 closes_done s s' q q' unit d planes out w full p closed eq =
     let o = opened_as s d w.last w.earlier in
@@ -101,8 +103,8 @@ closes_done s s' q q' unit d planes out w full p closed eq =
     subst (ClosesAs s d false q unit s' q') (sym w.slices) (done_comes (closing_result o) o (current_history s) s'.history unit out q q' s' c (history_is o (current_history s) st) k.state k.pictures eq)
 
 -- it could not be marked
-pub closes_unmarked : (s between s' : SequenceState) (q q' : QueueState) (unit : ℕ) (d : Decoding) (planes : Planes) (f : Fault) (e : PictureError) → IsOpenIn s unit d → IsFull true d
-    → ((frames : List StoredFrame) → planes ≡ planes_after_slices (start_with frames d) d.slices)
+pub closes_unmarked : (s between s' : SequenceState) (q q' : QueueState) (unit : ℕ) (d : Decoding 32) (planes : Planes) (f : Fault) (e : PictureError) → IsOpenIn s unit d → IsFullAlways true d
+    → HasPlanes planes d
     → ((p : OpenPictureStart) → s.open_picture ≡ Some p → Fails s (history_after_closing p.sps p.header planes (current_history s)) e between) → e ≡ Faulty f
     → s' ≡ empty_sequence → q' ≡ with_events (failed_at (current_history between) unit f 0).events q → Closes (closed_in s.history (open_picture_of s.history (Some d))) true q unit s' q'
 closes_unmarked s between s' q q' unit d planes f e w full p fails is es eq =

@@ -7,7 +7,9 @@ use Rattle.avc_slice.specs.declared.slice.Slice.{Slice}
 use Rattle.avc_slice.specs.Header.{is_idr}
 use Rattle.avc_slice.specs.Within.{IsHeader}
 use Rattle.avc_picture.specs.Slices.{is_full, progress}
-use Rattle.avc_picture.specs.Decoding.{Decoding, IsFull, IsIntra, start_with}
+use Rattle.avc_picture.specs.Decoding.{Decoding, IsFull}
+use Rattle.avc_decoder.specs.IdrPictures.{CanHave, start_with}
+use Rattle.avc_decoder.proofs.IdrPictures.{full_always}
 use Rattle.avc_units.specs.GrouperState.{IsTaken}
 use Rattle.avc_decoder_core.specs.History.{stored_frames}
 use Rattle.avc_decoder_core.specs.SequenceState.{SequenceState}
@@ -15,17 +17,17 @@ use Rattle.avc_decoder.specs.FirstFault.{OpenPicture, history_of}
 use Rattle.avc_decoder.specs.States.{IsOpenIn, is_full_in, open_picture_from, open_picture_of}
 use Rattle.avc_decoder.proofs.Closing.{opened_as}
 
-pub full_is : (s : SequenceState) (unit : ℕ) (d : Decoding) (full : Bool) → IsOpenIn s unit d → IsFull full d → full ≡ is_full_in (open_picture_of s.history (Some d))
+pub full_is : (s : SequenceState) (unit : ℕ) (d : Decoding 32) (full : Bool) → IsOpenIn s unit d → IsFull full d → full ≡ is_full_in (open_picture_of s.history (Some d))
 full_is s unit d full w f =
     let o = opened_as s d w.last w.earlier in
     let frames = stored_frames (history_of o) in
     subst (λ ss. full ≡ is_full_in (open_picture_from s.history d.sps d.pps ss)) (sym w.slices)
-    (sym (ap (λ ss. is_full (start_with frames d) (progress (start_with frames d) ss)) (sym w.slices) ∙ f frames))
+    (sym (ap (λ ss. is_full (start_with frames d) (progress (start_with frames d) ss)) (sym w.slices) ∙ full_always d full w.intra f frames))
 
-pub intra_is : (s : SequenceState) (unit : ℕ) (d : Decoding) (slice : Slice) → IsOpenIn s unit d → ((o : OpenPicture) → open_picture_of s.history (Some d) ≡ Some o → IsHeader o.sps o.pps slice.rbsp slice.header) → is_idr slice.header ≡ true → IsIntra d slice
+pub intra_is : (s : SequenceState) (unit : ℕ) (d : Decoding 32) (slice : Slice) → IsOpenIn s unit d → ((o : OpenPicture) → open_picture_of s.history (Some d) ≡ Some o → IsHeader o.sps o.pps slice.rbsp slice.header) → is_idr slice.header ≡ true → CanHave d slice
 intra_is s unit d slice w within idr =
     let h = within (opened_as s d w.last w.earlier) (ap (open_picture_from s.history d.sps d.pps) w.slices) in
-    record { within = h; intra = h.intra idr }
+    record { picture = w.intra; within = h; intra = h.intra idr }
 
 pub some_is : {A : Type 0} (x y : A) → ◌≡◌ {A = Option A} (Some x) (Some y) → x ≡ y
 some_is x y e = cc

@@ -86,13 +86,6 @@ too_long = refl
 
 -- ---- what is not yet taken
 
-intra_macroblock : seen_all (sets ++ idr) true ≡ refusal 2 faults.NotYet ∷ []
-intra_macroblock = refl
-
--- weighted_pred_flag 1 refuses nothing
-weighted_set : seen_all (sps_small ++ (0 ∷ 0 ∷ 0 ∷ 1 ∷ 0x68 ∷ 0xCF ∷ 0x38 ∷ 0x80 ∷ []) ++ idr) true ≡ refusal 2 faults.NotYet ∷ []
-weighted_set = refl
-
 -- a picture that is not full has the fault of the unit that cannot be read
 p_slice : seen_all (sets ++ pcm first_mb (of_one 80) ++ skipping) true ≡ shown 80 256 ∷ refusal 3 faults.NotYet ∷ []
 p_slice = refl

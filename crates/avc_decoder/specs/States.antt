@@ -10,7 +10,7 @@ use Rattle.avc_params.specs.declared.pps.Pps.{Pps}
 use Rattle.avc_slice.specs.declared.header.Header.{Header}
 use Rattle.avc_slice.specs.declared.slice.Slice.{Slice}
 use Rattle.avc_slice.specs.Within.{IsHeader}
-use Rattle.avc_picture.specs.Decoding.{Decoding, HasNoFault, Refuses, with_slice_more}
+use Rattle.avc_picture.specs.Decoding.{Decoding, with_slice_more}
 use Rattle.avc_units.specs.GrouperState.{GrouperState, IsTaken, after_fault}
 use Rattle.avc_units.specs.declared.step.Next.{Next}
 use Rattle.avc_units.specs.declared.step.Next.TheVariants.{Begins, Continues}
@@ -18,6 +18,7 @@ use Rattle.avc_decoder_core.specs.History.{History, history_at_opening}
 use Rattle.avc_decoder_core.specs.Pictures.{held_pictures}
 use Rattle.avc_decoder_core.specs.SequenceState.{SequenceState, empty_sequence, current_history}
 use Rattle.avc_decoder.specs.FirstFault.{OpenPicture, oldest}
+use Rattle.avc_decoder.specs.IdrPictures.{IsFaultless, IsIntraPicture, IsRefused}
 use Rattle.avc_decoder.specs.Events.{Phase, waiting, running, State, first_state, Outcome, no_change, pictures, closed_picture, after_next, after_unit, state_after, base_in, events, open_picture_facts, failed_at, history_in, at_end}
 use Rattle.avc_decoder.specs.Laws.{state_through}
 use Rattle.avc_decoder.specs.declared.event.Event.{Event}
@@ -67,42 +68,43 @@ abbrev pub open_picture_from : History → Sps → Pps → List Slice → Option
 open_picture_from h sps pps [] = None
 open_picture_from h sps pps (s ∷ earlier) = Some (record { before = h; sps = sps; pps = pps; last = s; earlier = earlier })
 
-abbrev pub open_picture_of : History → Option Decoding → Option OpenPicture
+abbrev pub open_picture_of : History → Option (Decoding 32) → Option OpenPicture
 open_picture_of h None = None
 open_picture_of h (Some d) = open_picture_from h d.sps d.pps d.slices
 
 -- A picture is open in the sequence, and its slices so far have no fault; the last one is of this unit.
-pub record IsOpenIn (s : SequenceState) (last_unit : ℕ) (d : Decoding) : Type 0 where
+pub record IsOpenIn (s : SequenceState) (last_unit : ℕ) (d : Decoding 32) : Type 0 where
   pub last : Slice
   pub earlier : List Slice
   pub going : d.failed ≡ false
   pub on : s.failed ≡ false
   pub slices : d.slices ≡ last ∷ earlier
   pub unit : last_unit ≡ last.unit
-  pub well : HasNoFault d
+  pub intra : IsIntraPicture d
+  pub well : IsFaultless d
   pub open_picture : s.open_picture ≡ Some (record { sps = d.sps; header = (oldest last earlier).header })
   pub first : ((oldest last earlier).header).first_mb_in_slice ≡ 0
   pub stands : history_at_opening d.sps (oldest last earlier).header s.history ≡ Ok (current_history s)
 
-abbrev pub IsOpen : SequenceState → (last_unit : ℕ) → Option Decoding → Type 0
+abbrev pub IsOpen : SequenceState → (last_unit : ℕ) → Option (Decoding 32) → Type 0
 IsOpen s last_unit None = (s.failed ≡ false) × (s.open_picture ≡ None)
 IsOpen s last_unit (Some d) = IsOpenIn s last_unit d
 
-pub record HasOpenPicture (s : SequenceState) (last_unit : ℕ) (picture : Option Decoding) : Type 0 where
+pub record HasOpenPicture (s : SequenceState) (last_unit : ℕ) (picture : Option (Decoding 32)) : Type 0 where
   pub works : IsOpen s last_unit picture
 
 -- A step of an open picture has come to this outcome: which picture is open then, and what stands in the queue.
-pub record HasOutcome (o : Outcome) (q : QueueState) (last_unit : ℕ) (picture : Option Decoding) (s' : SequenceState) (q' : QueueState) : Type 0 where
+pub record HasOutcome (o : Outcome) (q : QueueState) (last_unit : ℕ) (picture : Option (Decoding 32)) (s' : SequenceState) (q' : QueueState) : Type 0 where
   pub works : HasOpenPicture s' last_unit picture
   pub history : s'.history ≡ base_in o.phase
   pub open_picture : open_picture_of s'.history picture ≡ open_picture_in o.phase
   pub queue : q' ≡ with_events o.events q
 
 -- One slice more was decoded, or its fault went out.
-abbrev pub Decodes : (d : Decoding) → Slice → SequenceState → QueueState → Option Decoding → SequenceState → QueueState → Type 0
-Decodes d slice s q (Some d') s' q' = (d.failed ≡ false) × (d' ≡ with_slice_more slice d) × HasNoFault d' × (s' ≡ s) × (q' ≡ q)
+abbrev pub Decodes : (d : Decoding 32) → Slice → SequenceState → QueueState → Option (Decoding 32) → SequenceState → QueueState → Type 0
+Decodes d slice s q (Some d') s' q' = (d.failed ≡ false) × (d' ≡ with_slice_more slice d) × IsIntraPicture d' × IsFaultless d' × (s' ≡ s) × (q' ≡ q)
 Decodes d slice s q None s' q' =
-    (f : Fault) × Refuses d slice f (with_slice_more slice d) × (s' ≡ empty_sequence) × (q' ≡ with_events (failed_at (current_history s) slice.unit f 0).events q)
+    (f : Fault) × IsRefused (with_slice_more slice d) slice f × (s' ≡ empty_sequence) × (q' ≡ with_events (failed_at (current_history s) slice.unit f 0).events q)
 
 -- what closing the open picture gives, if there is one
 abbrev pub closed_in : History → Option OpenPicture → Outcome

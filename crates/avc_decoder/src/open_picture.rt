@@ -1,10 +1,10 @@
 ghost use Rattle.std.specs.Prelude.{◌≡◌, false, true, None, Some, IfOk, OnOk, is_none};
 ghost use Rattle.avc_decoder.specs.Events.{after_first_slice, after_next_slice, failed_at, is_waiting, pictures, running};
+ghost use Rattle.avc_decoder.specs.IdrPictures.{CanHave, IsFaultless};
 ghost use Rattle.avc_decoder.specs.States.{closed_in, open_picture_of, with_events, HasOutcome, Decodes, IsOpenIn};
 ghost use Rattle.avc_decoder_core.specs.Pictures.{held_pictures};
 ghost use Rattle.avc_decoder_core.specs.SequenceState.{empty_sequence, current_history};
 ghost use Rattle.avc_params.specs.Within.{IsPps, IsSps};
-ghost use Rattle.avc_picture.specs.Decoding.{IsIntra};
 ghost use Rattle.avc_slice.specs.Header.{is_idr};
 ghost use Rattle.avc_slice.specs.Within.{IsHeader};
 
@@ -12,6 +12,7 @@ use crate::queue::Queue;
 use avc_decoder_core::Sequence;
 use avc_params::{Pps, Sps};
 use avc_picture::PictureDecoder;
+use avc_plane::PADDING;
 use avc_slice::Slice;
 use avc_types::{Fault, OutOfMemory, PictureError};
 use std::alloc::Global;
@@ -20,7 +21,7 @@ use std::alloc::Global;
 pub fn close_picture(
     sequence: &mut Sequence,
     queue: &mut Queue,
-    picture: PictureDecoder,
+    picture: PictureDecoder<PADDING>,
     last_unit: u64,
 ) -> Result<bool, OutOfMemory>
     requires { IsOpenIn sequence.old last_unit picture }
@@ -56,7 +57,7 @@ pub fn begin_picture(
     slice: &Slice,
     sps: &Sps,
     pps: &Pps,
-) -> Result<Option<PictureDecoder>, OutOfMemory>
+) -> Result<Option<PictureDecoder<PADDING>>, OutOfMemory>
     requires going { sequence.old.failed ≡ false }
     requires rest { sequence.old.open_picture ≡ None }
     requires sps { IsSps sps.now }
@@ -73,7 +74,7 @@ pub fn begin_picture(
     match sequence.open(&slice.header, sps) {
         Ok(out) => {
             queue.show(out)?;
-            let picture = PictureDecoder::begin(alloc, sps, pps)?;
+            let picture = PictureDecoder::begin(alloc, sps, pps, &[])?;
             let picture = decode_slice(sequence, queue, picture, slice)?;
             Ok(picture)
         }
@@ -89,12 +90,12 @@ pub fn begin_picture(
 pub fn continue_picture(
     sequence: &mut Sequence,
     queue: &mut Queue,
-    picture: PictureDecoder,
+    picture: PictureDecoder<PADDING>,
     last_unit: u64,
     slice: &Slice,
-) -> Result<Option<PictureDecoder>, OutOfMemory>
+) -> Result<Option<PictureDecoder<PADDING>>, OutOfMemory>
     requires picture { IsOpenIn sequence.old last_unit picture }
-    requires within { IsIntra picture slice.now }
+    requires within { CanHave picture slice.now }
     ensures fault { IfOk result (λ picture'. is_none picture' ≡ is_waiting (after_next_slice (running sequence.old.history (open_picture_of sequence.old.history (Some picture))) slice.now).phase) }
     ensures state { IfOk result (λ picture'. HasOutcome (after_next_slice (running sequence.old.history (open_picture_of sequence.old.history (Some picture))) slice.now) queue.old slice.now.unit picture' sequence.new queue.new) }
 {
@@ -106,13 +107,14 @@ pub fn continue_picture(
 fn decode_slice(
     sequence: &mut Sequence,
     queue: &mut Queue,
-    mut picture: PictureDecoder,
+    mut picture: PictureDecoder<PADDING>,
     slice: &Slice,
-) -> Result<Option<PictureDecoder>, OutOfMemory>
-    requires { IsIntra picture slice.now }
+) -> Result<Option<PictureDecoder<PADDING>>, OutOfMemory>
+    requires can { CanHave picture slice.now }
+    requires well { IsFaultless picture }
     ensures { IfOk result (λ picture'. Decodes picture slice.now sequence.old queue.old picture' sequence.new queue.new) }
 {
-    match picture.slice(slice) {
+    match picture.slice(slice, &[]) {
         Ok(()) => Ok(Some(picture)),
         Err(PictureError::Fault(fault)) => {
             fail(sequence, queue, slice.unit, fault)?;

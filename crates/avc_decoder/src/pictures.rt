@@ -12,6 +12,7 @@ use crate::queue::Queue;
 use avc_decoder_core::Sequence;
 use avc_params::{Pps, Sps};
 use avc_picture::PictureDecoder;
+use avc_plane::PADDING;
 use avc_slice::Slice;
 use avc_types::{Fault, OutOfMemory};
 use std::alloc::Global;
@@ -22,7 +23,7 @@ use std::marker::Model;
 pub struct Pictures {
     alloc: Global,
     sequence: Sequence,
-    picture: Option<PictureDecoder>,
+    picture: Option<PictureDecoder<PADDING>>,
     // of the open picture's last slice
     last_unit: u64,
     queue: Queue,

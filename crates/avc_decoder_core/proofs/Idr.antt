@@ -4,6 +4,7 @@ use Rattle.std.proofs.lemmas.Bool.{false≢true}
 use Rattle.std.proofs.lemmas.Bool.Decides.{nat_tests}
 use Rattle.std.proofs.lemmas.List.{append-nil, length-map}
 use Rattle.std.proofs.Math.Seq.{drop-append_seam, drop-length}
+use Rattle.std.specs.List.Sorted.{IsStrictlyIncreasing}
 use Rattle.std.specs.Result.{IsErrAnd}
 use Rattle.avc_types.specs.declared.fault.Fault.{Fault}
 use Rattle.avc_types.specs.declared.picture.Picture.{Picture}
@@ -11,6 +12,7 @@ use Rattle.avc_types.specs.declared.picture_error.PictureError.{PictureError}
 use Rattle.avc_types.specs.declared.picture_error.PictureError.TheVariants.{Fault as Faulty}
 use Rattle.avc_types.specs.declared.references.Marking.{Marking}
 use Rattle.avc_types.specs.declared.references.Marking.TheVariants.{Idr, SlidingWindow, Adaptive}
+use Rattle.avc_plane.specs.Frames.{stored_at}
 use Rattle.avc_plane.specs.Planes.{Planes}
 use Rattle.avc_plane.specs.declared.frame.Frame.{Frame}
 use Rattle.avc_params.specs.declared.sps.Sps.{Sps}
@@ -22,10 +24,10 @@ use Rattle.avc_poc.specs.OrderCounts.{Counts, Past, picture, order_counts, count
 use Rattle.avc_marking.specs.Marks.{MarkingEntry, Marks, marks_after, current_frame, frame_num_after_marking, no_marks}
 use Rattle.avc_dpb.specs.Bumping.{Arrival, PriorPictures, Buffer, remain, are_output, are_dropped, after_entry, held_in_output_order}
 use Rattle.avc_decoder_core.specs.History.{Entry, decoded_picture, missing_frame, History, ◌>>=◌, pasts, marking_entry, picture_entry, marks_of, references_of, or_no_references, prior_pictures_of, arrival, arrivals, buffer_of, all_held, entry_at, stored_frames, history_at_opening}
-use Rattle.avc_decoder_core.specs.Idr.{AreIdr, is_long_term, mark_for, drops_output, held_frame, held_sps, shown_frame, CanStand, CanStandIf, IsStateAfter}
+use Rattle.avc_decoder_core.specs.Idr.{AreIdr, is_long_term, mark_for, drops_output, frame_of, held_frame, held_sps, shown_frame, CanStand, CanStandIf, IsStateAfter}
 use Rattle.avc_decoder_core.specs.Pictures.{pictures_at, output_pictures}
 use Rattle.avc_decoder_core.specs.SequenceState as sequenced
-use Rattle.avc_decoder_core.specs.SequenceState.{OpenPictureStart, SequenceState, current_history, with_open_picture, IsOpened, IsClosed, IsCleared, StandFor, StandsFor}
+use Rattle.avc_decoder_core.specs.SequenceState.{OpenPictureStart, SequenceState, current_history, with_open_picture, AreStoredIn, IsOpened, IsClosed, IsCleared}
 
 -- ---- order counts: those of an IDR picture do not depend on the pictures before it
 
@@ -187,7 +189,7 @@ same_some : {A : Type 0} (x y : A) → Some x ≡ Some y → x ≡ y
 same_some x y e = ap (λ o. unwrap_or o x) e
 
 -- what is kept of a value is kept of the value that it is seen as
-pub keeps_seen : (s old : SequenceState) (held : Option (Frame 0)) (sps : Option Sps) → s ≡ old → IsStateAfter s.history s.open_picture held sps → IsStateAfter old.history old.open_picture held sps
+pub keeps_seen : (s old : SequenceState) (held : Option (Frame 32)) (sps : Option Sps) → s ≡ old → IsStateAfter s.history s.open_picture held sps → IsStateAfter old.history old.open_picture held sps
 keeps_seen s old held sps e k = rw (← e) k
 
 standing_alone : (s : SequenceState) → CanStandIf s.history s.open_picture → current_history s ≡ s.history
@@ -211,7 +213,7 @@ abbrev pub with_closed : OpenPictureStart → Planes → SequenceState → Seque
 with_closed o planes s = record { history = decoded_picture o.sps o.header planes ∷ s.history; open_picture = None; failed = false }
 
 -- `o` is the open picture
-is_closed_at : (old new : SequenceState) (o : OpenPictureStart) (planes : Planes) (out : List Picture) (held : Option (Frame 0)) (sps : Option Sps)
+is_closed_at : (old new : SequenceState) (o : OpenPictureStart) (planes : Planes) (out : List Picture) (held : Option (Frame 32)) (sps : Option Sps)
     → old.failed ≡ false → IsStateAfter old.history old.open_picture held sps → old.open_picture ≡ Some o
     → new ≡ with_closed o planes old
     → out ≡ (if drops_output (o.header).marking then [] else shown_frame held sps)
@@ -226,7 +228,7 @@ is_closed_at old new o planes out held sps going k open' state pictures =
           rw (standing_alone old k.stands, pictures, k.frame, k.set, released_alone o.sps o.header planes old.history (can.idr).marking k.pictures) refl;
     })
 
-pub is_closed : (old new : SequenceState) (o : OpenPictureStart) (planes : Planes) (out : List Picture) (held : Option (Frame 0)) (sps : Option Sps)
+pub is_closed : (old new : SequenceState) (o : OpenPictureStart) (planes : Planes) (out : List Picture) (held : Option (Frame 32)) (sps : Option Sps)
     → old.failed ≡ false → IsStateAfter old.history old.open_picture held sps → old.open_picture ≡ Some o
     → new ≡ with_closed o planes old
     → out ≡ (if drops_output (o.header).marking then [] else shown_frame held sps)
@@ -234,7 +236,7 @@ pub is_closed : (old new : SequenceState) (o : OpenPictureStart) (planes : Plane
 is_closed old new o planes out held sps going k open' state pictures other open'' =
     rw (sym (same_some o other (sym open' ∙ open''))) (is_closed_at old new o planes out held sps going k open' state pictures)
 
-pub is_cleared : (old new : SequenceState) (out : List Picture) (held : Option (Frame 0)) (sps : Option Sps)
+pub is_cleared : (old new : SequenceState) (out : List Picture) (held : Option (Frame 32)) (sps : Option Sps)
     → old.failed ≡ false → IsStateAfter old.history old.open_picture held sps → new ≡ sequenced.empty_sequence → out ≡ shown_frame held sps → IsCleared old out new
 is_cleared old new out held sps going k state pictures = record {
   going = going;
@@ -252,15 +254,27 @@ number_kept s e = by_marking s.marking e
     by_marking (Some SlidingWindow) t = refl
     by_marking (Some (Adaptive operations)) t = absurd (false≢true t)
 
-pub stand_for : (s : SequenceState) (frames : List (Frame 0)) (held : Option (Frame 0)) (sps : Option Sps)
-    → IsStateAfter s.history s.open_picture held sps → MatchOption held (frames ≡ []) (λ frame. frames ≡ frame ∷ []) → StandFor frames (stored_frames (current_history s))
-stand_for s frames held sps k slice =
+-- lists of no place and of one place rise
+none_rises : IsStrictlyIncreasing []
+none_rises k below = search arith
+
+one_rises : (n : ℕ) → IsStrictlyIncreasing (n ∷ [])
+one_rises n k below = search arith
+
+one_stored : (sps : Sps) (h : Header) (planes : Planes) (older : History) → AreIdr (decoded_picture sps h planes ∷ older)
+    → stored_at (length older ∷ []) (frame_of h planes ∷ []) ≡ stored_frames (decoded_picture sps h planes ∷ older)
+one_stored sps h planes older a =
+    rw (references_alone (decoded_picture sps h planes ∷ older) a, entry_newest (decoded_picture sps h planes) older, number_kept (picture_entry sps h) (a.0).marking) refl
+
+pub stored_in : (s : SequenceState) (frames : List (Frame 32)) (held : Option (Frame 32)) (sps : Option Sps)
+    → IsStateAfter s.history s.open_picture held sps → MatchOption held (frames ≡ []) (λ frame. frames ≡ frame ∷ []) → AreStoredIn (current_history s) frames
+stored_in s frames held sps k slice =
     rw (standing_alone s k.stands) (by_history s.history k.pictures (rw k.frame at slice))
   where
-    by_history : (history : History) → AreIdr history → MatchOption (held_frame history) (frames ≡ []) (λ frame. frames ≡ frame ∷ []) → StandFor frames (stored_frames history)
-    by_history [] a e = rw e tt
-    by_history (decoded_picture sps' h planes ∷ older) a e = rw (e, references_alone (decoded_picture sps' h planes ∷ older) a, entry_newest (decoded_picture sps' h planes) older)
-        (record { frame_num = sym (number_kept (picture_entry sps' h) (a.0).marking); existing = refl; mark = refl; planes = λ p t. same_some planes p t }, tt)
+    by_history : (history : History) → AreIdr history → MatchOption (held_frame history) (frames ≡ []) (λ frame. frames ≡ frame ∷ []) → AreStoredIn history frames
+    by_history [] a e = rw e (record { entries = []; stand = record { each = refl; rising = none_rises }; stored = refl })
+    by_history (decoded_picture sps' h planes ∷ older) a e =
+        rw e (record { entries = length older ∷ []; stand = record { each = refl; rising = one_rises (length older) }; stored = one_stored sps' h planes older a })
     by_history (missing_frame sps' frame_num ∷ older) a e = absurd a.0
 
 -- a call answers the fault that `?` made of a lower one
@@ -269,6 +283,6 @@ answers_fault (Ok x) f holds e h = absurd e
 answers_fault (Err y) f holds e h = rw e h
 
 -- a picture that was opened is kept
-pub keeps_opened : (history : History) (open_picture : Option OpenPictureStart) (held : Option (Frame 0)) (sps : Option Sps) (o : OpenPictureStart)
+pub keeps_opened : (history : History) (open_picture : Option OpenPictureStart) (held : Option (Frame 32)) (sps : Option Sps) (o : OpenPictureStart)
     → IsStateAfter history open_picture held sps → CanStand history o → IsStateAfter history (Some o) held sps
 keeps_opened history open_picture held sps o k can = record { pictures = k.pictures; stands = can; frame = k.frame; set = k.set; limits = k.limits }

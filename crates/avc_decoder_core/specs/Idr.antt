@@ -6,7 +6,7 @@ use Rattle.avc_types.specs.declared.references.Marking.{Marking}
 use Rattle.avc_types.specs.declared.references.Marking.TheVariants.{Idr}
 use Rattle.avc_types.specs.declared.picture.Picture.{Picture}
 use Rattle.avc_plane.specs.Planes.{Planes}
-use Rattle.avc_plane.specs.Frames.{planes_of}
+use Rattle.avc_plane.specs.Frames.{padded_planes_of}
 use Rattle.avc_plane.specs.declared.frame.Frame.{Frame}
 use Rattle.avc_params.specs.declared.sps.Sps.{Sps}
 use Rattle.avc_params.specs.Within.{IsSps}
@@ -47,16 +47,15 @@ drops_output (Some (Idr no_output long_term)) = no_output
 drops_output _ = false
 
 -- an IDR picture as the one reference frame
-abbrev pub frame_of : Header → Planes → Frame 0
+abbrev pub frame_of : Header → Planes → Frame 32
 frame_of h planes = record {
-  planes = record { luma = planes.luma; cb = planes.cb; cr = planes.cr };
+  planes = Some (record { luma = planes.luma; cb = planes.cb; cr = planes.cr });
   frame_num = h.frame_num;
   mark = Some (mark_for (is_long_term h.marking));
-  existing = true;
 }
 
 -- The frame in the buffer: the last picture, which is held for output too.
-abbrev pub held_frame : History → Option (Frame 0)
+abbrev pub held_frame : History → Option (Frame 32)
 held_frame [] = None
 held_frame (decoded_picture sps h planes ∷ older) = Some (frame_of h planes)
 held_frame (missing_frame sps frame_num ∷ older) = None
@@ -68,8 +67,8 @@ held_sps (decoded_picture sps h planes ∷ older) = Some sps
 held_sps (missing_frame sps frame_num ∷ older) = None
 
 -- the picture of the frame in the buffer
-abbrev pub shown_frame : Option (Frame 0) → Option Sps → List Picture
-shown_frame (Some frame) (Some sps) = picture_of sps (planes_of frame.planes) ∷ []
+abbrev pub shown_frame : Option (Frame 32) → Option Sps → List Picture
+shown_frame (Some frame) (Some sps) = elim frame.planes [ Some planes ↦ picture_of sps (padded_planes_of planes) ∷ [] | None ↦ [] ]
 shown_frame _ _ = []
 
 -- The open picture can stand on the history: it is an IDR picture, and its order counts are in range.
@@ -83,7 +82,7 @@ CanStandIf history None = Unit {0}
 CanStandIf history (Some o) = CanStand history o
 
 -- what is kept of a history of IDR pictures, with the open one
-pub record IsStateAfter (history : History) (open_picture : Option OpenPictureStart) (held : Option (Frame 0)) (sps : Option Sps) : Type 0 where
+pub record IsStateAfter (history : History) (open_picture : Option OpenPictureStart) (held : Option (Frame 32)) (sps : Option Sps) : Type 0 where
   pub pictures : AreIdr history
   pub stands : CanStandIf history open_picture
   pub frame : held ≡ held_frame history

@@ -1,7 +1,7 @@
 -- What a sequence's fields stand for.
 use Rattle.std.specs.Prelude.{◌≡◌, false, map}
 use Rattle.std.specs.Option.{option_map}
-use Rattle.avc_plane.specs.Frames.{planes_of}
+use Rattle.avc_plane.specs.Frames.{padded_planes_of}
 use Rattle.avc_decoder_core.specs.History.{Entry, decoded_picture}
 use Rattle.avc_decoder_core.specs.Idr.{IsStateAfter}
 use Rattle.avc_decoder_core.specs.SequenceState.{OpenPictureStart, SequenceState}
@@ -10,7 +10,7 @@ use Rattle.avc_decoder_core.specs.declared.closed_picture.OpenPictureHeader.{Ope
 use Rattle.avc_decoder_core.specs.declared.sequence.Sequence.TheInside.{Inside}
 
 abbrev pub entry_of : ClosedPicture → Entry
-entry_of c = decoded_picture c.sps c.header (planes_of c.planes)
+entry_of c = decoded_picture c.sps c.header (padded_planes_of c.planes)
 
 abbrev pub open_picture_of : OpenPictureHeader → OpenPictureStart
 open_picture_of o = record { sps = o.sps; header = o.header }

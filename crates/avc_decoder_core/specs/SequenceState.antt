@@ -1,15 +1,16 @@
 -- What a sequence stands for, and how it answers.
-use Rattle.std.specs.Prelude.{◌≡◌, ℕ, Bool, true, false, List, [], ◌∷◌, Option, Some, None, Result, Ok, Err}
+use Rattle.std.specs.Prelude.{◌≡◌, ℕ, Bool, true, false, List, [], map, Option, Some, None, Result, Ok, Err}
 use Rattle.avc_types.specs.declared.fault.Fault.{Fault}
 use Rattle.avc_types.specs.declared.picture.Picture.{Picture}
 use Rattle.avc_types.specs.declared.picture_error.PictureError.{PictureError}
 use Rattle.avc_types.specs.declared.picture_error.PictureError.TheVariants.{Fault as Faulty, OutOfMemory}
-use Rattle.avc_plane.specs.Planes.{Planes, StoredFrame}
-use Rattle.avc_plane.specs.Frames.{planes_of}
+use Rattle.avc_types.specs.References.{StandAt}
+use Rattle.avc_plane.specs.Planes.{Planes}
+use Rattle.avc_plane.specs.Frames.{marked_frame, stored_at}
 use Rattle.avc_plane.specs.declared.frame.Frame.{Frame}
 use Rattle.avc_params.specs.declared.sps.Sps.{Sps}
 use Rattle.avc_slice.specs.declared.header.Header.{Header}
-use Rattle.avc_decoder_core.specs.History.{History, history_at_opening, history_after_closing}
+use Rattle.avc_decoder_core.specs.History.{History, history_at_opening, history_after_closing, stored_frames}
 use Rattle.avc_decoder_core.specs.Pictures.{output_pictures, held_pictures}
 
 -- the parameter set and the first slice's header of a picture that is being decoded
@@ -64,16 +65,8 @@ pub record IsCleared (old : SequenceState) (out : List Picture) (new : SequenceS
   pub state : new ≡ empty_sequence
   pub pictures : out ≡ held_pictures (current_history old)
 
--- a stored frame stands for a reference frame of the history
-pub record StandsFor {PAD : ℕ} (frame : Frame PAD) (stored : StoredFrame) : Type 0 where
-  pub frame_num : frame.frame_num ≡ (stored.reference).frame_num
-  pub existing : frame.existing ≡ (stored.reference).existing
-  pub mark : frame.mark ≡ Some (stored.reference).mark
-  pub planes : (p : Planes) → stored.planes ≡ Some p → planes_of frame.planes ≡ p
-
--- one each, in decoding order
-abbrev pub StandFor : {PAD : ℕ} → List (Frame PAD) → List StoredFrame → Type 0
-StandFor [] [] = Unit {0}
-StandFor (frame ∷ frames) (stored ∷ others) = StandsFor frame stored × StandFor frames others
-StandFor [] (stored ∷ others) = ⊥
-StandFor (frame ∷ frames) [] = ⊥
+-- The frames of the buffer are those of some places of the history, and those that are used for reference are the history's.
+pub record AreStoredIn {PAD : ℕ} (history : History) (frames : List (Frame PAD)) : Type 0 where
+  pub entries : List ℕ
+  pub stand : StandAt entries (map marked_frame frames)
+  pub stored : stored_at entries frames ≡ stored_frames history

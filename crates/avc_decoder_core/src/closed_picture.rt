@@ -1,5 +1,5 @@
 use avc_params::Sps;
-use avc_plane::Planes;
+use avc_plane::{PADDING, PaddedPlanes};
 use avc_slice::Header;
 
 /// A picture that is being decoded: its parameter set and its first slice's header.
@@ -14,5 +14,5 @@ pub struct OpenPictureHeader {
 pub struct ClosedPicture {
     pub sps: Sps,
     pub header: Header,
-    pub planes: Planes<0>,
+    pub planes: PaddedPlanes<PADDING>,
 }

@@ -1,8 +1,8 @@
 ghost use Rattle.std.specs.Prelude.{◌≡◌};
 ghost use Rattle.avc_decoder_core.specs.Idr.{drops_output, frame_of, is_long_term, mark_for};
-ghost use Rattle.avc_plane.specs.Frames.{planes_of};
+ghost use Rattle.avc_plane.specs.Frames.{padded_planes_of};
 
-use avc_plane::{Frame, Planes};
+use avc_plane::{Frame, PADDING, PaddedPlanes};
 use avc_slice::Header;
 use avc_types::{Mark, Marking};
 
@@ -32,14 +32,13 @@ fn idr_mark(header: &Header) -> Mark
 }
 
 /// An IDR picture as the one reference frame.
-pub(crate) fn idr_frame(header: &Header, planes: Planes<0>) -> Frame<0>
-    ensures { result ≡ frame_of header.now (planes_of planes) }
+pub(crate) fn idr_frame(header: &Header, planes: PaddedPlanes<PADDING>) -> Frame<PADDING>
+    ensures { result ≡ frame_of header.now (padded_planes_of planes) }
 {
     Frame {
-        planes,
+        planes: Some(planes),
         frame_num: header.frame_num,
         mark: Some(idr_mark(header)),
-        existing: true,
     }
 }
 

@@ -5,7 +5,7 @@ ghost use Rattle.avc_params.specs.Within.{IsSps};
 use crate::marking::drops_output;
 use crate::picture::picture_of;
 use avc_params::Sps;
-use avc_plane::Frame;
+use avc_plane::{Frame, PADDING};
 use avc_slice::Header;
 use avc_types::{OutOfMemory, Picture};
 use std::alloc::Global;
@@ -13,16 +13,24 @@ use std::alloc::Global;
 /// The held picture goes out, where there is one. It has this parameter set.
 pub(crate) fn output_held(
     alloc: Global,
-    held: Option<Frame<0>>,
+    held: Option<Frame<PADDING>>,
     sps: &Option<Sps>,
 ) -> Result<Vec<Picture>, OutOfMemory>
     requires { IfSome sps.now IsSps }
     ensures { IfOk result (λ out. out.items ≡ shown_frame held sps.now) }
 {
     let mut out = Vec::new(alloc);
-    match (held, sps) {
-        (Some(frame), Some(sps)) => out.push(picture_of(sps, frame.planes))?,
-        _ => {}
+    if let (
+        Some(
+            Frame {
+                planes: Some(planes),
+                ..
+            },
+        ),
+        Some(sps),
+    ) = (held, sps)
+    {
+        out.push(picture_of(alloc, sps, &planes)?)?;
     }
     Ok(out)
 }
@@ -31,7 +39,7 @@ pub(crate) fn output_held(
 pub(crate) fn output_prior_pictures(
     alloc: Global,
     header: &Header,
-    held: Option<Frame<0>>,
+    held: Option<Frame<PADDING>>,
     sps: &Option<Sps>,
 ) -> Result<Vec<Picture>, OutOfMemory>
     requires { IfSome sps.now IsSps }

@@ -1,11 +1,12 @@
-ghost use Rattle.std.specs.Prelude.{◌≡◌, ◌*◌};
+ghost use Rattle.std.specs.Prelude.{◌≡◌, ◌*◌, IfOk};
 ghost use Rattle.avc_decoder_core.specs.Pictures.{crop_of, picture_of};
 ghost use Rattle.avc_params.specs.Within.{IsSps};
-ghost use Rattle.avc_plane.specs.Frames.{planes_of};
+ghost use Rattle.avc_plane.specs.Frames.{padded_planes_of};
 
 use avc_params::{Cropping, Sps};
-use avc_plane::Planes;
-use avc_types::{Crop, Picture};
+use avc_plane::{PADDING, PaddedPlanes};
+use avc_types::{Crop, OutOfMemory, Picture};
+use std::alloc::Global;
 
 /// In luma samples: an offset's unit is two of them at 4:2:0.
 fn luma_samples(offset: u16) -> u32
@@ -35,16 +36,20 @@ fn crop_of(cropping: Option<Cropping>) -> Crop
 }
 
 /// The picture with these samples, as it is handed out.
-pub(crate) fn picture_of(sps: &Sps, planes: Planes<0>) -> Picture
+pub(crate) fn picture_of(
+    alloc: Global,
+    sps: &Sps,
+    planes: &PaddedPlanes<PADDING>,
+) -> Result<Picture, OutOfMemory>
     requires { IsSps sps.now }
-    ensures { result ≡ picture_of sps.now (planes_of planes) }
+    ensures { IfOk result (λ picture. picture ≡ picture_of sps.now (padded_planes_of planes.now)) }
 {
-    Picture {
+    Ok(Picture {
         width: 16 * sps.width_in_mbs(),
         height: 16 * sps.height_in_mbs(),
         crop: crop_of(sps.frame_cropping),
-        luma: planes.luma.into_bytes(),
-        cb: planes.cb.into_bytes(),
-        cr: planes.cr.into_bytes(),
-    }
+        luma: planes.luma.to_bytes(alloc)?,
+        cb: planes.cb.to_bytes(alloc)?,
+        cr: planes.cr.to_bytes(alloc)?,
+    })
 }

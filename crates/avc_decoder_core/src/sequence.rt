@@ -1,8 +1,8 @@
 ghost use Rattle.std.specs.Prelude.{◌≡◌, ◌∷◌, true, false, IfOk, IfErr, OnErr, None, Some};
-ghost use Rattle.avc_decoder_core.specs.History.{history_after_closing, history_at_opening, stored_frames};
-ghost use Rattle.avc_decoder_core.specs.SequenceState.{empty_sequence, current_history, Fails, IsCleared, IsClosed, IsOpened, OpenPictureStart, StandFor};
+ghost use Rattle.avc_decoder_core.specs.History.{history_after_closing, history_at_opening};
+ghost use Rattle.avc_decoder_core.specs.SequenceState.{empty_sequence, current_history, Fails, AreStoredIn, IsCleared, IsClosed, IsOpened, OpenPictureStart};
 ghost use Rattle.avc_params.specs.Within.{IsSps};
-ghost use Rattle.avc_plane.specs.Frames.{planes_of};
+ghost use Rattle.avc_plane.specs.Frames.{padded_planes_of};
 ghost use Rattle.avc_slice.specs.Header.{has_idr_marking, is_idr};
 
 use crate::closed_picture::{ClosedPicture, OpenPictureHeader};
@@ -10,7 +10,7 @@ use crate::first_counts::first_counts;
 use crate::marking::idr_frame;
 use crate::output::{output_held, output_prior_pictures};
 use avc_params::Sps;
-use avc_plane::{Frame, Planes};
+use avc_plane::{Frame, PADDING, PaddedPlanes};
 use avc_slice::Header;
 use avc_types::{History, OutOfMemory, Picture, PictureError};
 use std::alloc::Global;
@@ -23,7 +23,7 @@ pub struct Sequence {
     alloc: Global,
 
     /// The last picture, which is the reference frame and is held for output.
-    held: Option<Frame<0>>,
+    held: Option<Frame<PADDING>>,
 
     /// The parameter set of the held picture.
     sps: Option<Sps>,
@@ -84,9 +84,9 @@ impl Sequence {
     }
 
     /// Closes the open picture, whose samples are these: marks it, and lets pictures go out. Answers these.
-    pub fn close(&mut self, planes: Planes<0>) -> Result<Vec<Picture>, PictureError>
-        ensures ok { IfOk result (λ out. (o : OpenPictureStart) → self.old.open_picture ≡ Some o → IsClosed self.old o (planes_of planes) out.items self.new) }
-        ensures err { IfErr result (λ error. (o : OpenPictureStart) → self.old.open_picture ≡ Some o → Fails self.old (history_after_closing o.sps o.header (planes_of planes) (current_history self.old)) error self.new) }
+    pub fn close(&mut self, planes: PaddedPlanes<PADDING>) -> Result<Vec<Picture>, PictureError>
+        ensures ok { IfOk result (λ out. (o : OpenPictureStart) → self.old.open_picture ≡ Some o → IsClosed self.old o (padded_planes_of planes) out.items self.new) }
+        ensures err { IfErr result (λ error. (o : OpenPictureStart) → self.old.open_picture ≡ Some o → Fails self.old (history_after_closing o.sps o.header (padded_planes_of planes) (current_history self.old)) error self.new) }
     {
         if self.failed {
             return Err(PictureError::OutOfMemory);
@@ -130,9 +130,9 @@ impl Sequence {
         Ok(out)
     }
 
-    /// The stored reference frames, in decoding order. After want of memory they are any.
-    pub fn frames(&self) -> &[Frame<0>]
-        ensures { self.now.failed ≡ false → StandFor result.now (stored_frames (current_history self.now)) }
+    /// The stored frames with their marks, in decoding order. After want of memory they are any.
+    pub fn frames(&self) -> &[Frame<PADDING>]
+        ensures { self.now.failed ≡ false → AreStoredIn (current_history self.now) result.now }
     {
         self.held.as_slice()
     }

@@ -21,7 +21,7 @@ pub enum ModeChroma {
 
 impl ModeChroma {
     /// The sides that the mode needs are available.
-    fn is_available(self, sides: Sides) -> bool
+    pub fn is_available(self, sides: Sides) -> bool
         ensures { result ≡ can_predict_chroma sides self }
     {
         match self {
@@ -106,7 +106,7 @@ impl AroundChroma {
     }
 
     /// The prediction by a mode whose sides are available.
-    fn predicted(&self, mode: ModeChroma) -> [u8; 64]
+    pub fn predicted(&self, mode: ModeChroma) -> [u8; 64]
         requires { can_predict_chroma self.now.sides mode ≡ true }
         ensures { (p : Around) → ShowsChroma p self.now → (x y : ℕ) → x < 8 → y < 8 → slice_index result (8 * y + x) ≡ predict_chroma self.now.sides p mode x y }
     {

@@ -21,7 +21,7 @@ pub enum Mode16x16 {
 
 impl Mode16x16 {
     /// The sides that the mode needs are available.
-    fn is_available(self, sides: Sides) -> bool
+    pub fn is_available(self, sides: Sides) -> bool
         ensures { result ≡ can_predict16x16 sides self }
     {
         match self {
@@ -80,7 +80,7 @@ impl Around16x16 {
     }
 
     /// The prediction by a mode whose sides are available.
-    fn predicted(&self, mode: Mode16x16) -> [u8; 256]
+    pub fn predicted(&self, mode: Mode16x16) -> [u8; 256]
         requires { can_predict16x16 self.now.sides mode ≡ true }
         ensures { (p : Around) → Shows16x16 p self.now → (x y : ℕ) → x < 16 → y < 16 → slice_index result (16 * y + x) ≡ predict16x16 self.now.sides p mode x y }
     {

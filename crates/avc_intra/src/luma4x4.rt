@@ -24,7 +24,7 @@ pub enum Mode4x4 {
 
 impl Mode4x4 {
     /// The sides that the mode needs are available.
-    fn is_available(self, sides: Sides) -> bool
+    pub fn is_available(self, sides: Sides) -> bool
         ensures { result ≡ can_predict4x4 sides self }
     {
         match self {
@@ -115,7 +115,7 @@ impl Around4x4 {
     }
 
     /// The prediction by a mode whose sides are available.
-    fn predicted(&self, mode: Mode4x4) -> [u8; 16]
+    pub fn predicted(&self, mode: Mode4x4) -> [u8; 16]
         requires { can_predict4x4 self.now.sides mode ≡ true }
         ensures { (p : Around) → Shows4x4 p self.now → result ≡ block4x4 (predict4x4 self.now.sides (extended self.now.sides p) mode) }
     {

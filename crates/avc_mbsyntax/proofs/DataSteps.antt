@@ -41,7 +41,7 @@ pub is_open : (n size r : ℕ) → size ≡ n + r → r ≢ 0 → (n == size) �
 is_open n size r room some = ne_eqb n size (λ e. some (omega (arith, room, e)))
 
 abbrev data_after : SliceStart → List PicMb → Mb × Bits → SliceMbs
-data_after s before r = data_from macroblock s (before ++ placed s r.0 ∷ []) (r.0).qp r.1
+data_after s before r = data_from s (before ++ placed s r.0 ∷ []) (r.0).qp r.1
 
 pub one_full : (s : SliceStart) (before : List PicMb) (qp : ℕ) (b : Bits) → (length before == s.size) ≡ true → one_more s before qp b ≡ stopped faults.TooManyMacroblocks
 one_full s before qp b full = ap (λ t. one_with t (macroblock (context s before qp) b) (data_after s before)) full
@@ -53,14 +53,14 @@ one_found s before qp b o room read =
 pub one_fault : (s : SliceStart) (before : List PicMb) (qp : ℕ) (b : Bits) (f : Fault) → (length before == s.size) ≡ false → macroblock (context s before qp) b ≡ Err f → one_more s before qp b ≡ stopped f
 one_fault s before qp b f room read = one_found s before qp b (Err f) room read
 
-next_stage : (more : Bool) (s : SliceStart) (before : List PicMb) (qp : ℕ) (b : Bits) → elim more [ true ↦ data_from macroblock s before qp b | false ↦ ended ] ≡ rest_at (stage_after more) s before qp b
+next_stage : (more : Bool) (s : SliceStart) (before : List PicMb) (qp : ℕ) (b : Bits) → elim more [ true ↦ data_from s before qp b | false ↦ ended ] ≡ rest_at (stage_after more) s before qp b
 next_stage true s before qp b = refl
 next_stage false s before qp b = refl
 
 pub one_read : (s : SliceStart) (before : List PicMb) (qp next : ℕ) (b mid : Bits) (mb : Mb) (stage : Stage) → (length before == s.size) ≡ false → macroblock (context s before qp) b ≡ Ok (mb, mid) →
     stage ≡ stage_after (more_data mid) → next ≡ mb.qp → one_more s before qp b ≡ after (mb ∷ []) (rest_at stage s (before ++ placed s mb ∷ []) next mid)
 one_read s before qp next b mid mb stage room read is is_next =
-    let found : one_more s before qp b ≡ after (mb ∷ []) (elim (more_data mid) [ true ↦ data_from macroblock s (before ++ placed s mb ∷ []) mb.qp mid | false ↦ ended ]) = one_found s before qp b (Ok (mb, mid)) room read in
+    let found : one_more s before qp b ≡ after (mb ∷ []) (elim (more_data mid) [ true ↦ data_from s (before ++ placed s mb ∷ []) mb.qp mid | false ↦ ended ]) = one_found s before qp b (Ok (mb, mid)) room read in
     rw (is, is_next) (found ∙ ap (after (mb ∷ [])) (next_stage (more_data mid) s (before ++ placed s mb ∷ []) mb.qp mid))
 
 pub stage_is : (more : Bool) (s : SliceStart) (remaining : ℕ) → IsStage (stage_after more) s remaining
@@ -76,29 +76,29 @@ one_longer before m size r room some = omega (arith, length-append before (m ∷
 
 -- ---- I slices
 
-i_start_with : (n : ℕ) (s : SliceStart) (before : List PicMb) (qp : ℕ) (b : Bits) → s.is_p ≡ false → s.size ≡ length before + n → i_data macroblock s n before qp b ≡ one_more s before qp b
+i_start_with : (n : ℕ) (s : SliceStart) (before : List PicMb) (qp : ℕ) (b : Bits) → s.is_p ≡ false → s.size ≡ length before + n → i_data s n before qp b ≡ one_more s before qp b
 i_start_with zero s before qp b intra room = sym (one_full s before qp b (is_full (length before) s.size zero room refl))
 i_start_with (suc n) s before qp b intra room =
     let some : suc n ≢ 0 = omega arith in
     let is : (length before == s.size) ≡ false = is_open (length before) s.size (suc n) room some in
-    one_same false (macroblock (context s before qp) b) (λ r. i_data macroblock s n (before ++ placed s r.0 ∷ []) (r.0).qp r.1) (λ r. data_from macroblock s (before ++ placed s r.0 ∷ []) (r.0).qp r.1)
+    one_same false (macroblock (context s before qp) b) (λ r. i_data s n (before ++ placed s r.0 ∷ []) (r.0).qp r.1) (λ r. data_from s (before ++ placed s r.0 ∷ []) (r.0).qp r.1)
     (λ r _. let left : n ≡ s.size - length (before ++ placed s r.0 ∷ []) = omega (arith, length-append before (placed s r.0 ∷ []), room) in
-    ap (λ m. i_data macroblock s m (before ++ placed s r.0 ∷ []) (r.0).qp r.1) left
+    ap (λ m. i_data s m (before ++ placed s r.0 ∷ []) (r.0).qp r.1) left
     ∙ sym (intra_data s (before ++ placed s r.0 ∷ []) (r.0).qp r.1 intra))
-    ∙ ap (λ t. one_with t (macroblock (context s before qp) b) (λ r. data_from macroblock s (before ++ placed s r.0 ∷ []) (r.0).qp r.1)) (sym is)
+    ∙ ap (λ t. one_with t (macroblock (context s before qp) b) (λ r. data_from s (before ++ placed s r.0 ∷ []) (r.0).qp r.1)) (sym is)
   where
-    intra_data : (s : SliceStart) (before : List PicMb) (qp : ℕ) (b : Bits) → s.is_p ≡ false → data_from macroblock s before qp b ≡ i_data macroblock s (s.size - length before) before qp b
-    intra_data s before qp b intra = ap (λ p. elim p [ true ↦ p_data s (s.size - length before) before qp b | false ↦ i_data macroblock s (s.size - length before) before qp b ]) intra
+    intra_data : (s : SliceStart) (before : List PicMb) (qp : ℕ) (b : Bits) → s.is_p ≡ false → data_from s before qp b ≡ i_data s (s.size - length before) before qp b
+    intra_data s before qp b intra = ap (λ p. elim p [ true ↦ p_data s (s.size - length before) before qp b | false ↦ i_data s (s.size - length before) before qp b ]) intra
 
-pub i_start : (s : SliceStart) (before : List PicMb) (qp r : ℕ) (b : Bits) → s.is_p ≡ false → s.size ≡ length before + r → data_from macroblock s before qp b ≡ one_more s before qp b
+pub i_start : (s : SliceStart) (before : List PicMb) (qp r : ℕ) (b : Bits) → s.is_p ≡ false → s.size ≡ length before + r → data_from s before qp b ≡ one_more s before qp b
 i_start s before qp r b intra room =
-    ap (λ p. elim p [ true ↦ p_data s (s.size - length before) before qp b | false ↦ i_data macroblock s (s.size - length before) before qp b ]) intra
+    ap (λ p. elim p [ true ↦ p_data s (s.size - length before) before qp b | false ↦ i_data s (s.size - length before) before qp b ]) intra
     ∙ i_start_with (s.size - length before) s before qp b intra (omega (arith, room))
 
 -- ---- P slices
 
-inter_data : (s : SliceStart) (before : List PicMb) (qp : ℕ) (b : Bits) → s.is_p ≡ true → data_from macroblock s before qp b ≡ p_data s (s.size - length before) before qp b
-inter_data s before qp b inter = ap (λ p. elim p [ true ↦ p_data s (s.size - length before) before qp b | false ↦ i_data macroblock s (s.size - length before) before qp b ]) inter
+inter_data : (s : SliceStart) (before : List PicMb) (qp : ℕ) (b : Bits) → s.is_p ≡ true → data_from s before qp b ≡ p_data s (s.size - length before) before qp b
+inter_data s before qp b inter = ap (λ p. elim p [ true ↦ p_data s (s.size - length before) before qp b | false ↦ i_data s (s.size - length before) before qp b ]) inter
 
 abbrev over_with : (over : Bool) → SliceMbs → SliceMbs
 over_with over x = elim over [ true ↦ stopped faults.TooManyMacroblocks | false ↦ x ]
@@ -154,22 +154,22 @@ turns_same s (suc m) (suc n) before qp b enough enough' within =
     (λ r few. run_same s before qp r.0 r.1 (λ before' qp' b'. p_data s m before' qp' b') (λ before' qp' b'. p_data s n before' qp' b') (ltb-false (s.size - length before) r.0 few) within
     (λ before' qp' b' longer inside. turns_same s m n before' qp' b' (omega (arith, enough, longer)) (omega (arith, enough', longer)) inside))
 
-pub p_full : (s : SliceStart) (before : List PicMb) (qp r : ℕ) (b : Bits) → s.is_p ≡ true → s.size ≡ length before + r → r ≡ 0 → data_from macroblock s before qp b ≡ stopped faults.TooManyMacroblocks
+pub p_full : (s : SliceStart) (before : List PicMb) (qp r : ℕ) (b : Bits) → s.is_p ≡ true → s.size ≡ length before + r → r ≡ 0 → data_from s before qp b ≡ stopped faults.TooManyMacroblocks
 p_full s before qp r b inter room none = inter_data s before qp b inter ∙ ap (λ m. p_data s m before qp b) (let last : s.size - length before ≡ 0 = omega (arith, room, none) in last)
 
-p_turn : (s : SliceStart) (before : List PicMb) (qp r : ℕ) (b : Bits) → s.is_p ≡ true → s.size ≡ length before + r → r ≢ 0 → data_from macroblock s before qp b ≡ p_data s (suc (r - 1)) before qp b
+p_turn : (s : SliceStart) (before : List PicMb) (qp r : ℕ) (b : Bits) → s.is_p ≡ true → s.size ≡ length before + r → r ≢ 0 → data_from s before qp b ≡ p_data s (suc (r - 1)) before qp b
 p_turn s before qp r b inter room some = inter_data s before qp b inter ∙ ap (λ m. p_data s m before qp b) (let same : s.size - length before ≡ suc (r - 1) = omega (arith, room, some) in same)
 
-pub p_fault : (s : SliceStart) (before : List PicMb) (qp r : ℕ) (b : Bits) (f : Fault) → s.is_p ≡ true → s.size ≡ length before + r → r ≢ 0 → ue b ≡ Err f → data_from macroblock s before qp b ≡ stopped f
+pub p_fault : (s : SliceStart) (before : List PicMb) (qp r : ℕ) (b : Bits) (f : Fault) → s.is_p ≡ true → s.size ≡ length before + r → r ≢ 0 → ue b ≡ Err f → data_from s before qp b ≡ stopped f
 p_fault s before qp r b f inter room some read =
     p_turn s before qp r b inter room some ∙ rw (p_data, is_open (length before) s.size r room some, read) refl
 
-pub p_over : (s : SliceStart) (before : List PicMb) (qp r run : ℕ) (b mid : Bits) → s.is_p ≡ true → s.size ≡ length before + r → r ≢ 0 → ue b ≡ Ok (run, mid) → r < run → data_from macroblock s before qp b ≡ stopped faults.TooManyMacroblocks
+pub p_over : (s : SliceStart) (before : List PicMb) (qp r run : ℕ) (b mid : Bits) → s.is_p ≡ true → s.size ≡ length before + r → r ≢ 0 → ue b ≡ Ok (run, mid) → r < run → data_from s before qp b ≡ stopped faults.TooManyMacroblocks
 p_over s before qp r run b mid inter room some read more =
     let over : nat_lt (s.size - length before) run ≡ true = lt-ltb (s.size - length before) run (omega (arith, room, more)) in
     p_turn s before qp r b inter room some ∙ rw (p_data, is_open (length before) s.size r room some, read, over) refl
 
-pub p_run : (s : SliceStart) (before : List PicMb) (qp r run : ℕ) (b mid : Bits) → s.is_p ≡ true → s.size ≡ length before + r → r ≢ 0 → ue b ≡ Ok (run, mid) → run ≤ r → data_from macroblock s before qp b ≡ after_skipped s run before qp mid
+pub p_run : (s : SliceStart) (before : List PicMb) (qp r run : ℕ) (b mid : Bits) → s.is_p ≡ true → s.size ≡ length before + r → r ≢ 0 → ue b ≡ Ok (run, mid) → run ≤ r → data_from s before qp b ≡ after_skipped s run before qp mid
 p_run s before qp r run b mid inter room some read few =
     let fits : nat_lt (s.size - length before) run ≡ false = le-ltb (s.size - length before) run (omega (arith, room, few)) in
     let turned : p_data s (suc (r - 1)) before qp b ≡ after (replicate run (skipped qp)) (after_run s (passed_over s before qp run) qp mid (λ before' qp' b'. p_data s (r - 1) before' qp' b')) =
@@ -190,7 +190,7 @@ pub skip_none : (s : SliceStart) (count : ℕ) (before : List PicMb) (qp : ℕ) 
 skip_none s count before qp b inter is =
     rw is (ap (λ l. after_run s l qp b (λ before' qp' b'. p_data s (s.size - length before') before' qp' b')) (append-nil before)
     ∙ ap (run_with (more_data b)) (one_same (length before == s.size) (macroblock (context s before qp) b)
-    (λ r. p_data s (s.size - length (before ++ placed s r.0 ∷ [])) (before ++ placed s r.0 ∷ []) (r.0).qp r.1) (λ r. data_from macroblock s (before ++ placed s r.0 ∷ []) (r.0).qp r.1)
+    (λ r. p_data s (s.size - length (before ++ placed s r.0 ∷ [])) (before ++ placed s r.0 ∷ []) (r.0).qp r.1) (λ r. data_from s (before ++ placed s r.0 ∷ []) (r.0).qp r.1)
     (λ r _. sym (inter_data s (before ++ placed s r.0 ∷ []) (r.0).qp r.1 inter))))
 
 pub run_ends : (s : SliceStart) (count : ℕ) (before : List PicMb) (qp : ℕ) (b : Bits) → s.is_p ≡ true → count ≡ 0 → more_data b ≡ false → after_skipped s count before qp b ≡ ended

@@ -21,7 +21,7 @@ after_skipped s count before qp b =
 
 -- The rest of the data at a stage; `before` is the picture up to here, and qp that of the macroblock before in the slice.
 abbrev pub rest_at : Stage → SliceStart → (before : List PicMb) → (qp : ℕ) → Bits → SliceMbs
-rest_at Next s before qp b = data_from macroblock s before qp b
+rest_at Next s before qp b = data_from s before qp b
 rest_at (Skipped count) s before qp b = after_skipped s count before qp b
 rest_at Ended s before qp b = ended
 
@@ -62,7 +62,7 @@ one_more s before qp b =
       | false ↦
           elim (macroblock (context s before qp) b) [
             | Err f ↦ stopped f
-            | Ok r ↦ after (r.0 ∷ []) (elim (more_data r.1) [ true ↦ data_from macroblock s (before ++ placed s r.0 ∷ []) (r.0).qp r.1 | false ↦ ended ])
+            | Ok r ↦ after (r.0 ∷ []) (elim (more_data r.1) [ true ↦ data_from s (before ++ placed s r.0 ∷ []) (r.0).qp r.1 | false ↦ ended ])
           ]
     ]
 

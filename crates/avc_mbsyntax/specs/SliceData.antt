@@ -5,8 +5,7 @@ use Rattle.avc_types.specs.declared.fault.Fault.{Fault}
 use Rattle.avc_types.specs.declared.fault.Fault.TheVariants as faults
 use Rattle.avc_types.specs.Macroblock.{p_skip, Mb}
 use Rattle.avc_types.specs.Pictures.{PicMb}
-use Rattle.avc_types.specs.Staged.{takes_mb_type}
-use Rattle.avc_bits.specs.Bits.{Bits, Read, more_data}
+use Rattle.avc_bits.specs.Bits.{Bits, more_data}
 use Rattle.avc_bits.specs.Codes.{ue}
 use Rattle.avc_neigh.specs.Blocks.{left_of, above}
 use Rattle.avc_neigh.specs.declared.facts.TotalCoeffs.{TotalCoeffs}
@@ -71,24 +70,15 @@ context s before qp = record {
   up = up_total_coeffs s before;
 }
 
--- its mb_type is one that is taken (this decoder's rule)
-abbrev pub is_taken : Result (ℕ × Bits) Fault → Bool
-is_taken (Ok r) = takes_mb_type r.0
-is_taken (Err f) = true
-
--- A macroblock of an I slice, or NotYet where its mb_type is not yet taken (this decoder's rule).
-abbrev pub i_macroblock : Context → Read Mb
-i_macroblock c b = elim (is_taken (ue b)) [ true ↦ macroblock c b | false ↦ Err faults.NotYet ]
-
--- In an I slice, where `left` macroblocks of the picture remain: one, read by `part`, and others while there
+-- In an I slice, where `left` macroblocks of the picture remain: one, and others while there
 -- is more data (7.3.4). TooManyMacroblocks is this decoder's rule.
-abbrev pub i_data : (part : Context → Read Mb) → SliceStart → (left : ℕ) → (before : List PicMb) → (qp : ℕ) → Bits → SliceMbs
-i_data part s zero before qp b = stopped faults.TooManyMacroblocks
-i_data part s (suc left) before qp b =
-    elim (part (context s before qp) b) [
+abbrev pub i_data : SliceStart → (left : ℕ) → (before : List PicMb) → (qp : ℕ) → Bits → SliceMbs
+i_data s zero before qp b = stopped faults.TooManyMacroblocks
+i_data s (suc left) before qp b =
+    elim (macroblock (context s before qp) b) [
       | Err f ↦ stopped f
       | Ok r ↦ after (r.0 ∷ []) (elim (more_data r.1) [
-        | true ↦ i_data part s left (before ++ placed s r.0 ∷ []) (r.0).qp r.1
+        | true ↦ i_data s left (before ++ placed s r.0 ∷ []) (r.0).qp r.1
         | false ↦ ended
       ])
     ]
@@ -132,17 +122,13 @@ p_data s (suc turns) before qp b =
 
 -- The data from a macroblock of an I slice or a run of a P slice on (7.3.4); qp is that of the
 -- macroblock before in the slice.
-abbrev pub data_from : (part : Context → Read Mb) → SliceStart → (before : List PicMb) → (qp : ℕ) → Bits → SliceMbs
-data_from part s before qp b =
+abbrev pub data_from : SliceStart → (before : List PicMb) → (qp : ℕ) → Bits → SliceMbs
+data_from s before qp b =
     elim s.is_p [
       | true ↦ p_data s (s.size - length before) before qp b
-      | false ↦ i_data part s (s.size - length before) before qp b
+      | false ↦ i_data s (s.size - length before) before qp b
     ]
 
 -- slice_data of a slice that goes on after `before`, the macroblocks of the picture's earlier slices (7.3.4).
 abbrev pub slice_data : SliceStart → (before : List PicMb) → Bits → SliceMbs
-slice_data s before b = data_from macroblock s before s.qp b
-
--- The same, as far as the macroblocks of I slices are taken (this decoder's rule).
-abbrev pub staged_slice_data : SliceStart → (before : List PicMb) → Bits → SliceMbs
-staged_slice_data s before b = data_from i_macroblock s before s.qp b
+slice_data s before b = data_from s before s.qp b

@@ -1,147 +1,226 @@
--- What a picture decoder keeps, from one slice to the next.
-use Rattle.std.specs.Prelude.{◌≡◌, ℕ, ◌≤◌, ◌==◌, Bool, true, false, List, [], ◌∷◌, MatchResult, Option, Some, None, Ok, Err}
+-- What a picture decoder keeps from slice to slice.
+use Rattle.std.specs.List.{range_with_len}
+use Rattle.std.specs.List.Sorted.{IsStrictlyIncreasing}
 use Rattle.std.specs.Option.{option_map}
-use Rattle.std.proofs.Common.{refl, ap, ◌∙◌, sym, subst}
+use Rattle.std.specs.Prelude.{◌==◌}
+use Rattle.std.proofs.Common.{◌≡◌, ℕ, suc, ◌+◌, ◌*◌, ◌≤◌, Bool, true, false, List, [], ◌∷◌, length, Option, Some, None, Result, Ok, Err, refl, ap, sym, subst, ◌∙◌, arith}
+use Rattle.std.proofs.lemmas.Bool.Decides.{nat_tests}
+use Rattle.std.proofs.lemmas.List.{length-map}
+use Rattle.std.proofs.lemmas.List.FromFn.{get_or-range_with_len, length-range_with_len}
 use Rattle.avc_types.specs.declared.fault.Fault.{Fault}
+use Rattle.avc_types.specs.declared.fault.Fault.TheVariants.{MissingMacroblocks}
+use Rattle.avc_types.specs.Pictures.{Coded}
+use Rattle.avc_params.specs.Limits.{height_in_mbs, size_in_mbs, width_in_mbs}
+use Rattle.avc_params.specs.Within.{IsPps, IsSps}
 use Rattle.avc_params.specs.declared.sps.Sps.{Sps}
 use Rattle.avc_params.specs.declared.pps.Pps.{Pps}
-use Rattle.avc_params.specs.Limits.{width_in_mbs, height_in_mbs, size_in_mbs}
 use Rattle.avc_slice.specs.declared.slice.Slice.{Slice}
-use Rattle.avc_plane.specs.Planes.{Planes, StoredFrame}
-use Rattle.avc_picture.specs.Data.{Construction, slice_planes, unless_faulty}
-use Rattle.avc_picture.specs.Decoding.{Decoding, HasNoFault, Refuses, end_fault, fault_at_end, start_with}
-use Rattle.avc_picture.specs.DecoderState.{AreSized, IsDecoderState, IsStateAfter}
-use Rattle.avc_picture.specs.Pcm.{IsIntraUnder}
-use Rattle.avc_picture.specs.Slices.{PictureStart, Progress, is_full, planes_after_slices, progress, with_slice}
-use Rattle.avc_picture.proofs.ProgressPcm.{planes_pcm}
-use Rattle.avc_picture.proofs.SliceKept.{slice_after_fault, slice_kept}
+use Rattle.avc_plane.specs.Frames.{marked_frame}
+use Rattle.avc_plane.specs.Planes.{Planes}
+use Rattle.avc_plane.specs.declared.frame.Frame.{Frame}
+use Rattle.avc_deblock.specs.Facts.{Names}
+use Rattle.avc_picture_core.specs.References.{AreSized}
+use Rattle.avc_picture.specs.Context.{FramesStandAt, picture_start}
+use Rattle.avc_picture.specs.Decoded.{deblocked}
+use Rattle.avc_picture.specs.Decoding.{AreFramesOf, Decoding, HasNoFault, Refuses, end_fault, fault_at_end}
+use Rattle.avc_picture.specs.DecoderState.{IsDecoderState, IsStateOrFault, IsWellSoFar, IsWellSomewhere}
+use Rattle.avc_picture.specs.FirstMbs.{HasSets, HoldsFirst, MbsState}
+use Rattle.avc_picture.specs.Sizes.{IsSized}
+use Rattle.avc_picture.specs.Slices.{PictureStart, Progress, coded_of, is_full, planes_after_slices, progress, with_slice}
+use Rattle.avc_picture.proofs.SizesKept.{pictures_sized}
+use Rattle.avc_picture.proofs.SliceGoesOn.{are-names, begins-itself, names-of}
 
-abbrev fault_in : Option (ℕ × Fault) → Option Fault
-fault_in o = option_map (λ found. found.1) o
+-- ---- tests
 
-no_fault_in : (o : Option (ℕ × Fault)) → fault_in o ≡ None → o ≡ None
-no_fault_in None h = refl
-no_fault_in (Some found) h = cc
+pub agrees : (a b : ℕ) → a ≡ b → (a == b) ≡ true
+agrees a b e = grind (arith, nat_tests)
 
--- after a fault it stays
-fault_stays : (p : PictureStart) (s : Slice) (g : Progress) (o : Option (ℕ × Fault)) (f : Fault) → g.fault ≡ o → fault_in o ≡ Some f → fault_in (with_slice p s g).fault ≡ Some f
-fault_stays p s g None f is h = cc
-fault_stays p s g (Some found) f is h = ap (λ after. fault_in after.fault) (slice_after_fault p s g found is) ∙ ap fault_in is ∙ h
+pub differs : (a b : ℕ) → (a ≡ b → ⊥) → (a == b) ≡ false
+differs a b apart = by_test (a == b) refl
+  where
+    by_test : (t : Bool) → (a == b) ≡ t → (a == b) ≡ false
+    by_test true e = let same : a ≡ b = grind (arith, nat_tests) in absurd (apart same)
+    by_test false e = e
 
--- only where there is no fault is anything laid
-pub laid_alone : (fault : Option Fault) (r : Construction) (x : ℕ × Planes) → unless_faulty fault r ≡ Ok x → fault ≡ None
-laid_alone None r x is = refl
-laid_alone (Some f) r x is = cc
+-- ---- frames can stand somewhere
 
-module _ (sps : Sps) (pps : Pps) (slices : List Slice) (slice : Slice) (planes : Planes) (next : ℕ) where
-  abbrev start : List StoredFrame → PictureStart
-  start frames = record { sps = sps; pps = pps; frames = frames }
+rises : (n : ℕ) → IsStrictlyIncreasing (range_with_len 0 n)
+rises n = λ k h.
+    omega (arith, get_or-range_with_len 0 n k 0 (omega (arith, h, length-range_with_len 0 n)), get_or-range_with_len 0 n (k + 1) 0 (omega (arith, h, length-range_with_len 0 n)))
 
-  abbrev before : List StoredFrame → Progress
-  before frames = progress (start frames) slices
+abbrev pub places-of : {PAD : ℕ} → List (Frame PAD) → List ℕ
+places-of fs = range_with_len 0 (length fs)
 
-  abbrev after : List StoredFrame → Progress
-  after frames = progress (start frames) (slice ∷ slices)
+pub stand-somewhere : {PAD : ℕ} (fs : List (Frame PAD)) → FramesStandAt (places-of fs) fs
+stand-somewhere fs = record { each = length-range_with_len 0 (length fs) ∙ sym (length-map fs marked_frame); rising = rises (length fs) }
 
-  -- where there was no fault
-  module _ (kept : IsDecoderState sps pps slices planes next None) (intra : IsIntraUnder sps pps slice) where
-    with_slice_data : (frames : List StoredFrame) →
-        MatchResult (slice_planes sps pps next planes slice) (λ r. IsStateAfter (start frames) (after frames) None r.0 r.1) (λ f. (after frames).fault ≡ Some (slice.unit, f))
-    with_slice_data frames =
-        slice_kept (start frames) slice (before frames) next planes kept.of_pps.chroma_high intra (no_fault_in (before frames).fault (kept.keeps frames).first_fault) ((kept.keeps frames).built refl)
+-- ---- a slice behind a fault
 
-    laid_kept : (count : ℕ) (constructed : Planes) → slice_planes sps pps next planes slice ≡ Ok (count, constructed) → (frames : List StoredFrame) → IsStateAfter (start frames) (after frames) None count constructed
-    laid_kept count constructed is frames =
-        subst (λ r. MatchResult r (λ r. IsStateAfter (start frames) (after frames) None r.0 r.1) (λ f. (after frames).fault ≡ Some (slice.unit, f))) is (with_slice_data frames)
+faulted : (o : Option (ℕ × Fault)) (f : Fault) (g x : Progress) → option_map (λ found. found.1) o ≡ Some f → elim o [ Some h ↦ g | None ↦ x ] ≡ g
+faulted None f g x e = cc
+faulted (Some h) f g x e = refl
 
-    pub fault_found : (f : Fault) → slice_planes sps pps next planes slice ≡ Err f → (frames : List StoredFrame) → (after frames).fault ≡ Some (slice.unit, f)
-    fault_found f is frames =
-        subst (λ r. MatchResult r (λ r. IsStateAfter (start frames) (after frames) None r.0 r.1) (λ f. (after frames).fault ≡ Some (slice.unit, f))) is (with_slice_data frames)
+stays : (p : PictureStart) (s : Slice) (g : Progress) (f : Fault) → option_map (λ found. found.1) g.fault ≡ Some f → with_slice p s g ≡ g
+stays p s g f e = faulted g.fault f g _ e
 
-  first_fault_after : (fault : Option Fault) (f : Fault) → IsDecoderState sps pps slices planes next fault → IsIntraUnder sps pps slice → unless_faulty fault (slice_planes sps pps next planes slice) ≡ Err f →
-      (frames : List StoredFrame) → fault_in (after frames).fault ≡ Some f
-  first_fault_after None f kept intra is frames = ap fault_in (fault_found kept intra f is frames)
-  first_fault_after (Some g) f kept intra is frames =
-      let same : Some g ≡ Some f = cc in
-      fault_stays (start frames) slice (before frames) (before frames).fault f refl ((kept.keeps frames).first_fault ∙ same)
+module _ {PAD : ℕ} (sps : Sps) (pps : Pps) (fs : List (Frame PAD)) (slices more : List Slice) (s : Slice) (count read : ℕ) (m : MbsState) (newest : more ≡ s ∷ slices) where
+  abbrev old : Decoding PAD
+  old = record { sps = sps; pps = pps; frames = fs; slices = slices; failed = false }
 
-  -- one slice more was laid
-  pub kept_laid : (fault : Option Fault) (more : List Slice) (count : ℕ) (constructed : Planes) → more ≡ slice ∷ slices → IsDecoderState sps pps slices planes next fault → IsIntraUnder sps pps slice →
-      unless_faulty fault (slice_planes sps pps next planes slice) ≡ Ok (count, constructed) → count ≤ size_in_mbs sps → AreSized (width_in_mbs sps) (height_in_mbs sps) constructed → IsDecoderState sps pps more constructed count fault
-  kept_laid None more count constructed is_more kept intra is few sized =
-      rw is_more (record { of_sps = kept.of_sps; of_pps = kept.of_pps; sized = sized; within = few; keeps = laid_kept kept intra count constructed is })
-  kept_laid (Some f) more count constructed is_more kept intra is few sized = cc
+  abbrev new : Decoding PAD
+  new = record { sps = sps; pps = pps; frames = fs; slices = more; failed = false }
 
-  -- one slice more has the fault, or an earlier one had it
-  pub kept_faulty : (fault : Option Fault) (more : List Slice) (f : Fault) (constructed : Planes) → more ≡ slice ∷ slices → IsDecoderState sps pps slices planes next fault → IsIntraUnder sps pps slice →
-      unless_faulty fault (slice_planes sps pps next planes slice) ≡ Err f → AreSized (width_in_mbs sps) (height_in_mbs sps) constructed → IsDecoderState sps pps more constructed next (Some f)
-  kept_faulty fault more f constructed is_more kept intra is sized =
-      rw is_more (record {
-        of_sps = kept.of_sps;
-        of_pps = kept.of_pps;
-        sized = sized;
-        within = kept.within;
-        keeps = λ frames. record { first_fault = first_fault_after fault f kept intra is frames; built = λ none. cc };
-      })
+  abbrev start : List ℕ → PictureStart
+  start es = picture_start sps pps es fs
 
-  abbrev standing : List Slice → Decoding
-  standing of = record { sps = sps; pps = pps; slices = of; failed = false }
+  module _ (f : Fault) (kept : IsDecoderState sps pps fs slices count read (Some f) m) where
+    same-progress : (es : List ℕ) → FramesStandAt es fs → progress (start es) more ≡ progress (start es) slices
+    same-progress es stand = ap (progress (start es)) newest ∙ stays (start es) s (progress (start es) slices) f (kept.keeps es stand).0
 
-  pub is_refused : (fault : Option Fault) (more : List Slice) (f : Fault) → more ≡ slice ∷ slices → IsDecoderState sps pps slices planes next fault → IsIntraUnder sps pps slice →
-      unless_faulty fault (slice_planes sps pps next planes slice) ≡ Err f → Refuses (standing slices) slice f (standing more)
-  is_refused fault more f is_more kept intra is =
-      rw is_more (record { fault = first_fault_after fault f kept intra is; unit = first_in_slice fault f kept intra is })
-    where
-      first_in_slice : (fault : Option Fault) (f : Fault) → IsDecoderState sps pps slices planes next fault → IsIntraUnder sps pps slice → unless_faulty fault (slice_planes sps pps next planes slice) ≡ Err f →
-          HasNoFault (standing slices) → (frames : List StoredFrame) → (after frames).fault ≡ Some (slice.unit, f)
-      first_in_slice None f kept intra is well frames = fault_found kept intra f is frames
-      first_in_slice (Some g) f kept intra is well frames =
-          let none : None ≡ Some g = sym (ap fault_in (well frames)) ∙ (kept.keeps frames).first_fault in
-          absurd (cc none)
+    pub refused-again : Refuses old s f new
+    refused-again = record {
+      fault = λ es stand. ap (λ g. option_map (λ found. found.1) g.fault) (same-progress es stand) ∙ (kept.keeps es stand).0;
+      unit = λ well es stand.
+          let wrong : None ≡ Some f = sym (ap (option_map (λ found. found.1)) (well es stand)) ∙ (kept.keeps es stand).0 in
+          cc;
+    }
 
--- ---- a picture whose slices have no fault
+    pub kept-again : IsDecoderState sps pps fs more count read (Some f) m
+    kept-again = record {
+      of_sps = kept.of_sps;
+      of_pps = kept.of_pps;
+      of_frames = kept.of_frames;
+      width = kept.width;
+      height = kept.height;
+      within = kept.within;
+      keeps = λ es stand. (
+        ap (λ g. option_map (λ found. found.1) g.fault) (same-progress es stand) ∙ (kept.keeps es stand).0,
+        ap (λ g. g.read) (same-progress es stand) ∙ (kept.keeps es stand).1,
+      );
+    }
 
-module _ (sps : Sps) (pps : Pps) (slices : List Slice) (planes : Planes) (next : ℕ) (fault : Option Fault) (kept : IsDecoderState sps pps slices planes next fault) where
-  abbrev known : List StoredFrame → PictureStart
-  known frames = record { sps = sps; pps = pps; frames = frames }
+  -- ---- a slice more
 
-  pub well_kept : fault ≡ None → (frames : List StoredFrame) → (progress (known frames) slices).fault ≡ None
-  well_kept none frames = no_fault_in (progress (known frames) slices).fault ((kept.keeps frames).first_fault ∙ none)
+  module _ (kept : IsDecoderState sps pps fs slices count read None m) (read' : ℕ) (m' : MbsState) (within : read' ≤ size_in_mbs sps)
+      (width : m'.canvas.width ≡ width_in_mbs sps) (height : m'.canvas.height ≡ height_in_mbs sps) where
+    more-is : (es : List ℕ) → with_slice (start es) s (progress (start es) slices) ≡ progress (start es) more
+    more-is es = sym (ap (progress (start es)) newest)
 
-  module _ (well : (frames : List StoredFrame) → (progress (known frames) slices).fault ≡ None) where
-    no_fault : fault ≡ None
-    no_fault = sym (kept.keeps []).first_fault ∙ ap fault_in (well [])
+    abbrev Decodes : Result (Unit {0}) Fault → Type 0
+    Decodes result = (es : List ℕ) (g : Progress) → FramesStandAt es fs → IsWellSoFar (start es) es g count read m
+        → IsStateOrFault (start es) es (with_slice (start es) s g) s.unit (suc count) result read' m'
 
-    pub finished : (frames : List StoredFrame) → planes ≡ planes_after_slices (known frames) slices
-    finished frames =
-        let built = (kept.keeps frames).built no_fault in
-        built.constructed ∙ sym (planes_pcm (known frames) (progress (known frames) slices) kept.of_pps.chroma_high (record { mbs = built.pcm; slices = built.flat }))
+    pub kept-more : (count' : ℕ) → count' ≡ suc count → Decodes (Ok tt) → IsDecoderState sps pps fs more count' read' None m'
+    kept-more count' e decodes = record {
+      of_sps = kept.of_sps;
+      of_pps = kept.of_pps;
+      of_frames = kept.of_frames;
+      width = width;
+      height = height;
+      within = within;
+      keeps = λ es stand.
+          subst (λ n. IsWellSoFar (start es) es (progress (start es) more) n read' m') (sym e)
+          (subst (λ g. IsWellSoFar (start es) es g (suc count) read' m') (more-is es) (decodes es (progress (start es) slices) stand (kept.keeps es stand)));
+    }
 
--- ---- the end of a picture
+    fault-is : (f : Fault) → Decodes (Err f) → (es : List ℕ) → FramesStandAt es fs → ((progress (start es) more).fault ≡ Some (s.unit, f)) × ((progress (start es) more).read ≡ read')
+    fault-is f decodes es stand =
+        let here = decodes es (progress (start es) slices) stand (kept.keeps es stand) in
+        (sym (ap (λ g. g.fault) (more-is es)) ∙ here.0, sym (ap (λ g. g.read) (more-is es)) ∙ here.1)
 
-module _ (sps : Sps) (pps : Pps) (slices : List Slice) (planes : Planes) (next : ℕ) (fault : Option Fault) (kept : IsDecoderState sps pps slices planes next fault) where
-  abbrev stood : Decoding
-  stood = record { sps = sps; pps = pps; slices = slices; failed = false }
+    pub kept-faulty : (f : Fault) (count' : ℕ) → Decodes (Err f) → IsDecoderState sps pps fs more count' read' (Some f) m'
+    kept-faulty f count' decodes = record {
+      of_sps = kept.of_sps;
+      of_pps = kept.of_pps;
+      of_frames = kept.of_frames;
+      width = width;
+      height = height;
+      within = within;
+      keeps = λ es stand.
+          let here = fault-is f decodes es stand in
+          (ap (option_map (λ found. found.1)) here.0, here.1);
+    }
 
-  faulty_end : (o : Option (ℕ × Fault)) (f : Fault) (full : Bool) → fault_in o ≡ Some f → fault_at_end o full ≡ Some f
-  faulty_end None f full h = cc
-  faulty_end (Some found) f full h = h
+    pub refused-here : (f : Fault) → Decodes (Err f) → Refuses old s f new
+    refused-here f decodes = record {
+      fault = λ es stand. ap (option_map (λ found. found.1)) (fault-is f decodes es stand).0;
+      unit = λ well es stand. (fault-is f decodes es stand).0;
+    }
 
-  -- a slice had a fault
-  pub ends_faulty : (f : Fault) → fault ≡ Some f → (frames : List StoredFrame) → end_fault frames stood ≡ Some f
-  ends_faulty f is frames =
-      let g = progress (start_with frames stood) slices in
-      faulty_end g.fault f (is_full (start_with frames stood) g) ((kept.keeps frames).first_fault ∙ is)
+-- ---- what is kept without a fault
 
-  -- none had
-  pub ends_well : fault ≡ None → (full : Bool) → (next == size_in_mbs sps) ≡ full → (frames : List StoredFrame) → end_fault frames stood ≡ fault_at_end None full
-  ends_well none full is frames =
-      let g = progress (start_with frames stood) slices in
-      let counted : is_full (start_with frames stood) g ≡ full = ap (λ n. n == size_in_mbs sps) ((kept.keeps frames).built none).counted ∙ is in
-      ap (λ o. fault_at_end o (is_full (start_with frames stood) g)) (well_kept sps pps slices planes next fault kept none frames) ∙ ap (fault_at_end None) counted
+module _ {PAD : ℕ} (sps : Sps) (pps : Pps) (fs : List (Frame PAD)) (slices : List Slice) (count read : ℕ) (m : MbsState) (kept : IsDecoderState sps pps fs slices count read None m) where
+  abbrev d : Decoding PAD
+  d = record { sps = sps; pps = pps; frames = fs; slices = slices; failed = false }
 
-  pub ends_full : fault ≡ None → (next == size_in_mbs sps) ≡ true → (frames : List StoredFrame) → end_fault frames stood ≡ None
-  ends_full none all frames = ends_well none true all frames
+  abbrev begun : List ℕ → PictureStart
+  begun es = picture_start sps pps es fs
 
-  pub ends_laid : fault ≡ None → (frames : List StoredFrame) → planes ≡ planes_after_slices (start_with frames stood) slices
-  ends_laid none = finished sps pps slices planes next fault kept (well_kept sps pps slices planes next fault kept none)
+  pub well-somewhere : IsWellSomewhere sps pps fs count read m
+  well-somewhere = record { entries = places-of fs; stand = stand-somewhere fs; so_far = progress (begun (places-of fs)) slices; well = kept.keeps (places-of fs) (stand-somewhere fs) }
+
+  pub has-no-fault : HasNoFault d
+  has-no-fault = λ es stand. (kept.keeps es stand).none
+
+  counted : (es : List ℕ) → FramesStandAt es fs → length (progress (begun es) slices).mbs ≡ read
+  counted es stand = let well = kept.keeps es stand in well.decoded.next ∙ well.reached
+
+  at-end : (es : List ℕ) → FramesStandAt es fs → (full : Bool) → (read == size_in_mbs sps) ≡ full → end_fault es d ≡ fault_at_end None full
+  at-end es stand full e =
+      ap (λ o. fault_at_end o (is_full (begun es) (progress (begun es) slices))) (kept.keeps es stand).none
+      ∙ ap (λ n. fault_at_end None (n == size_in_mbs sps)) (counted es stand)
+      ∙ ap (fault_at_end None) e
+
+  pub missing-at-end : (read == size_in_mbs sps) ≡ false → (es : List ℕ) → FramesStandAt es fs → end_fault es d ≡ Some MissingMacroblocks
+  missing-at-end e es stand = at-end es stand false e
+
+  pub none-at-end : (read == size_in_mbs sps) ≡ true → (es : List ℕ) → FramesStandAt es fs → end_fault es d ≡ None
+  none-at-end e es stand = at-end es stand true e
+
+  module _ (full : read ≡ size_in_mbs sps) (planes : Planes)
+      (answer : (c : Coded) (names : Names) → HoldsFirst c names m → m.next ≡ length c.mbs → length c.mbs ≡ c.width * c.height → planes ≡ deblocked c) where
+    pub planes-at-end : (es : List ℕ) → FramesStandAt es fs → planes ≡ planes_after_slices (begun es) slices
+    planes-at-end es stand =
+        let well = kept.keeps es stand in
+        let c = coded_of (begun es) (progress (begun es) slices) in
+        answer c (names-of es stand.rising) (well.decoded.holds c (names-of es stand.rising) (begins-itself c) (are-names es stand.rising))
+        (sym well.decoded.next) (counted es stand ∙ full)
+
+    sized-at-end : IsSized (width_in_mbs sps) (height_in_mbs sps) planes
+    sized-at-end =
+        subst (IsSized (width_in_mbs sps) (height_in_mbs sps)) (sym (planes-at-end (places-of fs) (stand-somewhere fs))) (pictures_sized (begun (places-of fs)) slices)
+
+    pub are-sized : AreSized (width_in_mbs sps) (height_in_mbs sps) planes
+    are-sized =
+        let h = sized-at-end in
+        record { luma_width = h.luma.columns; luma_height = h.luma.rows; cb_width = h.cb.columns; cb_height = h.cb.rows; cr_width = h.cr.columns; cr_height = h.cr.rows }
+
+-- ---- the fault at the end
+
+pub first-at-end : (o : Option (ℕ × Fault)) (full : Bool) (f : Fault) → option_map (λ found. found.1) o ≡ Some f → fault_at_end o full ≡ Some f
+first-at-end None full f e = cc
+first-at-end (Some found) full f e = e
+
+-- ---- the beginning
+
+pub kept-first : {PAD : ℕ} (sps : Sps) (pps : Pps) (fs : List (Frame PAD)) (slices : List Slice) (m : MbsState) → slices ≡ [] → IsSps sps → IsPps pps → AreFramesOf sps fs
+    → ((c : Coded) (names : Names) → HasSets sps pps c → HoldsFirst c names m) → m.next ≡ 0 → m.canvas.width ≡ width_in_mbs sps → m.canvas.height ≡ height_in_mbs sps
+    → IsDecoderState sps pps fs slices 0 0 None m
+kept-first sps pps fs slices m none is_sps is_pps are holds next width height = record {
+  of_sps = is_sps;
+  of_pps = is_pps;
+  of_frames = are;
+  width = width;
+  height = height;
+  within = omega arith;
+  keeps = λ es stand. subst (λ g. IsWellSoFar (picture_start sps pps es fs) es g 0 0 m) (sym (ap (progress (picture_start sps pps es fs)) none)) (record {
+    none = refl;
+    read_is = refl;
+    reached = next;
+    decoded = record {
+      next = sym next;
+      count = refl;
+      holds = λ c names b are. holds c names (record { width = b.width; height = b.height; offset = b.offset; constrained = b.constrained });
+    };
+  });
+}

@@ -3,14 +3,13 @@ use Rattle.std.specs.Prelude.{◌≡◌, true, false, List, [], ◌∷◌, All, 
 use Rattle.std.proofs.Common.{refl, ap, ◌∙◌, sym}
 use Rattle.std.proofs.lemmas.List.Elements.{All-head, All-tail}
 use Rattle.avc_types.specs.declared.fault.Fault.TheVariants as faults
-use Rattle.avc_params.specs.Limits.{max_frame_num}
 use Rattle.avc_slice.specs.declared.header.Header.{Header}
 use Rattle.avc_slice.specs.declared.slice.Slice.{Slice}
 use Rattle.avc_slice.specs.Header.{is_p}
 use Rattle.avc_reflist.specs.Lists.{reference_list}
 use Rattle.avc_plane.specs.Planes.{StoredFrame}
 use Rattle.avc_picture.specs.Decoded.{deblocked}
-use Rattle.avc_picture.specs.Slices.{PictureStart, Progress, current_of, references_in, or_empty, list_of, coded_of, is_taken, refused, with_reference_list, with_slice, progress, planes_after_slices}
+use Rattle.avc_picture.specs.Slices.{PictureStart, Progress, current_of, references_in, or_empty, list_of, coded_of, refused, with_reference_list, with_slice, progress, planes_after_slices}
 
 pub list_of_intra : (p : PictureStart) (h : Header) → is_p h ≡ false → list_of p h ≡ Ok []
 list_of_intra p h intra =
@@ -34,7 +33,7 @@ with_slice-other p other s before intra =
             | false ↦
                 elim (nat_lt (s.header).first_mb_in_slice (length before.mbs)) [
                   | true ↦ refused before s.unit faults.ArbitrarySliceOrder
-                  | false ↦ elim (is_taken p s.header) [ false ↦ refused before s.unit faults.NotYet | true ↦ last ]
+                  | false ↦ last
                 ]
           ]
     ])

@@ -16,7 +16,6 @@ use Rattle.avc_deblock.specs.Edges.{LineFilter, line_at, with_line, line_filtere
 use Rattle.avc_picture_core.specs.Built.{Place, place_of, with_blocks4x4, luma_after, chroma_after, planes_after, built_on, built}
 use Rattle.avc_picture.specs.Sizes.{HasSize, IsSized, PicturesAreSized}
 use Rattle.avc_picture.specs.Slices.{coded_of, progress}
-use Rattle.avc_picture.proofs.DeblockedPcm.{line_of}
 
 -- ---- a plane
 
@@ -89,6 +88,9 @@ with_line_sized w h s false x y l size =
 
 line_filtered_sized : (w h : ℕ) (setting : Setting) (is_vertical : Bool) (x y : ℕ) (s : Plane) → HasSize w h s → HasSize w h (line_filtered setting is_vertical x y s)
 line_filtered_sized w h setting is_vertical x y s size = with_line_sized w h s is_vertical x y (filtered setting (line_at s is_vertical x y)) size
+
+abbrev line_of : ℕ → Bool → ℕ → ℕ → LineFilter
+line_of k is_vertical x y = record { component = k; is_vertical = is_vertical; x = x; y = y }
 
 step_sized : (w h : ℕ) (c : Coded) (motion : List (List Motion)) (s : Planes) (k : ℕ) (is_vertical : Bool) (x y : ℕ)
     → IsSized w h s → IsSized w h (step_filtered c motion s (line_of k is_vertical x y))

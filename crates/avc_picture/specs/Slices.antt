@@ -2,7 +2,6 @@
 use Rattle.std.specs.Prelude.{ℕ, zero, suc, ◌+◌, pos, ◌+ℤ◌, nat_abs, Bool, true, false, ◌==◌, nat_lt, List, [], ◌∷◌, ◌++◌, length, map, Option, Some, None, Result, Ok, Err}
 use Rattle.std.specs.Option.{option_map}
 use Rattle.std.specs.List.{find}
-use Rattle.avc_types.specs.Staged.{takes_deblocking}
 use Rattle.avc_types.specs.declared.current_frame_num.CurrentFrameNum.{CurrentFrameNum}
 use Rattle.avc_types.specs.declared.edges.FilteredEdges.TheVariants.{All}
 use Rattle.avc_types.specs.declared.fault.Fault.{Fault}
@@ -20,7 +19,7 @@ use Rattle.avc_slice.specs.declared.slice.Slice.{Slice}
 use Rattle.avc_slice.specs.Header.{is_p, slice_qp}
 use Rattle.avc_slice.specs.Weights.{weights}
 use Rattle.avc_reflist.specs.Lists.{reference_list}
-use Rattle.avc_mbsyntax.specs.SliceData.{SliceStart, SliceMbs, staged_slice_data}
+use Rattle.avc_mbsyntax.specs.SliceData.{SliceStart, SliceMbs, slice_data}
 use Rattle.avc_plane.specs.Planes.{Planes, StoredFrame, samples_of}
 use Rattle.avc_picture_core.specs.Faults.{macroblock_fault}
 use Rattle.avc_picture.specs.Decoded.{deblocked}
@@ -136,33 +135,30 @@ refused progress unit f = record progress { fault = Some (unit, f) }
 abbrev pub with_unit : (unit : ℕ) → Option Fault → Option (ℕ × Fault)
 with_unit unit f = option_map (λ g. (unit, g)) f
 
+-- all of the slice's data, as it is read under these facts
+abbrev pub read_whole : Slice → (before : Progress) → SliceFacts → SliceMbs → Progress
+read_whole s before facts ms = record {
+  mbs = before.mbs ++ map (λ mb. record { slice = length before.slices; mb = mb }) ms.mbs;
+  slices = before.slices ++ facts ∷ [];
+  fault = with_unit s.unit ms.fault;
+  read = before.read + length ms.mbs;
+}
+
+abbrev pub with_first_fault : Slice → (before whole : Progress) → Option (ℕ × Fault) → Progress
+with_first_fault s before whole None = whole
+with_first_fault s before whole (Some found) = record whole { fault = Some (s.unit, found.1); read = before.read + found.0 }
+
 -- The slice's data has been read: its faults are those of its macroblocks, lowest address first, and then its own.
 abbrev pub with_slice_data : PictureStart → Slice → (before : Progress) → SliceFacts → SliceMbs → Progress
-with_slice_data p s before facts ms = with_first_fault (first_mb_fault (coded_of p whole) (length before.mbs) (length ms.mbs))
-  where
-    whole : Progress
-    whole = record {
-      mbs = before.mbs ++ map (λ mb. record { slice = length before.slices; mb = mb }) ms.mbs;
-      slices = before.slices ++ facts ∷ [];
-      fault = with_unit s.unit ms.fault;
-      read = before.read + length ms.mbs;
-    }
-
-    with_first_fault : Option (ℕ × Fault) → Progress
-    with_first_fault None = whole
-    with_first_fault (Some found) = record whole { fault = Some (s.unit, found.1); read = before.read + found.0 }
+with_slice_data p s before facts ms =
+    let whole = read_whole s before facts ms in
+    with_first_fault s before whole (first_mb_fault (coded_of p whole) (length before.mbs) (length ms.mbs))
 
 -- its list, then its macroblocks
 abbrev pub with_reference_list : PictureStart → Slice → Progress → Result (List (Option Reference)) Fault → Progress
 with_reference_list p s before (Err f) = refused before s.unit f
 with_reference_list p s before (Ok list) =
-    with_slice_data p s before (facts_of p s.header list) (staged_slice_data (start_of p s.header (length before.slices)) before.mbs (data_of s))
-
--- Its deblocking is one that is taken.
-abbrev pub is_taken : PictureStart → Header → Bool
-is_taken p h =
-    let d = deblocking_of h.deblocking in
-    takes_deblocking d.disable_deblocking_filter_idc (p.pps).chroma_qp_index_offset (d.slice_alpha_c0_offset_div2 +ℤ d.slice_alpha_c0_offset_div2)
+    with_slice_data p s before (facts_of p s.header list) (slice_data (start_of p s.header (length before.slices)) before.mbs (data_of s))
 
 -- One slice more: its first address, its list, its macroblocks.
 abbrev pub with_slice : PictureStart → Slice → Progress → Progress
@@ -175,11 +171,7 @@ with_slice p s before =
             | false ↦
                 elim (nat_lt (s.header).first_mb_in_slice (length before.mbs)) [
                   | true ↦ refused before s.unit faults.ArbitrarySliceOrder
-                  | false ↦
-                      elim (is_taken p s.header) [
-                        | false ↦ refused before s.unit faults.NotYet
-                        | true ↦ with_reference_list p s before (list_of p s.header)
-                      ]
+                  | false ↦ with_reference_list p s before (list_of p s.header)
                 ]
           ]
     ]

@@ -1,81 +1,118 @@
 ghost use Rattle.std.specs.Prelude.{◌≡◌, ◌==◌, false, IfOk};
-ghost use Rattle.avc_params.specs.Limits.{size_in_mbs};
+ghost use Rattle.avc_params.specs.Limits.{height_in_mbs, size_in_mbs, width_in_mbs};
 ghost use Rattle.avc_params.specs.Within.{IsPps, IsSps};
-ghost use Rattle.avc_picture.specs.Decoding.{no_slice_yet, IsFinishAnswer, IsFull, IsIntra, HasNoFault, IsSliceAnswer};
+ghost use Rattle.avc_slice.specs.Within.{IsHeader};
+ghost use Rattle.avc_plane.specs.Frames.{padded_planes_of};
+ghost use Rattle.avc_picture_core.specs.References.{AreSized};
+ghost use Rattle.avc_picture.specs.Decoding.{no_slice_yet, AreFramesOf, HasNoFault, HasRead, IsFinishAnswer, IsFull, IsSliceAnswer};
 
-use crate::slice_data::construct_unless_faulty;
+use crate::macroblocks::Macroblocks;
+use crate::slice_decoding::decode_slice;
 use avc_params::{Pps, Sps};
-use avc_plane::Planes;
+use avc_plane::{Frame, PaddedPlanes};
 use avc_slice::Slice;
 use avc_types::{Fault, History, OutOfMemory, PictureError};
 use std::alloc::Global;
 use std::marker::Model;
 
+/// More padding than this leaves no room for a picture in the memory that can be addressed.
+const MAX_PADDING: usize = 0x1fff_ffff;
+
 /// Decodes the slices of one picture.
 #[derive(Drop)]
-pub struct PictureDecoder {
+pub struct PictureDecoder<const PAD: usize> {
     sps: Sps,
     pps: Pps,
-    planes: Planes<0>,
+    macroblocks: Macroblocks<PAD>,
 
-    // the next expected address: how many macroblocks have been read
-    next: u32,
+    // how many macroblocks have been read, a faulty one included
+    read: u32,
+
+    // the number of the next slice
+    slice_count: u32,
     fault: Option<Fault>,
+
+    // no number was left for a slice
+    failed: bool,
     slices: History<Slice>,
+    frames: History<Frame<PAD>>,
 }
 
 // All memory of a picture is taken where it begins, so that it is not refused later.
-impl Model for PictureDecoder {
-    ghost use Rattle.std.specs.Prelude.{false};
-    ghost use Rattle.avc_plane.specs.Frames.{planes_of};
+impl<const PAD: usize> Model for PictureDecoder<PAD> {
+    ghost use Rattle.std.specs.Prelude.{◌≡◌, false};
     ghost use Rattle.avc_picture.specs.Decoding.{Decoding};
     ghost use Rattle.avc_picture.specs.DecoderState.{IsDecoderState};
 
-    ghost Value = { Decoding };
+    ghost Value = { Decoding PAD };
 
-    ghost view = { λ d. record { sps = d.sps; pps = d.pps; slices = d.slices.items; failed = false } };
+    ghost view = { λ d. record { sps = d.sps; pps = d.pps; frames = d.frames.items; slices = d.slices.items; failed = d.failed } };
 
-    ghost invariant = { λ d. IsDecoderState d.sps d.pps d.slices.items (planes_of d.planes) d.next d.fault };
+    ghost invariant = { λ d. IsDecoderState d.sps d.pps d.frames.items d.slices.items d.slice_count d.read d.fault d.macroblocks };
 }
 
-impl PictureDecoder {
-    /// A picture with these parameter sets, and no slice yet.
-    pub fn begin(alloc: Global, sps: &Sps, pps: &Pps) -> Result<PictureDecoder, OutOfMemory>
+impl<const PAD: usize> PictureDecoder<PAD> {
+    /// A picture with these parameter sets, and no slice yet. `frames` are those of the buffer in decoding order.
+    pub fn begin(
+        alloc: Global,
+        sps: &Sps,
+        pps: &Pps,
+        frames: &[Frame<PAD>],
+    ) -> Result<Self, OutOfMemory>
         requires sps { IsSps sps.now }
         requires pps { IsPps pps.now }
-        ensures { IfOk result (λ d. d ≡ no_slice_yet sps.now pps.now) }
+        requires frames { AreFramesOf sps.now frames.now }
+        ensures { IfOk result (λ d. d ≡ no_slice_yet sps.now pps.now frames.now) }
     {
-        let width = sps.width_in_mbs() as usize;
-        let height = sps.height_in_mbs() as usize;
-        let planes = Planes::new(alloc, width, height)?;
+        if PAD > MAX_PADDING {
+            return Err(OutOfMemory);
+        }
+        let macroblocks = Macroblocks::new(alloc, sps, pps)?;
         Ok(PictureDecoder {
             sps: sps.copied(),
             pps: *pps,
-            planes,
-            next: 0,
+            macroblocks,
+            read: 0,
+            slice_count: 0,
             fault: None,
+            failed: false,
             slices: History::new(),
+            frames: History::new().with_all(frames),
         })
     }
 
     /// Decodes one slice more, or answers the first fault in the slices so far. After a fault or want of memory it answers the
-    /// same from then on.
-    pub fn slice(&mut self, slice: &Slice) -> Result<(), PictureError>
-        requires { IsIntra self.old slice.now }
+    /// same from then on. A picture can have 2^32 - 1 slices without a fault: for more it wants memory. `frames` are those that
+    /// the picture began with.
+    pub fn slice(&mut self, slice: &Slice, frames: &[Frame<PAD>]) -> Result<(), PictureError>
+        requires within { IsHeader self.old.sps self.old.pps slice.now.rbsp slice.now.header }
+        requires frames { frames.now ≡ self.old.frames }
         ensures { IsSliceAnswer self.old slice.now result self.new }
     {
-        let constructed = construct_unless_faulty(
-            self.fault,
+        if self.failed {
+            return Err(PictureError::OutOfMemory);
+        }
+        if let Some(fault) = self.fault {
+            self.slices = self.slices.with_newest(slice);
+            return Err(PictureError::Fault(fault));
+        }
+        if self.slice_count == u32::MAX {
+            self.failed = true;
+            return Err(PictureError::OutOfMemory);
+        }
+        let decoded = decode_slice(
             &self.sps,
             &self.pps,
-            self.next,
             slice,
-            &mut self.planes,
+            frames,
+            self.slice_count,
+            &mut self.macroblocks,
+            &mut self.read,
         );
         self.slices = self.slices.with_newest(slice);
-        match constructed {
-            Ok(next) => {
-                self.next = next;
+        match decoded {
+            Ok(()) => {
+                self.slice_count += 1;
                 Ok(())
             }
             Err(fault) => {
@@ -85,35 +122,37 @@ impl PictureDecoder {
         }
     }
 
+    /// How many macroblocks have been read so far: up to the first fault, the faulty one included.
+    pub fn read(&self) -> u32
+        ensures { self.now.failed ≡ false → HasRead result self.now }
+    {
+        self.read
+    }
+
     /// Whether the slices so far hold all macroblocks of the picture.
     pub fn full(&self) -> bool
         requires going { self.now.failed ≡ false }
         requires well { HasNoFault self.now }
         ensures { IsFull result self.now }
     {
-        holds_all(self.next, &self.sps)
+        self.read == self.sps.size_in_mbs()
     }
 
     /// The samples of the picture after deblocking. Where the slices have a fault it answers the first, and else
     /// MissingMacroblocks where they do not hold all macroblocks.
-    pub fn finish(self) -> Result<Planes<0>, PictureError>
-        ensures { IsFinishAnswer self result }
+    pub fn finish(self) -> Result<PaddedPlanes<PAD>, PictureError>
+        ensures answer { IsFinishAnswer self.entry result }
+        ensures sized { IfOk result (λ planes. AreSized (width_in_mbs self.entry.sps) (height_in_mbs self.entry.sps) (padded_planes_of planes)) }
     {
+        if self.failed {
+            return Err(PictureError::OutOfMemory);
+        }
         if let Some(fault) = self.fault {
             return Err(PictureError::Fault(fault));
         }
-        if holds_all(self.next, &self.sps) {
-            Ok(self.planes)
-        } else {
-            Err(PictureError::Fault(Fault::MissingMacroblocks))
+        if self.read != self.sps.size_in_mbs() {
+            return Err(PictureError::Fault(Fault::MissingMacroblocks));
         }
+        Ok(self.macroblocks.deblocked().pad())
     }
-}
-
-// Whether a picture of this set with so many macroblocks has all.
-fn holds_all(count: u32, sps: &Sps) -> bool
-    requires { IsSps sps.now }
-    ensures { result ≡ (count == size_in_mbs sps.now) }
-{
-    count == sps.size_in_mbs()
 }

@@ -2,9 +2,13 @@
 #![tactic(auto)]
 
 mod decoder;
+mod filter_facts;
 mod header_checks;
 pub mod laws;
-mod pcm;
-mod slice_data;
+mod macroblocks;
+mod neighbour_facts;
+mod reference_places;
+mod slice_context;
+mod slice_decoding;
 
 pub use decoder::PictureDecoder;

@@ -37,14 +37,17 @@ has_sides p (i_nxn modes chroma r) =
     list_all (λ k. can_predict4x4 (sides_of p.coded p.address k) (mode4x4_of (mode_number (slice_index_or p.modes k absent)))) (range_with_len 0 16)
     && can_predict_chroma (sides_of p.coded p.address 0) (mode_chroma_of chroma)
 
-abbrev pub fault_of : Place → Option Fault
-fault_of p =
-    if not (list_all is_in_range p.motion) then Some VectorRange
-    else (if not (has_references p p.mb.syntax) then Some RefMissing
+-- why a macroblock whose vectors can be had has no samples
+abbrev pub refusal : Place → Option Fault
+refusal p =
+    if not (has_references p p.mb.syntax) then Some RefMissing
     else (if not (has_sides p p.mb.syntax) then Some IntraUnavailable
-    else None))
+    else None)
 
-abbrev fault_at : Coded → ℕ → Option PicMb → Option Fault
+abbrev pub fault_of : Place → Option Fault
+fault_of p = if not (list_all is_in_range p.motion) then Some VectorRange else refusal p
+
+abbrev pub fault_at : Coded → ℕ → Option PicMb → Option Fault
 fault_at c a None = None
 fault_at c a (Some m) = fault_of (place_of c (modes_before c (suc a)) (motion_before c (suc a)) a m)
 

@@ -1,2 +1,26 @@
 //! The samples of one macroblock (8.3 to 8.5).
 #![tactic(auto)]
+
+mod around;
+mod canvas;
+mod chroma;
+mod corner;
+mod inter;
+mod intra;
+mod luma16x16;
+mod luma4x4;
+mod macroblock;
+mod modes;
+mod parts;
+mod places;
+mod quantisers;
+mod rectangles;
+mod references;
+mod residual;
+mod samples;
+mod shape;
+mod sides;
+
+pub use canvas::{Canvas, Sources};
+pub use references::ReferencePicture;
+pub use sides::ReadableNeighbours;

@@ -1,6 +1,10 @@
--- The planes that the code keeps, as the planes of a picture.
-use Rattle.std.specs.Prelude.{ℕ}
-use Rattle.avc_plane.specs.Planes.{Planes}
+-- The planes and frames that the code keeps, as those of pictures and of a history.
+use Rattle.std.specs.Prelude.{ℕ, true, false, List, [], ◌∷◌, is_some}
+use Rattle.std.specs.Option.{option_map}
+use Rattle.avc_types.specs.References.{reference_of}
+use Rattle.avc_types.specs.declared.marked_frame.MarkedFrame.{MarkedFrame}
+use Rattle.avc_plane.specs.Planes.{Planes, StoredFrame}
+use Rattle.avc_plane.specs.declared.frame.Frame.{Frame}
 use Rattle.avc_plane.specs.declared.frame.Planes.{Planes as StoredPlanes}
 use Rattle.avc_plane.specs.declared.frame.PaddedPlanes.{PaddedPlanes}
 
@@ -9,3 +13,18 @@ planes_of p = record { luma = p.luma; cb = p.cb; cr = p.cr }
 
 abbrev pub padded_planes_of : {PAD : ℕ} → PaddedPlanes PAD → Planes
 padded_planes_of p = record { luma = p.luma; cb = p.cb; cr = p.cr }
+
+-- what reference lists and marking know of a frame
+abbrev pub marked_frame : {PAD : ℕ} → Frame PAD → MarkedFrame
+marked_frame f = record { frame_num = f.frame_num; existing = is_some f.planes; mark = f.mark }
+
+abbrev pub stored_frame : {PAD : ℕ} → (entry : ℕ) → Frame PAD → StoredFrame
+stored_frame entry f = record { reference = reference_of entry (marked_frame f); planes = option_map padded_planes_of f.planes }
+
+-- Of frames in decoding order, which are those of these places in the history, the ones that are used for reference.
+abbrev pub stored_at : {PAD : ℕ} → (entries : List ℕ) → List (Frame PAD) → List StoredFrame
+stored_at [] frames = []
+stored_at (e ∷ entries) [] = []
+stored_at (e ∷ entries) (f ∷ frames) =
+    let others = stored_at entries frames in
+    elim (is_some f.mark) [ true ↦ stored_frame e f ∷ others | false ↦ others ]

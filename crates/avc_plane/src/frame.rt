@@ -1,11 +1,11 @@
 ghost use Rattle.std.specs.Prelude.{◌≡◌, ◌+◌, ◌*◌, ◌^◌, ◌<◌, IfOk};
 ghost use Rattle.avc_plane.specs.Plane.{HasSamples};
 ghost use Rattle.avc_plane.specs.Planes.{empty_planes};
-ghost use Rattle.avc_plane.specs.Frames.{planes_of, padded_planes_of};
+ghost use Rattle.avc_plane.specs.Frames.{marked_frame, planes_of, padded_planes_of};
 
 use crate::padded::PaddedPlane;
 use crate::plane::Plane;
-use avc_types::{Mark, OutOfMemory};
+use avc_types::{Mark, MarkedFrame, OutOfMemory};
 use std::alloc::Global;
 
 /// The planes of a picture at 4:2:0 (6.2). Those of chroma are half as wide and half as high as that of luma.
@@ -70,17 +70,28 @@ impl<const PAD: usize> PaddedPlanes<PAD> {
     }
 }
 
-/// A decoded frame, or a non-existing one that stands for a missing frame number (8.2.5.2).
+/// A stored frame: a decoded picture, or one that stands for a missing frame number (8.2.5.2).
 #[derive(Drop)]
 pub struct Frame<const PAD: usize> {
-    pub planes: Planes<PAD>,
+    /// Nothing where it stands for a missing frame number.
+    pub planes: Option<PaddedPlanes<PAD>>,
 
     /// FrameNum (8.2.4.1).
     pub frame_num: u32,
 
     /// How it is marked (8.2.5); nothing where it is unused for reference.
     pub mark: Option<Mark>,
+}
 
-    /// Not for a non-existing frame, whose samples mean nothing.
-    pub existing: bool,
+impl<const PAD: usize> Frame<PAD> {
+    /// What reference lists and marking know of it.
+    pub fn marked(&self) -> MarkedFrame
+        ensures { result ≡ marked_frame self.now }
+    {
+        MarkedFrame {
+            frame_num: self.frame_num,
+            existing: self.planes.is_some(),
+            mark: self.mark,
+        }
+    }
 }

@@ -9,7 +9,7 @@ use Rattle.avc_types.specs.declared.edges.FilteredEdges.TheVariants.{All, NoEdge
 use Rattle.avc_types.specs.declared.references.Marking.TheVariants.{Adaptive}
 use Rattle.avc_bits.specs.Bits.{Bits, Read, start, bits_before_stop, ◌>>=◌, give, check, where_set}
 use Rattle.avc_bits.specs.Codes.{flag, se, se_within, u, ue, ue_to}
-use Rattle.avc_bits.specs.Giving.{Gives, IsFrom, bind-ok, gives-bind, gives-check, gives-give, gives-se_within, gives-then, gives-where_set, left, value}
+use Rattle.avc_bits.specs.Giving.{Gives, IsFrom, bind-ok, gives-bind, gives-check, gives-give, gives-se_within, gives-then, gives-ue_to, gives-where_set, left, value}
 use Rattle.avc_params.specs.Limits.{max_frame_num, size_in_mbs}
 use Rattle.avc_params.specs.Tables.{Sets}
 use Rattle.avc_params.specs.declared.pps.Pps.{Pps}
@@ -17,7 +17,7 @@ use Rattle.avc_params.specs.declared.sps.OrderCount.{OrderCount}
 use Rattle.avc_params.specs.declared.sps.OrderCount.TheVariants as orders
 use Rattle.avc_params.specs.declared.sps.Sps.{Sps}
 use Rattle.avc_slice.specs.Header.{is_idr, is_p_type, slice_qp}
-use Rattle.avc_slice.specs.Reading.{active_count, active_override, back, coded_order, deblocking, filtering, found, front, header_in_rbsp, header_of, idr_pic_id, is_qp, list_part, marking, modification, modification_list, modifications, most_operations, no_edges, numbers, offset_pair, operation, operations, optional_se, p_list, position_here, primary, redundant_pic_cnt, slice_type_of, unless_ended, up_to, value_or_fault}
+use Rattle.avc_slice.specs.Reading.{active_count, active_override, back, coded_order, deblocking, filtering, found, front, header_in_rbsp, header_of, idr_pic_id, is_qp, list_part, marking, modification, modification_list, modifications, most_operations, no_edges, numbers, offset_pair, operation, operations, optional_se, overridden_count, p_list, position_here, primary, redundant_pic_cnt, slice_type_of, unless_ended, up_to, value_or_fault}
 use Rattle.avc_slice.specs.WeightsReading.{pred_weight_table}
 use Rattle.avc_slice.specs.Within.{IsDeblocking, IsPredWeightTable, IsReadUnder}
 use Rattle.avc_slice.specs.declared.header.Header.{Header}
@@ -209,20 +209,38 @@ gives-filtering pps =
     (gives-where_set IsDeblocking pps.deblocking_filter_control_present_flag deblocking gives-deblocking) (λ given is.
     gives-give (IsFiltering pps) _ (record { qp = quantiser _ qp; deblocking = is }))))
 
-abbrev HasWeights : ListPart → Type 0
-HasWeights l = IfSome l.pred_weight_table (IsPredWeightTable l.active_count)
+gives-overridden_count : (pps : Pps) → Gives (λ override. active_count pps override ≤ 16) overridden_count
+gives-overridden_count pps =
+    gives-bind (λ n. n ≤ 15) (λ override. active_count pps override ≤ 16) (ue_to 15) _ (gives-ue_to 15) (λ n is.
+    gives-give (λ override. active_count pps override ≤ 16) (Some n) (omega (arith, is)))
 
-gives-p_list : (pps : Pps) (sps : Sps) → Gives HasWeights (p_list pps sps)
+gives-active_override : (pps : Pps) → Gives (λ override. active_count pps override ≤ 16) (active_override pps)
+gives-active_override pps =
+    gives-then (λ override. active_count pps override ≤ 16) flag _ (elim [
+      | true ↦ gives-overridden_count pps
+      | false ↦
+          gives-check (λ override. active_count pps override ≤ 16) (nat_lt pps.num_ref_idx_l0_default_active_minus1 16) _ _ (λ less.
+          gives-give (λ override. active_count pps override ≤ 16) None (few (ltb-true pps.num_ref_idx_l0_default_active_minus1 16 less)))
+    ])
+  where
+    few : pps.num_ref_idx_l0_default_active_minus1 < 16 → pps.num_ref_idx_l0_default_active_minus1 + 1 ≤ 16
+    few less = omega (arith, less)
+
+record IsListPart (l : ListPart) : Type 0 where
+  active : l.active_count ≤ 16
+  weights : IfSome l.pred_weight_table (IsPredWeightTable l.active_count)
+
+gives-p_list : (pps : Pps) (sps : Sps) → Gives IsListPart (p_list pps sps)
 gives-p_list pps sps =
-    gives-then HasWeights (active_override pps) _ (λ override.
-    gives-then HasWeights (modification_list (max_frame_num sps) (active_count pps override)) _ (λ given.
-    gives-bind (λ t. IfSome t (IsPredWeightTable (active_count pps override))) HasWeights (where_set pps.weighted_pred_flag (pred_weight_table (active_count pps override))) _
+    gives-bind (λ override. active_count pps override ≤ 16) IsListPart (active_override pps) _ (gives-active_override pps) (λ override few.
+    gives-then IsListPart (modification_list (max_frame_num sps) (active_count pps override)) _ (λ given.
+    gives-bind (λ t. IfSome t (IsPredWeightTable (active_count pps override))) IsListPart (where_set pps.weighted_pred_flag (pred_weight_table (active_count pps override))) _
     (gives-where_set (IsPredWeightTable (active_count pps override)) pps.weighted_pred_flag (pred_weight_table (active_count pps override)) (gives-table (active_count pps override))) (λ weights is.
-    gives-give HasWeights _ is)))
+    gives-give IsListPart _ (record { active = few; weights = is }))))
 
-gives-list_part : (p : Bool) (pps : Pps) (sps : Sps) → Gives HasWeights (list_part p pps sps)
+gives-list_part : (p : Bool) (pps : Pps) (sps : Sps) → Gives IsListPart (list_part p pps sps)
 gives-list_part true pps sps = gives-p_list pps sps
-gives-list_part false pps sps = gives-give HasWeights _ tt
+gives-list_part false pps sps = gives-give IsListPart _ (record { active = omega arith; weights = tt })
 
 -- What a header has from its parts.
 record IsBack (idr : Bool) (start : Front) (pps : Pps) (sps : Sps) (h : Header) : Type 0 where
@@ -230,6 +248,7 @@ record IsBack (idr : Bool) (start : Front) (pps : Pps) (sps : Sps) (h : Header) 
   slice_type : h.slice_type ≡ start.slice_type
   set : h.pic_parameter_set_id ≡ start.pic_parameter_set_id
   idr_is : is_idr h ≡ idr
+  active : h.active_count ≤ 16
   weights : IfSome h.pred_weight_table (IsPredWeightTable h.active_count)
   filters : IsFiltering pps (record { slice_qp_delta = h.slice_qp_delta; deblocking = h.deblocking })
 
@@ -237,10 +256,10 @@ gives-back : (nal_ref_idc : ℕ) (idr : Bool) (start : Front) (pps : Pps) (sps :
 gives-back nal_ref_idc idr start pps sps =
     gives-check (IsBack idr start pps sps) (nat_lt start.first_mb_in_slice (size_in_mbs sps)) _ _ (λ address.
     gives-bind (λ n. IsOfIdr idr n.idr_pic_id) (IsBack idr start pps sps) (numbers idr pps sps) _ (gives-numbers idr pps sps) (λ of_picture is_of.
-    gives-bind HasWeights (IsBack idr start pps sps) (list_part (is_p_type start.slice_type) pps sps) _ (gives-list_part (is_p_type start.slice_type) pps sps) (λ list is_list.
+    gives-bind IsListPart (IsBack idr start pps sps) (list_part (is_p_type start.slice_type) pps sps) _ (gives-list_part (is_p_type start.slice_type) pps sps) (λ list is_list.
     gives-then (IsBack idr start pps sps) (where_set (not (nal_ref_idc == 0)) (marking idr)) _ (λ marked.
     gives-bind (IsFiltering pps) (IsBack idr start pps sps) (filtering pps) _ (gives-filtering pps) (λ filtered is_filtered.
-    λ b. gives-give (IsBack idr start pps sps) _ (record { address = ltb-true start.first_mb_in_slice (size_in_mbs sps) address; slice_type = refl; set = refl; idr_is = is_of; weights = is_list; filters = is_filtered }) b)))))
+    λ b. gives-give (IsBack idr start pps sps) _ (record { address = ltb-true start.first_mb_in_slice (size_in_mbs sps) address; slice_type = refl; set = refl; idr_is = is_of; active = is_list.active; weights = is_list.weights; filters = is_filtered }) b)))))
 
 -- ---- the position is where the reader is
 
@@ -308,6 +327,7 @@ header-read header sets rbsp h e =
           qp_low = is.filters.qp.least;
           qp_high = is.filters.qp.most;
           deblocking = is.filters.deblocking;
+          active = is.active;
           weights = is.weights;
           position = reached h.position all.0 rbsp position passed;
         };

@@ -55,6 +55,8 @@ pub record IsHeader (sps : Sps) (pps : Pps) (rbsp : List ℕ) (h : Header) : Typ
   pub qp_low : pos 0 ≤ℤ slice_qp pps h.slice_qp_delta
   pub qp_high : slice_qp pps h.slice_qp_delta ≤ℤ pos 51
   pub deblocking : IfSome h.deblocking IsDeblocking
+  -- RefPicList0 has at most 16 entries
+  pub active : h.active_count ≤ 16
   pub weights : IfSome h.pred_weight_table (IsPredWeightTable h.active_count)
   pub position : h.position ≤ length (bits_before_stop rbsp)
 

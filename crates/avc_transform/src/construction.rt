@@ -3,7 +3,7 @@ ghost use Rattle.avc_types.specs.Arithmetic.{clip1};
 ghost use Rattle.avc_transform.specs.Bounds.{IsBelow, AllBelow};
 
 /// A sample and its residual, held to a sample.
-fn clipped_sum(sample: u8, residual: i32) -> u8
+pub fn clipped_sum(sample: u8, residual: i32) -> u8
     requires { IsBelow (2 ^ 25) residual }
     ensures { result ≡ clip1 (pos sample +ℤ residual) }
 {

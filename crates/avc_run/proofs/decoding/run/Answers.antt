@@ -25,7 +25,7 @@ pub returns-in_err-finish : goal.returns-in_err-finish
 returns-in_err-finish g c =
     let grow : EventsOnlyGrow = c.events_only_grow.ensures in
     let fault = c.in_err-finish.field-0.0 in
-    let is : c.from_residual-in_err-finish.result ≡ Err fault = search rules in
+    let is : c.from_residual-in_err-finish.result ≡ Err fault = err_is c.from_residual-in_err-finish.result fault c.from_residual-in_err-finish.ensures.1 in
     decodes_err _ _ _ _ c.from_residual-in_err-finish.result fault is
     (broken_at_end grow _ _ _ _ _ _ c.pieces.decoder c.pieces.report c.in_ok-len.len c.read_once.new.piece fault c.pieces.invariant.runs (search rules) c.in_ok-len.ensures.bytes (search rules) c.in_err-finish.ensures.err)
 
@@ -38,7 +38,7 @@ pub returns-in_err-take_in : goal.returns-in_err-take_in
 returns-in_err-take_in g c =
     let grow : EventsOnlyGrow = c.events_only_grow.ensures in
     let fault = c.in_err-take_in.field-0.0 in
-    let is : c.from_residual-in_err-take_in.result ≡ Err fault = search rules in
+    let is : c.from_residual-in_err-take_in.result ≡ Err fault = err_is c.from_residual-in_err-take_in.result fault c.from_residual-in_err-take_in.ensures.1 in
     decodes_err _ _ _ _ c.from_residual-in_err-take_in.result fault is
     (broken_in grow _ _ _ _ _ _ c.pieces.decoder c.pieces.report _ fault c.pieces.invariant.runs c.in_ok-len.ensures.bytes
     (subst (λ bs. BreaksOff fault (g.W.Write.contents c.pieces.writer) (g.W.Write.contents c.take_in.new.writer) (shown (due (after_feed bs c.pieces.decoder))))

@@ -9,5 +9,5 @@ pub returns : goal.returns
 unfolding rest_of
 returns c = λ s before is_p active_count qp size. (
   record { is_p = is_p; active_count = active_count; size = size; quantiser = λ small. omega (arith, small, qp); stage = tt },
-  ap (λ q. data_from macroblock s before q (reader_bits c.args.reader)) (sym qp),
+  ap (λ q. data_from s before q (reader_bits c.args.reader)) (sym qp),
 )

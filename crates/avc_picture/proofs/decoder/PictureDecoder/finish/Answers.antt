@@ -1,19 +1,75 @@
-use Rattle.std.proofs.Common.{◌≡◌, false, List, None, refl, subst, sym, ◌∙◌}
-use Rattle.avc_plane.specs.Planes.{StoredFrame}
-use Rattle.avc_plane.specs.Frames.{planes_of}
-use Rattle.avc_picture.specs.Decoding.{Decoding, end_fault, start_with}
-use Rattle.avc_picture.specs.Slices.{planes_after_slices}
-use Rattle.avc_picture.proofs.Kept.{ends_full, ends_laid}
+use Rattle.std.proofs.Common.{◌≡◌, false, Some, None, List, ℕ, sym, subst, ◌∙◌, arith}
+use Rattle.avc_types.specs.declared.fault.Fault.TheVariants.{MissingMacroblocks}
+use Rattle.avc_params.specs.Limits.{height_in_mbs, size_in_mbs, width_in_mbs}
+use Rattle.avc_plane.specs.Frames.{padded_planes_of, planes_of}
+use Rattle.avc_picture_core.specs.References.{AreSized}
+use Rattle.avc_picture.specs.Decoding.{CanStandAt, Decoding, end_fault, start_at}
+use Rattle.avc_picture.specs.DecoderState.{IsDecoderState}
+use Rattle.avc_picture.specs.Slices.{is_full, planes_after_slices, progress}
+use Rattle.avc_picture.specs.Context.{picture_start}
+use Rattle.avc_picture.proofs.DataAnswers.{none-of}
+use Rattle.avc_picture.proofs.Kept.{agrees, are-sized, differs, first-at-end, missing-at-end, none-at-end, planes-at-end}
 use Rattle.avc_picture.proofs.decoder.PictureDecoder.finish.Goals as goal
 
-pub returns-then-holds_all : goal.returns-then-holds_all
-returns-then-holds_all c =
+pub returns-in-Some-clause-answer : goal.returns-in-Some-clause-answer
+returns-in-Some-clause-answer g c =
     let d = c.self.inside in
-    let planes = planes_of d.planes in
-    subst
-    (λ (v : Decoding). (v.failed ≡ false) × ((frames : List StoredFrame) → end_fault frames v ≡ None) × ((frames : List StoredFrame) → planes ≡ planes_after_slices (start_with frames v) v.slices))
-    c.self.view_is (
-      refl,
-      ends_full d.sps d.pps d.slices.items planes d.next d.fault c.self.invariant c.in_default.is (sym c.holds_all.ensures ∙ c.if-holds_all.true),
-      ends_laid d.sps d.pps d.slices.items planes d.next d.fault c.self.invariant c.in_default.is,
+    let f = c.in-Some.fault in
+    let kept = subst (λ o. IsDecoderState d.sps d.pps d.frames.items d.slices.items d.slice_count d.read o d.macroblocks) c.in-Some.is c.self.invariant in
+    subst (λ (v : Decoding g.row.PAD). (v.failed ≡ false) × ((es : List ℕ) → CanStandAt es v → end_fault es v ≡ Some f)) c.self.view_is (
+      c.if-self.false,
+      λ es stand.
+          let so_far = progress (picture_start d.sps d.pps es d.frames.items) d.slices.items in
+          first-at-end so_far.fault (is_full (picture_start d.sps d.pps es d.frames.items) so_far) f (kept.keeps es stand).0,
     )
+
+pub returns-then-self-size_in_mbs-clause-answer : goal.returns-then-self-size_in_mbs-clause-answer
+returns-then-self-size_in_mbs-clause-answer g c =
+    let d = c.self.inside in
+    let kept = subst (λ o. IsDecoderState d.sps d.pps d.frames.items d.slices.items d.slice_count d.read o d.macroblocks) (none-of d.fault c.in_default.not-Some) c.self.invariant in
+    let other = differs d.read (size_in_mbs d.sps) (λ e. c.if-self-size_in_mbs.true (e ∙ sym c.size_in_mbs.ensures)) in
+    subst (λ (v : Decoding g.row.PAD). (v.failed ≡ false) × ((es : List ℕ) → CanStandAt es v → end_fault es v ≡ Some MissingMacroblocks)) c.self.view_is (
+      c.if-self.false,
+      missing-at-end d.sps d.pps d.frames.items d.slices.items d.slice_count d.read d.macroblocks kept other,
+    )
+
+pub pad-requires : goal.pad-requires
+pad-requires g c =
+    let d = c.self.inside in
+    let kept = subst (λ o. IsDecoderState d.sps d.pps d.frames.items d.slices.items d.slice_count d.read o d.macroblocks) (none-of d.fault c.in_default.not-Some) c.self.invariant in
+    let full : d.read ≡ size_in_mbs d.sps = c.if-self-size_in_mbs.false ∙ c.size_in_mbs.ensures in
+    let sized = are-sized d.sps d.pps d.frames.items d.slices.items d.slice_count d.read d.macroblocks kept full (planes_of c.deblocked.result) c.deblocked.ensures.samples in (
+      omega arith,
+      (
+        omega arith,
+        (
+          record { some_column = omega (arith, sized.luma_width); some_row = omega (arith, sized.luma_height) },
+          (
+            record { some_column = omega (arith, sized.cb_width); some_row = omega (arith, sized.cb_height) },
+            record { some_column = omega (arith, sized.cr_width); some_row = omega (arith, sized.cr_height) },
+          ),
+        ),
+      ),
+    )
+
+pub returns-clause-answer : goal.returns-clause-answer
+returns-clause-answer g c =
+    let d = c.self.inside in
+    let kept = subst (λ o. IsDecoderState d.sps d.pps d.frames.items d.slices.items d.slice_count d.read o d.macroblocks) (none-of d.fault c.in_default.not-Some) c.self.invariant in
+    let full : d.read ≡ size_in_mbs d.sps = c.if-self-size_in_mbs.false ∙ c.size_in_mbs.ensures in
+    subst (λ (v : Decoding g.row.PAD). (v.failed ≡ false) × ((es : List ℕ) → CanStandAt es v → end_fault es v ≡ None)
+    × ((es : List ℕ) → CanStandAt es v → padded_planes_of c.pad.result ≡ planes_after_slices (start_at es v) v.slices)) c.self.view_is (
+      c.if-self.false,
+      none-at-end d.sps d.pps d.frames.items d.slices.items d.slice_count d.read d.macroblocks kept (agrees d.read (size_in_mbs d.sps) full),
+      λ es stand.
+          c.pad.ensures ∙ planes-at-end d.sps d.pps d.frames.items d.slices.items d.slice_count d.read d.macroblocks kept full (planes_of c.deblocked.result) c.deblocked.ensures.samples es stand,
+    )
+
+pub returns-clause-sized : goal.returns-clause-sized
+returns-clause-sized g c =
+    let d = c.self.inside in
+    let kept = subst (λ o. IsDecoderState d.sps d.pps d.frames.items d.slices.items d.slice_count d.read o d.macroblocks) (none-of d.fault c.in_default.not-Some) c.self.invariant in
+    let full : d.read ≡ size_in_mbs d.sps = c.if-self-size_in_mbs.false ∙ c.size_in_mbs.ensures in
+    let sized = are-sized d.sps d.pps d.frames.items d.slices.items d.slice_count d.read d.macroblocks kept full (planes_of c.deblocked.result) c.deblocked.ensures.samples in
+    subst (λ planes. AreSized (width_in_mbs c.args.self.sps) (height_in_mbs c.args.self.sps) planes) (sym c.pad.ensures)
+    (subst (λ (v : Decoding g.row.PAD). AreSized (width_in_mbs v.sps) (height_in_mbs v.sps) (planes_of c.deblocked.result)) c.self.view_is sized)

@@ -1,0 +1,50 @@
+-- total_coeff of the neighbours of the macroblock that comes next.
+use Rattle.std.specs.Prelude.{ℕ, ◌<◌, List, length, take}
+use Rattle.std.specs.Option.{option_map}
+use Rattle.std.proofs.Common.{◌≡◌, ◌∙◌, sym, ap, subst}
+use Rattle.std.proofs.lemmas.List.{length-take-le}
+use Rattle.avc_types.specs.Pictures.{Coded, PicMb}
+use Rattle.avc_neigh.specs.Around.{mb_a, mb_b, next_address}
+use Rattle.avc_neigh.specs.Blocks.{above, left_of}
+use Rattle.avc_neigh.specs.Laws.{TellSlices, TellTotalCoeffs}
+use Rattle.avc_neigh.specs.TotalCoeffs.{total_coeffs_of}
+use Rattle.avc_neigh.proofs.Found.{total_coeffs_found}
+use Rattle.avc_mbsyntax.specs.SliceData.{SliceStart, left_total_coeffs, up_total_coeffs}
+use Rattle.avc_deblock.specs.Facts.{Names}
+use Rattle.avc_picture.specs.FirstMbs.{HoldsFirst, MbsState}
+use Rattle.avc_picture.specs.Kept.{IsKept}
+use Rattle.avc_picture.proofs.Tells.{tells_first}
+
+module _ (c : Coded) (names : Names) (m : MbsState) (holds : HoldsFirst c names m) (kept : IsKept m) (s : SliceStart)
+    (width : s.width ≡ c.width) (slice : ℕ) (number : s.slice ≡ slice) where
+  abbrev first : List PicMb
+  first = take m.next c.mbs
+
+  row_width : s.width ≡ m.row.width
+  row_width = width ∙ sym holds.width ∙ sym kept.row_width
+
+  first_long : length first ≡ next_address m.row
+  first_long = length-take-le m.next c.mbs holds.within ∙ sym kept.count
+
+  slices : TellSlices first m.row.facts
+  slices = tells_first (λ x. x.slice) (λ f. f.slice) c.mbs m.row.facts m.next kept.count holds.neighbours.slices
+
+  counts : TellTotalCoeffs first m.row.facts
+  counts = tells_first (λ x. total_coeffs_of x.mb.syntax) (λ f. f.total_coeffs) c.mbs m.row.facts m.next kept.count holds.neighbours.total_coeffs
+
+  wide : 0 < m.row.width
+  wide = subst (λ w. 0 < w) (sym kept.row_width) kept.wide
+
+  pub left_is : option_map (λ f. f.total_coeffs) (mb_a m.row slice) ≡ left_total_coeffs s first
+  left_is =
+      sym (total_coeffs_found first m.row slice wide slices counts).0
+      ∙ ap (λ a. option_map (λ x. total_coeffs_of x.syntax) (left_of first m.row.width slice a)) (sym first_long)
+      ∙ ap (λ w. option_map (λ x. total_coeffs_of x.syntax) (left_of first w slice (length first))) (sym row_width)
+      ∙ ap (λ n. option_map (λ x. total_coeffs_of x.syntax) (left_of first s.width n (length first))) (sym number)
+
+  pub up_is : option_map (λ f. f.total_coeffs) (mb_b m.row slice) ≡ up_total_coeffs s first
+  up_is =
+      sym (total_coeffs_found first m.row slice wide slices counts).1
+      ∙ ap (λ a. option_map (λ x. total_coeffs_of x.syntax) (above first m.row.width slice a)) (sym first_long)
+      ∙ ap (λ w. option_map (λ x. total_coeffs_of x.syntax) (above first w slice (length first))) (sym row_width)
+      ∙ ap (λ n. option_map (λ x. total_coeffs_of x.syntax) (above first s.width n (length first))) (sym number)

@@ -1,0 +1,247 @@
+-- What the code knows of a slice.
+use Rattle.std.specs.List.{list_any}
+use Rattle.std.specs.Option.{option_map}
+use Rattle.std.specs.Prelude.{All, IfOk, IfSome, slice_get, slice_index, slice_index_or, is_some, unwrap_or, nat_lt, ◌==◌}
+use Rattle.std.proofs.Common.{◌≡◌, ℕ, zero, suc, ◌^◌, ◌<◌, ◌≤◌, ◌+ℤ◌, Bool, true, false, List, [], ◌∷◌, length, map, Option, Some, None, Result, Ok, refl, ap, sym, subst, ◌∙◌, arith, lit≤}
+use Rattle.std.proofs.Math.ListN.{get_or-map}
+use Rattle.std.proofs.lemmas.Bool.Decides.{nat_tests}
+use Rattle.std.proofs.lemmas.Int.{ints}
+use Rattle.std.proofs.lemmas.List.{get_or_default, get_or_past, length-map}
+use Rattle.std.proofs.lemmas.List.Elements.{All-map, All-nil, All-weaker}
+use Rattle.std.proofs.lemmas.Option.{get_or_from_slice_get, slice_get_within}
+use Rattle.avc_types.specs.declared.fault.Fault.{Fault}
+use Rattle.avc_types.specs.Pictures.{Coded}
+use Rattle.avc_types.specs.References.{Reference, reference_at}
+use Rattle.avc_types.specs.declared.weight.Weights.{Weights}
+use Rattle.avc_params.specs.Limits.{height_in_mbs, width_in_mbs}
+use Rattle.avc_params.specs.declared.sps.Sps.{Sps}
+use Rattle.avc_params.specs.declared.pps.Pps.{Pps}
+use Rattle.avc_slice.specs.Header.{is_p}
+use Rattle.avc_slice.specs.Weights.{weight_of, weights, weights_of}
+use Rattle.avc_slice.specs.Within.{IsChromaWeights, IsCodedWeight, IsEntryWeights, IsPredWeightTable}
+use Rattle.avc_slice.specs.declared.header.Header.{Header}
+use Rattle.avc_slice.specs.declared.weights.ChromaWeights.{ChromaWeights}
+use Rattle.avc_slice.specs.declared.weights.CodedWeight.{CodedWeight}
+use Rattle.avc_slice.specs.declared.weights.EntryWeights.{EntryWeights}
+use Rattle.avc_slice.specs.declared.weights.PredWeightTable.{PredWeightTable}
+use Rattle.avc_reflist.specs.Lists.{reference_list}
+use Rattle.avc_motion.specs.Motion.{frame_named, slice_facts}
+use Rattle.avc_plane.specs.Frames.{marked_frame, padded_planes_of}
+use Rattle.avc_plane.specs.declared.frame.Frame.{Frame}
+use Rattle.avc_plane.specs.declared.frame.PaddedPlanes.{PaddedPlanes}
+use Rattle.avc_deblock.specs.Facts.{Names}
+use Rattle.avc_picture_core.specs.Faults.{is_picture}
+use Rattle.avc_picture_core.specs.References.{AreSized, AreUsable, AreWeights, IsUsable, IsWeight, ShowsReference}
+use Rattle.avc_picture_core.specs.declared.references.ReferencePicture.{ReferencePicture}
+use Rattle.avc_picture.specs.Context.{AreNames, ArePicturesAt, ArePlacesIn, FramesStandAt, HasPlaces, IsPictureAt, picture_start, planes_at}
+use Rattle.avc_picture.specs.Decoding.{AreFramesOf}
+use Rattle.avc_picture.specs.FirstMbs.{HasNumber, IsSlice}
+use Rattle.avc_picture.specs.Slices.{PictureStart, current_of, deblocking_of, facts_of, frame_of, list_of, or_empty, references_in}
+use Rattle.avc_picture.specs.declared.slice_context.SliceContext.{SliceContext}
+use Rattle.avc_picture.proofs.Members.{all-listed, own-entries}
+use Rattle.avc_picture.proofs.Stored.{listed-is-marked, named-missing, named-picture, stored-references}
+
+some-within : {A : Type 0} (xs : List A) (k : ℕ) → k < length xs → (x : A) × (slice_get xs k ≡ Some x)
+some-within [] k h = absurd (omega (arith, h))
+some-within (x ∷ xs) zero h = (x, refl)
+some-within (x ∷ xs) (suc k) h = some-within xs k (omega (arith, h))
+
+-- ---- weights
+
+small-power : (d : ℕ) → d ≤ 7 → 2 ^ d ≤ 128
+small-power zero h = lit≤ tt
+small-power (suc zero) h = lit≤ tt
+small-power (suc (suc zero)) h = lit≤ tt
+small-power (suc (suc (suc zero))) h = lit≤ tt
+small-power (suc (suc (suc (suc zero)))) h = lit≤ tt
+small-power (suc (suc (suc (suc (suc zero))))) h = lit≤ tt
+small-power (suc (suc (suc (suc (suc (suc zero)))))) h = lit≤ tt
+small-power (suc (suc (suc (suc (suc (suc (suc zero))))))) h = lit≤ tt
+small-power (suc (suc (suc (suc (suc (suc (suc (suc d)))))))) h = absurd (omega (arith, h))
+
+is-weight : (d : ℕ) (o : Option CodedWeight) → d ≤ 7 → IfSome o IsCodedWeight → IsWeight (weight_of d o)
+is-weight d None h is =
+    let small = small-power d h in
+    record { log2_denom = h; weight = record { low = omega (arith, ints, small); high = omega (arith, ints, small) }; offset = record { low = omega (arith, ints); high = omega (arith, ints) } }
+is-weight d (Some c) h is = record {
+  log2_denom = h;
+  weight = record { low = omega (arith, ints, is.weight_low); high = omega (arith, ints, is.weight_high) };
+  offset = record { low = omega (arith, ints, is.offset_low); high = omega (arith, ints, is.offset_high) };
+}
+
+are-weights : (t : PredWeightTable) (e : EntryWeights) → t.luma_log2_weight_denom ≤ 7 → t.chroma_log2_weight_denom ≤ 7 → IsEntryWeights e → AreWeights (weights_of t e)
+are-weights t e l c is = record {
+  luma = is-weight t.luma_log2_weight_denom e.luma l is.luma;
+  cb = is-weight t.chroma_log2_weight_denom (option_map (λ x. x.cb) e.chroma) c (of_cb e.chroma is.chroma);
+  cr = is-weight t.chroma_log2_weight_denom (option_map (λ x. x.cr) e.chroma) c (of_cr e.chroma is.chroma);
+} where
+  of_cb : (o : Option ChromaWeights) → IfSome o IsChromaWeights → IfSome (option_map (λ x. x.cb) o) IsCodedWeight
+  of_cb None h = tt
+  of_cb (Some x) h = h.cb
+
+  of_cr : (o : Option ChromaWeights) → IfSome o IsChromaWeights → IfSome (option_map (λ x. x.cr) o) IsCodedWeight
+  of_cr None h = tt
+  of_cr (Some x) h = h.cr
+
+all-weights-by : (h : Header) (t : Option PredWeightTable) → IfSome t (IsPredWeightTable h.active_count) → All AreWeights (weights (record h { pred_weight_table = t }))
+all-weights-by h None is = All-nil AreWeights
+all-weights-by h (Some t) is =
+    All-map AreWeights (weights_of t) t.entries
+    (All-weaker IsEntryWeights (λ e. AreWeights (weights_of t e)) (λ e w. are-weights t e is.luma_denom is.chroma_denom w) t.entries is.entries)
+
+all-weights : (h : Header) → IfSome h.pred_weight_table (IsPredWeightTable h.active_count) → All AreWeights (weights h)
+all-weights h is = all-weights-by h h.pred_weight_table is
+
+-- ---- pictures that can be predicted from
+
+module _ {PAD : ℕ} (sps : Sps) (fs : List (Frame PAD)) (h : Header) (frames : AreFramesOf sps fs) (table : IfSome h.pred_weight_table (IsPredWeightTable h.active_count)) where
+  sized-at : (place : Option ℕ) (planes : PaddedPlanes PAD) → planes_at fs place ≡ Some planes → AreSized (width_in_mbs sps) (height_in_mbs sps) (padded_planes_of planes)
+  sized-at None planes e = cc
+  sized-at (Some k) planes e = by_frame (slice_get fs k) refl e
+    where
+      by_frame : (o : Option (Frame PAD)) → slice_get fs k ≡ o → planes_at fs (Some k) ≡ Some planes → AreSized (width_in_mbs sps) (height_in_mbs sps) (padded_planes_of planes)
+      by_frame None at e = let wrong : None ≡ Some planes = rw at at e in cc
+      by_frame (Some f) at e =
+          let has : f.planes ≡ Some planes = rw at at e in
+          let here = frames.sized k f (slice_get_within fs k f at) in
+          let same : slice_index_or fs k f ≡ f = get_or_from_slice_get fs k f f at in
+          subst (λ o. IfSome o (λ q. AreSized (width_in_mbs sps) (height_in_mbs sps) (padded_planes_of q))) (ap (λ x. x.planes) same ∙ has) here
+
+  usable-at : (r : ℕ) (place : Option ℕ) (o : Option (ReferencePicture PAD)) → IsPictureAt fs h r place o → IfSome o (IsUsable (width_in_mbs sps) (height_in_mbs sps))
+  usable-at r place None is = tt
+  usable-at r place (Some q) is = record { sized = sized-at place q.planes.now is.0; weights = by_weights (slice_get (weights h) r) q.weights refl is.1 }
+    where
+      by_weights : (o w : Option Weights) → slice_get (weights h) r ≡ o → slice_get (weights h) r ≡ w → IfSome w AreWeights
+      by_weights o None e e' = tt
+      by_weights o (Some w) e e' = subst AreWeights (get_or_from_slice_get (weights h) r w w e') (all-weights h table r w (slice_get_within (weights h) r w e'))
+
+  pub usable-pictures : (places : List (Option ℕ)) (pictures : List (Option (ReferencePicture PAD))) → length pictures ≡ 16 → ArePicturesAt fs h 16 places pictures
+      → AreUsable (width_in_mbs sps) (height_in_mbs sps) pictures
+  usable-pictures places pictures long at = λ k d inside.
+      let within : k < 16 = omega (arith, long, inside) in
+      subst (λ o. IfSome o (IsUsable (width_in_mbs sps) (height_in_mbs sps))) (get_or_default pictures k None d inside)
+      (usable-at k (slice_index_or places k None) (slice_index_or pictures k None) (at k within))
+
+-- ---- a list's frames are marked
+
+module _ {PAD : ℕ} (sps : Sps) (pps : Pps) (es : List ℕ) (fs : List (Frame PAD)) (h : Header) (stand : FramesStandAt es fs) where
+  abbrev p : PictureStart
+  p = picture_start sps pps es fs
+
+  abbrev IsListed : Reference → Type 0
+  IsListed r = list_any (λ s. s.entry == r.entry) (references_in p) ≡ true
+
+  abbrev listed-by : Bool → Result (List (Option Reference)) Fault
+  listed-by b = elim b [ true ↦ reference_list (current_of p h) h.active_count (or_empty h.modifications) (references_in p) | false ↦ Ok [] ]
+
+  all-listed-by : (b : Bool) → IfOk (listed-by b) (All (λ o. IfSome o IsListed))
+  all-listed-by true = all-listed IsListed (current_of p h) (references_in p) (own-entries (references_in p)) h.active_count (or_empty h.modifications)
+  all-listed-by false = All-nil (λ o. IfSome o IsListed)
+
+  all-in-list : (list : List (Option Reference)) → list_of p h ≡ Ok list → All (λ o. IfSome o IsListed) list
+  all-in-list list e = subst (λ r. IfOk r (All (λ o. IfSome o IsListed))) e (all-listed-by (is_p h))
+
+  marked : (list : List (Option Reference)) (places : List (Option ℕ)) (r k : ℕ) (f : Frame PAD) → list_of p h ≡ Ok list → HasPlaces es fs list places
+      → slice_index_or places r None ≡ Some k → slice_get fs k ≡ Some f → is_some f.mark ≡ true
+  marked list places r k f e has place at =
+      let named : slice_index_or list r None ≡ Some (reference_at es (map marked_frame fs) k) = has r ∙ ap (option_map (reference_at es (map marked_frame fs))) place in
+      let listed = subst (λ o. IfSome o IsListed) named (by_length (nat_lt r (length list)) refl (all-in-list list e)) in
+      listed-is-marked es fs k f stand at (ap (list_any (λ s. s.entry == slice_index es k)) (sym (stored-references es fs)) ∙ listed)
+    where
+      by_length : (b : Bool) → nat_lt r (length list) ≡ b → All (λ o. IfSome o IsListed) list → IfSome (slice_index_or list r None) IsListed
+      by_length true inside all = let within : r < length list = grind (arith, nat_tests) in all r None within
+      by_length false past all =
+          let behind : length list ≤ r = grind (arith, nat_tests) in
+          subst (λ o. IfSome o IsListed) (sym (get_or_past list r None behind)) tt
+
+  -- ---- what the code knows
+
+  module _ (places : List (Option ℕ)) (s : SliceContext PAD) (long : length places ≡ 16) (within : ArePlacesIn fs places)
+      (full : length s.references ≡ 16) (pictures : ArePicturesAt fs h 16 places s.references)
+      (numbers : (r : ℕ) → r < 16 → slice_index_or s.frame_numbers r 0 ≡ unwrap_or (slice_index_or places r None) 0)
+      (edges : s.filtered_edges ≡ (deblocking_of h.deblocking).disable_deblocking_filter_idc)
+      (offset_a : s.offset_a ≡ (deblocking_of h.deblocking).slice_alpha_c0_offset_div2 +ℤ (deblocking_of h.deblocking).slice_alpha_c0_offset_div2)
+      (offset_b : s.offset_b ≡ (deblocking_of h.deblocking).slice_beta_offset_div2 +ℤ (deblocking_of h.deblocking).slice_beta_offset_div2)
+      (list : List (Option Reference)) (is : list_of p h ≡ Ok list) (has : HasPlaces es fs list places)
+      (c : Coded) (names : Names) (are : AreNames es names) (facts : slice_facts c s.number ≡ facts_of p h list) where
+    abbrev reference : ℕ → Reference
+    reference k = reference_at es (map marked_frame fs) k
+
+    named-at : (r : ℕ) → frame_named c s.number r ≡ option_map (frame_of p) (option_map reference (slice_index_or places r None))
+    named-at r =
+        ap (λ x. slice_index_or x.references r None) facts
+        ∙ get_or-map (option_map (frame_of p)) list r None
+        ∙ ap (option_map (frame_of p)) (has r)
+
+    frame-at : (r k : ℕ) → r < 16 → slice_index_or places r None ≡ Some k → (f : Frame PAD) × (slice_get fs k ≡ Some f)
+    frame-at r k inside place =
+        some-within fs k (subst (λ o. IfSome o (λ q. q < length fs)) place (within r None (omega (arith, long, inside))))
+
+    by-frame : (r k : ℕ) (f : Frame PAD) (o : Option (ReferencePicture PAD)) → slice_index_or places r None ≡ Some k → slice_get fs k ≡ Some f → IsPictureAt fs h r (Some k) o
+        → ShowsReference c s.number r o
+    by-frame r k f None place got at =
+        let none : f.planes ≡ None = rw got at at in
+        ap is_picture (named-at r ∙ ap (λ x. option_map (frame_of p) (option_map reference x)) place) ∙ named-missing sps pps es fs k f stand got none
+    by-frame r k f (Some q) place got at =
+        let some : f.planes ≡ Some q.planes.now = rw got at at.0 in
+        record {
+          entry = slice_index es k;
+          frame =
+              named-at r ∙ ap (λ x. option_map (frame_of p) (option_map reference x)) place
+              ∙ ap Some (named-picture sps pps es fs k f stand got q.planes.now (marked list places r k f is has place got) some);
+          weights = ap (λ x. slice_get x.weights r) facts ∙ at.1;
+        }
+
+    by-place : (r : ℕ) (place : Option ℕ) (o : Option (ReferencePicture PAD)) → r < 16 → slice_index_or places r None ≡ place → IsPictureAt fs h r place o
+        → ShowsReference c s.number r o
+    by-place r None None inside e at = ap is_picture (named-at r ∙ ap (λ x. option_map (frame_of p) (option_map reference x)) e)
+    by-place r None (Some q) inside e at = let wrong = at.0 in cc
+    by-place r (Some k) o inside e at = let found = frame-at r k inside e in by-frame r k found.0 o e found.1 at
+
+    unnamed : (r : ℕ) → 16 ≤ r → is_picture (frame_named c s.number r) ≡ false
+    unnamed r past =
+        let none : slice_index_or places r None ≡ None = get_or_past places r None (omega (arith, long, past)) in
+        ap is_picture (named-at r ∙ ap (λ x. option_map (frame_of p) (option_map reference x)) none)
+
+    shows : (r : ℕ) → ShowsReference c s.number r (slice_index_or s.references r None)
+    shows r = by_length (nat_lt r 16) refl
+      where
+        by_length : (b : Bool) → nat_lt r 16 ≡ b → ShowsReference c s.number r (slice_index_or s.references r None)
+        by_length true e =
+            let inside : r < 16 = grind (arith, nat_tests) in
+            by-place r (slice_index_or places r None) (slice_index_or s.references r None) inside refl (pictures r inside)
+        by_length false e =
+            let past : 16 ≤ r = grind (arith, nat_tests) in
+            let none : slice_index_or s.references r None ≡ None = get_or_past s.references r None (omega (arith, full, past)) in
+            subst (ShowsReference c s.number r) (sym none) (unnamed r past)
+
+    numbered : (r : ℕ) (place : Option ℕ) → r < 16 → slice_index_or places r None ≡ place → is_picture (frame_named c s.number r) ≡ true
+        → HasNumber c names s.number r (slice_index_or s.frame_numbers r 0)
+    numbered r None inside e shown =
+        let wrong : false ≡ true = sym (ap is_picture (named-at r ∙ ap (λ x. option_map (frame_of p) (option_map reference x)) e)) ∙ shown in
+        cc
+    numbered r (Some k) inside e shown =
+        let found = frame-at r k inside e in
+        let number : slice_index_or s.frame_numbers r 0 ≡ k = numbers r inside ∙ ap (λ x. unwrap_or x 0) e in
+        let there : k < names.count = omega (arith, slice_get_within fs k found.0 found.1, are.all, stand.each, length-map fs marked_frame) in
+        record {
+          frame = frame_of p (reference k);
+          named = named-at r ∙ ap (λ x. option_map (frame_of p) (option_map reference x)) e;
+          entry = sym (are.each k there) ∙ ap names.entry (sym number);
+          within = omega (arith, number, there);
+        }
+
+    pub is-slice : IsSlice c names s
+    is-slice = record {
+      references = record { each = shows };
+      numbers = λ r shown. by_length r shown (nat_lt r 16) refl;
+      edges = edges ∙ sym (ap (λ x. x.disable_deblocking_filter_idc) facts);
+      offset_a = offset_a ∙ sym (ap (λ x. x.filter_offset_a) facts);
+      offset_b = offset_b ∙ sym (ap (λ x. x.filter_offset_b) facts);
+    } where
+      by_length : (r : ℕ) → is_picture (frame_named c s.number r) ≡ true → (b : Bool) → nat_lt r 16 ≡ b → HasNumber c names s.number r (slice_index_or s.frame_numbers r 0)
+      by_length r shown true e = let inside : r < 16 = grind (arith, nat_tests) in numbered r (slice_index_or places r None) inside refl shown
+      by_length r shown false e =
+          let past : 16 ≤ r = grind (arith, nat_tests) in
+          let wrong : false ≡ true = sym (unnamed r past) ∙ shown in
+          cc

@@ -1,0 +1,49 @@
+-- What decoding a slice's data answers.
+use Rattle.std.proofs.lemmas.Int.{ints}
+use Rattle.std.proofs.Common.{◌≡◌, ℕ, ℤ, pos, nat_abs, ◌≤ℤ◌, suc, ◌+◌, ◌-◌, ◌*◌, ◌<◌, ◌≤◌, Option, Some, None, Ok, Err, List, refl, ap, sym, subst, ◌∙◌, arith}
+use Rattle.avc_types.specs.declared.fault.Fault.{Fault}
+use Rattle.avc_types.specs.Pictures.{Coded}
+use Rattle.avc_mbsyntax.specs.SliceData.{SliceStart}
+use Rattle.avc_mbsyntax.specs.declared.slice_data.SliceData.{SliceData}
+use Rattle.avc_deblock.specs.Facts.{Names}
+use Rattle.avc_picture_core.specs.References.{AreUsable}
+use Rattle.avc_picture_core.specs.declared.references.ReferencePicture.{ReferencePicture}
+use Rattle.avc_picture.specs.DecoderState.{GoesOnFrom, IsDataAnswer, outcome_from}
+use Rattle.avc_picture.specs.FirstMbs.{HasSameSize, MbsState}
+use Rattle.avc_picture.specs.declared.slice_context.SliceContext.{SliceContext}
+
+pub none-of : {A : Type 0} (o : Option A) → ((x : A) → o ≡ Some x → ⊥) → o ≡ None
+none-of None h = refl
+none-of (Some x) h = absurd (h x refl)
+
+pub usable-still : {PAD : ℕ} (references : List (Option (ReferencePicture PAD))) (old new : MbsState) → HasSameSize old new
+    → AreUsable old.canvas.width old.canvas.height references → AreUsable new.canvas.width new.canvas.height references
+usable-still references old new same usable =
+    subst (λ w. AreUsable w new.canvas.height references) (sym same.width) (subst (λ h. AreUsable old.canvas.width h references) (sym same.height) usable)
+
+pub usable-at : {PAD : ℕ} (references : List (Option (ReferencePicture PAD))) (w w' h h' : ℕ) → w' ≡ w → h' ≡ h → AreUsable w h references → AreUsable w' h' references
+usable-at references w w' h h' e f usable = subst (λ x. AreUsable x h' references) (sym e) (subst (λ y. AreUsable w y references) (sym f) usable)
+
+pub same-area : (old new : MbsState) → HasSameSize old new → new.canvas.width * new.canvas.height ≡ old.canvas.width * old.canvas.height
+same-area old new same = ap (λ w. w * new.canvas.height) same.width ∙ ap (λ h. old.canvas.width * h) same.height
+
+pub less-left : (a a' n n' : ℕ) → a' ≡ a → n' ≡ suc n → n < a → a' - n' < a - n
+less-left a a' n n' e f h = omega (arith, e, f, h)
+
+module _ {PAD : ℕ} (c : Coded) (names : Names) (s : SliceStart) (context : SliceContext PAD) (m : MbsState) (d : SliceData) (m' : MbsState) (d' : SliceData)
+    (far : GoesOnFrom c names s context m d m' d') (read : ℕ) (reached : m'.next ≡ read) where
+  pub ends-well : outcome_from c s m' d' ≡ (0, None) → IsDataAnswer c names m.next (outcome_from c s m d) (Ok tt) read m'
+  ends-well e =
+      let none : (outcome_from c s m' d').0 ≡ 0 = ap (λ o. o.0) e in
+      (far.fault ∙ ap (λ o. o.1) e, omega (arith, far.count, none, reached), reached, far.goes_on.holds)
+
+  pub ends-badly : (k : ℕ) (f : Fault) (new : MbsState) → outcome_from c s m' d' ≡ (k, Some f) → IsDataAnswer c names m.next (outcome_from c s m d) (Err f) (read + k) new
+  ends-badly k f new e =
+      let count : (outcome_from c s m' d').0 ≡ k = ap (λ o. o.0) e in
+      (far.fault ∙ ap (λ o. o.1) e, omega (arith, far.count, count, reached))
+
+  pub goes-further : (m'' : MbsState) (d'' : SliceData) → GoesOnFrom c names s context m' d' m'' d'' → GoesOnFrom c names s context m d m'' d''
+  goes-further m'' d'' more = record { goes_on = more.goes_on; count = far.count ∙ more.count; fault = far.fault ∙ more.fault }
+
+pub abs-within : (n : ℕ) (z : ℤ) → pos 0 ≤ℤ z → z ≤ℤ pos n → nat_abs z ≤ n
+abs-within n z low high = omega (arith, ints, low, high)

@@ -1,0 +1,70 @@
+-- What refuses a macroblock, step by step.
+use Rattle.std.specs.Prelude.{ℕ, zero, suc, ◌<◌, List, [], ◌∷◌, length, Bool, true, false, not, Option, Some, None, Ok, Err, slice_get, slice_index_or, if◌then◌else◌}
+use Rattle.std.specs.List.{list_all}
+use Rattle.std.proofs.Common.{◌≡◌, ◌∙◌, refl, ap, arith}
+use Rattle.avc_types.specs.declared.fault.Fault.{Fault}
+use Rattle.avc_types.specs.declared.fault.Fault.TheVariants.{VectorRange, RefMissing}
+use Rattle.avc_types.specs.Macroblock.{MbSyntax, p_skip, i_pcm, i_nxn, i_16x16, p_inter}
+use Rattle.avc_types.specs.Pictures.{Coded, PicMb}
+use Rattle.avc_neigh.specs.declared.facts.Motion.{Motion}
+use Rattle.avc_neigh.specs.declared.facts.Motion.TheVariants.{Absent as absent}
+use Rattle.avc_neigh.specs.Modes.{modes_before}
+use Rattle.avc_motion.specs.Motion.{is_in_range, is_intra, motion_before, motion_or_fault}
+use Rattle.avc_motion.proofs.Apart.{and_first, and_second}
+use Rattle.avc_picture_core.specs.Built.{Place, place_of, reference_of}
+use Rattle.avc_picture_core.specs.Faults.{fault_at, fault_of, has_references, is_picture, macroblock_fault, refusal}
+
+pub macroblock_fault_is : (c : Coded) (a : ℕ) (m : PicMb) → slice_get c.mbs a ≡ Some m
+    → macroblock_fault c a ≡ fault_of (place_of c (modes_before c (suc a)) (motion_before c (suc a)) a m)
+macroblock_fault_is c a m is = ap (fault_at c a) is
+
+err_of : (b : Bool) (motion : List Motion) (f : Fault) (r : Option Fault) → Err f ≡ (if b then Ok motion else Err VectorRange)
+    → (if not b then Some VectorRange else r) ≡ Some f
+err_of true motion f r e = cc
+err_of false motion f r e = cc
+
+none_of : (b : Bool) (motion found : List Motion) (r : Option Fault) → Ok found ≡ (if b then Ok motion else Err VectorRange)
+    → (if not b then Some VectorRange else r) ≡ r
+none_of true motion found r e = refl
+none_of false motion found r e = cc
+
+found_is : (b : Bool) (motion found : List Motion) → Ok found ≡ (if b then Ok motion else Err VectorRange) → motion ≡ found
+found_is true motion found e = cc
+found_is false motion found e = cc
+
+module _ (p : Place) (motion : List Motion) (is : p.motion ≡ motion) where
+  pub out_of_range : (f : Fault) → Err f ≡ motion_or_fault motion → fault_of p ≡ Some f
+  out_of_range f e =
+      ap (λ xs. if not (list_all is_in_range xs) then Some VectorRange else refusal p) is
+      ∙ err_of (list_all is_in_range motion) motion f (refusal p) e
+
+  pub in_range : (found : List Motion) → Ok found ≡ motion_or_fault motion → fault_of p ≡ refusal p
+  in_range found e =
+      ap (λ xs. if not (list_all is_in_range xs) then Some VectorRange else refusal p) is
+      ∙ none_of (list_all is_in_range motion) motion found (refusal p) e
+
+  pub motion_found : (found : List Motion) → Ok found ≡ motion_or_fault motion → p.motion ≡ found
+  motion_found found e = is ∙ found_is (list_all is_in_range motion) motion found e
+
+no_first : (b : Bool) (x : Option Fault) → (if not b then Some RefMissing else x) ≡ None → b ≡ true
+no_first true x e = refl
+no_first false x e = cc
+
+list_all_each : {X : Type 0} (test : X → Bool) (xs : List X) (d : X) → list_all test xs ≡ true → (k : ℕ) → k < length xs
+    → test (slice_index_or xs k d) ≡ true
+list_all_each test [] d e k h = absurd (omega (arith, h))
+list_all_each test (x ∷ xs) d e zero h = and_first (test x) (list_all test xs) e
+list_all_each test (x ∷ xs) d e (suc k) h = list_all_each test xs d (and_second (test x) (list_all test xs) e) k (omega (arith, h))
+
+each_picture : (p : Place) (s : MbSyntax) → is_intra s ≡ false → has_references p s ≡ true → (k : ℕ) → k < length p.motion
+    → is_picture (reference_of p.coded p.slice (slice_index_or p.motion k absent)) ≡ true
+each_picture p p_skip inter e k h = list_all_each (λ m. is_picture (reference_of p.coded p.slice m)) p.motion absent e k h
+each_picture p (p_inter shape refs mvds r) inter e k h = list_all_each (λ m. is_picture (reference_of p.coded p.slice m)) p.motion absent e k h
+each_picture p (i_pcm luma cb cr) inter e k h = cc
+each_picture p (i_nxn modes chroma r) inter e k h = cc
+each_picture p (i_16x16 mode chroma r) inter e k h = cc
+
+-- The blocks of an inter macroblock that is not refused have their pictures.
+pub has_pictures : (p : Place) → refusal p ≡ None → is_intra p.mb.syntax ≡ false → (k : ℕ) → k < length p.motion
+    → is_picture (reference_of p.coded p.slice (slice_index_or p.motion k absent)) ≡ true
+has_pictures p e inter k h = each_picture p p.mb.syntax inter (no_first (has_references p p.mb.syntax) _ e) k h

@@ -1,0 +1,104 @@
+-- What the deblocking filter is told of the first macroblocks, over one macroblock more.
+use Rattle.std.specs.Prelude.{ℕ, suc, ◌+◌, ◌*◌, ◌/◌, ◌<◌, List, [], ◌∷◌, ◌++◌, length, take, true, false, Some, slice_get, slice_index, slice_index_or, slice_set, ◌-◌}
+use Rattle.std.proofs.Common.{◌≡◌, ◌∙◌, refl, sym, ap, subst, arith, inl, inr}
+use Rattle.std.proofs.Math.Seq.{take-suc-set}
+use Rattle.std.proofs.lemmas.Bool.{cases_lt}
+use Rattle.std.proofs.lemmas.List.{get_or-map, get_or_append_left, get_or-append_right, length-append, length-take-le}
+use Rattle.std.proofs.lemmas.Option.{get_or_from_slice_get}
+use Rattle.avc_types.specs.Macroblock.{Mb}
+use Rattle.avc_types.specs.Pictures.{Coded, PicMb, Frame}
+use Rattle.avc_neigh.specs.declared.facts.Motion.{Motion}
+use Rattle.avc_neigh.specs.declared.facts.Motion.TheVariants.{Absent as absent, Intra as intra, Inter as inter}
+use Rattle.avc_motion.specs.Motion.{frame_named, is_intra, slice_facts, vector_of, zero_vector}
+use Rattle.avc_deblock.specs.Edges.{filter_qp, has_coefficients, mb_at, picture_named}
+use Rattle.avc_deblock.specs.Facts.{Names, HasFacts, HasMotion, HaveFacts}
+use Rattle.avc_deblock.specs.declared.facts.MbFacts.{MbFacts}
+use Rattle.avc_picture_core.specs.Built.{reference_of}
+use Rattle.avc_picture_core.specs.Faults.{is_picture}
+use Rattle.avc_picture.specs.FirstMbs.{IsSlice}
+use Rattle.avc_picture.specs.Told.{IsFilterTold, number_of}
+use Rattle.avc_picture.specs.declared.slice_context.SliceContext.{SliceContext}
+use Rattle.avc_picture.proofs.Quarters.{IsFrom}
+
+pub facts_more : (c : Coded) (all : List (List Motion)) (names : Names) (a : ℕ) (facts : List MbFacts) (f : MbFacts) → a < length facts
+    → HaveFacts c all names 0 (take a facts) → HasFacts c all names a f → HaveFacts c all names 0 (take (suc a) (slice_set facts a f))
+facts_more c all names a facts f h have has = λ k other below.
+    let more : take (suc a) (slice_set facts a f) ≡ take a facts ++ f ∷ [] = take-suc-set facts a f h in
+    let long : length (take a facts) ≡ a = length-take-le a facts (omega (arith, h)) in
+    let longer : length (take a facts ++ f ∷ []) ≡ length (take a facts) + 1 = length-append (take a facts) (f ∷ []) in
+    let at : slice_index_or (take (suc a) (slice_set facts a f)) k other ≡ slice_index_or (take a facts ++ f ∷ []) k other = ap (λ xs. slice_index_or xs k other) more in
+    elim (cases_lt k a) [
+      | inl low ↦
+          subst (HasFacts c all names (0 + k)) (sym (at ∙ get_or_append_left (take a facts) (f ∷ []) other k (omega (arith, low, long))))
+          (have k other (omega (arith, low, long)))
+      | inr high ↦
+          let last : k ≡ a = omega (arith, high, below, ap length more, long, longer) in
+          let none_left : k - a ≡ 0 = omega (arith, last) in
+          subst (HasFacts c all names (0 + k)) (sym (at ∙ get_or-append_right (take a facts) (f ∷ []) a k other long high ∙ ap (λ j. slice_index_or (f ∷ []) j other) none_left))
+          (subst (λ j. HasFacts c all names j f) (omega (arith, last)) has)
+    ]
+
+picture_of : (c : Coded) (a slice i : ℕ) (frame : Frame) → (mb_at c a).slice ≡ slice → frame_named c slice i ≡ Some frame
+    → picture_named c a i ≡ Some frame.entry
+picture_of c a slice i frame e n = rw (e, n) refl
+
+-- a block that has a picture, with the number of its quarter
+number_from : (c : Coded) (slice : ℕ) (numbers : List ℕ) (r : ℕ) (m : Motion) → is_picture (reference_of c slice m) ≡ true → IsFrom r m
+    → number_of numbers m ≡ slice_index_or numbers r 0
+number_from c slice numbers r absent there from = cc
+number_from c slice numbers r intra there from = cc
+number_from c slice numbers r (inter i v) there from = ap (λ j. slice_index_or numbers j 0) from
+
+module _ {PAD : ℕ} (c : Coded) (names : Names) (s : SliceContext PAD) (slice : IsSlice c names s) (a : ℕ) (mb : Mb)
+    (is : slice_get c.mbs a ≡ Some (record { slice = s.number; mb = mb })) (motion : List Motion) (long : length motion ≡ 16)
+    (r : ℕ → ℕ) (f : MbFacts) (told : IsFilterTold mb motion s f) where
+  abbrev mb_there : PicMb
+  mb_there = record { slice = s.number; mb = mb }
+
+  mb_is : mb_at c a ≡ mb_there
+  mb_is = get_or_from_slice_get c.mbs a mb_there _ is
+
+  abbrev block : ℕ → Motion
+  block k = slice_index_or motion k absent
+
+  module _ (pictures : (k : ℕ) → k < 16 → is_picture (reference_of c s.number (block k)) ≡ true)
+      (one : (k : ℕ) → k < 16 → IsFrom (r (k / 4)) (block k)) where
+    quarter_number : (k : ℕ) → k < 16 → slice_index f.pictures (k / 4) ≡ slice_index_or s.frame_numbers (r (k / 4)) 0
+    quarter_number k h =
+        told.pictures_are (k / 4) (omega (arith, h))
+        ∙ number_from c s.number s.frame_numbers (r (k / 4)) (block (4 * (k / 4))) (pictures (4 * (k / 4)) (omega (arith, h)))
+        (subst (λ q. IsFrom (r q) (block (4 * (k / 4)))) (omega arith) (one (4 * (k / 4)) (omega (arith, h))))
+
+    block_has : (k : ℕ) → k < 16 → (m : Motion) → block k ≡ m → is_picture (reference_of c s.number m) ≡ true → IsFrom (r (k / 4)) m
+        → HasMotion c names a f k m
+    block_has k h absent e there from = cc
+    block_has k h intra e there from = cc
+    block_has k h (inter i v) e there from =
+        let n = slice.numbers i there in
+        let number : slice_index f.pictures (k / 4) ≡ slice_index_or s.frame_numbers i 0 = quarter_number k h ∙ ap (λ j. slice_index_or s.frame_numbers j 0) (sym from) in
+        record {
+          reference = i;
+          is = ap (λ u. inter i u) (sym (ap (λ vs. slice_index_or vs k zero_vector) told.vectors_are ∙ get_or-map vector_of motion k absent zero_vector (omega (arith, h, long)) ∙ ap vector_of e));
+          picture = picture_of c a s.number i n.frame (ap (λ x. x.slice) mb_is) n.named ∙ ap Some (n.entry ∙ ap names.entry (sym number));
+          named = subst (λ j. j < names.count) (sym number) n.within;
+        }
+
+    block_motion : (k : ℕ) → k < 16 → HasMotion c names a f k (block k)
+    block_motion k h = block_has k h (block k) refl (pictures k h) (one k h)
+
+  pub has_facts : (all : List (List Motion)) → slice_index_or all a [] ≡ motion
+      → (is_intra mb.syntax ≡ false → (k : ℕ) → k < 16 → is_picture (reference_of c s.number (block k)) ≡ true)
+      → (is_intra mb.syntax ≡ false → (k : ℕ) → k < 16 → IsFrom (r (k / 4)) (block k))
+      → HasFacts c all names a f
+  has_facts all at pictures one = record {
+    intra_is = told.intra_is ∙ ap (λ x. is_intra x.mb.syntax) (sym mb_is);
+    coefficients_is = λ k h. told.coefficients_is k h ∙ ap (λ x. has_coefficients x.mb.syntax k) (sym mb_is);
+    motion_is = λ inter k h.
+        let e = sym told.intra_is ∙ inter in
+        subst (λ xs. HasMotion c names a f k (slice_index_or xs k absent)) (sym at) (block_motion (pictures e) (one e) k h);
+    qp_is = told.qp_is ∙ ap (λ x. filter_qp x.mb.qp x.mb.syntax) (sym mb_is);
+    slice_is = told.slice_is ∙ ap (λ x. x.slice) (sym mb_is);
+    edges_is = told.edges_is ∙ slice.edges ∙ ap (λ x. (slice_facts c x.slice).disable_deblocking_filter_idc) (sym mb_is);
+    offset_a_is = told.offset_a_is ∙ slice.offset_a ∙ ap (λ x. (slice_facts c x.slice).filter_offset_a) (sym mb_is);
+    offset_b_is = told.offset_b_is ∙ slice.offset_b ∙ ap (λ x. (slice_facts c x.slice).filter_offset_b) (sym mb_is);
+  }

@@ -1,0 +1,249 @@
+-- One slice more of a picture.
+use Rattle.std.specs.List.Sorted.{IsStrictlyIncreasing}
+use Rattle.std.specs.Prelude.{nat_lt, slice_index, slice_index_or, if◌then◌else◌}
+use Rattle.std.proofs.Common.{◌≡◌, ℕ, suc, ◌+◌, ◌*◌, ◌<◌, ◌≤◌, ◌⊎◌, inl, inr, Bool, true, false, List, [], ◌∷◌, ◌++◌, length, take, map, Option, Some, None, Result, Ok, Err, refl, ap, sym, subst, ◌∙◌, arith, append_assoc}
+use Rattle.std.proofs.lemmas.List.{append-nil, length-append, length-map, take_at}
+use Rattle.std.proofs.lemmas.List.Kept.{AllPairs-from_increasing}
+use Rattle.avc_types.specs.declared.fault.Fault.{Fault}
+use Rattle.avc_types.specs.declared.fault.Fault.TheVariants.{ArbitrarySliceOrder, MissingMacroblocks}
+use Rattle.avc_types.specs.Pictures.{Coded, SliceFacts}
+use Rattle.avc_types.specs.References.{Reference}
+use Rattle.avc_params.specs.Limits.{width_in_mbs}
+use Rattle.avc_params.specs.declared.sps.Sps.{Sps}
+use Rattle.avc_params.specs.declared.pps.Pps.{Pps}
+use Rattle.avc_slice.specs.declared.slice.Slice.{Slice}
+use Rattle.avc_mbsyntax.specs.Rest.{Follows, rest_of}
+use Rattle.avc_mbsyntax.specs.SliceData.{SliceMbs, SliceStart, placed, slice_data}
+use Rattle.avc_mbsyntax.specs.declared.slice_data.SliceData.{SliceData}
+use Rattle.avc_motion.specs.Motion.{slice_facts}
+use Rattle.avc_plane.specs.declared.frame.Frame.{Frame}
+use Rattle.avc_deblock.specs.Facts.{Names}
+use Rattle.avc_picture.specs.Context.{AreNames, IsContextOf, picture_start}
+use Rattle.avc_picture.specs.DecoderState.{CanGoOn, GoesOn, IsDataAnswer, IsDataOf, IsStateOrFault, IsWellSoFar, address_fault, first_of, outcome, outcome_from}
+use Rattle.avc_picture.specs.FirstMbs.{BeginsWith, MbsState}
+use Rattle.avc_picture.specs.Slices.{PictureStart, Progress, coded_of, data_of, facts_of, first_mb_fault, list_of, read_whole, refused, start_of, with_first_fault, with_reference_list, with_slice, with_unit}
+use Rattle.avc_picture.specs.declared.slice_context.SliceContext.{SliceContext}
+
+-- ---- the frames' numbers
+
+pub same-place : (es : List ℕ) → IsStrictlyIncreasing es → (m n : ℕ) → m < length es → n < length es → slice_index es m ≡ slice_index es n → m ≡ n
+same-place es rising m n h k e = by_order (order m n)
+  where
+    order : (x y : ℕ) → (x < y) ⊎ ((y < x) ⊎ (x ≡ y))
+    order x y = grind arith
+
+    by_order : (m < n) ⊎ ((n < m) ⊎ (m ≡ n)) → m ≡ n
+    by_order (inl less) = absurd (omega (arith, e, AllPairs-from_increasing es rising m n 0 less k))
+    by_order (inr (inl more)) = absurd (omega (arith, e, AllPairs-from_increasing es rising n m 0 more h))
+    by_order (inr (inr same)) = same
+
+abbrev pub names-of : (es : List ℕ) → IsStrictlyIncreasing es → Names
+names-of es rising = record { count = length es; entry = λ n. slice_index es n; apart = same-place es rising }
+
+pub are-names : (es : List ℕ) (rising : IsStrictlyIncreasing es) → AreNames es (names-of es rising)
+are-names es rising = record { all = refl; each = λ n h. refl }
+
+-- ---- lists
+
+get-here : {A : Type 0} (front rest : List A) (x d : A) → slice_index_or (front ++ x ∷ rest) (length front) d ≡ x
+get-here [] rest x d = refl
+get-here (y ∷ front) rest x d = get-here front rest x d
+
+-- a picture begins with itself
+pub begins-itself : (c : Coded) → BeginsWith c c
+begins-itself c = record {
+  width = refl;
+  height = refl;
+  offset = refl;
+  constrained = refl;
+  later_mbs = [];
+  mbs = sym (append-nil c.mbs);
+  later_slices = [];
+  slices = sym (append-nil c.slices);
+}
+
+-- ---- what refuses a slice
+
+tests-of : (x y : Bool) → (if x then Some MissingMacroblocks else (if y then Some ArbitrarySliceOrder else None)) ≡ None → (x ≡ false) × (y ≡ false)
+tests-of true y e = cc
+tests-of false true e = cc
+tests-of false false e = (refl, refl)
+
+module _ (p : PictureStart) (s : Slice) (g : Progress) (none : g.fault ≡ None) where
+  abbrev first : ℕ
+  first = (s.header).first_mb_in_slice
+
+  abbrev steps : Bool → Bool → Progress → Progress
+  steps less more read = elim less [
+    | true ↦ refused g s.unit MissingMacroblocks
+    | false ↦ elim more [ true ↦ refused g s.unit ArbitrarySliceOrder | false ↦ read ]
+  ]
+
+  stepped : with_slice p s g ≡ steps (nat_lt (length g.mbs) first) (nat_lt first (length g.mbs)) (with_reference_list p s g (list_of p s.header))
+  stepped =
+      ap (λ o. elim o [
+        | Some f ↦ g
+        | None ↦ steps (nat_lt (length g.mbs) first) (nat_lt first (length g.mbs)) (with_reference_list p s g (list_of p s.header))
+      ]) none
+
+  by-tests : (x y : Bool) (f : Fault) (read : Progress) → (if x then Some MissingMacroblocks else (if y then Some ArbitrarySliceOrder else None)) ≡ Some f → steps x y read ≡ refused g s.unit f
+  by-tests true y f read e = let same : MissingMacroblocks ≡ f = cc in ap (refused g s.unit) same
+  by-tests false true f read e = let same : ArbitrarySliceOrder ≡ f = cc in ap (refused g s.unit) same
+  by-tests false false f read e = cc
+
+  pub misplaced : (f : Fault) → address_fault (length g.mbs) first ≡ Some f → with_slice p s g ≡ refused g s.unit f
+  misplaced f e = stepped ∙ by-tests (nat_lt (length g.mbs) first) (nat_lt first (length g.mbs)) f (with_reference_list p s g (list_of p s.header)) e
+
+  pub listed : address_fault (length g.mbs) first ≡ None → with_slice p s g ≡ with_reference_list p s g (list_of p s.header)
+  listed e =
+      let tests = tests-of (nat_lt (length g.mbs) first) (nat_lt first (length g.mbs)) e in
+      stepped
+      ∙ ap (λ b. steps b (nat_lt first (length g.mbs)) (with_reference_list p s g (list_of p s.header))) tests.0
+      ∙ ap (λ b. steps false b (with_reference_list p s g (list_of p s.header))) tests.1
+
+  pub unlisted : (f : Fault) → address_fault (length g.mbs) first ≡ None → list_of p s.header ≡ Err f → with_slice p s g ≡ refused g s.unit f
+  unlisted f e list = listed e ∙ ap (with_reference_list p s g) list
+
+-- a refused slice leaves what was read
+pub is-refused : (p : PictureStart) (es : List ℕ) (g g' : Progress) (unit count read : ℕ) (f : Fault) (m : MbsState) → g' ≡ refused g unit f → g.read ≡ read → IsStateOrFault p es g' unit count (Err f) read m
+is-refused p es g g' unit count read f m e r = (ap (λ x. x.fault) e, ap (λ x. x.read) e ∙ r)
+
+-- ---- a slice whose data is read
+
+module _ {PAD : ℕ} (sps : Sps) (pps : Pps) (es : List ℕ) (fs : List (Frame PAD)) (s : Slice) (g : Progress) (number read : ℕ) (m : MbsState) (context : SliceContext PAD) (unread : SliceData)
+    (list : List (Option Reference)) (rising : IsStrictlyIncreasing es) where
+  abbrev p : PictureStart
+  p = picture_start sps pps es fs
+
+  abbrev start : SliceStart
+  start = start_of p s.header (length g.slices)
+
+  abbrev facts : SliceFacts
+  facts = facts_of p s.header list
+
+  abbrev ms : SliceMbs
+  ms = slice_data start g.mbs (data_of s)
+
+  abbrev whole : Progress
+  whole = read_whole s g facts ms
+
+  module _ (well : IsWellSoFar p es g number read m) (num : context.number ≡ number) (made : IsContextOf p es s.header list context) (dat : IsDataOf start g.mbs (data_of s) unread) (qp : start.qp ≤ 51) where
+    abbrev begins-before : (c : Coded) → BeginsWith c (coded_of p whole) → BeginsWith c (coded_of p g)
+    begins-before c b = record {
+      width = b.width;
+      height = b.height;
+      offset = b.offset;
+      constrained = b.constrained;
+      later_mbs = map (placed start) ms.mbs ++ b.later_mbs;
+      mbs = b.mbs ∙ append_assoc g.mbs (map (placed start) ms.mbs) b.later_mbs;
+      later_slices = facts ∷ b.later_slices;
+      slices = b.slices ∙ append_assoc g.slices (facts ∷ []) b.later_slices;
+    }
+
+    facts-are : (c : Coded) → BeginsWith c (coded_of p whole) → slice_facts c context.number ≡ facts
+    facts-are c b =
+        ap (λ n. slice_facts c n) (num ∙ sym well.decoded.count)
+        ∙ ap (λ xs. slice_facts (record c { slices = xs }) (length g.slices)) (begins-before c b).slices
+        ∙ get-here g.slices b.later_slices facts _
+
+    taken : (c : Coded) → BeginsWith c (coded_of p whole) → take m.next c.mbs ≡ g.mbs
+    taken c b = ap (take m.next) (begins-before c b).mbs ∙ take_at g.mbs (map (placed start) ms.mbs ++ b.later_mbs) m.next well.decoded.next
+
+    pub slice-goes-on : (c : Coded) (names : Names) → BeginsWith c (coded_of p whole) → AreNames es names → GoesOn c names start m unread context
+    slice-goes-on c names b are = record {
+      holds = well.decoded.holds c names (begins-before c b) are;
+      is_slice = made c names are (facts-are c b);
+      width = sym b.width;
+      size = sym (ap (λ w. w * c.height) b.width ∙ ap (λ h. width_in_mbs sps * h) b.height);
+      number = well.decoded.count ∙ sym num;
+      quantiser = qp;
+      follows = subst (λ xs. Follows start xs unread) (sym (taken c b)) dat.0;
+      later = b.later_mbs;
+      mbs =
+          (begins-before c b).mbs
+          ∙ sym (ap (λ xs. xs ++ (map (placed start) (rest_of start xs unread).mbs ++ b.later_mbs)) (taken c b) ∙ ap (λ r. g.mbs ++ (map (placed start) r.mbs ++ b.later_mbs)) dat.1);
+    }
+
+    pub can-go-on : CanGoOn m unread context
+    can-go-on = record {
+      coded = coded_of p whole;
+      names = names-of es rising;
+      start = start;
+      goes_on = slice-goes-on (coded_of p whole) (names-of es rising) (begins-itself (coded_of p whole)) (are-names es rising);
+    }
+
+    abbrev found : Option (ℕ × Fault)
+    found = first_mb_fault (coded_of p whole) (length g.mbs) (length ms.mbs)
+
+    expected : outcome_from (coded_of p whole) start m unread ≡ first_of found ms
+    expected =
+        let c = coded_of p whole in
+        let b = begins-itself c in
+        ap (λ xs. outcome c m.next (rest_of start xs unread)) (taken c b) ∙ ap (λ r. outcome c m.next r) dat.1 ∙ ap (λ n. outcome c n ms) (sym well.decoded.next)
+
+    -- ---- after it
+
+    fault-after : (o : Option (ℕ × Fault)) → (with_first_fault s g whole o).fault ≡ with_unit s.unit (first_of o ms).1
+    fault-after None = refl
+    fault-after (Some f) = refl
+
+    read-after : (o : Option (ℕ × Fault)) → (with_first_fault s g whole o).read ≡ g.read + (first_of o ms).0
+    read-after None = refl
+    read-after (Some f) = refl
+
+    coded-after : (o : Option (ℕ × Fault)) → coded_of p (with_first_fault s g whole o) ≡ coded_of p whole
+    coded-after None = refl
+    coded-after (Some f) = refl
+
+    all-read : (o : Option (ℕ × Fault)) → (first_of o ms).1 ≡ None → (first_of o ms).0 ≡ length ms.mbs
+    all-read None e = refl
+    all-read (Some f) e = cc
+
+    module _ (address : address_fault (length g.mbs) (s.header).first_mb_in_slice ≡ None) (is : list_of p s.header ≡ Ok list)
+        (result : Result (Unit {0}) Fault) (read' : ℕ) (m' : MbsState)
+        (answer : (c : Coded) (names : Names) → GoesOn c names start m unread context → IsDataAnswer c names m.next (outcome_from c start m unread) result read' m') where
+      sliced : with_slice p s g ≡ with_first_fault s g whole found
+      sliced = listed p s g well.none address ∙ ap (with_reference_list p s g) is
+
+      own : IsDataAnswer (coded_of p whole) (names-of es rising) m.next (outcome_from (coded_of p whole) start m unread) result read' m'
+      own = answer (coded_of p whole) (names-of es rising) (slice-goes-on (coded_of p whole) (names-of es rising) (begins-itself (coded_of p whole)) (are-names es rising))
+
+      pub all-decoded : result ≡ Ok tt → IsWellSoFar p es (with_slice p s g) (suc number) read' m'
+      all-decoded ok =
+          let mine = subst (λ r. IsDataAnswer (coded_of p whole) (names-of es rising) m.next (outcome_from (coded_of p whole) start m unread) r read' m') ok own in
+          let no : (first_of found ms).1 ≡ None = sym (ap (λ o. o.1) expected) ∙ mine.0 in
+          let count : (first_of found ms).0 ≡ length ms.mbs = all-read found no in
+          let same : (outcome_from (coded_of p whole) start m unread).0 ≡ (first_of found ms).0 = ap (λ o. o.0) expected in
+          let coded : coded_of p (with_slice p s g) ≡ coded_of p whole = ap (coded_of p) sliced ∙ coded-after found in
+          let mbs-length : length (with_slice p s g).mbs ≡ length g.mbs + length ms.mbs =
+          ap (λ c. length c.mbs) coded ∙ length-append g.mbs (map (placed start) ms.mbs) ∙ ap (λ n. length g.mbs + n) (length-map ms.mbs (placed start)) in
+          let slices-length : length (with_slice p s g).slices ≡ length g.slices + 1 = ap (λ c. length c.slices) coded ∙ length-append g.slices (facts ∷ []) in
+          let read-is : (with_slice p s g).read ≡ g.read + (first_of found ms).0 = ap (λ x. x.read) sliced ∙ read-after found in
+          record {
+            none = ap (λ x. x.fault) sliced ∙ fault-after found ∙ ap (with_unit s.unit) no;
+            read_is = omega (arith, read-is, well.read_is, well.reached, same, mine.1);
+            reached = mine.2;
+            decoded = record {
+              next = omega (arith, mbs-length, well.decoded.next, count, same, mine.1, mine.2);
+              count = omega (arith, slices-length, well.decoded.count);
+              holds = λ c names b are.
+                  (subst (λ r. IsDataAnswer c names m.next (outcome_from c start m unread) r read' m') ok
+                  (answer c names (slice-goes-on c names (subst (BeginsWith c) coded b) are))).3;
+            };
+          }
+
+      pub faulty-slice : (f : Fault) → result ≡ Err f → IsStateOrFault p es (with_slice p s g) s.unit (suc number) (Err f) read' m'
+      faulty-slice f err =
+          let mine = subst (λ r. IsDataAnswer (coded_of p whole) (names-of es rising) m.next (outcome_from (coded_of p whole) start m unread) r read' m') err own in
+          let same : (outcome_from (coded_of p whole) start m unread).0 ≡ (first_of found ms).0 = ap (λ o. o.0) expected in
+          let read-is : (with_slice p s g).read ≡ g.read + (first_of found ms).0 = ap (λ x. x.read) sliced ∙ read-after found in (
+            ap (λ x. x.fault) sliced ∙ fault-after found ∙ ap (with_unit s.unit) (sym (ap (λ o. o.1) expected) ∙ mine.0),
+            omega (arith, read-is, well.read_is, well.reached, same, mine.1),
+          )
+
+      pub slice-decoded : IsStateOrFault p es (with_slice p s g) s.unit (suc number) result read' m'
+      slice-decoded = by_result result refl
+        where
+          by_result : (r : Result (Unit {0}) Fault) → result ≡ r → IsStateOrFault p es (with_slice p s g) s.unit (suc number) r read' m'
+          by_result (Ok done) e = all-decoded e
+          by_result (Err f) e = faulty-slice f e

@@ -1,0 +1,186 @@
+-- One macroblock more of a picture.
+use Rattle.std.specs.Prelude.{ℕ, suc, ◌/◌, ◌<◌, List, [], ◌∷◌, ◌++◌, length, Bool, true, false, Option, Some, None, Ok, Err, slice_get, slice_index_or, slice_set, replicate}
+use Rattle.std.proofs.Common.{◌≡◌, ◌∙◌, refl, sym, ap, subst, arith}
+use Rattle.std.proofs.lemmas.List.{length-append, map-append}
+use Rattle.std.proofs.lemmas.Option.{slice_get_within}
+use Rattle.avc_types.specs.declared.fault.Fault.{Fault}
+use Rattle.avc_types.specs.Macroblock.{Mb, MbSyntax, p_skip, i_pcm, i_nxn, i_16x16, p_inter}
+use Rattle.avc_types.specs.Pictures.{Coded, PicMb}
+use Rattle.avc_neigh.specs.Around.{Around, around, is_intra_facts, with_facts}
+use Rattle.avc_neigh.specs.BlockNear.{MotionIsAround, ModesAreAround}
+use Rattle.avc_neigh.specs.Modes.{modes_before, modes_of}
+use Rattle.avc_neigh.specs.TotalCoeffs.{total_coeffs_of}
+use Rattle.avc_neigh.specs.declared.facts.NeighbourFacts.{NeighbourFacts}
+use Rattle.avc_neigh.specs.declared.facts.Motion.{Motion}
+use Rattle.avc_neigh.specs.declared.facts.Motion.TheVariants.{Absent as absent, Intra as intra, Inter as inter}
+use Rattle.avc_motion.specs.Motion.{HasMotion, is_intra, motion_before, motion_of, near_in}
+use Rattle.avc_deblock.specs.Facts.{Names}
+use Rattle.avc_deblock.specs.declared.facts.MbFacts.{MbFacts}
+use Rattle.avc_picture_core.specs.Built.{Place, place_of, planes_after, reference_of}
+use Rattle.avc_picture_core.specs.Canvas.{CanvasState, IsBuilt, IsPlaceOn, sides_near}
+use Rattle.avc_picture_core.specs.Faults.{is_picture, macroblock_fault, refusal}
+use Rattle.avc_picture_core.specs.References.{AreReferences}
+use Rattle.avc_picture_core.specs.declared.references.ReferencePicture.{ReferencePicture}
+use Rattle.avc_picture.specs.FirstMbs.{HasNeighbourFacts, HoldsFirst, IsSlice, MbsState}
+use Rattle.avc_picture.specs.Kept.{IsKept}
+use Rattle.avc_picture.specs.Told.{IsFilterTold, IsTold}
+use Rattle.avc_picture.specs.declared.slice_context.SliceContext.{SliceContext}
+use Rattle.avc_picture.proofs.Around.{modes_around, motion_around, sides_are}
+use Rattle.avc_picture.proofs.Before.{modes_last, modes_more, motion_last, motion_more, motion_stays}
+use Rattle.avc_picture.proofs.Faults.{has_pictures, in_range, macroblock_fault_is, motion_found, out_of_range}
+use Rattle.avc_picture.proofs.Filtered.{facts_more, has_facts}
+use Rattle.avc_picture.proofs.FirstPlanes.{first_built_more}
+use Rattle.avc_picture.proofs.Quarters.{IsFrom, one_reference, quarter_reference}
+use Rattle.avc_picture.proofs.Tells.{tells_more}
+
+-- whether a macroblock is intra, by its first block
+intra_seen : (f : NeighbourFacts) (motion : List Motion) → f.motion ≡ motion → motion ≡ replicate 16 intra → is_intra_facts f ≡ true
+intra_seen f motion e is = ap (λ xs. is_intra_facts (record f { motion = xs })) (e ∙ is)
+
+inter_seen : (c : Coded) (slice : ℕ) (f : NeighbourFacts) (m : Motion) → slice_index_or f.motion 0 absent ≡ m
+    → is_picture (reference_of c slice m) ≡ true → is_intra_facts f ≡ false
+inter_seen c slice f absent e there = cc
+inter_seen c slice f intra e there = cc
+inter_seen c slice f (inter r v) e there = rw e refl
+
+seen : (c : Coded) (slice : ℕ) (f : NeighbourFacts) (s : MbSyntax)
+    → (is_intra s ≡ true → f.motion ≡ replicate 16 intra)
+    → (is_intra s ≡ false → is_picture (reference_of c slice (slice_index_or f.motion 0 absent)) ≡ true)
+    → is_intra_facts f ≡ is_intra s
+seen c slice f p_skip e there = inter_seen c slice f _ refl (there refl)
+seen c slice f (p_inter shape refs mvds r) e there = inter_seen c slice f _ refl (there refl)
+seen c slice f (i_pcm luma cb cr) e there = intra_seen f _ refl (e refl)
+seen c slice f (i_nxn modes chroma r) e there = intra_seen f _ refl (e refl)
+seen c slice f (i_16x16 mode chroma r) e there = intra_seen f _ refl (e refl)
+
+intra_motion : (c : Coded) (known : List (List Motion)) (a : ℕ) (s : MbSyntax) → is_intra s ≡ true → motion_of c known a s ≡ replicate 16 intra
+intra_motion c known a p_skip e = cc
+intra_motion c known a (p_inter shape refs mvds r) e = cc
+intra_motion c known a (i_pcm luma cb cr) e = refl
+intra_motion c known a (i_nxn modes chroma r) e = refl
+intra_motion c known a (i_16x16 mode chroma r) e = refl
+
+module _ {PAD : ℕ} (c : Coded) (names : Names) (old : MbsState) (holds : HoldsFirst c names old) (kept : IsKept old)
+    (s : SliceContext PAD) (slice : IsSlice c names s) (mb : Mb) (is : slice_get c.mbs old.next ≡ Some (record { slice = s.number; mb = mb }))
+    (n : Around) (n_is : n ≡ around old.row s.number) where
+  abbrev a : ℕ
+  a = old.next
+
+  abbrev m : PicMb
+  m = record { slice = s.number; mb = mb }
+
+  abbrev place : Place
+  place = place_of c (modes_before c (suc a)) (motion_before c (suc a)) a m
+
+  abbrev moved : List Motion
+  moved = motion_of c (motion_before c a) a mb.syntax
+
+  row_width : old.row.width ≡ c.width
+  row_width = kept.row_width ∙ holds.width
+
+  wide : 0 < c.width
+  wide = subst (λ w. 0 < w) holds.width kept.wide
+
+  motion_in : MotionIsAround n c.mbs c.width (motion_before c a) a
+  motion_in = subst (λ x. MotionIsAround x c.mbs c.width (motion_before c a) a) (sym n_is) (motion_around c a m is old.row row_width wide holds.neighbours)
+
+  modes_in : ModesAreAround n c.mbs c.width (modes_before c a) a
+  modes_in = subst (λ x. ModesAreAround x c.mbs c.width (modes_before c a) a) (sym n_is) (modes_around c a m is old.row row_width wide holds.neighbours)
+
+  -- Its vectors can't be had.
+  pub vector_fault : (f : Fault) → HasMotion n mb.syntax (Err f) → macroblock_fault c a ≡ Some f
+  vector_fault f has =
+      macroblock_fault_is c a m is ∙ out_of_range place moved (motion_last c a m is) f (has c (motion_before c a) a motion_in)
+
+  module _ (facts : NeighbourFacts) (has : HasMotion n mb.syntax (Ok facts.motion)) (constrained : Bool)
+      (flag : constrained ≡ old.canvas.constrained_intra_pred) (told : IsTold s.number n constrained mb facts)
+      (references : List (Option (ReferencePicture PAD))) (references_are : references ≡ s.references) where
+    motion_is : slice_index_or (motion_before c (suc a)) a [] ≡ facts.motion
+    motion_is = motion_found place moved (motion_last c a m is) facts.motion (has c (motion_before c a) a motion_in)
+
+    moved_is : moved ≡ facts.motion
+    moved_is = sym (motion_last c a m is) ∙ motion_is
+
+    modes_are : modes_of c (modes_before c a) a mb.syntax ≡ facts.modes
+    modes_are = sym (told.modes_are c (modes_before c a) a (sym (flag ∙ holds.constrained)) modes_in)
+
+    place_on : IsPlaceOn old.canvas a mb facts n references place
+    place_on = record {
+      width = sym holds.width;
+      height = sym holds.height;
+      offset = sym holds.offset;
+      address_is = refl;
+      mb_is = refl;
+      modes = modes_last c a m is ∙ modes_are;
+      motion = motion_is;
+      sides = λ intra k h.
+          sides_are c a m is old.row row_width wide holds.neighbours intra k h
+          ∙ ap (λ b. sides_near b (around old.row s.number) k) (sym holds.constrained)
+          ∙ ap (λ x. sides_near old.canvas.constrained_intra_pred x k) (sym n_is);
+      references_are = subst (AreReferences c s.number) (sym references_are) slice.references;
+    }
+
+    not_out : macroblock_fault c a ≡ refusal place
+    not_out = macroblock_fault_is c a m is ∙ in_range place moved (motion_last c a m is) facts.motion (has c (motion_before c a) a motion_in)
+
+    -- It is refused where its samples are to be built.
+    pub build_fault : (f : Fault) (canvas : CanvasState)
+        → ((p : Place) → IsPlaceOn old.canvas a mb facts n references p → IsBuilt p (Err f) old.canvas canvas) → macroblock_fault c a ≡ Some f
+    build_fault f canvas built = not_out ∙ (built place place_on).0
+
+    module _ (canvas : CanvasState) (done : Unit {0})
+        (built : (p : Place) → IsPlaceOn old.canvas a mb facts n references p → IsBuilt p (Ok done) old.canvas canvas)
+        (long : length facts.motion ≡ 16) (f : MbFacts) (filter_told : IsFilterTold mb facts.motion s f) where
+      here : IsBuilt place (Ok done) old.canvas canvas
+      here = built place place_on
+
+      pub no_fault : macroblock_fault c a ≡ None
+      no_fault = not_out ∙ here.0
+
+      pictures : is_intra mb.syntax ≡ false → (k : ℕ) → k < 16 → is_picture (reference_of c s.number (slice_index_or facts.motion k absent)) ≡ true
+      pictures e k h =
+          ap (λ xs. is_picture (reference_of c s.number (slice_index_or xs k absent))) (sym motion_is)
+          ∙ has_pictures place here.0 e k (omega (arith, h, long, ap length motion_is))
+
+      one : is_intra mb.syntax ≡ false → (k : ℕ) → k < 16 → IsFrom (quarter_reference mb.syntax (k / 4)) (slice_index_or facts.motion k absent)
+      one e k h =
+          subst (λ xs. IsFrom (quarter_reference mb.syntax (k / 4)) (slice_index_or xs k absent)) moved_is
+          (one_reference (near_in c (motion_before c a) a) mb.syntax e k h)
+
+      intra_is : is_intra mb.syntax ≡ is_intra_facts facts
+      intra_is =
+          sym (seen c s.number facts mb.syntax
+          (λ e. sym moved_is ∙ intra_motion c (motion_before c a) a mb.syntax e) (λ e. pictures e 0 (omega arith)))
+
+      neighbours_more : HasNeighbourFacts c (suc a) (old.row.facts ++ facts ∷ [])
+      neighbours_more =
+          let has = holds.neighbours in
+          let at : slice_get c.mbs (length old.row.facts) ≡ Some m = ap (λ k. slice_get c.mbs k) has.count ∙ is in
+          record {
+            count = omega (arith, length-append old.row.facts (facts ∷ []), has.count);
+            slices = tells_more (λ x. x.slice) (λ x. x.slice) c.mbs old.row.facts m facts at (sym told.slice_is) has.slices;
+            total_coeffs = tells_more (λ x. total_coeffs_of x.mb.syntax) (λ x. x.total_coeffs) c.mbs old.row.facts m facts at (sym told.total_coeffs_is) has.total_coeffs;
+            intra = tells_more (λ x. is_intra x.mb.syntax) is_intra_facts c.mbs old.row.facts m facts at intra_is has.intra;
+            motion = map-append (λ x. x.motion) old.row.facts (facts ∷ []) ∙ ap (λ xs. xs ++ facts.motion ∷ []) has.motion
+                ∙ ap (λ x. motion_before c a ++ x ∷ []) (sym moved_is) ∙ sym (motion_more c a m is);
+            modes = map-append (λ x. x.modes) old.row.facts (facts ∷ []) ∙ ap (λ xs. xs ++ facts.modes ∷ []) has.modes
+                ∙ ap (λ x. modes_before c a ++ x ∷ []) (sym modes_are) ∙ sym (modes_more c a m is);
+          }
+
+      below : a < length c.mbs
+      below = slice_get_within c.mbs a m is
+
+      pub holds_more : a < length old.filter_facts
+          → HoldsFirst c names (record { canvas = canvas; row = with_facts old.row facts; filter_facts = slice_set old.filter_facts a f; next = suc a })
+      holds_more room = record {
+        within = omega (arith, below);
+        width = ap (λ x. x.width) here.1 ∙ holds.width;
+        height = ap (λ x. x.height) here.1 ∙ holds.height;
+        offset = ap (λ x. x.chroma_qp_index_offset) here.1 ∙ holds.offset;
+        constrained = ap (λ x. x.constrained_intra_pred) here.1 ∙ holds.constrained;
+        built = ap (λ x. x.planes) here.1 ∙ ap (planes_after place) holds.built ∙ sym (first_built_more c a m is);
+        neighbours = neighbours_more;
+        filter = facts_more c (motion_before c (length c.mbs)) names a old.filter_facts f room holds.filter
+            (has_facts c names s slice a mb is facts.motion long (quarter_reference mb.syntax) f filter_told (motion_before c (length c.mbs))
+            (motion_stays c (suc a) (length c.mbs) a (omega arith) (omega (arith, below)) ∙ motion_is) pictures one);
+      }

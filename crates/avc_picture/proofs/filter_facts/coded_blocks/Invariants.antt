@@ -1,0 +1,11 @@
+use Rattle.std.specs.Prelude.{not, ◌==◌, slice_index_or}
+use Rattle.std.proofs.Common.{◌≡◌, ◌<◌, ◌+◌, ◌-◌, ◌^◌, ℕ, []}
+use Rattle.avc_types.specs.Macroblock.{total_coeff}
+use Rattle.avc_deblock.specs.Facts.{has_bit}
+use Rattle.avc_picture.proofs.filter_facts.coded_blocks.Given as goal
+
+abbrev pub invariant-loop-i : goal.invariant-loop-i
+invariant-loop-i l = record {
+  small : l.bits < 2 ^ l.i;
+  done : (j : ℕ) → j < l.i → has_bit l.bits j ≡ not (total_coeff (slice_index_or l.levels.luma (16 - l.i + j) []) == 0);
+}

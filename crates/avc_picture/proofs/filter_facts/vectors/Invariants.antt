@@ -1,0 +1,9 @@
+use Rattle.std.proofs.Common.{◌≡◌, length, take, map}
+use Rattle.avc_motion.specs.Motion.{vector_of}
+use Rattle.avc_picture.proofs.filter_facts.vectors.Given as goal
+
+abbrev pub invariant-loop-k : goal.invariant-loop-k
+invariant-loop-k l = record {
+  long : length l.vectors ≡ 16;
+  done : take l.k l.vectors ≡ map vector_of (take l.k l.motion);
+}

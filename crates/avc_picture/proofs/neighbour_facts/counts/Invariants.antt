@@ -1,0 +1,9 @@
+use Rattle.std.proofs.Common.{◌≡◌, length, take, map}
+use Rattle.avc_types.specs.Macroblock.{total_coeff}
+use Rattle.avc_picture.proofs.neighbour_facts.counts.Given as goal
+
+abbrev pub invariant-loop-k : goal.invariant-loop-k
+invariant-loop-k g l = record {
+  long : length l.counts ≡ length l.blocks;
+  done : take l.k l.counts ≡ map total_coeff (take l.k l.blocks);
+}

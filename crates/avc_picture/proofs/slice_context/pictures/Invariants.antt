@@ -1,0 +1,9 @@
+use Rattle.std.proofs.Common.{◌≡◌, length}
+use Rattle.avc_picture.specs.Context.{ArePicturesAt}
+use Rattle.avc_picture.proofs.slice_context.pictures.Given as goal
+
+abbrev pub invariant-loop-r : goal.invariant-loop-r
+invariant-loop-r g l = record {
+  long : length l.pictures ≡ 16;
+  done : ArePicturesAt l.frames l.header l.r l.places l.pictures;
+}

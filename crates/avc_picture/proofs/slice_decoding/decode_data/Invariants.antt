@@ -1,0 +1,19 @@
+use Rattle.std.proofs.Common.{◌≡◌, ◌-◌, ◌*◌, ◌≤◌}
+use Rattle.avc_mbsyntax.specs.SliceData.{SliceStart}
+use Rattle.avc_types.specs.Pictures.{Coded}
+use Rattle.avc_deblock.specs.Facts.{Names}
+use Rattle.avc_picture.specs.DecoderState.{GoesOn, GoesOnFrom}
+use Rattle.avc_picture.specs.FirstMbs.{HasSameSize}
+use Rattle.avc_picture.proofs.slice_decoding.decode_data.Given as goal
+
+abbrev pub invariant-macroblocks : goal.invariant-macroblocks
+invariant-macroblocks g l = record {
+  size : HasSameSize l.fn.macroblocks l.macroblocks;
+  reached : l.macroblocks.next ≡ l.read;
+  within : l.read ≤ l.macroblocks.canvas.width * l.macroblocks.canvas.height;
+  goes_on : (c : Coded) (names : Names) (s : SliceStart) → GoesOn c names s l.fn.macroblocks l.fn.unread l.context
+      → GoesOnFrom c names s l.context l.fn.macroblocks l.fn.unread l.macroblocks l.unread;
+}
+
+abbrev pub decreases-macroblocks : goal.decreases-macroblocks
+decreases-macroblocks g l = l.macroblocks.canvas.width * l.macroblocks.canvas.height - l.macroblocks.next

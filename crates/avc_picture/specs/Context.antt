@@ -1,0 +1,82 @@
+-- What the macroblocks of a slice are decoded with, as the code takes it from the slice's header and the frames of the buffer.
+use Rattle.std.specs.Prelude.{◌≡◌, ℕ, ◌<◌, List, length, map, Option, Some, None, Result, Ok, Err, IfSome, All, slice_get, slice_index, slice_index_or}
+use Rattle.std.specs.Option.{option_map}
+use Rattle.avc_types.specs.declared.fault.Fault.{Fault}
+use Rattle.avc_types.specs.Pictures.{Coded}
+use Rattle.avc_types.specs.References.{Reference, StandAt, reference_at}
+use Rattle.avc_params.specs.declared.sps.Sps.{Sps}
+use Rattle.avc_params.specs.declared.pps.Pps.{Pps}
+use Rattle.avc_slice.specs.declared.header.Header.{Header}
+use Rattle.avc_slice.specs.Weights.{weights}
+use Rattle.avc_motion.specs.Motion.{slice_facts}
+use Rattle.avc_plane.specs.Frames.{marked_frame, stored_at}
+use Rattle.avc_plane.specs.declared.frame.Frame.{Frame}
+use Rattle.avc_plane.specs.declared.frame.PaddedPlanes.{PaddedPlanes}
+use Rattle.avc_deblock.specs.Facts.{Names}
+use Rattle.avc_picture_core.specs.declared.references.ReferencePicture.{ReferencePicture}
+use Rattle.avc_picture.specs.FirstMbs.{IsSlice}
+use Rattle.avc_picture.specs.Slices.{PictureStart, facts_of, list_of}
+use Rattle.avc_picture.specs.declared.slice_context.SliceContext.{SliceContext}
+
+-- what a picture is decoded with, where its frames are those of these places in the history
+abbrev pub picture_start : {PAD : ℕ} → Sps → Pps → (entries : List ℕ) → List (Frame PAD) → PictureStart
+picture_start sps pps entries frames = record { sps = sps; pps = pps; frames = stored_at entries frames }
+
+-- the frames can be those of these places in the history
+abbrev pub FramesStandAt : {PAD : ℕ} → (entries : List ℕ) → List (Frame PAD) → Type 0
+FramesStandAt entries frames = StandAt entries (map marked_frame frames)
+
+-- a stored frame's number is its place among the frames in the buffer
+pub record AreNames (entries : List ℕ) (names : Names) : Type 0 where
+  pub all : names.count ≡ length entries
+  pub each : (n : ℕ) → n < names.count → names.entry n ≡ slice_index entries n
+
+-- ---- RefPicList0 by the places of its frames in the buffer
+
+-- each entry that is not empty is a place among the frames
+abbrev pub ArePlacesIn : {PAD : ℕ} → List (Frame PAD) → List (Option ℕ) → Type 0
+ArePlacesIn frames places = All (λ entry. IfSome entry (λ place. place < length frames)) places
+
+-- Entry by entry the list has the frames at these places.
+abbrev pub HasPlaces : {PAD : ℕ} → (entries : List ℕ) → List (Frame PAD) → List (Option Reference) → List (Option ℕ) → Type 0
+HasPlaces entries frames list places =
+    (r : ℕ) → slice_index_or list r None ≡ option_map (reference_at entries (map marked_frame frames)) (slice_index_or places r None)
+
+-- The list of the slice has these places, or there is none, by this fault.
+abbrev pub IsListAt : {PAD : ℕ} → PictureStart → (entries : List ℕ) → List (Frame PAD) → Header → Result (List (Option ℕ)) Fault → Type 0
+IsListAt p entries frames h (Ok places) = (list : List (Option Reference)) × (list_of p h ≡ Ok list) × HasPlaces entries frames list places
+IsListAt p entries frames h (Err f) = list_of p h ≡ Err f
+
+abbrev pub HasList : {PAD : ℕ} → Sps → List (Frame PAD) → Header → Result (List (Option ℕ)) Fault → Type 0
+HasList sps frames h answer =
+    (pps : Pps) (entries : List ℕ) → FramesStandAt entries frames → IsListAt (picture_start sps pps entries frames) entries frames h answer
+
+-- ---- the reference pictures
+
+abbrev planes_in : {PAD : ℕ} → Option (Frame PAD) → Option (PaddedPlanes PAD)
+planes_in None = None
+planes_in (Some f) = f.planes
+
+abbrev pub planes_at : {PAD : ℕ} → List (Frame PAD) → Option ℕ → Option (PaddedPlanes PAD)
+planes_at frames None = None
+planes_at frames (Some place) = planes_in (slice_get frames place)
+
+-- The reference picture is the one at the place, with the weights of reference index r; none where no picture is there.
+abbrev pub IsPictureAt : {PAD : ℕ} → List (Frame PAD) → Header → (r : ℕ) → Option ℕ → Option (ReferencePicture PAD) → Type 0
+IsPictureAt frames h r place None = planes_at frames place ≡ None
+IsPictureAt frames h r place (Some p) = (planes_at frames place ≡ Some p.planes.now) × (slice_get (weights h) r ≡ p.weights)
+
+abbrev pub ArePicturesAt : {PAD : ℕ} → List (Frame PAD) → Header → (count : ℕ) → List (Option ℕ) → List (Option (ReferencePicture PAD)) → Type 0
+ArePicturesAt frames h count places pictures =
+    (r : ℕ) → r < count → IsPictureAt frames h r (slice_index_or places r None) (slice_index_or pictures r None)
+
+-- ---- the whole
+
+-- In every picture in which the slice with this number has the facts of the header and the list, this is what the code knows of it.
+abbrev pub IsContextOf : {PAD : ℕ} → PictureStart → (entries : List ℕ) → Header → List (Option Reference) → SliceContext PAD → Type 0
+IsContextOf p entries h list s =
+    (c : Coded) (names : Names) → AreNames entries names → slice_facts c s.number ≡ facts_of p h list → IsSlice c names s
+
+abbrev pub IsMade : {PAD : ℕ} → PictureStart → (entries : List ℕ) → Header → Result (SliceContext PAD) Fault → Type 0
+IsMade p entries h (Ok s) = (list : List (Option Reference)) × (list_of p h ≡ Ok list) × IsContextOf p entries h list s
+IsMade p entries h (Err f) = list_of p h ≡ Err f

@@ -1,0 +1,128 @@
+//! What the deblocking filter asks of one macroblock (8.7).
+
+ghost use Rattle.std.specs.Prelude.{◌≡◌, ℕ, ◌*◌, ◌<◌, not, ◌==◌, [], List, map, slice_index, slice_index_or};
+ghost use Rattle.avc_types.specs.Macroblock.{total_coeff};
+ghost use Rattle.avc_neigh.specs.declared.facts.Motion.TheVariants.{Absent as absent};
+ghost use Rattle.avc_motion.specs.Motion as motions;
+ghost use Rattle.avc_deblock.specs.Edges as edges;
+ghost use Rattle.avc_deblock.specs.Edges.{has_coefficients};
+ghost use Rattle.avc_deblock.specs.Facts.{has_bit};
+ghost use Rattle.avc_picture.specs.Told.{number_of, IsFilterTold};
+
+use crate::slice_context::SliceContext;
+use avc_deblock::MbFacts;
+use avc_neigh::Motion;
+use avc_types::{BlockLevels, Mb, Mv, Syntax};
+
+/// The luma blocks of a macroblock.
+const BLOCKS: usize = 16;
+
+/// Bit k is set where luma block `k` has a level that is not 0.
+fn coded_blocks(levels: &BlockLevels<16>) -> u16
+    ensures { (k : ℕ) → k < 16 → has_bit result k ≡ not (total_coeff (slice_index_or levels.now.luma k []) == 0) }
+{
+    let mut bits = 0;
+    for i in 0..BLOCKS {
+        let block = &levels.luma[BLOCKS - 1 - i];
+        bits = 2 * bits + u16::from(block.total_coeff() != 0);
+    }
+    bits
+}
+
+/// The same of a macroblock: none of an intra one.
+fn coefficients(mb: &Mb) -> u16
+    ensures { (k : ℕ) → k < 16 → has_bit result k ≡ has_coefficients mb.now.syntax k }
+{
+    match &mb.syntax {
+        Syntax::PInter { levels, .. } => coded_blocks(levels),
+        Syntax::PSkip | Syntax::IPcm { .. } | Syntax::INxN { .. } | Syntax::I16x16 { .. } => 0,
+    }
+}
+
+fn is_intra(mb: &Mb) -> bool
+    ensures { result ≡ motions.is_intra mb.now.syntax }
+{
+    match &mb.syntax {
+        Syntax::PSkip | Syntax::PInter { .. } => false,
+        Syntax::IPcm { .. } | Syntax::INxN { .. } | Syntax::I16x16 { .. } => true,
+    }
+}
+
+/// QP_Y, and 0 for I_PCM (8.7.2.2).
+fn filter_qp(mb: &Mb) -> u8
+    ensures { result ≡ edges.filter_qp mb.now.qp mb.now.syntax }
+{
+    match &mb.syntax {
+        Syntax::IPcm { .. } => 0,
+        Syntax::PSkip | Syntax::INxN { .. } | Syntax::I16x16 { .. } | Syntax::PInter { .. } =>
+            mb.qp,
+    }
+}
+
+/// The number of the frame that a block is predicted from.
+fn frame_number(motion: Motion, frame_numbers: &[u8; 16]) -> u8
+    ensures { result ≡ number_of frame_numbers.now motion }
+{
+    match motion {
+        Motion::Inter { ref_idx, .. } => {
+            let index = usize::from(ref_idx);
+            if index < frame_numbers.len() {
+                frame_numbers[index]
+            } else {
+                0
+            }
+        }
+        Motion::Absent | Motion::Intra => 0,
+    }
+}
+
+/// Likewise for each quarter of a macroblock.
+fn pictures(motion: &[Motion; 16], frame_numbers: &[u8; 16]) -> [u8; 4]
+    ensures { (q : ℕ) → q < 4 → slice_index result q ≡ number_of frame_numbers.now (slice_index_or motion.now (4 * q) absent) }
+{
+    let mut pictures = [0; 4];
+    for q in 0..4 {
+        pictures[q] = frame_number(motion[4 * q], frame_numbers);
+    }
+    pictures
+}
+
+fn vector(motion: Motion) -> Mv
+    ensures { result ≡ motions.vector_of motion }
+{
+    match motion {
+        Motion::Inter { mv, .. } => mv,
+        Motion::Absent | Motion::Intra => Mv { x: 0, y: 0 },
+    }
+}
+
+fn vectors(motion: &[Motion; 16]) -> [Mv; 16]
+    ensures { result ≡ map motions.vector_of motion.now }
+{
+    let mut vectors = [Mv { x: 0, y: 0 }; BLOCKS];
+    for k in 0..BLOCKS {
+        vectors[k] = vector(motion[k]);
+    }
+    vectors
+}
+
+/// What the filter asks of a macroblock with this motion.
+pub(crate) fn filter_facts<const PAD: usize>(
+    mb: &Mb,
+    motion: &[Motion; 16],
+    slice: &SliceContext<'_, PAD>,
+) -> MbFacts
+    ensures { IsFilterTold mb.now motion.now slice.now result }
+{
+    MbFacts {
+        is_intra: is_intra(mb),
+        coefficients: coefficients(mb),
+        pictures: pictures(motion, &slice.frame_numbers),
+        vectors: vectors(motion),
+        qp: filter_qp(mb),
+        slice: slice.number,
+        filtered_edges: slice.filtered_edges,
+        offset_a: slice.offset_a,
+        offset_b: slice.offset_b,
+    }
+}

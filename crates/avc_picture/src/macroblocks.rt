@@ -1,0 +1,189 @@
+//! The macroblocks of a picture, decoded one after another (8.3 to 8.7).
+
+ghost use Rattle.std.specs.Prelude.{◌≡◌, ℕ, suc, ◌*◌, ◌+◌, ◌^◌, ◌<◌, ◌≤◌, length, take, Some, None, slice_get, IfOk, OnOk};
+ghost use Rattle.std.specs.Option.{option_copied, option_map};
+ghost use Rattle.avc_types.specs.Pictures.{Coded};
+ghost use Rattle.avc_params.specs.Limits.{height_in_mbs, width_in_mbs};
+ghost use Rattle.avc_params.specs.Within.{IsPps, IsSps};
+ghost use Rattle.avc_neigh.specs.Around.{facts_of};
+ghost use Rattle.avc_mbsyntax.specs.SliceData.{SliceStart, left_total_coeffs, up_total_coeffs};
+ghost use Rattle.avc_plane.specs.Frames.{planes_of};
+ghost use Rattle.avc_plane.specs.Plane.{HasSamples};
+ghost use Rattle.avc_deblock.specs.Facts.{Names};
+ghost use Rattle.avc_picture_core.specs.References.{AreUsable};
+ghost use Rattle.avc_picture.specs.Decoded.{deblocked};
+ghost use Rattle.avc_picture.specs.FirstMbs.{HasSameSize, HasSets, HoldsFirst, IsDecoded, IsSlice};
+ghost use Rattle.avc_picture.specs.Told.{IsRead};
+
+use crate::filter_facts::filter_facts;
+use crate::neighbour_facts::neighbour_facts;
+use crate::slice_context::SliceContext;
+use avc_deblock::{MbFacts, picture};
+use avc_neigh::{NeighbourFacts, Neighbours, Row, TotalCoeffs};
+use avc_params::{Pps, Sps};
+use avc_picture_core::{Canvas, ReferencePicture, Sources};
+use avc_plane::Planes;
+use avc_types::{Fault, FilteredEdges, Mb, Mv, OutOfMemory};
+use std::alloc::Global;
+use std::marker::Model;
+
+/// What stands for the facts of a macroblock that is not decoded yet.
+const NO_FACTS: MbFacts = MbFacts {
+    is_intra: true,
+    coefficients: 0,
+    pictures: [0; 4],
+    vectors: [Mv { x: 0, y: 0 }; 16],
+    qp: 0,
+    slice: 0,
+    filtered_edges: FilteredEdges::NoEdges,
+    offset_a: 0,
+    offset_b: 0,
+};
+
+/// The macroblocks of a picture so far, with all that later ones and the deblocking filter ask of them.
+#[derive(Drop)]
+pub(crate) struct Macroblocks<const PAD: usize> {
+    /// Of the picture, in macroblocks.
+    width: usize,
+    height: usize,
+    chroma_qp_index_offset: i8,
+    constrained_intra_pred: bool,
+
+    /// Their samples before deblocking.
+    canvas: Canvas<PAD>,
+    row: Row,
+
+    /// By address, with an entry for each macroblock of the picture.
+    filter_facts: Vec<MbFacts>,
+
+    /// The address of the macroblock that comes next.
+    next: usize,
+}
+
+impl<const PAD: usize> Model for Macroblocks<PAD> {
+    ghost use Rattle.avc_picture.specs.FirstMbs.{MbsState};
+
+    ghost Value = { MbsState };
+
+    ghost use Rattle.avc_picture.specs.Kept.{state_of, IsWell};
+
+    ghost view = { state_of };
+
+    ghost invariant = { IsWell };
+}
+
+/// total_coeff of a neighbouring macroblock, where it is available.
+fn total_coeffs_of(facts: Option<&NeighbourFacts>) -> Option<TotalCoeffs>
+    ensures { result ≡ option_map (λ f. f.total_coeffs) (option_copied facts.entry) }
+{
+    match facts {
+        Some(facts) => Some(facts.total_coeffs),
+        None => None,
+    }
+}
+
+/// What a macroblock with these neighbours is predicted from. A call is what gives both one lifetime.
+fn sources<'a, const PAD: usize>(
+    neighbours: Neighbours<'a>,
+    references: &'a [Option<ReferencePicture<'a, PAD>>],
+) -> Sources<'a, PAD>
+    ensures neighbours { facts_of result.neighbours ≡ facts_of neighbours.entry }
+    ensures references { result.references.now ≡ references.now }
+{
+    Sources {
+        neighbours,
+        references,
+    }
+}
+
+impl<const PAD: usize> Macroblocks<PAD> {
+    /// Before the first macroblock of a picture of these sets. Only this call takes memory.
+    pub(crate) fn new(alloc: Global, sps: &Sps, pps: &Pps) -> Result<Self, OutOfMemory>
+        requires padding { PAD < 2 ^ 29 }
+        requires sps { IsSps sps.now }
+        requires pps { IsPps pps.now }
+        ensures holds { IfOk result (λ m. (c : Coded) (names : Names) → HasSets sps.now pps.now c → HoldsFirst c names m) }
+        ensures next { IfOk result (λ m. m.next ≡ 0) }
+        ensures width { IfOk result (λ m. m.canvas.width ≡ width_in_mbs sps.now) }
+        ensures height { IfOk result (λ m. m.canvas.height ≡ height_in_mbs sps.now) }
+    {
+        let width = sps.width_in_mbs() as usize;
+        let height = sps.height_in_mbs() as usize;
+        let chroma_qp_index_offset = pps.chroma_qp_index_offset as i8;
+        let constrained_intra_pred = pps.constrained_intra_pred_flag;
+        Ok(Macroblocks {
+            width,
+            height,
+            chroma_qp_index_offset,
+            constrained_intra_pred,
+            canvas: Canvas::new(
+                alloc,
+                width,
+                height,
+                chroma_qp_index_offset,
+                constrained_intra_pred,
+            )?,
+            row: Row::new(alloc, width)?,
+            filter_facts: vec![in alloc; NO_FACTS; height * width]?,
+            next: 0,
+        })
+    }
+
+    /// total_coeff of the blocks of the macroblocks to the left of the next one and above it, where these are available to
+    /// this slice (9.2.1).
+    pub(crate) fn left_and_above(&self, slice: u32) -> (Option<TotalCoeffs>, Option<TotalCoeffs>)
+        ensures left { (c : Coded) (names : Names) (s : SliceStart) → HoldsFirst c names self.now → s.width ≡ c.width → s.slice ≡ slice
+            → result.0 ≡ left_total_coeffs s (take self.now.next c.mbs) }
+        ensures up { (c : Coded) (names : Names) (s : SliceStart) → HoldsFirst c names self.now → s.width ≡ c.width → s.slice ≡ slice
+            → result.1 ≡ up_total_coeffs s (take self.now.next c.mbs) }
+    {
+        let around = self.row.around(slice);
+        (total_coeffs_of(around.a), total_coeffs_of(around.b))
+    }
+
+    /// Decodes the macroblock that comes next. `VectorRange` where a component of one of its vectors is no 16-bit number,
+    /// `RefMissing` where a block has no reference picture, `IntraUnavailable` where an intra prediction has not the samples
+    /// that it needs: the first of these. After a fault nothing more is to be asked of the macroblocks.
+    pub(crate) fn decode(&mut self, mb: &Mb, slice: &SliceContext<'_, PAD>) -> Result<(), Fault>
+        requires room { self.old.next < self.old.canvas.width * self.old.canvas.height }
+        requires mb { IsRead mb.now }
+        requires references { AreUsable self.old.canvas.width self.old.canvas.height slice.now.references }
+        ensures size { HasSameSize self.old self.new }
+        ensures next { OnOk result (self.new.next ≡ suc self.old.next) }
+        ensures decoded { (c : Coded) (names : Names) → HoldsFirst c names self.old
+            → slice_get c.mbs self.old.next ≡ Some (record { slice = slice.now.number; mb = mb.now })
+            → IsSlice c names slice.now → IsDecoded c names self.old.next result self.new }
+    {
+        let sources = sources(self.row.around(slice.number), &slice.references);
+        let facts = neighbour_facts(
+            mb,
+            slice.number,
+            &sources.neighbours,
+            self.constrained_intra_pred,
+        )?;
+        self.canvas.build(self.next, mb, &facts, &sources)?;
+        self.filter_facts[self.next] = filter_facts(mb, &facts.motion, slice);
+        self.row.put(&facts);
+        self.next += 1;
+        Ok(())
+    }
+
+    /// The samples of the picture after deblocking (8.7).
+    pub(crate) fn deblocked(self) -> Planes<PAD>
+        ensures luma { HasSamples result.luma }
+        ensures cb { HasSamples result.cb }
+        ensures cr { HasSamples result.cr }
+        ensures samples { (c : Coded) (names : Names) → HoldsFirst c names self.entry → self.entry.next ≡ length c.mbs
+            → length c.mbs ≡ c.width * c.height → planes_of result ≡ deblocked c }
+    {
+        let mut planes = self.canvas.into_planes();
+        picture(
+            &mut planes,
+            &self.filter_facts,
+            self.width,
+            self.height,
+            self.chroma_qp_index_offset,
+        );
+        planes
+    }
+}

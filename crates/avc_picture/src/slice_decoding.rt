@@ -1,0 +1,128 @@
+//! The macroblocks of one slice (7.3.4).
+
+ghost use Rattle.std.specs.Prelude.{◌≡◌, ℕ, ◌-◌, ◌*◌, ◌≤◌, suc, pos, ◌≤ℤ◌, nat_abs, List, length, take};
+ghost use Rattle.avc_types.specs.Pictures.{Coded, PicMb};
+ghost use Rattle.avc_params.specs.Limits.{height_in_mbs, max_macroblocks, size_in_mbs, width_in_mbs};
+ghost use Rattle.avc_params.specs.Within.{IsPps, IsSps};
+ghost use Rattle.avc_slice.specs.Header.{slice_qp};
+ghost use Rattle.avc_slice.specs.Within.{IsHeader};
+ghost use Rattle.avc_mbsyntax.specs.Rest.{Follows, IsHandedOut};
+ghost use Rattle.avc_mbsyntax.specs.SliceData.{SliceStart};
+ghost use Rattle.avc_plane.specs.Planes.{StoredFrame};
+ghost use Rattle.avc_deblock.specs.Facts.{Names};
+ghost use Rattle.avc_picture_core.specs.References.{AreUsable};
+ghost use Rattle.avc_picture.specs.Context.{FramesStandAt, picture_start};
+ghost use Rattle.avc_picture.specs.Decoding.{AreFramesOf};
+ghost use Rattle.avc_picture.specs.DecoderState.{CanGoOn, GoesOn, IsDataAnswer, IsDataOf, IsStateOrFault, IsWellSoFar, IsWellSomewhere, outcome_from};
+ghost use Rattle.avc_picture.specs.FirstMbs.{HasSameSize, HoldsFirst};
+ghost use Rattle.avc_picture.specs.Slices.{Progress, data_of, start_of, with_slice};
+
+use crate::header_checks::check_address;
+use crate::macroblocks::Macroblocks;
+use crate::slice_context::SliceContext;
+use avc_bits::BitReader;
+use avc_mbsyntax::SliceData;
+use avc_params::{Pps, Sps};
+use avc_plane::Frame;
+use avc_slice::Slice;
+use avc_types::{Fault, Mb};
+
+/// Pic_init_qp without its offset (7.4.2.2).
+const FIRST_QP: i32 = 26;
+
+/// SliceQP_Y (7.4.3).
+fn slice_quantiser(pps: &Pps, slice: &Slice) -> u8
+    requires low { pos 0 ≤ℤ slice_qp pps.now slice.now.header.slice_qp_delta }
+    requires high { slice_qp pps.now slice.now.header.slice_qp_delta ≤ℤ pos 51 }
+    requires pps { IsPps pps.now }
+    ensures { result ≡ nat_abs (slice_qp pps.now slice.now.header.slice_qp_delta) }
+{
+    ((FIRST_QP + pps.pic_init_qp_minus26) + slice.header.slice_qp_delta) as u8
+}
+
+/// The data of a slice of a picture of which `read` macroblocks have been read.
+fn slice_data<'a>(sps: &Sps, pps: &Pps, slice: &'a Slice, read: u32) -> SliceData<'a>
+    requires sps { IsSps sps.now }
+    requires pps { IsPps pps.now }
+    requires header { IsHeader sps.now pps.now slice.now.rbsp slice.now.header }
+    requires within { read ≤ size_in_mbs sps.now }
+    ensures { (frames : List StoredFrame) (number : ℕ) (before : List PicMb) → length before ≡ read
+        → IsDataOf (start_of (record { sps = sps.now; pps = pps.now; frames = frames }) slice.now.header number) before (data_of slice.now) result }
+{
+    SliceData::new(
+        BitReader::at(slice.rbsp.as_slice(), slice.header.position),
+        slice.header.is_p(),
+        slice.header.active_count as u8,
+        slice_quantiser(pps, slice),
+        sps.size_in_mbs() - read,
+    )
+}
+
+/// The next macroblock of the data, as its neighbours in the picture have it read.
+fn next_macroblock<const PAD: usize>(
+    unread: &mut SliceData<'_>,
+    macroblocks: &Macroblocks<PAD>,
+    number: u32,
+) -> Result<Option<Mb>, Fault>
+    ensures { (c : Coded) (names : Names) (s : SliceStart) → HoldsFirst c names macroblocks.now → s.width ≡ c.width → s.slice ≡ number
+        → Follows s (take macroblocks.now.next c.mbs) unread.old
+        → IsHandedOut s (take macroblocks.now.next c.mbs) result unread.old unread.new }
+{
+    let (left, up) = macroblocks.left_and_above(number);
+    unread.next(left, up)
+}
+
+/// Decodes the macroblocks of a slice, and counts in `read` those that are read, a faulty one included. Answers the first fault.
+fn decode_data<const PAD: usize>(
+    unread: &mut SliceData<'_>,
+    context: &SliceContext<'_, PAD>,
+    macroblocks: &mut Macroblocks<PAD>,
+    read: &mut u32,
+) -> Result<(), Fault>
+    requires some { CanGoOn macroblocks.old unread.old context.now }
+    requires usable { AreUsable macroblocks.old.canvas.width macroblocks.old.canvas.height context.now.references }
+    requires read { macroblocks.old.next ≡ read.old }
+    requires within { read.old ≤ macroblocks.old.canvas.width * macroblocks.old.canvas.height }
+    requires small { macroblocks.old.canvas.width * macroblocks.old.canvas.height ≤ max_macroblocks }
+    ensures size { HasSameSize macroblocks.old macroblocks.new }
+    ensures within { read.new ≤ macroblocks.old.canvas.width * macroblocks.old.canvas.height }
+    ensures answer { (c : Coded) (names : Names) (s : SliceStart) → GoesOn c names s macroblocks.old unread.old context.now
+        → IsDataAnswer c names macroblocks.old.next (outcome_from c s macroblocks.old unread.old) result read.new macroblocks.new }
+{
+    'macroblocks: while let Some(mb) = next_macroblock(unread, macroblocks, context.number)? {
+        *read += 1;
+        macroblocks.decode(&mb, context)?;
+    }
+    Ok(())
+}
+
+/// Decodes slice `number` of a picture, of which `read` macroblocks have been read. Answers the first fault.
+pub(crate) fn decode_slice<const PAD: usize>(
+    sps: &Sps,
+    pps: &Pps,
+    slice: &Slice,
+    frames: &[Frame<PAD>],
+    number: u32,
+    macroblocks: &mut Macroblocks<PAD>,
+    read: &mut u32,
+) -> Result<(), Fault>
+    requires sps { IsSps sps.now }
+    requires pps { IsPps pps.now }
+    requires header { IsHeader sps.now pps.now slice.now.rbsp slice.now.header }
+    requires frames { AreFramesOf sps.now frames.now }
+    requires within { read.old ≤ size_in_mbs sps.now }
+    requires width { macroblocks.old.canvas.width ≡ width_in_mbs sps.now }
+    requires height { macroblocks.old.canvas.height ≡ height_in_mbs sps.now }
+    requires some { IsWellSomewhere sps.now pps.now frames.now number read.old macroblocks.old }
+    ensures size { HasSameSize macroblocks.old macroblocks.new }
+    ensures within { read.new ≤ size_in_mbs sps.now }
+    ensures state { (entries : List ℕ) (g : Progress) → FramesStandAt entries frames.now
+        → IsWellSoFar (picture_start sps.now pps.now entries frames.now) entries g number read.old macroblocks.old
+        → IsStateOrFault (picture_start sps.now pps.now entries frames.now) entries (with_slice (picture_start sps.now pps.now entries frames.now) slice.now g)
+        slice.now.unit (suc number) result read.new macroblocks.new }
+{
+    check_address(*read, &slice.header)?;
+    let context = SliceContext::new(number, sps, &slice.header, frames)?;
+    let mut unread = slice_data(sps, pps, slice, *read);
+    decode_data(&mut unread, &context, macroblocks, read)
+}

@@ -1,0 +1,154 @@
+-- A macroblock's place on a canvas, as the code knows it: what its blocks may read, and what was built of it.
+use Rattle.std.proofs.Common.{◌≡◌, ℕ, ◌+◌, ◌*◌, ◌/◌, ◌%◌, ◌<◌, ◌≤◌, nat_lt, ℤ, pos, negsuc, ◌+ℤ◌, ◌-ℤ◌, Bool, true, false, not, ◌||◌, List, Option, None, Result, Ok, Err, arith, refl, sym, ap, subst, ◌∙◌, inl, inr}
+use Rattle.std.proofs.lemmas.Bool.{cases_lt, le-ltb, true≢false}
+use Rattle.std.proofs.lemmas.Int.{ints}
+use Rattle.avc_types.specs.declared.fault.Fault.{Fault}
+use Rattle.avc_types.specs.Macroblock.{Mb, MbSyntax}
+use Rattle.avc_types.specs.Pictures.{Coded}
+use Rattle.avc_neigh.specs.Around.{Around, is_intra_facts}
+use Rattle.avc_neigh.specs.Blocks.{Location, block_x, block_y, block_at, location_at, location_in}
+use Rattle.avc_neigh.specs.Laws.{is_there_near}
+use Rattle.avc_neigh.specs.declared.facts.NeighbourFacts.{NeighbourFacts}
+use Rattle.avc_transform.specs.Residual.{chroma_qp}
+use Rattle.avc_intra.specs.declared.sides.Sides.{Sides}
+use Rattle.avc_plane.specs.Planes.{Planes}
+use Rattle.avc_picture_core.specs.Built.{Place, is_there, sides_of}
+use Rattle.avc_picture_core.specs.Canvas.{CanvasState, IsBuilt, IsPlaceOn, sides_near}
+use Rattle.avc_picture_core.specs.Places.{ArePlanesBuilt, IsPlaceIn}
+use Rattle.avc_picture_core.specs.Sides.{AreInside, is_readable, readable_near, readable_sides}
+use Rattle.avc_picture_core.specs.declared.references.ReferencePicture.{ReferencePicture}
+use Rattle.avc_picture_core.specs.declared.sides.ReadableNeighbours.{ReadableNeighbours}
+
+-- ---- what its blocks may read
+
+-- one sample, by the neighbour that covers it
+readable_as : (constrained : Bool) (n : Around) (k : ℕ) (x y : ℤ)
+    → is_there_near (λ f. not constrained || is_intra_facts f) (λ u v. nat_lt (block_at u v) k) n x y ≡ is_readable (readable_near constrained n) k x y
+readable_as constrained n k (pos x) (pos y) = refl
+readable_as constrained n k (negsuc x) (pos y) = refl
+readable_as constrained n k (pos x) (negsuc y) = refl
+readable_as constrained n k (negsuc x) (negsuc y) = refl
+
+sides_same : (s t : Sides) → s.above ≡ t.above → s.above_right ≡ t.above_right → s.left ≡ t.left → s.corner ≡ t.corner → s ≡ t
+sides_same s t above right left corner =
+    ap (λ (b : Bool). record s { above = b }) above
+    ∙ ap (λ (b : Bool). record s { above = t.above; above_right = b }) right
+    ∙ ap (λ (b : Bool). record s { above = t.above; above_right = t.above_right; left = b }) left
+    ∙ ap (λ (b : Bool). record s { above = t.above; above_right = t.above_right; left = t.left; corner = b }) corner
+
+pub near_readable : (constrained : Bool) (n : Around) (k : ℕ) → sides_near constrained n k ≡ readable_sides (readable_near constrained n) k
+near_readable constrained n k =
+    let x = pos (block_x k) in
+    let y = pos (block_y k) in
+    sides_same (sides_near constrained n k) (readable_sides (readable_near constrained n) k)
+    (readable_as constrained n k x (y -ℤ pos 1))
+    (readable_as constrained n k (x +ℤ pos 4) (y -ℤ pos 1))
+    (readable_as constrained n k (x -ℤ pos 1) y)
+    (readable_as constrained n k (x -ℤ pos 1) (y -ℤ pos 1))
+
+-- ---- and that it lies in the picture
+
+-- off the left, the upper and the right edge
+left_off : (width : ℕ) (x y : ℤ) → x ≡ negsuc 0 → location_in 16 width x y ≡ None
+left_off width x y e = ap (λ t. location_in 16 width t y) e
+
+up_off : (width : ℕ) (x y : ℤ) → y ≡ negsuc 0 → location_in 16 width x y ≡ None
+up_off width (pos x) y e = ap (λ t. location_in 16 width (pos x) t) e
+up_off width (negsuc x) y e = refl
+
+right_off : (width n : ℕ) (x y : ℤ) → x ≡ pos n → 16 * width ≤ n → location_in 16 width x y ≡ None
+right_off width n x (pos y) e off = let t : nat_lt n (16 * width) ≡ false = le-ltb _ _ off in rw (e, t) refl
+right_off width n x (negsuc y) e off = rw e refl
+
+-- what is there is not off the picture
+on_picture : (c : Coded) (a k : ℕ) (l : Option Location) → is_there c a k l ≡ true → l ≡ None → ⊥
+on_picture c a k l there off = true≢false (sym there ∙ ap (is_there c a k) off)
+
+pub sides_inside : (c : Coded) (a k : ℕ) → AreInside (16 * (a % c.width) + block_x k) (16 * (a / c.width) + block_y k) (16 * c.width) (sides_of c a k)
+sides_inside c a k =
+    let m = a % c.width in
+    let r = a / c.width in
+    let x = pos (block_x k) in
+    let y = pos (block_y k) in
+    let at : ℤ → ℤ → Option Location = λ u v. location_at c.width a u v in
+    let below : (u : ℤ) → is_there c a k (at u (y -ℤ pos 1)) ≡ true → 0 < 16 * r + block_y k =
+    λ u there. elim (cases_lt 0 (16 * r + block_y k)) [
+      | inl some ↦ some
+      | inr none ↦ absurd (on_picture c a k (at u (y -ℤ pos 1)) there (up_off c.width (pos (16 * m) +ℤ u) (pos (16 * r) +ℤ (y -ℤ pos 1)) (omega (arith, ints, none))))
+    ] in
+    let after : (v : ℤ) → is_there c a k (at (x -ℤ pos 1) v) ≡ true → 0 < 16 * m + block_x k =
+    λ v there. elim (cases_lt 0 (16 * m + block_x k)) [
+      | inl some ↦ some
+      | inr none ↦ absurd (on_picture c a k (at (x -ℤ pos 1) v) there (left_off c.width (pos (16 * m) +ℤ (x -ℤ pos 1)) (pos (16 * r) +ℤ v) (omega (arith, ints, none))))
+    ] in
+    let before : is_there c a k (at (x +ℤ pos 4) (y -ℤ pos 1)) ≡ true → 16 * m + block_x k + 8 ≤ 16 * c.width =
+    λ there. elim (cases_lt (16 * m + block_x k + 4) (16 * c.width)) [
+      | inl some ↦ omega (arith, some)
+      | inr none ↦ absurd (on_picture c a k (at (x +ℤ pos 4) (y -ℤ pos 1)) there
+          (right_off c.width (16 * m + block_x k + 4) (pos (16 * m) +ℤ (x +ℤ pos 4)) (pos (16 * r) +ℤ (y -ℤ pos 1)) (omega (arith, ints)) none))
+    ] in
+    record {
+      above = below x;
+      above_right = λ there. (below (x +ℤ pos 4) there, before there);
+      before = after y;
+      corner = λ there. (after (y -ℤ pos 1) there, below (x -ℤ pos 1) there);
+    }
+
+-- ---- all of it
+
+abbrev pub state : (width height : ℕ) (offset : ℤ) (constrained : Bool) (planes : Planes) → CanvasState
+state width height offset constrained planes =
+    record { width = width; height = height; chroma_qp_index_offset = offset; constrained_intra_pred = constrained; planes = planes }
+
+module _ {PAD : ℕ} (width height : ℕ) (offset : ℤ) (constrained : Bool) (planes : Planes) (syntax : MbSyntax) (qp address : ℕ)
+    (facts : NeighbourFacts) (n : Around) (references : List (Option (ReferencePicture PAD))) (p : Place) where
+  place_in : (qp_of_chroma : ℕ) → qp_of_chroma ≡ chroma_qp offset qp
+      → IsPlaceOn (state width height offset constrained planes) address (record { syntax = syntax; qp = qp }) facts n references p
+      → IsPlaceIn (address % width) (address / width) width height syntax qp qp_of_chroma facts (readable_near constrained n) references p
+  place_in qp_of_chroma chroma on =
+      let near = readable_near constrained n in
+      let inside : (k : ℕ) → AreInside (16 * (address % width) + block_x k) (16 * (address / width) + block_y k) (16 * width) (sides_of p.coded p.address k) =
+      λ k. subst (λ w. AreInside (16 * (address % w) + block_x k) (16 * (address / w) + block_y k) (16 * w) (sides_of p.coded p.address k)) on.width
+      (subst (λ a. AreInside (16 * (a % p.coded.width) + block_x k) (16 * (a / p.coded.width) + block_y k) (16 * p.coded.width) (sides_of p.coded p.address k)) on.address_is
+      (sides_inside p.coded p.address k)) in
+      record {
+        at = record {
+          column_is = ap (λ a. a % p.coded.width) on.address_is ∙ ap (λ w. address % w) on.width;
+          row_is = ap (λ a. a / p.coded.width) on.address_is ∙ ap (λ w. address / w) on.width;
+          syntax_is = ap (λ m. m.syntax) on.mb_is;
+          qp_is = ap (λ m. m.qp) on.mb_is;
+          chroma_is = ap (λ o. chroma_qp o p.mb.qp) on.offset ∙ ap (λ m. chroma_qp offset m.qp) on.mb_is ∙ sym chroma;
+        };
+        may_read = λ intra. record {
+          sides = λ k low. on.sides intra k low ∙ near_readable constrained n k;
+          inside = λ k low. subst (λ s. AreInside (16 * (address % width) + block_x k) (16 * (address / width) + block_y k) (16 * width) s)
+              (on.sides intra k low ∙ near_readable constrained n k) (inside k);
+        };
+        width_is = on.width;
+        height_is = on.height;
+        modes_are = on.modes;
+        motion_is = on.motion;
+        references_are = on.references_are;
+      }
+
+-- the planes of a canvas that is else as it was
+planes_built : (width height : ℕ) (offset : ℤ) (constrained : Bool) (p : Place) (result : Result (Unit {0}) Fault) (old new : Planes)
+    → ArePlanesBuilt p result old new → IsBuilt p result (state width height offset constrained old) (state width height offset constrained new)
+planes_built width height offset constrained p (Ok done) old new built = (built.0, ap (λ s. state width height offset constrained s) built.1)
+planes_built width height offset constrained p (Err f) old new built = (built.0, ap (λ s. state width height offset constrained s) built.1)
+
+-- the canvas, from what its fields and those of the macroblock are
+pub canvas_built : {PAD : ℕ} (width height : ℕ) (offset : ℤ) (constrained : Bool) (old new : Planes) (syntax : MbSyntax) (qp qp_of_chroma address : ℕ)
+    (facts : NeighbourFacts) (n : Around) (r : ReadableNeighbours) (references : List (Option (ReferencePicture PAD))) (result : Result (Unit {0}) Fault)
+    (canvas : CanvasState) (mb : Mb) (p : Place)
+    → state width height offset constrained old ≡ canvas → record { syntax = syntax; qp = qp } ≡ mb
+    → qp_of_chroma ≡ chroma_qp offset qp → r ≡ readable_near constrained n
+    → (IsPlaceIn (address % width) (address / width) width height syntax qp qp_of_chroma facts r references p → ArePlanesBuilt p result old new)
+    → IsPlaceOn canvas address mb facts n references p → IsBuilt p result canvas (state width height offset constrained new)
+canvas_built width height offset constrained old new syntax qp qp_of_chroma address facts n r references result canvas mb p view of_mb chroma near built on =
+    let same = subst (λ s. IsPlaceOn s address (record { syntax = syntax; qp = qp }) facts n references p) (sym view)
+    (subst (λ m. IsPlaceOn canvas address m facts n references p) (sym of_mb) on) in
+    let there = subst (λ t. IsPlaceIn (address % width) (address / width) width height syntax qp qp_of_chroma facts t references p) (sym near)
+    (place_in width height offset constrained old syntax qp address facts n references p qp_of_chroma chroma same) in
+    subst (λ s. IsBuilt p result s (state width height offset constrained new)) view
+    (planes_built width height offset constrained p result old new (built there))

@@ -1,0 +1,174 @@
+-- Samples that are predicted by the list of reference pictures are the predictions of every coded picture with these pictures.
+use Rattle.std.proofs.Common.{ℕ, zero, suc, ◌≡◌, ◌+◌, ◌*◌, ◌<◌, arith, Bool, true, false, ◌&&◌, List, [], ◌∷◌, length, refl, sym, ap, subst, ◌∙◌, inl, inr}
+use Rattle.std.specs.Prelude.{Option, Some, None, IfSome, is_some, slice_index_or}
+use Rattle.std.specs.Option.{option_map}
+use Rattle.std.specs.List.{list_all}
+use Rattle.std.proofs.lemmas.Bool.{cases_lt, true≢false, false≢true}
+use Rattle.std.proofs.lemmas.List.{get_or_past}
+use Rattle.std.proofs.lemmas.List.Elements.{All-get_or}
+use Rattle.std.proofs.lemmas.List.Folds.{list_all_at}
+use Rattle.avc_types.specs.Pictures.{Coded}
+use Rattle.avc_types.specs.declared.vector.Mv.{Mv}
+use Rattle.avc_neigh.specs.Blocks.{block_at}
+use Rattle.avc_neigh.specs.declared.facts.Motion.{Motion}
+use Rattle.avc_neigh.specs.declared.facts.Motion.TheVariants as motions
+use Rattle.avc_motion.specs.Motion.{frame_named}
+use Rattle.avc_plane.specs.Plane.{sample}
+use Rattle.avc_plane.specs.Planes.{Planes}
+use Rattle.avc_plane.specs.Frames.{padded_planes_of}
+use Rattle.avc_plane.proofs.Blocks.{inside}
+use Rattle.avc_inter.specs.Luma.{inter_luma}
+use Rattle.avc_inter.specs.Chroma.{inter_chroma}
+use Rattle.avc_picture_core.specs.Built.{size_of, luma_place, component_weight, fetched, frame_sample, inter_predicted, reference_of, weighted_by}
+use Rattle.avc_picture_core.specs.Faults.{is_picture}
+use Rattle.avc_picture_core.specs.References.{AreReferences, AreUsable, IsReference, IsUsable, ShowsReference}
+use Rattle.avc_picture_core.specs.Inter.{AreInterPredicted, AreUsableAt, HaveOneMotion, IsMacroblockShape, IsPartFilled, IsPartSet, IsUsableAt, block_motion, fetched_from, have_pictures, motion_at, picture_in, predicted_from, predicted_in, wanted}
+use Rattle.avc_picture_core.specs.declared.references.ReferencePicture.{ReferencePicture}
+use Rattle.avc_picture_core.specs.declared.samples.MbSamples.{MbSamples}
+use Rattle.avc_picture_core.specs.declared.shape.Shape.TheVariants.{Whole}
+use Rattle.avc_picture_core.proofs.PartSamples.{part_filled}
+use Rattle.avc_picture_core.proofs.Shapes.{whole_blocks}
+
+-- ---- which reference pictures there are
+
+some_map : {X : Type 0} (P Q : X → Type 0) (o : Option X) → ((x : X) → P x → Q x) → IfSome o P → IfSome o Q
+some_map P Q None f p = p
+some_map P Q (Some x) f p = f x p
+
+usable_on : {PAD : ℕ} (w h column row : ℕ) (p : ReferencePicture PAD) → column < w → row < h → IsUsable w h p → IsUsableAt column row p
+usable_on w h column row p a b u =
+    let s = u.sized in
+    record {
+      planes = record {
+        luma_columns = omega (arith, s.luma_width);
+        luma_rows = omega (arith, s.luma_height);
+        cb_columns = omega (arith, s.cb_width);
+        cb_rows = omega (arith, s.cb_height);
+        cr_columns = omega (arith, s.cr_width);
+        cr_rows = omega (arith, s.cr_height);
+      };
+      weights = u.weights;
+    }
+
+usable_at : {PAD : ℕ} (w h : ℕ) (references : List (Option (ReferencePicture PAD))) (r : ℕ) → AreUsable w h references → IfSome (slice_index_or references r None) (IsUsable w h)
+usable_at w h references r all = elim (cases_lt r (length references)) [
+  | inl less ↦ All-get_or (λ entry. IfSome entry (IsUsable w h)) references r None less all
+  | inr past ↦ subst (λ o. IfSome o (IsUsable w h)) (sym (get_or_past references r None past)) tt
+]
+
+pub usable_each : {PAD : ℕ} (w h column row : ℕ) (references : List (Option (ReferencePicture PAD))) → AreUsable w h references → column < w → row < h → AreUsableAt column row references
+usable_each w h column row references all a b = record {
+  each = λ r. some_map (IsUsable w h) (IsUsableAt column row) (slice_index_or references r None) (λ p u. usable_on w h column row p a b u) (usable_at w h references r all);
+}
+
+-- ---- pictures of a coded picture and of the list
+
+picture_shown : {PAD : ℕ} (c : Coded) (slice r : ℕ) (o : Option (ReferencePicture PAD)) → ShowsReference c slice r o → is_picture (frame_named c slice r) ≡ is_some o
+picture_shown c slice r None e = e
+picture_shown c slice r (Some p) s = ap is_picture s.frame
+
+is_shown : {PAD : ℕ} (c : Coded) (slice : ℕ) (references : List (Option (ReferencePicture PAD))) → AreReferences c slice references
+    → (m : Motion) → is_picture (reference_of c slice m) ≡ is_some (picture_in references m)
+is_shown c slice references are motions.Absent = refl
+is_shown c slice references are motions.Intra = refl
+is_shown c slice references are (motions.Inter r v) = picture_shown c slice r (slice_index_or references r None) (are.each r)
+
+same_all : {X : Type 0} (p q : X → Bool) → ((x : X) → p x ≡ q x) → (xs : List X) → list_all p xs ≡ list_all q xs
+same_all p q e [] = refl
+same_all p q e (x ∷ xs) = ap (λ b. b && list_all p xs) (e x) ∙ ap (λ b. q x && b) (same_all p q e xs)
+
+pub pictures_shown : {PAD : ℕ} (c : Coded) (slice : ℕ) (references : List (Option (ReferencePicture PAD))) (motion : List Motion) → AreReferences c slice references
+    → list_all (λ m. is_picture (reference_of c slice m)) motion ≡ have_pictures references motion
+pictures_shown c slice references motion are =
+    same_all (λ m. is_picture (reference_of c slice m)) (λ m. is_some (picture_in references m)) (is_shown c slice references are) motion
+
+-- ---- samples
+
+module _ {PAD : ℕ} (c : Coded) (slice r w h : ℕ) (p : ReferencePicture PAD) (v : Mv) (wide : c.width ≡ w) (high : c.height ≡ h) (shows : IsReference c slice r p) (usable : IsUsable w h p) where
+  abbrev planes : Planes
+  planes = padded_planes_of p.planes.now
+
+  fetched_is : (k x y : ℕ) → fetched_from planes v k x y ≡ fetched c slice (motions.Inter r v) k x y
+  fetched_is zero x y =
+      ap (λ n. inter_luma n planes.luma.height (sample planes.luma) v x y) (usable.sized.luma_width ∙ ap (λ n. 16 * n) (sym wide))
+      ∙ ap (λ n. inter_luma (16 * c.width) n (sample planes.luma) v x y) (usable.sized.luma_height ∙ ap (λ n. 16 * n) (sym high))
+      ∙ ap (λ o. inter_luma (16 * c.width) (16 * c.height) (frame_sample o 0) v x y) (sym shows.frame)
+  fetched_is (suc zero) x y =
+      ap (λ n. inter_chroma n planes.cb.height (sample planes.cb) v x y) (usable.sized.cb_width ∙ ap (λ n. 8 * n) (sym wide))
+      ∙ ap (λ n. inter_chroma (8 * c.width) n (sample planes.cb) v x y) (usable.sized.cb_height ∙ ap (λ n. 8 * n) (sym high))
+      ∙ ap (λ o. inter_chroma (8 * c.width) (8 * c.height) (frame_sample o 1) v x y) (sym shows.frame)
+  fetched_is (suc (suc k)) x y =
+      ap (λ n. inter_chroma n planes.cr.height (sample planes.cr) v x y) (usable.sized.cr_width ∙ ap (λ n. 8 * n) (sym wide))
+      ∙ ap (λ n. inter_chroma (8 * c.width) n (sample planes.cr) v x y) (usable.sized.cr_height ∙ ap (λ n. 8 * n) (sym high))
+      ∙ ap (λ o. inter_chroma (8 * c.width) (8 * c.height) (frame_sample o (suc (suc k))) v x y) (sym shows.frame)
+
+  from_is : (k x y : ℕ) → predicted_from p v k x y ≡ inter_predicted c slice (motions.Inter r v) k x y
+  unfolding predicted_from
+  from_is k x y =
+      ap (λ n. weighted_by (option_map (component_weight k) p.weights) n) (fetched_is k x y)
+      ∙ ap (λ o. weighted_by (option_map (component_weight k) o) (fetched c slice (motions.Inter r v) k x y)) (sym shows.weights)
+
+by_entry : {PAD : ℕ} (c : Coded) (slice r w h : ℕ) (v : Mv) (k x y : ℕ) → c.width ≡ w → c.height ≡ h → (o : Option (ReferencePicture PAD)) → (references : List (Option (ReferencePicture PAD)))
+    → slice_index_or references r None ≡ o → ShowsReference c slice r o → IfSome o (IsUsable w h) → is_some o ≡ true
+    → predicted_in references (motions.Inter r v) k x y ≡ inter_predicted c slice (motions.Inter r v) k x y
+by_entry c slice r w h v k x y wide high None references e shows usable there = absurd (false≢true there)
+by_entry c slice r w h v k x y wide high (Some p) references e shows usable there = rw e (from_is c slice r w h p v wide high shows usable k x y)
+
+predicted_is : {PAD : ℕ} (c : Coded) (slice w h : ℕ) (references : List (Option (ReferencePicture PAD))) (k x y : ℕ) → c.width ≡ w → c.height ≡ h → AreReferences c slice references → AreUsable w h references
+    → (m : Motion) → is_some (picture_in references m) ≡ true → predicted_in references m k x y ≡ inter_predicted c slice m k x y
+predicted_is c slice w h references k x y wide high are all motions.Absent there = absurd (false≢true there)
+predicted_is c slice w h references k x y wide high are all motions.Intra there = absurd (false≢true there)
+predicted_is c slice w h references k x y wide high are all (motions.Inter r v) there =
+    by_entry c slice r w h v k x y wide high (slice_index_or references r None) references refl (are.each r) (usable_at w h references r all) there
+
+-- a block has a picture where all have
+has_picture : {PAD : ℕ} (references : List (Option (ReferencePicture PAD))) (motion : List Motion) (i : ℕ) → i < length motion → have_pictures references motion ≡ true
+    → (b : Bool) → is_some (picture_in references (block_motion motion i)) ≡ b → b ≡ true
+has_picture references motion i within all true e = refl
+has_picture references motion i within all false e =
+    absurd (false≢true (sym (list_all_at (λ m. is_some (picture_in references m)) motion i motions.Absent within e) ∙ all))
+
+pub there : {PAD : ℕ} (references : List (Option (ReferencePicture PAD))) (motion : List Motion) (i : ℕ) → length motion ≡ 16 → i < 16 → have_pictures references motion ≡ true
+    → is_some (picture_in references (block_motion motion i)) ≡ true
+there references motion i long few all = has_picture references motion i (omega (arith, long)) all (is_some (picture_in references (block_motion motion i))) refl
+
+in_square : (k x y : ℕ) → x < size_of k → y < size_of k → (luma_place k x < 16) × (luma_place k y < 16)
+in_square zero x y column row = (column, row)
+in_square (suc k) x y column row = (omega (arith, column), omega (arith, row))
+
+pub all_predicted : {PAD : ℕ} (references : List (Option (ReferencePicture PAD))) (w h column row : ℕ) (motion : List Motion) (old new : MbSamples) (c : Coded) (slice : ℕ)
+    → length motion ≡ 16 → AreUsable w h references → have_pictures references motion ≡ true → IsPartFilled 0 0 16 16 (wanted references column row motion) old new
+    → c.width ≡ w → c.height ≡ h → AreReferences c slice references → AreInterPredicted c slice column row motion new
+all_predicted references w h column row motion old new c slice long all pictures filled wide high are = record {
+  each = λ k x y few across down.
+      let square = in_square k x y across down in
+      filled.at k x y few across down (λ out. absurd (true≢false (sym (inside 0 0 16 16 (luma_place k x) (luma_place k y) (omega arith) square.0 (omega arith) square.1) ∙ out)))
+      ∙ predicted_is c slice w h references k (size_of k * column + x) (size_of k * row + y) wide high are all (motion_at motion k x y)
+      (there references motion (block_at (luma_place k x) (luma_place k y)) long (omega (arith, square.0, square.1)) pictures);
+}
+
+-- ---- one rectangle
+
+pub part_is : {PAD : ℕ} (references : List (Option (ReferencePicture PAD))) (column row : ℕ) (motion : List Motion) (left top w h r : ℕ) (v : Mv) (p : ReferencePicture PAD) (old new : MbSamples)
+    → HaveOneMotion motion left top w h → block_motion motion (block_at left top) ≡ motions.Inter r v → picture_in references (motions.Inter r v) ≡ Some p
+    → IsPartSet left top w h (λ k x y. predicted_from p v k (size_of k * column + x) (size_of k * row + y)) old new
+    → IsPartFilled left top w h (wanted references column row motion) old new
+part_is references column row motion left top w h r v p old new one is named set =
+    part_filled left top w h (λ k x y. predicted_from p v k (size_of k * column + x) (size_of k * row + y)) (wanted references column row motion) old new set
+    (λ k x y few across down e. rw (one.same (luma_place k x) (luma_place k y) e ∙ is, named) refl)
+
+-- ---- blocks that all have one motion
+
+all_from : {X : Type 0} (p : X → Bool) (d : X) (xs : List X) → ((k : ℕ) → k < length xs → p (slice_index_or xs k d) ≡ true) → list_all p xs ≡ true
+all_from p d [] f = refl
+all_from p d (x ∷ xs) f = ap (λ b. b && list_all p xs) (f 0 (omega arith)) ∙ all_from p d xs (λ k h. f (suc k) (omega (arith, h)))
+
+as_first : (p : Motion → Bool) (motion : List Motion) → length motion ≡ 16 → IsMacroblockShape motion Whole → (b : Bool) → p (block_motion motion 0) ≡ b → p (block_motion motion 0) ≡ list_all p motion
+as_first p motion long shape true e =
+    e ∙ sym (all_from p motions.Absent motion (λ k h. ap p (whole_blocks motion shape k (omega (arith, long, h))) ∙ e))
+as_first p motion long shape false e = e ∙ sym (list_all_at p motion 0 motions.Absent (omega (arith, long)) e)
+
+pub all_as_first : {PAD : ℕ} (references : List (Option (ReferencePicture PAD))) (motion : List Motion) → length motion ≡ 16 → IsMacroblockShape motion Whole
+    → is_some (picture_in references (block_motion motion 0)) ≡ have_pictures references motion
+all_as_first references motion long shape =
+    as_first (λ m. is_some (picture_in references m)) motion long shape (is_some (picture_in references (block_motion motion 0))) refl

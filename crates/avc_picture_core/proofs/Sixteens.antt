@@ -1,0 +1,31 @@
+-- What is asked of each of sixteen blocks.
+use Rattle.std.proofs.Common.{◌≡◌, ℕ, ◌<◌, Bool, true, false, subst, sym, ◌∙◌, zero-add, List, inl, inr}
+use Rattle.std.proofs.lemmas.Bool.{cases_Bool}
+use Rattle.std.specs.List.{list_all, range_with_len}
+use Rattle.std.proofs.lemmas.List.Elements.{All-get_or, All-from_get_or}
+use Rattle.std.proofs.lemmas.List.Folds.{list_all_at}
+use Rattle.std.proofs.lemmas.List.FromFn.{get_or-range_with_len}
+use Rattle.std.proofs.lemmas.List.Sums.{AllPass-from_list_all, list_all-from_AllPass}
+
+abbrev sixteen : List ℕ
+sixteen = range_with_len 0 16
+
+pub all_sixteen : (p : ℕ → Bool) → ((k : ℕ) → k < 16 → p k ≡ true) → list_all p (range_with_len 0 16) ≡ true
+all_sixteen p f =
+    list_all-from_AllPass p sixteen (All-from_get_or (λ x. p x ≡ true) sixteen 0 (λ k low. subst (λ n. p n ≡ true) (sym (get_or-range_with_len 0 16 k 0 low ∙ zero-add k)) (f k low)))
+
+pub each_sixteen : (p : ℕ → Bool) → list_all p (range_with_len 0 16) ≡ true → (k : ℕ) → k < 16 → p k ≡ true
+each_sixteen p all k low =
+    subst (λ n. p n ≡ true) (get_or-range_with_len 0 16 k 0 low ∙ zero-add k) (All-get_or (λ x. p x ≡ true) sixteen k 0 low (AllPass-from_list_all p sixteen all))
+
+pub one_false : (p : ℕ → Bool) (k : ℕ) → k < 16 → p k ≡ false → list_all p (range_with_len 0 16) ≡ false
+one_false p k low not = list_all_at p sixteen k 0 low (subst (λ n. p n ≡ false) (sym (get_or-range_with_len 0 16 k 0 low ∙ zero-add k)) not)
+
+pub same_sixteen : (p q : ℕ → Bool) → ((k : ℕ) → k < 16 → p k ≡ q k) → list_all p (range_with_len 0 16) ≡ list_all q (range_with_len 0 16)
+same_sixteen p q same = elim (cases_Bool (list_all p (range_with_len 0 16))) [
+  | inl each ↦ each ∙ sym (all_sixteen q (λ k low. sym (same k low) ∙ each_sixteen p each k low))
+  | inr some ↦ elim (cases_Bool (list_all q (range_with_len 0 16))) [
+    | inl all ↦ all_sixteen p (λ k low. same k low ∙ each_sixteen q all k low) ∙ sym all
+    | inr none ↦ some ∙ sym none
+  ]
+]

@@ -1,0 +1,94 @@
+use Rattle.std.proofs.Common.{◌≡◌, ◌+◌, ◌*◌, true, false, slice_index_or, refl, ap, sym, subst, ◌∙◌, arith, []}
+use Rattle.avc_types.specs.Macroblock.{i_nxn}
+use Rattle.avc_types.specs.MacroblockFields.{residual_of}
+use Rattle.avc_neigh.specs.declared.facts.NearMode.TheVariants.{Absent as absent}
+use Rattle.avc_plane.specs.Frames.{planes_of}
+use Rattle.avc_intra.specs.Luma4x4.{can_predict4x4, mode4x4_of}
+use Rattle.avc_intra.specs.Chroma.{can_predict_chroma}
+use Rattle.avc_picture_core.specs.Built.{luma_after, mode_number, planes_after, sides_of}
+use Rattle.avc_picture_core.specs.Sides.{AreInside, readable_sides}
+use Rattle.avc_picture_core.proofs.Sixteens.{each_sixteen}
+use Rattle.avc_picture_core.proofs.Ties.{both_first, both_second, cb_nxn, cr_nxn, has_nxn, inside_chroma, nxn_at, planes_same, refused_by}
+use Rattle.avc_picture_core.proofs.intra.build_i_nxn.Goals as goal
+
+pub build_luma4x4-requires : goal.build_luma4x4-requires
+build_luma4x4-requires g c = (
+  omega arith,
+  (
+    c.requires.room.luma_columns,
+    (
+      c.requires.room.luma_rows,
+      (
+        c.requires.luma,
+        (
+          c.requires.levels,
+          (
+            c.requires.modes,
+            each_sixteen (λ k. can_predict4x4 (readable_sides c.args.readable k) (mode4x4_of (mode_number (slice_index_or c.args.modes.now k absent))))
+                (both_first _ _ (sym c.has_sides_nxn.ensures ∙ c.if-not-has_sides_nxn.false)),
+          ),
+        ),
+      ),
+    ),
+  ),
+)
+
+pub build_component-requires : goal.build_component-requires
+build_component-requires g c = (
+  omega arith,
+  (
+    c.requires.room.cb_columns,
+    (
+      c.requires.room.cb_rows,
+      (
+        ap (λ s. can_predict_chroma s c.mode_chroma-mode.result) c.sides-sides.ensures ∙ both_second _ _ (sym c.has_sides_nxn.ensures ∙ c.if-not-has_sides_nxn.false),
+        (c.requires.chroma, (c.requires.levels.dc_of_cb, c.requires.levels.blocks_of_cb)),
+      ),
+    ),
+  ),
+)
+
+pub build_component-requires-2 : goal.build_component-requires-2
+build_component-requires-2 g c = (
+  omega arith,
+  (
+    c.requires.room.cr_columns,
+    (
+      c.requires.room.cr_rows,
+      (
+        ap (λ s. can_predict_chroma s c.mode_chroma-mode.result) c.sides-sides.ensures ∙ both_second _ _ (sym c.has_sides_nxn.ensures ∙ c.if-not-has_sides_nxn.false),
+        (c.requires.chroma, (c.requires.levels.dc_of_cr, c.requires.levels.blocks_of_cr)),
+      ),
+    ),
+  ),
+)
+
+pub returns-then-not-has_sides_nxn-clause-built : goal.returns-then-not-has_sides_nxn-clause-built
+returns-then-not-has_sides_nxn-clause-built g c = λ p coded at may modes.
+    let r = residual_of [] c.args.levels.now in (
+      refused_by p (i_nxn coded c.args.chroma_mode r) true false at.syntax_is refl
+          (has_nxn p coded c.args.chroma_mode r c.args.readable c.args.modes.now c.mode_chroma-mode.result may.sides modes c.mode_chroma-mode.ensures ∙ sym c.has_sides_nxn.ensures ∙ c.if-not-has_sides_nxn.true),
+      refl,
+    )
+
+pub returns-clause-built : goal.returns-clause-built
+returns-clause-built g c = λ p coded at may modes.
+    let r = residual_of [] c.args.levels.now in
+    let chroma = c.args.chroma_mode in
+    let sides = c.sides-sides.result in
+    let column = c.args.place.column in
+    let row = c.args.place.row in
+    let old = c.args.planes.now in
+    let room = c.requires.room in
+    let mine : sides_of p.coded p.address 0 ≡ sides = may.sides 0 (omega arith) ∙ sym c.sides-sides.ensures in
+    let within = subst (λ t. AreInside (16 * column + 0) (16 * row + 0) old.luma.width t) (sym c.sides-sides.ensures) (may.inside 0 (omega arith)) in (
+      refused_by p (i_nxn coded chroma r) true true at.syntax_is refl
+          (has_nxn p coded chroma r c.args.readable c.args.modes.now c.mode_chroma-mode.result may.sides modes c.mode_chroma-mode.ensures ∙ sym c.has_sides_nxn.ensures ∙ c.if-not-has_sides_nxn.false),
+      planes_same _ (planes_after p (planes_of old))
+          (c.build_luma4x4.ensures.blocks p (nxn_at p column row old.luma.width chroma c.args.qp.luma c.args.qp.chroma coded r c.args.readable c.args.modes.now at may modes)
+          ∙ sym (ap (λ t. luma_after p t old.luma) at.syntax_is))
+          (cb_nxn p column row chroma c.args.qp.luma c.args.qp.chroma coded r sides at mine old.cb c.build_component.new.plane c.mode_chroma-mode.result c.mode_chroma-mode.ensures
+          (c.build_component.ensures.samples (inside_chroma column row old.luma.width old.cb.width sides room.cb_columns within)))
+          (cr_nxn p column row chroma c.args.qp.luma c.args.qp.chroma coded r sides at mine old.cr c.build_component-2.new.plane c.mode_chroma-mode.result c.mode_chroma-mode.ensures
+          (c.build_component-2.ensures.samples (inside_chroma column row old.luma.width old.cr.width sides room.cr_columns within))),
+    )

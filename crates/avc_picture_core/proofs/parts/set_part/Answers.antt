@@ -1,0 +1,12 @@
+use Rattle.avc_picture_core.proofs.PartSamples.{part_predicted}
+use Rattle.avc_picture_core.proofs.parts.set_part.Goals as goal
+
+pub returns : goal.returns
+returns g c =
+    let a = c.args in
+    part_predicted a.picture a.mv a.place.column a.place.row a.corner.x a.corner.y g.row.W g.row.H g.row.CW g.row.CH
+    c.component_weight.result c.component_weight-2.result c.component_weight-3.result
+    a.samples.now (record { luma = c.set_luma.new.samples; cb = c.set_chroma.new.samples; cr = c.set_chroma-2.new.samples })
+    c.requires.columns.1 c.requires.rows.1 c.requires.even.0 c.requires.even.1
+    c.component_weight.ensures.value c.component_weight-2.ensures.value c.component_weight-3.ensures.value
+    c.set_luma.ensures c.set_chroma.ensures c.set_chroma-2.ensures

@@ -1,0 +1,53 @@
+-- What the inter predictions of a slice are made from, ITU-T H.264 clauses 8.4.2.1 and 8.4.2.3.
+use Rattle.std.specs.Prelude.{◌≡◌, ℕ, ◌*◌, ◌≤◌, true, false, List, Option, Some, None, All, IfSome, slice_get, slice_index_or}
+use Rattle.avc_types.specs.Pictures.{Coded}
+use Rattle.avc_types.specs.declared.weight.Weight.{Weight}
+use Rattle.avc_types.specs.declared.weight.Weights.{Weights}
+use Rattle.avc_motion.specs.Motion.{frame_named, slice_facts}
+use Rattle.avc_plane.specs.Planes.{Planes, samples_of}
+use Rattle.avc_plane.specs.Frames.{padded_planes_of}
+use Rattle.avc_inter.specs.Bounds.{IsWithin}
+use Rattle.avc_picture_core.specs.Faults.{is_picture}
+use Rattle.avc_picture_core.specs.declared.references.ReferencePicture.{ReferencePicture}
+
+-- Reference index r of the slice names this picture and these weights.
+pub record IsReference {PAD : ℕ} (c : Coded) (slice r : ℕ) (p : ReferencePicture PAD) : Type 0 where
+  pub entry : ℕ
+  pub frame : frame_named c slice r ≡ Some (record { entry = entry; existing = true; samples = samples_of (padded_planes_of p.planes.now) })
+  pub weights : slice_get (slice_facts c slice).weights r ≡ p.weights
+
+abbrev pub ShowsReference : {PAD : ℕ} → Coded → (slice r : ℕ) → Option (ReferencePicture PAD) → Type 0
+ShowsReference c slice r None = is_picture (frame_named c slice r) ≡ false
+ShowsReference c slice r (Some p) = IsReference c slice r p
+
+-- RefPicList0 of the slice by reference index: nothing where an index names no picture.
+pub record AreReferences {PAD : ℕ} (c : Coded) (slice : ℕ) (references : List (Option (ReferencePicture PAD))) : Type 0 where
+  pub each : (r : ℕ) → ShowsReference c slice r (slice_index_or references r None)
+
+-- planes of a picture of this size in macroblocks
+pub record AreSized (width height : ℕ) (s : Planes) : Type 0 where
+  pub luma_width : s.luma.width ≡ 16 * width
+  pub luma_height : s.luma.height ≡ 16 * height
+  pub cb_width : s.cb.width ≡ 8 * width
+  pub cb_height : s.cb.height ≡ 8 * height
+  pub cr_width : s.cr.width ≡ 8 * width
+  pub cr_height : s.cr.height ≡ 8 * height
+
+-- logWD 0 to 7, w0 -128 to 128, o0 -128 to 127 (7.4.3.2)
+pub record IsWeight (w : Weight) : Type 0 where
+  pub log2_denom : w.log2_denom ≤ 7
+  pub weight : IsWithin 128 w.weight
+  pub offset : IsWithin 128 w.offset
+
+pub record AreWeights (w : Weights) : Type 0 where
+  pub luma : IsWeight w.luma
+  pub cb : IsWeight w.cb
+  pub cr : IsWeight w.cr
+
+-- A reference picture of this size in macroblocks, with weights in their ranges.
+pub record IsUsable {PAD : ℕ} (width height : ℕ) (p : ReferencePicture PAD) : Type 0 where
+  pub sized : AreSized width height (padded_planes_of p.planes.now)
+  pub weights : IfSome p.weights AreWeights
+
+abbrev pub AreUsable : {PAD : ℕ} → (width height : ℕ) → List (Option (ReferencePicture PAD)) → Type 0
+AreUsable width height references = All (λ entry. IfSome entry (IsUsable width height)) references

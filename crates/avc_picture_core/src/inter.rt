@@ -1,0 +1,270 @@
+//! The samples of inter macroblocks (8.4.2).
+
+ghost use Rattle.std.specs.Prelude.{◌≡◌, ℕ, ◌+◌, ◌*◌, ◌/◌, ◌%◌, ◌<◌, ◌≤◌, true, is_some};
+ghost use Rattle.avc_types.specs.Pictures.{Coded};
+ghost use Rattle.avc_neigh.specs.Blocks.{block_at};
+ghost use Rattle.avc_picture_core.specs.References.{AreReferences, AreUsable};
+ghost use Rattle.avc_picture_core.specs.Inter.{AreUsableAt, HaveOneMotion, IsInterPredicted, IsMacroblockShape, IsPartFilled, have_pictures, picture_in, wanted};
+
+use crate::parts::set_part;
+use crate::places::{Corner, MbPlace, PictureSize};
+use crate::references::ReferencePicture;
+use crate::samples::MbSamples;
+use crate::shape::{Shape, macroblock_shape, quarter_shape};
+use avc_neigh::Motion;
+use avc_types::Fault;
+
+/// The picture that a block is predicted from.
+fn picture_of<'a, const PAD: usize>(
+    references: &[Option<ReferencePicture<'a, PAD>>],
+    motion: Motion,
+) -> Option<ReferencePicture<'a, PAD>>
+    ensures { result ≡ picture_in references.now motion }
+{
+    match motion {
+        Motion::Absent | Motion::Intra => None,
+        Motion::Inter { ref_idx, .. } => { references.get(usize::from(ref_idx)).copied().flatten() }
+    }
+}
+
+/// Whether each block of a macroblock with this shape has a picture to be predicted from.
+#[tactic(auto, using(crate::proofs::Predicting::all_as_first))]
+fn have_pictures<const PAD: usize>(
+    references: &[Option<ReferencePicture<'_, PAD>>],
+    motion: &[Motion; 16],
+    shape: Shape,
+) -> bool
+    requires { IsMacroblockShape motion.now shape }
+    ensures { result ≡ have_pictures references.now motion.now }
+{
+    match shape {
+        Shape::Whole => picture_of(references, motion[0]).is_some(),
+        _ => motion.iter().all(
+            |block| -> bool
+                ensures { result ≡ is_some (picture_in references.entry.now block.now) }
+            { picture_of(references, *block).is_some() },
+        ),
+    }
+}
+
+/// The block that covers the sample (x, y) of a macroblock (6.4.13).
+fn block_at(x: usize, y: usize) -> usize
+    requires column { x < 16 }
+    requires row { y < 16 }
+    ensures value { result ≡ block_at x y }
+    ensures small { result < 16 }
+{
+    8 * (y / 8) + 4 * (x / 8) + 2 * (y / 4 % 2) + x / 4 % 2
+}
+
+/// Predicts a rectangle of W columns and H rows of luma, and of CW and CH of each chroma component, whose blocks have one motion.
+fn predict_part<const W: usize, const H: usize, const CW: usize, const CH: usize, const PAD: usize>(
+    references: &[Option<ReferencePicture<'_, PAD>>],
+    place: MbPlace,
+    motion: &[Motion; 16],
+    corner: Corner,
+    samples: &mut MbSamples,
+)
+    requires columns { (1 ≤ CW) × (W ≡ 2 * CW) × (corner.x + W ≤ 16) }
+    requires rows { (1 ≤ CH) × (H ≡ 2 * CH) × (corner.y + H ≤ 16) }
+    requires even { (corner.x % 2 ≡ 0) × (corner.y % 2 ≡ 0) }
+    requires usable { AreUsableAt place.column place.row references.now }
+    requires pictures { have_pictures references.now motion.now ≡ true }
+    requires one { HaveOneMotion motion.now corner.x corner.y W H }
+    ensures { IsPartFilled corner.x corner.y W H (wanted references.now place.column place.row motion.now) samples.old samples.new }
+{
+    let block = motion[block_at(corner.x, corner.y)];
+    if let (Motion::Inter { mv, .. }, Some(picture)) = (block, picture_of(references, block)) {
+        set_part::<W, H, CW, CH, PAD>(picture, mv, place, corner, samples);
+    }
+}
+
+/// Predicts a square of luma, and half as wide a square of each chroma component, in an upper and a lower half.
+fn predict_wide_halves<
+    const S: usize,
+    const H: usize,
+    const CS: usize,
+    const CH: usize,
+    const PAD: usize,
+>(
+    references: &[Option<ReferencePicture<'_, PAD>>],
+    place: MbPlace,
+    motion: &[Motion; 16],
+    corner: Corner,
+    samples: &mut MbSamples,
+)
+    requires side { (1 ≤ CH) × (CS ≡ 2 * CH) × (H ≡ 2 * CH) × (S ≡ 2 * CS) }
+    requires room { (corner.x + S ≤ 16) × (corner.y + S ≤ 16) }
+    requires even { (corner.x % 2 ≡ 0) × (corner.y % 2 ≡ 0) }
+    requires usable { AreUsableAt place.column place.row references.now }
+    requires pictures { have_pictures references.now motion.now ≡ true }
+    requires upper { HaveOneMotion motion.now corner.x corner.y S H }
+    requires lower { HaveOneMotion motion.now corner.x (corner.y + H) S H }
+    ensures { IsPartFilled corner.x corner.y S S (wanted references.now place.column place.row motion.now) samples.old samples.new }
+{
+    let lower = Corner {
+        x: corner.x,
+        y: corner.y + H,
+    };
+    predict_part::<S, H, CS, CH, PAD>(references, place, motion, corner, samples);
+    predict_part::<S, H, CS, CH, PAD>(references, place, motion, lower, samples);
+}
+
+/// Predicts a square of luma, and half as wide a square of each chroma component, in a left and a right half.
+fn predict_tall_halves<
+    const S: usize,
+    const W: usize,
+    const CS: usize,
+    const CW: usize,
+    const PAD: usize,
+>(
+    references: &[Option<ReferencePicture<'_, PAD>>],
+    place: MbPlace,
+    motion: &[Motion; 16],
+    corner: Corner,
+    samples: &mut MbSamples,
+)
+    requires side { (1 ≤ CW) × (CS ≡ 2 * CW) × (W ≡ 2 * CW) × (S ≡ 2 * CS) }
+    requires room { (corner.x + S ≤ 16) × (corner.y + S ≤ 16) }
+    requires even { (corner.x % 2 ≡ 0) × (corner.y % 2 ≡ 0) }
+    requires usable { AreUsableAt place.column place.row references.now }
+    requires pictures { have_pictures references.now motion.now ≡ true }
+    requires left { HaveOneMotion motion.now corner.x corner.y W S }
+    requires right { HaveOneMotion motion.now (corner.x + W) corner.y W S }
+    ensures { IsPartFilled corner.x corner.y S S (wanted references.now place.column place.row motion.now) samples.old samples.new }
+{
+    let right = Corner {
+        x: corner.x + W,
+        y: corner.y,
+    };
+    predict_part::<W, S, CW, CS, PAD>(references, place, motion, corner, samples);
+    predict_part::<W, S, CW, CS, PAD>(references, place, motion, right, samples);
+}
+
+/// Predicts a quarter of a macroblock, whose upper left sample is this one, block by block.
+fn predict_blocks<const PAD: usize>(
+    references: &[Option<ReferencePicture<'_, PAD>>],
+    place: MbPlace,
+    motion: &[Motion; 16],
+    corner: Corner,
+    samples: &mut MbSamples,
+)
+    requires room { (corner.x + 8 ≤ 16) × (corner.y + 8 ≤ 16) }
+    requires whole { (corner.x % 8 ≡ 0) × (corner.y % 8 ≡ 0) }
+    requires usable { AreUsableAt place.column place.row references.now }
+    requires pictures { have_pictures references.now motion.now ≡ true }
+    ensures { IsPartFilled corner.x corner.y 8 8 (wanted references.now place.column place.row motion.now) samples.old samples.new }
+{
+    let (x, y) = (corner.x, corner.y);
+    predict_part::<4, 4, 2, 2, PAD>(references, place, motion, corner, samples);
+    predict_part::<4, 4, 2, 2, PAD>(references, place, motion, Corner { x: x + 4, y }, samples);
+    predict_part::<4, 4, 2, 2, PAD>(references, place, motion, Corner { x, y: y + 4 }, samples);
+    predict_part::<4, 4, 2, 2, PAD>(
+        references,
+        place,
+        motion,
+        Corner { x: x + 4, y: y + 4 },
+        samples,
+    );
+}
+
+/// Predicts a quarter of a macroblock in as few rectangles as its motion allows.
+#[tactic(auto, using(crate::proofs::Shapes::whole_quarter, crate::proofs::Shapes::upper_of_quarter, crate::proofs::Shapes::lower_of_quarter, crate::proofs::Shapes::left_of_quarter, crate::proofs::Shapes::right_of_quarter))]
+fn predict_quarter<const PAD: usize>(
+    references: &[Option<ReferencePicture<'_, PAD>>],
+    place: MbPlace,
+    motion: &[Motion; 16],
+    quarter: usize,
+    samples: &mut MbSamples,
+)
+    requires quarter { quarter < 4 }
+    requires usable { AreUsableAt place.column place.row references.now }
+    requires pictures { have_pictures references.now motion.now ≡ true }
+    ensures { IsPartFilled (8 * (quarter % 2)) (8 * (quarter / 2)) 8 8 (wanted references.now place.column place.row motion.now) samples.old samples.new }
+{
+    let corner = Corner {
+        x: 8 * (quarter % 2),
+        y: 8 * (quarter / 2),
+    };
+    match quarter_shape(motion, quarter) {
+        Shape::Whole => {
+            predict_part::<8, 8, 4, 4, PAD>(references, place, motion, corner, samples)
+        }
+        Shape::WideHalves => {
+            predict_wide_halves::<8, 4, 4, 2, PAD>(references, place, motion, corner, samples)
+        }
+        Shape::TallHalves => {
+            predict_tall_halves::<8, 4, 4, 2, PAD>(references, place, motion, corner, samples)
+        }
+        Shape::Quarters => predict_blocks(references, place, motion, corner, samples),
+    }
+}
+
+/// Predicts a macroblock quarter by quarter.
+fn predict_quarters<const PAD: usize>(
+    references: &[Option<ReferencePicture<'_, PAD>>],
+    place: MbPlace,
+    motion: &[Motion; 16],
+    samples: &mut MbSamples,
+)
+    requires usable { AreUsableAt place.column place.row references.now }
+    requires pictures { have_pictures references.now motion.now ≡ true }
+    ensures { IsPartFilled 0 0 16 16 (wanted references.now place.column place.row motion.now) samples.old samples.new }
+{
+    predict_quarter(references, place, motion, 0, samples);
+    predict_quarter(references, place, motion, 1, samples);
+    predict_quarter(references, place, motion, 2, samples);
+    predict_quarter(references, place, motion, 3, samples);
+}
+
+/// Predicts a macroblock of this shape.
+#[tactic(auto, using(crate::proofs::Shapes::whole_macroblock, crate::proofs::Shapes::upper_half, crate::proofs::Shapes::lower_half, crate::proofs::Shapes::left_half, crate::proofs::Shapes::right_half))]
+fn predict_macroblock<const PAD: usize>(
+    references: &[Option<ReferencePicture<'_, PAD>>],
+    place: MbPlace,
+    motion: &[Motion; 16],
+    shape: Shape,
+    samples: &mut MbSamples,
+)
+    requires usable { AreUsableAt place.column place.row references.now }
+    requires pictures { have_pictures references.now motion.now ≡ true }
+    requires shape { IsMacroblockShape motion.now shape }
+    ensures { IsPartFilled 0 0 16 16 (wanted references.now place.column place.row motion.now) samples.old samples.new }
+{
+    let corner = Corner { x: 0, y: 0 };
+    match shape {
+        Shape::Whole => {
+            predict_part::<16, 16, 8, 8, PAD>(references, place, motion, corner, samples)
+        }
+        Shape::WideHalves => {
+            predict_wide_halves::<16, 8, 8, 4, PAD>(references, place, motion, corner, samples)
+        }
+        Shape::TallHalves => {
+            predict_tall_halves::<16, 8, 8, 4, PAD>(references, place, motion, corner, samples)
+        }
+        Shape::Quarters => predict_quarters(references, place, motion, samples),
+    }
+}
+
+/// Predicts the samples of an inter macroblock in this column and row of macroblocks (8.4.2). RefMissing where a block has no reference
+/// picture; the samples are then any.
+pub(crate) fn predict_inter<const PAD: usize>(
+    references: &[Option<ReferencePicture<'_, PAD>>],
+    size: PictureSize,
+    place: MbPlace,
+    motion: &[Motion; 16],
+    samples: &mut MbSamples,
+) -> Result<(), Fault>
+    requires usable { AreUsable size.width size.height references.now }
+    requires column { place.column < size.width }
+    requires row { place.row < size.height }
+    ensures { (c : Coded) (slice : ℕ) → c.width ≡ size.width → c.height ≡ size.height → AreReferences c slice references.now →
+        IsInterPredicted c slice place.column place.row motion.now result samples.new }
+{
+    let shape = macroblock_shape(motion);
+    if !have_pictures(references, motion, shape) {
+        return Err(Fault::RefMissing);
+    }
+    predict_macroblock(references, place, motion, shape, samples);
+    Ok(())
+}

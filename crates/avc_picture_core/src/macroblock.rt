@@ -1,0 +1,215 @@
+//! The samples of one macroblock, laid into the planes.
+ghost use Rattle.std.specs.Prelude.{◌≡◌, ℕ, ◌+◌, ◌*◌, ◌<◌, ◌≤◌, [], All, List, slice_index};
+ghost use Rattle.avc_types.specs.Macroblock.{i_pcm, p_inter, p_skip};
+ghost use Rattle.avc_types.specs.MacroblockFields.{residual_of, syntax_of};
+ghost use Rattle.avc_types.specs.declared.macroblock.Mvd.{Mvd};
+ghost use Rattle.avc_types.specs.declared.macroblock.PMbType.{PMbType as PartedType};
+ghost use Rattle.avc_neigh.specs.Modes.{IsMode};
+ghost use Rattle.avc_mbsyntax.specs.Ranges.{IsResidual};
+ghost use Rattle.avc_plane.specs.Frames.{planes_of};
+ghost use Rattle.avc_plane.specs.Plane.{with_block};
+ghost use Rattle.avc_transform.specs.MacroblockResidual.{luma_residual, chroma_residual};
+ghost use Rattle.avc_picture_core.specs.Built.{Place, sum_of};
+ghost use Rattle.avc_picture_core.specs.Canvas.{IsInRange};
+ghost use Rattle.avc_picture_core.specs.Inter.{CoverMacroblock};
+ghost use Rattle.avc_picture_core.specs.Places.{ArePlanesBuilt, AreSameSize, IsAt, IsPlaceIn};
+ghost use Rattle.avc_picture_core.specs.References.{AreReferences, AreSized, AreUsable};
+
+use crate::corner::{first_column, first_row};
+use crate::inter::predict_inter;
+use crate::intra::{build_i_16x16, build_i_nxn};
+use crate::places::{MbPlace, PictureSize};
+use crate::quantisers::Quantisers;
+use crate::references::ReferencePicture;
+use crate::residual::{add_chroma, add_luma, leave};
+use crate::samples::MbSamples;
+use crate::sides::ReadableNeighbours;
+use avc_neigh::{Motion, NeighbourFacts};
+use avc_plane::{Plane, Planes};
+use avc_types::{BlockLevels, Fault, Syntax};
+
+/// Lays the samples of a chroma component of a macroblock into its plane.
+fn set_component<const PAD: usize>(plane: &mut Plane<PAD>, place: MbPlace, samples: &[u8; 64])
+    requires columns { 8 * place.column + 8 ≤ plane.old.width }
+    requires rows { 8 * place.row + 8 ≤ plane.old.height }
+    ensures { plane.new ≡ with_block plane.old (8 * place.column) (8 * place.row) 8 8 (λ x y. slice_index samples.now (8 * y + x)) }
+{
+    let left = first_column(plane, 8, place.column);
+    let top = first_row(plane, 8, place.row);
+    plane.set_rectangle::<8, 8, 64>(left, top, samples);
+}
+
+/// Lays the samples of a macroblock into the planes.
+fn set_samples<const PAD: usize>(
+    planes: &mut Planes<PAD>,
+    place: MbPlace,
+    luma: &[u8; 256],
+    cb: &[u8; 64],
+    cr: &[u8; 64],
+)
+    requires room { CoverMacroblock place.column place.row (planes_of planes.old) }
+    ensures luma { planes.new.luma ≡ with_block planes.old.luma (16 * place.column) (16 * place.row) 16 16 (λ x y. slice_index luma.now (16 * y + x)) }
+    ensures cb { planes.new.cb ≡ with_block planes.old.cb (8 * place.column) (8 * place.row) 8 8 (λ x y. slice_index cb.now (8 * y + x)) }
+    ensures cr { planes.new.cr ≡ with_block planes.old.cr (8 * place.column) (8 * place.row) 8 8 (λ x y. slice_index cr.now (8 * y + x)) }
+{
+    let left = first_column(&planes.luma, 16, place.column);
+    let top = first_row(&planes.luma, 16, place.row);
+    planes.luma.set_rectangle::<16, 16, 256>(left, top, luma);
+    set_component(&mut planes.cb, place, cb);
+    set_component(&mut planes.cr, place, cr);
+}
+
+/// Builds an I_PCM macroblock of these samples (8.3.5).
+fn build_i_pcm<const PAD: usize>(
+    planes: &mut Planes<PAD>,
+    place: MbPlace,
+    luma: &[u8; 256],
+    cb: &[u8; 64],
+    cr: &[u8; 64],
+) -> Result<(), Fault>
+    requires room { CoverMacroblock place.column place.row (planes_of planes.old) }
+    ensures size { AreSameSize (planes_of planes.old) (planes_of planes.new) }
+    ensures built { (p : Place) (qp qp_of_chroma : ℕ) → IsAt place.column place.row (i_pcm luma.now cb.now cr.now) qp qp_of_chroma p → ArePlanesBuilt p result (planes_of planes.old) (planes_of planes.new) }
+{
+    set_samples(planes, place, luma, cb, cr);
+    Ok(())
+}
+
+/// Adds the residual of an inter macroblock to its prediction.
+fn add_residual(samples: &mut MbSamples, levels: &BlockLevels<16>, qp: Quantisers)
+    requires luma { qp.luma ≤ 51 }
+    requires chroma { qp.chroma ≤ 39 }
+    requires levels { IsResidual (residual_of [] levels.now) }
+    ensures luma { (x y : ℕ) → x < 16 → y < 16 →
+        slice_index samples.new.luma (16 * y + x) ≡ sum_of (slice_index samples.old.luma (16 * y + x)) (luma_residual qp.luma (residual_of [] levels.now) x y) }
+    ensures cb { (x y : ℕ) → x < 8 → y < 8 →
+        slice_index samples.new.cb (8 * y + x) ≡ sum_of (slice_index samples.old.cb (8 * y + x)) (chroma_residual qp.chroma levels.now.cb_dc levels.now.cb_ac x y) }
+    ensures cr { (x y : ℕ) → x < 8 → y < 8 →
+        slice_index samples.new.cr (8 * y + x) ≡ sum_of (slice_index samples.old.cr (8 * y + x)) (chroma_residual qp.chroma levels.now.cr_dc levels.now.cr_ac x y) }
+{
+    add_luma(&mut samples.luma, levels, qp.luma);
+    add_chroma(&mut samples.cb, &levels.cb_dc, &levels.cb_ac, qp.chroma);
+    add_chroma(&mut samples.cr, &levels.cr_dc, &levels.cr_ac, qp.chroma);
+}
+
+/// Builds an inter macroblock without a residual. RefMissing where a block has no reference picture; nothing is built then.
+fn build_p_skip<const PAD: usize>(
+    planes: &mut Planes<PAD>,
+    place: MbPlace,
+    size: PictureSize,
+    motion: &[Motion; 16],
+    references: &[Option<ReferencePicture<'_, PAD>>],
+) -> Result<(), Fault>
+    requires room { CoverMacroblock place.column place.row (planes_of planes.old) }
+    requires column { place.column < size.width }
+    requires row { place.row < size.height }
+    requires usable { AreUsable size.width size.height references.now }
+    ensures size { AreSameSize (planes_of planes.old) (planes_of planes.new) }
+    ensures built { (p : Place) (qp qp_of_chroma : ℕ) → IsAt place.column place.row p_skip qp qp_of_chroma p → p.coded.width ≡ size.width → p.coded.height ≡ size.height →
+        p.motion ≡ motion.now → AreReferences p.coded p.slice references.now → ArePlanesBuilt p result (planes_of planes.old) (planes_of planes.new) }
+{
+    let mut samples = MbSamples {
+        luma: [0; 256],
+        cb: [0; 64],
+        cr: [0; 64],
+    };
+    predict_inter(references, size, place, motion, &mut samples)?;
+    leave(&samples.luma);
+    leave(&samples.cb);
+    leave(&samples.cr);
+    set_samples(planes, place, &samples.luma, &samples.cb, &samples.cr);
+    Ok(())
+}
+
+/// Builds an inter macroblock. RefMissing where a block has no reference picture; nothing is built then.
+fn build_p_inter<const PAD: usize>(
+    planes: &mut Planes<PAD>,
+    place: MbPlace,
+    size: PictureSize,
+    motion: &[Motion; 16],
+    levels: &BlockLevels<16>,
+    qp: Quantisers,
+    references: &[Option<ReferencePicture<'_, PAD>>],
+) -> Result<(), Fault>
+    requires room { CoverMacroblock place.column place.row (planes_of planes.old) }
+    requires column { place.column < size.width }
+    requires row { place.row < size.height }
+    requires usable { AreUsable size.width size.height references.now }
+    requires luma { qp.luma ≤ 51 }
+    requires chroma { qp.chroma ≤ 39 }
+    requires levels { IsResidual (residual_of [] levels.now) }
+    ensures size { AreSameSize (planes_of planes.old) (planes_of planes.new) }
+    ensures built { (p : Place) (mb_type : PartedType) (ref_idx : List ℕ) (mvd : List Mvd) →
+        IsAt place.column place.row (p_inter mb_type ref_idx mvd (residual_of [] levels.now)) qp.luma qp.chroma p → p.coded.width ≡ size.width → p.coded.height ≡ size.height →
+        p.motion ≡ motion.now → AreReferences p.coded p.slice references.now → ArePlanesBuilt p result (planes_of planes.old) (planes_of planes.new) }
+{
+    let mut samples = MbSamples {
+        luma: [0; 256],
+        cb: [0; 64],
+        cr: [0; 64],
+    };
+    predict_inter(references, size, place, motion, &mut samples)?;
+    add_residual(&mut samples, levels, qp);
+    set_samples(planes, place, &samples.luma, &samples.cb, &samples.cr);
+    Ok(())
+}
+
+/// Builds a macroblock. Nothing is built where it is refused.
+pub(crate) fn build_macroblock<const PAD: usize>(
+    planes: &mut Planes<PAD>,
+    place: MbPlace,
+    size: PictureSize,
+    syntax: &Syntax,
+    qp: Quantisers,
+    facts: &NeighbourFacts,
+    readable: ReadableNeighbours,
+    references: &[Option<ReferencePicture<'_, PAD>>],
+) -> Result<(), Fault>
+    requires sized { AreSized size.width size.height (planes_of planes.old) }
+    requires column { place.column < size.width }
+    requires row { place.row < size.height }
+    requires syntax { IsInRange (syntax_of syntax.now) }
+    requires luma { qp.luma ≤ 51 }
+    requires chroma { qp.chroma ≤ 39 }
+    requires modes { All IsMode facts.now.modes }
+    requires usable { AreUsable size.width size.height references.now }
+    ensures size { AreSameSize (planes_of planes.old) (planes_of planes.new) }
+    ensures built { (p : Place) → IsPlaceIn place.column place.row size.width size.height (syntax_of syntax.now) qp.luma qp.chroma facts.now readable references.now p →
+        ArePlanesBuilt p result (planes_of planes.old) (planes_of planes.new) }
+{
+    match syntax {
+        Syntax::PSkip => build_p_skip(planes, place, size, &facts.motion, references),
+        Syntax::IPcm { luma, cb, cr } => build_i_pcm(planes, place, luma, cb, cr),
+        Syntax::INxN {
+            chroma_mode,
+            levels,
+            ..
+        } => build_i_nxn(
+            planes,
+            place,
+            readable,
+            &facts.modes,
+            *chroma_mode,
+            levels,
+            qp,
+        ),
+        Syntax::I16x16 {
+            mode,
+            chroma_mode,
+            luma_dc,
+            levels,
+        } => build_i_16x16(
+            planes,
+            place,
+            readable,
+            *mode,
+            *chroma_mode,
+            luma_dc,
+            levels,
+            qp,
+        ),
+        Syntax::PInter { levels, .. } => {
+            build_p_inter(planes, place, size, &facts.motion, levels, qp, references)
+        }
+    }
+}

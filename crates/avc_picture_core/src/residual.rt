@@ -1,0 +1,162 @@
+//! Predicted samples and their residual (8.5.14), 4x4 block by block.
+ghost use Rattle.std.specs.Prelude.{◌≡◌, ℕ, ℤ, ◌+◌, ◌-◌, ◌*◌, ◌^◌, ◌<◌, ◌≤◌, ◌≢◌, [], All, IfSome, if◌then◌else◌, slice_index, slice_index_or};
+ghost use Rattle.avc_types.specs.MacroblockFields.{residual_of};
+ghost use Rattle.avc_neigh.specs.Blocks.{block_x, block_y};
+ghost use Rattle.avc_mbsyntax.specs.Ranges.{AreSmall, IsResidual};
+ghost use Rattle.avc_transform.specs.Bounds.{IsBelow, AllBelow, matrix};
+ghost use Rattle.avc_transform.specs.Residual.{residual4x4, residual4x4_with_dc};
+ghost use Rattle.avc_transform.specs.MacroblockResidual.{luma_residual, luma_residual_16x16, chroma_residual};
+ghost use Rattle.avc_plane.specs.Plane.{is_inside};
+ghost use Rattle.avc_picture_core.specs.Built.{sum_of};
+ghost use Rattle.avc_picture_core.specs.Residuals.{IsResidualOf};
+
+use avc_transform::{
+    chroma_dc, clipped_sum, luma_dc, residual_of_dc, residual4x4, residual4x4_with_dc,
+};
+use avc_types::{BlockLevels, Levels};
+
+/// The residual of a block of sixteen levels; nothing where they are all 0.
+pub(crate) fn block_residual(levels: &Levels<16>, qp: u8) -> Option<[i32; 16]>
+    requires quantiser { qp ≤ 51 }
+    requires levels { AreSmall levels.now }
+    ensures values { IsResidualOf (residual4x4 qp levels.now) result }
+    ensures small { IfSome result (AllBelow 16 (2 ^ 25)) }
+{
+    if levels.total_coeff() == 0 {
+        return None;
+    }
+    Some(residual4x4(levels.as_array(), qp))
+}
+
+/// The residual of a block of fifteen levels behind a DC value; nothing where all of these are 0.
+fn block_residual_with_dc(dc: i32, levels: &Levels<15>, qp: u8) -> Option<[i32; 16]>
+    requires quantiser { qp ≤ 51 }
+    requires dc { IsBelow (2 ^ 27) dc }
+    requires levels { AreSmall levels.now }
+    ensures values { IsResidualOf (residual4x4_with_dc qp dc levels.now) result }
+    ensures small { IfSome result (AllBelow 16 (2 ^ 25)) }
+{
+    if levels.total_coeff() != 0 {
+        return Some(residual4x4_with_dc(dc, levels.as_array(), qp));
+    }
+    if dc == 0 {
+        return None;
+    }
+    Some([residual_of_dc(dc); 16])
+}
+
+/// Adds a residual to a 4x4 block of rows of W samples.
+fn add_values<const W: usize, const N: usize>(
+    samples: &mut [u8; N],
+    left: usize,
+    top: usize,
+    values: &[i32; 16],
+)
+    requires columns { left + 4 ≤ W }
+    requires rows { top + 4 ≤ W }
+    requires all { W * W ≡ N }
+    requires small { AllBelow 16 (2 ^ 25) values.now }
+    ensures inside { (x y : ℕ) → x < 4 → y < 4 → slice_index samples.new (W * (top + y) + (left + x)) ≡ sum_of (slice_index samples.old (W * (top + y) + (left + x))) (matrix values.now x y) }
+    ensures outside { (q : ℕ) → ((x y : ℕ) → x < 4 → y < 4 → q ≢ W * (top + y) + (left + x)) → slice_index samples.new q ≡ slice_index samples.old q }
+{
+    for i in 0..16 {
+        let place = W * (top + i / 4) + (left + i % 4);
+        samples[place] = clipped_sum(samples[place], values[i]);
+    }
+}
+
+/// Nothing is done to these samples; each is one.
+pub(crate) fn leave<const N: usize>(samples: &[u8; N])
+    ensures { (k : ℕ) → k < N → slice_index samples.now k ≤ 255 }
+{
+    for k in 0..N {
+        let _sample = samples[k];
+    }
+}
+
+/// Adds to a 4x4 block of rows of W samples the residual that it has.
+pub(crate) fn add<const W: usize, const N: usize>(
+    samples: &mut [u8; N],
+    left: usize,
+    top: usize,
+    residual: Option<[i32; 16]>,
+)
+    requires columns { left + 4 ≤ W }
+    requires rows { top + 4 ≤ W }
+    requires all { W * W ≡ N }
+    requires small { IfSome residual (AllBelow 16 (2 ^ 25)) }
+    ensures { (f : ℕ → ℕ → ℤ) → IsResidualOf f residual → (x y : ℕ) → x < W → y < W →
+        slice_index samples.new (W * y + x) ≡ (if is_inside left top 4 4 x y then sum_of (slice_index samples.old (W * y + x)) (f (x - left) (y - top)) else slice_index samples.old (W * y + x)) }
+{
+    match residual {
+        None => leave(samples),
+        Some(values) => add_values::<W, N>(samples, left, top, &values),
+    }
+}
+
+/// The upper left sample of luma block `k` in its macroblock (6.4.3), from the left.
+pub(crate) fn left_of_block(k: usize) -> usize
+    requires { k < 16 }
+    ensures value { result ≡ block_x k }
+    ensures inside { result + 4 ≤ 16 }
+{
+    8 * (k / 4 % 2) + 4 * (k % 2)
+}
+
+/// The upper left sample of luma block `k` in its macroblock (6.4.3), from above.
+pub(crate) fn top_of_block(k: usize) -> usize
+    requires { k < 16 }
+    ensures value { result ≡ block_y k }
+    ensures inside { result + 4 ≤ 16 }
+{
+    8 * (k / 8) + 4 * (k / 2 % 2)
+}
+
+/// Adds the luma residual of a macroblock whose blocks have all their levels (8.5.1).
+pub(crate) fn add_luma(samples: &mut [u8; 256], levels: &BlockLevels<16>, qp: u8)
+    requires quantiser { qp ≤ 51 }
+    requires levels { IsResidual (residual_of [] levels.now) }
+    ensures { (x y : ℕ) → x < 16 → y < 16 →
+        slice_index samples.new (16 * y + x) ≡ sum_of (slice_index samples.old (16 * y + x)) (luma_residual qp (residual_of [] levels.now) x y) }
+{
+    for k in 0..16 {
+        let residual = block_residual(&levels.luma[k], qp);
+        add::<16, 256>(samples, left_of_block(k), top_of_block(k), residual);
+    }
+}
+
+/// Adds the luma residual of an Intra 16x16 macroblock (8.5.2).
+pub(crate) fn add_luma_16x16(
+    samples: &mut [u8; 256],
+    dc: &Levels<16>,
+    levels: &BlockLevels<15>,
+    qp: u8,
+)
+    requires quantiser { qp ≤ 51 }
+    requires levels { IsResidual (residual_of dc.now levels.now) }
+    ensures { (x y : ℕ) → x < 16 → y < 16 →
+        slice_index samples.new (16 * y + x) ≡ sum_of (slice_index samples.old (16 * y + x)) (luma_residual_16x16 qp (residual_of dc.now levels.now) x y) }
+{
+    let values = luma_dc(dc.as_array(), qp);
+    for k in 0..16 {
+        let left = left_of_block(k);
+        let top = top_of_block(k);
+        let residual = block_residual_with_dc(values[top + left / 4], &levels.luma[k], qp);
+        add::<16, 256>(samples, left, top, residual);
+    }
+}
+
+/// Adds the residual of a chroma component (8.5.4), by the quantiser of chroma.
+pub(crate) fn add_chroma(samples: &mut [u8; 64], dc: &Levels<4>, ac: &[Levels<15>; 4], qp: u8)
+    requires quantiser { qp ≤ 39 }
+    requires dc { AreSmall dc.now }
+    requires ac { All AreSmall ac.now }
+    ensures { (x y : ℕ) → x < 8 → y < 8 →
+        slice_index samples.new (8 * y + x) ≡ sum_of (slice_index samples.old (8 * y + x)) (chroma_residual qp dc.now ac.now x y) }
+{
+    let values = chroma_dc(dc.as_array(), qp);
+    for k in 0..4 {
+        let residual = block_residual_with_dc(values[k], &ac[k], qp);
+        add::<8, 64>(samples, 4 * (k % 2), 4 * (k / 2), residual);
+    }
+}
