@@ -1,18 +1,18 @@
 -- The data of a slice depends on no macroblock of another slice.
-use Rattle.std.proofs.Common.{◌≡◌, ℕ, zero, suc, ◌+◌, ◌<◌, ◌≤◌, ℤ, pos, negsuc, List, [], ◌∷◌, ◌++◌, length, Bool, true, false, refl, ap, ◌∙◌, sym, subst, arith, length-append}
+use Rattle.std.proofs.Common.{◌≡◌, ℕ, zero, suc, ◌+◌, ◌<◌, ℤ, pos, negsuc, List, [], ◌∷◌, ◌++◌, length, Bool, true, false, refl, ap, ◌∙◌, sym, subst, arith, length-append}
 use Rattle.std.proofs.Common.{inl, inr}
 use Rattle.std.proofs.lemmas.Bool.{cases_order, eq-eqb}
 use Rattle.std.proofs.lemmas.Option.{slice_get_past}
 use Rattle.std.specs.Prelude.{if◌then◌else◌, None, Some, Option, slice_get}
 use Rattle.std.specs.Option.{option_map}
-use Rattle.avc_types.specs.Macroblock.{Mb, MbSyntax}
+use Rattle.avc_types.specs.Macroblock.{Mb}
 use Rattle.avc_types.specs.Pictures.{PicMb}
 use Rattle.avc_neigh.specs.Blocks.{Location, at_location, available, in_slice, location_at}
 use Rattle.avc_neigh.specs.TotalCoeffs.{total_coeffs_of}
 use Rattle.avc_mbsyntax.specs.declared.context.Context.{Context}
 use Rattle.avc_mbsyntax.specs.SliceData.{SliceStart, context, placed}
-use Rattle.avc_make.specs.DataWriting.{AreOthers, CanFollow, CanStand, DataStandsAlone, IsLike, data_bits, i_data_bits, is_skip, p_data_bits}
-use Rattle.avc_make.specs.MbWriting.{mb_bits, qp_of}
+use Rattle.avc_make.specs.DataWriting.{CanFollow, CanStand, DataStandsAlone, IsLike, i_data_bits, is_skip, p_data_bits}
+use Rattle.avc_make.specs.MbWriting.{mb_bits}
 use Rattle.avc_make.specs.Words.{ue_word}
 
 -- the same macroblocks are available to both

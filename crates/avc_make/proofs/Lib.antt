@@ -1,6 +1,5 @@
 pub mod Bits
 pub mod CodedSliceBack
-pub mod DataBack
 pub mod Filling
 pub mod HeaderBack
 pub mod HeaderRanges
@@ -9,14 +8,13 @@ pub mod PatternNumbers
 pub mod Placing
 pub mod PpsBack
 pub mod Putting
-pub mod PuttingData
 pub mod PuttingEach
 pub mod ReadingBack
 pub mod ResidualPutting
 pub mod RefIdxPutting
 pub mod Removing
 pub mod Rows
-pub mod SliceBack
+pub mod SlicePutting
 pub mod SliceRows
 pub mod SpsBack
 pub mod UnitsBack
@@ -32,3 +30,4 @@ pub mod TruncatedWords
 pub mod MbBack
 pub mod SliceDataBack
 pub mod DataAlone
+pub mod Cutting

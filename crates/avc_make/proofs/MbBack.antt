@@ -1,12 +1,12 @@
 -- Macroblocks read from their bits.
-use Rattle.std.proofs.Common.{◌≡◌, ℕ, zero, suc, ◌+◌, ◌-◌, ◌*◌, ◌/◌, ◌%◌, ◌<◌, ◌≤◌, nat_le, nat_lt, List, [], ◌∷◌, ◌++◌, length, Bool, true, false, refl, ap, ◌∙◌, sym, subst, arith, length-append, append_assoc, append-nil, map, ℤ, pos, negsuc, ◌<ℤ◌, Some, None, Ok}
+use Rattle.std.proofs.Common.{◌≡◌, ℕ, zero, suc, ◌+◌, ◌-◌, ◌*◌, ◌/◌, ◌%◌, ◌<◌, ◌≤◌, nat_le, nat_lt, List, [], ◌∷◌, ◌++◌, length, Bool, true, false, refl, ap, ◌∙◌, sym, subst, arith, append_assoc, append-nil, map, ℤ, pos, negsuc, ◌<ℤ◌, Some, None}
 use Rattle.std.proofs.Common.{◌≤ℤ◌, ◌&&◌, inl, inr}
 use Rattle.std.proofs.lemmas.Int.{ints}
 use Rattle.std.proofs.lemmas.Bool.{cases_eq, eqb-true, false≢true, le-leb, lt-ltb, le-ltb, ltb-true, ne_eqb}
 use Rattle.std.proofs.lemmas.Bool.Decides.{nat_tests}
 use Rattle.std.proofs.lemmas.List.{length-replicate}
 use Rattle.avc_types.specs.declared.fault.Fault.TheVariants as faults
-use Rattle.std.specs.Prelude.{◌==◌, not, replicate, Option, Result, slice_get}
+use Rattle.std.specs.Prelude.{◌==◌, not, replicate, Option}
 use Rattle.std.specs.List.{flat_map, range_with_len}
 use Rattle.avc_types.specs.declared.macroblock.Mvd.{Mvd}
 use Rattle.avc_types.specs.declared.macroblock.PMbType.{PMbType}
@@ -14,15 +14,14 @@ use Rattle.avc_types.specs.declared.macroblock.PMbType.TheVariants.{P16x16, P16x
 use Rattle.avc_types.specs.declared.macroblock.SubMbType.{SubMbType}
 use Rattle.avc_types.specs.declared.macroblock.SubMbType.TheVariants.{Sub8x8, Sub8x4, Sub4x8, Sub4x4}
 use Rattle.avc_types.specs.Macroblock.{Residual, Mb, MbSyntax, p_skip, i_pcm, i_nxn, i_16x16, p_inter, total_coeff, parts_of, partitions}
-use Rattle.avc_bits.specs.Bits.{Read, ◌>>=◌, ◌>>◌, bits_of, byte_bits, check, give, refuse, times}
+use Rattle.avc_bits.specs.Bits.{Read, ◌>>=◌, bits_of, byte_bits, check, give, refuse, times}
 use Rattle.avc_bits.specs.Codes.{align, bits, flag, se, skip, te, te_to, u, ue, ue_to}
-use Rattle.avc_cavlc.specs.Block.{residual_block}
 use Rattle.avc_neigh.specs.TotalCoeffs.{nc}
 use Rattle.avc_mbsyntax.specs.declared.context.Context.{Context}
 use Rattle.avc_mbsyntax.specs.Reading.{after_pattern, block_mode, block_where, blocks, chroma_dc, luma_dc_levels, residual_blocks, i_mb, i_nxn_mb, i_pcm_mb, is_coded, mvd_l0, p_mb, p_mb_type, qp_after, qp_delta, qp_delta_where, ref_idx_l0, residual, sub_mb_type, sub_mb_types}
 use Rattle.std.specs.Option.{option_map}
 use Rattle.avc_vlc.specs.Reading.{coded_block_pattern, pattern_at}
-use Rattle.avc_make.specs.MbWriting.{MbIsRead, AreSamples, HasQuarters, HasRanges, IsIPcm, IsMvd, IsPInter, IsRefIdx, has_ref_idx, i_pcm_bits, i_type, mb_bits, mvd_bits, p_inter_bits, p_mb_number, qp_of, ref_idx_bits, sub_mb_number, sub_mb_types_bits, zeros_to_byte, IsCodedMode, IsI16x16, IsINxN, IsPattern, i_16x16_bits, i_nxn_bits, mode_bits, pattern_number, pattern_of, qp_delta_bits, AreBlocks, IsBlock, IsChromaDc, IsLumaDc, IsResidual, bits_where_coded, block_words, blocks_bits, chroma_dc_bits, luma_dc_bits, luma_max, residual_bits}
+use Rattle.avc_make.specs.MbWriting.{MbIsRead, AreSamples, HasQuarters, HasRanges, IsIPcm, IsMvd, IsPInter, IsRefIdx, has_ref_idx, i_pcm_bits, i_type, mb_bits, mvd_bits, p_inter_bits, p_mb_number, qp_of, ref_idx_bits, sub_mb_number, sub_mb_types_bits, zeros_to_byte, IsCodedMode, IsI16x16, IsINxN, IsPattern, i_16x16_bits, i_nxn_bits, mode_bits, pattern_number, pattern_of, qp_delta_bits, AreBlocks, IsBlock, IsChromaDc, IsResidual, bits_where_coded, block_words, blocks_bits, chroma_dc_bits, luma_dc_bits, luma_max, residual_bits}
 use Rattle.avc_make.specs.VuiWriting.{Each}
 use Rattle.avc_make.specs.Words.{ReadsBack, se_word, te_word, ue_word}
 use Rattle.avc_make.proofs.Placing.{ReadsAt, at-bind, at_place}

@@ -1,8 +1,9 @@
 -- Bits put one after another.
-use Rattle.std.proofs.Common.{◌≡◌, ℕ, suc, ◌+◌, ◌/◌, ◌%◌, ◌^◌, List, [], ◌∷◌, ◌++◌, Bool, true, false, eqb, ap, ◌∙◌, sym, append_assoc}
+use Rattle.std.proofs.Common.{◌≡◌, ℕ, suc, ◌+◌, ◌-◌, ◌/◌, ◌%◌, ◌^◌, List, [], ◌∷◌, ◌++◌, Bool, true, false, eqb, ap, ◌∙◌, sym, append_assoc}
 use Rattle.std.specs.Prelude.{replicate}
 use Rattle.avc_bits.specs.Bits.{bits_of}
 use Rattle.avc_make.specs.Made.{Made, with_bits}
+use Rattle.avc_make.specs.MbWriting.{zeros_to_byte}
 use Rattle.avc_make.specs.Words.{bits_after_one, ue_word}
 use Rattle.avc_make.proofs.Bits.{bits_of-zero}
 
@@ -22,3 +23,6 @@ unfolding ue_word
 ue_put v next count is_next is_count =
     ap (λ t. t ++ true ∷ bits_of count next) (bits_of-zero count) ∙ ap (λ n. replicate n false ++ true ∷ bits_of n next) is_count
     ∙ ap (λ k. replicate (bits_after_one k) false ++ true ∷ bits_of (bits_after_one k) k) is_next
+
+pub zeros_put : (position count : ℕ) → count ≡ (8 - position % 8) % 8 → bits_of count 0 ≡ zeros_to_byte position
+zeros_put position count is = bits_of-zero count ∙ ap (λ n. replicate n false) is

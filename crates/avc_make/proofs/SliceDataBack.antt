@@ -1,8 +1,8 @@
 -- The data of a slice read from its bits.
 use Rattle.std.proofs.Common.{◌≡◌, ℕ, zero, suc, ◌+◌, ◌-◌, ◌<◌, ◌≤◌, nat_lt, List, [], ◌∷◌, ◌++◌, length, Bool, true, false, refl, ap, ◌∙◌, sym, subst, arith, length-append, append_assoc, append-nil}
-use Rattle.std.proofs.lemmas.Bool.{cases_eq, false≢true, le-ltb, ne_eqb}
+use Rattle.std.proofs.lemmas.Bool.{false≢true, le-ltb, ne_eqb}
 use Rattle.std.proofs.lemmas.List.{length-replicate, replicate-append-replicate}
-use Rattle.std.specs.Prelude.{◌==◌, replicate, None, Some, Result, Ok, Err}
+use Rattle.std.specs.Prelude.{◌==◌, replicate, None, Result, Ok, Err}
 use Rattle.avc_types.specs.declared.fault.Fault.{Fault}
 use Rattle.avc_types.specs.declared.fault.Fault.TheVariants as faults
 use Rattle.avc_types.specs.Macroblock.{Mb, MbSyntax, p_skip, i_pcm, i_nxn, i_16x16, p_inter}
@@ -12,7 +12,7 @@ use Rattle.avc_bits.specs.Codes.{ue}
 use Rattle.avc_mbsyntax.specs.declared.context.Context.{Context}
 use Rattle.avc_mbsyntax.specs.Reading.{macroblock}
 use Rattle.avc_mbsyntax.specs.SliceData.{SliceMbs, SliceStart, after, after_run, context, ended, i_data, p_data, placed, skipped, slice_data, stopped}
-use Rattle.avc_make.specs.DataWriting.{CanFollow, CanStand, DataIsRead, data_bits, i_data_bits, is_skip, last_run_bits, p_data_bits}
+use Rattle.avc_make.specs.DataWriting.{CanFollow, CanStand, DataIsRead, data_bits, i_data_bits, is_skip, p_data_bits}
 use Rattle.avc_make.specs.MbWriting.{HasRanges, i_type, mb_bits, p_mb_number, qp_of, type_16x16}
 use Rattle.avc_make.specs.Words.{ReadsBack, bits_after_one, ue_word}
 use Rattle.avc_make.proofs.MbBack.{mb_is_read}
@@ -41,13 +41,13 @@ mb_some c position (i_16x16 mode chroma_mode r) rest is = longer (ue_word (i_typ
 mb_some c position (p_inter t ref_idx mvd r) rest is = longer (ue_word (p_mb_number t)) _ rest (word_some (p_mb_number t))
 
 -- by the two cases of a test
-on_kind : {P : Type 0} (b : Bool) → (b ≡ true → P) → (b ≡ false → P) → P
+pub on_kind : {P : Type 0} (b : Bool) → (b ≡ true → P) → (b ≡ false → P) → P
 on_kind true first second = first refl
 on_kind false first second = second refl
 
 -- ---- one macroblock
 
-ranges_of : (c : Context) (syntax : MbSyntax) → is_skip syntax ≡ false → CanStand c syntax → HasRanges c syntax
+pub ranges_of : (c : Context) (syntax : MbSyntax) → is_skip syntax ≡ false → CanStand c syntax → HasRanges c syntax
 ranges_of c p_skip other is = absurd (false≢true (sym other))
 ranges_of c (i_pcm luma cb cr) other is = is
 ranges_of c (i_nxn modes chroma_mode r) other is = is
@@ -71,13 +71,13 @@ mb_read c position rest m is qp =
 -- ---- I slices
 
 i_step : (s : SliceStart) (left : ℕ) (before : List PicMb) (qp : ℕ) (b b' : Bits) (mb : Mb) → macroblock (context s before qp) b ≡ Ok (mb, b') →
-    i_data macroblock s (suc left) before qp b ≡ after (mb ∷ []) (elim (more_data b') [ true ↦ i_data macroblock s left (before ++ placed s mb ∷ []) mb.qp b' | false ↦ ended ])
+    i_data s (suc left) before qp b ≡ after (mb ∷ []) (elim (more_data b') [ true ↦ i_data s left (before ++ placed s mb ∷ []) mb.qp b' | false ↦ ended ])
 i_step s left before qp b b' mb read = rw (i_data, read) refl
 
 abbrev all_of : List Mb → SliceMbs
 all_of ms = record { mbs = ms; fault = None }
 
-i_stand : (s : SliceStart) (before : List PicMb) (qp : ℕ) (syntax : MbSyntax) → s.is_p ≡ false → CanStand (context s before qp) syntax → is_skip syntax ≡ false
+pub i_stand : (s : SliceStart) (before : List PicMb) (qp : ℕ) (syntax : MbSyntax) → s.is_p ≡ false → CanStand (context s before qp) syntax → is_skip syntax ≡ false
 i_stand s before qp p_skip same is = absurd (false≢true (sym same ∙ is))
 i_stand s before qp (i_pcm luma cb cr) same is = refl
 i_stand s before qp (i_nxn modes chroma_mode r) same is = refl
@@ -89,7 +89,7 @@ unfolding i_data_bits
 i_some s before qp position m ms is = mb_some (context s before qp) position m.syntax _ is
 
 i_read : (s : SliceStart) (m : Mb) (ms : List Mb) (left : ℕ) (before : List PicMb) (qp position : ℕ) → s.is_p ≡ false → CanFollow s before qp (m ∷ ms) → length (m ∷ ms) ≤ left →
-    i_data macroblock s left before qp (record { position = position; ahead = i_data_bits s before qp position (m ∷ ms) }) ≡ all_of (m ∷ ms)
+    i_data s left before qp (record { position = position; ahead = i_data_bits s before qp position (m ∷ ms) }) ≡ all_of (m ∷ ms)
 unfolding i_data_bits
 i_read s m ms zero before qp position same all few = absurd (omega (arith, few))
 i_read s m [] (suc left) before qp position same all few =
@@ -118,13 +118,13 @@ mb_and_rest s before qp first m ms =
     let w = mb_bits (context s before qp) first m.syntax in
     w ++ p_data_bits s (before ++ placed s m ∷ []) m.qp (first + length w) 0 ms
 
-bits_skip : (s : SliceStart) (before : List PicMb) (qp position run : ℕ) (m : Mb) (ms : List Mb) → is_skip m.syntax ≡ true →
+pub bits_skip : (s : SliceStart) (before : List PicMb) (qp position run : ℕ) (m : Mb) (ms : List Mb) → is_skip m.syntax ≡ true →
     p_data_bits s before qp position run (m ∷ ms) ≡ p_data_bits s (before ++ placed s m ∷ []) qp position (run + 1) ms
 unfolding p_data_bits
 bits_skip s before qp position run m ms is =
     ap (λ (b : Bool). elim b [ true ↦ p_data_bits s (before ++ placed s m ∷ []) qp position (run + 1) ms | false ↦ ue_word run ++ mb_and_rest s before qp (position + length (ue_word run)) m ms ]) is
 
-bits_other : (s : SliceStart) (before : List PicMb) (qp position run : ℕ) (m : Mb) (ms : List Mb) → is_skip m.syntax ≡ false →
+pub bits_other : (s : SliceStart) (before : List PicMb) (qp position run : ℕ) (m : Mb) (ms : List Mb) → is_skip m.syntax ≡ false →
     p_data_bits s before qp position run (m ∷ ms) ≡ ue_word run ++ mb_and_rest s before qp (position + length (ue_word run)) m ms
 unfolding p_data_bits
 bits_other s before qp position run m ms is =
@@ -185,7 +185,7 @@ run_grows : {A : Type 0} (before front : List A) (run : ℕ) (x : A) → before 
 run_grows before front run x is =
     ap (λ l. l ++ x ∷ []) is ∙ append_assoc front (replicate run x) (x ∷ []) ∙ ap (λ l. front ++ l) (replicate-append-replicate run 1 x)
 
-skipped_is : (m : Mb) (qp : ℕ) → is_skip m.syntax ≡ true → m.qp ≡ qp_of qp m.syntax → m ≡ skipped qp
+pub skipped_is : (m : Mb) (qp : ℕ) → is_skip m.syntax ≡ true → m.qp ≡ qp_of qp m.syntax → m ≡ skipped qp
 skipped_is m qp is same =
     let syntax = skip_of m.syntax is in
     let own : m.qp ≡ qp = same ∙ ap (qp_of qp) syntax in
@@ -265,7 +265,7 @@ p_read s (m ∷ ms) (suc turns) front before qp position run all is some few sma
 -- ---- the data of a slice
 
 abbrev data_where : (p : Bool) → SliceStart → List PicMb → Bits → SliceMbs
-data_where p s before b = elim p [ true ↦ p_data s (s.size - length before) before s.qp b | false ↦ i_data macroblock s (s.size - length before) before s.qp b ]
+data_where p s before b = elim p [ true ↦ p_data s (s.size - length before) before s.qp b | false ↦ i_data s (s.size - length before) before s.qp b ]
 
 abbrev bits_where : (p : Bool) → SliceStart → List PicMb → ℕ → List Mb → List Bool
 bits_where p s before position ms = elim p [ true ↦ p_data_bits s before s.qp position 0 ms | false ↦ i_data_bits s before s.qp position ms ]

@@ -8,7 +8,7 @@ use Rattle.avc_slice.specs.declared.header.CodedOrder.TheVariants.{Type0, Type2}
 use Rattle.avc_slice.specs.declared.header.Header.{Header}
 use Rattle.avc_slice.specs.declared.header.SliceType.TheVariants.{AllI, AllP}
 use Rattle.avc_make.specs.HeaderWriting.{header_bits, slice_unit_header}
-use Rattle.avc_make.specs.SliceWriting.{pcm_type, run_bits, zeros_to_byte}
+use Rattle.avc_make.specs.MbWriting.{i_type, zeros_to_byte}
 use Rattle.avc_make.specs.Words.{se_word, ue_word}
 use Rattle.avc_make.proofs.Rows.{plain, small}
 
@@ -41,7 +41,7 @@ i_byte : slice_unit_header of_i ≡ 0x65
 i_byte = refl
 
 -- what stands before the samples, in bytes
-writes_i_pcm : header_bits small plain of_i ++ (run_bits false ++ (ue_word (pcm_type false) ++ zeros_to_byte 26)) ≡ byte_bits (0x88 ∷ 0x84 ∷ 0x86 ∷ 0x80 ∷ [])
+writes_i_pcm : header_bits small plain of_i ++ (ue_word (i_type false 25) ++ zeros_to_byte 26) ≡ byte_bits (0x88 ∷ 0x84 ∷ 0x86 ∷ 0x80 ∷ [])
 unfolding se_word ue_word count_leading_zeros
 writes_i_pcm = refl
 

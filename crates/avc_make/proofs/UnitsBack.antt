@@ -3,6 +3,7 @@ use Rattle.std.proofs.Common.{◌≡◌, ℕ, zero, suc, List, [], ◌∷◌, �
 use Rattle.std.specs.Prelude.{replicate}
 use Rattle.avc_annexb.specs.Escapes.{rbsp}
 use Rattle.avc_bits.specs.Bits.{before_last_one, or_none, start}
+use Rattle.avc_make.specs.Cutting.{RbspsAreRead}
 use Rattle.avc_make.specs.Units.{IsUnit}
 use Rattle.avc_make.proofs.Removing.{removed}
 
@@ -15,10 +16,13 @@ before_one [] n = rw (before_none n) refl
 before_one (true ∷ front) n = rw (before_one front n) refl
 before_one (false ∷ front) n = rw (before_one front n) refl
 
+pub rbsp_is_read : RbspsAreRead
+rbsp_is_read bits bytes is =
+    ap (λ b. or_none (before_last_one b)) ((is.1).filled ∙ append_assoc bits (true ∷ []) (replicate is.0 false))
+    ∙ ap or_none (before_one bits is.0)
+
 -- the bits before the stop bit
 pub unit_start : (header : ℕ) (bits : List Bool) (unit : List ℕ) → IsUnit header bits unit → start (rbsp (drop 1 unit)) ≡ record { position = 0; ahead = bits }
 unit_start header bits unit is =
     let raw : rbsp (drop 1 unit) ≡ is.raw = ap (λ u. rbsp (drop 1 u)) is.body ∙ removed 0 is.raw (omega arith) in
-    ap start raw
-    ∙ ap (λ b. record { position = 0; ahead = or_none (before_last_one b) }) (is.filled.filled ∙ append_assoc bits (true ∷ []) (replicate is.padding false))
-    ∙ ap (λ b. record { position = 0; ahead = or_none b }) (before_one bits is.padding)
+    ap start raw ∙ ap (λ b. record { position = 0; ahead = b }) (rbsp_is_read bits is.raw (is.padding, is.filled))

@@ -4,7 +4,7 @@ use Rattle.avc_types.specs.Macroblock.{Mb, MbSyntax, p_skip, i_pcm, i_nxn, i_16x
 use Rattle.avc_types.specs.Pictures.{PicMb}
 use Rattle.avc_neigh.specs.Blocks.{available}
 use Rattle.avc_mbsyntax.specs.declared.context.Context.{Context}
-use Rattle.avc_mbsyntax.specs.SliceData.{SliceMbs, SliceStart, context, placed, slice_data}
+use Rattle.avc_mbsyntax.specs.SliceData.{SliceStart, context, placed, slice_data}
 use Rattle.avc_make.specs.MbWriting.{HasRanges, mb_bits, qp_of}
 use Rattle.avc_make.specs.Words.{ue_word}
 

@@ -4,7 +4,8 @@ pub mod Made
 pub mod Making
 pub mod PpsWriting
 pub mod SliceUnits
-pub mod SliceWriting
+pub mod SliceSteps
+pub mod Cutting
 pub mod SpsWriting
 pub mod Units
 pub mod VuiWriting

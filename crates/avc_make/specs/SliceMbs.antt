@@ -1,28 +1,18 @@
 -- Units of slices of any macroblocks (7.3.2.8), and how they are read.
-use Rattle.std.specs.Prelude.{◌≡◌, ℕ, ◌+◌, ◌≤◌, ◌<◌, nat_abs, List, Bool, ◌++◌, drop, length, replicate, None, Ok}
-use Rattle.avc_types.specs.Macroblock.{Mb}
+use Rattle.std.specs.Prelude.{◌≡◌, ℕ, ◌+◌, ◌≤◌, nat_abs, List, Bool, ◌++◌, drop, length, replicate, None, Ok}
 use Rattle.avc_types.specs.Pictures.{PicMb}
 use Rattle.avc_annexb.specs.Escapes.{rbsp}
 use Rattle.avc_bits.specs.Bits.{at}
 use Rattle.avc_params.specs.Limits.{max_macroblocks, size_in_mbs, width_in_mbs}
 use Rattle.avc_params.specs.Tables.{Sets}
-use Rattle.avc_params.specs.declared.pps.Pps.{Pps}
-use Rattle.avc_params.specs.declared.sps.Sps.{Sps}
 use Rattle.avc_slice.specs.Header.{is_p, slice_qp}
 use Rattle.avc_slice.specs.Reading.{header_in_rbsp}
-use Rattle.avc_slice.specs.declared.header.Header.{Header}
 use Rattle.avc_mbsyntax.specs.SliceData.{SliceStart, skipped, slice_data}
 use Rattle.avc_make.specs.DataWriting.{AreOthers, CanFollow, IsLike, data_bits}
 use Rattle.avc_make.specs.HeaderWriting.{IsHeader, header_bits, slice_unit_header}
 use Rattle.avc_make.specs.SliceUnits.{AreInForce, placed_header}
 use Rattle.avc_make.specs.Units.{IsUnit}
-
--- A slice's parameter sets, its header and its macroblocks in decoding order.
-pub record CodedSlice : Type 0 where
-  pub sps : Sps
-  pub pps : Pps
-  pub header : Header
-  pub macroblocks : List Mb
+use Rattle.avc_make.specs.declared.slice.CodedSlice.{CodedSlice}
 
 -- What its data is written under: it is slice 1 of its picture, and slice 0 has all macroblocks before.
 abbrev pub own_start : CodedSlice → SliceStart

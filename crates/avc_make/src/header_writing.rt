@@ -5,7 +5,7 @@ ghost use Rattle.avc_make.specs.SpsWriting.{IsSeValue};
 ghost use Rattle.avc_make.specs.VuiWriting.{Each, IsUeValue};
 ghost use Rattle.avc_make.specs.Words.{se_word, ue_word};
 ghost use Rattle.avc_params.specs.Within.{IsOrderCount};
-ghost use Rattle.avc_slice.specs.Header.{is_p, is_p_type};
+ghost use Rattle.avc_slice.specs.Header.{is_p};
 ghost use Rattle.avc_slice.specs.Within.{IsPredWeightTable};
 
 use crate::maker::BitMaker;
@@ -53,16 +53,6 @@ fn number_of(slice_type: SliceType) -> u32
         SliceType::I => 2,
         SliceType::AllP => 5,
         SliceType::AllI => 7,
-    }
-}
-
-/// Whether it is the slice_type of P slices.
-pub(crate) fn is_p(slice_type: SliceType) -> bool
-    ensures { result ≡ is_p_type slice_type }
-{
-    match slice_type {
-        SliceType::P | SliceType::AllP => true,
-        SliceType::I | SliceType::AllI => false,
     }
 }
 
@@ -162,7 +152,7 @@ fn put_list(maker: &mut BitMaker, header: &Header) -> Result<(), OutOfMemory>
     requires weights { IfSome header.now.pred_weight_table (IsPredWeightTable header.now.active_count) }
     ensures { Puts result (list_bits_where (is_p header.now) header.now) maker.old maker.new }
 {
-    if is_p(header.slice_type) {
+    if header.is_p() {
         put_optional(maker, &header.active_override)?;
         put_optional(maker, &header.modifications)?;
         put_where(maker, &header.pred_weight_table)?;

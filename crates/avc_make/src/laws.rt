@@ -5,11 +5,12 @@ ghost use Rattle.avc_annexb.specs.Escapes.{rbsp};
 ghost use Rattle.avc_bits.specs.Bits.{bits_of};
 ghost use Rattle.avc_bits.specs.Codes.{IsSe, IsTe, IsUe, flag, se, te, u, ue};
 ghost use Rattle.avc_make.specs.BlockWriting.{BlocksAreRead, BlocksAreWritable, SmallAreWritable};
+ghost use Rattle.avc_make.specs.Cutting.{RbspsAreRead};
 ghost use Rattle.avc_make.specs.DataWriting.{DataIsRead, DataStandsAlone};
 ghost use Rattle.avc_make.specs.Escaping.{HasNoStart, escaped};
 ghost use Rattle.avc_make.specs.MbWriting.{MbIsRead};
 ghost use Rattle.avc_make.specs.SliceMbs.{CodedSlicesAreRead};
-ghost use Rattle.avc_make.specs.SliceUnits.{HeaderIsRead, SliceIsRead};
+ghost use Rattle.avc_make.specs.SliceUnits.{HeaderIsRead};
 ghost use Rattle.avc_make.specs.Units.{PpsIsRead, SpsIsRead};
 ghost use Rattle.avc_make.specs.Words.{ReadsBack, se_word, te_word, ue_word};
 
@@ -33,6 +34,11 @@ pub fn words_are_read()
 pub fn escapes_are_removed()
     ensures rbsp { (bytes : List ℕ) → rbsp (escaped bytes) ≡ bytes }
     ensures start { (bytes : List ℕ) → HasNoStart (escaped bytes) }
+{}
+
+/// The bits of an RBSP stand before its stop bit.
+pub fn rbsps_are_read()
+    ensures { RbspsAreRead }
 {}
 
 /// The unit of a picture parameter set in its ranges is read as that set, with no fault.
@@ -78,11 +84,6 @@ pub fn data_is_read()
 /// The data of a slice depends on no macroblock of another slice, but for how many stand before.
 pub fn data_stands_alone()
     ensures { DataStandsAlone }
-{}
-
-/// In the unit of a slice of I_PCM macroblocks, the bits after its header are read as those macroblocks, with no fault.
-pub fn slice_is_read()
-    ensures { SliceIsRead }
 {}
 
 /// In the unit of a slice of any macroblocks that can follow one another, header and macroblocks are read as they are, with no

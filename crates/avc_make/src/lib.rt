@@ -3,6 +3,7 @@
 
 mod block_writing;
 mod coefficients;
+mod cut;
 mod escapes;
 mod header_writing;
 mod inter_writing;
@@ -11,11 +12,13 @@ mod level_writing;
 mod macroblock_writing;
 mod maker;
 mod part;
+mod pcm_writing;
 mod pps_writing;
 mod reference_writing;
 mod residual_writing;
 mod run_writing;
 mod slice;
+mod slice_context;
 mod slice_writing;
 mod sps_writing;
 mod units;
@@ -23,10 +26,12 @@ mod vui_writing;
 mod weights_writing;
 
 pub use block_writing::write_block;
+pub use cut::cut_bits;
 pub use escapes::escape;
 pub use macroblock_writing::write_macroblock;
 pub use maker::BitMaker;
 pub use pps_writing::write_pps;
-pub use slice::{Macroblocks, PcmMacroblock, Slice};
+pub use slice::{CodedSlice, Macroblocks};
+pub use slice_context::total_coeffs_of;
 pub use slice_writing::write_slice;
 pub use sps_writing::write_sps;

@@ -8,8 +8,8 @@ ghost use Rattle.avc_make.specs.Words.{se_word, ue_word};
 use crate::inter_writing::put_p_inter;
 use crate::maker::BitMaker;
 use crate::part::{Part, put_each};
+use crate::pcm_writing::put_pcm_samples;
 use crate::residual_writing::{put_residual, put_residual_16x16};
-use crate::slice_writing::{put_alignment, put_bytes};
 use avc_mbsyntax::Context;
 use avc_types::{BlockLevels, Levels, OutOfMemory, Syntax};
 use avc_vlc::cbp_of;
@@ -92,22 +92,6 @@ fn put_i_pcm(
 {
     put_i_type(maker, context, I_PCM)?;
     put_pcm_samples(maker, luma, cb, cr)?;
-    Ok(())
-}
-
-fn put_pcm_samples(
-    maker: &mut BitMaker,
-    luma: &[u8; 256],
-    cb: &[u8; 64],
-    cr: &[u8; 64],
-) -> Result<(), OutOfMemory>
-    requires { maker.old.failed ≡ false }
-    ensures { Puts result (i_pcm_bits (length maker.old.bits) luma.now cb.now cr.now) maker.old maker.new }
-{
-    put_alignment(maker)?;
-    put_bytes(maker, luma)?;
-    put_bytes(maker, cb)?;
-    put_bytes(maker, cr)?;
     Ok(())
 }
 

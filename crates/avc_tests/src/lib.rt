@@ -2,8 +2,18 @@
 #![tactic(auto)]
 
 #[cfg(test)]
+mod cut_slices;
+#[cfg(test)]
+mod deblocking;
+#[cfg(test)]
 mod inter_prediction;
 #[cfg(test)]
+mod macroblock_types;
+#[cfg(test)]
+mod same_macroblocks;
+#[cfg(test)]
 mod slice_headers;
+#[cfg(test)]
+mod written_slices;
 #[cfg(test)]
 mod written_syntax;

@@ -1,10 +1,11 @@
 // No clause says that memory is found. Where an allocation is refused (`rt try --test --fail-alloc N`), the test ends in that
 // error, and not at an assertion.
-ghost use Rattle.std.specs.Prelude.{◌≤◌};
+ghost use Rattle.std.specs.Prelude.{◌≤◌, ℕ, length, false};
+ghost use Rattle.avc_make.specs.SliceMbs.{IsCodedSlice};
+ghost use Rattle.avc_tests.specs.Following.{FollowOn};
 
-use avc_make::{
-    BitMaker, Macroblocks, PcmMacroblock, Slice, write_block, write_pps, write_slice, write_sps,
-};
+use crate::macroblock_types::{add, i_pcm};
+use avc_make::{BitMaker, CodedSlice, Macroblocks, write_block, write_pps, write_slice, write_sps};
 use avc_params::{ConstraintFlags, OrderCount, Pps, Sps, read_sps};
 use avc_slice::{CodedOrder, Header, SliceType};
 use avc_types::{Fault, Levels, Marking, MbAddr};
@@ -12,7 +13,7 @@ use std::alloc::Global;
 use std::test::Fail;
 
 // 16x16 luma samples, order count type 2, one reference frame
-const SPS: Sps = Sps {
+pub(crate) const SPS: Sps = Sps {
     profile_idc: 66,
     constraint_flags: ConstraintFlags {
         constraint_set0_flag: true,
@@ -37,7 +38,7 @@ const SPS: Sps = Sps {
 };
 
 // no deblocking fields in slices
-const PPS: Pps = Pps {
+pub(crate) const PPS: Pps = Pps {
     pic_parameter_set_id: 0,
     seq_parameter_set_id: 0,
     bottom_field_pic_order_in_frame_present_flag: false,
@@ -95,51 +96,51 @@ fn writes_sizes_that_are_not_taken(rt: HostRuntime) -> Result<(), Fail> {
     Ok(())
 }
 
-#[test]
-fn writes_a_slice(rt: HostRuntime) -> Result<(), Fail> {
-    let mut luma = [0; 256];
-    for k in 0..256usize {
-        luma[k] = k as u8;
-    }
-    let mut macroblocks = Vec::new(rt.alloc());
-    macroblocks.push(PcmMacroblock {
-        luma,
-        cb: [0x40; 64],
-        cr: [0xC0; 64],
-    })?;
-    // of the only slice of an IDR picture
-    let header = Header {
-        nal_ref_idc: 3,
-        first_mb_in_slice: MbAddr::new(0),
-        slice_type: SliceType::AllI,
-        pic_parameter_set_id: 0,
-        frame_num: 0,
-        idr_pic_id: Some(0),
-        order: CodedOrder::Type2,
-        redundant_pic_cnt: None,
-        active_override: None,
-        active_count: 0,
-        modifications: None,
-        pred_weight_table: None,
-        marking: Some(Marking::Idr {
-            no_output_of_prior_pics_flag: false,
-            long_term_reference_flag: false,
-        }),
-        slice_qp_delta: 0,
-        deblocking: None,
-        position: 0,
-    };
-    let slice = Slice {
+// The only slice of an IDR picture.
+fn only_slice(macroblocks: Macroblocks) -> CodedSlice
+    requires some { 1 ≤ length macroblocks }
+    requires few { length macroblocks ≤ 38 }
+    requires follow { (last : ℕ) × FollowOn false 0 26 last macroblocks }
+    ensures { IsCodedSlice result }
+{
+    CodedSlice {
         sps: SPS,
         pps: PPS,
-        header,
-        macroblocks: Macroblocks::from_vec(macroblocks),
-    };
+        header: Header {
+            nal_ref_idc: 3,
+            first_mb_in_slice: MbAddr::new(0),
+            slice_type: SliceType::AllI,
+            pic_parameter_set_id: 0,
+            frame_num: 0,
+            idr_pic_id: Some(0),
+            order: CodedOrder::Type2,
+            redundant_pic_cnt: None,
+            active_override: None,
+            active_count: 0,
+            modifications: None,
+            pred_weight_table: None,
+            marking: Some(Marking::Idr {
+                no_output_of_prior_pics_flag: false,
+                long_term_reference_flag: false,
+            }),
+            slice_qp_delta: 0,
+            deblocking: None,
+            position: 0,
+        },
+        macroblocks,
+    }
+}
+
+#[test]
+fn writes_a_slice(rt: HostRuntime) -> Result<(), Fail> {
+    let mut list = Vec::new(rt.alloc());
+    add(&mut list, 26, i_pcm())?;
+    let slice = only_slice(Macroblocks::from_vec(list));
     let unit = write_slice(rt.alloc(), &slice)?;
     let unit = unit.as_slice();
     assert_eq!(rt; unit.len(), 390);
     assert_eq!(rt; &unit[..5], [0x65, 0x88, 0x84, 0x86, 0x80].as_slice());
-    assert_eq!(rt; &unit[5..261], luma.as_slice());
+    assert_eq!(rt; &unit[5..261], [0x11; 256].as_slice());
     assert_eq!(rt; &unit[261..325], [0x40; 64].as_slice());
     assert_eq!(rt; &unit[325..389], [0xC0; 64].as_slice());
     assert_eq!(rt; unit[389], 0x80);

@@ -1,5 +1,4 @@
-use Rattle.std.proofs.Common.{◌≡◌, ◌+◌, ◌<◌, drop, arith}
-use Rattle.avc_make.specs.MbWriting.{pattern_number, place_of}
+use Rattle.std.proofs.Common.{◌+◌, drop, arith}
 use Rattle.avc_make.proofs.PatternNumbers.{drop_at, number_few, number_is_place, place_behind, place_here, table_of}
 use Rattle.avc_make.proofs.macroblock_writing.number_of_pattern.Goals as goal
 

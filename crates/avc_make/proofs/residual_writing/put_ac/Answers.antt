@@ -1,11 +1,10 @@
-use Rattle.std.proofs.Common.{◌≡◌, ◌<◌, ◌≤◌, ◌+◌, ◌-◌, ◌++◌, ◌∷◌, [], suc, pos, arith, rules, ap, ◌∙◌, sym, subst, length, take, drop, get_or, length-set}
+use Rattle.std.proofs.Common.{◌≡◌, ◌<◌, ◌+◌, ◌-◌, ◌++◌, ◌∷◌, [], suc, arith, rules, ap, ◌∙◌, sym, length, take, drop, get_or, length-set}
 use Rattle.std.specs.Prelude.{◌==◌}
 use Rattle.std.specs.List.{range_with_len}
 use Rattle.std.specs.Option.{option_copied}
 use Rattle.std.proofs.lemmas.List.{drop_more, take_more}
 use Rattle.avc_types.specs.Macroblock.{total_coeff}
-use Rattle.avc_mbsyntax.specs.Reading.{is_coded}
-use Rattle.avc_make.specs.MbWriting.{IsBlock, blocks_bits}
+use Rattle.avc_make.specs.MbWriting.{blocks_bits}
 use Rattle.avc_make.proofs.ResidualPutting.{all_blocks_put, block_here, blocks_put, counts_put}
 use Rattle.avc_make.proofs.residual_writing.put_ac.Goals as goal
 

@@ -1,0 +1,25 @@
+use Rattle.std.proofs.Common.{[], length, take, false, refl, arith, negsuc, pos, sym, subst}
+use Rattle.std.proofs.lemmas.Int.{ints}
+use Rattle.std.specs.Prelude.{replicate}
+use Rattle.avc_types.specs.declared.macroblock.Mvd.{Mvd}
+use Rattle.avc_types.specs.Macroblock.{parts_of, partitions}
+use Rattle.avc_make.specs.MbWriting.{IsMvd, IsRefIdx, has_ref_idx}
+use Rattle.avc_tests.proofs.Following.{each_first, each_same, taken}
+use Rattle.avc_tests.proofs.macroblock_types.p_inter.Goals as goal
+
+pub returns : goal.returns
+returns c = λ context is_p count.
+    let t = c.args.mb_type in
+    let d : Mvd = record { x = negsuc 2; y = pos 64 } in
+    let fits : IsMvd d = ((omega (arith, ints), omega (arith, ints)), (omega (arith, ints), omega (arith, ints))) in
+    record {
+      in_p = is_p;
+      quarters = c.requires.quarters;
+      ref_idx = subst (λ m. IsRefIdx m (partitions t) (has_ref_idx m t) (take (partitions t) c.args.ref_idx)) (sym count) c.requires.ref_idx;
+      all = taken (length (parts_of t)) (replicate 16 d) c.requires.parts;
+      mvd = each_first IsMvd (length (parts_of t)) (replicate 16 d) (each_same IsMvd d fits 16);
+      pattern = record {
+        residual = c.levels.ensures.residual false [] refl refl;
+        no_delta = λ none. absurd (omega (arith, none, c.levels.ensures.pattern));
+      };
+    }

@@ -1,0 +1,80 @@
+// A slice of two macroblocks, cut to each number of its bits.
+use crate::written_slices::{facts, total_coeffs_in};
+use avc_bits::BitReader;
+use avc_make::{cut_bits, total_coeffs_of};
+use avc_mbsyntax::SliceData;
+use avc_neigh::Row;
+use avc_params::ParamTable;
+use avc_slice::read_header;
+use avc_types::Fault;
+use std::alloc::Global;
+use std::test::Fail;
+
+// 32x16 luma samples, and a picture parameter set with no deblocking fields in slices
+const SPS: [u8; 6] = [0x42, 0xC0, 0x0A, 0xDA, 0x2C, 0x40];
+
+const PPS: [u8; 3] = [0xCE, 0x38, 0x80];
+
+// an I slice of two Intra 16x16 macroblocks, with 58 bits before its stop bit
+const UNIT_HEADER: u8 = 0x65;
+
+const SLICE: [u8; 8] = [0x88, 0x84, 0x93, 0x93, 0x14, 0x00, 0x09, 0x60];
+
+const BITS: usize = 58;
+
+// the bits of the header and of the first macroblock
+const FIRST_BITS: usize = 25;
+
+// How many macroblocks the slice has, and the fault that comes then.
+fn read(alloc: Global, rbsp: &[u8], table: &ParamTable) -> Result<(u32, Option<Fault>), Fail> {
+    let header = match read_header(UNIT_HEADER, rbsp, table) {
+        Ok(header) => header,
+        Err(fault) => return Ok((0, Some(fault))),
+    };
+    let mut row = Row::new(alloc, 2)?;
+    let mut data = SliceData::new(BitReader::at(rbsp, header.position), false, 0, 26, 2);
+    for count in 0..3 {
+        let around = row.around(0);
+        match data.next(total_coeffs_in(around.a), total_coeffs_in(around.b)) {
+            Ok(Some(mb)) => row.put(&facts(0, total_coeffs_of(&mb.syntax))),
+            Ok(None) => return Ok((count, None)),
+            Err(fault) => return Ok((count, Some(fault))),
+        }
+    }
+    Ok((3, None))
+}
+
+#[test]
+fn each_cut_ends_as_it_should(rt: HostRuntime) -> Result<(), Fail> {
+    let mut table = ParamTable::new(rt.alloc());
+    table.put_sps(&SPS)?;
+    table.put_pps(&PPS)?;
+    for n in 0..BITS {
+        let cut = cut_bits(rt.alloc(), &SLICE, n)?;
+        let (count, fault) = read(rt.alloc(), &cut, &table)?;
+        assert_eq!(rt; count, if n < FIRST_BITS { 0 } else { 1 });
+        assert_eq!(rt;
+            fault,
+            if n == FIRST_BITS {
+                None
+            } else {
+                Some(Fault::Truncated)
+            }
+        );
+    }
+    assert_eq!(rt; read(rt.alloc(), &SLICE, &table)?, (2, None));
+    Ok(())
+}
+
+#[test]
+fn cuts_to_bits(rt: HostRuntime) -> Result<(), Fail> {
+    let cut = cut_bits(rt.alloc(), &SLICE, FIRST_BITS)?;
+    assert_eq!(rt; cut.as_slice(), [0x88, 0x84, 0x93, 0xC0].as_slice());
+    let whole = cut_bits(rt.alloc(), &SLICE, BITS)?;
+    assert_eq!(rt; whole.as_slice(), SLICE.as_slice());
+    let more = cut_bits(rt.alloc(), &SLICE, 1000)?;
+    assert_eq!(rt; more.as_slice(), SLICE.as_slice());
+    let none = cut_bits(rt.alloc(), &SLICE, 0)?;
+    assert_eq!(rt; none.as_slice(), [0x80].as_slice());
+    Ok(())
+}

@@ -1,0 +1,203 @@
+// Slices with a macroblock of each type, written and read back.
+ghost use Rattle.std.specs.Prelude.{◌≡◌, ◌≤◌, ℕ, length, true, false};
+ghost use Rattle.avc_make.specs.SliceMbs.{IsCodedSlice};
+ghost use Rattle.avc_tests.specs.Following.{FollowOn};
+
+use crate::macroblock_types::{add_i_types, add_p_types, add_skipped};
+use crate::same_macroblocks::is_same;
+use crate::written_syntax::{PPS, SPS};
+use avc_annexb::unescape;
+use avc_bits::BitReader;
+use avc_make::{CodedSlice, Macroblocks, total_coeffs_of, write_pps, write_slice, write_sps};
+use avc_mbsyntax::SliceData;
+use avc_neigh::{Motion, NearMode, NeighbourFacts, Row, TotalCoeffs};
+use avc_params::ParamTable;
+use avc_slice::{CodedOrder, Header, SliceType, read_header};
+use avc_types::{Marking, Mb, MbAddr};
+use std::alloc::Global;
+use std::test::Fail;
+
+// of the picture, in macroblocks
+const WIDTH: u16 = 5;
+
+const HEIGHT: u16 = 8;
+
+// SliceQP_Y under a set and a header that add nothing
+const SLICE_QP: u8 = 26;
+
+// macroblocks before the slices, of an earlier slice
+const FIRST: u32 = 2;
+
+// A slice of an IDR picture.
+fn i_slice(macroblocks: Macroblocks) -> CodedSlice
+    requires some { 1 ≤ length macroblocks }
+    requires few { length macroblocks ≤ 38 }
+    requires follow { (last : ℕ) × FollowOn false 0 26 last macroblocks }
+    ensures { IsCodedSlice result }
+{
+    let mut sps = SPS;
+    sps.pic_width_in_mbs_minus1 = WIDTH - 1;
+    sps.pic_height_in_map_units_minus1 = HEIGHT - 1;
+    CodedSlice {
+        sps,
+        pps: PPS,
+        header: Header {
+            nal_ref_idc: 3,
+            first_mb_in_slice: MbAddr::new(FIRST),
+            slice_type: SliceType::I,
+            pic_parameter_set_id: 0,
+            frame_num: 0,
+            idr_pic_id: Some(0),
+            order: CodedOrder::Type2,
+            redundant_pic_cnt: None,
+            active_override: None,
+            active_count: 0,
+            modifications: None,
+            pred_weight_table: None,
+            marking: Some(Marking::Idr {
+                no_output_of_prior_pics_flag: false,
+                long_term_reference_flag: false,
+            }),
+            slice_qp_delta: 0,
+            deblocking: None,
+            position: 0,
+        },
+        macroblocks,
+    }
+}
+
+// A P slice with two entries in RefPicList0.
+fn p_slice(macroblocks: Macroblocks) -> CodedSlice
+    requires some { 1 ≤ length macroblocks }
+    requires few { length macroblocks ≤ 38 }
+    requires follow { (last : ℕ) × FollowOn true 2 26 last macroblocks }
+    ensures { IsCodedSlice result }
+{
+    let mut sps = SPS;
+    sps.pic_width_in_mbs_minus1 = WIDTH - 1;
+    sps.pic_height_in_map_units_minus1 = HEIGHT - 1;
+    CodedSlice {
+        sps,
+        pps: PPS,
+        header: Header {
+            nal_ref_idc: 2,
+            first_mb_in_slice: MbAddr::new(FIRST),
+            slice_type: SliceType::P,
+            pic_parameter_set_id: 0,
+            frame_num: 1,
+            idr_pic_id: None,
+            order: CodedOrder::Type2,
+            redundant_pic_cnt: None,
+            active_override: Some(1),
+            active_count: 2,
+            modifications: None,
+            pred_weight_table: None,
+            marking: Some(Marking::SlidingWindow),
+            slice_qp_delta: 0,
+            deblocking: None,
+            position: 0,
+        },
+        macroblocks,
+    }
+}
+
+// A macroblock's facts, as far as reading others asks for them.
+pub(crate) fn facts(slice: u32, total_coeffs: TotalCoeffs) -> NeighbourFacts {
+    NeighbourFacts {
+        slice,
+        total_coeffs,
+        modes: [NearMode::Absent; 16],
+        motion: [Motion::Absent; 16],
+    }
+}
+
+pub(crate) fn total_coeffs_in(facts: Option<&NeighbourFacts>) -> Option<TotalCoeffs> {
+    match facts {
+        Some(facts) => Some(facts.total_coeffs),
+        None => None,
+    }
+}
+
+// The parameter sets of the slices, in force.
+fn sets_in_force(alloc: Global) -> Result<ParamTable, Fail> {
+    let mut sps = SPS;
+    sps.pic_width_in_mbs_minus1 = WIDTH - 1;
+    sps.pic_height_in_map_units_minus1 = HEIGHT - 1;
+    let sps = write_sps(alloc, &sps)?;
+    let pps = write_pps(alloc, &PPS)?;
+    let mut table = ParamTable::new(alloc);
+    table.put_sps(&unescape(alloc, &sps.as_slice()[1..])?)?;
+    table.put_pps(&unescape(alloc, &pps.as_slice()[1..])?)?;
+    Ok(table)
+}
+
+// Whether the unit is read as a slice of these macroblocks, and of no more.
+fn is_read_back(alloc: Global, unit: &[u8], macroblocks: &[Mb]) -> Result<bool, Fail> {
+    let table = sets_in_force(alloc)?;
+    let Some((first, body)) = unit.split_first() else {
+        return Ok(false);
+    };
+    let rbsp = unescape(alloc, body)?;
+    let Ok(header) = read_header(*first, &rbsp, &table) else {
+        return Ok(false);
+    };
+    has_macroblocks(alloc, &header, &rbsp, macroblocks)
+}
+
+// the same of the bits after the header
+fn has_macroblocks(
+    alloc: Global,
+    header: &Header,
+    rbsp: &[u8],
+    macroblocks: &[Mb],
+) -> Result<bool, Fail> {
+    let mut row = Row::new(alloc, usize::from(WIDTH))?;
+    let earlier = TotalCoeffs {
+        luma: [9; 16],
+        cb: [9; 4],
+        cr: [9; 4],
+    };
+    for _ in 0..header.first_mb_in_slice.get() {
+        row.put(&facts(0, earlier));
+    }
+    let reader = BitReader::at(rbsp, header.position);
+    let active_count = header.active_count.min(16) as u8;
+    let remaining = u32::from(WIDTH) * u32::from(HEIGHT) - FIRST;
+    let mut data = SliceData::new(reader, header.is_p(), active_count, SLICE_QP, remaining);
+    'each: for written in macroblocks {
+        let around = row.around(1);
+        let Ok(Some(mb)) = data.next(total_coeffs_in(around.a), total_coeffs_in(around.b)) else {
+            return Ok(false);
+        };
+        if !is_same(&mb, written) {
+            return Ok(false);
+        }
+        row.put(&facts(1, total_coeffs_of(&mb.syntax)));
+    }
+    match data.next(None, None) {
+        Ok(None) => Ok(true),
+        _ => Ok(false),
+    }
+}
+
+#[test]
+fn each_type_of_i_slices(rt: HostRuntime) -> Result<(), Fail> {
+    let mut list = Vec::new(rt.alloc());
+    add_i_types(&mut list, SLICE_QP)?;
+    let slice = i_slice(Macroblocks::from_vec(list));
+    let unit = write_slice(rt.alloc(), &slice)?;
+    assert!(rt; is_read_back(rt.alloc(), &unit, slice.macroblocks.as_slice())?);
+    Ok(())
+}
+
+#[test]
+fn each_type_of_p_slices(rt: HostRuntime) -> Result<(), Fail> {
+    let mut list = Vec::new(rt.alloc());
+    let qp = add_p_types(&mut list, SLICE_QP)?;
+    let qp = add_i_types(&mut list, qp)?;
+    add_skipped(&mut list, qp)?;
+    let slice = p_slice(Macroblocks::from_vec(list));
+    let unit = write_slice(rt.alloc(), &slice)?;
+    assert!(rt; is_read_back(rt.alloc(), &unit, slice.macroblocks.as_slice())?);
+    Ok(())
+}
