@@ -1,5 +1,5 @@
--- Lines of units, one after the other.
-use Rattle.std.proofs.Common.{◌≡◌, ◌+◌, ℕ, List, [], ◌∷◌, ◌++◌, length, drop, Option, Some, None, true, false, if◌then◌else◌, refl, ap, sym, ◌∙◌, inl, inr, rules, append_assoc, append-nil}
+-- What is made of a stream's units, one after the other.
+use Rattle.std.proofs.Common.{◌≡◌, ◌+◌, ◌≤◌, ℕ, List, [], ◌∷◌, ◌++◌, length, drop, Option, Some, None, true, false, if◌then◌else◌, refl, ap, sym, ◌∙◌, inl, inr, rules, append_assoc, append-nil}
 use Rattle.std.specs.List.{flat_map, slice_get}
 use Rattle.std.proofs.lemmas.Option.{slice_get_cases, slice_get_within, get_or_from_slice_get}
 use Rattle.std.proofs.lemmas.List.{drop_more, drop_all}
@@ -13,10 +13,10 @@ same_lines : (few many index : ℕ) (all : List PlacedUnit) → flat_map unit_li
 same_lines few many index [] = refl
 same_lines few many index (u ∷ us) = ap (λ t. unit_line (unit_of many index u) ++ t) (same_lines few many (index + 1) us)
 
-next_line : (us : List Unit) (k : ℕ) (u : Unit) → slice_get us k ≡ Some u → flat_map unit_line (drop k us) ≡ unit_line u ++ flat_map unit_line (drop (k + 1) us)
-next_line us k u e =
-    ap (λ t. flat_map unit_line t) (drop_more us k u (slice_get_within us k u e))
-    ∙ ap (λ v. unit_line v ++ flat_map unit_line (drop (k + 1) us)) (get_or_from_slice_get us k u u e)
+next_line : {X : Type 0} (line : Unit → List X) (us : List Unit) (k : ℕ) (u : Unit) → slice_get us k ≡ Some u → flat_map line (drop k us) ≡ line u ++ flat_map line (drop (k + 1) us)
+next_line line us k u e =
+    ap (λ t. flat_map line t) (drop_more us k u (slice_get_within us k u e))
+    ∙ ap (λ v. line v ++ flat_map line (drop (k + 1) us)) (get_or_from_slice_get us k u u e)
 
 no_more : (us : List Unit) (k : ℕ) → slice_get us k ≡ None → drop k us ≡ []
 no_more us k e = drop_all k us (elim (slice_get_cases us k).1 [
@@ -24,41 +24,44 @@ no_more us k e = drop_all k us (elim (slice_get_cases us k).1 [
   | inr h ↦ h.0
 ])
 
--- The splitter has the whole stream, and the text has the lines of the units that were taken.
-pub record IsListed (bytes : List ℕ) (s : SplitterState) (text : List ℕ) : Type 0 where
+-- The splitter has the whole stream, and there is a list for each unit that was taken.
+pub record IsListed {X : Type 0} (max : ℕ) (line : Unit → List X) (bytes : List ℕ) (s : SplitterState) (text : List X) : Type 0 where
   pub bytes_are : s.bytes ≡ bytes
   pub ended : s.ended ≡ true
   pub going : s.failed ≡ false
-  pub lines : text ++ flat_map unit_line (drop s.taken (units 1 bytes true)) ≡ flat_map unit_line (units 1 bytes true)
+  pub lines : text ++ flat_map line (drop s.taken (units max bytes true)) ≡ flat_map line (units max bytes true)
 
-next_is : (bytes : List ℕ) (s : SplitterState) (text : List ℕ) → IsListed bytes s text → next_unit_of 1 s ≡ slice_get (units 1 bytes true) s.taken
-next_is bytes s text h =
-    ap (λ x. if x then None else slice_get (units 1 s.bytes s.ended) s.taken) h.going
-    ∙ ap (λ x. slice_get (units 1 s.bytes x) s.taken) h.ended
-    ∙ ap (λ x. slice_get (units 1 x true) s.taken) h.bytes_are
+next_is : {X : Type 0} (max : ℕ) (line : Unit → List X) (bytes : List ℕ) (s : SplitterState) (text : List X) → IsListed max line bytes s text → next_unit_of max s ≡ slice_get (units max bytes true) s.taken
+next_is max line bytes s text h =
+    ap (λ x. if x then None else slice_get (units max s.bytes s.ended) s.taken) h.going
+    ∙ ap (λ x. slice_get (units max s.bytes x) s.taken) h.ended
+    ∙ ap (λ x. slice_get (units max x true) s.taken) h.bytes_are
 
-pub listed_more : (bytes : List ℕ) (s new : SplitterState) (text more : List ℕ) (next : Option Unit) (u : Unit) → IsListed bytes s text
-    → next ≡ next_unit_of 1 s → new ≡ after_next_unit s next → next ≡ Some u → more ≡ text ++ unit_line u → IsListed bytes new more
-listed_more bytes s new text more next u h gives takes is added =
-    let us = units 1 bytes true in
-    let at : slice_get us s.taken ≡ Some u = sym (next_is bytes s text h) ∙ sym gives ∙ is in
+pub listed_more : {X : Type 0} (max : ℕ) (line : Unit → List X) (bytes : List ℕ) (s new : SplitterState) (text more : List X) (next : Option Unit) (u : Unit) → IsListed max line bytes s text
+    → next ≡ next_unit_of max s → new ≡ after_next_unit s next → next ≡ Some u → more ≡ text ++ line u → IsListed max line bytes new more
+listed_more max line bytes s new text more next u h gives takes is added =
+    let us = units max bytes true in
+    let at : slice_get us s.taken ≡ Some u = sym (next_is max line bytes s text h) ∙ sym gives ∙ is in
     let moved : new ≡ after_next_unit s (Some u) = takes ∙ ap (λ x. after_next_unit s x) is in
     record {
       bytes_are = ap (λ x. x.bytes) moved ∙ h.bytes_are;
       ended = ap (λ x. x.ended) moved ∙ h.ended;
       going = ap (λ x. x.failed) moved ∙ h.going;
       lines =
-          ap (λ t. t ++ flat_map unit_line (drop new.taken us)) added
-          ∙ ap (λ n. (text ++ unit_line u) ++ flat_map unit_line (drop n us)) (ap (λ x. x.taken) moved)
-          ∙ append_assoc text (unit_line u) (flat_map unit_line (drop (s.taken + 1) us))
-          ∙ ap (λ t. text ++ t) (sym (next_line us s.taken u at))
+          ap (λ t. t ++ flat_map line (drop new.taken us)) added
+          ∙ ap (λ n. (text ++ line u) ++ flat_map line (drop n us)) (ap (λ x. x.taken) moved)
+          ∙ append_assoc text (line u) (flat_map line (drop (s.taken + 1) us))
+          ∙ ap (λ t. text ++ t) (sym (next_line line us s.taken u at))
           ∙ h.lines;
     }
 
-pub listed_all : (bytes : List ℕ) (s : SplitterState) (text : List ℕ) (next : Option Unit) → IsListed bytes s text → next ≡ next_unit_of 1 s → next ≡ None → text ≡ unit_lines bytes
-listed_all bytes s text next h gives is =
-    let none : drop s.taken (units 1 bytes true) ≡ [] = no_more (units 1 bytes true) s.taken (sym (next_is bytes s text h) ∙ sym gives ∙ is) in
+pub listed_all : {X : Type 0} (max : ℕ) (line : Unit → List X) (bytes : List ℕ) (s : SplitterState) (text : List X) (next : Option Unit) → IsListed max line bytes s text → next ≡ next_unit_of max s → next ≡ None
+    → text ≡ flat_map line (units max bytes true)
+listed_all max line bytes s text next h gives is =
+    let none : drop s.taken (units max bytes true) ≡ [] = no_more (units max bytes true) s.taken (sym (next_is max line bytes s text h) ∙ sym gives ∙ is) in
     sym (append-nil text)
-    ∙ ap (λ t. text ++ flat_map unit_line t) (sym none)
+    ∙ ap (λ t. text ++ flat_map line t) (sym none)
     ∙ h.lines
-    ∙ same_lines 1 (length bytes) 0 (placed_units 0 true bytes)
+
+pub unit_lines_are : (bytes : List ℕ) → flat_map unit_line (units 1 bytes true) ≡ unit_lines bytes
+unit_lines_are bytes = same_lines 1 (length bytes) 0 (placed_units 0 true bytes)

@@ -21,14 +21,14 @@ use Rattle.avc_slice.specs.declared.slice.Slice.{Slice}
 use Rattle.avc_slice.specs.Header.{is_p, is_idr, slice_qp}
 use Rattle.avc_units.specs.Grouping.{Kind, slice, partition, sps, pps, kind, rbsp_of, slice_in, tables}
 
-abbrev newline : List ℕ
+abbrev pub newline : List ℕ
 newline = 10 ∷ []
 
 -- a space and a number
-abbrev and_number : ℕ → List ℕ
+abbrev pub and_number : ℕ → List ℕ
 and_number n = 32 ∷ decimal n
 
-abbrev flag_number : Bool → ℕ
+abbrev pub flag_number : Bool → ℕ
 flag_number b = if b then 1 else 0
 
 -- ---- units
@@ -59,61 +59,88 @@ order_type (orders.Type0 log2) = 0
 order_type (orders.Type1 always_zero non_ref bottom cycle) = 1
 order_type orders.Type2 = 2
 
-abbrev pub sps_text : Sps → List ℕ
-sps_text s =
+abbrev pub sps_identity : Sps → List ℕ
+sps_identity s =
     codes " sps" ++ and_number s.seq_parameter_set_id
     ++ codes " profile" ++ and_number s.profile_idc
     ++ codes " level" ++ and_number s.level_idc
-    ++ codes " size" ++ and_number (shown_width s) ++ codes "x" ++ decimal (shown_height s)
-    ++ codes " refs" ++ and_number s.max_num_ref_frames
+
+abbrev pub sps_size : Sps → List ℕ
+sps_size s = codes " size" ++ and_number (shown_width s) ++ codes "x" ++ decimal (shown_height s)
+
+abbrev pub sps_frames : Sps → List ℕ
+sps_frames s =
+    codes " refs" ++ and_number s.max_num_ref_frames
     ++ codes " poc" ++ and_number (order_type s.order_count)
     ++ codes " dpb" ++ and_number (dpb_size s)
 
-abbrev qp_number : ℤ → ℕ
+abbrev pub sps_text : Sps → List ℕ
+sps_text s = sps_identity s ++ sps_size s ++ sps_frames s
+
+abbrev pub qp_number : ℤ → ℕ
 qp_number qp = nat_abs qp
 
-abbrev pub pps_text : Pps → List ℕ
-pps_text p =
-    codes " pps" ++ and_number p.pic_parameter_set_id
-    ++ codes " sps" ++ and_number p.seq_parameter_set_id
-    ++ codes " qp" ++ and_number (qp_number (slice_qp p (pos 0)))
-    ++ codes " refs" ++ and_number (p.num_ref_idx_l0_default_active_minus1 + 1)
-    ++ codes " control" ++ and_number (flag_number p.deblocking_filter_control_present_flag)
-    ++ codes " constrained" ++ and_number (flag_number p.constrained_intra_pred_flag)
+abbrev pub pps_identity : Pps → List ℕ
+pps_identity p = codes " pps" ++ and_number p.pic_parameter_set_id ++ codes " sps" ++ and_number p.seq_parameter_set_id
 
-abbrev slice_qp_under : Option Pps → Header → ℕ
+abbrev pub pps_fields : Pps → List ℕ
+pps_fields p =
+    codes " qp" ++ and_number (qp_number (slice_qp p (pos 0)))
+    ++ codes " refs" ++ and_number (p.num_ref_idx_l0_default_active_minus1 + 1)
+
+abbrev pub pps_control : Pps → List ℕ
+pps_control p = codes " control" ++ and_number (flag_number p.deblocking_filter_control_present_flag)
+
+abbrev pub pps_constrained : Pps → List ℕ
+pps_constrained p = codes " constrained" ++ and_number (flag_number p.constrained_intra_pred_flag)
+
+abbrev pub pps_flags : Pps → List ℕ
+pps_flags p = pps_control p ++ pps_constrained p
+
+abbrev pub pps_text : Pps → List ℕ
+pps_text p = pps_identity p ++ pps_fields p ++ pps_flags p
+
+abbrev pub slice_qp_under : Option Pps → Header → ℕ
 slice_qp_under (Some p) h = qp_number (slice_qp p h.slice_qp_delta)
 slice_qp_under None h = 0
 
-abbrev pub slice_text : Sets → Header → List ℕ
-slice_text sets h =
-    codes " slice" ++ and_number h.first_mb_in_slice
-    ++ codes " type " ++ (if is_p h then codes "P" else codes "I")
-    ++ codes " pps" ++ and_number h.pic_parameter_set_id
-    ++ codes " frame" ++ and_number h.frame_num
-    ++ codes " qp" ++ and_number (slice_qp_under (sets.pps h.pic_parameter_set_id) h)
+abbrev pub type_name : Header → List ℕ
+type_name h = if is_p h then codes "P" else codes "I"
+
+abbrev pub slice_place : Header → List ℕ
+slice_place h = codes " slice" ++ and_number h.first_mb_in_slice ++ codes " type " ++ type_name h
+
+abbrev pub slice_picture : Header → List ℕ
+slice_picture h = codes " pps" ++ and_number h.pic_parameter_set_id ++ codes " frame" ++ and_number h.frame_num
+
+abbrev pub slice_fields : Sets → Header → List ℕ
+slice_fields sets h =
+    codes " qp" ++ and_number (slice_qp_under (sets.pps h.pic_parameter_set_id) h)
     ++ codes " idr" ++ and_number (flag_number (is_idr h))
+
+abbrev pub slice_text : Sets → Header → List ℕ
+slice_text sets h = slice_place h ++ slice_picture h ++ slice_fields sets h
 
 abbrev pub refused_text : Fault → List ℕ
 refused_text f = codes " refused" ++ and_number (number_of f) ++ codes " " ++ name_of f
 
-abbrev set_text : {A : Type 0} → (A → List ℕ) → Result A SetFault → List ℕ
+abbrev pub set_text : {A : Type 0} → (A → List ℕ) → Result A SetFault → List ℕ
 set_text text (Ok a) = text a
 set_text text (Err f) = refused_text f.fault
 
-abbrev header_text : Sets → Result Slice Fault → List ℕ
+abbrev pub header_text : Sets → Result Slice Fault → List ℕ
 header_text sets (Ok s) = slice_text sets s.header
 header_text sets (Err f) = refused_text f
 
 -- What is said of a unit, if anything is. No unit is too long here.
-abbrev text_of : Sets → Unit → Kind → Option (List ℕ) → Option (List ℕ)
+abbrev pub text_of : Sets → Unit → Kind → Option (List ℕ) → Option (List ℕ)
 text_of sets u sps (Some bytes) = Some (set_text sps_text (sps_of bytes))
 text_of sets u pps (Some bytes) = Some (set_text pps_text (pps_of bytes))
 text_of sets u (slice idr) (Some bytes) = Some (header_text sets (slice_in sets u))
 text_of sets u partition (Some bytes) = Some (refused_text faults.DataPartition)
 text_of sets u _ _ = None
 
-abbrev line_of : ℕ → Option (List ℕ) → List ℕ
+abbrev pub line_of : ℕ → Option (List ℕ) → List ℕ
 line_of index None = []
 line_of index (Some text) = decimal index ++ text ++ newline
 

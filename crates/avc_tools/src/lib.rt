@@ -1,6 +1,8 @@
-//! Texts of units and headers, and pieces of a stream.
+//! Texts of units and headers.
 #![tactic(auto)]
 
+mod headers;
 mod units;
 
+pub use headers::show_headers;
 pub use units::list_units;

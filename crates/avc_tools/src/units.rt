@@ -1,4 +1,5 @@
-ghost use Rattle.std.specs.Prelude.{◌≡◌, ◌++◌, IfOk, OnOk, string_bytes};
+ghost use Rattle.std.specs.Prelude.{◌≡◌, ◌++◌, true, IfOk, OnOk, length, string_bytes};
+ghost use Rattle.avc_annexb.specs.Units.{units};
 ghost use Rattle.avc_tools.specs.Lines.{unit_line, unit_lines};
 
 use avc_annexb::{Splitter, Unit};
@@ -31,4 +32,18 @@ fn add_line(text: &mut String, unit: &Unit) -> Result<(), OutOfMemory>
     let ref_idc = unit.header / 32 % 4;
     writeln!(text, "{index} {offset} {length} {unit_type} {ref_idc}")?;
     Ok(())
+}
+
+/// All units of a whole byte stream, of which none is too long.
+pub(crate) fn all_units(alloc: Global, bytes: &[u8]) -> Result<Vec<Unit>, OutOfMemory>
+    ensures { IfOk result (λ all. all.items ≡ units (length bytes.now) bytes.now true) }
+{
+    let mut parts = Splitter::<{ usize::MAX }>::new(alloc);
+    parts.feed(bytes)?;
+    parts.finish()?;
+    let mut all = Vec::new(alloc);
+    while let Some(unit) = parts.next_unit() {
+        all.push(unit)?;
+    }
+    Ok(all)
 }

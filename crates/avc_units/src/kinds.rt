@@ -5,7 +5,7 @@ ghost use Rattle.avc_units.specs.Kinds.{meant};
 
 /// What a unit is to the open picture, by its nal_unit_type (Table 7-1).
 #[derive(Clone, Copy)]
-pub(crate) enum UnitKind {
+pub enum UnitKind {
     /// Type 5, and type 1.
     Slice { idr: bool },
 
@@ -23,7 +23,7 @@ pub(crate) enum UnitKind {
 }
 
 /// The kind by a unit's first byte.
-pub(crate) fn kind_of(header: u8) -> UnitKind
+pub fn kind_of(header: u8) -> UnitKind
     ensures { meant result ≡ kind_of (nal_unit_type header) }
 {
     match header % 32 {

@@ -5,9 +5,13 @@ mod grouper;
 mod kinds;
 mod sets;
 mod slices;
+mod starts;
 mod step;
 mod step_cases;
 mod units;
 
 pub use grouper::Grouper;
+pub use kinds::{UnitKind, kind_of};
+pub use sets::rbsp_of;
+pub use starts::is_start;
 pub use step::{Next, Step};

@@ -10,7 +10,7 @@ use avc_types::{Bytes, Fault, OutOfMemory};
 use std::alloc::Global;
 
 /// The RBSP of a unit that is not too long.
-pub(crate) fn rbsp_of(alloc: Global, unit: &Unit) -> Result<Option<Bytes>, OutOfMemory>
+pub fn rbsp_of(alloc: Global, unit: &Unit) -> Result<Option<Bytes>, OutOfMemory>
     ensures { IfOk result (λ bytes. bytes ≡ rbsp_of unit.now) }
 {
     match &unit.body {

@@ -21,7 +21,7 @@ use avc_types::{Bytes, Fault, OutOfMemory};
 use std::alloc::Global;
 
 /// Whether first_mb_in_slice reads as 0 in the RBSP of a slice.
-fn is_first(rbsp: &[u8]) -> bool
+pub(crate) fn is_first(rbsp: &[u8]) -> bool
     ensures { result ≡ reads_zero (ue (start rbsp.now)) }
 {
     let mut reader = BitReader::new(rbsp);

@@ -1,0 +1,7 @@
+use Rattle.std.proofs.Common.{◌++◌, ◌∙◌, ap, string_bytes}
+use Rattle.std.specs.Prelude.{codes}
+use Rattle.avc_tools.specs.Lines.{and_number}
+use Rattle.avc_tools.proofs.headers.add_pps_constrained.Goals as goal
+
+pub returns : goal.returns
+returns c = c.in_ok-write.ensures.bytes ∙ ap (λ n. string_bytes c.args.text.now ++ (codes " constrained" ++ and_number n)) c.flag_number-constrained.ensures

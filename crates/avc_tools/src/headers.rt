@@ -1,0 +1,338 @@
+ghost use Rattle.std.specs.Prelude.{◌≡◌, ◌++◌, ◌+◌, ◌-◌, ◌*◌, IfOk, OnOk, Some, string_bytes};
+ghost use Rattle.std.specs.Fmt.{decimal};
+ghost use Rattle.std.specs.Option.{option_copied};
+ghost use Rattle.avc_params.specs.Reading.{pps_of, sps_of};
+ghost use Rattle.avc_params.specs.Tables.{sets_after};
+ghost use Rattle.avc_slice.specs.Header.{slice_qp};
+ghost use Rattle.avc_units.specs.Grouping.{rbsp_of, slice_in};
+ghost use Rattle.avc_units.specs.Kinds.{meant};
+ghost use Rattle.avc_tools.specs.Lines.{flag_number, header_line, header_lines, header_text, line_of, newline, order_type, pps_constrained, pps_control, pps_fields, pps_flags, pps_identity, pps_text, qp_number, refused_text, set_text, shown_height, shown_width, slice_fields, slice_picture, slice_place, slice_qp_under, slice_text, sps_frames, sps_identity, sps_size, sps_text, text_of, type_name};
+
+use crate::units::all_units;
+use avc_annexb::Unit;
+use avc_params::{OrderCount, ParamTable, Pps, Sps, read_pps, read_sps};
+use avc_slice::{Header, read_header};
+use avc_types::{Fault, OutOfMemory};
+use avc_units::{Grouper, UnitKind, kind_of, rbsp_of};
+use std::alloc::Global;
+
+/// A line for each unit of a whole byte stream (Annex B) that brings a parameter set or a slice: its place among the units, and
+/// what the set (7.3.2.1.1, 7.3.2.2) or the slice header (7.3.3) says, or why it is refused. A slice is read with the sets in force
+/// there. Data partitions, and units whose forbidden_zero_bit is 1, are refused.
+pub fn show_headers(alloc: Global, bytes: &[u8]) -> Result<String, OutOfMemory>
+    ensures { IfOk result (λ text. string_bytes text ≡ header_lines bytes.now) }
+{
+    let all = all_units(alloc, bytes)?;
+    // it keeps the parameter sets
+    let mut grouper = Grouper::new(alloc);
+    let mut text = String::new(alloc);
+    for unit in all.as_slice() {
+        add_unit(alloc, &mut text, grouper.table(), unit)?;
+        grouper.unit(unit, false)?;
+    }
+    Ok(text)
+}
+
+fn add_unit(
+    alloc: Global,
+    text: &mut String,
+    table: &ParamTable,
+    unit: &Unit,
+) -> Result<(), OutOfMemory>
+    ensures { OnOk result (string_bytes text.new ≡ string_bytes text.old ++ header_line (sets_after table.now) unit.now) }
+{
+    if unit.header >= 128 {
+        return add_refusal(text, unit.index, Fault::ForbiddenBit);
+    }
+    match rbsp_of(alloc, unit)? {
+        Some(rbsp) => add_read(text, table, unit, kind_of(unit.header), rbsp.as_slice()),
+        None => Ok(()),
+    }
+}
+
+// of a unit of this kind, with this RBSP
+fn add_read(
+    text: &mut String,
+    table: &ParamTable,
+    unit: &Unit,
+    kind: UnitKind,
+    rbsp: &[u8],
+) -> Result<(), OutOfMemory>
+    requires { rbsp_of unit.now ≡ Some rbsp.now }
+    ensures { OnOk result (string_bytes text.new ≡ string_bytes text.old
+        ++ line_of unit.now.index (text_of (sets_after table.now) unit.now (meant kind) (Some rbsp.now))) }
+{
+    match kind {
+        UnitKind::Slice { .. } => add_slice(text, table, unit, rbsp),
+        UnitKind::Partition => add_refusal(text, unit.index, Fault::DataPartition),
+        UnitKind::Sps => add_sps(text, unit.index, rbsp),
+        UnitKind::Pps => add_pps(text, unit.index, rbsp),
+        UnitKind::Boundary | UnitKind::Other => Ok(()),
+    }
+}
+
+fn add_sps(text: &mut String, index: u64, rbsp: &[u8]) -> Result<(), OutOfMemory>
+    ensures { OnOk result (string_bytes text.new ≡ string_bytes text.old ++ line_of index (Some (set_text sps_text (sps_of rbsp.now)))) }
+{
+    match read_sps(rbsp) {
+        Ok(sps) => add_sps_line(text, index, &sps),
+        Err(refused) => add_refusal(text, index, refused.fault),
+    }
+}
+
+fn add_pps(text: &mut String, index: u64, rbsp: &[u8]) -> Result<(), OutOfMemory>
+    ensures { OnOk result (string_bytes text.new ≡ string_bytes text.old ++ line_of index (Some (set_text pps_text (pps_of rbsp.now)))) }
+{
+    match read_pps(rbsp) {
+        Ok(pps) => add_pps_line(text, index, &pps),
+        Err(refused) => add_refusal(text, index, refused.fault),
+    }
+}
+
+fn add_slice(
+    text: &mut String,
+    table: &ParamTable,
+    unit: &Unit,
+    rbsp: &[u8],
+) -> Result<(), OutOfMemory>
+    requires { rbsp_of unit.now ≡ Some rbsp.now }
+    ensures { OnOk result (string_bytes text.new ≡ string_bytes text.old
+        ++ line_of unit.now.index (Some (header_text (sets_after table.now) (slice_in (sets_after table.now) unit.now)))) }
+{
+    match read_header(unit.header, rbsp, table) {
+        Ok(header) => add_slice_line(text, unit.index, table, &header),
+        Err(fault) => add_refusal(text, unit.index, fault),
+    }
+}
+
+fn add_refusal(text: &mut String, index: u64, fault: Fault) -> Result<(), OutOfMemory>
+    ensures { OnOk result (string_bytes text.new ≡ string_bytes text.old ++ line_of index (Some (refused_text fault))) }
+{
+    let number = fault.number();
+    let name = fault.name();
+    writeln!(text, "{index} refused {number} {name}")?;
+    Ok(())
+}
+
+fn begin_line(text: &mut String, index: u64) -> Result<(), OutOfMemory>
+    ensures { OnOk result (string_bytes text.new ≡ string_bytes text.old ++ decimal index) }
+{
+    write!(text, "{index}")?;
+    Ok(())
+}
+
+fn end_line(text: &mut String) -> Result<(), OutOfMemory>
+    ensures { OnOk result (string_bytes text.new ≡ string_bytes text.old ++ newline) }
+{
+    text.push_str("\n")?;
+    Ok(())
+}
+
+fn add_sps_line(text: &mut String, index: u64, sps: &Sps) -> Result<(), OutOfMemory>
+    ensures { OnOk result (string_bytes text.new ≡ string_bytes text.old ++ line_of index (Some (sps_text sps.now))) }
+{
+    begin_line(text, index)?;
+    add_sps_identity(text, sps)?;
+    add_sps_size(text, sps)?;
+    add_sps_frames(text, sps)?;
+    end_line(text)?;
+    Ok(())
+}
+
+fn add_sps_identity(text: &mut String, sps: &Sps) -> Result<(), OutOfMemory>
+    ensures { OnOk result (string_bytes text.new ≡ string_bytes text.old ++ sps_identity sps.now) }
+{
+    let id = sps.seq_parameter_set_id;
+    let profile = sps.profile_idc;
+    let level = sps.level_idc;
+    write!(text, " sps {id} profile {profile} level {level}")?;
+    Ok(())
+}
+
+fn add_sps_size(text: &mut String, sps: &Sps) -> Result<(), OutOfMemory>
+    ensures { OnOk result (string_bytes text.new ≡ string_bytes text.old ++ sps_size sps.now) }
+{
+    let width = shown_width(sps);
+    let height = shown_height(sps);
+    write!(text, " size {width}x{height}")?;
+    Ok(())
+}
+
+fn add_sps_frames(text: &mut String, sps: &Sps) -> Result<(), OutOfMemory>
+    ensures { OnOk result (string_bytes text.new ≡ string_bytes text.old ++ sps_frames sps.now) }
+{
+    let refs = sps.max_num_ref_frames;
+    let poc = order_type(&sps.order_count);
+    let dpb = sps.dpb_size();
+    write!(text, " refs {refs} poc {poc} dpb {dpb}")?;
+    Ok(())
+}
+
+/// The width of what is shown, in luma samples.
+fn shown_width(sps: &Sps) -> u64
+    ensures { result ≡ shown_width sps.now }
+{
+    let width = 16 * u64::from(sps.width_in_mbs());
+    match &sps.frame_cropping {
+        Some(c) => without(width, c.frame_crop_left_offset, c.frame_crop_right_offset),
+        None => width,
+    }
+}
+
+/// The height of what is shown, in luma samples.
+fn shown_height(sps: &Sps) -> u64
+    ensures { result ≡ shown_height sps.now }
+{
+    let height = 16 * u64::from(sps.height_in_mbs());
+    match &sps.frame_cropping {
+        Some(c) => without(height, c.frame_crop_top_offset, c.frame_crop_bottom_offset),
+        None => height,
+    }
+}
+
+// The cropping offsets are in units of two luma samples.
+fn without(size: u64, before: u16, behind: u16) -> u64
+    ensures { result ≡ size - 2 * (before + behind) }
+{
+    size.saturating_sub(2 * (u64::from(before) + u64::from(behind)))
+}
+
+/// pic_order_cnt_type.
+fn order_type(order: &OrderCount) -> u8
+    ensures { result ≡ order_type order.now }
+{
+    match order {
+        OrderCount::Type0 { .. } => 0,
+        OrderCount::Type1 { .. } => 1,
+        OrderCount::Type2 => 2,
+    }
+}
+
+fn add_pps_line(text: &mut String, index: u64, pps: &Pps) -> Result<(), OutOfMemory>
+    ensures { OnOk result (string_bytes text.new ≡ string_bytes text.old ++ line_of index (Some (pps_text pps.now))) }
+{
+    begin_line(text, index)?;
+    add_pps_identity(text, pps)?;
+    add_pps_fields(text, pps)?;
+    add_pps_flags(text, pps)?;
+    end_line(text)?;
+    Ok(())
+}
+
+fn add_pps_identity(text: &mut String, pps: &Pps) -> Result<(), OutOfMemory>
+    ensures { OnOk result (string_bytes text.new ≡ string_bytes text.old ++ pps_identity pps.now) }
+{
+    let id = pps.pic_parameter_set_id;
+    let sps_id = pps.seq_parameter_set_id;
+    write!(text, " pps {id} sps {sps_id}")?;
+    Ok(())
+}
+
+fn add_pps_fields(text: &mut String, pps: &Pps) -> Result<(), OutOfMemory>
+    ensures { OnOk result (string_bytes text.new ≡ string_bytes text.old ++ pps_fields pps.now) }
+{
+    let qp = qp_of(pps, 0);
+    let refs = u32::from(pps.num_ref_idx_l0_default_active_minus1) + 1;
+    write!(text, " qp {qp} refs {refs}")?;
+    Ok(())
+}
+
+fn add_pps_flags(text: &mut String, pps: &Pps) -> Result<(), OutOfMemory>
+    ensures { OnOk result (string_bytes text.new ≡ string_bytes text.old ++ pps_flags pps.now) }
+{
+    add_pps_control(text, pps)?;
+    add_pps_constrained(text, pps)?;
+    Ok(())
+}
+
+fn add_pps_control(text: &mut String, pps: &Pps) -> Result<(), OutOfMemory>
+    ensures { OnOk result (string_bytes text.new ≡ string_bytes text.old ++ pps_control pps.now) }
+{
+    let control = flag_number(pps.deblocking_filter_control_present_flag);
+    write!(text, " control {control}")?;
+    Ok(())
+}
+
+fn add_pps_constrained(text: &mut String, pps: &Pps) -> Result<(), OutOfMemory>
+    ensures { OnOk result (string_bytes text.new ≡ string_bytes text.old ++ pps_constrained pps.now) }
+{
+    let constrained = flag_number(pps.constrained_intra_pred_flag);
+    write!(text, " constrained {constrained}")?;
+    Ok(())
+}
+
+fn flag_number(flag: bool) -> u8
+    ensures { result ≡ flag_number flag }
+{
+    u8::from(flag)
+}
+
+/// SliceQPY (7.4.3), which is not below 0.
+fn qp_of(pps: &Pps, slice_qp_delta: i32) -> u64
+    ensures { result ≡ qp_number (slice_qp pps.now slice_qp_delta) }
+{
+    let qp = 26 + i64::from(pps.pic_init_qp_minus26) + i64::from(slice_qp_delta);
+    qp.unsigned_abs()
+}
+
+fn add_slice_line(
+    text: &mut String,
+    index: u64,
+    table: &ParamTable,
+    header: &Header,
+) -> Result<(), OutOfMemory>
+    ensures { OnOk result (string_bytes text.new ≡ string_bytes text.old ++ line_of index (Some (slice_text (sets_after table.now) header.now))) }
+{
+    begin_line(text, index)?;
+    add_slice_place(text, header)?;
+    add_slice_picture(text, header)?;
+    add_slice_fields(text, table, header)?;
+    end_line(text)?;
+    Ok(())
+}
+
+fn add_slice_place(text: &mut String, header: &Header) -> Result<(), OutOfMemory>
+    ensures { OnOk result (string_bytes text.new ≡ string_bytes text.old ++ slice_place header.now) }
+{
+    let first = header.first_mb_in_slice.get();
+    let slice_type = type_name(header);
+    write!(text, " slice {first} type {slice_type}")?;
+    Ok(())
+}
+
+fn add_slice_picture(text: &mut String, header: &Header) -> Result<(), OutOfMemory>
+    ensures { OnOk result (string_bytes text.new ≡ string_bytes text.old ++ slice_picture header.now) }
+{
+    let pps = header.pic_parameter_set_id;
+    let frame = header.frame_num;
+    write!(text, " pps {pps} frame {frame}")?;
+    Ok(())
+}
+
+fn add_slice_fields(
+    text: &mut String,
+    table: &ParamTable,
+    header: &Header,
+) -> Result<(), OutOfMemory>
+    ensures { OnOk result (string_bytes text.new ≡ string_bytes text.old ++ slice_fields (sets_after table.now) header.now) }
+{
+    let qp = slice_qp_under(table.pps(header.pic_parameter_set_id), header);
+    let idr = flag_number(header.is_idr());
+    write!(text, " qp {qp} idr {idr}")?;
+    Ok(())
+}
+
+fn type_name(header: &Header) -> &'static str
+    ensures { result.now ≡ type_name header.now }
+{
+    if header.is_p() { "P" } else { "I" }
+}
+
+fn slice_qp_under(pps: Option<&Pps>, header: &Header) -> u64
+    ensures { result ≡ slice_qp_under (option_copied pps.entry) header.now }
+{
+    match pps {
+        Some(pps) => qp_of(pps, header.slice_qp_delta),
+        None => 0,
+    }
+}
