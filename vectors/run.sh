@@ -42,6 +42,31 @@ is_decoded() {
     [ "$(md5sum <"$work/pictures" | cut -d ' ' -f 1)" = "$(cut -d ' ' -f 1 <"$1")" ] && [ "$2" = "$3" ] && cmp -s "$work/told" "$4"
 }
 
+# A slice of a real encoder cut at each byte, and then the whole stream again: the cut slice alone is refused, as Truncated or, where
+# what is left ends like the data of a slice, as MissingMacroblocks, and decoding resumes with the next IDR picture.
+is_refused_and_resumes() {
+    "$program" decode <"$1.264" >"$work/whole"
+    "$program" units <"$1.264" >"$work/lines"
+    index=$(($(wc -l <"$work/lines") - 1))
+    read -r _ offset length _ <<LAST
+$(tail -n 1 "$work/lines")
+LAST
+    bytes=$((offset + 2))
+    while [ "$bytes" -lt $((offset + length)) ]; do
+        { head -c "$bytes" "$1.264" && cat "$1.264"; } | "$program" decode >"$work/pictures" 2>"$work/told"
+        [ $? = 1 ] && cmp -s "$work/pictures" "$work/whole" || return 1
+        {
+            read -r line
+            read -r _ && return 1
+        } <"$work/told"
+        case $line in
+        "refused unit $index: 1 Truncated" | "refused unit $index: 22 MissingMacroblocks") ;;
+        *) return 1 ;;
+        esac
+        bytes=$((bytes + 1))
+    done
+}
+
 for stream in "$here"/*/*.264; do
     name=${stream%.264}
     if [ -f "$name.md5" ]; then
@@ -60,6 +85,10 @@ for stream in "$here"/*/*.264; do
         judge "units of ${name#"$here"/}" $? 0 ''
         holds "lines of ${name#"$here"/}" cmp -s "$work/lines" "$name.units"
     fi
+done
+
+for stream in "$here"/first_picture/*.264; do
+    holds "each cut of ${stream#"$here"/}" is_refused_and_resumes "${stream%.264}"
 done
 
 picture=$here/pcm/pcm_1.264
