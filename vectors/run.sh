@@ -42,29 +42,31 @@ is_decoded() {
     [ "$(md5sum <"$work/pictures" | cut -d ' ' -f 1)" = "$(cut -d ' ' -f 1 <"$1")" ] && [ "$2" = "$3" ] && cmp -s "$work/told" "$4"
 }
 
-# A slice of a real encoder cut at each byte, and then the whole stream again: the cut slice alone is refused, as Truncated or, where
-# what is left ends like the data of a slice, as MissingMacroblocks, and decoding resumes with the next IDR picture.
+# A slice of a real encoder cut at each byte, and then the whole stream again: the cut slice alone is refused, and decoding resumes
+# with the next IDR picture. A line of NAME.cuts is the least and the greatest number of bytes before the cut, and their fault.
 is_refused_and_resumes() {
     "$program" decode <"$1.264" >"$work/whole"
-    "$program" units <"$1.264" >"$work/lines"
-    index=$(($(wc -l <"$work/lines") - 1))
-    read -r _ offset length _ <<LAST
-$(tail -n 1 "$work/lines")
-LAST
-    bytes=$((offset + 2))
-    while [ "$bytes" -lt $((offset + length)) ]; do
-        { head -c "$bytes" "$1.264" && cat "$1.264"; } | "$program" decode >"$work/pictures" 2>"$work/told"
-        [ $? = 1 ] && cmp -s "$work/pictures" "$work/whole" || return 1
-        {
-            read -r line
-            read -r _ && return 1
-        } <"$work/told"
-        case $line in
-        "refused unit $index: 1 Truncated" | "refused unit $index: 22 MissingMacroblocks") ;;
-        *) return 1 ;;
-        esac
-        bytes=$((bytes + 1))
+    index=$(($("$program" units <"$1.264" | wc -l) - 1))
+    while read -r bytes most fault; do
+        while [ "$bytes" -le "$most" ]; do
+            { head -c "$bytes" "$1.264" && cat "$1.264"; } | "$program" decode >"$work/pictures" 2>"$work/told"
+            [ $? = 1 ] && cmp -s "$work/pictures" "$work/whole" || return 1
+            echo "refused unit $index: $fault" | cmp -s - "$work/told" || return 1
+            bytes=$((bytes + 1))
+        done
+    done <"$1.cuts"
+}
+
+# The pieces of a stream with several IDR pictures, decoded one by one, give what the whole gives.
+pieces_decode_alike() {
+    "$program" decode <"$1.264" >"$work/whole"
+    : >"$work/joined"
+    number=0
+    while "$program" cut "$number" <"$1.264" >"$work/piece" 2>"$work/told"; do
+        "$program" decode <"$work/piece" >>"$work/joined" || return 1
+        number=$((number + 1))
     done
+    [ "$number" -gt 1 ] && cmp -s "$work/joined" "$work/whole"
 }
 
 for stream in "$here"/*/*.264; do
@@ -90,6 +92,25 @@ done
 for stream in "$here"/first_picture/*.264; do
     holds "each cut of ${stream#"$here"/}" is_refused_and_resumes "${stream%.264}"
 done
+
+for stream in "$here"/encoder/*.264; do
+    dd bs=1 if="$stream" 2>/dev/null | "$program" decode >"$work/pictures" 2>"$work/told"
+    holds "byte by byte: ${stream#"$here"/}" is_decoded "${stream%.264}.md5" 0 0 /dev/null
+done
+
+for name in \
+    encoder/pub_c_sizes encoder/pub_o_idr_idstrat encoder/pub_o_idr_listing encoder/pub_o_ltr_rec encoder/pub_o_screen_ltr \
+    encoder/pub_x_allintra encoder/pub_x_aud encoder/pub_x_keyint3 generated/pubgen_11 generated/pubgen_22; do
+    holds "pieces of $name" pieces_decode_alike "$here/$name"
+done
+
+# a unit of more than 134,217,728 bytes, behind a picture
+{
+    cat "$here/pcm/pcm_1.264"
+    printf '\000\000\001\145'
+    head -c 134217728 /dev/zero | tr '\000' 'U'
+} | "$program" decode >/dev/null 2>"$work/told"
+holds "a unit that is too long" grep -q '^refused unit [0-9]*: 5 NalTooLong$' "$work/told"
 
 picture=$here/pcm/pcm_1.264
 for command in decode units; do

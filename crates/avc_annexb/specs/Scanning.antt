@@ -33,6 +33,15 @@ IsOpenUnitIfAny max None None = Unit {0}
 IsOpenUnitIfAny max (Some o) (Some unit) = IsOpenUnit max o unit
 IsOpenUnitIfAny max _ _ = ⊥
 
+-- Whichever bytes the open unit stood for, these have come to them.
+abbrev pub AddsBytes : {max : ℕ} → (old new : OpenUnit max) → List ℕ → Type 0
+AddsBytes {max} old new more = (unit : PlacedUnit) → IsOpenUnit max old unit → IsOpenUnit max new (with_bytes unit more)
+
+-- The same where there is an open unit.
+abbrev pub AddsBytesIfAny : {max : ℕ} → (old new : Option (OpenUnit max)) → List ℕ → Type 0
+AddsBytesIfAny {max} old new more =
+    (unit : Option PlacedUnit) → IsOpenUnitIfAny max old unit → IsOpenUnitIfAny max new (with_more unit more)
+
 -- the units that were found are those that were given out and then those that are ready
 pub record AreReady (max : ℕ) (r : Ready max) (done : List PlacedUnit) : Type 0 where
   pub units : r.given.items ++ r.units.items ≡ numbered max 0 done
@@ -41,6 +50,18 @@ pub record AreReady (max : ℕ) (r : Ready max) (done : List PlacedUnit) : Type 
 abbrev pub closed_unit : Option PlacedUnit → List PlacedUnit
 closed_unit None = []
 closed_unit (Some unit) = unit_at unit.offset (Some unit.bytes)
+
+-- Whichever units had been found, this one has come to them, if it has bytes.
+abbrev pub AddsUnit : {max : ℕ} → (old new : Ready max) → OpenUnit max → Type 0
+AddsUnit {max} old new unit =
+    (done : List PlacedUnit) (placed : PlacedUnit) → AreReady max old done → IsOpenUnit max unit placed →
+    AreReady max new (done ++ closed_unit (Some placed))
+
+-- The same where there is a unit.
+abbrev pub AddsUnitIfAny : {max : ℕ} → (old new : Ready max) → Option (OpenUnit max) → Type 0
+AddsUnitIfAny {max} old new unit =
+    (done : List PlacedUnit) (placed : Option PlacedUnit) → AreReady max old done → IsOpenUnitIfAny max unit placed →
+    AreReady max new (done ++ closed_unit placed)
 
 -- what the units from here on are, whatever comes: n bytes came, and of the last of them zeros are not yet in the unit
 abbrev pub placed_units_after : ℕ → Option PlacedUnit → ℕ → Bool → List ℕ → List PlacedUnit

@@ -1,5 +1,5 @@
-ghost use Rattle.std.specs.Prelude.{◌≡◌, ◌<◌, ◌≤◌, ℕ, [], ◌∷◌, ◌++◌, OnOk, Option, replicate};
-ghost use Rattle.avc_annexb.specs.Scanning.{IsOpenUnit, IsOpenUnitIfAny, with_bytes, with_more};
+ghost use Rattle.std.specs.Prelude.{◌≡◌, ◌<◌, ◌≤◌, ℕ, [], ◌∷◌, ◌++◌, OnOk, replicate};
+ghost use Rattle.avc_annexb.specs.Scanning.{AddsBytes, AddsBytesIfAny, IsOpenUnit};
 ghost use Rattle.avc_annexb.specs.Units.{PlacedUnit, saturated, unit_of};
 
 use crate::unit::Unit;
@@ -31,7 +31,7 @@ impl<const MAX: usize> OpenUnit<MAX> {
 
     /// Adds bytes. After an `Err` the unit is of no use.
     pub fn append(&mut self, bytes: &[u8]) -> Result<(), OutOfMemory>
-        ensures { OnOk result ((unit : PlacedUnit) → IsOpenUnit MAX self.old unit → IsOpenUnit MAX self.new (with_bytes unit bytes.now)) }
+        ensures { OnOk result (AddsBytes self.old self.new bytes.now) }
     {
         let [first, others @ ..] = bytes else {
             return Ok(());
@@ -47,7 +47,7 @@ impl<const MAX: usize> OpenUnit<MAX> {
     // adds the first byte
     fn begin(&mut self, header: u8)
         requires { self.old.length ≡ 0 }
-        ensures keeps { (unit : PlacedUnit) → IsOpenUnit MAX self.old unit → IsOpenUnit MAX self.new (with_bytes unit (header ∷ [])) }
+        ensures keeps { AddsBytes self.old self.new (header ∷ []) }
         ensures begun { 0 < self.new.length }
     {
         if MAX == 0 {
@@ -60,7 +60,7 @@ impl<const MAX: usize> OpenUnit<MAX> {
     // adds bytes after the first
     fn extend(&mut self, bytes: &[u8]) -> Result<(), OutOfMemory>
         requires { 0 < self.old.length }
-        ensures { OnOk result ((unit : PlacedUnit) → IsOpenUnit MAX self.old unit → IsOpenUnit MAX self.new (with_bytes unit bytes.now)) }
+        ensures { OnOk result (AddsBytes self.old self.new bytes.now) }
     {
         let added = bytes.len() as u64;
         if added > (MAX as u64).saturating_sub(self.length) {
@@ -75,7 +75,7 @@ impl<const MAX: usize> OpenUnit<MAX> {
     /// Adds some zeros, at most two, and then bytes. After an `Err` the unit is of no use.
     pub fn append_after(&mut self, zeros: u8, bytes: &[u8]) -> Result<(), OutOfMemory>
         requires { zeros ≤ 2 }
-        ensures { OnOk result ((unit : PlacedUnit) → IsOpenUnit MAX self.old unit → IsOpenUnit MAX self.new (with_bytes unit (replicate zeros 0 ++ bytes.now))) }
+        ensures { OnOk result (AddsBytes self.old self.new (replicate zeros 0 ++ bytes.now)) }
     {
         self.append(some_zeros(zeros))?;
         self.append(bytes)
@@ -113,7 +113,7 @@ pub fn append_any<const MAX: usize>(
     bytes: &[u8],
 ) -> Result<(), OutOfMemory>
     requires { zeros ≤ 2 }
-    ensures { OnOk result ((placed : Option PlacedUnit) → IsOpenUnitIfAny MAX unit.old placed → IsOpenUnitIfAny MAX unit.new (with_more placed (replicate zeros 0 ++ bytes.now))) }
+    ensures { OnOk result (AddsBytesIfAny unit.old unit.new (replicate zeros 0 ++ bytes.now)) }
 {
     match unit {
         Some(unit) => unit.append_after(zeros, bytes),

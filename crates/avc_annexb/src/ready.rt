@@ -1,6 +1,6 @@
 ghost use Rattle.std.specs.Prelude.{◌≡◌, [], ◌++◌, List, OnOk, Option, slice_get, length};
 ghost use Rattle.std.specs.Option.{option_to_list};
-ghost use Rattle.avc_annexb.specs.Scanning.{AreReady, IsOpenUnit, IsOpenUnitIfAny, closed_unit};
+ghost use Rattle.avc_annexb.specs.Scanning.{AddsUnit, AddsUnitIfAny, AreReady};
 ghost use Rattle.avc_annexb.specs.Units.{PlacedUnit, numbered};
 
 use crate::open_unit::OpenUnit;
@@ -33,7 +33,7 @@ impl<const MAX: usize> Ready<MAX> {
 
     /// Adds a unit at the end, if it has bytes.
     pub fn add(&mut self, unit: OpenUnit<MAX>) -> Result<(), OutOfMemory>
-        ensures holds { OnOk result ((done : List PlacedUnit) (placed : PlacedUnit) → AreReady MAX self.old done → IsOpenUnit MAX unit.entry placed → AreReady MAX self.new (done ++ closed_unit (Some placed))) }
+        ensures holds { OnOk result (AddsUnit self.old self.new unit.entry) }
         ensures given { self.new.given.items ≡ self.old.given.items }
     {
         if unit.length == 0 {
@@ -46,7 +46,7 @@ impl<const MAX: usize> Ready<MAX> {
 
     /// Adds a unit at the end, if there is one and it has bytes.
     pub fn add_any(&mut self, unit: Option<OpenUnit<MAX>>) -> Result<(), OutOfMemory>
-        ensures holds { OnOk result ((done : List PlacedUnit) (placed : Option PlacedUnit) → AreReady MAX self.old done → IsOpenUnitIfAny MAX unit.entry placed → AreReady MAX self.new (done ++ closed_unit placed)) }
+        ensures holds { OnOk result (AddsUnitIfAny self.old self.new unit.entry) }
         ensures given { self.new.given.items ≡ self.old.given.items }
     {
         match unit {

@@ -1,4 +1,5 @@
-ghost use Rattle.std.specs.Prelude.{◌≡◌, ◌+◌, ◌-◌, ◌*◌, ◌%◌, ◌^◌, ◌<◌, ◌≤◌, ◌≤ℤ◌, ◌<ℤ◌, pos, neg_ℤ, length, min, take, replicate, ◌++◌, false, IfOk, Err, MatchResult, Ok, OnErr};
+ghost use Rattle.std.specs.Prelude.{◌≡◌, ◌+◌, ◌-◌, ◌*◌, ◌%◌, ◌^◌, ◌<◌, ◌≤◌, ◌≤ℤ◌, ◌<ℤ◌, pos, neg_ℤ, length};
+ghost use Rattle.std.specs.Prelude.{min, take, replicate, ◌++◌, false, IfOk, Err, MatchResult, Ok, OnErr};
 ghost use Rattle.avc_bits.specs.Bits.{at, bits_before_stop, bits_of, more_data, number_of, passed, start, times};
 ghost use Rattle.avc_bits.specs.Codes.{align, flag, se, se_within, signed_value, skip, te, te_to, u, u_to, ue, ue_to, zeros_before_one};
 

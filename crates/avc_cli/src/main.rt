@@ -1,11 +1,11 @@
-//! `avcdec`: decodes a byte stream of H.264 (Annex B), and shows what is in it, on the command line.
+//! `avcdec`: decodes a byte stream of H.264 (Annex B), shows what is in it, and cuts it, on the command line.
 #![tactic(auto)]
 
 mod request;
 #[cfg(test)]
 mod tests;
 
-use avc_run::{Answer, RunFault, answer_status, decode, fault_line, units};
+use avc_run::{Answer, RunFault, answer_status, cut, decode, fault_line, headers, units};
 use clap::error::ErrorKind;
 use request::{Request, requested, words_of};
 use std::io;
@@ -31,6 +31,8 @@ fn carry_out(rt: &HostRuntime, request: Request) -> u8 {
     match request {
         Request::Decode => decode(alloc, &mut reader, &mut writer, &mut errors),
         Request::Units => units(alloc, &mut reader, &mut writer, &mut errors),
+        Request::Headers => headers(alloc, &mut reader, &mut writer, &mut errors),
+        Request::Cut(number) => cut(alloc, number, &mut reader, &mut writer, &mut errors),
     }
 }
 

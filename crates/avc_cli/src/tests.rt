@@ -22,6 +22,20 @@ fn taken(alloc: Global, line: &str) -> Result<Result<Request, (ErrorKind, i32)>,
 fn takes_words(rt: HostRuntime) -> Result<(), Fail> {
     let alloc = rt.alloc();
     assert_eq!(rt; taken(alloc, "avcdec units")?, Ok(Request::Units));
+    assert_eq!(rt; taken(alloc, "avcdec headers")?, Ok(Request::Headers));
+    assert_eq!(rt; taken(alloc, "avcdec cut 0")?, Ok(Request::Cut(0)));
+    assert_eq!(rt;
+        taken(alloc, "avcdec cut 4294967295")?,
+        Ok(Request::Cut(4_294_967_295))
+    );
+    assert_eq!(rt;
+        taken(alloc, "avcdec cut 4294967296")?,
+        Err((ErrorKind::ValueValidation, 2))
+    );
+    assert_eq!(rt;
+        taken(alloc, "avcdec cut")?,
+        Err((ErrorKind::MissingRequiredArgument, 2))
+    );
     assert_eq!(rt;
         taken(alloc, "avcdec --help")?,
         Err((ErrorKind::DisplayHelp, 0))

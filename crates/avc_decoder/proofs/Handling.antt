@@ -5,10 +5,10 @@ use Rattle.avc_types.specs.declared.fault.Fault.{Fault}
 use Rattle.avc_annexb.specs.declared.unit.Unit.{Unit as Piece}
 use Rattle.avc_params.specs.Tables.{Sets, sets_after}
 use Rattle.avc_params.specs.declared.set_unit.SetUnit.{SetUnit}
-use Rattle.avc_slice.specs.Within.{IsHeader}
+use Rattle.avc_slice.specs.Header.{is_idr}
 use Rattle.avc_slice.specs.declared.header.Header.{Header}
 use Rattle.avc_slice.specs.declared.slice.Slice.{Slice}
-use Rattle.avc_units.specs.GrouperState.{GrouperState, IfSlice, IsTaken, after_fault, begins_a_picture, after_step, last_header_after, open_picture_of}
+use Rattle.avc_units.specs.GrouperState.{GrouperState, IfSlice, IsSliceUnder, after_fault, begins_a_picture, after_step, last_header_after, open_picture_of}
 use Rattle.avc_units.specs.Grouping.{OpenPictureFacts, set_units, step}
 use Rattle.avc_units.specs.declared.step.Next.{Next}
 use Rattle.avc_units.specs.declared.step.Next.TheVariants.{Begins, Continues, FaultOfOpen, FaultOfOwn, Nothing, Refusal}
@@ -17,10 +17,11 @@ use Rattle.avc_decoder_core.specs.History.{History}
 use Rattle.avc_decoder_core.specs.Pictures.{output_pictures}
 use Rattle.avc_decoder.specs.FirstFault.{OpenPicture, first_fault, history_of}
 use Rattle.avc_decoder.specs.Events.{Outcome, Phase, after_closing, after_next, after_unit, base_in, closed_outcome, closing_result, failed_at, history_in, in_phase, is_running, is_waiting, open_facts_in, open_picture_facts, pictures, running, sets_named, no_change, waiting}
-use Rattle.avc_decoder.specs.States.{Agrees, Fits, Handles, IsNamed, PicturesState, closed_if, closed_in, is_full_in, after_outcome, last_header, next_in, open_picture_in, phase_of, state_of, after_fault_if}
+use Rattle.avc_decoder.specs.States.{Agrees, CanContinue, Fits, Handles, IsNamed, PicturesState, closed_if, closed_in, is_full_in, after_outcome, last_header, next_in, open_picture_in, phase_of, state_of, after_fault_if}
 use Rattle.avc_decoder.specs.declared.event.Event.{Event}
-use Rattle.avc_decoder.proofs.Keeping.{some_is, within_named}
-use Rattle.avc_decoder.proofs.Stepping.{Brings, BringsNext, brings_step, keeps_sets, same_set}
+use Rattle.avc_decoder.proofs.Closing.{some_is}
+use Rattle.avc_decoder.proofs.Keeping.{within_named}
+use Rattle.avc_decoder.proofs.Stepping.{Brings, BringsNext, brings_step, keeps_sets, same_kind, same_set}
 
 or_true : (b : Bool) → (b || true) ≡ true
 or_true true = refl
@@ -39,7 +40,7 @@ kept_at p es t = record { history = base_in p; open_picture = open_picture_in p;
 abbrev OpenFor : Next → Option OpenPicture → Type 0
 OpenFor (Begins s) open_picture = open_picture ≡ None
 OpenFor (Continues s) None = ⊥
-OpenFor (Continues s) (Some o) = ((o.last).header).pic_parameter_set_id ≡ (s.header).pic_parameter_set_id
+OpenFor (Continues s) (Some o) = (((o.last).header).pic_parameter_set_id ≡ (s.header).pic_parameter_set_id) × (is_idr (o.last).header ≡ is_idr s.header)
 OpenFor _ open_picture = Unit {0}
 
 abbrev LastIs : Next → Option Header → Option OpenPicture → Type 0
@@ -119,14 +120,14 @@ slice_done None g k h o read es runs last named = record {
   taken = refl;
 }
 
-named_is : (sets : Sets) (s : Slice) (t : IsTaken sets s) → sets_named sets s.header ≡ Some (t.read.pps, t.read.sps)
-named_is sets s t = cc (t.read.pps_is, t.read.sps_is)
+named_is : (sets : Sets) (s : Slice) (t : IsSliceUnder sets s) → sets_named sets s.header ≡ Some (t.pps, t.sps)
+named_is sets s t = cc (t.pps_is, t.sps_is)
 
-begins_done : (g : GrouperState) (p : Phase) (unit : ℕ) (s : Slice) (es : List Event) (t : ℕ) → g.running ≡ (is_running p || true) → g.last ≡ Some s.header → IsTaken (sets_after g.sets) s → DoneAt (sets_after g.sets) g p unit (Begins s) es t
+begins_done : (g : GrouperState) (p : Phase) (unit : ℕ) (s : Slice) (es : List Event) (t : ℕ) → g.running ≡ (is_running p || true) → g.last ≡ Some s.header → IsSliceUnder (sets_after g.sets) s → DoneAt (sets_after g.sets) g p unit (Begins s) es t
 begins_done g p unit s es t runs last taken =
-    let o : OpenPicture = record { before = base_in p; sps = taken.read.sps; pps = taken.read.pps; last = s; earlier = [] } in
+    let o : OpenPicture = record { before = base_in p; sps = taken.sps; pps = taken.pps; last = s; earlier = [] } in
     rw (named_is (sets_after g.sets) s taken)
-    (slice_done (first_fault o false) g (kept_at p es t) (base_in p) o _ (pictures (output_pictures (base_in p) (history_of o))) (runs ∙ or_true (is_running p)) last (record { pps = taken.read.pps_is; sps = taken.read.sps_is }))
+    (slice_done (first_fault o false) g (kept_at p es t) (base_in p) o _ (pictures (output_pictures (base_in p) (history_of o))) (runs ∙ or_true (is_running p)) last (record { pps = taken.pps_is; sps = taken.sps_is }))
 
 continues_done : (g : GrouperState) (h : History) (o : OpenPicture) (unit : ℕ) (s : Slice) (es : List Event) (t : ℕ) → g.running ≡ true → g.last ≡ Some s.header → IsNamed (sets_after g.sets) o
     → ((o.last).header).pic_parameter_set_id ≡ (s.header).pic_parameter_set_id → DoneAt (sets_after g.sets) g (running h (Some o)) unit (Continues s) es t
@@ -136,7 +137,7 @@ continues_done g h o unit s es t runs last named same =
     (record { pps = ap (sets_after g.sets).pps (sym same) ∙ named.pps; sps = named.sps })
 
 done_at : (g : GrouperState) (p : Phase) (unit : ℕ) (next : Next) (es : List Event) (t : ℕ) → g.running ≡ (is_running p || begins_a_picture next) → LastIs next g.last (open_picture_in p)
-    → IfSome (open_picture_in p) (IsNamed (sets_after g.sets)) → OpenFor next (open_picture_in p) → IfSlice next (IsTaken (sets_after g.sets)) → DoneAt (sets_after g.sets) g p unit next es t
+    → IfSome (open_picture_in p) (IsNamed (sets_after g.sets)) → OpenFor next (open_picture_in p) → IfSlice next (IsSliceUnder (sets_after g.sets)) → DoneAt (sets_after g.sets) g p unit next es t
 done_at g p unit Nothing es t runs last named open' taken = stays_done g p es [] t runs last named
 done_at g p unit (Refusal f) es t runs last named open' taken = stays_done g p es _ t runs last named
 done_at g p unit (FaultOfOpen f) es t runs last named open' taken = rw (history_same p) (fault_done g (kept_at p es t) (history_in p) unit f 0)
@@ -144,22 +145,24 @@ done_at g p unit (FaultOfOwn f) es t runs last named open' taken = rw (history_s
 done_at g p unit (Begins s) es t runs last named open' taken = begins_done g p unit s es t runs last taken
 done_at g waiting unit (Continues s) es t runs last named open' taken = absurd open'
 done_at g (running h None) unit (Continues s) es t runs last named open' taken = absurd open'
-done_at g (running h (Some o)) unit (Continues s) es t runs last named open' taken = continues_done g h o unit s es t runs last named open'
+done_at g (running h (Some o)) unit (Continues s) es t runs last named open' taken = continues_done g h o unit s es t runs last named open'.0
 
-done : (g g' : GrouperState) (k k' : PicturesState) (p : Phase) (unit : ℕ) (next : Next) → Ready g k p next → IfSlice next (IsTaken (sets_after g.sets))
+done : (g g' : GrouperState) (k k' : PicturesState) (p : Phase) (unit : ℕ) (next : Next) → Ready g k p next → IfSlice next (IsSliceUnder (sets_after g.sets))
     → k' ≡ after_outcome (next_in (sets_after g.sets) unit next k) k → g' ≡ after_fault_if (is_waiting (next_in (sets_after g.sets) unit next k).phase) g
     → Done g g' k k' (after_next (sets_after g.sets) unit p next)
 done g g' k k' p unit next r taken ek eg = rw (ek, eg, r.kept) (done_at g p unit next k.events k.taken r.runs r.last r.named r.for_next taken)
 
 -- what comes next can be carried out
-fits_at : (next : Next) (sets : Sets) (open_picture : Option OpenPicture) → OpenFor next open_picture → IfSome open_picture (IsNamed sets) → IfSlice next (IsTaken sets) → Fits sets next open_picture
+fits_at : (next : Next) (sets : Sets) (open_picture : Option OpenPicture) → OpenFor next open_picture → IfSome open_picture (IsNamed sets) → IfSlice next (IsSliceUnder sets) → Fits sets next open_picture
 fits_at Nothing sets open_picture open' named taken = tt
 fits_at (Refusal f) sets open_picture open' named taken = tt
 fits_at (FaultOfOpen f) sets open_picture open' named taken = tt
 fits_at (FaultOfOwn f) sets open_picture open' named taken = tt
 fits_at (Begins s) sets open_picture open' named taken = (taken, open')
 fits_at (Continues s) sets None open' named taken = absurd open'
-fits_at (Continues s) sets (Some o) open' named taken = (taken, λ q e. subst (λ (x : OpenPicture). IsHeader x.sps x.pps s.rbsp s.header) (some_is o q e) (within_named sets s o.pps o.sps taken (ap sets.pps (sym open') ∙ named.pps) named.sps))
+fits_at (Continues s) sets (Some o) open' named taken = λ q e.
+    let within = within_named sets s o.pps o.sps taken (ap sets.pps (sym open'.0) ∙ named.pps) named.sps in
+    subst (λ (x : OpenPicture). CanContinue x s) (some_is o q e) (record { within = within; idr = open'.1 })
 
 -- the sets before a slice are those after it
 same_next : (next : Next) (sets sets' : List SetUnit) (unit : ℕ) (p : Phase) → IfSlice next (λ _. sets' ≡ sets) → after_next (sets_after sets') unit p next ≡ after_next (sets_after sets) unit p next
@@ -215,7 +218,7 @@ closed_for (FaultOfOwn f) open' b = tt
 -- it stays open
 open_for : (next : Next) (info : OpenPictureFacts) (o : OpenPicture) → info.last ≡ (o.last).header → BringsNext (Some info) false next → OpenFor next (Some o)
 open_for (Begins s) info o e b = cc
-open_for (Continues s) info o e b = ap (λ (h : Header). h.pic_parameter_set_id) (sym e) ∙ same_set info.last s.header b.1
+open_for (Continues s) info o e b = (ap (λ (h : Header). h.pic_parameter_set_id) (sym e) ∙ same_set info.last s.header b.1, ap is_idr (sym e) ∙ same_kind info.last s.header b.1)
 open_for Nothing info o e b = tt
 open_for (Refusal f) info o e b = tt
 open_for (FaultOfOpen f) info o e b = tt
@@ -440,7 +443,7 @@ between_fault g g1 g2 k k1 u full found w a f i i1 j d faulty i2 even =
     rw (i2, i1, j, s.outcome) (subst (λ (x : PicturesState). Between (sets_after g.sets) (after_fault true (after_step g u w)) x (after_outcome (closed_if w.closes x) x) u w.next (in_phase (sets_after g.sets) u.index w p)) (sym s.kept) b')
 
 -- what comes next can be carried out
-pub between_fits : (sets : Sets) (g : GrouperState) (k k1 : PicturesState) (u : Piece) (next : Next) (y : Outcome) → Between sets g k k1 u next y → IfSlice next (IsTaken (sets_after g.sets)) → Fits (sets_after g.sets) next k1.open_picture
+pub between_fits : (sets : Sets) (g : GrouperState) (k k1 : PicturesState) (u : Piece) (next : Next) (y : Outcome) → Between sets g k k1 u next y → IfSlice next (IsSliceUnder (sets_after g.sets)) → Fits (sets_after g.sets) next k1.open_picture
 between_fits sets g k k1 u next y b taken = rw b.ready.kept (fits_at next (sets_after g.sets) (open_picture_in b.phase) b.ready.for_next b.ready.named taken)
 
 handles_of : (g g1 g' : GrouperState) (k k' : PicturesState) (u : Piece) → g1.sets ≡ g.sets ++ set_units (u ∷ []) → Done g1 g' k k' (after_unit (state_of g k) u) → Handles g k u g' k'
@@ -448,7 +451,7 @@ handles_of g g1 g' k k' u sets d = record { agrees = d.agrees; state = rw (d.pha
 
 -- what came next was done
 pub handles : (g g1 g' : GrouperState) (k k1 k' : PicturesState) (u : Piece) (next : Next) → g1.sets ≡ g.sets ++ set_units (u ∷ []) → Between (sets_after g.sets) g1 k k1 u next (after_unit (state_of g k) u)
-    → IfSlice next (IsTaken (sets_after g1.sets)) → IfSlice next (λ _. g1.sets ≡ g.sets) → k' ≡ after_outcome (next_in (sets_after g1.sets) u.index next k1) k1
+    → IfSlice next (IsSliceUnder (sets_after g1.sets)) → IfSlice next (λ _. g1.sets ≡ g.sets) → k' ≡ after_outcome (next_in (sets_after g1.sets) u.index next k1) k1
     → g' ≡ after_fault_if (is_waiting (next_in (sets_after g1.sets) u.index next k1).phase) g1 → Handles g k u g' k'
 handles g g1 g' k k1 k' u next sets b taken same ek eg =
     let d = done g1 g' k1 k' b.phase u.index next b.ready taken ek eg in

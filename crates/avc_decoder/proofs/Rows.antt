@@ -33,6 +33,10 @@ idr = 0 ∷ 0 ∷ 1 ∷ 0x65 ∷ 0x88 ∷ 0x84 ∷ 0x93 ∷ 0xC0 ∷ []
 abbrev skipping : List ℕ
 skipping = 0 ∷ 0 ∷ 1 ∷ 0x41 ∷ 0x9A ∷ 0x22 ∷ 0xA0 ∷ []
 
+-- the same with frame_num 2
+abbrev skipping_later : List ℕ
+skipping_later = 0 ∷ 0 ∷ 1 ∷ 0x41 ∷ 0x9A ∷ 0x42 ∷ 0xA0 ∷ []
+
 -- an IDR slice of one I_PCM macroblock: what stands before its samples, and these
 abbrev pcm : (front samples : List ℕ) → List ℕ
 pcm front samples = (0 ∷ 0 ∷ 1 ∷ 0x65 ∷ []) ++ front ++ samples ++ 0x80 ∷ []
@@ -84,12 +88,6 @@ profile = refl
 too_long : map seen (events 5 (sets ++ idr) true) ≡ refusal 0 faults.NalTooLong ∷ refusal 2 faults.NoParameterSet ∷ []
 too_long = refl
 
--- ---- what is not yet taken
-
--- a picture that is not full has the fault of the unit that cannot be read
-p_slice : seen_all (sets ++ pcm first_mb (of_one 80) ++ skipping) true ≡ shown 80 256 ∷ refusal 3 faults.NotYet ∷ []
-p_slice = refl
-
 -- ---- pictures
 
 rising : events max (sets ++ pcm first_mb (range_with_len 0 256 ++ replicate 64 0x40 ++ replicate 64 0xC0)) true
@@ -117,6 +115,14 @@ held_back = refl
 
 waits : seen_all (sets ++ skipping ++ pcm first_mb (of_one 80)) true ≡ shown 80 256 ∷ []
 waits = refl
+
+-- a skipped macroblock is that of the picture before
+p_picture : seen_all (sets ++ pcm first_mb (of_one 80) ++ skipping) true ≡ shown 80 256 ∷ shown 80 256 ∷ []
+p_picture = refl
+
+-- frame_num 1 is missing, and the sequence allows no gaps
+gap : seen_all (sets ++ pcm first_mb (of_one 80) ++ skipping_later) true ≡ shown 80 256 ∷ refusal 3 faults.FrameNumGap ∷ []
+gap = refl
 
 -- ---- slices
 

@@ -1,16 +1,17 @@
 -- What the grouper's steps bring, and when they keep the parameter sets.
 use Rattle.std.proofs.Common.{◌≡◌, ℕ, Bool, true, false, [], ◌∷◌, Option, Some, None, Result, Ok, Err, refl, sym, ◌∙◌, arith}
 use Rattle.std.proofs.lemmas.Bool.Decides.{nat_tests}
-use Rattle.std.specs.Prelude.{not, ◌==◌, ◌||◌}
+use Rattle.std.specs.Prelude.{is_some, not, ◌==◌, ◌||◌}
 use Rattle.avc_types.specs.declared.fault.Fault.{Fault}
 use Rattle.avc_types.specs.declared.fault.Fault.TheVariants.{DataPartition, ForbiddenBit}
 use Rattle.avc_annexb.specs.Units.{forbidden_zero_bit}
 use Rattle.avc_annexb.specs.declared.unit.Unit.{Unit as Piece}
 use Rattle.avc_params.specs.Tables.{Sets}
 use Rattle.avc_slice.specs.Begins.{begins}
+use Rattle.avc_slice.specs.Header.{is_idr}
 use Rattle.avc_slice.specs.declared.header.Header.{Header}
 use Rattle.avc_slice.specs.declared.slice.Slice.{Slice}
-use Rattle.avc_units.specs.Grouping.{Kind, OpenPictureFacts, boundary, is_start, kind, other, partition, no_effect, pps, running_step, set_fault, set_units, rbsp_of, slice, slice_step, sps, step, taken_slice, unreadable, waiting_step}
+use Rattle.avc_units.specs.Grouping.{Kind, OpenPictureFacts, boundary, is_start, kind, other, partition, no_effect, pps, running_step, set_fault, set_units, rbsp_of, slice, slice_step, sps, step, slice_in, unreadable, waiting_step}
 use Rattle.avc_units.specs.declared.step.Next.{Next}
 use Rattle.avc_units.specs.declared.step.Next.TheVariants.{Begins, Continues, FaultOfOpen, FaultOfOwn, Refusal}
 use Rattle.avc_units.specs.declared.step.Step.{Step}
@@ -67,7 +68,7 @@ pps_step sets open' u None e = rw e (record { brings = tt })
 pps_step sets open' u (Some f) e = rw e (record { brings = tt })
 
 brings_running : (sets : Sets) (open' : Option OpenPictureFacts) (u : Piece) (k : Kind) → Brings open' (running_step sets open' u k)
-brings_running sets open' u (slice idr) = brings_slice open' (is_start u) (taken_slice sets u idr)
+brings_running sets open' u (slice idr) = brings_slice open' (is_start u) (slice_in sets u)
 brings_running sets open' u partition = brings_unreadable open' DataPartition
 brings_running sets open' u boundary = record { brings = tt }
 brings_running sets open' u other = record { brings = tt }
@@ -160,3 +161,13 @@ same_number a b h = grind (arith, nat_tests)
 -- it names the picture parameter set that the slice before it names
 pub same_set : (g h : Header) → begins g h ≡ false → g.pic_parameter_set_id ≡ h.pic_parameter_set_id
 same_set g h e = grind (arith, nat_tests, e)
+
+same_some : (g h : Header) (a b : Option ℕ) → begins (record g { idr_pic_id = a }) (record h { idr_pic_id = b }) ≡ false → is_some a ≡ is_some b
+same_some g h (Some a) (Some b) e = refl
+same_some g h None None e = refl
+same_some g h (Some a) None e = grind (arith, e)
+same_some g h None (Some b) e = grind (arith, e)
+
+-- it is one of an IDR picture where the slice before it is
+pub same_kind : (g h : Header) → begins g h ≡ false → is_idr g ≡ is_idr h
+same_kind g h e = same_some g h g.idr_pic_id h.idr_pic_id e

@@ -9,16 +9,17 @@ use Rattle.avc_params.specs.declared.sps.Sps.{Sps}
 use Rattle.avc_params.specs.declared.pps.Pps.{Pps}
 use Rattle.avc_slice.specs.declared.header.Header.{Header}
 use Rattle.avc_slice.specs.declared.slice.Slice.{Slice}
+use Rattle.avc_slice.specs.Header.{is_idr}
 use Rattle.avc_slice.specs.Within.{IsHeader}
-use Rattle.avc_picture.specs.Decoding.{Decoding, with_slice_more}
-use Rattle.avc_units.specs.GrouperState.{GrouperState, IsTaken, after_fault}
+use Rattle.avc_picture.specs.Decoding.{Decoding, HasNoFault, with_slice_more}
+use Rattle.avc_units.specs.GrouperState.{GrouperState, IsSliceUnder, after_fault}
 use Rattle.avc_units.specs.declared.step.Next.{Next}
 use Rattle.avc_units.specs.declared.step.Next.TheVariants.{Begins, Continues}
 use Rattle.avc_decoder_core.specs.History.{History, history_at_opening}
 use Rattle.avc_decoder_core.specs.Pictures.{held_pictures}
 use Rattle.avc_decoder_core.specs.SequenceState.{SequenceState, empty_sequence, current_history}
 use Rattle.avc_decoder.specs.FirstFault.{OpenPicture, oldest}
-use Rattle.avc_decoder.specs.IdrPictures.{IsFaultless, IsIntraPicture, IsRefused}
+use Rattle.avc_decoder.specs.PictureFrames.{HasItsFrames, IsRefused}
 use Rattle.avc_decoder.specs.Events.{Phase, waiting, running, State, first_state, Outcome, no_change, pictures, closed_picture, after_next, after_unit, state_after, base_in, events, open_picture_facts, failed_at, history_in, at_end}
 use Rattle.avc_decoder.specs.Laws.{state_through}
 use Rattle.avc_decoder.specs.declared.event.Event.{Event}
@@ -80,8 +81,8 @@ pub record IsOpenIn (s : SequenceState) (last_unit : ℕ) (d : Decoding 32) : Ty
   pub on : s.failed ≡ false
   pub slices : d.slices ≡ last ∷ earlier
   pub unit : last_unit ≡ last.unit
-  pub intra : IsIntraPicture d
-  pub well : IsFaultless d
+  pub frames : HasItsFrames s last.header d
+  pub well : HasNoFault d
   pub open_picture : s.open_picture ≡ Some (record { sps = d.sps; header = (oldest last earlier).header })
   pub first : ((oldest last earlier).header).first_mb_in_slice ≡ 0
   pub stands : history_at_opening d.sps (oldest last earlier).header s.history ≡ Ok (current_history s)
@@ -102,9 +103,12 @@ pub record HasOutcome (o : Outcome) (q : QueueState) (last_unit : ℕ) (picture 
 
 -- One slice more was decoded, or its fault went out.
 abbrev pub Decodes : (d : Decoding 32) → Slice → SequenceState → QueueState → Option (Decoding 32) → SequenceState → QueueState → Type 0
-Decodes d slice s q (Some d') s' q' = (d.failed ≡ false) × (d' ≡ with_slice_more slice d) × IsIntraPicture d' × IsFaultless d' × (s' ≡ s) × (q' ≡ q)
+Decodes d slice s q (Some d') s' q' = (d.failed ≡ false) × (d' ≡ with_slice_more slice d) × HasItsFrames s slice.header d' × HasNoFault d' × (s' ≡ s) × (q' ≡ q)
 Decodes d slice s q None s' q' =
-    (f : Fault) × IsRefused (with_slice_more slice d) slice f × (s' ≡ empty_sequence) × (q' ≡ with_events (failed_at (current_history s) slice.unit f 0).events q)
+    (f : Fault)
+    × IsRefused (current_history s) (with_slice_more slice d) slice f
+    × (s' ≡ empty_sequence)
+    × (q' ≡ with_events (failed_at (current_history s) slice.unit f 0).events q)
 
 -- what closing the open picture gives, if there is one
 abbrev pub closed_in : History → Option OpenPicture → Outcome
@@ -191,10 +195,15 @@ pub record Agrees (g : GrouperState) (k : PicturesState) : Type 0 where
   pub no_picture : g.running ≡ false → k.open_picture ≡ None
   pub named : IfSome k.open_picture (IsNamed (sets_after g.sets))
 
+-- A further slice of the picture, under its parameter sets; it is one of an IDR picture where the others are (7.4.1.2.4).
+pub record CanContinue (o : OpenPicture) (s : Slice) : Type 0 where
+  pub within : IsHeader o.sps o.pps s.rbsp s.header
+  pub idr : is_idr (o.last).header ≡ is_idr s.header
+
 -- What a step brings can be carried out.
 abbrev pub Fits : Sets → Next → Option OpenPicture → Type 0
-Fits sets (Begins s) open_picture = IsTaken sets s × (open_picture ≡ None)
-Fits sets (Continues s) open_picture = IsTaken sets s × ((o : OpenPicture) → open_picture ≡ Some o → IsHeader o.sps o.pps s.rbsp s.header)
+Fits sets (Begins s) open_picture = IsSliceUnder sets s × (open_picture ≡ None)
+Fits sets (Continues s) open_picture = (o : OpenPicture) → open_picture ≡ Some o → CanContinue o s
 Fits sets _ open_picture = Unit {0}
 
 -- what a step does once the open picture is closed, where it closes it

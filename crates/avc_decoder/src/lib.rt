@@ -1,6 +1,7 @@
 //! From bytes to pictures and refusals.
 #![tactic(auto)]
 
+mod active_sets;
 mod calls;
 mod decoder;
 mod error;

@@ -1,19 +1,21 @@
-ghost use Rattle.std.specs.Prelude.{◌≡◌, false, true, None, Some, IfOk, OnOk, is_none};
+ghost use Rattle.std.specs.Prelude.{◌≡◌, false, None, Some, IfOk, OnOk, is_none};
 ghost use Rattle.avc_decoder.specs.Events.{after_first_slice, after_next_slice, failed_at, is_waiting, pictures, running};
-ghost use Rattle.avc_decoder.specs.IdrPictures.{CanHave, IsFaultless};
+ghost use Rattle.avc_decoder.specs.PictureFrames.{frames_for, CanHave};
 ghost use Rattle.avc_decoder.specs.States.{closed_in, open_picture_of, with_events, HasOutcome, Decodes, IsOpenIn};
 ghost use Rattle.avc_decoder_core.specs.Pictures.{held_pictures};
-ghost use Rattle.avc_decoder_core.specs.SequenceState.{empty_sequence, current_history};
+ghost use Rattle.avc_decoder_core.specs.SequenceState.{empty_sequence, current_history, AreFramesIn, AreStoredIn};
 ghost use Rattle.avc_params.specs.Within.{IsPps, IsSps};
+ghost use Rattle.avc_picture.specs.Decoding.{HasNoFault};
 ghost use Rattle.avc_slice.specs.Header.{is_idr};
 ghost use Rattle.avc_slice.specs.Within.{IsHeader};
 
+use crate::active_sets::ActiveSets;
 use crate::queue::Queue;
 use avc_decoder_core::Sequence;
-use avc_params::{Pps, Sps};
+use avc_decoder_core::laws::missing_numbers_keep_the_order;
 use avc_picture::PictureDecoder;
-use avc_plane::PADDING;
-use avc_slice::Slice;
+use avc_plane::{Frame, PADDING};
+use avc_slice::{Header, Slice};
 use avc_types::{Fault, OutOfMemory, PictureError};
 use std::alloc::Global;
 
@@ -55,27 +57,28 @@ pub fn begin_picture(
     sequence: &mut Sequence,
     queue: &mut Queue,
     slice: &Slice,
-    sps: &Sps,
-    pps: &Pps,
+    sets: ActiveSets,
 ) -> Result<Option<PictureDecoder<PADDING>>, OutOfMemory>
     requires going { sequence.old.failed ≡ false }
     requires rest { sequence.old.open_picture ≡ None }
-    requires sps { IsSps sps.now }
-    requires pps { IsPps pps.now }
-    requires within { IsHeader sps.now pps.now slice.now.rbsp slice.now.header }
-    requires idr { is_idr slice.now.header ≡ true }
-    ensures fault { IfOk result (λ picture. is_none picture ≡ is_waiting (after_first_slice (Some (pps.now, sps.now)) sequence.old.history slice.now).phase) }
-    ensures state { IfOk result (λ picture. HasOutcome (after_first_slice (Some (pps.now, sps.now)) sequence.old.history slice.now) queue.old slice.now.unit picture sequence.new queue.new) }
+    requires sps { IsSps sets.sps.now }
+    requires pps { IsPps sets.pps.now }
+    requires within { IsHeader sets.sps.now sets.pps.now slice.now.rbsp slice.now.header }
+    ensures fault { IfOk result (λ picture. is_none picture ≡ is_waiting (after_first_slice (Some (sets.entry.pps.now, sets.entry.sps.now)) sequence.old.history slice.now).phase) }
+    ensures state { IfOk result (λ picture. HasOutcome (after_first_slice (Some (sets.entry.pps.now, sets.entry.sps.now)) sequence.old.history slice.now) queue.old slice.now.unit picture sequence.new queue.new) }
 {
     if slice.header.first_mb_in_slice.get() != 0 {
         fail(sequence, queue, slice.unit, Fault::MissingMacroblocks)?;
         return Ok(None);
     }
-    match sequence.open(&slice.header, sps) {
+    match sequence.open(&slice.header, sets.sps) {
         Ok(out) => {
             queue.show(out)?;
-            let picture = PictureDecoder::begin(alloc, sps, pps, &[])?;
+            let frames = frames_for(sequence, &slice.header);
+            let picture = PictureDecoder::begin(alloc, sets.sps, sets.pps, frames)?;
             let picture = decode_slice(sequence, queue, picture, slice)?;
+            // at a fault what the missing numbers let out and what was held then go out in one order
+            missing_numbers_keep_the_order();
             Ok(picture)
         }
         Err(PictureError::Fault(fault)) => {
@@ -95,12 +98,25 @@ pub fn continue_picture(
     slice: &Slice,
 ) -> Result<Option<PictureDecoder<PADDING>>, OutOfMemory>
     requires picture { IsOpenIn sequence.old last_unit picture }
-    requires within { CanHave picture slice.now }
+    requires can { CanHave sequence.old picture slice.now }
     ensures fault { IfOk result (λ picture'. is_none picture' ≡ is_waiting (after_next_slice (running sequence.old.history (open_picture_of sequence.old.history (Some picture))) slice.now).phase) }
     ensures state { IfOk result (λ picture'. HasOutcome (after_next_slice (running sequence.old.history (open_picture_of sequence.old.history (Some picture))) slice.now) queue.old slice.now.unit picture' sequence.new queue.new) }
 {
     let picture = decode_slice(sequence, queue, picture, slice)?;
     Ok(picture)
+}
+
+/// The frames with which a picture is decoded, a slice of which has this header. An IDR picture has I slices alone (7.4.3), and
+/// needs none; those that are stored may have another size.
+fn frames_for<'a>(sequence: &'a Sequence, header: &Header) -> &'a [Frame<PADDING>]
+    ensures value { result.now ≡ frames_for header.now sequence.now }
+    ensures stored { is_idr header.now ≡ false → sequence.now.failed ≡ false → AreStoredIn (current_history sequence.now) sequence.now.frames }
+    ensures sized { is_idr header.now ≡ false → sequence.now.failed ≡ false → AreFramesIn (current_history sequence.now) sequence.now.frames }
+{
+    if header.is_idr() {
+        return &[];
+    }
+    sequence.frames()
 }
 
 /// Decodes one slice more. At a fault all held pictures go out, and then the refusal.
@@ -110,11 +126,11 @@ fn decode_slice(
     mut picture: PictureDecoder<PADDING>,
     slice: &Slice,
 ) -> Result<Option<PictureDecoder<PADDING>>, OutOfMemory>
-    requires can { CanHave picture slice.now }
-    requires well { IsFaultless picture }
+    requires can { CanHave sequence.old picture slice.now }
+    requires well { HasNoFault picture }
     ensures { IfOk result (λ picture'. Decodes picture slice.now sequence.old queue.old picture' sequence.new queue.new) }
 {
-    match picture.slice(slice, &[]) {
+    match picture.slice(slice, frames_for(sequence, &slice.header)) {
         Ok(()) => Ok(Some(picture)),
         Err(PictureError::Fault(fault)) => {
             fail(sequence, queue, slice.unit, fault)?;

@@ -1,16 +1,16 @@
-ghost use Rattle.std.specs.Prelude.{◌≡◌, false, true, None, Some, IfOk, OnOk, slice_get};
+ghost use Rattle.std.specs.Prelude.{◌≡◌, false, None, Some, IfOk, OnOk, slice_get};
 ghost use Rattle.avc_decoder.specs.Events.{after_first_slice, after_next_slice, failed_at, is_waiting, running};
 ghost use Rattle.avc_decoder.specs.FirstFault.{OpenPicture};
-ghost use Rattle.avc_decoder.specs.States.{closed_in, held_outcome, history_on, is_full_in, after_outcome, after_pictures_take, no_pictures, refused_in};
+ghost use Rattle.avc_decoder.specs.States.{closed_in, held_outcome, history_on, is_full_in, after_outcome};
+ghost use Rattle.avc_decoder.specs.States.{after_pictures_take, no_pictures, refused_in, CanContinue};
 ghost use Rattle.avc_params.specs.Within.{IsPps, IsSps};
-ghost use Rattle.avc_slice.specs.Header.{is_idr};
 ghost use Rattle.avc_slice.specs.Within.{IsHeader};
 
+use crate::active_sets::ActiveSets;
 use crate::event::Event;
 use crate::open_picture::{begin_picture, close_picture, continue_picture, empty, fail};
 use crate::queue::Queue;
 use avc_decoder_core::Sequence;
-use avc_params::{Pps, Sps};
 use avc_picture::PictureDecoder;
 use avc_plane::PADDING;
 use avc_slice::Slice;
@@ -89,15 +89,14 @@ impl Pictures {
     }
 
     /// Opens a picture with its first slice. Says whether that was a fault.
-    pub fn begin(&mut self, slice: Slice, sps: &Sps, pps: &Pps) -> Result<bool, OutOfMemory>
+    pub fn begin(&mut self, slice: Slice, sets: ActiveSets) -> Result<bool, OutOfMemory>
         requires going { self.old.failed ≡ false }
         requires rest { self.old.open_picture ≡ None }
-        requires sps { IsSps sps.now }
-        requires pps { IsPps pps.now }
-        requires within { IsHeader sps.now pps.now slice.rbsp slice.header }
-        requires idr { is_idr slice.header ≡ true }
-        ensures fault { IfOk result (λ fault. fault ≡ is_waiting (after_first_slice (Some (pps.now, sps.now)) self.old.history slice).phase) }
-        ensures state { OnOk result (self.new ≡ after_outcome (after_first_slice (Some (pps.now, sps.now)) self.old.history slice) self.old) }
+        requires sps { IsSps sets.sps.now }
+        requires pps { IsPps sets.pps.now }
+        requires within { IsHeader sets.sps.now sets.pps.now slice.rbsp slice.header }
+        ensures fault { IfOk result (λ fault. fault ≡ is_waiting (after_first_slice (Some (sets.entry.pps.now, sets.entry.sps.now)) self.old.history slice).phase) }
+        ensures state { OnOk result (self.new ≡ after_outcome (after_first_slice (Some (sets.entry.pps.now, sets.entry.sps.now)) self.old.history slice) self.old) }
     {
         self.failed = true;
         self.last_unit = slice.unit;
@@ -106,8 +105,7 @@ impl Pictures {
             &mut self.sequence,
             &mut self.queue,
             &slice,
-            sps,
-            pps,
+            sets,
         )?;
         let fault = picture.is_none();
         self.picture = picture;
@@ -118,8 +116,7 @@ impl Pictures {
     /// Decodes one slice more of the open picture, if there is one. Says whether that was a fault.
     pub fn next_slice(&mut self, slice: Slice) -> Result<bool, OutOfMemory>
         requires going { self.old.failed ≡ false }
-        requires within { (o : OpenPicture) → self.old.open_picture ≡ Some o → IsHeader o.sps o.pps slice.rbsp slice.header }
-        requires idr { is_idr slice.header ≡ true }
+        requires continues { (o : OpenPicture) → self.old.open_picture ≡ Some o → CanContinue o slice }
         ensures fault { IfOk result (λ fault. fault ≡ is_waiting (after_next_slice (running self.old.history self.old.open_picture) slice).phase) }
         ensures state { OnOk result (self.new ≡ after_outcome (after_next_slice (running self.old.history self.old.open_picture) slice) self.old) }
     {

@@ -1,9 +1,12 @@
 ghost use Rattle.std.specs.Prelude.{◌≡◌, None, Some, false, IfOk, OnOk, slice_get};
 ghost use Rattle.avc_decoder.specs.Events.{after_first_slice, is_waiting, sets_named};
-ghost use Rattle.avc_decoder.specs.States.{closed_if, after_stream_end, after_stream_take, after_unit_in_stream, after_outcome, next_in, new_stream, after_fault_if, Agrees, Fits, Handles};
+ghost use Rattle.avc_decoder.specs.States.{closed_if, after_stream_end, after_stream_take};
+ghost use Rattle.avc_decoder.specs.States.{after_unit_in_stream, after_outcome, next_in, new_stream};
+ghost use Rattle.avc_decoder.specs.States.{after_fault_if, Agrees, Fits, Handles};
 ghost use Rattle.avc_params.specs.Tables.{sets_after};
-ghost use Rattle.avc_units.specs.GrouperState.{IsTaken};
+ghost use Rattle.avc_units.specs.GrouperState.{IsSliceUnder};
 
+use crate::active_sets::ActiveSets;
 use crate::event::Event;
 use crate::pictures::Pictures;
 use avc_annexb::Unit;
@@ -151,7 +154,7 @@ fn perform(
 fn begin(grouper: &Grouper, pictures: &mut Pictures, slice: Slice) -> Result<bool, OutOfMemory>
     requires going { pictures.old.failed ≡ false }
     requires rest { pictures.old.open_picture ≡ None }
-    requires taken { IsTaken (sets_after grouper.now.sets) slice }
+    requires within { IsSliceUnder (sets_after grouper.now.sets) slice }
     ensures fault { IfOk result (λ fault. fault ≡ is_waiting (after_first_slice (sets_named (sets_after grouper.now.sets) slice.header) pictures.old.history slice).phase) }
     ensures state { OnOk result (pictures.new ≡ after_outcome (after_first_slice (sets_named (sets_after grouper.now.sets) slice.header) pictures.old.history slice) pictures.old) }
 {
@@ -162,6 +165,6 @@ fn begin(grouper: &Grouper, pictures: &mut Pictures, slice: Slice) -> Result<boo
     let Some(sps) = table.sps(pps.seq_parameter_set_id) else {
         return Ok(false);
     };
-    let fault = pictures.begin(slice, sps, pps)?;
+    let fault = pictures.begin(slice, ActiveSets { sps, pps })?;
     Ok(fault)
 }

@@ -1,1 +1,15 @@
-pub mod Idr
+pub mod Places
+pub mod References
+pub mod FramesAt
+pub mod StayingFrames
+pub mod Entering
+pub mod Storing
+pub mod SameSequence
+pub mod LongerState
+pub mod State
+pub mod StoredEntry
+pub mod SettingMarks
+pub mod Outputs
+pub mod MissingNumbers
+pub mod Held
+pub mod Sequences

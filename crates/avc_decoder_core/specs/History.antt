@@ -14,6 +14,7 @@ use Rattle.avc_slice.specs.declared.header.Header.{Header}
 use Rattle.avc_slice.specs.Header.{is_idr, is_reference, has_operation_5}
 use Rattle.avc_poc.specs.OrderCounts.{Counts, Past, picture, missing, order_counts, order_of}
 use Rattle.avc_marking.specs.Marks.{MarkingEntry, Marks, marks, prev_ref_frame_num, missing_frame_nums}
+use Rattle.avc_dpb.specs.declared.output.Output.TheVariants.{Full}
 use Rattle.avc_dpb.specs.Bumping.{PriorPictures, remain, are_output, are_dropped, Arrival, Buffer, buffer_after, held_in_output_order}
 
 -- A closed picture with its parameter set, its first slice's header and its planes; or a frame number
@@ -100,7 +101,7 @@ prior_pictures_of h = elim h.marking [
 ]
 
 -- PicOrderCnt (8.2.1); 0 at a fault, at which there is no picture
-abbrev order_or_0 : Result Counts Fault → ℤ
+abbrev pub order_or_0 : Result Counts Fault → ℤ
 order_or_0 (Ok c) = order_of c
 order_or_0 (Err f) = pos 0
 
@@ -112,6 +113,7 @@ arrival (decoded_picture sps h planes) older = record {
   is_reference = is_reference h;
   prior_pictures = prior_pictures_of h;
   capacity = dpb_size sps;
+  max_num_reorder_frames = None;
   references = map (λ r. r.entry) (references_of (decoded_picture sps h planes ∷ older));
 }
 arrival (missing_frame sps frame_num) older = record {
@@ -120,6 +122,7 @@ arrival (missing_frame sps frame_num) older = record {
   is_reference = true;
   prior_pictures = remain;
   capacity = dpb_size sps;
+  max_num_reorder_frames = None;
   references = map (λ r. r.entry) (references_of (missing_frame sps frame_num ∷ older));
 }
 
@@ -130,7 +133,7 @@ arrivals (e ∷ older) = arrival e older ∷ arrivals older
 
 -- what has gone out, and what is in the buffer (C.4)
 abbrev pub buffer_of : History → Buffer
-buffer_of h = buffer_after (arrivals h)
+buffer_of h = buffer_after Full (arrivals h)
 
 -- the places of the pictures that go out where history `old` has become `new` (C.4.5.3)
 abbrev pub new_output : (old new : History) → List ℕ
@@ -147,7 +150,7 @@ abbrev pub entry_at : History → (place : ℕ) → Option Entry
 entry_at h place = elim (length h - place) [ zero ↦ None | suc n ↦ slice_get h n ]
 
 -- the planes of an entry; a missing frame number has none
-abbrev planes_in : Option Entry → Option Planes
+abbrev pub planes_in : Option Entry → Option Planes
 planes_in (Some (decoded_picture sps h planes)) = Some planes
 planes_in (Some (missing_frame sps frame_num)) = None
 planes_in None = None

@@ -1,16 +1,17 @@
 -- What a sequence stands for, and how it answers.
-use Rattle.std.specs.Prelude.{◌≡◌, ℕ, Bool, true, false, List, [], map, Option, Some, None, Result, Ok, Err}
+use Rattle.std.specs.Prelude.{◌≡◌, ℕ, Bool, true, false, List, [], map, IfSome, Option, Some, None, Result, Ok, Err}
 use Rattle.avc_types.specs.declared.fault.Fault.{Fault}
 use Rattle.avc_types.specs.declared.picture.Picture.{Picture}
 use Rattle.avc_types.specs.declared.picture_error.PictureError.{PictureError}
 use Rattle.avc_types.specs.declared.picture_error.PictureError.TheVariants.{Fault as Faulty, OutOfMemory}
 use Rattle.avc_types.specs.References.{StandAt}
 use Rattle.avc_plane.specs.Planes.{Planes}
-use Rattle.avc_plane.specs.Frames.{marked_frame, stored_at}
+use Rattle.avc_plane.specs.Frames.{AreFrames, AreSized, marked_frame, stored_at}
 use Rattle.avc_plane.specs.declared.frame.Frame.{Frame}
+use Rattle.avc_params.specs.Limits.{width_in_mbs, height_in_mbs}
 use Rattle.avc_params.specs.declared.sps.Sps.{Sps}
 use Rattle.avc_slice.specs.declared.header.Header.{Header}
-use Rattle.avc_decoder_core.specs.History.{History, history_at_opening, history_after_closing, stored_frames}
+use Rattle.avc_decoder_core.specs.History.{History, history_at_opening, history_after_closing, sequence_sps, stored_frames}
 use Rattle.avc_decoder_core.specs.Pictures.{output_pictures, held_pictures}
 
 -- the parameter set and the first slice's header of a picture that is being decoded
@@ -19,20 +20,23 @@ pub record OpenPictureStart : Type 0 where
   pub header : Header
 
 -- The history of closed pictures and missing numbers since the sequence was cleared, the picture that was opened on it, if there
--- is one, and whether memory was refused.
+-- is one, the stored frames with their marks in decoding order, and whether memory was refused.
 pub record SequenceState : Type 0 where
   pub history : History
   pub open_picture : Option OpenPictureStart
+  pub frames : List (Frame 32)
   pub failed : Bool
 
 -- with no history
 abbrev pub empty_sequence : SequenceState
-empty_sequence = record { history = []; open_picture = None; failed = false }
+empty_sequence = record { history = []; open_picture = None; frames = []; failed = false }
 
-abbrev pub with_open_picture : Sps → Header → SequenceState → SequenceState
-with_open_picture sps h s = record s { open_picture = Some (record { sps = sps; header = h }) }
+-- the picture of this first slice is open, and these are the stored frames
+abbrev pub with_open_picture : Sps → Header → List (Frame 32) → SequenceState → SequenceState
+with_open_picture sps h frames s = record s { open_picture = Some (record { sps = sps; header = h }); frames = frames }
 
-abbrev or_before : History → Result History Fault → History
+-- the history, or at a fault that before
+abbrev pub or_before : History → Result History Fault → History
 or_before before (Ok h) = h
 or_before before (Err f) = before
 
@@ -43,14 +47,14 @@ current_history s = elim s.open_picture [ None ↦ s.history | Some o ↦ or_bef
 -- A picture was opened, and these pictures go out, let out by the missing numbers.
 pub record IsOpened (old : SequenceState) (sps : Sps) (h : Header) (out : List Picture) (new : SequenceState) : Type 0 where
   pub going : old.failed ≡ false
-  pub state : new ≡ with_open_picture sps h old
+  pub state : new ≡ with_open_picture sps h new.frames old
   pub stands : history_at_opening sps h old.history ≡ Ok (current_history new)
   pub pictures : out ≡ output_pictures old.history (current_history new)
 
 -- The open picture was closed with these planes, and these pictures go out.
 pub record IsClosed (old : SequenceState) (o : OpenPictureStart) (planes : Planes) (out : List Picture) (new : SequenceState) : Type 0 where
   pub going : old.failed ≡ false
-  pub state : new ≡ record { history = new.history; open_picture = None; failed = false }
+  pub state : new ≡ record { history = new.history; open_picture = None; frames = new.frames; failed = false }
   pub closes : history_after_closing o.sps o.header planes (current_history old) ≡ Ok new.history
   pub pictures : out ≡ output_pictures (current_history old) new.history
 
@@ -70,3 +74,11 @@ pub record AreStoredIn {PAD : ℕ} (history : History) (frames : List (Frame PAD
   pub entries : List ℕ
   pub stand : StandAt entries (map marked_frame frames)
   pub stored : stored_at entries frames ≡ stored_frames history
+
+-- At most 16 frames, those that are pictures of the size that the sequence's parameter set gives.
+abbrev pub AreFramesIn : History → List (Frame 32) → Type 0
+AreFramesIn history frames = IfSome (sequence_sps history) (λ sps. AreFrames (width_in_mbs sps) (height_in_mbs sps) frames)
+
+-- The planes have the size of the open picture.
+abbrev pub AreSizedAs : OpenPictureStart → Planes → Type 0
+AreSizedAs o planes = AreSized (width_in_mbs o.sps) (height_in_mbs o.sps) planes

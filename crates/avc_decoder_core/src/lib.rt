@@ -1,11 +1,11 @@
 //! The history of one sequence of pictures (8.2, C.4).
 #![tactic(auto)]
 
-mod closed_picture;
-mod first_counts;
-mod marking;
-mod output;
-mod picture;
+mod cropping;
+mod frame_buffer;
+mod history_entry;
+pub mod laws;
+mod open_picture;
 mod sequence;
 
 pub use sequence::Sequence;

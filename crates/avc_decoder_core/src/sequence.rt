@@ -1,18 +1,26 @@
-ghost use Rattle.std.specs.Prelude.{◌≡◌, ◌∷◌, true, false, IfOk, IfErr, OnErr, None, Some};
-ghost use Rattle.avc_decoder_core.specs.History.{history_after_closing, history_at_opening};
-ghost use Rattle.avc_decoder_core.specs.SequenceState.{empty_sequence, current_history, Fails, AreStoredIn, IsCleared, IsClosed, IsOpened, OpenPictureStart};
+ghost use Rattle.std.specs.Prelude.{◌≡◌, ◌++◌, true, false, IfOk, IfErr, OnErr, OnOk, None, Some, is_some};
+ghost use Rattle.std.specs.Result.{is_ok};
+ghost use Rattle.avc_types.specs.References.{result_map};
+ghost use Rattle.avc_types.specs.declared.picture_error.PictureError.TheVariants.{OutOfMemory as NoMemory};
+ghost use Rattle.avc_decoder_core.specs.History.{history_after_closing, history_at_opening, is_same_sps, pasts, sequence_sps, with_missing};
+ghost use Rattle.avc_decoder_core.specs.Opening.{count_on, counts_over, missing_before, set_with, CountsMissing, CountsPicture, StoresAll};
+ghost use Rattle.avc_decoder_core.specs.SequenceState.{empty_sequence, current_history, Fails, AreFramesIn};
+ghost use Rattle.avc_decoder_core.specs.SequenceState.{AreSizedAs, AreStoredIn, IsCleared, IsClosed};
+ghost use Rattle.avc_decoder_core.specs.SequenceState.{IsOpened, OpenPictureStart};
 ghost use Rattle.avc_params.specs.Within.{IsSps};
 ghost use Rattle.avc_plane.specs.Frames.{padded_planes_of};
-ghost use Rattle.avc_slice.specs.Header.{has_idr_marking, is_idr};
+ghost use Rattle.avc_poc.specs.OrderCountState.{order_count_state};
+ghost use Rattle.avc_slice.specs.Header.{has_idr_marking, is_idr, is_reference};
 
-use crate::closed_picture::{ClosedPicture, OpenPictureHeader};
-use crate::first_counts::first_counts;
-use crate::marking::idr_frame;
-use crate::output::{output_held, output_prior_pictures};
+use crate::frame_buffer::FrameBuffer;
+use crate::history_entry::HistoryEntry;
+use crate::open_picture::OpenPicture;
+use avc_marking::MissingFrameNums;
 use avc_params::Sps;
 use avc_plane::{Frame, PADDING, PaddedPlanes};
+use avc_poc::Poc;
 use avc_slice::Header;
-use avc_types::{History, OutOfMemory, Picture, PictureError};
+use avc_types::{Fault, History, OutOfMemory, Picture, PictureError};
 use std::alloc::Global;
 use std::marker::Model;
 
@@ -22,17 +30,21 @@ use std::marker::Model;
 pub struct Sequence {
     alloc: Global,
 
-    /// The last picture, which is the reference frame and is held for output.
-    held: Option<Frame<PADDING>>,
+    /// The closed pictures, and the missing numbers before the open one.
+    buffer: FrameBuffer,
 
-    /// The parameter set of the held picture.
+    /// Order counts, those of the open picture included.
+    poc: Poc,
+
+    /// The parameter set of the last IDR picture.
     sps: Option<Sps>,
 
-    open_picture: Option<OpenPictureHeader>,
+    open_picture: Option<OpenPicture>,
 
     failed: bool,
 
-    closed: History<ClosedPicture>,
+    /// The history without the missing numbers before the open picture.
+    closed: History<HistoryEntry>,
 }
 
 impl Model for Sequence {
@@ -47,6 +59,129 @@ impl Model for Sequence {
     ghost invariant = { IsSequenceState };
 }
 
+/// The missing frame numbers before a picture that is no IDR picture, or the first of ParameterSetChanged, FrameNumGap and
+/// FrameNumRepeated. `before` is the parameter set of the sequence.
+fn missing_frame_nums(
+    buffer: &FrameBuffer,
+    before: &Option<Sps>,
+    header: &Header,
+    sps: &Sps,
+) -> Result<MissingFrameNums, Fault>
+    requires going { buffer.now.failed ≡ false }
+    requires set { before.now ≡ sequence_sps buffer.now.history }
+    requires sps { IsSps sps.now }
+    ensures { result ≡ missing_before sps.now header.now buffer.now.history }
+{
+    match before {
+        Some(set) if set.is_same(sps) => buffer.missing_frame_nums(sps, header),
+        _ => Err(Fault::ParameterSetChanged),
+    }
+}
+
+/// These numbers are missing.
+fn count_missing(poc: &mut Poc, mut numbers: MissingFrameNums, sps: &Sps)
+    requires { IsSps sps.now }
+    ensures { CountsMissing sps.now numbers poc.old poc.new }
+{
+    while let Some(frame_num) = numbers.next() {
+        poc.missing(frame_num, sps);
+    }
+}
+
+/// The order counts after these missing numbers, or TooManyReferences where the first of them can't be marked; then all can.
+fn after_missing(
+    buffer: &FrameBuffer,
+    mut poc: Poc,
+    mut numbers: MissingFrameNums,
+    sps: &Sps,
+) -> Result<Poc, Fault>
+    requires going { buffer.now.failed ≡ false }
+    requires counts { poc ≡ order_count_state (pasts buffer.now.history) }
+    requires sps { IsSps sps.now }
+    ensures { result ≡ counts_over (with_missing sps.now numbers buffer.now.history) }
+{
+    let Some(first) = numbers.next() else {
+        return Ok(poc);
+    };
+    buffer.can_store_missing(sps, first)?;
+    poc.missing(first, sps);
+    count_missing(&mut poc, numbers, sps);
+    Ok(poc)
+}
+
+/// PicOrderCnt of the next picture, and the order counts after it.
+fn next_count(mut poc: Poc, header: &Header, sps: &Sps) -> Result<(i32, Poc), Fault>
+    requires { IsSps sps.now }
+    ensures { CountsPicture sps.now header.now poc result }
+{
+    let (top, bottom) = poc.next(header, sps)?;
+    Ok((top.min(bottom), poc))
+}
+
+/// More pictures go out.
+fn output_more(out: &mut Vec<Picture>, mut more: Vec<Picture>) -> Result<(), OutOfMemory>
+    ensures { OnOk result (out.new.items ≡ out.old.items ++ more.items) }
+{
+    out.append(&mut more)?;
+    Ok(())
+}
+
+/// Stores a frame for each of these missing numbers, which can be marked. Answers the pictures that go out.
+fn store_missing(
+    alloc: Global,
+    buffer: &mut FrameBuffer,
+    mut numbers: MissingFrameNums,
+    sps: &Sps,
+) -> Result<Vec<Picture>, PictureError>
+    requires going { buffer.old.failed ≡ false }
+    requires sps { IsSps sps.now }
+    requires same { is_same_sps (sequence_sps buffer.old.history) sps.now ≡ true }
+    requires marked { is_ok (with_missing sps.now numbers buffer.old.history) ≡ true }
+    ensures ok { IfOk result (λ out. StoresAll buffer.old (with_missing sps.now numbers buffer.old.history) out.items buffer.new) }
+    ensures err { IfErr result (λ error. error ≡ NoMemory) }
+{
+    let mut out = Vec::new(alloc);
+    while let Some(frame_num) = numbers.next() {
+        let more = buffer.store_missing(sps, frame_num)?;
+        output_more(&mut out, more)?;
+    }
+    Ok(out)
+}
+
+/// Stores a frame for each missing number before a picture that can be opened. Answers the pictures that go out.
+fn store_all_missing(
+    alloc: Global,
+    buffer: &mut FrameBuffer,
+    before: &Option<Sps>,
+    header: &Header,
+    sps: &Sps,
+) -> Result<Vec<Picture>, PictureError>
+    requires going { buffer.old.failed ≡ false }
+    requires set { before.now ≡ sequence_sps buffer.old.history }
+    requires sps { IsSps sps.now }
+    requires opens { is_ok (history_at_opening sps.now header.now buffer.old.history) ≡ true }
+    ensures ok { IfOk result (λ out. StoresAll buffer.old (history_at_opening sps.now header.now buffer.old.history) out.items buffer.new) }
+    ensures err { IfErr result (λ error. error ≡ NoMemory) }
+{
+    if header.is_idr() {
+        return Ok(Vec::new(alloc));
+    }
+    let numbers = missing_frame_nums(buffer, before, header, sps)?;
+    let out = store_missing(alloc, buffer, numbers, sps)?;
+    Ok(out)
+}
+
+/// The parameter set of the sequence once this picture is closed: that of an IDR picture.
+fn set_after(before: Option<Sps>, picture: OpenPicture) -> Option<Sps>
+    ensures { result ≡ set_with picture.sps picture.header before }
+{
+    if picture.header.is_idr() {
+        Some(picture.sps)
+    } else {
+        before
+    }
+}
+
 impl Sequence {
     /// With no history.
     pub fn new(alloc: Global) -> Sequence
@@ -54,7 +189,8 @@ impl Sequence {
     {
         Sequence {
             alloc,
-            held: None,
+            buffer: FrameBuffer::new(alloc),
+            poc: Poc::new(),
             sps: None,
             open_picture: None,
             failed: false,
@@ -66,8 +202,8 @@ impl Sequence {
     /// takes in the frame numbers that are missing before it. Answers the pictures that go out.
     pub fn open(&mut self, header: &Header, sps: &Sps) -> Result<Vec<Picture>, PictureError>
         requires rest { self.old.open_picture ≡ None }
-        requires idr { is_idr header.now ≡ true }
-        requires marking { has_idr_marking header.now ≡ true }
+        requires marking { is_idr header.now ≡ true → has_idr_marking header.now ≡ true }
+        requires reference { is_some header.now.marking ≡ is_reference header.now }
         requires sps { IsSps sps.now }
         ensures ok { IfOk result (λ out. IsOpened self.old sps.now header.now out.items self.new) }
         ensures err { IfErr result (λ error. Fails self.old (history_at_opening sps.now header.now self.old.history) error self.new) }
@@ -75,42 +211,66 @@ impl Sequence {
         if self.failed {
             return Err(PictureError::OutOfMemory);
         }
-        first_counts(header, sps)?;
-        self.open_picture = Some(OpenPictureHeader {
+        let (order, poc) = self.order_count(header, sps)?;
+        self.failed = true;
+        let out = store_all_missing(self.alloc, &mut self.buffer, &self.sps, header, sps)?;
+        self.poc = poc;
+        self.open_picture = Some(OpenPicture {
             sps: sps.copied(),
             header: header.copied(),
+            order,
         });
-        Ok(Vec::new(self.alloc))
+        self.failed = false;
+        Ok(out)
+    }
+
+    /// PicOrderCnt of a picture and the order counts after it, or the first fault of its opening.
+    fn order_count(&self, header: &Header, sps: &Sps) -> Result<(i32, Poc), Fault>
+        requires going { self.now.failed ≡ false }
+        requires rest { self.now.open_picture ≡ None }
+        requires sps { IsSps sps.now }
+        ensures { result ≡ result_map (count_on sps.now header.now) (history_at_opening sps.now header.now self.now.history) }
+    {
+        if header.is_idr() {
+            return next_count(self.poc.copied(), header, sps);
+        }
+        let numbers = missing_frame_nums(&self.buffer, &self.sps, header, sps)?;
+        let poc = after_missing(&self.buffer, self.poc.copied(), numbers, sps)?;
+        next_count(poc, header, sps)
     }
 
     /// Closes the open picture, whose samples are these: marks it, and lets pictures go out. Answers these.
     pub fn close(&mut self, planes: PaddedPlanes<PADDING>) -> Result<Vec<Picture>, PictureError>
+        requires sized { (o : OpenPictureStart) → self.old.open_picture ≡ Some o → AreSizedAs o (padded_planes_of planes) }
         ensures ok { IfOk result (λ out. (o : OpenPictureStart) → self.old.open_picture ≡ Some o → IsClosed self.old o (padded_planes_of planes) out.items self.new) }
         ensures err { IfErr result (λ error. (o : OpenPictureStart) → self.old.open_picture ≡ Some o → Fails self.old (history_after_closing o.sps o.header (padded_planes_of planes) (current_history self.old)) error self.new) }
     {
         if self.failed {
             return Err(PictureError::OutOfMemory);
         }
-        let Some(OpenPictureHeader { sps, header }) = self.open_picture.take() else {
+        let Some(open_picture) = self.open_picture.take() else {
             return Ok(Vec::new(self.alloc));
         };
         self.failed = true;
-        let out = output_prior_pictures(self.alloc, &header, self.held.take(), &self.sps)?;
-        let closed = ClosedPicture {
-            sps,
-            header,
+        match self.buffer.store_picture(
+            &open_picture.sps,
+            &open_picture.header,
+            open_picture.order,
             planes,
-        };
-        self.closed = self.closed.with_newest(&closed);
-        let ClosedPicture {
-            sps,
-            header,
-            planes,
-        } = closed;
-        self.held = Some(idr_frame(&header, planes));
-        self.sps = Some(sps);
-        self.failed = false;
-        Ok(out)
+            &mut self.closed,
+        ) {
+            Ok(out) => {
+                self.sps = set_after(self.sps.take(), open_picture);
+                self.failed = false;
+                Ok(out)
+            }
+            Err(PictureError::Fault(fault)) => {
+                self.open_picture = Some(open_picture);
+                self.failed = false;
+                Err(PictureError::Fault(fault))
+            }
+            Err(PictureError::OutOfMemory) => Err(PictureError::OutOfMemory),
+        }
     }
 
     /// Hands out all held pictures and forgets the history, with the open picture, if there is one.
@@ -122,18 +282,17 @@ impl Sequence {
             return Err(OutOfMemory);
         }
         self.failed = true;
-        let out = output_held(self.alloc, self.held.take(), &self.sps)?;
-        self.sps = None;
-        self.open_picture = None;
-        self.closed = History::new();
-        self.failed = false;
+        let out = self.buffer.empty()?;
+        *self = Sequence::new(self.alloc);
         Ok(out)
     }
 
     /// The stored frames with their marks, in decoding order. After want of memory they are any.
     pub fn frames(&self) -> &[Frame<PADDING>]
-        ensures { self.now.failed ≡ false → AreStoredIn (current_history self.now) result.now }
+        ensures value { result.now ≡ self.now.frames }
+        ensures stored { self.now.failed ≡ false → AreStoredIn (current_history self.now) result.now }
+        ensures sized { self.now.failed ≡ false → AreFramesIn (current_history self.now) result.now }
     {
-        self.held.as_slice()
+        self.buffer.frames()
     }
 }

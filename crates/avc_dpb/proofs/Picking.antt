@@ -1,8 +1,8 @@
 -- The elements at places, one place after another.
-use Rattle.std.proofs.Common.{◌≡◌, ℕ, ◌+◌, ◌<◌, List, [], ◌∷◌, ◌++◌, length, take, get_or, map, Option, Some, None, slice_get, ap, ◌∙◌, sym, refl, append-nil}
-use Rattle.std.proofs.lemmas.List.{take_more, map-append}
+use Rattle.std.proofs.Common.{◌≡◌, ℕ, ◌+◌, ◌<◌, List, [], ◌∷◌, ◌++◌, length, take, get_or, Option, Some, None, slice_get, ap, ◌∙◌, sym, refl, append-nil}
+use Rattle.std.proofs.lemmas.List.{take_more}
 use Rattle.std.proofs.lemmas.List.Elements.{filter_map-append}
-use Rattle.std.specs.List.{filter_map}
+use Rattle.std.specs.List.{filter_map, cons_option}
 use Rattle.avc_dpb.specs.Places.{items_at}
 
 abbrev pub option_list : {A : Type 0} → Option A → List A
@@ -20,17 +20,24 @@ picked_one {A} place xs = by (slice_get xs place)
     by (Some x) = refl
 
 -- the pictures of one place more
-pub pictures_more : {A P : Type 0} (shown : A → P) (places : List ℕ) (i place : ℕ) (xs : List A) (out out' : List P) → i < length places → place ≡ get_or places i 0
-    → out ≡ map shown (items_at (take i places) xs) → out' ≡ out ++ map shown (items_at (place ∷ []) xs) → out' ≡ map shown (items_at (take (i + 1) places) xs)
+pub pictures_more : {A P : Type 0} (shown : A → Option P) (places : List ℕ) (i place : ℕ) (xs : List A) (out out' : List P) → i < length places → place ≡ get_or places i 0
+    → out ≡ filter_map shown (items_at (take i places) xs) → out' ≡ out ++ filter_map shown (items_at (place ∷ []) xs) → out' ≡ filter_map shown (items_at (take (i + 1) places) xs)
 pictures_more shown places i place xs out out' low read so_far added =
-    added ∙ ap (λ l. l ++ map shown (items_at (place ∷ []) xs)) so_far ∙ sym (map-append shown (items_at (take i places) xs) (items_at (place ∷ []) xs))
-    ∙ ap (map shown) (sym (items_at-append (take i places) (place ∷ []) xs) ∙ ap (λ p. items_at (take i places ++ p ∷ []) xs) read ∙ ap (λ l. items_at l xs) (sym (take_more places i 0 low)))
+    added ∙ ap (λ l. l ++ filter_map shown (items_at (place ∷ []) xs)) so_far ∙ sym (filter_map-append shown (items_at (take i places) xs) (items_at (place ∷ []) xs))
+    ∙ ap (filter_map shown) (sym (items_at-append (take i places) (place ∷ []) xs) ∙ ap (λ p. items_at (take i places ++ p ∷ []) xs) read ∙ ap (λ l. items_at l xs) (sym (take_more places i 0 low)))
 
 -- the picture of one place
-pub picture_at : {A P : Type 0} (shown : A → P) (place : ℕ) (xs : List A) (x : A) (y : P) (out out' : List P) → slice_get xs place ≡ Some x → y ≡ shown x → out' ≡ out ++ y ∷ []
-    → out' ≡ out ++ map shown (items_at (place ∷ []) xs)
-picture_at shown place xs x y out out' found is pushed =
-    pushed ∙ ap (λ z. out ++ z ∷ []) is ∙ sym (ap (λ l. out ++ map shown l) (picked_one place xs ∙ ap option_list found))
+pub picture_at : {A P : Type 0} (shown : A → Option P) (place : ℕ) (xs : List A) (x : A) (out out' : List P) → slice_get xs place ≡ Some x → out' ≡ out ++ filter_map shown (x ∷ [])
+    → out' ≡ out ++ filter_map shown (items_at (place ∷ []) xs)
+picture_at shown place xs x out out' found pushed =
+    pushed ∙ sym (ap (λ l. out ++ filter_map shown l) (picked_one place xs ∙ ap option_list found))
 
-pub no_picture : {A P : Type 0} (shown : A → P) (place : ℕ) (xs : List A) (out : List P) → slice_get xs place ≡ None → out ≡ out ++ map shown (items_at (place ∷ []) xs)
-no_picture shown place xs out found = sym (ap (λ l. out ++ map shown l) (picked_one place xs ∙ ap option_list found) ∙ append-nil out)
+pub no_picture : {A P : Type 0} (shown : A → Option P) (place : ℕ) (xs : List A) (out : List P) → slice_get xs place ≡ None → out ≡ out ++ filter_map shown (items_at (place ∷ []) xs)
+no_picture shown place xs out found = sym (ap (λ l. out ++ filter_map shown l) (picked_one place xs ∙ ap option_list found) ∙ append-nil out)
+
+-- what a frame shows is added
+pub picture_added : {A P : Type 0} (shown : A → Option P) (x : A) (y : P) (out out' : List P) → Some y ≡ shown x → out' ≡ out ++ y ∷ [] → out' ≡ out ++ filter_map shown (x ∷ [])
+picture_added shown x y out out' is pushed = pushed ∙ ap (λ o. out ++ cons_option o []) is
+
+pub nothing_added : {A P : Type 0} (shown : A → Option P) (x : A) (out : List P) → None ≡ shown x → out ≡ out ++ filter_map shown (x ∷ [])
+nothing_added shown x out is = sym (append-nil out) ∙ ap (λ o. out ++ cons_option o []) is

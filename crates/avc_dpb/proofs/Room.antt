@@ -3,18 +3,19 @@ use Rattle.std.proofs.Common.{◌≡◌, ℕ, zero, suc, ◌+◌, ◌<◌, ◌||
 use Rattle.std.specs.Prelude.{count_by}
 use Rattle.std.proofs.lemmas.Option.{none-some, slice_get-map}
 use Rattle.std.proofs.lemmas.List.{drop_at, map-append, length-map}
+use Rattle.std.proofs.lemmas.List.Elements.{filter_map-append}
 use Rattle.std.specs.Option.{option_map}
-use Rattle.std.specs.List.{filter, cons_option}
+use Rattle.std.specs.List.{filter, filter_map, cons_option}
 use Rattle.avc_dpb.specs.declared.slot.Slot.{Slot}
 use Rattle.avc_dpb.specs.declared.arriving_frame.ArrivingFrame.{ArrivingFrame}
-use Rattle.avc_dpb.specs.Bumping.{Stored, Buffer, is_reference_in, needed_frames, after_bumping_while, after_making_room, after_frame, with_frame_placed, new_output}
+use Rattle.avc_dpb.specs.Bumping.{Stored, Buffer, is_reference_in, needed_frames, after_bumping_while, after_making_room, after_placing, new_output}
 use Rattle.avc_dpb.specs.Bumping as buffer
 use Rattle.avc_dpb.specs.Contents.{Contents, IsRising, IsBuffer, AreReferences, HasBuffer, arrival_of}
 use Rattle.avc_dpb.specs.Places.{OutputState, is_needed, needed_items, before_output, with_references, outputs, outputs_while, items_at}
 use Rattle.avc_dpb.specs.Places as places
 use Rattle.avc_dpb.proofs.Held.{cell, rest_rising, later}
 use Rattle.avc_dpb.proofs.SettingReferences.{told_orders, told_holds, told_references}
-use Rattle.avc_dpb.proofs.Simulation.{IsAt, all_turns, same_test, same_full, count_held, staying_cells}
+use Rattle.avc_dpb.proofs.Simulation.{IsAt, SaysSame, all_turns, same_test, same_full, count_held, staying_cells}
 
 -- ---- decoding order
 
@@ -91,11 +92,11 @@ cells_of references (x ∷ slots) (s ∷ frames) o h r =
     ap₂ (λ y l. y ∷ l) (slot_is references x s (same_head _ _ _ _ o) (same_head _ _ _ _ h) (same_head _ _ _ _ r))
     (cells_of references slots frames (same_tail _ _ _ _ o) (same_tail _ _ _ _ h) (same_tail _ _ _ _ r))
 
-orders_of_cells : (references : List ℕ) (frames : List Stored) → map (λ s. s.order) (map (cell references) frames) ≡ map (λ s. s.order) frames
+pub orders_of_cells : (references : List ℕ) (frames : List Stored) → map (λ s. s.order) (map (cell references) frames) ≡ map (λ s. s.order) frames
 orders_of_cells references [] = refl
 orders_of_cells references (s ∷ frames) = ap (λ l. s.order ∷ l) (orders_of_cells references frames)
 
-holds_of_cells : (references : List ℕ) (frames : List Stored) → map (λ s. s.held) (map (cell references) frames) ≡ map (λ s. s.held) frames
+pub holds_of_cells : (references : List ℕ) (frames : List Stored) → map (λ s. s.held) (map (cell references) frames) ≡ map (λ s. s.held) frames
 holds_of_cells references [] = refl
 holds_of_cells references (s ∷ frames) = ap (λ l. s.held ∷ l) (holds_of_cells references frames)
 
@@ -124,22 +125,22 @@ items_at-map f [] xs = refl
 items_at-map f (place ∷ at) xs =
     ap (λ o. cons_option o (items_at at (map f xs))) (slice_get-map f xs place) ∙ items_at-map_one f (slice_get xs place) (items_at at xs) (items_at at (map f xs)) (items_at-map f at xs)
 
-pub map_twice : {A B C : Type 0} (f : A → B) (g : B → C) (xs : List A) → map g (map f xs) ≡ map (λ x. g (f x)) xs
-map_twice f g [] = refl
-map_twice f g (x ∷ xs) = ap (λ l. g (f x) ∷ l) (map_twice f g xs)
+pub filter_map-map : {A B C : Type 0} (f : A → B) (g : B → Option C) (xs : List A) → filter_map g (map f xs) ≡ filter_map (λ x. g (f x)) xs
+filter_map-map f g [] = refl
+filter_map-map f g (x ∷ xs) = ap (cons_option (g (f x))) (filter_map-map f g xs)
 
 -- ---- all together
 
 -- The slots and frames that stay are those of the buffer b1, and the pictures at the places that went out are what b1 has put out since b.
-pub record HasTurned {T P : Type 0} (shown : T → P) (references : List ℕ) (with_frame : List T) (b b1 : Buffer) (next : ℕ) (frame_of : ℕ → T) (t : OutputState) : Type 0 where
+pub record HasTurned {T P : Type 0} (shown : T → Option P) (references : List ℕ) (with_frame : List T) (b b1 : Buffer) (next : ℕ) (frame_of : ℕ → T) (t : OutputState) : Type 0 where
   pub slots : filter is_needed t.slots ≡ map (cell references) b1.frames
   pub frames : needed_items t.slots with_frame ≡ map (λ s. frame_of s.entry) b1.frames
   pub rising : IsRising b1.frames next
   pub out : b1.out ≡ b.out ++ new_output b b1
-  pub pictures : map shown (items_at t.out with_frame) ≡ map (λ e. shown (frame_of e)) (new_output b b1)
+  pub pictures : filter_map shown (items_at t.out with_frame) ≡ filter_map (λ e. shown (frame_of e)) (new_output b b1)
   pub full : (capacity : ℕ) → places.is_full capacity t.slots ≡ buffer.is_full capacity b1
 
-pub turned : {T P : Type 0} (shown : T → P) (references : List ℕ) (with_frame : List T) (b b1 : Buffer) (next : ℕ) (frame_of : ℕ → T) (all : List Stored) (t : OutputState)
+pub turned : {T P : Type 0} (shown : T → Option P) (references : List ℕ) (with_frame : List T) (b b1 : Buffer) (next : ℕ) (frame_of : ℕ → T) (all : List Stored) (t : OutputState)
     → with_frame ≡ map (λ s. frame_of s.entry) b.frames → IsAt references (map (λ s. s.entry) b.frames) b.out next all t b1
     → HasTurned shown references with_frame b b1 next frame_of t
 turned shown references with_frame b b1 next frame_of all t names h =
@@ -152,8 +153,8 @@ turned shown references with_frame b b1 next frame_of all t names h =
       frames = ap₂ needed_items h.slots beside ∙ staying_named references (λ s. frame_of s.entry) all ∙ ap (map (λ s. frame_of s.entry)) (sym h.frames);
       rising = subst (λ l. IsRising l next) (sym h.frames) (filter_rising (λ s. s.held || is_reference_in references s) all next h.rising);
       out = h.out ∙ ap (λ l. b.out ++ l) (sym since);
-      pictures = ap (λ l. map shown (items_at t.out l)) is ∙ ap (map shown) (items_at-map frame_of t.out at) ∙ map_twice frame_of shown (items_at t.out at)
-          ∙ ap (map (λ e. shown (frame_of e))) (sym since);
+      pictures = ap (λ l. filter_map shown (items_at t.out l)) is ∙ ap (filter_map shown) (items_at-map frame_of t.out at) ∙ filter_map-map frame_of shown (items_at t.out at)
+          ∙ ap (filter_map (λ e. shown (frame_of e))) (sym since);
       full = λ capacity. ap (places.is_full capacity) h.slots ∙ same_full capacity references all ∙ ap (λ l. nat_le capacity (length l)) (sym h.frames);
     }
 
@@ -168,48 +169,57 @@ at_start references b next slots is rising = record {
   rising = rising;
 }
 
+-- Bumping goes on while a test holds, which says the same of the slots and of the buffer.
+pub bumped_while : {T P : Type 0} (shown : T → Option P) (referenced : T → Bool) (test : List Slot → Bool) (on : Buffer → Bool) (references : List ℕ) (c : Contents T) (b : Buffer) (next : ℕ)
+    (frame_of : ℕ → T) → SaysSame references test on → length c.frames ≡ length c.slots → IsBuffer c b next frame_of → AreReferences referenced c references b
+    → HasTurned shown references c.frames b (after_making_room on references (record b { frames = needed_frames references b.frames })) next frame_of
+    (outputs test (with_references referenced c.slots c.frames))
+bumped_while shown referenced test on references c b next frame_of same beside h marks =
+    let now = with_references referenced c.slots c.frames in
+    let cells = cells_of references now b.frames (told_orders referenced c.slots c.frames ∙ h.orders) (told_holds referenced c.slots c.frames ∙ h.holds)
+    (told_references referenced c.slots c.frames beside ∙ marks) in
+    let cleaned : Buffer = record b { frames = needed_frames references b.frames } in
+    let count : count_by (λ s. s.held) now ≡ count_by (λ s. s.held) (needed_frames references b.frames) = ap (count_by (λ s. s.held)) cells ∙ count_held references b.frames in
+    let at = all_turns test on references (map (λ s. s.entry) b.frames) b.out next
+    (count_by (λ s. s.held) (needed_frames references b.frames)) b.frames (before_output now) cleaned
+    same (at_start references b next now cells h.rising) in
+    turned shown references c.frames b (after_making_room on references cleaned) next frame_of at.0 (outputs test now) h.frames
+    (subst (λ n. IsAt references (map (λ s. s.entry) b.frames) b.out next at.0 (outputs_while test n (before_output now)) (after_making_room on references cleaned)) (sym count) at.1)
+
 -- the buffer once room was made for the arriving frame
 abbrev pub with_room : ArrivingFrame → List ℕ → Buffer → Buffer
 with_room a references b = after_making_room (buffer.must_bump (arrival_of a references)) references (record b { frames = needed_frames references b.frames })
 
-pub room_made : {T P : Type 0} (shown : T → P) (referenced : T → Bool) (a : ArrivingFrame) (references : List ℕ) (c : Contents T) (b : Buffer) (next : ℕ) (frame_of : ℕ → T)
+pub room_made : {T P : Type 0} (shown : T → Option P) (referenced : T → Bool) (a : ArrivingFrame) (references : List ℕ) (c : Contents T) (b : Buffer) (next : ℕ) (frame_of : ℕ → T)
     → length c.frames ≡ length c.slots → IsBuffer c b next frame_of → AreReferences referenced c references b
     → HasTurned shown references c.frames b (with_room a references b) next frame_of (outputs (places.must_bump a) (with_references referenced c.slots c.frames))
 room_made shown referenced a references c b next frame_of beside h marks =
-    let now = with_references referenced c.slots c.frames in
-    let cells = cells_of references now b.frames (told_orders referenced c.slots c.frames ∙ h.orders) (told_holds referenced c.slots c.frames ∙ h.holds)
-    (told_references referenced c.slots c.frames beside ∙ marks) in
-    let count : count_by (λ s. s.held) now ≡ count_by (λ s. s.held) (needed_frames references b.frames) = ap (count_by (λ s. s.held)) cells ∙ count_held references b.frames in
-    let at = all_turns (places.must_bump a) (buffer.must_bump (arrival_of a references)) references (map (λ s. s.entry) b.frames) b.out next
-    (count_by (λ s. s.held) (needed_frames references b.frames)) b.frames (before_output now) (record b { frames = needed_frames references b.frames })
-    (λ all b. same_test a references all b) (at_start references b next now cells h.rising) in
-    turned shown references c.frames b (with_room a references b) next frame_of at.0 (outputs (places.must_bump a) now) h.frames
-    (subst (λ n. IsAt references (map (λ s. s.entry) b.frames) b.out next at.0 (outputs_while (places.must_bump a) n (before_output now)) (with_room a references b)) (sym count) at.1)
+    bumped_while shown referenced (places.must_bump a) (buffer.must_bump (arrival_of a references)) references c b next frame_of (λ all b. same_test a references all b) beside h marks
 
 placed_full : (next : ℕ) (a : ArrivingFrame) (references : List ℕ) (b : Buffer) → buffer.is_full a.capacity (with_room a references b) ≡ true
-    → after_frame next (arrival_of a references) b ≡ buffer.with_direct_output next (arrival_of a references) (with_room a references b)
+    → after_placing next (arrival_of a references) b ≡ buffer.with_direct_output next (arrival_of a references) (with_room a references b)
 placed_full next a references b full =
     let d = with_room a references b in
     ap (λ f. if f then buffer.with_direct_output next (arrival_of a references) d else buffer.with_frame next (arrival_of a references) d) full
 
 placed_stored : (next : ℕ) (a : ArrivingFrame) (references : List ℕ) (b : Buffer) → buffer.is_full a.capacity (with_room a references b) ≡ false
-    → after_frame next (arrival_of a references) b ≡ buffer.with_frame next (arrival_of a references) (with_room a references b)
+    → after_placing next (arrival_of a references) b ≡ buffer.with_frame next (arrival_of a references) (with_room a references b)
 placed_stored next a references b full =
     let d = with_room a references b in
     ap (λ f. if f then buffer.with_direct_output next (arrival_of a references) d else buffer.with_frame next (arrival_of a references) d) full
 
-shown_if : {T P : Type 0} (shown : T → P) (frame_of : ℕ → T) (next : ℕ) (frame : T) (b : Bool) → frame_of next ≡ frame
-    → (if b then shown frame ∷ [] else []) ≡ map (λ e. shown (frame_of e)) (if b then next ∷ [] else [])
-shown_if shown frame_of next frame true is = ap (λ f. shown f ∷ []) (sym is)
+shown_if : {T P : Type 0} (shown : T → Option P) (frame_of : ℕ → T) (next : ℕ) (frame : T) (b : Bool) → frame_of next ≡ frame
+    → (if b then filter_map shown (frame ∷ []) else []) ≡ filter_map (λ e. shown (frame_of e)) (if b then next ∷ [] else [])
+shown_if shown frame_of next frame true is = ap (λ f. cons_option (shown f) []) (sym is)
 shown_if shown frame_of next frame false is = refl
 
 -- The arriving frame finds no room.
-pub goes_at_once : {T P : Type 0} (shown : T → P) (referenced : T → Bool) (a : ArrivingFrame) (references : List ℕ) (c new : Contents T) (b : Buffer) (next : ℕ) (frame_of : ℕ → T) (frame : T) (out out' : List P)
+pub goes_at_once : {T P : Type 0} (shown : T → Option P) (referenced : T → Bool) (a : ArrivingFrame) (references : List ℕ) (c new : Contents T) (b : Buffer) (next : ℕ) (frame_of : ℕ → T) (frame : T) (out out' : List P)
     → length c.frames ≡ length c.slots → IsBuffer c b next frame_of → AreReferences referenced c references b → frame_of next ≡ frame
     → places.is_full a.capacity (outputs (places.must_bump a) (with_references referenced c.slots c.frames)).slots ≡ true
-    → new ≡ record { slots = filter is_needed (outputs (places.must_bump a) (with_references referenced c.slots c.frames)).slots; frames = needed_items (outputs (places.must_bump a) (with_references referenced c.slots c.frames)).slots c.frames; failed = false }
-    → out ≡ map shown (items_at (outputs (places.must_bump a) (with_references referenced c.slots c.frames)).out c.frames) → out' ≡ out ++ (if a.existing then shown frame ∷ [] else [])
-    → HasBuffer shown new out' b (after_frame next (arrival_of a references) b) (next + 1) frame_of
+    → new ≡ record { slots = filter is_needed (outputs (places.must_bump a) (with_references referenced c.slots c.frames)).slots; frames = needed_items (outputs (places.must_bump a) (with_references referenced c.slots c.frames)).slots c.frames; output = c.output; failed = false }
+    → out ≡ filter_map shown (items_at (outputs (places.must_bump a) (with_references referenced c.slots c.frames)).out c.frames) → out' ≡ out ++ (if a.existing then filter_map shown (frame ∷ []) else [])
+    → HasBuffer shown new out' b (after_placing next (arrival_of a references) b) (next + 1) frame_of
 goes_at_once shown referenced a references c new b next frame_of frame out out' beside h marks is full new_is out_is out'_is =
     let d = with_room a references b in
     let r = room_made shown referenced a references c b next frame_of beside h marks in
@@ -225,20 +235,21 @@ goes_at_once shown referenced a references c new b next frame_of frame out out' 
         rising = rising_more d.frames next r.rising;
       });
       pictures = out'_is ∙ ap₂ (λ l m. l ++ m) (out_is ∙ r.pictures) (shown_if shown frame_of next frame a.existing is)
-          ∙ sym (map-append (λ e. shown (frame_of e)) (new_output b d) last) ∙ ap (map (λ e. shown (frame_of e))) (sym since);
+          ∙ sym (filter_map-append (λ e. shown (frame_of e)) (new_output b d) last) ∙ ap (filter_map (λ e. shown (frame_of e))) (sym since);
     })
 
 -- The arriving frame is stored.
-pub is_stored : {T P : Type 0} (shown : T → P) (referenced : T → Bool) (a : ArrivingFrame) (references : List ℕ) (c new : Contents T) (b : Buffer) (next : ℕ) (frame_of : ℕ → T) (frame : T) (out : List P)
+pub is_stored : {T P : Type 0} (shown : T → Option P) (referenced : T → Bool) (a : ArrivingFrame) (references : List ℕ) (c new : Contents T) (b : Buffer) (next : ℕ) (frame_of : ℕ → T) (frame : T) (out : List P)
     → length c.frames ≡ length c.slots → IsBuffer c b next frame_of → AreReferences referenced c references b → frame_of next ≡ frame
     → places.is_full a.capacity (outputs (places.must_bump a) (with_references referenced c.slots c.frames)).slots ≡ false
     → new ≡ record {
       slots = filter is_needed (outputs (places.must_bump a) (with_references referenced c.slots c.frames)).slots ++ record { order = a.order; held = a.existing; reference = false } ∷ [];
       frames = needed_items (outputs (places.must_bump a) (with_references referenced c.slots c.frames)).slots c.frames ++ frame ∷ [];
+      output = c.output;
       failed = false;
     }
-    → out ≡ map shown (items_at (outputs (places.must_bump a) (with_references referenced c.slots c.frames)).out c.frames)
-    → HasBuffer shown new out b (after_frame next (arrival_of a references) b) (next + 1) frame_of
+    → out ≡ filter_map shown (items_at (outputs (places.must_bump a) (with_references referenced c.slots c.frames)).out c.frames)
+    → HasBuffer shown new out b (after_placing next (arrival_of a references) b) (next + 1) frame_of
 is_stored {T} shown referenced a references c new b next frame_of frame out beside h marks is full new_is out_is =
     let d = with_room a references b in
     let r = room_made shown referenced a references c b next frame_of beside h marks in

@@ -1,7 +1,8 @@
 -- Laws of the buffer: that what the definition puts out is what C.4 asks for. Each is proved as the contract of a function of its name.
-use Rattle.std.specs.Prelude.{◌≡◌, ℕ, ◌+◌, ◌≤◌, ◌==◌, ◌≤ℤ◌, if◌then◌else◌, true, List, [], ◌∷◌, ◌++◌, length, map, count_by, slice_get, Option, Some, None}
-use Rattle.std.specs.List.{filter}
-use Rattle.avc_dpb.specs.Bumping.{PriorPictures, remain, are_output, are_dropped, Arrival, Stored, Buffer, held_in_output_order, after_bumping, after_bumping_while, with_all_output, after_prior_pictures, after_entry, buffer_after, new_output}
+use Rattle.std.specs.Prelude.{◌≡◌, ℕ, ◌+◌, ◌≤◌, ◌==◌, ◌≤ℤ◌, if◌then◌else◌, true, false, not, ◌||◌, List, [], ◌∷◌, ◌++◌, length, map, count_by, slice_get, Option, Some, None}
+use Rattle.std.specs.List.{filter, list_any}
+use Rattle.avc_dpb.specs.declared.output.Output.{Output}
+use Rattle.avc_dpb.specs.Bumping.{PriorPictures, remain, are_output, are_dropped, Arrival, Stored, Buffer, held_in_output_order, is_reference_in, after_bumping, after_bumping_while, with_all_output, after_prior_pictures, after_frame, after_entry, buffer_after, new_output}
 use Rattle.avc_dpb.specs.Contents.{IsRising}
 
 -- ---- C.4.5.3
@@ -39,17 +40,18 @@ AllHeldGoOut = (b : Buffer) → new_output b (with_all_output b) ≡ map (λ s. 
 
 -- The frames of the buffer stand in decoding order.
 abbrev pub StandsInDecodingOrder : Type 0
-StandsInDecodingOrder = (history : List Arrival) → IsRising (buffer_after history).frames (length history)
+StandsInDecodingOrder = (output : Output) (history : List Arrival) → IsRising (buffer_after output history).frames (length history)
 
 -- What has gone out stays so.
 abbrev pub OutOnlyGrows : Type 0
-OutOnlyGrows = (entry : ℕ) (a : Arrival) (b : Buffer) → (after_entry entry a b).out ≡ b.out ++ new_output b (after_entry entry a b)
+OutOnlyGrows = (output : Output) (entry : ℕ) (a : Arrival) (b : Buffer)
+    → (after_entry output entry a b).out ≡ b.out ++ new_output b (after_entry output entry a b)
 
 -- What an entry puts out is what goes out before it, and then what goes out to make room and for itself.
 abbrev pub GoesOutInTurn : Type 0
-GoesOutInTurn = (entry : ℕ) (a : Arrival) (b : Buffer)
-    → new_output b (after_entry entry a b)
-    ≡ new_output b (after_prior_pictures a.prior_pictures b) ++ new_output (after_prior_pictures a.prior_pictures b) (after_entry entry a b)
+GoesOutInTurn = (output : Output) (entry : ℕ) (a : Arrival) (b : Buffer)
+    → new_output b (after_entry output entry a b)
+    ≡ new_output b (after_prior_pictures a.prior_pictures b) ++ new_output (after_prior_pictures a.prior_pictures b) (after_entry output entry a b)
 
 -- no entry's buffer is larger
 abbrev pub IsWithin : (most : ℕ) → List Arrival → Type 0
@@ -57,7 +59,7 @@ IsWithin most [] = Unit {0}
 IsWithin most (a ∷ older) = (a.capacity ≤ most) × IsWithin most older
 
 abbrev pub HoldsAtMost : Type 0
-HoldsAtMost = (most : ℕ) (history : List Arrival) → IsWithin most history → length (buffer_after history).frames ≤ most
+HoldsAtMost = (output : Output) (most : ℕ) (history : List Arrival) → IsWithin most history → length (buffer_after output history).frames ≤ most
 
 -- how often a place stands among these
 abbrev pub occurrences : (place : ℕ) → List ℕ → ℕ
@@ -74,9 +76,9 @@ dropped_by remain b = []
 dropped_by are_output b = []
 dropped_by are_dropped b = held_places b.frames
 
-abbrev pub dropped : List Arrival → List ℕ
-dropped [] = []
-dropped (a ∷ older) = dropped older ++ dropped_by a.prior_pictures (buffer_after older)
+abbrev pub dropped : Output → List Arrival → List ℕ
+dropped output [] = []
+dropped output (a ∷ older) = dropped output older ++ dropped_by a.prior_pictures (buffer_after output older)
 
 -- the places of all pictures: of all entries but the non-existing frames
 abbrev pub pictures : List Arrival → List ℕ
@@ -85,6 +87,34 @@ pictures (a ∷ older) = pictures older ++ (if a.existing then length older ∷ 
 
 -- Each picture goes out once in the end, or was dropped, and nothing else goes out.
 abbrev pub GoesOutOnce : Type 0
-GoesOutOnce = (history : List Arrival) (place : ℕ)
-    → occurrences place (with_all_output (buffer_after history)).out + occurrences place (dropped history)
+GoesOutOnce = (output : Output) (history : List Arrival) (place : ℕ)
+    → occurrences place (with_all_output (buffer_after output history)).out + occurrences place (dropped output history)
     ≡ occurrences place (pictures history)
+
+-- ---- the frames that stay
+
+-- the places of the held pictures, in the order in which they go out
+abbrev pub held_in_order : Buffer → List ℕ
+held_in_order b = map (λ s. s.entry) (held_in_output_order b.frames)
+
+-- A non-existing frame is not held: what goes out to make room for it is what goes first of those that are held.
+abbrev pub MissingFramesKeepTheOrder : Type 0
+MissingFramesKeepTheOrder = (output : Output) (entry : ℕ) (a : Arrival) (b : Buffer)
+    → IsRising b.frames entry → a.existing ≡ false → a.prior_pictures ≡ remain
+    → held_in_order b ≡ new_output b (after_entry output entry a b) ++ held_in_order (after_entry output entry a b)
+
+-- the places of the frames in the buffer that are among these reference frames
+abbrev pub places_of_references : (references : List ℕ) → Buffer → List ℕ
+places_of_references references b = map (λ s. s.entry) (filter (is_reference_in references) b.frames)
+
+-- The arriving frame is stored where bumping makes room for it, and the reference frames beside it leave room for one more.
+pub record HasRoom (a : Arrival) (b : Buffer) : Type 0 where
+  pub stored : (a.is_reference || not a.existing) ≡ true
+  pub room : count_by (is_reference_in a.references) b.frames + 1 ≤ a.capacity
+
+-- Reference frames stay in the buffer; the arriving frame is the last of them if it is one.
+abbrev pub ReferencesStay : Type 0
+ReferencesStay = (output : Output) (entry : ℕ) (a : Arrival) (b : Buffer)
+    → IsRising b.frames entry → (list_any (λ r. r == entry) a.references ≡ true → HasRoom a b)
+    → places_of_references a.references (after_frame output entry a b)
+    ≡ places_of_references a.references b ++ (if list_any (λ r. r == entry) a.references then entry ∷ [] else [])

@@ -13,4 +13,7 @@ pub struct ArrivingFrame {
 
     /// The buffer's size in frames, 1 to 16.
     pub capacity: usize,
+
+    /// max_num_reorder_frames: at most so many pictures stay held under `Output::Early`; none: no limit.
+    pub max_num_reorder_frames: Option<u32>,
 }

@@ -9,8 +9,8 @@ pub trait BufferedFrame {
     /// What goes out of it.
     type Picture: Drop;
 
-    // the picture of a frame
-    ghost shown: { Self → Self.Picture };
+    // the picture of a frame; one that stands for a missing frame number has none
+    ghost shown: { Self → Option Self.Picture };
 
     // it is marked as used for reference
     ghost referenced: { Self → Bool };
@@ -18,8 +18,9 @@ pub trait BufferedFrame {
     // the frame with another mark
     ghost marked: { Self → Option FrameMark → Self };
 
-    /// Its picture, with samples of its own: the frame may be needed for reference.
-    fn show(&self, alloc: Global) -> Result<Self::Picture, OutOfMemory>
+    /// Its picture, with samples of its own: the frame may be needed for reference. One that stands for a missing frame number
+    /// shows nothing.
+    fn show(&self, alloc: Global) -> Result<Option<Self::Picture>, OutOfMemory>
         ensures { IfOk result (λ picture. picture ≡ shown self.now) };
 
     /// Whether it is marked as used for reference.

@@ -1,12 +1,16 @@
-ghost use Rattle.std.specs.Prelude.{◌≡◌, ◌+◌, ◌<◌, ◌≤◌, ℕ, List, [], ◌∷◌, ◌++◌, true, false, is_some, if◌then◌else◌, length, map, slice_get, slice_set, IfOk, OnErr, OnOk, IsErr, IfSome, Some};
-ghost use Rattle.std.specs.List.{filter};
+ghost use Rattle.std.specs.Prelude.{◌≡◌, ◌+◌, ◌<◌, ◌≤◌, ℕ, List, [], ◌∷◌, ◌++◌, true, false, is_some};
+ghost use Rattle.std.specs.Prelude.{if◌then◌else◌, length, map, slice_get, slice_set, IfOk, OnErr, OnOk};
+ghost use Rattle.std.specs.Prelude.{IsErr, IfSome, Some};
+ghost use Rattle.std.specs.List.{filter, filter_map};
 ghost use Rattle.avc_dpb.specs.Bumping.{empty_buffer};
 ghost use Rattle.avc_dpb.specs.Contents.{DropsAll, IsBuffer, OutputsAll, Stores, with_mark};
+ghost use Rattle.avc_dpb.specs.Steps.{IsPlaced, IsReordered};
 ghost use Rattle.avc_dpb.specs.Places.{is_needed, needed_items, items_at, with_references};
 
 use crate::arriving_frame::ArrivingFrame;
 use crate::buffered_frame::BufferedFrame;
-use crate::bumping::{is_full, make_room, output_all, replace};
+use crate::bumping::{hold_few, holds_too_many, is_full, make_room, output_all, replace};
+use crate::output::Output;
 use crate::slot::Slot;
 use arrayvec::ArrayVec;
 use avc_types::{Mark, OutOfMemory};
@@ -19,6 +23,7 @@ pub struct Dpb<T> {
     alloc: Global,
     slots: ArrayVec<Slot, 16>,
     frames: Vec<T>,
+    output: Output,
     failed: bool,
 }
 
@@ -29,21 +34,22 @@ impl<T> Model for Dpb<T> {
 
     ghost use Rattle.std.specs.Prelude.{◌≡◌, false, length};
 
-    ghost view = { λ d. record { slots = d.slots.items; frames = d.frames.items; failed = d.failed } };
+    ghost view = { λ d. record { slots = d.slots.items; frames = d.frames.items; output = d.output; failed = d.failed } };
 
     ghost invariant = { λ d. d.failed ≡ false → length d.frames.items ≡ length d.slots.items };
 }
 
 impl<T: BufferedFrame + Drop> Dpb<T> {
     /// With no frame.
-    pub fn new(alloc: Global) -> Dpb<T>
-        ensures value { result ≡ record { slots = []; frames = []; failed = false } }
+    pub fn new(alloc: Global, output: Output) -> Dpb<T>
+        ensures value { result ≡ record { slots = []; frames = []; output = output; failed = false } }
         ensures buffer { (frame_of : ℕ → T) → IsBuffer result empty_buffer 0 frame_of }
     {
         Dpb {
             alloc,
             slots: ArrayVec::new(),
             frames: Vec::new(alloc),
+            output,
             failed: false,
         }
     }
@@ -63,8 +69,9 @@ impl<T: BufferedFrame + Drop> Dpb<T> {
         self.frames[place].set_mark(mark);
     }
 
-    /// Makes room for a frame and stores it, or hands its picture out where there is no room (C.4.5.1, C.4.5.2, C.4.2). The stored frames
-    /// have the marks that they have once this frame is marked. Answers the pictures that go out, in order.
+    /// Makes room for a frame and stores it, or hands its picture out where there is no room (C.4.5.1, C.4.5.2, C.4.2), and then
+    /// hands out what is held too many (E.2.1). The stored frames have the marks that they have once this frame is marked. Answers
+    /// the pictures that go out, in order.
     pub fn store(
         &mut self,
         frame: T,
@@ -74,27 +81,27 @@ impl<T: BufferedFrame + Drop> Dpb<T> {
         ensures ok { IfOk result (λ out. Stores T.shown T.referenced self.old frame arriving.now out.items self.new) }
         ensures err { OnErr result (self.new.failed ≡ true) }
         ensures failed { self.old.failed ≡ true → IsErr result }
+        ensures kept { self.new.output ≡ self.old.output }
     {
         if self.failed {
             return Err(OutOfMemory);
         }
         self.failed = true;
-        set_references(&mut self.slots, self.frames.as_slice());
-        let places = make_room(&mut self.slots, arriving);
-        let mut out = pictures(self.alloc, self.frames.as_slice(), places.as_slice())?;
-        let full = is_full(self.slots.as_slice(), arriving.capacity);
-        remove_needless(&mut self.slots, &mut self.frames);
-        if full {
-            at_once(self.alloc, &frame, arriving.existing, &mut out)?;
-            self.failed = false;
-            return Ok(out);
-        }
-        self.frames.push(frame)?;
-        self.slots.push(Slot {
-            order: arriving.order,
-            held: arriving.existing,
-            reference: false,
-        });
+        let mut out = place(
+            self.alloc,
+            &mut self.slots,
+            &mut self.frames,
+            frame,
+            arriving,
+        )?;
+        let mut early = output_early(
+            self.alloc,
+            &mut self.slots,
+            &mut self.frames,
+            self.output,
+            arriving,
+        )?;
+        out.append(&mut early)?;
         self.failed = false;
         Ok(out)
     }
@@ -104,6 +111,7 @@ impl<T: BufferedFrame + Drop> Dpb<T> {
         ensures ok { IfOk result (λ out. OutputsAll T.shown self.old out.items self.new) }
         ensures err { OnErr result (self.new.failed ≡ true) }
         ensures failed { self.old.failed ≡ true → IsErr result }
+        ensures kept { self.new.output ≡ self.old.output }
     {
         if self.failed {
             return Err(OutOfMemory);
@@ -118,12 +126,66 @@ impl<T: BufferedFrame + Drop> Dpb<T> {
 
     /// Drops all frames; no picture goes out (C.4.4, no_output_of_prior_pics_flag 1).
     pub fn drop_all(&mut self)
-        ensures value { self.new ≡ record { slots = []; frames = []; failed = self.old.failed } }
+        ensures value { self.new ≡ record { slots = []; frames = []; output = self.old.output; failed = self.old.failed } }
         ensures buffer { DropsAll self.old self.new }
     {
         self.slots.clear();
         self.frames.clear();
     }
+}
+
+// Makes room for a frame and stores it, or its picture goes out where there is no room. Answers the pictures that go out, in order.
+fn place<T: BufferedFrame + Drop>(
+    alloc: Global,
+    slots: &mut ArrayVec<Slot, 16>,
+    frames: &mut Vec<T>,
+    frame: T,
+    arriving: &ArrivingFrame,
+) -> Result<Vec<T::Picture>, OutOfMemory>
+    requires beside { length frames.old.items ≡ length slots.old.items }
+    requires capacity { arriving.now.capacity ≤ 16 }
+    ensures ok { IfOk result (λ out. IsPlaced T.shown T.referenced slots.old.items frames.old.items frame arriving.now out.items slots.new.items frames.new.items) }
+    ensures beside { OnOk result (length frames.new.items ≡ length slots.new.items) }
+{
+    set_references(slots, frames.as_slice());
+    let places = make_room(slots, arriving);
+    let mut out = pictures(alloc, frames.as_slice(), places.as_slice())?;
+    let full = is_full(slots.as_slice(), arriving.capacity);
+    remove_needless(slots, frames);
+    if full {
+        at_once(alloc, &frame, arriving.existing, &mut out)?;
+        return Ok(out);
+    }
+    frames.push(frame)?;
+    slots.push(Slot {
+        order: arriving.order,
+        held: arriving.existing,
+        reference: false,
+    });
+    Ok(out)
+}
+
+// Pictures go out as long as more are held than may stay so (E.2.1), and frames that are then needless leave. Answers the pictures, in
+// order.
+fn output_early<T: BufferedFrame + Drop>(
+    alloc: Global,
+    slots: &mut ArrayVec<Slot, 16>,
+    frames: &mut Vec<T>,
+    output: Output,
+    arriving: &ArrivingFrame,
+) -> Result<Vec<T::Picture>, OutOfMemory>
+    requires beside { length frames.old.items ≡ length slots.old.items }
+    ensures ok { IfOk result (λ out. IsReordered T.shown T.referenced output arriving.now slots.old.items frames.old.items out.items slots.new.items frames.new.items) }
+    ensures beside { OnOk result (length frames.new.items ≡ length slots.new.items) }
+{
+    if !holds_too_many(slots.as_slice(), output, arriving) {
+        return Ok(Vec::new(alloc));
+    }
+    set_references(slots, frames.as_slice());
+    let places = hold_few(slots, output, arriving);
+    let out = pictures(alloc, frames.as_slice(), places.as_slice())?;
+    remove_needless(slots, frames);
+    Ok(out)
 }
 
 // A picture for which there is no room goes out; a non-existing frame never does.
@@ -133,10 +195,10 @@ fn at_once<T: BufferedFrame>(
     existing: bool,
     out: &mut Vec<T::Picture>,
 ) -> Result<(), OutOfMemory>
-    ensures { OnOk result (out.new.items ≡ out.old.items ++ (if existing then T.shown frame.now ∷ [] else [])) }
+    ensures { OnOk result (out.new.items ≡ out.old.items ++ (if existing then filter_map T.shown (frame.now ∷ []) else [])) }
 {
     if existing {
-        out.push(frame.show(alloc)?)?;
+        push_picture(alloc, frame, out)?;
         return Ok(());
     }
     Ok(())
@@ -148,7 +210,7 @@ fn pictures<T: BufferedFrame>(
     frames: &[T],
     places: &[usize],
 ) -> Result<Vec<T::Picture>, OutOfMemory>
-    ensures { IfOk result (λ out. out.items ≡ map T.shown (items_at places.now frames.now)) }
+    ensures { IfOk result (λ out. out.items ≡ filter_map T.shown (items_at places.now frames.now)) }
 {
     let mut out = Vec::new(alloc);
     for place in places {
@@ -163,11 +225,28 @@ fn push_picture_at<T: BufferedFrame>(
     place: usize,
     out: &mut Vec<T::Picture>,
 ) -> Result<(), OutOfMemory>
-    ensures { OnOk result (out.new.items ≡ out.old.items ++ map T.shown (items_at (place ∷ []) frames.now)) }
+    ensures { OnOk result (out.new.items ≡ out.old.items ++ filter_map T.shown (items_at (place ∷ []) frames.now)) }
 {
     match frames.get(place) {
         Some(frame) => {
-            out.push(frame.show(alloc)?)?;
+            push_picture(alloc, frame, out)?;
+            Ok(())
+        }
+        None => Ok(()),
+    }
+}
+
+// The picture of a frame that has one.
+fn push_picture<T: BufferedFrame>(
+    alloc: Global,
+    frame: &T,
+    out: &mut Vec<T::Picture>,
+) -> Result<(), OutOfMemory>
+    ensures { OnOk result (out.new.items ≡ out.old.items ++ filter_map T.shown (frame.now ∷ [])) }
+{
+    match frame.show(alloc)? {
+        Some(picture) => {
+            out.push(picture)?;
             Ok(())
         }
         None => Ok(()),

@@ -1,6 +1,8 @@
 //! Laws of the definition of output: they are what C.4 asks for, in its own words.
 
-ghost use Rattle.avc_dpb.specs.Laws.{LeastGoesOut, AllGoOutByBumping, AllHeldGoOut, StandsInDecodingOrder, OutOnlyGrows, GoesOutInTurn, HoldsAtMost, GoesOutOnce};
+ghost use Rattle.avc_dpb.specs.Laws.{LeastGoesOut, AllGoOutByBumping, AllHeldGoOut, StandsInDecodingOrder};
+ghost use Rattle.avc_dpb.specs.Laws.{OutOnlyGrows, GoesOutInTurn, HoldsAtMost, GoesOutOnce};
+ghost use Rattle.avc_dpb.specs.Laws.{MissingFramesKeepTheOrder, ReferencesStay};
 
 /// Bumping puts out the held picture with the least order count, of equals the one that was decoded first (C.4.5.3).
 pub fn least_goes_out()
@@ -40,4 +42,14 @@ pub fn holds_at_most()
 /// Each picture goes out once in the end, unless it was dropped, and nothing else goes out.
 pub fn goes_out_once()
     ensures { GoesOutOnce }
+{}
+
+/// What goes out to make room for a non-existing frame goes out first of what is held (C.4.2).
+pub fn missing_frames_keep_the_order()
+    ensures { MissingFramesKeepTheOrder }
+{}
+
+/// Reference frames stay in the buffer, and the arriving frame with them if it is one (C.4.5.1).
+pub fn references_stay()
+    ensures { ReferencesStay }
 {}

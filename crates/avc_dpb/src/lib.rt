@@ -6,11 +6,14 @@ mod buffered_frame;
 mod bumping;
 mod dpb;
 pub mod laws;
+mod output;
 mod slot;
+mod stored_frame;
 
 pub use arriving_frame::ArrivingFrame;
 pub use buffered_frame::BufferedFrame;
 pub use dpb::Dpb;
+pub use output::Output;
 
 #[cfg(test)]
 mod tests;

@@ -1,7 +1,8 @@
-ghost use Rattle.std.specs.Prelude.{◌≡◌, is_some};
+ghost use Rattle.std.specs.Prelude.{◌≡◌, Some, is_some};
 
-use crate::{ArrivingFrame, BufferedFrame, Dpb};
-use avc_types::{Mark, OutOfMemory};
+use crate::{ArrivingFrame, BufferedFrame, Dpb, Output};
+use avc_plane::{Frame, Planes};
+use avc_types::{Crop, Mark, OutOfMemory};
 use std::alloc::{AllocError, Global};
 use std::test::Fail;
 
@@ -15,14 +16,14 @@ struct Numbered {
 impl BufferedFrame for Numbered {
     type Picture = u32;
 
-    ghost shown = { λ f. f.number };
+    ghost shown = { λ f. Some f.number };
 
     ghost referenced = { λ f. is_some f.mark };
 
     ghost marked = { λ f mark. record f { mark = mark } };
 
-    fn show(&self, _alloc: Global) -> Result<u32, OutOfMemory> {
-        Ok(self.number)
+    fn show(&self, _alloc: Global) -> Result<Option<u32>, OutOfMemory> {
+        Ok(Some(self.number))
     }
 
     fn is_reference(&self) -> bool {
@@ -42,6 +43,7 @@ fn reference(order: i32, capacity: usize) -> ArrivingFrame
         existing: true,
         is_reference: true,
         capacity,
+        max_num_reorder_frames: None,
     }
 }
 
@@ -53,6 +55,7 @@ fn other(order: i32, capacity: usize) -> ArrivingFrame
         existing: true,
         is_reference: false,
         capacity,
+        max_num_reorder_frames: None,
     }
 }
 
@@ -64,6 +67,7 @@ fn missing(capacity: usize) -> ArrivingFrame
         existing: false,
         is_reference: true,
         capacity,
+        max_num_reorder_frames: None,
     }
 }
 
@@ -74,7 +78,7 @@ fn frame(number: u32, mark: Option<Mark>) -> Numbered {
 // Room for two frames, none of which is a reference: order counts 0, 4, 2, 2.
 #[test]
 fn by_order_count(rt: HostRuntime) -> Result<(), Fail> {
-    let mut dpb = Dpb::new(rt.alloc());
+    let mut dpb = Dpb::new(rt.alloc(), Output::Full);
     for (number, order) in [(0, 0), (1, 4)] {
         let out = dpb.store(frame(number, None), &other(order, 2))?;
         assert_eq!(rt; out.as_slice(), [].as_slice());
@@ -95,7 +99,7 @@ fn by_order_count(rt: HostRuntime) -> Result<(), Fail> {
 // Room for one frame: the reference picture goes out and stays, and a picture that is none finds no room.
 #[test]
 fn references_stay(rt: HostRuntime) -> Result<(), Fail> {
-    let mut dpb = Dpb::new(rt.alloc());
+    let mut dpb = Dpb::new(rt.alloc(), Output::Full);
     let out = dpb.store(frame(0, Some(Mark::Short)), &reference(0, 1))?;
     assert_eq!(rt; out.as_slice(), [].as_slice());
     let out = dpb.store(frame(1, None), &other(2, 1))?;
@@ -111,7 +115,7 @@ fn references_stay(rt: HostRuntime) -> Result<(), Fail> {
 // A frame that stands for a missing number makes room and never goes out; what is dropped doesn't either.
 #[test]
 fn never_goes_out(rt: HostRuntime) -> Result<(), Fail> {
-    let mut dpb = Dpb::new(rt.alloc());
+    let mut dpb = Dpb::new(rt.alloc(), Output::Full);
     dpb.store(frame(0, None), &reference(0, 1))?;
     let out = dpb.store(frame(1, Some(Mark::Short)), &missing(1))?;
     assert_eq!(rt; out.as_slice(), [0].as_slice());
@@ -119,5 +123,82 @@ fn never_goes_out(rt: HostRuntime) -> Result<(), Fail> {
     dpb.store(frame(2, None), &reference(0, 1))?;
     dpb.drop_all();
     assert_eq!(rt; dpb.empty()?.as_slice(), [].as_slice());
+    Ok(())
+}
+
+// A reference picture, one of four for which there is room; one picture may stay held.
+fn one_of_four(order: i32) -> ArrivingFrame
+    ensures { result.capacity ≡ 4 }
+{
+    ArrivingFrame {
+        max_num_reorder_frames: Some(1),
+        ..reference(order, 4)
+    }
+}
+
+// Order counts 0, 4, 2: no room is needed.
+#[test]
+fn only_where_room_is_needed(rt: HostRuntime) -> Result<(), Fail> {
+    let mut dpb = Dpb::new(rt.alloc(), Output::Full);
+    for (number, order) in [(0, 0), (1, 4), (2, 2)] {
+        let out = dpb.store(frame(number, Some(Mark::Short)), &one_of_four(order))?;
+        assert_eq!(rt; out.as_slice(), [].as_slice());
+    }
+    assert_eq!(rt; dpb.empty()?.as_slice(), [0, 2, 1].as_slice());
+    Ok(())
+}
+
+// The same early: the second of two that are held goes out later. The frames stay for reference.
+#[test]
+fn no_more_than_may_stay_held(rt: HostRuntime) -> Result<(), Fail> {
+    let mut dpb = Dpb::new(rt.alloc(), Output::Early);
+    let out = dpb.store(frame(0, Some(Mark::Short)), &one_of_four(0))?;
+    assert_eq!(rt; out.as_slice(), [].as_slice());
+    let out = dpb.store(frame(1, Some(Mark::Short)), &one_of_four(4))?;
+    assert_eq!(rt; out.as_slice(), [0].as_slice());
+    let out = dpb.store(frame(2, Some(Mark::Short)), &one_of_four(2))?;
+    assert_eq!(rt; out.as_slice(), [2].as_slice());
+    assert_eq!(rt; dpb.frames().len(), 3);
+    assert_eq!(rt; dpb.empty()?.as_slice(), [1].as_slice());
+    Ok(())
+}
+
+// Early too, where no number is given.
+#[test]
+fn no_limit(rt: HostRuntime) -> Result<(), Fail> {
+    let mut dpb = Dpb::new(rt.alloc(), Output::Early);
+    for (number, order) in [(0, 0), (1, 4)] {
+        let out = dpb.store(frame(number, Some(Mark::Short)), &reference(order, 4))?;
+        assert_eq!(rt; out.as_slice(), [].as_slice());
+    }
+    Ok(())
+}
+
+// A stored frame shows its samples with its size; one that stands for a missing frame number shows nothing.
+#[test]
+fn shows_its_picture(rt: HostRuntime) -> Result<(), Fail> {
+    let mut frame: Frame<4> = Frame {
+        planes: Some(Planes::new(rt.alloc(), 1, 1)?.pad()),
+        frame_num: 0,
+        mark: None,
+        width: 16,
+        height: 16,
+        crop: Crop {
+            left: 0,
+            right: 2,
+            top: 0,
+            bottom: 4,
+        },
+    };
+    if let Some(picture) = frame.show(rt.alloc())? {
+        assert_eq!(rt; picture.width, 16);
+        assert_eq!(rt; picture.crop.bottom, 4);
+        assert_eq!(rt; picture.luma.as_slice().len(), 256);
+        assert_eq!(rt; picture.cr.as_slice().len(), 64);
+    }
+    frame.set_mark(Some(Mark::Short));
+    assert!(rt; frame.is_reference());
+    frame.planes = None;
+    assert!(rt; frame.show(rt.alloc())?.is_none());
     Ok(())
 }

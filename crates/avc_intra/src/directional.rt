@@ -5,7 +5,9 @@ ghost use Rattle.std.specs.Prelude.{◌≡◌, ℕ, ◌<◌, map, slice_index};
 ghost use Rattle.std.specs.List.{range_with_len};
 ghost use Rattle.avc_types.specs.Arithmetic.{mean_of_two, mean_of_three};
 ghost use Rattle.avc_intra.specs.Neighbourhood.{Around};
-ghost use Rattle.avc_intra.specs.Luma4x4.{predict_diagonal_down_left, predict_diagonal_down_right, predict_vertical_right, predict_vertical_left, predict_horizontal_up, exchanged};
+ghost use Rattle.avc_intra.specs.Luma4x4.{predict_diagonal_down_left, predict_diagonal_down_right};
+ghost use Rattle.avc_intra.specs.Luma4x4.{predict_vertical_right, predict_vertical_left};
+ghost use Rattle.avc_intra.specs.Luma4x4.{predict_horizontal_up, exchanged};
 ghost use Rattle.avc_intra.specs.Lines.{line_above, line_left, line_round, pairs_of, triples_of, block4x4};
 
 use crate::means::{mean_of_three, mean_of_two};

@@ -1,5 +1,8 @@
 ghost use Rattle.std.specs.Prelude.{◌≡◌, ◌<◌, ◌≤◌, ◌++◌, false, IfSome};
-ghost use Rattle.avc_make.specs.HeaderWriting.{IsDeblocking, IsHeader, IsModification, IsOffset, IsOrderOf, IsSeWhere, coded_order_bits, deblocking_bits, filtering_bits, front_bits, header_bits, list_bits_where, numbers_bits, se_where, slice_type_number, slice_unit_header};
+ghost use Rattle.avc_make.specs.HeaderWriting.{IsDeblocking, IsHeader, IsModification, IsOffset, IsOrderOf};
+ghost use Rattle.avc_make.specs.HeaderWriting.{IsSeWhere, coded_order_bits, deblocking_bits, filtering_bits};
+ghost use Rattle.avc_make.specs.HeaderWriting.{front_bits, header_bits, list_bits_where, numbers_bits};
+ghost use Rattle.avc_make.specs.HeaderWriting.{se_where, slice_type_number, slice_unit_header};
 ghost use Rattle.avc_make.specs.Made.{Puts};
 ghost use Rattle.avc_make.specs.SpsWriting.{IsSeValue};
 ghost use Rattle.avc_make.specs.VuiWriting.{Each, IsUeValue};

@@ -2,7 +2,9 @@
 ghost use Rattle.std.specs.Prelude.{◌≡◌, ◌≤◌, ◌<◌, ◌+◌, ◌++◌, true, false, [], length};
 ghost use Rattle.avc_types.specs.MacroblockFields.{residual_of, syntax_of};
 ghost use Rattle.avc_make.specs.Made.{Puts};
-ghost use Rattle.avc_make.specs.MbWriting.{HasRanges, IsCodedMode, IsI16x16, IsINxN, IsPattern, i_16x16_bits, i_nxn_bits, i_pcm_bits, i_type, mb_bits, mode_bits, pattern_bits, pattern_number, pattern_of, qp_delta_bits, type_16x16};
+ghost use Rattle.avc_make.specs.MbWriting.{HasRanges, IsCodedMode, IsI16x16, IsINxN, IsPattern, i_16x16_bits};
+ghost use Rattle.avc_make.specs.MbWriting.{i_nxn_bits, i_pcm_bits, i_type, mb_bits, mode_bits, pattern_bits};
+ghost use Rattle.avc_make.specs.MbWriting.{pattern_number, pattern_of, qp_delta_bits, type_16x16};
 ghost use Rattle.avc_make.specs.Words.{se_word, ue_word};
 
 use crate::inter_writing::put_p_inter;

@@ -1,4 +1,5 @@
-ghost use Rattle.std.specs.Prelude.{◌≡◌, ◌-◌, ◌/◌, ◌%◌, ◌*◌, ◌^◌, ◌<◌, ◌≤◌, ◌<ℤ◌, ℕ, Bool, List, pos, neg_ℤ, true, false, [], ◌∷◌, ◌++◌, ◌==◌, length, replicate, IfOk};
+ghost use Rattle.std.specs.Prelude.{◌≡◌, ◌-◌, ◌/◌, ◌%◌, ◌*◌, ◌^◌, ◌<◌, ◌≤◌, ◌<ℤ◌, ℕ, Bool, List, pos, neg_ℤ};
+ghost use Rattle.std.specs.Prelude.{true, false, [], ◌∷◌, ◌++◌, ◌==◌, length, replicate, IfOk};
 ghost use Rattle.avc_bits.specs.Bits.{bits_of};
 ghost use Rattle.avc_make.specs.Made.{nothing, IsFilled, Puts};
 ghost use Rattle.avc_make.specs.Words.{bits_after_one, se_word, signed_index, te_word, ue_word};

@@ -1,4 +1,8 @@
-ghost use Rattle.avc_make.specs.VuiWriting.{IsAspect, IsChromaLocation, IsColour, IsHrd, IsHrdEntry, IsRestriction, IsSampleSize, IsTiming, IsVideoSignal, IsVui, aspect_bits, chroma_location_bits, colour_bits, hrd_bits, hrd_entry_bits, restriction_bits, sample_size_bits, timing_bits, video_signal_bits, vui_bits};
+ghost use Rattle.avc_make.specs.VuiWriting.{IsAspect, IsChromaLocation, IsColour, IsHrd, IsHrdEntry};
+ghost use Rattle.avc_make.specs.VuiWriting.{IsRestriction, IsSampleSize, IsTiming, IsVideoSignal, IsVui};
+ghost use Rattle.avc_make.specs.VuiWriting.{aspect_bits, chroma_location_bits, colour_bits, hrd_bits};
+ghost use Rattle.avc_make.specs.VuiWriting.{hrd_entry_bits, restriction_bits, sample_size_bits, timing_bits};
+ghost use Rattle.avc_make.specs.VuiWriting.{video_signal_bits, vui_bits};
 
 use crate::maker::BitMaker;
 use crate::part::{Part, put_each, put_optional, put_where};

@@ -1,6 +1,12 @@
 -- What holds of the marks of every history.
-use Rattle.std.specs.Prelude.{◌≡◌, ℕ, ◌≤◌, List, length, All, Ok}
-use Rattle.avc_marking.specs.Marks.{MarkingEntry, Marks, limit_of, marks_after, marks}
+use Rattle.std.specs.Prelude.{◌≡◌, ◌⊎◌, ℕ, ◌<◌, ◌≤◌, Bool, true, false, List, [], ◌∷◌, ◌++◌, length, All, Option, None, Some, Ok}
+use Rattle.std.specs.List.{list_any}
+use Rattle.std.specs.Result.{is_ok}
+use Rattle.avc_types.specs.declared.references.Mark.TheVariants.{Short}
+use Rattle.avc_types.specs.declared.references.Marking.{Marking}
+use Rattle.avc_types.specs.declared.references.Marking.TheVariants.{Idr, SlidingWindow, Adaptive}
+use Rattle.avc_types.specs.References.{Reference}
+use Rattle.avc_marking.specs.Marks.{MarkingEntry, Marks, limit_of, current_frame, is_unmark_all, marks_after, marks}
 
 -- An entry leaves no more reference frames than n, where there were no more before it and it allows no more.
 abbrev pub StaysLimited : Type 0
@@ -13,3 +19,46 @@ abbrev pub IsLimited : Type 0
 IsLimited =
     (n : ℕ) (history : List MarkingEntry) (m : Marks) → All (λ s. limit_of s ≤ n) history →
     marks history ≡ Ok m → length m.references ≤ n
+
+-- ---- which frames an entry leaves
+
+-- the same frame, whose mark may be another
+pub record IsSameFrame (new old : Reference) : Type 0 where
+  pub same_entry : new.entry ≡ old.entry
+  pub same_frame_num : new.frame_num ≡ old.frame_num
+  pub same_existing : new.existing ≡ old.existing
+
+-- Each of the first frames is one of the others, in the same order; only marks may differ.
+abbrev pub IsPartUpToMarks : (new old : List Reference) → Type 0
+IsPartUpToMarks [] old = Unit {0}
+IsPartUpToMarks (r ∷ new) [] = ⊥
+IsPartUpToMarks (r ∷ new) (s ∷ old) = (IsSameFrame r s × IsPartUpToMarks new old) ⊎ IsPartUpToMarks (r ∷ new) old
+
+-- An entry adds no frame but its own, which is the last (8.2.5.1).
+abbrev pub AddsOwnFrameAlone : Type 0
+AddsOwnFrameAlone =
+    (s : MarkingEntry) (entry : ℕ) (m m' : Marks) → All (λ r. r.entry < entry) m.references →
+    marks_after s entry s.marking m ≡ Ok m' →
+    IsPartUpToMarks m'.references (m.references ++ current_frame s entry Short ∷ [])
+
+-- It marks all earlier frames as unused for reference: an IDR picture, or one with operation 5 (8.2.5.1,
+-- 8.2.5.4.5).
+abbrev pub unmarks_all : Option Marking → Bool
+unmarks_all None = false
+unmarks_all (Some (Idr no_output long_term)) = true
+unmarks_all (Some SlidingWindow) = false
+unmarks_all (Some (Adaptive operations)) = list_any is_unmark_all operations
+
+-- Such an entry leaves no frame but its own (8.2.5.1).
+abbrev pub LeavesOwnFrameAlone : Type 0
+LeavesOwnFrameAlone =
+    (s : MarkingEntry) (entry : ℕ) (m m' : Marks) → unmarks_all s.marking ≡ true →
+    marks_after s entry s.marking m ≡ Ok m' →
+    IsPartUpToMarks m'.references (current_frame s entry Short ∷ [])
+
+-- After an entry that was marked by the sliding window the window can slide again: that entry's frame is a
+-- short-term one (8.2.5.3).
+abbrev pub SlidesAgain : Type 0
+SlidesAgain =
+    (s s' : MarkingEntry) (entry entry' : ℕ) (m m' : Marks) → marks_after s entry (Some SlidingWindow) m ≡ Ok m' →
+    is_ok (marks_after s' entry' (Some SlidingWindow) m') ≡ true

@@ -4,7 +4,9 @@ ghost use Rattle.std.specs.List.{range_with_len};
 ghost use Rattle.avc_types.specs.MacroblockFields.{residual_of};
 ghost use Rattle.avc_bits.specs.Reader.{Reads};
 ghost use Rattle.avc_mbsyntax.specs.Ranges.{AreSmall, IsResidual};
-ghost use Rattle.avc_mbsyntax.specs.Reading.{after_pattern, blocks, cb_side, cr_side, is_coded, luma_dc_levels, luma_side, qp_after, qp_delta, qp_delta_where, residual_blocks};
+ghost use Rattle.avc_mbsyntax.specs.Reading.{after_pattern, blocks, cb_side, cr_side, is_coded};
+ghost use Rattle.avc_mbsyntax.specs.Reading.{luma_dc_levels, luma_side, qp_after, qp_delta, qp_delta_where};
+ghost use Rattle.avc_mbsyntax.specs.Reading.{residual_blocks};
 ghost use Rattle.avc_mbsyntax.specs.Steps.{ReadsAs};
 
 use crate::blocks::{read_block_where, read_chroma_blocks, read_chroma_dc, read_luma_blocks};

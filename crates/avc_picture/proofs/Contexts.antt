@@ -26,12 +26,12 @@ use Rattle.avc_slice.specs.declared.weights.EntryWeights.{EntryWeights}
 use Rattle.avc_slice.specs.declared.weights.PredWeightTable.{PredWeightTable}
 use Rattle.avc_reflist.specs.Lists.{reference_list}
 use Rattle.avc_motion.specs.Motion.{frame_named, slice_facts}
-use Rattle.avc_plane.specs.Frames.{marked_frame, padded_planes_of}
+use Rattle.avc_plane.specs.Frames.{marked_frame, padded_planes_of, AreSized}
 use Rattle.avc_plane.specs.declared.frame.Frame.{Frame}
 use Rattle.avc_plane.specs.declared.frame.PaddedPlanes.{PaddedPlanes}
 use Rattle.avc_deblock.specs.Facts.{Names}
 use Rattle.avc_picture_core.specs.Faults.{is_picture}
-use Rattle.avc_picture_core.specs.References.{AreSized, AreUsable, AreWeights, IsUsable, IsWeight, ShowsReference}
+use Rattle.avc_picture_core.specs.References.{AreUsable, AreWeights, IsUsable, IsWeight, ShowsReference}
 use Rattle.avc_picture_core.specs.declared.references.ReferencePicture.{ReferencePicture}
 use Rattle.avc_picture.specs.Context.{AreNames, ArePicturesAt, ArePlacesIn, FramesStandAt, HasPlaces, IsPictureAt, picture_start, planes_at}
 use Rattle.avc_picture.specs.Decoding.{AreFramesOf}

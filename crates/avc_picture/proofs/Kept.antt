@@ -15,11 +15,10 @@ use Rattle.avc_params.specs.Within.{IsPps, IsSps}
 use Rattle.avc_params.specs.declared.sps.Sps.{Sps}
 use Rattle.avc_params.specs.declared.pps.Pps.{Pps}
 use Rattle.avc_slice.specs.declared.slice.Slice.{Slice}
-use Rattle.avc_plane.specs.Frames.{marked_frame}
+use Rattle.avc_plane.specs.Frames.{marked_frame, AreSized}
 use Rattle.avc_plane.specs.Planes.{Planes}
 use Rattle.avc_plane.specs.declared.frame.Frame.{Frame}
 use Rattle.avc_deblock.specs.Facts.{Names}
-use Rattle.avc_picture_core.specs.References.{AreSized}
 use Rattle.avc_picture.specs.Context.{FramesStandAt, picture_start}
 use Rattle.avc_picture.specs.Decoded.{deblocked}
 use Rattle.avc_picture.specs.Decoding.{AreFramesOf, Decoding, HasNoFault, Refuses, end_fault, fault_at_end}

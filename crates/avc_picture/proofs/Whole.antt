@@ -11,7 +11,7 @@ use Rattle.avc_deblock.specs.Edges.{all_filtered, line_filters}
 use Rattle.avc_deblock.specs.Facts.{Names, HaveFacts}
 use Rattle.avc_deblock.specs.OneEdge.{HasRoom}
 use Rattle.avc_picture_core.specs.Built.{built, built_on}
-use Rattle.avc_picture_core.specs.References.{AreSized}
+use Rattle.avc_plane.specs.Frames.{AreSized}
 use Rattle.avc_picture.specs.Decoded.{deblocked}
 use Rattle.avc_picture.specs.FirstMbs.{HoldsFirst, MbsState, first_built}
 use Rattle.avc_picture.specs.Kept.{IsKept}

@@ -10,10 +10,9 @@ use Rattle.avc_params.specs.declared.sps.Sps.{Sps}
 use Rattle.avc_params.specs.declared.pps.Pps.{Pps}
 use Rattle.avc_params.specs.Limits.{width_in_mbs, height_in_mbs}
 use Rattle.avc_slice.specs.declared.slice.Slice.{Slice}
-use Rattle.avc_plane.specs.Frames.{padded_planes_of, marked_frame, stored_at}
+use Rattle.avc_plane.specs.Frames.{AreFrames, padded_planes_of, marked_frame, stored_at}
 use Rattle.avc_plane.specs.declared.frame.Frame.{Frame}
 use Rattle.avc_plane.specs.declared.frame.PaddedPlanes.{PaddedPlanes}
-use Rattle.avc_picture_core.specs.References.{AreSized}
 use Rattle.avc_picture.specs.Slices.{PictureStart, Progress, progress, is_full, planes_after_slices}
 
 -- The picture's parameter sets, the frames of the buffer in decoding order, its slices so far, the newest first, and whether
@@ -31,10 +30,9 @@ no_slice_yet sps pps frames = record { sps = sps; pps = pps; frames = frames; sl
 abbrev pub with_slice_more : {PAD : ℕ} → Slice → Decoding PAD → Decoding PAD
 with_slice_more s d = record d { slices = s ∷ d.slices }
 
--- At most 16 frames, those that are pictures of the size that the sequence parameter set gives.
-pub record AreFramesOf {PAD : ℕ} (sps : Sps) (frames : List (Frame PAD)) : Type 0 where
-  pub few : length frames ≤ 16
-  pub sized : All (λ f. IfSome f.planes (λ p. AreSized (width_in_mbs sps) (height_in_mbs sps) (padded_planes_of p))) frames
+-- at most 16 frames, those that are pictures of the size that the sequence parameter set gives
+abbrev pub AreFramesOf : {PAD : ℕ} → Sps → List (Frame PAD) → Type 0
+AreFramesOf sps frames = AreFrames (width_in_mbs sps) (height_in_mbs sps) frames
 
 -- the frames can be those of these places in the history
 abbrev pub CanStandAt : {PAD : ℕ} → List ℕ → Decoding PAD → Type 0

@@ -1,8 +1,7 @@
 -- The state that the fields of a canvas stand for.
 use Rattle.std.specs.Prelude.{ℕ, ◌<◌}
-use Rattle.avc_plane.specs.Frames.{planes_of}
+use Rattle.avc_plane.specs.Frames.{planes_of, AreSized}
 use Rattle.avc_picture_core.specs.Canvas.{CanvasState}
-use Rattle.avc_picture_core.specs.References.{AreSized}
 use Rattle.avc_picture_core.specs.declared.canvas.Canvas.TheInside.{Inside}
 
 abbrev pub canvas_of : {PAD : ℕ} → Inside PAD → CanvasState

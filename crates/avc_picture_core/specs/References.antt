@@ -1,11 +1,11 @@
 -- What the inter predictions of a slice are made from, ITU-T H.264 clauses 8.4.2.1 and 8.4.2.3.
-use Rattle.std.specs.Prelude.{◌≡◌, ℕ, ◌*◌, ◌≤◌, true, false, List, Option, Some, None, All, IfSome, slice_get, slice_index_or}
+use Rattle.std.specs.Prelude.{◌≡◌, ℕ, ◌≤◌, true, false, List, Option, Some, None, All, IfSome, slice_get, slice_index_or}
 use Rattle.avc_types.specs.Pictures.{Coded}
 use Rattle.avc_types.specs.declared.weight.Weight.{Weight}
 use Rattle.avc_types.specs.declared.weight.Weights.{Weights}
 use Rattle.avc_motion.specs.Motion.{frame_named, slice_facts}
-use Rattle.avc_plane.specs.Planes.{Planes, samples_of}
-use Rattle.avc_plane.specs.Frames.{padded_planes_of}
+use Rattle.avc_plane.specs.Planes.{samples_of}
+use Rattle.avc_plane.specs.Frames.{AreSized, padded_planes_of}
 use Rattle.avc_inter.specs.Bounds.{IsWithin}
 use Rattle.avc_picture_core.specs.Faults.{is_picture}
 use Rattle.avc_picture_core.specs.declared.references.ReferencePicture.{ReferencePicture}
@@ -23,15 +23,6 @@ ShowsReference c slice r (Some p) = IsReference c slice r p
 -- RefPicList0 of the slice by reference index: nothing where an index names no picture.
 pub record AreReferences {PAD : ℕ} (c : Coded) (slice : ℕ) (references : List (Option (ReferencePicture PAD))) : Type 0 where
   pub each : (r : ℕ) → ShowsReference c slice r (slice_index_or references r None)
-
--- planes of a picture of this size in macroblocks
-pub record AreSized (width height : ℕ) (s : Planes) : Type 0 where
-  pub luma_width : s.luma.width ≡ 16 * width
-  pub luma_height : s.luma.height ≡ 16 * height
-  pub cb_width : s.cb.width ≡ 8 * width
-  pub cb_height : s.cb.height ≡ 8 * height
-  pub cr_width : s.cr.width ≡ 8 * width
-  pub cr_height : s.cr.height ≡ 8 * height
 
 -- logWD 0 to 7, w0 -128 to 128, o0 -128 to 127 (7.4.3.2)
 pub record IsWeight (w : Weight) : Type 0 where

@@ -1,10 +1,10 @@
 ghost use Rattle.std.specs.Prelude.{◌≡◌, ℕ, ◌+◌, ◌*◌, ◌^◌, ◌<◌, ◌≤◌, All, IfOk};
 ghost use Rattle.avc_neigh.specs.Around.{facts_of};
 ghost use Rattle.avc_neigh.specs.Modes.{IsMode};
-ghost use Rattle.avc_plane.specs.Frames.{planes_of};
+ghost use Rattle.avc_plane.specs.Frames.{planes_of, AreSized};
 ghost use Rattle.avc_picture_core.specs.Built.{Place};
 ghost use Rattle.avc_picture_core.specs.Canvas.{blank, IsBuilt, IsInRange, IsPlaceOn};
-ghost use Rattle.avc_picture_core.specs.References.{AreSized, AreUsable};
+ghost use Rattle.avc_picture_core.specs.References.{AreUsable};
 
 use crate::macroblock::build_macroblock;
 use crate::places::{MbPlace, PictureSize};

@@ -4,7 +4,9 @@ ghost use Rattle.std.specs.Prelude.{◌≡◌, ℕ, ◌+◌, ◌*◌, ◌/◌, �
 ghost use Rattle.avc_types.specs.Pictures.{Coded};
 ghost use Rattle.avc_neigh.specs.Blocks.{block_at};
 ghost use Rattle.avc_picture_core.specs.References.{AreReferences, AreUsable};
-ghost use Rattle.avc_picture_core.specs.Inter.{AreUsableAt, HaveOneMotion, IsInterPredicted, IsMacroblockShape, IsPartFilled, have_pictures, picture_in, wanted};
+ghost use Rattle.avc_picture_core.specs.Inter.{AreUsableAt, HaveOneMotion, IsInterPredicted};
+ghost use Rattle.avc_picture_core.specs.Inter.{IsMacroblockShape, IsPartFilled, have_pictures, picture_in};
+ghost use Rattle.avc_picture_core.specs.Inter.{wanted};
 
 use crate::parts::set_part;
 use crate::places::{Corner, MbPlace, PictureSize};

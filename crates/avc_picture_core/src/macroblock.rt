@@ -6,14 +6,14 @@ ghost use Rattle.avc_types.specs.declared.macroblock.Mvd.{Mvd};
 ghost use Rattle.avc_types.specs.declared.macroblock.PMbType.{PMbType as PartedType};
 ghost use Rattle.avc_neigh.specs.Modes.{IsMode};
 ghost use Rattle.avc_mbsyntax.specs.Ranges.{IsResidual};
-ghost use Rattle.avc_plane.specs.Frames.{planes_of};
+ghost use Rattle.avc_plane.specs.Frames.{planes_of, AreSized};
 ghost use Rattle.avc_plane.specs.Plane.{with_block};
 ghost use Rattle.avc_transform.specs.MacroblockResidual.{luma_residual, chroma_residual};
 ghost use Rattle.avc_picture_core.specs.Built.{Place, sum_of};
 ghost use Rattle.avc_picture_core.specs.Canvas.{IsInRange};
 ghost use Rattle.avc_picture_core.specs.Inter.{CoverMacroblock};
 ghost use Rattle.avc_picture_core.specs.Places.{ArePlanesBuilt, AreSameSize, IsAt, IsPlaceIn};
-ghost use Rattle.avc_picture_core.specs.References.{AreReferences, AreSized, AreUsable};
+ghost use Rattle.avc_picture_core.specs.References.{AreReferences, AreUsable};
 
 use crate::corner::{first_column, first_row};
 use crate::inter::predict_inter;

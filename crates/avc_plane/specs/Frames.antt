@@ -1,5 +1,5 @@
 -- The planes and frames that the code keeps, as those of pictures and of a history.
-use Rattle.std.specs.Prelude.{ℕ, true, false, List, [], ◌∷◌, is_some}
+use Rattle.std.specs.Prelude.{◌≡◌, ℕ, ◌*◌, ◌≤◌, true, false, List, [], ◌∷◌, length, All, is_some, IfSome}
 use Rattle.std.specs.Option.{option_map}
 use Rattle.avc_types.specs.References.{reference_of}
 use Rattle.avc_types.specs.declared.marked_frame.MarkedFrame.{MarkedFrame}
@@ -28,3 +28,19 @@ stored_at (e ∷ entries) [] = []
 stored_at (e ∷ entries) (f ∷ frames) =
     let others = stored_at entries frames in
     elim (is_some f.mark) [ true ↦ stored_frame e f ∷ others | false ↦ others ]
+
+-- ---- sizes
+
+-- planes of a picture of this size in macroblocks
+pub record AreSized (width height : ℕ) (s : Planes) : Type 0 where
+  pub luma_width : s.luma.width ≡ 16 * width
+  pub luma_height : s.luma.height ≡ 16 * height
+  pub cb_width : s.cb.width ≡ 8 * width
+  pub cb_height : s.cb.height ≡ 8 * height
+  pub cr_width : s.cr.width ≡ 8 * width
+  pub cr_height : s.cr.height ≡ 8 * height
+
+-- At most 16 frames, those that are pictures of this size in macroblocks.
+pub record AreFrames {PAD : ℕ} (width height : ℕ) (frames : List (Frame PAD)) : Type 0 where
+  pub few : length frames ≤ 16
+  pub sized : All (λ f. IfSome f.planes (λ p. AreSized width height (padded_planes_of p))) frames

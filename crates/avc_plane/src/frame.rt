@@ -5,7 +5,7 @@ ghost use Rattle.avc_plane.specs.Frames.{marked_frame, planes_of, padded_planes_
 
 use crate::padded::PaddedPlane;
 use crate::plane::Plane;
-use avc_types::{Mark, MarkedFrame, OutOfMemory};
+use avc_types::{Crop, Mark, MarkedFrame, OutOfMemory};
 use std::alloc::Global;
 
 /// The planes of a picture at 4:2:0 (6.2). Those of chroma are half as wide and half as high as that of luma.
@@ -81,6 +81,15 @@ pub struct Frame<const PAD: usize> {
 
     /// How it is marked (8.2.5); nothing where it is unused for reference.
     pub mark: Option<Mark>,
+
+    /// The coded width in luma samples.
+    pub width: u32,
+
+    /// The coded height in luma samples.
+    pub height: u32,
+
+    /// The cropping rectangle in luma samples (7.4.2.1.1).
+    pub crop: Crop,
 }
 
 impl<const PAD: usize> Frame<PAD> {

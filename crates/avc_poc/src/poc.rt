@@ -1,7 +1,9 @@
 ghost use Rattle.std.specs.Prelude.{◌≡◌, ◌≤◌, ◌^◌, List, [], ◌∷◌, true};
 ghost use Rattle.std.specs.Result.{OnErr, OnOk, is_ok};
 ghost use Rattle.avc_params.specs.Within.{IsOrderCount, IsSps};
-ghost use Rattle.avc_poc.specs.OrderCountState.{IsCounted, IsPrevious, after_picture, count_pair, counts_after, order_count_state, picture_offset, previous_after};
+ghost use Rattle.avc_poc.specs.OrderCountState.{IsCounted, IsPrevious, after_picture, count_pair};
+ghost use Rattle.avc_poc.specs.OrderCountState.{counts_after, order_count_state, picture_offset};
+ghost use Rattle.avc_poc.specs.OrderCountState.{previous_after};
 ghost use Rattle.avc_poc.specs.OrderCounts.{Past, missing, order_counts, picture, previous_for};
 
 use crate::counting::counts_from;
@@ -71,6 +73,17 @@ impl Poc {
             previous: Previous { msb: 0, lsb: 0 },
             offset: 0,
             frame_num: 0,
+        }
+    }
+
+    /// The same counts once more. This takes no memory.
+    pub fn copied(&self) -> Poc
+        ensures { result ≡ self.now }
+    {
+        Poc {
+            previous: self.previous,
+            offset: self.offset,
+            frame_num: self.frame_num,
         }
     }
 

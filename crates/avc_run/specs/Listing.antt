@@ -1,6 +1,7 @@
--- What `units` writes.
-use Rattle.std.specs.Prelude.{ℕ, true, false, List, Option, Result, Ok, Err}
+-- What `units`, `headers` and `cut` write.
+use Rattle.std.specs.Prelude.{◌≡◌, ℕ, true, false, List, [], length, slice_index_or, Option, Result, Ok, Err}
 use Rattle.std.specs.Io.KnownBytes.{Appends, Keeps}
+use Rattle.avc_tools.specs.Pieces.{pieces}
 use Rattle.avc_run.specs.Reading.{HasRead, WritesFirst}
 use Rattle.avc_run.specs.declared.fault.RunFault.{RunFault}
 use Rattle.avc_run.specs.declared.fault.RunFault.TheVariants.{Read, Write, Memory}
@@ -12,3 +13,16 @@ Lists text unread left held holds (Ok _) = (bytes : List ℕ) × HasRead unread 
 Lists text unread left held holds (Err Write) = (bytes : List ℕ) × HasRead unread left bytes true × WritesFirst held holds (text bytes)
 Lists text unread left held holds (Err Read) = (bytes : List ℕ) × HasRead unread left bytes false × Keeps held holds
 Lists text unread left held holds (Err Memory) = (bytes : List ℕ) × HasRead unread left bytes false × Keeps held holds
+
+-- the piece of a number, counted from 0; where there is none, no bytes
+abbrev pub numbered : List (List ℕ) → (number : ℕ) → List ℕ
+numbered pieces number = slice_index_or pieces number []
+
+-- The piece of this number of all bytes that the reader had is written, and how many there are is answered; after a write fault
+-- fewer than all of its bytes, and where reading failed or no memory was found, none.
+abbrev pub Cuts : (number : ℕ) (unread left held holds : Option (List ℕ)) → Result ℕ RunFault → Type 0
+Cuts number unread left held holds (Ok count) =
+    (bytes : List ℕ) × HasRead unread left bytes true × Appends held holds (numbered (pieces bytes) number) × (count ≡ length (pieces bytes))
+Cuts number unread left held holds (Err Write) = (bytes : List ℕ) × HasRead unread left bytes true × WritesFirst held holds (numbered (pieces bytes) number)
+Cuts number unread left held holds (Err Read) = (bytes : List ℕ) × HasRead unread left bytes false × Keeps held holds
+Cuts number unread left held holds (Err Memory) = (bytes : List ℕ) × HasRead unread left bytes false × Keeps held holds

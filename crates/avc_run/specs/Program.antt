@@ -1,10 +1,10 @@
 -- How the program's commands end.
 use Rattle.std.specs.Prelude.{◌≡◌, ℕ, List, [], Option, Result, Ok, Err}
 use Rattle.avc_run.specs.Decoding.{Decodes}
-use Rattle.avc_run.specs.Listing.{Lists}
+use Rattle.avc_run.specs.Listing.{Cuts, Lists}
 use Rattle.avc_run.specs.Reading.{WritesSome}
-use Rattle.avc_run.specs.Status.{status_of, units_status}
-use Rattle.avc_run.specs.Telling.{fault_line, text_of}
+use Rattle.avc_run.specs.Status.{cut_status_of, status_of, units_status}
+use Rattle.avc_run.specs.Telling.{fault_line, piece_text, text_of}
 use Rattle.avc_run.specs.declared.fault.RunFault.{RunFault}
 use Rattle.avc_run.specs.declared.report.Report.{Report}
 
@@ -16,14 +16,26 @@ pub record EndsDecoding (unread left held holds before now : Option (List ℕ)) 
   pub status_is : status ≡ status_of run
   pub told : WritesSome before now (text_of run)
 
--- what `units` tells on the standard error
+-- what `units` and `headers` tell on the standard error
 abbrev pub units_text : Result (Unit {0}) RunFault → List ℕ
 units_text (Ok _) = []
 units_text (Err fault) = fault_line fault
 
--- the same of `units`
+-- the same of `units` and `headers`
 pub record EndsListing (text : List ℕ → List ℕ) (unread left held holds before now : Option (List ℕ)) (status : ℕ) : Type 0 where
   pub run : Result (Unit {0}) RunFault
   pub lists : Lists text unread left held holds run
   pub status_is : status ≡ units_status run
   pub told : WritesSome before now (units_text run)
+
+-- what `cut` tells on the standard error
+abbrev pub cut_text : (number : ℕ) → Result ℕ RunFault → List ℕ
+cut_text number (Ok count) = piece_text number count
+cut_text number (Err fault) = fault_line fault
+
+-- the same of `cut`
+pub record EndsCutting (number : ℕ) (unread left held holds before now : Option (List ℕ)) (status : ℕ) : Type 0 where
+  pub run : Result ℕ RunFault
+  pub cuts : Cuts number unread left held holds run
+  pub status_is : status ≡ cut_status_of number run
+  pub told : WritesSome before now (cut_text number run)

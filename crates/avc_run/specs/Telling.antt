@@ -1,5 +1,5 @@
 -- What the program tells on the standard error.
-use Rattle.std.specs.Prelude.{ℕ, List, ◌∷◌, ◌++◌, [], Result, Ok, Err, codes}
+use Rattle.std.specs.Prelude.{ℕ, nat_lt, if◌then◌else◌, List, ◌∷◌, ◌++◌, [], Result, Ok, Err, codes}
 use Rattle.std.specs.List.{flat_map}
 use Rattle.std.specs.Fmt.{decimal}
 use Rattle.avc_types.specs.declared.fault.Fault.{Fault}
@@ -28,3 +28,10 @@ fault_line Memory = codes "avcdec: out of memory" ++ newline
 abbrev pub text_of : Result Report RunFault → List ℕ
 text_of (Ok report) = refusal_lines report
 text_of (Err fault) = fault_line fault
+
+abbrev pub no_piece_line : (number : ℕ) → List ℕ
+no_piece_line number = codes "avcdec: no piece " ++ decimal number ++ newline
+
+-- where there are so many pieces
+abbrev pub piece_text : (number count : ℕ) → List ℕ
+piece_text number count = if nat_lt number count then [] else no_piece_line number

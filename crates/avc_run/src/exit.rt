@@ -1,5 +1,5 @@
 ghost use Rattle.std.specs.Prelude.{◌≡◌};
-ghost use Rattle.avc_run.specs.Status.{answer_status, fault_status, status_of};
+ghost use Rattle.avc_run.specs.Status.{answer_status, cut_status, fault_status, status_of};
 
 use crate::fault::RunFault;
 use crate::report::Report;
@@ -39,6 +39,13 @@ pub fn status(run: &Result<Report, RunFault>) -> u8
         }
         Err(fault) => fault_status(*fault),
     }
+}
+
+/// The exit status after `cut`: 0 where there are so many pieces that one has this number, counted from 0, and else 1.
+pub fn cut_status(pieces: usize, number: u64) -> u8
+    ensures { result ≡ cut_status pieces number }
+{
+    if number < pieces as u64 { 0 } else { 1 }
 }
 
 /// The exit status after words that name nothing to do: 0 after help, 2 where they are not taken, and that of the fault where

@@ -13,9 +13,9 @@ mod telling;
 mod tests;
 
 pub use decoding::run;
-pub use exit::{Answer, answer_status, fault_status, status};
+pub use exit::{Answer, answer_status, cut_status, fault_status, status};
 pub use fault::RunFault;
-pub use listing::run_units;
-pub use program::{decode, units};
+pub use listing::{run_cut, run_headers, run_units};
+pub use program::{cut, decode, headers, units};
 pub use report::{Refusals, Report};
 pub use telling::{fault_line, refusal_lines};

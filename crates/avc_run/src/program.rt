@@ -1,18 +1,18 @@
-ghost use Rattle.std.specs.Prelude.{◌≡◌, IfErr, OnOk};
+ghost use Rattle.std.specs.Prelude.{◌≡◌, IfErr, OnErr, OnOk};
 ghost use Rattle.std.specs.Io.KnownBytes.{Keeps};
-ghost use Rattle.avc_tools.specs.Lines.{unit_lines};
-ghost use Rattle.avc_run.specs.Program.{EndsDecoding, EndsListing};
+ghost use Rattle.avc_tools.specs.Lines.{header_lines, unit_lines};
+ghost use Rattle.avc_run.specs.Program.{EndsCutting, EndsDecoding, EndsListing};
 ghost use Rattle.avc_run.specs.Reading.{WritesSome};
-ghost use Rattle.avc_run.specs.Status.{fault_status};
-ghost use Rattle.avc_run.specs.Telling.{fault_line, text_of};
+ghost use Rattle.avc_run.specs.Status.{cut_status, fault_status};
+ghost use Rattle.avc_run.specs.Telling.{fault_line, piece_text, text_of};
 ghost use Rattle.avc_run.specs.declared.fault.RunFault.TheVariants as faults;
 
 use crate::decoding::run;
-use crate::exit::{fault_status, status};
+use crate::exit::{cut_status, fault_status, status};
 use crate::fault::RunFault;
-use crate::listing::run_units;
+use crate::listing::{run_cut, run_headers, run_units};
 use crate::report::Report;
-use crate::telling::{fault_line, refusal_lines, write_text};
+use crate::telling::{fault_line, no_piece_line, refusal_lines, write_text};
 use std::alloc::Global;
 use std::io::{Read, Write};
 
@@ -83,4 +83,62 @@ pub fn units<R: Read, W: Write, E: Write>(
         Ok(()) => 0,
         Err(fault) => fail(fault, errors),
     }
+}
+
+/// The command `headers`: writes a line for each parameter set and slice of a byte stream (Annex B), and tells of a fault on
+/// `errors`. Answers the exit status.
+pub fn headers<R: Read, W: Write, E: Write>(
+    alloc: Global,
+    reader: &mut R,
+    writer: &mut W,
+    errors: &mut E,
+) -> u8
+    ensures { EndsListing header_lines (R.remaining reader.old) (R.remaining reader.new) (W.contents writer.old) (W.contents writer.new)
+        (E.contents errors.old) (E.contents errors.new) result }
+{
+    match run_headers(alloc, reader, writer) {
+        Ok(()) => 0,
+        Err(fault) => fail(fault, errors),
+    }
+}
+
+/// The command `cut`: writes the piece of this number, counted from 0, of a byte stream (Annex B), and tells of a fault on `errors`,
+/// and where there is no such piece. Answers the exit status.
+pub fn cut<R: Read, W: Write, E: Write>(
+    alloc: Global,
+    number: u32,
+    reader: &mut R,
+    writer: &mut W,
+    errors: &mut E,
+) -> u8
+    ensures { EndsCutting number (R.remaining reader.old) (R.remaining reader.new) (W.contents writer.old) (W.contents writer.new)
+        (E.contents errors.old) (E.contents errors.new) result }
+{
+    match run_cut(alloc, number, reader, writer) {
+        Ok(count) => match tell_no_piece(alloc, count, number, errors) {
+            Ok(()) => cut_status(count, u64::from(number)),
+            Err(fault) => fail(fault, errors),
+        },
+        Err(fault) => fail(fault, errors),
+    }
+}
+
+// Tells that there is no piece of this number, where there is none. An error is want of memory for the text.
+fn tell_no_piece<E: Write>(
+    alloc: Global,
+    count: usize,
+    number: u32,
+    errors: &mut E,
+) -> Result<(), RunFault>
+    ensures ok { OnOk result (WritesSome (E.contents errors.old) (E.contents errors.new) (piece_text number count)) }
+    ensures err { IfErr result (λ fault. (fault ≡ faults.Memory) × Keeps (E.contents errors.old) (E.contents errors.new)) }
+    ensures none { OnErr result (cut_status count number ≡ 1) }
+{
+    if cut_status(count, u64::from(number)) == 0 {
+        write_what_is_taken("", errors);
+        return Ok(());
+    }
+    let text = no_piece_line(alloc, number)?;
+    write_what_is_taken(&text, errors);
+    Ok(())
 }

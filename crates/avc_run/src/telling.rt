@@ -1,7 +1,7 @@
 ghost use Rattle.std.specs.Prelude.{◌≡◌, ◌++◌, IfErr, IfOk, OnOk, string_bytes};
 ghost use Rattle.std.specs.Io.KnownBytes.{Appends};
 ghost use Rattle.avc_run.specs.Reading.{WritesFirst};
-ghost use Rattle.avc_run.specs.Telling.{fault_line, refusal_line, refusal_lines};
+ghost use Rattle.avc_run.specs.Telling.{fault_line, no_piece_line, refusal_line, refusal_lines};
 ghost use Rattle.avc_run.specs.declared.fault.RunFault.TheVariants as faults;
 
 use crate::fault::RunFault;
@@ -33,6 +33,15 @@ pub fn refusal_lines(alloc: Global, report: &Report) -> Result<String, OutOfMemo
     Ok(text)
 }
 
+/// The line of the standard error that tells that there is no piece of this number.
+pub(crate) fn no_piece_line(alloc: Global, number: u32) -> Result<String, OutOfMemory>
+    ensures { IfOk result (λ text. string_bytes text ≡ no_piece_line number) }
+{
+    let mut text = String::new(alloc);
+    writeln!(text, "avcdec: no piece {number}")?;
+    Ok(text)
+}
+
 fn add_line(text: &mut String, unit: u64, fault: Fault) -> Result<(), OutOfMemory>
     ensures { OnOk result (string_bytes text.new ≡ string_bytes text.old ++ refusal_line (unit, fault)) }
 {
@@ -47,6 +56,14 @@ pub(crate) fn write_text<W: Write>(text: &str, writer: &mut W) -> Result<(), Run
     ensures ok { OnOk result (Appends (W.contents writer.old) (W.contents writer.new) text.now) }
     ensures err { IfErr result (λ fault. (fault ≡ faults.Write) × WritesFirst (W.contents writer.old) (W.contents writer.new) text.now) }
 {
-    write_bytes(text.as_bytes(), 0, writer)?;
+    write_all(text.as_bytes(), writer)
+}
+
+/// Writes all bytes.
+pub(crate) fn write_all<W: Write>(bytes: &[u8], writer: &mut W) -> Result<(), RunFault>
+    ensures ok { OnOk result (Appends (W.contents writer.old) (W.contents writer.new) bytes.now) }
+    ensures err { IfErr result (λ fault. (fault ≡ faults.Write) × WritesFirst (W.contents writer.old) (W.contents writer.new) bytes.now) }
+{
+    write_bytes(bytes, 0, writer)?;
     Ok(())
 }

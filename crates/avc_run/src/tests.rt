@@ -1,8 +1,8 @@
 // What no contract says: where a fault comes from, that memory is found where there is some, and what whole streams come to. Where
 // an allocation is refused (`rt try --test --fail-alloc N`), a test ends in that error, and not at an assertion.
 use crate::{
-    Answer, Refusals, Report, RunFault, answer_status, decode, fault_line, run, run_units, status,
-    units,
+    Answer, Refusals, Report, RunFault, answer_status, cut, cut_status, decode, fault_line,
+    headers, run, run_units, status, units,
 };
 use avc_decoder::{DecodeError, Decoder, Event};
 use avc_types::{Fault, OutOfMemory};
@@ -352,6 +352,98 @@ fn lists_units(rt: HostRuntime) -> Result<(), Fail> {
     Ok(())
 }
 
+// A picture of one macroblock, the same with idr_pic_id 1, and that with no_output_of_prior_pics_flag 1.
+const PLAIN_IDR: &[u8] = &[0, 0, 1, 0x65, 0x88, 0x84, 0x93, 0xC0];
+
+const NEXT_IDR: &[u8] = &[0, 0, 1, 0x65, 0x88, 0x82, 0x24, 0xF0];
+
+const DROPPING_IDR: &[u8] = &[0, 0, 1, 0x65, 0x88, 0x82, 0xA4, 0xF0];
+
+// What `cut` writes of a stream, one byte a read, and tells, and its exit status.
+fn piece_of(alloc: Global, bytes: &[u8], number: u32) -> Result<Outcome, RunFault> {
+    let mut written = Vec::new(alloc);
+    let mut told = Vec::new(alloc);
+    let status = cut(
+        alloc,
+        number,
+        &mut one_by_one(bytes, false),
+        &mut written,
+        &mut told,
+    );
+    if status == 4 {
+        return Err(RunFault::Memory);
+    }
+    Ok(Outcome {
+        written,
+        told,
+        status,
+    })
+}
+
+// A stream of two pictures has two pieces.
+#[test]
+fn cuts_a_stream(rt: HostRuntime) -> Result<(), Fail> {
+    let alloc = rt.alloc();
+    let bytes = joined(alloc, &[SMALL, PLAIN, PLAIN_IDR, NEXT_IDR])?;
+    for (number, idr) in [(0, PLAIN_IDR), (1, NEXT_IDR)] {
+        let whole = joined(alloc, &[SMALL, PLAIN, &[0], idr])?;
+        let outcome = piece_of(alloc, &bytes, number)?;
+        assert_eq!(rt; (outcome.status, outcome.written.len()), (0, 27));
+        assert!(rt; outcome.written.as_slice() == whole.as_slice(), "{number}");
+        assert!(rt; outcome.told.is_empty(), "{number}");
+    }
+    let outcome = piece_of(alloc, &bytes, 2)?;
+    assert_eq!(rt; (outcome.status, outcome.written.len()), (1, 0));
+    assert!(rt;
+        outcome.told.as_slice() == "avcdec: no piece 2\n".as_bytes(),
+        "no third piece"
+    );
+    assert_eq!(rt; (cut_status(2, 1), cut_status(2, 2)), (0, 1));
+    Ok(())
+}
+
+// Each piece gives its picture, also where the whole drops the first.
+#[test]
+fn decodes_pieces(rt: HostRuntime) -> Result<(), Fail> {
+    let alloc = rt.alloc();
+    for (second, pictures) in [(NEXT_IDR, 2usize), (DROPPING_IDR, 1)] {
+        let bytes = joined(alloc, &[SMALL, PLAIN, PLAIN_IDR, second])?;
+        let whole = outcome_of(alloc, &[&bytes])?;
+        assert_eq!(rt; (whole.status, whole.written.len() / 384), (0, pictures));
+        for number in 0..2u32 {
+            let piece = piece_of(alloc, &bytes, number)?;
+            let outcome = outcome_of(alloc, &[&piece.written])?;
+            assert_eq!(rt; (outcome.status, outcome.written.len()), (0, 384));
+        }
+    }
+    Ok(())
+}
+
+#[test]
+fn shows_headers(rt: HostRuntime) -> Result<(), Fail> {
+    let alloc = rt.alloc();
+    let bytes = joined(alloc, &[SMALL, PLAIN, PLAIN_IDR])?;
+    let lines = concat!(
+        "0 sps 0 profile 66 level 10 size 16x16 refs 1 poc 2 dpb 16\n",
+        "1 pps 0 sps 0 qp 26 refs 1 control 0 constrained 0\n",
+        "2 slice 0 type I pps 0 frame 0 qp 26 idr 1\n",
+    );
+    let mut written = Vec::new(alloc);
+    let mut told = Vec::new(alloc);
+    let status = headers(
+        alloc,
+        &mut one_by_one(&bytes, false),
+        &mut written,
+        &mut told,
+    );
+    if status == 4 {
+        return Err(OutOfMemory.into());
+    }
+    assert_eq!(rt; (status, told.len()), (0, 0));
+    assert!(rt; written.as_slice() == lines.as_bytes(), "three lines");
+    Ok(())
+}
+
 #[test]
 fn tells_by_its_status(rt: HostRuntime) -> Result<(), Fail> {
     let alloc = rt.alloc();
@@ -441,12 +533,25 @@ fn stays_ended(rt: HostRuntime) -> Result<(), Fail> {
     Ok(())
 }
 
-// How many pictures a stream gives.
+// A sequence parameter set by which frame numbers may be missing, and a P picture before which numbers are missing, and which is
+// predicted from one of these.
+const GAPS_ALLOWED: &[u8] = &[0, 0, 0, 1, 0x67, 0x42, 0xC0, 0x0A, 0xDA, 0xF1];
+
+const AFTER_GAP: &[u8] = &[0, 0, 1, 0x41, 0x9A, 0x42, 0xA0];
+
+// An IDR picture and two P pictures, with long-term frames, of which one loses its mark by its own operations.
+const LONG_TERM: &[u8] = &[
+    0, 0, 1, 0x67, 0x42, 0xC0, 0x0A, 0xED, 0x3D, 0, 0xF0, 0x88, 0x46, 0xA0, 0, 0, 1, 0x68, 0xCE,
+    0x38, 0x80, 0, 0, 1, 0x25, 0xB8, 0x40, 0x24, 0xC5, 0, 2, 0x58, 0, 0, 1, 0x21, 0xB8, 0xA1, 0x2A,
+    0x3D, 0xF2, 0x62, 0x80, 0, 0x80, 0x36, 0, 0, 1, 1, 0xB9, 0x11, 0x26, 0x28, 0, 8, 0x0D, 0x60,
+];
+
+// How many pictures a stream gives, of no more than ten events.
 fn pictures_of(decoder: &mut Decoder<1000>, bytes: &[u8]) -> Result<usize, DecodeError> {
     decoder.feed(bytes)?;
     decoder.flush()?;
     let mut count = 0usize;
-    for _ in 0..3 {
+    for _ in 0..10 {
         if let Some(Event::Picture(_)) = decoder.take()? {
             count = count.saturating_add(1);
         }
@@ -455,21 +560,27 @@ fn pictures_of(decoder: &mut Decoder<1000>, bytes: &[u8]) -> Result<usize, Decod
 }
 
 // Where an allocation is refused inside the decoder, it answers so until it is reset, and then decodes.
+fn decodes_after_reset(alloc: Global, parts: &[&[u8]], pictures: usize) -> Result<bool, AllocError> {
+    let bytes = joined(alloc, parts)?;
+    let mut decoder = Decoder::<1000>::new(alloc);
+    let first = pictures_of(&mut decoder, &bytes);
+    if first == Err(DecodeError::OutOfMemory) {
+        let answers = [decoder.feed(&bytes), decoder.flush()];
+        if answers != [Err(DecodeError::OutOfMemory); 2] || decoder.take().is_ok() {
+            return Ok(false);
+        }
+        decoder.reset();
+        return Ok(pictures_of(&mut decoder, &bytes) == Ok(pictures));
+    }
+    Ok(first == Ok(pictures))
+}
+
 #[test]
 fn decodes_again_after_want_of_memory(rt: HostRuntime) -> Result<(), Fail> {
     let alloc = rt.alloc();
-    let bytes = joined(alloc, &[SMALL, PLAIN, FIRST, GREY])?;
-    let mut decoder = Decoder::<1000>::new(alloc);
-    match pictures_of(&mut decoder, &bytes) {
-        Ok(count) => assert_eq!(rt; count, 1),
-        Err(error) => {
-            assert_eq!(rt; error, DecodeError::OutOfMemory);
-            assert_eq!(rt; decoder.feed(&bytes), Err(DecodeError::OutOfMemory));
-            assert_eq!(rt; decoder.flush(), Err(DecodeError::OutOfMemory));
-            assert!(rt; decoder.take().is_err(), "nothing can be taken");
-            decoder.reset();
-            assert_eq!(rt; pictures_of(&mut decoder, &bytes), Ok(1));
-        }
-    }
+    assert!(rt; decodes_after_reset(alloc, &[SMALL, PLAIN, FIRST, GREY], 1)?, "IDR picture");
+    let gap = [GAPS_ALLOWED, PLAIN, PLAIN_IDR, AFTER_GAP, NEXT_IDR];
+    assert!(rt; decodes_after_reset(alloc, &gap, 2)?, "missing frame numbers");
+    assert!(rt; decodes_after_reset(alloc, &[LONG_TERM], 3)?, "long-term frames");
     Ok(())
 }

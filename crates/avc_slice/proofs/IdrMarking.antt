@@ -1,4 +1,4 @@
--- The marking of an IDR picture's header.
+-- The marking of a header: it is there in a reference picture alone, and that of an IDR picture is one of its own.
 use Rattle.std.proofs.Common.{◌≡◌, ℕ, ◌+◌, ◌/◌, ◌%◌, ◌==◌, ◌&&◌, ◌||◌, not, nat_lt, Bool, true, false, List, Option, Some, None, is_some, Result, Ok, Err, refl}
 use Rattle.std.proofs.lemmas.Bool.{false≢true}
 use Rattle.avc_types.specs.declared.fault.Fault.{Fault}
@@ -11,7 +11,7 @@ use Rattle.avc_params.specs.Limits.{size_in_mbs}
 use Rattle.avc_params.specs.Tables.{Sets}
 use Rattle.avc_params.specs.declared.pps.Pps.{Pps}
 use Rattle.avc_params.specs.declared.sps.Sps.{Sps}
-use Rattle.avc_slice.specs.Header.{is_idr, is_idr_marking, has_idr_marking, is_p_type}
+use Rattle.avc_slice.specs.Header.{is_idr, is_idr_marking, is_reference, has_idr_marking, is_p_type}
 use Rattle.avc_slice.specs.Reading.{back, coded_order, filtering, found, front, header_in_rbsp, header_of, idr_pic_id, list_part, marking, numbers, position_here, redundant_pic_cnt, slice_header, slice_type_of}
 use Rattle.avc_slice.specs.declared.header.Header.{Header}
 use Rattle.avc_slice.specs.declared.parts.Front.{Front}
@@ -19,10 +19,10 @@ use Rattle.avc_slice.specs.declared.parts.Numbers.{Numbers}
 use Rattle.avc_bits.specs.Giving.{Gives, gives-bind, gives-check, gives-give, gives-then}
 
 abbrev IsMarked : Header → Type 0
-IsMarked h = is_idr h ≡ true → has_idr_marking h ≡ true
+IsMarked h = (is_some h.marking ≡ is_reference h) × (is_idr h ≡ true → has_idr_marking h ≡ true)
 
 abbrev HasMarking : (idr reference : Bool) → Option Marking → Type 0
-HasMarking idr reference m = idr ≡ true → reference ≡ true → is_idr_marking m ≡ true
+HasMarking idr reference m = (is_some m ≡ reference) × (idr ≡ true → reference ≡ true → is_idr_marking m ≡ true)
 
 gives-marking : Gives (λ m. is_idr_marking (Some m) ≡ true) (marking true)
 gives-marking =
@@ -31,11 +31,13 @@ gives-marking =
     gives-give (λ m. is_idr_marking (Some m) ≡ true) (Idr no_output long_term) refl))
 
 gives-optional_marking : (idr reference : Bool) → Gives (HasMarking idr reference) (where_set reference (marking idr))
-gives-optional_marking idr false = gives-give (HasMarking idr false) None (λ _ e. absurd (false≢true e))
+gives-optional_marking idr false = gives-give (HasMarking idr false) None (refl, λ _ e. absurd (false≢true e))
 gives-optional_marking true true =
     gives-bind (λ m. is_idr_marking (Some m) ≡ true) (HasMarking true true) (marking true) _ gives-marking (λ m is.
-    gives-give (HasMarking true true) (Some m) (λ _ _. is))
-gives-optional_marking false true = λ b next m e wrong _. absurd (false≢true wrong)
+    gives-give (HasMarking true true) (Some m) (refl, λ _ _. is))
+gives-optional_marking false true =
+    gives-then (HasMarking false true) (marking false) _ (λ m.
+    gives-give (HasMarking false true) (Some m) (refl, λ wrong _. absurd (false≢true wrong)))
 
 abbrev OnlyIf : (idr : Bool) → Option ℕ → Type 0
 OnlyIf idr id = is_some id ≡ true → idr ≡ true
@@ -63,7 +65,7 @@ gives-back nal_ref_idc idr f pps sps reference =
     (gives-optional_marking idr (not (nal_ref_idc == 0))) (λ m marked.
     gives-then IsMarked (filtering pps) _ (λ filtered.
     gives-then IsMarked position_here _ (λ place.
-    gives-give IsMarked _ (λ e. marked (only e) (reference (only e)))))))))
+    gives-give IsMarked _ (marked.0, λ e. marked.1 (only e) (reference (only e)))))))))
 
 is_reference_in : (idr zero_idc p : Bool) → not (idr && (zero_idc || p)) ≡ true → idr ≡ true → not zero_idc ≡ true
 is_reference_in true true p e i = e
@@ -92,7 +94,7 @@ read-by : (header : ℕ) (sets : Sets) (rbsp : List ℕ) (r : Result (Header × 
 read-by header sets rbsp (Ok r) h e f = let same : r.0 ≡ h = let g = rw e at f in cc in (r.1, rw same at e)
 read-by header sets rbsp (Err fault) h e f = let wrong = rw e at f in cc
 
-pub idr_marked : (header : ℕ) (sets : Sets) (rbsp : List ℕ) (h : Header) → header_in_rbsp header sets rbsp ≡ Ok h → is_idr h ≡ true → has_idr_marking h ≡ true
-idr_marked header sets rbsp h e =
+pub is_marked : (header : ℕ) (sets : Sets) (rbsp : List ℕ) (h : Header) → header_in_rbsp header sets rbsp ≡ Ok h → IsMarked h
+is_marked header sets rbsp h e =
     let read = read-by header sets rbsp (header_of header sets (start rbsp)) h refl e in
     gives-header (header / 32 % 4) (header % 32 == 5) sets (start rbsp) read.0 h read.1

@@ -24,7 +24,7 @@ use Rattle.avc_slice.specs.declared.header.Header.{Header}
 use Rattle.avc_slice.specs.declared.parts.Filtering.{Filtering}
 use Rattle.avc_slice.specs.declared.parts.Front.{Front}
 use Rattle.avc_slice.specs.declared.parts.ListPart.{ListPart}
-use Rattle.avc_slice.proofs.IdrMarking.{idr_marked}
+use Rattle.avc_slice.proofs.IdrMarking.{is_marked}
 use Rattle.avc_slice.proofs.WeightsRead.{gives-table, keeps-table}
 use Rattle.avc_slice.proofs.Keeping.{Keeps, total, keeps-bind, keeps-give, keeps-refuse, keeps-check, keeps-where_set, keeps-u, keeps-flag, keeps-ue, keeps-ue_to, keeps-se, keeps-se_within}
 
@@ -323,7 +323,8 @@ header-read header sets rbsp h e =
         within = record {
           address = is.address;
           intra = λ of_idr. ap is_p_type is.slice_type ∙ gives-front (header / 32 % 4) idr (start rbsp) f.1 f.0 f.2 (sym is.idr_is ∙ of_idr);
-          marking = idr_marked header sets rbsp h e;
+          reference = (is_marked header sets rbsp h e).0;
+          marking = (is_marked header sets rbsp h e).1;
           qp_low = is.filters.qp.least;
           qp_high = is.filters.qp.most;
           deblocking = is.filters.deblocking;

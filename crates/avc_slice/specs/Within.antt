@@ -1,5 +1,5 @@
 -- What each slice header that was read keeps to.
-use Rattle.std.specs.Prelude.{◌≡◌, ℕ, ◌<◌, ◌≤◌, pos, negsuc, ◌≤ℤ◌, true, false, List, length, Some, IfSome}
+use Rattle.std.specs.Prelude.{◌≡◌, ℕ, ◌<◌, ◌≤◌, pos, negsuc, ◌≤ℤ◌, true, false, List, length, Some, IfSome, is_some}
 use Rattle.std.specs.List.{All}
 use Rattle.avc_types.specs.declared.edges.FilteredEdges.TheVariants.{NoEdges}
 use Rattle.avc_bits.specs.Bits.{bits_before_stop}
@@ -7,7 +7,7 @@ use Rattle.avc_params.specs.Limits.{size_in_mbs}
 use Rattle.avc_params.specs.Tables.{Sets}
 use Rattle.avc_params.specs.declared.pps.Pps.{Pps}
 use Rattle.avc_params.specs.declared.sps.Sps.{Sps}
-use Rattle.avc_slice.specs.Header.{is_idr, has_idr_marking, is_p, slice_qp}
+use Rattle.avc_slice.specs.Header.{is_idr, has_idr_marking, is_p, is_reference, slice_qp}
 use Rattle.avc_slice.specs.declared.header.Deblocking.{Deblocking}
 use Rattle.avc_slice.specs.declared.header.Header.{Header}
 use Rattle.avc_slice.specs.declared.weights.ChromaWeights.{ChromaWeights}
@@ -50,7 +50,9 @@ pub record IsHeader (sps : Sps) (pps : Pps) (rbsp : List ℕ) (h : Header) : Typ
   pub address : h.first_mb_in_slice < size_in_mbs sps
   -- an IDR picture has I slices alone
   pub intra : is_idr h ≡ true → is_p h ≡ false
-  -- and the marking of one
+  -- a reference picture alone has dec_ref_pic_marking (7.3.3)
+  pub reference : is_some h.marking ≡ is_reference h
+  -- that of an IDR picture is one of its own
   pub marking : is_idr h ≡ true → has_idr_marking h ≡ true
   pub qp_low : pos 0 ≤ℤ slice_qp pps h.slice_qp_delta
   pub qp_high : slice_qp pps h.slice_qp_delta ≤ℤ pos 51

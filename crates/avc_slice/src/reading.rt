@@ -5,7 +5,9 @@ ghost use Rattle.avc_params.specs.Limits.{max_frame_num};
 ghost use Rattle.avc_params.specs.Tables.{sets_after};
 ghost use Rattle.avc_params.specs.Within.{IsPps, IsSps};
 ghost use Rattle.avc_slice.specs.Header.{is_idr, slice_qp};
-ghost use Rattle.avc_slice.specs.Reading.{active_count, active_override, back, deblocking, idr_pic_id, is_qp, marking, redundant_pic_cnt, filtering, front, header_in_rbsp, list_part, modification_list, numbers, p_list, slice_type_of};
+ghost use Rattle.avc_slice.specs.Reading.{active_count, active_override, back, deblocking, idr_pic_id, is_qp};
+ghost use Rattle.avc_slice.specs.Reading.{marking, redundant_pic_cnt, filtering, front, header_in_rbsp};
+ghost use Rattle.avc_slice.specs.Reading.{list_part, modification_list, numbers, p_list, slice_type_of};
 ghost use Rattle.avc_slice.specs.WeightsReading.{pred_weight_table};
 ghost use Rattle.avc_slice.specs.Within.{IsReadUnder};
 

@@ -1,5 +1,5 @@
 -- What is made of a stream's units, one after the other.
-use Rattle.std.proofs.Common.{◌≡◌, ◌+◌, ◌≤◌, ℕ, List, [], ◌∷◌, ◌++◌, length, drop, Option, Some, None, true, false, if◌then◌else◌, refl, ap, sym, ◌∙◌, inl, inr, rules, append_assoc, append-nil}
+use Rattle.std.proofs.Common.{◌≡◌, ◌+◌, ℕ, List, [], ◌∷◌, ◌++◌, length, drop, Option, Some, None, true, false, if◌then◌else◌, refl, ap, sym, ◌∙◌, inl, inr, rules, append_assoc, append-nil}
 use Rattle.std.specs.List.{flat_map, slice_get}
 use Rattle.std.proofs.lemmas.Option.{slice_get_cases, slice_get_within, get_or_from_slice_get}
 use Rattle.std.proofs.lemmas.List.{drop_more, drop_all}

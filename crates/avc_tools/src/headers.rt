@@ -6,7 +6,12 @@ ghost use Rattle.avc_params.specs.Tables.{sets_after};
 ghost use Rattle.avc_slice.specs.Header.{slice_qp};
 ghost use Rattle.avc_units.specs.Grouping.{rbsp_of, slice_in};
 ghost use Rattle.avc_units.specs.Kinds.{meant};
-ghost use Rattle.avc_tools.specs.Lines.{flag_number, header_line, header_lines, header_text, line_of, newline, order_type, pps_constrained, pps_control, pps_fields, pps_flags, pps_identity, pps_text, qp_number, refused_text, set_text, shown_height, shown_width, slice_fields, slice_picture, slice_place, slice_qp_under, slice_text, sps_frames, sps_identity, sps_size, sps_text, text_of, type_name};
+ghost use Rattle.avc_tools.specs.Lines.{flag_number, header_line, header_lines, header_text, line_of};
+ghost use Rattle.avc_tools.specs.Lines.{newline, order_type, pps_constrained, pps_control, pps_fields};
+ghost use Rattle.avc_tools.specs.Lines.{pps_flags, pps_identity, pps_text, qp_number, refused_text, set_text};
+ghost use Rattle.avc_tools.specs.Lines.{shown_height, shown_width, slice_fields, slice_picture, slice_place};
+ghost use Rattle.avc_tools.specs.Lines.{slice_qp_under, slice_text, sps_frames, sps_identity, sps_size};
+ghost use Rattle.avc_tools.specs.Lines.{sps_text, text_of, type_name};
 
 use crate::units::all_units;
 use avc_annexb::Unit;

@@ -1,8 +1,12 @@
-//! Texts of units and headers.
+//! Texts of units and headers, and pieces of a stream.
 #![tactic(auto)]
 
+mod cutting;
 mod headers;
+mod piece;
+mod set_places;
 mod units;
 
+pub use cutting::cut;
 pub use headers::show_headers;
 pub use units::list_units;

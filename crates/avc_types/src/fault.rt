@@ -105,7 +105,7 @@ pub enum Fault {
     /// A prediction from an empty list entry or a non-existing frame (8.4.2.1).
     RefMissing = 45,
 
-    /// A part of the profile that is not joined to the decoder yet.
+    /// No call answers it: the number stays taken.
     NotYet = 46,
 }
 

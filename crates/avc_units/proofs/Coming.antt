@@ -1,5 +1,6 @@
 -- What a slice's unit does.
-use Rattle.std.proofs.Common.{◌≡◌, ◌==◌, ◌%◌, ℕ, Bool, true, false, List, Option, Some, None, Result, Ok, Err, IfOk, if◌then◌else◌, refl, ap, sym, ◌∙◌}
+use Rattle.std.proofs.Common.{◌≡◌, ◌==◌, ◌&&◌, ℕ, Bool, true, false, List, Option, Some, None, Result, Ok, Err, IfOk, if◌then◌else◌, refl, ap, sym, ◌∙◌}
+use Rattle.std.proofs.lemmas.Bool.{eqb-true}
 use Rattle.avc_types.specs.declared.fault.Fault.{Fault}
 use Rattle.avc_annexb.specs.Units.{forbidden_zero_bit, nal_unit_type}
 use Rattle.avc_annexb.specs.declared.unit.Unit.{Unit}
@@ -11,8 +12,8 @@ use Rattle.avc_slice.specs.Header.{is_idr}
 use Rattle.avc_slice.specs.Reading.{header_in_rbsp}
 use Rattle.avc_slice.specs.Within.{IsReadUnder}
 use Rattle.avc_slice.specs.declared.slice.Slice.{Slice}
-use Rattle.avc_units.specs.GrouperState.{IfSlice, IsTaken}
-use Rattle.avc_units.specs.Grouping.{slice, partition, sps, pps, boundary, other, OpenPictureFacts, is_start, kind, kind_of, rbsp_of, reads_zero, readable, running_step, slice_in, slice_step, taken_slice, unreadable, waiting_step, with_header}
+use Rattle.avc_units.specs.GrouperState.{IfSlice, IsSliceUnder}
+use Rattle.avc_units.specs.Grouping.{slice, partition, sps, pps, boundary, other, OpenPictureFacts, is_start, kind, kind_of, rbsp_of, reads_zero, readable, running_step, slice_in, slice_step, unreadable, waiting_step, with_header}
 use Rattle.avc_units.specs.Kinds.{slice_or_start}
 use Rattle.avc_units.specs.declared.step.Step.{Step}
 
@@ -20,45 +21,45 @@ use Rattle.avc_units.specs.declared.step.Step.{Step}
 abbrev read_from : Sets → Unit → List ℕ → Result Slice Fault
 read_from sets u rbsp = with_header u rbsp (header_in_rbsp u.header sets rbsp)
 
-by-start : (running starts : Bool) (open_picture : Option OpenPictureFacts) (sets : Sets) (u : Unit) (read : Result Slice Fault) → is_start u ≡ starts → taken_slice sets u true ≡ read
-    → slice_or_start running open_picture starts read ≡ elim running [ true ↦ running_step sets open_picture u (slice true) | false ↦ waiting_step sets u (slice true) ]
-by-start true starts open_picture sets u read is is_read = rw (is, is_read) refl
-by-start false true open_picture sets u read is is_read = rw (waiting_step, is, is_read) refl
-by-start false false open_picture sets u read is is_read = rw (waiting_step, is) refl
+by-start : (running starts idr : Bool) (open_picture : Option OpenPictureFacts) (sets : Sets) (u : Unit) (read : Result Slice Fault) → is_start u ≡ starts → slice_in sets u ≡ read
+    → slice_or_start running open_picture starts read ≡ elim running [ true ↦ running_step sets open_picture u (slice idr) | false ↦ waiting_step sets u (slice idr) ]
+by-start true starts idr open_picture sets u read is is_read = rw (is, is_read) refl
+by-start false true idr open_picture sets u read is is_read = rw (waiting_step, is, is_read) refl
+by-start false false idr open_picture sets u read is is_read = rw (waiting_step, is) refl
 
-idr_by : (one five parts seven eight others : Bool)
-    → (if one then slice false else (if five then slice true else (if parts then partition else (if seven then sps else (if eight then pps else (if others then boundary else other)))))) ≡ slice true
-    → five ≡ true
-idr_by true five parts seven eight others is = cc
-idr_by false true parts seven eight others is = refl
-idr_by false false true seven eight others is = cc
-idr_by false false false true eight others is = cc
-idr_by false false false false true others is = cc
-idr_by false false false false false true is = cc
-idr_by false false false false false false is = cc
+type_by : (idr one five parts seven eight others : Bool) → (one ≡ true → five ≡ false)
+    → (if one then slice false else (if five then slice true else (if parts then partition else (if seven then sps else (if eight then pps else (if others then boundary else other)))))) ≡ slice idr
+    → five ≡ idr
+type_by true true five parts seven eight others apart is = cc
+type_by false true five parts seven eight others apart is = apart refl
+type_by true false true parts seven eight others apart is = refl
+type_by false false true parts seven eight others apart is = cc
+type_by idr false false true seven eight others apart is = cc
+type_by idr false false false true eight others apart is = cc
+type_by idr false false false false true others apart is = cc
+type_by idr false false false false false true apart is = cc
+type_by idr false false false false false false apart is = cc
 
-idr_type : (type : ℕ) → kind_of type ≡ slice true → (type == 5) ≡ true
-idr_type type is = idr_by (type == 1) (type == 5) _ (type == 7) (type == 8) _ is
+one_is_not_five : (type : ℕ) → (type == 1) ≡ true → (type == 5) ≡ false
+one_is_not_five type is = rw (eqb-true type 1 is) refl
 
-starts-by : (u : Unit) (rbsp : List ℕ) → forbidden_zero_bit u.header ≡ false → kind u ≡ slice true → rbsp_of u ≡ Some rbsp → is_start u ≡ reads_zero (ue (start rbsp))
-starts-by u rbsp allowed is read = rw (is_start, allowed, idr_type (nal_unit_type u.header) is, read) refl
+slice_type : (type : ℕ) (idr : Bool) → kind_of type ≡ slice idr → (type == 5) ≡ idr
+slice_type type idr is = type_by idr (type == 1) (type == 5) _ (type == 7) (type == 8) _ (one_is_not_five type) is
 
-taken-by : (sets : Sets) (u : Unit) (rbsp : List ℕ) → rbsp_of u ≡ Some rbsp → taken_slice sets u true ≡ read_from sets u rbsp
-taken-by sets u rbsp read = rw (taken_slice, slice_in, read) refl
+starts-by : (u : Unit) (idr : Bool) (rbsp : List ℕ) → forbidden_zero_bit u.header ≡ false → kind u ≡ slice idr → rbsp_of u ≡ Some rbsp → is_start u ≡ (idr && reads_zero (ue (start rbsp)))
+starts-by u idr rbsp allowed is read = rw (is_start, allowed, slice_type (nal_unit_type u.header) idr is, read) refl
+
+read-by : (sets : Sets) (u : Unit) (rbsp : List ℕ) → rbsp_of u ≡ Some rbsp → slice_in sets u ≡ read_from sets u rbsp
+read-by sets u rbsp read = rw (slice_in, read) refl
 
 -- with its RBSP
-pub slice_or_start-idr : (running : Bool) (open_picture : Option OpenPictureFacts) (sets : Sets) (u : Unit) (rbsp seen : List ℕ) (starts : Bool) (read : Result Slice Fault)
-    → forbidden_zero_bit u.header ≡ false → kind u ≡ slice true → rbsp_of u ≡ Some rbsp → seen ≡ rbsp → starts ≡ reads_zero (ue (start seen)) → read ≡ read_from sets u rbsp
-    → slice_or_start running open_picture starts read ≡ elim running [ true ↦ running_step sets open_picture u (slice true) | false ↦ waiting_step sets u (slice true) ]
-slice_or_start-idr running open_picture sets u rbsp seen starts read allowed is has same is_starts is_read =
-    by-start running starts open_picture sets u read (starts-by u rbsp allowed is has ∙ ap (λ bytes. reads_zero (ue (start bytes))) (sym same) ∙ sym is_starts) (taken-by sets u rbsp has ∙ sym is_read)
+pub slice_or_start-read : (running idr : Bool) (open_picture : Option OpenPictureFacts) (sets : Sets) (u : Unit) (rbsp seen : List ℕ) (starts : Bool) (read : Result Slice Fault)
+    → forbidden_zero_bit u.header ≡ false → kind u ≡ slice idr → rbsp_of u ≡ Some rbsp → seen ≡ rbsp → starts ≡ (idr && reads_zero (ue (start seen))) → read ≡ read_from sets u rbsp
+    → slice_or_start running open_picture starts read ≡ elim running [ true ↦ running_step sets open_picture u (slice idr) | false ↦ waiting_step sets u (slice idr) ]
+slice_or_start-read running idr open_picture sets u rbsp seen starts read allowed is has same is_starts is_read =
+    by-start running starts idr open_picture sets u read (starts-by u idr rbsp allowed is has ∙ ap (λ bytes. idr && reads_zero (ue (start bytes))) (sym same) ∙ sym is_starts) (read-by sets u rbsp has ∙ sym is_read)
 
 -- ---- a slice that comes was read
-
-taken-kept : (read : Result Slice Fault) (sets : Sets) (u : Unit) → kind u ≡ slice true → IfOk read (λ s. IsReadUnder sets s.rbsp s.header)
-    → IfOk read (λ s. is_idr s.header ≡ (u.header % 32 == 5)) → IfOk read (IsTaken sets)
-taken-kept (Ok s) sets u is kept of_idr = record { read = kept; idr = of_idr ∙ idr_type (nal_unit_type u.header) is }
-taken-kept (Err f) sets u is kept of_idr = tt
 
 step-kept : (P : Slice → Type 0) (open_picture : Option OpenPictureFacts) (starts : Bool) (read : Result Slice Fault) → IfOk read P → IfSlice (slice_step open_picture starts read).next P
 step-kept P None starts (Ok s) kept = kept
@@ -79,7 +80,7 @@ slice_or_start-kept P true open_picture starts read kept = step-kept P open_pict
 slice_or_start-kept P false open_picture true read kept = step-kept P None true read kept
 slice_or_start-kept P false open_picture false read kept = tt
 
-pub slice_or_start-taken : (step : Step) (running : Bool) (open_picture : Option OpenPictureFacts) (starts : Bool) (read : Result Slice Fault) (sets : Sets) (u : Unit) → step ≡ slice_or_start running open_picture starts read
-    → kind u ≡ slice true → IfOk read (λ s. IsReadUnder sets s.rbsp s.header) → IfOk read (λ s. is_idr s.header ≡ (u.header % 32 == 5)) → IfSlice step.next (IsTaken sets)
-slice_or_start-taken step running open_picture starts read sets u same is kept of_idr =
-    rw same (slice_or_start-kept (IsTaken sets) running open_picture starts read (taken-kept read sets u is kept of_idr))
+pub slice_or_start-under : (step : Step) (running : Bool) (open_picture : Option OpenPictureFacts) (starts : Bool) (read : Result Slice Fault) (sets : Sets) → step ≡ slice_or_start running open_picture starts read
+    → IfOk read (IsSliceUnder sets) → IfSlice step.next (IsSliceUnder sets)
+slice_or_start-under step running open_picture starts read sets same kept =
+    rw same (slice_or_start-kept (IsSliceUnder sets) running open_picture starts read kept)

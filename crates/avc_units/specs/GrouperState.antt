@@ -3,7 +3,6 @@ use Rattle.std.specs.Prelude.{◌≡◌, Bool, true, false, ◌&&◌, ◌||◌, 
 use Rattle.avc_annexb.specs.declared.unit.Unit.{Unit as StreamUnit}
 use Rattle.avc_params.specs.Tables.{Sets}
 use Rattle.avc_params.specs.declared.set_unit.SetUnit.{SetUnit}
-use Rattle.avc_slice.specs.Header.{is_idr}
 use Rattle.avc_slice.specs.Within.{IsReadUnder}
 use Rattle.avc_slice.specs.declared.header.Header.{Header}
 use Rattle.avc_slice.specs.declared.slice.Slice.{Slice}
@@ -56,10 +55,9 @@ abbrev pub after_fault : (closing : Bool) → GrouperState → GrouperState
 after_fault closing g =
     elim (g.restarts && closing) [ true ↦ g | false ↦ record g { running = false; last = None; restarts = false } ]
 
--- A slice that can be decoded under these sets: so far those of IDR pictures are taken alone.
-pub record IsTaken (sets : Sets) (s : Slice) : Type 0 where
-  pub read : IsReadUnder sets s.rbsp s.header
-  pub idr : is_idr s.header ≡ true
+-- The slice's header was read under these sets (7.3.3).
+abbrev pub IsSliceUnder : Sets → Slice → Type 0
+IsSliceUnder sets s = IsReadUnder sets s.rbsp s.header
 
 -- what holds of the slice that a step brings
 abbrev pub IfSlice : Next → (Slice → Type 0) → Type 0

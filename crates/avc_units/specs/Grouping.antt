@@ -2,7 +2,6 @@
 use Rattle.std.specs.Prelude.{ℕ, Bool, true, false, not, ◌==◌, ◌&&◌, ◌||◌, nat_le, List, [], ◌∷◌, ◌++◌, Option, Some, None, Result, Ok, Err, if◌then◌else◌}
 use Rattle.avc_types.specs.declared.fault.Fault.{Fault}
 use Rattle.avc_types.specs.declared.fault.Fault.TheVariants as faults
-use Rattle.avc_types.specs.Staged.{takes_slices}
 use Rattle.avc_annexb.specs.Units.{forbidden_zero_bit, nal_unit_type}
 use Rattle.avc_annexb.specs.declared.unit.Unit.{Unit}
 use Rattle.avc_annexb.specs.Escapes.{rbsp}
@@ -107,10 +106,6 @@ abbrev pub slice_in : Sets → Unit → Result Slice Fault
 slice_in sets u =
     elim (rbsp_of u) [ None ↦ Err faults.NalTooLong | Some bytes ↦ with_header u bytes (header_in_rbsp u.header sets bytes) ]
 
--- or NotYet where the unit's type is not yet taken (this decoder's rule)
-abbrev pub taken_slice : Sets → Unit → (idr : Bool) → Result Slice Fault
-taken_slice sets u idr = elim (takes_slices idr) [ true ↦ slice_in sets u | false ↦ Err faults.NotYet ]
-
 -- 0 is read
 abbrev pub reads_zero : Result (ℕ × Bits) Fault → Bool
 reads_zero (Ok r) = r.0 == 0
@@ -170,7 +165,7 @@ slice_step open_picture starts (Err f) = unreadable open_picture f
 
 -- By its kind, where decoding runs or starts with the unit (7.4.1.2.3; this decoder's rule for faults).
 abbrev pub running_step : Sets → Option OpenPictureFacts → Unit → Kind → Step
-running_step sets open_picture u (slice idr) = slice_step open_picture (is_start u) (taken_slice sets u idr)
+running_step sets open_picture u (slice idr) = slice_step open_picture (is_start u) (slice_in sets u)
 running_step sets open_picture u partition = unreadable open_picture faults.DataPartition
 running_step sets open_picture u boundary = ends_picture Nothing
 running_step sets open_picture u other = no_effect

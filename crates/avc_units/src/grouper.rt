@@ -1,6 +1,7 @@
 ghost use Rattle.std.specs.Prelude.{◌≡◌, false, true, IfOk, OnErr, OnOk};
 ghost use Rattle.avc_params.specs.Tables.{sets_after};
-ghost use Rattle.avc_units.specs.GrouperState.{after_fault, begins_a_picture, after_step, last_header_after, open_picture_of, new_grouper, IfSlice, IsTaken};
+ghost use Rattle.avc_units.specs.GrouperState.{after_fault, begins_a_picture, after_step, last_header_after};
+ghost use Rattle.avc_units.specs.GrouperState.{open_picture_of, new_grouper, IfSlice, IsSliceUnder};
 ghost use Rattle.avc_units.specs.Grouping.{step};
 
 use crate::step::{Next, Step};
@@ -74,7 +75,7 @@ impl Grouper {
     pub fn unit(&mut self, unit: &Unit, full: bool) -> Result<Step, OutOfMemory>
         ensures step { IfOk result (λ s. s ≡ step (sets_after self.old.sets) self.old.running (open_picture_of full self.old.last) unit.now) }
         ensures state { IfOk result (λ s. self.new ≡ after_step self.old unit.now s) }
-        ensures slice { IfOk result (λ s. IfSlice s.next (IsTaken (sets_after self.new.sets))) }
+        ensures slice { IfOk result (λ s. IfSlice s.next (IsSliceUnder (sets_after self.new.sets))) }
         ensures sets { IfOk result (λ s. IfSlice s.next (λ _. self.new.sets ≡ self.old.sets)) }
         ensures going { OnOk result (self.old.failed ≡ false) }
         ensures err { OnErr result (self.new.failed ≡ true) }

@@ -1,12 +1,10 @@
-ghost use Rattle.std.specs.Prelude.{◌≡◌, ◌==◌, ◌%◌, false, true, IfOk};
+ghost use Rattle.std.specs.Prelude.{◌≡◌, ◌&&◌, false, IfOk};
 ghost use Rattle.avc_annexb.specs.Units.{forbidden_zero_bit};
 ghost use Rattle.avc_bits.specs.Bits.{start};
 ghost use Rattle.avc_bits.specs.Codes.{ue};
 ghost use Rattle.avc_params.specs.Tables.{sets_after};
-ghost use Rattle.avc_slice.specs.Header.{is_idr};
 ghost use Rattle.avc_slice.specs.Reading.{header_in_rbsp};
-ghost use Rattle.avc_slice.specs.Within.{IsReadUnder};
-ghost use Rattle.avc_units.specs.GrouperState.{IfSlice, IsTaken};
+ghost use Rattle.avc_units.specs.GrouperState.{IfSlice, IsSliceUnder};
 ghost use Rattle.avc_units.specs.Grouping.{kind, reads_zero, slice, with_header};
 ghost use Rattle.avc_units.specs.Kinds.{slice_or_start, open_picture_in, step_by};
 
@@ -31,11 +29,17 @@ pub(crate) fn is_first(rbsp: &[u8]) -> bool
     }
 }
 
+/// Whether decoding can start with a slice of this RBSP, where `idr` says that its unit's type is 5.
+fn can_start(rbsp: &[u8], idr: bool) -> bool
+    ensures { result ≡ (idr && reads_zero (ue (start rbsp.now))) }
+{
+    idr && is_first(rbsp)
+}
+
 /// The slice with this RBSP, or the fault in its header.
 fn read_slice(table: &ParamTable, unit: &Unit, rbsp: Bytes) -> Result<Slice, Fault>
     ensures slice { result ≡ with_header unit.now rbsp (header_in_rbsp unit.now.header (sets_after table.now) rbsp) }
-    ensures kept { IfOk result (λ s. IsReadUnder (sets_after table.now) s.rbsp s.header) }
-    ensures idr { IfOk result (λ s. is_idr s.header ≡ (unit.now.header % 32 == 5)) }
+    ensures kept { IfOk result (IsSliceUnder (sets_after table.now)) }
 {
     let header = read_header(unit.header, rbsp.as_slice(), table)?;
     Ok(Slice {
@@ -45,28 +49,7 @@ fn read_slice(table: &ParamTable, unit: &Unit, rbsp: Bytes) -> Result<Slice, Fau
     })
 }
 
-/// A slice's unit of type 5.
-fn idr_unit(
-    alloc: Global,
-    table: &ParamTable,
-    context: UnitContext,
-    unit: &Unit,
-) -> Result<Step, OutOfMemory>
-    requires allowed { forbidden_zero_bit unit.now.header ≡ false }
-    requires kind { kind unit.now ≡ slice true }
-    ensures step { IfOk result (λ s. s ≡ step_by context.entry (sets_after table.now) unit.now (slice true)) }
-    ensures slice { IfOk result (λ s. IfSlice s.next (IsTaken (sets_after table.now))) }
-{
-    match rbsp_of(alloc, unit)? {
-        Some(rbsp) => {
-            let starts = is_first(rbsp.as_slice());
-            Ok(slice_or_start(context, starts, read_slice(table, unit, rbsp)))
-        }
-        None => Ok(slice_or_start(context, false, Err(Fault::NalTooLong))),
-    }
-}
-
-/// A slice's unit. So far those of type 5 are taken.
+/// A slice's unit; `idr` says that its type is 5.
 pub(crate) fn slice_unit(
     alloc: Global,
     table: &ParamTable,
@@ -77,11 +60,13 @@ pub(crate) fn slice_unit(
     requires allowed { forbidden_zero_bit unit.now.header ≡ false }
     requires kind { kind unit.now ≡ slice idr }
     ensures step { IfOk result (λ s. s ≡ step_by context.entry (sets_after table.now) unit.now (slice idr)) }
-    ensures slice { IfOk result (λ s. IfSlice s.next (IsTaken (sets_after table.now))) }
+    ensures slice { IfOk result (λ s. IfSlice s.next (IsSliceUnder (sets_after table.now))) }
 {
-    if idr {
-        idr_unit(alloc, table, context, unit)
-    } else {
-        Ok(slice_or_start(context, false, Err(Fault::NotYet)))
+    match rbsp_of(alloc, unit)? {
+        Some(rbsp) => {
+            let starts = can_start(rbsp.as_slice(), idr);
+            Ok(slice_or_start(context, starts, read_slice(table, unit, rbsp)))
+        }
+        None => Ok(slice_or_start(context, false, Err(Fault::NalTooLong))),
     }
 }

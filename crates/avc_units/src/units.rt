@@ -1,7 +1,7 @@
 ghost use Rattle.std.specs.Prelude.{◌≡◌, ◌++◌, ◌∷◌, [], false, IfOk, OnOk};
 ghost use Rattle.avc_annexb.specs.Units.{forbidden_zero_bit};
 ghost use Rattle.avc_params.specs.Tables.{sets_after};
-ghost use Rattle.avc_units.specs.GrouperState.{IfSlice, IsTaken};
+ghost use Rattle.avc_units.specs.GrouperState.{IfSlice, IsSliceUnder};
 ghost use Rattle.avc_units.specs.Grouping.{kind, list_of, rbsp_of, set_of, set_units, step};
 ghost use Rattle.avc_units.specs.Kinds.{meant, open_picture_in, step_by};
 
@@ -27,7 +27,7 @@ fn step_by(
     requires kind { kind unit.now ≡ meant unit_kind }
     ensures step { IfOk result (λ s. s ≡ step_by context.entry (sets_after table.old) unit.now (meant unit_kind)) }
     ensures put { OnOk result (table.new ≡ table.old ++ list_of (set_of (meant unit_kind) (rbsp_of unit.now))) }
-    ensures slice { IfOk result (λ s. IfSlice s.next (IsTaken (sets_after table.new))) }
+    ensures slice { IfOk result (λ s. IfSlice s.next (IsSliceUnder (sets_after table.new))) }
     ensures sets { IfOk result (λ s. IfSlice s.next (λ _. table.new ≡ table.old)) }
 {
     match unit_kind {
@@ -49,7 +49,7 @@ pub(crate) fn step_of(
 ) -> Result<Step, OutOfMemory>
     ensures step { IfOk result (λ s. s ≡ step (sets_after table.old) context.entry.running (open_picture_in context.entry) unit.now) }
     ensures put { OnOk result (table.new ≡ table.old ++ set_units (unit.now ∷ [])) }
-    ensures slice { IfOk result (λ s. IfSlice s.next (IsTaken (sets_after table.new))) }
+    ensures slice { IfOk result (λ s. IfSlice s.next (IsSliceUnder (sets_after table.new))) }
     ensures sets { IfOk result (λ s. IfSlice s.next (λ _. table.new ≡ table.old)) }
 {
     if unit.header >= 128 {

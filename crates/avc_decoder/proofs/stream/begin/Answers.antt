@@ -5,4 +5,4 @@ use Rattle.avc_decoder.proofs.stream.begin.Goals as goal
 
 pub begin-requires-clause-within : goal.begin-requires-clause-within
 begin-requires-clause-within c =
-    within_named (sets_after c.args.grouper.now.sets) c.args.slice c.in-Some.pps.now c.in-Some-sps.sps.now c.requires.taken (rw c.table-table.ensures at (sym c.in-Some.ensures.set)) (rw c.table-table.ensures at (sym c.in-Some-sps.ensures.set))
+    within_named (sets_after c.args.grouper.now.sets) c.args.slice c.in-Some.pps.now c.in-Some-sps.sps.now c.requires.within (rw c.table-table.ensures at (sym c.in-Some.ensures.set)) (rw c.table-table.ensures at (sym c.in-Some-sps.ensures.set))

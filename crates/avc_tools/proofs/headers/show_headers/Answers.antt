@@ -1,7 +1,7 @@
-use Rattle.std.proofs.Common.{◌∙◌, ap, subst, sym, string_bytes, ◌++◌}
+use Rattle.std.proofs.Common.{◌∙◌, ap, string_bytes, ◌++◌}
 use Rattle.avc_params.specs.Tables.{sets_after}
-use Rattle.avc_tools.specs.Lines.{header_line, header_lines_from}
-use Rattle.avc_tools.proofs.Shown.{shown_all, shown_more}
+use Rattle.avc_tools.specs.Lines.{header_line}
+use Rattle.avc_tools.proofs.Shown.{shown_more}
 use Rattle.avc_tools.proofs.headers.show_headers.Goals as goal
 
 pub loop-unit-preserved : goal.loop-unit-preserved

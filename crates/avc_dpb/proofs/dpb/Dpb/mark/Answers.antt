@@ -10,5 +10,5 @@ returns g c =
     let low : p < length i.frames.items = subst (λ v. p < length v.frames) (sym c.self.view_is) c.requires in
     let frames = ap (slice_set i.frames.items p) c.set_mark.ensures
     ∙ changed_read (λ f. g.T.BufferedFrame.marked f c.args.mark) i.frames.items p c.index_mut.result.now low c.index_mut.ensures.value in
-    ap (λ f. record { slots = i.slots.items; frames = f; failed = i.failed }) frames
+    ap (λ f. record { slots = i.slots.items; frames = f; output = i.output; failed = i.failed }) frames
     ∙ ap (λ v. with_mark g.T.BufferedFrame.marked v p c.args.mark) c.self.view_is

@@ -1,66 +1,14 @@
-use Rattle.std.proofs.Common.{◌≡◌, ◌+◌, ◌<◌, ◌++◌, ◌∷◌, [], length, map, ap, ap₂, ◌∙◌, sym, arith, rules, subst, false, to_z, of_z, w32}
-use Rattle.std.proofs.lemmas.List.{length_push}
-use Rattle.std.specs.List.{count_by}
-use Rattle.std.proofs.lemmas.List.Sums.{length-filter}
-use Rattle.std.proofs.lemmas.Bool.{leb-false}
-use Rattle.avc_dpb.specs.Contents.{IsBuffer, AreReferences, Contents}
-use Rattle.avc_dpb.specs.Places.{is_needed, needed_items, items_at, is_full, must_bump, with_references, outputs}
-use Rattle.std.specs.List.{filter}
-use Rattle.avc_dpb.proofs.Removing.{length-needed_items}
-use Rattle.avc_dpb.proofs.Room.{goes_at_once, is_stored}
+use Rattle.std.proofs.Common.{subst, refl, false}
+use Rattle.avc_dpb.specs.Contents.{Contents, Stores}
+use Rattle.avc_dpb.proofs.Early.{stored_in_turn}
 use Rattle.avc_dpb.proofs.dpb.Dpb.store.Goals as goal
 
-pub invariant_of-self-then-full : goal.invariant_of-self-then-full
-invariant_of-self-then-full g c = λ _.
-    let same : length c.self.inside.frames.items ≡ length c.make_room-places.new.slots.items = c.self.invariant c.if-self.false ∙ sym (c.make_room-places.ensures.long ∙ c.set_references.ensures.long) in
-    ap length c.remove_needless.ensures.frames ∙ length-needed_items c.make_room-places.new.slots.items c.self.inside.frames.items same ∙ sym (ap length c.remove_needless.ensures.slots)
-
-pub invariant_of-self-2 : goal.invariant_of-self-2
-invariant_of-self-2 g c = λ _.
-    let same : length c.self.inside.frames.items ≡ length c.make_room-places.new.slots.items = c.self.invariant c.if-self.false ∙ sym (c.make_room-places.ensures.long ∙ c.set_references.ensures.long) in
-    let left : length c.remove_needless.new.frames.items ≡ length c.remove_needless.new.slots.items =
-    ap length c.remove_needless.ensures.frames ∙ length-needed_items c.make_room-places.new.slots.items c.self.inside.frames.items same ∙ sym (ap length c.remove_needless.ensures.slots) in
-    ap length c.in_ok-push.ensures.items ∙ length_push c.remove_needless.new.frames.items c.args.frame ∙ ap (λ n. n + 1) left
-    ∙ sym (ap length c.push-2.ensures.items ∙ length_push c.remove_needless.new.slots.items _)
-
-pub push-requires-2 : goal.push-requires-2
-push-requires-2 g c =
-    let count : length c.remove_needless.new.slots.items ≡ count_by is_needed c.make_room-places.new.slots.items = ap length c.remove_needless.ensures.slots ∙ length-filter is_needed c.make_room-places.new.slots.items in
-    let room : count_by is_needed c.make_room-places.new.slots.items < c.args.arriving.now.capacity =
-    leb-false c.args.arriving.now.capacity (count_by is_needed c.make_room-places.new.slots.items) (sym (ap (is_full c.args.arriving.now.capacity) c.as_slice-4.ensures.value) ∙ sym c.is_full-full.ensures ∙ c.if-full.false) in
-    (omega arith, omega (arith, count, room, c.requires.capacity))
-
-pub returns-then-full-clause-ok : goal.returns-then-full-clause-ok
-returns-then-full-clause-ok g c = λ b next frame_of references h marks is.
-    let i = c.self.inside in
-    let a = c.args.arriving.now in
-    let old : Contents g.row.T.Denot = record { slots = i.slots.items; frames = i.frames.items; failed = i.failed } in
-    let now = with_references g.T.BufferedFrame.referenced i.slots.items i.frames.items in
-    let set_references : c.set_references.new.slots.items ≡ now = c.set_references.ensures.with_references ∙ ap (with_references g.T.BufferedFrame.referenced i.slots.items) c.as_slice.ensures.value in
-    let turned = c.make_room-places.ensures.slots ∙ ap (λ s. (outputs (must_bump a) s).slots) set_references in
-    let beside : length i.frames.items ≡ length i.slots.items = c.self.invariant c.if-self.false in
-    goes_at_once g.T.BufferedFrame.shown g.T.BufferedFrame.referenced a references old _ b next frame_of c.args.frame c.in_ok-out.out.items c.at_once.new.out.items
-    beside (subst (λ v. IsBuffer v b next frame_of) (sym c.self.view_is) h) (subst (λ v. AreReferences g.T.BufferedFrame.referenced v references b) (sym c.self.view_is) marks) is
-    (ap (is_full a.capacity) (sym turned ∙ sym c.as_slice-4.ensures.value) ∙ sym c.is_full-full.ensures ∙ c.if-full.true)
-    (ap₂ (λ s f. record { slots = s; frames = f; failed = false }) (c.remove_needless.ensures.slots ∙ ap (filter is_needed) turned) (c.remove_needless.ensures.frames ∙ ap (λ s. needed_items s i.frames.items) turned))
-    (c.in_ok-out.ensures ∙ ap₂ (λ p f. map g.T.BufferedFrame.shown (items_at p f)) (c.as_slice-3.ensures.value ∙ c.make_room-places.ensures.out ∙ ap (λ s. (outputs (must_bump a) s).out) set_references) c.as_slice-2.ensures.value)
-    c.in_ok-at_once.ensures
-
 pub returns-clause-ok : goal.returns-clause-ok
-returns-clause-ok g c = λ b next frame_of references h marks is.
+returns-clause-ok g c =
     let i = c.self.inside in
-    let a = c.args.arriving.now in
-    let old : Contents g.row.T.Denot = record { slots = i.slots.items; frames = i.frames.items; failed = i.failed } in
-    let back : to_z w32 (of_z w32 a.order) ≡ a.order = search rules in
-    let now = with_references g.T.BufferedFrame.referenced i.slots.items i.frames.items in
-    let set_references : c.set_references.new.slots.items ≡ now = c.set_references.ensures.with_references ∙ ap (with_references g.T.BufferedFrame.referenced i.slots.items) c.as_slice.ensures.value in
-    let turned = c.make_room-places.ensures.slots ∙ ap (λ s. (outputs (must_bump a) s).slots) set_references in
-    let beside : length i.frames.items ≡ length i.slots.items = c.self.invariant c.if-self.false in
-    is_stored g.T.BufferedFrame.shown g.T.BufferedFrame.referenced a references old _ b next frame_of c.args.frame c.in_ok-out.out.items
-    beside (subst (λ v. IsBuffer v b next frame_of) (sym c.self.view_is) h) (subst (λ v. AreReferences g.T.BufferedFrame.referenced v references b) (sym c.self.view_is) marks) is
-    (ap (is_full a.capacity) (sym turned ∙ sym c.as_slice-4.ensures.value) ∙ sym c.is_full-full.ensures ∙ c.if-full.false)
-    (ap₂ (λ s f. record { slots = s; frames = f; failed = false })
-    (c.push-2.ensures.items ∙ ap (λ o. c.remove_needless.new.slots.items ++ record { order = o; held = a.existing; reference = false } ∷ []) back
-    ∙ ap (λ l. l ++ record { order = a.order; held = a.existing; reference = false } ∷ []) (c.remove_needless.ensures.slots ∙ ap (filter is_needed) turned))
-    (c.in_ok-push.ensures.items ∙ ap (λ l. l ++ c.args.frame ∷ []) (c.remove_needless.ensures.frames ∙ ap (λ s. needed_items s i.frames.items) turned)))
-    (c.in_ok-out.ensures ∙ ap₂ (λ p f. map g.T.BufferedFrame.shown (items_at p f)) (c.as_slice-3.ensures.value ∙ c.make_room-places.ensures.out ∙ ap (λ s. (outputs (must_bump a) s).out) set_references) c.as_slice-2.ensures.value)
+    let old : Contents g.row.T.Denot = record { slots = i.slots.items; frames = i.frames.items; output = i.output; failed = i.failed } in
+    subst (λ v. Stores g.T.BufferedFrame.shown g.T.BufferedFrame.referenced v c.args.frame c.args.arriving.now c.append.new.self.items
+    (record { slots = c.output_early.new.slots.items; frames = c.output_early.new.frames.items; output = i.output; failed = false })) c.self.view_is
+    (stored_in_turn g.T.BufferedFrame.shown g.T.BufferedFrame.referenced c.args.arriving.now old _ c.place.new.slots.items c.output_early.new.slots.items
+    c.place.new.frames.items c.output_early.new.frames.items c.args.frame c.in_ok-out.out.items c.in_ok-early.early.items c.append.new.self.items
+    c.in_ok-out.ensures.ok c.in_ok-early.ensures.ok refl c.in_ok-append.ensures.items)

@@ -1,8 +1,7 @@
 use Rattle.std.proofs.Common.{◌≡◌, false, Some, None, List, ℕ, sym, subst, ◌∙◌, arith}
 use Rattle.avc_types.specs.declared.fault.Fault.TheVariants.{MissingMacroblocks}
 use Rattle.avc_params.specs.Limits.{height_in_mbs, size_in_mbs, width_in_mbs}
-use Rattle.avc_plane.specs.Frames.{padded_planes_of, planes_of}
-use Rattle.avc_picture_core.specs.References.{AreSized}
+use Rattle.avc_plane.specs.Frames.{padded_planes_of, planes_of, AreSized}
 use Rattle.avc_picture.specs.Decoding.{CanStandAt, Decoding, end_fault, start_at}
 use Rattle.avc_picture.specs.DecoderState.{IsDecoderState}
 use Rattle.avc_picture.specs.Slices.{is_full, planes_after_slices, progress}

@@ -1,0 +1,227 @@
+-- What a picture decoder says holds on the history of the sequence, and the frames have the picture's size.
+use Rattle.std.proofs.Common.{◌≡◌, ℕ, Bool, true, false, List, [], ◌∷◌, map, All, Option, Some, None, Result, Ok, Err, refl, ap, sym, subst, ◌∙◌, arith}
+use Rattle.std.proofs.lemmas.Bool.Decides.{nat_tests}
+use Rattle.std.proofs.lemmas.List.Elements.{All-cons, All-nil}
+use Rattle.std.specs.List.Sorted.{IsStrictlyIncreasing}
+use Rattle.std.specs.Prelude.{◌+◌, ◌==◌, ◌&&◌, IfSome}
+use Rattle.avc_types.specs.References.{StandAt}
+use Rattle.avc_types.specs.declared.fault.Fault.{Fault}
+use Rattle.avc_types.specs.declared.fault.Fault.TheVariants.{ParameterSetChanged}
+use Rattle.avc_types.specs.declared.picture.Picture.{Picture as Decoded}
+use Rattle.avc_params.specs.Limits.{height_in_mbs, width_in_mbs}
+use Rattle.avc_params.specs.Same.{same_constraints, same_flag, same_order, same_sps}
+use Rattle.avc_params.specs.declared.sps.Sps.{Sps}
+use Rattle.avc_plane.specs.Frames.{AreFrames, marked_frame, stored_at}
+use Rattle.avc_plane.specs.Planes.{Planes}
+use Rattle.avc_plane.specs.declared.frame.Frame.{Frame}
+use Rattle.avc_params.specs.declared.pps.Pps.{Pps}
+use Rattle.avc_slice.specs.Header.{is_idr}
+use Rattle.avc_slice.specs.Within.{IsHeader}
+use Rattle.avc_slice.specs.declared.header.Header.{Header}
+use Rattle.avc_slice.specs.declared.slice.Slice.{Slice}
+use Rattle.avc_marking.specs.Marks.{Marks, missing_frame_nums, prev_ref_frame_num}
+use Rattle.avc_poc.specs.OrderCounts.{Counts, order_counts}
+use Rattle.avc_picture.specs.Decoded.{deblocked}
+use Rattle.avc_picture.specs.Slices.{Progress, coded_of, is_full, planes_after_slices, progress}
+use Rattle.avc_picture.specs.Decoding.{AreFramesOf, CanStandAt, Decoding, HasNoFault, IsFull, Refuses, end_fault, fault_at_end, no_slice_yet, progress_at, start_at, with_slice_more}
+use Rattle.avc_picture.proofs.OtherFrames.{progress-other}
+use Rattle.avc_decoder_core.specs.History.{◌>>=◌, History, history_at_opening, is_same_sps, marking_entries, marks_of, missing_frame, pasts, picture_entry, sequence_sps, stored_frames, with_missing, with_order_counts}
+use Rattle.avc_decoder_core.specs.SequenceState.{AreFramesIn, AreStoredIn, IsOpened, SequenceState, current_history}
+use Rattle.avc_decoder.specs.PictureFrames.{CanHave, HasItsFrames, IsISlice, IsRefused, frames_for, progress_on_history, start_with}
+
+-- ---- the history's frames
+
+-- Places at which the frames can stand; the picture is decoded there as on the history.
+pub record StandsOn (history : History) (d : Decoding 32) : Type 0 where
+  pub entries : List ℕ
+  pub stand : CanStandAt entries d
+  pub same : progress_at entries d ≡ progress_on_history history d
+
+none_rises : IsStrictlyIncreasing []
+none_rises k below = search arith
+
+-- the list of no places is that of no frames
+stand_nowhere : (d : Decoding 32) → d.frames ≡ [] → CanStandAt [] d
+stand_nowhere d none = rw none (record { each = refl; rising = none_rises })
+
+stands_by : (idr : Bool) (s : SequenceState) (d : Decoding 32) → d.frames ≡ elim idr [ true ↦ [] | false ↦ s.frames ] → (idr ≡ true → All IsISlice d.slices) → (idr ≡ false → AreStoredIn (current_history s) s.frames)
+    → StandsOn (current_history s) d
+stands_by true s d e intra stored = record { entries = []; stand = stand_nowhere d e; same = progress-other (start_at [] d) (stored_frames (current_history s)) d.slices (intra refl) }
+stands_by false s d e intra stored =
+    let a = stored refl in
+    record {
+      entries = a.entries;
+      stand = subst (λ (fs : List (Frame 32)). StandAt a.entries (map marked_frame fs)) (sym e) a.stand;
+      same = ap (λ fs. progress (start_with fs d) d.slices) (ap (stored_at a.entries) e ∙ a.stored);
+    }
+
+stands_on : (s : SequenceState) (h : Header) (d : Decoding 32) → HasItsFrames s h d → StandsOn (current_history s) d
+stands_on s h d f = stands_by (is_idr h) s d f.frames f.intra f.stored
+
+-- ---- what the picture decoder says
+
+pub well_on : (s : SequenceState) (h : Header) (d : Decoding 32) → HasItsFrames s h d → HasNoFault d → (progress_on_history (current_history s) d).fault ≡ None
+well_on s h d f well =
+    let k = stands_on s h d f in
+    ap (λ (g : Progress). g.fault) (sym k.same) ∙ well k.entries k.stand
+
+pub with_one_more : (s : SequenceState) (d : Decoding 32) (slice : Slice) → CanHave s d slice → HasItsFrames s slice.header (with_slice_more slice d)
+with_one_more s d slice can = record {
+  frames = can.frames.frames;
+  intra = λ idr. All-cons IsISlice slice d.slices (can.within.intra idr) (can.frames.intra idr);
+  stored = can.frames.stored;
+}
+
+pub refused : (s : SequenceState) (d : Decoding 32) (slice : Slice) (f : Fault) → CanHave s d slice → HasNoFault d → Refuses d slice f (with_slice_more slice d) → IsRefused (current_history s) (with_slice_more slice d) slice f
+refused s d slice f can well r =
+    let k = stands_on s slice.header (with_slice_more slice d) (with_one_more s d slice can) in
+    ap (λ (g : Progress). g.fault) (sym k.same) ∙ r.unit well k.entries k.stand
+
+abbrev pub IsFullOn : SequenceState → Decoding 32 → (full : Bool) → Type 0
+IsFullOn s d full = is_full (start_with (stored_frames (current_history s)) d) (progress_on_history (current_history s) d) ≡ full
+
+pub full_on : (s : SequenceState) (h : Header) (d : Decoding 32) (full : Bool) → HasItsFrames s h d → IsFull full d → IsFullOn s d full
+full_on s h d full f is =
+    let k = stands_on s h d f in
+    ap (is_full (start_with (stored_frames (current_history s)) d)) (sym k.same) ∙ is k.entries k.stand
+
+abbrev pub EndsWith : SequenceState → Decoding 32 → Option Fault → Type 0
+EndsWith s d fault =
+    let history = current_history s in
+    fault_at_end (progress_on_history history d).fault (is_full (start_with (stored_frames history) d) (progress_on_history history d)) ≡ fault
+
+pub ends_with : (s : SequenceState) (h : Header) (d : Decoding 32) (fault : Option Fault) → HasItsFrames s h d → ((entries : List ℕ) → CanStandAt entries d → end_fault entries d ≡ fault) → EndsWith s d fault
+ends_with s h d fault f e =
+    let k = stands_on s h d f in
+    ap (λ (g : Progress). fault_at_end g.fault (is_full (start_with (stored_frames (current_history s)) d) g)) (sym k.same) ∙ e k.entries k.stand
+
+abbrev pub HasPlanes : SequenceState → Decoding 32 → Planes → Type 0
+HasPlanes s d planes = planes ≡ planes_after_slices (start_with (stored_frames (current_history s)) d) d.slices
+
+pub has_planes : (s : SequenceState) (h : Header) (d : Decoding 32) (planes : Planes) → HasItsFrames s h d
+    → ((entries : List ℕ) → CanStandAt entries d → planes ≡ planes_after_slices (start_at entries d) d.slices) → HasPlanes s d planes
+has_planes s h d planes f e =
+    let k = stands_on s h d f in
+    e k.entries k.stand ∙ ap (λ (g : Progress). deblocked (coded_of (start_with (stored_frames (current_history s)) d) g)) k.same
+
+-- a slice more of a picture of the same kind
+pub same_frames : (s : SequenceState) (g h : Header) (d : Decoding 32) → is_idr g ≡ is_idr h → HasItsFrames s g d → HasItsFrames s h d
+same_frames s g h d e f = record {
+  frames = f.frames ∙ ap (λ (b : Bool). elim b as (λ _. List (Frame 32)) [ true ↦ [] | false ↦ s.frames ]) e;
+  intra = λ idr. f.intra (e ∙ idr);
+  stored = λ other. f.stored (e ∙ other);
+}
+
+-- ---- the frames' size
+
+and_first : (a b : Bool) → (a && b) ≡ true → a ≡ true
+and_first true b e = refl
+and_first false b e = e
+
+and_rest : (a b : Bool) → (a && b) ≡ true → b ≡ true
+and_rest true b e = e
+and_rest false b e = cc
+
+same_number : (a b : ℕ) → (a == b) ≡ true → a ≡ b
+same_number a b e = grind (arith, nat_tests, e)
+
+-- sets of the same contents give the same size
+same_size : (a b : Sps) → same_sps a b ≡ true → (width_in_mbs a ≡ width_in_mbs b) × (height_in_mbs a ≡ height_in_mbs b)
+same_size a b e =
+    let e1 = and_rest (a.profile_idc == b.profile_idc) _ e in
+    let e2 = and_rest (same_constraints a.constraint_flags b.constraint_flags) _ e1 in
+    let e3 = and_rest (a.reserved_zero_2bits == b.reserved_zero_2bits) _ e2 in
+    let e4 = and_rest (a.level_idc == b.level_idc) _ e3 in
+    let e5 = and_rest (a.seq_parameter_set_id == b.seq_parameter_set_id) _ e4 in
+    let e6 = and_rest (a.log2_max_frame_num_minus4 == b.log2_max_frame_num_minus4) _ e5 in
+    let e7 = and_rest (same_order a.order_count b.order_count) _ e6 in
+    let e8 = and_rest (a.max_num_ref_frames == b.max_num_ref_frames) _ e7 in
+    let e9 = and_rest (same_flag a.gaps_in_frame_num_value_allowed_flag b.gaps_in_frame_num_value_allowed_flag) _ e8 in
+    let e10 = and_rest (a.pic_width_in_mbs_minus1 == b.pic_width_in_mbs_minus1) _ e9 in (
+      ap (λ n. n + 1) (same_number a.pic_width_in_mbs_minus1 b.pic_width_in_mbs_minus1 (and_first (a.pic_width_in_mbs_minus1 == b.pic_width_in_mbs_minus1) _ e9)),
+      ap (λ n. n + 1) (same_number a.pic_height_in_map_units_minus1 b.pic_height_in_map_units_minus1 (and_first (a.pic_height_in_map_units_minus1 == b.pic_height_in_map_units_minus1) _ e10)),
+    )
+
+-- before a picture that is no IDR picture the parameter set stays, whatever numbers are missing
+pub record StaysIn (sps : Sps) (history full : History) : Type 0 where
+  pub set : sequence_sps full ≡ sequence_sps history
+  pub same : is_same_sps (sequence_sps history) sps ≡ true
+
+ok_is : {A : Type 0} (a b : A) → ◌≡◌ {A = Result A Fault} (Ok a) (Ok b) → a ≡ b
+ok_is a b e = cc
+
+missing_stay : (sps : Sps) (numbers : List ℕ) (h h' : History) → with_missing sps numbers h ≡ Ok h' → sequence_sps h' ≡ sequence_sps h
+missing_stay sps [] h h' e = ap sequence_sps (sym (ok_is h h' e))
+missing_stay sps (n ∷ numbers) h h' e = by_marks (marks_of (missing_frame sps n ∷ h)) (missing_stay sps numbers (missing_frame sps n ∷ h) h') e
+  where
+    by_marks : (r : Result Marks Fault) → (with_missing sps numbers (missing_frame sps n ∷ h) ≡ Ok h' → sequence_sps h' ≡ sequence_sps h) → (r >>= λ m. with_missing sps numbers (missing_frame sps n ∷ h)) ≡ Ok h' → sequence_sps h' ≡ sequence_sps h
+    by_marks (Ok m) then' e' = then' e'
+    by_marks (Err f) then' e' = cc
+
+counted_is : (r : Result Counts Fault) (h h' : History) → (r >>= λ c. Ok h) ≡ Ok h' → h' ≡ h
+counted_is (Ok c) h h' e = cc
+counted_is (Err f) h h' e = cc
+
+-- where the parameter set is that of the sequence
+abbrev same_set_opened : Sps → Header → History → Result History Fault
+same_set_opened sps hd h =
+    missing_frame_nums (prev_ref_frame_num (marking_entries h)) sps.gaps_in_frame_num_value_allowed_flag (picture_entry sps hd)
+    >>= λ numbers. with_missing sps numbers h >>= λ full. with_order_counts sps hd full
+
+stays_in : (sps : Sps) (hd : Header) (h h' : History) → is_idr hd ≡ false → history_at_opening sps hd h ≡ Ok h' → StaysIn sps h h'
+stays_in sps hd h h' other e = by_same (is_same_sps (sequence_sps h) sps) refl (sym opening ∙ e)
+  where
+    opening : history_at_opening sps hd h ≡ elim (is_same_sps (sequence_sps h) sps) [ false ↦ Err ParameterSetChanged | true ↦ same_set_opened sps hd h ]
+    opening = ap (λ (b : Bool). elim b as (λ _. Result History Fault) [ true ↦ with_order_counts sps hd h | false ↦ elim (is_same_sps (sequence_sps h) sps) [ false ↦ Err ParameterSetChanged | true ↦ same_set_opened sps hd h ] ]) other
+
+    by_full : (r : Result History Fault) → ((full : History) → r ≡ Ok full → sequence_sps full ≡ sequence_sps h) → (r >>= λ full. with_order_counts sps hd full) ≡ Ok h' → sequence_sps h' ≡ sequence_sps h
+    by_full (Ok full) stays e' = ap sequence_sps (counted_is (order_counts sps hd (pasts full)) full h' e') ∙ stays full refl
+    by_full (Err f) stays e' = cc
+
+    by_numbers : (r : Result (List ℕ) Fault) → (r >>= λ numbers. with_missing sps numbers h >>= λ full. with_order_counts sps hd full) ≡ Ok h' → sequence_sps h' ≡ sequence_sps h
+    by_numbers (Ok numbers) e' = by_full (with_missing sps numbers h) (λ full same. missing_stay sps numbers h full same) e'
+    by_numbers (Err f) e' = cc
+
+    by_same : (b : Bool) → is_same_sps (sequence_sps h) sps ≡ b → ◌≡◌ {A = Result History Fault} (elim b [ false ↦ Err ParameterSetChanged | true ↦ same_set_opened sps hd h ]) (Ok h') → StaysIn sps h h'
+    by_same true same e' = record { set = by_numbers (missing_frame_nums (prev_ref_frame_num (marking_entries h)) sps.gaps_in_frame_num_value_allowed_flag (picture_entry sps hd)) e'; same = same }
+    by_same false same e' = cc
+
+fit_set : (sps : Sps) (set : Option Sps) (frames : List (Frame 32)) → is_same_sps set sps ≡ true → IfSome set (λ before. AreFrames (width_in_mbs before) (height_in_mbs before) frames) → AreFramesOf sps frames
+fit_set sps None frames same fit = cc
+fit_set sps (Some before) frames same fit =
+    let size = same_size before sps same in
+    rw (← size.0, ← size.1) fit
+
+no_frames_fit : (sps : Sps) → AreFramesOf {PAD = 32} sps []
+no_frames_fit sps = record { few = omega arith; sized = All-nil _ }
+
+-- the frames have the size of the picture that is opened
+pub frames_fit : (s s1 : SequenceState) (sps : Sps) (h : Header) (out : List Decoded) (frames : List (Frame 32)) → IsOpened s sps h out s1 → frames ≡ frames_for h s1
+    → (is_idr h ≡ false → s1.failed ≡ false → AreFramesIn (current_history s1) s1.frames) → AreFramesOf sps frames
+frames_fit s s1 sps h out frames i is sized = by_idr (is_idr h) is (λ other. stays_in sps h s.history (current_history s1) other i.stands) (λ other. sized other going)
+  where
+    going : s1.failed ≡ false
+    going = ap (λ (x : SequenceState). x.failed) i.state ∙ i.going
+
+    by_idr : (idr : Bool) → frames ≡ elim idr [ true ↦ [] | false ↦ s1.frames ] → (idr ≡ false → StaysIn sps s.history (current_history s1)) → (idr ≡ false → AreFramesIn (current_history s1) s1.frames) → AreFramesOf sps frames
+    by_idr true e stays fit = rw e (no_frames_fit sps)
+    by_idr false e stays fit =
+        let k = stays refl in
+        rw e (fit_set sps (sequence_sps (current_history s1)) s1.frames (ap (λ set. is_same_sps set sps) k.set ∙ k.same) (fit refl))
+
+-- ---- a picture with no slice yet
+
+abbrev no_fault_yet : (sps : Sps) (pps : Pps) (frames : List (Frame 32)) → HasNoFault (no_slice_yet sps pps frames)
+no_fault_yet sps pps frames = λ entries stand. refl
+
+pub begun_well : (d : Decoding 32) (sps : Sps) (pps : Pps) (frames : List (Frame 32)) → d ≡ no_slice_yet sps pps frames → HasNoFault d
+begun_well d sps pps frames e = subst HasNoFault (sym e) (no_fault_yet sps pps frames)
+
+-- it can have its first slice
+pub begun_with : (s : SequenceState) (d : Decoding 32) (sps : Sps) (pps : Pps) (frames : List (Frame 32)) (slice : Slice) → d ≡ no_slice_yet sps pps frames → frames ≡ frames_for slice.header s
+    → IsHeader sps pps slice.rbsp slice.header → s.failed ≡ false → (is_idr slice.header ≡ false → s.failed ≡ false → AreStoredIn (current_history s) s.frames) → CanHave s d slice
+begun_with s d sps pps frames slice e is within on stored =
+    subst (λ x. CanHave s x slice) (sym e) (record {
+      frames = record { frames = is; intra = λ idr. All-nil IsISlice; stored = λ other. stored other on };
+      within = within;
+    })

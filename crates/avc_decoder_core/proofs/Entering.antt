@@ -1,0 +1,126 @@
+-- An entry comes: the marks and the buffer of the longer history.
+use Rattle.std.proofs.Common.{◌≡◌, ℕ, ◌+◌, ◌<◌, true, List, [], ◌∷◌, ◌++◌, length, map, Option, Some, None, is_some, Result, Ok, refl, ap, ap₂, sym, ◌∙◌, subst, arith, inl, inr, length-append}
+use Rattle.std.proofs.lemmas.List.{length-map}
+use Rattle.std.proofs.lemmas.Simd.{map-map}
+use Rattle.avc_types.specs.declared.fault.Fault.{Fault}
+use Rattle.avc_types.specs.declared.marked_frame.MarkedFrame.{MarkedFrame}
+use Rattle.avc_types.specs.declared.references.Mark.TheVariants.{Short}
+use Rattle.avc_types.specs.References.{Reference, reference_of, references_at}
+use Rattle.avc_plane.specs.declared.frame.Frame.{Frame}
+use Rattle.avc_plane.specs.Frames.{marked_frame}
+use Rattle.avc_marking.specs.Frames.{MarksFrame, StandBefore, marks_at, or_fault}
+use Rattle.avc_marking.specs.Laws.{IsSameFrame, IsPartUpToMarks, unmarks_all}
+use Rattle.avc_marking.specs.Marks.{Marks, current_frame, marks_after, ◌>>=◌}
+use Rattle.avc_marking.proofs.KeptFrames.{adds_own_frame_alone, leaves_own_frame_alone}
+use Rattle.avc_dpb.specs.Bumping.{Buffer}
+use Rattle.avc_dpb.specs.Contents.{Contents, IsBuffer}
+use Rattle.avc_decoder_core.specs.Frames.{frame_of, frame_at, mark_in}
+use Rattle.avc_decoder_core.specs.FrameBufferFields.{Each, IsStateAfter, places_in}
+use Rattle.avc_decoder_core.specs.History.{Entry, decoded_picture, missing_frame, History, buffer_of, entry_at, marking_entries, marking_entry, marks_of}
+use Rattle.avc_decoder_core.proofs.Places.{each_all, each_append, each_implies, below, increasing, rise, rise_more}
+use Rattle.avc_decoder_core.proofs.References.{IsOf, each_entry, each_reference, marks_are, same_references}
+use Rattle.avc_decoder_core.proofs.FramesAt.{entry_before, entry_newest, mark_is, same_number, same_planes}
+
+-- ---- the marks
+
+pub marks_then : (e : Entry) (h : History) (m : Marks) → marks_of h ≡ Ok m → marks_of (e ∷ h) ≡ marks_after (marking_entry e) (length h) (marking_entry e).marking m
+marks_then e h m is =
+    ap (λ r. r >>= λ m. marks_after (marking_entry e) (length (marking_entries h)) (marking_entry e).marking m) is
+    ∙ ap (λ n. marks_after (marking_entry e) n (marking_entry e).marking m) (length-map h marking_entry)
+
+stand_before : (h : History) (c : Contents (Frame 32)) (b : Buffer) (frame : ℕ → Frame 32) (old : List MarkedFrame) → IsBuffer c b (length h) frame →
+    old ≡ map marked_frame c.frames → StandBefore (places_in b) (length h) old
+stand_before h c b frame old buffer is = record {
+  each = length-map b.frames (λ s. s.entry) ∙ sym (ap length is ∙ length-map c.frames marked_frame ∙ ap length buffer.frames ∙ length-map b.frames (λ s. frame s.entry));
+  rising = increasing (places_in b ++ length h ∷ []) (length h + 1) (rise_more (places_in b) (length h) (length h + 1) (omega arith) (rise b.frames (length h) buffer.rising));
+}
+
+-- The marks of the longer history are those of the frames, or there is the fault.
+pub marked_then : (e : Entry) (h : History) (c : Contents (Frame 32)) (idx : Option ℕ) (previous : ℕ) (s : IsStateAfter h c idx previous)
+    (old new : List MarkedFrame) (r : Result (Unit {0}) Fault) (new_idx : Option ℕ) → old ≡ map marked_frame c.frames →
+    MarksFrame (λ entry. marks_after (marking_entry e) entry (marking_entry e).marking) old idx r new new_idx →
+    marks_of (e ∷ h) ≡ or_fault r (marks_at (places_in (buffer_of h) ++ length h ∷ []) new new_idx)
+marked_then e h c idx previous s old new r new_idx is marks =
+    let ps = places_in (buffer_of h) in
+    let same : marks_at ps old idx ≡ s.marks = ap₂ (λ references i. record { references = references; max_long_term_frame_idx = i }) (ap (references_at ps) is ∙ s.references) s.idx_is in
+    marks_then e h s.marks s.marked
+    ∙ ap (marks_after (marking_entry e) (length h) (marking_entry e).marking) (sym same)
+    ∙ marks ps (length h) (stand_before h c (buffer_of h) (frame_at h (s.marks).references) old s.buffer is)
+
+-- The marks with the entry, where `marked` are the frames of the buffer and the entry's own.
+pub record IsMarked (e : Entry) (h : History) (m : Marks) (marked : List MarkedFrame) : Type 0 where
+  pub marks_is : marks_of (e ∷ h) ≡ Ok m
+  pub marks : map (mark_in m.references) (places_in (buffer_of h) ++ length h ∷ []) ≡ map (λ f. f.mark) marked
+  pub references : m.references ≡ references_at (places_in (buffer_of h) ++ length h ∷ []) (map (λ p. marked_frame (frame_at (e ∷ h) m.references p)) (places_in (buffer_of h) ++ length h ∷ []))
+  pub alone : unmarks_all (marking_entry e).marking ≡ true → Each (λ r. r.entry ≡ length h) m.references
+  pub below : Each (λ r. r.entry < length h + 1) m.references
+
+-- what holds of the frames before holds of those that an entry leaves
+part_each : (Q : Reference → Type 0) → ((r s : Reference) → IsSameFrame r s → Q s → Q r) → (new old : List Reference) → IsPartUpToMarks new old → Each Q old → Each Q new
+part_each Q same [] old part h = tt
+part_each Q same (r ∷ new) [] part h = absurd part
+part_each Q same (r ∷ new) (s ∷ old) (inl both) h = (same r s both.0 h.0, part_each Q same new old both.1 h.1)
+part_each Q same (r ∷ new) (s ∷ old) (inr part) h = part_each Q same (r ∷ new) old part h.1
+
+number_of_own : (e : Entry) → (frame_of (Some e) None).frame_num ≡ (current_frame (marking_entry e) 0 Short).frame_num
+number_of_own (decoded_picture sps header planes) = refl
+number_of_own (missing_frame sps frame_num) = refl
+
+existing_of_own : (e : Entry) → is_some (frame_of (Some e) None).planes ≡ (marking_entry e).existing
+existing_of_own (decoded_picture sps header planes) = refl
+existing_of_own (missing_frame sps frame_num) = refl
+
+same_of : (frame : ℕ → MarkedFrame) (r s : Reference) → IsSameFrame r s → IsOf frame s → IsOf frame r
+same_of frame r s same h = record {
+  frame_num = same.same_frame_num ∙ h.frame_num ∙ ap (λ p. (frame p).frame_num) (sym same.same_entry);
+  existing = same.same_existing ∙ h.existing ∙ ap (λ p. (frame p).existing) (sym same.same_entry);
+}
+
+pub is_marked : (e : Entry) (h : History) (c : Contents (Frame 32)) (idx : Option ℕ) (previous : ℕ) (s : IsStateAfter h c idx previous)
+    (m : Marks) (new : List MarkedFrame) → length new ≡ length c.frames + 1 → marks_of (e ∷ h) ≡ Ok m →
+    m.references ≡ references_at (places_in (buffer_of h) ++ length h ∷ []) new → IsMarked e h m new
+is_marked e h c idx previous s m new long is references =
+    let n = length h in
+    let b = buffer_of h in
+    let ps = places_in b in
+    let qs = ps ++ n ∷ [] in
+    let frame : ℕ → MarkedFrame = λ p. marked_frame (frame_at (e ∷ h) m.references p) in
+    let before : ℕ → MarkedFrame = λ p. marked_frame (frame_at h (s.marks).references p) in
+    let own = current_frame (marking_entry e) n Short in
+    let rising = rise b.frames n (s.buffer).rising in
+    let each : length qs ≡ length new =
+    length-append ps (n ∷ []) ∙ ap (λ k. k + 1) (length-map b.frames (λ s. s.entry) ∙ sym (ap length (s.buffer).frames ∙ length-map b.frames (λ t. frame_at h (s.marks).references t.entry))) ∙ sym long in
+    let marks : map (mark_in m.references) qs ≡ map (λ f. f.mark) new =
+    ap (λ rs. map (mark_in rs) qs) references ∙ marks_are qs (n + 1) new (rise_more ps n (n + 1) (omega arith) rising) each in
+    let after : marks_after (marking_entry e) n (marking_entry e).marking s.marks ≡ Ok m = sym (marks_then e h s.marks s.marked) ∙ is in
+    let old : references_at ps (map before ps) ≡ (s.marks).references =
+    ap (references_at ps) (map-map before (λ t. t.entry) b.frames ∙ sym (ap (map marked_frame) (s.buffer).frames ∙ map-map marked_frame (λ t. frame_at h (s.marks).references t.entry) b.frames)) ∙ s.references in
+    let entries_below : Each (λ r. r.entry < n) (s.marks).references = subst (Each (λ r. r.entry < n)) old (each_entry (λ p. p < n) ps (map before ps) (below ps n rising)) in
+    let part = adds_own_frame_alone (marking_entry e) n s.marks m (each_all (λ r. r.entry < n) (s.marks).references entries_below) after in
+    let of_old : Each (IsOf frame) (s.marks).references =
+    subst (Each (IsOf frame)) old (each_reference (IsOf frame) before ps
+    (each_implies (λ p. p < n) (λ p. IsOf frame (reference_of p (before p))) ps
+    (λ p low. record {
+      frame_num = same_number (entry_at h p) (mark_in (s.marks).references p) (mark_in m.references p) ∙ ap (λ o. (frame_of o (mark_in m.references p)).frame_num) (sym (entry_before e h p low));
+      existing = ap is_some (same_planes (entry_at h p) (mark_in (s.marks).references p) (mark_in m.references p)) ∙ ap (λ o. is_some (frame_of o (mark_in m.references p)).planes) (sym (entry_before e h p low));
+    })
+    (below ps n rising))) in
+    let of_own : IsOf frame own = record {
+      frame_num = sym (number_of_own e) ∙ same_number (Some e) None (mark_in m.references n) ∙ ap (λ o. (frame_of o (mark_in m.references n)).frame_num) (sym (entry_newest e h));
+      existing = sym (existing_of_own e) ∙ ap is_some (same_planes (Some e) None (mark_in m.references n)) ∙ ap (λ o. is_some (frame_of o (mark_in m.references n)).planes) (sym (entry_newest e h));
+    } in
+    let of : Each (IsOf frame) m.references = part_each (IsOf frame) (same_of frame) m.references ((s.marks).references ++ own ∷ []) part (each_append (IsOf frame) (s.marks).references (own ∷ []) of_old (of_own, tt)) in
+    let near : Each (λ r. r.entry < n + 1) (s.marks).references = each_implies (λ r. r.entry < n) (λ r. r.entry < n + 1) (s.marks).references (λ r low. omega (arith, low)) entries_below in
+    record {
+      marks_is = is;
+      marks = marks;
+      references = references ∙ same_references frame qs new each (same_marks (e ∷ h) m.references qs ∙ marks) (subst (Each (IsOf frame)) references of);
+      alone = λ all. part_each (λ r. r.entry ≡ n) (λ r t same at. same.same_entry ∙ at) m.references (own ∷ [])
+          (leaves_own_frame_alone (marking_entry e) n s.marks m all after) (refl, tt);
+      below = part_each (λ r. r.entry < n + 1) (λ r t same low. subst (λ k. k < n + 1) (sym same.same_entry) low) m.references ((s.marks).references ++ own ∷ []) part
+          (each_append (λ r. r.entry < n + 1) (s.marks).references (own ∷ []) near (omega arith, tt));
+    }
+  where
+    same_marks : (h : History) (references : List Reference) (qs : List ℕ) → map (λ p. (marked_frame (frame_at h references p)).mark) qs ≡ map (mark_in references) qs
+    same_marks h references [] = refl
+    same_marks h references (q ∷ qs) = ap₂ (λ x xs. x ∷ xs) (mark_is (entry_at h q) (mark_in references q)) (same_marks h references qs)

@@ -1,0 +1,319 @@
+-- Missing numbers before a picture.
+use Rattle.std.proofs.Common.{◌≡◌, ℕ, ℤ, Bool, true, false, List, [], ◌∷◌, length, drop, Some, None, slice_get, Result, Ok, Err, is_ok, is_some, refl, ap, ap₂, sym, ◌∙◌, rules}
+use Rattle.std.proofs.lemmas.Bool.{false≢true}
+use Rattle.std.proofs.lemmas.Option.{none-some, same_Some}
+use Rattle.std.specs.Int.{int_min}
+use Rattle.avc_types.specs.References.{result_map}
+use Rattle.avc_types.specs.declared.fault.Fault.{Fault}
+use Rattle.avc_types.specs.declared.fault.Fault.TheVariants as faults
+use Rattle.avc_params.specs.declared.sps.Sps.{Sps}
+use Rattle.avc_slice.specs.declared.header.Header.{Header}
+use Rattle.avc_slice.specs.Header.{is_idr, is_reference, has_idr_marking}
+use Rattle.avc_poc.specs.OrderCounts.{Counts, order_counts, picture}
+use Rattle.avc_poc.specs.OrderCountState.{OrderCountState, order_count_state, count_pair, pair}
+use Rattle.avc_types.specs.declared.references.Marking.TheVariants.{SlidingWindow}
+use Rattle.avc_marking.specs.Marks as marking
+use Rattle.avc_marking.proofs.KeptFrames.{slides_again}
+use Rattle.avc_marking.specs.Marks.{MarkingEntry, Marks, marks_after, missing_frame_nums, prev_ref_frame_num}
+use Rattle.avc_decoder_core.specs.History.{missing_frame, History, ◌>>=◌, history_at_opening, is_same_sps, marking_entries, marking_entry, marks_of, order_or_0, picture_entry, pasts, sequence_sps, with_missing, with_order_counts}
+use Rattle.avc_decoder_core.specs.FrameBufferState.{CanFollow}
+use Rattle.avc_decoder_core.specs.Opening.{count_on, counts_over, missing_before, with_all_missing}
+
+pub ok_same : {A : Type 0} (x y : A) → ◌≡◌ {A = Result A Fault} (Ok x) (Ok y) → x ≡ y
+ok_same {A = A} x y e = ap (λ (r : Result A Fault). elim r as (λ _. A) [ Ok z ↦ z | Err f ↦ x ]) e
+
+ok_err : {A : Type 0} (x : A) (f : Fault) → ◌≡◌ {A = Result A Fault} (Ok x) (Err f) → ⊥
+ok_err {A = A} x f e = false≢true (ap (λ (r : Result A Fault). elim r as (λ _. Bool) [ Ok z ↦ false | Err f ↦ true ]) e)
+
+-- ---- one number after another
+
+pub next_number : (numbers : List ℕ) (n : ℕ) → slice_get numbers 0 ≡ Some n → numbers ≡ n ∷ drop 1 numbers
+next_number [] n e = absurd (none-some n e)
+next_number (m ∷ numbers) n e = ap (λ x. x ∷ numbers) (same_Some m n e)
+
+pub no_number : (numbers : List ℕ) → slice_get numbers 0 ≡ None → numbers ≡ []
+no_number [] e = refl
+no_number (m ∷ numbers) e = absurd (none-some m (sym e))
+
+-- ---- the history with all of them
+
+unless_fault : {A B : Type 0} (r : Result A Fault) (f : A → Result B Fault) → is_ok (r >>= f) ≡ true → is_ok r ≡ true
+unless_fault (Ok x) f e = refl
+unless_fault (Err g) f e = e
+
+follows : {A B : Type 0} (r : Result A Fault) (f : Result B Fault) → is_ok r ≡ true → (r >>= λ _. f) ≡ f
+follows (Ok x) f e = refl
+follows (Err g) f e = absurd (false≢true e)
+
+fault_stays : {A B : Type 0} (r : Result A Fault) (g : Fault) (f : A → Result B Fault) → r ≡ Err g → (r >>= f) ≡ Err g
+fault_stays (Ok x) g f e = absurd (ok_err x g e)
+fault_stays (Err h) g f e = search rules
+
+-- the first can be marked where all can
+pub first_marked : (sps : Sps) (n : ℕ) (numbers : List ℕ) (history : History) → is_ok (with_missing sps (n ∷ numbers) history) ≡ true
+    → is_ok (marks_of (missing_frame sps n ∷ history)) ≡ true
+first_marked sps n numbers history e = unless_fault (marks_of (missing_frame sps n ∷ history)) (λ m. with_missing sps numbers (missing_frame sps n ∷ history)) e
+
+-- then the others are left
+pub one_stored : (sps : Sps) (n : ℕ) (numbers : List ℕ) (history : History) → is_ok (marks_of (missing_frame sps n ∷ history)) ≡ true
+    → with_missing sps (n ∷ numbers) history ≡ with_missing sps numbers (missing_frame sps n ∷ history)
+one_stored sps n numbers history e = follows (marks_of (missing_frame sps n ∷ history)) (with_missing sps numbers (missing_frame sps n ∷ history)) e
+
+pub none_counted : (sps : Sps) (numbers : List ℕ) (reached full : History) → slice_get numbers 0 ≡ None → with_all_missing sps numbers reached ≡ full → reached ≡ full
+none_counted sps numbers reached full e is = ap (λ l. with_all_missing sps l reached) (sym (no_number numbers e)) ∙ is
+
+pub one_counted : (sps : Sps) (numbers : List ℕ) (n : ℕ) (reached full : History) → slice_get numbers 0 ≡ Some n → with_all_missing sps numbers reached ≡ full
+    → with_all_missing sps (drop 1 numbers) (missing_frame sps n ∷ reached) ≡ full
+one_counted sps numbers n reached full e is = ap (λ l. with_all_missing sps l reached) (sym (next_number numbers n e)) ∙ is
+
+-- of these numbers the first can be marked, and then the others are left
+pub left_after : (sps : Sps) (numbers : List ℕ) (n : ℕ) (history : History) → slice_get numbers 0 ≡ Some n → is_ok (with_missing sps numbers history) ≡ true
+    → with_missing sps (drop 1 numbers) (missing_frame sps n ∷ history) ≡ with_missing sps numbers history
+left_after sps numbers n history e marked =
+    let is = ap (λ l. with_missing sps l history) (next_number numbers n e) in
+    sym (is ∙ one_stored sps n (drop 1 numbers) history (first_marked sps n (drop 1 numbers) history (ap is_ok (sym is) ∙ marked)))
+
+pub is_with_all : (sps : Sps) (numbers : List ℕ) (history full : History) → with_missing sps numbers history ≡ Ok full → full ≡ with_all_missing sps numbers history
+is_with_all sps [] history full e = sym (ok_same history full e)
+is_with_all sps (n ∷ numbers) history full e =
+    let marked = first_marked sps n numbers history (ap is_ok e) in
+    is_with_all sps numbers (missing_frame sps n ∷ history) full (sym (one_stored sps n numbers history marked) ∙ e)
+
+set_stays : (sps : Sps) (numbers : List ℕ) (history : History) → sequence_sps (with_all_missing sps numbers history) ≡ sequence_sps history
+set_stays sps [] history = refl
+set_stays sps (n ∷ numbers) history = set_stays sps numbers (missing_frame sps n ∷ history)
+
+pub same_set : (sps : Sps) (numbers : List ℕ) (history full : History) → with_missing sps numbers history ≡ Ok full → sequence_sps full ≡ sequence_sps history
+same_set sps numbers history full e = ap sequence_sps (is_with_all sps numbers history full e) ∙ set_stays sps numbers history
+
+-- ---- once the first can be marked, all can (8.2.5.3)
+
+abbrev by_window : MarkingEntry → ℕ → Result Marks Fault → Result Marks Fault
+by_window s place r = marking.◌>>=◌ r (λ m. marks_after s place (Some SlidingWindow) m)
+
+window_once : (s s' : MarkingEntry) (place place' : ℕ) (m : Marks) (r : Result Marks Fault) → marks_after s place (Some SlidingWindow) m ≡ r → is_ok r ≡ true
+    → is_ok (by_window s' place' r) ≡ true
+window_once s s' place place' m (Ok m') told e = slides_again s s' place place' m m' told
+window_once s s' place place' m (Err f) told e = absurd (false≢true e)
+
+window_again : (s s' : MarkingEntry) (place place' : ℕ) (r : Result Marks Fault) → is_ok (by_window s place r) ≡ true → is_ok (by_window s' place' (by_window s place r)) ≡ true
+window_again s s' place place' (Ok m) e = window_once s s' place place' m (marks_after s place (Some SlidingWindow) m) refl e
+window_again s s' place place' (Err f) e = absurd (false≢true e)
+
+next_marked : (sps : Sps) (n k : ℕ) (history : History) → is_ok (marks_of (missing_frame sps n ∷ history)) ≡ true
+    → is_ok (marks_of (missing_frame sps k ∷ missing_frame sps n ∷ history)) ≡ true
+next_marked sps n k history e =
+    window_again (marking_entry (missing_frame sps n)) (marking_entry (missing_frame sps k))
+    (length (marking_entries history)) (length (marking_entries (missing_frame sps n ∷ history))) (marks_of history) e
+
+pub all_marked : (sps : Sps) (n : ℕ) (numbers : List ℕ) (history : History) → is_ok (marks_of (missing_frame sps n ∷ history)) ≡ true
+    → with_missing sps (n ∷ numbers) history ≡ Ok (with_all_missing sps (n ∷ numbers) history)
+all_marked sps n [] history e = one_stored sps n [] history e
+all_marked sps n (k ∷ numbers) history e =
+    one_stored sps n (k ∷ numbers) history e ∙ all_marked sps k numbers (missing_frame sps n ∷ history) (next_marked sps n k history e)
+
+-- ---- what the functions answer
+
+abbrev pub unit_of : Result Marks Fault → Result (Unit {0}) Fault
+unit_of r = result_map (λ _. tt) r
+
+-- the first can't be marked
+pub first_refused : (sps : Sps) (numbers : List ℕ) (n : ℕ) (history : History) (f : Fault) → slice_get numbers 0 ≡ Some n
+    → Err f ≡ unit_of (marks_of (missing_frame sps n ∷ history)) → Err f ≡ counts_over (with_missing sps numbers history)
+first_refused sps numbers n history f e told =
+    sym (ap (λ l. counts_over (with_missing sps l history)) (next_number numbers n e)
+    ∙ ap counts_over (fault_stays (marks_of (missing_frame sps n ∷ history)) f (λ m. with_missing sps (drop 1 numbers) (missing_frame sps n ∷ history)) (refused (marks_of (missing_frame sps n ∷ history)) told)))
+  where
+    refused : (r : Result Marks Fault) → Err f ≡ unit_of r → r ≡ Err f
+    refused (Ok m) t = search rules
+    refused (Err g) t = search rules
+
+pub is_marked : (r : Result Marks Fault) (x : Unit {0}) → Ok x ≡ unit_of r → is_ok r ≡ true
+is_marked (Ok m) x t = refl
+is_marked (Err f) x t = search rules
+
+-- all were counted
+pub all_counted : (sps : Sps) (numbers : List ℕ) (n : ℕ) (history : History) (counts : OrderCountState) → slice_get numbers 0 ≡ Some n
+    → is_ok (marks_of (missing_frame sps n ∷ history)) ≡ true
+    → counts ≡ order_count_state (pasts (with_all_missing sps (drop 1 numbers) (missing_frame sps n ∷ history)))
+    → Ok counts ≡ counts_over (with_missing sps numbers history)
+all_counted sps numbers n history counts e marked told =
+    ap Ok told ∙ sym (ap (λ l. counts_over (with_missing sps l history)) (next_number numbers n e) ∙ ap counts_over (all_marked sps n (drop 1 numbers) history marked))
+
+-- the order count of the picture
+pub counted_next : (sps : Sps) (h : Header) (history : History) (top bottom order : ℤ) (counts : OrderCountState) → order ≡ int_min top bottom
+    → Ok (top, bottom) ≡ count_pair (order_counts sps h (pasts history)) → counts ≡ order_count_state (picture sps h ∷ pasts history)
+    → Ok (order, counts) ≡ result_map (count_on sps h) (with_order_counts sps h history)
+counted_next sps h history top bottom order counts least told after =
+    ap₂ (λ n left. Ok (n, left)) (least ∙ order_is (order_counts sps h (pasts history)) told) after
+    ∙ sym (ap (result_map (count_on sps h)) (counted (order_counts sps h (pasts history)) told))
+  where
+    order_is : (r : Result Counts Fault) → Ok (top, bottom) ≡ count_pair r → int_min top bottom ≡ order_or_0 r
+    order_is (Ok c) t = ap (λ (p : ℤ × ℤ). int_min p.0 p.1) (ok_same (top, bottom) (pair c) t)
+    order_is (Err f) t = absurd (ok_err (top, bottom) f t)
+
+    counted : (r : Result Counts Fault) → Ok (top, bottom) ≡ count_pair r → (r >>= λ c. Ok history) ≡ Ok history
+    counted (Ok c) t = refl
+    counted (Err f) t = absurd (ok_err (top, bottom) f t)
+
+pub not_counted : (sps : Sps) (h : Header) (history : History) (f : Fault) → Err f ≡ count_pair (order_counts sps h (pasts history))
+    → Err f ≡ result_map (count_on sps h) (with_order_counts sps h history)
+not_counted sps h history f told = sym (ap (result_map (count_on sps h)) (refused (order_counts sps h (pasts history)) told))
+  where
+    refused : (r : Result Counts Fault) → Err f ≡ count_pair r → (r >>= λ c. Ok history) ≡ Err f
+    refused (Ok c) t = absurd (ok_err (pair c) f (sym t))
+    refused (Err g) t = search rules
+
+-- ---- what opening makes of the history
+
+abbrev choose : {A : Type 0} → Bool → A → A → A
+choose b x y = elim b [ true ↦ x | false ↦ y ]
+
+on_true : {A : Type 0} (b : Bool) (x y : A) → b ≡ true → choose b x y ≡ x
+on_true true x y e = refl
+on_true false x y e = absurd (false≢true e)
+
+on_false : {A : Type 0} (b : Bool) (x y : A) → b ≡ false → choose b x y ≡ y
+on_false true x y e = absurd (false≢true (sym e))
+on_false false x y e = refl
+
+pub opened_idr : (sps : Sps) (h : Header) (history : History) → is_idr h ≡ true → history_at_opening sps h history ≡ with_order_counts sps h history
+opened_idr sps h history e = on_true (is_idr h) _ _ e
+
+spread : {A B : Type 0} (b : Bool) (g : Fault) (r : Result A Fault) (f : A → Result B Fault)
+    → choose b (r >>= f) (Err g) ≡ (choose b r (Err g) >>= f)
+spread true g r f = refl
+spread false g r f = refl
+
+pub opened_other : (sps : Sps) (h : Header) (history : History) → is_idr h ≡ false
+    → history_at_opening sps h history ≡ (missing_before sps h history >>= λ numbers. with_missing sps numbers history >>= λ full. with_order_counts sps h full)
+opened_other sps h history e =
+    on_false (is_idr h) _ _ e
+    ∙ spread (is_same_sps (sequence_sps history) sps) faults.ParameterSetChanged
+    (missing_frame_nums (prev_ref_frame_num (marking_entries history)) sps.gaps_in_frame_num_value_allowed_flag (picture_entry sps h))
+    (λ numbers. with_missing sps numbers history >>= λ full. with_order_counts sps h full)
+
+-- a picture that can be opened has these numbers before it
+pub record IsOpenedBy (sps : Sps) (h : Header) (history full : History) : Type 0 where
+  pub numbers : List ℕ
+  pub missing : with_missing sps numbers history ≡ Ok full
+  pub same : is_idr h ≡ false → is_same_sps (sequence_sps history) sps ≡ true
+
+with_counts : (r : Result Counts Fault) (x full : History) → (r >>= λ c. Ok x) ≡ Ok full → x ≡ full
+with_counts (Ok c) x full e = ok_same x full e
+with_counts (Err f) x full e = absurd (ok_err full f (sym e))
+
+with_numbers : (sps : Sps) (h : Header) (full : History) (r : Result History Fault) → (r >>= λ full. with_order_counts sps h full) ≡ Ok full → r ≡ Ok full
+with_numbers sps h full (Ok x) e = ap Ok (with_counts (order_counts sps h (pasts x)) x full e)
+with_numbers sps h full (Err f) e = absurd (ok_err full f (sym e))
+
+is_same : {A B : Type 0} (b : Bool) (g : Fault) (r : Result A Fault) (f : A → Result B Fault) (y : B) → (choose b r (Err g) >>= f) ≡ Ok y → b ≡ true
+is_same true g r f y e = refl
+is_same false g r f y e = absurd (ok_err y g (sym e))
+
+by_numbers : (sps : Sps) (h : Header) (history full : History) (r : Result (List ℕ) Fault) → is_same_sps (sequence_sps history) sps ≡ true
+    → (r >>= λ numbers. with_missing sps numbers history >>= λ full. with_order_counts sps h full) ≡ Ok full → IsOpenedBy sps h history full
+by_numbers sps h history full (Ok numbers) same e = record {
+  numbers = numbers;
+  missing = with_numbers sps h full (with_missing sps numbers history) e;
+  same = λ _. same;
+}
+by_numbers sps h history full (Err f) same e = absurd (ok_err full f (sym e))
+
+pub opened_by : (sps : Sps) (h : Header) (history full : History) → history_at_opening sps h history ≡ Ok full → IsOpenedBy sps h history full
+opened_by sps h history full e = by (is_idr h) refl
+  where
+    by : (b : Bool) → is_idr h ≡ b → IsOpenedBy sps h history full
+    by true idr = record {
+      numbers = [];
+      missing = ap Ok (with_counts (order_counts sps h (pasts history)) history full (sym (opened_idr sps h history idr) ∙ e));
+      same = λ other. absurd (false≢true (sym other ∙ idr));
+    }
+    by false idr =
+        let opens = sym (opened_other sps h history idr) ∙ e in
+        by_numbers sps h history full (missing_before sps h history)
+        (is_same (is_same_sps (sequence_sps history) sps) faults.ParameterSetChanged
+        (missing_frame_nums (prev_ref_frame_num (marking_entries history)) sps.gaps_in_frame_num_value_allowed_flag (picture_entry sps h))
+        (λ numbers. with_missing sps numbers history >>= λ full. with_order_counts sps h full) full opens)
+        opens
+
+pub set_at_opening : (sps : Sps) (h : Header) (history full : History) → history_at_opening sps h history ≡ Ok full → sequence_sps full ≡ sequence_sps history
+set_at_opening sps h history full e = let o = opened_by sps h history full e in same_set sps o.numbers history full o.missing
+
+pub can_follow : (sps : Sps) (h : Header) (history full : History) → (is_idr h ≡ true → has_idr_marking h ≡ true) → is_some h.marking ≡ is_reference h → history_at_opening sps h history ≡ Ok full → CanFollow full sps h
+can_follow sps h history full marking reference e = record {
+  idr = marking;
+  same = λ other. ap (λ set. is_same_sps set sps) (set_at_opening sps h history full e) ∙ (opened_by sps h history full e).same other;
+  reference = reference;
+}
+
+-- ---- how opening ends
+
+mapped_fault : {A B : Type 0} (g : A → B) (r : Result A Fault) (f : Fault) → Err f ≡ result_map g r → r ≡ Err f
+mapped_fault g (Ok x) f e = search rules
+mapped_fault g (Err h) f e = search rules
+
+-- where the missing numbers are known
+other_opened : (sps : Sps) (h : Header) (history : History) (numbers : List ℕ) → is_idr h ≡ false → Ok numbers ≡ missing_before sps h history
+    → history_at_opening sps h history ≡ (with_missing sps numbers history >>= λ full. with_order_counts sps h full)
+other_opened sps h history numbers idr known =
+    opened_other sps h history idr ∙ ap (λ r. r >>= λ numbers. with_missing sps numbers history >>= λ full. with_order_counts sps h full) (sym known)
+
+pub refused_numbers : (sps : Sps) (h : Header) (history : History) (f : Fault) → is_idr h ≡ false → Err f ≡ missing_before sps h history → history_at_opening sps h history ≡ Err f
+refused_numbers sps h history f idr e =
+    opened_other sps h history idr ∙ fault_stays (missing_before sps h history) f (λ numbers. with_missing sps numbers history >>= λ full. with_order_counts sps h full) (sym e)
+
+pub refused_missing : (sps : Sps) (h : Header) (history : History) (numbers : List ℕ) (f : Fault) → is_idr h ≡ false → Ok numbers ≡ missing_before sps h history
+    → Err f ≡ counts_over (with_missing sps numbers history) → history_at_opening sps h history ≡ Err f
+refused_missing sps h history numbers f idr known e =
+    other_opened sps h history numbers idr known
+    ∙ fault_stays (with_missing sps numbers history) f (λ full. with_order_counts sps h full) (mapped_fault (λ full. order_count_state (pasts full)) (with_missing sps numbers history) f e)
+
+-- the order counts are those of the full history
+pub record IsCountedOver (r : Result History Fault) (counts : OrderCountState) : Type 0 where
+  pub full : History
+  pub is : r ≡ Ok full
+  pub state : counts ≡ order_count_state (pasts full)
+
+pub counted_over : (r : Result History Fault) (counts : OrderCountState) → Ok counts ≡ counts_over r → IsCountedOver r counts
+counted_over (Ok full) counts e = record { full = full; is = refl; state = ok_same counts (order_count_state (pasts full)) e }
+counted_over (Err f) counts e = absurd (ok_err counts f e)
+
+pub opened_over : (sps : Sps) (h : Header) (history full : History) (numbers : List ℕ) → is_idr h ≡ false → Ok numbers ≡ missing_before sps h history
+    → with_missing sps numbers history ≡ Ok full → history_at_opening sps h history ≡ with_order_counts sps h full
+opened_over sps h history full numbers idr known is =
+    other_opened sps h history numbers idr known ∙ ap (λ r. r >>= λ full. with_order_counts sps h full) is
+
+counts_there : (r : Result Counts Fault) (x : History) → is_ok (r >>= λ c. Ok x) ≡ true → (r >>= λ c. Ok x) ≡ Ok x
+counts_there (Ok c) x e = refl
+counts_there (Err f) x e = absurd (false≢true e)
+
+pub opens_idr : (sps : Sps) (h : Header) (history : History) → is_idr h ≡ true → is_ok (history_at_opening sps h history) ≡ true → history_at_opening sps h history ≡ Ok history
+opens_idr sps h history idr opens =
+    let is = opened_idr sps h history idr in
+    is ∙ counts_there (order_counts sps h (pasts history)) history (ap is_ok (sym is) ∙ opens)
+
+pub opens_other : (sps : Sps) (h : Header) (history full : History) (numbers : List ℕ) → is_idr h ≡ false → is_ok (history_at_opening sps h history) ≡ true
+    → Ok numbers ≡ missing_before sps h history → with_missing sps numbers history ≡ Ok full → history_at_opening sps h history ≡ Ok full
+opens_other sps h history full numbers idr opens known missing =
+    let is = opened_over sps h history full numbers idr known missing in
+    is ∙ counts_there (order_counts sps h (pasts full)) full (ap is_ok (sym is) ∙ opens)
+
+pub marked_at_opening : (sps : Sps) (h : Header) (history : History) (numbers : List ℕ) → is_idr h ≡ false → is_ok (history_at_opening sps h history) ≡ true
+    → Ok numbers ≡ missing_before sps h history → is_ok (with_missing sps numbers history) ≡ true
+marked_at_opening sps h history numbers idr opens known =
+    unless_fault (with_missing sps numbers history) (λ full. with_order_counts sps h full) (ap is_ok (sym (other_opened sps h history numbers idr known)) ∙ opens)
+
+same_unless : {A B : Type 0} (b : Bool) (g : Fault) (r : Result A Fault) (f : A → Result B Fault) → is_ok (choose b r (Err g) >>= f) ≡ true → b ≡ true
+same_unless true g r f e = refl
+same_unless false g r f e = absurd (false≢true e)
+
+pub same_at_opening : (sps : Sps) (h : Header) (history : History) → is_idr h ≡ false → is_ok (history_at_opening sps h history) ≡ true → is_same_sps (sequence_sps history) sps ≡ true
+same_at_opening sps h history idr opens =
+    same_unless (is_same_sps (sequence_sps history) sps) faults.ParameterSetChanged
+    (missing_frame_nums (prev_ref_frame_num (marking_entries history)) sps.gaps_in_frame_num_value_allowed_flag (picture_entry sps h))
+    (λ numbers. with_missing sps numbers history >>= λ full. with_order_counts sps h full)
+    (ap is_ok (sym (opened_other sps h history idr)) ∙ opens)
+
+pub numbers_known : (sps : Sps) (h : Header) (history : History) (f : Fault) → is_idr h ≡ false → is_ok (history_at_opening sps h history) ≡ true → Err f ≡ missing_before sps h history → ⊥
+numbers_known sps h history f idr opens e = false≢true (sym (ap is_ok (refused_numbers sps h history f idr e)) ∙ opens)

@@ -1,0 +1,138 @@
+-- What goes out entry after entry.
+use Rattle.std.proofs.Common.{◌≡◌, ℕ, zero, suc, ◌+◌, ◌-◌, ◌<◌, ◌≤◌, ◌==◌, if◌then◌else◌, Bool, true, false, List, [], ◌∷◌, ◌++◌, length, drop, Option, None, slice_get, refl, ap, ap₂, sym, ◌∙◌, subst, arith, append-nil, append_assoc}
+use Rattle.std.specs.Prelude.{All}
+use Rattle.std.proofs.Math.Nat.{lt_of_not-le}
+use Rattle.std.proofs.lemmas.Bool.{false≢true, eq-eqb}
+use Rattle.std.proofs.lemmas.Bool.Decides.{nat_tests}
+use Rattle.std.proofs.lemmas.Grind.{flat_map-append}
+use Rattle.std.proofs.lemmas.List.Elements.{All-nil, All-cons, All-head, All-tail}
+use Rattle.std.proofs.Math.Seq.{drop-append_seam, drop-length}
+use Rattle.avc_dpb.specs.declared.output.Output.TheVariants.{Full}
+use Rattle.avc_dpb.specs.Bumping.{Arrival, with_all_output}
+use Rattle.avc_dpb.specs.Laws.{occurrences, pictures}
+use Rattle.avc_dpb.proofs.Conserved.{out_only_grows}
+use Rattle.avc_dpb.proofs.Once.{goes_out_once}
+use Rattle.avc_decoder_core.specs.History.{Entry, History, arrival, arrivals, buffer_of, entry_at, new_output, all_held}
+use Rattle.avc_decoder_core.specs.Pictures.{entry_pictures, pictures_at, output_pictures}
+
+-- ---- all places of a history are below its length
+
+pub length_arrivals : (history : History) → length (arrivals history) ≡ length history
+length_arrivals [] = refl
+length_arrivals (e ∷ older) = ap suc (length_arrivals older)
+
+clash : (b : Bool) (m : ℕ) → b ≡ true → (if b then 1 else 0) + m ≡ 0 → ⊥
+clash true m e z = omega (arith, z)
+clash false m e z = false≢true e
+
+below_unless : (n x : ℕ) (xs : List ℕ) → (n ≤ x → occurrences x (x ∷ xs) ≡ 0) → x < n
+below_unless n x xs f = lt_of_not-le (λ low. clash (x == x) (occurrences x xs) (eq-eqb x x refl) (f low))
+
+occurs_later : (place x : ℕ) (xs : List ℕ) → occurrences place (x ∷ xs) ≡ 0 → occurrences place xs ≡ 0
+occurs_later place x xs e = by (if x == place then 1 else 0) (occurrences place xs) e
+  where
+    by : (a b : ℕ) → a + b ≡ 0 → b ≡ 0
+    by a b e = omega (arith, e)
+
+all_below : (n : ℕ) (xs : List ℕ) → ((place : ℕ) → n ≤ place → occurrences place xs ≡ 0) → All (λ p. p < n) xs
+all_below n [] f = All-nil (λ p. p < n)
+all_below n (x ∷ xs) f =
+    All-cons (λ p. p < n) x xs (below_unless n x xs (f x)) (all_below n xs (λ place low. occurs_later place x xs (f place low)))
+
+occurrences-append : (place : ℕ) (xs ys : List ℕ) → occurrences place xs ≡ 0 → occurrences place ys ≡ 0 → occurrences place (xs ++ ys) ≡ 0
+occurrences-append place [] ys e f = f
+occurrences-append place (x ∷ xs) ys e f =
+    joined (if x == place then 1 else 0) (occurrences place xs) (occurrences place (xs ++ ys)) e
+    (occurrences-append place xs ys (occurs_later place x xs e) f)
+  where
+    joined : (a b c : ℕ) → a + b ≡ 0 → c ≡ 0 → a + c ≡ 0
+    joined a b c e f = omega (arith, e, f)
+
+other_place : (place n : ℕ) (b : Bool) → n < place → occurrences place (if b then n ∷ [] else []) ≡ 0
+other_place place n true low = let e : (n == place) ≡ false = grind (arith, nat_tests) in ap (λ t. (if t then 1 else 0) + 0) e
+other_place place n false low = refl
+
+none_above : (history : List Arrival) (place : ℕ) → length history ≤ place → occurrences place (pictures history) ≡ 0
+none_above [] place low = refl
+none_above (a ∷ older) place low =
+    occurrences-append place (pictures older) _ (none_above older place (omega arith)) (other_place place (length older) a.existing (omega arith))
+
+none_out : (a b c : ℕ) → a + b ≡ c → c ≡ 0 → a ≡ 0
+none_out a b c e f = omega (arith, e, f)
+
+-- of the pictures that have gone out and of those that are held
+pub places_below : (history : History) → All (λ p. p < length history) ((buffer_of history).out ++ all_held history)
+places_below history =
+    subst (λ n. All (λ p. p < n) ((buffer_of history).out ++ all_held history)) (length_arrivals history)
+    (all_below (length (arrivals history)) ((buffer_of history).out ++ all_held history)
+    (λ place low. none_out (occurrences place (with_all_output (buffer_of history)).out) _ _ (goes_out_once Full (arrivals history) place) (none_above (arrivals history) place low)))
+
+all_first : (P : ℕ → Type 0) (xs ys : List ℕ) → All P (xs ++ ys) → All P xs
+all_first P [] ys a = All-nil P
+all_first P (x ∷ xs) ys a = All-cons P x xs (All-head P x (xs ++ ys) a) (all_first P xs ys (All-tail P x (xs ++ ys) a))
+
+all_last : (P : ℕ → Type 0) (xs ys : List ℕ) → All P (xs ++ ys) → All P ys
+all_last P [] ys a = a
+all_last P (x ∷ xs) ys a = all_last P xs ys (All-tail P x (xs ++ ys) a)
+
+-- ---- entries keep their places
+
+entry_stays : (e : Entry) (history : History) (place : ℕ) → place < length history → entry_at (e ∷ history) place ≡ entry_at history place
+entry_stays e history place low =
+    let n = length history - place - 1 in
+    let more : length (e ∷ history) - place ≡ suc (suc n) = omega arith in
+    let before : length history - place ≡ suc n = omega arith in
+    ap (λ (d : ℕ). elim d as (λ _. Option Entry) [ zero ↦ None | suc k ↦ slice_get (e ∷ history) k ]) more
+    ∙ sym (ap (λ (d : ℕ). elim d as (λ _. Option Entry) [ zero ↦ None | suc k ↦ slice_get history k ]) before)
+
+pub pictures_stay : (e : Entry) (history : History) (places : List ℕ) → All (λ p. p < length history) places → pictures_at (e ∷ history) places ≡ pictures_at history places
+pictures_stay e history [] a = refl
+pictures_stay e history (p ∷ places) a =
+    ap₂ (λ x rest. entry_pictures x ++ rest) (entry_stays e history p (All-head (λ p. p < length history) p places a))
+    (pictures_stay e history places (All-tail (λ p. p < length history) p places a))
+
+-- ---- what goes out over several entries
+
+-- the new history has put out what the old one has, and then more
+abbrev pub Extends : (old new : History) → Type 0
+Extends old new = (buffer_of new).out ≡ (buffer_of old).out ++ new_output old new
+
+nothing_new : (history : History) → new_output history history ≡ []
+nothing_new history = drop-length (buffer_of history).out
+
+pub extends_itself : (history : History) → Extends history history
+extends_itself history = sym (ap (λ l. (buffer_of history).out ++ l) (nothing_new history) ∙ append-nil (buffer_of history).out)
+
+pub nothing_goes_out : (history : History) → [] ≡ output_pictures history history
+nothing_goes_out history = sym (ap (pictures_at history) (nothing_new history))
+
+output_longer : (e : Entry) (old history : History) → Extends old history
+    → (buffer_of (e ∷ history)).out ≡ (buffer_of old).out ++ (new_output old history ++ new_output history (e ∷ history))
+output_longer e old history x =
+    out_only_grows Full (length (arrivals history)) (arrival e history) (buffer_of history)
+    ∙ ap (λ l. l ++ new_output history (e ∷ history)) x
+    ∙ append_assoc (buffer_of old).out (new_output old history) (new_output history (e ∷ history))
+
+new_longer : (e : Entry) (old history : History) → Extends old history
+    → new_output old (e ∷ history) ≡ new_output old history ++ new_output history (e ∷ history)
+new_longer e old history x =
+    ap (drop (length (buffer_of old).out)) (output_longer e old history x) ∙ drop-append_seam (buffer_of old).out (new_output old history ++ new_output history (e ∷ history))
+
+pub extends_more : (e : Entry) (old history : History) → Extends old history → Extends old (e ∷ history)
+extends_more e old history x = output_longer e old history x ∙ ap (λ l. (buffer_of old).out ++ l) (sym (new_longer e old history x))
+
+out_below : (old history : History) → Extends old history → All (λ p. p < length history) (new_output old history)
+out_below old history x =
+    all_last (λ p. p < length history) (buffer_of old).out (new_output old history)
+    (subst (All (λ p. p < length history)) x (all_first (λ p. p < length history) (buffer_of history).out (all_held history) (places_below history)))
+
+pub held_below : (history : History) → All (λ p. p < length history) (all_held history)
+held_below history = all_last (λ p. p < length history) (buffer_of history).out (all_held history) (places_below history)
+
+-- what goes out with one entry more
+pub output_more : (e : Entry) (old history : History) → Extends old history
+    → output_pictures old (e ∷ history) ≡ output_pictures old history ++ output_pictures history (e ∷ history)
+output_more e old history x =
+    ap (pictures_at (e ∷ history)) (new_longer e old history x)
+    ∙ flat_map-append (λ place. entry_pictures (entry_at (e ∷ history) place)) (new_output old history) (new_output history (e ∷ history))
+    ∙ ap (λ l. l ++ output_pictures history (e ∷ history)) (pictures_stay e history (new_output old history) (out_below old history x))

@@ -1,0 +1,230 @@
+-- What the state of a frame buffer says of its frames, and the state once an entry's frame is stored.
+use Rattle.std.proofs.Common.{◌≡◌, ℕ, ◌+◌, ◌<◌, ◌≤◌, true, false, not, ◌||◌, List, [], ◌∷◌, ◌++◌, length, map, Option, Some, None, is_some, Result, Ok, Err, IfErr, refl, ap, ap₂, sym, ◌∙◌, subst, arith}
+use Rattle.std.proofs.lemmas.List.{length-map}
+use Rattle.std.proofs.lemmas.Simd.{map-map}
+use Rattle.std.specs.Prelude.{IfSome, max, min}
+use Rattle.std.specs.List.{filter_map}
+use Rattle.avc_types.specs.declared.marked_frame.MarkedFrame.{MarkedFrame}
+use Rattle.avc_types.specs.declared.picture.Picture.{Picture}
+use Rattle.avc_types.specs.declared.references.Marking.{Marking}
+use Rattle.avc_types.specs.declared.fault.Fault.{Fault}
+use Rattle.avc_types.specs.declared.picture_error.PictureError.{PictureError}
+use Rattle.avc_types.specs.declared.picture_error.PictureError.TheVariants.{Fault as Faulty}
+use Rattle.avc_types.specs.References.{Reference, references_at, result_map}
+use Rattle.avc_marking.specs.Frames.{or_fault}
+use Rattle.avc_plane.specs.declared.frame.Frame.{Frame}
+use Rattle.avc_plane.specs.Frames.{AreFrames, AreSized, marked_frame, padded_planes_of, stored_at}
+use Rattle.avc_params.specs.Limits.{width_in_mbs, height_in_mbs, dpb_size, reference_limit}
+use Rattle.avc_params.specs.Within.{IsSps}
+use Rattle.avc_params.specs.declared.sps.Sps.{Sps}
+use Rattle.avc_slice.specs.Header.{is_reference}
+use Rattle.avc_marking.specs.Laws.{unmarks_all}
+use Rattle.avc_marking.specs.Marks.{Marks, marks_after, no_marks, prev_ref_frame_num}
+use Rattle.avc_dpb.specs.declared.arriving_frame.ArrivingFrame.{ArrivingFrame}
+use Rattle.avc_dpb.specs.declared.output.Output.TheVariants.{Full}
+use Rattle.avc_dpb.specs.Bumping.{empty_buffer, remain}
+use Rattle.avc_dpb.specs.Contents.{Contents, IsBuffer, OutputsAll, Stores}
+use Rattle.avc_dpb.specs.declared.slot.Slot.{Slot}
+use Rattle.avc_dpb.specs.StoredFrame.{shown_frame}
+use Rattle.avc_dpb.proofs.Conserved.{all_held_go_out, holds_at_most}
+use Rattle.avc_decoder_core.specs.Frames.{frame_at, mark_in}
+use Rattle.avc_decoder_core.specs.FrameBufferFields.{history_of, Each, IsSizedAt, IsStateAfter, OutputsPrior, places_in, with_all_marks}
+use Rattle.avc_decoder_core.specs.FrameBufferState.{FrameBufferState, Refuses}
+use Rattle.avc_decoder_core.specs.declared.history_entry.HistoryEntry.{HistoryEntry}
+use Rattle.avc_decoder_core.specs.History.{Entry, decoded_picture, missing_frame, History, all_held, arrival, arrivals, buffer_of, entry_at, marking_entries, marking_entry, or_no_references, sequence_sps, stored}
+use Rattle.avc_decoder_core.specs.Pictures.{held_pictures, output_pictures}
+use Rattle.avc_decoder_core.specs.SequenceState.{AreFramesIn, AreStoredIn}
+use Rattle.avc_decoder_core.proofs.Places.{below, each_all, each_implies, each_map, increasing, rise}
+use Rattle.avc_decoder_core.proofs.References.{each_entry, is_entry, other_entry}
+use Rattle.avc_decoder_core.proofs.FramesAt.{pictures_are, sized_frame, stored_are}
+use Rattle.avc_decoder_core.proofs.Entering.{IsMarked, marks_then}
+use Rattle.avc_decoder_core.proofs.LongerState.{Follows, is_few, output_is, sps_of, still_sized}
+use Rattle.avc_decoder_core.proofs.SameSequence.{if_some, prior_remains, wrong}
+use Rattle.avc_decoder_core.proofs.Storing.{Arrives, marked_buffer, stored_buffer, stored_references}
+
+-- ---- the frames of a state
+
+pub few_frames : (h : History) (c : Contents (Frame 32)) (idx : Option ℕ) (previous : ℕ) → IsStateAfter h c idx previous → length c.frames ≤ 16
+few_frames h c idx previous s =
+    let long : length c.frames ≡ length (buffer_of h).frames = ap length (s.buffer).frames ∙ length-map (buffer_of h).frames (λ t. frame_at h (s.marks).references t.entry) in
+    omega (arith, long, holds_at_most Full 16 (arrivals h) s.within)
+
+frames_are : (h : History) (c : Contents (Frame 32)) (idx : Option ℕ) (previous : ℕ) (s : IsStateAfter h c idx previous) → c.frames ≡ map (frame_at h (s.marks).references) (places_in (buffer_of h))
+frames_are h c idx previous s = (s.buffer).frames ∙ sym (map-map (frame_at h (s.marks).references) (λ t. t.entry) (buffer_of h).frames)
+
+pub are_stored : (h : History) (c : Contents (Frame 32)) (idx : Option ℕ) (previous : ℕ) → IsStateAfter h c idx previous → AreStoredIn h c.frames
+are_stored h c idx previous s =
+    let ps = places_in (buffer_of h) in
+    let rs = (s.marks).references in
+    let at = frame_at h rs in
+    let frames = frames_are h c idx previous s in
+    let references : references_at ps (map (λ p. marked_frame (at p)) ps) ≡ rs =
+    ap (references_at ps) (sym (ap (map marked_frame) frames ∙ map-map marked_frame at ps)) ∙ s.references in
+    record {
+      entries = ps;
+      stand = record {
+        each = sym (length-map c.frames marked_frame ∙ ap length frames ∙ length-map ps at);
+        rising = increasing ps (length h) (rise (buffer_of h).frames (length h) (s.buffer).rising);
+      };
+      stored = ap (stored_at ps) frames ∙ stored_are h rs ps ∙ ap (map (stored h)) references ∙ ap (λ r. map (stored h) (or_no_references r)) (sym s.marked);
+    }
+
+pub are_frames : (h : History) (c : Contents (Frame 32)) (idx : Option ℕ) (previous : ℕ) → IsStateAfter h c idx previous → AreFramesIn h c.frames
+are_frames h c idx previous s =
+    let ps = places_in (buffer_of h) in
+    let rs = (s.marks).references in
+    if_some (λ sps. Each (IsSizedAt h sps) ps) (λ sps. AreFrames (width_in_mbs sps) (height_in_mbs sps) c.frames) (sequence_sps h)
+    (λ sps is sized.
+    let P : Frame 32 → Type 0 = λ f. IfSome f.planes (λ p. AreSized (width_in_mbs sps) (height_in_mbs sps) (padded_planes_of p)) in
+    record {
+      few = few_frames h c idx previous s;
+      sized = each_all P c.frames (subst (Each P) (sym (frames_are h c idx previous s))
+          (each_map P (frame_at h rs) ps
+          (each_implies (IsSizedAt h sps) (λ p. P (frame_at h rs p)) ps
+          (λ p z. sized_frame (width_in_mbs sps) (height_in_mbs sps) (entry_at h p) (mark_in rs p) z) sized)));
+    })
+    s.sized
+
+-- ---- what the arriving frame is
+
+capacity_by : (r x : ℕ) → r ≤ 16 → max 1 (max r (min 16 x)) ≤ 16
+capacity_by r x few = omega (arith, few)
+
+room_by : (r x : ℕ) → max r 1 ≤ max 1 (max r (min 16 x))
+room_by r x = omega arith
+
+capacity_of : (sps : Sps) → sps.max_num_ref_frames ≤ 16 → dpb_size sps ≤ 16
+capacity_of sps few = capacity_by sps.max_num_ref_frames _ few
+
+room_of : (sps : Sps) → reference_limit sps ≤ dpb_size sps
+room_of sps = room_by sps.max_num_ref_frames _
+
+capacity_is : (e : Entry) (h : History) → (arrival e h).capacity ≡ dpb_size (sps_of e)
+capacity_is (decoded_picture sps header planes) h = refl
+capacity_is (missing_frame sps frame_num) h = refl
+
+not_entry : (rs : List Reference) (n : ℕ) → Each (λ r. r.entry < n) rs → is_entry rs n ≡ false
+not_entry [] n h = refl
+not_entry (r ∷ rs) n h = ap₂ (λ a b. a || b) (other_entry r.entry n h.0) (not_entry rs n h.1)
+
+-- an entry whose frame is a reference frame is stored by making room for it
+stored_by : (e : Entry) (h : History) (m m' : Marks) → Follows e h → Each (λ r. r.entry < length h) m.references →
+    marks_after (marking_entry e) (length h) (marking_entry e).marking m ≡ Ok m' → is_entry m'.references (length h) ≡ true →
+    ((arrival e h).is_reference || not (arrival e h).existing) ≡ true
+stored_by (missing_frame sps frame_num) h m m' follows low after own = refl
+stored_by (decoded_picture sps header planes) h m m' follows low after own = ap (λ b. b || false) (by_marking header.marking refl)
+  where
+    same_marks : marks_after (marking_entry (decoded_picture sps header planes)) (length h) None m ≡ Ok m' → m.references ≡ m'.references
+    same_marks is = ap or_no_references is
+
+    by_marking : (marking : Option Marking) → header.marking ≡ marking → is_reference header ≡ true
+    by_marking (Some marking) is = sym (follows.0).reference ∙ ap is_some is
+    by_marking None is =
+        let same = same_marks (ap (λ x. marks_after (marking_entry (decoded_picture sps header planes)) (length h) x m) (sym is) ∙ after) in
+        wrong (sym (not_entry m.references (length h) low) ∙ ap (λ rs. is_entry rs (length h)) same ∙ own)
+
+prior_stays : (e : Entry) (h : History) → unmarks_all (marking_entry e).marking ≡ false → (arrival e h).prior_pictures ≡ remain
+prior_stays (decoded_picture sps header planes) h none = prior_remains header none
+prior_stays (missing_frame sps frame_num) h none = refl
+
+-- ---- an entry's frame is stored
+
+pub record IsLonger (e : Entry) (h : History) (c : Contents (Frame 32)) (idx : Option ℕ) (previous : ℕ) (prior out : List Picture) : Type 0 where
+  pub state : IsStateAfter (e ∷ h) c idx previous
+  pub pictures : prior ++ out ≡ output_pictures h (e ∷ h)
+
+pub stored_entry : (e : Entry) (h : History) (c : Contents (Frame 32)) (idx : Option ℕ) (previous : ℕ) → IsStateAfter h c idx previous → Follows e h → IsSps (sps_of e) →
+    (m : Marks) (marked : List MarkedFrame) → IsMarked e h m marked → (after_marks after_prior after_store : Contents (Frame 32)) → after_marks ≡ with_all_marks c marked →
+    (prior out : List Picture) → OutputsPrior (arrival e h).prior_pictures after_marks prior after_prior → after_prior.output ≡ after_marks.output →
+    (frame : Frame 32) → frame_at (e ∷ h) m.references (length h) ≡ frame → (arriving : ArrivingFrame) → Arrives e h arriving m →
+    Stores shown_frame (λ f. is_some f.mark) after_prior frame arriving out after_store → after_store.output ≡ after_prior.output →
+    (new_idx : Option ℕ) → new_idx ≡ m.max_long_term_frame_idx → (new_previous : ℕ) → new_previous ≡ prev_ref_frame_num (marking_entries (e ∷ h)) →
+    IsLonger e h after_store new_idx new_previous prior out
+stored_entry e h c idx previous s follows limits m marked is after_marks after_prior after_store set prior out outputs kept_output frame own arriving arrives stores kept_output' new_idx idx_is new_previous previous_is =
+    let n = length h in
+    let rs = m.references in
+    let at = frame_at (e ∷ h) rs in
+    let full : after_prior.output ≡ Full = kept_output ∙ ap (λ v. v.output) set ∙ s.full in
+    let low = below (places_in (buffer_of h)) n (rise (buffer_of h).frames n (s.buffer).rising) in
+    let was = marked_buffer e h c idx previous s m marked is after_marks set in
+    let before = outputs (buffer_of h) n at was in
+    let has = stored_buffer e h arriving m arrives after_prior after_store frame out before.buffer full own stores in
+    let after : marks_after (marking_entry e) n (marking_entry e).marking s.marks ≡ Ok m = sym (marks_then e h s.marks s.marked) ∙ is.marks_is in
+    let old_below : Each (λ r. r.entry < n) (s.marks).references = subst (Each (λ r. r.entry < n)) s.references (each_entry (λ p. p < n) (places_in (buffer_of h)) (map marked_frame c.frames) low) in
+    let few = is_few e h s.marks m follows s.few after in
+    let capacity : arriving.capacity ≡ dpb_size (sps_of e) = sym (ap (λ a. a.capacity) arrives) ∙ capacity_is e h in
+    let limit : length rs ≤ arriving.capacity = omega (arith, few.few_own, room_of (sps_of e), capacity) in
+    let within : (arrival e h).capacity ≤ 16 = subst (λ k. k ≤ 16) (sym (capacity_is e h)) (capacity_of (sps_of e) limits.references) in
+    let stored : is_entry rs n ≡ true → (arriving.is_reference || not arriving.existing) ≡ true =
+    λ here. sym (ap (λ a. a.is_reference || not a.existing) arrives) ∙ stored_by e h s.marks m follows old_below after here in
+    let next : n + 1 ≡ length (e ∷ h) = omega arith in
+    record {
+      state = record {
+        marks = m;
+        marked = is.marks_is;
+        idx_is = idx_is;
+        previous_is = previous_is;
+        full = kept_output' ∙ full;
+        buffer = subst (λ k. IsBuffer after_store (buffer_of (e ∷ h)) k at) next has.buffer;
+        references = stored_references e h arriving m marked arrives is (unmarks_all (marking_entry e).marking) is.alone (prior_stays e h) low stored limit after_prior after_store before.buffer has.buffer;
+        few = few.few;
+        within = (within, s.within);
+        sized = still_sized e h follows low s.sized;
+      };
+      pictures = output_is e h m prior out before.pictures has.pictures;
+    }
+
+-- ---- no history
+
+pub empty_state : (items : List HistoryEntry) (c : Contents (Frame 32)) → items ≡ [] → c ≡ record { slots = []; frames = []; output = Full; failed = false } →
+    ((frame_of : ℕ → Frame 32) → IsBuffer c empty_buffer 0 frame_of) → IsStateAfter (history_of items) c None 0
+empty_state items c none is buffer =
+    let there : IsStateAfter [] c None 0 = record {
+      marks = no_marks;
+      marked = refl;
+      idx_is = refl;
+      previous_is = refl;
+      full = ap (λ v. v.output) is;
+      buffer = buffer (frame_at [] []);
+      references = ap (λ v. references_at [] (map marked_frame v.frames)) is;
+      few = tt;
+      within = tt;
+      sized = tt;
+    } in
+    subst (λ items. IsStateAfter (history_of items) c None 0) (sym none) there
+
+-- ---- all pictures go out
+
+no_slots : (slots : List Slot) → map (λ s. s.order) slots ≡ [] → slots ≡ []
+no_slots [] e = refl
+no_slots (s ∷ slots) e = absurd (omega (arith, ap length e))
+
+pub record IsForgotten (h : History) (c : Contents (Frame 32)) (out : List Picture) : Type 0 where
+  pub nothing : c ≡ record { slots = []; frames = []; output = Full; failed = false }
+  pub pictures : out ≡ held_pictures h
+
+pub emptied_all : (h : History) (c : Contents (Frame 32)) (idx : Option ℕ) (previous : ℕ) → IsStateAfter h c idx previous → (out : List Picture) (new : Contents (Frame 32)) →
+    OutputsAll shown_frame c out new → new.output ≡ c.output → IsForgotten h new out
+emptied_all h c idx previous s out new outputs kept =
+    let rs = (s.marks).references in
+    let b = buffer_of h in
+    let has = outputs b (length h) (frame_at h rs) s.buffer in
+    let slots : new.slots ≡ [] = no_slots new.slots (has.buffer).orders in
+    record {
+      nothing = ap₂ (λ slots frames. record new { slots = slots; frames = frames }) slots (has.buffer).frames
+          ∙ ap₂ (λ output failed. record { slots = []; frames = []; output = output; failed = failed }) (kept ∙ s.full) (has.buffer).works;
+      pictures = has.pictures ∙ ap (filter_map (λ p. shown_frame (frame_at h rs p))) (all_held_go_out b) ∙ pictures_are h rs (all_held h);
+    }
+
+pub no_buffer : (c : Contents (Frame 32)) → c ≡ record { slots = []; frames = []; output = Full; failed = false } → (frame_of : ℕ → Frame 32) → IsBuffer c empty_buffer 0 frame_of
+no_buffer c is frame_of = subst (λ c. IsBuffer c empty_buffer 0 frame_of) (sym is) (record { works = refl; orders = refl; holds = refl; frames = refl; rising = tt })
+
+-- ---- what calls answer
+
+pub answered : (r : Result (Unit {0}) Fault) (m : Marks) → r ≡ result_map (λ _. tt) (or_fault r m)
+answered (Ok done) m = refl
+answered (Err f) m = refl
+
+pub refused : (old new : FrameBufferState) (marked : Result Marks Fault) (f : Fault) {A : Type 0} (r : Result A PictureError) → r ≡ Err (Faulty f) →
+    old.failed ≡ false → new ≡ old → marked ≡ Err f → IfErr r (λ error. Refuses old marked error new)
+refused old new marked f r is going same fault = subst (λ r. IfErr r (λ error. Refuses old marked error new)) (sym is) (going, same, fault)

@@ -1,0 +1,157 @@
+-- An entry's frame is stored: the buffer of the longer history.
+use Rattle.std.proofs.Common.{◌≡◌, ℕ, suc, ◌+◌, ◌<◌, ◌≤◌, Bool, true, false, not, ◌||◌, cond, List, [], ◌∷◌, ◌++◌, length, map, Option, is_some, refl, ap, ap₂, sym, ◌∙◌, subst, arith, length-append}
+use Rattle.std.proofs.lemmas.List.{length-map}
+use Rattle.std.specs.Prelude.{count_by, if◌then◌else◌}
+use Rattle.std.specs.List.{filter}
+use Rattle.std.proofs.lemmas.List.Elements.{filter-append}
+use Rattle.std.proofs.lemmas.List.Sums.{length-filter}
+use Rattle.std.proofs.lemmas.Simd.{map-map}
+use Rattle.avc_types.specs.declared.marked_frame.MarkedFrame.{MarkedFrame}
+use Rattle.avc_types.specs.declared.picture.Picture.{Picture}
+use Rattle.avc_types.specs.References.{Reference, reference_of, references_at}
+use Rattle.avc_plane.specs.declared.frame.Frame.{Frame}
+use Rattle.avc_plane.specs.Frames.{marked_frame}
+use Rattle.avc_marking.specs.Marks.{Marks}
+use Rattle.avc_dpb.specs.declared.arriving_frame.ArrivingFrame.{ArrivingFrame}
+use Rattle.avc_dpb.specs.declared.output.Output.TheVariants.{Full}
+use Rattle.avc_dpb.specs.Bumping.{Buffer, PriorPictures, remain, are_output, are_dropped, after_frame, after_prior_pictures, is_reference_in}
+use Rattle.avc_dpb.specs.Contents.{Contents, HasBuffer, IsBuffer, Stores, arrival_of}
+use Rattle.avc_dpb.specs.Laws.{HasRoom, places_of_references}
+use Rattle.avc_dpb.specs.StoredFrame.{shown_frame}
+use Rattle.avc_dpb.proofs.Staying.{references_stay}
+use Rattle.avc_decoder_core.specs.Frames.{frame_at}
+use Rattle.avc_decoder_core.specs.FrameBufferFields.{Each, IsStateAfter, places_in, with_all_marks, with_marks}
+use Rattle.avc_decoder_core.specs.History.{Entry, History, arrival, arrivals, buffer_of}
+use Rattle.avc_decoder_core.proofs.Places.{below, each_implies, rise}
+use Rattle.avc_decoder_core.proofs.References.{entries, filter_map_places, is_entry, no_entry, no_filter, references_by, same_filter}
+use Rattle.avc_decoder_core.proofs.FramesAt.{marked_again, referenced_are, referenced_is}
+use Rattle.avc_decoder_core.proofs.Entering.{IsMarked}
+
+-- the stored frames once they are marked
+pub marked_buffer : (e : Entry) (h : History) (c : Contents (Frame 32)) (idx : Option ℕ) (previous : ℕ) (s : IsStateAfter h c idx previous) (m : Marks) (marked : List MarkedFrame) →
+    IsMarked e h m marked → (new : Contents (Frame 32)) → new ≡ with_all_marks c marked → IsBuffer new (buffer_of h) (length h) (frame_at (e ∷ h) m.references)
+marked_buffer e h c idx previous s m marked is new set =
+    let b = buffer_of h in
+    let old = frame_at h (s.marks).references in
+    let frame = frame_at (e ∷ h) m.references in
+    let low = below (places_in b) (length h) (rise b.frames (length h) (s.buffer).rising) in
+    let there : IsBuffer (with_all_marks c marked) b (length h) frame = record {
+      works = (s.buffer).works;
+      orders = (s.buffer).orders;
+      holds = (s.buffer).holds;
+      frames =
+          ap (λ fs. with_marks fs marked) ((s.buffer).frames ∙ sym (map-map old (λ t. t.entry) b.frames))
+          ∙ marked_again e h (s.marks).references m.references (places_in b) (length h ∷ []) marked low is.marks
+          ∙ map-map frame (λ t. t.entry) b.frames;
+      rising = (s.buffer).rising;
+    } in
+    subst (λ v. IsBuffer v b (length h) frame) (sym set) there
+
+-- ---- the reference frames before the entry's own
+
+kept_remain : (rs : List Reference) (b : Buffer) → places_of_references (entries rs) b ≡ filter (is_entry rs) (places_in b)
+kept_remain rs b = sym (filter_map_places (λ s. s.entry) (is_entry rs) b.frames)
+
+kept_alone : (rs : List Reference) (n : ℕ) (ps : List ℕ) → Each (λ r. r.entry ≡ n) rs → Each (λ p. p < n) ps → [] ≡ filter (is_entry rs) ps
+kept_alone rs n ps alone low = sym (no_filter (is_entry rs) ps (each_implies (λ p. p < n) (λ p. is_entry rs p ≡ false) ps (λ p l. no_entry rs n p l alone) low))
+
+-- they are in the buffer once the pictures before have gone out, or are none
+pub kept : (rs : List Reference) (n : ℕ) (b : Buffer) (prior : PriorPictures) (all : Bool) → (all ≡ true → Each (λ r. r.entry ≡ n) rs) → (all ≡ false → prior ≡ remain) →
+    Each (λ p. p < n) (places_in b) → places_of_references (entries rs) (after_prior_pictures prior b) ≡ filter (is_entry rs) (places_in b)
+kept rs n b prior false alone stays low = subst (λ p. places_of_references (entries rs) (after_prior_pictures p b) ≡ filter (is_entry rs) (places_in b)) (sym (stays refl)) (kept_remain rs b)
+kept rs n b remain true alone stays low = kept_remain rs b
+kept rs n b are_output true alone stays low = kept_alone rs n (places_in b) (alone refl) low
+kept rs n b are_dropped true alone stays low = kept_alone rs n (places_in b) (alone refl) low
+
+-- ---- the entry's own
+
+pub length-arrivals : (h : History) → length (arrivals h) ≡ length h
+length-arrivals [] = refl
+length-arrivals (e ∷ h) = ap suc (length-arrivals h)
+
+-- the call knows of the arriving frame what the history says of the entry
+abbrev pub Arrives : Entry → History → ArrivingFrame → Marks → Type 0
+Arrives e h arriving m = arrival e h ≡ record (arrival_of arriving (entries m.references)) { prior_pictures = (arrival e h).prior_pictures }
+
+-- the buffer once the pictures before have gone out
+abbrev pub emptied : Entry → History → Buffer
+emptied e h = after_prior_pictures (arrival e h).prior_pictures (buffer_of h)
+
+buffer_is : (e : Entry) (h : History) (arriving : ArrivingFrame) (m : Marks) → Arrives e h arriving m →
+    after_frame Full (length h) (arrival_of arriving (entries m.references)) (emptied e h) ≡ buffer_of (e ∷ h)
+buffer_is e h arriving m arrives =
+    ap (λ a. after_frame Full (length h) a (emptied e h)) (sym arrives)
+    ∙ ap (λ n. after_frame Full n (arrival e h) (emptied e h)) (sym (length-arrivals h))
+
+pub stored_buffer : (e : Entry) (h : History) (arriving : ArrivingFrame) (m : Marks) → Arrives e h arriving m →
+    (old new : Contents (Frame 32)) (frame : Frame 32) (out : List Picture) → IsBuffer old (emptied e h) (length h) (frame_at (e ∷ h) m.references) → old.output ≡ Full →
+    frame_at (e ∷ h) m.references (length h) ≡ frame → Stores shown_frame (λ f. is_some f.mark) old frame arriving out new →
+    HasBuffer shown_frame new out (emptied e h) (buffer_of (e ∷ h)) (length h + 1) (frame_at (e ∷ h) m.references)
+stored_buffer e h arriving m arrives old new frame out is full own stores =
+    let n = length h in
+    let at = frame_at (e ∷ h) m.references in
+    let has = stores (emptied e h) n at (entries m.references) is
+    (ap (map (λ f. is_some f.mark)) is.frames ∙ referenced_are (e ∷ h) m.references (emptied e h).frames)
+    own (ap (λ f. is_some f.mark) (sym own) ∙ referenced_is (e ∷ h) m.references n) in
+    subst (λ b. HasBuffer shown_frame new out (emptied e h) b (n + 1) at)
+    (ap (λ o. after_frame o n (arrival_of arriving (entries m.references)) (emptied e h)) full ∙ buffer_is e h arriving m arrives) has
+
+-- ---- the reference frames
+
+-- they are those of the places
+by_places : (h : History) (rs : List Reference) (qs : List ℕ) →
+    references_at qs (map (λ p. marked_frame (frame_at h rs p)) qs) ≡ map (λ p. reference_of p (marked_frame (frame_at h rs p))) (filter (is_entry rs) qs)
+by_places h rs qs =
+    references_by (λ p. marked_frame (frame_at h rs p)) qs
+    ∙ ap (map (λ p. reference_of p (marked_frame (frame_at h rs p)))) (same_filter (λ p. is_some (frame_at h rs p).mark) (is_entry rs) qs (referenced_is h rs))
+
+-- there is room for the entry's own
+room : (e : Entry) (h : History) (m : Marks) (marked : List MarkedFrame) → IsMarked e h m marked → (b : Buffer) →
+    places_of_references (entries m.references) b ≡ filter (is_entry m.references) (places_in (buffer_of h)) → is_entry m.references (length h) ≡ true →
+    count_by (is_reference_in (entries m.references)) b.frames + 1 ≡ length m.references
+room e h m marked is b same own =
+    let n = length h in
+    let ps = places_in (buffer_of h) in
+    let rs = m.references in
+    let frame : ℕ → Reference = λ p. reference_of p (marked_frame (frame_at (e ∷ h) rs p)) in
+    let counted : count_by (is_reference_in (entries rs)) b.frames ≡ length (filter (is_entry rs) ps) =
+    sym (length-filter (is_reference_in (entries rs)) b.frames) ∙ sym (length-map (filter (is_reference_in (entries rs)) b.frames) (λ s. s.entry)) ∙ ap length same in
+    ap (λ k. k + 1) counted
+    ∙ ap (λ l. length (filter (is_entry rs) ps) + length l) (sym (ap (λ t. cond t (n ∷ []) []) own))
+    ∙ sym (length-append (filter (is_entry rs) ps) (filter (is_entry rs) (n ∷ [])))
+    ∙ sym (ap length (filter-append (is_entry rs) ps (n ∷ [])))
+    ∙ sym (length-map (filter (is_entry rs) (ps ++ n ∷ [])) frame)
+    ∙ sym (ap length (is.references ∙ by_places (e ∷ h) rs (ps ++ n ∷ [])))
+
+last_own : (t : Bool) (n : ℕ) → (if t then n ∷ [] else []) ≡ cond t (n ∷ []) []
+last_own true n = refl
+last_own false n = refl
+
+-- The buffer has the reference frames of the longer history.
+pub stored_references : (e : Entry) (h : History) (arriving : ArrivingFrame) (m : Marks) (marked : List MarkedFrame) → Arrives e h arriving m → IsMarked e h m marked →
+    (all : Bool) → (all ≡ true → Each (λ r. r.entry ≡ length h) m.references) → (all ≡ false → (arrival e h).prior_pictures ≡ remain) →
+    Each (λ p. p < length h) (places_in (buffer_of h)) →
+    (is_entry m.references (length h) ≡ true → (arriving.is_reference || not arriving.existing) ≡ true) → length m.references ≤ arriving.capacity →
+    (old new : Contents (Frame 32)) → IsBuffer old (emptied e h) (length h) (frame_at (e ∷ h) m.references) →
+    IsBuffer new (buffer_of (e ∷ h)) (length h + 1) (frame_at (e ∷ h) m.references) →
+    references_at (places_in (buffer_of (e ∷ h))) (map marked_frame new.frames) ≡ m.references
+stored_references e h arriving m marked arrives is all alone stays low stored limit old new before after =
+    let n = length h in
+    let rs = m.references in
+    let ps = places_in (buffer_of h) in
+    let b = emptied e h in
+    let b' = buffer_of (e ∷ h) in
+    let at = frame_at (e ∷ h) rs in
+    let a = arrival_of arriving (entries rs) in
+    let same : places_of_references (entries rs) b ≡ filter (is_entry rs) ps = kept rs n (buffer_of h) (arrival e h).prior_pictures all alone stays low in
+    let has_room : is_entry rs n ≡ true → HasRoom a b =
+    λ own. let count = room e h m marked is b same own in record { stored = stored own; room = omega (arith, limit, count) } in
+    let stay : places_of_references (entries rs) b' ≡ places_of_references (entries rs) b ++ (if is_entry rs n then n ∷ [] else []) =
+    sym (ap (places_of_references (entries rs)) (buffer_is e h arriving m arrives)) ∙ references_stay Full n a b before.rising has_room in
+    let places : filter (is_entry rs) (places_in b') ≡ filter (is_entry rs) (ps ++ n ∷ []) =
+    sym (kept_remain rs b') ∙ stay ∙ ap₂ (λ l r. l ++ r) same (last_own (is_entry rs n) n) ∙ sym (filter-append (is_entry rs) ps (n ∷ [])) in
+    ap (references_at (places_in b')) (ap (map marked_frame) after.frames ∙ map-map marked_frame (λ s. at s.entry) b'.frames ∙ sym (map-map (λ p. marked_frame (at p)) (λ s. s.entry) b'.frames))
+    ∙ by_places (e ∷ h) rs (places_in b')
+    ∙ ap (map (λ p. reference_of p (marked_frame (at p)))) places
+    ∙ sym (by_places (e ∷ h) rs (ps ++ n ∷ []))
+    ∙ sym is.references

@@ -1,0 +1,39 @@
+use Rattle.std.proofs.Common.{◌≡◌, ◌∙◌, ◌≤◌, ◌∷◌, length, map, ap, sym, subst, false, Some}
+use Rattle.std.proofs.lemmas.List.{length-map}
+use Rattle.avc_types.specs.References.{result_map}
+use Rattle.avc_types.specs.declared.references.Marking.TheVariants.{SlidingWindow}
+use Rattle.avc_plane.specs.Frames.{marked_frame}
+use Rattle.avc_marking.specs.Frames.{marking_entry, MarksFrame}
+use Rattle.avc_marking.specs.Marks.{marks_after}
+use Rattle.avc_decoder_core.specs.FrameBufferFields.{history_of}
+use Rattle.avc_decoder_core.specs.History.{marks_of, missing_frame}
+use Rattle.avc_decoder_core.proofs.Entering.{marked_then}
+use Rattle.avc_decoder_core.proofs.State.{answered, few_frames}
+use Rattle.avc_decoder_core.proofs.frame_buffer.FrameBuffer.can_store_missing.Goals as goal
+
+pub marked_frames-marked-requires : goal.marked_frames-marked-requires
+marked_frames-marked-requires c =
+    let i = c.self.inside in
+    let on : i.failed ≡ false = ap (λ v. v.failed) c.self.view_is ∙ c.requires.going in
+    subst (λ fs. length fs ≤ 16) (sym c.frames.ensures) (few_frames (history_of i.history.items) i.dpb i.max_long_term_frame_idx i.prev_ref_frame_num (c.self.invariant on))
+
+pub sliding_window-requires : goal.sliding_window-requires
+sliding_window-requires c =
+    let i = c.self.inside in
+    let on : i.failed ≡ false = ap (λ v. v.failed) c.self.view_is ∙ c.requires.going in
+    let few = few_frames (history_of i.history.items) i.dpb i.max_long_term_frame_idx i.prev_ref_frame_num (c.self.invariant on) in
+    subst (λ n. n ≤ 16) (sym (ap length c.marked_frames-marked.ensures ∙ length-map c.frames.result.now marked_frame ∙ ap length c.frames.ensures)) few
+
+pub returns : goal.returns
+returns c =
+    let i = c.self.inside in
+    let h = history_of i.history.items in
+    let e = missing_frame c.args.sps.now c.args.frame_num in
+    let on : i.failed ≡ false = ap (λ v. v.failed) c.self.view_is ∙ c.requires.going in
+    let old = c.marked_frames-marked.result.items in
+    let new = c.sliding_window.new.frames.items in
+    let idx = i.max_long_term_frame_idx in
+    let marks = subst (λ n. MarksFrame (λ entry. marks_after (marking_entry n (Some SlidingWindow)) entry (Some SlidingWindow)) old idx c.sliding_window.result new idx) c.new_frame.ensures (c.sliding_window.ensures.marks idx) in
+    let then = marked_then e h i.dpb idx i.prev_ref_frame_num (c.self.invariant on) old new c.sliding_window.result idx
+    (c.marked_frames-marked.ensures ∙ ap (map marked_frame) c.frames.ensures) marks in
+    answered c.sliding_window.result _ ∙ ap (result_map (λ _. tt)) (sym then) ∙ ap (λ v. result_map (λ _. tt) (marks_of (e ∷ v.history))) c.self.view_is

@@ -1,0 +1,21 @@
+use Rattle.std.proofs.Common.{◌≡◌, ◌∙◌, ap, false, subst, sym}
+use Rattle.avc_decoder_core.specs.FrameBufferFields.{history_of}
+use Rattle.avc_decoder_core.specs.SequenceState.{AreFramesIn, AreStoredIn}
+use Rattle.avc_decoder_core.proofs.State.{are_frames, are_stored}
+use Rattle.avc_decoder_core.proofs.frame_buffer.FrameBuffer.frames.Goals as goal
+
+pub returns-clause-stored : goal.returns-clause-stored
+returns-clause-stored c = λ going.
+    let i = c.self.inside in
+    let on : i.failed ≡ false = ap (λ v. v.failed) c.self.view_is ∙ going in
+    let history = ap (λ v. v.history) c.self.view_is in
+    subst (λ fs. AreStoredIn c.args.self.now.history fs) (sym c.frames.ensures)
+    (subst (λ h. AreStoredIn h i.dpb.frames) history (are_stored (history_of i.history.items) i.dpb i.max_long_term_frame_idx i.prev_ref_frame_num (c.self.invariant on)))
+
+pub returns-clause-sized : goal.returns-clause-sized
+returns-clause-sized c = λ going.
+    let i = c.self.inside in
+    let on : i.failed ≡ false = ap (λ v. v.failed) c.self.view_is ∙ going in
+    let history = ap (λ v. v.history) c.self.view_is in
+    subst (λ fs. AreFramesIn c.args.self.now.history fs) (sym c.frames.ensures)
+    (subst (λ h. AreFramesIn h i.dpb.frames) history (are_frames (history_of i.history.items) i.dpb i.max_long_term_frame_idx i.prev_ref_frame_num (c.self.invariant on)))

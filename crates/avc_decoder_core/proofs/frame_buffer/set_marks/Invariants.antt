@@ -1,0 +1,6 @@
+use Rattle.std.proofs.Common.{◌≡◌, take}
+use Rattle.avc_decoder_core.specs.FrameBufferFields.{with_all_marks}
+use Rattle.avc_decoder_core.proofs.frame_buffer.set_marks.Given as goal
+
+abbrev pub invariant-loop-place : goal.invariant-loop-place
+invariant-loop-place l = l.dpb ≡ with_all_marks l.initial.dpb (take l.place l.marked)

@@ -1,0 +1,94 @@
+-- What the fields of a frame buffer stand for.
+use Rattle.std.specs.Prelude.{◌≡◌, ℕ, ◌≤◌, Bool, true, false, List, [], ◌∷◌, length, map, IfSome, Option, Ok}
+use Rattle.avc_types.specs.References.{references_at}
+use Rattle.avc_types.specs.declared.marked_frame.MarkedFrame.{MarkedFrame}
+use Rattle.avc_types.specs.declared.picture.Picture.{Picture}
+use Rattle.avc_plane.specs.Frames.{marked_frame, padded_planes_of, AreSized}
+use Rattle.avc_plane.specs.declared.frame.Frame.{Frame}
+use Rattle.avc_params.specs.Limits.{width_in_mbs, height_in_mbs, reference_limit}
+use Rattle.avc_params.specs.declared.sps.Sps.{Sps}
+use Rattle.avc_marking.specs.Marks.{Marks, frame_num_after_marking, prev_ref_frame_num}
+use Rattle.avc_dpb.specs.declared.output.Output.TheVariants.{Full}
+use Rattle.avc_dpb.specs.Bumping.{Buffer, PriorPictures, after_prior_pictures, are_dropped, are_output, remain}
+use Rattle.avc_dpb.specs.Contents.{Contents, IsBuffer, HasBuffer}
+use Rattle.avc_dpb.specs.Laws.{IsWithin}
+use Rattle.avc_dpb.specs.StoredFrame.{shown_frame}
+use Rattle.avc_decoder_core.specs.Frames.{frame_at}
+use Rattle.avc_decoder_core.specs.History.{Entry, decoded_picture, missing_frame, History, arrivals, buffer_of, entry_at, marking_entries, marks_of, picture_entry, planes_in, sequence_sps}
+use Rattle.avc_decoder_core.specs.FrameBufferState.{FrameBufferState}
+use Rattle.avc_decoder_core.specs.declared.history_entry.HistoryEntry.{HistoryEntry}
+use Rattle.avc_decoder_core.specs.declared.history_entry.HistoryEntry.TheVariants as entries
+use Rattle.avc_decoder_core.specs.declared.frame_buffer.FrameBuffer.TheInside.{Inside}
+
+abbrev pub entry_of : HistoryEntry → Entry
+entry_of (entries.Picture sps header planes) = decoded_picture sps header (padded_planes_of planes)
+entry_of (entries.MissingFrame sps frame_num) = missing_frame sps frame_num
+
+abbrev pub history_of : List HistoryEntry → History
+history_of items = map entry_of items
+
+-- the number of the entry's frame once it is marked (7.4.3)
+abbrev pub frame_num_of : Entry → ℕ
+frame_num_of (decoded_picture sps h planes) = frame_num_after_marking (picture_entry sps h)
+frame_num_of (missing_frame sps frame_num) = frame_num
+
+abbrev pub frame_buffer_state : Inside → FrameBufferState
+frame_buffer_state b = record { history = history_of b.history.items; frames = b.dpb.frames; failed = b.failed }
+
+-- P holds of each
+abbrev pub Each : {A : Type 0} → (A → Type 0) → List A → Type 0
+Each P [] = Unit {0}
+Each P (x ∷ xs) = P x × Each P xs
+
+-- the places of the buffer's frames in the history
+abbrev pub places_in : Buffer → List ℕ
+places_in b = map (λ s. s.entry) b.frames
+
+-- Where the entry at the place is a picture it has the size that the parameter set gives.
+abbrev pub IsSizedAt : History → Sps → (place : ℕ) → Type 0
+IsSizedAt history sps place = IfSome (planes_in (entry_at history place)) (AreSized (width_in_mbs sps) (height_in_mbs sps))
+
+-- The buffer's frames that have a mark are the reference frames; there are no more than there may be, and all have one size.
+pub record IsStateAfter (history : History) (dpb : Contents (Frame 32)) (idx : Option ℕ) (previous : ℕ) : Type 0 where
+  pub marks : Marks
+  pub marked : marks_of history ≡ Ok marks
+  pub idx_is : idx ≡ marks.max_long_term_frame_idx
+  pub previous_is : previous ≡ prev_ref_frame_num (marking_entries history)
+  pub full : dpb.output ≡ Full
+  pub buffer : IsBuffer dpb (buffer_of history) (length history) (frame_at history marks.references)
+  pub references : references_at (places_in (buffer_of history)) (map marked_frame dpb.frames) ≡ marks.references
+  pub few : IfSome (sequence_sps history) (λ sps. length marks.references ≤ reference_limit sps)
+  pub within : IsWithin 16 (arrivals history)
+  pub sized : IfSome (sequence_sps history) (λ sps. Each (IsSizedAt history sps) (places_in (buffer_of history)))
+
+abbrev pub IsFrameBufferState : Inside → Type 0
+IsFrameBufferState b = b.failed ≡ false → IsStateAfter (history_of b.history.items) b.dpb b.max_long_term_frame_idx b.prev_ref_frame_num
+
+-- ---- what a call makes of the buffer
+
+-- the frames with other marks
+abbrev pub with_marks : List (Frame 32) → List MarkedFrame → List (Frame 32)
+with_marks [] marked = []
+with_marks (f ∷ frames) [] = f ∷ frames
+with_marks (f ∷ frames) (m ∷ marked) = record f { mark = m.mark } ∷ with_marks frames marked
+
+abbrev pub with_all_marks : Contents (Frame 32) → List MarkedFrame → Contents (Frame 32)
+with_all_marks c marked = record c { frames = with_marks c.frames marked }
+
+-- the pictures before are dropped
+abbrev pub is_dropping : PriorPictures → Bool
+is_dropping remain = false
+is_dropping are_output = false
+is_dropping are_dropped = true
+
+-- they go out
+abbrev pub is_output : PriorPictures → Bool
+is_output remain = false
+is_output are_output = true
+is_output are_dropped = false
+
+-- The pictures before have gone out, or were dropped, or remain (C.4.4).
+abbrev pub OutputsPrior : PriorPictures → (old : Contents (Frame 32)) (out : List Picture) (new : Contents (Frame 32)) → Type 0
+OutputsPrior prior old out new =
+    (b : Buffer) (next : ℕ) (frame_of : ℕ → Frame 32) → IsBuffer old b next frame_of →
+    HasBuffer shown_frame new out b (after_prior_pictures prior b) next frame_of

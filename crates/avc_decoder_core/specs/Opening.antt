@@ -1,0 +1,61 @@
+-- How a picture is opened: the frame numbers that are missing before it, and its order count (7.4.3, 8.2.1, 8.2.5.2).
+use Rattle.std.specs.Prelude.{◌≡◌, ℕ, ℤ, true, false, List, [], ◌∷◌, Option, Some, Result, Ok, Err}
+use Rattle.avc_types.specs.declared.fault.Fault.{Fault}
+use Rattle.avc_types.specs.declared.fault.Fault.TheVariants as faults
+use Rattle.avc_types.specs.declared.picture.Picture.{Picture}
+use Rattle.avc_types.specs.References.{result_map}
+use Rattle.avc_params.specs.declared.sps.Sps.{Sps}
+use Rattle.avc_slice.specs.declared.header.Header.{Header}
+use Rattle.avc_slice.specs.Header.{is_idr}
+use Rattle.avc_poc.specs.OrderCountState.{OrderCountState, order_count_state}
+use Rattle.avc_poc.specs.OrderCounts.{order_counts, picture}
+use Rattle.avc_marking.specs.Marks.{missing_frame_nums, prev_ref_frame_num}
+use Rattle.avc_decoder_core.specs.History.{History, missing_frame, is_same_sps, marking_entries, order_or_0, pasts, picture_entry, sequence_sps, with_order_counts}
+use Rattle.avc_decoder_core.specs.FrameBufferState.{FrameBufferState}
+use Rattle.avc_decoder_core.specs.Pictures.{output_pictures}
+
+-- The frame numbers that are missing before a picture of this header that is no IDR picture (7.4.3), or the first of
+-- ParameterSetChanged, FrameNumGap and FrameNumRepeated.
+abbrev pub missing_before : Sps → Header → History → Result (List ℕ) Fault
+missing_before sps h history =
+    elim (is_same_sps (sequence_sps history) sps) [
+      | false ↦ Err faults.ParameterSetChanged
+      | true ↦ missing_frame_nums (prev_ref_frame_num (marking_entries history)) sps.gaps_in_frame_num_value_allowed_flag (picture_entry sps h)
+    ]
+
+-- the history with an entry for each of these missing numbers
+abbrev pub with_all_missing : Sps → List ℕ → History → History
+with_all_missing sps [] history = history
+with_all_missing sps (n ∷ numbers) history = with_all_missing sps numbers (missing_frame sps n ∷ history)
+
+-- PicOrderCnt of a picture after this history, and what order counts keep once it has come
+abbrev pub count_on : Sps → Header → History → ℤ × OrderCountState
+count_on sps h history = (order_or_0 (order_counts sps h (pasts history)), order_count_state (picture sps h ∷ pasts history))
+
+-- the order counts of the history, or the fault
+abbrev pub counts_over : Result History Fault → Result OrderCountState Fault
+counts_over full = result_map (λ history. order_count_state (pasts history)) full
+
+-- ---- what the functions say of order counts, whatever the history is that they stand for
+
+-- These missing numbers were counted.
+abbrev pub CountsMissing : Sps → List ℕ → (old new : OrderCountState) → Type 0
+CountsMissing sps numbers old new =
+    (history : History) → old ≡ order_count_state (pasts history) → new ≡ order_count_state (pasts (with_all_missing sps numbers history))
+
+-- The next picture was counted, where it has order counts.
+abbrev pub CountsPicture : Sps → Header → (old : OrderCountState) → Result (ℤ × OrderCountState) Fault → Type 0
+CountsPicture sps h old counted =
+    (history : History) → old ≡ order_count_state (pasts history) → counted ≡ result_map (count_on sps h) (with_order_counts sps h history)
+
+-- ---- the frame buffer
+
+-- the parameter set of the sequence with this picture: that of the last IDR picture (7.4.1.2.1)
+abbrev pub set_with : Sps → Header → (before : Option Sps) → Option Sps
+set_with sps h before = elim (is_idr h) [ true ↦ Some sps | false ↦ before ]
+
+-- The frame buffer has become that of the history `full`, and these pictures go out.
+pub record StoresAll (old : FrameBufferState) (full : Result History Fault) (out : List Picture) (new : FrameBufferState) : Type 0 where
+  pub going : new.failed ≡ false
+  pub history : full ≡ Ok new.history
+  pub pictures : out ≡ output_pictures old.history new.history

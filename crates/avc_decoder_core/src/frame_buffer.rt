@@ -1,0 +1,359 @@
+ghost use Rattle.std.specs.Prelude.{◌≡◌, ◌∷◌, ◌++◌, ◌≤◌, false, true, ◌*◌, if◌then◌else◌, is_some, length, map, Some, IfErr, IfOk, OnErr, OnOk};
+ghost use Rattle.avc_types.specs.References.{result_map};
+ghost use Rattle.avc_decoder_core.specs.FrameBufferFields.{entry_of, frame_num_of, history_of, is_dropping, is_output, with_all_marks, OutputsPrior};
+ghost use Rattle.avc_decoder_core.specs.FrameBufferState.{empty_frame_buffer, CanFollow, IsEmptied, Refuses, Stores};
+ghost use Rattle.avc_decoder_core.specs.Frames.{frame_of};
+ghost use Rattle.avc_decoder_core.specs.History.{current_in, decoded_picture, is_same_sps, marking_entries};
+ghost use Rattle.avc_decoder_core.specs.History.{marks_of, missing_frame, order_or_0, pasts, picture_entry};
+ghost use Rattle.avc_decoder_core.specs.History.{prior_pictures_of, sequence_sps};
+ghost use Rattle.avc_decoder_core.specs.SequenceState.{AreFramesIn, AreStoredIn};
+ghost use Rattle.avc_decoder_core.specs.Pictures.{crop_of};
+ghost use Rattle.avc_marking.specs.Marks.{missing_frame_nums, prev_ref_frame_num};
+ghost use Rattle.avc_params.specs.Limits.{height_in_mbs, width_in_mbs};
+ghost use Rattle.avc_params.specs.Within.{IsSps};
+ghost use Rattle.avc_plane.specs.Frames.{marked_frame, padded_planes_of, AreSized};
+ghost use Rattle.avc_poc.specs.OrderCounts.{order_counts};
+
+use crate::cropping::crop_of;
+use crate::history_entry::HistoryEntry;
+use arrayvec::ArrayVec;
+use avc_dpb::{ArrivingFrame, Dpb, Output};
+use avc_marking::{
+    MissingFrameNums, NewFrame, frame_num_after_marking, mark, missing_frame_nums, sliding_window,
+};
+use avc_params::Sps;
+use avc_plane::{Frame, PADDING, PaddedPlanes};
+use avc_slice::Header;
+use avc_types::{
+    CurrentFrameNum, Fault, History, Mark, MarkedFrame, Marking, OutOfMemory, Picture, PictureError,
+};
+use std::alloc::Global;
+use std::marker::Model;
+
+/// The decoded picture buffer (C.4) with the marks of its frames (8.2.5). It stands for the history of closed pictures and
+/// missing frame numbers. After want of memory it answers so from then on.
+#[derive(Drop)]
+pub struct FrameBuffer {
+    alloc: Global,
+
+    dpb: Dpb<Frame<PADDING>>,
+
+    // MaxLongTermFrameIdx; none where there may be no long-term frames
+    max_long_term_frame_idx: Option<u32>,
+
+    // PrevRefFrameNum (7.4.3)
+    prev_ref_frame_num: u32,
+
+    failed: bool,
+
+    history: History<HistoryEntry>,
+}
+
+impl Model for FrameBuffer {
+    ghost use Rattle.avc_decoder_core.specs.FrameBufferState.{FrameBufferState};
+
+    ghost Value = { FrameBufferState };
+
+    ghost use Rattle.avc_decoder_core.specs.FrameBufferFields.{frame_buffer_state, IsFrameBufferState};
+
+    ghost view = { frame_buffer_state };
+
+    ghost invariant = { IsFrameBufferState };
+}
+
+/// What marking asks of a frame with this number.
+fn new_frame(sps: &Sps, frame_num: u32, existing: bool) -> NewFrame
+    requires { IsSps sps.now }
+    ensures { result ≡ record { current = current_in sps.now frame_num; existing = existing; max_num_ref_frames = sps.now.max_num_ref_frames } }
+{
+    NewFrame {
+        current: CurrentFrameNum {
+            frame_num,
+            max_frame_num: sps.max_frame_num(),
+        },
+        existing,
+        max_num_ref_frames: u32::from(sps.max_num_ref_frames),
+    }
+}
+
+/// What marking knows of these frames.
+fn marked_frames(frames: &[Frame<PADDING>]) -> ArrayVec<MarkedFrame, 17>
+    requires { length frames.now ≤ 16 }
+    ensures { result.items ≡ map marked_frame frames.now }
+{
+    let mut marked = ArrayVec::new();
+    for frame in frames {
+        marked.push(frame.marked());
+    }
+    marked
+}
+
+/// PrevRefFrameNum after a picture: its own number where it is a reference picture (7.4.3).
+fn prev_ref_frame_num_after(previous: u32, frame_num: u32, header: &Header) -> u32
+    ensures { result ≡ (if is_some header.now.marking then frame_num else previous) }
+{
+    if header.marking.is_some() {
+        frame_num
+    } else {
+        previous
+    }
+}
+
+/// Each stored frame gets its new mark.
+fn set_marks(dpb: &mut Dpb<Frame<PADDING>>, marked: &[MarkedFrame])
+    requires { length dpb.old.frames ≤ length marked.now }
+    ensures { dpb.new ≡ with_all_marks dpb.old marked.now }
+{
+    let count = dpb.frames().len();
+    for place in 0..count {
+        dpb.mark(place, marked[place].mark);
+    }
+}
+
+/// A frame of the size that its parameter set gives.
+fn coded_frame(
+    sps: Sps,
+    planes: Option<PaddedPlanes<PADDING>>,
+    frame_num: u32,
+    mark: Option<Mark>,
+) -> Frame<PADDING>
+    ensures { result ≡ record { planes = planes; frame_num = frame_num; mark = mark; width = 16 * width_in_mbs sps; height = 16 * height_in_mbs sps; crop = crop_of sps.frame_cropping } }
+{
+    Frame {
+        planes,
+        frame_num,
+        mark,
+        width: 16 * sps.width_in_mbs(),
+        height: 16 * sps.height_in_mbs(),
+        crop: crop_of(sps.frame_cropping),
+    }
+}
+
+/// The frame of an entry of the history, with its number once it is marked, and its mark.
+fn entry_frame(entry: HistoryEntry, frame_num: u32, mark: Option<Mark>) -> Frame<PADDING>
+    requires { frame_num ≡ frame_num_of (entry_of entry) }
+    ensures { result ≡ frame_of (Some (entry_of entry)) mark }
+{
+    match entry {
+        HistoryEntry::Picture { sps, planes, .. } => {
+            coded_frame(sps, Some(planes), frame_num, mark)
+        }
+        HistoryEntry::MissingFrame { sps, .. } => coded_frame(sps, None, frame_num, mark),
+    }
+}
+
+/// no_output_of_prior_pics_flag drops the held pictures before an IDR picture (C.4.4).
+fn drops_prior_pictures(header: &Header) -> bool
+    ensures { result ≡ is_dropping (prior_pictures_of header.now) }
+{
+    matches!(
+        header.marking,
+        Some(Marking::Idr {
+            no_output_of_prior_pics_flag: true,
+            ..
+        },)
+    )
+}
+
+/// Else they go out before an IDR picture, and with operation 5 (C.4.4).
+fn outputs_prior_pictures(header: &Header) -> bool
+    ensures { result ≡ is_output (prior_pictures_of header.now) }
+{
+    match header.marking {
+        Some(
+            Marking::Idr {
+                no_output_of_prior_pics_flag,
+                ..
+            },
+        ) => !no_output_of_prior_pics_flag,
+        _ => header.has_operation_5(),
+    }
+}
+
+/// What becomes of the held pictures before this one is stored (C.4.4). Answers those that go out.
+fn output_prior_pictures(
+    alloc: Global,
+    dpb: &mut Dpb<Frame<PADDING>>,
+    header: &Header,
+) -> Result<Vec<Picture>, OutOfMemory>
+    ensures ok { IfOk result (λ out. OutputsPrior (prior_pictures_of header.now) dpb.old out.items dpb.new) }
+    ensures kept { dpb.new.output ≡ dpb.old.output }
+{
+    if drops_prior_pictures(header) {
+        dpb.drop_all();
+        return Ok(Vec::new(alloc));
+    }
+    if !outputs_prior_pictures(header) {
+        return Ok(Vec::new(alloc));
+    }
+    let out = dpb.empty()?;
+    Ok(out)
+}
+
+/// These pictures and then those.
+fn joined(mut pictures: Vec<Picture>, mut more: Vec<Picture>) -> Result<Vec<Picture>, OutOfMemory>
+    ensures { IfOk result (λ all. all.items ≡ pictures.items ++ more.items) }
+{
+    pictures.append(&mut more)?;
+    Ok(pictures)
+}
+
+impl FrameBuffer {
+    /// With no history.
+    pub fn new(alloc: Global) -> FrameBuffer
+        ensures { result ≡ empty_frame_buffer }
+    {
+        FrameBuffer {
+            alloc,
+            dpb: Dpb::new(alloc, Output::Full),
+            max_long_term_frame_idx: None,
+            prev_ref_frame_num: 0,
+            failed: false,
+            history: History::new(),
+        }
+    }
+
+    /// The stored frames with their marks, in decoding order. After want of memory they are any.
+    pub fn frames(&self) -> &[Frame<PADDING>]
+        ensures value { result.now ≡ self.now.frames }
+        ensures stored { self.now.failed ≡ false → AreStoredIn self.now.history result.now }
+        ensures sized { self.now.failed ≡ false → AreFramesIn self.now.history result.now }
+    {
+        self.dpb.frames()
+    }
+
+    /// The frame numbers that are missing before a picture that is no IDR picture, or FrameNumRepeated or FrameNumGap (7.4.3).
+    pub fn missing_frame_nums(&self, sps: &Sps, header: &Header) -> Result<MissingFrameNums, Fault>
+        requires going { self.now.failed ≡ false }
+        requires sps { IsSps sps.now }
+        ensures { result ≡ missing_frame_nums (prev_ref_frame_num (marking_entries self.now.history)) sps.now.gaps_in_frame_num_value_allowed_flag (picture_entry sps.now header.now) }
+    {
+        missing_frame_nums(
+            self.prev_ref_frame_num,
+            sps.gaps_in_frame_num_value_allowed_flag,
+            new_frame(sps, header.frame_num, true),
+            &header.marking,
+        )
+    }
+
+    /// Whether a frame can be marked that stands for a missing number, or TooManyReferences (8.2.5.3).
+    pub fn can_store_missing(&self, sps: &Sps, frame_num: u32) -> Result<(), Fault>
+        requires going { self.now.failed ≡ false }
+        requires sps { IsSps sps.now }
+        ensures { result ≡ result_map (λ _. tt) (marks_of (missing_frame sps.now frame_num ∷ self.now.history)) }
+    {
+        let mut marked = marked_frames(self.dpb.frames());
+        sliding_window(&mut marked, new_frame(sps, frame_num, false))
+    }
+
+    /// Stores a frame that stands for a missing number (8.2.5.2), which can be marked. Answers the pictures that go out.
+    pub fn store_missing(&mut self, sps: &Sps, frame_num: u32) -> Result<Vec<Picture>, PictureError>
+        requires going { self.old.failed ≡ false }
+        requires sps { IsSps sps.now }
+        requires same { is_same_sps (sequence_sps self.old.history) sps.now ≡ true }
+        ensures ok { IfOk result (λ out. Stores self.old (missing_frame sps.now frame_num) out.items self.new) }
+        ensures err { IfErr result (λ error. Refuses self.old (marks_of (missing_frame sps.now frame_num ∷ self.old.history)) error self.new) }
+    {
+        let mut marked = marked_frames(self.dpb.frames());
+        sliding_window(&mut marked, new_frame(sps, frame_num, false))?;
+        self.failed = true;
+        set_marks(&mut self.dpb, marked.as_slice());
+        let entry = HistoryEntry::MissingFrame {
+            sps: sps.copied(),
+            frame_num,
+        };
+        let history = self.history.with_newest(&entry);
+        let frame = entry_frame(entry, frame_num, marked[marked.len() - 1].mark);
+        let arriving = ArrivingFrame {
+            order: 0,
+            existing: false,
+            is_reference: true,
+            capacity: sps.dpb_size() as usize,
+            max_num_reorder_frames: None,
+        };
+        let out = self.dpb.store(frame, &arriving)?;
+        self.history = history;
+        self.prev_ref_frame_num = frame_num;
+        self.failed = false;
+        Ok(out)
+    }
+
+    /// Marks a decoded picture (8.2.5.1) with this PicOrderCnt and stores it. `closed` becomes the history with it. Answers the
+    /// pictures that go out.
+    pub fn store_picture(
+        &mut self,
+        sps: &Sps,
+        header: &Header,
+        order: i32,
+        planes: PaddedPlanes<PADDING>,
+        closed: &mut History<HistoryEntry>,
+    ) -> Result<Vec<Picture>, PictureError>
+        requires going { self.old.failed ≡ false }
+        requires sps { IsSps sps.now }
+        requires follows { CanFollow self.old.history sps.now header.now }
+        requires order { order ≡ order_or_0 (order_counts sps.now header.now (pasts self.old.history)) }
+        requires sized { AreSized (width_in_mbs sps.now) (height_in_mbs sps.now) (padded_planes_of planes) }
+        ensures ok { IfOk result (λ out. Stores self.old (decoded_picture sps.now header.now (padded_planes_of planes)) out.items self.new) }
+        ensures err { IfErr result (λ error. Refuses self.old (marks_of (decoded_picture sps.now header.now (padded_planes_of planes) ∷ self.old.history)) error self.new) }
+        ensures closed { OnOk result (history_of closed.new.items ≡ self.new.history) }
+        ensures kept { OnErr result (closed.new.items ≡ closed.old.items) }
+    {
+        let mut marked = marked_frames(self.dpb.frames());
+        let mut max_long_term_frame_idx = self.max_long_term_frame_idx;
+        let new = new_frame(sps, header.frame_num, true);
+        mark(
+            &mut marked,
+            &mut max_long_term_frame_idx,
+            new,
+            &header.marking,
+        )?;
+        self.failed = true;
+        set_marks(&mut self.dpb, marked.as_slice());
+        let prior = output_prior_pictures(self.alloc, &mut self.dpb, header)?;
+        let frame_num = frame_num_after_marking(new, &header.marking);
+        let entry = HistoryEntry::Picture {
+            sps: sps.copied(),
+            header: header.copied(),
+            planes,
+        };
+        let history = self.history.with_newest(&entry);
+        let with_picture = self.history.with_newest(&entry);
+        let frame = entry_frame(entry, frame_num, marked[marked.len() - 1].mark);
+        let arriving = ArrivingFrame {
+            order,
+            existing: true,
+            is_reference: header.is_reference(),
+            capacity: sps.dpb_size() as usize,
+            max_num_reorder_frames: None,
+        };
+        let more = self.dpb.store(frame, &arriving)?;
+        let out = joined(prior, more)?;
+        self.history = history;
+        *closed = with_picture;
+        self.prev_ref_frame_num = prev_ref_frame_num_after(
+            self.prev_ref_frame_num,
+            frame_num,
+            header,
+        );
+        self.max_long_term_frame_idx = max_long_term_frame_idx;
+        self.failed = false;
+        Ok(out)
+    }
+
+    /// Hands out all held pictures, and forgets the history.
+    pub fn empty(&mut self) -> Result<Vec<Picture>, OutOfMemory>
+        ensures ok { IfOk result (λ out. IsEmptied self.old out.items self.new) }
+        ensures err { OnErr result (self.new.failed ≡ true) }
+    {
+        if self.failed {
+            return Err(OutOfMemory);
+        }
+        self.failed = true;
+        let out = self.dpb.empty()?;
+        self.max_long_term_frame_idx = None;
+        self.prev_ref_frame_num = 0;
+        self.history = History::new();
+        self.failed = false;
+        Ok(out)
+    }
+}

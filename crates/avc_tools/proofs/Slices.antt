@@ -1,0 +1,142 @@
+-- Where the slices among units end, and where decoding can start.
+use Rattle.std.proofs.Common.{◌≡◌, ◌-◌, ◌<◌, ◌≤◌, ℕ, suc, Bool, true, false, not, List, [], ◌∷◌, ◌++◌, length, map, reverse, take, drop, if◌then◌else◌, refl, ap, sym, ◌∙◌, arith, append_assoc}
+use Rattle.std.proofs.Math.Bool.{cond}
+use Rattle.std.proofs.Math.Seq.{drop-append_seam, take-append_seam, take-length}
+use Rattle.std.proofs.lemmas.List.{length-drop, length-reverse, reverse-append, reverse-reverse}
+use Rattle.std.proofs.lemmas.List.Sums.{take_while-cons}
+use Rattle.std.proofs.lemmas.Grind.{flat_map-append}
+use Rattle.std.specs.List.{filter, flat_map, list_any, take_while}
+use Rattle.avc_annexb.specs.declared.unit.Unit.{Unit}
+use Rattle.avc_units.specs.Grouping.{is_start}
+use Rattle.avc_units.specs.Resuming.{written}
+use Rattle.avc_tools.specs.Pieces.{after_slices, is_left_out, is_slice, rest_of_piece, through_slices}
+
+stops : {X : Type 0} (p : X → Bool) (x : X) (xs : List X) → p x ≡ false → take_while p (x ∷ xs) ≡ []
+stops p x xs e = take_while-cons p x xs ∙ ap (λ b. cond b (x ∷ take_while p xs) []) e
+
+goes_on : {X : Type 0} (p : X → Bool) (x : X) (xs : List X) → p x ≡ true → take_while p (x ∷ xs) ≡ x ∷ take_while p xs
+goes_on p x xs e = take_while-cons p x xs ∙ ap (λ b. cond b (x ∷ take_while p xs) []) e
+
+abbrev is_other : Unit → Bool
+is_other u = not (is_slice u)
+
+-- what stands through the last slice, from the units in reverse and those of them before the first slice
+abbrev behind : (others reversed : List Unit) → List Unit
+behind others reversed = reverse (drop (length (reverse others)) reversed)
+
+pub through_slice : (us : List Unit) (u : Unit) → is_slice u ≡ true → through_slices (us ++ u ∷ []) ≡ us ++ u ∷ []
+through_slice us u is =
+    ap (λ r. behind (take_while is_other r) r) (reverse-append us (u ∷ []))
+    ∙ ap (λ t. behind t (u ∷ reverse us)) (stops is_other u (reverse us) (ap not is))
+    ∙ ap reverse (sym (reverse-append us (u ∷ [])))
+    ∙ reverse-reverse (us ++ u ∷ [])
+
+one_less : (t r : List Unit) (u : Unit) → behind (u ∷ t) (u ∷ r) ≡ behind t r
+one_less t r u = ap (λ n. reverse (drop n (u ∷ r))) (length-reverse (u ∷ t) ∙ ap suc (sym (length-reverse t)))
+
+pub through_other : (us : List Unit) (u : Unit) → is_slice u ≡ false → through_slices (us ++ u ∷ []) ≡ through_slices us
+through_other us u is =
+    ap (λ r. behind (take_while is_other r) r) (reverse-append us (u ∷ []))
+    ∙ ap (λ t. behind t (u ∷ reverse us)) (goes_on is_other u (reverse us) (ap not is))
+    ∙ one_less (take_while is_other (reverse us)) (reverse us) u
+
+front_and_rest : {X : Type 0} (p : X → Bool) (xs : List X) → take_while p xs ++ drop (length (take_while p xs)) xs ≡ xs
+front_and_rest p [] = refl
+front_and_rest p (x ∷ xs) = by (p x) refl (front_and_rest p xs)
+  where
+    by : (b : Bool) → p x ≡ b → take_while p xs ++ drop (length (take_while p xs)) xs ≡ xs → take_while p (x ∷ xs) ++ drop (length (take_while p (x ∷ xs))) (x ∷ xs) ≡ x ∷ xs
+    by true e h = ap (λ t. t ++ drop (length t) (x ∷ xs)) (goes_on p x xs e) ∙ ap (λ t. x ∷ t) h
+    by false e h = ap (λ t. t ++ drop (length t) (x ∷ xs)) (stops p x xs e)
+
+split_at_slices : (us : List Unit) → through_slices us ++ after_slices us ≡ us
+split_at_slices us =
+    let others = take_while is_other (reverse us) in
+    sym (reverse-append others (drop (length (reverse others)) (reverse us)))
+    ∙ ap (λ n. reverse (others ++ drop n (reverse us))) (length-reverse others)
+    ∙ ap reverse (front_and_rest is_other (reverse us))
+    ∙ reverse-reverse us
+
+pub through_is_front : (us : List Unit) → through_slices us ≡ take (length (through_slices us)) us
+through_is_front us = sym (take-append_seam (through_slices us) (after_slices us)) ∙ ap (take (length (through_slices us))) (split_at_slices us)
+
+pub after_is_rest : (us : List Unit) → after_slices us ≡ drop (length (through_slices us)) us
+after_is_rest us = sym (drop-append_seam (through_slices us) (after_slices us)) ∙ ap (drop (length (through_slices us))) (split_at_slices us)
+
+-- ---- up to the next unit with which decoding can start
+
+abbrev goes_before : Unit → Bool
+goes_before u = not (is_start u)
+
+-- how many units stand before it
+abbrev pub before_start : List Unit → ℕ
+before_start us = length (take_while not (map is_start us))
+
+by_flag : (us : List Unit) (u : Unit) (b : Bool) → is_start u ≡ b → before_start (u ∷ us) ≡ cond (not b) (suc (before_start us)) 0
+by_flag us u true e = ap length (stops not (is_start u) (map is_start us) (ap not e))
+by_flag us u false e = ap length (goes_on not (is_start u) (map is_start us) (ap not e))
+
+pub front_before_start : (us : List Unit) → take_while goes_before us ≡ take (before_start us) us
+front_before_start [] = refl
+front_before_start (u ∷ us) = by (is_start u) refl (front_before_start us)
+  where
+    by : (b : Bool) → is_start u ≡ b → take_while goes_before us ≡ take (before_start us) us → take_while goes_before (u ∷ us) ≡ take (before_start (u ∷ us)) (u ∷ us)
+    by true e h = stops goes_before u us (ap not e) ∙ ap (λ n. take n (u ∷ us)) (sym (by_flag us u true e))
+    by false e h = goes_on goes_before u us (ap not e) ∙ ap (λ t. u ∷ t) h ∙ ap (λ n. take n (u ∷ us)) (sym (by_flag us u false e))
+
+any_by : (us : List Unit) (u : Unit) (b : Bool) → is_start u ≡ b → list_any is_start (u ∷ us) ≡ cond b true (list_any is_start us)
+any_by us u true e = rw (list_any, e) refl
+any_by us u false e = rw (list_any, e) refl
+
+one_starts : (us : List Unit) → before_start us < length us → list_any is_start us ≡ true
+one_starts [] low = absurd (omega (arith, low))
+one_starts (u ∷ us) low = by (is_start u) refl (one_starts us)
+  where
+    by : (b : Bool) → is_start u ≡ b → (before_start us < length us → list_any is_start us ≡ true) → list_any is_start (u ∷ us) ≡ true
+    by true e h = any_by us u true e
+    by false e h = let n = by_flag us u false e in any_by us u false e ∙ h (omega (arith, low, n))
+
+none_starts : (us : List Unit) → length us ≤ before_start us → list_any is_start us ≡ false
+none_starts [] low = refl
+none_starts (u ∷ us) low = by (is_start u) refl (none_starts us)
+  where
+    by : (b : Bool) → is_start u ≡ b → (length us ≤ before_start us → list_any is_start us ≡ false) → list_any is_start (u ∷ us) ≡ false
+    by true e h = let n = by_flag us u true e in absurd (omega (arith, low, n))
+    by false e h = let n = by_flag us u false e in any_by us u false e ∙ h (omega (arith, low, n))
+
+abbrev rest_by : Bool → (after us : List Unit) → List Unit
+rest_by starts after us = if starts then through_slices us ++ filter (λ u. not (is_left_out u)) (after_slices us) else after
+
+pub rest_all : (after : List Unit) → length after ≤ before_start after → rest_of_piece after ≡ after
+rest_all after low = ap (λ b. rest_by b after (take_while goes_before after)) (none_starts after low)
+
+abbrev stays : Unit → Bool
+stays u = not (is_left_out u)
+
+rest_cut : (after : List Unit) → before_start after < length after →
+    rest_of_piece after ≡ through_slices (take (before_start after) after) ++ filter stays (after_slices (take (before_start after) after))
+rest_cut after low =
+    ap (λ b. rest_by b after (take_while goes_before after)) (one_starts after low)
+    ∙ ap (rest_by true after) (front_before_start after)
+
+-- a slice's part from a place on
+pub part_from : {X : Type 0} (n : ℕ) (xs : List X) → take (length xs - n) (drop n xs) ≡ drop n xs
+part_from n xs = ap (λ k. take k (drop n xs)) (sym (length-drop n xs)) ∙ take-length (drop n xs)
+
+-- the rest of a piece is written, in two parts
+pub rest_written : (after : List Unit) (n kept : ℕ) (old one both : List ℕ) → n ≡ before_start after → n < length after → kept ≡ length (through_slices (take n after))
+    → one ≡ old ++ flat_map written (take kept (take n after)) → both ≡ one ++ flat_map written (filter (λ u. not (is_left_out u)) (take (length (take n after) - kept) (drop kept (take n after))))
+    → both ≡ old ++ flat_map written (rest_of_piece after)
+rest_written after n kept old one both is low is_kept first second =
+    let others = take n after in
+    let front : through_slices others ≡ take kept others = through_is_front others ∙ ap (λ k. take k others) (sym is_kept) in
+    let rest : after_slices others ≡ drop kept others = after_is_rest others ∙ ap (λ k. drop k others) (sym is_kept) in
+    let all : rest_of_piece after ≡ take kept others ++ filter stays (drop kept others) =
+    rest_cut after (omega (arith, is, low))
+    ∙ ap (λ m. through_slices (take m after) ++ filter stays (after_slices (take m after))) (sym is)
+    ∙ ap (λ t. t ++ filter stays (after_slices others)) front
+    ∙ ap (λ t. take kept others ++ filter stays t) rest in
+    second ∙ ap (λ us. one ++ flat_map written (filter stays us)) (part_from kept others)
+    ∙ ap (λ t. t ++ flat_map written (filter stays (drop kept others))) first
+    ∙ append_assoc old (flat_map written (take kept others)) (flat_map written (filter stays (drop kept others)))
+    ∙ ap (λ t. old ++ t) (sym (flat_map-append written (take kept others) (filter stays (drop kept others))))
+    ∙ ap (λ us. old ++ flat_map written us) (sym all)

@@ -1,0 +1,10 @@
+use Rattle.std.proofs.Common.{◌≡◌, ◌++◌, [], take, drop}
+use Rattle.avc_tools.specs.Cutting.{HasSets}
+use Rattle.avc_tools.specs.Pieces.{pieces_from}
+use Rattle.avc_tools.proofs.cutting.pieces_of.Given as goal
+
+abbrev pub invariant-loop-place : goal.invariant-loop-place
+invariant-loop-place l = record {
+  sets : HasSets (take l.place l.units) l.units l.sets;
+  pieces : l.all.items ++ pieces_from (take l.place l.units) (drop l.place l.units) ≡ pieces_from [] l.units;
+}

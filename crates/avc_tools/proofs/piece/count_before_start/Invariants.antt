@@ -1,0 +1,6 @@
+use Rattle.std.proofs.Common.{◌≡◌, ◌+◌, length, drop, not}
+use Rattle.std.specs.List.{take_while}
+use Rattle.avc_tools.proofs.piece.count_before_start.Given as goal
+
+abbrev pub invariant-loop-place : goal.invariant-loop-place
+invariant-loop-place l = record { counted : length (take_while not l.starts) ≡ l.place + length (take_while not (drop l.place l.starts)) }

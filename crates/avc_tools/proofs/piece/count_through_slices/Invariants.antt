@@ -1,0 +1,12 @@
+use Rattle.std.proofs.Common.{◌≡◌, ◌≤◌, length, take}
+use Rattle.avc_tools.specs.Pieces.{through_slices}
+use Rattle.avc_tools.proofs.piece.count_through_slices.Given as goal
+
+abbrev pub invariant-slices : goal.invariant-slices
+invariant-slices l = record {
+  within : l.count ≤ length l.units;
+  same : through_slices (take l.count l.units) ≡ through_slices l.units;
+}
+
+abbrev pub decreases-slices : goal.decreases-slices
+decreases-slices l = l.count

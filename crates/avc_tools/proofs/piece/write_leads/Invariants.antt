@@ -1,0 +1,8 @@
+use Rattle.std.proofs.Common.{◌≡◌, ◌++◌, take}
+use Rattle.std.specs.List.{filter, flat_map}
+use Rattle.avc_units.specs.Resuming.{written}
+use Rattle.avc_tools.specs.Pieces.{leads}
+use Rattle.avc_tools.proofs.piece.write_leads.Given as goal
+
+abbrev pub invariant-loop-unit : goal.invariant-loop-unit
+invariant-loop-unit l = record { written : l.piece.items ≡ l.initial.piece.items ++ flat_map written (filter leads (take l.unit-index l.units)) }

@@ -1,0 +1,7 @@
+use Rattle.std.proofs.Common.{◌≡◌, ◌++◌, take}
+use Rattle.std.specs.List.{flat_map}
+use Rattle.avc_units.specs.Resuming.{written}
+use Rattle.avc_tools.proofs.piece.write_units.Given as goal
+
+abbrev pub invariant-loop-unit : goal.invariant-loop-unit
+invariant-loop-unit l = record { written : l.piece.items ≡ l.initial.piece.items ++ flat_map written (take l.unit-index l.units) }

@@ -1,0 +1,63 @@
+-- What the functions that cut a stream say to one another.
+use Rattle.std.specs.Prelude.{◌≡◌, ℕ, ◌<◌, Bool, true, false, List, [], ◌∷◌, length, take, drop, Option, Some, None, is_some, slice_get}
+use Rattle.std.specs.List.{flat_map}
+use Rattle.avc_annexb.specs.declared.unit.Unit.{Unit}
+use Rattle.avc_params.specs.Stored.{stored}
+use Rattle.avc_params.specs.Tables.{is_pps, is_sps, pps_in_force, sps_in_force}
+use Rattle.avc_params.specs.declared.set_unit.SetUnit.{SetUnit}
+use Rattle.avc_units.specs.Grouping.{is_start, set_units}
+use Rattle.avc_units.specs.Resuming.{deciding_unit, satisfies, unit_list, written}
+use Rattle.avc_tools.specs.Pieces.{piece}
+use Rattle.avc_tools.specs.declared.set_places.SetPlaces.{SetPlaces}
+
+-- the unit at a place, if there is one
+abbrev pub unit_at : List Unit → Option ℕ → List Unit
+unit_at units None = []
+unit_at units (Some place) = unit_list (slice_get units place)
+
+abbrev pub written_at : List Unit → Option ℕ → List ℕ
+written_at units place = flat_map written (unit_at units place)
+
+-- the place of the unit that decides, after a unit that has the id or not, and whose set is accepted or not
+abbrev pub placed : (has_id accepted : Bool) → (place : ℕ) → Option ℕ → Option ℕ
+placed true true place old = Some place
+placed true false place old = None
+placed false accepted place old = old
+
+-- Places by id, before and after a unit at this place that brings this set, or none.
+pub record ArePlacedAt {A : Type 0} (has_id : ℕ → SetUnit → Bool) (record_of : Option SetUnit → Option A) (set : Option SetUnit) (place : ℕ) (old new : List (Option ℕ)) : Type 0 where
+  pub long : length new ≡ length old
+  pub each : (id : ℕ) → id < length old → stored new id ≡ placed (satisfies (has_id id) set) (is_some (record_of set)) place (stored old id)
+
+-- the unit whose sequence parameter set is in force under an id, and whose picture parameter set is (7.4.1.2.1)
+abbrev pub sps_unit : List Unit → ℕ → List Unit
+sps_unit before id = deciding_unit (is_some (sps_in_force (set_units before) id)) (is_sps id) before
+
+abbrev pub pps_unit : List Unit → ℕ → List Unit
+pps_unit before id = deciding_unit (is_some (pps_in_force (set_units before) id)) (is_pps id) before
+
+-- At these places stand the units by id.
+pub record StandAt (units : List Unit) (count : ℕ) (by_id : ℕ → List Unit) (places : List (Option ℕ)) : Type 0 where
+  pub long : length places ≡ count
+  pub each : (id : ℕ) → id < count → unit_at units (stored places id) ≡ by_id id
+
+-- The places are those of the sets in force after the units before.
+pub record HasSets (before units : List Unit) (sets : SetPlaces) : Type 0 where
+  pub sps : StandAt units 32 (sps_unit before) sets.sps.items
+  pub pps : StandAt units 256 (pps_unit before) sets.pps.items
+
+abbrev pub piece_in : (before : List Unit) → (here : List Unit) → List ℕ
+piece_in before [] = []
+piece_in before (u ∷ after) = flat_map written (piece before u after)
+
+-- the piece whose cut point stands at a place
+abbrev pub piece_at : List Unit → (place : ℕ) → List ℕ
+piece_at units place = piece_in (take place units) (drop place units)
+
+abbrev pub pieces_in : (before : List Unit) → (here : List Unit) → List (List ℕ)
+pieces_in before [] = []
+pieces_in before (u ∷ after) = elim (is_start u) [ true ↦ flat_map written (piece before u after) ∷ [] | false ↦ [] ]
+
+-- that piece, if a cut point stands there
+abbrev pub pieces_at : List Unit → (place : ℕ) → List (List ℕ)
+pieces_at units place = pieces_in (take place units) (drop place units)
