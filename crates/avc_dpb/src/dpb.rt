@@ -144,7 +144,8 @@ fn place<T: BufferedFrame + Drop>(
 ) -> Result<Vec<T::Picture>, OutOfMemory>
     requires beside { length frames.old.items ≡ length slots.old.items }
     requires capacity { arriving.now.capacity ≤ 16 }
-    ensures ok { IfOk result (λ out. IsPlaced T.shown T.referenced slots.old.items frames.old.items frame arriving.now out.items slots.new.items frames.new.items) }
+    ensures ok { IfOk result
+        (λ out. IsPlaced T.shown T.referenced slots.old.items frames.old.items frame arriving.now out.items slots.new.items frames.new.items) }
     ensures beside { OnOk result (length frames.new.items ≡ length slots.new.items) }
 {
     set_references(slots, frames.as_slice());
@@ -175,7 +176,8 @@ fn output_early<T: BufferedFrame + Drop>(
     arriving: &ArrivingFrame,
 ) -> Result<Vec<T::Picture>, OutOfMemory>
     requires beside { length frames.old.items ≡ length slots.old.items }
-    ensures ok { IfOk result (λ out. IsReordered T.shown T.referenced output arriving.now slots.old.items frames.old.items out.items slots.new.items frames.new.items) }
+    ensures ok { IfOk result
+        (λ out. IsReordered T.shown T.referenced output arriving.now slots.old.items frames.old.items out.items slots.new.items frames.new.items) }
     ensures beside { OnOk result (length frames.new.items ≡ length slots.new.items) }
 {
     if !holds_too_many(slots.as_slice(), output, arriving) {

@@ -28,7 +28,8 @@ fn set_between<const W: usize, const H: usize, const PAD: usize>(
     requires top { IsMoved top }
     requires right { right < 8 }
     requires down { down < 8 }
-    ensures { block.new ≡ block_of W H (λ i j. bilinear (clamped reference.now.width reference.now.height (sample reference.now)) (left +ℤ pos i) (top +ℤ pos j) right down) }
+    ensures { block.new ≡ block_of W H
+        (λ i j. bilinear (clamped reference.now.width reference.now.height (sample reference.now)) (left +ℤ pos i) (top +ℤ pos j) right down) }
 {
     let stride = W + 1;
     let mut patch = [0; 112];

@@ -32,7 +32,8 @@ fn set_between<
     requires samples { M + 5 ≤ P }
     requires patch { (H + 5) * (W + 5) + 16 ≤ P }
     requires few { P < 65536 }
-    ensures { block.new ≡ block_of W H (λ i j. quarter (clamped reference.now.width reference.now.height (sample reference.now)) (left +ℤ pos i) (top +ℤ pos j) fx fy) }
+    ensures { block.new ≡ block_of W H
+        (λ i j. quarter (clamped reference.now.width reference.now.height (sample reference.now)) (left +ℤ pos i) (top +ℤ pos j) fx fy) }
 {
     let stride = W + 5;
     let mut patch = [0; P];

@@ -82,7 +82,8 @@ impl AroundChroma {
 
     /// Intra_Chroma_DC.
     fn dc_samples(&self) -> [u8; 64]
-        ensures { (p : Around) → ShowsChroma p self.now → (x y : ℕ) → x < 8 → y < 8 → slice_index result (8 * y + x) ≡ predict_dc_chroma self.now.sides p (x / 4) (y / 4) }
+        ensures { (p : Around) → ShowsChroma p self.now → (x y : ℕ) → x < 8 → y < 8 →
+            slice_index result (8 * y + x) ≡ predict_dc_chroma self.now.sides p (x / 4) (y / 4) }
     {
         let rows = [self.dc_row(0), self.dc_row(1)];
         let mut samples = [0; 64];
@@ -108,7 +109,8 @@ impl AroundChroma {
     /// The prediction by a mode whose sides are available.
     pub fn predicted(&self, mode: ModeChroma) -> [u8; 64]
         requires { can_predict_chroma self.now.sides mode ≡ true }
-        ensures { (p : Around) → ShowsChroma p self.now → (x y : ℕ) → x < 8 → y < 8 → slice_index result (8 * y + x) ≡ predict_chroma self.now.sides p mode x y }
+        ensures { (p : Around) → ShowsChroma p self.now → (x y : ℕ) → x < 8 → y < 8 →
+            slice_index result (8 * y + x) ≡ predict_chroma self.now.sides p mode x y }
     {
         match mode {
             ModeChroma::Dc => self.dc_samples(),

@@ -82,7 +82,8 @@ impl Around16x16 {
     /// The prediction by a mode whose sides are available.
     pub fn predicted(&self, mode: Mode16x16) -> [u8; 256]
         requires { can_predict16x16 self.now.sides mode ≡ true }
-        ensures { (p : Around) → Shows16x16 p self.now → (x y : ℕ) → x < 16 → y < 16 → slice_index result (16 * y + x) ≡ predict16x16 self.now.sides p mode x y }
+        ensures { (p : Around) → Shows16x16 p self.now → (x y : ℕ) → x < 16 → y < 16 →
+            slice_index result (16 * y + x) ≡ predict16x16 self.now.sides p mode x y }
     {
         match mode {
             Mode16x16::Vertical => same_rows(&self.above),

@@ -94,7 +94,8 @@ pub fn plane_samples<const W: usize, const N: usize>(height: i32, across: i32, d
     requires height { IsWithin 10000 height }
     requires across { IsWithin 5000 across }
     requires down { IsWithin 5000 down }
-    ensures { (x y : ℕ) → x < W → y < W → slice_index result (W * y + x) ≡ clip1 (height +ℤ across *ℤ (pos x -ℤ pos (W / 2 - 1)) +ℤ down *ℤ (pos y -ℤ pos (W / 2 - 1)) +ℤ pos 16 >>ℤ 5) }
+    ensures { (x y : ℕ) → x < W → y < W → slice_index result (W * y + x)
+        ≡ clip1 (height +ℤ across *ℤ (pos x -ℤ pos (W / 2 - 1)) +ℤ down *ℤ (pos y -ℤ pos (W / 2 - 1)) +ℤ pos 16 >>ℤ 5) }
 {
     let middle = W / 2 - 1;
     let mut samples = [0; N];

@@ -195,7 +195,8 @@ fn put_offsets(maker: &mut BitMaker, idc: u32, deblocking: &Deblocking) -> Resul
     requires idc { idc ≤ 2 }
     requires alpha { IsOffset deblocking.now.slice_alpha_c0_offset_div2 }
     requires beta { IsOffset deblocking.now.slice_beta_offset_div2 }
-    ensures { Puts result (ue_word idc ++ (se_word deblocking.now.slice_alpha_c0_offset_div2 ++ se_word deblocking.now.slice_beta_offset_div2)) maker.old maker.new }
+    ensures { Puts result
+        (ue_word idc ++ (se_word deblocking.now.slice_alpha_c0_offset_div2 ++ se_word deblocking.now.slice_beta_offset_div2)) maker.old maker.new }
 {
     maker.ue(idc)?;
     maker.se(deblocking.slice_alpha_c0_offset_div2)?;

@@ -25,8 +25,10 @@ pub(crate) fn put_p_inter(
     levels: &BlockLevels<16>,
 ) -> Result<(), OutOfMemory>
     requires going { maker.old.failed ≡ false }
-    requires ranges { IsPInter context.now mb_type.now (take (partitions mb_type.now) ref_idx.now) (take (length (parts_of mb_type.now)) mvd.now) (residual_of [] levels.now) }
-    ensures { Puts result (ue_word (p_mb_number mb_type.now) ++ p_inter_bits context.now mb_type.now (take (partitions mb_type.now) ref_idx.now) (take (length (parts_of mb_type.now)) mvd.now) (residual_of [] levels.now)) maker.old maker.new }
+    requires ranges { IsPInter context.now mb_type.now (take (partitions mb_type.now) ref_idx.now)
+        (take (length (parts_of mb_type.now)) mvd.now) (residual_of [] levels.now) }
+    ensures { Puts result (ue_word (p_mb_number mb_type.now) ++ p_inter_bits context.now mb_type.now (take (partitions mb_type.now) ref_idx.now)
+        (take (length (parts_of mb_type.now)) mvd.now) (residual_of [] levels.now)) maker.old maker.new }
 {
     put_p_type(maker, mb_type)?;
     put_sub_mb_types(maker, mb_type)?;

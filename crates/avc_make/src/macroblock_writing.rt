@@ -90,7 +90,8 @@ fn put_i_pcm(
     cr: &[u8; 64],
 ) -> Result<(), OutOfMemory>
     requires { maker.old.failed ≡ false }
-    ensures { Puts result (ue_word (i_type context.now.is_p 25) ++ i_pcm_bits (length maker.old.bits + length (ue_word (i_type context.now.is_p 25))) luma.now cb.now cr.now) maker.old maker.new }
+    ensures { Puts result (ue_word (i_type context.now.is_p 25) ++ i_pcm_bits
+        (length maker.old.bits + length (ue_word (i_type context.now.is_p 25))) luma.now cb.now cr.now) maker.old maker.new }
 {
     put_i_type(maker, context, I_PCM)?;
     put_pcm_samples(maker, luma, cb, cr)?;
@@ -106,7 +107,8 @@ fn put_i_nxn(
 ) -> Result<(), OutOfMemory>
     requires going { maker.old.failed ≡ false }
     requires ranges { IsINxN modes.now chroma_mode (residual_of [] levels.now) }
-    ensures { Puts result (ue_word (i_type context.now.is_p 0) ++ i_nxn_bits context.now modes.now chroma_mode (residual_of [] levels.now)) maker.old maker.new }
+    ensures { Puts result
+        (ue_word (i_type context.now.is_p 0) ++ i_nxn_bits context.now modes.now chroma_mode (residual_of [] levels.now)) maker.old maker.new }
 {
     put_i_type(maker, context, 0)?;
     put_nxn_elements(maker, context, modes, chroma_mode, levels)?;
@@ -141,7 +143,9 @@ fn put_i_16x16(
 ) -> Result<(), OutOfMemory>
     requires going { maker.old.failed ≡ false }
     requires ranges { IsI16x16 mode chroma_mode (residual_of luma_dc.now levels.now) }
-    ensures { Puts result (ue_word (i_type context.now.is_p (type_16x16 mode (residual_of luma_dc.now levels.now))) ++ i_16x16_bits context.now chroma_mode (residual_of luma_dc.now levels.now)) maker.old maker.new }
+    ensures { Puts result
+        (ue_word (i_type context.now.is_p (type_16x16 mode (residual_of luma_dc.now levels.now)))
+        ++ i_16x16_bits context.now chroma_mode (residual_of luma_dc.now levels.now)) maker.old maker.new }
 {
     put_i_type(maker, context, type_16x16(mode, levels))?;
     put_chroma_mode(maker, chroma_mode)?;

@@ -112,7 +112,8 @@ fn put_luma_blocks<const MAXN: usize>(
     requires going { maker.old.failed ≡ false }
     requires most { MAXN ≤ 16 }
     requires blocks { AreBlocks MAXN (is_coded luma_pattern) (range_with_len 0 16) blocks.now }
-    ensures { Puts result (blocks_bits MAXN 16 (is_coded luma_pattern) (option_copied left.entry) (option_copied up.entry) (range_with_len 0 16) [] blocks.now) maker.old maker.new }
+    ensures { Puts result (blocks_bits MAXN 16 (is_coded luma_pattern) (option_copied left.entry)
+        (option_copied up.entry) (range_with_len 0 16) [] blocks.now) maker.old maker.new }
 {
     let mut total_coeffs = [0; 16];
     'each: for k in 0..16 {

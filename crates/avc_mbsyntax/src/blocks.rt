@@ -37,7 +37,8 @@ pub(crate) fn read_luma_blocks<const MAXN: usize>(
 ) -> Result<[Levels<MAXN>; 16], Fault>
     requires { MAXN ≤ 16 }
     ensures small { IfOk result (λ levels. All AreSmall levels) }
-    ensures read { Reads result (blocks MAXN 16 (is_coded luma_pattern) (option_copied left.entry) (option_copied up.entry) (range_with_len 0 16) []) reader.old reader.new }
+    ensures read { Reads result
+        (blocks MAXN 16 (is_coded luma_pattern) (option_copied left.entry) (option_copied up.entry) (range_with_len 0 16) []) reader.old reader.new }
 {
     let mut levels = [Levels::zero(); 16];
     let mut total_coeffs = [0; 16];
@@ -58,7 +59,8 @@ pub(crate) fn read_chroma_blocks(
     up: Option<&[u8; 4]>,
 ) -> Result<[Levels<15>; 4], Fault>
     ensures small { IfOk result (λ levels. All AreSmall levels) }
-    ensures read { Reads result (blocks 15 8 (λ k. chroma_pattern == 2) (option_copied left.entry) (option_copied up.entry) (range_with_len 0 4) []) reader.old reader.new }
+    ensures read { Reads result
+        (blocks 15 8 (λ k. chroma_pattern == 2) (option_copied left.entry) (option_copied up.entry) (range_with_len 0 4) []) reader.old reader.new }
 {
     let mut levels = [Levels::zero(); 4];
     let mut total_coeffs = [0; 4];

@@ -83,7 +83,8 @@ fn read_luma<const MAXN: usize>(
 ) -> Result<[Levels<MAXN>; 16], Fault>
     requires { MAXN ≤ 16 }
     ensures small { IfOk result (λ levels. All AreSmall levels) }
-    ensures read { Reads result (blocks MAXN 16 (is_coded luma_pattern) (luma_side context.now.left) (luma_side context.now.up) (range_with_len 0 16) []) reader.old reader.new }
+    ensures read { Reads result (blocks MAXN 16 (is_coded luma_pattern) (luma_side context.now.left)
+        (luma_side context.now.up) (range_with_len 0 16) []) reader.old reader.new }
 {
     read_luma_blocks(
         reader,
@@ -100,7 +101,8 @@ fn read_cb_ac(
     chroma_pattern: u8,
 ) -> Result<[Levels<15>; 4], Fault>
     ensures small { IfOk result (λ levels. All AreSmall levels) }
-    ensures read { Reads result (blocks 15 8 (λ k. chroma_pattern == 2) (cb_side context.now.left) (cb_side context.now.up) (range_with_len 0 4) []) reader.old reader.new }
+    ensures read { Reads result
+        (blocks 15 8 (λ k. chroma_pattern == 2) (cb_side context.now.left) (cb_side context.now.up) (range_with_len 0 4) []) reader.old reader.new }
 {
     read_chroma_blocks(
         reader,
@@ -117,7 +119,8 @@ fn read_cr_ac(
     chroma_pattern: u8,
 ) -> Result<[Levels<15>; 4], Fault>
     ensures small { IfOk result (λ levels. All AreSmall levels) }
-    ensures read { Reads result (blocks 15 8 (λ k. chroma_pattern == 2) (cr_side context.now.left) (cr_side context.now.up) (range_with_len 0 4) []) reader.old reader.new }
+    ensures read { Reads result
+        (blocks 15 8 (λ k. chroma_pattern == 2) (cr_side context.now.left) (cr_side context.now.up) (range_with_len 0 4) []) reader.old reader.new }
 {
     read_chroma_blocks(
         reader,
@@ -136,7 +139,8 @@ pub(crate) fn read_levels<const MAXN: usize>(
     requires max { MAXN ≤ 16 }
     requires luma { patterns.luma_pattern ≤ 15 }
     requires chroma { patterns.chroma_pattern ≤ 2 }
-    ensures read { (luma_dc : List ℤ) → ReadsAs (residual_of luma_dc) result (residual_blocks context.now MAXN luma_dc patterns.luma_pattern patterns.chroma_pattern patterns.mb_qp_delta) reader.old reader.new }
+    ensures read { (luma_dc : List ℤ) → ReadsAs (residual_of luma_dc) result
+        (residual_blocks context.now MAXN luma_dc patterns.luma_pattern patterns.chroma_pattern patterns.mb_qp_delta) reader.old reader.new }
     ensures delta { IfOk result (λ levels. levels.mb_qp_delta ≡ patterns.mb_qp_delta) }
     ensures range { IfOk result (λ levels. (luma_dc : List ℤ) → AreSmall luma_dc → IsResidual (residual_of luma_dc levels)) }
 {

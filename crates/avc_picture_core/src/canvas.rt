@@ -87,9 +87,11 @@ impl<const PAD: usize> Canvas<PAD> {
         requires quantiser { mb.now.qp ≤ 51 }
         requires modes { All IsMode facts.now.modes }
         requires references { AreUsable self.old.width self.old.height sources.now.references.now }
-        ensures built { (p : Place) → IsPlaceOn self.old address mb.now facts.now (facts_of sources.now.neighbours) sources.now.references.now p → IsBuilt p result self.old self.new }
+        ensures built { (p : Place) → IsPlaceOn self.old address mb.now facts.now (facts_of sources.now.neighbours) sources.now.references.now p →
+            IsBuilt p result self.old self.new }
         ensures size { (self.new.width ≡ self.old.width) × (self.new.height ≡ self.old.height) }
-        ensures parameters { (self.new.chroma_qp_index_offset ≡ self.old.chroma_qp_index_offset) × (self.new.constrained_intra_pred ≡ self.old.constrained_intra_pred) }
+        ensures parameters { (self.new.chroma_qp_index_offset ≡ self.old.chroma_qp_index_offset) ×
+            (self.new.constrained_intra_pred ≡ self.old.constrained_intra_pred) }
     {
         let size = PictureSize {
             width: self.width,

@@ -29,7 +29,8 @@ use avc_types::BlockLevels;
 /// Each block has the sides that its mode needs.
 pub(crate) fn has_sides4x4(readable: ReadableNeighbours, modes: &[NearMode; 16]) -> bool
     requires { All IsMode modes.now }
-    ensures { result ≡ list_all (λ k. can_predict4x4 (readable_sides readable k) (mode4x4_of (mode_number (slice_index_or modes.now k absent)))) (range_with_len 0 16) }
+    ensures { result ≡ list_all (λ k. can_predict4x4 (readable_sides readable k) (mode4x4_of (mode_number (slice_index_or modes.now k absent))))
+        (range_with_len 0 16) }
 {
     for k in 0..16 {
         if !mode4x4(modes[k]).is_available(readable.sides(k)) {
@@ -98,7 +99,8 @@ pub(crate) fn build_luma4x4<const PAD: usize>(
     requires modes { All IsMode modes.now }
     requires sides { (k : ℕ) → k < 16 → can_predict4x4 (readable_sides readable k) (mode4x4_of (mode_number (slice_index_or modes.now k absent))) ≡ true }
     ensures size { (plane.new.width ≡ plane.old.width) × (plane.new.height ≡ plane.old.height) }
-    ensures blocks { (p : Place) → IsNxnAt place.column place.row plane.old.width readable modes.now qp (residual_of [] levels.now) p → plane.new ≡ with_blocks4x4 p 16 plane.old }
+    ensures blocks { (p : Place) → IsNxnAt place.column place.row plane.old.width readable modes.now qp (residual_of [] levels.now) p →
+        plane.new ≡ with_blocks4x4 p 16 plane.old }
 {
     let column = first_column(plane, 16, place.column);
     let row = first_row(plane, 16, place.row);

@@ -69,7 +69,8 @@ fn build_i_pcm<const PAD: usize>(
 ) -> Result<(), Fault>
     requires room { CoverMacroblock place.column place.row (planes_of planes.old) }
     ensures size { AreSameSize (planes_of planes.old) (planes_of planes.new) }
-    ensures built { (p : Place) (qp qp_of_chroma : ℕ) → IsAt place.column place.row (i_pcm luma.now cb.now cr.now) qp qp_of_chroma p → ArePlanesBuilt p result (planes_of planes.old) (planes_of planes.new) }
+    ensures built { (p : Place) (qp qp_of_chroma : ℕ) → IsAt place.column place.row (i_pcm luma.now cb.now cr.now) qp qp_of_chroma p →
+        ArePlanesBuilt p result (planes_of planes.old) (planes_of planes.new) }
 {
     set_samples(planes, place, luma, cb, cr);
     Ok(())
@@ -83,9 +84,11 @@ fn add_residual(samples: &mut MbSamples, levels: &BlockLevels<16>, qp: Quantiser
     ensures luma { (x y : ℕ) → x < 16 → y < 16 →
         slice_index samples.new.luma (16 * y + x) ≡ sum_of (slice_index samples.old.luma (16 * y + x)) (luma_residual qp.luma (residual_of [] levels.now) x y) }
     ensures cb { (x y : ℕ) → x < 8 → y < 8 →
-        slice_index samples.new.cb (8 * y + x) ≡ sum_of (slice_index samples.old.cb (8 * y + x)) (chroma_residual qp.chroma levels.now.cb_dc levels.now.cb_ac x y) }
+        slice_index samples.new.cb (8 * y + x)
+          ≡ sum_of (slice_index samples.old.cb (8 * y + x)) (chroma_residual qp.chroma levels.now.cb_dc levels.now.cb_ac x y) }
     ensures cr { (x y : ℕ) → x < 8 → y < 8 →
-        slice_index samples.new.cr (8 * y + x) ≡ sum_of (slice_index samples.old.cr (8 * y + x)) (chroma_residual qp.chroma levels.now.cr_dc levels.now.cr_ac x y) }
+        slice_index samples.new.cr (8 * y + x)
+          ≡ sum_of (slice_index samples.old.cr (8 * y + x)) (chroma_residual qp.chroma levels.now.cr_dc levels.now.cr_ac x y) }
 {
     add_luma(&mut samples.luma, levels, qp.luma);
     add_chroma(&mut samples.cb, &levels.cb_dc, &levels.cb_ac, qp.chroma);
@@ -105,7 +108,8 @@ fn build_p_skip<const PAD: usize>(
     requires row { place.row < size.height }
     requires usable { AreUsable size.width size.height references.now }
     ensures size { AreSameSize (planes_of planes.old) (planes_of planes.new) }
-    ensures built { (p : Place) (qp qp_of_chroma : ℕ) → IsAt place.column place.row p_skip qp qp_of_chroma p → p.coded.width ≡ size.width → p.coded.height ≡ size.height →
+    ensures built { (p : Place) (qp qp_of_chroma : ℕ) → IsAt place.column place.row p_skip qp qp_of_chroma p →
+        p.coded.width ≡ size.width → p.coded.height ≡ size.height →
         p.motion ≡ motion.now → AreReferences p.coded p.slice references.now → ArePlanesBuilt p result (planes_of planes.old) (planes_of planes.new) }
 {
     let mut samples = MbSamples {
@@ -140,7 +144,8 @@ fn build_p_inter<const PAD: usize>(
     requires levels { IsResidual (residual_of [] levels.now) }
     ensures size { AreSameSize (planes_of planes.old) (planes_of planes.new) }
     ensures built { (p : Place) (mb_type : PartedType) (ref_idx : List ℕ) (mvd : List Mvd) →
-        IsAt place.column place.row (p_inter mb_type ref_idx mvd (residual_of [] levels.now)) qp.luma qp.chroma p → p.coded.width ≡ size.width → p.coded.height ≡ size.height →
+        IsAt place.column place.row (p_inter mb_type ref_idx mvd (residual_of [] levels.now)) qp.luma qp.chroma p →
+          p.coded.width ≡ size.width → p.coded.height ≡ size.height →
         p.motion ≡ motion.now → AreReferences p.coded p.slice references.now → ArePlanesBuilt p result (planes_of planes.old) (planes_of planes.new) }
 {
     let mut samples = MbSamples {
@@ -174,7 +179,8 @@ pub(crate) fn build_macroblock<const PAD: usize>(
     requires modes { All IsMode facts.now.modes }
     requires usable { AreUsable size.width size.height references.now }
     ensures size { AreSameSize (planes_of planes.old) (planes_of planes.new) }
-    ensures built { (p : Place) → IsPlaceIn place.column place.row size.width size.height (syntax_of syntax.now) qp.luma qp.chroma facts.now readable references.now p →
+    ensures built { (p : Place) →
+        IsPlaceIn place.column place.row size.width size.height (syntax_of syntax.now) qp.luma qp.chroma facts.now readable references.now p →
         ArePlanesBuilt p result (planes_of planes.old) (planes_of planes.new) }
 {
     match syntax {

@@ -59,7 +59,8 @@ fn set_weighted<const W: usize, const H: usize, const SIDE: usize, const N: usiz
     requires all { SIDE * SIDE ≡ N }
     requires weight { IfSome by IsWeight }
     requires long { length block.now ≡ W * H }
-    ensures { IsRectangleSet SIDE corner.x corner.y W H (λ x y. weighted_by by (slice_index block.now ((y - corner.y) * W + (x - corner.x)))) square.old square.new }
+    ensures { IsRectangleSet SIDE corner.x corner.y W H
+        (λ x y. weighted_by by (slice_index block.now ((y - corner.y) * W + (x - corner.x)))) square.old square.new }
 {
     match by {
         None => set_rectangle::<W, H, SIDE, N>(square, corner, block),
@@ -82,7 +83,8 @@ fn set_luma<const W: usize, const H: usize, const PAD: usize>(
     requires column { 16 * place.column + 16 ≤ plane.now.width }
     requires row { 16 * place.row + 16 ≤ plane.now.height }
     requires weight { IfSome by IsWeight }
-    ensures { IsRectangleSet 16 corner.x corner.y W H (λ x y. weighted_by by (inter_luma plane.now.width plane.now.height (sample plane.now) mv (16 * place.column + x) (16 * place.row + y))) samples.old samples.new }
+    ensures { IsRectangleSet 16 corner.x corner.y W H (λ x y. weighted_by by
+        (inter_luma plane.now.width plane.now.height (sample plane.now) mv (16 * place.column + x) (16 * place.row + y))) samples.old samples.new }
 {
     let width = plane.width();
     let height = plane.height();
@@ -110,7 +112,8 @@ fn set_chroma<const W: usize, const H: usize, const PAD: usize>(
     requires column { 8 * place.column + 8 ≤ plane.now.width }
     requires row { 8 * place.row + 8 ≤ plane.now.height }
     requires weight { IfSome by IsWeight }
-    ensures { IsRectangleSet 8 corner.x corner.y W H (λ x y. weighted_by by (inter_chroma plane.now.width plane.now.height (sample plane.now) mv (8 * place.column + x) (8 * place.row + y))) samples.old samples.new }
+    ensures { IsRectangleSet 8 corner.x corner.y W H (λ x y. weighted_by by
+        (inter_chroma plane.now.width plane.now.height (sample plane.now) mv (8 * place.column + x) (8 * place.row + y))) samples.old samples.new }
 {
     let width = plane.width();
     let height = plane.height();
@@ -141,7 +144,8 @@ pub(crate) fn set_part<
     requires rows { (1 ≤ CH) × (H ≡ 2 * CH) × (corner.y + H ≤ 16) }
     requires even { (corner.x % 2 ≡ 0) × (corner.y % 2 ≡ 0) }
     requires usable { IsUsableAt place.column place.row picture }
-    ensures { IsPartSet corner.x corner.y W H (λ k x y. predicted_from picture.entry mv k (size_of k * place.column + x) (size_of k * place.row + y)) samples.old samples.new }
+    ensures { IsPartSet corner.x corner.y W H
+        (λ k x y. predicted_from picture.entry mv k (size_of k * place.column + x) (size_of k * place.row + y)) samples.old samples.new }
 {
     let planes = picture.planes;
     let half = Corner {

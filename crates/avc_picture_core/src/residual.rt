@@ -56,7 +56,8 @@ fn add_values<const W: usize, const N: usize>(
     requires rows { top + 4 ≤ W }
     requires all { W * W ≡ N }
     requires small { AllBelow 16 (2 ^ 25) values.now }
-    ensures inside { (x y : ℕ) → x < 4 → y < 4 → slice_index samples.new (W * (top + y) + (left + x)) ≡ sum_of (slice_index samples.old (W * (top + y) + (left + x))) (matrix values.now x y) }
+    ensures inside { (x y : ℕ) → x < 4 → y < 4 → slice_index samples.new (W * (top + y) + (left + x))
+        ≡ sum_of (slice_index samples.old (W * (top + y) + (left + x))) (matrix values.now x y) }
     ensures outside { (q : ℕ) → ((x y : ℕ) → x < 4 → y < 4 → q ≢ W * (top + y) + (left + x)) → slice_index samples.new q ≡ slice_index samples.old q }
 {
     for i in 0..16 {
@@ -86,7 +87,9 @@ pub(crate) fn add<const W: usize, const N: usize>(
     requires all { W * W ≡ N }
     requires small { IfSome residual (AllBelow 16 (2 ^ 25)) }
     ensures { (f : ℕ → ℕ → ℤ) → IsResidualOf f residual → (x y : ℕ) → x < W → y < W →
-        slice_index samples.new (W * y + x) ≡ (if is_inside left top 4 4 x y then sum_of (slice_index samples.old (W * y + x)) (f (x - left) (y - top)) else slice_index samples.old (W * y + x)) }
+        slice_index samples.new (W * y + x)
+          ≡ (if is_inside left top 4 4 x y then sum_of (slice_index samples.old (W * y + x)) (f (x - left) (y - top))
+             else slice_index samples.old (W * y + x)) }
 {
     match residual {
         None => leave(samples),

@@ -135,7 +135,8 @@ impl Poc {
     pub fn next(&mut self, header: &Header, sps: &Sps) -> Result<(i32, i32), Fault>
         requires { IsSps sps.now }
         ensures counts { (older : List Past) → self.old ≡ order_count_state older → result ≡ count_pair (order_counts sps.now header.now older) }
-        ensures after { OnOk result ((older : List Past) → self.old ≡ order_count_state older → self.new ≡ order_count_state (picture sps.now header.now ∷ older)) }
+        ensures after { OnOk result ((older : List Past) → self.old ≡ order_count_state older →
+            self.new ≡ order_count_state (picture sps.now header.now ∷ older)) }
         ensures unchanged { OnErr result (self.new ≡ self.old) }
     {
         let counts = self.counts(header, sps)?;

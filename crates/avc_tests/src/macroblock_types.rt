@@ -211,7 +211,8 @@ fn qp_of(previous: u8, syntax: &Syntax) -> u8
 
 /// A macroblock more, after one with this QP_Y: its own.
 pub(crate) fn add(list: &mut Vec<Mb>, qp: u8, syntax: Syntax) -> Result<u8, OutOfMemory>
-    ensures goes_on { IfOk result (λ after. (p : Bool) (n first : ℕ) → Stands p n (syntax_of syntax) → GoesOn p n first qp after list.old.items list.new.items) }
+    ensures goes_on { IfOk result (λ after. (p : Bool) (n first : ℕ) → Stands p n (syntax_of syntax) →
+        GoesOn p n first qp after list.old.items list.new.items) }
     ensures one { IfOk result (λ _. length list.new.items ≡ length list.old.items + 1) }
 {
     let after = qp_of(qp, &syntax);

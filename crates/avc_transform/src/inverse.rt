@@ -20,7 +20,8 @@ fn inverse4(d0: i32, d1: i32, d2: i32, d3: i32) -> [i32; 4]
     requires small2 { IsBelow (2 ^ 29) d2 }
     requires small3 { IsBelow (2 ^ 29) d3 }
     ensures values { (x : ℕ) → x < 4 → slice_index_or result x (pos 0) ≡ inverse4 d0 d1 d2 d3 x }
-    ensures small { (x n : ℕ) → x < 4 → IsBelow (2 * n) d0 → IsBelow (2 * n) d1 → IsBelow (2 * n) d2 → IsBelow (2 * n) d3 → IsBelow (7 * n) (slice_index_or result x (pos 0)) }
+    ensures small { (x n : ℕ) → x < 4 → IsBelow (2 * n) d0 → IsBelow (2 * n) d1 → IsBelow (2 * n) d2 →
+        IsBelow (2 * n) d3 → IsBelow (7 * n) (slice_index_or result x (pos 0)) }
 {
     let half1 = half_of(d1);
     let half3 = half_of(d3);

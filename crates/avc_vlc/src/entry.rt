@@ -92,7 +92,8 @@ impl<V: Copy> Entry<V> {
 
 // the first place in a row whose entry is the codeword of the value
 pub(crate) fn column_of<V: Coded, const N: usize>(row: &[Entry<V>; N], value: V) -> Option<usize>
-    ensures { MatchOption result (list_any (holds V.same value) row.now ≡ false) (λ column. (column < N) × ((e : Entry V) → holds V.same value (slice_index_or row.now column e) ≡ true)) }
+    ensures { MatchOption result (list_any (holds V.same value) row.now ≡ false) (λ column. (column < N) ×
+        ((e : Entry V) → holds V.same value (slice_index_or row.now column e) ≡ true)) }
 {
     'columns: for column in 0..N {
         if row[column].holds(value) {
