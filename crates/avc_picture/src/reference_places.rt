@@ -58,7 +58,7 @@ fn p_list<const PAD: usize>(
     ensures within { IfOk result (AreEntriesIn (map marked_frame frames.now)) }
     ensures list { NamesFrames (map marked_frame frames.now) each_entry
         (lists.reference_list (record { frame_num = header.now.frame_num; max_frame_num = max_frame_num sps.now }) header.now.active_count
-          (or_empty header.now.modifications)) result }
+        (or_empty header.now.modifications)) result }
 {
     let marked = marked_frames(frames);
     let current = CurrentFrameNum {

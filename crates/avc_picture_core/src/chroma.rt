@@ -33,7 +33,7 @@ pub(crate) fn chroma_samples<const PAD: usize>(
     requires ac { All AreSmall ac.now }
     ensures { AreInside left top plane.now.width sides → (x y : ℕ) → x < 8 → y < 8 →
         slice_index result (8 * y + x)
-          ≡ sum_of (unwrap_or (intra_chroma sides (seen_from plane.now left top) mode x y) 0) (chroma_residual qp dc.now ac.now x y) }
+        ≡ sum_of (unwrap_or (intra_chroma sides (seen_from plane.now left top) mode x y) 0) (chroma_residual qp dc.now ac.now x y) }
 {
     let around = around_chroma(plane, left, top, sides);
     let mut samples = around.predicted(mode);

@@ -50,7 +50,7 @@ fn build_luma16x16<const PAD: usize>(
     ensures samples { AreInside (16 * place.column) (16 * place.row) plane.old.width sides →
         plane.new ≡ with_block plane.old (16 * place.column) (16 * place.row) 16 16
         (λ x y. sum_of (unwrap_or (intra16x16 sides (seen_from plane.old (16 * place.column) (16 * place.row)) mode x y) 0)
-          (luma_residual_16x16 qp (residual_of dc.now levels.now) x y)) }
+        (luma_residual_16x16 qp (residual_of dc.now levels.now) x y)) }
 {
     let left = first_column(plane, 16, place.column);
     let top = first_row(plane, 16, place.row);
@@ -78,7 +78,7 @@ fn build_component<const PAD: usize>(
     ensures samples { AreInside (8 * place.column) (8 * place.row) plane.old.width sides →
         plane.new ≡ with_block plane.old (8 * place.column) (8 * place.row) 8 8
         (λ x y. sum_of (unwrap_or (intra_chroma sides (seen_from plane.old (8 * place.column) (8 * place.row)) mode x y) 0)
-          (chroma_residual qp dc.now ac.now x y)) }
+        (chroma_residual qp dc.now ac.now x y)) }
 {
     let left = first_column(plane, 8, place.column);
     let top = first_row(plane, 8, place.row);
@@ -126,7 +126,7 @@ pub(crate) fn build_i_nxn<const PAD: usize>(
     ensures built { (p : Place) (coded : List (Option ℕ)) →
         IsAt place.column place.row (i_nxn coded chroma_mode (residual_of [] levels.now)) qp.luma qp.chroma p →
         MayRead place.column place.row planes.old.luma.width readable p → p.modes ≡ modes.now →
-          ArePlanesBuilt p result (planes_of planes.old) (planes_of planes.new) }
+        ArePlanesBuilt p result (planes_of planes.old) (planes_of planes.new) }
 {
     let sides = readable.sides(0);
     let mode = mode_chroma(chroma_mode);

@@ -32,7 +32,7 @@ pub(crate) fn luma_samples<const PAD: usize>(
     requires levels { IsResidual (residual_of dc.now levels.now) }
     ensures { AreInside left top plane.now.width sides → (x y : ℕ) → x < 16 → y < 16 →
         slice_index result (16 * y + x) ≡ sum_of (unwrap_or (intra16x16 sides (seen_from plane.now left top) mode x y) 0)
-          (luma_residual_16x16 qp (residual_of dc.now levels.now) x y) }
+        (luma_residual_16x16 qp (residual_of dc.now levels.now) x y) }
 {
     let around = around16x16(plane, left, top, sides);
     let mut samples = around.predicted(mode);

@@ -85,10 +85,10 @@ fn add_residual(samples: &mut MbSamples, levels: &BlockLevels<16>, qp: Quantiser
         slice_index samples.new.luma (16 * y + x) ≡ sum_of (slice_index samples.old.luma (16 * y + x)) (luma_residual qp.luma (residual_of [] levels.now) x y) }
     ensures cb { (x y : ℕ) → x < 8 → y < 8 →
         slice_index samples.new.cb (8 * y + x)
-          ≡ sum_of (slice_index samples.old.cb (8 * y + x)) (chroma_residual qp.chroma levels.now.cb_dc levels.now.cb_ac x y) }
+        ≡ sum_of (slice_index samples.old.cb (8 * y + x)) (chroma_residual qp.chroma levels.now.cb_dc levels.now.cb_ac x y) }
     ensures cr { (x y : ℕ) → x < 8 → y < 8 →
         slice_index samples.new.cr (8 * y + x)
-          ≡ sum_of (slice_index samples.old.cr (8 * y + x)) (chroma_residual qp.chroma levels.now.cr_dc levels.now.cr_ac x y) }
+        ≡ sum_of (slice_index samples.old.cr (8 * y + x)) (chroma_residual qp.chroma levels.now.cr_dc levels.now.cr_ac x y) }
 {
     add_luma(&mut samples.luma, levels, qp.luma);
     add_chroma(&mut samples.cb, &levels.cb_dc, &levels.cb_ac, qp.chroma);
@@ -145,7 +145,7 @@ fn build_p_inter<const PAD: usize>(
     ensures size { AreSameSize (planes_of planes.old) (planes_of planes.new) }
     ensures built { (p : Place) (mb_type : PartedType) (ref_idx : List ℕ) (mvd : List Mvd) →
         IsAt place.column place.row (p_inter mb_type ref_idx mvd (residual_of [] levels.now)) qp.luma qp.chroma p →
-          p.coded.width ≡ size.width → p.coded.height ≡ size.height →
+        p.coded.width ≡ size.width → p.coded.height ≡ size.height →
         p.motion ≡ motion.now → AreReferences p.coded p.slice references.now → ArePlanesBuilt p result (planes_of planes.old) (planes_of planes.new) }
 {
     let mut samples = MbSamples {

@@ -88,8 +88,8 @@ pub(crate) fn add<const W: usize, const N: usize>(
     requires small { IfSome residual (AllBelow 16 (2 ^ 25)) }
     ensures { (f : ℕ → ℕ → ℤ) → IsResidualOf f residual → (x y : ℕ) → x < W → y < W →
         slice_index samples.new (W * y + x)
-          ≡ (if is_inside left top 4 4 x y then sum_of (slice_index samples.old (W * y + x)) (f (x - left) (y - top))
-             else slice_index samples.old (W * y + x)) }
+        ≡ (if is_inside left top 4 4 x y then sum_of (slice_index samples.old (W * y + x)) (f (x - left) (y - top))
+        else slice_index samples.old (W * y + x)) }
 {
     match residual {
         None => leave(samples),

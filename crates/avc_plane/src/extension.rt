@@ -77,7 +77,7 @@ pub fn extend(stored: &mut [u8], width: usize, height: usize, pad: usize)
     requires all { length stored.old ≡ (height + 2 * pad) * (width + 2 * pad) }
     ensures { (x y : ℕ) → x < width + 2 * pad → y < height + 2 * pad →
         slice_index stored.new (y * (width + 2 * pad) + x)
-          ≡ slice_index stored.old ((nearest pad height y + pad) * (width + 2 * pad) + (nearest pad width x + pad)) }
+        ≡ slice_index stored.old ((nearest pad height y + pad) * (width + 2 * pad) + (nearest pad width x + pad)) }
 {
     extend_sides(stored, width, height, pad);
     extend_ends(stored, width, height, pad);

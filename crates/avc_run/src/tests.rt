@@ -560,7 +560,11 @@ fn pictures_of(decoder: &mut Decoder<1000>, bytes: &[u8]) -> Result<usize, Decod
 }
 
 // Where an allocation is refused inside the decoder, it answers so until it is reset, and then decodes.
-fn decodes_after_reset(alloc: Global, parts: &[&[u8]], pictures: usize) -> Result<bool, AllocError> {
+fn decodes_after_reset(
+    alloc: Global,
+    parts: &[&[u8]],
+    pictures: usize,
+) -> Result<bool, AllocError> {
     let bytes = joined(alloc, parts)?;
     let mut decoder = Decoder::<1000>::new(alloc);
     let first = pictures_of(&mut decoder, &bytes);
@@ -578,9 +582,18 @@ fn decodes_after_reset(alloc: Global, parts: &[&[u8]], pictures: usize) -> Resul
 #[test]
 fn decodes_again_after_want_of_memory(rt: HostRuntime) -> Result<(), Fail> {
     let alloc = rt.alloc();
-    assert!(rt; decodes_after_reset(alloc, &[SMALL, PLAIN, FIRST, GREY], 1)?, "IDR picture");
+    assert!(rt;
+        decodes_after_reset(alloc, &[SMALL, PLAIN, FIRST, GREY], 1)?,
+        "IDR picture"
+    );
     let gap = [GAPS_ALLOWED, PLAIN, PLAIN_IDR, AFTER_GAP, NEXT_IDR];
-    assert!(rt; decodes_after_reset(alloc, &gap, 2)?, "missing frame numbers");
-    assert!(rt; decodes_after_reset(alloc, &[LONG_TERM], 3)?, "long-term frames");
+    assert!(rt;
+        decodes_after_reset(alloc, &gap, 2)?,
+        "missing frame numbers"
+    );
+    assert!(rt;
+        decodes_after_reset(alloc, &[LONG_TERM], 3)?,
+        "long-term frames"
+    );
     Ok(())
 }
