@@ -37,7 +37,7 @@ passes-append a b p q = record {
 before_end-more : (b : ℕ) (bytes : List ℕ) → is_end (b ∷ bytes) ≡ false → before_end (b ∷ bytes) ≡ option_map (λ front. b ∷ front) (before_end bytes)
 before_end-more b bytes no_end = rw (no_end, before_end) refl
 
-placed_units-more : (place : ℕ) (ended : Bool) (b : ℕ) (bytes : List ℕ) → is_start (b ∷ bytes) ≡ false → placed_units place ended (b ∷ bytes) ≡ placed_units (place + 1) ended bytes
+pub placed_units-more : (place : ℕ) (ended : Bool) (b : ℕ) (bytes : List ℕ) → is_start (b ∷ bytes) ≡ false → placed_units place ended (b ∷ bytes) ≡ placed_units (place + 1) ended bytes
 placed_units-more place ended b bytes no_start = rw (no_start, placed_units) refl
 
 -- one byte that isn't 0
@@ -125,7 +125,7 @@ scanned_zero bytes done current count s few =
     zero_step _ (suc (suc _)) n few p ended more = absurd (omega arith)
 
 -- a start code
-found_start : (place : ℕ) (ended : Bool) (more : List ℕ) → placed_units place ended (0 ∷ 0 ∷ 1 ∷ more) ≡ unit_at (place + 3) (unit_bytes ended more) ++ placed_units (place + 3) ended more
+pub found_start : (place : ℕ) (ended : Bool) (more : List ℕ) → placed_units place ended (0 ∷ 0 ∷ 1 ∷ more) ≡ unit_at (place + 3) (unit_bytes ended more) ++ placed_units (place + 3) ended more
 found_start place ended more = ap (λ p. unit_at (place + 3) (unit_bytes ended more) ++ placed_units p ended more) (omega arith)
 
 -- a unit's bytes, where the next end after bytes that pass is known
@@ -137,7 +137,7 @@ unit_bytes_none true bytes is = rw (is, unit_bytes) refl
 unit_bytes_none false bytes is = rw (is, unit_bytes) refl
 
 -- an open unit ends where a third zero or a start code stands
-closes : (offset : ℕ) (bytes rest : List ℕ) (ended : Bool) → HasNoBoundary bytes → before_end rest ≡ Some [] →
+pub closes : (offset : ℕ) (bytes rest : List ℕ) (ended : Bool) → HasNoBoundary bytes → before_end rest ≡ Some [] →
     unit_at offset (unit_bytes ended (bytes ++ rest)) ++ placed_units offset ended (bytes ++ rest) ≡ unit_at offset (Some bytes) ++ placed_units (offset + length bytes) ended rest
 closes offset bytes rest ended p stop =
     let all : before_end (bytes ++ rest) ≡ Some bytes = p.ends rest ∙ ap (option_map (λ front. bytes ++ front)) stop ∙ ap (λ t. Some t) (append-nil bytes) in

@@ -1,8 +1,41 @@
--- What more bytes do to the units.
-use Rattle.std.specs.Prelude.{◌≡◌, ℕ, List, ◌++◌, Bool, false}
+-- What more bytes do to the units, and which units a stream has that is written of units.
+use Rattle.std.specs.Prelude.{◌≡◌, ℕ, ◌-◌, ◌^◌, ◌<◌, ◌≤◌, List, ◌++◌, length, map, drop, flat_map, slice_get, All}
+use Rattle.std.specs.Prelude.{Bool, true, false, IsTrue, Option, Some, is_some}
 use Rattle.avc_annexb.specs.declared.unit.Unit.{Unit}
-use Rattle.avc_annexb.specs.Units.{units}
+use Rattle.avc_annexb.specs.Units.{saturated, units}
+use Rattle.avc_annexb.specs.Written.{start_code, written}
 
 -- The units whose end has been seen stay the first ones, whatever follows them, and whether the stream ends or not.
 abbrev pub UnitsStay : Type 0
 UnitsStay = (max : ℕ) (bytes more : List ℕ) (ended : Bool) → (others : List Unit) × (units max (bytes ++ more) ended ≡ units max bytes false ++ others)
+
+-- what a unit says: its first byte, and the others unless it is too long
+abbrev pub contents : Unit → ℕ × Option (List ℕ)
+contents u = (u.header, u.body)
+
+-- one of the units of the stream, and not too long
+pub record IsUnitOf (max : ℕ) (bytes : List ℕ) (u : Unit) : Type 0 where
+  pub place : ℕ
+  pub is_there : slice_get (units max bytes true) place ≡ Some u
+  pub short : IsTrue (is_some u.body)
+
+-- A stream that is written of units of a stream, and then goes on with that stream from one of its
+-- units, has these units, and then those from that one on.
+abbrev pub WrittenUnitsStand : Type 0
+WrittenUnitsStand =
+    (max : ℕ) (bytes : List ℕ) (ended : Bool) (written_units : List Unit) (k : ℕ) (u : Unit) →
+    length bytes < 2 ^ 64 - 1 →
+    All (IsUnitOf max bytes) written_units →
+    slice_get (units max bytes ended) k ≡ Some u →
+    map contents (units max (flat_map written written_units ++ start_code ++ drop u.offset bytes) ended)
+    ≡ map contents written_units ++ map contents (drop k (units max bytes ended))
+
+-- The number of a unit is its place.
+abbrev pub UnitsAreNumbered : Type 0
+UnitsAreNumbered =
+    (max : ℕ) (bytes : List ℕ) (ended : Bool) (n : ℕ) (u : Unit) →
+    slice_get (units max bytes ended) n ≡ Some u → u.index ≡ saturated n
+
+-- A stream has no more units than bytes.
+abbrev pub UnitsAreFew : Type 0
+UnitsAreFew = (max : ℕ) (bytes : List ℕ) (ended : Bool) → length (units max bytes ended) ≤ length bytes

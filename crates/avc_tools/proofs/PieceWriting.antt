@@ -5,7 +5,8 @@ use Rattle.std.proofs.lemmas.List.{drop-map, drop_all, drop_more, length-map, ta
 use Rattle.std.specs.List.{filter, flat_map, range_with_len}
 use Rattle.avc_annexb.specs.declared.unit.Unit.{Unit}
 use Rattle.avc_units.specs.Grouping.{is_start}
-use Rattle.avc_units.specs.Resuming.{sets_in_force, written}
+use Rattle.avc_annexb.specs.Written.{written}
+use Rattle.avc_units.specs.Resuming.{sets_in_force}
 use Rattle.avc_tools.specs.Cutting.{HasSets, piece_at, piece_in, pieces_at, pieces_in, pps_unit, sps_unit, written_at}
 use Rattle.avc_tools.specs.Pieces.{after_slices, leads, piece, pieces_from, rest_of_piece, through_slices}
 use Rattle.avc_tools.specs.declared.set_places.SetPlaces.{SetPlaces}

@@ -26,7 +26,8 @@ use Rattle.avc_params.specs.declared.set_unit.SetUnit.{SetUnit}
 use Rattle.avc_params.specs.declared.set_unit.SetUnit.TheVariants.{OfPps, OfSps}
 use Rattle.avc_params.specs.declared.sps.Sps.{Sps}
 use Rattle.avc_units.specs.Grouping.{kind, list_of, pps, rbsp_of, set_unit, set_units, sps}
-use Rattle.avc_units.specs.Resuming.{deciding_unit, satisfies, unit_list, written}
+use Rattle.avc_annexb.specs.Written.{written}
+use Rattle.avc_units.specs.Resuming.{deciding_unit, satisfies, unit_list}
 use Rattle.avc_tools.specs.Cutting.{ArePlacedAt, HasSets, StandAt, placed, unit_at, written_at}
 use Rattle.avc_tools.specs.declared.set_places.SetPlaces.{SetPlaces}
 use Rattle.avc_tools.proofs.Shown.{set_units-append}

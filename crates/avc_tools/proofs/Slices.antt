@@ -8,7 +8,7 @@ use Rattle.std.proofs.lemmas.Grind.{flat_map-append}
 use Rattle.std.specs.List.{filter, flat_map, list_any, take_while}
 use Rattle.avc_annexb.specs.declared.unit.Unit.{Unit}
 use Rattle.avc_units.specs.Grouping.{is_start}
-use Rattle.avc_units.specs.Resuming.{written}
+use Rattle.avc_annexb.specs.Written.{written}
 use Rattle.avc_tools.specs.Pieces.{after_slices, is_left_out, is_slice, rest_of_piece, through_slices}
 
 stops : {X : Type 0} (p : X → Bool) (x : X) (xs : List X) → p x ≡ false → take_while p (x ∷ xs) ≡ []

@@ -6,7 +6,8 @@ use Rattle.avc_params.specs.Stored.{stored}
 use Rattle.avc_params.specs.Tables.{is_pps, is_sps, pps_in_force, sps_in_force}
 use Rattle.avc_params.specs.declared.set_unit.SetUnit.{SetUnit}
 use Rattle.avc_units.specs.Grouping.{is_start, set_units}
-use Rattle.avc_units.specs.Resuming.{deciding_unit, satisfies, unit_list, written}
+use Rattle.avc_annexb.specs.Written.{written}
+use Rattle.avc_units.specs.Resuming.{deciding_unit, satisfies, unit_list}
 use Rattle.avc_tools.specs.Pieces.{piece}
 use Rattle.avc_tools.specs.declared.set_places.SetPlaces.{SetPlaces}
 

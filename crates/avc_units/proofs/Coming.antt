@@ -8,9 +8,7 @@ use Rattle.avc_bits.specs.Bits.{start}
 use Rattle.avc_bits.specs.Codes.{ue}
 use Rattle.avc_params.specs.Tables.{Sets}
 use Rattle.avc_slice.specs.Begins.{begins}
-use Rattle.avc_slice.specs.Header.{is_idr}
 use Rattle.avc_slice.specs.Reading.{header_in_rbsp}
-use Rattle.avc_slice.specs.Within.{IsReadUnder}
 use Rattle.avc_slice.specs.declared.slice.Slice.{Slice}
 use Rattle.avc_units.specs.GrouperState.{IfSlice, IsSliceUnder}
 use Rattle.avc_units.specs.Grouping.{slice, partition, sps, pps, boundary, other, OpenPictureFacts, is_start, kind, kind_of, rbsp_of, reads_zero, readable, running_step, slice_in, slice_step, unreadable, waiting_step, with_header}

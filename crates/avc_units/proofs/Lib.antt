@@ -1,2 +1,4 @@
 mod Coming
 mod Refusals
+mod Again
+mod Deciding

@@ -3,6 +3,7 @@
 
 mod grouper;
 mod kinds;
+pub mod laws;
 mod sets;
 mod slices;
 mod starts;

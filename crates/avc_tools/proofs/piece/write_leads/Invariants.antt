@@ -1,6 +1,6 @@
 use Rattle.std.proofs.Common.{◌≡◌, ◌++◌, take}
 use Rattle.std.specs.List.{filter, flat_map}
-use Rattle.avc_units.specs.Resuming.{written}
+use Rattle.avc_annexb.specs.Written.{written}
 use Rattle.avc_tools.specs.Pieces.{leads}
 use Rattle.avc_tools.proofs.piece.write_leads.Given as goal
 

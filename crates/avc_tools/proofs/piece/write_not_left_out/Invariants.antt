@@ -1,6 +1,6 @@
 use Rattle.std.proofs.Common.{◌≡◌, ◌++◌, take, not}
 use Rattle.std.specs.List.{filter, flat_map}
-use Rattle.avc_units.specs.Resuming.{written}
+use Rattle.avc_annexb.specs.Written.{written}
 use Rattle.avc_tools.specs.Pieces.{is_left_out}
 use Rattle.avc_tools.proofs.piece.write_not_left_out.Given as goal
 

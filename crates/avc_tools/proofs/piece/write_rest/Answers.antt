@@ -1,6 +1,6 @@
 use Rattle.std.proofs.Common.{◌++◌, ap, sym, ◌∙◌, arith, length, not}
 use Rattle.std.specs.List.{flat_map, take_while}
-use Rattle.avc_units.specs.Resuming.{written}
+use Rattle.avc_annexb.specs.Written.{written}
 use Rattle.avc_tools.proofs.Slices.{rest_all, rest_written}
 use Rattle.avc_tools.proofs.piece.write_rest.Goals as goal
 

@@ -1,6 +1,6 @@
 use Rattle.std.proofs.Common.{◌≡◌, ◌++◌, take}
 use Rattle.std.specs.List.{flat_map}
-use Rattle.avc_units.specs.Resuming.{written}
+use Rattle.avc_annexb.specs.Written.{written}
 use Rattle.avc_tools.proofs.piece.write_units.Given as goal
 
 abbrev pub invariant-loop-unit : goal.invariant-loop-unit

@@ -1,0 +1,5 @@
+use Rattle.avc_units.proofs.Again.{in_force_are_units}
+use Rattle.avc_units.proofs.laws.sets_in_force_are_units.Goals as goal
+
+pub returns : goal.returns
+returns c = in_force_are_units
