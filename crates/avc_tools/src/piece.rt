@@ -1,7 +1,7 @@
 ghost use Rattle.std.specs.Prelude.{◌≡◌, [], ◌++◌, ◌+◌, ◌<◌, ◌≤◌, IfOk, OnOk, if◌then◌else◌, length, not, map, take, drop, nat_le};
 ghost use Rattle.std.specs.List.{filter, flat_map, take_while};
+ghost use Rattle.avc_annexb.specs.Written.{written};
 ghost use Rattle.avc_units.specs.Grouping.{is_start};
-ghost use Rattle.avc_units.specs.Resuming.{written};
 ghost use Rattle.avc_tools.specs.Cutting.{HasSets, piece_at, written_at};
 ghost use Rattle.avc_tools.specs.Pieces.{after_slices, is_left_out, is_slice, is_within, leads, rest_of_piece, through_slices};
 
