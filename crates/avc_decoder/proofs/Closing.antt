@@ -11,6 +11,8 @@ use Rattle.avc_plane.specs.Planes.{Planes}
 use Rattle.avc_slice.specs.declared.slice.Slice.{Slice}
 use Rattle.avc_picture.specs.Slices.{is_full, progress, planes_after_slices}
 use Rattle.avc_picture.specs.Decoding.{CanStandAt, Decoding, IsFinishAnswer, end_fault, fault_at_end}
+use Rattle.avc_dpb.specs.declared.output.Output.{Output}
+use Rattle.avc_dpb.specs.declared.output.Output.TheVariants.{Full}
 use Rattle.avc_decoder_core.specs.History.{History, history_after_closing, stored_frames}
 use Rattle.avc_decoder_core.specs.Pictures.{output_pictures}
 use Rattle.avc_decoder_core.specs.SequenceState.{AreSizedAs, Fails, IsClosed, OpenPictureStart, SequenceState, empty_sequence, current_history}
@@ -49,17 +51,17 @@ abbrev ClosesAs : SequenceState → Decoding 32 → (fault : Bool) → QueueStat
 ClosesAs s d fault q unit s' q' slices = Closes (closed_in s.history (open_picture_from s.history d.sps d.pps slices)) fault q unit s' q'
 
 failed_comes : (x : Result History (ℕ × Fault)) (o : OpenPicture) (h : History) (unit last_unit : ℕ) (f : Fault) (q q' : QueueState) (s' : SequenceState) → x ≡ Err (unit, f) → history_of o ≡ h
-    → s' ≡ empty_sequence → q' ≡ with_events (failed_at h unit f 0).events q → Closes (closed_outcome o x) true q last_unit s' q'
-failed_comes x o h unit last_unit f q q' s' e is es eq = rw (e, is, es, eq) (record { fault = refl; state = record { works = record { works = (refl, refl) }; history = refl; open_picture = refl; queue = refl } })
+    → s' ≡ empty_sequence Full → q' ≡ with_events (failed_at h unit f 0).events q → Closes (closed_outcome o x) true q last_unit s' q'
+failed_comes x o h unit last_unit f q q' s' e is es eq = rw (e, is, es, eq) (record { fault = refl; state = record { works = record { works = (refl, refl); mode = refl }; history = refl; open_picture = refl; queue = refl } })
 
 done_comes : (x : Result History (ℕ × Fault)) (o : OpenPicture) (h h' : History) (last_unit : ℕ) (out : List Decoded) (q q' : QueueState) (s' : SequenceState) → x ≡ Ok h' → history_of o ≡ h
-    → s' ≡ record { history = h'; open_picture = None; frames = s'.frames; failed = false } → out ≡ output_pictures h h' → q' ≡ with_events (pictures out) q → Closes (closed_outcome o x) false q last_unit s' q'
+    → s' ≡ record { history = h'; open_picture = None; frames = s'.frames; output = Full; failed = false } → out ≡ output_pictures Full h h' → q' ≡ with_events (pictures out) q → Closes (closed_outcome o x) false q last_unit s' q'
 done_comes x o h h' last_unit out q q' s' e is es eo eq =
     rw (e, is, eq, eo)
     (record {
       fault = refl;
       state = record {
-        works = record { works = (ap (λ (t : SequenceState). t.failed) es, ap (λ (t : SequenceState). t.open_picture) es) };
+        works = record { works = (ap (λ (t : SequenceState). t.failed) es, ap (λ (t : SequenceState). t.open_picture) es); mode = ap (λ (t : SequenceState). t.output) es };
         history = ap (λ (t : SequenceState). t.history) es;
         open_picture = refl;
         queue = refl;
@@ -87,7 +89,7 @@ ends_full s unit d w e =
 
 -- macroblocks are missing
 pub closes_short : (s s' : SequenceState) (q q' : QueueState) (unit : ℕ) (d : Decoding 32) (f : Fault) (e : PictureError) → IsOpenIn s unit d → e ≡ Faulty f → IsFinishAnswer d (Err e)
-    → s' ≡ empty_sequence → q' ≡ with_events (failed_at (current_history s) unit f 0).events q → Closes (closed_in s.history (open_picture_of s.history (Some d))) true q unit s' q'
+    → s' ≡ empty_sequence Full → q' ≡ with_events (failed_at (current_history s) unit f 0).events q → Closes (closed_in s.history (open_picture_of s.history (Some d))) true q unit s' q'
 closes_short s s' q q' unit d f e w is_fault answer es eq =
     let history = current_history s in
     let h = (w.last).header in
@@ -105,20 +107,22 @@ planes_at s unit d w planes p =
     let frames = stored_frames (current_history s) in
     ap (λ (ps : Planes). history_after_closing d.sps (oldest w.last w.earlier).header ps (current_history s)) (ap (planes_after_slices (start_with frames d)) (sym w.slices) ∙ sym p)
 
-pub closes_done : (s s' : SequenceState) (q q' : QueueState) (unit : ℕ) (d : Decoding 32) (planes : Planes) (out : List Decoded) → IsOpenIn s unit d → IsFullOn s d true → HasPlanes s d planes
+pub closes_done : (s s' : SequenceState) (q q' : QueueState) (unit : ℕ) (d : Decoding 32) (planes : Planes) (out : List Decoded) → IsOpenIn s unit d → s.output ≡ Full → IsFullOn s d true → HasPlanes s d planes
     → ((p : OpenPictureStart) → s.open_picture ≡ Some p → IsClosed s p planes out s') → q' ≡ with_events (pictures out) q → Closes (closed_in s.history (open_picture_of s.history (Some d))) false q unit s' q'
-closes_done s s' q q' unit d planes out w full p closed eq =
+closes_done s s' q q' unit d planes out w mode full p closed eq =
     let o = opened_as s d w.last w.earlier in
     let st = stands_as s unit d w in
     let k = closed _ w.open_picture in
     let c : closing_result o ≡ Ok s'.history =
     closed_ok o (current_history s) s'.history st (well_at s unit d w) (full_at s unit d true w full) (planes_at s unit d w planes p ∙ k.closes) in
-    subst (ClosesAs s d false q unit s' q') (sym w.slices) (done_comes (closing_result o) o (current_history s) s'.history unit out q q' s' c (history_is o (current_history s) st) k.state k.pictures eq)
+    subst (ClosesAs s d false q unit s' q') (sym w.slices) (done_comes (closing_result o) o (current_history s) s'.history unit out q q' s' c (history_is o (current_history s) st)
+    (k.state ∙ ap (λ (m : Output). record { history = s'.history; open_picture = None; frames = s'.frames; output = m; failed = false }) mode)
+    (k.pictures ∙ ap (λ (m : Output). output_pictures m (current_history s) s'.history) mode) eq)
 
 -- it could not be marked
 pub closes_unmarked : (s between s' : SequenceState) (q q' : QueueState) (unit : ℕ) (d : Decoding 32) (planes : Planes) (f : Fault) (e : PictureError) → IsOpenIn s unit d → IsFullOn s d true → HasPlanes s d planes
     → ((p : OpenPictureStart) → s.open_picture ≡ Some p → Fails s (history_after_closing p.sps p.header planes (current_history s)) e between) → e ≡ Faulty f
-    → s' ≡ empty_sequence → q' ≡ with_events (failed_at (current_history between) unit f 0).events q → Closes (closed_in s.history (open_picture_of s.history (Some d))) true q unit s' q'
+    → s' ≡ empty_sequence Full → q' ≡ with_events (failed_at (current_history between) unit f 0).events q → Closes (closed_in s.history (open_picture_of s.history (Some d))) true q unit s' q'
 closes_unmarked s between s' q q' unit d planes f e w full p fails is es eq =
     let o = opened_as s d w.last w.earlier in
     let st = stands_as s unit d w in

@@ -13,6 +13,7 @@ use Rattle.avc_units.specs.Grouping.{OpenPictureFacts, set_units, step}
 use Rattle.avc_units.specs.declared.step.Next.{Next}
 use Rattle.avc_units.specs.declared.step.Next.TheVariants.{Begins, Continues, FaultOfOpen, FaultOfOwn, Nothing, Refusal}
 use Rattle.avc_units.specs.declared.step.Step.{Step}
+use Rattle.avc_dpb.specs.declared.output.Output.TheVariants.{Full}
 use Rattle.avc_decoder_core.specs.History.{History}
 use Rattle.avc_decoder_core.specs.Pictures.{output_pictures}
 use Rattle.avc_decoder.specs.FirstFault.{OpenPicture, first_fault, history_of}
@@ -127,13 +128,13 @@ begins_done : (g : GrouperState) (p : Phase) (unit : ℕ) (s : Slice) (es : List
 begins_done g p unit s es t runs last taken =
     let o : OpenPicture = record { before = base_in p; sps = taken.sps; pps = taken.pps; last = s; earlier = [] } in
     rw (named_is (sets_after g.sets) s taken)
-    (slice_done (first_fault o false) g (kept_at p es t) (base_in p) o _ (pictures (output_pictures (base_in p) (history_of o))) (runs ∙ or_true (is_running p)) last (record { pps = taken.pps_is; sps = taken.sps_is }))
+    (slice_done (first_fault o false) g (kept_at p es t) (base_in p) o _ (pictures (output_pictures Full (base_in p) (history_of o))) (runs ∙ or_true (is_running p)) last (record { pps = taken.pps_is; sps = taken.sps_is }))
 
 continues_done : (g : GrouperState) (h : History) (o : OpenPicture) (unit : ℕ) (s : Slice) (es : List Event) (t : ℕ) → g.running ≡ true → g.last ≡ Some s.header → IsNamed (sets_after g.sets) o
     → ((o.last).header).pic_parameter_set_id ≡ (s.header).pic_parameter_set_id → DoneAt (sets_after g.sets) g (running h (Some o)) unit (Continues s) es t
 continues_done g h o unit s es t runs last named same =
     let o' : OpenPicture = record o { last = s; earlier = o.last ∷ o.earlier } in
-    slice_done (first_fault o' false) g (kept_at (running h (Some o)) es t) (history_of o) o' _ (pictures (output_pictures (history_of o) (history_of o'))) runs last
+    slice_done (first_fault o' false) g (kept_at (running h (Some o)) es t) (history_of o) o' _ (pictures (output_pictures Full (history_of o) (history_of o'))) runs last
     (record { pps = ap (sets_after g.sets).pps (sym same) ∙ named.pps; sps = named.sps })
 
 done_at : (g : GrouperState) (p : Phase) (unit : ℕ) (next : Next) (es : List Event) (t : ℕ) → g.running ≡ (is_running p || begins_a_picture next) → LastIs next g.last (open_picture_in p)

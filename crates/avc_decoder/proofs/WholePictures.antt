@@ -25,6 +25,7 @@ use Rattle.avc_units.specs.Grouping.{step}
 use Rattle.avc_units.specs.declared.step.Next.{Next}
 use Rattle.avc_units.specs.declared.step.Next.TheVariants.{Nothing, Refusal, FaultOfOpen, FaultOfOwn, Begins, Continues}
 use Rattle.avc_units.specs.declared.step.Step.{Step}
+use Rattle.avc_dpb.specs.declared.output.Output.TheVariants.{Full}
 use Rattle.avc_decoder_core.specs.History.{◌>>=◌, is_same_sps, with_missing, with_order_counts, Entry, decoded_picture, missing_frame, History, new_output, all_held, entry_at, pasts, marking_entries, marks_of, picture_entry, history_at_opening, history_after_closing, sequence_sps}
 use Rattle.avc_decoder_core.specs.Pictures.{crop_of, picture_of, entry_pictures, pictures_at, output_pictures, held_pictures}
 use Rattle.avc_decoder.specs.FirstFault.{OpenPicture, first_header, first_fault, history_at_opening_of, history_of, read_of, picture_planes, closed_history, start_on, slices_of}
@@ -200,13 +201,13 @@ abbrev GoodOutcome : Outcome → Type 0
 GoodOutcome o = AllWhole o.events × GoodPhase o.phase
 
 failed_good : (h : History) (unit : ℕ) (f : Fault) (read : ℕ) → AllGood h → GoodOutcome (failed_at h unit f read)
-failed_good h unit f read g = (whole-append (pictures (held_pictures h)) (Refused unit f ∷ []) (pictures_whole h (all_held h) g) (tt, tt), tt)
+failed_good h unit f read g = (whole-append (pictures (held_pictures Full h)) (Refused unit f ∷ []) (pictures_whole h (all_held Full h) g) (tt, tt), tt)
 
 closed_good : PicturesAreSized → (o : OpenPicture) → GoodOpen o → GoodOutcome (closed_picture o)
 closed_good sized o g = by_closing (closing_result o) (good_closing sized o g)
   where
     by_closing : (r : Result History (ℕ × Fault)) → ((h : History) → r ≡ Ok h → AllGood h) → GoodOutcome (closed_outcome o r)
-    by_closing (Ok h) good = (pictures_whole h (new_output (history_of o) h) (good h refl), good h refl)
+    by_closing (Ok h) good = (pictures_whole h (new_output Full (history_of o) h) (good h refl), good h refl)
     by_closing (Err found) good = failed_good (history_of o) found.0 found.1 0 (good_history_of o g)
 
 with_slice_good : (before : History) (already : ℕ) (o : OpenPicture) → AllGood before → GoodOpen o → GoodOutcome (with_slice before already o)
@@ -214,10 +215,10 @@ with_slice_good before already o b g = by_fault (first_fault o false)
   where
     by_fault : (f : Option (ℕ × Fault)) → GoodOutcome (elim f [
       | Some found ↦ failed_at before found.0 found.1 (read_of o - already)
-      | None ↦ record { events = pictures (output_pictures before (history_of o)); phase = running o.before (Some o); read = read_of o - already }
+      | None ↦ record { events = pictures (output_pictures Full before (history_of o)); phase = running o.before (Some o); read = read_of o - already }
     ])
     by_fault (Some found) = failed_good before found.0 found.1 (read_of o - already) b
-    by_fault None = (pictures_whole (history_of o) (new_output before (history_of o)) (good_history_of o g), (g.0, g))
+    by_fault None = (pictures_whole (history_of o) (new_output Full before (history_of o)) (good_history_of o g), (g.0, g))
 
 -- ---- one unit
 
@@ -291,12 +292,12 @@ in_phase_good sized keeps units unit what (running h (Some o)) g = by_test what.
 
 held_after_whole : (p : Phase) → GoodPhase p → AllWhole (held_after p)
 held_after_whole waiting g = tt
-held_after_whole (running h None) g = pictures_whole h (all_held h) g
-held_after_whole (running h (Some o)) g = pictures_whole h (all_held h) g.0
+held_after_whole (running h None) g = pictures_whole h (all_held Full h) g
+held_after_whole (running h (Some o)) g = pictures_whole h (all_held Full h) g.0
 
 at_end_whole : PicturesAreSized → (p : Phase) → GoodPhase p → AllWhole (at_end p)
 at_end_whole sized waiting g = tt
-at_end_whole sized (running h None) g = pictures_whole h (all_held h) g
+at_end_whole sized (running h None) g = pictures_whole h (all_held Full h) g
 at_end_whole sized (running h (Some o)) g =
     let c = closed_good sized o g.1 in
     whole-append (closed_picture o).events (held_after (closed_picture o).phase) c.0 (held_after_whole (closed_picture o).phase c.1)

@@ -16,6 +16,7 @@ use Rattle.avc_units.specs.declared.step.Next.{Next}
 use Rattle.avc_units.specs.declared.step.Next.TheVariants.{Nothing, Refusal, FaultOfOpen, FaultOfOwn, Begins, Continues}
 use Rattle.avc_units.specs.declared.step.Step.{Step}
 use Rattle.avc_picture.specs.Slices.{is_full}
+use Rattle.avc_dpb.specs.declared.output.Output.TheVariants.{Full}
 use Rattle.avc_decoder_core.specs.History.{History}
 use Rattle.avc_decoder_core.specs.Pictures.{output_pictures, held_pictures}
 use Rattle.avc_decoder.specs.FirstFault.{OpenPicture, first_fault, history_of, read_of, start_on, progress_on, closed_history}
@@ -57,7 +58,7 @@ no_change p = record { events = []; phase = p; read = 0 }
 
 -- a fault in a picture: all held pictures go out, then the refusal, and decoding waits
 abbrev pub failed_at : History → (unit : ℕ) → Fault → (read : ℕ) → Outcome
-failed_at h unit f read = record { events = pictures (held_pictures h) ++ Refused unit f ∷ []; phase = waiting; read = read }
+failed_at h unit f read = record { events = pictures (held_pictures Full h) ++ Refused unit f ∷ []; phase = waiting; read = read }
 
 -- ---- closing the open picture (8.2.5, C.4.4, C.4.5, and this decoder's rule for faults)
 
@@ -72,7 +73,7 @@ closing_result o = elim (first_fault o true) [ Some found ↦ Err found | None �
 
 -- what closing gives: the pictures that go out (C.4.5), or the refusal
 abbrev pub closed_outcome : OpenPicture → Result History (ℕ × Fault) → Outcome
-closed_outcome o (Ok h) = record { events = pictures (output_pictures (history_of o) h); phase = running h None; read = 0 }
+closed_outcome o (Ok h) = record { events = pictures (output_pictures Full (history_of o) h); phase = running h None; read = 0 }
 closed_outcome o (Err found) = failed_at (history_of o) found.0 found.1 0
 
 -- the open picture is closed
@@ -87,7 +88,7 @@ abbrev pub with_slice : (before : History) → (already : ℕ) → OpenPicture �
 with_slice before already o =
     elim (first_fault o false) [
       | Some found ↦ failed_at before found.0 found.1 (read_of o - already)
-      | None ↦ record { events = pictures (output_pictures before (history_of o)); phase = running o.before (Some o); read = read_of o - already }
+      | None ↦ record { events = pictures (output_pictures Full before (history_of o)); phase = running o.before (Some o); read = read_of o - already }
     ]
 
 -- two values, where both are there
@@ -189,7 +190,7 @@ state_after s u o = record { sets = s.sets ++ set_units (u ∷ []); phase = o.ph
 -- all held pictures, where decoding runs
 abbrev pub held_after : Phase → List Event
 held_after waiting = []
-held_after (running h o) = pictures (held_pictures h)
+held_after (running h o) = pictures (held_pictures Full h)
 
 -- the events, and then all held pictures
 abbrev pub events_and_held : Outcome → List Event
@@ -198,7 +199,7 @@ events_and_held o = o.events ++ held_after o.phase
 -- the end of a stream that has ended: the open picture is closed and all held pictures go out
 abbrev pub at_end : Phase → List Event
 at_end waiting = []
-at_end (running h None) = pictures (held_pictures h)
+at_end (running h None) = pictures (held_pictures Full h)
 at_end (running h (Some o)) = events_and_held (closed_picture o)
 
 -- ---- a whole stream (Annex B)

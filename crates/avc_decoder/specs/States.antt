@@ -15,6 +15,7 @@ use Rattle.avc_picture.specs.Decoding.{Decoding, HasNoFault, with_slice_more}
 use Rattle.avc_units.specs.GrouperState.{GrouperState, IsSliceUnder, after_fault}
 use Rattle.avc_units.specs.declared.step.Next.{Next}
 use Rattle.avc_units.specs.declared.step.Next.TheVariants.{Begins, Continues}
+use Rattle.avc_dpb.specs.declared.output.Output.TheVariants.{Full}
 use Rattle.avc_decoder_core.specs.History.{History, history_at_opening}
 use Rattle.avc_decoder_core.specs.Pictures.{held_pictures}
 use Rattle.avc_decoder_core.specs.SequenceState.{SequenceState, empty_sequence, current_history}
@@ -93,6 +94,7 @@ IsOpen s last_unit (Some d) = IsOpenIn s last_unit d
 
 pub record HasOpenPicture (s : SequenceState) (last_unit : ℕ) (picture : Option (Decoding 32)) : Type 0 where
   pub works : IsOpen s last_unit picture
+  pub mode : s.output ≡ Full
 
 -- A step of an open picture has come to this outcome: which picture is open then, and what stands in the queue.
 pub record HasOutcome (o : Outcome) (q : QueueState) (last_unit : ℕ) (picture : Option (Decoding 32)) (s' : SequenceState) (q' : QueueState) : Type 0 where
@@ -107,7 +109,7 @@ Decodes d slice s q (Some d') s' q' = (d.failed ≡ false) × (d' ≡ with_slice
 Decodes d slice s q None s' q' =
     (f : Fault)
     × IsRefused (current_history s) (with_slice_more slice d) slice f
-    × (s' ≡ empty_sequence)
+    × (s' ≡ empty_sequence Full)
     × (q' ≡ with_events (failed_at (current_history s) slice.unit f 0).events q)
 
 -- what closing the open picture gives, if there is one
@@ -133,7 +135,7 @@ refused_in unit f k = record k { events = k.events ++ Refused unit f ∷ [] }
 
 -- all held pictures go out
 abbrev pub held_outcome : History → Outcome
-held_outcome h = record { events = pictures (held_pictures h); phase = waiting; read = 0 }
+held_outcome h = record { events = pictures (held_pictures Full h); phase = waiting; read = 0 }
 
 -- ---- units
 

@@ -2,6 +2,7 @@ ghost use Rattle.std.specs.Prelude.{◌≡◌, false, None, Some, IfOk, OnOk, is
 ghost use Rattle.avc_decoder.specs.Events.{after_first_slice, after_next_slice, failed_at, is_waiting, pictures, running};
 ghost use Rattle.avc_decoder.specs.PictureFrames.{frames_for, CanHave};
 ghost use Rattle.avc_decoder.specs.States.{closed_in, open_picture_of, with_events, HasOutcome, Decodes, IsOpenIn};
+ghost use Rattle.avc_dpb.specs.declared.output.Output.TheVariants.{Full};
 ghost use Rattle.avc_decoder_core.specs.Pictures.{held_pictures};
 ghost use Rattle.avc_decoder_core.specs.SequenceState.{empty_sequence, current_history, AreFramesIn, AreStoredIn};
 ghost use Rattle.avc_params.specs.Within.{IsPps, IsSps};
@@ -26,7 +27,8 @@ pub fn close_picture(
     picture: PictureDecoder<PADDING>,
     last_unit: u64,
 ) -> Result<bool, OutOfMemory>
-    requires { IsOpenIn sequence.old last_unit picture }
+    requires picture { IsOpenIn sequence.old last_unit picture }
+    requires mode { sequence.old.output ≡ Full }
     ensures fault { IfOk result (λ fault. fault ≡ is_waiting (closed_in sequence.old.history (open_picture_of sequence.old.history (Some picture))).phase) }
     ensures state { OnOk result (HasOutcome (closed_in sequence.old.history (open_picture_of sequence.old.history (Some picture))) queue.old last_unit None sequence.new queue.new) }
 {
@@ -61,6 +63,7 @@ pub fn begin_picture(
 ) -> Result<Option<PictureDecoder<PADDING>>, OutOfMemory>
     requires going { sequence.old.failed ≡ false }
     requires rest { sequence.old.open_picture ≡ None }
+    requires mode { sequence.old.output ≡ Full }
     requires sps { IsSps sets.sps.now }
     requires pps { IsPps sets.pps.now }
     requires within { IsHeader sets.sps.now sets.pps.now slice.now.rbsp slice.now.header }
@@ -98,6 +101,7 @@ pub fn continue_picture(
     slice: &Slice,
 ) -> Result<Option<PictureDecoder<PADDING>>, OutOfMemory>
     requires picture { IsOpenIn sequence.old last_unit picture }
+    requires mode { sequence.old.output ≡ Full }
     requires can { CanHave sequence.old picture slice.now }
     ensures fault { IfOk result (λ picture'. is_none picture' ≡ is_waiting (after_next_slice (running sequence.old.history (open_picture_of sequence.old.history (Some picture))) slice.now).phase) }
     ensures state { IfOk result (λ picture'. HasOutcome (after_next_slice (running sequence.old.history (open_picture_of sequence.old.history (Some picture))) slice.now) queue.old slice.now.unit picture' sequence.new queue.new) }
@@ -126,6 +130,7 @@ fn decode_slice(
     mut picture: PictureDecoder<PADDING>,
     slice: &Slice,
 ) -> Result<Option<PictureDecoder<PADDING>>, OutOfMemory>
+    requires mode { sequence.old.output ≡ Full }
     requires can { CanHave sequence.old picture slice.now }
     requires well { HasNoFault picture }
     ensures { IfOk result (λ picture'. Decodes picture slice.now sequence.old queue.old picture' sequence.new queue.new) }
@@ -147,7 +152,8 @@ pub fn fail(
     unit: u64,
     fault: Fault,
 ) -> Result<(), OutOfMemory>
-    ensures sequence { OnOk result (sequence.new ≡ empty_sequence) }
+    requires { sequence.old.output ≡ Full }
+    ensures sequence { OnOk result (sequence.new ≡ empty_sequence Full) }
     ensures queue { OnOk result (queue.new ≡ with_events (failed_at (current_history sequence.old) unit fault 0).events queue.old) }
 {
     empty(sequence, queue)?;
@@ -157,8 +163,9 @@ pub fn fail(
 
 /// All held pictures go out, and the history is forgotten.
 pub fn empty(sequence: &mut Sequence, queue: &mut Queue) -> Result<(), OutOfMemory>
-    ensures sequence { OnOk result (sequence.new ≡ empty_sequence) }
-    ensures queue { OnOk result (queue.new ≡ with_events (pictures (held_pictures (current_history sequence.old))) queue.old) }
+    requires { sequence.old.output ≡ Full }
+    ensures sequence { OnOk result (sequence.new ≡ empty_sequence Full) }
+    ensures queue { OnOk result (queue.new ≡ with_events (pictures (held_pictures Full (current_history sequence.old))) queue.old) }
 {
     let out = sequence.clear()?;
     queue.show(out)?;

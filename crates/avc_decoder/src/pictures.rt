@@ -10,7 +10,7 @@ use crate::active_sets::ActiveSets;
 use crate::event::Event;
 use crate::open_picture::{begin_picture, close_picture, continue_picture, empty, fail};
 use crate::queue::Queue;
-use avc_decoder_core::Sequence;
+use avc_decoder_core::{Output, Sequence};
 use avc_picture::PictureDecoder;
 use avc_plane::PADDING;
 use avc_slice::Slice;
@@ -54,7 +54,7 @@ impl Pictures {
     {
         Pictures {
             alloc,
-            sequence: Sequence::new(alloc),
+            sequence: Sequence::new(alloc, Output::Full),
             picture: None,
             last_unit: 0,
             queue: Queue::new(alloc),

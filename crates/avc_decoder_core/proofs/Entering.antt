@@ -1,5 +1,6 @@
 -- An entry comes: the marks and the buffer of the longer history.
-use Rattle.std.proofs.Common.{◌≡◌, ℕ, ◌+◌, ◌<◌, true, List, [], ◌∷◌, ◌++◌, length, map, Option, Some, None, is_some, Result, Ok, refl, ap, ap₂, sym, ◌∙◌, subst, arith, inl, inr, length-append}
+use Rattle.std.proofs.Common.{◌≡◌, ℕ, ◌+◌, ◌<◌, true, List, [], ◌∷◌, ◌++◌, length, map, Option, Some, None, is_some, Result, Ok, refl, ap, ap₂, sym}
+use Rattle.std.proofs.Common.{◌∙◌, subst, arith, inl, inr, length-append}
 use Rattle.std.proofs.lemmas.List.{length-map}
 use Rattle.std.proofs.lemmas.Simd.{map-map}
 use Rattle.avc_types.specs.declared.fault.Fault.{Fault}
@@ -12,6 +13,7 @@ use Rattle.avc_marking.specs.Frames.{MarksFrame, StandBefore, marks_at, or_fault
 use Rattle.avc_marking.specs.Laws.{IsSameFrame, IsPartUpToMarks, unmarks_all}
 use Rattle.avc_marking.specs.Marks.{Marks, current_frame, marks_after, ◌>>=◌}
 use Rattle.avc_marking.proofs.KeptFrames.{adds_own_frame_alone, leaves_own_frame_alone}
+use Rattle.avc_dpb.specs.declared.output.Output.{Output}
 use Rattle.avc_dpb.specs.Bumping.{Buffer}
 use Rattle.avc_dpb.specs.Contents.{Contents, IsBuffer}
 use Rattle.avc_decoder_core.specs.Frames.{frame_of, frame_at, mark_in}
@@ -39,19 +41,19 @@ stand_before h c b frame old buffer is = record {
 pub marked_then : (e : Entry) (h : History) (c : Contents (Frame 32)) (idx : Option ℕ) (previous : ℕ) (s : IsStateAfter h c idx previous)
     (old new : List MarkedFrame) (r : Result (Unit {0}) Fault) (new_idx : Option ℕ) → old ≡ map marked_frame c.frames →
     MarksFrame (λ entry. marks_after (marking_entry e) entry (marking_entry e).marking) old idx r new new_idx →
-    marks_of (e ∷ h) ≡ or_fault r (marks_at (places_in (buffer_of h) ++ length h ∷ []) new new_idx)
+    marks_of (e ∷ h) ≡ or_fault r (marks_at (places_in (buffer_of c.output h) ++ length h ∷ []) new new_idx)
 marked_then e h c idx previous s old new r new_idx is marks =
-    let ps = places_in (buffer_of h) in
+    let ps = places_in (buffer_of c.output h) in
     let same : marks_at ps old idx ≡ s.marks = ap₂ (λ references i. record { references = references; max_long_term_frame_idx = i }) (ap (references_at ps) is ∙ s.references) s.idx_is in
     marks_then e h s.marks s.marked
     ∙ ap (marks_after (marking_entry e) (length h) (marking_entry e).marking) (sym same)
-    ∙ marks ps (length h) (stand_before h c (buffer_of h) (frame_at h (s.marks).references) old s.buffer is)
+    ∙ marks ps (length h) (stand_before h c (buffer_of c.output h) (frame_at h (s.marks).references) old s.buffer is)
 
 -- The marks with the entry, where `marked` are the frames of the buffer and the entry's own.
-pub record IsMarked (e : Entry) (h : History) (m : Marks) (marked : List MarkedFrame) : Type 0 where
+pub record IsMarked (output : Output) (e : Entry) (h : History) (m : Marks) (marked : List MarkedFrame) : Type 0 where
   pub marks_is : marks_of (e ∷ h) ≡ Ok m
-  pub marks : map (mark_in m.references) (places_in (buffer_of h) ++ length h ∷ []) ≡ map (λ f. f.mark) marked
-  pub references : m.references ≡ references_at (places_in (buffer_of h) ++ length h ∷ []) (map (λ p. marked_frame (frame_at (e ∷ h) m.references p)) (places_in (buffer_of h) ++ length h ∷ []))
+  pub marks : map (mark_in m.references) (places_in (buffer_of output h) ++ length h ∷ []) ≡ map (λ f. f.mark) marked
+  pub references : m.references ≡ references_at (places_in (buffer_of output h) ++ length h ∷ []) (map (λ p. marked_frame (frame_at (e ∷ h) m.references p)) (places_in (buffer_of output h) ++ length h ∷ []))
   pub alone : unmarks_all (marking_entry e).marking ≡ true → Each (λ r. r.entry ≡ length h) m.references
   pub below : Each (λ r. r.entry < length h + 1) m.references
 
@@ -78,10 +80,10 @@ same_of frame r s same h = record {
 
 pub is_marked : (e : Entry) (h : History) (c : Contents (Frame 32)) (idx : Option ℕ) (previous : ℕ) (s : IsStateAfter h c idx previous)
     (m : Marks) (new : List MarkedFrame) → length new ≡ length c.frames + 1 → marks_of (e ∷ h) ≡ Ok m →
-    m.references ≡ references_at (places_in (buffer_of h) ++ length h ∷ []) new → IsMarked e h m new
+    m.references ≡ references_at (places_in (buffer_of c.output h) ++ length h ∷ []) new → IsMarked c.output e h m new
 is_marked e h c idx previous s m new long is references =
     let n = length h in
-    let b = buffer_of h in
+    let b = buffer_of c.output h in
     let ps = places_in b in
     let qs = ps ++ n ∷ [] in
     let frame : ℕ → MarkedFrame = λ p. marked_frame (frame_at (e ∷ h) m.references p) in

@@ -1,5 +1,6 @@
 -- The state once an entry's frame is stored, and the pictures that go out.
-use Rattle.std.proofs.Common.{◌≡◌, ℕ, ◌<◌, ◌≤◌, Bool, true, false, List, [], ◌∷◌, ◌++◌, length, map, Option, Some, None, Ok, refl, ap, ap₂, sym, ◌∙◌, subst, arith}
+use Rattle.std.proofs.Common.{◌≡◌, ℕ, ◌<◌, ◌≤◌, Bool, true, false, List, [], ◌∷◌, ◌++◌, length, map, Option, Some, None, Ok, refl, ap, ap₂, sym, ◌∙◌}
+use Rattle.std.proofs.Common.{subst, arith}
 use Rattle.std.specs.Prelude.{IfSome, max}
 use Rattle.std.specs.List.{filter_map}
 use Rattle.std.proofs.lemmas.List.Elements.{filter_map-append}
@@ -12,14 +13,15 @@ use Rattle.avc_slice.specs.Header.{is_idr}
 use Rattle.avc_slice.specs.declared.header.Header.{Header}
 use Rattle.avc_marking.specs.Marks.{Marks, limit_of, marks_after}
 use Rattle.avc_marking.proofs.Limits.{stays-with_max_long_term_frame_idx}
-use Rattle.avc_dpb.specs.declared.output.Output.TheVariants.{Full}
+use Rattle.avc_dpb.specs.declared.output.Output.{Output}
 use Rattle.avc_dpb.specs.Bumping.{Stored, new_output}
 use Rattle.avc_dpb.specs.StoredFrame.{shown_frame}
 use Rattle.avc_dpb.proofs.Conserved.{goes_out_in_turn}
 use Rattle.avc_decoder_core.specs.Frames.{frame_at}
 use Rattle.avc_decoder_core.specs.FrameBufferFields.{Each, IsSizedAt, places_in}
 use Rattle.avc_decoder_core.specs.FrameBufferState.{CanFollow}
-use Rattle.avc_decoder_core.specs.History.{Entry, decoded_picture, missing_frame, History, arrival, arrivals, buffer_of, entry_at, is_same_sps, marking_entry, planes_in, sequence_sps}
+use Rattle.avc_decoder_core.specs.History.{Entry, decoded_picture, missing_frame, History, arrival, arrivals, buffer_of, entry_at, is_same_sps}
+use Rattle.avc_decoder_core.specs.History.{marking_entry, planes_in, sequence_sps}
 use Rattle.avc_decoder_core.specs.Pictures.{output_pictures}
 use Rattle.avc_decoder_core.proofs.Places.{each_map}
 use Rattle.avc_decoder_core.proofs.FramesAt.{entry_before, entry_newest, pictures_are}
@@ -97,57 +99,57 @@ each_entry_of P [] h = tt
 each_entry_of P (s ∷ frames) h = (h.0, each_entry_of P frames h.1)
 
 -- what holds of the places before and of the entry's own
-sized_after : (P : ℕ → Type 0) (e : Entry) (h : History) → P (length h) → Each (λ s. P s.entry) (emptied e h).frames → Each P (places_in (buffer_of (e ∷ h)))
-sized_after P e h own old =
-    each_map P (λ s. s.entry) (buffer_of (e ∷ h)).frames
-    (each_after_frame P Full (length (arrivals h)) (arrival e h) (emptied e h) (subst P (sym (length-arrivals h)) own) old)
+sized_after : (output : Output) (P : ℕ → Type 0) (e : Entry) (h : History) → P (length h) → Each (λ s. P s.entry) (emptied output e h).frames → Each P (places_in (buffer_of output (e ∷ h)))
+sized_after output P e h own old =
+    each_map P (λ s. s.entry) (buffer_of output (e ∷ h)).frames
+    (each_after_frame P output (length (arrivals h)) (arrival e h) (emptied output e h) (subst P (sym (length-arrivals h)) own) old)
 
 own_sized : (e : Entry) (h : History) (width height : ℕ) → IfSome (planes_in (Some e)) (AreSized width height) → IfSome (planes_in (entry_at (e ∷ h) (length h))) (AreSized width height)
 own_sized e h width height sized = subst (λ o. IfSome (planes_in o) (AreSized width height)) (sym (entry_newest e h)) sized
 
-old_sized : (e : Entry) (h : History) (sps : Sps) → Each (λ p. p < length h) (places_in (buffer_of h)) → Each (IsSizedAt h sps) (places_in (buffer_of h)) →
-    Each (λ s. IsSizedAt (e ∷ h) sps s.entry) (emptied e h).frames
-old_sized e h sps low sized =
-    each_prior (IsSizedAt (e ∷ h) sps) (arrival e h).prior_pictures (buffer_of h)
-    (each_entry_of (IsSizedAt (e ∷ h) sps) (buffer_of h).frames
-    (each_both (λ p. p < length h) (IsSizedAt h sps) (IsSizedAt (e ∷ h) sps) (places_in (buffer_of h))
+old_sized : (output : Output) (e : Entry) (h : History) (sps : Sps) → Each (λ p. p < length h) (places_in (buffer_of output h)) → Each (IsSizedAt h sps) (places_in (buffer_of output h)) →
+    Each (λ s. IsSizedAt (e ∷ h) sps s.entry) (emptied output e h).frames
+old_sized output e h sps low sized =
+    each_prior (IsSizedAt (e ∷ h) sps) (arrival e h).prior_pictures (buffer_of output h)
+    (each_entry_of (IsSizedAt (e ∷ h) sps) (buffer_of output h).frames
+    (each_both (λ p. p < length h) (IsSizedAt h sps) (IsSizedAt (e ∷ h) sps) (places_in (buffer_of output h))
     (λ p l old. subst (λ o. IfSome (planes_in o) (AreSized (width_in_mbs sps) (height_in_mbs sps))) (sym (entry_before e h p l)) old) low sized))
 
-sized_by : (sps : Sps) (header : Header) (planes : Planes) (h : History) (idr : Bool) → is_idr header ≡ idr → CanFollow h sps header →
-    AreSized (width_in_mbs sps) (height_in_mbs sps) planes → Each (λ p. p < length h) (places_in (buffer_of h)) →
-    IfSome (sequence_sps h) (λ sps. Each (IsSizedAt h sps) (places_in (buffer_of h))) →
-    IfSome (elim idr as (λ _. Option Sps) [ true ↦ Some sps | false ↦ sequence_sps h ]) (λ s. Each (IsSizedAt (decoded_picture sps header planes ∷ h) s) (places_in (buffer_of (decoded_picture sps header planes ∷ h))))
-sized_by sps header planes h true idr follows own low sized =
+sized_by : (output : Output) (sps : Sps) (header : Header) (planes : Planes) (h : History) (idr : Bool) → is_idr header ≡ idr → CanFollow h sps header →
+    AreSized (width_in_mbs sps) (height_in_mbs sps) planes → Each (λ p. p < length h) (places_in (buffer_of output h)) →
+    IfSome (sequence_sps h) (λ sps. Each (IsSizedAt h sps) (places_in (buffer_of output h))) →
+    IfSome (elim idr as (λ _. Option Sps) [ true ↦ Some sps | false ↦ sequence_sps h ]) (λ s. Each (IsSizedAt (decoded_picture sps header planes ∷ h) s) (places_in (buffer_of output (decoded_picture sps header planes ∷ h))))
+sized_by output sps header planes h true idr follows own low sized =
     let e = decoded_picture sps header planes in
-    sized_after (IsSizedAt (e ∷ h) sps) e h (own_sized e h (width_in_mbs sps) (height_in_mbs sps) own)
-    (subst (Each (λ s. IsSizedAt (e ∷ h) sps s.entry)) (sym (none_before_idr header (buffer_of h) (follows.idr idr))) tt)
-sized_by sps header planes h false idr follows own low sized =
+    sized_after output (IsSizedAt (e ∷ h) sps) e h (own_sized e h (width_in_mbs sps) (height_in_mbs sps) own)
+    (subst (Each (λ s. IsSizedAt (e ∷ h) sps s.entry)) (sym (none_before_idr header (buffer_of output h) (follows.idr idr))) tt)
+sized_by output sps header planes h false idr follows own low sized =
     let e = decoded_picture sps header planes in
-    if_some (λ s. Each (IsSizedAt h s) (places_in (buffer_of h))) (λ s. Each (IsSizedAt (e ∷ h) s) (places_in (buffer_of (e ∷ h)))) (sequence_sps h)
+    if_some (λ s. Each (IsSizedAt h s) (places_in (buffer_of output h))) (λ s. Each (IsSizedAt (e ∷ h) s) (places_in (buffer_of output (e ∷ h)))) (sequence_sps h)
     (λ before is old.
     let same = same_from (sequence_sps h) before sps is (follows.same idr) in
-    sized_after (IsSizedAt (e ∷ h) before) e h
+    sized_after output (IsSizedAt (e ∷ h) before) e h
     (own_sized e h (width_in_mbs before) (height_in_mbs before)
     (subst (λ n. AreSized n (height_in_mbs before) planes) (sym same.width) (subst (λ n. AreSized (width_in_mbs sps) n planes) (sym same.height) own)))
-    (old_sized e h before low old))
+    (old_sized output e h before low old))
     sized
 
-pub still_sized : (e : Entry) (h : History) → Follows e h → Each (λ p. p < length h) (places_in (buffer_of h)) →
-    IfSome (sequence_sps h) (λ sps. Each (IsSizedAt h sps) (places_in (buffer_of h))) →
-    IfSome (sequence_sps (e ∷ h)) (λ sps. Each (IsSizedAt (e ∷ h) sps) (places_in (buffer_of (e ∷ h))))
-still_sized (decoded_picture sps header planes) h follows low sized = sized_by sps header planes h (is_idr header) refl follows.0 follows.1 low sized
-still_sized (missing_frame sps frame_num) h follows low sized =
+pub still_sized : (output : Output) (e : Entry) (h : History) → Follows e h → Each (λ p. p < length h) (places_in (buffer_of output h)) →
+    IfSome (sequence_sps h) (λ sps. Each (IsSizedAt h sps) (places_in (buffer_of output h))) →
+    IfSome (sequence_sps (e ∷ h)) (λ sps. Each (IsSizedAt (e ∷ h) sps) (places_in (buffer_of output (e ∷ h))))
+still_sized output (decoded_picture sps header planes) h follows low sized = sized_by output sps header planes h (is_idr header) refl follows.0 follows.1 low sized
+still_sized output (missing_frame sps frame_num) h follows low sized =
     let e = missing_frame sps frame_num in
-    if_some (λ s. Each (IsSizedAt h s) (places_in (buffer_of h))) (λ s. Each (IsSizedAt (e ∷ h) s) (places_in (buffer_of (e ∷ h)))) (sequence_sps h)
-    (λ before is old. sized_after (IsSizedAt (e ∷ h) before) e h (own_sized e h (width_in_mbs before) (height_in_mbs before) tt) (old_sized e h before low old)) sized
+    if_some (λ s. Each (IsSizedAt h s) (places_in (buffer_of output h))) (λ s. Each (IsSizedAt (e ∷ h) s) (places_in (buffer_of output (e ∷ h)))) (sequence_sps h)
+    (λ before is old. sized_after output (IsSizedAt (e ∷ h) before) e h (own_sized e h (width_in_mbs before) (height_in_mbs before) tt) (old_sized output e h before low old)) sized
 
 -- ---- the pictures that go out
 
-pub output_is : (e : Entry) (h : History) (m : Marks) (prior out : List Picture) → prior ≡ filter_map (λ p. shown_frame (frame_at (e ∷ h) m.references p)) (new_output (buffer_of h) (emptied e h)) →
-    out ≡ filter_map (λ p. shown_frame (frame_at (e ∷ h) m.references p)) (new_output (emptied e h) (buffer_of (e ∷ h))) → prior ++ out ≡ output_pictures h (e ∷ h)
-output_is e h m prior out prior_is out_is =
+pub output_is : (output : Output) (e : Entry) (h : History) (m : Marks) (prior out : List Picture) → prior ≡ filter_map (λ p. shown_frame (frame_at (e ∷ h) m.references p)) (new_output (buffer_of output h) (emptied output e h)) →
+    out ≡ filter_map (λ p. shown_frame (frame_at (e ∷ h) m.references p)) (new_output (emptied output e h) (buffer_of output (e ∷ h))) → prior ++ out ≡ output_pictures output h (e ∷ h)
+output_is output e h m prior out prior_is out_is =
     let shown : ℕ → Option Picture = λ p. shown_frame (frame_at (e ∷ h) m.references p) in
     ap₂ (λ l r. l ++ r) prior_is out_is
-    ∙ sym (filter_map-append shown (new_output (buffer_of h) (emptied e h)) (new_output (emptied e h) (buffer_of (e ∷ h))))
-    ∙ ap (filter_map shown) (sym (goes_out_in_turn Full (length (arrivals h)) (arrival e h) (buffer_of h)))
-    ∙ pictures_are (e ∷ h) m.references (new_output (buffer_of h) (buffer_of (e ∷ h)))
+    ∙ sym (filter_map-append shown (new_output (buffer_of output h) (emptied output e h)) (new_output (emptied output e h) (buffer_of output (e ∷ h))))
+    ∙ ap (filter_map shown) (sym (goes_out_in_turn output (length (arrivals h)) (arrival e h) (buffer_of output h)))
+    ∙ pictures_are (e ∷ h) m.references (new_output (buffer_of output h) (buffer_of output (e ∷ h)))

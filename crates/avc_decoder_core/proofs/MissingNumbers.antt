@@ -1,5 +1,6 @@
 -- Missing numbers before a picture.
-use Rattle.std.proofs.Common.{◌≡◌, ℕ, ℤ, Bool, true, false, List, [], ◌∷◌, length, drop, Some, None, slice_get, Result, Ok, Err, is_ok, is_some, refl, ap, ap₂, sym, ◌∙◌, rules}
+use Rattle.std.proofs.Common.{◌≡◌, ℕ, ℤ, Bool, true, false, List, [], ◌∷◌, length, drop, Some, None, slice_get, Result, Ok, Err, is_ok, is_some, refl}
+use Rattle.std.proofs.Common.{ap, ap₂, sym, ◌∙◌, rules}
 use Rattle.std.proofs.lemmas.Bool.{false≢true}
 use Rattle.std.proofs.lemmas.Option.{none-some, same_Some}
 use Rattle.std.specs.Int.{int_min}
@@ -15,7 +16,8 @@ use Rattle.avc_types.specs.declared.references.Marking.TheVariants.{SlidingWindo
 use Rattle.avc_marking.specs.Marks as marking
 use Rattle.avc_marking.proofs.KeptFrames.{slides_again}
 use Rattle.avc_marking.specs.Marks.{MarkingEntry, Marks, marks_after, missing_frame_nums, prev_ref_frame_num}
-use Rattle.avc_decoder_core.specs.History.{missing_frame, History, ◌>>=◌, history_at_opening, is_same_sps, marking_entries, marking_entry, marks_of, order_or_0, picture_entry, pasts, sequence_sps, with_missing, with_order_counts}
+use Rattle.avc_decoder_core.specs.History.{missing_frame, History, ◌>>=◌, history_at_opening, is_same_sps, marking_entries, marking_entry, marks_of}
+use Rattle.avc_decoder_core.specs.History.{order_or_0, picture_entry, pasts, sequence_sps, with_missing, with_order_counts}
 use Rattle.avc_decoder_core.specs.FrameBufferState.{CanFollow}
 use Rattle.avc_decoder_core.specs.Opening.{count_on, counts_over, missing_before, with_all_missing}
 

@@ -1,5 +1,6 @@
 -- What goes out entry after entry.
-use Rattle.std.proofs.Common.{◌≡◌, ℕ, zero, suc, ◌+◌, ◌-◌, ◌<◌, ◌≤◌, ◌==◌, if◌then◌else◌, Bool, true, false, List, [], ◌∷◌, ◌++◌, length, drop, Option, None, slice_get, refl, ap, ap₂, sym, ◌∙◌, subst, arith, append-nil, append_assoc}
+use Rattle.std.proofs.Common.{◌≡◌, ℕ, zero, suc, ◌+◌, ◌-◌, ◌<◌, ◌≤◌, ◌==◌, if◌then◌else◌, Bool, true, false, List, [], ◌∷◌, ◌++◌, length, drop}
+use Rattle.std.proofs.Common.{Option, None, slice_get, refl, ap, ap₂, sym, ◌∙◌, subst, arith, append-nil, append_assoc}
 use Rattle.std.specs.Prelude.{All}
 use Rattle.std.proofs.Math.Nat.{lt_of_not-le}
 use Rattle.std.proofs.lemmas.Bool.{false≢true, eq-eqb}
@@ -7,7 +8,7 @@ use Rattle.std.proofs.lemmas.Bool.Decides.{nat_tests}
 use Rattle.std.proofs.lemmas.Grind.{flat_map-append}
 use Rattle.std.proofs.lemmas.List.Elements.{All-nil, All-cons, All-head, All-tail}
 use Rattle.std.proofs.Math.Seq.{drop-append_seam, drop-length}
-use Rattle.avc_dpb.specs.declared.output.Output.TheVariants.{Full}
+use Rattle.avc_dpb.specs.declared.output.Output.{Output}
 use Rattle.avc_dpb.specs.Bumping.{Arrival, with_all_output}
 use Rattle.avc_dpb.specs.Laws.{occurrences, pictures}
 use Rattle.avc_dpb.proofs.Conserved.{out_only_grows}
@@ -61,11 +62,11 @@ none_out : (a b c : ℕ) → a + b ≡ c → c ≡ 0 → a ≡ 0
 none_out a b c e f = omega (arith, e, f)
 
 -- of the pictures that have gone out and of those that are held
-pub places_below : (history : History) → All (λ p. p < length history) ((buffer_of history).out ++ all_held history)
-places_below history =
-    subst (λ n. All (λ p. p < n) ((buffer_of history).out ++ all_held history)) (length_arrivals history)
-    (all_below (length (arrivals history)) ((buffer_of history).out ++ all_held history)
-    (λ place low. none_out (occurrences place (with_all_output (buffer_of history)).out) _ _ (goes_out_once Full (arrivals history) place) (none_above (arrivals history) place low)))
+pub places_below : (output : Output) (history : History) → All (λ p. p < length history) ((buffer_of output history).out ++ all_held output history)
+places_below output history =
+    subst (λ n. All (λ p. p < n) ((buffer_of output history).out ++ all_held output history)) (length_arrivals history)
+    (all_below (length (arrivals history)) ((buffer_of output history).out ++ all_held output history)
+    (λ place low. none_out (occurrences place (with_all_output (buffer_of output history)).out) _ _ (goes_out_once output (arrivals history) place) (none_above (arrivals history) place low)))
 
 all_first : (P : ℕ → Type 0) (xs ys : List ℕ) → All P (xs ++ ys) → All P xs
 all_first P [] ys a = All-nil P
@@ -94,45 +95,45 @@ pictures_stay e history (p ∷ places) a =
 -- ---- what goes out over several entries
 
 -- the new history has put out what the old one has, and then more
-abbrev pub Extends : (old new : History) → Type 0
-Extends old new = (buffer_of new).out ≡ (buffer_of old).out ++ new_output old new
+abbrev pub Extends : Output → (old new : History) → Type 0
+Extends output old new = (buffer_of output new).out ≡ (buffer_of output old).out ++ new_output output old new
 
-nothing_new : (history : History) → new_output history history ≡ []
-nothing_new history = drop-length (buffer_of history).out
+nothing_new : (output : Output) (history : History) → new_output output history history ≡ []
+nothing_new output history = drop-length (buffer_of output history).out
 
-pub extends_itself : (history : History) → Extends history history
-extends_itself history = sym (ap (λ l. (buffer_of history).out ++ l) (nothing_new history) ∙ append-nil (buffer_of history).out)
+pub extends_itself : (output : Output) (history : History) → Extends output history history
+extends_itself output history = sym (ap (λ l. (buffer_of output history).out ++ l) (nothing_new output history) ∙ append-nil (buffer_of output history).out)
 
-pub nothing_goes_out : (history : History) → [] ≡ output_pictures history history
-nothing_goes_out history = sym (ap (pictures_at history) (nothing_new history))
+pub nothing_goes_out : (output : Output) (history : History) → [] ≡ output_pictures output history history
+nothing_goes_out output history = sym (ap (pictures_at history) (nothing_new output history))
 
-output_longer : (e : Entry) (old history : History) → Extends old history
-    → (buffer_of (e ∷ history)).out ≡ (buffer_of old).out ++ (new_output old history ++ new_output history (e ∷ history))
-output_longer e old history x =
-    out_only_grows Full (length (arrivals history)) (arrival e history) (buffer_of history)
-    ∙ ap (λ l. l ++ new_output history (e ∷ history)) x
-    ∙ append_assoc (buffer_of old).out (new_output old history) (new_output history (e ∷ history))
+output_longer : (output : Output) (e : Entry) (old history : History) → Extends output old history
+    → (buffer_of output (e ∷ history)).out ≡ (buffer_of output old).out ++ (new_output output old history ++ new_output output history (e ∷ history))
+output_longer output e old history x =
+    out_only_grows output (length (arrivals history)) (arrival e history) (buffer_of output history)
+    ∙ ap (λ l. l ++ new_output output history (e ∷ history)) x
+    ∙ append_assoc (buffer_of output old).out (new_output output old history) (new_output output history (e ∷ history))
 
-new_longer : (e : Entry) (old history : History) → Extends old history
-    → new_output old (e ∷ history) ≡ new_output old history ++ new_output history (e ∷ history)
-new_longer e old history x =
-    ap (drop (length (buffer_of old).out)) (output_longer e old history x) ∙ drop-append_seam (buffer_of old).out (new_output old history ++ new_output history (e ∷ history))
+new_longer : (output : Output) (e : Entry) (old history : History) → Extends output old history
+    → new_output output old (e ∷ history) ≡ new_output output old history ++ new_output output history (e ∷ history)
+new_longer output e old history x =
+    ap (drop (length (buffer_of output old).out)) (output_longer output e old history x) ∙ drop-append_seam (buffer_of output old).out (new_output output old history ++ new_output output history (e ∷ history))
 
-pub extends_more : (e : Entry) (old history : History) → Extends old history → Extends old (e ∷ history)
-extends_more e old history x = output_longer e old history x ∙ ap (λ l. (buffer_of old).out ++ l) (sym (new_longer e old history x))
+pub extends_more : (output : Output) (e : Entry) (old history : History) → Extends output old history → Extends output old (e ∷ history)
+extends_more output e old history x = output_longer output e old history x ∙ ap (λ l. (buffer_of output old).out ++ l) (sym (new_longer output e old history x))
 
-out_below : (old history : History) → Extends old history → All (λ p. p < length history) (new_output old history)
-out_below old history x =
-    all_last (λ p. p < length history) (buffer_of old).out (new_output old history)
-    (subst (All (λ p. p < length history)) x (all_first (λ p. p < length history) (buffer_of history).out (all_held history) (places_below history)))
+out_below : (output : Output) (old history : History) → Extends output old history → All (λ p. p < length history) (new_output output old history)
+out_below output old history x =
+    all_last (λ p. p < length history) (buffer_of output old).out (new_output output old history)
+    (subst (All (λ p. p < length history)) x (all_first (λ p. p < length history) (buffer_of output history).out (all_held output history) (places_below output history)))
 
-pub held_below : (history : History) → All (λ p. p < length history) (all_held history)
-held_below history = all_last (λ p. p < length history) (buffer_of history).out (all_held history) (places_below history)
+pub held_below : (output : Output) (history : History) → All (λ p. p < length history) (all_held output history)
+held_below output history = all_last (λ p. p < length history) (buffer_of output history).out (all_held output history) (places_below output history)
 
 -- what goes out with one entry more
-pub output_more : (e : Entry) (old history : History) → Extends old history
-    → output_pictures old (e ∷ history) ≡ output_pictures old history ++ output_pictures history (e ∷ history)
-output_more e old history x =
-    ap (pictures_at (e ∷ history)) (new_longer e old history x)
-    ∙ flat_map-append (λ place. entry_pictures (entry_at (e ∷ history) place)) (new_output old history) (new_output history (e ∷ history))
-    ∙ ap (λ l. l ++ output_pictures history (e ∷ history)) (pictures_stay e history (new_output old history) (out_below old history x))
+pub output_more : (output : Output) (e : Entry) (old history : History) → Extends output old history
+    → output_pictures output old (e ∷ history) ≡ output_pictures output old history ++ output_pictures output history (e ∷ history)
+output_more output e old history x =
+    ap (pictures_at (e ∷ history)) (new_longer output e old history x)
+    ∙ flat_map-append (λ place. entry_pictures (entry_at (e ∷ history) place)) (new_output output old history) (new_output output history (e ∷ history))
+    ∙ ap (λ l. l ++ output_pictures output history (e ∷ history)) (pictures_stay e history (new_output output old history) (out_below output old history x))

@@ -6,7 +6,8 @@ use Rattle.std.proofs.lemmas.Bool.{eqb-true}
 use Rattle.avc_types.specs.declared.references.Marking.{Marking}
 use Rattle.avc_types.specs.declared.references.Marking.TheVariants.{Idr, SlidingWindow, Adaptive}
 use Rattle.avc_types.specs.declared.references.Operation.{Operation}
-use Rattle.avc_types.specs.declared.references.Operation.TheVariants.{UnmarkShortTerm, UnmarkLongTerm, AssignLongTerm, MaxLongTermFrameIdx, UnmarkAll, CurrentToLongTerm}
+use Rattle.avc_types.specs.declared.references.Operation.TheVariants.{UnmarkShortTerm, UnmarkLongTerm, AssignLongTerm, MaxLongTermFrameIdx, UnmarkAll}
+use Rattle.avc_types.specs.declared.references.Operation.TheVariants.{CurrentToLongTerm}
 use Rattle.avc_params.specs.Limits.{width_in_mbs, height_in_mbs}
 use Rattle.avc_params.specs.Same.{same_constraints, same_cropping, same_flag, same_order, same_sps, same_vui}
 use Rattle.avc_params.specs.declared.sps.Sps.{Sps}

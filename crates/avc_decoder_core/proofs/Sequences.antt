@@ -1,5 +1,5 @@
 -- The state of a sequence as pictures are opened and closed.
-use Rattle.std.proofs.Common.{◌≡◌, ℤ, Bool, true, false, List, ◌∷◌, Option, Some, None, Result, Ok, Err, is_ok, is_some, refl, ap, sym, ◌∙◌, rules}
+use Rattle.std.proofs.Common.{◌≡◌, ℤ, Bool, true, false, List, ◌∷◌, Option, Some, None, Result, Ok, Err, is_ok, is_some, refl, ap, ap₂, sym, ◌∙◌, rules}
 use Rattle.std.proofs.lemmas.Bool.{false≢true}
 use Rattle.std.proofs.lemmas.Option.{none-some, same_Some}
 use Rattle.std.specs.Option.{option_map}
@@ -13,6 +13,7 @@ use Rattle.avc_params.specs.Within.{IsSps}
 use Rattle.avc_slice.specs.declared.header.Header.{Header}
 use Rattle.avc_slice.specs.Header.{is_idr, is_reference, has_idr_marking}
 use Rattle.avc_marking.specs.Marks.{Marks}
+use Rattle.avc_dpb.specs.declared.output.Output.{Output}
 use Rattle.avc_poc.specs.OrderCountState.{OrderCountState}
 use Rattle.avc_decoder_core.specs.History.{Entry, decoded_picture, History, ◌>>=◌, history_after_closing, history_at_opening, marks_of, pasts, sequence_sps}
 use Rattle.avc_decoder_core.specs.Opening.{count_on}
@@ -35,10 +36,10 @@ counted_at_rest history (Some o) e = absurd (none-some (open_picture_of o) (sym 
 
 -- ---- the history that the open picture stands on
 
-pub current_is : (closed history : History) (o : Option OpenPicture) (frames : List (Frame 32)) (failed : Bool) (s : SequenceState) → StandsOnIf closed history o
-    → record { history = closed; open_picture = option_map open_picture_of o; frames = frames; failed = failed } ≡ s → current_history s ≡ history
-current_is closed history None frames failed s stands e = ap current_history (sym e) ∙ stands
-current_is closed history (Some o) frames failed s stands e = ap current_history (sym e) ∙ ap (or_before closed) stands.opened
+pub current_is : (closed history : History) (o : Option OpenPicture) (frames : List (Frame 32)) (output : Output) (failed : Bool) (s : SequenceState) → StandsOnIf closed history o
+    → record { history = closed; open_picture = option_map open_picture_of o; frames = frames; output = output; failed = failed } ≡ s → current_history s ≡ history
+current_is closed history None frames output failed s stands e = ap current_history (sym e) ∙ stands
+current_is closed history (Some o) frames output failed s stands e = ap current_history (sym e) ∙ ap (or_before closed) stands.opened
 
 -- ---- a picture is opened
 
@@ -78,14 +79,14 @@ closes_by e history marked = by (marks_of (e ∷ history)) marked
 
 pub is_closed : (old new : SequenceState) (o : OpenPictureStart) (planes : Planes) (frames : List (Frame 32)) (history : History) (out : List Picture) → old.failed ≡ false
     → current_history old ≡ history → is_ok (marks_of (decoded_picture o.sps o.header planes ∷ history)) ≡ true
-    → new ≡ record { history = decoded_picture o.sps o.header planes ∷ history; open_picture = None; frames = frames; failed = false }
-    → out ≡ output_pictures history (decoded_picture o.sps o.header planes ∷ history) → IsClosed old o planes out new
+    → new ≡ record { history = decoded_picture o.sps o.header planes ∷ history; open_picture = None; frames = frames; output = old.output; failed = false }
+    → out ≡ output_pictures old.output history (decoded_picture o.sps o.header planes ∷ history) → IsClosed old o planes out new
 is_closed old new o planes frames history out going current marked state pictures =
     rw state (record {
       going = going;
       state = refl;
       closes = ap (history_after_closing o.sps o.header planes) current ∙ closes_by (decoded_picture o.sps o.header planes) history marked;
-      pictures = pictures ∙ ap (λ h. output_pictures h (decoded_picture o.sps o.header planes ∷ history)) (sym current);
+      pictures = pictures ∙ ap (λ h. output_pictures old.output h (decoded_picture o.sps o.header planes ∷ history)) (sym current);
     })
 
 -- `o` is the open picture
@@ -106,11 +107,11 @@ pub closing_refused : (o : OpenPictureStart) (planes : Planes) (s : SequenceStat
 closing_refused o planes s history f current told =
     ap (history_after_closing o.sps o.header planes) current ∙ refused_by (decoded_picture o.sps o.header planes) history f told
 
-pub unchanged : (closed : History) (o o' : Option OpenPicture) (frames frames' : List (Frame 32)) (failed : Bool) (s : SequenceState) → o ≡ o' → frames' ≡ frames → failed ≡ false
-    → record { history = closed; open_picture = option_map open_picture_of o; frames = frames; failed = failed } ≡ s
-    → record { history = closed; open_picture = option_map open_picture_of o'; frames = frames'; failed = false } ≡ s
-unchanged closed o o' frames frames' failed s same_open same_frames going seen =
-    ap (λ p. record { history = closed; open_picture = option_map open_picture_of p; frames = frames'; failed = false }) (sym same_open)
-    ∙ ap (λ (l : List (Frame 32)). record { history = closed; open_picture = option_map open_picture_of o; frames = l; failed = false }) same_frames
-    ∙ ap (λ b. record { history = closed; open_picture = option_map open_picture_of o; frames = frames; failed = b }) (sym going)
+pub unchanged : (closed : History) (o o' : Option OpenPicture) (frames frames' : List (Frame 32)) (output output' : Output) (failed : Bool) (s : SequenceState) → o ≡ o' → frames' ≡ frames → output' ≡ output → failed ≡ false
+    → record { history = closed; open_picture = option_map open_picture_of o; frames = frames; output = output; failed = failed } ≡ s
+    → record { history = closed; open_picture = option_map open_picture_of o'; frames = frames'; output = output'; failed = false } ≡ s
+unchanged closed o o' frames frames' output output' failed s same_open same_frames same_output going seen =
+    ap (λ p. record { history = closed; open_picture = option_map open_picture_of p; frames = frames'; output = output'; failed = false }) (sym same_open)
+    ∙ ap₂ (λ (l : List (Frame 32)) (m : Output). record { history = closed; open_picture = option_map open_picture_of o; frames = l; output = m; failed = false }) same_frames same_output
+    ∙ ap (λ b. record { history = closed; open_picture = option_map open_picture_of o; frames = frames; output = output; failed = b }) (sym going)
     ∙ seen

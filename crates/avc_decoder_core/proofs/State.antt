@@ -1,5 +1,6 @@
 -- What the state of a frame buffer says of its frames, and the state once an entry's frame is stored.
-use Rattle.std.proofs.Common.{◌≡◌, ℕ, ◌+◌, ◌<◌, ◌≤◌, true, false, not, ◌||◌, List, [], ◌∷◌, ◌++◌, length, map, Option, Some, None, is_some, Result, Ok, Err, IfErr, refl, ap, ap₂, sym, ◌∙◌, subst, arith}
+use Rattle.std.proofs.Common.{◌≡◌, ℕ, ◌+◌, ◌<◌, ◌≤◌, true, false, not, ◌||◌, List, [], ◌∷◌, ◌++◌, length, map, Option, Some, None, is_some, Result}
+use Rattle.std.proofs.Common.{Ok, Err, IfErr, refl, ap, ap₂, sym, ◌∙◌, subst, arith}
 use Rattle.std.proofs.lemmas.List.{length-map}
 use Rattle.std.proofs.lemmas.Simd.{map-map}
 use Rattle.std.specs.Prelude.{IfSome, max, min}
@@ -21,7 +22,7 @@ use Rattle.avc_slice.specs.Header.{is_reference}
 use Rattle.avc_marking.specs.Laws.{unmarks_all}
 use Rattle.avc_marking.specs.Marks.{Marks, marks_after, no_marks, prev_ref_frame_num}
 use Rattle.avc_dpb.specs.declared.arriving_frame.ArrivingFrame.{ArrivingFrame}
-use Rattle.avc_dpb.specs.declared.output.Output.TheVariants.{Full}
+use Rattle.avc_dpb.specs.declared.output.Output.{Output}
 use Rattle.avc_dpb.specs.Bumping.{empty_buffer, remain}
 use Rattle.avc_dpb.specs.Contents.{Contents, IsBuffer, OutputsAll, Stores}
 use Rattle.avc_dpb.specs.declared.slot.Slot.{Slot}
@@ -31,7 +32,8 @@ use Rattle.avc_decoder_core.specs.Frames.{frame_at, mark_in}
 use Rattle.avc_decoder_core.specs.FrameBufferFields.{history_of, Each, IsSizedAt, IsStateAfter, OutputsPrior, places_in, with_all_marks}
 use Rattle.avc_decoder_core.specs.FrameBufferState.{FrameBufferState, Refuses}
 use Rattle.avc_decoder_core.specs.declared.history_entry.HistoryEntry.{HistoryEntry}
-use Rattle.avc_decoder_core.specs.History.{Entry, decoded_picture, missing_frame, History, all_held, arrival, arrivals, buffer_of, entry_at, marking_entries, marking_entry, or_no_references, sequence_sps, stored}
+use Rattle.avc_decoder_core.specs.History.{Entry, decoded_picture, missing_frame, History, all_held, arrival, arrivals, buffer_of, entry_at}
+use Rattle.avc_decoder_core.specs.History.{marking_entries, marking_entry, or_no_references, sequence_sps, stored}
 use Rattle.avc_decoder_core.specs.Pictures.{held_pictures, output_pictures}
 use Rattle.avc_decoder_core.specs.SequenceState.{AreFramesIn, AreStoredIn}
 use Rattle.avc_decoder_core.proofs.Places.{below, each_all, each_implies, each_map, increasing, rise}
@@ -46,15 +48,15 @@ use Rattle.avc_decoder_core.proofs.Storing.{Arrives, marked_buffer, stored_buffe
 
 pub few_frames : (h : History) (c : Contents (Frame 32)) (idx : Option ℕ) (previous : ℕ) → IsStateAfter h c idx previous → length c.frames ≤ 16
 few_frames h c idx previous s =
-    let long : length c.frames ≡ length (buffer_of h).frames = ap length (s.buffer).frames ∙ length-map (buffer_of h).frames (λ t. frame_at h (s.marks).references t.entry) in
-    omega (arith, long, holds_at_most Full 16 (arrivals h) s.within)
+    let long : length c.frames ≡ length (buffer_of c.output h).frames = ap length (s.buffer).frames ∙ length-map (buffer_of c.output h).frames (λ t. frame_at h (s.marks).references t.entry) in
+    omega (arith, long, holds_at_most c.output 16 (arrivals h) s.within)
 
-frames_are : (h : History) (c : Contents (Frame 32)) (idx : Option ℕ) (previous : ℕ) (s : IsStateAfter h c idx previous) → c.frames ≡ map (frame_at h (s.marks).references) (places_in (buffer_of h))
-frames_are h c idx previous s = (s.buffer).frames ∙ sym (map-map (frame_at h (s.marks).references) (λ t. t.entry) (buffer_of h).frames)
+frames_are : (h : History) (c : Contents (Frame 32)) (idx : Option ℕ) (previous : ℕ) (s : IsStateAfter h c idx previous) → c.frames ≡ map (frame_at h (s.marks).references) (places_in (buffer_of c.output h))
+frames_are h c idx previous s = (s.buffer).frames ∙ sym (map-map (frame_at h (s.marks).references) (λ t. t.entry) (buffer_of c.output h).frames)
 
 pub are_stored : (h : History) (c : Contents (Frame 32)) (idx : Option ℕ) (previous : ℕ) → IsStateAfter h c idx previous → AreStoredIn h c.frames
 are_stored h c idx previous s =
-    let ps = places_in (buffer_of h) in
+    let ps = places_in (buffer_of c.output h) in
     let rs = (s.marks).references in
     let at = frame_at h rs in
     let frames = frames_are h c idx previous s in
@@ -64,14 +66,14 @@ are_stored h c idx previous s =
       entries = ps;
       stand = record {
         each = sym (length-map c.frames marked_frame ∙ ap length frames ∙ length-map ps at);
-        rising = increasing ps (length h) (rise (buffer_of h).frames (length h) (s.buffer).rising);
+        rising = increasing ps (length h) (rise (buffer_of c.output h).frames (length h) (s.buffer).rising);
       };
       stored = ap (stored_at ps) frames ∙ stored_are h rs ps ∙ ap (map (stored h)) references ∙ ap (λ r. map (stored h) (or_no_references r)) (sym s.marked);
     }
 
 pub are_frames : (h : History) (c : Contents (Frame 32)) (idx : Option ℕ) (previous : ℕ) → IsStateAfter h c idx previous → AreFramesIn h c.frames
 are_frames h c idx previous s =
-    let ps = places_in (buffer_of h) in
+    let ps = places_in (buffer_of c.output h) in
     let rs = (s.marks).references in
     if_some (λ sps. Each (IsSizedAt h sps) ps) (λ sps. AreFrames (width_in_mbs sps) (height_in_mbs sps) c.frames) (sequence_sps h)
     (λ sps is sized.
@@ -129,28 +131,30 @@ prior_stays (missing_frame sps frame_num) h none = refl
 
 -- ---- an entry's frame is stored
 
-pub record IsLonger (e : Entry) (h : History) (c : Contents (Frame 32)) (idx : Option ℕ) (previous : ℕ) (prior out : List Picture) : Type 0 where
+pub record IsLonger (output : Output) (e : Entry) (h : History) (c : Contents (Frame 32)) (idx : Option ℕ) (previous : ℕ) (prior out : List Picture) : Type 0 where
   pub state : IsStateAfter (e ∷ h) c idx previous
-  pub pictures : prior ++ out ≡ output_pictures h (e ∷ h)
+  pub kept : c.output ≡ output
+  pub pictures : prior ++ out ≡ output_pictures output h (e ∷ h)
 
 pub stored_entry : (e : Entry) (h : History) (c : Contents (Frame 32)) (idx : Option ℕ) (previous : ℕ) → IsStateAfter h c idx previous → Follows e h → IsSps (sps_of e) →
-    (m : Marks) (marked : List MarkedFrame) → IsMarked e h m marked → (after_marks after_prior after_store : Contents (Frame 32)) → after_marks ≡ with_all_marks c marked →
+    (m : Marks) (marked : List MarkedFrame) → IsMarked c.output e h m marked → (after_marks after_prior after_store : Contents (Frame 32)) → after_marks ≡ with_all_marks c marked →
     (prior out : List Picture) → OutputsPrior (arrival e h).prior_pictures after_marks prior after_prior → after_prior.output ≡ after_marks.output →
     (frame : Frame 32) → frame_at (e ∷ h) m.references (length h) ≡ frame → (arriving : ArrivingFrame) → Arrives e h arriving m →
     Stores shown_frame (λ f. is_some f.mark) after_prior frame arriving out after_store → after_store.output ≡ after_prior.output →
     (new_idx : Option ℕ) → new_idx ≡ m.max_long_term_frame_idx → (new_previous : ℕ) → new_previous ≡ prev_ref_frame_num (marking_entries (e ∷ h)) →
-    IsLonger e h after_store new_idx new_previous prior out
+    IsLonger c.output e h after_store new_idx new_previous prior out
 stored_entry e h c idx previous s follows limits m marked is after_marks after_prior after_store set prior out outputs kept_output frame own arriving arrives stores kept_output' new_idx idx_is new_previous previous_is =
     let n = length h in
     let rs = m.references in
     let at = frame_at (e ∷ h) rs in
-    let full : after_prior.output ≡ Full = kept_output ∙ ap (λ v. v.output) set ∙ s.full in
-    let low = below (places_in (buffer_of h)) n (rise (buffer_of h).frames n (s.buffer).rising) in
+    let held : after_prior.output ≡ c.output = kept_output ∙ ap (λ v. v.output) set in
+    let same : after_store.output ≡ c.output = kept_output' ∙ held in
+    let low = below (places_in (buffer_of c.output h)) n (rise (buffer_of c.output h).frames n (s.buffer).rising) in
     let was = marked_buffer e h c idx previous s m marked is after_marks set in
-    let before = outputs (buffer_of h) n at was in
-    let has = stored_buffer e h arriving m arrives after_prior after_store frame out before.buffer full own stores in
+    let before = outputs (buffer_of c.output h) n at was in
+    let has = stored_buffer c.output e h arriving m arrives after_prior after_store frame out before.buffer held own stores in
     let after : marks_after (marking_entry e) n (marking_entry e).marking s.marks ≡ Ok m = sym (marks_then e h s.marks s.marked) ∙ is.marks_is in
-    let old_below : Each (λ r. r.entry < n) (s.marks).references = subst (Each (λ r. r.entry < n)) s.references (each_entry (λ p. p < n) (places_in (buffer_of h)) (map marked_frame c.frames) low) in
+    let old_below : Each (λ r. r.entry < n) (s.marks).references = subst (Each (λ r. r.entry < n)) s.references (each_entry (λ p. p < n) (places_in (buffer_of c.output h)) (map marked_frame c.frames) low) in
     let few = is_few e h s.marks m follows s.few after in
     let capacity : arriving.capacity ≡ dpb_size (sps_of e) = sym (ap (λ a. a.capacity) arrives) ∙ capacity_is e h in
     let limit : length rs ≤ arriving.capacity = omega (arith, few.few_own, room_of (sps_of e), capacity) in
@@ -164,27 +168,29 @@ stored_entry e h c idx previous s follows limits m marked is after_marks after_p
         marked = is.marks_is;
         idx_is = idx_is;
         previous_is = previous_is;
-        full = kept_output' ∙ full;
-        buffer = subst (λ k. IsBuffer after_store (buffer_of (e ∷ h)) k at) next has.buffer;
-        references = stored_references e h arriving m marked arrives is (unmarks_all (marking_entry e).marking) is.alone (prior_stays e h) low stored limit after_prior after_store before.buffer has.buffer;
+        buffer = subst (λ o. IsBuffer after_store (buffer_of o (e ∷ h)) (length (e ∷ h)) at) (sym same)
+            (subst (λ k. IsBuffer after_store (buffer_of c.output (e ∷ h)) k at) next has.buffer);
+        references = subst (λ o. references_at (places_in (buffer_of o (e ∷ h))) (map marked_frame after_store.frames) ≡ rs) (sym same)
+            (stored_references c.output e h arriving m marked arrives is (unmarks_all (marking_entry e).marking) is.alone (prior_stays e h) low stored limit after_prior after_store before.buffer has.buffer);
         few = few.few;
         within = (within, s.within);
-        sized = still_sized e h follows low s.sized;
+        sized = subst (λ o. IfSome (sequence_sps (e ∷ h)) (λ sps. Each (IsSizedAt (e ∷ h) sps) (places_in (buffer_of o (e ∷ h))))) (sym same)
+            (still_sized c.output e h follows low s.sized);
       };
-      pictures = output_is e h m prior out before.pictures has.pictures;
+      kept = same;
+      pictures = output_is c.output e h m prior out before.pictures has.pictures;
     }
 
 -- ---- no history
 
-pub empty_state : (items : List HistoryEntry) (c : Contents (Frame 32)) → items ≡ [] → c ≡ record { slots = []; frames = []; output = Full; failed = false } →
+pub empty_state : (output : Output) (items : List HistoryEntry) (c : Contents (Frame 32)) → items ≡ [] → c ≡ record { slots = []; frames = []; output = output; failed = false } →
     ((frame_of : ℕ → Frame 32) → IsBuffer c empty_buffer 0 frame_of) → IsStateAfter (history_of items) c None 0
-empty_state items c none is buffer =
+empty_state output items c none is buffer =
     let there : IsStateAfter [] c None 0 = record {
       marks = no_marks;
       marked = refl;
       idx_is = refl;
       previous_is = refl;
-      full = ap (λ v. v.output) is;
       buffer = buffer (frame_at [] []);
       references = ap (λ v. references_at [] (map marked_frame v.frames)) is;
       few = tt;
@@ -199,25 +205,25 @@ no_slots : (slots : List Slot) → map (λ s. s.order) slots ≡ [] → slots �
 no_slots [] e = refl
 no_slots (s ∷ slots) e = absurd (omega (arith, ap length e))
 
-pub record IsForgotten (h : History) (c : Contents (Frame 32)) (out : List Picture) : Type 0 where
-  pub nothing : c ≡ record { slots = []; frames = []; output = Full; failed = false }
-  pub pictures : out ≡ held_pictures h
+pub record IsForgotten (output : Output) (h : History) (c : Contents (Frame 32)) (out : List Picture) : Type 0 where
+  pub nothing : c ≡ record { slots = []; frames = []; output = output; failed = false }
+  pub pictures : out ≡ held_pictures output h
 
 pub emptied_all : (h : History) (c : Contents (Frame 32)) (idx : Option ℕ) (previous : ℕ) → IsStateAfter h c idx previous → (out : List Picture) (new : Contents (Frame 32)) →
-    OutputsAll shown_frame c out new → new.output ≡ c.output → IsForgotten h new out
+    OutputsAll shown_frame c out new → new.output ≡ c.output → IsForgotten c.output h new out
 emptied_all h c idx previous s out new outputs kept =
     let rs = (s.marks).references in
-    let b = buffer_of h in
+    let b = buffer_of c.output h in
     let has = outputs b (length h) (frame_at h rs) s.buffer in
     let slots : new.slots ≡ [] = no_slots new.slots (has.buffer).orders in
     record {
       nothing = ap₂ (λ slots frames. record new { slots = slots; frames = frames }) slots (has.buffer).frames
-          ∙ ap₂ (λ output failed. record { slots = []; frames = []; output = output; failed = failed }) (kept ∙ s.full) (has.buffer).works;
-      pictures = has.pictures ∙ ap (filter_map (λ p. shown_frame (frame_at h rs p))) (all_held_go_out b) ∙ pictures_are h rs (all_held h);
+          ∙ ap₂ (λ output failed. record { slots = []; frames = []; output = output; failed = failed }) kept (has.buffer).works;
+      pictures = has.pictures ∙ ap (filter_map (λ p. shown_frame (frame_at h rs p))) (all_held_go_out b) ∙ pictures_are h rs (all_held c.output h);
     }
 
-pub no_buffer : (c : Contents (Frame 32)) → c ≡ record { slots = []; frames = []; output = Full; failed = false } → (frame_of : ℕ → Frame 32) → IsBuffer c empty_buffer 0 frame_of
-no_buffer c is frame_of = subst (λ c. IsBuffer c empty_buffer 0 frame_of) (sym is) (record { works = refl; orders = refl; holds = refl; frames = refl; rising = tt })
+pub no_buffer : (output : Output) (c : Contents (Frame 32)) → c ≡ record { slots = []; frames = []; output = output; failed = false } → (frame_of : ℕ → Frame 32) → IsBuffer c empty_buffer 0 frame_of
+no_buffer output c is frame_of = subst (λ c. IsBuffer c empty_buffer 0 frame_of) (sym is) (record { works = refl; orders = refl; holds = refl; frames = refl; rising = tt })
 
 -- ---- what calls answer
 

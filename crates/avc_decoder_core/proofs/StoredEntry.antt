@@ -1,5 +1,6 @@
 -- An entry's frame is marked and stored, in the terms of the calls that do it.
-use Rattle.std.proofs.Common.{◌≡◌, ℕ, ◌+◌, ℤ, pos, Bool, true, false, List, [], ◌∷◌, ◌++◌, length, map, Option, Some, None, is_some, Ok, refl, ap, ap₂, sym, ◌∙◌, subst, arith, length-append}
+use Rattle.std.proofs.Common.{◌≡◌, ℕ, ◌+◌, ℤ, pos, Bool, true, false, List, [], ◌∷◌, ◌++◌, length, map, Option, Some, None, is_some, Ok, refl, ap}
+use Rattle.std.proofs.Common.{ap₂, sym, ◌∙◌, subst, arith, length-append}
 use Rattle.std.proofs.lemmas.List.{length-map}
 use Rattle.std.proofs.Math.Seq.{drop-length}
 use Rattle.std.specs.Result.{is_ok}
@@ -19,12 +20,14 @@ use Rattle.avc_slice.specs.declared.header.Header.{Header}
 use Rattle.avc_marking.specs.Frames.{MarksFrame, marks_at}
 use Rattle.avc_marking.specs.Marks.{Marks, frame_num_after_marking, marks_after, prev_ref_frame_num}
 use Rattle.avc_dpb.specs.declared.arriving_frame.ArrivingFrame.{ArrivingFrame}
+use Rattle.avc_dpb.specs.declared.output.Output.{Output}
 use Rattle.avc_dpb.specs.Bumping.{PriorPictures, are_dropped, are_output, remain}
 use Rattle.avc_dpb.specs.Contents.{Contents, OutputsAll, Stores}
 use Rattle.avc_dpb.specs.StoredFrame.{shown_frame}
 use Rattle.avc_decoder_core.specs.Frames.{frame_at, frame_of, mark_in}
 use Rattle.avc_decoder_core.specs.FrameBufferFields.{is_output, IsStateAfter, OutputsPrior, places_in, with_all_marks}
-use Rattle.avc_decoder_core.specs.History.{Entry, decoded_picture, missing_frame, History, arrival, buffer_of, marking_entries, marking_entry, marks_of, or_no_references, order_or_0, pasts, picture_entry, prior_pictures_of}
+use Rattle.avc_decoder_core.specs.History.{Entry, decoded_picture, missing_frame, History, arrival, buffer_of, marking_entries, marking_entry}
+use Rattle.avc_decoder_core.specs.History.{marks_of, or_no_references, order_or_0, pasts, picture_entry, prior_pictures_of, reorder_limit}
 use Rattle.avc_decoder_core.proofs.FramesAt.{entry_newest, last_mark}
 use Rattle.avc_decoder_core.proofs.Entering.{IsMarked, is_marked, marked_then}
 use Rattle.avc_decoder_core.proofs.LongerState.{Follows, sps_of}
@@ -32,10 +35,10 @@ use Rattle.avc_decoder_core.proofs.State.{IsLonger, stored_entry}
 use Rattle.avc_decoder_core.proofs.SameSequence.{wrong}
 use Rattle.avc_decoder_core.proofs.Storing.{Arrives}
 
-own_frame : (e : Entry) (h : History) (m : Marks) (marked : List MarkedFrame) → IsMarked e h m marked → (k : ℕ) (d : MarkedFrame) → k + 1 ≡ length marked →
+own_frame : (output : Output) (e : Entry) (h : History) (m : Marks) (marked : List MarkedFrame) → IsMarked output e h m marked → (k : ℕ) (d : MarkedFrame) → k + 1 ≡ length marked →
     frame_at (e ∷ h) m.references (length h) ≡ frame_of (Some e) (slice_index_or marked k d).mark
-own_frame e h m marked is k d last =
-    let ps = places_in (buffer_of h) in
+own_frame output e h m marked is k d last =
+    let ps = places_in (buffer_of output h) in
     let long : length ps + 1 ≡ length marked =
     sym (length-append ps (length h ∷ [])) ∙ sym (length-map (ps ++ length h ∷ []) (mark_in m.references)) ∙ ap length is.marks ∙ length-map marked (λ f. f.mark) in
     ap₂ frame_of (entry_newest e h) (sym (last_mark m.references ps (length h) k marked d (omega (arith, last, long)) is.marks))
@@ -57,8 +60,8 @@ frame_made e made_of marked there frame k d same is last made = record {
 }
 
 -- An entry was marked and its frame stored.
-pub record IsTaken (e : Entry) (h : History) (c : Contents (Frame 32)) (idx : Option ℕ) (previous : ℕ) (prior out : List Picture) : Type 0 where
-  pub longer : IsLonger e h c idx previous prior out
+pub record IsTaken (output : Output) (e : Entry) (h : History) (c : Contents (Frame 32)) (idx : Option ℕ) (previous : ℕ) (prior out : List Picture) : Type 0 where
+  pub longer : IsLonger output e h c idx previous prior out
   pub ok : is_ok (marks_of (e ∷ h)) ≡ true
 
 pub taken : (e : Entry) (h : History) (c : Contents (Frame 32)) (idx : Option ℕ) (previous : ℕ) → IsStateAfter h c idx previous → Follows e h → IsSps (sps_of e) →
@@ -69,14 +72,14 @@ pub taken : (e : Entry) (h : History) (c : Contents (Frame 32)) (idx : Option �
     (frame : Frame 32) → IsFrameMade e new frame → (arriving : ArrivingFrame) →
     ((m : Marks) → marks_of (e ∷ h) ≡ Ok m → Arrives e h arriving m) →
     Stores shown_frame (λ f. is_some f.mark) after_prior frame arriving out after_store → after_store.output ≡ after_prior.output →
-    (new_previous : ℕ) → new_previous ≡ prev_ref_frame_num (marking_entries (e ∷ h)) → IsTaken e h after_store new_idx new_previous prior out
+    (new_previous : ℕ) → new_previous ≡ prev_ref_frame_num (marking_entries (e ∷ h)) → IsTaken c.output e h after_store new_idx new_previous prior out
 taken e h c idx previous s follows limits old new new_idx old_is long marks after_marks after_prior after_store set prior out outputs kept frame made arriving arrives stores kept' new_previous previous_is =
-    let m = marks_at (places_in (buffer_of h) ++ length h ∷ []) new new_idx in
+    let m = marks_at (places_in (buffer_of c.output h) ++ length h ∷ []) new new_idx in
     let marked : marks_of (e ∷ h) ≡ Ok m = marked_then e h c idx previous s old new (Ok tt) new_idx old_is marks in
-    let is : IsMarked e h m new = is_marked e h c idx previous s m new (long ∙ ap (λ l. length l + 1) old_is ∙ ap (λ n. n + 1) (length-map c.frames marked_frame)) marked refl in
+    let is : IsMarked c.output e h m new = is_marked e h c idx previous s m new (long ∙ ap (λ l. length l + 1) old_is ∙ ap (λ n. n + 1) (length-map c.frames marked_frame)) marked refl in
     record {
       longer = stored_entry e h c idx previous s follows limits m new is after_marks after_prior after_store set prior out outputs kept frame
-          (own_frame e h m new is made.place made.other made.last ∙ sym made.made) arriving (arrives m marked) stores kept' new_idx refl new_previous previous_is;
+          (own_frame c.output e h m new is made.place made.other made.last ∙ sym made.made) arriving (arrives m marked) stores kept' new_idx refl new_previous previous_is;
       ok = ap is_ok marked;
     }
 
@@ -104,16 +107,17 @@ missing_arrives sps frame_num h capacity is m marked =
 
 -- ---- of a picture
 
-abbrev pub picture_arrival : (order : ℤ) (reference : Bool) (capacity : ℕ) → ArrivingFrame
-picture_arrival order reference capacity = record { order = order; existing = true; is_reference = reference; capacity = capacity; max_num_reorder_frames = None }
+abbrev pub picture_arrival : (order : ℤ) (reference : Bool) (capacity : ℕ) (limit : Option ℕ) → ArrivingFrame
+picture_arrival order reference capacity limit = record { order = order; existing = true; is_reference = reference; capacity = capacity; max_num_reorder_frames = limit }
 
-pub picture_arrives : (sps : Sps) (header : Header) (planes : Planes) (h : History) (order : ℤ) (reference : Bool) (capacity : ℕ) → order ≡ order_or_0 (order_counts sps header (pasts h)) →
-    reference ≡ is_reference header → capacity ≡ dpb_size sps → (m : Marks) → marks_of (decoded_picture sps header planes ∷ h) ≡ Ok m →
-    Arrives (decoded_picture sps header planes) h (picture_arrival order reference capacity) m
-picture_arrives sps header planes h order reference capacity order_is reference_is is m marked =
+pub picture_arrives : (sps : Sps) (header : Header) (planes : Planes) (h : History) (order : ℤ) (reference : Bool) (capacity : ℕ) (limit : Option ℕ) → order ≡ order_or_0 (order_counts sps header (pasts h)) →
+    reference ≡ is_reference header → capacity ≡ dpb_size sps → limit ≡ reorder_limit sps → (m : Marks) → marks_of (decoded_picture sps header planes ∷ h) ≡ Ok m →
+    Arrives (decoded_picture sps header planes) h (picture_arrival order reference capacity limit) m
+picture_arrives sps header planes h order reference capacity limit order_is reference_is is limit_is m marked =
     ap (λ o. record (arrival (decoded_picture sps header planes) h) { order = o }) (sym order_is)
     ∙ ap₂ (λ r k. record (arrival (decoded_picture sps header planes) h) { order = order; is_reference = r; capacity = k }) (sym reference_is) (sym is)
-    ∙ ap (λ r. record { order = order; existing = true; is_reference = reference; prior_pictures = prior_pictures_of header; capacity = capacity; max_num_reorder_frames = None; references = map (λ r. r.entry) (or_no_references r) }) marked
+    ∙ ap (λ l. record (arrival (decoded_picture sps header planes) h) { order = order; is_reference = reference; capacity = capacity; max_num_reorder_frames = l }) (sym limit_is)
+    ∙ ap (λ r. record { order = order; existing = true; is_reference = reference; prior_pictures = prior_pictures_of header; capacity = capacity; max_num_reorder_frames = limit; references = map (λ r. r.entry) (or_no_references r) }) marked
 
 previous_by : (t : Bool) (a b : ℕ) → (if t then a else b) ≡ elim t [ true ↦ a | false ↦ b ]
 previous_by true a b = refl

@@ -1,5 +1,6 @@
 -- An entry's frame is stored: the buffer of the longer history.
-use Rattle.std.proofs.Common.{◌≡◌, ℕ, suc, ◌+◌, ◌<◌, ◌≤◌, Bool, true, false, not, ◌||◌, cond, List, [], ◌∷◌, ◌++◌, length, map, Option, is_some, refl, ap, ap₂, sym, ◌∙◌, subst, arith, length-append}
+use Rattle.std.proofs.Common.{◌≡◌, ℕ, suc, ◌+◌, ◌<◌, ◌≤◌, Bool, true, false, not, ◌||◌, cond, List, [], ◌∷◌, ◌++◌, length, map, Option, is_some, refl}
+use Rattle.std.proofs.Common.{ap, ap₂, sym, ◌∙◌, subst, arith, length-append}
 use Rattle.std.proofs.lemmas.List.{length-map}
 use Rattle.std.specs.Prelude.{count_by, if◌then◌else◌}
 use Rattle.std.specs.List.{filter}
@@ -13,7 +14,7 @@ use Rattle.avc_plane.specs.declared.frame.Frame.{Frame}
 use Rattle.avc_plane.specs.Frames.{marked_frame}
 use Rattle.avc_marking.specs.Marks.{Marks}
 use Rattle.avc_dpb.specs.declared.arriving_frame.ArrivingFrame.{ArrivingFrame}
-use Rattle.avc_dpb.specs.declared.output.Output.TheVariants.{Full}
+use Rattle.avc_dpb.specs.declared.output.Output.{Output}
 use Rattle.avc_dpb.specs.Bumping.{Buffer, PriorPictures, remain, are_output, are_dropped, after_frame, after_prior_pictures, is_reference_in}
 use Rattle.avc_dpb.specs.Contents.{Contents, HasBuffer, IsBuffer, Stores, arrival_of}
 use Rattle.avc_dpb.specs.Laws.{HasRoom, places_of_references}
@@ -29,9 +30,9 @@ use Rattle.avc_decoder_core.proofs.Entering.{IsMarked}
 
 -- the stored frames once they are marked
 pub marked_buffer : (e : Entry) (h : History) (c : Contents (Frame 32)) (idx : Option ℕ) (previous : ℕ) (s : IsStateAfter h c idx previous) (m : Marks) (marked : List MarkedFrame) →
-    IsMarked e h m marked → (new : Contents (Frame 32)) → new ≡ with_all_marks c marked → IsBuffer new (buffer_of h) (length h) (frame_at (e ∷ h) m.references)
+    IsMarked c.output e h m marked → (new : Contents (Frame 32)) → new ≡ with_all_marks c marked → IsBuffer new (buffer_of c.output h) (length h) (frame_at (e ∷ h) m.references)
 marked_buffer e h c idx previous s m marked is new set =
-    let b = buffer_of h in
+    let b = buffer_of c.output h in
     let old = frame_at h (s.marks).references in
     let frame = frame_at (e ∷ h) m.references in
     let low = below (places_in b) (length h) (rise b.frames (length h) (s.buffer).rising) in
@@ -74,27 +75,27 @@ abbrev pub Arrives : Entry → History → ArrivingFrame → Marks → Type 0
 Arrives e h arriving m = arrival e h ≡ record (arrival_of arriving (entries m.references)) { prior_pictures = (arrival e h).prior_pictures }
 
 -- the buffer once the pictures before have gone out
-abbrev pub emptied : Entry → History → Buffer
-emptied e h = after_prior_pictures (arrival e h).prior_pictures (buffer_of h)
+abbrev pub emptied : Output → Entry → History → Buffer
+emptied output e h = after_prior_pictures (arrival e h).prior_pictures (buffer_of output h)
 
-buffer_is : (e : Entry) (h : History) (arriving : ArrivingFrame) (m : Marks) → Arrives e h arriving m →
-    after_frame Full (length h) (arrival_of arriving (entries m.references)) (emptied e h) ≡ buffer_of (e ∷ h)
-buffer_is e h arriving m arrives =
-    ap (λ a. after_frame Full (length h) a (emptied e h)) (sym arrives)
-    ∙ ap (λ n. after_frame Full n (arrival e h) (emptied e h)) (sym (length-arrivals h))
+buffer_is : (output : Output) (e : Entry) (h : History) (arriving : ArrivingFrame) (m : Marks) → Arrives e h arriving m →
+    after_frame output (length h) (arrival_of arriving (entries m.references)) (emptied output e h) ≡ buffer_of output (e ∷ h)
+buffer_is output e h arriving m arrives =
+    ap (λ a. after_frame output (length h) a (emptied output e h)) (sym arrives)
+    ∙ ap (λ n. after_frame output n (arrival e h) (emptied output e h)) (sym (length-arrivals h))
 
-pub stored_buffer : (e : Entry) (h : History) (arriving : ArrivingFrame) (m : Marks) → Arrives e h arriving m →
-    (old new : Contents (Frame 32)) (frame : Frame 32) (out : List Picture) → IsBuffer old (emptied e h) (length h) (frame_at (e ∷ h) m.references) → old.output ≡ Full →
+pub stored_buffer : (output : Output) (e : Entry) (h : History) (arriving : ArrivingFrame) (m : Marks) → Arrives e h arriving m →
+    (old new : Contents (Frame 32)) (frame : Frame 32) (out : List Picture) → IsBuffer old (emptied output e h) (length h) (frame_at (e ∷ h) m.references) → old.output ≡ output →
     frame_at (e ∷ h) m.references (length h) ≡ frame → Stores shown_frame (λ f. is_some f.mark) old frame arriving out new →
-    HasBuffer shown_frame new out (emptied e h) (buffer_of (e ∷ h)) (length h + 1) (frame_at (e ∷ h) m.references)
-stored_buffer e h arriving m arrives old new frame out is full own stores =
+    HasBuffer shown_frame new out (emptied output e h) (buffer_of output (e ∷ h)) (length h + 1) (frame_at (e ∷ h) m.references)
+stored_buffer output e h arriving m arrives old new frame out is same own stores =
     let n = length h in
     let at = frame_at (e ∷ h) m.references in
-    let has = stores (emptied e h) n at (entries m.references) is
-    (ap (map (λ f. is_some f.mark)) is.frames ∙ referenced_are (e ∷ h) m.references (emptied e h).frames)
+    let has = stores (emptied output e h) n at (entries m.references) is
+    (ap (map (λ f. is_some f.mark)) is.frames ∙ referenced_are (e ∷ h) m.references (emptied output e h).frames)
     own (ap (λ f. is_some f.mark) (sym own) ∙ referenced_is (e ∷ h) m.references n) in
-    subst (λ b. HasBuffer shown_frame new out (emptied e h) b (n + 1) at)
-    (ap (λ o. after_frame o n (arrival_of arriving (entries m.references)) (emptied e h)) full ∙ buffer_is e h arriving m arrives) has
+    subst (λ b. HasBuffer shown_frame new out (emptied output e h) b (n + 1) at)
+    (ap (λ o. after_frame o n (arrival_of arriving (entries m.references)) (emptied output e h)) same ∙ buffer_is output e h arriving m arrives) has
 
 -- ---- the reference frames
 
@@ -106,12 +107,12 @@ by_places h rs qs =
     ∙ ap (map (λ p. reference_of p (marked_frame (frame_at h rs p)))) (same_filter (λ p. is_some (frame_at h rs p).mark) (is_entry rs) qs (referenced_is h rs))
 
 -- there is room for the entry's own
-room : (e : Entry) (h : History) (m : Marks) (marked : List MarkedFrame) → IsMarked e h m marked → (b : Buffer) →
-    places_of_references (entries m.references) b ≡ filter (is_entry m.references) (places_in (buffer_of h)) → is_entry m.references (length h) ≡ true →
+room : (output : Output) (e : Entry) (h : History) (m : Marks) (marked : List MarkedFrame) → IsMarked output e h m marked → (b : Buffer) →
+    places_of_references (entries m.references) b ≡ filter (is_entry m.references) (places_in (buffer_of output h)) → is_entry m.references (length h) ≡ true →
     count_by (is_reference_in (entries m.references)) b.frames + 1 ≡ length m.references
-room e h m marked is b same own =
+room output e h m marked is b same own =
     let n = length h in
-    let ps = places_in (buffer_of h) in
+    let ps = places_in (buffer_of output h) in
     let rs = m.references in
     let frame : ℕ → Reference = λ p. reference_of p (marked_frame (frame_at (e ∷ h) rs p)) in
     let counted : count_by (is_reference_in (entries rs)) b.frames ≡ length (filter (is_entry rs) ps) =
@@ -128,26 +129,26 @@ last_own true n = refl
 last_own false n = refl
 
 -- The buffer has the reference frames of the longer history.
-pub stored_references : (e : Entry) (h : History) (arriving : ArrivingFrame) (m : Marks) (marked : List MarkedFrame) → Arrives e h arriving m → IsMarked e h m marked →
+pub stored_references : (output : Output) (e : Entry) (h : History) (arriving : ArrivingFrame) (m : Marks) (marked : List MarkedFrame) → Arrives e h arriving m → IsMarked output e h m marked →
     (all : Bool) → (all ≡ true → Each (λ r. r.entry ≡ length h) m.references) → (all ≡ false → (arrival e h).prior_pictures ≡ remain) →
-    Each (λ p. p < length h) (places_in (buffer_of h)) →
+    Each (λ p. p < length h) (places_in (buffer_of output h)) →
     (is_entry m.references (length h) ≡ true → (arriving.is_reference || not arriving.existing) ≡ true) → length m.references ≤ arriving.capacity →
-    (old new : Contents (Frame 32)) → IsBuffer old (emptied e h) (length h) (frame_at (e ∷ h) m.references) →
-    IsBuffer new (buffer_of (e ∷ h)) (length h + 1) (frame_at (e ∷ h) m.references) →
-    references_at (places_in (buffer_of (e ∷ h))) (map marked_frame new.frames) ≡ m.references
-stored_references e h arriving m marked arrives is all alone stays low stored limit old new before after =
+    (old new : Contents (Frame 32)) → IsBuffer old (emptied output e h) (length h) (frame_at (e ∷ h) m.references) →
+    IsBuffer new (buffer_of output (e ∷ h)) (length h + 1) (frame_at (e ∷ h) m.references) →
+    references_at (places_in (buffer_of output (e ∷ h))) (map marked_frame new.frames) ≡ m.references
+stored_references output e h arriving m marked arrives is all alone stays low stored limit old new before after =
     let n = length h in
     let rs = m.references in
-    let ps = places_in (buffer_of h) in
-    let b = emptied e h in
-    let b' = buffer_of (e ∷ h) in
+    let ps = places_in (buffer_of output h) in
+    let b = emptied output e h in
+    let b' = buffer_of output (e ∷ h) in
     let at = frame_at (e ∷ h) rs in
     let a = arrival_of arriving (entries rs) in
-    let same : places_of_references (entries rs) b ≡ filter (is_entry rs) ps = kept rs n (buffer_of h) (arrival e h).prior_pictures all alone stays low in
+    let same : places_of_references (entries rs) b ≡ filter (is_entry rs) ps = kept rs n (buffer_of output h) (arrival e h).prior_pictures all alone stays low in
     let has_room : is_entry rs n ≡ true → HasRoom a b =
-    λ own. let count = room e h m marked is b same own in record { stored = stored own; room = omega (arith, limit, count) } in
+    λ own. let count = room output e h m marked is b same own in record { stored = stored own; room = omega (arith, limit, count) } in
     let stay : places_of_references (entries rs) b' ≡ places_of_references (entries rs) b ++ (if is_entry rs n then n ∷ [] else []) =
-    sym (ap (places_of_references (entries rs)) (buffer_is e h arriving m arrives)) ∙ references_stay Full n a b before.rising has_room in
+    sym (ap (places_of_references (entries rs)) (buffer_is output e h arriving m arrives)) ∙ references_stay output n a b before.rising has_room in
     let places : filter (is_entry rs) (places_in b') ≡ filter (is_entry rs) (ps ++ n ∷ []) =
     sym (kept_remain rs b') ∙ stay ∙ ap₂ (λ l r. l ++ r) same (last_own (is_entry rs n) n) ∙ sym (filter-append (is_entry rs) ps (n ∷ [])) in
     ap (references_at (places_in b')) (ap (map marked_frame) after.frames ∙ map-map marked_frame (λ s. at s.entry) b'.frames ∙ sym (map-map (λ p. marked_frame (at p)) (λ s. s.entry) b'.frames))

@@ -8,13 +8,13 @@ use Rattle.avc_plane.specs.declared.frame.Frame.{Frame}
 use Rattle.avc_params.specs.Limits.{width_in_mbs, height_in_mbs, reference_limit}
 use Rattle.avc_params.specs.declared.sps.Sps.{Sps}
 use Rattle.avc_marking.specs.Marks.{Marks, frame_num_after_marking, prev_ref_frame_num}
-use Rattle.avc_dpb.specs.declared.output.Output.TheVariants.{Full}
 use Rattle.avc_dpb.specs.Bumping.{Buffer, PriorPictures, after_prior_pictures, are_dropped, are_output, remain}
 use Rattle.avc_dpb.specs.Contents.{Contents, IsBuffer, HasBuffer}
 use Rattle.avc_dpb.specs.Laws.{IsWithin}
 use Rattle.avc_dpb.specs.StoredFrame.{shown_frame}
 use Rattle.avc_decoder_core.specs.Frames.{frame_at}
-use Rattle.avc_decoder_core.specs.History.{Entry, decoded_picture, missing_frame, History, arrivals, buffer_of, entry_at, marking_entries, marks_of, picture_entry, planes_in, sequence_sps}
+use Rattle.avc_decoder_core.specs.History.{Entry, decoded_picture, missing_frame, History, arrivals, buffer_of, entry_at, marking_entries, marks_of}
+use Rattle.avc_decoder_core.specs.History.{picture_entry, planes_in, sequence_sps}
 use Rattle.avc_decoder_core.specs.FrameBufferState.{FrameBufferState}
 use Rattle.avc_decoder_core.specs.declared.history_entry.HistoryEntry.{HistoryEntry}
 use Rattle.avc_decoder_core.specs.declared.history_entry.HistoryEntry.TheVariants as entries
@@ -33,7 +33,7 @@ frame_num_of (decoded_picture sps h planes) = frame_num_after_marking (picture_e
 frame_num_of (missing_frame sps frame_num) = frame_num
 
 abbrev pub frame_buffer_state : Inside → FrameBufferState
-frame_buffer_state b = record { history = history_of b.history.items; frames = b.dpb.frames; failed = b.failed }
+frame_buffer_state b = record { history = history_of b.history.items; frames = b.dpb.frames; output = b.dpb.output; failed = b.failed }
 
 -- P holds of each
 abbrev pub Each : {A : Type 0} → (A → Type 0) → List A → Type 0
@@ -54,12 +54,11 @@ pub record IsStateAfter (history : History) (dpb : Contents (Frame 32)) (idx : O
   pub marked : marks_of history ≡ Ok marks
   pub idx_is : idx ≡ marks.max_long_term_frame_idx
   pub previous_is : previous ≡ prev_ref_frame_num (marking_entries history)
-  pub full : dpb.output ≡ Full
-  pub buffer : IsBuffer dpb (buffer_of history) (length history) (frame_at history marks.references)
-  pub references : references_at (places_in (buffer_of history)) (map marked_frame dpb.frames) ≡ marks.references
+  pub buffer : IsBuffer dpb (buffer_of dpb.output history) (length history) (frame_at history marks.references)
+  pub references : references_at (places_in (buffer_of dpb.output history)) (map marked_frame dpb.frames) ≡ marks.references
   pub few : IfSome (sequence_sps history) (λ sps. length marks.references ≤ reference_limit sps)
   pub within : IsWithin 16 (arrivals history)
-  pub sized : IfSome (sequence_sps history) (λ sps. Each (IsSizedAt history sps) (places_in (buffer_of history)))
+  pub sized : IfSome (sequence_sps history) (λ sps. Each (IsSizedAt history sps) (places_in (buffer_of dpb.output history)))
 
 abbrev pub IsFrameBufferState : Inside → Type 0
 IsFrameBufferState b = b.failed ≡ false → IsStateAfter (history_of b.history.items) b.dpb b.max_long_term_frame_idx b.prev_ref_frame_num

@@ -5,6 +5,7 @@ use Rattle.avc_types.specs.declared.fault.Fault.{Fault}
 use Rattle.avc_types.specs.declared.picture.Picture.{Picture}
 use Rattle.avc_types.specs.declared.picture_error.PictureError.{PictureError}
 use Rattle.avc_types.specs.declared.picture_error.PictureError.TheVariants.{Fault as Faulty, OutOfMemory}
+use Rattle.avc_dpb.specs.declared.output.Output.{Output}
 use Rattle.avc_plane.specs.declared.frame.Frame.{Frame}
 use Rattle.avc_params.specs.declared.sps.Sps.{Sps}
 use Rattle.avc_slice.specs.Header.{is_idr, is_reference, has_idr_marking}
@@ -13,16 +14,17 @@ use Rattle.avc_marking.specs.Marks.{Marks}
 use Rattle.avc_decoder_core.specs.History.{Entry, History, is_same_sps, marks_of, sequence_sps}
 use Rattle.avc_decoder_core.specs.Pictures.{output_pictures, held_pictures}
 
--- The history of decoded pictures and missing numbers, the stored frames with their marks in decoding order, and whether memory
--- was refused.
+-- The history of decoded pictures and missing numbers, the stored frames with their marks in decoding order, when pictures go out,
+-- and whether memory was refused.
 pub record FrameBufferState : Type 0 where
   pub history : History
   pub frames : List (Frame 32)
+  pub output : Output
   pub failed : Bool
 
 -- with no history
-abbrev pub empty_frame_buffer : FrameBufferState
-empty_frame_buffer = record { history = []; frames = []; failed = false }
+abbrev pub empty_frame_buffer : Output → FrameBufferState
+empty_frame_buffer output = record { history = []; frames = []; output = output; failed = false }
 
 -- The picture is an IDR picture with the marking of one, or it has the parameter set of its sequence (7.4.1.2.1). It has a marking
 -- where it is a reference picture (7.3.3).
@@ -34,9 +36,9 @@ pub record CanFollow (history : History) (sps : Sps) (h : Header) : Type 0 where
 -- The entry has come to the history, and these pictures go out.
 pub record Stores (old : FrameBufferState) (e : Entry) (out : List Picture) (new : FrameBufferState) : Type 0 where
   pub going : old.failed ≡ false
-  pub state : new ≡ record { history = e ∷ old.history; frames = new.frames; failed = false }
+  pub state : new ≡ record { history = e ∷ old.history; frames = new.frames; output = old.output; failed = false }
   pub marked : is_ok (marks_of (e ∷ old.history)) ≡ true
-  pub pictures : out ≡ output_pictures old.history (e ∷ old.history)
+  pub pictures : out ≡ output_pictures old.output old.history (e ∷ old.history)
 
 -- The entry could not be marked, and nothing changed, or memory was refused.
 abbrev pub Refuses : (old : FrameBufferState) → Result Marks Fault → PictureError → (new : FrameBufferState) → Type 0
@@ -46,5 +48,5 @@ Refuses old marked OutOfMemory new = new.failed ≡ true
 -- All held pictures go out, and the history is forgotten.
 pub record IsEmptied (old : FrameBufferState) (out : List Picture) (new : FrameBufferState) : Type 0 where
   pub going : old.failed ≡ false
-  pub state : new ≡ empty_frame_buffer
-  pub pictures : out ≡ held_pictures old.history
+  pub state : new ≡ empty_frame_buffer old.output
+  pub pictures : out ≡ held_pictures old.output old.history

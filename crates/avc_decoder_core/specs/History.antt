@@ -1,6 +1,7 @@
 -- The history of a sequence of pictures, and what decoding one more picture starts from. A history is written with its
 -- newest entry first; an entry's place is the number of those before it.
 use Rattle.std.specs.Prelude.{ℕ, zero, suc, ◌-◌, ℤ, pos, Bool, true, false, List, [], ◌∷◌, length, map, drop, Option, Some, None, slice_get, Result, Ok, Err}
+use Rattle.std.specs.Option.{option_map}
 use Rattle.avc_types.specs.declared.current_frame_num.CurrentFrameNum.{CurrentFrameNum}
 use Rattle.avc_types.specs.declared.fault.Fault.{Fault}
 use Rattle.avc_types.specs.declared.fault.Fault.TheVariants as faults
@@ -8,13 +9,13 @@ use Rattle.avc_types.specs.declared.references.Marking.TheVariants.{Idr, Sliding
 use Rattle.avc_types.specs.References.{Reference}
 use Rattle.avc_plane.specs.Planes.{Planes, StoredFrame}
 use Rattle.avc_params.specs.declared.sps.Sps.{Sps}
-use Rattle.avc_params.specs.Limits.{max_frame_num, dpb_size}
+use Rattle.avc_params.specs.Limits.{max_frame_num, dpb_size, restriction_of}
 use Rattle.avc_params.specs.Same.{same_sps}
 use Rattle.avc_slice.specs.declared.header.Header.{Header}
 use Rattle.avc_slice.specs.Header.{is_idr, is_reference, has_operation_5}
 use Rattle.avc_poc.specs.OrderCounts.{Counts, Past, picture, missing, order_counts, order_of}
 use Rattle.avc_marking.specs.Marks.{MarkingEntry, Marks, marks, prev_ref_frame_num, missing_frame_nums}
-use Rattle.avc_dpb.specs.declared.output.Output.TheVariants.{Full}
+use Rattle.avc_dpb.specs.declared.output.Output.{Output}
 use Rattle.avc_dpb.specs.Bumping.{PriorPictures, remain, are_output, are_dropped, Arrival, Buffer, buffer_after, held_in_output_order}
 
 -- A closed picture with its parameter set, its first slice's header and its planes; or a frame number
@@ -105,7 +106,12 @@ abbrev pub order_or_0 : Result Counts Fault → ℤ
 order_or_0 (Ok c) = order_of c
 order_or_0 (Err f) = pos 0
 
--- what output asks of an entry: PicOrderCnt, and the reference frames once it is marked (C.4.2, C.4.4, C.4.5)
+-- max_num_reorder_frames, where the parameter set gives it (E.2.1)
+abbrev pub reorder_limit : Sps → Option ℕ
+reorder_limit sps = option_map (λ r. r.max_num_reorder_frames) (restriction_of sps)
+
+-- What output asks of an entry: PicOrderCnt, and the reference frames once it is marked (C.4.2, C.4.4, C.4.5). A
+-- missing frame number sets no limit, since its frame is never held.
 abbrev pub arrival : Entry → (older : History) → Arrival
 arrival (decoded_picture sps h planes) older = record {
   order = order_or_0 (order_counts sps h (pasts older));
@@ -113,7 +119,7 @@ arrival (decoded_picture sps h planes) older = record {
   is_reference = is_reference h;
   prior_pictures = prior_pictures_of h;
   capacity = dpb_size sps;
-  max_num_reorder_frames = None;
+  max_num_reorder_frames = reorder_limit sps;
   references = map (λ r. r.entry) (references_of (decoded_picture sps h planes ∷ older));
 }
 arrival (missing_frame sps frame_num) older = record {
@@ -132,16 +138,16 @@ arrivals [] = []
 arrivals (e ∷ older) = arrival e older ∷ arrivals older
 
 -- what has gone out, and what is in the buffer (C.4)
-abbrev pub buffer_of : History → Buffer
-buffer_of h = buffer_after Full (arrivals h)
+abbrev pub buffer_of : Output → History → Buffer
+buffer_of output h = buffer_after output (arrivals h)
 
 -- the places of the pictures that go out where history `old` has become `new` (C.4.5.3)
-abbrev pub new_output : (old new : History) → List ℕ
-new_output old new = drop (length (buffer_of old).out) (buffer_of new).out
+abbrev pub new_output : Output → (old new : History) → List ℕ
+new_output output old new = drop (length (buffer_of output old).out) (buffer_of output new).out
 
 -- the places of the pictures that are held, in the order in which they go out (C.4.5.3)
-abbrev pub all_held : History → List ℕ
-all_held h = map (λ s. s.entry) (held_in_output_order (buffer_of h).frames)
+abbrev pub all_held : Output → History → List ℕ
+all_held output h = map (λ s. s.entry) (held_in_output_order (buffer_of output h).frames)
 
 -- ---- entries by their places (this decoder's form of the buffer's frames)
 

@@ -10,7 +10,8 @@ use Rattle.avc_slice.specs.Header.{is_idr}
 use Rattle.avc_poc.specs.OrderCountState.{OrderCountState, order_count_state}
 use Rattle.avc_poc.specs.OrderCounts.{order_counts, picture}
 use Rattle.avc_marking.specs.Marks.{missing_frame_nums, prev_ref_frame_num}
-use Rattle.avc_decoder_core.specs.History.{History, missing_frame, is_same_sps, marking_entries, order_or_0, pasts, picture_entry, sequence_sps, with_order_counts}
+use Rattle.avc_decoder_core.specs.History.{History, missing_frame, is_same_sps, marking_entries, order_or_0, pasts, picture_entry, sequence_sps}
+use Rattle.avc_decoder_core.specs.History.{with_order_counts}
 use Rattle.avc_decoder_core.specs.FrameBufferState.{FrameBufferState}
 use Rattle.avc_decoder_core.specs.Pictures.{output_pictures}
 
@@ -58,4 +59,5 @@ set_with sps h before = elim (is_idr h) [ true ↦ Some sps | false ↦ before ]
 pub record StoresAll (old : FrameBufferState) (full : Result History Fault) (out : List Picture) (new : FrameBufferState) : Type 0 where
   pub going : new.failed ≡ false
   pub history : full ≡ Ok new.history
-  pub pictures : out ≡ output_pictures old.history new.history
+  pub output : new.output ≡ old.output
+  pub pictures : out ≡ output_pictures old.output old.history new.history

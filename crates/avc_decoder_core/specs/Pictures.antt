@@ -3,6 +3,7 @@ use Rattle.std.specs.Prelude.{ℕ, ◌*◌, List, [], ◌∷◌, Option, Some, N
 use Rattle.std.specs.List.{flat_map}
 use Rattle.avc_types.specs.declared.picture.Crop.{Crop}
 use Rattle.avc_types.specs.declared.picture.Picture.{Picture}
+use Rattle.avc_dpb.specs.declared.output.Output.{Output}
 use Rattle.avc_plane.specs.Planes.{Planes}
 use Rattle.avc_params.specs.Limits.{width_in_mbs, height_in_mbs}
 use Rattle.avc_params.specs.declared.sps.Cropping.{Cropping}
@@ -41,9 +42,9 @@ abbrev pub pictures_at : History → List ℕ → List Picture
 pictures_at h places = flat_map (λ place. entry_pictures (entry_at h place)) places
 
 -- what goes out where `old` has become `new` (C.4.5.3)
-abbrev pub output_pictures : (old new : History) → List Picture
-output_pictures old new = pictures_at new (new_output old new)
+abbrev pub output_pictures : Output → (old new : History) → List Picture
+output_pictures output old new = pictures_at new (new_output output old new)
 
 -- all held pictures, in the order in which they go out (C.4.5.3)
-abbrev pub held_pictures : History → List Picture
-held_pictures h = pictures_at h (all_held h)
+abbrev pub held_pictures : Output → History → List Picture
+held_pictures output h = pictures_at h (all_held output h)

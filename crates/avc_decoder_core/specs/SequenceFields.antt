@@ -20,6 +20,7 @@ sequence_state s = record {
   history = history_of s.closed.items;
   open_picture = option_map open_picture_of s.open_picture;
   frames = s.buffer.frames;
+  output = s.buffer.output;
   failed = s.failed;
 }
 
@@ -39,7 +40,8 @@ abbrev pub counted : History → Option OpenPicture → List Past
 counted history None = pasts history
 counted history (Some o) = picture o.sps o.header ∷ pasts history
 
-pub record IsStateOf (closed : History) (open_picture : Option OpenPicture) (buffer : FrameBufferState) (poc : OrderCountState) (sps : Option Sps) : Type 0 where
+pub record IsStateOf (closed : History) (open_picture : Option OpenPicture) (buffer : FrameBufferState) (poc : OrderCountState)
+    (sps : Option Sps) : Type 0 where
   pub going : buffer.failed ≡ false
   pub stands : StandsOnIf closed buffer.history open_picture
   pub counts : poc ≡ order_count_state (counted buffer.history open_picture)

@@ -5,6 +5,7 @@ use Rattle.avc_types.specs.declared.picture.Picture.{Picture}
 use Rattle.avc_types.specs.declared.picture_error.PictureError.{PictureError}
 use Rattle.avc_types.specs.declared.picture_error.PictureError.TheVariants.{Fault as Faulty, OutOfMemory}
 use Rattle.avc_types.specs.References.{StandAt}
+use Rattle.avc_dpb.specs.declared.output.Output.{Output}
 use Rattle.avc_plane.specs.Planes.{Planes}
 use Rattle.avc_plane.specs.Frames.{AreFrames, AreSized, marked_frame, stored_at}
 use Rattle.avc_plane.specs.declared.frame.Frame.{Frame}
@@ -20,16 +21,17 @@ pub record OpenPictureStart : Type 0 where
   pub header : Header
 
 -- The history of closed pictures and missing numbers since the sequence was cleared, the picture that was opened on it, if there
--- is one, the stored frames with their marks in decoding order, and whether memory was refused.
+-- is one, the stored frames with their marks in decoding order, when pictures go out, and whether memory was refused.
 pub record SequenceState : Type 0 where
   pub history : History
   pub open_picture : Option OpenPictureStart
   pub frames : List (Frame 32)
+  pub output : Output
   pub failed : Bool
 
 -- with no history
-abbrev pub empty_sequence : SequenceState
-empty_sequence = record { history = []; open_picture = None; frames = []; failed = false }
+abbrev pub empty_sequence : Output → SequenceState
+empty_sequence output = record { history = []; open_picture = None; frames = []; output = output; failed = false }
 
 -- the picture of this first slice is open, and these are the stored frames
 abbrev pub with_open_picture : Sps → Header → List (Frame 32) → SequenceState → SequenceState
@@ -49,14 +51,14 @@ pub record IsOpened (old : SequenceState) (sps : Sps) (h : Header) (out : List P
   pub going : old.failed ≡ false
   pub state : new ≡ with_open_picture sps h new.frames old
   pub stands : history_at_opening sps h old.history ≡ Ok (current_history new)
-  pub pictures : out ≡ output_pictures old.history (current_history new)
+  pub pictures : out ≡ output_pictures old.output old.history (current_history new)
 
 -- The open picture was closed with these planes, and these pictures go out.
 pub record IsClosed (old : SequenceState) (o : OpenPictureStart) (planes : Planes) (out : List Picture) (new : SequenceState) : Type 0 where
   pub going : old.failed ≡ false
-  pub state : new ≡ record { history = new.history; open_picture = None; frames = new.frames; failed = false }
+  pub state : new ≡ record { history = new.history; open_picture = None; frames = new.frames; output = old.output; failed = false }
   pub closes : history_after_closing o.sps o.header planes (current_history old) ≡ Ok new.history
-  pub pictures : out ≡ output_pictures (current_history old) new.history
+  pub pictures : out ≡ output_pictures old.output (current_history old) new.history
 
 -- A call failed: with the fault in place of a history, and nothing changed, or for want of memory.
 abbrev pub Fails : (old : SequenceState) → Result History Fault → PictureError → (new : SequenceState) → Type 0
@@ -66,8 +68,8 @@ Fails old what OutOfMemory new = new.failed ≡ true
 -- All that was held goes out, and the history is forgotten.
 pub record IsCleared (old : SequenceState) (out : List Picture) (new : SequenceState) : Type 0 where
   pub going : old.failed ≡ false
-  pub state : new ≡ empty_sequence
-  pub pictures : out ≡ held_pictures (current_history old)
+  pub state : new ≡ empty_sequence old.output
+  pub pictures : out ≡ held_pictures old.output (current_history old)
 
 -- The frames of the buffer are those of some places of the history, and those that are used for reference are the history's.
 pub record AreStoredIn {PAD : ℕ} (history : History) (frames : List (Frame PAD)) : Type 0 where

@@ -1,13 +1,13 @@
-ghost use Rattle.std.specs.Prelude.{◌≡◌, ◌∷◌, ◌++◌, ◌≤◌, false, true, ◌*◌, if◌then◌else◌, is_some, length, map, Some, IfErr, IfOk, OnErr, OnOk};
+ghost use Rattle.std.specs.Prelude.{◌≡◌, ◌∷◌, ◌++◌, ◌≤◌, false, true, if◌then◌else◌, is_some, length, map, Some};
+ghost use Rattle.std.specs.Prelude.{IfErr, IfOk, OnErr, OnOk};
 ghost use Rattle.avc_types.specs.References.{result_map};
 ghost use Rattle.avc_decoder_core.specs.FrameBufferFields.{entry_of, frame_num_of, history_of, is_dropping, is_output, with_all_marks, OutputsPrior};
 ghost use Rattle.avc_decoder_core.specs.FrameBufferState.{empty_frame_buffer, CanFollow, IsEmptied, Refuses, Stores};
-ghost use Rattle.avc_decoder_core.specs.Frames.{frame_of};
+ghost use Rattle.avc_decoder_core.specs.Frames.{coded_frame, frame_of};
 ghost use Rattle.avc_decoder_core.specs.History.{current_in, decoded_picture, is_same_sps, marking_entries};
 ghost use Rattle.avc_decoder_core.specs.History.{marks_of, missing_frame, order_or_0, pasts, picture_entry};
-ghost use Rattle.avc_decoder_core.specs.History.{prior_pictures_of, sequence_sps};
+ghost use Rattle.avc_decoder_core.specs.History.{prior_pictures_of, reorder_limit, sequence_sps};
 ghost use Rattle.avc_decoder_core.specs.SequenceState.{AreFramesIn, AreStoredIn};
-ghost use Rattle.avc_decoder_core.specs.Pictures.{crop_of};
 ghost use Rattle.avc_marking.specs.Marks.{missing_frame_nums, prev_ref_frame_num};
 ghost use Rattle.avc_params.specs.Limits.{height_in_mbs, width_in_mbs};
 ghost use Rattle.avc_params.specs.Within.{IsSps};
@@ -117,7 +117,7 @@ fn coded_frame(
     frame_num: u32,
     mark: Option<Mark>,
 ) -> Frame<PADDING>
-    ensures { result ≡ record { planes = planes; frame_num = frame_num; mark = mark; width = 16 * width_in_mbs sps; height = 16 * height_in_mbs sps; crop = crop_of sps.frame_cropping } }
+    ensures { result ≡ coded_frame sps planes frame_num mark }
 {
     Frame {
         planes,
@@ -139,6 +139,19 @@ fn entry_frame(entry: HistoryEntry, frame_num: u32, mark: Option<Mark>) -> Frame
             coded_frame(sps, Some(planes), frame_num, mark)
         }
         HistoryEntry::MissingFrame { sps, .. } => coded_frame(sps, None, frame_num, mark),
+    }
+}
+
+/// max_num_reorder_frames, where the parameter set gives it (E.2.1).
+fn reorder_limit(sps: &Sps) -> Option<u32>
+    ensures { result ≡ reorder_limit sps.now }
+{
+    match &sps.vui {
+        None => None,
+        Some(vui) => match &vui.restriction {
+            None => None,
+            Some(restriction) => Some(restriction.max_num_reorder_frames),
+        },
     }
 }
 
@@ -200,12 +213,12 @@ fn joined(mut pictures: Vec<Picture>, mut more: Vec<Picture>) -> Result<Vec<Pict
 
 impl FrameBuffer {
     /// With no history.
-    pub fn new(alloc: Global) -> FrameBuffer
-        ensures { result ≡ empty_frame_buffer }
+    pub fn new(alloc: Global, output: Output) -> FrameBuffer
+        ensures { result ≡ empty_frame_buffer output }
     {
         FrameBuffer {
             alloc,
-            dpb: Dpb::new(alloc, Output::Full),
+            dpb: Dpb::new(alloc, output),
             max_long_term_frame_idx: None,
             prev_ref_frame_num: 0,
             failed: false,
@@ -226,7 +239,8 @@ impl FrameBuffer {
     pub fn missing_frame_nums(&self, sps: &Sps, header: &Header) -> Result<MissingFrameNums, Fault>
         requires going { self.now.failed ≡ false }
         requires sps { IsSps sps.now }
-        ensures { result ≡ missing_frame_nums (prev_ref_frame_num (marking_entries self.now.history)) sps.now.gaps_in_frame_num_value_allowed_flag (picture_entry sps.now header.now) }
+        ensures { result ≡ missing_frame_nums (prev_ref_frame_num (marking_entries self.now.history))
+            sps.now.gaps_in_frame_num_value_allowed_flag (picture_entry sps.now header.now) }
     {
         missing_frame_nums(
             self.prev_ref_frame_num,
@@ -294,7 +308,8 @@ impl FrameBuffer {
         requires order { order ≡ order_or_0 (order_counts sps.now header.now (pasts self.old.history)) }
         requires sized { AreSized (width_in_mbs sps.now) (height_in_mbs sps.now) (padded_planes_of planes) }
         ensures ok { IfOk result (λ out. Stores self.old (decoded_picture sps.now header.now (padded_planes_of planes)) out.items self.new) }
-        ensures err { IfErr result (λ error. Refuses self.old (marks_of (decoded_picture sps.now header.now (padded_planes_of planes) ∷ self.old.history)) error self.new) }
+        ensures err { IfErr result (λ error.
+            Refuses self.old (marks_of (decoded_picture sps.now header.now (padded_planes_of planes) ∷ self.old.history)) error self.new) }
         ensures closed { OnOk result (history_of closed.new.items ≡ self.new.history) }
         ensures kept { OnErr result (closed.new.items ≡ closed.old.items) }
     {
@@ -324,7 +339,7 @@ impl FrameBuffer {
             existing: true,
             is_reference: header.is_reference(),
             capacity: sps.dpb_size() as usize,
-            max_num_reorder_frames: None,
+            max_num_reorder_frames: reorder_limit(sps),
         };
         let more = self.dpb.store(frame, &arriving)?;
         let out = joined(prior, more)?;

@@ -8,4 +8,5 @@ pub mod laws;
 mod open_picture;
 mod sequence;
 
+pub use avc_dpb::Output;
 pub use sequence::Sequence;

@@ -15,6 +15,7 @@ ghost use Rattle.avc_slice.specs.Header.{has_idr_marking, is_idr, is_reference};
 use crate::frame_buffer::FrameBuffer;
 use crate::history_entry::HistoryEntry;
 use crate::open_picture::OpenPicture;
+use avc_dpb::Output;
 use avc_marking::MissingFrameNums;
 use avc_params::Sps;
 use avc_plane::{Frame, PADDING, PaddedPlanes};
@@ -184,12 +185,12 @@ fn set_after(before: Option<Sps>, picture: OpenPicture) -> Option<Sps>
 
 impl Sequence {
     /// With no history.
-    pub fn new(alloc: Global) -> Sequence
-        ensures { result ≡ empty_sequence }
+    pub fn new(alloc: Global, output: Output) -> Sequence
+        ensures { result ≡ empty_sequence output }
     {
         Sequence {
             alloc,
-            buffer: FrameBuffer::new(alloc),
+            buffer: FrameBuffer::new(alloc, output),
             poc: Poc::new(),
             sps: None,
             open_picture: None,
@@ -242,8 +243,11 @@ impl Sequence {
     /// Closes the open picture, whose samples are these: marks it, and lets pictures go out. Answers these.
     pub fn close(&mut self, planes: PaddedPlanes<PADDING>) -> Result<Vec<Picture>, PictureError>
         requires sized { (o : OpenPictureStart) → self.old.open_picture ≡ Some o → AreSizedAs o (padded_planes_of planes) }
-        ensures ok { IfOk result (λ out. (o : OpenPictureStart) → self.old.open_picture ≡ Some o → IsClosed self.old o (padded_planes_of planes) out.items self.new) }
-        ensures err { IfErr result (λ error. (o : OpenPictureStart) → self.old.open_picture ≡ Some o → Fails self.old (history_after_closing o.sps o.header (padded_planes_of planes) (current_history self.old)) error self.new) }
+        ensures ok { IfOk result (λ out.
+            (o : OpenPictureStart) → self.old.open_picture ≡ Some o → IsClosed self.old o (padded_planes_of planes) out.items self.new) }
+        ensures err { IfErr result (λ error.
+            (o : OpenPictureStart) → self.old.open_picture ≡ Some o →
+            Fails self.old (history_after_closing o.sps o.header (padded_planes_of planes) (current_history self.old)) error self.new) }
     {
         if self.failed {
             return Err(PictureError::OutOfMemory);
@@ -273,7 +277,8 @@ impl Sequence {
         }
     }
 
-    /// Hands out all held pictures and forgets the history, with the open picture, if there is one.
+    /// Hands out all held pictures and forgets the history, with the open picture, if there is one. When pictures go out stays
+    /// as it was.
     pub fn clear(&mut self) -> Result<Vec<Picture>, OutOfMemory>
         ensures ok { IfOk result (λ out. IsCleared self.old out.items self.new) }
         ensures err { OnErr result (self.new.failed ≡ true) }
@@ -283,7 +288,11 @@ impl Sequence {
         }
         self.failed = true;
         let out = self.buffer.empty()?;
-        *self = Sequence::new(self.alloc);
+        self.poc = Poc::new();
+        self.sps = None;
+        self.open_picture = None;
+        self.closed = History::new();
+        self.failed = false;
         Ok(out)
     }
 

@@ -1,4 +1,4 @@
-use Rattle.std.proofs.Common.{◌∙◌, sym}
+use Rattle.std.proofs.Common.{◌∙◌, refl, sym}
 use Rattle.avc_decoder_core.proofs.MissingNumbers.{marked_at_opening, numbers_known, opens_idr, opens_other, same_at_opening}
 use Rattle.avc_decoder_core.proofs.Outputs.{nothing_goes_out}
 use Rattle.avc_decoder_core.proofs.sequence.store_all_missing.Goals as goal
@@ -9,7 +9,8 @@ returns-then-is_idr-clause-ok c =
     record {
       going = c.requires.going;
       history = opens_idr c.args.sps.now c.args.header.now history (sym c.is_idr.ensures ∙ c.if-is_idr.true) c.requires.opens;
-      pictures = c.new.ensures.items ∙ nothing_goes_out history;
+      output = refl;
+      pictures = c.new.ensures.items ∙ nothing_goes_out c.args.buffer.now.output history;
     }
 
 pub returns-in_err-numbers-clause-err : goal.returns-in_err-numbers-clause-err
@@ -31,5 +32,6 @@ returns-clause-ok c =
       history =
           opens_other c.args.sps.now c.args.header.now c.args.buffer.now.history c.store_missing.new.buffer.history c.in_ok-numbers.numbers (sym c.is_idr.ensures ∙ c.if-is_idr.false) c.requires.opens
           c.in_ok-numbers.ensures stores.history;
+      output = stores.output;
       pictures = stores.pictures;
     }

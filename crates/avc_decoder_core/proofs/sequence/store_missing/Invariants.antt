@@ -10,8 +10,9 @@ invariant-loop-frame_num l = record {
   going : l.buffer.failed ≡ false;
   same : is_same_sps (sequence_sps l.buffer.history) l.sps ≡ true;
   left : with_missing l.sps l.numbers l.buffer.history ≡ with_missing l.sps l.initial.numbers l.initial.buffer.history;
-  extends : Extends l.initial.buffer.history l.buffer.history;
-  pictures : l.out.items ≡ output_pictures l.initial.buffer.history l.buffer.history;
+  output : l.buffer.output ≡ l.initial.buffer.output;
+  extends : Extends l.initial.buffer.output l.initial.buffer.history l.buffer.history;
+  pictures : l.out.items ≡ output_pictures l.initial.buffer.output l.initial.buffer.history l.buffer.history;
 }
 
 abbrev pub decreases-loop-frame_num : goal.decreases-loop-frame_num

@@ -1,5 +1,6 @@
 use Rattle.std.proofs.Common.{◌≡◌, ◌∙◌, ap, ap₂, sym, false}
 use Rattle.avc_decoder_core.specs.FrameBufferFields.{history_of}
+use Rattle.avc_decoder_core.specs.FrameBufferState.{empty_frame_buffer}
 use Rattle.avc_decoder_core.specs.Pictures.{held_pictures}
 use Rattle.avc_decoder_core.proofs.State.{emptied_all, empty_state, no_buffer}
 use Rattle.avc_decoder_core.proofs.frame_buffer.FrameBuffer.empty.Goals as goal
@@ -10,7 +11,7 @@ invariant_of-self-2 c = λ going.
     let h = history_of i.history.items in
     let on : i.failed ≡ false = c.if-self.false in
     let forgotten = emptied_all h i.dpb i.max_long_term_frame_idx i.prev_ref_frame_num (c.self.invariant on) c.in_ok-out.out.items c.empty.new.self c.in_ok-out.ensures.ok c.in_ok-out.ensures.kept in
-    empty_state c.new-self-inside.result.items c.empty.new.self c.new-self-inside.ensures forgotten.nothing (no_buffer c.empty.new.self forgotten.nothing)
+    empty_state i.dpb.output c.new-self-inside.result.items c.empty.new.self c.new-self-inside.ensures forgotten.nothing (no_buffer i.dpb.output c.empty.new.self forgotten.nothing)
 
 pub returns-clause-ok : goal.returns-clause-ok
 returns-clause-ok c =
@@ -20,6 +21,7 @@ returns-clause-ok c =
     let forgotten = emptied_all h i.dpb i.max_long_term_frame_idx i.prev_ref_frame_num (c.self.invariant on) c.in_ok-out.out.items c.empty.new.self c.in_ok-out.ensures.ok c.in_ok-out.ensures.kept in
     record {
       going = sym (ap (λ v. v.failed) c.self.view_is) ∙ on;
-      state = ap₂ (λ items c. record { history = history_of items; frames = c.frames; failed = false }) c.new-self-inside.ensures forgotten.nothing;
-      pictures = forgotten.pictures ∙ ap (λ v. held_pictures v.history) c.self.view_is;
+      state = ap₂ (λ items c. record { history = history_of items; frames = c.frames; output = c.output; failed = false }) c.new-self-inside.ensures forgotten.nothing
+          ∙ ap (λ v. empty_frame_buffer v.output) c.self.view_is;
+      pictures = forgotten.pictures ∙ ap (λ v. held_pictures v.output v.history) c.self.view_is;
     }

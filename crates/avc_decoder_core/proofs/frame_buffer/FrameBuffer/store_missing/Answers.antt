@@ -1,4 +1,4 @@
-use Rattle.std.proofs.Common.{◌≡◌, ◌∙◌, ◌≤◌, ◌∷◌, ◌+◌, ◌-◌, [], length, map, ap, refl, rules, sym, subst, false, Some, Ok, Err, arith}
+use Rattle.std.proofs.Common.{◌≡◌, ◌∙◌, ◌≤◌, ◌∷◌, ◌+◌, ◌-◌, [], length, map, ap, ap₂, refl, rules, sym, subst, false, Some, Ok, Err, arith}
 use Rattle.std.proofs.lemmas.List.{length-map}
 use Rattle.avc_types.specs.declared.picture_error.PictureError.TheVariants.{Fault as Faulty}
 use Rattle.avc_types.specs.declared.references.Marking.TheVariants.{SlidingWindow}
@@ -88,9 +88,10 @@ returns-clause-ok c =
     c.in_ok-out.ensures.ok c.in_ok-out.ensures.kept frame_num refl in
     let history : history_of c.with_newest-history.result.items ≡ e ∷ h = ap history_of c.with_newest-history.ensures ∙ ap (λ s. missing_frame s frame_num ∷ h) c.copied.ensures in
     let before = ap (λ v. v.history) c.self.view_is in
+    let output : i.dpb.output ≡ c.args.self.now.output = ap (λ v. v.output) c.self.view_is in
     record {
       going = c.requires.going;
-      state = ap (λ h. record { history = h; frames = (c.store.new.self).frames; failed = false }) (history ∙ ap (λ h. e ∷ h) before);
+      state = ap₂ (λ h o. record { history = h; frames = (c.store.new.self).frames; output = o; failed = false }) (history ∙ ap (λ h. e ∷ h) before) (done.longer.kept ∙ output);
       marked = ap (λ h. is_ok (marks_of (e ∷ h))) (sym before) ∙ done.ok;
-      pictures = done.longer.pictures ∙ ap (λ h. output_pictures h (e ∷ h)) before;
+      pictures = done.longer.pictures ∙ ap₂ (λ o h. output_pictures o h (e ∷ h)) output before;
     }

@@ -84,8 +84,8 @@ invariant_of-self-2 c = λ going.
     let done = taken e h i.dpb idx i.prev_ref_frame_num state (follows, c.requires.sized) c.requires.sps old new new_idx
     (c.marked_frames-marked.ensures ∙ ap (map marked_frame) c.frames.ensures) c.in_ok-mark.ensures.length marks
     c.set_marks.new.dpb c.output_prior_pictures.new.dpb c.store.new.self set c.in_ok-prior.prior.items c.in_ok-more.more.items c.in_ok-prior.ensures.ok c.in_ok-prior.ensures.kept
-    c.entry_frame-frame.result made (picture_arrival count c.is_reference.result c.dpb_size.result)
-    (picture_arrives sps header planes h count c.is_reference.result c.dpb_size.result order c.is_reference.ensures c.dpb_size.ensures)
+    c.entry_frame-frame.result made (picture_arrival count c.is_reference.result c.dpb_size.result c.reorder_limit.result)
+    (picture_arrives sps header planes h count c.is_reference.result c.dpb_size.result c.reorder_limit.result order c.is_reference.ensures c.dpb_size.ensures c.reorder_limit.ensures)
     c.in_ok-more.ensures.ok c.in_ok-more.ensures.kept c.prev_ref_frame_num_after-self-inside.result
     (picture_previous sps header planes h i.prev_ref_frame_num c.frame_num_after_marking-frame_num.result c.prev_ref_frame_num_after-self-inside.result state.previous_is number c.prev_ref_frame_num_after-self-inside.ensures) in
     let history : history_of c.with_newest-history.result.items ≡ e ∷ h = ap history_of c.with_newest-history.ensures ∙ ap (λ e. e ∷ h) same in
@@ -120,14 +120,15 @@ returns-clause-ok c =
     let done = taken e h i.dpb idx i.prev_ref_frame_num state (follows, c.requires.sized) c.requires.sps old new new_idx
     (c.marked_frames-marked.ensures ∙ ap (map marked_frame) c.frames.ensures) c.in_ok-mark.ensures.length marks
     c.set_marks.new.dpb c.output_prior_pictures.new.dpb c.store.new.self set c.in_ok-prior.prior.items c.in_ok-more.more.items c.in_ok-prior.ensures.ok c.in_ok-prior.ensures.kept
-    c.entry_frame-frame.result made (picture_arrival count c.is_reference.result c.dpb_size.result)
-    (picture_arrives sps header planes h count c.is_reference.result c.dpb_size.result order c.is_reference.ensures c.dpb_size.ensures)
+    c.entry_frame-frame.result made (picture_arrival count c.is_reference.result c.dpb_size.result c.reorder_limit.result)
+    (picture_arrives sps header planes h count c.is_reference.result c.dpb_size.result c.reorder_limit.result order c.is_reference.ensures c.dpb_size.ensures c.reorder_limit.ensures)
     c.in_ok-more.ensures.ok c.in_ok-more.ensures.kept c.prev_ref_frame_num_after-self-inside.result
     (picture_previous sps header planes h i.prev_ref_frame_num c.frame_num_after_marking-frame_num.result c.prev_ref_frame_num_after-self-inside.result state.previous_is number c.prev_ref_frame_num_after-self-inside.ensures) in
     let history : history_of c.with_newest-history.result.items ≡ e ∷ h = ap history_of c.with_newest-history.ensures ∙ ap (λ e. e ∷ h) same in
+    let output : i.dpb.output ≡ c.args.self.now.output = ap (λ v. v.output) c.self.view_is in
     record {
       going = c.requires.going;
-      state = ap (λ h. record { history = h; frames = (c.store.new.self).frames; failed = false }) (history ∙ ap (λ h. e ∷ h) before);
+      state = ap₂ (λ h o. record { history = h; frames = (c.store.new.self).frames; output = o; failed = false }) (history ∙ ap (λ h. e ∷ h) before) (done.longer.kept ∙ output);
       marked = ap (λ h. is_ok (marks_of (e ∷ h))) (sym before) ∙ done.ok;
-      pictures = c.in_ok-out.ensures ∙ done.longer.pictures ∙ ap (λ h. output_pictures h (e ∷ h)) before;
+      pictures = c.in_ok-out.ensures ∙ done.longer.pictures ∙ ap₂ (λ o h. output_pictures o h (e ∷ h)) output before;
     }
