@@ -1,11 +1,12 @@
 //! Laws of whole streams, over the definitions alone.
 
 ghost use Rattle.avc_decoder.specs.Headline.{TakesAll, TakesThem};
-ghost use Rattle.avc_decoder.specs.Laws.{EventsOnlyGrow, PicturesAreWhole};
+ghost use Rattle.avc_decoder.specs.Laws.{EventsOnlyGrow, PicturesAreWhole, StartsAnew};
 
-use avc_annexb::laws::units_stay;
+use avc_annexb::laws::{units_are_few, units_are_numbered, units_stay, written_units_stand};
 use avc_params::laws::sps_in_force_keeps_limits;
 use avc_picture::laws::pictures_are_sized;
+use avc_units::laws::{sets_are_in_force_again, sets_come_alike, sets_in_force_are_units};
 
 /// What has been handed out stays, whatever bytes follow, and whether the stream ends or not.
 pub fn events_only_grow()
@@ -29,4 +30,22 @@ pub fn pictures_are_whole()
 {
     pictures_are_sized();
     sps_in_force_keeps_limits();
+}
+
+/// From a unit with which decoding starts after waiting, the events are those of a new decoder that is given the units whose
+/// parameter sets are in force there and then the bytes from that unit on, but for the unit numbers, which are shifted. The two
+/// streams together are shorter than 2^64 - 1 bytes, so that no number of a unit is cut off.
+///
+/// It says nothing of the events before that unit, nor of an IDR picture that comes while decoding runs: pictures from before
+/// it may still be held there, and a picture may be open.
+pub fn resumed_streams_decode_alike()
+    ensures { StartsAnew }
+{
+    units_stay();
+    written_units_stand();
+    units_are_numbered();
+    units_are_few();
+    sets_are_in_force_again();
+    sets_in_force_are_units();
+    sets_come_alike();
 }

@@ -1,0 +1,382 @@
+-- A stream that begins at one of its units decodes as it did there.
+use Rattle.std.specs.Prelude.{◌≡◌, ℕ, zero, suc, ◌+◌, ◌-◌, ◌^◌, ◌<◌, Bool, true, false, List, [], ◌∷◌, ◌++◌, length, map, take, drop}
+use Rattle.std.specs.Prelude.{Option, Some, None, Result, Ok, Err, All, slice_get, refl}
+use Rattle.std.proofs.Common.{ap, sym, ◌∙◌, arith, append_assoc, append-nil}
+use Rattle.std.proofs.Math.Seq.{drop-append_seam, take-append_seam}
+use Rattle.std.proofs.lemmas.List.{drop-map, length-map, map-append, take-append-drop, take-map}
+use Rattle.std.proofs.lemmas.List.Elements.{All-cons, All-head, All-nil, All-tail, All-weaker}
+use Rattle.std.proofs.lemmas.Option.{slice_get_within}
+use Rattle.std.specs.List.{flat_map}
+use Rattle.avc_types.specs.declared.fault.Fault.{Fault}
+use Rattle.avc_types.specs.declared.fault.Fault.TheVariants as faults
+use Rattle.avc_annexb.specs.Laws.{IsUnitOf, UnitsAreFew, UnitsAreNumbered, UnitsStay, WrittenUnitsStand, contents}
+use Rattle.avc_annexb.specs.Units.{forbidden_zero_bit, saturated, units}
+use Rattle.avc_annexb.specs.Written.{start_code, written}
+use Rattle.avc_annexb.specs.declared.unit.Unit.{Unit as Piece}
+use Rattle.avc_params.specs.Tables.{Sets, sets_after}
+use Rattle.avc_params.specs.declared.set_unit.SetUnit.{SetUnit}
+use Rattle.avc_slice.specs.Begins.{begins}
+use Rattle.avc_slice.specs.Reading.{header_in_rbsp}
+use Rattle.avc_slice.specs.declared.header.Header.{Header}
+use Rattle.avc_slice.specs.declared.slice.Slice.{Slice}
+use Rattle.avc_units.specs.Grouping.{Kind, slice, partition, sps, pps, boundary, other, OpenPictureFacts, ends_picture, is_start, kind}
+use Rattle.avc_units.specs.Grouping.{rbsp_of, readable, refusal_of, running_step, set_fault, set_unit, set_units, slice_in}
+use Rattle.avc_units.specs.Grouping.{slice_step, step, unreadable, waiting_step, with_header}
+use Rattle.avc_units.specs.Laws.{IsSetOf, SetsAreInForceAgain, SetsComeAlike, SetsInForceAreUnits}
+use Rattle.avc_units.specs.Resuming.{resumed, sets_in_force}
+use Rattle.avc_units.specs.declared.step.Next.TheVariants.{Nothing}
+use Rattle.avc_units.specs.declared.step.Step.{Step}
+use Rattle.avc_decoder.specs.Events.{Outcome, State, after_unit, at_end, events_from, first_state, in_phase, is_running}
+use Rattle.avc_decoder.specs.Events.{no_change, open_facts_in, state_after, waiting}
+use Rattle.avc_decoder.specs.Laws.{StartsAnew, renumbered, state_through}
+use Rattle.avc_decoder.proofs.Renumbering.{at_end-same, in_phase-same, open_facts-same, renumbered_event}
+use Rattle.avc_decoder.proofs.Renumbering.{renumbered_outcome, renumbered_phase, renumbered_slice, renumbered_step, running-same}
+
+-- ---- what a unit with another number does
+
+-- It has the contents, and the other number.
+record IsAlike (r : ℕ → ℕ) (u u' : Piece) : Type 0 where
+  same_header : u'.header ≡ u.header
+  same_body : u'.body ≡ u.body
+  numbered : u'.index ≡ r u.index
+
+-- with that number, elsewhere
+abbrev moved : (ℕ → ℕ) → (u u' : Piece) → Piece
+moved r u u' = record u' { index = r u.index; header = u.header; body = u.body }
+
+is_moved : (r : ℕ → ℕ) (u u' : Piece) → IsAlike r u u' → u' ≡ moved r u u'
+is_moved r u u' a =
+    ap (λ n. record u' { index = n }) a.numbered
+    ∙ ap (λ h. record u' { index = r u.index; header = h }) a.same_header
+    ∙ ap (λ b. record u' { index = r u.index; header = u.header; body = b }) a.same_body
+
+abbrev renumbered_read : (ℕ → ℕ) → Result Slice Fault → Result Slice Fault
+renumbered_read r (Ok s) = Ok (renumbered_slice r s)
+renumbered_read r (Err f) = Err f
+
+header-same : (r : ℕ → ℕ) (u u' : Piece) (bytes : List ℕ) (h : Result Header Fault)
+    → with_header (moved r u u') bytes h ≡ renumbered_read r (with_header u bytes h)
+header-same r u u' bytes (Ok h) = refl
+header-same r u u' bytes (Err f) = refl
+
+abbrev read_by : Option (List ℕ) → (List ℕ → Result Slice Fault) → Result Slice Fault
+read_by rbsp read = elim rbsp [ None ↦ Err faults.NalTooLong | Some bytes ↦ read bytes ]
+
+by_rbsp : (r : ℕ → ℕ) (rbsp : Option (List ℕ)) (a b : List ℕ → Result Slice Fault)
+    → ((bytes : List ℕ) → a bytes ≡ renumbered_read r (b bytes)) → read_by rbsp a ≡ renumbered_read r (read_by rbsp b)
+by_rbsp r None a b e = refl
+by_rbsp r (Some bytes) a b e = e bytes
+
+read-same : (r : ℕ → ℕ) (sets : Sets) (u u' : Piece) → slice_in sets (moved r u u') ≡ renumbered_read r (slice_in sets u)
+read-same r sets u u' = by_rbsp r (rbsp_of u) _ _ (λ bytes. header-same r u u' bytes (header_in_rbsp u.header sets bytes))
+
+either : (r : ℕ → ℕ) (b : Bool) (x' x y' y : Step) → x' ≡ renumbered_step r x → y' ≡ renumbered_step r y
+    → ◌≡◌ {A = Step} (elim b [ true ↦ x' | false ↦ y' ]) (renumbered_step r (elim b [ true ↦ x | false ↦ y ]))
+either r true x' x y' y e f = e
+either r false x' x y' y e f = f
+
+unreadable-same : (r : ℕ → ℕ) (o : Option OpenPictureFacts) (f : Fault) → unreadable o f ≡ renumbered_step r (unreadable o f)
+unreadable-same r None f = refl
+unreadable-same r (Some o) f = either r o.full _ _ _ _ refl refl
+
+readable-same : (r : ℕ → ℕ) (o : Option OpenPictureFacts) (starts : Bool) (s : Slice)
+    → readable o starts (renumbered_slice r s) ≡ renumbered_step r (readable o starts s)
+readable-same r None starts s = refl
+readable-same r (Some o) starts s = either r (begins o.last s.header) _ _ _ _ refl refl
+
+slice_step-same : (r : ℕ → ℕ) (o : Option OpenPictureFacts) (starts : Bool) (read : Result Slice Fault)
+    → slice_step o starts (renumbered_read r read) ≡ renumbered_step r (slice_step o starts read)
+slice_step-same r o starts (Ok s) = readable-same r o starts s
+slice_step-same r o starts (Err f) = unreadable-same r o f
+
+ends-same : (r : ℕ → ℕ) (f : Option Fault) → ends_picture (refusal_of f) ≡ renumbered_step r (ends_picture (refusal_of f))
+ends-same r None = refl
+ends-same r (Some f) = refl
+
+running_step-same : (r : ℕ → ℕ) (sets : Sets) (o : Option OpenPictureFacts) (u u' : Piece) (k : Kind)
+    → running_step sets o (moved r u u') k ≡ renumbered_step r (running_step sets o u k)
+running_step-same r sets o u u' (slice idr) =
+    ap (slice_step o (is_start u)) (read-same r sets u u') ∙ slice_step-same r o (is_start u) (slice_in sets u)
+running_step-same r sets o u u' partition = unreadable-same r o faults.DataPartition
+running_step-same r sets o u u' boundary = refl
+running_step-same r sets o u u' other = refl
+running_step-same r sets o u u' sps = ends-same r (set_fault sps (rbsp_of u))
+running_step-same r sets o u u' pps = ends-same r (set_fault pps (rbsp_of u))
+
+waiting_step-same : (r : ℕ → ℕ) (sets : Sets) (u u' : Piece) (k : Kind)
+    → waiting_step sets (moved r u u') k ≡ renumbered_step r (waiting_step sets u k)
+waiting_step-same r sets u u' (slice idr) = either r (is_start u) _ _ _ _ (running_step-same r sets None u u' (slice idr)) refl
+waiting_step-same r sets u u' partition = refl
+waiting_step-same r sets u u' boundary = refl
+waiting_step-same r sets u u' other = refl
+waiting_step-same r sets u u' sps = running_step-same r sets None u u' sps
+waiting_step-same r sets u u' pps = running_step-same r sets None u u' pps
+
+step-same : (r : ℕ → ℕ) (sets : Sets) (runs : Bool) (o : Option OpenPictureFacts) (u u' : Piece)
+    → step sets runs o (moved r u u') ≡ renumbered_step r (step sets runs o u)
+step-same r sets runs o u u' =
+    either r (forbidden_zero_bit u.header) _ _ _ _ refl
+    (either r runs _ _ _ _ (running_step-same r sets o u u' (kind u)) (waiting_step-same r sets u u' (kind u)))
+
+-- ---- streams of such units
+
+abbrev AreAlike : (ℕ → ℕ) → List Piece → List Piece → Type 0
+AreAlike r [] [] = Unit {0}
+AreAlike r (u ∷ us) (u' ∷ us') = IsAlike r u u' × AreAlike r us us'
+AreAlike r [] (u' ∷ us') = ⊥
+AreAlike r (u ∷ us) [] = ⊥
+
+after_unit-same : (r : ℕ → ℕ) (s s' : State) (u u' : Piece) → sets_after s'.sets ≡ sets_after s.sets
+    → s'.phase ≡ renumbered_phase r s.phase → IsAlike r u u'
+    → after_unit s' u' ≡ renumbered_outcome r (after_unit s u)
+after_unit-same r s s' u u' e f a =
+    let sets = sets_after s.sets in
+    let p = renumbered_phase r s.phase in
+    ap (λ ss. in_phase ss u'.index (step ss (is_running s'.phase) (open_facts_in s'.phase) u') s'.phase) e
+    ∙ ap (λ q. in_phase sets u'.index (step sets (is_running q) (open_facts_in q) u') q) f
+    ∙ ap (λ (v : Piece). in_phase sets v.index (step sets (is_running p) (open_facts_in p) v) p) (is_moved r u u' a)
+    ∙ ap (λ b. in_phase sets (r u.index) (step sets b (open_facts_in p) (moved r u u')) p) (running-same r s.phase)
+    ∙ ap (λ o. in_phase sets (r u.index) (step sets (is_running s.phase) o (moved r u u')) p) (open_facts-same r s.phase)
+    ∙ ap (λ what. in_phase sets (r u.index) what p) (step-same r sets (is_running s.phase) (open_facts_in s.phase) u u')
+    ∙ in_phase-same r sets u.index (step sets (is_running s.phase) (open_facts_in s.phase) u) s.phase
+
+-- The events are the same but for the numbers.
+events-same : SetsComeAlike → (r : ℕ → ℕ) (us us' : List Piece) (s s' : State) (ended : Bool)
+    → sets_after s'.sets ≡ sets_after s.sets → s'.phase ≡ renumbered_phase r s.phase → AreAlike r us us'
+    → events_from s' us' ended ≡ map (renumbered_event r) (events_from s us ended)
+events-same come r [] [] s s' true e f a = ap at_end f ∙ at_end-same r s.phase
+events-same come r [] [] s s' false e f a = refl
+events-same come r [] (u' ∷ us') s s' ended e f a = absurd a
+events-same come r (u ∷ us) [] s s' ended e f a = absurd a
+events-same come r (u ∷ us) (u' ∷ us') s s' ended e f a =
+    let x = after_unit s u in
+    let x' = renumbered_outcome r x in
+    let brought : set_units (u' ∷ []) ≡ set_units (u ∷ []) = ap (λ v. set_units (v ∷ [])) (is_moved r u u' a.0) in
+    let sets : sets_after (s'.sets ++ set_units (u' ∷ [])) ≡ sets_after (s.sets ++ set_units (u ∷ [])) =
+    come s'.sets s.sets (set_units (u' ∷ [])) e ∙ ap (λ m. sets_after (s.sets ++ m)) brought in
+    ap (λ (y : Outcome). y.events ++ events_from (state_after s' u' y) us' ended) (after_unit-same r s s' u u' e f a.0)
+    ∙ ap (λ es. x'.events ++ es) (events-same come r us us' (state_after s u x) (state_after s' u' x') ended sets refl a.1)
+    ∙ sym (map-append (renumbered_event r) x.events (events_from (state_after s u x) us ended))
+
+-- ---- the parameter sets in front
+
+sets-append : (a b c : List SetUnit) → (a ++ (b ++ [])) ++ c ≡ a ++ (b ++ c)
+sets-append a b c = append_assoc a (b ++ []) c ∙ ap (λ m. a ++ m) (append_assoc b [] c)
+
+-- after some units
+sets_through : (s : State) (us : List Piece) → (state_through s us).sets ≡ s.sets ++ set_units us
+sets_through s [] = sym (append-nil s.sets)
+sets_through s (u ∷ us) = sets_through (state_after s u (after_unit s u)) us ∙ sets-append s.sets _ (set_units us)
+
+-- Where decoding waits the unit is taken without a fault.
+abbrev NoFault : Piece → Type 0
+NoFault u = (sets : Sets) → step sets false None u ≡ ends_picture Nothing
+
+set_taken : (s : State) (u : Piece) → s.phase ≡ waiting → NoFault u → after_unit s u ≡ no_change waiting
+set_taken s u w n =
+    let sets = sets_after s.sets in
+    ap (λ p. in_phase sets u.index (step sets (is_running p) (open_facts_in p) u) p) w ∙ ap (λ what. in_phase sets u.index what waiting) (n sets)
+
+abbrev waiting_with : List SetUnit → State
+waiting_with sets = record { sets = sets; phase = waiting }
+
+-- units that are taken without a fault give no event, and decoding still waits
+events_after_sets : (us more : List Piece) (s : State) (ended : Bool) → s.phase ≡ waiting → All NoFault us
+    → events_from s (us ++ more) ended ≡ events_from (waiting_with (s.sets ++ set_units us)) more ended
+events_after_sets [] more s ended w n =
+    ap (λ p. events_from (record s { phase = p }) more ended) w ∙ ap (λ ss. events_from (waiting_with ss) more ended) (sym (append-nil s.sets))
+events_after_sets (u ∷ us) more s ended w n =
+    ap (λ (x : Outcome). x.events ++ events_from (state_after s u x) (us ++ more) ended) (set_taken s u w (All-head NoFault u us n))
+    ∙ events_after_sets us more (waiting_with (s.sets ++ set_units (u ∷ []))) ended refl (All-tail NoFault u us n)
+    ∙ ap (λ ss. events_from (waiting_with ss) more ended) (sets-append s.sets _ (set_units us))
+
+-- ---- units with the same contents
+
+like : (r : ℕ → ℕ) (u u' : Piece) → contents u ≡ contents u' → u'.index ≡ r u.index → IsAlike r u u'
+like r u u' e n = record { same_header = sym (ap (λ c. c.0) e); same_body = sym (ap (λ c. c.1) e); numbered = n }
+
+first_same : {A : Type 0} (x y : A) (xs ys : List A) → x ∷ xs ≡ y ∷ ys → x ≡ y
+first_same x y xs ys e = cc
+
+others_same : {A : Type 0} (x y : A) (xs ys : List A) → x ∷ xs ≡ y ∷ ys → xs ≡ ys
+others_same x y xs ys e = cc
+
+-- numbered from n on
+abbrev Numbered : (n : ℕ) → List Piece → Type 0
+Numbered n us = (j : ℕ) (u : Piece) → slice_get us j ≡ Some u → u.index ≡ n + j
+
+later_numbered : (n : ℕ) (u : Piece) (us : List Piece) → Numbered n (u ∷ us) → Numbered (suc n) us
+later_numbered n u us a j v e = let same : n + suc j ≡ suc n + j = omega arith in a (suc j) v e ∙ same
+
+later_shifted : (r : ℕ → ℕ) (n n' : ℕ) → ((j : ℕ) → r (n + j) ≡ n' + j) → (j : ℕ) → r (suc n + j) ≡ suc n' + j
+later_shifted r n n' shifts j =
+    let here : suc n + j ≡ n + suc j = omega arith in
+    let there : n' + suc j ≡ suc n' + j = omega arith in
+    ap r here ∙ shifts (suc j) ∙ there
+
+alike : (r : ℕ → ℕ) (n n' : ℕ) (us us' : List Piece) → map contents us ≡ map contents us' → Numbered n us → Numbered n' us'
+    → ((j : ℕ) → r (n + j) ≡ n' + j) → AreAlike r us us'
+alike r n n' [] [] e a b shifts = tt
+alike r n n' [] (u' ∷ us') e a b shifts = cc
+alike r n n' (u ∷ us) [] e a b shifts = cc
+alike r n n' (u ∷ us) (u' ∷ us') e a b shifts =
+    let more = others_same _ _ _ _ e in (
+      like r u u' (first_same _ _ _ _ e) (b 0 u' refl ∙ sym (shifts 0) ∙ ap r (sym (a 0 u refl))),
+      alike r (suc n) (suc n') us us' more (later_numbered n u us a) (later_numbered n' u' us' b) (later_shifted r n n' shifts),
+    )
+
+-- They are taken alike, and bring the same sets.
+no_fault-like : (u u' : Piece) → contents u ≡ contents u' → NoFault u → NoFault u'
+no_fault-like u u' e n sets =
+    let r : ℕ → ℕ = λ _. u'.index in
+    ap (step sets false None) (is_moved r u u' (like r u u' e refl)) ∙ step-same r sets false None u u' ∙ ap (renumbered_step r) (n sets)
+
+no_faults-like : (us us' : List Piece) → map contents us ≡ map contents us' → All NoFault us → All NoFault us'
+no_faults-like [] [] e n = All-nil NoFault
+no_faults-like [] (u' ∷ us') e n = cc
+no_faults-like (u ∷ us) [] e n = cc
+no_faults-like (u ∷ us) (u' ∷ us') e n =
+    let first = no_fault-like u u' (first_same _ _ _ _ e) (All-head NoFault u us n) in
+    All-cons NoFault u' us' first (no_faults-like us us' (others_same _ _ _ _ e) (All-tail NoFault u us n))
+
+set-like : (u u' : Piece) → contents u ≡ contents u' → set_unit u' ≡ set_unit u
+set-like u u' e = ap set_unit (is_moved (λ _. u'.index) u u' (like (λ _. u'.index) u u' e refl))
+
+sets-like : (us us' : List Piece) → map contents us ≡ map contents us' → set_units us' ≡ set_units us
+sets-like [] [] e = refl
+sets-like [] (u' ∷ us') e = cc
+sets-like (u ∷ us) [] e = cc
+sets-like (u ∷ us) (u' ∷ us') e = cc (set-like u u' (first_same _ _ _ _ e), sets-like us us' (others_same _ _ _ _ e))
+
+-- ---- places
+
+-- what the first n of a list say, and what the others say
+record AreCut {A B : Type 0} (say : A → B) (n : ℕ) (xs : List A) (front back : List B) : Type 0 where
+  front_same : map say (take n xs) ≡ front
+  back_same : map say (drop n xs) ≡ back
+
+cut-map : {A B : Type 0} (say : A → B) (n : ℕ) (xs : List A) (front back : List B) → length front ≡ n → map say xs ≡ front ++ back
+    → AreCut say n xs front back
+cut-map say n xs front back counted same = record {
+  front_same = sym (take-map say n xs) ∙ ap (take n) same ∙ ap (λ m. take m (front ++ back)) (sym counted) ∙ take-append_seam front back;
+  back_same = sym (drop-map say n xs) ∙ ap (drop n) same ∙ ap (λ m. drop m (front ++ back)) (sym counted) ∙ drop-append_seam front back;
+}
+
+get-drop : {A : Type 0} (n : ℕ) (xs : List A) (j : ℕ) → slice_get (drop n xs) j ≡ slice_get xs (n + j)
+get-drop zero xs j = let same : j ≡ 0 + j = omega arith in ap (slice_get xs) same
+get-drop (suc n) [] j = refl
+get-drop (suc n) (x ∷ xs) j = let same : suc (n + j) ≡ suc n + j = omega arith in get-drop n xs j ∙ ap (slice_get (x ∷ xs)) same
+
+get-take : {A : Type 0} (n : ℕ) (xs : List A) (j : ℕ) (x : A) → slice_get (take n xs) j ≡ Some x → slice_get xs j ≡ Some x
+get-take zero xs j x e = cc
+get-take (suc n) [] j x e = e
+get-take (suc n) (y ∷ xs) zero x e = e
+get-take (suc n) (y ∷ xs) (suc j) x e = get-take n xs j x e
+
+get-front : {A : Type 0} (xs ys : List A) (k : ℕ) (x : A) → slice_get xs k ≡ Some x → slice_get (xs ++ ys) k ≡ Some x
+get-front [] ys k x e = cc
+get-front (y ∷ xs) ys zero x e = e
+get-front (y ∷ xs) ys (suc k) x e = get-front xs ys k x e
+
+take-front : {A : Type 0} (xs ys : List A) (k : ℕ) (x : A) → slice_get xs k ≡ Some x → take k (xs ++ ys) ≡ take k xs
+take-front [] ys k x e = cc
+take-front (y ∷ xs) ys zero x e = refl
+take-front (y ∷ xs) ys (suc k) x e = ap (λ zs. y ∷ zs) (take-front xs ys k x e)
+
+numbered_later : (n : ℕ) (us : List Piece) → Numbered 0 us → Numbered n (drop n us)
+numbered_later n us a j u e = let same : 0 + (n + j) ≡ n + j = omega arith in a (n + j) u (sym (get-drop n us j) ∙ e) ∙ same
+
+-- ---- from the first state on
+
+shifted : (m k j : ℕ) → m + j + k - m ≡ k + j
+shifted m k j = omega arith
+
+-- Units that bring the sets in force after `before` again, and then others: the events of these are those that they have behind `before`.
+resumes : SetsAreInForceAgain → SetsInForceAreUnits → SetsComeAlike
+    → (before others us : List Piece) (k : ℕ) (ended : Bool)
+    → Numbered 0 us → Numbered k others
+    → map contents us ≡ map contents (sets_in_force before) ++ map contents others
+    → (state_through first_state before).phase ≡ waiting
+    → events_from (state_through first_state before) others ended
+    ≡ map (renumbered (length (sets_in_force before)) k) (events_from first_state us ended)
+resumes again are come before others us k ended numbers later_numbers same waits =
+    let sets = sets_in_force before in
+    let m = length sets in
+    let r : ℕ → ℕ = λ n. n + k - m in
+    let front = take m us in
+    let back = drop m us in
+    let cut = cut-map contents m us (map contents sets) (map contents others) (length-map sets contents) same in
+    let front_same = sym cut.front_same in
+    let taken = All-weaker (IsSetOf before) NoFault (λ u i. i.no_fault) sets (are before) in
+    let start : State = waiting_with ([] ++ set_units front) in
+    let sets_same : sets_after (state_through first_state before).sets ≡ sets_after start.sets =
+    ap sets_after (sets_through first_state before) ∙ sym (again before) ∙ ap sets_after (sym (sets-like sets front front_same)) in
+    let renamed = alike r m k back others cut.back_same (numbered_later m us numbers) later_numbers (shifted m k) in
+    let behind = events_after_sets front back first_state ended refl (no_faults-like sets front front_same taken) in
+    events-same come r back others start (state_through first_state before) ended sets_same waits renamed
+    ∙ ap (map (renumbered_event r)) (sym behind ∙ ap (λ ps. events_from first_state ps ended) (take-append-drop m us))
+
+-- ---- of bytes
+
+-- Unit k and those before it are the same once the stream has ended.
+record StandsToo (max : ℕ) (bytes : List ℕ) (ended : Bool) (k : ℕ) (u : Piece) : Type 0 where
+  before_same : take k (units max bytes true) ≡ take k (units max bytes ended)
+  there_too : slice_get (units max bytes true) k ≡ Some u
+
+stands_too : UnitsStay → (max : ℕ) (bytes : List ℕ) (ended : Bool) (k : ℕ) (u : Piece)
+    → slice_get (units max bytes ended) k ≡ Some u → StandsToo max bytes ended k u
+stands_too stay max bytes true k u e = record { before_same = refl; there_too = e }
+stands_too stay max bytes false k u e =
+    let more = stay max bytes [] true in
+    let all : units max bytes true ≡ units max bytes false ++ more.0 = ap (λ b. units max b true) (sym (append-nil bytes)) ∙ more.1 in
+    record {
+      before_same = ap (take k) all ∙ take-front (units max bytes false) more.0 k u e;
+      there_too = ap (λ us. slice_get us k) all ∙ get-front (units max bytes false) more.0 k u e;
+    }
+
+abbrev from_unit : List ℕ → Option Piece → List ℕ
+from_unit bytes (Some u) = start_code ++ drop u.offset bytes
+from_unit bytes None = []
+
+resumed_is : (max : ℕ) (bytes : List ℕ) (ended : Bool) (k : ℕ) (u : Piece) → StandsToo max bytes ended k u
+    → resumed max bytes k ≡ flat_map written (sets_in_force (take k (units max bytes ended))) ++ start_code ++ drop u.offset bytes
+resumed_is max bytes ended k u s =
+    ap (λ before. flat_map written (sets_in_force before) ++ from_unit bytes (slice_get (units max bytes true) k)) s.before_same
+    ∙ ap (λ o. flat_map written (sets_in_force (take k (units max bytes ended))) ++ from_unit bytes o) s.there_too
+    ∙ sym (append_assoc (flat_map written (sets_in_force (take k (units max bytes ended)))) start_code (drop u.offset bytes))
+
+set_of_stream : (max : ℕ) (bytes : List ℕ) (ended : Bool) (k : ℕ) (u v : Piece) → StandsToo max bytes ended k u
+    → IsSetOf (take k (units max bytes ended)) v → IsUnitOf max bytes v
+set_of_stream max bytes ended k u v s i = record {
+  place = i.place;
+  is_there = get-take k (units max bytes true) i.place v (ap (λ us. slice_get us i.place) s.before_same ∙ i.is_there);
+  short = i.short;
+}
+
+unsaturated : (n : ℕ) → n < 2 ^ 64 - 1 → saturated n ≡ n
+unsaturated n few = omega arith
+
+numbers_are : UnitsAreNumbered → UnitsAreFew → (max : ℕ) (bytes : List ℕ) (ended : Bool) → length bytes < 2 ^ 64 - 1 → (n : ℕ)
+    → Numbered n (drop n (units max bytes ended))
+numbers_are numbered few max bytes ended short n j u e =
+    let there : slice_get (units max bytes ended) (n + j) ≡ Some u = sym (get-drop n (units max bytes ended) j) ∙ e in
+    let within : n + j < 2 ^ 64 - 1 = omega (arith, slice_get_within (units max bytes ended) (n + j) u there, few max bytes ended, short) in
+    numbered max bytes ended (n + j) u there ∙ unsaturated (n + j) within
+
+pub starts_anew : UnitsStay → WrittenUnitsStand → UnitsAreNumbered → UnitsAreFew → SetsAreInForceAgain → SetsInForceAreUnits
+    → SetsComeAlike → StartsAnew
+starts_anew stay stand numbered few again are come max bytes ended k short starts =
+    let s = stands_too stay max bytes ended k starts.unit starts.is_there in
+    let all = units max bytes ended in
+    let before = take k all in
+    let resumed_short : length (resumed max bytes k) < 2 ^ 64 - 1 = omega (arith, short) in
+    let bytes_short : length bytes < 2 ^ 64 - 1 = omega (arith, short) in
+    let sets : All (IsUnitOf max bytes) (sets_in_force before) =
+    All-weaker (IsSetOf before) (IsUnitOf max bytes) (λ v i. set_of_stream max bytes ended k starts.unit v s i) (sets_in_force before) (are before) in
+    let same : map contents (units max (resumed max bytes k) ended) ≡ map contents (sets_in_force before) ++ map contents (drop k all) =
+    ap (λ b. map contents (units max b ended)) (resumed_is max bytes ended k starts.unit s)
+    ∙ stand max bytes ended (sets_in_force before) k starts.unit bytes_short sets starts.is_there in
+    resumes again are come before (drop k all) (units max (resumed max bytes k) ended) k ended
+    (numbers_are numbered few max (resumed max bytes k) ended resumed_short 0)
+    (numbers_are numbered few max bytes ended bytes_short k)
+    same starts.waits
