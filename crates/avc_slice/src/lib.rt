@@ -5,6 +5,7 @@ mod begins;
 mod copies;
 mod deblocking;
 mod header;
+pub mod laws;
 mod list;
 mod marking;
 mod modification;
