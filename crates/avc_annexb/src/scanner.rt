@@ -1,10 +1,21 @@
 ghost use Rattle.std.specs.Prelude.{◌≤◌};
+ghost use Rattle.memchr.specs.Find.{is_byte, IsFirstByte};
 
 use crate::open_unit::{OpenUnit, append_any};
 use crate::ready::Ready;
 use avc_types::OutOfMemory;
 use memchr::memchr;
 use std::alloc::Global;
+
+/// The place of the first zero. Zeros stand together in a stream: a search is begun where another byte stands alone.
+fn first_zero(bytes: &[u8]) -> Option<usize>
+    ensures { IsFirstByte (is_byte 0) bytes.now result }
+{
+    match bytes {
+        [0, ..] => Some(0),
+        _ => memchr(0, bytes),
+    }
+}
 
 /// Goes once through a stream and looks for where units begin and end.
 #[derive(Drop)]
@@ -42,7 +53,7 @@ impl<const MAX: usize> Scanner<MAX> {
         ensures given { self.new.ready.given.items ≡ self.old.ready.given.items }
     {
         let mut place = 0;
-        while let Some(len) = memchr(0, &piece[place..]) {
+        while let Some(len) = first_zero(&piece[place..]) {
             self.run(&piece[place..place + len])?;
             self.zero()?;
             place = place + len + 1;
