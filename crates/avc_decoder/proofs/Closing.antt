@@ -45,14 +45,14 @@ full_at s unit d full w f =
 -- Closing has come to this outcome.
 pub record Closes (x : Outcome) (found : Bool) (q : QueueState) (unit : ℕ) (s' : SequenceState) (q' : QueueState) : Type 0 where
   pub fault : found ≡ is_waiting x.phase
-  pub state : HasOutcome x q unit None s' q'
+  pub state : HasOutcome x q unit None 0 s' q'
 
 abbrev ClosesAs : SequenceState → Decoding 32 → (fault : Bool) → QueueState → ℕ → SequenceState → QueueState → List Slice → Type 0
 ClosesAs s d fault q unit s' q' slices = Closes (closed_in s.history (open_picture_from s.history d.sps d.pps slices)) fault q unit s' q'
 
 failed_comes : (x : Result History (ℕ × Fault)) (o : OpenPicture) (h : History) (unit last_unit : ℕ) (f : Fault) (q q' : QueueState) (s' : SequenceState) → x ≡ Err (unit, f) → history_of o ≡ h
     → s' ≡ empty_sequence Full → q' ≡ with_events (failed_at h unit f 0).events q → Closes (closed_outcome o x) true q last_unit s' q'
-failed_comes x o h unit last_unit f q q' s' e is es eq = rw (e, is, es, eq) (record { fault = refl; state = record { works = record { works = (refl, refl); mode = refl }; history = refl; open_picture = refl; queue = refl } })
+failed_comes x o h unit last_unit f q q' s' e is es eq = rw (e, is, es, eq) (record { fault = refl; state = record { works = record { works = (refl, refl); mode = refl }; history = refl; open_picture = refl; count = refl; queue = refl } })
 
 done_comes : (x : Result History (ℕ × Fault)) (o : OpenPicture) (h h' : History) (last_unit : ℕ) (out : List Decoded) (q q' : QueueState) (s' : SequenceState) → x ≡ Ok h' → history_of o ≡ h
     → s' ≡ record { history = h'; open_picture = None; frames = s'.frames; output = Full; failed = false } → out ≡ output_pictures Full h h' → q' ≡ with_events (pictures out) q → Closes (closed_outcome o x) false q last_unit s' q'
@@ -64,6 +64,7 @@ done_comes x o h h' last_unit out q q' s' e is es eo eq =
         works = record { works = (ap (λ (t : SequenceState). t.failed) es, ap (λ (t : SequenceState). t.open_picture) es); mode = ap (λ (t : SequenceState). t.output) es };
         history = ap (λ (t : SequenceState). t.history) es;
         open_picture = refl;
+        count = refl;
         queue = refl;
       };
     })

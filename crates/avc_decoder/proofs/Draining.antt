@@ -1,15 +1,16 @@
 -- The units that were not taken are handled, and with them all.
-use Rattle.std.proofs.Common.{◌≡◌, ◌+◌, ℕ, zero, suc, Bool, true, false, List, [], ◌∷◌, ◌++◌, length, drop, Option, Some, None, refl, ap, sym, ◌∙◌, arith, add-one, append_assoc, append-nil, length-append, subst}
+use Rattle.std.proofs.Common.{◌≡◌, ◌+◌, ℕ, zero, suc, Bool, true, false, List, [], ◌∷◌, ◌++◌, length, drop, Option, Some, None, refl, ap, sym, ◌∙◌, arith, add-one, add-zero, add_assoc, append_assoc, append-nil, le_of_eq, le_trans, length-append, subst}
 use Rattle.std.specs.Prelude.{slice_get}
 use Rattle.std.proofs.Math.Seq.{drop-append_seam}
 use Rattle.avc_annexb.specs.SplitterState.{SplitterState, after_feed, after_finish, next_unit_of, after_next_unit}
-use Rattle.avc_annexb.specs.Units.{units}
+use Rattle.avc_annexb.specs.Units.{saturated, units}
 use Rattle.avc_annexb.specs.declared.unit.Unit.{Unit as Piece}
 use Rattle.avc_annexb.proofs.Staying.{units_stay_first}
-use Rattle.avc_decoder.specs.Events.{State, after_unit, at_end, events_from, first_state, state_after}
+use Rattle.avc_decoder.specs.Events.{State, after_unit, at_end, events_from, first_state, read_from, state_after, turns}
 use Rattle.avc_decoder.specs.Laws.{state_through}
-use Rattle.avc_decoder.proofs.Growing.{events-append}
-use Rattle.avc_decoder.specs.States.{StreamState, IsDecoded, after_units_in_stream, after_stream_end, after_unit_in_stream}
+use Rattle.avc_decoder.specs.Machine.{Machine}
+use Rattle.avc_decoder.proofs.Growing.{events-append, read-append, turns_grow}
+use Rattle.avc_decoder.specs.States.{StreamState, IsDecoded, IsKept, more_read, after_units_in_stream, after_stream_end, after_unit_in_stream}
 
 drop_some : {A : Type 0} (xs : List A) (n : ℕ) (x : A) → Some x ≡ slice_get xs n → drop n xs ≡ x ∷ drop (suc n) xs
 drop_some [] n x e = cc
@@ -71,13 +72,27 @@ pub record Handled (us : List Piece) (f f' : StreamState) : Type 0 where
   pub state : f'.state ≡ state_through f.state us
   pub events : f'.events ≡ f.events ++ events_from f.state us false
   pub taken : f'.taken ≡ f.taken
+  pub read : (n : ℕ) → f.read ≡ saturated n → f'.read ≡ saturated (n + read_from f.state us)
   pub on : f'.failed ≡ false
 
+-- a count that was held counts on as the whole does
+held_more : (n more : ℕ) → more_read (saturated n) more ≡ saturated (n + more)
+held_more n zero = ap saturated (sym (add-zero n))
+held_more n (suc more) = omega arith
+
 handled_all : (us : List Piece) (f : StreamState) → f.failed ≡ false → Handled us f (after_units_in_stream us f)
-handled_all [] f on = record { state = refl; events = sym (append-nil f.events); taken = refl; on = on }
+handled_all [] f on = record { state = refl; events = sym (append-nil f.events); taken = refl; read = λ n e. e ∙ ap saturated (sym (add-zero n)); on = on }
 handled_all (u ∷ us) f on =
     let h = handled_all us (after_unit_in_stream u f) refl in
-    record { state = h.state; events = h.events ∙ append_assoc f.events _ _; taken = h.taken; on = h.on }
+    let o = after_unit f.state u in
+    let rest = read_from (state_after f.state u o) us in
+    record {
+      state = h.state;
+      events = h.events ∙ append_assoc f.events _ _;
+      taken = h.taken;
+      read = λ n e. h.read (n + o.read) (ap (λ m. more_read m o.read) e ∙ held_more n o.read) ∙ ap saturated (add_assoc n o.read rest);
+      on = h.on;
+    }
 
 -- all units of s1
 pub record HandlesAll (max : ℕ) (s1 s2 : SplitterState) (t t2 : StreamState) : Type 0 where
@@ -90,11 +105,12 @@ pub record AllHandled (all : List Piece) (n : ℕ) (t2 : StreamState) (t : Strea
   pub state : t2.state ≡ state_through first_state all
   pub events : (ended : Bool) → t2.events ++ events_from (state_through first_state all) [] ended ≡ events_from first_state all ended
   pub taken : t2.taken ≡ t.taken
+  pub read : t2.read ≡ saturated (read_from first_state all)
   pub on : t2.failed ≡ false
 
 rest_handled : (us more all : List Piece) (n : ℕ) (t t2 : StreamState) → all ≡ us ++ more → n ≡ length us → t.failed ≡ false → t.state ≡ state_through first_state us → t.events ≡ events_from first_state us false
-    → t2 ≡ after_units_in_stream (drop n all) t → AllHandled all n t2 t
-rest_handled us more all n t t2 e len on at es et =
+    → t.read ≡ saturated (read_from first_state us) → t2 ≡ after_units_in_stream (drop n all) t → AllHandled all n t2 t
+rest_handled us more all n t t2 e len on at es er et =
     let d : drop n all ≡ more = ap (λ m. drop m all) len ∙ ap (drop (length us)) e ∙ drop-append_seam us more in
     let h = handled_all more t on in
     let is : t2 ≡ after_units_in_stream more t = et ∙ ap (λ ps. after_units_in_stream ps t) d in
@@ -107,6 +123,8 @@ rest_handled us more all n t t2 e len on at es et =
       state = state;
       events = λ ended. ap (λ xs. xs ++ events_from (state_through first_state all) [] ended) so_far ∙ sym (events-append first_state all [] ended) ∙ ap (λ ps. events_from first_state ps ended) (append-nil all);
       taken = ap (λ (f : StreamState). f.taken) is ∙ h.taken;
+      read = ap (λ (f : StreamState). f.read) is ∙ h.read (read_from first_state us) er ∙ ap (λ x. saturated (read_from first_state us + read_from x more)) at
+          ∙ ap saturated (sym (read-append first_state us more)) ∙ ap (λ ps. saturated (read_from first_state ps)) (sym e);
       on = ap (λ (f : StreamState). f.failed) is ∙ h.on;
     }
 
@@ -120,9 +138,9 @@ fed_at : (max : ℕ) (s s2 : SplitterState) (t t2 : StreamState) (piece : List �
 fed_at max s s2 t t2 piece d h =
     let stay = units_stay_first max s.bytes piece false in
     let all = units max (s.bytes ++ piece) false in
-    let r = rest_handled (units max s.bytes false) stay.0 all s.taken t t2 stay.1 d.counted d.flows (d.state refl) d.events h.stream in
+    let r = rest_handled (units max s.bytes false) stay.0 all s.taken t t2 stay.1 d.counted d.flows (d.state refl) d.events d.read h.stream in
     rw h.splitter (record {
-      decoded = record { going = d.going; flows = r.on; ends = refl; counted = r.counted; state = λ _. r.state; events = sym (append-nil t2.events) ∙ r.events false };
+      decoded = record { going = d.going; flows = r.on; ends = refl; counted = r.counted; state = λ _. r.state; events = sym (append-nil t2.events) ∙ r.events false; read = r.read };
       bytes_are = refl;
       taken_are = r.taken;
     })
@@ -141,9 +159,9 @@ finished_at : (max : ℕ) (s s2 : SplitterState) (t t2 t3 : StreamState) → IsD
 finished_at max s s2 t t2 t3 d h e =
     let stay = units_stay_first max s.bytes [] true in
     let all = units max s.bytes true in
-    let r = rest_handled (units max s.bytes false) stay.0 all s.taken t t2 (ap (λ b. units max b true) (sym (append-nil s.bytes)) ∙ stay.1) d.counted d.flows (d.state refl) d.events h.stream in
+    let r = rest_handled (units max s.bytes false) stay.0 all s.taken t t2 (ap (λ b. units max b true) (sym (append-nil s.bytes)) ∙ stay.1) d.counted d.flows (d.state refl) d.events d.read h.stream in
     rw (h.splitter, e) (record {
-      decoded = record { going = d.going; flows = refl; ends = refl; counted = r.counted; state = λ off. absurd_bool off; events = ap (λ (x : State). t2.events ++ at_end x.phase) r.state ∙ r.events true };
+      decoded = record { going = d.going; flows = refl; ends = refl; counted = r.counted; state = λ off. absurd_bool off; events = ap (λ (x : State). t2.events ++ at_end x.phase) r.state ∙ r.events true; read = r.read };
       bytes_are = refl;
       taken_are = r.taken;
     })
@@ -159,3 +177,48 @@ decoded_finished max false s s1 s2 t t2 t3 d e is h f = finished_at max s s2 t t
 -- the units that were handled before the end
 pub still_going : (max : ℕ) (s : SplitterState) (t t2 : StreamState) → t.failed ≡ false → t2 ≡ after_units_in_stream (drop s.taken (units max s.bytes s.ended)) t → t2.failed ≡ false
 still_going max s t t2 on e = ap (λ (f : StreamState). f.failed) e ∙ (handled_all (drop s.taken (units max s.bytes s.ended)) t on).on
+
+-- ---- the same of the whole decoder
+
+-- a machine of these parts
+abbrev pub machine_of : List ℕ → (ended : Bool) → (taken : ℕ) → (failed : Bool) → Machine
+machine_of bytes ended taken failed = record { bytes = bytes; ended = ended; taken = taken; failed = failed }
+
+-- a piece more was handled
+pub kept_fed : (max : ℕ) (bytes bytes' piece : List ℕ) (ended failed : Bool) (taken : ℕ) (s s1 s2 : SplitterState) (t t2 : StreamState) (read read' : ℕ) → IsKept max (machine_of bytes ended taken failed) s t read
+    → failed ≡ false → ended ≡ false → bytes' ≡ bytes ++ piece → s1 ≡ after_feed s piece → HandlesAll max s1 s2 t t2 → read' ≡ t2.read → IsKept max (machine_of bytes' ended taken false) s2 t2 read'
+kept_fed max bytes bytes' piece ended failed taken s s1 s2 t t2 read read' i going unended given is all counts =
+    let k = decoded_fed max ended s s1 s2 t t2 piece (i.decoded going) unended is all in
+    let same : s2.bytes ≡ bytes' = k.bytes_are ∙ ap (λ bs. bs ++ piece) (i.bytes going) ∙ sym given in
+    record {
+      count_is = counts ∙ (k.decoded).read ∙ ap (λ bs. turns max bs ended) same;
+      decoded = λ _. k.decoded;
+      bytes = λ _. same;
+      taken = λ _. k.taken_are ∙ i.taken going;
+    }
+
+-- the end was handled
+pub kept_flushed : (max : ℕ) (bytes : List ℕ) (ended failed : Bool) (taken : ℕ) (s s1 s2 : SplitterState) (t t2 t3 : StreamState) (read read' : ℕ) → IsKept max (machine_of bytes ended taken failed) s t read
+    → failed ≡ false → ended ≡ false → s1 ≡ after_finish s → HandlesAll max s1 s2 t t2 → t3 ≡ after_stream_end t2 → read' ≡ t3.read → IsKept max (machine_of bytes true taken false) s2 t3 read'
+kept_flushed max bytes ended failed taken s s1 s2 t t2 t3 read read' i going unended is all ends counts =
+    let k = decoded_finished max ended s s1 s2 t t2 t3 (i.decoded going) unended is all ends in
+    let same : s2.bytes ≡ bytes = k.bytes_are ∙ i.bytes going in
+    record {
+      count_is = counts ∙ (k.decoded).read ∙ ap (λ bs. turns max bs true) same;
+      decoded = λ _. k.decoded;
+      bytes = λ _. same;
+      taken = λ _. k.taken_are ∙ i.taken going;
+    }
+
+-- memory was refused to a call with these bytes: the count is that before it
+pub kept_refused : (max : ℕ) (bytes bytes' piece : List ℕ) (ended ended' failed : Bool) (taken : ℕ) (s s' : SplitterState) (t t' : StreamState) (read : ℕ) → IsKept max (machine_of bytes ended taken failed) s t read
+    → failed ≡ false → ended ≡ false → bytes' ≡ bytes ++ piece → IsKept max (machine_of bytes' ended' taken true) s' t' read
+kept_refused max bytes bytes' piece ended ended' true taken s s' t t' read i going unended given = cc
+kept_refused max bytes bytes' piece true ended' false taken s s' t t' read i going unended given = cc
+kept_refused max bytes bytes' piece false ended' false taken s s' t t' read i going unended given =
+    rw given (record {
+      count_is = le_trans (le_of_eq i.count_is) (turns_grow max bytes piece ended');
+      decoded = λ e. cc;
+      bytes = λ e. cc;
+      taken = λ e. cc;
+    })

@@ -4,7 +4,7 @@ use Rattle.avc_types.specs.declared.fault.Fault.{Fault}
 use Rattle.avc_types.specs.declared.fault.Fault.TheVariants.{MissingMacroblocks}
 use Rattle.avc_picture.specs.Slices.{is_full}
 use Rattle.avc_decoder_core.specs.History.{History}
-use Rattle.avc_decoder.specs.FirstFault.{OpenPicture, first_header, history_at_opening_of, progress_on, start_on, closed_history, first_fault, history_of}
+use Rattle.avc_decoder.specs.FirstFault.{OpenPicture, first_header, history_at_opening_of, progress_on, start_on, closed_history, first_fault, history_of, read_of}
 use Rattle.avc_decoder.specs.Events.{closing_result}
 
 -- The picture's macroblocks begin at 0, and it stands on this history.
@@ -14,6 +14,9 @@ pub record Stands (o : OpenPicture) (h : History) : Type 0 where
 
 pub history_is : (o : OpenPicture) (h : History) → Stands o h → history_of o ≡ h
 history_is o h s = cc (s.first, s.stands)
+
+pub read_is : (o : OpenPicture) (h : History) → Stands o h → read_of o ≡ (progress_on o h).read
+read_is o h s = cc (s.first, s.stands)
 
 pub slice_fault : (o : OpenPicture) (h : History) (closing : Bool) (found : ℕ × Fault) → Stands o h → (progress_on o h).fault ≡ Some found → first_fault o closing ≡ Some found
 slice_fault o h closing found s e = cc (s.first, s.stands, e)

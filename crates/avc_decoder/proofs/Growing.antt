@@ -1,10 +1,11 @@
 -- The events of a stream's units, one after another.
-use Rattle.std.specs.Prelude.{◌≡◌, Bool, false, List, [], ◌∷◌, ◌++◌, refl}
-use Rattle.std.proofs.Common.{ap, sym, ◌∙◌, append_assoc}
+use Rattle.std.specs.Prelude.{◌≡◌, ℕ, ◌+◌, ◌≤◌, Bool, false, List, [], ◌∷◌, ◌++◌, refl}
+use Rattle.std.proofs.Common.{ap, arith, sym, ◌∙◌, add_assoc, append_assoc}
 use Rattle.avc_annexb.specs.Laws.{UnitsStay}
 use Rattle.avc_annexb.specs.Units.{units}
+use Rattle.avc_annexb.proofs.Staying.{units_stay_first}
 use Rattle.avc_annexb.specs.declared.unit.Unit.{Unit}
-use Rattle.avc_decoder.specs.Events.{State, after_unit, state_after, events_from, first_state}
+use Rattle.avc_decoder.specs.Events.{State, after_unit, state_after, events_from, first_state, read_from, turns}
 use Rattle.avc_decoder.specs.Laws.{EventsOnlyGrow, state_through}
 
 -- of some units and then others
@@ -14,6 +15,22 @@ events-append s (u ∷ us) vs ended =
     let o = after_unit s u in
     ap (λ es. o.events ++ es) (events-append (state_after s u o) us vs ended)
     ∙ sym (append_assoc o.events (events_from (state_after s u o) us false) (events_from (state_through (state_after s u o) us) vs ended))
+
+-- how many macroblocks of some units and then others are read
+pub read-append : (s : State) (us vs : List Unit) → read_from s (us ++ vs) ≡ read_from s us + read_from (state_through s us) vs
+read-append s [] vs = omega arith
+read-append s (u ∷ us) vs =
+    let o = after_unit s u in
+    ap (λ n. o.read + n) (read-append (state_after s u o) us vs) ∙ sym (add_assoc o.read (read_from (state_after s u o) us) (read_from (state_through (state_after s u o) us) vs))
+
+-- no fewer are read of more bytes, or of all
+pub turns_grow : (max : ℕ) (bytes more : List ℕ) (ended : Bool) → turns max bytes false ≤ turns max (bytes ++ more) ended
+turns_grow max bytes more ended =
+    let units_more = units_stay_first max bytes more ended in
+    let us = units max bytes false in
+    let all : read_from first_state (units max (bytes ++ more) ended) ≡ read_from first_state us + read_from (state_through first_state us) units_more.0 =
+    ap (read_from first_state) units_more.1 ∙ read-append first_state us units_more.0 in
+    omega (arith, all)
 
 pub events_grow : UnitsStay → EventsOnlyGrow
 events_grow stay max bytes more ended =

@@ -1,5 +1,5 @@
 -- What a step of the grouper comes to, once it is done, is what the unit does.
-use Rattle.std.proofs.Common.{◌≡◌, ℕ, Bool, true, false, List, [], ◌∷◌, ◌++◌, Option, Some, None, Result, Ok, Err, refl, ap, sym, ◌∙◌, append_assoc, append-nil, subst}
+use Rattle.std.proofs.Common.{◌≡◌, ℕ, Bool, true, false, List, [], ◌∷◌, ◌++◌, Option, Some, None, Result, Ok, Err, refl, ap, sym, ◌∙◌, append_assoc, append-nil, arith, subst}
 use Rattle.std.specs.Prelude.{◌&&◌, ◌||◌, IfSome}
 use Rattle.avc_types.specs.declared.fault.Fault.{Fault}
 use Rattle.avc_annexb.specs.declared.unit.Unit.{Unit as Piece}
@@ -18,7 +18,7 @@ use Rattle.avc_decoder_core.specs.History.{History}
 use Rattle.avc_decoder_core.specs.Pictures.{output_pictures}
 use Rattle.avc_decoder.specs.FirstFault.{OpenPicture, first_fault, history_of}
 use Rattle.avc_decoder.specs.Events.{Outcome, Phase, after_closing, after_next, after_unit, base_in, closed_outcome, closing_result, failed_at, history_in, in_phase, is_running, is_waiting, open_facts_in, open_picture_facts, pictures, running, sets_named, no_change, waiting}
-use Rattle.avc_decoder.specs.States.{Agrees, CanContinue, Fits, Handles, IsNamed, PicturesState, closed_if, closed_in, is_full_in, after_outcome, last_header, next_in, open_picture_in, phase_of, state_of, after_fault_if}
+use Rattle.avc_decoder.specs.States.{Agrees, CanContinue, Fits, Handles, IsNamed, PicturesState, closed_if, closed_in, is_full_in, after_outcome, last_header, more_read, next_in, open_picture_in, phase_of, state_of, after_fault_if}
 use Rattle.avc_decoder.specs.declared.event.Event.{Event}
 use Rattle.avc_decoder.proofs.Closing.{some_is}
 use Rattle.avc_decoder.proofs.Keeping.{within_named}
@@ -34,8 +34,8 @@ differ false e f = cc
 
 -- ---- before the step's `next` is done
 
-abbrev kept_at : Phase → List Event → (taken : ℕ) → PicturesState
-kept_at p es t = record { history = base_in p; open_picture = open_picture_in p; events = es; taken = t; failed = false }
+abbrev kept_at : Phase → List Event → (taken read : ℕ) → PicturesState
+kept_at p es t n = record { history = base_in p; open_picture = open_picture_in p; events = es; taken = t; read = n; failed = false }
 
 -- a further slice finds its picture open
 abbrev OpenFor : Next → Option OpenPicture → Type 0
@@ -50,7 +50,7 @@ LastIs (Continues s) last open_picture = last ≡ Some s.header
 LastIs _ last open_picture = last ≡ last_header open_picture
 
 pub record Ready (g : GrouperState) (k : PicturesState) (p : Phase) (next : Next) : Type 0 where
-  pub kept : k ≡ kept_at p k.events k.taken
+  pub kept : k ≡ kept_at p k.events k.taken k.read
   pub runs : g.running ≡ (is_running p || begins_a_picture next)
   pub last : LastIs next g.last (open_picture_in p)
   pub named : IfSome (open_picture_in p) (IsNamed (sets_after g.sets))
@@ -64,28 +64,31 @@ pub record Done (g g' : GrouperState) (k k' : PicturesState) (x : Outcome) : Typ
   pub sets : g'.sets ≡ g.sets
   pub events : k'.events ≡ k.events ++ x.events
   pub taken : k'.taken ≡ k.taken
+  pub read : k'.read ≡ more_read k.read x.read
 
-abbrev DoneAt : Sets → GrouperState → Phase → (unit : ℕ) → Next → List Event → (taken : ℕ) → Type 0
-DoneAt sets g p unit next es t =
-    let x = next_in sets unit next (kept_at p es t) in
-    Done g (after_fault_if (is_waiting x.phase) g) (kept_at p es t) (after_outcome x (kept_at p es t)) (after_next sets unit p next)
+abbrev DoneAt : Sets → GrouperState → Phase → (unit : ℕ) → Next → List Event → (taken read : ℕ) → Type 0
+DoneAt sets g p unit next es t n =
+    let x = next_in sets unit next (kept_at p es t n) in
+    Done g (after_fault_if (is_waiting x.phase) g) (kept_at p es t n) (after_outcome x (kept_at p es t n)) (after_next sets unit p next)
 
 -- only events
-stays_done : (g : GrouperState) (p : Phase) (es more : List Event) (t : ℕ) → g.running ≡ (is_running p || false) → g.last ≡ last_header (open_picture_in p) → IfSome (open_picture_in p) (IsNamed (sets_after g.sets))
-    → Done g g (kept_at p es t) (after_outcome (record { events = more; phase = running (base_in p) (open_picture_in p); read = 0 }) (kept_at p es t)) (record { events = more; phase = p; read = 0 })
-stays_done g waiting es more t runs last named = record {
+stays_done : (g : GrouperState) (p : Phase) (es more : List Event) (t n : ℕ) → g.running ≡ (is_running p || false) → g.last ≡ last_header (open_picture_in p) → IfSome (open_picture_in p) (IsNamed (sets_after g.sets))
+    → Done g g (kept_at p es t n) (after_outcome (record { events = more; phase = running (base_in p) (open_picture_in p); read = 0 }) (kept_at p es t n)) (record { events = more; phase = p; read = 0 })
+stays_done g waiting es more t n runs last named = record {
   agrees = record { going = refl; last = last; no_history = λ _. refl; no_picture = λ _. refl; named = named };
-  phase = ap (λ b. phase_of b (kept_at waiting (es ++ more) t)) runs;
+  phase = ap (λ b. phase_of b (kept_at waiting (es ++ more) t n)) runs;
   sets = refl;
   events = refl;
   taken = refl;
+  read = refl;
 }
-stays_done g (running h o) es more t runs last named = record {
+stays_done g (running h o) es more t n runs last named = record {
   agrees = record { going = refl; last = last; no_history = λ off. absurd (differ g.running runs off); no_picture = λ off. absurd (differ g.running runs off); named = named };
-  phase = ap (λ b. phase_of b (kept_at (running h o) (es ++ more) t)) runs;
+  phase = ap (λ b. phase_of b (kept_at (running h o) (es ++ more) t n)) runs;
   sets = refl;
   events = refl;
   taken = refl;
+  read = refl;
 }
 
 fault_by : (restarts : Bool) (g : GrouperState) → elim (restarts && false) as (λ _. GrouperState) [ true ↦ g | false ↦ record g { running = false; last = None; restarts = false } ] ≡ record g { running = false; last = None; restarts = false }
@@ -102,7 +105,7 @@ history_same (running h (Some o)) = refl
 
 fault_done : (g : GrouperState) (k : PicturesState) (h : History) (unit : ℕ) (f : Fault) (read : ℕ) → Done g (after_fault false g) k (after_outcome (failed_at h unit f read) k) (failed_at h unit f read)
 fault_done g k h unit f read =
-    rw (at_fault_is g) (record { agrees = record { going = refl; last = refl; no_history = λ _. refl; no_picture = λ _. refl; named = tt }; phase = refl; sets = refl; events = refl; taken = refl })
+    rw (at_fault_is g) (record { agrees = record { going = refl; last = refl; no_history = λ _. refl; no_picture = λ _. refl; named = tt }; phase = refl; sets = refl; events = refl; taken = refl; read = refl })
 
 abbrev slice_outcome : Option (ℕ × Fault) → History → OpenPicture → (read : ℕ) → List Event → Outcome
 slice_outcome m h o read es = elim m [
@@ -119,39 +122,40 @@ slice_done None g k h o read es runs last named = record {
   sets = refl;
   events = refl;
   taken = refl;
+  read = refl;
 }
 
 named_is : (sets : Sets) (s : Slice) (t : IsSliceUnder sets s) → sets_named sets s.header ≡ Some (t.pps, t.sps)
 named_is sets s t = cc (t.pps_is, t.sps_is)
 
-begins_done : (g : GrouperState) (p : Phase) (unit : ℕ) (s : Slice) (es : List Event) (t : ℕ) → g.running ≡ (is_running p || true) → g.last ≡ Some s.header → IsSliceUnder (sets_after g.sets) s → DoneAt (sets_after g.sets) g p unit (Begins s) es t
-begins_done g p unit s es t runs last taken =
+begins_done : (g : GrouperState) (p : Phase) (unit : ℕ) (s : Slice) (es : List Event) (t n : ℕ) → g.running ≡ (is_running p || true) → g.last ≡ Some s.header → IsSliceUnder (sets_after g.sets) s → DoneAt (sets_after g.sets) g p unit (Begins s) es t n
+begins_done g p unit s es t n runs last taken =
     let o : OpenPicture = record { before = base_in p; sps = taken.sps; pps = taken.pps; last = s; earlier = [] } in
     rw (named_is (sets_after g.sets) s taken)
-    (slice_done (first_fault o false) g (kept_at p es t) (base_in p) o _ (pictures (output_pictures Full (base_in p) (history_of o))) (runs ∙ or_true (is_running p)) last (record { pps = taken.pps_is; sps = taken.sps_is }))
+    (slice_done (first_fault o false) g (kept_at p es t n) (base_in p) o _ (pictures (output_pictures Full (base_in p) (history_of o))) (runs ∙ or_true (is_running p)) last (record { pps = taken.pps_is; sps = taken.sps_is }))
 
-continues_done : (g : GrouperState) (h : History) (o : OpenPicture) (unit : ℕ) (s : Slice) (es : List Event) (t : ℕ) → g.running ≡ true → g.last ≡ Some s.header → IsNamed (sets_after g.sets) o
-    → ((o.last).header).pic_parameter_set_id ≡ (s.header).pic_parameter_set_id → DoneAt (sets_after g.sets) g (running h (Some o)) unit (Continues s) es t
-continues_done g h o unit s es t runs last named same =
+continues_done : (g : GrouperState) (h : History) (o : OpenPicture) (unit : ℕ) (s : Slice) (es : List Event) (t n : ℕ) → g.running ≡ true → g.last ≡ Some s.header → IsNamed (sets_after g.sets) o
+    → ((o.last).header).pic_parameter_set_id ≡ (s.header).pic_parameter_set_id → DoneAt (sets_after g.sets) g (running h (Some o)) unit (Continues s) es t n
+continues_done g h o unit s es t n runs last named same =
     let o' : OpenPicture = record o { last = s; earlier = o.last ∷ o.earlier } in
-    slice_done (first_fault o' false) g (kept_at (running h (Some o)) es t) (history_of o) o' _ (pictures (output_pictures Full (history_of o) (history_of o'))) runs last
+    slice_done (first_fault o' false) g (kept_at (running h (Some o)) es t n) (history_of o) o' _ (pictures (output_pictures Full (history_of o) (history_of o'))) runs last
     (record { pps = ap (sets_after g.sets).pps (sym same) ∙ named.pps; sps = named.sps })
 
-done_at : (g : GrouperState) (p : Phase) (unit : ℕ) (next : Next) (es : List Event) (t : ℕ) → g.running ≡ (is_running p || begins_a_picture next) → LastIs next g.last (open_picture_in p)
-    → IfSome (open_picture_in p) (IsNamed (sets_after g.sets)) → OpenFor next (open_picture_in p) → IfSlice next (IsSliceUnder (sets_after g.sets)) → DoneAt (sets_after g.sets) g p unit next es t
-done_at g p unit Nothing es t runs last named open' taken = stays_done g p es [] t runs last named
-done_at g p unit (Refusal f) es t runs last named open' taken = stays_done g p es _ t runs last named
-done_at g p unit (FaultOfOpen f) es t runs last named open' taken = rw (history_same p) (fault_done g (kept_at p es t) (history_in p) unit f 0)
-done_at g p unit (FaultOfOwn f) es t runs last named open' taken = rw (history_same p) (fault_done g (kept_at p es t) (history_in p) unit f 0)
-done_at g p unit (Begins s) es t runs last named open' taken = begins_done g p unit s es t runs last taken
-done_at g waiting unit (Continues s) es t runs last named open' taken = absurd open'
-done_at g (running h None) unit (Continues s) es t runs last named open' taken = absurd open'
-done_at g (running h (Some o)) unit (Continues s) es t runs last named open' taken = continues_done g h o unit s es t runs last named open'.0
+done_at : (g : GrouperState) (p : Phase) (unit : ℕ) (next : Next) (es : List Event) (t n : ℕ) → g.running ≡ (is_running p || begins_a_picture next) → LastIs next g.last (open_picture_in p)
+    → IfSome (open_picture_in p) (IsNamed (sets_after g.sets)) → OpenFor next (open_picture_in p) → IfSlice next (IsSliceUnder (sets_after g.sets)) → DoneAt (sets_after g.sets) g p unit next es t n
+done_at g p unit Nothing es t n runs last named open' taken = stays_done g p es [] t n runs last named
+done_at g p unit (Refusal f) es t n runs last named open' taken = stays_done g p es _ t n runs last named
+done_at g p unit (FaultOfOpen f) es t n runs last named open' taken = rw (history_same p) (fault_done g (kept_at p es t n) (history_in p) unit f 0)
+done_at g p unit (FaultOfOwn f) es t n runs last named open' taken = rw (history_same p) (fault_done g (kept_at p es t n) (history_in p) unit f 0)
+done_at g p unit (Begins s) es t n runs last named open' taken = begins_done g p unit s es t n runs last taken
+done_at g waiting unit (Continues s) es t n runs last named open' taken = absurd open'
+done_at g (running h None) unit (Continues s) es t n runs last named open' taken = absurd open'
+done_at g (running h (Some o)) unit (Continues s) es t n runs last named open' taken = continues_done g h o unit s es t n runs last named open'.0
 
 done : (g g' : GrouperState) (k k' : PicturesState) (p : Phase) (unit : ℕ) (next : Next) → Ready g k p next → IfSlice next (IsSliceUnder (sets_after g.sets))
     → k' ≡ after_outcome (next_in (sets_after g.sets) unit next k) k → g' ≡ after_fault_if (is_waiting (next_in (sets_after g.sets) unit next k).phase) g
     → Done g g' k k' (after_next (sets_after g.sets) unit p next)
-done g g' k k' p unit next r taken ek eg = rw (ek, eg, r.kept) (done_at g p unit next k.events k.taken r.runs r.last r.named r.for_next taken)
+done g g' k k' p unit next r taken ek eg = rw (ek, eg, r.kept) (done_at g p unit next k.events k.taken k.read r.runs r.last r.named r.for_next taken)
 
 -- what comes next can be carried out
 fits_at : (next : Next) (sets : Sets) (open_picture : Option OpenPicture) → OpenFor next open_picture → IfSome open_picture (IsNamed sets) → IfSlice next (IsSliceUnder sets) → Fits sets next open_picture
@@ -183,8 +187,10 @@ pub record Between (sets : Sets) (g1 : GrouperState) (k k1 : PicturesState) (u :
   pub before : List Event
   pub so_far : k1.events ≡ k.events ++ before
   pub taken : k1.taken ≡ k.taken
+  pub read_so_far : k1.read ≡ k.read
   pub events : y.events ≡ before ++ (after_next sets u.index phase next).events
   pub rest : y.phase ≡ (after_next sets u.index phase next).phase
+  pub read : y.read ≡ (after_next sets u.index phase next).read
 
 last_ready : (closes : Bool) (next : Next) (last : Option Header) (open_picture : Option OpenPicture) → (closes ≡ true → last_header open_picture ≡ None) → (closes ≡ false → last ≡ last_header open_picture) → LastIs next (last_header_after closes next last) open_picture
 last_ready closes (Begins s) last open_picture shut no_change' = refl
@@ -239,13 +245,13 @@ closed_none : (closes : Bool) (k : PicturesState) → k.open_picture ≡ None �
 closed_none true k e = ap (closed_in k.history) e
 closed_none false k e = ap (λ o. no_change (running k.history o)) e
 
-between_none : (sets : Sets) (g : GrouperState) (p : Phase) (u : Piece) (closes : Bool) (next : Next) (even : Bool) (es : List Event) (t : ℕ) → IsAt g p → open_picture_in p ≡ None → open_facts_in p ≡ None
+between_none : (sets : Sets) (g : GrouperState) (p : Phase) (u : Piece) (closes : Bool) (next : Next) (even : Bool) (es : List Event) (t n : ℕ) → IsAt g p → open_picture_in p ≡ None → open_facts_in p ≡ None
     → BringsNext (open_facts_in p) closes next → in_phase sets u.index (step_at closes next even) p ≡ after_next sets u.index p next
-    → Between sets (after_step g u (step_at closes next even)) (kept_at p es t) (after_outcome (closed_if closes (kept_at p es t)) (kept_at p es t)) u next (in_phase sets u.index (step_at closes next even) p)
-between_none sets g p u closes next even es t a none none' b is = rw (closed_none closes (kept_at p es t) none) (record {
+    → Between sets (after_step g u (step_at closes next even)) (kept_at p es t n) (after_outcome (closed_if closes (kept_at p es t n)) (kept_at p es t n)) u next (in_phase sets u.index (step_at closes next even) p)
+between_none sets g p u closes next even es t n a none none' b is = rw (closed_none closes (kept_at p es t n) none) (record {
   phase = p;
   ready = record {
-    kept = ap (λ o. record { history = base_in p; open_picture = o; events = es ++ []; taken = t; failed = false }) (sym none);
+    kept = ap (λ o. record { history = base_in p; open_picture = o; events = es ++ []; taken = t; read = n; failed = false }) (sym none);
     runs = ap (λ b'. b' || begins_a_picture next) a.runs;
     last = last_ready closes next g.last (open_picture_in p) (λ _. ap last_header none) (λ _. a.last);
     named = subst (λ (o : Option OpenPicture). IfSome o (IsNamed (sets_after (g.sets ++ set_units (u ∷ []))))) (sym none) tt;
@@ -254,16 +260,18 @@ between_none sets g p u closes next even es t a none none' b is = rw (closed_non
   before = [];
   so_far = refl;
   taken = refl;
+  read_so_far = refl;
   events = ap (λ (o : Outcome). o.events) is;
   rest = ap (λ (o : Outcome). o.phase) is;
+  read = ap (λ (o : Outcome). o.read) is;
 })
 
 -- it stays open
-between_open : (sets : Sets) (g : GrouperState) (h : History) (o : OpenPicture) (u : Piece) (next : Next) (even : Bool) (es : List Event) (t : ℕ) → IsAt g (running h (Some o))
+between_open : (sets : Sets) (g : GrouperState) (h : History) (o : OpenPicture) (u : Piece) (next : Next) (even : Bool) (es : List Event) (t n : ℕ) → IsAt g (running h (Some o))
     → BringsNext (open_facts_in (running h (Some o))) false next → set_units (u ∷ []) ≡ []
-    → Between sets (after_step g u (step_at false next even)) (kept_at (running h (Some o)) es t) (after_outcome (closed_if false (kept_at (running h (Some o)) es t)) (kept_at (running h (Some o)) es t)) u next
+    → Between sets (after_step g u (step_at false next even)) (kept_at (running h (Some o)) es t n) (after_outcome (closed_if false (kept_at (running h (Some o)) es t n)) (kept_at (running h (Some o)) es t n)) u next
     (in_phase sets u.index (step_at false next even) (running h (Some o)))
-between_open sets g h o u next even es t a b no_set = record {
+between_open sets g h o u next even es t n a b no_set = record {
   phase = running h (Some o);
   ready = record {
     kept = refl;
@@ -275,20 +283,22 @@ between_open sets g h o u next even es t a b no_set = record {
   before = [];
   so_far = refl;
   taken = refl;
+  read_so_far = refl;
   events = refl;
   rest = refl;
+  read = refl;
 }
 
 abbrev close_outcome : Sets → (unit : ℕ) → Next → (even : Bool) → Outcome → Outcome
 close_outcome sets unit next even c = after_closing sets unit (step_at true next even) c
 
 -- it was closed
-between_closed : (x : Result History (ℕ × Fault)) (sets : Sets) (g : GrouperState) (h : History) (o : OpenPicture) (u : Piece) (next : Next) (even : Bool) (es : List Event) (t : ℕ) → IsAt g (running h (Some o))
+between_closed : (x : Result History (ℕ × Fault)) (sets : Sets) (g : GrouperState) (h : History) (o : OpenPicture) (u : Piece) (next : Next) (even : Bool) (es : List Event) (t n : ℕ) → IsAt g (running h (Some o))
     → BringsNext (open_facts_in (running h (Some o))) true next → is_waiting (closed_outcome o x).phase ≡ false
-    → Between sets (after_step g u (step_at true next even)) (kept_at (running h (Some o)) es t) (after_outcome (closed_outcome o x) (kept_at (running h (Some o)) es t)) u next
+    → Between sets (after_step g u (step_at true next even)) (kept_at (running h (Some o)) es t n) (after_outcome (closed_outcome o x) (kept_at (running h (Some o)) es t n)) u next
     (close_outcome sets u.index next even (closed_outcome o x))
-between_closed (Err found) sets g h o u next even es t a b found' = cc
-between_closed (Ok h') sets g h o u next even es t a b found = record {
+between_closed (Err found) sets g h o u next even es t n a b found' = cc
+between_closed (Ok h') sets g h o u next even es t n a b found = record {
   phase = running h' None;
   ready = record {
     kept = refl;
@@ -300,87 +310,92 @@ between_closed (Ok h') sets g h o u next even es t a b found = record {
   before = (closed_outcome o (Ok h')).events;
   so_far = refl;
   taken = refl;
+  read_so_far = refl;
   events = refl;
   rest = refl;
+  read = omega arith;
 }
 
-abbrev BetweenAt : Sets → GrouperState → Phase → Piece → (closes : Bool) → Next → (even : Bool) → List Event → (taken : ℕ) → Type 0
-BetweenAt sets g p u closes next even es t =
-    Between sets (after_step g u (step_at closes next even)) (kept_at p es t) (after_outcome (closed_if closes (kept_at p es t)) (kept_at p es t)) u next (in_phase sets u.index (step_at closes next even) p)
+abbrev BetweenAt : Sets → GrouperState → Phase → Piece → (closes : Bool) → Next → (even : Bool) → List Event → (taken read : ℕ) → Type 0
+BetweenAt sets g p u closes next even es t n =
+    Between sets (after_step g u (step_at closes next even)) (kept_at p es t n) (after_outcome (closed_if closes (kept_at p es t n)) (kept_at p es t n)) u next (in_phase sets u.index (step_at closes next even) p)
 
-between_at : (closes : Bool) (p : Phase) (sets : Sets) (g : GrouperState) (u : Piece) (next : Next) (even : Bool) (es : List Event) (t : ℕ) → IsAt g p → BringsNext (open_facts_in p) closes next
-    → (closes ≡ false → set_units (u ∷ []) ≡ []) → is_waiting (closed_if closes (kept_at p es t)).phase ≡ false → BetweenAt sets g p u closes next even es t
-between_at closes waiting sets g u next even es t a b keeps found = between_none sets g waiting u closes next even es t a refl refl b refl
-between_at closes (running h None) sets g u next even es t a b keeps found = between_none sets g (running h None) u closes next even es t a refl refl b refl
-between_at false (running h (Some o)) sets g u next even es t a b keeps found = between_open sets g h o u next even es t a b (keeps refl)
-between_at true (running h (Some o)) sets g u next even es t a b keeps found = between_closed (closing_result o) sets g h o u next even es t a b found
+between_at : (closes : Bool) (p : Phase) (sets : Sets) (g : GrouperState) (u : Piece) (next : Next) (even : Bool) (es : List Event) (t n : ℕ) → IsAt g p → BringsNext (open_facts_in p) closes next
+    → (closes ≡ false → set_units (u ∷ []) ≡ []) → is_waiting (closed_if closes (kept_at p es t n)).phase ≡ false → BetweenAt sets g p u closes next even es t n
+between_at closes waiting sets g u next even es t n a b keeps found = between_none sets g waiting u closes next even es t n a refl refl b refl
+between_at closes (running h None) sets g u next even es t n a b keeps found = between_none sets g (running h None) u closes next even es t n a refl refl b refl
+between_at false (running h (Some o)) sets g u next even es t n a b keeps found = between_open sets g h o u next even es t n a b (keeps refl)
+between_at true (running h (Some o)) sets g u next even es t n a b keeps found = between_closed (closing_result o) sets g h o u next even es t n a b found
 
 -- ---- closing was a fault
 
 -- the unit begins a picture all the same, or decoding waits
-ready_fault : (next : Next) (g : GrouperState) (u : Piece) (open' : Option OpenPictureFacts) (es : List Event) (t : ℕ) → BringsNext open' true next
-    → Ready (after_fault true (after_step g u (step_at true next true))) (kept_at waiting es t) waiting next
-ready_fault (Begins s) g u open' es t b = record { kept = refl; runs = or_true g.running; last = refl; named = tt; for_next = refl }
-ready_fault (Continues s) g u open' es t b = let e = b.0 in cc
-ready_fault Nothing g u open' es t b = record { kept = refl; runs = refl; last = refl; named = tt; for_next = tt }
-ready_fault (Refusal f) g u open' es t b = record { kept = refl; runs = refl; last = refl; named = tt; for_next = tt }
-ready_fault (FaultOfOpen f) g u open' es t b = record { kept = refl; runs = refl; last = refl; named = tt; for_next = tt }
-ready_fault (FaultOfOwn f) g u open' es t b = record { kept = refl; runs = refl; last = refl; named = tt; for_next = tt }
+ready_fault : (next : Next) (g : GrouperState) (u : Piece) (open' : Option OpenPictureFacts) (es : List Event) (t n : ℕ) → BringsNext open' true next
+    → Ready (after_fault true (after_step g u (step_at true next true))) (kept_at waiting es t n) waiting next
+ready_fault (Begins s) g u open' es t n b = record { kept = refl; runs = or_true g.running; last = refl; named = tt; for_next = refl }
+ready_fault (Continues s) g u open' es t n b = let e = b.0 in cc
+ready_fault Nothing g u open' es t n b = record { kept = refl; runs = refl; last = refl; named = tt; for_next = tt }
+ready_fault (Refusal f) g u open' es t n b = record { kept = refl; runs = refl; last = refl; named = tt; for_next = tt }
+ready_fault (FaultOfOpen f) g u open' es t n b = record { kept = refl; runs = refl; last = refl; named = tt; for_next = tt }
+ready_fault (FaultOfOwn f) g u open' es t n b = record { kept = refl; runs = refl; last = refl; named = tt; for_next = tt }
 
-between_faulty : (x : Result History (ℕ × Fault)) (sets : Sets) (g : GrouperState) (h : History) (o : OpenPicture) (u : Piece) (next : Next) (es : List Event) (t : ℕ)
+between_faulty : (x : Result History (ℕ × Fault)) (sets : Sets) (g : GrouperState) (h : History) (o : OpenPicture) (u : Piece) (next : Next) (es : List Event) (t n : ℕ)
     → BringsNext (open_facts_in (running h (Some o))) true next → is_waiting (closed_outcome o x).phase ≡ true
-    → Between sets (after_fault true (after_step g u (step_at true next true))) (kept_at (running h (Some o)) es t) (after_outcome (closed_outcome o x) (kept_at (running h (Some o)) es t)) u next
+    → Between sets (after_fault true (after_step g u (step_at true next true))) (kept_at (running h (Some o)) es t n) (after_outcome (closed_outcome o x) (kept_at (running h (Some o)) es t n)) u next
     (close_outcome sets u.index next true (closed_outcome o x))
-between_faulty (Ok h') sets g h o u next es t b found = cc
-between_faulty (Err f) sets g h o u next es t b found = record {
+between_faulty (Ok h') sets g h o u next es t n b found = cc
+between_faulty (Err f) sets g h o u next es t n b found = record {
   phase = waiting;
-  ready = ready_fault next g u (open_facts_in (running h (Some o))) (es ++ (closed_outcome o (Err f)).events) t b;
+  ready = ready_fault next g u (open_facts_in (running h (Some o))) (es ++ (closed_outcome o (Err f)).events) t n b;
   before = (closed_outcome o (Err f)).events;
   so_far = refl;
   taken = refl;
+  read_so_far = refl;
   events = refl;
   rest = refl;
+  read = omega arith;
 }
 
-between_fault_at : (closes : Bool) (p : Phase) (sets : Sets) (g : GrouperState) (u : Piece) (next : Next) (es : List Event) (t : ℕ) → BringsNext (open_facts_in p) closes next
-    → is_waiting (closed_if closes (kept_at p es t)).phase ≡ true
-    → Between sets (after_fault true (after_step g u (step_at closes next true))) (kept_at p es t) (after_outcome (closed_if closes (kept_at p es t)) (kept_at p es t)) u next (in_phase sets u.index (step_at closes next true) p)
-between_fault_at false p sets g u next es t b found = cc
-between_fault_at true waiting sets g u next es t b found = cc
-between_fault_at true (running h None) sets g u next es t b found = cc
-between_fault_at true (running h (Some o)) sets g u next es t b found = between_faulty (closing_result o) sets g h o u next es t b found
+between_fault_at : (closes : Bool) (p : Phase) (sets : Sets) (g : GrouperState) (u : Piece) (next : Next) (es : List Event) (t n : ℕ) → BringsNext (open_facts_in p) closes next
+    → is_waiting (closed_if closes (kept_at p es t n)).phase ≡ true
+    → Between sets (after_fault true (after_step g u (step_at closes next true))) (kept_at p es t n) (after_outcome (closed_if closes (kept_at p es t n)) (kept_at p es t n)) u next (in_phase sets u.index (step_at closes next true) p)
+between_fault_at false p sets g u next es t n b found = cc
+between_fault_at true waiting sets g u next es t n b found = cc
+between_fault_at true (running h None) sets g u next es t n b found = cc
+between_fault_at true (running h (Some o)) sets g u next es t n b found = between_faulty (closing_result o) sets g h o u next es t n b found
 
 -- and nothing comes after it
-faulty_done : (x : Result History (ℕ × Fault)) (sets : Sets) (g : GrouperState) (h : History) (o : OpenPicture) (u : Piece) (next : Next) (es : List Event) (t : ℕ) → is_waiting (closed_outcome o x).phase ≡ true
-    → Done (after_step g u (step_at true next false)) (after_fault true (after_step g u (step_at true next false))) (kept_at (running h (Some o)) es t) (after_outcome (closed_outcome o x) (kept_at (running h (Some o)) es t))
+faulty_done : (x : Result History (ℕ × Fault)) (sets : Sets) (g : GrouperState) (h : History) (o : OpenPicture) (u : Piece) (next : Next) (es : List Event) (t n : ℕ) → is_waiting (closed_outcome o x).phase ≡ true
+    → Done (after_step g u (step_at true next false)) (after_fault true (after_step g u (step_at true next false))) (kept_at (running h (Some o)) es t n) (after_outcome (closed_outcome o x) (kept_at (running h (Some o)) es t n))
     (close_outcome sets u.index next false (closed_outcome o x))
-faulty_done (Ok h') sets g h o u next es t found = cc
-faulty_done (Err f) sets g h o u next es t found = record {
+faulty_done (Ok h') sets g h o u next es t n found = cc
+faulty_done (Err f) sets g h o u next es t n found = record {
   agrees = record { going = refl; last = refl; no_history = λ _. refl; no_picture = λ _. refl; named = tt };
   phase = refl;
   sets = refl;
   events = refl;
   taken = refl;
+  read = refl;
 }
 
-fault_done_at : (closes : Bool) (p : Phase) (sets : Sets) (g : GrouperState) (u : Piece) (next : Next) (es : List Event) (t : ℕ) → is_waiting (closed_if closes (kept_at p es t)).phase ≡ true
-    → Done (after_step g u (step_at closes next false)) (after_fault true (after_step g u (step_at closes next false))) (kept_at p es t) (after_outcome (closed_if closes (kept_at p es t)) (kept_at p es t))
+fault_done_at : (closes : Bool) (p : Phase) (sets : Sets) (g : GrouperState) (u : Piece) (next : Next) (es : List Event) (t n : ℕ) → is_waiting (closed_if closes (kept_at p es t n)).phase ≡ true
+    → Done (after_step g u (step_at closes next false)) (after_fault true (after_step g u (step_at closes next false))) (kept_at p es t n) (after_outcome (closed_if closes (kept_at p es t n)) (kept_at p es t n))
     (in_phase sets u.index (step_at closes next false) p)
-fault_done_at false p sets g u next es t found = cc
-fault_done_at true waiting sets g u next es t found = cc
-fault_done_at true (running h None) sets g u next es t found = cc
-fault_done_at true (running h (Some o)) sets g u next es t found = faulty_done (closing_result o) sets g h o u next es t found
+fault_done_at false p sets g u next es t n found = cc
+fault_done_at true waiting sets g u next es t n found = cc
+fault_done_at true (running h None) sets g u next es t n found = cc
+fault_done_at true (running h (Some o)) sets g u next es t n found = faulty_done (closing_result o) sets g h o u next es t n found
 
 -- ---- the step of a unit
 
 pub record Stepped (g : GrouperState) (k : PicturesState) (u : Piece) (w : Step) : Type 0 where
-  pub kept : k ≡ kept_at (phase_of g.running k) k.events k.taken
+  pub kept : k ≡ kept_at (phase_of g.running k) k.events k.taken k.read
   pub is_at : IsAt g (phase_of g.running k)
   pub brings : BringsNext (open_facts_in (phase_of g.running k)) w.closes w.next
   pub keeps : w.closes ≡ false → set_units (u ∷ []) ≡ []
   pub outcome : after_unit (state_of g k) u ≡ in_phase (sets_after g.sets) u.index w (phase_of g.running k)
 
-kept_by : (r : Bool) (k : PicturesState) → k.failed ≡ false → (r ≡ false → k.history ≡ []) → (r ≡ false → k.open_picture ≡ None) → k ≡ kept_at (phase_of r k) k.events k.taken
+kept_by : (r : Bool) (k : PicturesState) → k.failed ≡ false → (r ≡ false → k.history ≡ []) → (r ≡ false → k.open_picture ≡ None) → k ≡ kept_at (phase_of r k) k.events k.taken k.read
 kept_by true k on no_history no_picture = ap (λ f. record k { failed = f }) on
 kept_by false k on no_history no_picture =
     ap (λ f. record k { failed = f }) on ∙ ap (λ h. record k { history = h; failed = false }) (no_history refl) ∙ ap (λ o. record k { history = []; open_picture = o; failed = false }) (no_picture refl)
@@ -427,8 +442,8 @@ pub between : (g g1 : GrouperState) (k k1 : PicturesState) (u : Piece) (full fou
 between g g1 k k1 u full found w a f i i1 j d sound =
     let s = stepped g k u full w a f i in
     let p = phase_of g.running k in
-    let sound' : is_waiting (closed_if w.closes (kept_at p k.events k.taken)).phase ≡ false = ap (λ (x : PicturesState). is_waiting (closed_if w.closes x).phase) (sym s.kept) ∙ sym d ∙ sound in
-    let b = between_at w.closes p (sets_after g.sets) g u w.next w.even_after_fault k.events k.taken s.is_at s.brings s.keeps sound' in
+    let sound' : is_waiting (closed_if w.closes (kept_at p k.events k.taken k.read)).phase ≡ false = ap (λ (x : PicturesState). is_waiting (closed_if w.closes x).phase) (sym s.kept) ∙ sym d ∙ sound in
+    let b = between_at w.closes p (sets_after g.sets) g u w.next w.even_after_fault k.events k.taken k.read s.is_at s.brings s.keeps sound' in
     rw (i1, j, s.outcome) (subst (λ (x : PicturesState). Between (sets_after g.sets) (after_step g u w) x (after_outcome (closed_if w.closes x) x) u w.next (in_phase (sets_after g.sets) u.index w p)) (sym s.kept) b)
 
 -- closing was a fault, and the unit goes on all the same
@@ -438,9 +453,9 @@ pub between_fault : (g g1 g2 : GrouperState) (k k1 : PicturesState) (u : Piece) 
 between_fault g g1 g2 k k1 u full found w a f i i1 j d faulty i2 even =
     let s = stepped g k u full w a f i in
     let p = phase_of g.running k in
-    let faulty' : is_waiting (closed_if w.closes (kept_at p k.events k.taken)).phase ≡ true = ap (λ (x : PicturesState). is_waiting (closed_if w.closes x).phase) (sym s.kept) ∙ sym d ∙ faulty in
-    let b = between_fault_at w.closes p (sets_after g.sets) g u w.next k.events k.taken s.brings faulty' in
-    let b' = subst (λ (e : Bool). Between (sets_after g.sets) (after_fault true (after_step g u (step_at w.closes w.next e))) (kept_at p k.events k.taken) (after_outcome (closed_if w.closes (kept_at p k.events k.taken)) (kept_at p k.events k.taken)) u w.next (in_phase (sets_after g.sets) u.index (step_at w.closes w.next e) p)) (sym even) b in
+    let faulty' : is_waiting (closed_if w.closes (kept_at p k.events k.taken k.read)).phase ≡ true = ap (λ (x : PicturesState). is_waiting (closed_if w.closes x).phase) (sym s.kept) ∙ sym d ∙ faulty in
+    let b = between_fault_at w.closes p (sets_after g.sets) g u w.next k.events k.taken k.read s.brings faulty' in
+    let b' = subst (λ (e : Bool). Between (sets_after g.sets) (after_fault true (after_step g u (step_at w.closes w.next e))) (kept_at p k.events k.taken k.read) (after_outcome (closed_if w.closes (kept_at p k.events k.taken k.read)) (kept_at p k.events k.taken k.read)) u w.next (in_phase (sets_after g.sets) u.index (step_at w.closes w.next e) p)) (sym even) b in
     rw (i2, i1, j, s.outcome) (subst (λ (x : PicturesState). Between (sets_after g.sets) (after_fault true (after_step g u w)) x (after_outcome (closed_if w.closes x) x) u w.next (in_phase (sets_after g.sets) u.index w p)) (sym s.kept) b')
 
 -- what comes next can be carried out
@@ -448,7 +463,7 @@ pub between_fits : (sets : Sets) (g : GrouperState) (k k1 : PicturesState) (u : 
 between_fits sets g k k1 u next y b taken = rw b.ready.kept (fits_at next (sets_after g.sets) (open_picture_in b.phase) b.ready.for_next b.ready.named taken)
 
 handles_of : (g g1 g' : GrouperState) (k k' : PicturesState) (u : Piece) → g1.sets ≡ g.sets ++ set_units (u ∷ []) → Done g1 g' k k' (after_unit (state_of g k) u) → Handles g k u g' k'
-handles_of g g1 g' k k' u sets d = record { agrees = d.agrees; state = rw (d.phase, d.sets, sets) refl; events = d.events; taken = d.taken }
+handles_of g g1 g' k k' u sets d = record { agrees = d.agrees; state = rw (d.phase, d.sets, sets) refl; events = d.events; taken = d.taken; read = d.read }
 
 -- what came next was done
 pub handles : (g g1 g' : GrouperState) (k k1 k' : PicturesState) (u : Piece) (next : Next) → g1.sets ≡ g.sets ++ set_units (u ∷ []) → Between (sets_after g.sets) g1 k k1 u next (after_unit (state_of g k) u)
@@ -463,6 +478,7 @@ handles g g1 g' k k1 k' u next sets b taken same ek eg =
       sets = d.sets;
       events = d.events ∙ ap (λ (o : Outcome). k1.events ++ o.events) is ∙ ap (λ es. es ++ (after_next (sets_after g.sets) u.index b.phase next).events) b.so_far ∙ append_assoc k.events b.before _ ∙ ap (λ es. k.events ++ es) (sym b.events);
       taken = d.taken ∙ b.taken;
+      read = d.read ∙ ap (λ (o : Outcome). more_read k1.read o.read) is ∙ ap (λ m. more_read m (after_next (sets_after g.sets) u.index b.phase next).read) b.read_so_far ∙ ap (more_read k.read) (sym b.read);
     })
 
 -- closing was a fault, and nothing comes after it
@@ -472,9 +488,9 @@ pub handles_fault : (g g1 g2 : GrouperState) (k k1 : PicturesState) (u : Piece) 
 handles_fault g g1 g2 k k1 u full found w a f i i1 j d faulty i2 even =
     let s = stepped g k u full w a f i in
     let p = phase_of g.running k in
-    let faulty' : is_waiting (closed_if w.closes (kept_at p k.events k.taken)).phase ≡ true = ap (λ (x : PicturesState). is_waiting (closed_if w.closes x).phase) (sym s.kept) ∙ sym d ∙ faulty in
-    let b = fault_done_at w.closes p (sets_after g.sets) g u w.next k.events k.taken faulty' in
-    let b' = subst (λ (e : Bool). Done (after_step g u (step_at w.closes w.next e)) (after_fault true (after_step g u (step_at w.closes w.next e))) (kept_at p k.events k.taken) (after_outcome (closed_if w.closes (kept_at p k.events k.taken)) (kept_at p k.events k.taken)) (in_phase (sets_after g.sets) u.index (step_at w.closes w.next e) p)) (sym even) b in
+    let faulty' : is_waiting (closed_if w.closes (kept_at p k.events k.taken k.read)).phase ≡ true = ap (λ (x : PicturesState). is_waiting (closed_if w.closes x).phase) (sym s.kept) ∙ sym d ∙ faulty in
+    let b = fault_done_at w.closes p (sets_after g.sets) g u w.next k.events k.taken k.read faulty' in
+    let b' = subst (λ (e : Bool). Done (after_step g u (step_at w.closes w.next e)) (after_fault true (after_step g u (step_at w.closes w.next e))) (kept_at p k.events k.taken k.read) (after_outcome (closed_if w.closes (kept_at p k.events k.taken k.read)) (kept_at p k.events k.taken k.read)) (in_phase (sets_after g.sets) u.index (step_at w.closes w.next e) p)) (sym even) b in
     let b'' = subst (λ (x : PicturesState). Done (after_step g u w) (after_fault true (after_step g u w)) x (after_outcome (closed_if w.closes x) x) (in_phase (sets_after g.sets) u.index w p)) (sym s.kept) b' in
     rw (i2, i1, j) (handles_of g (after_step g u w) (after_fault true (after_step g u w)) k (after_outcome (closed_if w.closes k) k) u refl (rw s.outcome b''))
 

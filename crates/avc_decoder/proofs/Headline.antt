@@ -4,7 +4,7 @@ use Rattle.std.proofs.Common.{ap, sym, subst, ◌∙◌, append_assoc, append-ni
 use Rattle.avc_decoder.specs.Events.{events}
 use Rattle.avc_decoder.specs.Headline.{SinceReset, no_call, with_call, since_reset, defined_events, TakesThem, TakesAll}
 use Rattle.avc_decoder.specs.Laws.{EventsOnlyGrow}
-use Rattle.avc_decoder.specs.Machine.{Machine, new_machine, Run, IsCallAnswer, after_feed, after_flush, after_take, next_event}
+use Rattle.avc_decoder.specs.Machine.{Machine, new_machine, Run, IsCallAnswer, IsRefused, after_feed, after_flush, after_take, next_event}
 use Rattle.avc_decoder.specs.declared.calls.Call.{Call}
 use Rattle.avc_decoder.specs.declared.calls.Call.TheVariants.{Feed, Take, Flush, Reset}
 use Rattle.avc_decoder.specs.declared.calls.Reply.{Reply}
@@ -43,8 +43,14 @@ none_left (y ∷ front) others e = none_left front others e
 unchanged : (max : ℕ) (m m' : Machine) (s : SinceReset) → m' ≡ m → Tells max m s → Tells max m' s
 unchanged max m m' s e t = subst (λ n. Tells max n s) (sym e) t
 
-refused_tells : (max : ℕ) (m m' : Machine) (s : SinceReset) → m'.failed ≡ true → Tells max m s → Tells max m' s
-refused_tells max m m' s failed t = record { agrees = λ going. let q : true ≡ false = sym failed ∙ going in cc; first = t.first }
+refused_fails : (before : Bool) (old after new : Machine) → old.failed ≡ before → new ≡ elim before [ true ↦ old | false ↦ record after { failed = true } ] → new.failed ≡ true
+refused_fails true old after new was e = ap (λ (m : Machine). m.failed) e ∙ was
+refused_fails false old after new was e = ap (λ (m : Machine). m.failed) e
+
+refused_tells : (max : ℕ) (m after m' : Machine) (s : SinceReset) → IsRefused m after m' → Tells max m s → Tells max m' s
+refused_tells max m after m' s r t =
+    let failed = refused_fails m.failed m after m' refl r.refused in
+    record { agrees = λ going. let q : true ≡ false = sym failed ∙ going in cc; first = t.first }
 
 -- with more bytes, or with the end said
 grown : EventsOnlyGrow → (max : ℕ) (s : SinceReset) (more : List ℕ) (ended : Bool) → s.ended ≡ false → IsFirst max s →
@@ -103,7 +109,7 @@ answered : EventsOnlyGrow → (max : ℕ) (m m' : Machine) (s : SinceReset) (cal
 answered grow max m m' s (Feed piece) (replies.Fed (Ok done)) t g =
     unchanged max (after_feed piece m) m' (record s { bytes = s.bytes ++ piece }) g.2 (fed_tells grow max m s piece g.0 g.1 t)
 answered grow max m m' s (Feed piece) (replies.Fed (Err Ended)) t g = unchanged max m m' s g.2 t
-answered grow max m m' s (Feed piece) (replies.Fed (Err OutOfMemory)) t g = refused_tells max m m' s g.refused t
+answered grow max m m' s (Feed piece) (replies.Fed (Err OutOfMemory)) t g = refused_tells max m (after_feed piece m) m' s g t
 answered grow max m m' s (Feed piece) (replies.Taken answer) t g = absurd g
 answered grow max m m' s (Feed piece) (replies.Flushed answer) t g = absurd g
 answered grow max m m' s (Feed piece) replies.Reset t g = absurd g
@@ -118,7 +124,7 @@ answered grow max m m' s Take replies.Reset t g = absurd g
 answered grow max m m' s Flush (replies.Flushed (Ok done)) t g =
     unchanged max (after_flush m) m' (record s { ended = true }) g.2 (flushed_tells grow max m s g.0 g.1 t)
 answered grow max m m' s Flush (replies.Flushed (Err Ended)) t g = unchanged max m m' s g.2 t
-answered grow max m m' s Flush (replies.Flushed (Err OutOfMemory)) t g = refused_tells max m m' s g.refused t
+answered grow max m m' s Flush (replies.Flushed (Err OutOfMemory)) t g = refused_tells max m (after_flush m) m' s g t
 answered grow max m m' s Flush (replies.Fed answer) t g = absurd g
 answered grow max m m' s Flush (replies.Taken answer) t g = absurd g
 answered grow max m m' s Flush replies.Reset t g = absurd g

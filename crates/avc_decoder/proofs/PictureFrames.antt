@@ -3,7 +3,7 @@ use Rattle.std.proofs.Common.{◌≡◌, ℕ, Bool, true, false, List, [], ◌�
 use Rattle.std.proofs.lemmas.Bool.Decides.{nat_tests}
 use Rattle.std.proofs.lemmas.List.Elements.{All-cons, All-nil}
 use Rattle.std.specs.List.Sorted.{IsStrictlyIncreasing}
-use Rattle.std.specs.Prelude.{◌+◌, ◌==◌, ◌&&◌, IfSome}
+use Rattle.std.specs.Prelude.{◌+◌, ◌-◌, ◌==◌, ◌&&◌, IfSome}
 use Rattle.avc_types.specs.References.{StandAt}
 use Rattle.avc_types.specs.declared.fault.Fault.{Fault}
 use Rattle.avc_types.specs.declared.fault.Fault.TheVariants.{ParameterSetChanged}
@@ -23,11 +23,11 @@ use Rattle.avc_marking.specs.Marks.{Marks, missing_frame_nums, prev_ref_frame_nu
 use Rattle.avc_poc.specs.OrderCounts.{Counts, order_counts}
 use Rattle.avc_picture.specs.Decoded.{deblocked}
 use Rattle.avc_picture.specs.Slices.{Progress, coded_of, is_full, planes_after_slices, progress}
-use Rattle.avc_picture.specs.Decoding.{AreFramesOf, CanStandAt, Decoding, HasNoFault, IsFull, Refuses, end_fault, fault_at_end, no_slice_yet, progress_at, start_at, with_slice_more}
+use Rattle.avc_picture.specs.Decoding.{AreFramesOf, CanStandAt, Decoding, HasNoFault, HasRead, IsFull, Refuses, end_fault, fault_at_end, no_slice_yet, progress_at, start_at, with_slice_more}
 use Rattle.avc_picture.proofs.OtherFrames.{progress-other}
 use Rattle.avc_decoder_core.specs.History.{◌>>=◌, History, history_at_opening, is_same_sps, marking_entries, marks_of, missing_frame, pasts, picture_entry, sequence_sps, stored_frames, with_missing, with_order_counts}
 use Rattle.avc_decoder_core.specs.SequenceState.{AreFramesIn, AreStoredIn, IsOpened, SequenceState, current_history}
-use Rattle.avc_decoder.specs.PictureFrames.{CanHave, HasItsFrames, IsISlice, IsRefused, frames_for, progress_on_history, start_with}
+use Rattle.avc_decoder.specs.PictureFrames.{CanHave, HasItsFrames, IsISlice, IsRefused, frames_for, progress_on_history, read_of_slice, start_with}
 
 -- ---- the history's frames
 
@@ -84,6 +84,19 @@ pub full_on : (s : SequenceState) (h : Header) (d : Decoding 32) (full : Bool) �
 full_on s h d full f is =
     let k = stands_on s h d f in
     ap (is_full (start_with (stored_frames (current_history s)) d)) (sym k.same) ∙ is k.entries k.stand
+
+-- how many macroblocks the picture decoder has read
+read_on : (s : SequenceState) (h : Header) (d : Decoding 32) (count : ℕ) → HasItsFrames s h d → HasRead count d → (progress_on_history (current_history s) d).read ≡ count
+read_on s h d count f is =
+    let k = stands_on s h d f in
+    ap (λ (g : Progress). g.read) (sym k.same) ∙ is k.entries k.stand
+
+pub slice_read : (s : SequenceState) (d d' : Decoding 32) (slice : Slice) (before after read : ℕ) → CanHave s d slice → d' ≡ with_slice_more slice d → HasRead before d → HasRead after d' → read ≡ after - before
+    → read ≡ read_of_slice (current_history s) d slice
+slice_read s d d' slice before after read can e so_far then' is =
+    let b = read_on s slice.header d before can.frames so_far in
+    let a = read_on s slice.header (with_slice_more slice d) after (with_one_more s d slice can) (subst (HasRead after) e then') in
+    is ∙ ap (λ n. n - before) (sym a) ∙ ap (λ n. (progress_on_history (current_history s) (with_slice_more slice d)).read - n) (sym b)
 
 abbrev pub EndsWith : SequenceState → Decoding 32 → Option Fault → Type 0
 EndsWith s d fault =

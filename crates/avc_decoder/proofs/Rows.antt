@@ -3,7 +3,7 @@ use Rattle.std.specs.Prelude.{◌≡◌, ℕ, Bool, true, false, List, [], ◌�
 use Rattle.std.specs.List.{range_with_len}
 use Rattle.avc_types.specs.declared.fault.Fault.{Fault}
 use Rattle.avc_types.specs.declared.fault.Fault.TheVariants as faults
-use Rattle.avc_decoder.specs.Events.{events}
+use Rattle.avc_decoder.specs.Events.{events, turns}
 use Rattle.avc_decoder.specs.declared.event.Event.{Event}
 use Rattle.avc_decoder.specs.declared.event.Event.TheVariants.{Picture, Refused}
 
@@ -144,3 +144,18 @@ begun_late = refl
 
 truncated : seen_all (sets ++ pcm first_mb (replicate 300 80)) true ≡ refusal 2 faults.Truncated ∷ []
 truncated = refl
+
+-- ---- the macroblocks that are read
+
+one_macroblock : turns max (sets ++ pcm first_mb (of_one 80)) true ≡ 1
+one_macroblock = refl
+
+two_in_two_slices : turns max (sps_wide ++ pps_plain ++ pcm first_mb (of_one 80) ++ pcm second_mb (of_one 90)) true ≡ 2
+two_in_two_slices = refl
+
+two_pictures_of_one : turns max (sets ++ pcm first_mb (of_one 80) ++ skipping) true ≡ 2
+two_pictures_of_one = refl
+
+-- a slice that is refused for its address adds none
+none_out_of_order : turns max (sps_wide ++ pps_plain ++ pcm first_mb (of_one 80) ++ pcm second_mb (of_one 80) ++ pcm second_mb (of_one 80)) true ≡ 2
+none_out_of_order = refl

@@ -1,5 +1,5 @@
 -- The frames that a picture is decoded with, and what the picture decoder then says on the history of the sequence.
-use Rattle.std.specs.Prelude.{◌≡◌, true, false, List, [], All, Some}
+use Rattle.std.specs.Prelude.{◌≡◌, ℕ, ◌-◌, true, false, List, [], All, Some}
 use Rattle.avc_types.specs.declared.fault.Fault.{Fault}
 use Rattle.avc_plane.specs.Planes.{StoredFrame}
 use Rattle.avc_plane.specs.declared.frame.Frame.{Frame}
@@ -8,7 +8,7 @@ use Rattle.avc_slice.specs.Within.{IsHeader}
 use Rattle.avc_slice.specs.declared.header.Header.{Header}
 use Rattle.avc_slice.specs.declared.slice.Slice.{Slice}
 use Rattle.avc_picture.specs.Slices.{PictureStart, Progress, progress}
-use Rattle.avc_picture.specs.Decoding.{Decoding}
+use Rattle.avc_picture.specs.Decoding.{Decoding, with_slice_more}
 use Rattle.avc_decoder_core.specs.History.{History, stored_frames}
 use Rattle.avc_decoder_core.specs.SequenceState.{SequenceState, AreStoredIn, current_history}
 
@@ -37,6 +37,10 @@ start_with frames d = record { sps = d.sps; pps = d.pps; frames = frames }
 -- how far the picture is decoded, where it stands on this history
 abbrev pub progress_on_history : History → Decoding 32 → Progress
 progress_on_history history d = progress (start_with (stored_frames history) d) d.slices
+
+-- how many macroblocks of one slice more are read, where the picture stands on this history
+abbrev pub read_of_slice : History → Decoding 32 → Slice → ℕ
+read_of_slice history d s = (progress_on_history history (with_slice_more s d)).read - (progress_on_history history d).read
 
 -- On this history the slice is the first that has a fault, and this is the fault.
 abbrev pub IsRefused : History → Decoding 32 → Slice → Fault → Type 0

@@ -1,8 +1,8 @@
 -- What the decoder's parts keep.
-use Rattle.std.specs.Prelude.{◌≡◌, ℕ, ◌+◌, Bool, true, false, List, [], ◌∷◌, ◌++◌, length, Option, Some, None, IfSome, Ok}
+use Rattle.std.specs.Prelude.{◌≡◌, ℕ, zero, suc, ◌+◌, Bool, true, false, List, [], ◌∷◌, ◌++◌, length, Option, Some, None, IfSome, Ok}
 use Rattle.avc_types.specs.declared.fault.Fault.{Fault}
 use Rattle.avc_annexb.specs.SplitterState.{SplitterState}
-use Rattle.avc_annexb.specs.Units.{units}
+use Rattle.avc_annexb.specs.Units.{units, saturated}
 use Rattle.avc_annexb.specs.declared.unit.Unit.{Unit as Piece}
 use Rattle.avc_params.specs.Tables.{Sets, sets_after}
 use Rattle.avc_params.specs.declared.sps.Sps.{Sps}
@@ -21,9 +21,12 @@ use Rattle.avc_decoder_core.specs.Pictures.{held_pictures}
 use Rattle.avc_decoder_core.specs.SequenceState.{SequenceState, empty_sequence, current_history}
 use Rattle.avc_decoder.specs.FirstFault.{OpenPicture, oldest}
 use Rattle.avc_decoder.specs.PictureFrames.{HasItsFrames, IsRefused}
-use Rattle.avc_decoder.specs.Events.{Phase, waiting, running, State, first_state, Outcome, no_change, pictures, closed_picture, after_next, after_unit, state_after, base_in, events, open_picture_facts, failed_at, history_in, at_end}
+use Rattle.avc_decoder.specs.Events.{Phase, waiting, running, State, first_state, Outcome, no_change, pictures, failed_at, history_in, base_in}
+use Rattle.avc_decoder.specs.Events.{closed_picture, after_first_slice, after_next, after_next_slice, after_unit, state_after, events, turns, open_picture_facts, at_end}
 use Rattle.avc_decoder.specs.Laws.{state_through}
+use Rattle.avc_decoder.specs.Machine.{Machine, IsCount}
 use Rattle.avc_decoder.specs.declared.event.Event.{Event}
+use Rattle.avc_decoder.specs.declared.open_picture.AfterSlice.{AfterSlice}
 use Rattle.avc_decoder.specs.declared.event.Event.TheVariants.{Refused}
 
 -- ---- events
@@ -42,24 +45,37 @@ after_queue_take (Some e) q = record q { taken = q.taken + 1 }
 
 -- ---- pictures
 
--- The history of closed pictures, the open picture, if there is one, the events so far, how many of them were taken, and
--- whether memory was refused.
+-- so many macroblocks and more, as far as a u64 counts
+abbrev pub more_read : (before more : ℕ) → ℕ
+more_read before zero = before
+more_read before (suc more) = saturated (before + suc more)
+
+-- The history of closed pictures, the open picture, if there is one, the events so far, how many of them were taken, how
+-- many macroblocks were read, as far as a u64 counts, and whether memory was refused.
 pub record PicturesState : Type 0 where
   pub history : History
   pub open_picture : Option OpenPicture
   pub events : List Event
   pub taken : ℕ
+  pub read : ℕ
   pub failed : Bool
 
 abbrev pub no_pictures : PicturesState
-no_pictures = record { history = []; open_picture = None; events = []; taken = 0; failed = false }
+no_pictures = record { history = []; open_picture = None; events = []; taken = 0; read = 0; failed = false }
 
 abbrev pub open_picture_in : Phase → Option OpenPicture
 open_picture_in waiting = None
 open_picture_in (running h o) = o
 
 abbrev pub after_outcome : Outcome → PicturesState → PicturesState
-after_outcome o k = record { history = base_in o.phase; open_picture = open_picture_in o.phase; events = k.events ++ o.events; taken = k.taken; failed = false }
+after_outcome o k = record {
+  history = base_in o.phase;
+  open_picture = open_picture_in o.phase;
+  events = k.events ++ o.events;
+  taken = k.taken;
+  read = more_read k.read o.read;
+  failed = false;
+}
 
 abbrev pub after_pictures_take : Option Event → PicturesState → PicturesState
 after_pictures_take None k = k
@@ -96,11 +112,14 @@ pub record HasOpenPicture (s : SequenceState) (last_unit : ℕ) (picture : Optio
   pub works : IsOpen s last_unit picture
   pub mode : s.output ≡ Full
 
--- A step of an open picture has come to this outcome: which picture is open then, and what stands in the queue.
-pub record HasOutcome (o : Outcome) (q : QueueState) (last_unit : ℕ) (picture : Option (Decoding 32)) (s' : SequenceState) (q' : QueueState) : Type 0 where
+-- A step of an open picture has come to this outcome: which picture is open then, how many macroblocks were read in the
+-- step, and what stands in the queue.
+pub record HasOutcome (o : Outcome) (q : QueueState) (last_unit : ℕ) (picture : Option (Decoding 32)) (read : ℕ) (s' : SequenceState) (q' : QueueState)
+    : Type 0 where
   pub works : HasOpenPicture s' last_unit picture
   pub history : s'.history ≡ base_in o.phase
   pub open_picture : open_picture_of s'.history picture ≡ open_picture_in o.phase
+  pub count : read ≡ o.read
   pub queue : q' ≡ with_events o.events q
 
 -- One slice more was decoded, or its fault went out.
@@ -122,6 +141,22 @@ abbrev pub closed_if : (closes : Bool) → PicturesState → Outcome
 closed_if true k = closed_in k.history k.open_picture
 closed_if false k = no_change (running k.history k.open_picture)
 
+-- what closing the open picture of this picture decoder gives
+abbrev pub closed_of : History → Decoding 32 → Outcome
+closed_of h d = closed_in h (open_picture_of h (Some d))
+
+-- what a slice that begins a picture gives
+abbrev pub begun_in : Pps → Sps → History → Slice → Outcome
+begun_in pps sps h s = after_first_slice (Some (pps, sps)) h s
+
+-- what a further slice of the open picture gives
+abbrev pub continued_in : History → Decoding 32 → Slice → Outcome
+continued_in h d s = after_next_slice (running h (open_picture_of h (Some d))) s
+
+-- A slice has come to this outcome.
+abbrev pub HasSliceOutcome : Outcome → QueueState → Slice → AfterSlice → SequenceState → QueueState → Type 0
+HasSliceOutcome o q slice after s' q' = HasOutcome o q slice.unit after.picture after.read s' q'
+
 abbrev pub is_full_in : Option OpenPicture → Bool
 is_full_in None = false
 is_full_in (Some o) = (open_picture_facts o).full
@@ -139,21 +174,29 @@ held_outcome h = record { events = pictures (held_pictures Full h); phase = wait
 
 -- ---- units
 
--- The units' state, the events so far, how many of them were taken, and whether memory was refused.
+-- The units' state, the events so far, how many of them were taken, how many macroblocks were read, as far as a u64 counts,
+-- and whether memory was refused.
 pub record StreamState : Type 0 where
   pub state : State
   pub events : List Event
   pub taken : ℕ
+  pub read : ℕ
   pub failed : Bool
 
 abbrev pub new_stream : StreamState
-new_stream = record { state = first_state; events = []; taken = 0; failed = false }
+new_stream = record { state = first_state; events = []; taken = 0; read = 0; failed = false }
 
 -- one unit more
 abbrev pub after_unit_in_stream : Piece → StreamState → StreamState
 after_unit_in_stream u f =
     let o = after_unit f.state u in
-    record { state = state_after f.state u o; events = f.events ++ o.events; taken = f.taken; failed = false }
+    record {
+      state = state_after f.state u o;
+      events = f.events ++ o.events;
+      taken = f.taken;
+      read = more_read f.read o.read;
+      failed = false;
+    }
 
 abbrev pub after_units_in_stream : List Piece → StreamState → StreamState
 after_units_in_stream [] f = f
@@ -165,6 +208,7 @@ after_stream_end f = record {
   state = record { sets = (f.state).sets; phase = waiting };
   events = f.events ++ at_end (f.state).phase;
   taken = f.taken;
+  read = f.read;
   failed = false;
 }
 
@@ -223,6 +267,7 @@ pub record Handles (g : GrouperState) (k : PicturesState) (u : Piece) (g' : Grou
   pub state : state_of g' k' ≡ state_after (state_of g k) u (after_unit (state_of g k) u)
   pub events : k'.events ≡ k.events ++ (after_unit (state_of g k) u).events
   pub taken : k'.taken ≡ k.taken
+  pub read : k'.read ≡ more_read k.read (after_unit (state_of g k) u).read
 
 -- ---- bytes
 
@@ -234,3 +279,11 @@ pub record IsDecoded (max : ℕ) (s : SplitterState) (ended : Bool) (f : StreamS
   pub counted : s.taken ≡ length (units max s.bytes ended)
   pub state : ended ≡ false → f.state ≡ state_through first_state (units max s.bytes false)
   pub events : f.events ≡ events max s.bytes ended
+  pub read : f.read ≡ turns max s.bytes ended
+
+-- What a decoder keeps of the machine: the macroblocks that are counted, and where memory was not refused, all of it.
+pub record IsKept (max : ℕ) (m : Machine) (s : SplitterState) (f : StreamState) (count : ℕ) : Type 0 where
+  pub count_is : IsCount max m count
+  pub decoded : m.failed ≡ false → IsDecoded max s m.ended f
+  pub bytes : m.failed ≡ false → s.bytes ≡ m.bytes
+  pub taken : m.failed ≡ false → f.taken ≡ m.taken

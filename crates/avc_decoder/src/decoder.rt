@@ -1,13 +1,13 @@
 ghost use Rattle.std.specs.Prelude.{◌≡◌, ◌+◌, drop, false, length, OnOk};
 ghost use Rattle.avc_annexb.specs.Units.{units};
 ghost use Rattle.avc_decoder.specs.States.{after_units_in_stream};
-ghost use Rattle.avc_decoder.specs.Machine.{after_feed, after_flush, new_machine, IsFeedAnswer, IsTakeAnswer};
+ghost use Rattle.avc_decoder.specs.Machine.{after_feed, after_flush, new_machine, IsCount, IsFeedAnswer, IsTakeAnswer};
 
 use crate::error::DecodeError;
 use crate::event::Event;
 use crate::stream::Stream;
 use avc_annexb::Splitter;
-use avc_types::OutOfMemory;
+use avc_types::{History, OutOfMemory};
 use std::alloc::Global;
 use std::marker::Model;
 
@@ -17,20 +17,26 @@ pub struct Decoder<const MAX: usize> {
     alloc: Global,
     splitter: Splitter<MAX>,
     stream: Stream,
+    // how many macroblocks were read when a call was last carried out
+    read: u64,
     ended: bool,
     failed: bool,
+    bytes: History<u8>,
+    taken: History<Event>,
 }
 
 impl<const MAX: usize> Model for Decoder<MAX> {
-    ghost use Rattle.std.specs.Prelude.{◌≡◌, false};
-    ghost use Rattle.avc_decoder.specs.States.{IsDecoded};
+    ghost use Rattle.std.specs.Prelude.{length};
+    ghost use Rattle.avc_decoder.specs.States.{IsKept};
     ghost use Rattle.avc_decoder.specs.Machine.{Machine};
 
     ghost Value = { Machine };
 
-    ghost view = { λ d. record { bytes = d.splitter.bytes; ended = d.ended; taken = d.stream.taken; failed = d.failed } };
+    ghost view = { λ d. record { bytes = d.bytes.items; ended = d.ended; taken = length d.taken.items; failed = d.failed } };
 
-    ghost invariant = { λ d. d.failed ≡ false → IsDecoded MAX d.splitter d.ended d.stream };
+    ghost invariant = { λ d.
+        let m : Machine = record { bytes = d.bytes.items; ended = d.ended; taken = length d.taken.items; failed = d.failed } in
+        IsKept MAX m d.splitter d.stream d.read };
 }
 
 impl<const MAX: usize> Decoder<MAX> {
@@ -42,8 +48,11 @@ impl<const MAX: usize> Decoder<MAX> {
             alloc,
             splitter: Splitter::new(alloc),
             stream: Stream::new(alloc),
+            read: 0,
             ended: false,
             failed: false,
+            bytes: History::new(),
+            taken: History::new(),
         }
     }
 
@@ -59,8 +68,10 @@ impl<const MAX: usize> Decoder<MAX> {
         }
         // until all of it is done
         self.failed = true;
+        self.bytes = self.bytes.with_all(piece);
         self.splitter.feed(piece)?;
         handle_units(&mut self.splitter, &mut self.stream)?;
+        self.read = self.stream.turns();
         self.failed = false;
         Ok(())
     }
@@ -72,7 +83,11 @@ impl<const MAX: usize> Decoder<MAX> {
         if self.failed {
             return Err(DecodeError::OutOfMemory);
         }
-        Ok(self.stream.take())
+        let Some(event) = self.stream.take() else {
+            return Ok(None);
+        };
+        self.taken = self.taken.with(&event);
+        Ok(Some(event))
     }
 
     /// Ends the stream: the bytes so far are all.
@@ -86,10 +101,11 @@ impl<const MAX: usize> Decoder<MAX> {
             return Err(DecodeError::Ended);
         }
         self.failed = true;
+        self.ended = true;
         self.splitter.finish()?;
         handle_units(&mut self.splitter, &mut self.stream)?;
         self.stream.finish()?;
-        self.ended = true;
+        self.read = self.stream.turns();
         self.failed = false;
         Ok(())
     }
@@ -100,8 +116,19 @@ impl<const MAX: usize> Decoder<MAX> {
     {
         self.splitter = Splitter::new(self.alloc);
         self.stream.reset(self.alloc);
+        self.read = 0;
         self.ended = false;
         self.failed = false;
+        self.bytes = History::new();
+        self.taken = History::new();
+    }
+
+    /// How many macroblocks of slices have been read since the last reset, as far as a u64 counts. After want of memory they are
+    /// at most those of the bytes given, the refused piece included.
+    pub fn turns(&self) -> u64
+        ensures { IsCount MAX self.now result }
+    {
+        self.read
     }
 }
 

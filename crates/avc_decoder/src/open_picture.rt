@@ -1,7 +1,7 @@
-ghost use Rattle.std.specs.Prelude.{◌≡◌, false, None, Some, IfOk, OnOk, is_none};
-ghost use Rattle.avc_decoder.specs.Events.{after_first_slice, after_next_slice, failed_at, is_waiting, pictures, running};
-ghost use Rattle.avc_decoder.specs.PictureFrames.{frames_for, CanHave};
-ghost use Rattle.avc_decoder.specs.States.{closed_in, open_picture_of, with_events, HasOutcome, Decodes, IsOpenIn};
+ghost use Rattle.std.specs.Prelude.{◌≡◌, false, None, IfOk, OnOk, is_none};
+ghost use Rattle.avc_decoder.specs.Events.{failed_at, is_waiting, pictures};
+ghost use Rattle.avc_decoder.specs.PictureFrames.{frames_for, read_of_slice, CanHave};
+ghost use Rattle.avc_decoder.specs.States.{begun_in, closed_of, continued_in, with_events, HasOutcome, HasSliceOutcome, Decodes, IsOpenIn};
 ghost use Rattle.avc_dpb.specs.declared.output.Output.TheVariants.{Full};
 ghost use Rattle.avc_decoder_core.specs.Pictures.{held_pictures};
 ghost use Rattle.avc_decoder_core.specs.SequenceState.{empty_sequence, current_history, AreFramesIn, AreStoredIn};
@@ -20,6 +20,14 @@ use avc_slice::{Header, Slice};
 use avc_types::{Fault, OutOfMemory, PictureError};
 use std::alloc::Global;
 
+/// What a slice has left: the picture, which is gone where that was a fault, and how many of its macroblocks were read, a faulty
+/// one included.
+#[derive(Drop)]
+pub struct AfterSlice {
+    pub picture: Option<PictureDecoder<PADDING>>,
+    pub read: u32,
+}
+
 /// Closes the open picture. Says whether that was a fault.
 pub fn close_picture(
     sequence: &mut Sequence,
@@ -29,8 +37,8 @@ pub fn close_picture(
 ) -> Result<bool, OutOfMemory>
     requires picture { IsOpenIn sequence.old last_unit picture }
     requires mode { sequence.old.output ≡ Full }
-    ensures fault { IfOk result (λ fault. fault ≡ is_waiting (closed_in sequence.old.history (open_picture_of sequence.old.history (Some picture))).phase) }
-    ensures state { OnOk result (HasOutcome (closed_in sequence.old.history (open_picture_of sequence.old.history (Some picture))) queue.old last_unit None sequence.new queue.new) }
+    ensures fault { IfOk result (λ fault. fault ≡ is_waiting (closed_of sequence.old.history picture).phase) }
+    ensures state { OnOk result (HasOutcome (closed_of sequence.old.history picture) queue.old last_unit None 0 sequence.new queue.new) }
 {
     let planes = match picture.finish() {
         Ok(planes) => planes,
@@ -53,61 +61,69 @@ pub fn close_picture(
     }
 }
 
-/// Opens a picture with its first slice. There is none where that was a fault.
+/// Opens a picture with its first slice.
 pub fn begin_picture(
     alloc: Global,
     sequence: &mut Sequence,
     queue: &mut Queue,
     slice: &Slice,
     sets: ActiveSets,
-) -> Result<Option<PictureDecoder<PADDING>>, OutOfMemory>
+) -> Result<AfterSlice, OutOfMemory>
     requires going { sequence.old.failed ≡ false }
     requires rest { sequence.old.open_picture ≡ None }
     requires mode { sequence.old.output ≡ Full }
     requires sps { IsSps sets.sps.now }
     requires pps { IsPps sets.pps.now }
     requires within { IsHeader sets.sps.now sets.pps.now slice.now.rbsp slice.now.header }
-    ensures fault { IfOk result (λ picture. is_none picture ≡ is_waiting (after_first_slice (Some (sets.entry.pps.now, sets.entry.sps.now)) sequence.old.history slice.now).phase) }
-    ensures state { IfOk result (λ picture. HasOutcome (after_first_slice (Some (sets.entry.pps.now, sets.entry.sps.now)) sequence.old.history slice.now) queue.old slice.now.unit picture sequence.new queue.new) }
+    ensures fault { IfOk result (λ after. is_none after.picture ≡ is_waiting (begun_in sets.entry.pps.now sets.entry.sps.now sequence.old.history slice.now).phase) }
+    ensures state { IfOk result (λ after.
+        let o = begun_in sets.entry.pps.now sets.entry.sps.now sequence.old.history slice.now in
+        HasSliceOutcome o queue.old slice.now after sequence.new queue.new) }
 {
     if slice.header.first_mb_in_slice.get() != 0 {
         fail(sequence, queue, slice.unit, Fault::MissingMacroblocks)?;
-        return Ok(None);
+        return Ok(AfterSlice {
+            picture: None,
+            read: 0,
+        });
     }
     match sequence.open(&slice.header, sets.sps) {
         Ok(out) => {
             queue.show(out)?;
             let frames = frames_for(sequence, &slice.header);
             let picture = PictureDecoder::begin(alloc, sets.sps, sets.pps, frames)?;
-            let picture = decode_slice(sequence, queue, picture, slice)?;
+            let after = decode_slice(sequence, queue, picture, slice)?;
             // at a fault what the missing numbers let out and what was held then go out in one order
             missing_numbers_keep_the_order();
-            Ok(picture)
+            Ok(after)
         }
         Err(PictureError::Fault(fault)) => {
             fail(sequence, queue, slice.unit, fault)?;
-            Ok(None)
+            Ok(AfterSlice {
+                picture: None,
+                read: 0,
+            })
         }
         Err(PictureError::OutOfMemory) => Err(OutOfMemory),
     }
 }
 
-/// Decodes one slice more of the open picture, which is gone where that was a fault.
+/// Decodes one slice more of the open picture.
 pub fn continue_picture(
     sequence: &mut Sequence,
     queue: &mut Queue,
     picture: PictureDecoder<PADDING>,
     last_unit: u64,
     slice: &Slice,
-) -> Result<Option<PictureDecoder<PADDING>>, OutOfMemory>
+) -> Result<AfterSlice, OutOfMemory>
     requires picture { IsOpenIn sequence.old last_unit picture }
     requires mode { sequence.old.output ≡ Full }
     requires can { CanHave sequence.old picture slice.now }
-    ensures fault { IfOk result (λ picture'. is_none picture' ≡ is_waiting (after_next_slice (running sequence.old.history (open_picture_of sequence.old.history (Some picture))) slice.now).phase) }
-    ensures state { IfOk result (λ picture'. HasOutcome (after_next_slice (running sequence.old.history (open_picture_of sequence.old.history (Some picture))) slice.now) queue.old slice.now.unit picture' sequence.new queue.new) }
+    ensures fault { IfOk result (λ after. is_none after.picture ≡ is_waiting (continued_in sequence.old.history picture slice.now).phase) }
+    ensures state { IfOk result (λ after. HasSliceOutcome (continued_in sequence.old.history picture slice.now) queue.old slice.now after sequence.new queue.new) }
 {
-    let picture = decode_slice(sequence, queue, picture, slice)?;
-    Ok(picture)
+    let after = decode_slice(sequence, queue, picture, slice)?;
+    Ok(after)
 }
 
 /// The frames with which a picture is decoded, a slice of which has this header. An IDR picture has I slices alone (7.4.3), and
@@ -129,17 +145,29 @@ fn decode_slice(
     queue: &mut Queue,
     mut picture: PictureDecoder<PADDING>,
     slice: &Slice,
-) -> Result<Option<PictureDecoder<PADDING>>, OutOfMemory>
+) -> Result<AfterSlice, OutOfMemory>
     requires mode { sequence.old.output ≡ Full }
     requires can { CanHave sequence.old picture slice.now }
     requires well { HasNoFault picture }
-    ensures { IfOk result (λ picture'. Decodes picture slice.now sequence.old queue.old picture' sequence.new queue.new) }
+    ensures state { IfOk result (λ after. Decodes picture slice.now sequence.old queue.old after.picture sequence.new queue.new) }
+    ensures read { IfOk result (λ after. after.read ≡ read_of_slice (current_history sequence.old) picture slice.now) }
 {
+    let before = picture.read();
     match picture.slice(slice, frames_for(sequence, &slice.header)) {
-        Ok(()) => Ok(Some(picture)),
+        Ok(()) => {
+            let read = picture.read().saturating_sub(before);
+            Ok(AfterSlice {
+                picture: Some(picture),
+                read,
+            })
+        }
         Err(PictureError::Fault(fault)) => {
+            let read = picture.read().saturating_sub(before);
             fail(sequence, queue, slice.unit, fault)?;
-            Ok(None)
+            Ok(AfterSlice {
+                picture: None,
+                read,
+            })
         }
         Err(PictureError::OutOfMemory) => Err(OutOfMemory),
     }

@@ -1,7 +1,7 @@
 ghost use Rattle.std.specs.Prelude.{◌≡◌, false, None, Some, IfOk, OnOk, slice_get};
 ghost use Rattle.avc_decoder.specs.Events.{after_first_slice, after_next_slice, failed_at, is_waiting, running};
 ghost use Rattle.avc_decoder.specs.FirstFault.{OpenPicture};
-ghost use Rattle.avc_decoder.specs.States.{closed_in, held_outcome, history_on, is_full_in, after_outcome};
+ghost use Rattle.avc_decoder.specs.States.{closed_in, more_read, held_outcome, history_on, is_full_in, after_outcome};
 ghost use Rattle.avc_decoder.specs.States.{after_pictures_take, no_pictures, refused_in, CanContinue};
 ghost use Rattle.avc_params.specs.Within.{IsPps, IsSps};
 ghost use Rattle.avc_slice.specs.Within.{IsHeader};
@@ -27,6 +27,8 @@ pub struct Pictures {
     // of the open picture's last slice
     last_unit: u64,
     queue: Queue,
+    // how many macroblocks were read, as far as a u64 counts
+    read: u64,
     failed: bool,
 }
 
@@ -41,6 +43,7 @@ impl Model for Pictures {
       open_picture = open_picture_of p.sequence.history p.picture;
       events = p.queue.events;
       taken = p.queue.taken;
+      read = p.read;
       failed = p.failed;
     } };
 
@@ -58,6 +61,7 @@ impl Pictures {
             picture: None,
             last_unit: 0,
             queue: Queue::new(alloc),
+            read: 0,
             failed: false,
         }
     }
@@ -100,15 +104,16 @@ impl Pictures {
     {
         self.failed = true;
         self.last_unit = slice.unit;
-        let picture = begin_picture(
+        let after = begin_picture(
             self.alloc,
             &mut self.sequence,
             &mut self.queue,
             &slice,
             sets,
         )?;
-        let fault = picture.is_none();
-        self.picture = picture;
+        self.read = count_more(self.read, after.read);
+        let fault = after.picture.is_none();
+        self.picture = after.picture;
         self.failed = false;
         Ok(fault)
     }
@@ -124,7 +129,7 @@ impl Pictures {
             return Ok(false);
         };
         self.failed = true;
-        let picture = continue_picture(
+        let after = continue_picture(
             &mut self.sequence,
             &mut self.queue,
             picture,
@@ -132,8 +137,9 @@ impl Pictures {
             &slice,
         )?;
         self.last_unit = slice.unit;
-        let fault = picture.is_none();
-        self.picture = picture;
+        self.read = count_more(self.read, after.read);
+        let fault = after.picture.is_none();
+        self.picture = after.picture;
         self.failed = false;
         Ok(fault)
     }
@@ -177,4 +183,18 @@ impl Pictures {
     {
         self.queue.take()
     }
+
+    /// How many macroblocks of slices have been read, as far as a u64 counts.
+    pub fn turns(&self) -> u64
+        ensures { result ≡ self.now.read }
+    {
+        self.read
+    }
+}
+
+/// So many macroblocks and more, as far as a u64 counts.
+fn count_more(before: u64, more: u32) -> u64
+    ensures { result ≡ more_read before more }
+{
+    before.saturating_add(u64::from(more))
 }

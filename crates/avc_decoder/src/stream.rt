@@ -30,7 +30,13 @@ impl Model for Stream {
 
     ghost Value = { StreamState };
 
-    ghost view = { λ s. record { state = state_of s.grouper s.pictures; events = s.pictures.events; taken = s.pictures.taken; failed = s.failed } };
+    ghost view = { λ s. record {
+      state = state_of s.grouper s.pictures;
+      events = s.pictures.events;
+      taken = s.pictures.taken;
+      read = s.pictures.read;
+      failed = s.failed;
+    } };
 
     ghost invariant = { λ s. s.failed ≡ false → Agrees s.grouper s.pictures };
 }
@@ -84,6 +90,13 @@ impl Stream {
         ensures taken { self.new ≡ after_stream_take result self.old }
     {
         self.pictures.take()
+    }
+
+    /// How many macroblocks of slices have been read, as far as a u64 counts.
+    pub fn turns(&self) -> u64
+        ensures { result ≡ self.now.read }
+    {
+        self.pictures.turns()
     }
 }
 

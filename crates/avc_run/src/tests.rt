@@ -597,3 +597,24 @@ fn decodes_again_after_want_of_memory(rt: HostRuntime) -> Result<(), Fail> {
     );
     Ok(())
 }
+
+// An IDR slice of one Intra 16x16 macroblock, which is the second of the picture.
+const SECOND_PLAIN: &[u8] = &[0, 0, 1, 0x65, 0x42, 0x21, 0x24, 0xF0];
+
+// Where the last unit has ended, its macroblocks are counted.
+#[test]
+fn counts_macroblocks(rt: HostRuntime) -> Result<(), Fail> {
+    let alloc = rt.alloc();
+    let mut decoder = Decoder::<1000>::new(alloc);
+    decoder.feed(&joined(alloc, &[SMALL, PLAIN, PLAIN_IDR])?)?;
+    assert_eq!(rt; decoder.turns(), 0);
+    decoder.flush()?;
+    assert_eq!(rt; decoder.turns(), 1);
+    decoder.reset();
+    assert_eq!(rt; decoder.turns(), 0);
+    decoder.feed(&joined(alloc, &[WIDE, PLAIN, PLAIN_IDR, SECOND_PLAIN])?)?;
+    assert_eq!(rt; decoder.turns(), 1);
+    decoder.flush()?;
+    assert_eq!(rt; decoder.turns(), 2);
+    Ok(())
+}
