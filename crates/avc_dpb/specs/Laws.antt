@@ -118,3 +118,40 @@ ReferencesStay = (output : Output) (entry : ℕ) (a : Arrival) (b : Buffer)
     → IsRising b.frames entry → (list_any (λ r. r == entry) a.references ≡ true → HasRoom a b)
     → places_of_references a.references (after_frame output entry a b)
     ≡ places_of_references a.references b ++ (if list_any (λ r. r == entry) a.references then entry ∷ [] else [])
+
+-- ---- a history that begins anew
+
+-- a frame that stands n places later
+abbrev pub moved_frame : ℕ → Stored → Stored
+moved_frame n s = record s { entry = s.entry + n }
+
+-- a buffer whose frames stand n places later, after these places have gone out
+abbrev pub moved_buffer : (n : ℕ) → (before : List ℕ) → Buffer → Buffer
+moved_buffer n before b =
+    record { frames = map (moved_frame n) b.frames; out = before ++ map (λ place. place + n) b.out }
+
+-- an entry whose reference frames stand n places later
+abbrev pub moved_arrival : ℕ → Arrival → Arrival
+moved_arrival n a = record a { references = map (λ place. place + n) a.references }
+
+-- Where all that is held goes out with an entry, output begins anew with it (C.4.4): what the entries
+-- before it have put out stays in front, and all places are greater by their number.
+abbrev pub OutputBeginsAnew : Type 0
+OutputBeginsAnew = (output : Output) (older xs : List Arrival) (a : Arrival) → a.prior_pictures ≡ are_output
+    → buffer_after output (map (moved_arrival (length older)) xs ++ moved_arrival (length older) a ∷ older)
+    ≡ moved_buffer (length older) (with_all_output (buffer_after output older)).out (buffer_after output (xs ++ a ∷ []))
+
+-- With that entry goes out what is held, and then what goes out with the entry alone.
+abbrev pub AllHeldGoOutBefore : Type 0
+AllHeldGoOutBefore = (output : Output) (older : List Arrival) (a : Arrival) → a.prior_pictures ≡ are_output
+    → new_output (buffer_after output older) (buffer_after output (moved_arrival (length older) a ∷ older))
+    ≡ held_in_order (buffer_after output older) ++ map (λ place. place + length older) (buffer_after output (a ∷ [])).out
+
+-- A buffer whose frames stand n places later holds and puts out the same pictures, n places later.
+pub record PutsOutLater (n : ℕ) (before : List ℕ) : Type 0 where
+  pub held : (b : Buffer) → held_in_order (moved_buffer n before b) ≡ map (λ place. place + n) (held_in_order b)
+  pub goes_out : (old new : Buffer)
+      → new_output (moved_buffer n before old) (moved_buffer n before new) ≡ map (λ place. place + n) (new_output old new)
+
+abbrev pub LaterFramesGoOutAlike : Type 0
+LaterFramesGoOutAlike = (n : ℕ) (before : List ℕ) → PutsOutLater n before

@@ -3,6 +3,7 @@
 ghost use Rattle.avc_dpb.specs.Laws.{LeastGoesOut, AllGoOutByBumping, AllHeldGoOut, StandsInDecodingOrder};
 ghost use Rattle.avc_dpb.specs.Laws.{OutOnlyGrows, GoesOutInTurn, HoldsAtMost, GoesOutOnce};
 ghost use Rattle.avc_dpb.specs.Laws.{MissingFramesKeepTheOrder, ReferencesStay};
+ghost use Rattle.avc_dpb.specs.Laws.{OutputBeginsAnew, AllHeldGoOutBefore, LaterFramesGoOutAlike};
 
 /// Bumping puts out the held picture with the least order count, of equals the one that was decoded first (C.4.5.3).
 pub fn least_goes_out()
@@ -52,4 +53,19 @@ pub fn missing_frames_keep_the_order()
 /// Reference frames stay in the buffer, and the arriving frame with them if it is one (C.4.5.1).
 pub fn references_stay()
     ensures { ReferencesStay }
+{}
+
+/// Where all held pictures go out with an entry, what goes out from it on doesn't depend on the entries before it (C.4.4).
+pub fn output_begins_anew()
+    ensures { OutputBeginsAnew }
+{}
+
+/// With an entry with which output begins anew goes out all that is held, and then what goes out with the entry alone.
+pub fn all_held_go_out_before()
+    ensures { AllHeldGoOutBefore }
+{}
+
+/// A buffer whose frames stand later in the history holds and puts out the same pictures, so many places later.
+pub fn later_frames_go_out_alike()
+    ensures { LaterFramesGoOutAlike }
 {}

@@ -1,12 +1,12 @@
 -- What holds of the marks of every history.
-use Rattle.std.specs.Prelude.{◌≡◌, ◌⊎◌, ℕ, ◌<◌, ◌≤◌, Bool, true, false, List, [], ◌∷◌, ◌++◌, length, All, Option, None, Some, Ok}
+use Rattle.std.specs.Prelude.{◌≡◌, ◌⊎◌, ℕ, ◌+◌, ◌<◌, ◌≤◌, Bool, true, false, List, [], ◌∷◌, ◌++◌, length, map, All, Option, None, Some, Ok}
 use Rattle.std.specs.List.{list_any}
 use Rattle.std.specs.Result.{is_ok}
 use Rattle.avc_types.specs.declared.references.Mark.TheVariants.{Short}
 use Rattle.avc_types.specs.declared.references.Marking.{Marking}
 use Rattle.avc_types.specs.declared.references.Marking.TheVariants.{Idr, SlidingWindow, Adaptive}
-use Rattle.avc_types.specs.References.{Reference}
-use Rattle.avc_marking.specs.Marks.{MarkingEntry, Marks, limit_of, current_frame, is_unmark_all, marks_after, marks}
+use Rattle.avc_types.specs.References.{Reference, result_map}
+use Rattle.avc_marking.specs.Marks.{MarkingEntry, Marks, limit_of, current_frame, is_unmark_all, marks_after, marks, prev_ref_frame_num}
 
 -- An entry leaves no more reference frames than n, where there were no more before it and it allows no more.
 abbrev pub StaysLimited : Type 0
@@ -62,3 +62,22 @@ abbrev pub SlidesAgain : Type 0
 SlidesAgain =
     (s s' : MarkingEntry) (entry entry' : ℕ) (m m' : Marks) → marks_after s entry (Some SlidingWindow) m ≡ Ok m' →
     is_ok (marks_after s' entry' (Some SlidingWindow) m') ≡ true
+
+-- ---- what an IDR picture leaves of the entries before it
+
+-- the frame, which stands n places later in the history
+abbrev pub moved_reference : (n : ℕ) → Reference → Reference
+moved_reference n r = record r { entry = r.entry + n }
+
+-- marks whose frames stand n places later
+abbrev pub moved_marks : (n : ℕ) → Marks → Marks
+moved_marks n m = record m { references = map (moved_reference n) m.references }
+
+-- Marks from an IDR picture on do not depend on what stands before it, but for the places of the frames
+-- (8.2.5.1), and PrevRefFrameNum does not at all (7.4.3).
+abbrev pub IdrPicturesMarkAnew : Type 0
+IdrPicturesMarkAnew =
+    (e : MarkingEntry) (older xs : List MarkingEntry) (no_output long_term : Bool) →
+    e.marking ≡ Some (Idr no_output long_term) → is_ok (marks older) ≡ true →
+    (marks (xs ++ e ∷ older) ≡ result_map (moved_marks (length older)) (marks (xs ++ e ∷ [])))
+    × (prev_ref_frame_num (xs ++ e ∷ older) ≡ prev_ref_frame_num (xs ++ e ∷ []))

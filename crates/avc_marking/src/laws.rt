@@ -1,4 +1,5 @@
 ghost use Rattle.avc_marking.specs.Laws.{StaysLimited, IsLimited, AddsOwnFrameAlone, LeavesOwnFrameAlone, SlidesAgain};
+ghost use Rattle.avc_marking.specs.Laws.{IdrPicturesMarkAnew};
 
 /// There are never more reference frames than max(max_num_ref_frames, 1). It does nothing at run time.
 pub fn references_are_limited()
@@ -19,4 +20,10 @@ pub fn nothing_stays_after_unmark_all()
 /// Once the sliding window has slid it can slide again. It does nothing at run time.
 pub fn sliding_window_can_go_on()
     ensures { SlidesAgain }
+{}
+
+/// Marks from an IDR picture on do not depend on what stands before it, but for the places of the
+/// frames. It does nothing at run time.
+pub fn idr_pictures_mark_anew()
+    ensures { IdrPicturesMarkAnew }
 {}

@@ -4,6 +4,7 @@
 mod counting;
 mod cycle;
 mod frame_number;
+pub mod laws;
 mod most_significant;
 mod poc;
 mod previous;
