@@ -1,0 +1,22 @@
+-- Laws of pictures: what their samples and faults do not depend on.
+use Rattle.std.specs.Prelude.{◌≡◌, ℕ, ◌+◌, List, map}
+use Rattle.avc_slice.specs.declared.slice.Slice.{Slice}
+use Rattle.avc_plane.specs.Planes.{StoredFrame}
+use Rattle.avc_picture.specs.Slices.{PictureStart, progress, planes_after_slices}
+
+-- the same frame, n places later in the history
+abbrev pub moved_stored : ℕ → StoredFrame → StoredFrame
+moved_stored n f = record f { reference = record f.reference { entry = f.reference.entry + n } }
+
+-- what a picture is decoded with, whose frames stand n places later
+abbrev pub moved_start : ℕ → PictureStart → PictureStart
+moved_start n p = record p { frames = map (moved_stored n) p.frames }
+
+-- The samples and the faults of a picture do not depend on the places of its frames.
+abbrev pub PicturesNameNoPlaces : Type 0
+PicturesNameNoPlaces =
+    (n : ℕ) (p : PictureStart) (slices : List Slice) →
+    ((progress (moved_start n p) slices).fault ≡ (progress p slices).fault)
+    × ((progress (moved_start n p) slices).read ≡ (progress p slices).read)
+    × ((progress (moved_start n p) slices).mbs ≡ (progress p slices).mbs)
+    × (planes_after_slices (moved_start n p) slices ≡ planes_after_slices p slices)
