@@ -12,7 +12,6 @@ use Rattle.avc_slice.specs.declared.slice.Slice.{Slice}
 use Rattle.avc_picture.specs.Slices.{is_full, progress, planes_after_slices}
 use Rattle.avc_picture.specs.Decoding.{CanStandAt, Decoding, IsFinishAnswer, end_fault, fault_at_end}
 use Rattle.avc_dpb.specs.declared.output.Output.{Output}
-use Rattle.avc_dpb.specs.declared.output.Output.TheVariants.{Full}
 use Rattle.avc_decoder_core.specs.History.{History, history_after_closing, stored_frames}
 use Rattle.avc_decoder_core.specs.Pictures.{output_pictures}
 use Rattle.avc_decoder_core.specs.SequenceState.{AreSizedAs, Fails, IsClosed, OpenPictureStart, SequenceState, empty_sequence, current_history}
@@ -43,25 +42,26 @@ full_at s unit d full w f =
     ap (λ ss. is_full (start_with frames d) (progress (start_with frames d) ss)) (sym w.slices) ∙ f
 
 -- Closing has come to this outcome.
-pub record Closes (x : Outcome) (found : Bool) (q : QueueState) (unit : ℕ) (s' : SequenceState) (q' : QueueState) : Type 0 where
+pub record Closes (output : Output) (x : Outcome) (found : Bool) (q : QueueState) (unit : ℕ) (s' : SequenceState) (q' : QueueState) : Type 0 where
   pub fault : found ≡ is_waiting x.phase
-  pub state : HasOutcome x q unit None 0 s' q'
+  pub state : HasOutcome output x q unit None 0 s' q'
 
 abbrev ClosesAs : SequenceState → Decoding 32 → (fault : Bool) → QueueState → ℕ → SequenceState → QueueState → List Slice → Type 0
-ClosesAs s d fault q unit s' q' slices = Closes (closed_in s.history (open_picture_from s.history d.sps d.pps slices)) fault q unit s' q'
+ClosesAs s d fault q unit s' q' slices = Closes s.output (closed_in s.output s.history (open_picture_from s.history d.sps d.pps slices)) fault q unit s' q'
 
-failed_comes : (x : Result History (ℕ × Fault)) (o : OpenPicture) (h : History) (unit last_unit : ℕ) (f : Fault) (q q' : QueueState) (s' : SequenceState) → x ≡ Err (unit, f) → history_of o ≡ h
-    → s' ≡ empty_sequence Full → q' ≡ with_events (failed_at h unit f 0).events q → Closes (closed_outcome o x) true q last_unit s' q'
-failed_comes x o h unit last_unit f q q' s' e is es eq = rw (e, is, es, eq) (record { fault = refl; state = record { works = record { works = (refl, refl); mode = refl }; history = refl; open_picture = refl; count = refl; queue = refl } })
+failed_comes : (output : Output) (x : Result History (ℕ × Fault)) (o : OpenPicture) (h : History) (unit last_unit : ℕ) (f : Fault) (q q' : QueueState) (s' : SequenceState) → x ≡ Err (unit, f) → history_of o ≡ h
+    → s' ≡ empty_sequence output → q' ≡ with_events (failed_at output h unit f 0).events q → Closes output (closed_outcome output o x) true q last_unit s' q'
+failed_comes output x o h unit last_unit f q q' s' e is es eq = rw (e, is, es, eq) (record { fault = refl; state = record { works = (refl, refl); mode = refl; history = refl; open_picture = refl; count = refl; queue = refl } })
 
-done_comes : (x : Result History (ℕ × Fault)) (o : OpenPicture) (h h' : History) (last_unit : ℕ) (out : List Decoded) (q q' : QueueState) (s' : SequenceState) → x ≡ Ok h' → history_of o ≡ h
-    → s' ≡ record { history = h'; open_picture = None; frames = s'.frames; output = Full; failed = false } → out ≡ output_pictures Full h h' → q' ≡ with_events (pictures out) q → Closes (closed_outcome o x) false q last_unit s' q'
-done_comes x o h h' last_unit out q q' s' e is es eo eq =
+done_comes : (output : Output) (x : Result History (ℕ × Fault)) (o : OpenPicture) (h h' : History) (last_unit : ℕ) (out : List Decoded) (q q' : QueueState) (s' : SequenceState) → x ≡ Ok h' → history_of o ≡ h
+    → s' ≡ record { history = h'; open_picture = None; frames = s'.frames; output = output; failed = false } → out ≡ output_pictures output h h' → q' ≡ with_events (pictures out) q → Closes output (closed_outcome output o x) false q last_unit s' q'
+done_comes output x o h h' last_unit out q q' s' e is es eo eq =
     rw (e, is, eq, eo)
     (record {
       fault = refl;
       state = record {
-        works = record { works = (ap (λ (t : SequenceState). t.failed) es, ap (λ (t : SequenceState). t.open_picture) es); mode = ap (λ (t : SequenceState). t.output) es };
+        works = (ap (λ (t : SequenceState). t.failed) es, ap (λ (t : SequenceState). t.open_picture) es);
+        mode = ap (λ (t : SequenceState). t.output) es;
         history = ap (λ (t : SequenceState). t.history) es;
         open_picture = refl;
         count = refl;
@@ -90,7 +90,7 @@ ends_full s unit d w e =
 
 -- macroblocks are missing
 pub closes_short : (s s' : SequenceState) (q q' : QueueState) (unit : ℕ) (d : Decoding 32) (f : Fault) (e : PictureError) → IsOpenIn s unit d → e ≡ Faulty f → IsFinishAnswer d (Err e)
-    → s' ≡ empty_sequence Full → q' ≡ with_events (failed_at (current_history s) unit f 0).events q → Closes (closed_in s.history (open_picture_of s.history (Some d))) true q unit s' q'
+    → s' ≡ empty_sequence s.output → q' ≡ with_events (failed_at s.output (current_history s) unit f 0).events q → Closes s.output (closed_in s.output s.history (open_picture_of s.history (Some d))) true q unit s' q'
 closes_short s s' q q' unit d f e w is_fault answer es eq =
     let history = current_history s in
     let h = (w.last).header in
@@ -99,7 +99,7 @@ closes_short s s' q q' unit d f e w is_fault answer es eq =
     let o = opened_as s d w.last w.earlier in
     let st = stands_as s unit d w in
     let c : closing_result o ≡ Err (unit, f) = not_full o history st (well_at s unit d w) (full_at s unit d false w short.0) ∙ rw (w.unit, short.1) refl in
-    subst (ClosesAs s d true q unit s' q') (sym w.slices) (failed_comes (closing_result o) o history unit unit f q q' s' c (history_is o history st) es eq)
+    subst (ClosesAs s d true q unit s' q') (sym w.slices) (failed_comes s.output (closing_result o) o history unit unit f q q' s' c (history_is o history st) es eq)
 
 -- the history that the sequence closes the picture on
 planes_at : (s : SequenceState) (unit : ℕ) (d : Decoding 32) (w : IsOpenIn s unit d) (planes : Planes) → HasPlanes s d planes
@@ -108,29 +108,27 @@ planes_at s unit d w planes p =
     let frames = stored_frames (current_history s) in
     ap (λ (ps : Planes). history_after_closing d.sps (oldest w.last w.earlier).header ps (current_history s)) (ap (planes_after_slices (start_with frames d)) (sym w.slices) ∙ sym p)
 
-pub closes_done : (s s' : SequenceState) (q q' : QueueState) (unit : ℕ) (d : Decoding 32) (planes : Planes) (out : List Decoded) → IsOpenIn s unit d → s.output ≡ Full → IsFullOn s d true → HasPlanes s d planes
-    → ((p : OpenPictureStart) → s.open_picture ≡ Some p → IsClosed s p planes out s') → q' ≡ with_events (pictures out) q → Closes (closed_in s.history (open_picture_of s.history (Some d))) false q unit s' q'
-closes_done s s' q q' unit d planes out w mode full p closed eq =
+pub closes_done : (s s' : SequenceState) (q q' : QueueState) (unit : ℕ) (d : Decoding 32) (planes : Planes) (out : List Decoded) → IsOpenIn s unit d → IsFullOn s d true → HasPlanes s d planes
+    → ((p : OpenPictureStart) → s.open_picture ≡ Some p → IsClosed s p planes out s') → q' ≡ with_events (pictures out) q → Closes s.output (closed_in s.output s.history (open_picture_of s.history (Some d))) false q unit s' q'
+closes_done s s' q q' unit d planes out w full p closed eq =
     let o = opened_as s d w.last w.earlier in
     let st = stands_as s unit d w in
     let k = closed _ w.open_picture in
     let c : closing_result o ≡ Ok s'.history =
     closed_ok o (current_history s) s'.history st (well_at s unit d w) (full_at s unit d true w full) (planes_at s unit d w planes p ∙ k.closes) in
-    subst (ClosesAs s d false q unit s' q') (sym w.slices) (done_comes (closing_result o) o (current_history s) s'.history unit out q q' s' c (history_is o (current_history s) st)
-    (k.state ∙ ap (λ (m : Output). record { history = s'.history; open_picture = None; frames = s'.frames; output = m; failed = false }) mode)
-    (k.pictures ∙ ap (λ (m : Output). output_pictures m (current_history s) s'.history) mode) eq)
+    subst (ClosesAs s d false q unit s' q') (sym w.slices) (done_comes s.output (closing_result o) o (current_history s) s'.history unit out q q' s' c (history_is o (current_history s) st) k.state k.pictures eq)
 
 -- it could not be marked
 pub closes_unmarked : (s between s' : SequenceState) (q q' : QueueState) (unit : ℕ) (d : Decoding 32) (planes : Planes) (f : Fault) (e : PictureError) → IsOpenIn s unit d → IsFullOn s d true → HasPlanes s d planes
     → ((p : OpenPictureStart) → s.open_picture ≡ Some p → Fails s (history_after_closing p.sps p.header planes (current_history s)) e between) → e ≡ Faulty f
-    → s' ≡ empty_sequence Full → q' ≡ with_events (failed_at (current_history between) unit f 0).events q → Closes (closed_in s.history (open_picture_of s.history (Some d))) true q unit s' q'
+    → s' ≡ empty_sequence between.output → q' ≡ with_events (failed_at between.output (current_history between) unit f 0).events q → Closes s.output (closed_in s.output s.history (open_picture_of s.history (Some d))) true q unit s' q'
 closes_unmarked s between s' q q' unit d planes f e w full p fails is es eq =
     let o = opened_as s d w.last w.earlier in
     let st = stands_as s unit d w in
     let k : (s.failed ≡ false) × (between ≡ s) × (history_after_closing d.sps (oldest w.last w.earlier).header planes (current_history s) ≡ Err f) = rw is at (fails _ w.open_picture) in
     let c : closing_result o ≡ Err (unit, f) =
     marking_fails o (current_history s) f st (well_at s unit d w) (full_at s unit d true w full) (planes_at s unit d w planes p ∙ k.2) ∙ rw w.unit refl in
-    subst (ClosesAs s d true q unit s' q') (sym w.slices) (failed_comes (closing_result o) o (current_history s) unit unit f q q' s' c (history_is o (current_history s) st) es (rw k.1 at eq))
+    subst (ClosesAs s d true q unit s' q') (sym w.slices) (failed_comes s.output (closing_result o) o (current_history s) unit unit f q q' s' c (history_is o (current_history s) st) (rw k.1 at es) (rw k.1 at eq))
 
 -- the planes have the size of the picture that is open
 pub sized_as : (s : SequenceState) (unit : ℕ) (d : Decoding 32) (planes : Planes) → IsOpenIn s unit d → AreSized (width_in_mbs d.sps) (height_in_mbs d.sps) planes

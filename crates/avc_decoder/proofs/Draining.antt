@@ -6,6 +6,7 @@ use Rattle.avc_annexb.specs.SplitterState.{SplitterState, after_feed, after_fini
 use Rattle.avc_annexb.specs.Units.{saturated, units}
 use Rattle.avc_annexb.specs.declared.unit.Unit.{Unit as Piece}
 use Rattle.avc_annexb.proofs.Staying.{units_stay_first}
+use Rattle.avc_dpb.specs.declared.output.Output.{Output}
 use Rattle.avc_decoder.specs.Events.{State, after_unit, at_end, events_from, first_state, read_from, state_after, turns}
 use Rattle.avc_decoder.specs.Laws.{state_through}
 use Rattle.avc_decoder.specs.Machine.{Machine}
@@ -100,79 +101,79 @@ pub record HandlesAll (max : ℕ) (s1 s2 : SplitterState) (t t2 : StreamState) :
   pub stream : t2 ≡ after_units_in_stream (drop s1.taken (units max s1.bytes s1.ended)) t
 
 -- of all units, so many had been handled
-pub record AllHandled (all : List Piece) (n : ℕ) (t2 : StreamState) (t : StreamState) : Type 0 where
+pub record AllHandled (output : Output) (all : List Piece) (n : ℕ) (t2 : StreamState) (t : StreamState) : Type 0 where
   pub counted : n + length (drop n all) ≡ length all
-  pub state : t2.state ≡ state_through first_state all
-  pub events : (ended : Bool) → t2.events ++ events_from (state_through first_state all) [] ended ≡ events_from first_state all ended
+  pub state : t2.state ≡ state_through (first_state output) all
+  pub events : (ended : Bool) → t2.events ++ events_from (state_through (first_state output) all) [] ended ≡ events_from (first_state output) all ended
   pub taken : t2.taken ≡ t.taken
-  pub read : t2.read ≡ saturated (read_from first_state all)
+  pub read : t2.read ≡ saturated (read_from (first_state output) all)
   pub on : t2.failed ≡ false
 
-rest_handled : (us more all : List Piece) (n : ℕ) (t t2 : StreamState) → all ≡ us ++ more → n ≡ length us → t.failed ≡ false → t.state ≡ state_through first_state us → t.events ≡ events_from first_state us false
-    → t.read ≡ saturated (read_from first_state us) → t2 ≡ after_units_in_stream (drop n all) t → AllHandled all n t2 t
-rest_handled us more all n t t2 e len on at es er et =
+rest_handled : (output : Output) (us more all : List Piece) (n : ℕ) (t t2 : StreamState) → all ≡ us ++ more → n ≡ length us → t.failed ≡ false → t.state ≡ state_through (first_state output) us → t.events ≡ events_from (first_state output) us false
+    → t.read ≡ saturated (read_from (first_state output) us) → t2 ≡ after_units_in_stream (drop n all) t → AllHandled output all n t2 t
+rest_handled output us more all n t t2 e len on at es er et =
     let d : drop n all ≡ more = ap (λ m. drop m all) len ∙ ap (drop (length us)) e ∙ drop-append_seam us more in
     let h = handled_all more t on in
     let is : t2 ≡ after_units_in_stream more t = et ∙ ap (λ ps. after_units_in_stream ps t) d in
-    let state : t2.state ≡ state_through first_state all = ap (λ (f : StreamState). f.state) is ∙ h.state ∙ ap (λ x. state_through x more) at ∙ sym (state_through-append first_state us more) ∙ ap (state_through first_state) (sym e) in
-    let so_far : t2.events ≡ events_from first_state all false =
-    ap (λ (f : StreamState). f.events) is ∙ h.events ∙ ap (λ xs. xs ++ events_from t.state more false) es ∙ ap (λ x. events_from first_state us false ++ events_from x more false) at ∙ sym (events-append first_state us more false)
-    ∙ ap (λ ps. events_from first_state ps false) (sym e) in
+    let state : t2.state ≡ state_through (first_state output) all = ap (λ (f : StreamState). f.state) is ∙ h.state ∙ ap (λ x. state_through x more) at ∙ sym (state_through-append (first_state output) us more) ∙ ap (state_through (first_state output)) (sym e) in
+    let so_far : t2.events ≡ events_from (first_state output) all false =
+    ap (λ (f : StreamState). f.events) is ∙ h.events ∙ ap (λ xs. xs ++ events_from t.state more false) es ∙ ap (λ x. events_from (first_state output) us false ++ events_from x more false) at ∙ sym (events-append (first_state output) us more false)
+    ∙ ap (λ ps. events_from (first_state output) ps false) (sym e) in
     record {
       counted = ap (λ x. n + length x) d ∙ ap (λ m. m + length more) len ∙ sym (length-append us more) ∙ ap length (sym e);
       state = state;
-      events = λ ended. ap (λ xs. xs ++ events_from (state_through first_state all) [] ended) so_far ∙ sym (events-append first_state all [] ended) ∙ ap (λ ps. events_from first_state ps ended) (append-nil all);
+      events = λ ended. ap (λ xs. xs ++ events_from (state_through (first_state output) all) [] ended) so_far ∙ sym (events-append (first_state output) all [] ended) ∙ ap (λ ps. events_from (first_state output) ps ended) (append-nil all);
       taken = ap (λ (f : StreamState). f.taken) is ∙ h.taken;
-      read = ap (λ (f : StreamState). f.read) is ∙ h.read (read_from first_state us) er ∙ ap (λ x. saturated (read_from first_state us + read_from x more)) at
-          ∙ ap saturated (sym (read-append first_state us more)) ∙ ap (λ ps. saturated (read_from first_state ps)) (sym e);
+      read = ap (λ (f : StreamState). f.read) is ∙ h.read (read_from (first_state output) us) er ∙ ap (λ x. saturated (read_from (first_state output) us + read_from x more)) at
+          ∙ ap saturated (sym (read-append (first_state output) us more)) ∙ ap (λ ps. saturated (read_from (first_state output) ps)) (sym e);
       on = ap (λ (f : StreamState). f.failed) is ∙ h.on;
     }
 
 -- The decoder has come to this: all units are handled.
-pub record Decoded (max : ℕ) (bytes : List ℕ) (ended : Bool) (taken : ℕ) (s : SplitterState) (t : StreamState) : Type 0 where
-  pub decoded : IsDecoded max s ended t
+pub record Decoded (output : Output) (max : ℕ) (bytes : List ℕ) (ended : Bool) (taken : ℕ) (s : SplitterState) (t : StreamState) : Type 0 where
+  pub decoded : IsDecoded output max s ended t
   pub bytes_are : s.bytes ≡ bytes
   pub taken_are : t.taken ≡ taken
 
-fed_at : (max : ℕ) (s s2 : SplitterState) (t t2 : StreamState) (piece : List ℕ) → IsDecoded max s false t → HandlesAll max (record s { bytes = s.bytes ++ piece; ended = false }) s2 t t2 → Decoded max (s.bytes ++ piece) false t.taken s2 t2
-fed_at max s s2 t t2 piece d h =
+fed_at : (output : Output) (max : ℕ) (s s2 : SplitterState) (t t2 : StreamState) (piece : List ℕ) → IsDecoded output max s false t → HandlesAll max (record s { bytes = s.bytes ++ piece; ended = false }) s2 t t2 → Decoded output max (s.bytes ++ piece) false t.taken s2 t2
+fed_at output max s s2 t t2 piece d h =
     let stay = units_stay_first max s.bytes piece false in
     let all = units max (s.bytes ++ piece) false in
-    let r = rest_handled (units max s.bytes false) stay.0 all s.taken t t2 stay.1 d.counted d.flows (d.state refl) d.events d.read h.stream in
+    let r = rest_handled output (units max s.bytes false) stay.0 all s.taken t t2 stay.1 d.counted d.flows (d.state refl) d.events d.read h.stream in
     rw h.splitter (record {
       decoded = record { going = d.going; flows = r.on; ends = refl; counted = r.counted; state = λ _. r.state; events = sym (append-nil t2.events) ∙ r.events false; read = r.read };
       bytes_are = refl;
       taken_are = r.taken;
     })
 
-pub decoded_fed : (max : ℕ) (ended : Bool) (s s1 s2 : SplitterState) (t t2 : StreamState) (piece : List ℕ) → IsDecoded max s ended t → ended ≡ false → s1 ≡ after_feed s piece → HandlesAll max s1 s2 t t2
-    → Decoded max (s.bytes ++ piece) ended t.taken s2 t2
-decoded_fed max true s s1 s2 t t2 piece d e is h = cc
-decoded_fed max false s s1 s2 t t2 piece d e is h =
+pub decoded_fed : (output : Output) (max : ℕ) (ended : Bool) (s s1 s2 : SplitterState) (t t2 : StreamState) (piece : List ℕ) → IsDecoded output max s ended t → ended ≡ false → s1 ≡ after_feed s piece → HandlesAll max s1 s2 t t2
+    → Decoded output max (s.bytes ++ piece) ended t.taken s2 t2
+decoded_fed output max true s s1 s2 t t2 piece d e is h = cc
+decoded_fed output max false s s1 s2 t t2 piece d e is h =
     let is' : s1 ≡ record s { bytes = s.bytes ++ piece; ended = false } = is ∙ fed_going s d.ends in
-    fed_at max s s2 t t2 piece d (subst (λ x. HandlesAll max x s2 t t2) is' h)
+    fed_at output max s s2 t t2 piece d (subst (λ x. HandlesAll max x s2 t t2) is' h)
   where
     fed_going : (x : SplitterState) → x.ended ≡ false → after_feed x piece ≡ record x { bytes = x.bytes ++ piece; ended = false }
     fed_going x off = rw off refl
 
-finished_at : (max : ℕ) (s s2 : SplitterState) (t t2 t3 : StreamState) → IsDecoded max s false t → HandlesAll max (record s { ended = true }) s2 t t2 → t3 ≡ after_stream_end t2 → Decoded max s.bytes true t.taken s2 t3
-finished_at max s s2 t t2 t3 d h e =
+finished_at : (output : Output) (max : ℕ) (s s2 : SplitterState) (t t2 t3 : StreamState) → IsDecoded output max s false t → HandlesAll max (record s { ended = true }) s2 t t2 → t3 ≡ after_stream_end t2 → Decoded output max s.bytes true t.taken s2 t3
+finished_at output max s s2 t t2 t3 d h e =
     let stay = units_stay_first max s.bytes [] true in
     let all = units max s.bytes true in
-    let r = rest_handled (units max s.bytes false) stay.0 all s.taken t t2 (ap (λ b. units max b true) (sym (append-nil s.bytes)) ∙ stay.1) d.counted d.flows (d.state refl) d.events d.read h.stream in
+    let r = rest_handled output (units max s.bytes false) stay.0 all s.taken t t2 (ap (λ b. units max b true) (sym (append-nil s.bytes)) ∙ stay.1) d.counted d.flows (d.state refl) d.events d.read h.stream in
     rw (h.splitter, e) (record {
-      decoded = record { going = d.going; flows = refl; ends = refl; counted = r.counted; state = λ off. absurd_bool off; events = ap (λ (x : State). t2.events ++ at_end x.phase) r.state ∙ r.events true; read = r.read };
+      decoded = record { going = d.going; flows = refl; ends = refl; counted = r.counted; state = λ off. absurd_bool off; events = ap (λ (x : State). t2.events ++ at_end x.output x.phase) r.state ∙ r.events true; read = r.read };
       bytes_are = refl;
       taken_are = r.taken;
     })
   where
-    absurd_bool : true ≡ false → (after_stream_end t2).state ≡ state_through first_state (units max s.bytes false)
+    absurd_bool : true ≡ false → (after_stream_end t2).state ≡ state_through (first_state output) (units max s.bytes false)
     absurd_bool off = cc
 
-pub decoded_finished : (max : ℕ) (ended : Bool) (s s1 s2 : SplitterState) (t t2 t3 : StreamState) → IsDecoded max s ended t → ended ≡ false → s1 ≡ after_finish s → HandlesAll max s1 s2 t t2 → t3 ≡ after_stream_end t2
-    → Decoded max s.bytes true t.taken s2 t3
-decoded_finished max true s s1 s2 t t2 t3 d e is h f = cc
-decoded_finished max false s s1 s2 t t2 t3 d e is h f = finished_at max s s2 t t2 t3 d (subst (λ x. HandlesAll max x s2 t t2) is h) f
+pub decoded_finished : (output : Output) (max : ℕ) (ended : Bool) (s s1 s2 : SplitterState) (t t2 t3 : StreamState) → IsDecoded output max s ended t → ended ≡ false → s1 ≡ after_finish s → HandlesAll max s1 s2 t t2 → t3 ≡ after_stream_end t2
+    → Decoded output max s.bytes true t.taken s2 t3
+decoded_finished output max true s s1 s2 t t2 t3 d e is h f = cc
+decoded_finished output max false s s1 s2 t t2 t3 d e is h f = finished_at output max s s2 t t2 t3 d (subst (λ x. HandlesAll max x s2 t t2) is h) f
 
 -- the units that were handled before the end
 pub still_going : (max : ℕ) (s : SplitterState) (t t2 : StreamState) → t.failed ≡ false → t2 ≡ after_units_in_stream (drop s.taken (units max s.bytes s.ended)) t → t2.failed ≡ false
@@ -181,43 +182,43 @@ still_going max s t t2 on e = ap (λ (f : StreamState). f.failed) e ∙ (handled
 -- ---- the same of the whole decoder
 
 -- a machine of these parts
-abbrev pub machine_of : List ℕ → (ended : Bool) → (taken : ℕ) → (failed : Bool) → Machine
-machine_of bytes ended taken failed = record { bytes = bytes; ended = ended; taken = taken; failed = failed }
+abbrev pub machine_of : Output → List ℕ → (ended : Bool) → (taken : ℕ) → (failed : Bool) → Machine
+machine_of output bytes ended taken failed = record { output = output; bytes = bytes; ended = ended; taken = taken; failed = failed }
 
 -- a piece more was handled
-pub kept_fed : (max : ℕ) (bytes bytes' piece : List ℕ) (ended failed : Bool) (taken : ℕ) (s s1 s2 : SplitterState) (t t2 : StreamState) (read read' : ℕ) → IsKept max (machine_of bytes ended taken failed) s t read
-    → failed ≡ false → ended ≡ false → bytes' ≡ bytes ++ piece → s1 ≡ after_feed s piece → HandlesAll max s1 s2 t t2 → read' ≡ t2.read → IsKept max (machine_of bytes' ended taken false) s2 t2 read'
-kept_fed max bytes bytes' piece ended failed taken s s1 s2 t t2 read read' i going unended given is all counts =
-    let k = decoded_fed max ended s s1 s2 t t2 piece (i.decoded going) unended is all in
+pub kept_fed : (output : Output) (max : ℕ) (bytes bytes' piece : List ℕ) (ended failed : Bool) (taken : ℕ) (s s1 s2 : SplitterState) (t t2 : StreamState) (read read' : ℕ) → IsKept max (machine_of output bytes ended taken failed) s t read
+    → failed ≡ false → ended ≡ false → bytes' ≡ bytes ++ piece → s1 ≡ after_feed s piece → HandlesAll max s1 s2 t t2 → read' ≡ t2.read → IsKept max (machine_of output bytes' ended taken false) s2 t2 read'
+kept_fed output max bytes bytes' piece ended failed taken s s1 s2 t t2 read read' i going unended given is all counts =
+    let k = decoded_fed output max ended s s1 s2 t t2 piece (i.decoded going) unended is all in
     let same : s2.bytes ≡ bytes' = k.bytes_are ∙ ap (λ bs. bs ++ piece) (i.bytes going) ∙ sym given in
     record {
-      count_is = counts ∙ (k.decoded).read ∙ ap (λ bs. turns max bs ended) same;
+      count_is = counts ∙ (k.decoded).read ∙ ap (λ bs. turns output max bs ended) same;
       decoded = λ _. k.decoded;
       bytes = λ _. same;
       taken = λ _. k.taken_are ∙ i.taken going;
     }
 
 -- the end was handled
-pub kept_flushed : (max : ℕ) (bytes : List ℕ) (ended failed : Bool) (taken : ℕ) (s s1 s2 : SplitterState) (t t2 t3 : StreamState) (read read' : ℕ) → IsKept max (machine_of bytes ended taken failed) s t read
-    → failed ≡ false → ended ≡ false → s1 ≡ after_finish s → HandlesAll max s1 s2 t t2 → t3 ≡ after_stream_end t2 → read' ≡ t3.read → IsKept max (machine_of bytes true taken false) s2 t3 read'
-kept_flushed max bytes ended failed taken s s1 s2 t t2 t3 read read' i going unended is all ends counts =
-    let k = decoded_finished max ended s s1 s2 t t2 t3 (i.decoded going) unended is all ends in
+pub kept_flushed : (output : Output) (max : ℕ) (bytes : List ℕ) (ended failed : Bool) (taken : ℕ) (s s1 s2 : SplitterState) (t t2 t3 : StreamState) (read read' : ℕ) → IsKept max (machine_of output bytes ended taken failed) s t read
+    → failed ≡ false → ended ≡ false → s1 ≡ after_finish s → HandlesAll max s1 s2 t t2 → t3 ≡ after_stream_end t2 → read' ≡ t3.read → IsKept max (machine_of output bytes true taken false) s2 t3 read'
+kept_flushed output max bytes ended failed taken s s1 s2 t t2 t3 read read' i going unended is all ends counts =
+    let k = decoded_finished output max ended s s1 s2 t t2 t3 (i.decoded going) unended is all ends in
     let same : s2.bytes ≡ bytes = k.bytes_are ∙ i.bytes going in
     record {
-      count_is = counts ∙ (k.decoded).read ∙ ap (λ bs. turns max bs true) same;
+      count_is = counts ∙ (k.decoded).read ∙ ap (λ bs. turns output max bs true) same;
       decoded = λ _. k.decoded;
       bytes = λ _. same;
       taken = λ _. k.taken_are ∙ i.taken going;
     }
 
 -- memory was refused to a call with these bytes: the count is that before it
-pub kept_refused : (max : ℕ) (bytes bytes' piece : List ℕ) (ended ended' failed : Bool) (taken : ℕ) (s s' : SplitterState) (t t' : StreamState) (read : ℕ) → IsKept max (machine_of bytes ended taken failed) s t read
-    → failed ≡ false → ended ≡ false → bytes' ≡ bytes ++ piece → IsKept max (machine_of bytes' ended' taken true) s' t' read
-kept_refused max bytes bytes' piece ended ended' true taken s s' t t' read i going unended given = cc
-kept_refused max bytes bytes' piece true ended' false taken s s' t t' read i going unended given = cc
-kept_refused max bytes bytes' piece false ended' false taken s s' t t' read i going unended given =
+pub kept_refused : (output : Output) (max : ℕ) (bytes bytes' piece : List ℕ) (ended ended' failed : Bool) (taken : ℕ) (s s' : SplitterState) (t t' : StreamState) (read : ℕ) → IsKept max (machine_of output bytes ended taken failed) s t read
+    → failed ≡ false → ended ≡ false → bytes' ≡ bytes ++ piece → IsKept max (machine_of output bytes' ended' taken true) s' t' read
+kept_refused output max bytes bytes' piece ended ended' true taken s s' t t' read i going unended given = cc
+kept_refused output max bytes bytes' piece true ended' false taken s s' t t' read i going unended given = cc
+kept_refused output max bytes bytes' piece false ended' false taken s s' t t' read i going unended given =
     rw given (record {
-      count_is = le_trans (le_of_eq i.count_is) (turns_grow max bytes piece ended');
+      count_is = le_trans (le_of_eq i.count_is) (turns_grow output max bytes piece ended');
       decoded = λ e. cc;
       bytes = λ e. cc;
       taken = λ e. cc;

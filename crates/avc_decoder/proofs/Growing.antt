@@ -5,6 +5,7 @@ use Rattle.avc_annexb.specs.Laws.{UnitsStay}
 use Rattle.avc_annexb.specs.Units.{units}
 use Rattle.avc_annexb.proofs.Staying.{units_stay_first}
 use Rattle.avc_annexb.specs.declared.unit.Unit.{Unit}
+use Rattle.avc_dpb.specs.declared.output.Output.{Output}
 use Rattle.avc_decoder.specs.Events.{State, after_unit, state_after, events_from, first_state, read_from, turns}
 use Rattle.avc_decoder.specs.Laws.{EventsOnlyGrow, state_through}
 
@@ -24,17 +25,17 @@ read-append s (u ∷ us) vs =
     ap (λ n. o.read + n) (read-append (state_after s u o) us vs) ∙ sym (add_assoc o.read (read_from (state_after s u o) us) (read_from (state_through (state_after s u o) us) vs))
 
 -- no fewer are read of more bytes, or of all
-pub turns_grow : (max : ℕ) (bytes more : List ℕ) (ended : Bool) → turns max bytes false ≤ turns max (bytes ++ more) ended
-turns_grow max bytes more ended =
+pub turns_grow : (output : Output) (max : ℕ) (bytes more : List ℕ) (ended : Bool) → turns output max bytes false ≤ turns output max (bytes ++ more) ended
+turns_grow output max bytes more ended =
     let units_more = units_stay_first max bytes more ended in
     let us = units max bytes false in
-    let all : read_from first_state (units max (bytes ++ more) ended) ≡ read_from first_state us + read_from (state_through first_state us) units_more.0 =
-    ap (read_from first_state) units_more.1 ∙ read-append first_state us units_more.0 in
+    let all : read_from (first_state output) (units max (bytes ++ more) ended) ≡ read_from (first_state output) us + read_from (state_through (first_state output) us) units_more.0 =
+    ap (read_from (first_state output)) units_more.1 ∙ read-append (first_state output) us units_more.0 in
     omega (arith, all)
 
 pub events_grow : UnitsStay → EventsOnlyGrow
-events_grow stay max bytes more ended =
+events_grow stay output max bytes more ended =
     let units_more = stay max bytes more ended in (
-      events_from (state_through first_state (units max bytes false)) units_more.0 ended,
-      ap (λ us. events_from first_state us ended) units_more.1 ∙ events-append first_state (units max bytes false) units_more.0 ended,
+      events_from (state_through (first_state output) (units max bytes false)) units_more.0 ended,
+      ap (λ us. events_from (first_state output) us ended) units_more.1 ∙ events-append (first_state output) (units max bytes false) units_more.0 ended,
     )

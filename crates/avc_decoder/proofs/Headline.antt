@@ -1,6 +1,7 @@
 -- What replies tell of the stream.
 use Rattle.std.specs.Prelude.{◌≡◌, ℕ, ◌+◌, Bool, true, false, List, [], ◌∷◌, ◌++◌, length, Some, None, Ok, Err, slice_get, refl}
 use Rattle.std.proofs.Common.{ap, sym, subst, ◌∙◌, append_assoc, append-nil, length-append}
+use Rattle.avc_dpb.specs.declared.output.Output.{Output}
 use Rattle.avc_decoder.specs.Events.{events}
 use Rattle.avc_decoder.specs.Headline.{SinceReset, no_call, with_call, since_reset, defined_events, TakesThem, TakesAll}
 use Rattle.avc_decoder.specs.Laws.{EventsOnlyGrow}
@@ -19,12 +20,13 @@ pub record Agrees (m : Machine) (s : SinceReset) : Type 0 where
   pub taken : m.taken ≡ length s.taken
 
 -- the events that were taken are the first that are defined
-abbrev pub IsFirst : (max : ℕ) → SinceReset → Type 0
-IsFirst max s = (others : List Event) × (defined_events max s ≡ s.taken ++ others)
+abbrev pub IsFirst : Output → (max : ℕ) → SinceReset → Type 0
+IsFirst output max s = (others : List Event) × (defined_events output max s ≡ s.taken ++ others)
 
-pub record Tells (max : ℕ) (m : Machine) (s : SinceReset) : Type 0 where
+pub record Tells (output : Output) (max : ℕ) (m : Machine) (s : SinceReset) : Type 0 where
   pub agrees : m.failed ≡ false → Agrees m s
-  pub first : IsFirst max s
+  pub mode : m.output ≡ output
+  pub first : IsFirst output max s
 
 -- ---- the first that were not taken
 
@@ -40,116 +42,121 @@ none_left (y ∷ front) others e = none_left front others e
 
 -- ---- one call
 
-unchanged : (max : ℕ) (m m' : Machine) (s : SinceReset) → m' ≡ m → Tells max m s → Tells max m' s
-unchanged max m m' s e t = subst (λ n. Tells max n s) (sym e) t
+unchanged : (output : Output) (max : ℕ) (m m' : Machine) (s : SinceReset) → m' ≡ m → Tells output max m s → Tells output max m' s
+unchanged output max m m' s e t = subst (λ n. Tells output max n s) (sym e) t
 
 refused_fails : (before : Bool) (old after new : Machine) → old.failed ≡ before → new ≡ elim before [ true ↦ old | false ↦ record after { failed = true } ] → new.failed ≡ true
 refused_fails true old after new was e = ap (λ (m : Machine). m.failed) e ∙ was
 refused_fails false old after new was e = ap (λ (m : Machine). m.failed) e
 
-refused_tells : (max : ℕ) (m after m' : Machine) (s : SinceReset) → IsRefused m after m' → Tells max m s → Tells max m' s
-refused_tells max m after m' s r t =
+refused_tells : (output : Output) (max : ℕ) (m after m' : Machine) (s : SinceReset) → IsRefused m after m' → m'.output ≡ m.output → Tells output max m s → Tells output max m' s
+refused_tells output max m after m' s r kept t =
     let failed = refused_fails m.failed m after m' refl r.refused in
-    record { agrees = λ going. let q : true ≡ false = sym failed ∙ going in cc; first = t.first }
+    record { agrees = λ going. let q : true ≡ false = sym failed ∙ going in cc; mode = kept ∙ t.mode; first = t.first }
 
 -- with more bytes, or with the end said
-grown : EventsOnlyGrow → (max : ℕ) (s : SinceReset) (more : List ℕ) (ended : Bool) → s.ended ≡ false → IsFirst max s →
-    (others : List Event) × (events max (s.bytes ++ more) ended ≡ s.taken ++ others)
-grown grow max s more ended going f =
-    let later = grow max s.bytes more ended in (
+grown : EventsOnlyGrow → (output : Output) (max : ℕ) (s : SinceReset) (more : List ℕ) (ended : Bool) → s.ended ≡ false → IsFirst output max s →
+    (others : List Event) × (events output max (s.bytes ++ more) ended ≡ s.taken ++ others)
+grown grow output max s more ended going f =
+    let later = grow output max s.bytes more ended in (
       f.0 ++ later.0,
-      later.1 ∙ ap (λ e. events max s.bytes e ++ later.0) (sym going) ∙ ap (λ es. es ++ later.0) f.1 ∙ append_assoc s.taken f.0 later.0,
+      later.1 ∙ ap (λ e. events output max s.bytes e ++ later.0) (sym going) ∙ ap (λ es. es ++ later.0) f.1 ∙ append_assoc s.taken f.0 later.0,
     )
 
-fed_tells : EventsOnlyGrow → (max : ℕ) (m : Machine) (s : SinceReset) (piece : List ℕ) → m.failed ≡ false → m.ended ≡ false → Tells max m s →
-    Tells max (after_feed piece m) (record s { bytes = s.bytes ++ piece })
-fed_tells grow max m s piece going unended t =
+fed_tells : EventsOnlyGrow → (output : Output) (max : ℕ) (m : Machine) (s : SinceReset) (piece : List ℕ) → m.failed ≡ false → m.ended ≡ false → Tells output max m s →
+    Tells output max (after_feed piece m) (record s { bytes = s.bytes ++ piece })
+fed_tells grow output max m s piece going unended t =
     let a = t.agrees going in
-    let f = grown grow max s piece false (sym a.ended ∙ unended) t.first in
+    let f = grown grow output max s piece false (sym a.ended ∙ unended) t.first in
     record {
       agrees = λ _. record { bytes = ap (λ bs. bs ++ piece) a.bytes; ended = a.ended; taken = a.taken };
-      first = (f.0, ap (λ e. events max (s.bytes ++ piece) e) (sym a.ended ∙ unended) ∙ f.1);
+      mode = t.mode;
+      first = (f.0, ap (λ e. events output max (s.bytes ++ piece) e) (sym a.ended ∙ unended) ∙ f.1);
     }
 
-flushed_tells : EventsOnlyGrow → (max : ℕ) (m : Machine) (s : SinceReset) → m.failed ≡ false → m.ended ≡ false → Tells max m s →
-    Tells max (after_flush m) (record s { ended = true })
-flushed_tells grow max m s going unended t =
+flushed_tells : EventsOnlyGrow → (output : Output) (max : ℕ) (m : Machine) (s : SinceReset) → m.failed ≡ false → m.ended ≡ false → Tells output max m s →
+    Tells output max (after_flush m) (record s { ended = true })
+flushed_tells grow output max m s going unended t =
     let a = t.agrees going in
-    let f = grown grow max s [] true (sym a.ended ∙ unended) t.first in
+    let f = grown grow output max s [] true (sym a.ended ∙ unended) t.first in
     record {
       agrees = λ _. record { bytes = a.bytes; ended = refl; taken = a.taken };
-      first = (f.0, ap (λ bs. events max bs true) (sym (append-nil s.bytes)) ∙ f.1);
+      mode = t.mode;
+      first = (f.0, ap (λ bs. events output max bs true) (sym (append-nil s.bytes)) ∙ f.1);
     }
 
 -- what a machine would hand out next, by what was taken
-next_by : (max : ℕ) (m : Machine) (s : SinceReset) → Agrees m s → (f : IsFirst max s) → next_event max m ≡ slice_get (s.taken ++ f.0) (length s.taken)
-next_by max m s a f =
-    ap (λ bs. slice_get (events max bs m.ended) m.taken) a.bytes
-    ∙ ap (λ e. slice_get (events max s.bytes e) m.taken) a.ended
-    ∙ ap (λ n. slice_get (events max s.bytes s.ended) n) a.taken
+next_by : (output : Output) (max : ℕ) (m : Machine) (s : SinceReset) → m.output ≡ output → Agrees m s → (f : IsFirst output max s) → next_event max m ≡ slice_get (s.taken ++ f.0) (length s.taken)
+next_by output max m s mode a f =
+    ap (λ o. slice_get (events o max m.bytes m.ended) m.taken) mode
+    ∙ ap (λ bs. slice_get (events output max bs m.ended) m.taken) a.bytes
+    ∙ ap (λ e. slice_get (events output max s.bytes e) m.taken) a.ended
+    ∙ ap (λ n. slice_get (events output max s.bytes s.ended) n) a.taken
     ∙ ap (λ es. slice_get es (length s.taken)) f.1
 
-taken_tells : (max : ℕ) (m : Machine) (s : SinceReset) (e : Event) → m.failed ≡ false → Some e ≡ next_event max m → Tells max m s →
-    Tells max (after_take (Some e) m) (record s { taken = s.taken ++ e ∷ [] })
-taken_tells max m s e going is t =
+taken_tells : (output : Output) (max : ℕ) (m : Machine) (s : SinceReset) (e : Event) → m.failed ≡ false → Some e ≡ next_event max m → Tells output max m s →
+    Tells output max (after_take (Some e) m) (record s { taken = s.taken ++ e ∷ [] })
+taken_tells output max m s e going is t =
     let a = t.agrees going in
-    let r = next_is s.taken t.first.0 e (sym (is ∙ next_by max m s a t.first)) in
+    let r = next_is s.taken t.first.0 e (sym (is ∙ next_by output max m s t.mode a t.first)) in
     record {
       agrees = λ _. record { bytes = a.bytes; ended = a.ended; taken = ap (λ n. n + 1) a.taken ∙ sym (length-append s.taken (e ∷ [])) };
+      mode = t.mode;
       first = (r.0, t.first.1 ∙ ap (λ os. s.taken ++ os) r.1 ∙ sym (append_assoc s.taken (e ∷ []) r.0));
     }
 
-at_first : (max : ℕ) (m : Machine) → m ≡ new_machine → Tells max m no_call
-at_first max m e = unchanged max new_machine m no_call e (record {
+at_first : (output : Output) (max : ℕ) (m : Machine) → m ≡ new_machine output → Tells output max m no_call
+at_first output max m e = unchanged output max (new_machine output) m no_call e (record {
   agrees = λ _. record { bytes = refl; ended = refl; taken = refl };
-  first = (events max [] false, refl);
+  mode = refl;
+  first = (events output max [] false, refl);
 })
 
-answered : EventsOnlyGrow → (max : ℕ) (m m' : Machine) (s : SinceReset) (call : Call) (reply : Reply) → Tells max m s → IsCallAnswer max m call reply m' → Tells max m' (with_call s call reply)
-answered grow max m m' s (Feed piece) (replies.Fed (Ok done)) t g =
-    unchanged max (after_feed piece m) m' (record s { bytes = s.bytes ++ piece }) g.2 (fed_tells grow max m s piece g.0 g.1 t)
-answered grow max m m' s (Feed piece) (replies.Fed (Err Ended)) t g = unchanged max m m' s g.2 t
-answered grow max m m' s (Feed piece) (replies.Fed (Err OutOfMemory)) t g = refused_tells max m (after_feed piece m) m' s g t
-answered grow max m m' s (Feed piece) (replies.Taken answer) t g = absurd g
-answered grow max m m' s (Feed piece) (replies.Flushed answer) t g = absurd g
-answered grow max m m' s (Feed piece) replies.Reset t g = absurd g
-answered grow max m m' s Take (replies.Taken (Ok (Some e))) t g =
-    unchanged max (after_take (Some e) m) m' (record s { taken = s.taken ++ e ∷ [] }) g.2 (taken_tells max m s e g.0 g.1 t)
-answered grow max m m' s Take (replies.Taken (Ok None)) t g = unchanged max m m' s g.2 t
-answered grow max m m' s Take (replies.Taken (Err OutOfMemory)) t g = unchanged max m m' s g.1 t
-answered grow max m m' s Take (replies.Taken (Err Ended)) t g = absurd g
-answered grow max m m' s Take (replies.Fed answer) t g = absurd g
-answered grow max m m' s Take (replies.Flushed answer) t g = absurd g
-answered grow max m m' s Take replies.Reset t g = absurd g
-answered grow max m m' s Flush (replies.Flushed (Ok done)) t g =
-    unchanged max (after_flush m) m' (record s { ended = true }) g.2 (flushed_tells grow max m s g.0 g.1 t)
-answered grow max m m' s Flush (replies.Flushed (Err Ended)) t g = unchanged max m m' s g.2 t
-answered grow max m m' s Flush (replies.Flushed (Err OutOfMemory)) t g = refused_tells max m (after_flush m) m' s g t
-answered grow max m m' s Flush (replies.Fed answer) t g = absurd g
-answered grow max m m' s Flush (replies.Taken answer) t g = absurd g
-answered grow max m m' s Flush replies.Reset t g = absurd g
-answered grow max m m' s Reset replies.Reset t g = at_first max m' g
-answered grow max m m' s Reset (replies.Fed answer) t g = absurd g
-answered grow max m m' s Reset (replies.Taken answer) t g = absurd g
-answered grow max m m' s Reset (replies.Flushed answer) t g = absurd g
+answered : EventsOnlyGrow → (output : Output) (max : ℕ) (m m' : Machine) (s : SinceReset) (call : Call) (reply : Reply) → Tells output max m s → IsCallAnswer max m call reply m' → Tells output max m' (with_call s call reply)
+answered grow output max m m' s (Feed piece) (replies.Fed (Ok done)) t g =
+    unchanged output max (after_feed piece m) m' (record s { bytes = s.bytes ++ piece }) g.2 (fed_tells grow output max m s piece g.0 g.1 t)
+answered grow output max m m' s (Feed piece) (replies.Fed (Err Ended)) t g = unchanged output max m m' s g.2 t
+answered grow output max m m' s (Feed piece) (replies.Fed (Err OutOfMemory)) t g = refused_tells output max m (after_feed piece m) m' s g g.output t
+answered grow output max m m' s (Feed piece) (replies.Taken answer) t g = absurd g
+answered grow output max m m' s (Feed piece) (replies.Flushed answer) t g = absurd g
+answered grow output max m m' s (Feed piece) replies.Reset t g = absurd g
+answered grow output max m m' s Take (replies.Taken (Ok (Some e))) t g =
+    unchanged output max (after_take (Some e) m) m' (record s { taken = s.taken ++ e ∷ [] }) g.2 (taken_tells output max m s e g.0 g.1 t)
+answered grow output max m m' s Take (replies.Taken (Ok None)) t g = unchanged output max m m' s g.2 t
+answered grow output max m m' s Take (replies.Taken (Err OutOfMemory)) t g = unchanged output max m m' s g.1 t
+answered grow output max m m' s Take (replies.Taken (Err Ended)) t g = absurd g
+answered grow output max m m' s Take (replies.Fed answer) t g = absurd g
+answered grow output max m m' s Take (replies.Flushed answer) t g = absurd g
+answered grow output max m m' s Take replies.Reset t g = absurd g
+answered grow output max m m' s Flush (replies.Flushed (Ok done)) t g =
+    unchanged output max (after_flush m) m' (record s { ended = true }) g.2 (flushed_tells grow output max m s g.0 g.1 t)
+answered grow output max m m' s Flush (replies.Flushed (Err Ended)) t g = unchanged output max m m' s g.2 t
+answered grow output max m m' s Flush (replies.Flushed (Err OutOfMemory)) t g = refused_tells output max m (after_flush m) m' s g g.output t
+answered grow output max m m' s Flush (replies.Fed answer) t g = absurd g
+answered grow output max m m' s Flush (replies.Taken answer) t g = absurd g
+answered grow output max m m' s Flush replies.Reset t g = absurd g
+answered grow output max m m' s Reset replies.Reset t g = at_first output max m' (g ∙ ap new_machine t.mode)
+answered grow output max m m' s Reset (replies.Fed answer) t g = absurd g
+answered grow output max m m' s Reset (replies.Taken answer) t g = absurd g
+answered grow output max m m' s Reset (replies.Flushed answer) t g = absurd g
 
 -- ---- any calls
 
-run_tells : EventsOnlyGrow → (max : ℕ) (m last : Machine) (s : SinceReset) (calls : List Call) (answers : List Reply) → Tells max m s → Run max m calls answers last →
-    Tells max last (since_reset s calls answers)
-run_tells grow max m last s [] [] t r = unchanged max m last s r t
-run_tells grow max m last s (call ∷ calls) (reply ∷ answers) t r =
-    run_tells grow max r.0 last (with_call s call reply) calls answers (answered grow max m r.0 s call reply t r.1) r.2
-run_tells grow max m last s [] (reply ∷ answers) t r = absurd r
-run_tells grow max m last s (call ∷ calls) [] t r = absurd r
+run_tells : EventsOnlyGrow → (output : Output) (max : ℕ) (m last : Machine) (s : SinceReset) (calls : List Call) (answers : List Reply) → Tells output max m s → Run max m calls answers last →
+    Tells output max last (since_reset s calls answers)
+run_tells grow output max m last s [] [] t r = unchanged output max m last s r t
+run_tells grow output max m last s (call ∷ calls) (reply ∷ answers) t r =
+    run_tells grow output max r.0 last (with_call s call reply) calls answers (answered grow output max m r.0 s call reply t r.1) r.2
+run_tells grow output max m last s [] (reply ∷ answers) t r = absurd r
+run_tells grow output max m last s (call ∷ calls) [] t r = absurd r
 
 pub takes_them : EventsOnlyGrow → TakesThem
-takes_them grow max calls answers last r = (run_tells grow max new_machine last no_call calls answers (at_first max new_machine refl) r).first
+takes_them grow output max calls answers last r = (run_tells grow output max (new_machine output) last no_call calls answers (at_first output max (new_machine output) refl) r).first
 
 pub takes_all : EventsOnlyGrow → TakesAll
-takes_all grow max calls answers before last r none =
+takes_all grow output max calls answers before last r none =
     let s = since_reset no_call calls answers in
-    let t = run_tells grow max new_machine before no_call calls answers (at_first max new_machine refl) r in
+    let t = run_tells grow output max (new_machine output) before no_call calls answers (at_first output max (new_machine output) refl) r in
     let g = none.1 in
-    let left = none_left s.taken t.first.0 (sym (g.1 ∙ next_by max before s (t.agrees g.0) t.first)) in
+    let left = none_left s.taken t.first.0 (sym (g.1 ∙ next_by output max before s t.mode (t.agrees g.0) t.first)) in
     t.first.1 ∙ ap (λ os. s.taken ++ os) left ∙ append-nil s.taken

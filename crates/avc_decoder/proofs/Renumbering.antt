@@ -23,7 +23,7 @@ use Rattle.avc_units.specs.declared.step.Next.{Next}
 use Rattle.avc_units.specs.declared.step.Next.TheVariants.{Nothing, Refusal, FaultOfOpen, FaultOfOwn, Begins, Continues}
 use Rattle.avc_units.specs.declared.step.Step.{Step}
 use Rattle.avc_decoder_core.specs.History.{History, history_after_closing, history_at_opening}
-use Rattle.avc_dpb.specs.declared.output.Output.TheVariants.{Full}
+use Rattle.avc_dpb.specs.declared.output.Output.{Output}
 use Rattle.avc_decoder_core.specs.Pictures.{output_pictures, held_pictures}
 use Rattle.avc_decoder.specs.FirstFault.{OpenPicture, closed_history, first_fault, first_header, first_slice, history_at_opening_of}
 use Rattle.avc_decoder.specs.FirstFault.{history_of, oldest, picture_planes, progress_on, read_of, start_on}
@@ -262,9 +262,9 @@ refused-same r out unit f =
 abbrev outcome_of : List Event → Phase → (read : ℕ) → Outcome
 outcome_of es p read = record { events = es; phase = p; read = read }
 
-failed-same : (r : ℕ → ℕ) (h : History) (unit : ℕ) (f : Fault) (read : ℕ)
-    → failed_at h (r unit) f read ≡ renumbered_outcome r (failed_at h unit f read)
-failed-same r h unit f read = ap (λ es. outcome_of es waiting read) (sym (refused-same r (held_pictures Full h) unit f))
+failed-same : (output : Output) (r : ℕ → ℕ) (h : History) (unit : ℕ) (f : Fault) (read : ℕ)
+    → failed_at output h (r unit) f read ≡ renumbered_outcome r (failed_at output h unit f read)
+failed-same output r h unit f read = ap (λ es. outcome_of es waiting read) (sym (refused-same r (held_pictures output h) unit f))
 
 last-same : (r : ℕ → ℕ) (o : OpenPicture) (closed : Result History Fault)
     → at_last_slice (renumbered_picture r o) closed ≡ renumbered_result r (at_last_slice o closed)
@@ -288,57 +288,57 @@ result-same r o =
     ∙ ap (at_last_slice o') (closed-same r o (history_of o))
     ∙ last-same r o (closed_history o (history_of o)))
 
-outcome-same : (r : ℕ → ℕ) (o : OpenPicture) (x : Result History (ℕ × Fault))
-    → closed_outcome (renumbered_picture r o) (renumbered_result r x) ≡ renumbered_outcome r (closed_outcome o x)
-outcome-same r o (Ok h) =
-    ap (λ b. outcome_of (pictures (output_pictures Full b h)) (running h None) 0) (history-same r o)
-    ∙ ap (λ es. outcome_of es (running h None) 0) (sym (pictures-same r (output_pictures Full (history_of o) h)))
-outcome-same r o (Err found) = ap (λ b. failed_at b (r found.0) found.1 0) (history-same r o) ∙ failed-same r (history_of o) found.0 found.1 0
+outcome-same : (output : Output) (r : ℕ → ℕ) (o : OpenPicture) (x : Result History (ℕ × Fault))
+    → closed_outcome output (renumbered_picture r o) (renumbered_result r x) ≡ renumbered_outcome r (closed_outcome output o x)
+outcome-same output r o (Ok h) =
+    ap (λ b. outcome_of (pictures (output_pictures output b h)) (running h None) 0) (history-same r o)
+    ∙ ap (λ es. outcome_of es (running h None) 0) (sym (pictures-same r (output_pictures output (history_of o) h)))
+outcome-same output r o (Err found) = ap (λ b. failed_at output b (r found.0) found.1 0) (history-same r o) ∙ failed-same output r (history_of o) found.0 found.1 0
 
-pub closed_picture-same : (r : ℕ → ℕ) (o : OpenPicture)
-    → closed_picture (renumbered_picture r o) ≡ renumbered_outcome r (closed_picture o)
-closed_picture-same r o = ap (closed_outcome (renumbered_picture r o)) (result-same r o) ∙ outcome-same r o (closing_result o)
+pub closed_picture-same : (output : Output) (r : ℕ → ℕ) (o : OpenPicture)
+    → closed_picture output (renumbered_picture r o) ≡ renumbered_outcome r (closed_picture output o)
+closed_picture-same output r o = ap (closed_outcome output (renumbered_picture r o)) (result-same r o) ∙ outcome-same output r o (closing_result o)
 
 -- ---- a slice more
 
-abbrev slice_outcome : Option (ℕ × Fault) → History → OpenPicture → (now : History) → (read : ℕ) → Outcome
-slice_outcome f before o now read = elim f [
-  | Some found ↦ failed_at before found.0 found.1 read
-  | None ↦ record { events = pictures (output_pictures Full before now); phase = running o.before (Some o); read = read }
+abbrev slice_outcome : Output → Option (ℕ × Fault) → History → OpenPicture → (now : History) → (read : ℕ) → Outcome
+slice_outcome output f before o now read = elim f [
+  | Some found ↦ failed_at output before found.0 found.1 read
+  | None ↦ record { events = pictures (output_pictures output before now); phase = running o.before (Some o); read = read }
 ]
 
-slice_outcome-same : (r : ℕ → ℕ) (f : Option (ℕ × Fault)) (before : History) (o : OpenPicture) (now : History) (read : ℕ)
-    → slice_outcome (option_map (renumbered_fault r) f) before (renumbered_picture r o) now read
-    ≡ renumbered_outcome r (slice_outcome f before o now read)
-slice_outcome-same r (Some found) before o now read = failed-same r before found.0 found.1 read
-slice_outcome-same r None before o now read =
-    ap (λ es. outcome_of es (running o.before (Some (renumbered_picture r o))) read) (sym (pictures-same r (output_pictures Full before now)))
+slice_outcome-same : (output : Output) (r : ℕ → ℕ) (f : Option (ℕ × Fault)) (before : History) (o : OpenPicture) (now : History) (read : ℕ)
+    → slice_outcome output (option_map (renumbered_fault r) f) before (renumbered_picture r o) now read
+    ≡ renumbered_outcome r (slice_outcome output f before o now read)
+slice_outcome-same output r (Some found) before o now read = failed-same output r before found.0 found.1 read
+slice_outcome-same output r None before o now read =
+    ap (λ es. outcome_of es (running o.before (Some (renumbered_picture r o))) read) (sym (pictures-same r (output_pictures output before now)))
 
-with_slice-same : (r : ℕ → ℕ) (before : History) (already : ℕ) (o : OpenPicture)
-    → with_slice before already (renumbered_picture r o) ≡ renumbered_outcome r (with_slice before already o)
-with_slice-same r before already o =
+with_slice-same : (output : Output) (r : ℕ → ℕ) (before : History) (already : ℕ) (o : OpenPicture)
+    → with_slice output before already (renumbered_picture r o) ≡ renumbered_outcome r (with_slice output before already o)
+with_slice-same output r before already o =
     let o' = renumbered_picture r o in
-    ap (λ f. slice_outcome f before o' (history_of o') (read_of o' - already)) (first_fault-same r o false)
-    ∙ ap (λ h. slice_outcome (option_map (renumbered_fault r) (first_fault o false)) before o' h (read_of o' - already)) (history-same r o)
-    ∙ ap (λ n. slice_outcome (option_map (renumbered_fault r) (first_fault o false)) before o' (history_of o) (n - already)) (read-same r o)
-    ∙ slice_outcome-same r (first_fault o false) before o (history_of o) (read_of o - already)
+    ap (λ f. slice_outcome output f before o' (history_of o') (read_of o' - already)) (first_fault-same r o false)
+    ∙ ap (λ h. slice_outcome output (option_map (renumbered_fault r) (first_fault o false)) before o' h (read_of o' - already)) (history-same r o)
+    ∙ ap (λ n. slice_outcome output (option_map (renumbered_fault r) (first_fault o false)) before o' (history_of o) (n - already)) (read-same r o)
+    ∙ slice_outcome-same output r (first_fault o false) before o (history_of o) (read_of o - already)
 
-first_slice-same : (r : ℕ → ℕ) (named : Option (Pps × Sps)) (before : History) (s : Slice)
-    → after_first_slice named before (renumbered_slice r s) ≡ renumbered_outcome r (after_first_slice named before s)
-first_slice-same r None before s = refl
-first_slice-same r (Some named) before s =
-    with_slice-same r before 0 (record { before = before; sps = named.1; pps = named.0; last = s; earlier = [] })
+first_slice-same : (output : Output) (r : ℕ → ℕ) (named : Option (Pps × Sps)) (before : History) (s : Slice)
+    → after_first_slice output named before (renumbered_slice r s) ≡ renumbered_outcome r (after_first_slice output named before s)
+first_slice-same output r None before s = refl
+first_slice-same output r (Some named) before s =
+    with_slice-same output r before 0 (record { before = before; sps = named.1; pps = named.0; last = s; earlier = [] })
 
-next_slice-same : (r : ℕ → ℕ) (p : Phase) (s : Slice)
-    → after_next_slice (renumbered_phase r p) (renumbered_slice r s) ≡ renumbered_outcome r (after_next_slice p s)
-next_slice-same r waiting s = refl
-next_slice-same r (running h None) s = refl
-next_slice-same r (running h (Some o)) s =
+next_slice-same : (output : Output) (r : ℕ → ℕ) (p : Phase) (s : Slice)
+    → after_next_slice output (renumbered_phase r p) (renumbered_slice r s) ≡ renumbered_outcome r (after_next_slice output p s)
+next_slice-same output r waiting s = refl
+next_slice-same output r (running h None) s = refl
+next_slice-same output r (running h (Some o)) s =
     let o' = renumbered_picture r o in
     let more : OpenPicture = record o { last = s; earlier = o.last ∷ o.earlier } in
-    ap (λ b. with_slice b (read_of o') (renumbered_picture r more)) (history-same r o)
-    ∙ ap (λ n. with_slice (history_of o) n (renumbered_picture r more)) (read-same r o)
-    ∙ with_slice-same r (history_of o) (read_of o) more
+    ap (λ b. with_slice output b (read_of o') (renumbered_picture r more)) (history-same r o)
+    ∙ ap (λ n. with_slice output (history_of o) n (renumbered_picture r more)) (read-same r o)
+    ∙ with_slice-same output r (history_of o) (read_of o) more
 
 -- ---- a unit
 
@@ -367,16 +367,16 @@ open_facts-same r waiting = refl
 open_facts-same r (running h None) = refl
 open_facts-same r (running h (Some o)) = ap (λ f. Some f) (facts-same r o)
 
-next-same : (r : ℕ → ℕ) (sets : Sets) (unit : ℕ) (p : Phase) (n : Next)
-    → after_next sets (r unit) (renumbered_phase r p) (renumbered_next r n) ≡ renumbered_outcome r (after_next sets unit p n)
-next-same r sets unit p Nothing = refl
-next-same r sets unit p (Refusal f) = refl
-next-same r sets unit p (FaultOfOpen f) = ap (λ h. failed_at h (r unit) f 0) (history_in-same r p) ∙ failed-same r (history_in p) unit f 0
-next-same r sets unit p (FaultOfOwn f) = ap (λ h. failed_at h (r unit) f 0) (history_in-same r p) ∙ failed-same r (history_in p) unit f 0
-next-same r sets unit p (Begins s) =
+next-same : (output : Output) (r : ℕ → ℕ) (sets : Sets) (unit : ℕ) (p : Phase) (n : Next)
+    → after_next output sets (r unit) (renumbered_phase r p) (renumbered_next r n) ≡ renumbered_outcome r (after_next output sets unit p n)
+next-same output r sets unit p Nothing = refl
+next-same output r sets unit p (Refusal f) = refl
+next-same output r sets unit p (FaultOfOpen f) = ap (λ h. failed_at output h (r unit) f 0) (history_in-same r p) ∙ failed-same output r (history_in p) unit f 0
+next-same output r sets unit p (FaultOfOwn f) = ap (λ h. failed_at output h (r unit) f 0) (history_in-same r p) ∙ failed-same output r (history_in p) unit f 0
+next-same output r sets unit p (Begins s) =
     let named = sets_named sets s.header in
-    ap (λ h. after_first_slice named h (renumbered_slice r s)) (base-same r p) ∙ first_slice-same r named (base_in p) s
-next-same r sets unit p (Continues s) = next_slice-same r p s
+    ap (λ h. after_first_slice output named h (renumbered_slice r s)) (base-same r p) ∙ first_slice-same output r named (base_in p) s
+next-same output r sets unit p (Continues s) = next_slice-same output r p s
 
 followed-same : (r : ℕ → ℕ) (a b : Outcome)
     → followed_by (renumbered_outcome r a) (renumbered_outcome r b) ≡ renumbered_outcome r (followed_by a b)
@@ -391,43 +391,43 @@ silent-same : (r : ℕ → ℕ) (silent : Bool) (closed next' next : Outcome) �
 silent-same r true closed next' next e = refl
 silent-same r false closed next' next e = ap (followed_by (renumbered_outcome r closed)) e ∙ followed-same r closed next
 
-after_closing-same : (r : ℕ → ℕ) (sets : Sets) (unit : ℕ) (what : Step) (x : Outcome)
-    → after_closing sets (r unit) (renumbered_step r what) (renumbered_outcome r x)
-    ≡ renumbered_outcome r (after_closing sets unit what x)
-after_closing-same r sets unit what x =
+after_closing-same : (output : Output) (r : ℕ → ℕ) (sets : Sets) (unit : ℕ) (what : Step) (x : Outcome)
+    → after_closing output sets (r unit) (renumbered_step r what) (renumbered_outcome r x)
+    ≡ renumbered_outcome r (after_closing output sets unit what x)
+after_closing-same output r sets unit what x =
     let x' = renumbered_outcome r x in
-    ap (λ b. unless_silent (b && not what.even_after_fault) x' (after_next sets (r unit) x'.phase (renumbered_next r what.next)))
+    ap (λ b. unless_silent (b && not what.even_after_fault) x' (after_next output sets (r unit) x'.phase (renumbered_next r what.next)))
     (waiting-same r x.phase)
-    ∙ silent-same r (is_waiting x.phase && not what.even_after_fault) x _ _ (next-same r sets unit x.phase what.next)
+    ∙ silent-same r (is_waiting x.phase && not what.even_after_fault) x _ _ (next-same output r sets unit x.phase what.next)
 
 by_closes : (r : ℕ → ℕ) (closes : Bool) (a' a b' b : Outcome) → a' ≡ renumbered_outcome r a → b' ≡ renumbered_outcome r b
     → ◌≡◌ {A = Outcome} (elim closes [ true ↦ a' | false ↦ b' ]) (renumbered_outcome r (elim closes [ true ↦ a | false ↦ b ]))
 by_closes r true a' a b' b e f = e
 by_closes r false a' a b' b e f = f
 
-pub in_phase-same : (r : ℕ → ℕ) (sets : Sets) (unit : ℕ) (what : Step) (p : Phase)
-    → in_phase sets (r unit) (renumbered_step r what) (renumbered_phase r p) ≡ renumbered_outcome r (in_phase sets unit what p)
-in_phase-same r sets unit what waiting = next-same r sets unit waiting what.next
-in_phase-same r sets unit what (running h None) = next-same r sets unit (running h None) what.next
-in_phase-same r sets unit what (running h (Some o)) =
+pub in_phase-same : (output : Output) (r : ℕ → ℕ) (sets : Sets) (unit : ℕ) (what : Step) (p : Phase)
+    → in_phase output sets (r unit) (renumbered_step r what) (renumbered_phase r p) ≡ renumbered_outcome r (in_phase output sets unit what p)
+in_phase-same output r sets unit what waiting = next-same output r sets unit waiting what.next
+in_phase-same output r sets unit what (running h None) = next-same output r sets unit (running h None) what.next
+in_phase-same output r sets unit what (running h (Some o)) =
     by_closes r what.closes _ _ _ _
-    (ap (after_closing sets (r unit) (renumbered_step r what)) (closed_picture-same r o) ∙ after_closing-same r sets unit what (closed_picture o))
-    (next-same r sets unit (running h (Some o)) what.next)
+    (ap (after_closing output sets (r unit) (renumbered_step r what)) (closed_picture-same output r o) ∙ after_closing-same output r sets unit what (closed_picture output o))
+    (next-same output r sets unit (running h (Some o)) what.next)
 
 -- ---- the end
 
-held-same : (r : ℕ → ℕ) (p : Phase) → held_after (renumbered_phase r p) ≡ map (renumbered_event r) (held_after p)
-held-same r waiting = refl
-held-same r (running h None) = sym (pictures-same r (held_pictures Full h))
-held-same r (running h (Some o)) = sym (pictures-same r (held_pictures Full h))
+held-same : (output : Output) (r : ℕ → ℕ) (p : Phase) → held_after output (renumbered_phase r p) ≡ map (renumbered_event r) (held_after output p)
+held-same output r waiting = refl
+held-same output r (running h None) = sym (pictures-same r (held_pictures output h))
+held-same output r (running h (Some o)) = sym (pictures-same r (held_pictures output h))
 
-and_held-same : (r : ℕ → ℕ) (x : Outcome)
-    → events_and_held (renumbered_outcome r x) ≡ map (renumbered_event r) (events_and_held x)
-and_held-same r x =
-    ap (λ es. map (renumbered_event r) x.events ++ es) (held-same r x.phase)
-    ∙ sym (map-append (renumbered_event r) x.events (held_after x.phase))
+and_held-same : (output : Output) (r : ℕ → ℕ) (x : Outcome)
+    → events_and_held output (renumbered_outcome r x) ≡ map (renumbered_event r) (events_and_held output x)
+and_held-same output r x =
+    ap (λ es. map (renumbered_event r) x.events ++ es) (held-same output r x.phase)
+    ∙ sym (map-append (renumbered_event r) x.events (held_after output x.phase))
 
-pub at_end-same : (r : ℕ → ℕ) (p : Phase) → at_end (renumbered_phase r p) ≡ map (renumbered_event r) (at_end p)
-at_end-same r waiting = refl
-at_end-same r (running h None) = sym (pictures-same r (held_pictures Full h))
-at_end-same r (running h (Some o)) = ap events_and_held (closed_picture-same r o) ∙ and_held-same r (closed_picture o)
+pub at_end-same : (output : Output) (r : ℕ → ℕ) (p : Phase) → at_end output (renumbered_phase r p) ≡ map (renumbered_event r) (at_end output p)
+at_end-same output r waiting = refl
+at_end-same output r (running h None) = sym (pictures-same r (held_pictures output h))
+at_end-same output r (running h (Some o)) = ap (events_and_held output) (closed_picture-same output r o) ∙ and_held-same output r (closed_picture output o)

@@ -31,6 +31,7 @@ use Rattle.avc_decoder.specs.Events.{no_change, open_facts_in, state_after, wait
 use Rattle.avc_decoder.specs.Laws.{StartsAnew, renumbered, state_through}
 use Rattle.avc_decoder.proofs.Renumbering.{at_end-same, in_phase-same, open_facts-same, renumbered_event}
 use Rattle.avc_decoder.proofs.Renumbering.{renumbered_outcome, renumbered_phase, renumbered_slice, renumbered_step, running-same}
+use Rattle.avc_dpb.specs.declared.output.Output.{Output}
 
 -- ---- what a unit with another number does
 
@@ -126,36 +127,37 @@ AreAlike r (u ∷ us) (u' ∷ us') = IsAlike r u u' × AreAlike r us us'
 AreAlike r [] (u' ∷ us') = ⊥
 AreAlike r (u ∷ us) [] = ⊥
 
-after_unit-same : (r : ℕ → ℕ) (s s' : State) (u u' : Piece) → sets_after s'.sets ≡ sets_after s.sets
+after_unit-same : (r : ℕ → ℕ) (s s' : State) (u u' : Piece) → s'.output ≡ s.output → sets_after s'.sets ≡ sets_after s.sets
     → s'.phase ≡ renumbered_phase r s.phase → IsAlike r u u'
     → after_unit s' u' ≡ renumbered_outcome r (after_unit s u)
-after_unit-same r s s' u u' e f a =
+after_unit-same r s s' u u' m e f a =
     let sets = sets_after s.sets in
     let p = renumbered_phase r s.phase in
-    ap (λ ss. in_phase ss u'.index (step ss (is_running s'.phase) (open_facts_in s'.phase) u') s'.phase) e
-    ∙ ap (λ q. in_phase sets u'.index (step sets (is_running q) (open_facts_in q) u') q) f
-    ∙ ap (λ (v : Piece). in_phase sets v.index (step sets (is_running p) (open_facts_in p) v) p) (is_moved r u u' a)
-    ∙ ap (λ b. in_phase sets (r u.index) (step sets b (open_facts_in p) (moved r u u')) p) (running-same r s.phase)
-    ∙ ap (λ o. in_phase sets (r u.index) (step sets (is_running s.phase) o (moved r u u')) p) (open_facts-same r s.phase)
-    ∙ ap (λ what. in_phase sets (r u.index) what p) (step-same r sets (is_running s.phase) (open_facts_in s.phase) u u')
-    ∙ in_phase-same r sets u.index (step sets (is_running s.phase) (open_facts_in s.phase) u) s.phase
+    ap (λ o. in_phase o (sets_after s'.sets) u'.index (step (sets_after s'.sets) (is_running s'.phase) (open_facts_in s'.phase) u') s'.phase) m
+    ∙ ap (λ ss. in_phase s.output ss u'.index (step ss (is_running s'.phase) (open_facts_in s'.phase) u') s'.phase) e
+    ∙ ap (λ q. in_phase s.output sets u'.index (step sets (is_running q) (open_facts_in q) u') q) f
+    ∙ ap (λ (v : Piece). in_phase s.output sets v.index (step sets (is_running p) (open_facts_in p) v) p) (is_moved r u u' a)
+    ∙ ap (λ b. in_phase s.output sets (r u.index) (step sets b (open_facts_in p) (moved r u u')) p) (running-same r s.phase)
+    ∙ ap (λ o. in_phase s.output sets (r u.index) (step sets (is_running s.phase) o (moved r u u')) p) (open_facts-same r s.phase)
+    ∙ ap (λ what. in_phase s.output sets (r u.index) what p) (step-same r sets (is_running s.phase) (open_facts_in s.phase) u u')
+    ∙ in_phase-same s.output r sets u.index (step sets (is_running s.phase) (open_facts_in s.phase) u) s.phase
 
 -- The events are the same but for the numbers.
 events-same : SetsComeAlike → (r : ℕ → ℕ) (us us' : List Piece) (s s' : State) (ended : Bool)
-    → sets_after s'.sets ≡ sets_after s.sets → s'.phase ≡ renumbered_phase r s.phase → AreAlike r us us'
+    → s'.output ≡ s.output → sets_after s'.sets ≡ sets_after s.sets → s'.phase ≡ renumbered_phase r s.phase → AreAlike r us us'
     → events_from s' us' ended ≡ map (renumbered_event r) (events_from s us ended)
-events-same come r [] [] s s' true e f a = ap at_end f ∙ at_end-same r s.phase
-events-same come r [] [] s s' false e f a = refl
-events-same come r [] (u' ∷ us') s s' ended e f a = absurd a
-events-same come r (u ∷ us) [] s s' ended e f a = absurd a
-events-same come r (u ∷ us) (u' ∷ us') s s' ended e f a =
+events-same come r [] [] s s' true o e f a = ap (λ m. at_end m s'.phase) o ∙ ap (at_end s.output) f ∙ at_end-same s.output r s.phase
+events-same come r [] [] s s' false o e f a = refl
+events-same come r [] (u' ∷ us') s s' ended o e f a = absurd a
+events-same come r (u ∷ us) [] s s' ended o e f a = absurd a
+events-same come r (u ∷ us) (u' ∷ us') s s' ended o e f a =
     let x = after_unit s u in
     let x' = renumbered_outcome r x in
     let brought : set_units (u' ∷ []) ≡ set_units (u ∷ []) = ap (λ v. set_units (v ∷ [])) (is_moved r u u' a.0) in
     let sets : sets_after (s'.sets ++ set_units (u' ∷ [])) ≡ sets_after (s.sets ++ set_units (u ∷ [])) =
     come s'.sets s.sets (set_units (u' ∷ [])) e ∙ ap (λ m. sets_after (s.sets ++ m)) brought in
-    ap (λ (y : Outcome). y.events ++ events_from (state_after s' u' y) us' ended) (after_unit-same r s s' u u' e f a.0)
-    ∙ ap (λ es. x'.events ++ es) (events-same come r us us' (state_after s u x) (state_after s' u' x') ended sets refl a.1)
+    ap (λ (y : Outcome). y.events ++ events_from (state_after s' u' y) us' ended) (after_unit-same r s s' u u' o e f a.0)
+    ∙ ap (λ es. x'.events ++ es) (events-same come r us us' (state_after s u x) (state_after s' u' x') ended o sets refl a.1)
     ∙ sym (map-append (renumbered_event r) x.events (events_from (state_after s u x) us ended))
 
 -- ---- the parameter sets in front
@@ -168,6 +170,10 @@ sets_through : (s : State) (us : List Piece) → (state_through s us).sets ≡ s
 sets_through s [] = sym (append-nil s.sets)
 sets_through s (u ∷ us) = sets_through (state_after s u (after_unit s u)) us ∙ sets-append s.sets _ (set_units us)
 
+mode_through : (s : State) (us : List Piece) → (state_through s us).output ≡ s.output
+mode_through s [] = refl
+mode_through s (u ∷ us) = mode_through (state_after s u (after_unit s u)) us
+
 -- Where decoding waits the unit is taken without a fault.
 abbrev NoFault : Piece → Type 0
 NoFault u = (sets : Sets) → step sets false None u ≡ ends_picture Nothing
@@ -175,20 +181,21 @@ NoFault u = (sets : Sets) → step sets false None u ≡ ends_picture Nothing
 set_taken : (s : State) (u : Piece) → s.phase ≡ waiting → NoFault u → after_unit s u ≡ no_change waiting
 set_taken s u w n =
     let sets = sets_after s.sets in
-    ap (λ p. in_phase sets u.index (step sets (is_running p) (open_facts_in p) u) p) w ∙ ap (λ what. in_phase sets u.index what waiting) (n sets)
+    ap (λ p. in_phase s.output sets u.index (step sets (is_running p) (open_facts_in p) u) p) w
+    ∙ ap (λ what. in_phase s.output sets u.index what waiting) (n sets)
 
-abbrev waiting_with : List SetUnit → State
-waiting_with sets = record { sets = sets; phase = waiting }
+abbrev waiting_with : Output → List SetUnit → State
+waiting_with output sets = record { output = output; sets = sets; phase = waiting }
 
 -- units that are taken without a fault give no event, and decoding still waits
 events_after_sets : (us more : List Piece) (s : State) (ended : Bool) → s.phase ≡ waiting → All NoFault us
-    → events_from s (us ++ more) ended ≡ events_from (waiting_with (s.sets ++ set_units us)) more ended
+    → events_from s (us ++ more) ended ≡ events_from (waiting_with s.output (s.sets ++ set_units us)) more ended
 events_after_sets [] more s ended w n =
-    ap (λ p. events_from (record s { phase = p }) more ended) w ∙ ap (λ ss. events_from (waiting_with ss) more ended) (sym (append-nil s.sets))
+    ap (λ p. events_from (record s { phase = p }) more ended) w ∙ ap (λ ss. events_from (waiting_with s.output ss) more ended) (sym (append-nil s.sets))
 events_after_sets (u ∷ us) more s ended w n =
     ap (λ (x : Outcome). x.events ++ events_from (state_after s u x) (us ++ more) ended) (set_taken s u w (All-head NoFault u us n))
-    ∙ events_after_sets us more (waiting_with (s.sets ++ set_units (u ∷ []))) ended refl (All-tail NoFault u us n)
-    ∙ ap (λ ss. events_from (waiting_with ss) more ended) (sets-append s.sets _ (set_units us))
+    ∙ events_after_sets us more (waiting_with s.output (s.sets ++ set_units (u ∷ []))) ended refl (All-tail NoFault u us n)
+    ∙ ap (λ ss. events_from (waiting_with s.output ss) more ended) (sets-append s.sets _ (set_units us))
 
 -- ---- units with the same contents
 
@@ -293,13 +300,13 @@ shifted m k j = omega arith
 
 -- Units that bring the sets in force after `before` again, and then others: the events of these are those that they have behind `before`.
 resumes : SetsAreInForceAgain → SetsInForceAreUnits → SetsComeAlike
-    → (before others us : List Piece) (k : ℕ) (ended : Bool)
+    → (output : Output) (before others us : List Piece) (k : ℕ) (ended : Bool)
     → Numbered 0 us → Numbered k others
     → map contents us ≡ map contents (sets_in_force before) ++ map contents others
-    → (state_through first_state before).phase ≡ waiting
-    → events_from (state_through first_state before) others ended
-    ≡ map (renumbered (length (sets_in_force before)) k) (events_from first_state us ended)
-resumes again are come before others us k ended numbers later_numbers same waits =
+    → (state_through (first_state output) before).phase ≡ waiting
+    → events_from (state_through (first_state output) before) others ended
+    ≡ map (renumbered (length (sets_in_force before)) k) (events_from (first_state output) us ended)
+resumes again are come output before others us k ended numbers later_numbers same waits =
     let sets = sets_in_force before in
     let m = length sets in
     let r : ℕ → ℕ = λ n. n + k - m in
@@ -308,13 +315,13 @@ resumes again are come before others us k ended numbers later_numbers same waits
     let cut = cut-map contents m us (map contents sets) (map contents others) (length-map sets contents) same in
     let front_same = sym cut.front_same in
     let taken = All-weaker (IsSetOf before) NoFault (λ u i. i.no_fault) sets (are before) in
-    let start : State = waiting_with ([] ++ set_units front) in
-    let sets_same : sets_after (state_through first_state before).sets ≡ sets_after start.sets =
-    ap sets_after (sets_through first_state before) ∙ sym (again before) ∙ ap sets_after (sym (sets-like sets front front_same)) in
+    let start : State = waiting_with output ([] ++ set_units front) in
+    let sets_same : sets_after (state_through (first_state output) before).sets ≡ sets_after start.sets =
+    ap sets_after (sets_through (first_state output) before) ∙ sym (again before) ∙ ap sets_after (sym (sets-like sets front front_same)) in
     let renamed = alike r m k back others cut.back_same (numbered_later m us numbers) later_numbers (shifted m k) in
-    let behind = events_after_sets front back first_state ended refl (no_faults-like sets front front_same taken) in
-    events-same come r back others start (state_through first_state before) ended sets_same waits renamed
-    ∙ ap (map (renumbered_event r)) (sym behind ∙ ap (λ ps. events_from first_state ps ended) (take-append-drop m us))
+    let behind = events_after_sets front back (first_state output) ended refl (no_faults-like sets front front_same taken) in
+    events-same come r back others start (state_through (first_state output) before) ended (mode_through (first_state output) before) sets_same waits renamed
+    ∙ ap (map (renumbered_event r)) (sym behind ∙ ap (λ ps. events_from (first_state output) ps ended) (take-append-drop m us))
 
 -- ---- of bytes
 
@@ -365,7 +372,7 @@ numbers_are numbered few max bytes ended short n j u e =
 
 pub starts_anew : UnitsStay → WrittenUnitsStand → UnitsAreNumbered → UnitsAreFew → SetsAreInForceAgain → SetsInForceAreUnits
     → SetsComeAlike → StartsAnew
-starts_anew stay stand numbered few again are come max bytes ended k short starts =
+starts_anew stay stand numbered few again are come output max bytes ended k short starts =
     let s = stands_too stay max bytes ended k starts.unit starts.is_there in
     let all = units max bytes ended in
     let before = take k all in
@@ -376,7 +383,7 @@ starts_anew stay stand numbered few again are come max bytes ended k short start
     let same : map contents (units max (resumed max bytes k) ended) ≡ map contents (sets_in_force before) ++ map contents (drop k all) =
     ap (λ b. map contents (units max b ended)) (resumed_is max bytes ended k starts.unit s)
     ∙ stand max bytes ended (sets_in_force before) k starts.unit bytes_short sets starts.is_there in
-    resumes again are come before (drop k all) (units max (resumed max bytes k) ended) k ended
+    resumes again are come output before (drop k all) (units max (resumed max bytes k) ended) k ended
     (numbers_are numbered few max (resumed max bytes k) ended resumed_short 0)
     (numbers_are numbered few max bytes ended bytes_short k)
     same starts.waits

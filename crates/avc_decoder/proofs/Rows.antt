@@ -3,6 +3,8 @@ use Rattle.std.specs.Prelude.{◌≡◌, ℕ, Bool, true, false, List, [], ◌�
 use Rattle.std.specs.List.{range_with_len}
 use Rattle.avc_types.specs.declared.fault.Fault.{Fault}
 use Rattle.avc_types.specs.declared.fault.Fault.TheVariants as faults
+use Rattle.avc_dpb.specs.declared.output.Output.{Output}
+use Rattle.avc_dpb.specs.declared.output.Output.TheVariants.{Full, Early}
 use Rattle.avc_decoder.specs.Events.{events, turns}
 use Rattle.avc_decoder.specs.declared.event.Event.{Event}
 use Rattle.avc_decoder.specs.declared.event.Event.TheVariants.{Picture, Refused}
@@ -17,6 +19,10 @@ sps_small = 0 ∷ 0 ∷ 0 ∷ 1 ∷ 0x67 ∷ 0x42 ∷ 0xC0 ∷ 0x0A ∷ 0xDA ∷
 -- the same 32 samples wide
 abbrev sps_wide : List ℕ
 sps_wide = 0 ∷ 0 ∷ 0 ∷ 1 ∷ 0x67 ∷ 0x42 ∷ 0xC0 ∷ 0x0A ∷ 0xDA ∷ 0x2C ∷ 0x40 ∷ []
+
+-- that of sps_small with bitstream_restriction: max_num_reorder_frames 0, max_dec_frame_buffering 1
+abbrev sps_in_order : List ℕ
+sps_in_order = 0 ∷ 0 ∷ 0 ∷ 1 ∷ 0x67 ∷ 0x42 ∷ 0xC0 ∷ 0x0A ∷ 0xDA ∷ 0x72 ∷ 0x01 ∷ 0xFD ∷ 0x40 ∷ []
 
 -- no deblocking fields in slices
 abbrev pps_plain : List ℕ
@@ -58,6 +64,10 @@ second_mb = 0x42 ∷ 0x21 ∷ 0x21 ∷ 0xA0 ∷ []
 abbrev of_one : ℕ → List ℕ
 of_one sample = replicate 384 sample
 
+-- with no reordering: a picture, and the access unit delimiter that closes it
+abbrev picture_in_order : List ℕ
+picture_in_order = sps_in_order ++ pps_plain ++ pcm first_mb (of_one 64) ++ 0 ∷ 0 ∷ 1 ∷ 0x09 ∷ 0x10 ∷ []
+
 -- a refusal, or a picture by its first luma sample and the number of its luma samples
 data Seen : Type 0 where
   refusal : ℕ → Fault → Seen
@@ -67,8 +77,11 @@ abbrev seen : Event → Seen
 seen (Picture p) = shown (slice_index p.luma 0) (length p.luma)
 seen (Refused unit f) = refusal unit f
 
+abbrev seen_under : Output → List ℕ → Bool → List Seen
+seen_under output bytes ended = map seen (events output max bytes ended)
+
 abbrev seen_all : List ℕ → Bool → List Seen
-seen_all bytes ended = map seen (events max bytes ended)
+seen_all bytes ended = seen_under Full bytes ended
 
 -- ---- units and parameter sets
 
@@ -85,12 +98,12 @@ forbidden = refl
 profile : seen_all (0 ∷ 0 ∷ 0 ∷ 1 ∷ 0x67 ∷ 0x64 ∷ 0x00 ∷ 0x0A ∷ 0xDA ∷ 0x71 ∷ []) true ≡ refusal 0 faults.Profile ∷ []
 profile = refl
 
-too_long : map seen (events 5 (sets ++ idr) true) ≡ refusal 0 faults.NalTooLong ∷ refusal 2 faults.NoParameterSet ∷ []
+too_long : map seen (events Full 5 (sets ++ idr) true) ≡ refusal 0 faults.NalTooLong ∷ refusal 2 faults.NoParameterSet ∷ []
 too_long = refl
 
 -- ---- pictures
 
-rising : events max (sets ++ pcm first_mb (range_with_len 0 256 ++ replicate 64 0x40 ++ replicate 64 0xC0)) true
+rising : events Full max (sets ++ pcm first_mb (range_with_len 0 256 ++ replicate 64 0x40 ++ replicate 64 0xC0)) true
     ≡ Picture (record {
       width = 16;
       height = 16;
@@ -112,6 +125,19 @@ dropped = refl
 -- none goes out before the next picture or the end
 held_back : seen_all (sets ++ pcm first_mb (of_one 64) ++ 0 ∷ 0 ∷ 1 ∷ []) false ≡ []
 held_back = refl
+
+-- where no picture is reordered, early output gives each picture once it is closed
+early : seen_under Early (picture_in_order ++ 0 ∷ 0 ∷ 1 ∷ []) false ≡ shown 64 256 ∷ []
+early = refl
+
+early_at_end : seen_under Early picture_in_order true ≡ shown 64 256 ∷ []
+early_at_end = refl
+
+not_early : seen_under Full (picture_in_order ++ 0 ∷ 0 ∷ 1 ∷ []) false ≡ []
+not_early = refl
+
+at_end : seen_under Full picture_in_order true ≡ shown 64 256 ∷ []
+at_end = refl
 
 waits : seen_all (sets ++ skipping ++ pcm first_mb (of_one 80)) true ≡ shown 80 256 ∷ []
 waits = refl
@@ -147,15 +173,15 @@ truncated = refl
 
 -- ---- the macroblocks that are read
 
-one_macroblock : turns max (sets ++ pcm first_mb (of_one 80)) true ≡ 1
+one_macroblock : turns Full max (sets ++ pcm first_mb (of_one 80)) true ≡ 1
 one_macroblock = refl
 
-two_in_two_slices : turns max (sps_wide ++ pps_plain ++ pcm first_mb (of_one 80) ++ pcm second_mb (of_one 90)) true ≡ 2
+two_in_two_slices : turns Full max (sps_wide ++ pps_plain ++ pcm first_mb (of_one 80) ++ pcm second_mb (of_one 90)) true ≡ 2
 two_in_two_slices = refl
 
-two_pictures_of_one : turns max (sets ++ pcm first_mb (of_one 80) ++ skipping) true ≡ 2
+two_pictures_of_one : turns Full max (sets ++ pcm first_mb (of_one 80) ++ skipping) true ≡ 2
 two_pictures_of_one = refl
 
 -- a slice that is refused for its address adds none
-none_out_of_order : turns max (sps_wide ++ pps_plain ++ pcm first_mb (of_one 80) ++ pcm second_mb (of_one 80) ++ pcm second_mb (of_one 80)) true ≡ 2
+none_out_of_order : turns Full max (sps_wide ++ pps_plain ++ pcm first_mb (of_one 80) ++ pcm second_mb (of_one 80) ++ pcm second_mb (of_one 80)) true ≡ 2
 none_out_of_order = refl

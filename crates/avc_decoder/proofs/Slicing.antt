@@ -11,7 +11,7 @@ use Rattle.avc_slice.specs.declared.slice.Slice.{Slice}
 use Rattle.avc_plane.specs.declared.frame.Frame.{Frame}
 use Rattle.avc_picture.specs.Slices.{progress}
 use Rattle.avc_picture.specs.Decoding.{Decoding, HasNoFault, no_slice_yet, with_slice_more}
-use Rattle.avc_dpb.specs.declared.output.Output.TheVariants.{Full}
+use Rattle.avc_dpb.specs.declared.output.Output.{Output}
 use Rattle.avc_decoder_core.specs.History.{History, buffer_of, history_at_opening, stored_frames}
 use Rattle.avc_decoder_core.specs.Laws.{MissingNumbersKeepTheOrder}
 use Rattle.avc_decoder_core.specs.Pictures.{held_pictures, pictures_at, output_pictures}
@@ -25,47 +25,48 @@ use Rattle.avc_decoder.specs.declared.event.Event.TheVariants.{Picture, Refused}
 use Rattle.avc_decoder.proofs.Closing.{opened_as, stands_as, well_at}
 
 -- nothing goes out where the history stays
-pub released_same : (h : History) → output_pictures Full h h ≡ []
-released_same h = ap (pictures_at h) (drop-length (buffer_of Full h).out)
+pub released_same : (output : Output) (h : History) → output_pictures output h h ≡ []
+released_same output h = ap (pictures_at h) (drop-length (buffer_of output h).out)
 
-with_slice_well : (before : History) (already : ℕ) (o : OpenPicture) → first_fault o false ≡ None
-    → with_slice before already o ≡ record { events = pictures (output_pictures Full before (history_of o)); phase = running o.before (Some o); read = read_of o - already }
-with_slice_well before already o e = ap (λ x. elim x [
-  | Some found ↦ failed_at before found.0 found.1 (read_of o - already)
-  | None ↦ record { events = pictures (output_pictures Full before (history_of o)); phase = running o.before (Some o); read = read_of o - already }
+with_slice_well : (output : Output) (before : History) (already : ℕ) (o : OpenPicture) → first_fault o false ≡ None
+    → with_slice output before already o ≡ record { events = pictures (output_pictures output before (history_of o)); phase = running o.before (Some o); read = read_of o - already }
+with_slice_well output before already o e = ap (λ x. elim x [
+  | Some found ↦ failed_at output before found.0 found.1 (read_of o - already)
+  | None ↦ record { events = pictures (output_pictures output before (history_of o)); phase = running o.before (Some o); read = read_of o - already }
 ]) e
 
-with_slice_faulty : (before : History) (already unit : ℕ) (f : Fault) (o : OpenPicture) → first_fault o false ≡ Some (unit, f) → with_slice before already o ≡ failed_at before unit f (read_of o - already)
-with_slice_faulty before already unit f o e = ap (λ x. elim x [
-  | Some found ↦ failed_at before found.0 found.1 (read_of o - already)
-  | None ↦ record { events = pictures (output_pictures Full before (history_of o)); phase = running o.before (Some o); read = read_of o - already }
+with_slice_faulty : (output : Output) (before : History) (already unit : ℕ) (f : Fault) (o : OpenPicture) → first_fault o false ≡ Some (unit, f) → with_slice output before already o ≡ failed_at output before unit f (read_of o - already)
+with_slice_faulty output before already unit f o e = ap (λ x. elim x [
+  | Some found ↦ failed_at output before found.0 found.1 (read_of o - already)
+  | None ↦ record { events = pictures (output_pictures output before (history_of o)); phase = running o.before (Some o); read = read_of o - already }
 ]) e
 
 -- A slice has come to this outcome.
-pub record Goes (x : Outcome) (picture : Option (Decoding 32)) (read : ℕ) (q : QueueState) (unit : ℕ) (s' : SequenceState) (q' : QueueState) : Type 0 where
+pub record Goes (output : Output) (x : Outcome) (picture : Option (Decoding 32)) (read : ℕ) (q : QueueState) (unit : ℕ) (s' : SequenceState) (q' : QueueState) : Type 0 where
   pub fault : is_none picture ≡ is_waiting x.phase
-  pub state : HasOutcome x q unit picture read s' q'
+  pub state : HasOutcome output x q unit picture read s' q'
 
 -- no fault: what missing numbers before the picture let out has gone out
-well_goes : (before after : History) (already read : ℕ) (o : OpenPicture) (x : Outcome) (d' : Decoding 32) (q q' : QueueState) (s' : SequenceState) → x ≡ with_slice before already o → Stands o after → first_fault o false ≡ None
-    → IsOpenIn s' (o.last).unit d' → s'.output ≡ Full → s'.history ≡ o.before → open_picture_of s'.history (Some d') ≡ Some o → q' ≡ with_events (pictures (output_pictures Full before after)) q → read ≡ read_of o - already → Goes x (Some d') read q (o.last).unit s' q'
-well_goes before after already read o x d' q q' s' ex st none w mode eh eo eq er =
-    rw (ex, with_slice_well before already o none) (record {
+well_goes : (output : Output) (before after : History) (already read : ℕ) (o : OpenPicture) (x : Outcome) (d' : Decoding 32) (q q' : QueueState) (s' : SequenceState) → x ≡ with_slice output before already o → Stands o after → first_fault o false ≡ None
+    → IsOpenIn s' (o.last).unit d' → s'.output ≡ output → s'.history ≡ o.before → open_picture_of s'.history (Some d') ≡ Some o → q' ≡ with_events (pictures (output_pictures output before after)) q → read ≡ read_of o - already → Goes output x (Some d') read q (o.last).unit s' q'
+well_goes output before after already read o x d' q q' s' ex st none w mode eh eo eq er =
+    rw (ex, with_slice_well output before already o none) (record {
       fault = refl;
       state = record {
-        works = record { works = w; mode = mode };
+        works = w;
+        mode = mode;
         history = eh;
         open_picture = eo;
         count = er;
-        queue = eq ∙ ap (λ h. with_events (pictures (output_pictures Full before h)) q) (sym (history_is o after st));
+        queue = eq ∙ ap (λ h. with_events (pictures (output_pictures output before h)) q) (sym (history_is o after st));
       };
     })
 
 -- a fault
-faulty_goes : (before : History) (already read unit : ℕ) (f : Fault) (o : OpenPicture) (x : Outcome) (q q' : QueueState) (s' : SequenceState) → x ≡ with_slice before already o → first_fault o false ≡ Some (unit, f)
-    → s' ≡ empty_sequence Full → q' ≡ with_events (failed_at before unit f 0).events q → read ≡ read_of o - already → Goes x None read q unit s' q'
-faulty_goes before already read unit f o x q q' s' ex found es eq er =
-    rw (ex, with_slice_faulty before already unit f o found, es, eq) (record { fault = refl; state = record { works = record { works = (refl, refl); mode = refl }; history = refl; open_picture = refl; count = er; queue = refl } })
+faulty_goes : (output : Output) (before : History) (already read unit : ℕ) (f : Fault) (o : OpenPicture) (x : Outcome) (q q' : QueueState) (s' : SequenceState) → x ≡ with_slice output before already o → first_fault o false ≡ Some (unit, f)
+    → s' ≡ empty_sequence output → q' ≡ with_events (failed_at output before unit f 0).events q → read ≡ read_of o - already → Goes output x None read q unit s' q'
+faulty_goes output before already read unit f o x q q' s' ex found es eq er =
+    rw (ex, with_slice_faulty output before already unit f o found, es, eq) (record { fault = refl; state = record { works = (refl, refl); mode = refl; history = refl; open_picture = refl; count = er; queue = refl } })
 
 -- ---- a further slice
 
@@ -73,11 +74,11 @@ abbrev with_last : Slice → OpenPicture → OpenPicture
 with_last slice o = record o { last = slice; earlier = o.last ∷ o.earlier }
 
 abbrev GoesAs : SequenceState → Decoding 32 → Slice → Option (Decoding 32) → ℕ → QueueState → SequenceState → QueueState → List Slice → Type 0
-GoesAs s d slice picture read q s' q' slices = Goes (after_next_slice (running s.history (open_picture_from s.history d.sps d.pps slices)) slice) picture read q slice.unit s' q'
+GoesAs s d slice picture read q s' q' slices = Goes s.output (after_next_slice s.output (running s.history (open_picture_from s.history d.sps d.pps slices)) slice) picture read q slice.unit s' q'
 
 -- no event
-no_more : (h : History) (q : QueueState) → q ≡ with_events (pictures (output_pictures Full h h)) q
-no_more h q = sym (ap (λ out. with_events (pictures out) q) (released_same h) ∙ ap (λ es. record q { events = es }) (append-nil q.events))
+no_more : (output : Output) (h : History) (q : QueueState) → q ≡ with_events (pictures (output_pictures output h h)) q
+no_more output h q = sym (ap (λ out. with_events (pictures out) q) (released_same output h) ∙ ap (λ es. record q { events = es }) (append-nil q.events))
 
 -- what one slice more adds to what was read
 read_further : (s : SequenceState) (unit : ℕ) (d : Decoding 32) (slice : Slice) (w : IsOpenIn s unit d) → let o = opened_as s d w.last w.earlier in
@@ -92,9 +93,9 @@ read_further s unit d slice w =
     ∙ ap (λ n. n - (progress_on o h).read) (sym (read_is o' h st'))
     ∙ ap (λ n. read_of o' - n) (sym (read_is o h (stands_as s unit d w)))
 
-further_well : (s : SequenceState) (q : QueueState) (unit : ℕ) (d : Decoding 32) (slice : Slice) (w : IsOpenIn s unit d) → s.output ≡ Full → HasItsFrames s slice.header (with_slice_more slice d) → HasNoFault (with_slice_more slice d)
+further_well : (s : SequenceState) (q : QueueState) (unit : ℕ) (d : Decoding 32) (slice : Slice) (w : IsOpenIn s unit d) → HasItsFrames s slice.header (with_slice_more slice d) → HasNoFault (with_slice_more slice d)
     → GoesAs s d slice (Some (with_slice_more slice d)) (read_of_slice (current_history s) d slice) q s q (w.last ∷ w.earlier)
-further_well s q unit d slice w mode frames well =
+further_well s q unit d slice w frames well =
     let o = opened_as s d w.last w.earlier in
     let o' = with_last slice o in
     let h = current_history s in
@@ -114,36 +115,36 @@ further_well s q unit d slice w mode frames well =
       stands = w.stands;
     } in
     let none = no_fault o' h st' (well_at s slice.unit (with_slice_more slice d) open') in
-    well_goes h h (read_of o) _ o' (with_slice (history_of o) (read_of o) o') (with_slice_more slice d) q q s (ap (λ h. with_slice h (read_of o) o') (history_is o h (stands_as s unit d w))) st' none open' mode refl
-    (ap (open_picture_from s.history d.sps d.pps) all) (no_more h q) (read_further s unit d slice w)
+    well_goes s.output h h (read_of o) _ o' (with_slice s.output (history_of o) (read_of o) o') (with_slice_more slice d) q q s (ap (λ h. with_slice s.output h (read_of o) o') (history_is o h (stands_as s unit d w))) st' none open' refl refl
+    (ap (open_picture_from s.history d.sps d.pps) all) (no_more s.output h q) (read_further s unit d slice w)
 
 further_faulty : (s : SequenceState) (q : QueueState) (unit : ℕ) (d : Decoding 32) (slice : Slice) (f : Fault) (w : IsOpenIn s unit d) → IsRefused (current_history s) (with_slice_more slice d) slice f
-    → GoesAs s d slice None (read_of_slice (current_history s) d slice) q (empty_sequence Full) (with_events (failed_at (current_history s) slice.unit f 0).events q) (w.last ∷ w.earlier)
+    → GoesAs s d slice None (read_of_slice (current_history s) d slice) q (empty_sequence s.output) (with_events (failed_at s.output (current_history s) slice.unit f 0).events q) (w.last ∷ w.earlier)
 further_faulty s q unit d slice f w r =
     let o = opened_as s d w.last w.earlier in
     let o' = with_last slice o in
     let st' : Stands o' (current_history s) = record { first = w.first; stands = w.stands } in
     let frames = stored_frames (current_history s) in
     let found = ap (λ ss. (progress (start_with frames d) (slice ∷ ss)).fault) (sym w.slices) ∙ r in
-    faulty_goes (current_history s) (read_of o) _ slice.unit f o' (with_slice (history_of o) (read_of o) o') q _ (empty_sequence Full) (ap (λ h. with_slice h (read_of o) o') (history_is o (current_history s) (stands_as s unit d w)))
+    faulty_goes s.output (current_history s) (read_of o) _ slice.unit f o' (with_slice s.output (history_of o) (read_of o) o') q _ (empty_sequence s.output) (ap (λ h. with_slice s.output h (read_of o) o') (history_is o (current_history s) (stands_as s unit d w)))
     (slice_fault o' (current_history s) false (slice.unit, f) st' found) refl refl (read_further s unit d slice w)
 
-pub further_slice : (s s' : SequenceState) (q q' : QueueState) (unit : ℕ) (d : Decoding 32) (slice : Slice) (picture : Option (Decoding 32)) (read : ℕ) → IsOpenIn s unit d → s.output ≡ Full → Decodes d slice s q picture s' q' → read ≡ read_of_slice (current_history s) d slice
-    → Goes (after_next_slice (running s.history (open_picture_of s.history (Some d))) slice) picture read q slice.unit s' q'
-further_slice s s' q q' unit d slice (Some d') read w mode k er =
-    rw (k.1, k.4, k.5, er) (subst (GoesAs s d slice (Some (with_slice_more slice d)) (read_of_slice (current_history s) d slice) q s q) (sym w.slices) (further_well s q unit d slice w mode (subst (HasItsFrames s slice.header) k.1 k.2) (subst HasNoFault k.1 k.3)))
-further_slice s s' q q' unit d slice None read w mode k er =
-    rw (k.2, k.3, er) (subst (GoesAs s d slice None (read_of_slice (current_history s) d slice) q (empty_sequence Full) (with_events (failed_at (current_history s) slice.unit k.0 0).events q)) (sym w.slices) (further_faulty s q unit d slice k.0 w k.1))
+pub further_slice : (s s' : SequenceState) (q q' : QueueState) (unit : ℕ) (d : Decoding 32) (slice : Slice) (picture : Option (Decoding 32)) (read : ℕ) → IsOpenIn s unit d → Decodes d slice s q picture s' q' → read ≡ read_of_slice (current_history s) d slice
+    → Goes s.output (after_next_slice s.output (running s.history (open_picture_of s.history (Some d))) slice) picture read q slice.unit s' q'
+further_slice s s' q q' unit d slice (Some d') read w k er =
+    rw (k.1, k.4, k.5, er) (subst (GoesAs s d slice (Some (with_slice_more slice d)) (read_of_slice (current_history s) d slice) q s q) (sym w.slices) (further_well s q unit d slice w (subst (HasItsFrames s slice.header) k.1 k.2) (subst HasNoFault k.1 k.3)))
+further_slice s s' q q' unit d slice None read w k er =
+    rw (k.2, k.3, er) (subst (GoesAs s d slice None (read_of_slice (current_history s) d slice) q (empty_sequence s.output) (with_events (failed_at s.output (current_history s) slice.unit k.0 0).events q)) (sym w.slices) (further_faulty s q unit d slice k.0 w k.1))
 
 -- ---- the first slice
 
-first_well : (s : SequenceState) (q : QueueState) (sps : Sps) (pps : Pps) (frames all : List (Frame 32)) (slice : Slice) → s.failed ≡ false → s.output ≡ Full → (slice.header).first_mb_in_slice ≡ 0
+first_well : (s : SequenceState) (q : QueueState) (sps : Sps) (pps : Pps) (frames all : List (Frame 32)) (slice : Slice) → s.failed ≡ false → (slice.header).first_mb_in_slice ≡ 0
     → history_at_opening sps slice.header s.history ≡ Ok (current_history (with_open_picture sps slice.header all s))
     → HasItsFrames (with_open_picture sps slice.header all s) slice.header (with_slice_more slice (no_slice_yet sps pps frames)) → HasNoFault (with_slice_more slice (no_slice_yet sps pps frames))
-    → Goes (after_first_slice (Some (pps, sps)) s.history slice) (Some (with_slice_more slice (no_slice_yet sps pps frames)))
+    → Goes s.output (after_first_slice s.output (Some (pps, sps)) s.history slice) (Some (with_slice_more slice (no_slice_yet sps pps frames)))
     (read_of_slice (current_history (with_open_picture sps slice.header all s)) (no_slice_yet sps pps frames) slice) q slice.unit (with_open_picture sps slice.header all s)
-    (with_events (pictures (output_pictures Full s.history (current_history (with_open_picture sps slice.header all s)))) q)
-first_well s q sps pps frames all slice on mode first stands has well =
+    (with_events (pictures (output_pictures s.output s.history (current_history (with_open_picture sps slice.header all s)))) q)
+first_well s q sps pps frames all slice on first stands has well =
     let s1 = with_open_picture sps slice.header all s in
     let d' = with_slice_more slice (no_slice_yet sps pps frames) in
     let o : OpenPicture = record { before = s.history; sps = sps; pps = pps; last = slice; earlier = [] } in
@@ -162,38 +163,38 @@ first_well s q sps pps frames all slice on mode first stands has well =
       stands = stands;
     } in
     let none = no_fault o (current_history s1) st (well_at s1 slice.unit d' open') in
-    well_goes s.history (current_history s1) 0 _ o (with_slice s.history 0 o) d' q _ s1 refl st none open' mode refl refl refl (ap (λ n. n - 0) (sym (read_is o (current_history s1) st)))
+    well_goes s.output s.history (current_history s1) 0 _ o (with_slice s.output s.history 0 o) d' q _ s1 refl st none open' refl refl refl refl (ap (λ n. n - 0) (sym (read_is o (current_history s1) st)))
 
 -- what the missing numbers let out, and what was held then
-together : MissingNumbersKeepTheOrder → (sps : Sps) (slice : Slice) (h full : History) (unit : ℕ) (f : Fault) (q : QueueState) → history_at_opening sps slice.header h ≡ Ok full
-    → with_events (failed_at full unit f 0).events (with_events (pictures (output_pictures Full h full)) q) ≡ with_events (failed_at h unit f 0).events q
-together law sps slice h full unit f q e =
-    let held = ap pictures (law Full sps slice.header h full e) ∙ map-append (λ p. Picture p) (output_pictures Full h full) (held_pictures Full full) in
+together : MissingNumbersKeepTheOrder → (output : Output) (sps : Sps) (slice : Slice) (h full : History) (unit : ℕ) (f : Fault) (q : QueueState) → history_at_opening sps slice.header h ≡ Ok full
+    → with_events (failed_at output full unit f 0).events (with_events (pictures (output_pictures output h full)) q) ≡ with_events (failed_at output h unit f 0).events q
+together law output sps slice h full unit f q e =
+    let held = ap pictures (law output sps slice.header h full e) ∙ map-append (λ p. Picture p) (output_pictures output h full) (held_pictures output full) in
     let refusal = Refused unit f ∷ [] in
     ap (λ es. record q { events = es })
-    (append_assoc q.events (pictures (output_pictures Full h full)) (pictures (held_pictures Full full) ++ refusal)
-    ∙ ap (λ es. q.events ++ es) (sym (append_assoc (pictures (output_pictures Full h full)) (pictures (held_pictures Full full)) refusal))
+    (append_assoc q.events (pictures (output_pictures output h full)) (pictures (held_pictures output full) ++ refusal)
+    ∙ ap (λ es. q.events ++ es) (sym (append_assoc (pictures (output_pictures output h full)) (pictures (held_pictures output full)) refusal))
     ∙ ap (λ es. q.events ++ (es ++ refusal)) (sym held))
 
 first_faulty : MissingNumbersKeepTheOrder → (s : SequenceState) (q : QueueState) (sps : Sps) (pps : Pps) (frames : List (Frame 32)) (slice : Slice) (h : History) (f : Fault) → (slice.header).first_mb_in_slice ≡ 0
     → history_at_opening sps slice.header s.history ≡ Ok h → IsRefused h (with_slice_more slice (no_slice_yet sps pps frames)) slice f
-    → Goes (after_first_slice (Some (pps, sps)) s.history slice) None (read_of_slice h (no_slice_yet sps pps frames) slice) q slice.unit (empty_sequence Full) (with_events (failed_at h slice.unit f 0).events (with_events (pictures (output_pictures Full s.history h)) q))
+    → Goes s.output (after_first_slice s.output (Some (pps, sps)) s.history slice) None (read_of_slice h (no_slice_yet sps pps frames) slice) q slice.unit (empty_sequence s.output) (with_events (failed_at s.output h slice.unit f 0).events (with_events (pictures (output_pictures s.output s.history h)) q))
 first_faulty law s q sps pps frames slice h f first stands r =
     let o : OpenPicture = record { before = s.history; sps = sps; pps = pps; last = slice; earlier = [] } in
     let st : Stands o h = record { first = first; stands = stands } in
-    faulty_goes s.history 0 _ slice.unit f o (with_slice s.history 0 o) q _ (empty_sequence Full) refl (slice_fault o h false (slice.unit, f) st r) refl (together law sps slice s.history h slice.unit f q stands) (ap (λ n. n - 0) (sym (read_is o h st)))
+    faulty_goes s.output s.history 0 _ slice.unit f o (with_slice s.output s.history 0 o) q _ (empty_sequence s.output) refl (slice_fault o h false (slice.unit, f) st r) refl (together law s.output sps slice s.history h slice.unit f q stands) (ap (λ n. n - 0) (sym (read_is o h st)))
 
 pub first_slice : MissingNumbersKeepTheOrder → (s s1 s' : SequenceState) (q q1 q' : QueueState) (sps : Sps) (pps : Pps) (frames : List (Frame 32)) (slice : Slice) (out : List Decoded) (d : Decoding 32) (picture : Option (Decoding 32)) (read : ℕ)
-    → s.output ≡ Full → (slice.header).first_mb_in_slice ≡ 0 → IsOpened s sps slice.header out s1 → q1 ≡ with_events (pictures out) q → d ≡ no_slice_yet sps pps frames → Decodes d slice s1 q1 picture s' q' → read ≡ read_of_slice (current_history s1) d slice
-    → Goes (after_first_slice (Some (pps, sps)) s.history slice) picture read q slice.unit s' q'
-first_slice law s s1 s' q q1 q' sps pps frames slice out d picture read mode first i eq ed k er =
-    rw (rw (i.state, ed) at er) (by_picture picture (rw (eq, i.pictures, mode, i.state, ed) at k) (rw i.state at i.stands))
+    → (slice.header).first_mb_in_slice ≡ 0 → IsOpened s sps slice.header out s1 → q1 ≡ with_events (pictures out) q → d ≡ no_slice_yet sps pps frames → Decodes d slice s1 q1 picture s' q' → read ≡ read_of_slice (current_history s1) d slice
+    → Goes s.output (after_first_slice s.output (Some (pps, sps)) s.history slice) picture read q slice.unit s' q'
+first_slice law s s1 s' q q1 q' sps pps frames slice out d picture read first i eq ed k er =
+    rw (rw (i.state, ed) at er) (by_picture picture (rw (eq, i.pictures, i.state, ed) at k) (rw i.state at i.stands))
   where
     opened : SequenceState
     opened = with_open_picture sps slice.header s1.frames s
 
-    by_picture : (p : Option (Decoding 32)) → Decodes (no_slice_yet sps pps frames) slice opened (with_events (pictures (output_pictures Full s.history (current_history opened))) q) p s' q'
-        → history_at_opening sps slice.header s.history ≡ Ok (current_history opened) → Goes (after_first_slice (Some (pps, sps)) s.history slice) p (read_of_slice (current_history opened) (no_slice_yet sps pps frames) slice) q slice.unit s' q'
+    by_picture : (p : Option (Decoding 32)) → Decodes (no_slice_yet sps pps frames) slice opened (with_events (pictures (output_pictures s.output s.history (current_history opened))) q) p s' q'
+        → history_at_opening sps slice.header s.history ≡ Ok (current_history opened) → Goes s.output (after_first_slice s.output (Some (pps, sps)) s.history slice) p (read_of_slice (current_history opened) (no_slice_yet sps pps frames) slice) q slice.unit s' q'
     by_picture (Some d') k stands =
-        rw (k.1, k.4, k.5) (first_well s q sps pps frames s1.frames slice i.going mode first stands (subst (HasItsFrames opened slice.header) k.1 k.2) (subst HasNoFault k.1 k.3))
+        rw (k.1, k.4, k.5) (first_well s q sps pps frames s1.frames slice i.going first stands (subst (HasItsFrames opened slice.header) k.1 k.2) (subst HasNoFault k.1 k.3))
     by_picture None k stands = rw (k.2, k.3) (first_faulty law s q sps pps frames slice (current_history opened) k.0 first stands k.1)

@@ -25,7 +25,7 @@ use Rattle.avc_units.specs.Grouping.{step}
 use Rattle.avc_units.specs.declared.step.Next.{Next}
 use Rattle.avc_units.specs.declared.step.Next.TheVariants.{Nothing, Refusal, FaultOfOpen, FaultOfOwn, Begins, Continues}
 use Rattle.avc_units.specs.declared.step.Step.{Step}
-use Rattle.avc_dpb.specs.declared.output.Output.TheVariants.{Full}
+use Rattle.avc_dpb.specs.declared.output.Output.{Output}
 use Rattle.avc_decoder_core.specs.History.{◌>>=◌, is_same_sps, with_missing, with_order_counts, Entry, decoded_picture, missing_frame, History, new_output, all_held, entry_at, pasts, marking_entries, marks_of, picture_entry, history_at_opening, history_after_closing, sequence_sps}
 use Rattle.avc_decoder_core.specs.Pictures.{crop_of, picture_of, entry_pictures, pictures_at, output_pictures, held_pictures}
 use Rattle.avc_decoder.specs.FirstFault.{OpenPicture, first_header, first_fault, history_at_opening_of, history_of, read_of, picture_planes, closed_history, start_on, slices_of}
@@ -200,25 +200,25 @@ GoodPhase (running h (Some o)) = AllGood h × GoodOpen o
 abbrev GoodOutcome : Outcome → Type 0
 GoodOutcome o = AllWhole o.events × GoodPhase o.phase
 
-failed_good : (h : History) (unit : ℕ) (f : Fault) (read : ℕ) → AllGood h → GoodOutcome (failed_at h unit f read)
-failed_good h unit f read g = (whole-append (pictures (held_pictures Full h)) (Refused unit f ∷ []) (pictures_whole h (all_held Full h) g) (tt, tt), tt)
+failed_good : (output : Output) (h : History) (unit : ℕ) (f : Fault) (read : ℕ) → AllGood h → GoodOutcome (failed_at output h unit f read)
+failed_good output h unit f read g = (whole-append (pictures (held_pictures output h)) (Refused unit f ∷ []) (pictures_whole h (all_held output h) g) (tt, tt), tt)
 
-closed_good : PicturesAreSized → (o : OpenPicture) → GoodOpen o → GoodOutcome (closed_picture o)
-closed_good sized o g = by_closing (closing_result o) (good_closing sized o g)
+closed_good : PicturesAreSized → (output : Output) (o : OpenPicture) → GoodOpen o → GoodOutcome (closed_picture output o)
+closed_good sized output o g = by_closing (closing_result o) (good_closing sized o g)
   where
-    by_closing : (r : Result History (ℕ × Fault)) → ((h : History) → r ≡ Ok h → AllGood h) → GoodOutcome (closed_outcome o r)
-    by_closing (Ok h) good = (pictures_whole h (new_output Full (history_of o) h) (good h refl), good h refl)
-    by_closing (Err found) good = failed_good (history_of o) found.0 found.1 0 (good_history_of o g)
+    by_closing : (r : Result History (ℕ × Fault)) → ((h : History) → r ≡ Ok h → AllGood h) → GoodOutcome (closed_outcome output o r)
+    by_closing (Ok h) good = (pictures_whole h (new_output output (history_of o) h) (good h refl), good h refl)
+    by_closing (Err found) good = failed_good output (history_of o) found.0 found.1 0 (good_history_of o g)
 
-with_slice_good : (before : History) (already : ℕ) (o : OpenPicture) → AllGood before → GoodOpen o → GoodOutcome (with_slice before already o)
-with_slice_good before already o b g = by_fault (first_fault o false)
+with_slice_good : (output : Output) (before : History) (already : ℕ) (o : OpenPicture) → AllGood before → GoodOpen o → GoodOutcome (with_slice output before already o)
+with_slice_good output before already o b g = by_fault (first_fault o false)
   where
     by_fault : (f : Option (ℕ × Fault)) → GoodOutcome (elim f [
-      | Some found ↦ failed_at before found.0 found.1 (read_of o - already)
-      | None ↦ record { events = pictures (output_pictures Full before (history_of o)); phase = running o.before (Some o); read = read_of o - already }
+      | Some found ↦ failed_at output before found.0 found.1 (read_of o - already)
+      | None ↦ record { events = pictures (output_pictures output before (history_of o)); phase = running o.before (Some o); read = read_of o - already }
     ])
-    by_fault (Some found) = failed_good before found.0 found.1 (read_of o - already) b
-    by_fault None = (pictures_whole (history_of o) (new_output Full before (history_of o)) (good_history_of o g), (g.0, g))
+    by_fault (Some found) = failed_good output before found.0 found.1 (read_of o - already) b
+    by_fault None = (pictures_whole (history_of o) (new_output output before (history_of o)) (good_history_of o g), (g.0, g))
 
 -- ---- one unit
 
@@ -237,10 +237,10 @@ good_named keeps units hd = by_pps ((sets_after units).pps hd.pic_parameter_set_
     by_pps None = tt
     by_pps (Some pps) = by_sps pps ((sets_after units).sps pps.seq_parameter_set_id) (λ sps same. (keeps units pps.seq_parameter_set_id sps same).within)
 
-begun_good : (named : Option (Pps × Sps)) (before : History) (s : Slice) → GoodNamed named → AllGood before → GoodOutcome (after_first_slice named before s)
-begun_good None before s n b = (tt, b)
-begun_good (Some named) before s n b =
-    with_slice_good before 0 (record { before = before; sps = named.1; pps = named.0; last = s; earlier = [] }) b (b, n)
+begun_good : (output : Output) (named : Option (Pps × Sps)) (before : History) (s : Slice) → GoodNamed named → AllGood before → GoodOutcome (after_first_slice output named before s)
+begun_good output None before s n b = (tt, b)
+begun_good output (Some named) before s n b =
+    with_slice_good output before 0 (record { before = before; sps = named.1; pps = named.0; last = s; earlier = [] }) b (b, n)
 
 good_base : (p : Phase) → GoodPhase p → AllGood (base_in p)
 good_base waiting g = tt
@@ -252,62 +252,62 @@ good_history_in waiting g = tt
 good_history_in (running h None) g = g
 good_history_in (running h (Some o)) g = good_history_of o g.1
 
-continued_good : (p : Phase) (s : Slice) → GoodPhase p → GoodOutcome (after_next_slice p s)
-continued_good waiting s g = (tt, g)
-continued_good (running h None) s g = (tt, g)
-continued_good (running h (Some o)) s g =
-    with_slice_good (history_of o) (read_of o) (record o { last = s; earlier = o.last ∷ o.earlier }) (good_history_of o g.1) g.1
+continued_good : (output : Output) (p : Phase) (s : Slice) → GoodPhase p → GoodOutcome (after_next_slice output p s)
+continued_good output waiting s g = (tt, g)
+continued_good output (running h None) s g = (tt, g)
+continued_good output (running h (Some o)) s g =
+    with_slice_good output (history_of o) (read_of o) (record o { last = s; earlier = o.last ∷ o.earlier }) (good_history_of o g.1) g.1
 
-after_next_good : SpsInForceKeepsLimits → (units : List SetUnit) (unit : ℕ) (p : Phase) (next : Next) → GoodPhase p → GoodOutcome (after_next (sets_after units) unit p next)
-after_next_good keeps units unit p Nothing g = (tt, g)
-after_next_good keeps units unit p (Refusal f) g = ((tt, tt), g)
-after_next_good keeps units unit p (FaultOfOpen f) g = failed_good (history_in p) unit f 0 (good_history_in p g)
-after_next_good keeps units unit p (FaultOfOwn f) g = failed_good (history_in p) unit f 0 (good_history_in p g)
-after_next_good keeps units unit p (Begins s) g = begun_good (sets_named (sets_after units) s.header) (base_in p) s (good_named keeps units s.header) (good_base p g)
-after_next_good keeps units unit p (Continues s) g = continued_good p s g
+after_next_good : SpsInForceKeepsLimits → (output : Output) (units : List SetUnit) (unit : ℕ) (p : Phase) (next : Next) → GoodPhase p → GoodOutcome (after_next output (sets_after units) unit p next)
+after_next_good keeps output units unit p Nothing g = (tt, g)
+after_next_good keeps output units unit p (Refusal f) g = ((tt, tt), g)
+after_next_good keeps output units unit p (FaultOfOpen f) g = failed_good output (history_in p) unit f 0 (good_history_in p g)
+after_next_good keeps output units unit p (FaultOfOwn f) g = failed_good output (history_in p) unit f 0 (good_history_in p g)
+after_next_good keeps output units unit p (Begins s) g = begun_good output (sets_named (sets_after units) s.header) (base_in p) s (good_named keeps units s.header) (good_base p g)
+after_next_good keeps output units unit p (Continues s) g = continued_good output p s g
 
 then_good : (a b : Outcome) → GoodOutcome a → GoodOutcome b → GoodOutcome (followed_by a b)
 then_good a b g h = (whole-append a.events b.events g.0 h.0, h.1)
 
-after_closing_good : SpsInForceKeepsLimits → (units : List SetUnit) (unit : ℕ) (what : Step) (o : Outcome) → GoodOutcome o → GoodOutcome (after_closing (sets_after units) unit what o)
-after_closing_good keeps units unit what o g = by_test (is_waiting o.phase && not what.even_after_fault)
+after_closing_good : SpsInForceKeepsLimits → (output : Output) (units : List SetUnit) (unit : ℕ) (what : Step) (o : Outcome) → GoodOutcome o → GoodOutcome (after_closing output (sets_after units) unit what o)
+after_closing_good keeps output units unit what o g = by_test (is_waiting o.phase && not what.even_after_fault)
   where
-    by_test : (b : Bool) → GoodOutcome (elim b [ true ↦ o | false ↦ followed_by o (after_next (sets_after units) unit o.phase what.next) ])
+    by_test : (b : Bool) → GoodOutcome (elim b [ true ↦ o | false ↦ followed_by o (after_next output (sets_after units) unit o.phase what.next) ])
     by_test true = g
-    by_test false = then_good o (after_next (sets_after units) unit o.phase what.next) g (after_next_good keeps units unit o.phase what.next g.1)
+    by_test false = then_good o (after_next output (sets_after units) unit o.phase what.next) g (after_next_good keeps output units unit o.phase what.next g.1)
 
-in_phase_good : PicturesAreSized → SpsInForceKeepsLimits → (units : List SetUnit) (unit : ℕ) (what : Step) (p : Phase) → GoodPhase p → GoodOutcome (in_phase (sets_after units) unit what p)
-in_phase_good sized keeps units unit what waiting g = after_next_good keeps units unit waiting what.next g
-in_phase_good sized keeps units unit what (running h None) g = after_next_good keeps units unit (running h None) what.next g
-in_phase_good sized keeps units unit what (running h (Some o)) g = by_test what.closes
+in_phase_good : PicturesAreSized → SpsInForceKeepsLimits → (output : Output) (units : List SetUnit) (unit : ℕ) (what : Step) (p : Phase) → GoodPhase p → GoodOutcome (in_phase output (sets_after units) unit what p)
+in_phase_good sized keeps output units unit what waiting g = after_next_good keeps output units unit waiting what.next g
+in_phase_good sized keeps output units unit what (running h None) g = after_next_good keeps output units unit (running h None) what.next g
+in_phase_good sized keeps output units unit what (running h (Some o)) g = by_test what.closes
   where
     by_test : (b : Bool) → GoodOutcome (elim b [
-      | true ↦ after_closing (sets_after units) unit what (closed_picture o)
-      | false ↦ after_next (sets_after units) unit (running h (Some o)) what.next
+      | true ↦ after_closing output (sets_after units) unit what (closed_picture output o)
+      | false ↦ after_next output (sets_after units) unit (running h (Some o)) what.next
     ])
-    by_test true = after_closing_good keeps units unit what (closed_picture o) (closed_good sized o g.1)
-    by_test false = after_next_good keeps units unit (running h (Some o)) what.next g
+    by_test true = after_closing_good keeps output units unit what (closed_picture output o) (closed_good sized output o g.1)
+    by_test false = after_next_good keeps output units unit (running h (Some o)) what.next g
 
 -- ---- all units
 
-held_after_whole : (p : Phase) → GoodPhase p → AllWhole (held_after p)
-held_after_whole waiting g = tt
-held_after_whole (running h None) g = pictures_whole h (all_held Full h) g
-held_after_whole (running h (Some o)) g = pictures_whole h (all_held Full h) g.0
+held_after_whole : (output : Output) (p : Phase) → GoodPhase p → AllWhole (held_after output p)
+held_after_whole output waiting g = tt
+held_after_whole output (running h None) g = pictures_whole h (all_held output h) g
+held_after_whole output (running h (Some o)) g = pictures_whole h (all_held output h) g.0
 
-at_end_whole : PicturesAreSized → (p : Phase) → GoodPhase p → AllWhole (at_end p)
-at_end_whole sized waiting g = tt
-at_end_whole sized (running h None) g = pictures_whole h (all_held Full h) g
-at_end_whole sized (running h (Some o)) g =
-    let c = closed_good sized o g.1 in
-    whole-append (closed_picture o).events (held_after (closed_picture o).phase) c.0 (held_after_whole (closed_picture o).phase c.1)
+at_end_whole : PicturesAreSized → (output : Output) (p : Phase) → GoodPhase p → AllWhole (at_end output p)
+at_end_whole sized output waiting g = tt
+at_end_whole sized output (running h None) g = pictures_whole h (all_held output h) g
+at_end_whole sized output (running h (Some o)) g =
+    let c = closed_good sized output o g.1 in
+    whole-append (closed_picture output o).events (held_after output (closed_picture output o).phase) c.0 (held_after_whole output (closed_picture output o).phase c.1)
 
 events_whole : PicturesAreSized → SpsInForceKeepsLimits → (s : State) (us : List StreamUnit) (ended : Bool) → GoodPhase s.phase → AllWhole (events_from s us ended)
-events_whole sized keeps s [] true g = at_end_whole sized s.phase g
+events_whole sized keeps s [] true g = at_end_whole sized s.output s.phase g
 events_whole sized keeps s [] false g = tt
 events_whole sized keeps s (u ∷ us) ended g =
     let o = after_unit s u in
-    let good = in_phase_good sized keeps s.sets u.index (step (sets_after s.sets) (is_running s.phase) (open_facts_in s.phase) u) s.phase g in
+    let good = in_phase_good sized keeps s.output s.sets u.index (step (sets_after s.sets) (is_running s.phase) (open_facts_in s.phase) u) s.phase g in
     whole-append o.events (events_from (state_after s u o) us ended) good.0 (events_whole sized keeps (state_after s u o) us ended good.1)
 
 one_whole : (es : List Event) (k : ℕ) (p : Decoded) → AllWhole es → slice_get es k ≡ Some (Picture p) → IsWhole p
@@ -316,5 +316,5 @@ one_whole (x ∷ es) zero p w e = subst WholeEvent (let same : x ≡ Picture p =
 one_whole (x ∷ es) (suc k) p w e = one_whole es k p w.1 e
 
 pub are_whole : PicturesAreSized → SpsInForceKeepsLimits → PicturesAreWhole
-are_whole sized keeps max bytes ended k p e =
-    one_whole (events max bytes ended) k p (events_whole sized keeps first_state (units max bytes ended) ended tt) e
+are_whole sized keeps output max bytes ended k p e =
+    one_whole (events output max bytes ended) k p (events_whole sized keeps (first_state output) (units max bytes ended) ended tt) e

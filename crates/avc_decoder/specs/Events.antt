@@ -16,7 +16,7 @@ use Rattle.avc_units.specs.declared.step.Next.{Next}
 use Rattle.avc_units.specs.declared.step.Next.TheVariants.{Nothing, Refusal, FaultOfOpen, FaultOfOwn, Begins, Continues}
 use Rattle.avc_units.specs.declared.step.Step.{Step}
 use Rattle.avc_picture.specs.Slices.{is_full}
-use Rattle.avc_dpb.specs.declared.output.Output.TheVariants.{Full}
+use Rattle.avc_dpb.specs.declared.output.Output.{Output}
 use Rattle.avc_decoder_core.specs.History.{History}
 use Rattle.avc_decoder_core.specs.Pictures.{output_pictures, held_pictures}
 use Rattle.avc_decoder.specs.FirstFault.{OpenPicture, first_fault, history_of, read_of, start_on, progress_on, closed_history}
@@ -36,15 +36,16 @@ pub data Phase : Type 0 where
   -- with the history since decoding last started, and the open picture, if there is one
   running : History → Option OpenPicture → Phase
 
--- what the units before leave
+-- when pictures go out, and what the units before leave
 pub record State : Type 0 where
+  pub output : Output
   -- the units that brought parameter sets, in order
   pub sets : List SetUnit
   pub phase : Phase
 
 -- before the first unit
-abbrev pub first_state : State
-first_state = record { sets = []; phase = waiting }
+abbrev pub first_state : Output → State
+first_state output = record { output = output; sets = []; phase = waiting }
 
 -- What one step gives: events, and what follows it; and how many macroblocks were read in it.
 pub record Outcome : Type 0 where
@@ -57,8 +58,8 @@ abbrev pub no_change : Phase → Outcome
 no_change p = record { events = []; phase = p; read = 0 }
 
 -- a fault in a picture: all held pictures go out, then the refusal, and decoding waits
-abbrev pub failed_at : History → (unit : ℕ) → Fault → (read : ℕ) → Outcome
-failed_at h unit f read = record { events = pictures (held_pictures Full h) ++ Refused unit f ∷ []; phase = waiting; read = read }
+abbrev pub failed_at : Output → History → (unit : ℕ) → Fault → (read : ℕ) → Outcome
+failed_at output h unit f read = record { events = pictures (held_pictures output h) ++ Refused unit f ∷ []; phase = waiting; read = read }
 
 -- ---- closing the open picture (8.2.5, C.4.4, C.4.5, and this decoder's rule for faults)
 
@@ -72,23 +73,23 @@ abbrev pub closing_result : OpenPicture → Result History (ℕ × Fault)
 closing_result o = elim (first_fault o true) [ Some found ↦ Err found | None ↦ at_last_slice o (closed_history o (history_of o)) ]
 
 -- what closing gives: the pictures that go out (C.4.5), or the refusal
-abbrev pub closed_outcome : OpenPicture → Result History (ℕ × Fault) → Outcome
-closed_outcome o (Ok h) = record { events = pictures (output_pictures Full (history_of o) h); phase = running h None; read = 0 }
-closed_outcome o (Err found) = failed_at (history_of o) found.0 found.1 0
+abbrev pub closed_outcome : Output → OpenPicture → Result History (ℕ × Fault) → Outcome
+closed_outcome output o (Ok h) = record { events = pictures (output_pictures output (history_of o) h); phase = running h None; read = 0 }
+closed_outcome output o (Err found) = failed_at output (history_of o) found.0 found.1 0
 
 -- the open picture is closed
-abbrev pub closed_picture : OpenPicture → Outcome
-closed_picture o = closed_outcome o (closing_result o)
+abbrev pub closed_picture : Output → OpenPicture → Outcome
+closed_picture output o = closed_outcome output o (closing_result o)
 
 -- ---- a slice of the open picture (C.4.2, and this decoder's rule for faults)
 
 -- The picture with one slice more, of which the history before was `before` and so many macroblocks had been read. At a fault
 -- all pictures go out that `before` holds: first those that missing numbers let out, then the rest, which is one order.
-abbrev pub with_slice : (before : History) → (already : ℕ) → OpenPicture → Outcome
-with_slice before already o =
+abbrev pub with_slice : Output → (before : History) → (already : ℕ) → OpenPicture → Outcome
+with_slice output before already o =
     elim (first_fault o false) [
-      | Some found ↦ failed_at before found.0 found.1 (read_of o - already)
-      | None ↦ record { events = pictures (output_pictures Full before (history_of o)); phase = running o.before (Some o); read = read_of o - already }
+      | Some found ↦ failed_at output before found.0 found.1 (read_of o - already)
+      | None ↦ record { events = pictures (output_pictures output before (history_of o)); phase = running o.before (Some o); read = read_of o - already }
     ]
 
 -- two values, where both are there
@@ -102,10 +103,10 @@ abbrev pub sets_named : Sets → Header → Option (Pps × Sps)
 sets_named sets h = elim (sets.pps h.pic_parameter_set_id) [ None ↦ None | Some pps ↦ both (Some pps) (sets.sps pps.seq_parameter_set_id) ]
 
 -- a slice that begins a picture, under the sets that it names
-abbrev pub after_first_slice : Option (Pps × Sps) → History → Slice → Outcome
-after_first_slice None before s = no_change (running before None)
-after_first_slice (Some named) before s =
-    with_slice before 0 (record { before = before; sps = named.1; pps = named.0; last = s; earlier = [] })
+abbrev pub after_first_slice : Output → Option (Pps × Sps) → History → Slice → Outcome
+after_first_slice output None before s = no_change (running before None)
+after_first_slice output (Some named) before s =
+    with_slice output before 0 (record { before = before; sps = named.1; pps = named.0; last = s; earlier = [] })
 
 -- ---- one unit (7.4.1.2, and this decoder's rule for faults)
 
@@ -121,18 +122,18 @@ base_in waiting = []
 base_in (running h o) = h
 
 -- a slice that continues the open picture
-abbrev pub after_next_slice : Phase → Slice → Outcome
-after_next_slice (running h (Some o)) s = with_slice (history_of o) (read_of o) (record o { last = s; earlier = o.last ∷ o.earlier })
-after_next_slice p s = no_change p
+abbrev pub after_next_slice : Output → Phase → Slice → Outcome
+after_next_slice output (running h (Some o)) s = with_slice output (history_of o) (read_of o) (record o { last = s; earlier = o.last ∷ o.earlier })
+after_next_slice output p s = no_change p
 
 -- what the unit with this number does next
-abbrev pub after_next : Sets → (unit : ℕ) → Phase → Next → Outcome
-after_next sets unit p Nothing = no_change p
-after_next sets unit p (Refusal f) = record { events = Refused unit f ∷ []; phase = p; read = 0 }
-after_next sets unit p (FaultOfOpen f) = failed_at (history_in p) unit f 0
-after_next sets unit p (FaultOfOwn f) = failed_at (history_in p) unit f 0
-after_next sets unit p (Begins s) = after_first_slice (sets_named sets s.header) (base_in p) s
-after_next sets unit p (Continues s) = after_next_slice p s
+abbrev pub after_next : Output → Sets → (unit : ℕ) → Phase → Next → Outcome
+after_next output sets unit p Nothing = no_change p
+after_next output sets unit p (Refusal f) = record { events = Refused unit f ∷ []; phase = p; read = 0 }
+after_next output sets unit p (FaultOfOpen f) = failed_at output (history_in p) unit f 0
+after_next output sets unit p (FaultOfOwn f) = failed_at output (history_in p) unit f 0
+after_next output sets unit p (Begins s) = after_first_slice output (sets_named sets s.header) (base_in p) s
+after_next output sets unit p (Continues s) = after_next_slice output p s
 
 -- decoding runs
 abbrev pub is_running : Phase → Bool
@@ -163,58 +164,58 @@ is_waiting waiting = true
 is_waiting (running h o) = false
 
 -- After the open picture has been closed: what the step says, unless that was a fault and the step says nothing then.
-abbrev pub after_closing : Sets → (unit : ℕ) → Step → Outcome → Outcome
-after_closing sets unit what o =
-    elim (is_waiting o.phase && not what.even_after_fault) [ true ↦ o | false ↦ followed_by o (after_next sets unit o.phase what.next) ]
+abbrev pub after_closing : Output → Sets → (unit : ℕ) → Step → Outcome → Outcome
+after_closing output sets unit what o =
+    elim (is_waiting o.phase && not what.even_after_fault) [ true ↦ o | false ↦ followed_by o (after_next output sets unit o.phase what.next) ]
 
 -- what the step says, by the phase: the open picture is closed first where it says so
-abbrev pub in_phase : Sets → (unit : ℕ) → Step → Phase → Outcome
-in_phase sets unit what waiting = after_next sets unit waiting what.next
-in_phase sets unit what (running h None) = after_next sets unit (running h None) what.next
-in_phase sets unit what (running h (Some o)) =
+abbrev pub in_phase : Output → Sets → (unit : ℕ) → Step → Phase → Outcome
+in_phase output sets unit what waiting = after_next output sets unit waiting what.next
+in_phase output sets unit what (running h None) = after_next output sets unit (running h None) what.next
+in_phase output sets unit what (running h (Some o)) =
     elim what.closes [
-      | true ↦ after_closing sets unit what (closed_picture o)
-      | false ↦ after_next sets unit (running h (Some o)) what.next
+      | true ↦ after_closing output sets unit what (closed_picture output o)
+      | false ↦ after_next output sets unit (running h (Some o)) what.next
     ]
 
 -- One unit more (7.4.1.2, and this decoder's rules).
 abbrev pub after_unit : State → Unit → Outcome
 after_unit s u =
     let sets = sets_after s.sets in
-    in_phase sets u.index (step sets (is_running s.phase) (open_facts_in s.phase) u) s.phase
+    in_phase s.output sets u.index (step sets (is_running s.phase) (open_facts_in s.phase) u) s.phase
 
 -- what that unit leaves to the next one
 abbrev pub state_after : State → Unit → Outcome → State
-state_after s u o = record { sets = s.sets ++ set_units (u ∷ []); phase = o.phase }
+state_after s u o = record { output = s.output; sets = s.sets ++ set_units (u ∷ []); phase = o.phase }
 
 -- all held pictures, where decoding runs
-abbrev pub held_after : Phase → List Event
-held_after waiting = []
-held_after (running h o) = pictures (held_pictures Full h)
+abbrev pub held_after : Output → Phase → List Event
+held_after output waiting = []
+held_after output (running h o) = pictures (held_pictures output h)
 
 -- the events, and then all held pictures
-abbrev pub events_and_held : Outcome → List Event
-events_and_held o = o.events ++ held_after o.phase
+abbrev pub events_and_held : Output → Outcome → List Event
+events_and_held output o = o.events ++ held_after output o.phase
 
 -- the end of a stream that has ended: the open picture is closed and all held pictures go out
-abbrev pub at_end : Phase → List Event
-at_end waiting = []
-at_end (running h None) = pictures (held_pictures Full h)
-at_end (running h (Some o)) = events_and_held (closed_picture o)
+abbrev pub at_end : Output → Phase → List Event
+at_end output waiting = []
+at_end output (running h None) = pictures (held_pictures output h)
+at_end output (running h (Some o)) = events_and_held output (closed_picture output o)
 
 -- ---- a whole stream (Annex B)
 
 -- the events of these units after a state; at the end of the stream those of the end too
 abbrev pub events_from : State → List Unit → (ended : Bool) → List Event
-events_from s [] true = at_end s.phase
+events_from s [] true = at_end s.output s.phase
 events_from s [] false = []
 events_from s (u ∷ units) ended =
     let o = after_unit s u in
     o.events ++ events_from (state_after s u o) units ended
 
 -- the events of a stream of these bytes (Annex B), where a unit has max bytes at most
-abbrev pub events : (max : ℕ) → List ℕ → (ended : Bool) → List Event
-events max bytes ended = events_from first_state (units max bytes ended) ended
+abbrev pub events : Output → (max : ℕ) → List ℕ → (ended : Bool) → List Event
+events output max bytes ended = events_from (first_state output) (units max bytes ended) ended
 
 -- how many macroblocks of slices are read
 abbrev pub read_from : State → List Unit → ℕ
@@ -224,5 +225,5 @@ read_from s (u ∷ units) =
     o.read + read_from (state_after s u o) units
 
 -- how many macroblocks of a stream of these bytes are read, as far as a u64 counts (this decoder's rule)
-abbrev pub turns : (max : ℕ) → List ℕ → (ended : Bool) → ℕ
-turns max bytes ended = saturated (read_from first_state (units max bytes ended))
+abbrev pub turns : Output → (max : ℕ) → List ℕ → (ended : Bool) → ℕ
+turns output max bytes ended = saturated (read_from (first_state output) (units max bytes ended))

@@ -1,5 +1,6 @@
 -- What a list of calls and their replies tell of the stream, in their own words.
 use Rattle.std.specs.Prelude.{◌≡◌, ℕ, Bool, true, false, List, [], ◌∷◌, ◌++◌, Some, None, Ok}
+use Rattle.avc_dpb.specs.declared.output.Output.{Output}
 use Rattle.avc_decoder.specs.Events.{events}
 use Rattle.avc_decoder.specs.Machine.{Machine, new_machine, Run}
 use Rattle.avc_decoder.specs.declared.calls.Call.{Call}
@@ -30,19 +31,19 @@ since_reset s (call ∷ calls) (reply ∷ replies) = since_reset (with_call s ca
 since_reset s _ _ = s
 
 -- the events that the bytes since the last reset define
-abbrev pub defined_events : (max : ℕ) → SinceReset → List Event
-defined_events max s = events max s.bytes s.ended
+abbrev pub defined_events : Output → (max : ℕ) → SinceReset → List Event
+defined_events output max s = events output max s.bytes s.ended
 
 -- However a decoder is called, the n-th event that was taken since the last reset is the n-th that is defined on the bytes
 -- since then.
 abbrev pub TakesThem : Type 0
 TakesThem =
-    (max : ℕ) (calls : List Call) (answers : List Reply) (last : Machine) → Run max new_machine calls answers last →
-    (others : List Event) × (defined_events max (since_reset no_call calls answers) ≡ (since_reset no_call calls answers).taken ++ others)
+    (output : Output) (max : ℕ) (calls : List Call) (answers : List Reply) (last : Machine) → Run max (new_machine output) calls answers last →
+    (others : List Event) × (defined_events output max (since_reset no_call calls answers) ≡ (since_reset no_call calls answers).taken ++ others)
 
 -- Where a call of `take` after these calls is answered by None, these are all.
 abbrev pub TakesAll : Type 0
 TakesAll =
-    (max : ℕ) (calls : List Call) (answers : List Reply) (before last : Machine) → Run max new_machine calls answers before →
+    (output : Output) (max : ℕ) (calls : List Call) (answers : List Reply) (before last : Machine) → Run max (new_machine output) calls answers before →
     Run max before (Take ∷ []) (replies.Taken (Ok None) ∷ []) last →
-    defined_events max (since_reset no_call calls answers) ≡ (since_reset no_call calls answers).taken
+    defined_events output max (since_reset no_call calls answers) ≡ (since_reset no_call calls answers).taken

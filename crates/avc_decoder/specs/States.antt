@@ -15,7 +15,7 @@ use Rattle.avc_picture.specs.Decoding.{Decoding, HasNoFault, with_slice_more}
 use Rattle.avc_units.specs.GrouperState.{GrouperState, IsSliceUnder, after_fault}
 use Rattle.avc_units.specs.declared.step.Next.{Next}
 use Rattle.avc_units.specs.declared.step.Next.TheVariants.{Begins, Continues}
-use Rattle.avc_dpb.specs.declared.output.Output.TheVariants.{Full}
+use Rattle.avc_dpb.specs.declared.output.Output.{Output}
 use Rattle.avc_decoder_core.specs.History.{History, history_at_opening}
 use Rattle.avc_decoder_core.specs.Pictures.{held_pictures}
 use Rattle.avc_decoder_core.specs.SequenceState.{SequenceState, empty_sequence, current_history}
@@ -50,9 +50,11 @@ abbrev pub more_read : (before more : ℕ) → ℕ
 more_read before zero = before
 more_read before (suc more) = saturated (before + suc more)
 
--- The history of closed pictures, the open picture, if there is one, the events so far, how many of them were taken, how
+-- When pictures go out, the history of closed pictures, the open picture, if there is one, the events so far, how many of them
+-- were taken, how
 -- many macroblocks were read, as far as a u64 counts, and whether memory was refused.
 pub record PicturesState : Type 0 where
+  pub output : Output
   pub history : History
   pub open_picture : Option OpenPicture
   pub events : List Event
@@ -60,8 +62,8 @@ pub record PicturesState : Type 0 where
   pub read : ℕ
   pub failed : Bool
 
-abbrev pub no_pictures : PicturesState
-no_pictures = record { history = []; open_picture = None; events = []; taken = 0; read = 0; failed = false }
+abbrev pub no_pictures : Output → PicturesState
+no_pictures output = record { output = output; history = []; open_picture = None; events = []; taken = 0; read = 0; failed = false }
 
 abbrev pub open_picture_in : Phase → Option OpenPicture
 open_picture_in waiting = None
@@ -69,6 +71,7 @@ open_picture_in (running h o) = o
 
 abbrev pub after_outcome : Outcome → PicturesState → PicturesState
 after_outcome o k = record {
+  output = k.output;
   history = base_in o.phase;
   open_picture = open_picture_in o.phase;
   events = k.events ++ o.events;
@@ -108,15 +111,13 @@ abbrev pub IsOpen : SequenceState → (last_unit : ℕ) → Option (Decoding 32)
 IsOpen s last_unit None = (s.failed ≡ false) × (s.open_picture ≡ None)
 IsOpen s last_unit (Some d) = IsOpenIn s last_unit d
 
-pub record HasOpenPicture (s : SequenceState) (last_unit : ℕ) (picture : Option (Decoding 32)) : Type 0 where
-  pub works : IsOpen s last_unit picture
-  pub mode : s.output ≡ Full
-
 -- A step of an open picture has come to this outcome: which picture is open then, how many macroblocks were read in the
--- step, and what stands in the queue.
-pub record HasOutcome (o : Outcome) (q : QueueState) (last_unit : ℕ) (picture : Option (Decoding 32)) (read : ℕ) (s' : SequenceState) (q' : QueueState)
+-- step, and what stands in the queue. When pictures
+-- go out is as it was.
+pub record HasOutcome (output : Output) (o : Outcome) (q : QueueState) (last_unit : ℕ) (picture : Option (Decoding 32)) (read : ℕ) (s' : SequenceState) (q' : QueueState)
     : Type 0 where
-  pub works : HasOpenPicture s' last_unit picture
+  pub works : IsOpen s' last_unit picture
+  pub mode : s'.output ≡ output
   pub history : s'.history ≡ base_in o.phase
   pub open_picture : open_picture_of s'.history picture ≡ open_picture_in o.phase
   pub count : read ≡ o.read
@@ -128,34 +129,34 @@ Decodes d slice s q (Some d') s' q' = (d.failed ≡ false) × (d' ≡ with_slice
 Decodes d slice s q None s' q' =
     (f : Fault)
     × IsRefused (current_history s) (with_slice_more slice d) slice f
-    × (s' ≡ empty_sequence Full)
-    × (q' ≡ with_events (failed_at (current_history s) slice.unit f 0).events q)
+    × (s' ≡ empty_sequence s.output)
+    × (q' ≡ with_events (failed_at s.output (current_history s) slice.unit f 0).events q)
 
 -- what closing the open picture gives, if there is one
-abbrev pub closed_in : History → Option OpenPicture → Outcome
-closed_in h None = no_change (running h None)
-closed_in h (Some o) = closed_picture o
+abbrev pub closed_in : Output → History → Option OpenPicture → Outcome
+closed_in output h None = no_change (running h None)
+closed_in output h (Some o) = closed_picture output o
 
 -- the same where a unit closes the open picture, and else nothing
 abbrev pub closed_if : (closes : Bool) → PicturesState → Outcome
-closed_if true k = closed_in k.history k.open_picture
+closed_if true k = closed_in k.output k.history k.open_picture
 closed_if false k = no_change (running k.history k.open_picture)
 
 -- what closing the open picture of this picture decoder gives
-abbrev pub closed_of : History → Decoding 32 → Outcome
-closed_of h d = closed_in h (open_picture_of h (Some d))
+abbrev pub closed_of : Output → History → Decoding 32 → Outcome
+closed_of output h d = closed_in output h (open_picture_of h (Some d))
 
 -- what a slice that begins a picture gives
-abbrev pub begun_in : Pps → Sps → History → Slice → Outcome
-begun_in pps sps h s = after_first_slice (Some (pps, sps)) h s
+abbrev pub begun_in : Output → Pps → Sps → History → Slice → Outcome
+begun_in output pps sps h s = after_first_slice output (Some (pps, sps)) h s
 
 -- what a further slice of the open picture gives
-abbrev pub continued_in : History → Decoding 32 → Slice → Outcome
-continued_in h d s = after_next_slice (running h (open_picture_of h (Some d))) s
+abbrev pub continued_in : Output → History → Decoding 32 → Slice → Outcome
+continued_in output h d s = after_next_slice output (running h (open_picture_of h (Some d))) s
 
 -- A slice has come to this outcome.
-abbrev pub HasSliceOutcome : Outcome → QueueState → Slice → AfterSlice → SequenceState → QueueState → Type 0
-HasSliceOutcome o q slice after s' q' = HasOutcome o q slice.unit after.picture after.read s' q'
+abbrev pub HasSliceOutcome : Output → Outcome → QueueState → Slice → AfterSlice → SequenceState → QueueState → Type 0
+HasSliceOutcome output o q slice after s' q' = HasOutcome output o q slice.unit after.picture after.read s' q'
 
 abbrev pub is_full_in : Option OpenPicture → Bool
 is_full_in None = false
@@ -169,8 +170,8 @@ abbrev pub refused_in : (unit : ℕ) → Fault → PicturesState → PicturesSta
 refused_in unit f k = record k { events = k.events ++ Refused unit f ∷ [] }
 
 -- all held pictures go out
-abbrev pub held_outcome : History → Outcome
-held_outcome h = record { events = pictures (held_pictures Full h); phase = waiting; read = 0 }
+abbrev pub held_outcome : Output → History → Outcome
+held_outcome output h = record { events = pictures (held_pictures output h); phase = waiting; read = 0 }
 
 -- ---- units
 
@@ -183,8 +184,8 @@ pub record StreamState : Type 0 where
   pub read : ℕ
   pub failed : Bool
 
-abbrev pub new_stream : StreamState
-new_stream = record { state = first_state; events = []; taken = 0; read = 0; failed = false }
+abbrev pub new_stream : Output → StreamState
+new_stream output = record { state = first_state output; events = []; taken = 0; read = 0; failed = false }
 
 -- one unit more
 abbrev pub after_unit_in_stream : Piece → StreamState → StreamState
@@ -205,8 +206,8 @@ after_units_in_stream (u ∷ us) f = after_units_in_stream us (after_unit_in_str
 -- at the end
 abbrev pub after_stream_end : StreamState → StreamState
 after_stream_end f = record {
-  state = record { sets = (f.state).sets; phase = waiting };
-  events = f.events ++ at_end (f.state).phase;
+  state = record { output = (f.state).output; sets = (f.state).sets; phase = waiting };
+  events = f.events ++ at_end (f.state).output (f.state).phase;
   taken = f.taken;
   read = f.read;
   failed = false;
@@ -221,7 +222,7 @@ phase_of false k = waiting
 phase_of true k = running k.history k.open_picture
 
 abbrev pub state_of : GrouperState → PicturesState → State
-state_of g k = record { sets = g.sets; phase = phase_of g.running k }
+state_of g k = record { output = k.output; sets = g.sets; phase = phase_of g.running k }
 
 -- the header of the open picture's last slice
 abbrev pub last_header : Option OpenPicture → Option Header
@@ -254,7 +255,7 @@ Fits sets _ open_picture = Unit {0}
 
 -- what a step does once the open picture is closed, where it closes it
 abbrev pub next_in : Sets → (unit : ℕ) → Next → PicturesState → Outcome
-next_in sets unit next k = after_next sets unit (running k.history k.open_picture) next
+next_in sets unit next k = after_next k.output sets unit (running k.history k.open_picture) next
 
 -- where there was a fault the grouper is told
 abbrev pub after_fault_if : Bool → GrouperState → GrouperState
@@ -272,18 +273,18 @@ pub record Handles (g : GrouperState) (k : PicturesState) (u : Piece) (g' : Grou
 -- ---- bytes
 
 -- All units of the bytes were handled.
-pub record IsDecoded (max : ℕ) (s : SplitterState) (ended : Bool) (f : StreamState) : Type 0 where
+pub record IsDecoded (output : Output) (max : ℕ) (s : SplitterState) (ended : Bool) (f : StreamState) : Type 0 where
   pub going : s.failed ≡ false
   pub flows : f.failed ≡ false
   pub ends : s.ended ≡ ended
   pub counted : s.taken ≡ length (units max s.bytes ended)
-  pub state : ended ≡ false → f.state ≡ state_through first_state (units max s.bytes false)
-  pub events : f.events ≡ events max s.bytes ended
-  pub read : f.read ≡ turns max s.bytes ended
+  pub state : ended ≡ false → f.state ≡ state_through (first_state output) (units max s.bytes false)
+  pub events : f.events ≡ events output max s.bytes ended
+  pub read : f.read ≡ turns output max s.bytes ended
 
 -- What a decoder keeps of the machine: the macroblocks that are counted, and where memory was not refused, all of it.
 pub record IsKept (max : ℕ) (m : Machine) (s : SplitterState) (f : StreamState) (count : ℕ) : Type 0 where
   pub count_is : IsCount max m count
-  pub decoded : m.failed ≡ false → IsDecoded max s m.ended f
+  pub decoded : m.failed ≡ false → IsDecoded m.output max s m.ended f
   pub bytes : m.failed ≡ false → s.bytes ≡ m.bytes
   pub taken : m.failed ≡ false → f.taken ≡ m.taken

@@ -4,6 +4,7 @@ ghost use Rattle.avc_decoder.specs.Machine.{new_machine, Machine, Run, IsCallAns
 use crate::decoder::Decoder;
 use crate::error::DecodeError;
 use crate::event::Event;
+use avc_decoder_core::Output;
 use avc_types::{Bytes, OutOfMemory};
 use std::alloc::Global;
 
@@ -42,10 +43,14 @@ pub fn make_call<const MAX: usize>(decoder: &mut Decoder<MAX>, call: &Call) -> R
 
 /// Makes the calls on a new decoder, one after another: the answers are those of the machine. An `Err` says that the list of
 /// answers found no memory.
-pub fn run_calls<const MAX: usize>(alloc: Global, calls: &[Call]) -> Result<Vec<Reply>, OutOfMemory>
-    ensures { IfOk result (λ replies. (last : Machine) × Run MAX new_machine calls.now replies.items last) }
+pub fn run_calls<const MAX: usize>(
+    alloc: Global,
+    output: Output,
+    calls: &[Call],
+) -> Result<Vec<Reply>, OutOfMemory>
+    ensures { IfOk result (λ replies. (last : Machine) × Run MAX (new_machine output) calls.now replies.items last) }
 {
-    let mut decoder = Decoder::<MAX>::new(alloc);
+    let mut decoder = Decoder::<MAX>::new(alloc, output);
     let mut replies = Vec::new(alloc);
     for call in calls {
         replies.push(make_call(&mut decoder, call))?;

@@ -7,6 +7,7 @@ use crate::error::DecodeError;
 use crate::event::Event;
 use crate::stream::Stream;
 use avc_annexb::Splitter;
+use avc_decoder_core::Output;
 use avc_types::{History, OutOfMemory};
 use std::alloc::Global;
 use std::marker::Model;
@@ -15,6 +16,7 @@ use std::marker::Model;
 #[derive(Drop)]
 pub struct Decoder<const MAX: usize> {
     alloc: Global,
+    output: Output,
     splitter: Splitter<MAX>,
     stream: Stream,
     // how many macroblocks were read when a call was last carried out
@@ -32,22 +34,23 @@ impl<const MAX: usize> Model for Decoder<MAX> {
 
     ghost Value = { Machine };
 
-    ghost view = { λ d. record { bytes = d.bytes.items; ended = d.ended; taken = length d.taken.items; failed = d.failed } };
+    ghost view = { λ d. record { output = d.output; bytes = d.bytes.items; ended = d.ended; taken = length d.taken.items; failed = d.failed } };
 
     ghost invariant = { λ d.
-        let m : Machine = record { bytes = d.bytes.items; ended = d.ended; taken = length d.taken.items; failed = d.failed } in
+        let m : Machine = record { output = d.output; bytes = d.bytes.items; ended = d.ended; taken = length d.taken.items; failed = d.failed } in
         IsKept MAX m d.splitter d.stream d.read };
 }
 
 impl<const MAX: usize> Decoder<MAX> {
-    /// At the start of a stream.
-    pub fn new(alloc: Global) -> Self
-        ensures { result ≡ new_machine }
+    /// At the start of a stream. `output` says when pictures go out, also after a reset.
+    pub fn new(alloc: Global, output: Output) -> Self
+        ensures { result ≡ new_machine output }
     {
         Decoder {
             alloc,
+            output,
             splitter: Splitter::new(alloc),
-            stream: Stream::new(alloc),
+            stream: Stream::new(alloc, output),
             read: 0,
             ended: false,
             failed: false,
@@ -110,12 +113,12 @@ impl<const MAX: usize> Decoder<MAX> {
         Ok(())
     }
 
-    /// Forgets everything, parameter sets too: a new stream begins.
+    /// Forgets everything, parameter sets too: a new stream begins. When pictures go out stays as it was.
     pub fn reset(&mut self)
-        ensures { self.new ≡ new_machine }
+        ensures { self.new ≡ new_machine self.old.output }
     {
         self.splitter = Splitter::new(self.alloc);
-        self.stream.reset(self.alloc);
+        self.stream.reset(self.alloc, self.output);
         self.read = 0;
         self.ended = false;
         self.failed = false;

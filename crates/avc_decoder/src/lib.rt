@@ -12,6 +12,7 @@ mod pictures;
 mod queue;
 mod stream;
 
+pub use avc_decoder_core::Output;
 pub use calls::{Call, Reply, make_call, run_calls};
 pub use decoder::Decoder;
 pub use error::DecodeError;

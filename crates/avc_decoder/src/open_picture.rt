@@ -2,7 +2,6 @@ ghost use Rattle.std.specs.Prelude.{◌≡◌, false, None, IfOk, OnOk, is_none}
 ghost use Rattle.avc_decoder.specs.Events.{failed_at, is_waiting, pictures};
 ghost use Rattle.avc_decoder.specs.PictureFrames.{frames_for, read_of_slice, CanHave};
 ghost use Rattle.avc_decoder.specs.States.{begun_in, closed_of, continued_in, with_events, HasOutcome, HasSliceOutcome, Decodes, IsOpenIn};
-ghost use Rattle.avc_dpb.specs.declared.output.Output.TheVariants.{Full};
 ghost use Rattle.avc_decoder_core.specs.Pictures.{held_pictures};
 ghost use Rattle.avc_decoder_core.specs.SequenceState.{empty_sequence, current_history, AreFramesIn, AreStoredIn};
 ghost use Rattle.avc_params.specs.Within.{IsPps, IsSps};
@@ -36,9 +35,8 @@ pub fn close_picture(
     last_unit: u64,
 ) -> Result<bool, OutOfMemory>
     requires picture { IsOpenIn sequence.old last_unit picture }
-    requires mode { sequence.old.output ≡ Full }
-    ensures fault { IfOk result (λ fault. fault ≡ is_waiting (closed_of sequence.old.history picture).phase) }
-    ensures state { OnOk result (HasOutcome (closed_of sequence.old.history picture) queue.old last_unit None 0 sequence.new queue.new) }
+    ensures fault { IfOk result (λ fault. fault ≡ is_waiting (closed_of sequence.old.output sequence.old.history picture).phase) }
+    ensures state { OnOk result (HasOutcome sequence.old.output (closed_of sequence.old.output sequence.old.history picture) queue.old last_unit None 0 sequence.new queue.new) }
 {
     let planes = match picture.finish() {
         Ok(planes) => planes,
@@ -71,14 +69,13 @@ pub fn begin_picture(
 ) -> Result<AfterSlice, OutOfMemory>
     requires going { sequence.old.failed ≡ false }
     requires rest { sequence.old.open_picture ≡ None }
-    requires mode { sequence.old.output ≡ Full }
     requires sps { IsSps sets.sps.now }
     requires pps { IsPps sets.pps.now }
     requires within { IsHeader sets.sps.now sets.pps.now slice.now.rbsp slice.now.header }
-    ensures fault { IfOk result (λ after. is_none after.picture ≡ is_waiting (begun_in sets.entry.pps.now sets.entry.sps.now sequence.old.history slice.now).phase) }
+    ensures fault { IfOk result (λ after. is_none after.picture ≡ is_waiting (begun_in sequence.old.output sets.entry.pps.now sets.entry.sps.now sequence.old.history slice.now).phase) }
     ensures state { IfOk result (λ after.
-        let o = begun_in sets.entry.pps.now sets.entry.sps.now sequence.old.history slice.now in
-        HasSliceOutcome o queue.old slice.now after sequence.new queue.new) }
+        let o = begun_in sequence.old.output sets.entry.pps.now sets.entry.sps.now sequence.old.history slice.now in
+        HasSliceOutcome sequence.old.output o queue.old slice.now after sequence.new queue.new) }
 {
     if slice.header.first_mb_in_slice.get() != 0 {
         fail(sequence, queue, slice.unit, Fault::MissingMacroblocks)?;
@@ -117,10 +114,9 @@ pub fn continue_picture(
     slice: &Slice,
 ) -> Result<AfterSlice, OutOfMemory>
     requires picture { IsOpenIn sequence.old last_unit picture }
-    requires mode { sequence.old.output ≡ Full }
     requires can { CanHave sequence.old picture slice.now }
-    ensures fault { IfOk result (λ after. is_none after.picture ≡ is_waiting (continued_in sequence.old.history picture slice.now).phase) }
-    ensures state { IfOk result (λ after. HasSliceOutcome (continued_in sequence.old.history picture slice.now) queue.old slice.now after sequence.new queue.new) }
+    ensures fault { IfOk result (λ after. is_none after.picture ≡ is_waiting (continued_in sequence.old.output sequence.old.history picture slice.now).phase) }
+    ensures state { IfOk result (λ after. HasSliceOutcome sequence.old.output (continued_in sequence.old.output sequence.old.history picture slice.now) queue.old slice.now after sequence.new queue.new) }
 {
     let after = decode_slice(sequence, queue, picture, slice)?;
     Ok(after)
@@ -146,7 +142,6 @@ fn decode_slice(
     mut picture: PictureDecoder<PADDING>,
     slice: &Slice,
 ) -> Result<AfterSlice, OutOfMemory>
-    requires mode { sequence.old.output ≡ Full }
     requires can { CanHave sequence.old picture slice.now }
     requires well { HasNoFault picture }
     ensures state { IfOk result (λ after. Decodes picture slice.now sequence.old queue.old after.picture sequence.new queue.new) }
@@ -180,9 +175,8 @@ pub fn fail(
     unit: u64,
     fault: Fault,
 ) -> Result<(), OutOfMemory>
-    requires { sequence.old.output ≡ Full }
-    ensures sequence { OnOk result (sequence.new ≡ empty_sequence Full) }
-    ensures queue { OnOk result (queue.new ≡ with_events (failed_at (current_history sequence.old) unit fault 0).events queue.old) }
+    ensures sequence { OnOk result (sequence.new ≡ empty_sequence sequence.old.output) }
+    ensures queue { OnOk result (queue.new ≡ with_events (failed_at sequence.old.output (current_history sequence.old) unit fault 0).events queue.old) }
 {
     empty(sequence, queue)?;
     queue.refuse(unit, fault)?;
@@ -191,9 +185,8 @@ pub fn fail(
 
 /// All held pictures go out, and the history is forgotten.
 pub fn empty(sequence: &mut Sequence, queue: &mut Queue) -> Result<(), OutOfMemory>
-    requires { sequence.old.output ≡ Full }
-    ensures sequence { OnOk result (sequence.new ≡ empty_sequence Full) }
-    ensures queue { OnOk result (queue.new ≡ with_events (pictures (held_pictures Full (current_history sequence.old))) queue.old) }
+    ensures sequence { OnOk result (sequence.new ≡ empty_sequence sequence.old.output) }
+    ensures queue { OnOk result (queue.new ≡ with_events (pictures (held_pictures sequence.old.output (current_history sequence.old))) queue.old) }
 {
     let out = sequence.clear()?;
     queue.show(out)?;

@@ -34,11 +34,12 @@ pub struct Pictures {
 
 impl Model for Pictures {
     ghost use Rattle.std.specs.Prelude.{◌≡◌, false};
-    ghost use Rattle.avc_decoder.specs.States.{open_picture_of, PicturesState, HasOpenPicture};
+    ghost use Rattle.avc_decoder.specs.States.{open_picture_of, PicturesState, IsOpen};
 
     ghost Value = { PicturesState };
 
     ghost view = { λ p. record {
+      output = p.sequence.output;
       history = p.sequence.history;
       open_picture = open_picture_of p.sequence.history p.picture;
       events = p.queue.events;
@@ -47,17 +48,17 @@ impl Model for Pictures {
       failed = p.failed;
     } };
 
-    ghost invariant = { λ p. p.failed ≡ false → HasOpenPicture p.sequence p.last_unit p.picture };
+    ghost invariant = { λ p. p.failed ≡ false → IsOpen p.sequence p.last_unit p.picture };
 }
 
 impl Pictures {
     /// With no picture.
-    pub fn new(alloc: Global) -> Pictures
-        ensures { result ≡ no_pictures }
+    pub fn new(alloc: Global, output: Output) -> Pictures
+        ensures { result ≡ no_pictures output }
     {
         Pictures {
             alloc,
-            sequence: Sequence::new(alloc, Output::Full),
+            sequence: Sequence::new(alloc, output),
             picture: None,
             last_unit: 0,
             queue: Queue::new(alloc),
@@ -80,8 +81,8 @@ impl Pictures {
     /// Closes the open picture, if there is one. Says whether that was a fault.
     pub fn close(&mut self) -> Result<bool, OutOfMemory>
         requires { self.old.failed ≡ false }
-        ensures fault { IfOk result (λ fault. fault ≡ is_waiting (closed_in self.old.history self.old.open_picture).phase) }
-        ensures state { OnOk result (self.new ≡ after_outcome (closed_in self.old.history self.old.open_picture) self.old) }
+        ensures fault { IfOk result (λ fault. fault ≡ is_waiting (closed_in self.old.output self.old.history self.old.open_picture).phase) }
+        ensures state { OnOk result (self.new ≡ after_outcome (closed_in self.old.output self.old.history self.old.open_picture) self.old) }
     {
         let Some(picture) = self.picture.take() else {
             return Ok(false);
@@ -99,8 +100,8 @@ impl Pictures {
         requires sps { IsSps sets.sps.now }
         requires pps { IsPps sets.pps.now }
         requires within { IsHeader sets.sps.now sets.pps.now slice.rbsp slice.header }
-        ensures fault { IfOk result (λ fault. fault ≡ is_waiting (after_first_slice (Some (sets.entry.pps.now, sets.entry.sps.now)) self.old.history slice).phase) }
-        ensures state { OnOk result (self.new ≡ after_outcome (after_first_slice (Some (sets.entry.pps.now, sets.entry.sps.now)) self.old.history slice) self.old) }
+        ensures fault { IfOk result (λ fault. fault ≡ is_waiting (after_first_slice self.old.output (Some (sets.entry.pps.now, sets.entry.sps.now)) self.old.history slice).phase) }
+        ensures state { OnOk result (self.new ≡ after_outcome (after_first_slice self.old.output (Some (sets.entry.pps.now, sets.entry.sps.now)) self.old.history slice) self.old) }
     {
         self.failed = true;
         self.last_unit = slice.unit;
@@ -122,8 +123,8 @@ impl Pictures {
     pub fn next_slice(&mut self, slice: Slice) -> Result<bool, OutOfMemory>
         requires going { self.old.failed ≡ false }
         requires continues { (o : OpenPicture) → self.old.open_picture ≡ Some o → CanContinue o slice }
-        ensures fault { IfOk result (λ fault. fault ≡ is_waiting (after_next_slice (running self.old.history self.old.open_picture) slice).phase) }
-        ensures state { OnOk result (self.new ≡ after_outcome (after_next_slice (running self.old.history self.old.open_picture) slice) self.old) }
+        ensures fault { IfOk result (λ fault. fault ≡ is_waiting (after_next_slice self.old.output (running self.old.history self.old.open_picture) slice).phase) }
+        ensures state { OnOk result (self.new ≡ after_outcome (after_next_slice self.old.output (running self.old.history self.old.open_picture) slice) self.old) }
     {
         let Some(picture) = self.picture.take() else {
             return Ok(false);
@@ -147,7 +148,7 @@ impl Pictures {
     /// A fault of the open picture, or of a unit that is a faulty picture of its own.
     pub fn fail(&mut self, unit: u64, fault: Fault) -> Result<(), OutOfMemory>
         requires { self.old.failed ≡ false }
-        ensures { OnOk result (self.new ≡ after_outcome (failed_at (history_on self.old) unit fault 0) self.old) }
+        ensures { OnOk result (self.new ≡ after_outcome (failed_at self.old.output (history_on self.old) unit fault 0) self.old) }
     {
         self.failed = true;
         self.picture = None;
@@ -167,7 +168,7 @@ impl Pictures {
     /// Lets all held pictures go out and forgets the others, with the open one, if there is one.
     pub fn empty(&mut self) -> Result<(), OutOfMemory>
         requires { self.old.failed ≡ false }
-        ensures { OnOk result (self.new ≡ after_outcome (held_outcome (history_on self.old)) self.old) }
+        ensures { OnOk result (self.new ≡ after_outcome (held_outcome self.old.output (history_on self.old)) self.old) }
     {
         self.failed = true;
         self.picture = None;

@@ -10,6 +10,7 @@ use crate::active_sets::ActiveSets;
 use crate::event::Event;
 use crate::pictures::Pictures;
 use avc_annexb::Unit;
+use avc_decoder_core::Output;
 use avc_slice::Slice;
 use avc_types::OutOfMemory;
 use avc_units::{Grouper, Next};
@@ -43,21 +44,21 @@ impl Model for Stream {
 
 impl Stream {
     /// At the start: it waits for a picture to start with.
-    pub fn new(alloc: Global) -> Stream
-        ensures { result ≡ new_stream }
+    pub fn new(alloc: Global, output: Output) -> Stream
+        ensures { result ≡ new_stream output }
     {
         Stream {
             grouper: Grouper::new(alloc),
-            pictures: Pictures::new(alloc),
+            pictures: Pictures::new(alloc, output),
             failed: false,
         }
     }
 
     /// Forgets everything, parameter sets too.
-    pub fn reset(&mut self, alloc: Global)
-        ensures { self.new ≡ new_stream }
+    pub fn reset(&mut self, alloc: Global, output: Output)
+        ensures { self.new ≡ new_stream output }
     {
-        *self = Stream::new(alloc);
+        *self = Stream::new(alloc, output);
     }
 
     /// Takes the next unit.
@@ -168,8 +169,8 @@ fn begin(grouper: &Grouper, pictures: &mut Pictures, slice: Slice) -> Result<boo
     requires going { pictures.old.failed ≡ false }
     requires rest { pictures.old.open_picture ≡ None }
     requires within { IsSliceUnder (sets_after grouper.now.sets) slice }
-    ensures fault { IfOk result (λ fault. fault ≡ is_waiting (after_first_slice (sets_named (sets_after grouper.now.sets) slice.header) pictures.old.history slice).phase) }
-    ensures state { OnOk result (pictures.new ≡ after_outcome (after_first_slice (sets_named (sets_after grouper.now.sets) slice.header) pictures.old.history slice) pictures.old) }
+    ensures fault { IfOk result (λ fault. fault ≡ is_waiting (after_first_slice pictures.old.output (sets_named (sets_after grouper.now.sets) slice.header) pictures.old.history slice).phase) }
+    ensures state { OnOk result (pictures.new ≡ after_outcome (after_first_slice pictures.old.output (sets_named (sets_after grouper.now.sets) slice.header) pictures.old.history slice) pictures.old) }
 {
     let table = grouper.table();
     let Some(pps) = table.pps(slice.header.pic_parameter_set_id) else {

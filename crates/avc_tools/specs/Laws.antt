@@ -8,6 +8,7 @@ use Rattle.avc_annexb.specs.Units.{units}
 use Rattle.avc_annexb.specs.declared.unit.Unit.{Unit}
 use Rattle.avc_slice.specs.declared.slice.Slice.{Slice}
 use Rattle.avc_units.specs.Grouping.{is_start, slice_in, tables}
+use Rattle.avc_decoder.specs.Output.{Output}
 use Rattle.avc_decoder.specs.Events.{events}
 use Rattle.avc_decoder.specs.declared.event.Event.{Event}
 use Rattle.avc_decoder.specs.declared.event.Event.TheVariants.{Picture, Refused}
@@ -35,8 +36,8 @@ drop_flags before (u ∷ after) =
 -- Where a stream has no refusal, and no IDR picture but the first drops what is held, its pictures are those of its pieces.
 abbrev pub PiecesDecodeAlike : Type 0
 PiecesDecodeAlike =
-    (max : ℕ) (bytes : List ℕ) →
+    (output : Output) (max : ℕ) (bytes : List ℕ) →
     length bytes + sum_by length (pieces bytes) < 2 ^ 64 - 1 →
-    IsTrue (list_all is_picture (events max bytes true)) →
+    IsTrue (list_all is_picture (events output max bytes true)) →
     IsTrue (list_all (λ f. not f) (drop 1 (drop_flags [] (units max bytes true)))) →
-    events max bytes true ≡ flat_map (λ piece. events max piece true) (pieces bytes)
+    events output max bytes true ≡ flat_map (λ piece. events output max piece true) (pieces bytes)

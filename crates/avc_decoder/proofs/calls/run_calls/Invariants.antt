@@ -3,4 +3,4 @@ use Rattle.avc_decoder.specs.Machine.{new_machine, Run}
 use Rattle.avc_decoder.proofs.calls.run_calls.Given as goal
 
 abbrev pub invariant-loop-call : goal.invariant-loop-call
-invariant-loop-call g l = Run g.row.MAX new_machine (take l.call-index l.calls) l.replies.items l.decoder
+invariant-loop-call g l = Run g.row.MAX (new_machine l.fn.output) (take l.call-index l.calls) l.replies.items l.decoder

@@ -18,5 +18,5 @@ decode_slice-requires-clause-well c = begun_well c.in_ok-picture-in-Ok.picture c
 pub returns-in_ok-after-in-Ok : goal.returns-in_ok-after-in-Ok
 returns-in_ok-after-in-Ok c =
     let k = first_slice c.missing_numbers_keep_the_order.ensures c.args.sequence.now c.open.new.self c.decode_slice.new.sequence c.args.queue.now c.show.new.self c.decode_slice.new.queue c.args.sets.sps.now c.args.sets.pps.now c.frames_for-frames.result.now c.args.slice.now c.in-Ok.out.items c.in_ok-picture-in-Ok.picture c.in_ok-after-in-Ok.after.picture c.in_ok-after-in-Ok.after.read
-    c.requires.mode (sym c.get.ensures ∙ c.if-get-ne0.false) c.in-Ok.ensures.ok c.in_ok-show-in-Ok.ensures c.in_ok-picture-in-Ok.ensures c.in_ok-after-in-Ok.ensures.state c.in_ok-after-in-Ok.ensures.read in
+    (sym c.get.ensures ∙ c.if-get-ne0.false) c.in-Ok.ensures.ok c.in_ok-show-in-Ok.ensures c.in_ok-picture-in-Ok.ensures c.in_ok-after-in-Ok.ensures.state c.in_ok-after-in-Ok.ensures.read in
     record { fault = k.fault; state = k.state }

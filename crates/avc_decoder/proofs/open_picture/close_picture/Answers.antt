@@ -19,7 +19,7 @@ returns-in_ok-show-in-Ok-close c =
     let full = ends_full s c.args.last_unit c.args.picture c.requires.picture c.in-Ok.ensures.answer.1 in
     let planes = padded_planes_of c.in-Ok.planes in
     let made = has_planes s (c.requires.picture.last).header c.args.picture planes c.requires.picture.frames c.in-Ok.ensures.answer.2 in
-    let k = closes_done s c.close.new.self c.args.queue.now c.show.new.self c.args.last_unit c.args.picture planes c.in-Ok-close.out.items c.requires.picture c.requires.mode full made c.in-Ok-close.ensures.ok c.in_ok-show-in-Ok-close.ensures in
+    let k = closes_done s c.close.new.self c.args.queue.now c.show.new.self c.args.last_unit c.args.picture planes c.in-Ok-close.out.items c.requires.picture full made c.in-Ok-close.ensures.ok c.in_ok-show-in-Ok-close.ensures in
     record { fault = k.fault; state = k.state }
 
 -- it could not be marked

@@ -6,5 +6,5 @@ pub continue_picture-requires-clause-can : goal.continue_picture-requires-clause
 continue_picture-requires-clause-can c =
     let p = c.self.inside in
     let there = sym c.take.ensures.value ∙ c.in-Some.is in
-    let works = rw there at (c.self.invariant (ap (λ k. k.failed) c.self.view_is ∙ c.requires.going)).works in
+    let works = rw there at (c.self.invariant (ap (λ k. k.failed) c.self.view_is ∙ c.requires.going)) in
     can_have p.sequence p.last_unit c.in-Some.picture c.args.slice works (rw (← c.self.view_is, there) at c.requires.continues)
