@@ -13,3 +13,4 @@ pub mod Outputs
 pub mod MissingNumbers
 pub mod Held
 pub mod Sequences
+pub mod Anew

@@ -1,8 +1,25 @@
-//! Laws of what goes out (C.4.5.3).
+//! Laws of what goes out (C.4.5.3), and of what an IDR picture begins anew.
 
-ghost use Rattle.avc_decoder_core.specs.Laws.{MissingNumbersKeepTheOrder};
+ghost use Rattle.avc_decoder_core.specs.Laws.{MissingNumbersKeepTheOrder, IdrPicturesBeginAnew};
+
+use avc_dpb::laws::{all_held_go_out_before, later_frames_go_out_alike, output_begins_anew};
+use avc_marking::laws::idr_pictures_mark_anew;
+use avc_poc::laws::{idr_pictures_count_alone, idr_pictures_count_anew};
 
 /// What goes out for missing frame numbers goes first of what is held.
 pub fn missing_numbers_keep_the_order()
     ensures { MissingNumbersKeepTheOrder }
 {}
+
+/// Where all that is held goes out with an IDR picture, what is decoded from that picture on does not depend on the history
+/// before it.
+pub fn idr_pictures_begin_anew()
+    ensures { IdrPicturesBeginAnew }
+{
+    idr_pictures_count_anew();
+    idr_pictures_count_alone();
+    idr_pictures_mark_anew();
+    output_begins_anew();
+    all_held_go_out_before();
+    later_frames_go_out_alike();
+}
