@@ -1,8 +1,9 @@
 #!/bin/sh
 # Runs the built program and compares what it writes, its standard error and its status with what must come. NAME.264 is a stream,
-# NAME.md5 the md5 of its pictures as I420, NAME.refused, where there is one, the standard error with status 1 (else nothing is
-# written there, and the status is 0), and NAME.units, where there is one, what `units` writes. Words and faults of reading and
-# writing are tried after that. The last line is 'N passed, M failed'.
+# NAME.md5 the md5 of its pictures as I420, NAME.early, where there is one, the other md5 that `decode --early` gives, NAME.refused,
+# where there is one, the standard error with status 1 (else nothing is written there, and the status is 0), and NAME.units, where
+# there is one, what `units` writes. Words and faults of reading and writing are tried after that. The last line is
+# 'N passed, M failed'.
 set -u
 here=$(cd "$(dirname "$0")" && pwd)
 program=$here/../avcdec
@@ -72,15 +73,20 @@ pieces_decode_alike() {
 for stream in "$here"/*/*.264; do
     name=${stream%.264}
     if [ -f "$name.md5" ]; then
-        "$program" decode <"$stream" >"$work/pictures" 2>"$work/told"
-        status=$?
         wanted=0
         refused=/dev/null
         if [ -f "$name.refused" ]; then
             wanted=1
             refused=$name.refused
         fi
-        holds "${name#"$here"/}" is_decoded "$name.md5" "$status" "$wanted" "$refused"
+        early=$name.md5
+        if [ -f "$name.early" ]; then
+            early=$name.early
+        fi
+        "$program" decode <"$stream" >"$work/pictures" 2>"$work/told"
+        holds "${name#"$here"/}" is_decoded "$name.md5" $? "$wanted" "$refused"
+        "$program" decode --early <"$stream" >"$work/pictures" 2>"$work/told"
+        holds "early: ${name#"$here"/}" is_decoded "$early" $? "$wanted" "$refused"
     fi
     if [ -f "$name.units" ]; then
         "$program" units <"$stream" >"$work/lines" 2>"$work/told"

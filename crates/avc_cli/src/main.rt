@@ -29,7 +29,7 @@ fn carry_out(rt: &HostRuntime, request: Request) -> u8 {
     let mut writer = io::writer(rt);
     let mut errors = rt.stderr();
     match request {
-        Request::Decode => decode(alloc, &mut reader, &mut writer, &mut errors),
+        Request::Decode(output) => decode(alloc, output, &mut reader, &mut writer, &mut errors),
         Request::Units => units(alloc, &mut reader, &mut writer, &mut errors),
         Request::Headers => headers(alloc, &mut reader, &mut writer, &mut errors),
         Request::Cut(number) => cut(alloc, number, &mut reader, &mut writer, &mut errors),

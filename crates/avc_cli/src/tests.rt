@@ -1,6 +1,7 @@
 // What no contract says: what the words of the command line mean. Where an allocation is refused
 // (`rt try --test --fail-alloc N`), a test ends in that error, and not at an assertion.
 use crate::request::{Request, requested};
+use avc_run::Output;
 use clap::error::ErrorKind;
 use std::alloc::Global;
 use std::test::Fail;
@@ -21,6 +22,18 @@ fn taken(alloc: Global, line: &str) -> Result<Result<Request, (ErrorKind, i32)>,
 #[test]
 fn takes_words(rt: HostRuntime) -> Result<(), Fail> {
     let alloc = rt.alloc();
+    assert_eq!(rt;
+        taken(alloc, "avcdec decode")?,
+        Ok(Request::Decode(Output::Full))
+    );
+    assert_eq!(rt;
+        taken(alloc, "avcdec decode --early")?,
+        Ok(Request::Decode(Output::Early))
+    );
+    assert_eq!(rt;
+        taken(alloc, "avcdec units --early")?,
+        Err((ErrorKind::UnknownArgument, 2))
+    );
     assert_eq!(rt; taken(alloc, "avcdec units")?, Ok(Request::Units));
     assert_eq!(rt; taken(alloc, "avcdec headers")?, Ok(Request::Headers));
     assert_eq!(rt; taken(alloc, "avcdec cut 0")?, Ok(Request::Cut(0)));

@@ -5,6 +5,7 @@ use Rattle.std.specs.Io.KnownBytes.{Appends, Consumes, IsAtEnd, Keeps}
 use Rattle.std.proofs.KnownBytes.{Appends-nil, Appends-trans, Consumes-kept, Consumes-nil, Consumes-trans}
 use Rattle.std.proofs.Math.Seq.{drop-append_seam, take-length}
 use Rattle.std.proofs.lemmas.List.{take-append-le, take-take}
+use Rattle.avc_decoder.specs.Output.{Output}
 use Rattle.avc_decoder.specs.Events.{events}
 use Rattle.avc_decoder.specs.Laws.{EventsOnlyGrow}
 use Rattle.avc_decoder.specs.Machine.{Machine, after_feed, after_flush}
@@ -33,17 +34,17 @@ told_more a b = ap (λ r. reported r b) (sym (told a)) ∙ sym (reported-append 
 
 -- ---- what is due
 
-abbrev taken_so_far : (bytes : List ℕ) → Machine
-taken_so_far bytes = record { bytes = bytes; ended = false; taken = length (events max_unit bytes false); failed = false }
+abbrev taken_so_far : Output → (bytes : List ℕ) → Machine
+taken_so_far output bytes = record { output = output; bytes = bytes; ended = false; taken = length (events output max_unit bytes false); failed = false }
 
 -- the events that come with more bytes, or with the end
-due_then : EventsOnlyGrow → (bytes more : List ℕ) (ended : Bool) →
+due_then : EventsOnlyGrow → (output : Output) (bytes more : List ℕ) (ended : Bool) →
     (others : List Event)
-    × (events max_unit (bytes ++ more) ended ≡ events max_unit bytes false ++ others)
-    × (drop (length (events max_unit bytes false)) (events max_unit (bytes ++ more) ended) ≡ others)
-due_then grow bytes more ended =
-    let later = grow max_unit bytes more ended in
-    let front = events max_unit bytes false in
+    × (events output max_unit (bytes ++ more) ended ≡ events output max_unit bytes false ++ others)
+    × (drop (length (events output max_unit bytes false)) (events output max_unit (bytes ++ more) ended) ≡ others)
+due_then grow output bytes more ended =
+    let later = grow output max_unit bytes more ended in
+    let front = events output max_unit bytes false in
     (later.0, later.1, ap (λ es. drop (length front) es) later.1 ∙ drop-append_seam front later.0)
 
 drained_then : (m : Machine) (front others : List Event) → m.taken ≡ length front → come m ≡ front ++ others → due m ≡ others →
@@ -55,15 +56,15 @@ drained_then m front others taken all due' =
 
 -- ---- the states of a run
 
-pub started : (unread holds : Option (List ℕ)) → IsRunning unread unread holds holds (taken_so_far []) fresh
-started unread holds = record { bytes = []; consumed = Consumes-nil unread; machine = refl; report = refl; written = Appends-nil holds }
+pub started : (output : Output) (unread holds : Option (List ℕ)) → IsRunning output unread unread holds holds (taken_so_far output []) fresh
+started output unread holds = record { bytes = []; consumed = Consumes-nil unread; machine = refl; report = refl; written = Appends-nil holds }
 
-pub one_piece : EventsOnlyGrow → (unread left left' w0 w w' : Option (List ℕ)) (d d' : Machine) (r r' : Report) (piece : List ℕ) →
-    IsRunning unread left w0 w d r → Consumes left left' piece → IsHandled (after_feed piece d) d' r r' w w' → IsRunning unread left' w0 w' d' r'
-one_piece grow unread left left' w0 w w' d d' r r' piece i more h =
-    let m = after_feed piece (taken_so_far i.bytes) in
-    let front = events max_unit i.bytes false in
-    let then' = due_then grow i.bytes piece false in
+pub one_piece : EventsOnlyGrow → (output : Output) (unread left left' w0 w w' : Option (List ℕ)) (d d' : Machine) (r r' : Report) (piece : List ℕ) →
+    IsRunning output unread left w0 w d r → Consumes left left' piece → IsHandled (after_feed piece d) d' r r' w w' → IsRunning output unread left' w0 w' d' r'
+one_piece grow output unread left left' w0 w w' d d' r r' piece i more h =
+    let m = after_feed piece (taken_so_far output i.bytes) in
+    let front = events output max_unit i.bytes false in
+    let then' = due_then grow output i.bytes piece false in
     let same : after_feed piece d ≡ m = ap (λ n. after_feed piece n) i.machine in
     let due_is : due (after_feed piece d) ≡ then'.0 = ap (λ n. due n) same ∙ then'.2 in
     record {
@@ -77,23 +78,23 @@ one_piece grow unread left left' w0 w w' d d' r r' piece i more h =
     }
 
 -- what is due at the end
-due_at_end : EventsOnlyGrow → (bytes : List ℕ) → (others : List Event) × (defined bytes ≡ events max_unit bytes false ++ others) × (drop (length (events max_unit bytes false)) (defined bytes) ≡ others)
-due_at_end grow bytes =
-    let then' = due_then grow bytes [] true in
-    let same : defined bytes ≡ events max_unit (bytes ++ []) true = ap (λ bs. events max_unit bs true) (sym (append-nil bytes)) in
-    (then'.0, same ∙ then'.1, ap (λ es. drop (length (events max_unit bytes false)) es) same ∙ then'.2)
+due_at_end : EventsOnlyGrow → (output : Output) (bytes : List ℕ) → (others : List Event) × (defined output bytes ≡ events output max_unit bytes false ++ others) × (drop (length (events output max_unit bytes false)) (defined output bytes) ≡ others)
+due_at_end grow output bytes =
+    let then' = due_then grow output bytes [] true in
+    let same : defined output bytes ≡ events output max_unit (bytes ++ []) true = ap (λ bs. events output max_unit bs true) (sym (append-nil bytes)) in
+    (then'.0, same ∙ then'.1, ap (λ es. drop (length (events output max_unit bytes false)) es) same ∙ then'.2)
 
 -- a read of none
 nothing_more : (unread left left' : Option (List ℕ)) (bytes piece : List ℕ) (len : ℕ) → Consumes unread left bytes → len ≡ 0 → Consumes left left' (take len piece) → Consumes unread left' bytes
 nothing_more unread left left' bytes piece len so_far none more =
     subst (Consumes unread left') (append-nil bytes) (Consumes-trans unread left left' bytes [] so_far (subst (λ n. Consumes left left' (take n piece)) none more))
 
-pub ended : EventsOnlyGrow → (unread left left' w0 w w' : Option (List ℕ)) (d d' : Machine) (r r' : Report) (len : ℕ) (piece : List ℕ) →
-    IsRunning unread left w0 w d r → len ≡ 0 → Consumes left left' (take len piece) → IsAtEnd left' → IsHandled (after_flush d) d' r r' w w' → Decodes unread left' w0 w' (Ok r')
-ended grow unread left left' w0 w w' d d' r r' len piece i none more at_end h =
-    let front = events max_unit i.bytes false in
-    let then' = due_at_end grow i.bytes in
-    let same : after_flush d ≡ after_flush (taken_so_far i.bytes) = ap (λ n. after_flush n) i.machine in
+pub ended : EventsOnlyGrow → (output : Output) (unread left left' w0 w w' : Option (List ℕ)) (d d' : Machine) (r r' : Report) (len : ℕ) (piece : List ℕ) →
+    IsRunning output unread left w0 w d r → len ≡ 0 → Consumes left left' (take len piece) → IsAtEnd left' → IsHandled (after_flush d) d' r r' w w' → Decodes output unread left' w0 w' (Ok r')
+ended grow output unread left left' w0 w w' d d' r r' len piece i none more at_end h =
+    let front = events output max_unit i.bytes false in
+    let then' = due_at_end grow output i.bytes in
+    let same : after_flush d ≡ after_flush (taken_so_far output i.bytes) = ap (λ n. after_flush n) i.machine in
     let due_is : due (after_flush d) ≡ then'.0 = ap (λ n. due n) same ∙ then'.2 in
     let consumed = nothing_more unread left left' i.bytes piece len i.consumed none more in (
       i.bytes,
@@ -106,14 +107,14 @@ ended grow unread left left' w0 w w' d d' r r' len piece i none more at_end h =
 -- ---- faults
 
 -- one of reading
-pub unread_on : (unread left left' w0 w : Option (List ℕ)) (d : Machine) (r : Report) (f : RunFault) → IsRunning unread left w0 w d r → Keeps left left' → f ≡ Read → Decodes unread left' w0 w (Err f)
-unread_on unread left left' w0 w d r f i kept is =
-    subst (λ f. Decodes unread left' w0 w (Err f)) (sym is) (i.bytes, record { consumed = Consumes-kept unread left left' i.bytes i.consumed kept; whole = λ all. cc }, i.written)
+pub unread_on : (output : Output) (unread left left' w0 w : Option (List ℕ)) (d : Machine) (r : Report) (f : RunFault) → IsRunning output unread left w0 w d r → Keeps left left' → f ≡ Read → Decodes output unread left' w0 w (Err f)
+unread_on output unread left left' w0 w d r f i kept is =
+    subst (λ f. Decodes output unread left' w0 w (Err f)) (sym is) (i.bytes, record { consumed = Consumes-kept unread left left' i.bytes i.consumed kept; whole = λ all. cc }, i.written)
 
 -- no memory for the first piece
-pub no_piece : (unread old : Option (List ℕ)) (f : RunFault) → f ≡ Memory → Decodes unread unread old old (Err f)
-no_piece unread old f is =
-    subst (λ f. Decodes unread unread old old (Err f)) (sym is) (
+pub no_piece : (output : Output) (unread old : Option (List ℕ)) (f : RunFault) → f ≡ Memory → Decodes output unread unread old old (Err f)
+no_piece output unread old f is =
+    subst (λ f. Decodes output unread unread old old (Err f)) (sym is) (
       [],
       false,
       record { consumed = Consumes-nil unread; whole = λ all. cc },
@@ -121,35 +122,35 @@ no_piece unread old f is =
     )
 
 -- a fault at the events of all bytes so far
-broken : (fault : RunFault) (unread left w0 w' : Option (List ℕ)) (bytes : List ℕ) (all : Bool) → HasRead unread left bytes all
-    → BreaksOff fault w0 w' (shown (events max_unit bytes all)) → Decodes unread left w0 w' (Err fault)
-broken Read unread left w0 w' bytes all read off = absurd off
-broken Write unread left w0 w' bytes all read off = (bytes, all, read, off)
-broken Memory unread left w0 w' bytes all read off = (bytes, all, read, off)
+broken : (output : Output) (fault : RunFault) (unread left w0 w' : Option (List ℕ)) (bytes : List ℕ) (all : Bool) → HasRead unread left bytes all
+    → BreaksOff fault w0 w' (shown (events output max_unit bytes all)) → Decodes output unread left w0 w' (Err fault)
+broken output Read unread left w0 w' bytes all read off = absurd off
+broken output Write unread left w0 w' bytes all read off = (bytes, all, read, off)
+broken output Memory unread left w0 w' bytes all read off = (bytes, all, read, off)
 
 -- at the events of a piece
-pub broken_in : EventsOnlyGrow → (unread left left' w0 w w' : Option (List ℕ)) (d : Machine) (r : Report) (piece : List ℕ) (fault : RunFault) →
-    IsRunning unread left w0 w d r → Consumes left left' piece → BreaksOff fault w w' (shown (due (after_feed piece d))) → Decodes unread left' w0 w' (Err fault)
-broken_in grow unread left left' w0 w w' d r piece fault i more off =
-    let front = events max_unit i.bytes false in
-    let then' = due_then grow i.bytes piece false in
+pub broken_in : EventsOnlyGrow → (output : Output) (unread left left' w0 w w' : Option (List ℕ)) (d : Machine) (r : Report) (piece : List ℕ) (fault : RunFault) →
+    IsRunning output unread left w0 w d r → Consumes left left' piece → BreaksOff fault w w' (shown (due (after_feed piece d))) → Decodes output unread left' w0 w' (Err fault)
+broken_in grow output unread left left' w0 w w' d r piece fault i more off =
+    let front = events output max_unit i.bytes false in
+    let then' = due_then grow output i.bytes piece false in
     let due_is : due (after_feed piece d) ≡ then'.0 = ap (λ n. due (after_feed piece n)) i.machine ∙ then'.2 in
-    let all : shown (events max_unit (i.bytes ++ piece) false) ≡ shown front ++ (shown (due (after_feed piece d)) ++ []) =
+    let all : shown (events output max_unit (i.bytes ++ piece) false) ≡ shown front ++ (shown (due (after_feed piece d)) ++ []) =
     ap (λ es. shown es) then'.1 ∙ shown-append front then'.0 ∙ ap (λ es. shown front ++ shown es) (sym due_is) ∙ ap (λ bs. shown front ++ bs) (sym (append-nil (shown (due (after_feed piece d))))) in
-    broken fault unread left' w0 w' (i.bytes ++ piece) false
+    broken output fault unread left' w0 w' (i.bytes ++ piece) false
     (record { consumed = Consumes-trans unread left left' i.bytes piece i.consumed more; whole = λ all. cc })
     (subst (BreaksOff fault w0 w') (sym all) (breaks_later fault w0 w w' (shown front) (shown (due (after_feed piece d))) [] i.written off))
 
 -- at the events of the end
-pub broken_at_end : EventsOnlyGrow → (unread left left' w0 w w' : Option (List ℕ)) (d : Machine) (r : Report) (len : ℕ) (piece : List ℕ) (fault : RunFault) →
-    IsRunning unread left w0 w d r → len ≡ 0 → Consumes left left' (take len piece) → IsAtEnd left' → BreaksOff fault w w' (shown (due (after_flush d))) → Decodes unread left' w0 w' (Err fault)
-broken_at_end grow unread left left' w0 w w' d r len piece fault i none more at_end off =
-    let front = events max_unit i.bytes false in
-    let then' = due_at_end grow i.bytes in
+pub broken_at_end : EventsOnlyGrow → (output : Output) (unread left left' w0 w w' : Option (List ℕ)) (d : Machine) (r : Report) (len : ℕ) (piece : List ℕ) (fault : RunFault) →
+    IsRunning output unread left w0 w d r → len ≡ 0 → Consumes left left' (take len piece) → IsAtEnd left' → BreaksOff fault w w' (shown (due (after_flush d))) → Decodes output unread left' w0 w' (Err fault)
+broken_at_end grow output unread left left' w0 w w' d r len piece fault i none more at_end off =
+    let front = events output max_unit i.bytes false in
+    let then' = due_at_end grow output i.bytes in
     let due_is : due (after_flush d) ≡ then'.0 = ap (λ n. due (after_flush n)) i.machine ∙ then'.2 in
-    let all : shown (defined i.bytes) ≡ shown front ++ (shown (due (after_flush d)) ++ []) =
+    let all : shown (defined output i.bytes) ≡ shown front ++ (shown (due (after_flush d)) ++ []) =
     ap (λ es. shown es) then'.1 ∙ shown-append front then'.0 ∙ ap (λ es. shown front ++ shown es) (sym due_is) ∙ ap (λ bs. shown front ++ bs) (sym (append-nil (shown (due (after_flush d))))) in
-    broken fault unread left' w0 w' i.bytes true
+    broken output fault unread left' w0 w' i.bytes true
     (record { consumed = nothing_more unread left left' i.bytes piece len i.consumed none more; whole = λ is. at_end })
     (subst (BreaksOff fault w0 w') (sym all) (breaks_later fault w0 w w' (shown front) (shown (due (after_flush d))) [] i.written off))
 
@@ -158,19 +159,19 @@ some_are_all : (old new : Option (List ℕ)) (bytes : List ℕ) → Appends old 
 some_are_all old new bytes all = record { count = length bytes; within = omega arith; written = subst (Appends old new) (sym (take-length bytes)) all }
 
 -- where no memory is found for the text of a run
-pub untold : (unread left old new : Option (List ℕ)) (r : Result Report RunFault) → Decodes unread left old new r → Decodes unread left old new (Err Memory)
-untold unread left old new (Ok report) run = (run.0, true, run.1, some_are_all old new (shown (defined run.0)) run.2)
-untold unread left old new (Err Read) run = (run.0, false, run.1, some_are_all old new (shown (events max_unit run.0 false)) run.2)
-untold unread left old new (Err Write) run =
+pub untold : (output : Output) (unread left old new : Option (List ℕ)) (r : Result Report RunFault) → Decodes output unread left old new r → Decodes output unread left old new (Err Memory)
+untold output unread left old new (Ok report) run = (run.0, true, run.1, some_are_all old new (shown (defined output run.0)) run.2)
+untold output unread left old new (Err Read) run = (run.0, false, run.1, some_are_all old new (shown (events output max_unit run.0 false)) run.2)
+untold output unread left old new (Err Write) run =
     (run.0, run.1, run.2, record { count = run.3.count; within = omega (arith, run.3.fewer); written = run.3.written })
-untold unread left old new (Err Memory) run = run
+untold output unread left old new (Err Memory) run = run
 
 pub err_is : {A : Type 0} (r : Result A RunFault) (f : RunFault) → IsErrAnd r (λ e. e ≡ f) → r ≡ Err f
 err_is (Ok a) f is = absurd is
 err_is (Err e) f is = ap (λ e. Err e) is
 
-pub decodes_err : (unread left old new : Option (List ℕ)) (r : Result Report RunFault) (f : RunFault) → r ≡ Err f → Decodes unread left old new (Err f) → Decodes unread left old new r
-decodes_err unread left old new r f is d = subst (Decodes unread left old new) (sym is) d
+pub decodes_err : (output : Output) (unread left old new : Option (List ℕ)) (r : Result Report RunFault) (f : RunFault) → r ≡ Err f → Decodes output unread left old new (Err f) → Decodes output unread left old new r
+decodes_err output unread left old new r f is d = subst (Decodes output unread left old new) (sym is) d
 
 -- the front of a buffer of which the first part was written anew
 pub same_front : (len full : ℕ) (new rest now : List ℕ) → now ≡ take full (new ++ rest) → len ≤ length new → len ≤ full → take len now ≡ take len new

@@ -6,6 +6,7 @@ use Rattle.avc_types.specs.declared.fault.Fault.{Fault}
 use Rattle.avc_types.specs.declared.picture.Picture.{Picture as Decoded}
 use Rattle.avc_annexb.specs.Units.{saturated}
 use Rattle.avc_yuv.specs.I420.{i420}
+use Rattle.avc_decoder.specs.Output.{Output}
 use Rattle.avc_decoder.specs.Events.{events}
 use Rattle.avc_decoder.specs.declared.event.Event.{Event}
 use Rattle.avc_decoder.specs.declared.event.Event.TheVariants.{Picture, Refused}
@@ -33,8 +34,8 @@ abbrev pub shown : List Event → List ℕ
 shown events = flat_map i420 (pictures_in events)
 
 -- all that a whole stream defines
-abbrev pub defined : (bytes : List ℕ) → List Event
-defined bytes = events max_unit bytes true
+abbrev pub defined : Output → (bytes : List ℕ) → List Event
+defined output bytes = events output max_unit bytes true
 
 -- The report on these events: how many pictures there are (or the greatest number, once there), and each refusal.
 abbrev pub report_of : List Event → Report
@@ -43,12 +44,12 @@ report_of events = record { pictures = saturated (length (pictures_in events)); 
 -- Of all bytes that the reader had, the defined pictures are written, and the report is on what they define. After a read fault
 -- exactly the pictures are written that the bytes read so far define, after a write fault fewer than all of these, and after want
 -- of memory a first part of them.
-abbrev pub Decodes : (unread left held holds : Option (List ℕ)) → Result Report RunFault → Type 0
-Decodes unread left held holds (Ok report) =
-    (bytes : List ℕ) × HasRead unread left bytes true × Appends held holds (shown (defined bytes)) × (report ≡ report_of (defined bytes))
-Decodes unread left held holds (Err Read) =
-    (bytes : List ℕ) × HasRead unread left bytes false × Appends held holds (shown (events max_unit bytes false))
-Decodes unread left held holds (Err Write) =
-    (bytes : List ℕ) × (all : Bool) × HasRead unread left bytes all × WritesFirst held holds (shown (events max_unit bytes all))
-Decodes unread left held holds (Err Memory) =
-    (bytes : List ℕ) × (all : Bool) × HasRead unread left bytes all × WritesSome held holds (shown (events max_unit bytes all))
+abbrev pub Decodes : Output → (unread left held holds : Option (List ℕ)) → Result Report RunFault → Type 0
+Decodes output unread left held holds (Ok report) =
+    (bytes : List ℕ) × HasRead unread left bytes true × Appends held holds (shown (defined output bytes)) × (report ≡ report_of (defined output bytes))
+Decodes output unread left held holds (Err Read) =
+    (bytes : List ℕ) × HasRead unread left bytes false × Appends held holds (shown (events output max_unit bytes false))
+Decodes output unread left held holds (Err Write) =
+    (bytes : List ℕ) × (all : Bool) × HasRead unread left bytes all × WritesFirst held holds (shown (events output max_unit bytes all))
+Decodes output unread left held holds (Err Memory) =
+    (bytes : List ℕ) × (all : Bool) × HasRead unread left bytes all × WritesSome held holds (shown (events output max_unit bytes all))

@@ -2,6 +2,7 @@
 use Rattle.std.specs.Prelude.{◌≡◌, ℕ, false, ◌+◌, ◌-◌, List, [], ◌∷◌, ◌++◌, length, drop, Option}
 use Rattle.avc_types.specs.declared.picture.Picture.{Picture as Decoded}
 use Rattle.avc_annexb.specs.Units.{saturated}
+use Rattle.avc_decoder.specs.Output.{Output}
 use Rattle.avc_decoder.specs.Events.{events}
 use Rattle.avc_decoder.specs.Machine.{Machine}
 use Rattle.avc_decoder.specs.declared.event.Event.{Event}
@@ -14,7 +15,7 @@ use Rattle.avc_run.specs.declared.fault.RunFault.TheVariants.{Read, Write, Memor
 use Rattle.avc_run.specs.declared.report.Report.{Report}
 
 abbrev pub come : Machine → List Event
-come m = events max_unit m.bytes m.ended
+come m = events m.output max_unit m.bytes m.ended
 
 -- the events that were not taken
 abbrev pub due : Machine → List Event
@@ -53,12 +54,12 @@ pub record IsDraining (old new : Machine) (before now : Report) (held holds : Op
   pub written : Appends held holds (shown done)
 
 -- These bytes were read, and the events that they define were taken, told and written.
-pub record IsRunning (unread left held holds : Option (List ℕ)) (m : Machine) (r : Report) : Type 0 where
+pub record IsRunning (output : Output) (unread left held holds : Option (List ℕ)) (m : Machine) (r : Report) : Type 0 where
   pub bytes : List ℕ
   pub consumed : Consumes unread left bytes
-  pub machine : m ≡ record { bytes = bytes; ended = false; taken = length (events max_unit bytes false); failed = false }
-  pub report : r ≡ report_of (events max_unit bytes false)
-  pub written : Appends held holds (shown (events max_unit bytes false))
+  pub machine : m ≡ record { output = output; bytes = bytes; ended = false; taken = length (events output max_unit bytes false); failed = false }
+  pub report : r ≡ report_of (events output max_unit bytes false)
+  pub written : Appends held holds (shown (events output max_unit bytes false))
 
 -- A fault broke off the writing of these bytes. None comes from reading here.
 abbrev pub BreaksOff : RunFault → (old new : Option (List ℕ)) → List ℕ → Type 0

@@ -5,3 +5,4 @@ pub mod Status
 pub mod Telling
 pub mod Program
 pub mod Draining
+pub use Rattle.avc_decoder.specs.Output

@@ -1,5 +1,6 @@
 -- How the program's commands end.
 use Rattle.std.specs.Prelude.{◌≡◌, ℕ, List, [], Option, Result, Ok, Err}
+use Rattle.avc_decoder.specs.Output.{Output}
 use Rattle.avc_run.specs.Decoding.{Decodes}
 use Rattle.avc_run.specs.Listing.{Cuts, Lists}
 use Rattle.avc_run.specs.Reading.{WritesSome}
@@ -10,9 +11,9 @@ use Rattle.avc_run.specs.declared.report.Report.{Report}
 
 -- `decode` was a run, and its exit status and what it told on the standard error are those of this run. Where the standard error
 -- takes no more, the rest is not told.
-pub record EndsDecoding (unread left held holds before now : Option (List ℕ)) (status : ℕ) : Type 0 where
+pub record EndsDecoding (output : Output) (unread left held holds before now : Option (List ℕ)) (status : ℕ) : Type 0 where
   pub run : Result Report RunFault
-  pub decodes : Decodes unread left held holds run
+  pub decodes : Decodes output unread left held holds run
   pub status_is : status ≡ status_of run
   pub told : WritesSome before now (text_of run)
 

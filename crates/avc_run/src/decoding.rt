@@ -9,7 +9,7 @@ use crate::fault::RunFault;
 use crate::read::{PIECE, READS, read_once, zeros};
 use crate::report::{Refusals, Report};
 use avc_decoder::laws::{events_only_grow, pictures_are_whole};
-use avc_decoder::{Decoder, Event};
+use avc_decoder::{Decoder, Event, Output};
 use avc_yuv::write_i420;
 use std::alloc::Global;
 use std::io::{Read, Write};
@@ -17,16 +17,17 @@ use std::io::{Read, Write};
 /// The most bytes of a unit.
 const MAX_UNIT: usize = 134_217_728;
 
-/// Decodes a byte stream (Annex B) and writes its pictures as I420, each as soon as it is decoded.
+/// Decodes a byte stream (Annex B) and writes its pictures as I420, each as soon as it goes out in this mode of output.
 pub fn run<R: Read, W: Write>(
     alloc: Global,
+    output: Output,
     reader: &mut R,
     writer: &mut W,
 ) -> Result<Report, RunFault>
-    ensures { Decodes (R.remaining reader.old) (R.remaining reader.new) (W.contents writer.old) (W.contents writer.new) result }
+    ensures { Decodes output (R.remaining reader.old) (R.remaining reader.new) (W.contents writer.old) (W.contents writer.new) result }
 {
     events_only_grow();
-    let mut decoder = Decoder::<MAX_UNIT>::new(alloc);
+    let mut decoder = Decoder::<MAX_UNIT>::new(alloc, output);
     let mut report = Report {
         pictures: 0,
         refused: Refusals::new(alloc),

@@ -12,6 +12,7 @@ mod telling;
 #[cfg(test)]
 mod tests;
 
+pub use avc_decoder::Output;
 pub use decoding::run;
 pub use exit::{Answer, answer_status, cut_status, fault_status, status};
 pub use fault::RunFault;

@@ -13,6 +13,7 @@ use crate::fault::RunFault;
 use crate::listing::{run_cut, run_headers, run_units};
 use crate::report::Report;
 use crate::telling::{fault_line, no_piece_line, refusal_lines, write_text};
+use avc_decoder::Output;
 use std::alloc::Global;
 use std::io::{Read, Write};
 
@@ -20,14 +21,15 @@ use std::io::{Read, Write};
 /// ended the run, on `errors`. Answers the exit status. Where `errors` takes nothing, the status alone tells.
 pub fn decode<R: Read, W: Write, E: Write>(
     alloc: Global,
+    output: Output,
     reader: &mut R,
     writer: &mut W,
     errors: &mut E,
 ) -> u8
-    ensures { EndsDecoding (R.remaining reader.old) (R.remaining reader.new) (W.contents writer.old) (W.contents writer.new)
+    ensures { EndsDecoding output (R.remaining reader.old) (R.remaining reader.new) (W.contents writer.old) (W.contents writer.new)
         (E.contents errors.old) (E.contents errors.new) result }
 {
-    let run = run(alloc, reader, writer);
+    let run = run(alloc, output, reader, writer);
     match tell(alloc, &run, errors) {
         Ok(()) => status(&run),
         Err(fault) => fail(fault, errors),

@@ -4,7 +4,7 @@ use crate::{
     Answer, Refusals, Report, RunFault, answer_status, cut, cut_status, decode, fault_line,
     headers, run, run_units, status, units,
 };
-use avc_decoder::{DecodeError, Decoder, Event};
+use avc_decoder::{DecodeError, Decoder, Event, Output};
 use avc_types::{Fault, OutOfMemory};
 use std::alloc::{AllocError, Global};
 use std::io;
@@ -127,6 +127,7 @@ fn outcome_of(alloc: Global, parts: &[&[u8]]) -> Result<Outcome, RunFault> {
     let mut told = Vec::new(alloc);
     let status = decode(
         alloc,
+        Output::Full,
         &mut one_by_one(&bytes, false),
         &mut written,
         &mut told,
@@ -273,7 +274,12 @@ fn ends_where_a_read_fails(rt: HostRuntime) -> Result<(), Fail> {
             return Err(OutOfMemory.into());
         };
         let mut written = Vec::new(alloc);
-        let run = run(alloc, &mut one_by_one(part, true), &mut written);
+        let run = run(
+            alloc,
+            Output::Full,
+            &mut one_by_one(part, true),
+            &mut written,
+        );
         assert_eq!(rt; fault_of(run)?, Some(RunFault::Read), "{count}");
         assert_eq!(rt;
             written.len(),
@@ -291,7 +297,7 @@ fn ends_where_a_write_fails(rt: HostRuntime) -> Result<(), Fail> {
     for piece in [1, 65_536] {
         for room in 0..385usize {
             let mut writer = Limited { piece, room };
-            let run = run(alloc, &mut bytes.as_slice(), &mut writer);
+            let run = run(alloc, Output::Full, &mut bytes.as_slice(), &mut writer);
             let fault = if room == 384 {
                 None
             } else {
@@ -310,7 +316,7 @@ fn reads_on_for_more_reads_than_a_read_has_bytes(rt: HostRuntime) -> Result<(), 
     let mut reader = one_by_one(&bytes, false);
     reader.zeros = 65_537;
     let mut written = Vec::new(alloc);
-    let report = run(alloc, &mut reader, &mut written)?;
+    let report = run(alloc, Output::Full, &mut reader, &mut written)?;
     assert_eq!(rt; (report.pictures, written.len()), (1, 384));
     Ok(())
 }
@@ -489,7 +495,13 @@ fn ends_by_a_fault_that_is_told(rt: HostRuntime) -> Result<(), Fail> {
     let alloc = rt.alloc();
     let mut told = Vec::new(alloc);
     let mut written = Vec::new(alloc);
-    let status = decode(alloc, &mut one_by_one(&[0], true), &mut written, &mut told);
+    let status = decode(
+        alloc,
+        Output::Full,
+        &mut one_by_one(&[0], true),
+        &mut written,
+        &mut told,
+    );
     if status == 4 {
         return Err(OutOfMemory.into());
     }
@@ -503,6 +515,7 @@ fn ends_by_a_fault_that_is_told(rt: HostRuntime) -> Result<(), Fail> {
             status,
             decode(
                 alloc,
+                Output::Full,
                 &mut one_by_one(&[0], true),
                 &mut written,
                 &mut closed
@@ -516,7 +529,7 @@ fn ends_by_a_fault_that_is_told(rt: HostRuntime) -> Result<(), Fail> {
 // Nothing is fed after a flush, and nothing more comes.
 #[test]
 fn stays_ended(rt: HostRuntime) -> Result<(), Fail> {
-    let mut decoder = Decoder::<1000>::new(rt.alloc());
+    let mut decoder = Decoder::<1000>::new(rt.alloc(), Output::Full);
     decoder.flush()?;
     for _ in 0..2 {
         assert!(rt; decoder.take()?.is_none(), "no event");
@@ -533,6 +546,47 @@ fn stays_ended(rt: HostRuntime) -> Result<(), Fail> {
     Ok(())
 }
 
+// A sequence parameter set by which no picture goes out after one that is decoded later.
+const NO_REORDERING: &[u8] = &[
+    0, 0, 0, 1, 0x67, 0x42, 0xC0, 0x0A, 0xDA, 0x72, 0x01, 0xFD, 0x40,
+];
+
+// With order counts of type 0, and no such number; and three pictures.
+const ORDER_TYPE_0: &[u8] = &[0, 0, 0, 1, 0x67, 0x42, 0xC0, 0x0A, 0xF4, 0xE2];
+
+const THREE_PICTURES: &[u8] = &[
+    0, 0, 1, 0x65, 0x88, 0x84, 0x09, 0x3C, 0, 0, 1, 0x41, 0x88, 0x8A, 0x24, 0xD6, 0, 0, 1, 1, 0x88,
+    0x91, 0x49, 0xE0,
+];
+
+// How many pictures a stream gives before its end and in all.
+fn pictures_by(
+    alloc: Global,
+    output: Output,
+    parts: &[&[u8]],
+) -> Result<(usize, usize), DecodeError> {
+    let bytes = joined(alloc, parts)?;
+    let mut decoder = Decoder::<1000>::new(alloc, output);
+    decoder.feed(&bytes)?;
+    let before = pictures_taken(&mut decoder)?;
+    decoder.flush()?;
+    let after = pictures_taken(&mut decoder)?;
+    Ok((before, before.saturating_add(after)))
+}
+
+#[test]
+fn early_pictures_do_not_wait(rt: HostRuntime) -> Result<(), Fail> {
+    let alloc = rt.alloc();
+    let one = [NO_REORDERING, PLAIN, PLAIN_IDR, DELIMITER];
+    assert_eq!(rt; pictures_by(alloc, Output::Full, &one)?, (0, 1));
+    assert_eq!(rt; pictures_by(alloc, Output::Early, &one)?, (1, 1));
+    let three = [ORDER_TYPE_0, PLAIN, THREE_PICTURES];
+    let full = pictures_by(alloc, Output::Full, &three)?;
+    assert_eq!(rt; full.1, 3);
+    assert_eq!(rt; pictures_by(alloc, Output::Early, &three)?, full);
+    Ok(())
+}
+
 // A sequence parameter set by which frame numbers may be missing, and a P picture before which numbers are missing, and which is
 // predicted from one of these.
 const GAPS_ALLOWED: &[u8] = &[0, 0, 0, 1, 0x67, 0x42, 0xC0, 0x0A, 0xDA, 0xF1];
@@ -546,10 +600,8 @@ const LONG_TERM: &[u8] = &[
     0x3D, 0xF2, 0x62, 0x80, 0, 0x80, 0x36, 0, 0, 1, 1, 0xB9, 0x11, 0x26, 0x28, 0, 8, 0x0D, 0x60,
 ];
 
-// How many pictures a stream gives, of no more than ten events.
-fn pictures_of(decoder: &mut Decoder<1000>, bytes: &[u8]) -> Result<usize, DecodeError> {
-    decoder.feed(bytes)?;
-    decoder.flush()?;
+// How many pictures are among the next ten events.
+fn pictures_taken(decoder: &mut Decoder<1000>) -> Result<usize, DecodeError> {
     let mut count = 0usize;
     for _ in 0..10 {
         if let Some(Event::Picture(_)) = decoder.take()? {
@@ -559,6 +611,13 @@ fn pictures_of(decoder: &mut Decoder<1000>, bytes: &[u8]) -> Result<usize, Decod
     Ok(count)
 }
 
+// How many pictures a stream gives, of no more than ten events.
+fn pictures_of(decoder: &mut Decoder<1000>, bytes: &[u8]) -> Result<usize, DecodeError> {
+    decoder.feed(bytes)?;
+    decoder.flush()?;
+    pictures_taken(decoder)
+}
+
 // Where an allocation is refused inside the decoder, it answers so until it is reset, and then decodes.
 fn decodes_after_reset(
     alloc: Global,
@@ -566,7 +625,7 @@ fn decodes_after_reset(
     pictures: usize,
 ) -> Result<bool, AllocError> {
     let bytes = joined(alloc, parts)?;
-    let mut decoder = Decoder::<1000>::new(alloc);
+    let mut decoder = Decoder::<1000>::new(alloc, Output::Full);
     let first = pictures_of(&mut decoder, &bytes);
     if first == Err(DecodeError::OutOfMemory) {
         let answers = [decoder.feed(&bytes), decoder.flush()];
@@ -605,7 +664,7 @@ const SECOND_PLAIN: &[u8] = &[0, 0, 1, 0x65, 0x42, 0x21, 0x24, 0xF0];
 #[test]
 fn counts_macroblocks(rt: HostRuntime) -> Result<(), Fail> {
     let alloc = rt.alloc();
-    let mut decoder = Decoder::<1000>::new(alloc);
+    let mut decoder = Decoder::<1000>::new(alloc, Output::Full);
     decoder.feed(&joined(alloc, &[SMALL, PLAIN, PLAIN_IDR])?)?;
     assert_eq!(rt; decoder.turns(), 0);
     decoder.flush()?;

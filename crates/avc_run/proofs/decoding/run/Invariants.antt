@@ -5,5 +5,5 @@ use Rattle.avc_run.proofs.decoding.run.Given as goal
 abbrev pub invariant-pieces : goal.invariant-pieces
 invariant-pieces g l = record {
   room : 0 < length (l.piece).items;
-  runs : IsRunning (g.R.Read.remaining l.initial.reader) (g.R.Read.remaining l.reader) (g.W.Write.contents l.initial.writer) (g.W.Write.contents l.writer) l.decoder l.report;
+  runs : IsRunning l.initial.output (g.R.Read.remaining l.initial.reader) (g.R.Read.remaining l.reader) (g.W.Write.contents l.initial.writer) (g.W.Write.contents l.writer) l.decoder l.report;
 }

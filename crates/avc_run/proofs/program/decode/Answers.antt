@@ -12,7 +12,7 @@ returns g c =
     let memory : c.in-Err.fault ≡ Memory = c.in-Err.ensures.err.0 in
     record {
       run = Err Memory;
-      decodes = untold _ _ _ _ c.run-run.result c.run-run.ensures;
+      decodes = untold c.args.output _ _ _ _ c.run-run.result c.run-run.ensures;
       status_is = c.fail.ensures.status ∙ ap fault_status memory;
       told =
           subst (λ fault. WritesSome (g.E.Write.contents c.args.errors.now) (g.E.Write.contents c.fail.new.errors) (fault_line fault)) memory
