@@ -3,7 +3,7 @@ ghost use Rattle.std.specs.Io.KnownBytes.{Appends};
 ghost use Rattle.avc_types.specs.Whole.{IsWhole};
 ghost use Rattle.avc_run.specs.Decoding.{shown, Decodes};
 ghost use Rattle.avc_run.specs.Draining.{due, reported, BreaksOff, IfPicture, IsHandled};
-ghost use Rattle.avc_decoder.specs.Machine.{after_feed, after_flush};
+ghost use Rattle.avc_decoder.specs.Machine.{after_feed, after_flush, new_machine};
 
 use crate::fault::RunFault;
 use crate::read::{PIECE, READS, read_once, zeros};
@@ -26,8 +26,21 @@ pub fn run<R: Read, W: Write>(
 ) -> Result<Report, RunFault>
     ensures { Decodes output (R.remaining reader.old) (R.remaining reader.new) (W.contents writer.old) (W.contents writer.new) result }
 {
-    events_only_grow();
     let mut decoder = Decoder::<MAX_UNIT>::new(alloc, output);
+    decode_by(&mut decoder, alloc, reader, writer)
+}
+
+// The same by a new decoder.
+fn decode_by<R: Read, W: Write>(
+    decoder: &mut Decoder<MAX_UNIT>,
+    alloc: Global,
+    reader: &mut R,
+    writer: &mut W,
+) -> Result<Report, RunFault>
+    requires { decoder.old ≡ new_machine decoder.old.output }
+    ensures { Decodes decoder.old.output (R.remaining reader.old) (R.remaining reader.new) (W.contents writer.old) (W.contents writer.new) result }
+{
+    events_only_grow();
     let mut report = Report {
         pictures: 0,
         refused: Refusals::new(alloc),
@@ -36,10 +49,10 @@ pub fn run<R: Read, W: Write>(
     'pieces: for _ in 0..READS {
         let len = read_once(reader, &mut piece)?;
         if len == 0 {
-            finish(&mut decoder, writer, &mut report)?;
+            finish(decoder, writer, &mut report)?;
             return Ok(report);
         }
-        take_in(&mut decoder, &piece[..len], writer, &mut report)?;
+        take_in(decoder, &piece[..len], writer, &mut report)?;
     }
     Err(RunFault::Read)
 }
