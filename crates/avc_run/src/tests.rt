@@ -560,11 +560,7 @@ const THREE_PICTURES: &[u8] = &[
 ];
 
 // How many pictures a stream gives before its end and in all.
-fn pictures_by(
-    alloc: Global,
-    output: Output,
-    parts: &[&[u8]],
-) -> Result<(usize, usize), DecodeError> {
+fn pictures_by(alloc: Global, output: Output, parts: &[&[u8]]) -> Result<(usize, usize), Fail> {
     let bytes = joined(alloc, parts)?;
     let mut decoder = Decoder::<1000>::new(alloc, output);
     decoder.feed(&bytes)?;
