@@ -144,6 +144,15 @@ closes offset bytes rest ended p stop =
     ap (λ o. unit_at offset o ++ placed_units offset ended (bytes ++ rest)) (unit_bytes_some ended (bytes ++ rest) bytes all)
     ∙ ap (λ t. unit_at offset (Some bytes) ++ t) (p.starts offset ended rest)
 
+-- and where the stream ends
+pub ends : (offset : ℕ) (bytes : List ℕ) → HasNoBoundary bytes →
+    unit_at offset (unit_bytes true (bytes ++ [])) ++ placed_units offset true (bytes ++ []) ≡ unit_at offset (Some bytes)
+ends offset bytes p =
+    let whole : unit_bytes true (bytes ++ []) ≡ Some bytes =
+    unit_bytes_none true (bytes ++ []) (p.ends []) ∙ ap (λ t. Some t) (p.zeros [] ∙ append-nil bytes) in
+    ap (λ o. unit_at offset o ++ placed_units offset true (bytes ++ [])) whole
+    ∙ ap (λ t. unit_at offset (Some bytes) ++ t) (p.starts offset true []) ∙ append-nil (unit_at offset (Some bytes))
+
 pub scanned_third : (bytes : List ℕ) (done : List PlacedUnit) (current : Option PlacedUnit) → ScannedBytes bytes done current 2 → ScannedBytes (bytes ++ 0 ∷ []) (done ++ closed_unit current) None 2
 scanned_third bytes done current s =
     scanned_more bytes done (closed_unit current) current None 2 2 (0 ∷ []) s (omega arith) (third_place current (length bytes) s.place) (third_step current (length bytes) s.place)

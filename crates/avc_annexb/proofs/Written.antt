@@ -9,8 +9,8 @@ use Rattle.std.proofs.lemmas.Slice.Eq.{starts_is}
 use Rattle.avc_annexb.specs.declared.unit.Unit.{Unit}
 use Rattle.avc_annexb.specs.Units.{PlacedUnit, saturated, is_start, before_end, unit_at, unit_bytes, placed_units, unit_of, numbered, units}
 use Rattle.avc_annexb.specs.Written.{start_code, written}
-use Rattle.avc_annexb.specs.Laws.{contents, IsUnitOf, WrittenUnitsStand, UnitsAreNumbered, UnitsAreFew}
-use Rattle.avc_annexb.proofs.Scanning.{found_start, closes, placed_units-more}
+use Rattle.avc_annexb.specs.Laws.{contents, contents_within, body_within, IsUnitOf, WrittenUnitsStand, WrittenUnitsStandAlone, UnitsAreNumbered, UnitsAreFew}
+use Rattle.avc_annexb.proofs.Scanning.{found_start, closes, ends, placed_units-more}
 use Rattle.avc_annexb.proofs.Staying.{IsUnitBytes, HasUnitBytes, units_have_bytes}
 use Rattle.avc_annexb.proofs.Taking.{closed_some}
 
@@ -193,6 +193,8 @@ record IsWritten (max : ℕ) (u : Unit) : Type 0 where
   front : List ℕ
   is : IsUnitBytes front
   stands : written u ≡ start_code ++ front
+  header : u.header ≡ slice_index front 0
+  body : u.body ≡ Some (drop 1 front)
   says : contents u ≡ contents (unit_of max 0 (record { offset = 0; bytes = front }))
 
 body_is : (test : Bool) (body : List ℕ) (o : Option (List ℕ)) →
@@ -222,6 +224,8 @@ is_written max bytes u i =
       stands =
           written_body u (drop 1 front) body ∙ ap (λ h. start_code ++ h ∷ drop 1 front) (ap (λ v. v.header) r.is)
           ∙ ap (λ t. start_code ++ t) (first_and_others front have.some);
+      header = ap (λ v. v.header) r.is;
+      body = body;
       says = ap contents r.is;
     }
 
@@ -268,3 +272,50 @@ written_units_stand_so max bytes ended us k u fits there is =
     ∙ said-numbered max 0 (placed_units 0 ended (flat_map written us ++ (start_code ++ drop from bytes)))
     ∙ said_written max bytes ended us (drop from bytes) (said max (drop k (placed_units 0 ended bytes))) there units_behind 0
     ∙ ap (λ t. map contents us ++ t) (sym (said-drop max 0 k (placed_units 0 ended bytes)))
+
+-- what a unit of some bytes says, where a unit has so many bytes at most
+said_within : (max : ℕ) (front : List ℕ) → 0 < length front →
+    (slice_index front 0, body_within max (Some (drop 1 front))) ≡ contents (unit_of max 0 (record { offset = 0; bytes = front }))
+said_within max [] some = absurd (omega arith)
+said_within max (b ∷ front) some =
+    ap (λ n. (b, elim (nat_le n max) [ true ↦ Some front | false ↦ None ])) (omega arith)
+
+says_within : (max limit : ℕ) (u : Unit) (w : IsWritten limit u) → contents_within max u ≡ contents (unit_of max 0 (record { offset = 0; bytes = w.front }))
+says_within max limit u w =
+    ap (λ h. (h, body_within max u.body)) w.header ∙ ap (λ o. (slice_index w.front 0, body_within max o)) w.body ∙ said_within max w.front w.is.some
+
+-- the last of the units that are written
+placed_last : (place : ℕ) (front : List ℕ) → IsUnitBytes front →
+    placed_units place true (start_code ++ (front ++ [])) ≡ record { offset = place + 1 + 3; bytes = front } ∷ placed_units (place + 1 + 3 + length front) true []
+placed_last place front is =
+    found_start (place + 1) true (front ++ []) ∙ ends (place + 1 + 3) front is.passes
+    ∙ closed_some (record { offset = place + 1 + 3; bytes = front }) (λ e. omega (arith, e, is.some))
+
+starts_at_once : (o : Option (List ℕ)) (header : ℕ) (more : List ℕ) →
+    before_end (elim o [ Some body ↦ start_code ++ header ∷ body | None ↦ start_code ++ header ∷ [] ] ++ more) ≡ Some []
+starts_at_once (Some body) header more = refl
+starts_at_once None header more = refl
+
+-- the first of the units that are written, up to the end
+placed_first : (place : ℕ) (front : List ℕ) (us : List Unit) → IsUnitBytes front →
+    placed_units place true (start_code ++ (front ++ flat_map written us))
+    ≡ record { offset = place + 1 + 3; bytes = front } ∷ placed_units (place + 1 + 3 + length front) true (flat_map written us)
+placed_first place front [] is = placed_last place front is
+placed_first place front (v ∷ vs) is = placed_written place true front (flat_map written (v ∷ vs)) is (starts_at_once v.body v.header (flat_map written vs))
+
+-- one after the other, to the end of the stream
+said_alone : (limit max : ℕ) (bytes : List ℕ) (us : List Unit) → All (IsUnitOf limit bytes) us →
+    (place : ℕ) → said max (placed_units place true (flat_map written us)) ≡ map (contents_within max) us
+said_alone limit max bytes [] there place = refl
+said_alone limit max bytes (u ∷ us) there place =
+    let w = is_written limit bytes u (All-head (IsUnitOf limit bytes) u us there) in
+    let others = All-tail (IsUnitOf limit bytes) u us there in
+    let more = flat_map written us in
+    ap (λ t. said max (placed_units place true (t ++ more))) w.stands
+    ∙ ap (said max) (placed_first place w.front us w.is)
+    ∙ ap (λ c. c ∷ said max (placed_units (place + 1 + 3 + length w.front) true more)) (sym (says_within max limit u w))
+    ∙ ap (λ t. contents_within max u ∷ t) (said_alone limit max bytes us others (place + 1 + 3 + length w.front))
+
+pub written_units_stand_alone_so : WrittenUnitsStandAlone
+written_units_stand_alone_so limit max bytes us there =
+    said-numbered max 0 (placed_units 0 true (flat_map written us)) ∙ said_alone limit max bytes us there 0

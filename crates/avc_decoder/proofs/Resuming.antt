@@ -36,10 +36,10 @@ use Rattle.avc_dpb.specs.declared.output.Output.{Output}
 -- ---- what a unit with another number does
 
 -- It has the contents, and the other number.
-record IsAlike (r : ℕ → ℕ) (u u' : Piece) : Type 0 where
-  same_header : u'.header ≡ u.header
-  same_body : u'.body ≡ u.body
-  numbered : u'.index ≡ r u.index
+pub record IsAlike (r : ℕ → ℕ) (u u' : Piece) : Type 0 where
+  pub same_header : u'.header ≡ u.header
+  pub same_body : u'.body ≡ u.body
+  pub numbered : u'.index ≡ r u.index
 
 -- with that number, elsewhere
 abbrev moved : (ℕ → ℕ) → (u u' : Piece) → Piece
@@ -121,7 +121,7 @@ step-same r sets runs o u u' =
 
 -- ---- streams of such units
 
-abbrev AreAlike : (ℕ → ℕ) → List Piece → List Piece → Type 0
+abbrev pub AreAlike : (ℕ → ℕ) → List Piece → List Piece → Type 0
 AreAlike r [] [] = Unit {0}
 AreAlike r (u ∷ us) (u' ∷ us') = IsAlike r u u' × AreAlike r us us'
 AreAlike r [] (u' ∷ us') = ⊥
@@ -143,7 +143,7 @@ after_unit-same r s s' u u' m e f a =
     ∙ in_phase-same s.output r sets u.index (step sets (is_running s.phase) (open_facts_in s.phase) u) s.phase
 
 -- The events are the same but for the numbers.
-events-same : SetsComeAlike → (r : ℕ → ℕ) (us us' : List Piece) (s s' : State) (ended : Bool)
+pub events-same : SetsComeAlike → (r : ℕ → ℕ) (us us' : List Piece) (s s' : State) (ended : Bool)
     → s'.output ≡ s.output → sets_after s'.sets ≡ sets_after s.sets → s'.phase ≡ renumbered_phase r s.phase → AreAlike r us us'
     → events_from s' us' ended ≡ map (renumbered_event r) (events_from s us ended)
 events-same come r [] [] s s' true o e f a = ap (λ m. at_end m s'.phase) o ∙ ap (at_end s.output) f ∙ at_end-same s.output r s.phase

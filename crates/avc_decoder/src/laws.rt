@@ -1,11 +1,14 @@
 //! Laws of whole streams, over the definitions alone.
 
 ghost use Rattle.avc_decoder.specs.Headline.{TakesAll, TakesThem};
-ghost use Rattle.avc_decoder.specs.Laws.{EventsOnlyGrow, PicturesAreWhole, StartsAnew};
+ghost use Rattle.avc_decoder.specs.Laws.{EventsOnlyGrow, PicturesAreWhole, PicturesNameNoUnits};
+ghost use Rattle.avc_decoder.specs.Laws.{StartsAnew, StartUnitsBeginAnew};
 
 use avc_annexb::laws::{units_are_few, units_are_numbered, units_stay, written_units_stand};
+use avc_decoder_core::laws::idr_pictures_begin_anew;
 use avc_params::laws::sps_in_force_keeps_limits;
-use avc_picture::laws::pictures_are_sized;
+use avc_picture::laws::{pictures_are_sized, pictures_name_no_places};
+use avc_slice::laws::headers_keep_idr_rules;
 use avc_units::laws::{sets_are_in_force_again, sets_come_alike, sets_in_force_are_units};
 
 /// What has been handed out stays, whatever bytes follow, and whether the stream ends or not.
@@ -48,4 +51,21 @@ pub fn resumed_streams_decode_alike()
     sets_are_in_force_again();
     sets_in_force_are_units();
     sets_come_alike();
+}
+
+/// Where nothing is refused, the events do not depend on the numbers of units, nor on how the parameter sets came into force.
+pub fn pictures_name_no_units()
+    ensures { PicturesNameNoUnits }
+{
+    sets_come_alike();
+}
+
+/// At a unit with which decoding could start, whose IDR picture lets the pictures before go out, and with no refusal from there on,
+/// first comes what the end of the stream would let out there, and then what a new start gives.
+pub fn start_units_begin_anew()
+    ensures { StartUnitsBeginAnew }
+{
+    headers_keep_idr_rules();
+    idr_pictures_begin_anew();
+    pictures_name_no_places();
 }

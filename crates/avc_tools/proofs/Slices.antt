@@ -48,7 +48,7 @@ front_and_rest p (x ∷ xs) = by (p x) refl (front_and_rest p xs)
     by true e h = ap (λ t. t ++ drop (length t) (x ∷ xs)) (goes_on p x xs e) ∙ ap (λ t. x ∷ t) h
     by false e h = ap (λ t. t ++ drop (length t) (x ∷ xs)) (stops p x xs e)
 
-split_at_slices : (us : List Unit) → through_slices us ++ after_slices us ≡ us
+pub split_at_slices : (us : List Unit) → through_slices us ++ after_slices us ≡ us
 split_at_slices us =
     let others = take_while is_other (reverse us) in
     sym (reverse-append others (drop (length (reverse others)) (reverse us)))

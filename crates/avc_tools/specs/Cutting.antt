@@ -1,5 +1,5 @@
 -- What the functions that cut a stream say to one another.
-use Rattle.std.specs.Prelude.{◌≡◌, ℕ, ◌<◌, Bool, true, false, List, [], ◌∷◌, length, take, drop, Option, Some, None, is_some, slice_get}
+use Rattle.std.specs.Prelude.{◌≡◌, ℕ, ◌<◌, Bool, true, false, List, [], ◌∷◌, ◌++◌, length, take, drop, Option, Some, None, is_some, slice_get}
 use Rattle.std.specs.List.{flat_map}
 use Rattle.avc_annexb.specs.declared.unit.Unit.{Unit}
 use Rattle.avc_params.specs.Stored.{stored}
@@ -62,3 +62,10 @@ pieces_in before (u ∷ after) = elim (is_start u) [ true ↦ flat_map written (
 -- that piece, if a cut point stands there
 abbrev pub pieces_at : List Unit → (place : ℕ) → List (List ℕ)
 pieces_at units place = pieces_in (take place units) (drop place units)
+
+-- the units of each piece
+abbrev pub piece_units : (before after : List Unit) → List (List Unit)
+piece_units before [] = []
+piece_units before (u ∷ after) =
+    let others = piece_units (before ++ u ∷ []) after in
+    elim (is_start u) [ true ↦ piece before u after ∷ others | false ↦ others ]

@@ -10,19 +10,14 @@ use Rattle.avc_slice.specs.declared.slice.Slice.{Slice}
 use Rattle.avc_units.specs.Grouping.{is_start, slice_in, tables}
 use Rattle.avc_decoder.specs.Output.{Output}
 use Rattle.avc_decoder.specs.Events.{events}
-use Rattle.avc_decoder.specs.declared.event.Event.{Event}
-use Rattle.avc_decoder.specs.declared.event.Event.TheVariants.{Picture, Refused}
+use Rattle.avc_decoder.specs.Laws.{is_picture}
 use Rattle.avc_tools.specs.Pieces.{pieces}
 
-abbrev is_picture : Event → Bool
-is_picture (Picture p) = true
-is_picture (Refused unit f) = false
-
-abbrev drops_by : Option Marking → Bool
+abbrev pub drops_by : Option Marking → Bool
 drops_by (Some (Idr no_output long_term)) = no_output
 drops_by _ = false
 
-abbrev drops_prior : Result Slice Fault → Bool
+abbrev pub drops_prior : Result Slice Fault → Bool
 drops_prior (Ok s) = drops_by (s.header).marking
 drops_prior (Err f) = false
 

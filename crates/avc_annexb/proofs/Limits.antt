@@ -1,0 +1,149 @@
+-- Units where a unit may have more or fewer bytes.
+use Rattle.std.proofs.Common.{◌≡◌, ◌+◌, ◌<◌, ◌≤◌, ℕ, zero, suc, Bool, true, false, List, [], ◌∷◌, length, map, drop, slice_index, All}
+use Rattle.std.proofs.Common.{Option, Some, None, nat_le, is_some, refl, ap, ◌∙◌, sym, arith}
+use Rattle.std.specs.Prelude.{IsTrue}
+use Rattle.std.proofs.lemmas.List.Elements.{All-nil, All-cons, All-head, All-tail, All-append}
+use Rattle.std.proofs.lemmas.Bool.Decides.{nat_tests}
+use Rattle.std.specs.Option.{option_map}
+use Rattle.std.proofs.lemmas.List.{length-drop}
+use Rattle.avc_annexb.specs.declared.unit.Unit.{Unit as Piece}
+use Rattle.avc_annexb.specs.Units.{saturated, PlacedUnit, placed_units, numbered, unit_of, unit_at, units, unit_bytes, before_end, without_last_zeros, is_end, is_start}
+use Rattle.avc_annexb.specs.Laws.{contents, contents_within, body_within, unit_within, UnitsAreWithin, LimitsCutUnits, UnitsAreWhole}
+
+-- ---- no unit is longer than the stream
+
+-- the bytes are no more than these, if there are any
+abbrev NoMore : ℕ → Option (List ℕ) → Type 0
+NoMore n None = Unit {0}
+NoMore n (Some bytes) = length bytes ≤ n
+
+mapped : (n b : ℕ) (front : Option (List ℕ)) → NoMore n front → NoMore (suc n) (option_map (λ f. b ∷ f) front)
+mapped n b None h = tt
+mapped n b (Some f) h = omega (arith, h)
+
+chosen : (n : ℕ) (here : Bool) (after : Option (List ℕ)) → NoMore n after → NoMore n (elim here [ true ↦ Some [] | false ↦ after ])
+chosen n true after h = omega arith
+chosen n false after h = h
+
+before_end_no_more : (bytes : List ℕ) → NoMore (length bytes) (before_end bytes)
+before_end_no_more [] = tt
+before_end_no_more (b ∷ bytes) =
+    chosen (suc (length bytes)) (is_end (b ∷ bytes)) _ (mapped (length bytes) b (before_end bytes) (before_end_no_more bytes))
+
+at_head : (b : ℕ) (bytes rest : List ℕ) → without_last_zeros bytes ≡ rest → length rest ≤ length bytes → length (without_last_zeros (b ∷ bytes)) ≤ suc (length bytes)
+at_head zero bytes [] e h =
+    let s : without_last_zeros (zero ∷ bytes) ≡ [] = rw (e, without_last_zeros) refl in
+    let n : length (without_last_zeros (zero ∷ bytes)) ≡ 0 = ap length s in
+    omega (arith, n)
+at_head zero bytes (c ∷ rest) e h =
+    let s : without_last_zeros (zero ∷ bytes) ≡ zero ∷ c ∷ rest = rw (e, without_last_zeros) refl in
+    let n : length (without_last_zeros (zero ∷ bytes)) ≡ suc (length (c ∷ rest)) = ap length s in
+    omega (arith, n, h)
+at_head (suc b) bytes rest e h =
+    let s : without_last_zeros (suc b ∷ bytes) ≡ suc b ∷ rest = rw (e, without_last_zeros) refl in
+    let n : length (without_last_zeros (suc b ∷ bytes)) ≡ suc (length rest) = ap length s in
+    omega (arith, n, h)
+
+without_no_more : (bytes : List ℕ) → length (without_last_zeros bytes) ≤ length bytes
+without_no_more [] = omega arith
+without_no_more (b ∷ bytes) = at_head b bytes (without_last_zeros bytes) refl (without_no_more bytes)
+
+bytes_at : (ended : Bool) (bytes : List ℕ) (front : Option (List ℕ)) → NoMore (length bytes) front
+    → NoMore (length bytes) (elim front [ Some f ↦ Some f | None ↦ elim ended [ true ↦ Some (without_last_zeros bytes) | false ↦ None ] ])
+bytes_at ended bytes (Some f) h = h
+bytes_at true bytes None h = without_no_more bytes
+bytes_at false bytes None h = tt
+
+no_more_than : (n m : ℕ) (front : Option (List ℕ)) → n ≤ m → NoMore n front → NoMore m front
+no_more_than n m None le h = tt
+no_more_than n m (Some f) le h = omega (arith, le, h)
+
+-- a unit has bytes, and no more than these
+record IsShort (n : ℕ) (unit : PlacedUnit) : Type 0 where
+  some : 0 < length unit.bytes
+  few : length unit.bytes ≤ n
+
+short_at : (n offset : ℕ) (o : Option (List ℕ)) → NoMore n o → All (IsShort n) (unit_at offset o)
+short_at n offset None h = All-nil (IsShort n)
+short_at n offset (Some []) h = All-nil (IsShort n)
+short_at n offset (Some (b ∷ bytes)) h =
+    All-cons (IsShort n) (record { offset = offset; bytes = b ∷ bytes }) [] (record { some = omega arith; few = h }) (All-nil (IsShort n))
+
+short_if : (n : ℕ) (here : Bool) (us : List PlacedUnit) → All (IsShort n) us → All (IsShort n) (elim here [ true ↦ us | false ↦ [] ])
+short_if n true us h = h
+short_if n false us h = All-nil (IsShort n)
+
+are_short : (n place : ℕ) (ended : Bool) (bytes : List ℕ) → length bytes ≤ n → All (IsShort n) (placed_units place ended bytes)
+are_short n place ended [] le = All-nil (IsShort n)
+are_short n place ended (b ∷ bytes) le =
+    let rest = drop 3 (b ∷ bytes) in
+    let front = bytes_at ended rest (before_end rest) (before_end_no_more rest) in
+    let here = no_more_than (length rest) n (unit_bytes ended rest) (omega (arith, le, length-drop 3 (b ∷ bytes))) front in
+    All-append (IsShort n) _ (placed_units (place + 1) ended bytes)
+    (short_if n (is_start (b ∷ bytes)) _ (short_at n (place + 3) (unit_bytes ended rest) here))
+    (are_short n (place + 1) ended bytes (omega (arith, le)))
+
+-- ---- units under two limits
+
+-- the body that is given out, by whether the unit is short
+abbrev body_if : Bool → List ℕ → Option (List ℕ)
+body_if short body = elim short [ true ↦ Some body | false ↦ None ]
+
+body_cut : (limit max : ℕ) (bytes : List ℕ) → 0 < length bytes → length bytes ≤ limit →
+    body_if (nat_le (length bytes) max) (drop 1 bytes) ≡ body_within max (body_if (nat_le (length bytes) limit) (drop 1 bytes))
+body_cut limit max [] some le = absurd (omega arith)
+body_cut limit max (b ∷ bytes) some le =
+    let whole : nat_le (length (b ∷ bytes)) limit ≡ true = grind (arith, nat_tests, le) in
+    let count : length (b ∷ bytes) ≡ 1 + length bytes = omega arith in
+    ap (λ n. body_if (nat_le n max) bytes) count ∙ ap (λ t. body_within max (body_if t bytes)) (sym whole)
+
+-- a unit with this body
+abbrev with_body : (index : ℕ) → PlacedUnit → Option (List ℕ) → Piece
+with_body index unit body =
+    record {
+      index = saturated index;
+      offset = saturated unit.offset;
+      length = saturated (length unit.bytes);
+      header = slice_index unit.bytes 0;
+      body = body;
+    }
+
+cut_one : (limit max index : ℕ) (unit : PlacedUnit) → IsShort limit unit → unit_of max index unit ≡ unit_within max (unit_of limit index unit)
+cut_one limit max index unit short = ap (with_body index unit) (body_cut limit max unit.bytes short.some short.few)
+
+cut_all : (limit max index : ℕ) (us : List PlacedUnit) → All (IsShort limit) us → numbered max index us ≡ map (unit_within max) (numbered limit index us)
+cut_all limit max index [] short = refl
+cut_all limit max index (u ∷ us) short =
+    ap (λ v. v ∷ numbered max (index + 1) us) (cut_one limit max index u (All-head (IsShort limit) u us short))
+    ∙ ap (λ vs. unit_within max (unit_of limit index u) ∷ vs) (cut_all limit max (index + 1) us (All-tail (IsShort limit) u us short))
+
+pub units_are_within_so : UnitsAreWithin
+units_are_within_so limit max bytes ended le = cut_all limit max 0 (placed_units 0 ended bytes) (are_short limit 0 ended bytes le)
+
+said_cut : (max : ℕ) (us : List Piece) → map contents (map (unit_within max) us) ≡ map (contents_within max) us
+said_cut max [] = refl
+said_cut max (u ∷ us) = ap (λ t. contents_within max u ∷ t) (said_cut max us)
+
+pub limits_cut_units_so : LimitsCutUnits
+limits_cut_units_so limit max bytes ended le =
+    ap (map contents) (units_are_within_so limit max bytes ended le) ∙ said_cut max (units limit bytes ended)
+
+-- ---- where no unit can be too long
+
+abbrev IsWholeUnit : Piece → Type 0
+IsWholeUnit u = IsTrue (is_some u.body)
+
+whole_if : (test : Bool) (body : List ℕ) → test ≡ true → IsTrue (is_some (body_if test body))
+whole_if true body is = refl
+whole_if false body is = (cc)
+
+are_whole : (limit index : ℕ) (us : List PlacedUnit) → All (IsShort limit) us → All IsWholeUnit (numbered limit index us)
+are_whole limit index [] short = All-nil IsWholeUnit
+are_whole limit index (u ∷ us) short =
+    let le = (All-head (IsShort limit) u us short).few in
+    All-cons IsWholeUnit (unit_of limit index u) (numbered limit (index + 1) us)
+    (whole_if (nat_le (length u.bytes) limit) (drop 1 u.bytes) (grind (arith, nat_tests, le)))
+    (are_whole limit (index + 1) us (All-tail (IsShort limit) u us short))
+
+pub units_are_whole_so : UnitsAreWhole
+units_are_whole_so limit bytes ended le = are_whole limit 0 (placed_units 0 ended bytes) (are_short limit 0 ended bytes le)

@@ -1,0 +1,5 @@
+use Rattle.avc_annexb.proofs.Limits.{units_are_whole_so}
+use Rattle.avc_annexb.proofs.laws.units_are_whole.Goals as goal
+
+pub returns : goal.returns
+returns c = units_are_whole_so
