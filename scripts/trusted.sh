@@ -99,5 +99,5 @@ $(echo "$all" | sed -n 's/^src //p' | while read -r file; do echo "| [$(echo "$f
 
 Stated in the definitions, and not yet the contract of a function:
 
-$(sed -n 's/^open //p' docs/trusted-kinds | sed 's/^/- /')
+$(sed -n 's/^open //p' docs/trusted-kinds | sed 's/^/- /' | grep . || echo 'None.')
 TXT

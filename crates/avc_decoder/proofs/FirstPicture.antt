@@ -314,7 +314,7 @@ next_first : (output : Output) → (older : History) (o : OpenPicture) → IsFir
     → (sets : Sets) (unit : ℕ) (n : Next) → StaysInPicture n
     → IsTrue (list_all is_picture (after_next output sets unit (running older (Some (picture_over older o))) n).events)
     → Owed output older
-        (after_next output sets unit (running older (Some (picture_over older o))) n) (after_next output sets unit (running [] (Some o)) n)
+    (after_next output sets unit (running older (Some (picture_over older o))) n) (after_next output sets unit (running [] (Some o)) n)
 next_first output older o first sets unit Nothing stays shown = Still o first refl refl refl refl
 next_first output older o first sets unit (Refusal f) stays shown = cc
 next_first output older o first sets unit (FaultOfOpen f) stays shown = Paid (fault_first output older o first unit f)
@@ -342,7 +342,7 @@ pub in_first : (output : Output) → PicturesNameNoPlaces → (older : History) 
     → KeepsPicture what.closes what.next
     → IsTrue (list_all is_picture (in_phase output sets unit what (running older (Some (picture_over older o)))).events)
     → Owed output older
-        (in_phase output sets unit what (running older (Some (picture_over older o)))) (in_phase output sets unit what (running [] (Some o)))
+    (in_phase output sets unit what (running older (Some (picture_over older o)))) (in_phase output sets unit what (running [] (Some o)))
 in_first output names older o first sets unit what keeps shown =
     by_closes output older what.closes what.next _ _ _ _ keeps shown
     (after_closing-same output names older (due output older) sets unit what _ _ (closed_first output older o first))

@@ -319,7 +319,7 @@ slice_by : (output : Output) → (e : Entry) (older : History) → SeesNoOlder o
     → (f : Option (ℕ × Fault)) (before : History) (o : OpenPicture) (now : History)
     (read read' : ℕ) → IsAfter e before → IsAfter e o.before → IsAfter e now → Follows before now
     → Gives output older []
-        (slice_outcome output f (before ++ older) (picture_over older o) (now ++ older) read') (slice_outcome output f before o now read)
+    (slice_outcome output f (before ++ older) (picture_over older o) (now ++ older) read') (slice_outcome output f before o now read)
 slice_by output e older sees (Some found) before o now read read' at_before at_open at_now follows =
     failed-same output older (before ++ older) before [] found.0 found.1 read read' (ap pictures (sees.held before at_before))
 slice_by output e older sees None before o now read read' at_before at_open at_now follows = record {
@@ -357,7 +357,7 @@ next_slice-same : (output : Output) → PicturesNameNoPlaces → (e : Entry) (ol
     → (h : History) (o : OpenPicture) (s : Slice)
     → IsAfter e o.before
     → Gives output older []
-        (after_next_slice output (running (h ++ older) (Some (picture_over older o))) s) (after_next_slice output (running h (Some o)) s)
+    (after_next_slice output (running (h ++ older) (Some (picture_over older o))) s) (after_next_slice output (running h (Some o)) s)
 next_slice-same output names e older sees h o s a =
     let o' = picture_over older o in
     let opens = opens_alike output names e older sees o a in

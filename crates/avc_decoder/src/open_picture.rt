@@ -36,7 +36,8 @@ pub fn close_picture(
 ) -> Result<bool, OutOfMemory>
     requires picture { IsOpenIn sequence.old last_unit picture }
     ensures fault { IfOk result (λ fault. fault ≡ is_waiting (closed_of sequence.old.output sequence.old.history picture).phase) }
-    ensures state { OnOk result (HasOutcome sequence.old.output (closed_of sequence.old.output sequence.old.history picture) queue.old last_unit None 0 sequence.new queue.new) }
+    ensures state { OnOk result (HasOutcome sequence.old.output
+        (closed_of sequence.old.output sequence.old.history picture) queue.old last_unit None 0 sequence.new queue.new) }
 {
     let planes = match picture.finish() {
         Ok(planes) => planes,
@@ -72,7 +73,8 @@ pub fn begin_picture(
     requires sps { IsSps sets.sps.now }
     requires pps { IsPps sets.pps.now }
     requires within { IsHeader sets.sps.now sets.pps.now slice.now.rbsp slice.now.header }
-    ensures fault { IfOk result (λ after. is_none after.picture ≡ is_waiting (begun_in sequence.old.output sets.entry.pps.now sets.entry.sps.now sequence.old.history slice.now).phase) }
+    ensures fault { IfOk result (λ after. is_none after.picture
+        ≡ is_waiting (begun_in sequence.old.output sets.entry.pps.now sets.entry.sps.now sequence.old.history slice.now).phase) }
     ensures state { IfOk result (λ after.
         let o = begun_in sequence.old.output sets.entry.pps.now sets.entry.sps.now sequence.old.history slice.now in
         HasSliceOutcome sequence.old.output o queue.old slice.now after sequence.new queue.new) }
@@ -116,7 +118,8 @@ pub fn continue_picture(
     requires picture { IsOpenIn sequence.old last_unit picture }
     requires can { CanHave sequence.old picture slice.now }
     ensures fault { IfOk result (λ after. is_none after.picture ≡ is_waiting (continued_in sequence.old.output sequence.old.history picture slice.now).phase) }
-    ensures state { IfOk result (λ after. HasSliceOutcome sequence.old.output (continued_in sequence.old.output sequence.old.history picture slice.now) queue.old slice.now after sequence.new queue.new) }
+    ensures state { IfOk result (λ after. HasSliceOutcome sequence.old.output
+        (continued_in sequence.old.output sequence.old.history picture slice.now) queue.old slice.now after sequence.new queue.new) }
 {
     let after = decode_slice(sequence, queue, picture, slice)?;
     Ok(after)

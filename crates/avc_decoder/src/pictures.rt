@@ -100,8 +100,10 @@ impl Pictures {
         requires sps { IsSps sets.sps.now }
         requires pps { IsPps sets.pps.now }
         requires within { IsHeader sets.sps.now sets.pps.now slice.rbsp slice.header }
-        ensures fault { IfOk result (λ fault. fault ≡ is_waiting (after_first_slice self.old.output (Some (sets.entry.pps.now, sets.entry.sps.now)) self.old.history slice).phase) }
-        ensures state { OnOk result (self.new ≡ after_outcome (after_first_slice self.old.output (Some (sets.entry.pps.now, sets.entry.sps.now)) self.old.history slice) self.old) }
+        ensures fault { IfOk result (λ fault. fault
+            ≡ is_waiting (after_first_slice self.old.output (Some (sets.entry.pps.now, sets.entry.sps.now)) self.old.history slice).phase) }
+        ensures state { OnOk result (self.new
+            ≡ after_outcome (after_first_slice self.old.output (Some (sets.entry.pps.now, sets.entry.sps.now)) self.old.history slice) self.old) }
     {
         self.failed = true;
         self.last_unit = slice.unit;
@@ -123,8 +125,10 @@ impl Pictures {
     pub fn next_slice(&mut self, slice: Slice) -> Result<bool, OutOfMemory>
         requires going { self.old.failed ≡ false }
         requires continues { (o : OpenPicture) → self.old.open_picture ≡ Some o → CanContinue o slice }
-        ensures fault { IfOk result (λ fault. fault ≡ is_waiting (after_next_slice self.old.output (running self.old.history self.old.open_picture) slice).phase) }
-        ensures state { OnOk result (self.new ≡ after_outcome (after_next_slice self.old.output (running self.old.history self.old.open_picture) slice) self.old) }
+        ensures fault { IfOk result (λ fault. fault
+            ≡ is_waiting (after_next_slice self.old.output (running self.old.history self.old.open_picture) slice).phase) }
+        ensures state { OnOk result (self.new
+            ≡ after_outcome (after_next_slice self.old.output (running self.old.history self.old.open_picture) slice) self.old) }
     {
         let Some(picture) = self.picture.take() else {
             return Ok(false);

@@ -169,8 +169,10 @@ fn begin(grouper: &Grouper, pictures: &mut Pictures, slice: Slice) -> Result<boo
     requires going { pictures.old.failed ≡ false }
     requires rest { pictures.old.open_picture ≡ None }
     requires within { IsSliceUnder (sets_after grouper.now.sets) slice }
-    ensures fault { IfOk result (λ fault. fault ≡ is_waiting (after_first_slice pictures.old.output (sets_named (sets_after grouper.now.sets) slice.header) pictures.old.history slice).phase) }
-    ensures state { OnOk result (pictures.new ≡ after_outcome (after_first_slice pictures.old.output (sets_named (sets_after grouper.now.sets) slice.header) pictures.old.history slice) pictures.old) }
+    ensures fault { IfOk result (λ fault. fault ≡ is_waiting
+        (after_first_slice pictures.old.output (sets_named (sets_after grouper.now.sets) slice.header) pictures.old.history slice).phase) }
+    ensures state { OnOk result (pictures.new ≡ after_outcome
+        (after_first_slice pictures.old.output (sets_named (sets_after grouper.now.sets) slice.header) pictures.old.history slice) pictures.old) }
 {
     let table = grouper.table();
     let Some(pps) = table.pps(slice.header.pic_parameter_set_id) else {

@@ -220,11 +220,11 @@ module _ (max : ℕ) where
       (flat_map-map (unit_within max) (λ id. deciding_unit (is_some (sps_in_force (set_units (cut us)) id)) (is_sps id) (cut us))
       (λ id. deciding_unit (is_some (sps_in_force (set_units us) id)) (is_sps id) us)
       (λ id. ap (λ s. deciding_unit (is_some (sps_in_force s id)) (is_sps id) (cut us)) all
-          ∙ deciding-cut (is_some (sps_in_force (set_units us) id)) (is_sps id) us same) (range_with_len 0 32))
+      ∙ deciding-cut (is_some (sps_in_force (set_units us) id)) (is_sps id) us same) (range_with_len 0 32))
       (flat_map-map (unit_within max) (λ id. deciding_unit (is_some (pps_in_force (set_units (cut us)) id)) (is_pps id) (cut us))
       (λ id. deciding_unit (is_some (pps_in_force (set_units us) id)) (is_pps id) us)
       (λ id. ap (λ s. deciding_unit (is_some (pps_in_force s id)) (is_pps id) (cut us)) all
-          ∙ deciding-cut (is_some (pps_in_force (set_units us) id)) (is_pps id) us same) (range_with_len 0 256))
+      ∙ deciding-cut (is_some (pps_in_force (set_units us) id)) (is_pps id) us same) (range_with_len 0 256))
       ∙ sym (map-append (unit_within max) (flat_map (λ id. deciding_unit (is_some (sps_in_force (set_units us) id)) (is_sps id) us) (range_with_len 0 32)) _)
 
   piece-cut : (before after : List Unit) (u : Unit) → All (SameSet max) before → All (SameStart max) after →

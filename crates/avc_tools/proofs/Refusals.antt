@@ -55,7 +55,7 @@ silent_step sets u s =
     ap (λ b. next_of (elim b [ true ↦ record { closes = false; next = Refusal faults.ForbiddenBit; even_after_fault = true } | false ↦ waiting_step sets u (kind u) ]))
     s.accepted.bit ∙ silent_kind sets u (kind u) s.accepted.set s.no_start
 
-silent_unit : (s : State) (u : Unit) → s.phase ≡ waiting → IsSilent u → after_unit s u ≡ no_change waiting
+pub silent_unit : (s : State) (u : Unit) → s.phase ≡ waiting → IsSilent u → after_unit s u ≡ no_change waiting
 silent_unit s u waits silent =
     let sets = sets_after s.sets in
     ap (λ p. in_phase s.output sets u.index (step sets (is_running p) (open_facts_in p) u) p) waits
@@ -121,9 +121,9 @@ step_is : (sets : Sets) (runs : Bool) (open_picture : Option OpenPictureFacts) (
     step sets runs open_picture u ≡ elim runs [ true ↦ running_step sets open_picture u (kind u) | false ↦ waiting_step sets u (kind u) ]
 step_is sets runs open_picture u bit =
     ap (λ b. elim b [
-        | true ↦ record { closes = false; next = Refusal faults.ForbiddenBit; even_after_fault = true }
-        | false ↦ elim runs [ true ↦ running_step sets open_picture u (kind u) | false ↦ waiting_step sets u (kind u) ]
-      ]) bit
+      | true ↦ record { closes = false; next = Refusal faults.ForbiddenBit; even_after_fault = true }
+      | false ↦ elim runs [ true ↦ running_step sets open_picture u (kind u) | false ↦ waiting_step sets u (kind u) ]
+    ]) bit
 
 set_is_good : (output : Output) (sets : Sets) (n : ℕ) (p : Phase) (o : Option Fault) → ArePictures (in_phase output sets n (ends_picture (refusal_of o)) p).events → o ≡ None
 set_is_good output sets n p None h = refl
@@ -281,9 +281,9 @@ unreadable_behind output sets n f closed false is runs all = none_failed output 
 
 unreadable_open : (output : Output) (sets : Sets) (n : ℕ) (f : Fault) (full : Bool) (h : _) (o : Option OpenPicture) →
     ArePictures (in_phase output sets n (elim full [
-        | true ↦ record { closes = true; next = FaultOfOwn f; even_after_fault = false }
-        | false ↦ record { closes = false; next = FaultOfOpen f; even_after_fault = false }
-      ]) (running h o)).events → ⊥
+      | true ↦ record { closes = true; next = FaultOfOwn f; even_after_fault = false }
+      | false ↦ record { closes = false; next = FaultOfOpen f; even_after_fault = false }
+    ]) (running h o)).events → ⊥
 unreadable_open output sets n f true h None all = none_failed output h n f 0 all
 unreadable_open output sets n f false h None all = none_failed output h n f 0 all
 unreadable_open output sets n f true h (Some o) all =

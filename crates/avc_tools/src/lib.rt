@@ -3,6 +3,7 @@
 
 mod cutting;
 mod headers;
+pub mod laws;
 mod piece;
 mod set_places;
 mod units;
