@@ -58,7 +58,7 @@ pub record IsMarked (output : Output) (e : Entry) (h : History) (m : Marks) (mar
   pub below : Each (λ r. r.entry < length h + 1) m.references
 
 -- what holds of the frames before holds of those that an entry leaves
-part_each : (Q : Reference → Type 0) → ((r s : Reference) → IsSameFrame r s → Q s → Q r) → (new old : List Reference) → IsPartUpToMarks new old → Each Q old → Each Q new
+pub part_each : (Q : Reference → Type 0) → ((r s : Reference) → IsSameFrame r s → Q s → Q r) → (new old : List Reference) → IsPartUpToMarks new old → Each Q old → Each Q new
 part_each Q same [] old part h = tt
 part_each Q same (r ∷ new) [] part h = absurd part
 part_each Q same (r ∷ new) (s ∷ old) (inl both) h = (same r s both.0 h.0, part_each Q same new old both.1 h.1)

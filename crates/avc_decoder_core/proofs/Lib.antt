@@ -14,3 +14,5 @@ pub mod MissingNumbers
 pub mod Held
 pub mod Sequences
 pub mod Anew
+pub mod OwnReferences
+pub mod SequenceOrder

@@ -21,11 +21,11 @@ use Rattle.avc_decoder_core.specs.History.{is_same_sps, prior_pictures_of}
 pub wrong : {A : Type 0} → false ≡ true → A
 wrong e = absurd (let q : false ≡ true = e in cc)
 
-left : (a b : Bool) → (a && b) ≡ true → a ≡ true
+pub left : (a b : Bool) → (a && b) ≡ true → a ≡ true
 left true b e = refl
 left false b e = e
 
-right : (a b : Bool) → (a && b) ≡ true → b ≡ true
+pub right : (a b : Bool) → (a && b) ≡ true → b ≡ true
 right true b e = e
 right false b e = wrong e
 
@@ -68,7 +68,7 @@ same_from o before sps is same = same_sizes before sps (ap (λ o. is_same_sps o 
 -- ---- what becomes of the pictures before
 
 -- an entry that keeps the frames before lets no picture out
-abbrev with_marking : Header → Option Marking → Header
+abbrev pub with_marking : Header → Option Marking → Header
 with_marking h marking = record h { marking = marking }
 
 no_five : (h : Header) (operations : List Operation) → unmarks_all (Some (Adaptive operations)) ≡ false → has_operation_5 (with_marking h (Some (Adaptive operations))) ≡ false

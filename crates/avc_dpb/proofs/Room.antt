@@ -19,7 +19,7 @@ use Rattle.avc_dpb.proofs.Simulation.{IsAt, SaysSame, all_turns, same_test, same
 
 -- ---- decoding order
 
-below_next : (x : Stored) (frames : List Stored) (next : ℕ) → IsRising (x ∷ frames) next → x.entry < next
+pub below_next : (x : Stored) (frames : List Stored) (next : ℕ) → IsRising (x ∷ frames) next → x.entry < next
 below_next x [] next r = r
 below_next x (y ∷ frames) next r = let after = below_next y frames next r.1 in omega (arith, after, r.0)
 

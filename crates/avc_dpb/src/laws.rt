@@ -4,6 +4,7 @@ ghost use Rattle.avc_dpb.specs.Laws.{LeastGoesOut, AllGoOutByBumping, AllHeldGoO
 ghost use Rattle.avc_dpb.specs.Laws.{OutOnlyGrows, GoesOutInTurn, HoldsAtMost, GoesOutOnce};
 ghost use Rattle.avc_dpb.specs.Laws.{MissingFramesKeepTheOrder, ReferencesStay};
 ghost use Rattle.avc_dpb.specs.Laws.{OutputBeginsAnew, AllHeldGoOutBefore, LaterFramesGoOutAlike};
+ghost use Rattle.avc_dpb.specs.Reordering.{EarlyOutputKeepsTheOrder};
 
 /// Bumping puts out the held picture with the least order count, of equals the one that was decoded first (C.4.5.3).
 pub fn least_goes_out()
@@ -68,4 +69,9 @@ pub fn all_held_go_out_before()
 /// A buffer whose frames stand later in the history holds and puts out the same pictures, so many places later.
 pub fn later_frames_go_out_alike()
     ensures { LaterFramesGoOutAlike }
+{}
+
+/// Where the reordering of pictures stays within its limits, early output hands them out in the order of full output (E.2.1).
+pub fn early_output_keeps_the_order()
+    ensures { EarlyOutputKeepsTheOrder }
 {}

@@ -1,0 +1,65 @@
+-- How far pictures are reordered for output (E.2.1), and what follows for early output.
+use Rattle.std.specs.Prelude.{◌≡◌, ◌⊎◌, ℕ, ◌≤◌, ◌==◌, nat_le, nat_lt, ◌&&◌, true, false, if◌then◌else◌, IfSome, Option, None, List, [], ◌∷◌, length, count_by}
+use Rattle.std.specs.List.{list_any}
+use Rattle.avc_dpb.specs.declared.output.Output.{Output}
+use Rattle.avc_dpb.specs.declared.output.Output.TheVariants.{Full, Early}
+use Rattle.avc_dpb.specs.Bumping.{remain, are_output, are_dropped, Arrival, with_all_output, buffer_after}
+
+-- ---- max_num_reorder_frames (E.2.1)
+
+-- the places of all pictures of a history, in the order in which they go out in the end (C.4)
+abbrev pub whole_output : Output → List Arrival → List ℕ
+whole_output output history = (with_all_output (buffer_after output history)).out
+
+-- those that stand after this one
+abbrev pub places_after : (place : ℕ) → List ℕ → List ℕ
+places_after place [] = []
+places_after place (p ∷ places) = if p == place then places else places_after place places
+
+-- How many pictures from the place `first` on are decoded before the one at a place and go out after it, where they go out in this
+-- order (E.2.1).
+abbrev pub reordered : (first place : ℕ) → (order : List ℕ) → ℕ
+reordered first place order = count_by (λ p. nat_le first p && nat_lt p place) (places_after place order)
+
+-- ---- early output
+
+-- the place of the last entry with which the pictures before went out or were dropped (C.4.4)
+abbrev pub last_emptying : List Arrival → ℕ
+last_emptying [] = 0
+last_emptying (a ∷ older) = elim a.prior_pictures [ remain ↦ last_emptying older | are_output ↦ length older | are_dropped ↦ length older ]
+
+-- how many pictures may stay held after these entries: non-existing frames set no limit
+abbrev pub limit_after : List Arrival → Option ℕ
+limit_after [] = None
+limit_after (a ∷ older) = if a.existing then a.max_num_reorder_frames else limit_after older
+
+-- the reference frames after these entries
+abbrev pub references_after : List Arrival → List ℕ
+references_after [] = []
+references_after (a ∷ older) = a.references
+
+-- An entry after these others. `within` is what a stream owes that respects its number of reordered pictures (E.2.1): of its pictures no
+-- more go out late than may, in this order; the rest holds of the entries of every decoding.
+pub record CanGoOutEarly (order : List ℕ) (a : Arrival) (older : List Arrival) : Type 0 where
+  -- nothing is dropped that was held
+  pub drops : a.prior_pictures ≡ are_dropped → older ≡ []
+  -- It adds no reference frame but its own (8.2.5).
+  pub references : (r : ℕ) → list_any (λ p. p == r) a.references ≡ true →
+      (r ≡ length older) ⊎ (list_any (λ p. p == r) (references_after older) ≡ true)
+  -- A non-existing frame is a reference frame, and sets no limit (8.2.5.2).
+  pub non_existing : a.existing ≡ false → list_any (λ p. p == length older) a.references ≡ true
+  pub no_limit : a.existing ≡ false → a.max_num_reorder_frames ≡ None
+  -- The limit stays as long as no new sequence begins.
+  pub limit : a.existing ≡ true → a.prior_pictures ≡ remain → a.max_num_reorder_frames ≡ limit_after older
+  pub within : a.existing ≡ true →
+      IfSome a.max_num_reorder_frames (λ most. reordered (last_emptying (a ∷ older)) (length older) order ≤ most)
+
+-- each of the entries
+abbrev pub AllCanGoOutEarly : (order : List ℕ) → List Arrival → Type 0
+AllCanGoOutEarly order [] = Unit {0}
+AllCanGoOutEarly order (a ∷ older) = CanGoOutEarly order a older × AllCanGoOutEarly order older
+
+-- Where the reordering of pictures stays within its limits, early output hands them out in the order of full output.
+abbrev pub EarlyOutputKeepsTheOrder : Type 0
+EarlyOutputKeepsTheOrder =
+    (history : List Arrival) → AllCanGoOutEarly (whole_output Full history) history → whole_output Early history ≡ whole_output Full history
