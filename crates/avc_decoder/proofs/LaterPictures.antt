@@ -215,7 +215,7 @@ opens_alike output names e older sees o a = record {
 }
 
 -- the history on which it stands
-base_grows : (o : OpenPicture) → is_ok (marks_of o.before) ≡ true → Grows o.before (history_of o)
+pub base_grows : (o : OpenPicture) → is_ok (marks_of o.before) ≡ true → Grows o.before (history_of o)
 base_grows o m =
     by_address (first_header o).first_mb_in_slice (history_at_opening_of o) (λ h. opening_grows o.sps (first_header o) o.before h m)
   where

@@ -94,7 +94,7 @@ slice_keeps facts starts (Ok s) idr rules = by_begins (begins facts.last s.heade
     by_begins true e = tt
     by_begins false e = ((rules s refl).intra (idr_continues facts.last s.header idr e), idr_continues facts.last s.header idr e)
 
-rules_in : HeadersKeepIdrRules → (sets : Sets) (u : Piece) (s : Slice) → slice_in sets u ≡ Ok s → KeepsIdrRules s.header
+pub rules_in : HeadersKeepIdrRules → (sets : Sets) (u : Piece) (s : Slice) → slice_in sets u ≡ Ok s → KeepsIdrRules s.header
 rules_in rules sets u s e = let of_unit = slice_of_unit sets u s e in rules u.header sets of_unit.rbsp s.header of_unit.is_read
 
 step_keeps : HeadersKeepIdrRules → (sets : Sets) (facts : OpenPictureFacts) (u : Piece) → is_idr facts.last ≡ true

@@ -27,6 +27,18 @@ use Rattle.avc_decoder.specs.declared.event.Event.TheVariants.{Picture, Refused}
 abbrev pub pictures : List Decoded → List Event
 pictures out = map (λ p. Picture p) out
 
+-- the pictures among events, in order
+abbrev pub pictures_in : List Event → List Decoded
+pictures_in [] = []
+pictures_in (Picture p ∷ events) = p ∷ pictures_in events
+pictures_in (Refused unit f ∷ events) = pictures_in events
+
+-- the refusals among them, in order: numbers of units, and faults
+abbrev pub refusals_in : List Event → List (ℕ × Fault)
+refusals_in [] = []
+refusals_in (Picture p ∷ events) = refusals_in events
+refusals_in (Refused unit f ∷ events) = (unit, f) ∷ refusals_in events
+
 -- ---- the state between units (this decoder's rule)
 
 -- what decoding waits for, or goes on with

@@ -1,11 +1,12 @@
 //! Laws of whole streams, over the definitions alone.
 
+ghost use Rattle.avc_decoder.specs.EarlyOutput.{EarlyOutputKeepsPictures};
 ghost use Rattle.avc_decoder.specs.Headline.{TakesAll, TakesThem};
 ghost use Rattle.avc_decoder.specs.Laws.{EventsOnlyGrow, PicturesAreWhole, PicturesNameNoUnits};
 ghost use Rattle.avc_decoder.specs.Laws.{StartsAnew, StartUnitsBeginAnew};
 
 use avc_annexb::laws::{units_are_few, units_are_numbered, units_stay, written_units_stand};
-use avc_decoder_core::laws::idr_pictures_begin_anew;
+use avc_decoder_core::laws::{early_output_keeps_histories, idr_pictures_begin_anew};
 use avc_params::laws::sps_in_force_keeps_limits;
 use avc_picture::laws::{pictures_are_sized, pictures_name_no_places};
 use avc_slice::laws::headers_keep_idr_rules;
@@ -68,4 +69,18 @@ pub fn start_units_begin_anew()
     headers_keep_idr_rules();
     idr_pictures_begin_anew();
     pictures_name_no_places();
+}
+
+/// Where a stream has ended, early output hands out the pictures of full output in their order, and the refusals in theirs: if no
+/// picture has more than max_num_reorder_frames pictures of its sequence that are decoded before it and handed out after it (E.2.1),
+/// where its parameter set gives that number, and no IDR picture but the first since decoding started lets pictures be dropped by
+/// no_output_of_prior_pics_flag.
+///
+/// It says nothing of a stream that has not ended, where early output may be further; nor of where a refusal stands among the
+/// pictures.
+pub fn early_output_keeps_pictures()
+    ensures { EarlyOutputKeepsPictures }
+{
+    headers_keep_idr_rules();
+    early_output_keeps_histories();
 }

@@ -9,10 +9,11 @@ use Rattle.std.proofs.KnownBytes.{Appends-trans}
 use Rattle.avc_types.specs.declared.fault.Fault.{Fault}
 use Rattle.avc_annexb.specs.Units.{saturated}
 use Rattle.avc_yuv.specs.I420.{i420}
+use Rattle.avc_decoder.specs.Events.{pictures_in, refusals_in}
 use Rattle.avc_decoder.specs.Machine.{Machine, next_event, after_take}
 use Rattle.avc_decoder.specs.declared.event.Event.{Event}
 use Rattle.avc_decoder.specs.declared.event.Event.TheVariants.{Picture, Refused}
-use Rattle.avc_run.specs.Decoding.{max_unit, pictures_in, refusals_in, shown, report_of}
+use Rattle.avc_run.specs.Decoding.{max_unit, shown, report_of}
 use Rattle.avc_run.specs.Draining.{come, due, drained, left_in, reported, BreaksOff, IsDraining, IsHandled}
 use Rattle.avc_run.specs.Reading.{WritesFirst, WritesSome}
 use Rattle.avc_run.specs.declared.fault.RunFault.{RunFault}

@@ -6,11 +6,11 @@ use Rattle.std.proofs.KnownBytes.{Appends-nil, Appends-trans, Consumes-kept, Con
 use Rattle.std.proofs.Math.Seq.{drop-append_seam, take-length}
 use Rattle.std.proofs.lemmas.List.{take-append-le, take-take}
 use Rattle.avc_decoder.specs.Output.{Output}
-use Rattle.avc_decoder.specs.Events.{events}
+use Rattle.avc_decoder.specs.Events.{events, pictures_in, refusals_in}
 use Rattle.avc_decoder.specs.Laws.{EventsOnlyGrow}
 use Rattle.avc_decoder.specs.Machine.{Machine, after_feed, after_flush}
 use Rattle.avc_decoder.specs.declared.event.Event.{Event}
-use Rattle.avc_run.specs.Decoding.{max_unit, defined, pictures_in, refusals_in, shown, report_of, Decodes}
+use Rattle.avc_run.specs.Decoding.{max_unit, defined, shown, report_of, Decodes}
 use Rattle.avc_run.specs.Draining.{come, due, drained, reported, BreaksOff, IsHandled, IsRunning}
 use Rattle.avc_run.specs.Reading.{HasRead, WritesFirst, WritesSome}
 use Rattle.avc_run.specs.declared.report.Report.{Report}

@@ -7,7 +7,7 @@ use Rattle.avc_types.specs.declared.picture.Picture.{Picture as Decoded}
 use Rattle.avc_annexb.specs.Units.{saturated}
 use Rattle.avc_yuv.specs.I420.{i420}
 use Rattle.avc_decoder.specs.Output.{Output}
-use Rattle.avc_decoder.specs.Events.{events}
+use Rattle.avc_decoder.specs.Events.{events, pictures_in, refusals_in}
 use Rattle.avc_decoder.specs.declared.event.Event.{Event}
 use Rattle.avc_decoder.specs.declared.event.Event.TheVariants.{Picture, Refused}
 use Rattle.avc_run.specs.Reading.{HasRead, WritesFirst, WritesSome}
@@ -18,16 +18,6 @@ use Rattle.avc_run.specs.declared.report.Report.{Report}
 -- A unit of more bytes is too long.
 abbrev pub max_unit : ℕ
 max_unit = 134217728
-
-abbrev pub pictures_in : List Event → List Decoded
-pictures_in [] = []
-pictures_in (Picture p ∷ events) = p ∷ pictures_in events
-pictures_in (Refused unit f ∷ events) = pictures_in events
-
-abbrev pub refusals_in : List Event → List (ℕ × Fault)
-refusals_in [] = []
-refusals_in (Picture p ∷ events) = refusals_in events
-refusals_in (Refused unit f ∷ events) = (unit, f) ∷ refusals_in events
 
 -- I420 of all pictures among these events, in order
 abbrev pub shown : List Event → List ℕ

@@ -1,0 +1,268 @@
+-- What the steps of decoding hand out, in each mode of output: what they stop of histories, and what has gone out then.
+use Rattle.std.specs.Prelude.{◌≡◌, ℕ, ◌-◌, Bool, true, false, ◌&&◌, if◌then◌else◌, List, [], ◌∷◌, ◌++◌, All, Option, Some, None}
+use Rattle.std.specs.Prelude.{Result, Ok, Err, flat_map, refl}
+use Rattle.std.proofs.Common.{ap, ap₂, sym, ◌∙◌, append_assoc, append-nil}
+use Rattle.std.proofs.lemmas.Grind.{flat_map-append}
+use Rattle.std.proofs.lemmas.List.Elements.{All-append, All-cons, All-nil}
+use Rattle.avc_types.specs.declared.fault.Fault.{Fault}
+use Rattle.avc_types.specs.declared.picture.Picture.{Picture as Decoded}
+use Rattle.avc_params.specs.Tables.{Sets}
+use Rattle.avc_params.specs.declared.pps.Pps.{Pps}
+use Rattle.avc_params.specs.declared.sps.Sps.{Sps}
+use Rattle.avc_slice.specs.declared.slice.Slice.{Slice}
+use Rattle.avc_units.specs.declared.step.Next.{Next}
+use Rattle.avc_units.specs.declared.step.Next.TheVariants.{Nothing, Refusal, FaultOfOpen, FaultOfOwn, Begins, Continues}
+use Rattle.avc_dpb.specs.declared.output.Output.{Output}
+use Rattle.avc_dpb.specs.declared.output.Output.TheVariants.{Full}
+use Rattle.avc_decoder_core.specs.History.{History}
+use Rattle.avc_decoder_core.specs.Pictures.{held_pictures, output_pictures}
+use Rattle.avc_decoder.specs.EarlyOutput.{stopped}
+use Rattle.avc_decoder.specs.Events.{Outcome, Phase, after_first_slice, after_next, closed_outcome, failed_at, followed_by, history_in}
+use Rattle.avc_decoder.specs.Events.{is_running, is_waiting, no_change, pictures, pictures_in, refusals_in, running, sets_named, waiting}
+use Rattle.avc_decoder.specs.Events.{with_slice}
+use Rattle.avc_decoder.specs.FirstFault.{OpenPicture, first_fault, history_of, read_of}
+use Rattle.avc_decoder.specs.declared.event.Event.{Event}
+use Rattle.avc_decoder.specs.declared.event.Event.TheVariants.{Picture, Refused}
+use Rattle.avc_decoder.proofs.BeginningPictures.{Allows}
+use Rattle.avc_decoder.proofs.Histories.{HasItsMarking, IsClosed, IsSound, IsSoundOpen, all_of, gone, gone_and_held, gone_later}
+use Rattle.avc_decoder.proofs.Histories.{none_sound, sound_before}
+use Rattle.avc_decoder.proofs.LaterPictures.{Follows, base_grows}
+
+-- ---- pictures and refusals among events
+
+pictures_after : (out : List Decoded) (es : List Event) → pictures_in (pictures out ++ es) ≡ out ++ pictures_in es
+pictures_after [] es = refl
+pictures_after (p ∷ out) es = ap (λ l. p ∷ l) (pictures_after out es)
+
+refusals_after : (out : List Decoded) (es : List Event) → refusals_in (pictures out ++ es) ≡ refusals_in es
+refusals_after [] es = refl
+refusals_after (p ∷ out) es = refusals_after out es
+
+pictures_alone : (out : List Decoded) → pictures_in (pictures out) ≡ out
+pictures_alone [] = refl
+pictures_alone (p ∷ out) = ap (λ l. p ∷ l) (pictures_alone out)
+
+pub no_refusals : (out : List Decoded) → refusals_in (pictures out) ≡ []
+no_refusals [] = refl
+no_refusals (p ∷ out) = no_refusals out
+
+pub pictures_in-append : (a b : List Event) → pictures_in (a ++ b) ≡ pictures_in a ++ pictures_in b
+pictures_in-append [] b = refl
+pictures_in-append (Picture p ∷ a) b = ap (λ l. p ∷ l) (pictures_in-append a b)
+pictures_in-append (Refused unit f ∷ a) b = pictures_in-append a b
+
+pub refusals_in-append : (a b : List Event) → refusals_in (a ++ b) ≡ refusals_in a ++ refusals_in b
+refusals_in-append [] b = refl
+refusals_in-append (Picture p ∷ a) b = refusals_in-append a b
+refusals_in-append (Refused unit f ∷ a) b = ap (λ l. (unit, f) ∷ l) (refusals_in-append a b)
+
+-- ---- a step of decoding, in each mode
+
+-- the pictures of histories, one history after another
+abbrev pub all_in : Output → List History → List Decoded
+all_in output hs = flat_map (all_of output) hs
+
+-- Each picture of the phase's histories could come, and each entry was marked.
+abbrev pub Sound : Phase → Type 0
+Sound waiting = Unit {0}
+Sound (running h None) = IsSound h
+Sound (running h (Some o)) = IsSoundOpen o
+
+sound_in : (p : Phase) → Sound p → IsSound (history_in p)
+sound_in waiting s = none_sound
+sound_in (running h None) s = s
+sound_in (running h (Some o)) s = sound_before o s
+
+pub stopped_sound : (p q : Phase) → Sound p → All IsSound (stopped p q)
+stopped_sound p q s = by_test (is_running p && is_waiting q)
+  where
+    by_test : (b : Bool) → All IsSound (if b then history_in p ∷ [] else [])
+    by_test true = All-cons IsSound (history_in p) [] (sound_in p s) (All-nil IsSound)
+    by_test false = All-nil IsSound
+
+-- From this phase a step with these outcomes, one in each mode, stops these histories. The phase and the refusals are the same
+-- in each mode. What had gone out of the phase's history, and then what goes out with the step, is all of the histories that it
+-- stops, and then what has gone out of the history that decoding goes on with.
+pub record Goes (p : Phase) (hs : List History) (x : Output → Outcome) : Type 0 where
+  pub same_phase : (output : Output) → (x output).phase ≡ (x Full).phase
+  pub same_refusals : (output : Output) → refusals_in (x output).events ≡ refusals_in (x Full).events
+  pub hands_out : (output : Output) →
+      gone output (history_in p) ++ pictures_in (x output).events ≡ all_in output hs ++ gone output (history_in (x Full).phase)
+  pub each_sound : All IsSound hs
+  pub sound : Sound (x Full).phase
+
+-- a step that stops only the history of this phase, if it stops it
+abbrev pub Turns : (p : Phase) → (Output → Outcome) → Type 0
+Turns p x = Goes p (stopped p (x Full).phase) x
+
+-- one list after another
+pub in_turn : {A : Type 0} (a b c d e f : List A) → a ++ b ≡ c ++ d → d ++ e ≡ f → a ++ (b ++ e) ≡ c ++ f
+in_turn a b c d e f first second =
+    sym (append_assoc a b e) ∙ ap (λ l. l ++ e) first ∙ append_assoc c d e ∙ ap (λ l. c ++ l) second
+
+-- two steps
+pub followed : (p q : Phase) (hs hs' : List History) (x y : Output → Outcome) → (x Full).phase ≡ q → Goes p hs x → Goes q hs' y
+    → Goes p (hs ++ hs') (λ output. followed_by (x output) (y output))
+followed p q hs hs' x y is g k = record {
+  same_phase = k.same_phase;
+  same_refusals = λ output.
+      refusals_in-append (x output).events (y output).events
+      ∙ ap₂ (λ a b. a ++ b) (g.same_refusals output) (k.same_refusals output)
+      ∙ sym (refusals_in-append (x Full).events (y Full).events);
+  hands_out = λ output.
+      let out = gone output (history_in p) in
+      let next = gone output (history_in q) in
+      let end = gone output (history_in (y Full).phase) in
+      ap (λ l. out ++ l) (pictures_in-append (x output).events (y output).events)
+      ∙ in_turn out (pictures_in (x output).events) (all_in output hs) next (pictures_in (y output).events) (all_in output hs' ++ end)
+      (g.hands_out output ∙ ap (λ (r : Phase). all_in output hs ++ gone output (history_in r)) is) (k.hands_out output)
+      ∙ sym (append_assoc (all_in output hs) (all_in output hs') end)
+      ∙ ap (λ l. l ++ end) (sym (flat_map-append (all_of output) hs hs'));
+  each_sound = All-append IsSound hs hs' g.each_sound k.each_sound;
+  sound = k.sound;
+}
+
+-- ---- what a step may be
+
+-- nothing goes out, and the history stays
+pub still : (p q : Phase) → stopped p q ≡ [] → history_in q ≡ history_in p → Sound p → Sound q → Turns p (λ output. no_change q)
+still p q none same s t = record {
+  same_phase = λ output. refl;
+  same_refusals = λ output. refl;
+  hands_out = λ output.
+      append-nil (gone output (history_in p))
+      ∙ ap (gone output) (sym same)
+      ∙ ap (λ hs. all_in output hs ++ gone output (history_in q)) (sym none);
+  each_sound = stopped_sound p q s;
+  sound = t;
+}
+
+not_stopped : (p : Phase) → stopped p p ≡ []
+not_stopped waiting = refl
+not_stopped (running h o) = refl
+
+going_on : (p : Phase) (h : History) (o : Option OpenPicture) → stopped p (running h o) ≡ []
+going_on waiting h o = refl
+going_on (running h' o') h o = refl
+
+pub stays : (p : Phase) → Sound p → Turns p (λ output. no_change p)
+stays p s = still p p (not_stopped p) refl s s
+
+refused : (p : Phase) (unit : ℕ) (f : Fault) → Sound p
+    → Turns p (λ output. record { events = Refused unit f ∷ []; phase = p; read = 0 })
+refused p unit f s = record {
+  same_phase = λ output. refl;
+  same_refusals = λ output. refl;
+  hands_out = (stays p s).hands_out;
+  each_sound = stopped_sound p p s;
+  sound = s;
+}
+
+-- all that is held goes out, and then these events
+pub held_go_out : (p : Phase) (es : List Event) → pictures_in es ≡ [] → (output : Output)
+    → gone output (history_in p) ++ pictures_in (pictures (held_pictures output (history_in p)) ++ es)
+    ≡ all_in output (stopped p waiting) ++ gone output []
+held_go_out p es none output =
+    ap (λ l. gone output (history_in p) ++ l)
+    (pictures_after (held_pictures output (history_in p)) es
+    ∙ ap (λ l. held_pictures output (history_in p) ++ l) none
+    ∙ append-nil (held_pictures output (history_in p)))
+    ∙ by_phase p
+  where
+    by_history : (h : History) → gone output h ++ held_pictures output h ≡ (all_of output h ++ []) ++ []
+    by_history h =
+        gone_and_held output h ∙ sym (append-nil (all_of output h)) ∙ sym (append-nil (all_of output h ++ []))
+
+    by_phase : (q : Phase)
+        → gone output (history_in q) ++ held_pictures output (history_in q) ≡ all_in output (stopped q waiting) ++ gone output []
+    by_phase waiting = refl
+    by_phase (running h None) = by_history h
+    by_phase (running h (Some o)) = by_history (history_of o)
+
+-- a fault
+failed : (p : Phase) (unit : ℕ) (f : Fault) (read : ℕ) → Sound p → Turns p (λ output. failed_at output (history_in p) unit f read)
+failed p unit f read s = record {
+  same_phase = λ output. refl;
+  same_refusals = λ output.
+      refusals_after (held_pictures output (history_in p)) (Refused unit f ∷ [])
+      ∙ sym (refusals_after (held_pictures Full (history_in p)) (Refused unit f ∷ []));
+  hands_out = held_go_out p (Refused unit f ∷ []) refl;
+  each_sound = stopped_sound p waiting s;
+  sound = tt;
+}
+
+-- pictures go out, and decoding goes on
+shown : (p : Phase) (h : History) (o : Option OpenPicture) (read : ℕ) → Sound p → Sound (running h o)
+    → Follows (history_in p) (history_in (running h o))
+    → Turns p (λ output. record {
+      events = pictures (output_pictures output (history_in p) (history_in (running h o)));
+      phase = running h o;
+      read = read;
+    })
+shown p h o read s t f =
+    let old = history_in p in
+    let new = history_in (running h o) in
+    record {
+      same_phase = λ output. refl;
+      same_refusals = λ output. no_refusals (output_pictures output old new) ∙ sym (no_refusals (output_pictures Full old new));
+      hands_out = λ output.
+          ap (λ l. gone output old ++ l) (pictures_alone (output_pictures output old new))
+          ∙ gone_later output old new f
+          ∙ ap (λ hs. all_in output hs ++ gone output new) (sym (going_on p h o));
+      each_sound = stopped_sound p (running h o) s;
+      sound = t;
+    }
+
+one_slice : (p : Phase) (already : ℕ) (o : OpenPicture) → Sound p → IsSoundOpen o → Follows (history_in p) (history_of o)
+    → Turns p (λ output. with_slice output (history_in p) already o)
+one_slice p already o s t f = by_fault (first_fault o false)
+  where
+    by_fault : (found : Option (ℕ × Fault)) → Turns p (λ output. elim found [
+      | Some found ↦ failed_at output (history_in p) found.0 found.1 (read_of o - already)
+      | None ↦ record {
+        events = pictures (output_pictures output (history_in p) (history_of o));
+        phase = running o.before (Some o);
+        read = read_of o - already;
+      }
+    ])
+    by_fault (Some found) = failed p found.0 found.1 (read_of o - already) s
+    by_fault None = shown p o.before (Some o) (read_of o - already) s t f
+
+first_of_picture : (p : Phase) (named : Option (Pps × Sps)) (s : Slice) → Sound p → HasItsMarking s.header
+    → Turns p (λ output. after_first_slice output named (history_in p) s)
+first_of_picture p None s sound marking =
+    still p (running (history_in p) None) (going_on p (history_in p) None) refl sound (sound_in p sound)
+first_of_picture p (Some named) s sound marking =
+    let o : OpenPicture = record { before = history_in p; sps = named.1; pps = named.0; last = s; earlier = [] } in
+    let before = sound_in p sound in
+    one_slice p 0 o sound (record { before = before; idr = marking }) (base_grows o before.marked).follows
+
+-- ---- the steps
+
+abbrev is_open : Phase → Bool
+is_open waiting = false
+is_open (running h None) = false
+is_open (running h (Some o)) = true
+
+pub next_turns : (sets : Sets) (unit : ℕ) (p : Phase) (n : Next) → Sound p → Allows n (is_open p)
+    → Turns p (λ output. after_next output sets unit p n)
+next_turns sets unit p Nothing s a = stays p s
+next_turns sets unit p (Refusal f) s a = refused p unit f s
+next_turns sets unit p (FaultOfOpen f) s a = failed p unit f 0 s
+next_turns sets unit p (FaultOfOwn f) s a = failed p unit f 0 s
+next_turns sets unit waiting (Begins t) s a = first_of_picture waiting (sets_named sets t.header) t s a
+next_turns sets unit (running h None) (Begins t) s a = first_of_picture (running h None) (sets_named sets t.header) t s a
+next_turns sets unit (running h (Some o)) (Begins t) s a = absurd a
+next_turns sets unit waiting (Continues t) s a = stays waiting s
+next_turns sets unit (running h None) (Continues t) s a = stays (running h None) s
+next_turns sets unit (running h (Some o)) (Continues t) s a =
+    one_slice (running h (Some o)) (read_of o) (record o { last = t; earlier = o.last ∷ o.earlier }) s
+    (record { before = s.before; idr = s.idr }) (record { more = []; is = refl })
+
+-- where the open picture is closed
+pub closed_turns : (h : History) (o : OpenPicture) (r : Result History (ℕ × Fault)) → IsSoundOpen o
+    → ((full : History) → r ≡ Ok full → IsClosed o full)
+    → Turns (running h (Some o)) (λ output. closed_outcome output o r)
+closed_turns h o (Ok full) s closed =
+    shown (running h (Some o)) full None 0 s (closed full refl).sound (closed full refl).follows
+closed_turns h o (Err found) s closed = failed (running h (Some o)) found.0 found.1 0 s
