@@ -5,7 +5,7 @@ use Rattle.std.proofs.lemmas.Bool.{ne_eqb}
 use Rattle.std.specs.Prelude.{replicate, ◌≢◌, slice_index, if◌then◌else◌}
 use Rattle.std.specs.Option.{option_map}
 use Rattle.avc_annexb.specs.Units.{PlacedUnit, placed_units, is_start, is_end, before_end, without_last_zeros, unit_at, unit_bytes}
-use Rattle.avc_annexb.specs.Scanning.{HasNoBoundary, ScannedBytes, IsAt, HasNoZero, placed_units_after, closed_unit, with_more}
+use Rattle.avc_annexb.specs.Scanning.{HasNoBoundary, ScannedBytes, IsAt, HasLoneZeros, placed_units_after, closed_unit, with_more}
 
 map_map : {A B C : Type 0} (f : B → C) (g : A → B) (o : Option A) → option_map f (option_map g o) ≡ option_map (λ x. f (g x)) o
 map_map f g None = refl
@@ -67,11 +67,6 @@ passes_zero (b ∷ bytes) ends starts p some = record {
     zeros_kept : (b : ℕ) (bytes more : List ℕ) → without_last_zeros (b ∷ bytes ++ more) ≡ b ∷ bytes ++ without_last_zeros more → without_last_zeros (0 ∷ b ∷ bytes ++ more) ≡ 0 ∷ b ∷ bytes ++ without_last_zeros more
     zeros_kept b bytes more is = rw (is, without_last_zeros) refl
 
-passes_free : (run : List ℕ) → HasNoZero run → HasNoBoundary run
-passes_free [] free = passes_none
-passes_free (b ∷ run) free =
-    passes-append (b ∷ []) run (passes_byte b (ne_eqb 0 b (λ e. free 0 (omega arith) (sym e)))) (passes_free run (λ k within. free (suc k) (omega arith)))
-
 passes_after_one : (b : ℕ) (run : List ℕ) → eqb 0 b ≡ false → HasNoBoundary (b ∷ run) → HasNoBoundary (0 ∷ b ∷ run)
 passes_after_one b run other p = passes_zero (b ∷ run) (λ more. rw other refl) (λ more. rw other refl) p (λ e. omega (arith, e))
 
@@ -79,15 +74,27 @@ passes_after_two : (b : ℕ) (run : List ℕ) → eqb 0 b ≡ false → eqb 1 b 
 passes_after_two b run other no_start p =
     passes_zero (0 ∷ b ∷ run) (λ more. rw (other, no_start) refl) (λ more. rw no_start refl) (passes_after_one b run other p) (λ e. omega (arith, e))
 
--- a run that has no zero, after some zeros that it doesn't make a start code of
-passes_after : (count : ℕ) (run : List ℕ) → count ≤ 2 → HasNoZero run → 0 < length run → (2 ≤ count → slice_index run 0 ≢ 1) → HasNoBoundary (replicate count 0 ++ run)
-passes_after count [] few free some no_start = absurd (omega arith)
-passes_after zero (b ∷ run) few free some no_start = passes_free (b ∷ run) free
-passes_after (suc zero) (b ∷ run) few free some no_start =
-    passes_after_one b run (ne_eqb 0 b (λ e. free 0 (omega arith) (sym e))) (passes_free (b ∷ run) free)
-passes_after (suc (suc zero)) (b ∷ run) few free some no_start =
-    passes_after_two b run (ne_eqb 0 b (λ e. free 0 (omega arith) (sym e))) (ne_eqb 1 b (λ e. no_start (omega arith) (sym e))) (passes_free (b ∷ run) free)
-passes_after (suc (suc (suc _))) (b ∷ run) few free some no_start = absurd (omega arith)
+lone_rest : (b : ℕ) (run : List ℕ) → HasLoneZeros (b ∷ run) → HasLoneZeros run
+lone_rest b run lone = λ k within is next.
+    let step : suc k + 1 ≡ suc (k + 1) = omega arith in
+    lone (suc k) (omega arith) is (ap (slice_index (b ∷ run)) step ∙ next)
+
+passes_lone : (run : List ℕ) → HasLoneZeros run → HasNoBoundary run
+passes_lone [] lone = passes_none
+passes_lone (suc b ∷ run) lone = passes-append (suc b ∷ []) run (passes_byte (suc b) (ne_eqb 0 (suc b) (λ e. omega (arith, e)))) (passes_lone run (lone_rest (suc b) run lone))
+passes_lone (zero ∷ []) lone = absurd (lone 0 (omega arith) refl refl)
+passes_lone (zero ∷ zero ∷ run) lone = absurd (lone 0 (omega arith) refl refl)
+passes_lone (zero ∷ suc b ∷ run) lone = passes_after_one (suc b) run (ne_eqb 0 (suc b) (λ e. omega (arith, e))) (passes_lone (suc b ∷ run) (lone_rest 0 (suc b ∷ run) lone))
+
+-- a run, after some zeros that it doesn't make a start code of
+passes_after : (count : ℕ) (run : List ℕ) → count ≤ 2 → HasLoneZeros run → 0 < length run → (1 ≤ count → slice_index run 0 ≢ 0) → (2 ≤ count → slice_index run 0 ≢ 1) → HasNoBoundary (replicate count 0 ++ run)
+passes_after count [] few lone some no_zero no_start = absurd (omega arith)
+passes_after zero (b ∷ run) few lone some no_zero no_start = passes_lone (b ∷ run) lone
+passes_after (suc zero) (b ∷ run) few lone some no_zero no_start =
+    passes_after_one b run (ne_eqb 0 b (λ e. no_zero (omega arith) (sym e))) (passes_lone (b ∷ run) lone)
+passes_after (suc (suc zero)) (b ∷ run) few lone some no_zero no_start =
+    passes_after_two b run (ne_eqb 0 b (λ e. no_zero (omega arith) (sym e))) (ne_eqb 1 b (λ e. no_start (omega arith) (sym e))) (passes_lone (b ∷ run) lone)
+passes_after (suc (suc (suc _))) (b ∷ run) few lone some no_zero no_start = absurd (omega arith)
 
 -- Nothing has come.
 pub scanned_first : ScannedBytes [] [] None 0
@@ -181,15 +188,16 @@ scanned_start bytes done current s =
         (found_start (unit.offset + length unit.bytes) ended more ∙ ap (λ q. unit_at q (unit_bytes ended more) ++ placed_units q ended more) (omega (arith, p.0)))
 
 -- a run of a unit, or between units
-pub scanned_run : (bytes : List ℕ) (done : List PlacedUnit) (current : Option PlacedUnit) (count : ℕ) (run : List ℕ) → ScannedBytes bytes done current count → HasNoZero run → 0 < length run → (2 ≤ count → slice_index run 0 ≢ 1) →
+pub scanned_run : (bytes : List ℕ) (done : List PlacedUnit) (current : Option PlacedUnit) (count : ℕ) (run : List ℕ) → ScannedBytes bytes done current count → HasLoneZeros run → 0 < length run →
+    (1 ≤ count → slice_index run 0 ≢ 0) → (2 ≤ count → slice_index run 0 ≢ 1) →
     ScannedBytes (bytes ++ run) done (with_more current (replicate count 0 ++ run)) 0
-scanned_run bytes done current count run s free some no_start =
+scanned_run bytes done current count run s lone some no_zero no_start =
     subst (λ d. ScannedBytes (bytes ++ run) d (with_more current (replicate count 0 ++ run)) 0) (append-nil done)
     (scanned_more bytes done [] current (with_more current (replicate count 0 ++ run)) count 0 run s (omega arith)
     (run_place current (length bytes) s.place) (run_step current (length bytes) s.place))
   where
     run_passes : HasNoBoundary (replicate count 0 ++ run)
-    run_passes = passes_after count run s.few free some no_start
+    run_passes = passes_after count run s.few lone some no_zero no_start
 
     run_len : length (replicate count 0 ++ run) ≡ count + length run
     run_len = length-append (replicate count 0) run ∙ ap (λ n. n + length run) (length-replicate count 0)

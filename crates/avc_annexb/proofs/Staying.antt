@@ -5,7 +5,7 @@ use Rattle.std.proofs.lemmas.List.Elements.{All-nil, All-cons, All-append, All-s
 use Rattle.std.specs.Prelude.{◌≢◌}
 use Rattle.avc_annexb.specs.Units.{PlacedUnit, placed_units, unit_at, numbered}
 use Rattle.avc_annexb.specs.Laws.{UnitsStay}
-use Rattle.avc_annexb.specs.Scanning.{ScannedBytes, IsAt, HasNoBoundary, HasNoZero, closed_unit, placed_units_after}
+use Rattle.avc_annexb.specs.Scanning.{ScannedBytes, IsAt, HasNoBoundary, HasLoneZeros, closed_unit, placed_units_after}
 use Rattle.avc_annexb.proofs.Scanning.{scanned_first, scanned_zero, scanned_third, scanned_start, scanned_run, scanned_so_far, scanned_end}
 use Rattle.avc_annexb.proofs.Taking.{numbered-append}
 
@@ -42,11 +42,11 @@ have_more bytes done current count s have =
 reached_run : (bytes : List ℕ) (done : List PlacedUnit) (current : Option PlacedUnit) (count b : ℕ) →
     ScannedBytes bytes done current count → All HasUnitBytes done → b ≢ 0 → (2 ≤ count → b ≢ 1) → Reached (bytes ++ b ∷ [])
 reached_run bytes done current count b s have other no_start =
-    record { done = _; current = _; count = _; scanned = scanned_run bytes done current count (b ∷ []) s free (omega arith) no_start; have = have }
+    record { done = _; current = _; count = _; scanned = scanned_run bytes done current count (b ∷ []) s lone (omega arith) (λ _. other) no_start; have = have }
   where
-    free : HasNoZero (b ∷ [])
-    free zero within = other
-    free (suc k) within = absurd (omega arith)
+    lone : HasLoneZeros (b ∷ [])
+    lone zero within is = absurd (other is)
+    lone (suc k) within is = absurd (omega arith)
 
 reached_byte : (b : ℕ) (bytes : List ℕ) (done : List PlacedUnit) (current : Option PlacedUnit) (count : ℕ) →
     ScannedBytes bytes done current count → All HasUnitBytes done → Reached (bytes ++ b ∷ [])

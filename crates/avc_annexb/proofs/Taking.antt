@@ -2,9 +2,8 @@
 use Rattle.std.proofs.Common.{◌≡◌, ℕ, ◌+◌, ◌-◌, ◌<◌, ◌≤◌, List, [], ◌∷◌, ◌++◌, length, Option, Some, None, refl, ap, ◌∙◌, sym, arith, suc, append_assoc, get_or, take, drop, take_all, append-nil, ◌⊎◌, inl, inr, Bool, true, false}
 use Rattle.std.specs.Prelude.{slice_get, if◌then◌else◌, IfSome}
 use Rattle.std.specs.Option.{option_to_list}
-use Rattle.std.proofs.lemmas.List.{take_more, get_or-drop, length_push}
+use Rattle.std.proofs.lemmas.List.{length_push}
 use Rattle.std.proofs.lemmas.Option.{slice_get_within}
-use Rattle.std.proofs.Math.Seq.{take-add}
 use Rattle.avc_annexb.specs.Units.{PlacedUnit, placed_units, units, numbered, unit_of, unit_at}
 use Rattle.avc_annexb.specs.Scanning.{AreReady, IsOpenUnit, closed_unit, with_bytes, IsSplitterStateIn, has_ended, has_failed}
 use Rattle.avc_annexb.specs.declared.unit.Unit.{Unit}
@@ -40,14 +39,6 @@ units_pushed max given done unit old u is made =
 pub first_and_rest : (bytes : List ℕ) → 1 ≤ length bytes → get_or bytes 0 0 ∷ take (length bytes - 1) (drop 1 bytes) ≡ bytes
 first_and_rest [] some = absurd (omega arith)
 first_and_rest (b ∷ bytes) some = ap (λ t. b ∷ t) (take_all (suc (length bytes) - 1) bytes (omega arith))
-
--- the bytes before a place, a run, and the zero after it
-pub run_and_zero : (front piece : List ℕ) (place count : ℕ) → place + count < length piece → get_or (drop place piece) count 0 ≡ 0 →
-    ((front ++ take place piece) ++ take (place + count - place) (drop place piece)) ++ 0 ∷ [] ≡ front ++ take (place + count + 1) piece
-run_and_zero front piece place count within is =
-    let n : place + count - place ≡ count = omega arith in
-    rw (n, append_assoc front (take place piece) (take count (drop place piece)), ← take-add place count piece, append_assoc front (take (place + count) piece) (0 ∷ []))
-    (ap (λ t. front ++ t) (ap (λ b. take (place + count) piece ++ b ∷ []) (sym is ∙ get_or-drop place piece count 0) ∙ sym (take_more piece (place + count) 0 within)))
 
 -- what comes next is what is ready first
 pub next_in : (p : SplitterPhase) (max : ℕ) (s : Scanner max) (bytes : List ℕ) (unit : Option Unit) → IsSplitterStateIn p max s bytes → (p ≡ Running) ⊎ (p ≡ Ended) →

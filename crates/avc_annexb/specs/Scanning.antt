@@ -14,6 +14,14 @@ use Rattle.avc_annexb.specs.declared.splitter.SplitterPhase.TheVariants.{Running
 abbrev pub HasNoZero : List ℕ → Type 0
 HasNoZero run = (k : ℕ) → k < length run → slice_index run k ≢ 0
 
+-- a run in which each zero stands alone: the byte after it is there, and is not zero
+abbrev pub HasLoneZeros : List ℕ → Type 0
+HasLoneZeros run = (k : ℕ) → k < length run → slice_index run k ≡ 0 → slice_index run (k + 1) ≢ 0
+
+-- the same of the bytes before a place
+abbrev pub HasLoneZerosBefore : ℕ → List ℕ → Type 0
+HasLoneZerosBefore n bytes = (k : ℕ) → k < n → slice_index bytes k ≡ 0 → (k + 1 < n) × (slice_index bytes (k + 1) ≢ 0)
+
 -- an open unit stands for these bytes at this place
 pub record IsOpenUnit (max : ℕ) (o : OpenUnit max) (unit : PlacedUnit) : Type 0 where
   pub offset : o.offset ≡ saturated unit.offset

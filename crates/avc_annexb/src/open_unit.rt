@@ -36,12 +36,14 @@ impl<const MAX: usize> OpenUnit<MAX> {
         let [first, others @ ..] = bytes else {
             return Ok(());
         };
-        if self.length == 0 {
-            self.begin(*first);
-            self.extend(others)
-        } else {
-            self.extend(bytes)
+        if self.length > 0 {
+            return self.extend(bytes);
         }
+        self.begin(*first);
+        if others.is_empty() {
+            return Ok(());
+        }
+        self.extend(others)
     }
 
     // adds the first byte
@@ -77,6 +79,9 @@ impl<const MAX: usize> OpenUnit<MAX> {
         requires { zeros ≤ 2 }
         ensures { OnOk result (AddsBytes self.old self.new (replicate zeros 0 ++ bytes.now)) }
     {
+        if zeros == 0 {
+            return self.append(bytes);
+        }
         self.append(some_zeros(zeros))?;
         self.append(bytes)
     }

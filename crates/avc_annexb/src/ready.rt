@@ -32,6 +32,7 @@ impl<const MAX: usize> Ready<MAX> {
     }
 
     /// Adds a unit at the end, if it has bytes.
+    #[inline(always)]
     pub fn add(&mut self, unit: OpenUnit<MAX>) -> Result<(), OutOfMemory>
         ensures holds { OnOk result (AddsUnit self.old self.new unit.entry) }
         ensures given { self.new.given.items ≡ self.old.given.items }
@@ -45,6 +46,7 @@ impl<const MAX: usize> Ready<MAX> {
     }
 
     /// Adds a unit at the end, if there is one and it has bytes.
+    #[inline(always)]
     pub fn add_any(&mut self, unit: Option<OpenUnit<MAX>>) -> Result<(), OutOfMemory>
         ensures holds { OnOk result (AddsUnitIfAny self.old self.new unit.entry) }
         ensures given { self.new.given.items ≡ self.old.given.items }

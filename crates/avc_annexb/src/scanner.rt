@@ -1,21 +1,10 @@
 ghost use Rattle.std.specs.Prelude.{◌≤◌};
-ghost use Rattle.memchr.specs.Find.{is_byte, IsFirstByte};
 
 use crate::open_unit::{OpenUnit, append_any};
 use crate::ready::Ready;
+use crate::runs::{run_length, zeros_at_start};
 use avc_types::OutOfMemory;
-use memchr::memchr;
 use std::alloc::Global;
-
-/// The place of the first zero. Zeros stand together in a stream: a search is begun where another byte stands alone.
-fn first_zero(bytes: &[u8]) -> Option<usize>
-    ensures { IsFirstByte (is_byte 0) bytes.now result }
-{
-    match bytes {
-        [0, ..] => Some(0),
-        _ => memchr(0, bytes),
-    }
-}
 
 /// Goes once through a stream and looks for where units begin and end.
 #[derive(Drop)]
@@ -30,8 +19,8 @@ pub struct Scanner<const MAX: usize> {
 }
 
 impl<const MAX: usize> Scanner<MAX> {
-    ghost use Rattle.std.specs.Prelude.{◌≡◌, ◌≢◌, ◌≤◌, ℕ, true, [], ◌∷◌, ◌++◌, List, OnOk, slice_index};
-    ghost use Rattle.avc_annexb.specs.Scanning.{HasScanned, HasNoZero, AreReady};
+    ghost use Rattle.std.specs.Prelude.{◌≡◌, ◌≢◌, ◌<◌, ◌≤◌, ℕ, true, [], ◌∷◌, ◌++◌, List, OnOk, length, slice_index, replicate};
+    ghost use Rattle.avc_annexb.specs.Scanning.{HasScanned, HasLoneZeros, AreReady};
     ghost use Rattle.avc_annexb.specs.Units.{placed_units};
 
     pub fn new(alloc: Global) -> Self
@@ -53,12 +42,16 @@ impl<const MAX: usize> Scanner<MAX> {
         ensures given { self.new.ready.given.items ≡ self.old.ready.given.items }
     {
         let mut place = 0;
-        while let Some(len) = first_zero(&piece[place..]) {
-            self.run(&piece[place..place + len])?;
-            self.zero()?;
-            place = place + len + 1;
+        while place < piece.len() {
+            let left = &piece[place..];
+            let zeros = zeros_at_start(left);
+            let others = &left[zeros..];
+            let len = run_length(others);
+            self.zeros(zeros)?;
+            self.run(&others[..len])?;
+            place += zeros + len;
         }
-        self.run(&piece[place..])
+        Ok(())
     }
 
     /// Takes the end of the stream.
@@ -70,9 +63,10 @@ impl<const MAX: usize> Scanner<MAX> {
         self.ready.add_any(self.unit.take())
     }
 
-    // bytes that have no zero
+    // bytes in which no zero is first, last, or next to another
     fn run(&mut self, run: &[u8]) -> Result<(), OutOfMemory>
-        requires { HasNoZero run.now }
+        requires lone { HasLoneZeros run.now }
+        requires first { 0 < length run.now → slice_index run.now 0 ≢ 0 }
         ensures ok { OnOk result ((bytes : List ℕ) → HasScanned MAX self.old bytes → HasScanned MAX self.new (bytes ++ run.now)) }
         ensures given { self.new.ready.given.items ≡ self.old.ready.given.items }
     {
@@ -88,7 +82,8 @@ impl<const MAX: usize> Scanner<MAX> {
 
     // bytes of a unit, or between units
     fn pass(&mut self, run: &[u8]) -> Result<(), OutOfMemory>
-        requires no_zero { HasNoZero run.now }
+        requires lone { HasLoneZeros run.now }
+        requires no_zero { 1 ≤ self.old.zeros → slice_index run.now 0 ≢ 0 }
         requires no_start { 2 ≤ self.old.zeros → slice_index run.now 0 ≢ 1 }
         ensures ok { OnOk result ((bytes : List ℕ) → HasScanned MAX self.old bytes → HasScanned MAX self.new (bytes ++ run.now)) }
         ensures given { self.new.ready.given.items ≡ self.old.ready.given.items }
@@ -102,16 +97,17 @@ impl<const MAX: usize> Scanner<MAX> {
         append_any(&mut self.unit, zeros, run)
     }
 
-    // a zero, of which a third ends a unit
-    fn zero(&mut self) -> Result<(), OutOfMemory>
-        ensures ok { OnOk result ((bytes : List ℕ) → HasScanned MAX self.old bytes → HasScanned MAX self.new (bytes ++ 0 ∷ [])) }
+    // zeros, of which a third in a row ends a unit
+    fn zeros(&mut self, count: usize) -> Result<(), OutOfMemory>
+        ensures ok { OnOk result ((bytes : List ℕ) → HasScanned MAX self.old bytes → HasScanned MAX self.new (bytes ++ replicate count 0)) }
         ensures given { self.new.ready.given.items ≡ self.old.ready.given.items }
     {
-        self.position = self.position.saturating_add(1);
-        if self.zeros < 2 {
-            self.zeros += 1;
+        self.position = self.position.saturating_add(count as u64);
+        if count <= (2 - self.zeros) as usize {
+            self.zeros += count as u8;
             return Ok(());
         }
+        self.zeros = 2;
         self.ready.add_any(self.unit.take())
     }
 

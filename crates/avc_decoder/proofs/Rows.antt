@@ -1,10 +1,13 @@
 -- Worked examples of whole streams.
-use Rattle.std.specs.Prelude.{◌≡◌, ℕ, Bool, true, false, List, [], ◌∷◌, ◌++◌, map, length, replicate, slice_index, refl}
+use Rattle.std.specs.Prelude.{◌≡◌, ℕ, zero, suc, Bool, true, false, All, List, [], ◌∷◌, ◌++◌, map, length, replicate, slice_index, refl}
 use Rattle.std.specs.List.{range_with_len}
+use Rattle.std.proofs.Common.{arith}
 use Rattle.avc_types.specs.declared.fault.Fault.{Fault}
 use Rattle.avc_types.specs.declared.fault.Fault.TheVariants as faults
 use Rattle.avc_dpb.specs.declared.output.Output.{Output}
 use Rattle.avc_dpb.specs.declared.output.Output.TheVariants.{Full, Early}
+use Rattle.avc_decoder_core.specs.SequenceOrder.{RespectsReorderNumbers}
+use Rattle.avc_decoder.specs.EarlyOutput.{histories}
 use Rattle.avc_decoder.specs.Events.{events, turns}
 use Rattle.avc_decoder.specs.declared.event.Event.{Event}
 use Rattle.avc_decoder.specs.declared.event.Event.TheVariants.{Picture, Refused}
@@ -138,6 +141,18 @@ not_early = refl
 
 at_end : seen_under Full picture_in_order true ≡ shown 64 256 ∷ []
 at_end = refl
+
+-- two pictures in order are one history, in which none is reordered and none dropped
+one_history : map length (histories max (picture_in_order ++ skipping)) ≡ 2 ∷ []
+one_history = refl
+
+in_order : All RespectsReorderNumbers (histories max (picture_in_order ++ skipping))
+in_order zero d lt = (omega arith, (omega arith, tt))
+in_order (suc k) d lt = absurd (omega (arith, lt))
+
+-- a fault stops a history, and the next IDR picture begins another
+two_histories : map length (histories max (sets ++ pcm first_mb (of_one 80) ++ skipping_later ++ pcm next_picture (of_one 64))) ≡ 1 ∷ 1 ∷ []
+two_histories = refl
 
 waits : seen_all (sets ++ skipping ++ pcm first_mb (of_one 80)) true ≡ shown 80 256 ∷ []
 waits = refl

@@ -1,20 +1,21 @@
-use Rattle.std.proofs.Common.{◌<◌, ◌+◌, arith, length}
-use Rattle.std.proofs.lemmas.Bool.{eqb-true}
+use Rattle.std.proofs.Common.{arith, drop}
 use Rattle.std.proofs.lemmas.List.{take_rest, length-drop}
-use Rattle.avc_annexb.proofs.Taking.{run_and_zero}
+use Rattle.avc_annexb.proofs.Zeros.{zeros_and_run}
 use Rattle.avc_annexb.proofs.scanner.Scanner.take_in.Goals as goal
 
-pub loop-len-preserved : goal.loop-len-preserved
-loop-len-preserved g c =
+pub loop-place-preserved : goal.loop-place-preserved
+loop-place-preserved g c =
     let piece = c.args.piece.now in
-    let place = c.loop-len.place in
-    let len = c.in-Some.len in
-    let first = rw (take_rest piece place) at c.in-Some.ensures in
-    let within : place + len < length piece = omega (arith, first.0.high, length-drop place piece) in
+    let place = c.loop-place.place in
+    let zeros = c.zeros_at_start-zeros.result in
+    let left = take_rest piece place in
+    let others = take_rest (drop place piece) zeros in
+    let zeros_are = rw left at c.zeros_at_start-zeros.ensures in
+    let run_is = rw (left, others) at c.run_length-len.ensures in
     record {
       scans = λ bytes s.
-          rw (← run_and_zero bytes piece place len within (eqb-true _ 0 first.1))
-          (c.in_ok-zero.ensures.ok _ (c.in_ok-run.ensures.ok _ (c.loop-len.invariant.scans bytes s)));
+          rw (← zeros_and_run bytes piece place zeros c.run_length-len.result zeros_are.zeros)
+          (rw (left, others) at (c.in_ok-run.ensures.ok _ (c.in_ok-zeros.ensures.ok _ (c.loop-place.invariant.scans bytes s))));
       given = (cc);
-      within = omega arith;
+      within = omega (arith, length-drop place piece, length-drop zeros (drop place piece), zeros_are.within, run_is.within);
     }

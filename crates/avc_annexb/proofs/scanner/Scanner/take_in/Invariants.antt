@@ -3,12 +3,12 @@ use Rattle.avc_annexb.specs.Scanning.{HasScanned}
 use Rattle.avc_annexb.proofs.scanner.Scanner.take_in.Given as goal
 
 -- the bytes before this place were taken in
-abbrev pub invariant-loop-len : goal.invariant-loop-len
-invariant-loop-len g l = record {
+abbrev pub invariant-loop-place : goal.invariant-loop-place
+invariant-loop-place g l = record {
   scans : (bytes : List ℕ) → HasScanned g.row.MAX l.initial.self bytes → HasScanned g.row.MAX l.self (bytes ++ take l.place l.piece);
   given : l.self.ready.given.items ≡ l.initial.self.ready.given.items;
   within : l.place ≤ length l.piece;
 }
 
-abbrev pub decreases-loop-len : goal.decreases-loop-len
-decreases-loop-len g l = length l.piece - l.place
+abbrev pub decreases-loop-place : goal.decreases-loop-place
+decreases-loop-place g l = length l.piece - l.place
