@@ -13,8 +13,8 @@ use crate::queue::Queue;
 use avc_decoder_core::{Output, Sequence};
 use avc_picture::PictureDecoder;
 use avc_plane::PADDING;
-use avc_slice::Slice;
 use avc_types::{Fault, OutOfMemory};
+use avc_units::HeapSlice;
 use std::alloc::Global;
 use std::marker::Model;
 
@@ -84,6 +84,10 @@ impl Pictures {
         ensures fault { IfOk result (λ fault. fault ≡ is_waiting (closed_in self.old.output self.old.history self.old.open_picture).phase) }
         ensures state { OnOk result (self.new ≡ after_outcome (closed_in self.old.output self.old.history self.old.open_picture) self.old) }
     {
+        // so that the room for one is not copied and cleared at each end of a picture
+        if self.picture.is_none() {
+            return Ok(false);
+        }
         let Some(picture) = self.picture.take() else {
             return Ok(false);
         };
@@ -94,7 +98,7 @@ impl Pictures {
     }
 
     /// Opens a picture with its first slice. Says whether that was a fault.
-    pub fn begin(&mut self, slice: Slice, sets: ActiveSets) -> Result<bool, OutOfMemory>
+    pub fn begin(&mut self, slice: HeapSlice, sets: ActiveSets) -> Result<bool, OutOfMemory>
         requires going { self.old.failed ≡ false }
         requires rest { self.old.open_picture ≡ None }
         requires sps { IsSps sets.sps.now }
@@ -105,15 +109,10 @@ impl Pictures {
         ensures state { OnOk result (self.new
             ≡ after_outcome (after_first_slice self.old.output (Some (sets.entry.pps.now, sets.entry.sps.now)) self.old.history slice) self.old) }
     {
+        let first = slice.get();
         self.failed = true;
-        self.last_unit = slice.unit;
-        let after = begin_picture(
-            self.alloc,
-            &mut self.sequence,
-            &mut self.queue,
-            &slice,
-            sets,
-        )?;
+        self.last_unit = first.unit;
+        let after = begin_picture(self.alloc, &mut self.sequence, &mut self.queue, first, sets)?;
         self.read = count_more(self.read, after.read);
         let fault = after.picture.is_none();
         self.picture = after.picture;
@@ -122,7 +121,7 @@ impl Pictures {
     }
 
     /// Decodes one slice more of the open picture, if there is one. Says whether that was a fault.
-    pub fn next_slice(&mut self, slice: Slice) -> Result<bool, OutOfMemory>
+    pub fn next_slice(&mut self, slice: HeapSlice) -> Result<bool, OutOfMemory>
         requires going { self.old.failed ≡ false }
         requires continues { (o : OpenPicture) → self.old.open_picture ≡ Some o → CanContinue o slice }
         ensures fault { IfOk result (λ fault. fault
@@ -133,15 +132,16 @@ impl Pictures {
         let Some(picture) = self.picture.take() else {
             return Ok(false);
         };
+        let further = slice.get();
         self.failed = true;
         let after = continue_picture(
             &mut self.sequence,
             &mut self.queue,
             picture,
             self.last_unit,
-            &slice,
+            further,
         )?;
-        self.last_unit = slice.unit;
+        self.last_unit = further.unit;
         self.read = count_more(self.read, after.read);
         let fault = after.picture.is_none();
         self.picture = after.picture;

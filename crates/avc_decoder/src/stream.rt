@@ -11,9 +11,8 @@ use crate::event::Event;
 use crate::pictures::Pictures;
 use avc_annexb::Unit;
 use avc_decoder_core::Output;
-use avc_slice::Slice;
 use avc_types::OutOfMemory;
-use avc_units::{Grouper, Next};
+use avc_units::{Grouper, HeapSlice, Next};
 use std::alloc::Global;
 use std::marker::Model;
 
@@ -165,7 +164,7 @@ fn perform(
 }
 
 /// Opens a picture under the parameter sets that its first slice names. Says whether that was a fault.
-fn begin(grouper: &Grouper, pictures: &mut Pictures, slice: Slice) -> Result<bool, OutOfMemory>
+fn begin(grouper: &Grouper, pictures: &mut Pictures, slice: HeapSlice) -> Result<bool, OutOfMemory>
     requires going { pictures.old.failed ≡ false }
     requires rest { pictures.old.open_picture ≡ None }
     requires within { IsSliceUnder (sets_after grouper.now.sets) slice }
@@ -174,8 +173,9 @@ fn begin(grouper: &Grouper, pictures: &mut Pictures, slice: Slice) -> Result<boo
     ensures state { OnOk result (pictures.new ≡ after_outcome
         (after_first_slice pictures.old.output (sets_named (sets_after grouper.now.sets) slice.header) pictures.old.history slice) pictures.old) }
 {
+    let first = slice.get();
     let table = grouper.table();
-    let Some(pps) = table.pps(slice.header.pic_parameter_set_id) else {
+    let Some(pps) = table.pps(first.header.pic_parameter_set_id) else {
         return Ok(false);
     };
     let Some(sps) = table.sps(pps.seq_parameter_set_id) else {

@@ -44,14 +44,14 @@ fn begins_a_picture(next: &Next) -> bool
     }
 }
 
-/// The header of the open picture's last slice after a step.
-fn last_header_after(closes: bool, next: &Next, last: Option<Header>) -> Option<Header>
-    ensures { result ≡ last_header_after closes next.now last }
+/// Keeps the header of the open picture's last slice after a step. Where there is none, its room is not cleared again.
+fn keep_last_header(last: &mut Option<Header>, closes: bool, next: &Next)
+    ensures { last.new ≡ last_header_after closes next.now last.old }
 {
     match next {
-        Next::Begins(slice) | Next::Continues(slice) => Some(slice.header.copied()),
-        _ if closes => None,
-        _ => last,
+        Next::Begins(slice) | Next::Continues(slice) => *last = Some(slice.get().header.copied()),
+        _ if closes && last.is_some() => *last = None,
+        _ => {}
     }
 }
 
@@ -91,7 +91,7 @@ impl Grouper {
             full,
         };
         let step = step_of(self.alloc, &mut self.table, context, unit)?;
-        self.last = last_header_after(step.closes, &step.next, self.last.take());
+        keep_last_header(&mut self.last, step.closes, &step.next);
         self.running = self.running | begins_a_picture(&step.next);
         self.restarts = step.even_after_fault & begins_a_picture(&step.next);
         self.failed = false;

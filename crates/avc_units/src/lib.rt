@@ -2,6 +2,7 @@
 #![tactic(auto)]
 
 mod grouper;
+mod heap_slice;
 mod kinds;
 pub mod laws;
 mod sets;
@@ -12,6 +13,7 @@ mod step_cases;
 mod units;
 
 pub use grouper::Grouper;
+pub use heap_slice::HeapSlice;
 pub use kinds::{UnitKind, kind_of};
 pub use sets::rbsp_of;
 pub use starts::is_start;

@@ -8,9 +8,10 @@ ghost use Rattle.avc_units.specs.GrouperState.{IfSlice, IsSliceUnder};
 ghost use Rattle.avc_units.specs.Grouping.{kind, reads_zero, slice, with_header};
 ghost use Rattle.avc_units.specs.Kinds.{slice_or_start, open_picture_in, step_by};
 
+use crate::heap_slice::HeapSlice;
 use crate::sets::rbsp_of;
 use crate::step::Step;
-use crate::step_cases::{UnitContext, slice_or_start};
+use crate::step_cases::{UnitContext, no_effect, slice_or_start};
 use avc_annexb::Unit;
 use avc_bits::BitReader;
 use avc_params::ParamTable;
@@ -37,16 +38,27 @@ fn can_start(rbsp: &[u8], idr: bool) -> bool
 }
 
 /// The slice with this RBSP, or the fault in its header.
-fn read_slice(table: &ParamTable, unit: &Unit, rbsp: Bytes) -> Result<Slice, Fault>
-    ensures slice { result ≡ with_header unit.now rbsp (header_in_rbsp unit.now.header (sets_after table.now) rbsp) }
-    ensures kept { IfOk result (IsSliceUnder (sets_after table.now)) }
+fn read_slice(
+    alloc: Global,
+    table: &ParamTable,
+    unit: &Unit,
+    rbsp: Bytes,
+) -> Result<Result<HeapSlice, Fault>, OutOfMemory>
+    ensures slice { IfOk result (λ read. read ≡ with_header unit.now rbsp (header_in_rbsp unit.now.header (sets_after table.now) rbsp)) }
+    ensures kept { IfOk result (λ read. IfOk read (IsSliceUnder (sets_after table.now))) }
 {
-    let header = read_header(unit.header, rbsp.as_slice(), table)?;
-    Ok(Slice {
-        unit: unit.index,
-        header,
-        rbsp,
-    })
+    match read_header(unit.header, rbsp.as_slice(), table) {
+        Ok(header) => {
+            let slice = Slice {
+                unit: unit.index,
+                header,
+                rbsp,
+            };
+            let slice = HeapSlice::new(alloc, slice)?;
+            Ok(Ok(slice))
+        }
+        Err(fault) => Ok(Err(fault)),
+    }
 }
 
 /// A slice's unit; `idr` says that its type is 5.
@@ -65,7 +77,12 @@ pub(crate) fn slice_unit(
     match rbsp_of(alloc, unit)? {
         Some(rbsp) => {
             let starts = can_start(rbsp.as_slice(), idr);
-            Ok(slice_or_start(context, starts, read_slice(table, unit, rbsp)))
+            // else nothing comes of it, whatever its header says
+            if context.running | starts {
+                let read = read_slice(alloc, table, unit, rbsp)?;
+                return Ok(slice_or_start(context, starts, read));
+            }
+            Ok(no_effect())
         }
         None => Ok(slice_or_start(context, false, Err(Fault::NalTooLong))),
     }

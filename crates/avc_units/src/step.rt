@@ -1,4 +1,4 @@
-use avc_slice::Slice;
+use crate::heap_slice::HeapSlice;
 use avc_types::Fault;
 
 /// What a unit does once the open picture is closed, where the unit closes it.
@@ -16,10 +16,10 @@ pub enum Next {
     FaultOfOwn(Fault),
 
     /// The first slice of a new picture.
-    Begins(Slice),
+    Begins(HeapSlice),
 
     /// A further slice of the open picture.
-    Continues(Slice),
+    Continues(HeapSlice),
 }
 
 /// What a unit does to the open picture.

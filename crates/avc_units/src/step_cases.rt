@@ -2,8 +2,9 @@ ghost use Rattle.std.specs.Prelude.{◌≡◌};
 ghost use Rattle.avc_units.specs.Grouping.{ends_picture, no_effect, readable, slice_step, unreadable};
 ghost use Rattle.avc_units.specs.Kinds.{slice_or_start, open_picture_in};
 
+use crate::heap_slice::HeapSlice;
 use crate::step::{Next, Step};
-use avc_slice::{Header, Slice, begins_picture};
+use avc_slice::{Header, begins_picture};
 use avc_types::Fault;
 
 /// What a unit finds: whether decoding runs, and the open picture, if there is one, with the header of its last slice and
@@ -54,11 +55,11 @@ fn unreadable(context: UnitContext, fault: Fault) -> Step
 }
 
 /// A slice that can be read; `starts` says that decoding can start with it.
-fn readable(context: UnitContext, starts: bool, slice: Slice) -> Step
+fn readable(context: UnitContext, starts: bool, slice: HeapSlice) -> Step
     ensures { result ≡ readable (open_picture_in context.entry) starts slice }
 {
     match context.last {
-        Some(last) if !begins_picture(last, &slice.header) => Step {
+        Some(last) if !begins_picture(last, &slice.get().header) => Step {
             closes: false,
             next: Next::Continues(slice),
             even_after_fault: false,
@@ -76,7 +77,7 @@ fn readable(context: UnitContext, starts: bool, slice: Slice) -> Step
     }
 }
 
-fn slice_step(context: UnitContext, starts: bool, read: Result<Slice, Fault>) -> Step
+fn slice_step(context: UnitContext, starts: bool, read: Result<HeapSlice, Fault>) -> Step
     ensures { result ≡ slice_step (open_picture_in context.entry) starts read }
 {
     match read {
@@ -86,7 +87,11 @@ fn slice_step(context: UnitContext, starts: bool, read: Result<Slice, Fault>) ->
 }
 
 /// A slice comes, or the fault in its header: where decoding waits it has to start it.
-pub(crate) fn slice_or_start(context: UnitContext, starts: bool, read: Result<Slice, Fault>) -> Step
+pub(crate) fn slice_or_start(
+    context: UnitContext,
+    starts: bool,
+    read: Result<HeapSlice, Fault>,
+) -> Step
     ensures { result ≡ slice_or_start context.entry.running (open_picture_in context.entry) starts read }
 {
     if context.running {
