@@ -29,13 +29,16 @@ pub record IsOpenUnit (max : ℕ) (o : OpenUnit max) (unit : PlacedUnit) : Type 
   pub header : o.header ≡ slice_index unit.bytes 0
   pub body : option_map (λ v. v.items) o.body ≡ (if nat_le (length unit.bytes) max then Some (drop 1 unit.bytes) else None)
 
+-- a unit with these bytes behind its own
 abbrev pub with_bytes : PlacedUnit → List ℕ → PlacedUnit
 with_bytes unit more = record { offset = unit.offset; bytes = unit.bytes ++ more }
 
+-- the same where there is a unit
 abbrev pub with_more : Option PlacedUnit → List ℕ → Option PlacedUnit
 with_more None more = None
 with_more (Some unit) more = Some (with_bytes unit more)
 
+-- An open unit stands for a unit in the stream, or there is neither.
 abbrev pub IsOpenUnitIfAny : (max : ℕ) → Option (OpenUnit max) → Option PlacedUnit → Type 0
 IsOpenUnitIfAny max None None = Unit {0}
 IsOpenUnitIfAny max (Some o) (Some unit) = IsOpenUnit max o unit
@@ -55,6 +58,7 @@ pub record AreReady (max : ℕ) (r : Ready max) (done : List PlacedUnit) : Type 
   pub units : r.given.items ++ r.units.items ≡ numbered max 0 done
   pub count : r.count ≡ saturated (length done)
 
+-- what becomes of the open unit at its end: a unit, if it has bytes
 abbrev pub closed_unit : Option PlacedUnit → List PlacedUnit
 closed_unit None = []
 closed_unit (Some unit) = unit_at unit.offset (Some unit.bytes)
@@ -109,17 +113,21 @@ abbrev pub has_ended : SplitterPhase → Bool
 has_ended Ended = true
 has_ended _ = false
 
+-- memory was refused
 abbrev pub has_failed : SplitterPhase → Bool
 has_failed Failed = true
 has_failed _ = false
 
+-- what its fields say: all bytes so far, whether they have ended, and how many units were given out
 abbrev pub splitter_state : {MAX : ℕ} → Inside MAX → SplitterState
 splitter_state s = record { bytes = s.bytes.items; ended = has_ended s.progress; taken = length s.scanner.ready.given.items; failed = has_failed s.progress }
 
+-- what holds in each phase: the scan stands at the end of the bytes; or all units are ready; or nothing is known
 abbrev pub IsSplitterStateIn : SplitterPhase → (max : ℕ) → Scanner max → List ℕ → Type 0
 IsSplitterStateIn Running max s bytes = HasScanned max s bytes
 IsSplitterStateIn Ended max s bytes = AreReady max s.ready (placed_units 0 true bytes)
 IsSplitterStateIn Failed max s bytes = Unit {0}
 
+-- the same of a splitter's fields
 abbrev pub IsSplitterState : {MAX : ℕ} → Inside MAX → Type 0
 IsSplitterState {MAX} s = IsSplitterStateIn s.progress MAX s.scanner s.bytes.items

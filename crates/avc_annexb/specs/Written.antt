@@ -2,6 +2,7 @@
 use Rattle.std.specs.Prelude.{ℕ, List, [], ◌∷◌, ◌++◌, Some, None}
 use Rattle.avc_annexb.specs.declared.unit.Unit.{Unit}
 
+-- zero_byte and start_code_prefix_one_3bytes (B.1.1)
 abbrev pub start_code : List ℕ
 start_code = 0 ∷ 0 ∷ 0 ∷ 1 ∷ []
 

@@ -13,6 +13,7 @@ abbrev pub value : {A : Type 0} → A → Result (A × Bits) Fault → A
 value x (Ok r) = r.0
 value x (Err f) = x
 
+-- the bits that are left; after a fault those before
 abbrev pub left : {A : Type 0} → Bits → Result (A × Bits) Fault → Bits
 left b (Ok r) = r.1
 left b (Err f) = b
@@ -29,6 +30,7 @@ bind-ok part after b next y f = bind-by part after (part b) b next y refl f
 
 -- ---- what the value is
 
+-- P holds of each value that the part can give
 abbrev pub Gives : {A : Type 0} → (A → Type 0) → Read A → Type 0
 Gives {A} P part = (b next : Bits) (x : A) → part b ≡ Ok (x, next) → P x
 
@@ -76,6 +78,7 @@ gives-u_to n top =
     gives-check (λ w. w ≤ top) (nat_le v top) _ _ (λ h.
     gives-give (λ w. w ≤ top) v (grind (arith, nat_tests))))
 
+-- from `low` to `high`, both included
 pub record IsFrom (low high v : ℤ) : Type 0 where
   pub least : low ≤ℤ v
   pub most : v ≤ℤ high

@@ -9,10 +9,12 @@ before : {A B : Type 0} (r : Result (A × Bits) Fault) (next : A → Read B) (b 
 before (Ok p) next b y after is = (p.0, p.1, refl, is)
 before (Err f) next b y after is = cc
 
+-- the value that was read; x at a fault
 abbrev value : {A : Type 0} → A → Result (A × Bits) Fault → A
 value x (Ok p) = p.0
 value x (Err f) = x
 
+-- the bits that are left; after a fault those before
 abbrev left : {A : Type 0} → Bits → Result (A × Bits) Fault → Bits
 left b (Ok p) = p.1
 left b (Err f) = b

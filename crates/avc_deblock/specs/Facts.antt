@@ -45,6 +45,7 @@ pub record HasFacts (c : Coded) (motion : List (List Motion)) (names : Names) (a
 abbrev pub are_far : Mv → Mv → Bool
 are_far u v = nat_le 4 (nat_abs (u.x -ℤ v.x)) || nat_le 4 (nat_abs (u.y -ℤ v.y))
 
+-- bS between two inter blocks: 2 by coefficients, 1 by other pictures or far vectors, else 0 (8.7.2.1)
 abbrev pub inter_strength : (p : MbFacts) (kp : ℕ) (q : MbFacts) (kq : ℕ) → ℕ
 inter_strength p kp q kq =
     if has_bit p.coefficients kp || has_bit q.coefficients kq then 2
@@ -73,6 +74,7 @@ filters_at All same = true
 filters_at NoEdges same = false
 filters_at WithinSlice same = same
 
+-- the edge between two macroblocks is filtered, by what the second one's slice says of edges (7.4.3)
 abbrev pub filters_between : MbFacts → MbFacts → Bool
 filters_between f g = filters_at f.filtered_edges (f.slice == g.slice)
 

@@ -32,6 +32,7 @@ abbrev pub strength_along : Strengths → ℕ → ℕ
 strength_along Four k = 4
 strength_along (BelowFour strengths) k = slice_index strengths k
 
+-- strengths below 4, one for each quarter of the edge, where it is not 4 all along (8.7.2.1)
 abbrev pub AreStrengths : Strengths → Type 0
 AreStrengths Four = Unit {0}
 AreStrengths (BelowFour strengths) = (k : ℕ) → k < 4 → slice_index strengths k < 4
@@ -67,6 +68,7 @@ planes_edge c motion v a n s = record {
   cr = if n % 2 == 0 then component_edge c motion 2 v a (2 * n) s.cr else s.cr;
 }
 
+-- the three planes after a macroblock's vertical or horizontal edges, the outer one first (8.7)
 abbrev pub planes_edges : Coded → List (List Motion) → Bool → (outer inner : Bool) → (a : ℕ) → Planes → Planes
 planes_edges c motion v outer inner a s =
     let t = if outer then planes_edge c motion v a 0 s else s in

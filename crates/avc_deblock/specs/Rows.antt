@@ -3,6 +3,7 @@ use Rattle.std.specs.Prelude.{◌≡◌, ℕ, ◌+◌, ◌*◌, ◌/◌, ◌<◌
 use Rattle.avc_types.specs.Arithmetic.{◌>>ℤ◌, ◌<<ℤ◌, clip3}
 use Rattle.avc_deblock.specs.Line.{Line, Setting}
 
+-- the eight samples across an edge (8.7.1)
 abbrev pub line : (p3 p2 p1 p0 q0 q1 q2 q3 : ℕ) → Line
 line p3 p2 p1 p0 q0 q1 q2 q3 = record { p0 = p0; p1 = p1; p2 = p2; p3 = p3; q0 = q0; q1 = q1; q2 = q2; q3 = q3 }
 
@@ -32,6 +33,7 @@ slope p1 p0 q0 q1 = ((pos q0 -ℤ pos p0 <<ℤ 2) +ℤ (pos p1 -ℤ pos q1)) +�
 abbrev pub bend : (p2 p1 p0 q0 : ℕ) → ℤ
 bend p2 p1 p0 q0 = pos p2 +ℤ pos ((p0 + q0 + 1) / 2) -ℤ pos (2 * p1) >>ℤ 1
 
+-- z, held between -limit and limit (Clip3, 8.7.2.3)
 abbrev pub held : ℕ → ℤ → ℤ
 held limit z = clip3 (neg_ℤ (pos limit)) (pos limit) z
 
@@ -39,6 +41,7 @@ held limit z = clip3 (neg_ℤ (pos limit)) (pos limit) z
 abbrev pub strong_at : (alpha beta tc0 : ℕ) → Setting
 strong_at alpha beta tc0 = record { is_luma = true; strength = 4; alpha = alpha; beta = beta; tc0 = tc0 }
 
+-- luma at strength 4, with these alpha and beta (8.7.2.4)
 pub record IsStrong (s : Setting) (alpha beta : ℕ) : Type 0 where
   pub luma : s.is_luma ≡ true
   pub strong : s.strength ≡ 4
@@ -74,6 +77,7 @@ pub record IsRowSet (from : ℕ) (r t u : List ℕ) : Type 0 where
 
 -- ---- chroma
 
+-- chroma below strength 4; where the strength is 0, alpha is 0 and nothing is filtered (8.7.2.3)
 pub record IsWeakChroma (s : Setting) (alpha beta tc0 : ℕ) : Type 0 where
   pub chroma : s.is_luma ≡ false
   pub weak : s.strength < 4
@@ -81,6 +85,7 @@ pub record IsWeakChroma (s : Setting) (alpha beta tc0 : ℕ) : Type 0 where
   pub beta_is : beta ≡ s.beta
   pub tc0_is : tc0 ≡ s.tc0
 
+-- chroma at strength 4 (8.7.2.4)
 pub record IsStrongChroma (s : Setting) (alpha beta : ℕ) : Type 0 where
   pub chroma : s.is_luma ≡ false
   pub strong : s.strength ≡ 4

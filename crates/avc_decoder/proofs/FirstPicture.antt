@@ -1,7 +1,7 @@
 -- An IDR picture that is decoded on an older history: when it is closed, or refused, what that history holds goes out, and what
 -- follows does not see it.
 use Rattle.std.specs.Prelude.{◌≡◌, ℕ, zero, suc, ◌-◌, Bool, true, false, nat_lt, List, [], ◌∷◌, ◌++◌, length, map, Option, Some, None}
-use Rattle.std.specs.Prelude.{Result, Ok, Err, IsTrue, refl}
+use Rattle.std.specs.Prelude.{Result, Ok, Err, IsTrue, refl, if◌then◌else◌}
 use Rattle.std.specs.List.{list_all}
 use Rattle.std.proofs.Common.{ap, sym, subst, ◌∙◌, append_assoc, append-nil}
 use Rattle.std.proofs.lemmas.List.{map-append}
@@ -97,14 +97,9 @@ with_listed s before listed =
     elim before.fault [
       | Some f ↦ before
       | None ↦
-          elim (nat_lt (length before.mbs) (s.header).first_mb_in_slice) [
-            | true ↦ refused before s.unit faults.MissingMacroblocks
-            | false ↦
-                elim (nat_lt (s.header).first_mb_in_slice (length before.mbs)) [
-                  | true ↦ refused before s.unit faults.ArbitrarySliceOrder
-                  | false ↦ listed
-                ]
-          ]
+          if nat_lt (length before.mbs) (s.header).first_mb_in_slice then refused before s.unit faults.MissingMacroblocks
+          else if nat_lt (s.header).first_mb_in_slice (length before.mbs) then refused before s.unit faults.ArbitrarySliceOrder
+          else listed
     ]
 
 slice-same : (sps : Sps) (pps : Pps) (fs gs : List StoredFrame) (s : Slice) (g : Progress) → is_p s.header ≡ false

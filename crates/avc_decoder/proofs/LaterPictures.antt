@@ -24,7 +24,8 @@ use Rattle.avc_units.specs.declared.step.Next.{Next}
 use Rattle.avc_units.specs.declared.step.Next.TheVariants.{Nothing, Refusal, FaultOfOpen, FaultOfOwn, Begins, Continues}
 use Rattle.avc_units.specs.declared.step.Step.{Step}
 use Rattle.avc_dpb.specs.declared.output.Output.{Output}
-use Rattle.avc_decoder_core.specs.History.{◌>>=◌, Entry, History, decoded_picture, history_after_closing, history_at_opening}
+use Rattle.avc_types.specs.Results.{◌>>=◌}
+use Rattle.avc_decoder_core.specs.History.{Entry, History, decoded_picture, history_after_closing, history_at_opening}
 use Rattle.avc_decoder_core.specs.History.{is_same_sps, marking_entries, marks_of, missing_frame, pasts, picture_entry}
 use Rattle.avc_decoder_core.specs.History.{sequence_sps, stored_frames, with_missing, with_order_counts}
 use Rattle.avc_decoder_core.specs.Laws.{moved_stored}

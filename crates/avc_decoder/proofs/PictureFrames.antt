@@ -25,7 +25,8 @@ use Rattle.avc_picture.specs.Decoded.{deblocked}
 use Rattle.avc_picture.specs.Slices.{Progress, coded_of, is_full, planes_after_slices, progress}
 use Rattle.avc_picture.specs.Decoding.{AreFramesOf, CanStandAt, Decoding, HasNoFault, HasRead, IsFull, Refuses, end_fault, fault_at_end, no_slice_yet, progress_at, start_at, with_slice_more}
 use Rattle.avc_picture.proofs.OtherFrames.{progress-other}
-use Rattle.avc_decoder_core.specs.History.{◌>>=◌, History, history_at_opening, is_same_sps, marking_entries, marks_of, missing_frame, pasts, picture_entry, sequence_sps, stored_frames, with_missing, with_order_counts}
+use Rattle.avc_types.specs.Results.{◌>>=◌}
+use Rattle.avc_decoder_core.specs.History.{History, history_at_opening, is_same_sps, marking_entries, marks_of, missing_frame, pasts, picture_entry, sequence_sps, stored_frames, with_missing, with_order_counts}
 use Rattle.avc_decoder_core.specs.SequenceState.{AreFramesIn, AreStoredIn, IsOpened, SequenceState, current_history}
 use Rattle.avc_decoder.specs.PictureFrames.{CanHave, HasItsFrames, IsISlice, IsRefused, frames_for, progress_on_history, read_of_slice, start_with}
 

@@ -1,6 +1,6 @@
 -- Units with other numbers: slices, pictures and events are the same but for these.
 use Rattle.std.specs.Prelude.{◌≡◌, ℕ, zero, suc, ◌+◌, ◌-◌, Bool, true, false, not, ◌&&◌, nat_lt, List, [], ◌∷◌, ◌++◌, length, map, Option, Some}
-use Rattle.std.specs.Prelude.{None, Result, Ok, Err, refl}
+use Rattle.std.specs.Prelude.{None, Result, Ok, Err, refl, if◌then◌else◌}
 use Rattle.std.proofs.Common.{ap, sym, ◌∙◌}
 use Rattle.std.proofs.lemmas.List.{map-append}
 use Rattle.std.specs.Option.{option_map}
@@ -97,10 +97,9 @@ list-same r p s before (Ok list) = whole-same r s before _ _ _
 
 abbrev by_address : (ahead behind : Bool) → Progress → (unit : ℕ) → Progress → Progress
 by_address ahead behind before unit listed =
-    elim ahead [
-      | true ↦ refused before unit faults.MissingMacroblocks
-      | false ↦ elim behind [ true ↦ refused before unit faults.ArbitrarySliceOrder | false ↦ listed ]
-    ]
+    if ahead then refused before unit faults.MissingMacroblocks
+    else if behind then refused before unit faults.ArbitrarySliceOrder
+    else listed
 
 address-same : (r : ℕ → ℕ) (ahead behind : Bool) (before : Progress) (unit : ℕ) (listed' listed : Progress)
     → listed' ≡ renumbered_progress r listed

@@ -26,9 +26,9 @@ use Rattle.avc_units.specs.Grouping.{running_step, set_units, slice_in, slice_st
 use Rattle.avc_units.specs.declared.step.Next.{Next}
 use Rattle.avc_units.specs.declared.step.Next.TheVariants.{Nothing, Refusal, FaultOfOpen, FaultOfOwn, Begins, Continues}
 use Rattle.avc_units.specs.declared.step.Step.{Step}
-use Rattle.avc_dpb.specs.Bumping.{PriorPictures, are_dropped, are_output, remain}
+use Rattle.avc_dpb.specs.Bumping.{are_output}
 use Rattle.avc_dpb.specs.declared.output.Output.{Output}
-use Rattle.avc_decoder_core.specs.History.{History, marks_of, prior_pictures_of}
+use Rattle.avc_decoder_core.specs.History.{History, marks_of, prior_pictures_of, prior_pictures_under}
 use Rattle.avc_decoder_core.specs.Pictures.{output_pictures}
 use Rattle.avc_decoder_core.specs.Laws.{BeginsAnew, IdrPicturesBeginAnew}
 use Rattle.avc_decoder.specs.FirstFault.{OpenPicture, first_fault, first_header, history_of, picture_planes, read_of}
@@ -510,20 +510,11 @@ output_through s (u ∷ us) = output_through (state_after s u (after_unit s u)) 
 outputs_prior : (h : Header) → is_idr_marking h.marking ≡ true → ((n l : Bool) → h.marking ≡ Some (Idr n l) → n ≡ false) → prior_pictures_of h ≡ are_output
 outputs_prior h e f = by_marking (has_operation_5 h) h.marking e f
   where
-    prior_by : (five : Bool) → Option Marking → PriorPictures
-    prior_by five m = elim m [
-      | None ↦ remain
-      | Some m ↦ elim m [
-        | Idr no_output long_term ↦ (elim no_output [ true ↦ are_dropped | false ↦ are_output ])
-        | _ ↦ (elim five [ true ↦ are_output | false ↦ remain ])
-      ]
-    ]
-
-    by_flag : (five n l : Bool) → n ≡ false → prior_by five (Some (Idr n l)) ≡ are_output
+    by_flag : (five n l : Bool) → n ≡ false → prior_pictures_under five (Some (Idr n l)) ≡ are_output
     by_flag five false l e = refl
     by_flag five true l e = cc
 
-    by_marking : (five : Bool) (m : Option Marking) → is_idr_marking m ≡ true → ((n l : Bool) → m ≡ Some (Idr n l) → n ≡ false) → prior_by five m ≡ are_output
+    by_marking : (five : Bool) (m : Option Marking) → is_idr_marking m ≡ true → ((n l : Bool) → m ≡ Some (Idr n l) → n ≡ false) → prior_pictures_under five m ≡ are_output
     by_marking five None e f = cc
     by_marking five (Some (Idr n l)) e f = by_flag five n l (f n l refl)
     by_marking five (Some SlidingWindow) e f = cc

@@ -26,7 +26,8 @@ use Rattle.avc_units.specs.declared.step.Next.{Next}
 use Rattle.avc_units.specs.declared.step.Next.TheVariants.{Nothing, Refusal, FaultOfOpen, FaultOfOwn, Begins, Continues}
 use Rattle.avc_units.specs.declared.step.Step.{Step}
 use Rattle.avc_dpb.specs.declared.output.Output.{Output}
-use Rattle.avc_decoder_core.specs.History.{◌>>=◌, is_same_sps, with_missing, with_order_counts, Entry, decoded_picture, missing_frame, History, new_output, all_held, entry_at, pasts, marking_entries, marks_of, picture_entry, history_at_opening, history_after_closing, sequence_sps}
+use Rattle.avc_types.specs.Results.{◌>>=◌}
+use Rattle.avc_decoder_core.specs.History.{is_same_sps, with_missing, with_order_counts, Entry, decoded_picture, missing_frame, History, new_output, all_held, entry_at, pasts, marking_entries, marks_of, picture_entry, history_at_opening, history_after_closing, sequence_sps}
 use Rattle.avc_decoder_core.specs.Pictures.{crop_of, picture_of, entry_pictures, pictures_at, output_pictures, held_pictures}
 use Rattle.avc_decoder.specs.FirstFault.{OpenPicture, first_header, first_fault, history_at_opening_of, history_of, read_of, picture_planes, closed_history, start_on, slices_of}
 use Rattle.avc_decoder.specs.Events.{pictures, Phase, waiting, running, State, first_state, Outcome, failed_at, at_last_slice, closing_result, closed_outcome, closed_picture, with_slice, sets_named, both, after_first_slice, after_next_slice, base_in, history_in, after_next, is_waiting, followed_by, after_closing, in_phase, after_unit, state_after, held_after, at_end, is_running, open_facts_in, events_from, events}

@@ -70,20 +70,30 @@ closing_fault o history =
       | true ↦ marking_fault o (closed_history o history)
     ]
 
--- The first fault of the picture, with its unit; `closing` says whether it is being
--- closed (this decoder's rule).
+-- found once the slices so far have none: that of closing, where the picture is being closed
+abbrev fault_after_slices : OpenPicture → History → (closing : Bool) → Option (ℕ × Fault)
+fault_after_slices o history true = closing_fault o history
+fault_after_slices o history false = None
+
+-- found on that history: the first fault of the slices so far, or else what is found after them
+-- (this decoder's rule)
+abbrev fault_on : OpenPicture → (closing : Bool) → History → Option (ℕ × Fault)
+fault_on o closing history =
+    elim (progress_on o history).fault [ Some found ↦ Some found | None ↦ fault_after_slices o history closing ]
+
+-- the fault of taking in the missing numbers, with the first slice's unit, or else what is found
+-- on the history with them (this decoder's rule)
+abbrev fault_from_opening : OpenPicture → (closing : Bool) → Result History Fault → Option (ℕ × Fault)
+fault_from_opening o closing (Err f) = Some ((first_slice o).unit, f)
+fault_from_opening o closing (Ok history) = fault_on o closing history
+
+-- The first fault of the picture, with its unit; `closing` says whether it is being closed. A
+-- picture has to begin with macroblock 0 (this decoder's rule).
 abbrev pub first_fault : OpenPicture → (closing : Bool) → Option (ℕ × Fault)
-first_fault o closing =
-    elim (first_header o).first_mb_in_slice [
-      | suc _ ↦ Some ((first_slice o).unit, faults.MissingMacroblocks)
-      | zero ↦ elim (history_at_opening_of o) [
-        | Err f ↦ Some ((first_slice o).unit, f)
-        | Ok history ↦ elim ((progress_on o history).fault) [
-          | Some found ↦ Some found
-          | None ↦ elim closing [ true ↦ closing_fault o history | false ↦ None ]
-        ]
-      ]
-    ]
+first_fault o closing = elim (first_header o).first_mb_in_slice [
+  | suc _ ↦ Some ((first_slice o).unit, faults.MissingMacroblocks)
+  | zero ↦ fault_from_opening o closing (history_at_opening_of o)
+]
 
 -- The history on which the picture stands: with its missing numbers, where they could be taken in.
 abbrev pub history_of : OpenPicture → History

@@ -15,6 +15,7 @@ pub record SinceReset : Type 0 where
   pub ended : Bool
   pub taken : List Event
 
+-- before the first call, and after a reset
 abbrev pub no_call : SinceReset
 no_call = record { bytes = []; ended = false; taken = [] }
 
@@ -26,6 +27,7 @@ with_call s Take (replies.Taken (Ok (Some event))) = record s { taken = s.taken 
 with_call s Reset reply = no_call
 with_call s call reply = s
 
+-- after these calls, each with its reply; calls without replies, and replies without calls, change nothing
 abbrev pub since_reset : SinceReset → List Call → List Reply → SinceReset
 since_reset s (call ∷ calls) (reply ∷ replies) = since_reset (with_call s call reply) calls replies
 since_reset s _ _ = s

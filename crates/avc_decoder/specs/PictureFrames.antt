@@ -16,6 +16,7 @@ use Rattle.avc_decoder_core.specs.SequenceState.{SequenceState, AreStoredIn, cur
 abbrev pub frames_for : Header → SequenceState → List (Frame 32)
 frames_for h s = elim (is_idr h) [ true ↦ [] | false ↦ s.frames ]
 
+-- its macroblocks are intra alone (Table 7-6)
 abbrev pub IsISlice : Slice → Type 0
 IsISlice s = is_p s.header ≡ false
 

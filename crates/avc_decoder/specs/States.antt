@@ -36,9 +36,11 @@ pub record QueueState : Type 0 where
   pub events : List Event
   pub taken : ℕ
 
+-- more events at the end of the queue
 abbrev pub with_events : List Event → QueueState → QueueState
 with_events more q = record q { events = q.events ++ more }
 
+-- the event at the front is taken, where there is one
 abbrev pub after_queue_take : Option Event → QueueState → QueueState
 after_queue_take None q = q
 after_queue_take (Some e) q = record q { taken = q.taken + 1 }
@@ -62,13 +64,16 @@ pub record PicturesState : Type 0 where
   pub read : ℕ
   pub failed : Bool
 
+-- before the first picture
 abbrev pub no_pictures : Output → PicturesState
 no_pictures output = record { output = output; history = []; open_picture = None; events = []; taken = 0; read = 0; failed = false }
 
+-- the picture that is open between two units, if one is
 abbrev pub open_picture_in : Phase → Option OpenPicture
 open_picture_in waiting = None
 open_picture_in (running h o) = o
 
+-- what a unit makes of the pictures is theirs from now on, and its events come last
 abbrev pub after_outcome : Outcome → PicturesState → PicturesState
 after_outcome o k = record {
   output = k.output;
@@ -80,6 +85,7 @@ after_outcome o k = record {
   failed = false;
 }
 
+-- one event more is taken, where there is one
 abbrev pub after_pictures_take : Option Event → PicturesState → PicturesState
 after_pictures_take None k = k
 after_pictures_take (Some e) k = record k { taken = k.taken + 1 }
@@ -89,6 +95,7 @@ abbrev pub open_picture_from : History → Sps → Pps → List Slice → Option
 open_picture_from h sps pps [] = None
 open_picture_from h sps pps (s ∷ earlier) = Some (record { before = h; sps = sps; pps = pps; last = s; earlier = earlier })
 
+-- the open picture for which a picture decoder's slices stand, on this history
 abbrev pub open_picture_of : History → Option (Decoding 32) → Option OpenPicture
 open_picture_of h None = None
 open_picture_of h (Some d) = open_picture_from h d.sps d.pps d.slices
@@ -107,6 +114,7 @@ pub record IsOpenIn (s : SequenceState) (last_unit : ℕ) (d : Decoding 32) : Ty
   pub first : ((oldest last earlier).header).first_mb_in_slice ≡ 0
   pub stands : history_at_opening d.sps (oldest last earlier).header s.history ≡ Ok (current_history s)
 
+-- the sequence has the picture open that the picture decoder has, or neither has one
 abbrev pub IsOpen : SequenceState → (last_unit : ℕ) → Option (Decoding 32) → Type 0
 IsOpen s last_unit None = (s.failed ≡ false) × (s.open_picture ≡ None)
 IsOpen s last_unit (Some d) = IsOpenIn s last_unit d
@@ -158,6 +166,7 @@ continued_in output h d s = after_next_slice output (running h (open_picture_of 
 abbrev pub HasSliceOutcome : Output → Outcome → QueueState → Slice → AfterSlice → SequenceState → QueueState → Type 0
 HasSliceOutcome output o q slice after s' q' = HasOutcome output o q slice.unit after.picture after.read s' q'
 
+-- a picture is open, and all its macroblocks have been read
 abbrev pub is_full_in : Option OpenPicture → Bool
 is_full_in None = false
 is_full_in (Some o) = (open_picture_facts o).full
@@ -166,6 +175,7 @@ is_full_in (Some o) = (open_picture_facts o).full
 abbrev pub history_on : PicturesState → History
 history_on k = history_in (running k.history k.open_picture)
 
+-- one refusal more, and nothing else
 abbrev pub refused_in : (unit : ℕ) → Fault → PicturesState → PicturesState
 refused_in unit f k = record k { events = k.events ++ Refused unit f ∷ [] }
 
@@ -184,6 +194,7 @@ pub record StreamState : Type 0 where
   pub read : ℕ
   pub failed : Bool
 
+-- before the first unit
 abbrev pub new_stream : Output → StreamState
 new_stream output = record { state = first_state output; events = []; taken = 0; read = 0; failed = false }
 
@@ -199,6 +210,7 @@ after_unit_in_stream u f =
       failed = false;
     }
 
+-- after these units, one after another
 abbrev pub after_units_in_stream : List Piece → StreamState → StreamState
 after_units_in_stream [] f = f
 after_units_in_stream (u ∷ us) f = after_units_in_stream us (after_unit_in_stream u f)
@@ -213,14 +225,17 @@ after_stream_end f = record {
   failed = false;
 }
 
+-- one event more is taken, where there is one
 abbrev pub after_stream_take : Option Event → StreamState → StreamState
 after_stream_take None f = f
 after_stream_take (Some e) f = record f { taken = f.taken + 1 }
 
+-- what decoding waits for, or goes on with, by what the grouper and the pictures know
 abbrev pub phase_of : (running : Bool) → PicturesState → Phase
 phase_of false k = waiting
 phase_of true k = running k.history k.open_picture
 
+-- the state between units that the grouper and the pictures keep together
 abbrev pub state_of : GrouperState → PicturesState → State
 state_of g k = record { output = k.output; sets = g.sets; phase = phase_of g.running k }
 

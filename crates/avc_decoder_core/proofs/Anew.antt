@@ -26,7 +26,8 @@ use Rattle.avc_dpb.specs.Bumping as dpb
 use Rattle.avc_dpb.specs.Bumping.{Arrival, Buffer, remain, buffer_after, with_all_output}
 use Rattle.avc_dpb.specs.Laws.{held_in_order, moved_arrival, moved_buffer}
 use Rattle.avc_dpb.specs.Laws.{AllHeldGoOutBefore, LaterFramesGoOutAlike, OutputBeginsAnew}
-use Rattle.avc_decoder_core.specs.History.{Entry, decoded_picture, missing_frame, History, ◌>>=◌, arrival, arrivals, all_held, buffer_of}
+use Rattle.avc_types.specs.Results.{◌>>=◌}
+use Rattle.avc_decoder_core.specs.History.{Entry, decoded_picture, missing_frame, History, arrival, arrivals, all_held, buffer_of}
 use Rattle.avc_decoder_core.specs.History.{entry_at, history_after_closing, history_at_opening, is_same_sps, marking_entries, marking_entry}
 use Rattle.avc_decoder_core.specs.History.{marks_of, new_output, or_no_references, order_or_0, pasts, picture_entry, planes_in, prior_pictures_of}
 use Rattle.avc_decoder_core.specs.History.{reorder_limit, sequence_sps, stored, stored_frames, with_missing, with_order_counts}

@@ -11,7 +11,8 @@ use Rattle.avc_plane.specs.declared.frame.Frame.{Frame}
 use Rattle.avc_plane.specs.Frames.{marked_frame}
 use Rattle.avc_marking.specs.Frames.{MarksFrame, StandBefore, marks_at, or_fault}
 use Rattle.avc_marking.specs.Laws.{IsSameFrame, IsPartUpToMarks, unmarks_all}
-use Rattle.avc_marking.specs.Marks.{Marks, current_frame, marks_after, ◌>>=◌}
+use Rattle.avc_types.specs.Results.{◌>>=◌}
+use Rattle.avc_marking.specs.Marks.{Marks, current_frame, marks_after}
 use Rattle.avc_marking.proofs.KeptFrames.{adds_own_frame_alone, leaves_own_frame_alone}
 use Rattle.avc_dpb.specs.declared.output.Output.{Output}
 use Rattle.avc_dpb.specs.Bumping.{Buffer}

@@ -13,10 +13,10 @@ use Rattle.avc_slice.specs.Header.{is_idr, is_reference, has_idr_marking}
 use Rattle.avc_poc.specs.OrderCounts.{Counts, order_counts, picture}
 use Rattle.avc_poc.specs.OrderCountState.{OrderCountState, order_count_state, count_pair, pair}
 use Rattle.avc_types.specs.declared.references.Marking.TheVariants.{SlidingWindow}
-use Rattle.avc_marking.specs.Marks as marking
 use Rattle.avc_marking.proofs.KeptFrames.{slides_again}
 use Rattle.avc_marking.specs.Marks.{MarkingEntry, Marks, marks_after, missing_frame_nums, prev_ref_frame_num}
-use Rattle.avc_decoder_core.specs.History.{missing_frame, History, ◌>>=◌, history_at_opening, is_same_sps, marking_entries, marking_entry, marks_of}
+use Rattle.avc_types.specs.Results.{◌>>=◌}
+use Rattle.avc_decoder_core.specs.History.{missing_frame, History, history_at_opening, is_same_sps, marking_entries, marking_entry, marks_of}
 use Rattle.avc_decoder_core.specs.History.{order_or_0, picture_entry, pasts, sequence_sps, with_missing, with_order_counts}
 use Rattle.avc_decoder_core.specs.FrameBufferState.{CanFollow}
 use Rattle.avc_decoder_core.specs.Opening.{count_on, counts_over, missing_before, with_all_missing}
@@ -91,7 +91,7 @@ same_set sps numbers history full e = ap sequence_sps (is_with_all sps numbers h
 -- ---- once the first can be marked, all can (8.2.5.3)
 
 abbrev by_window : MarkingEntry → ℕ → Result Marks Fault → Result Marks Fault
-by_window s place r = marking.◌>>=◌ r (λ m. marks_after s place (Some SlidingWindow) m)
+by_window s place r = r >>= λ m. marks_after s place (Some SlidingWindow) m
 
 window_once : (s s' : MarkingEntry) (place place' : ℕ) (m : Marks) (r : Result Marks Fault) → marks_after s place (Some SlidingWindow) m ≡ r → is_ok r ≡ true
     → is_ok (by_window s' place' r) ≡ true

@@ -8,9 +8,10 @@ use Rattle.avc_types.specs.declared.fault.Fault.{Fault}
 use Rattle.avc_types.specs.declared.references.Mark.TheVariants.{Short}
 use Rattle.avc_types.specs.declared.references.Marking.TheVariants.{SlidingWindow}
 use Rattle.avc_types.specs.References.{Reference}
+use Rattle.avc_types.specs.Results.{◌>>=◌}
 use Rattle.avc_params.specs.declared.sps.Sps.{Sps}
 use Rattle.avc_marking.specs.Laws.{IsPartUpToMarks, AddsOwnFrameAlone}
-use Rattle.avc_marking.specs.Marks.{MarkingEntry, Marks, after_sliding_window, current_frame, marks_after, ◌>>=◌}
+use Rattle.avc_marking.specs.Marks.{MarkingEntry, Marks, after_sliding_window, current_frame, marks_after}
 use Rattle.avc_dpb.specs.Reordering.{references_after}
 use Rattle.avc_decoder_core.specs.FrameBufferFields.{Each}
 use Rattle.avc_decoder_core.specs.History.{Entry, decoded_picture, missing_frame, History, arrival, arrivals, marking_entry, marks_of}

@@ -1,6 +1,6 @@
 -- Entries of one sequence have one size, and no more reference frames than its parameter set allows.
 use Rattle.std.proofs.Common.{◌≡◌, ℕ, ◌+◌, Bool, true, false, ◌&&◌, List, [], ◌∷◌, length, Option, Some, None, Ok, refl, ap, sym, ◌∙◌, Err}
-use Rattle.std.specs.Prelude.{IfSome, ◌==◌}
+use Rattle.std.specs.Prelude.{IfSome, ◌==◌, if◌then◌else◌}
 use Rattle.std.specs.Option.{option_eq}
 use Rattle.std.proofs.lemmas.Bool.{eqb-true}
 use Rattle.avc_types.specs.declared.references.Marking.{Marking}
@@ -81,7 +81,7 @@ no_five h (UnmarkAll ∷ operations) e = wrong (sym e)
 no_five h (CurrentToLongTerm index ∷ operations) e = no_five h operations e
 
 abbrev prior_by : Bool → PriorPictures
-prior_by five = elim five [ true ↦ are_output | false ↦ remain ]
+prior_by five = if five then are_output else remain
 
 prior_remains_by : (h : Header) (marking : Option Marking) → unmarks_all marking ≡ false → prior_pictures_of (with_marking h marking) ≡ remain
 prior_remains_by h None e = refl

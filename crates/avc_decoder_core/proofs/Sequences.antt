@@ -15,7 +15,8 @@ use Rattle.avc_slice.specs.Header.{is_idr, is_reference, has_idr_marking}
 use Rattle.avc_marking.specs.Marks.{Marks}
 use Rattle.avc_dpb.specs.declared.output.Output.{Output}
 use Rattle.avc_poc.specs.OrderCountState.{OrderCountState}
-use Rattle.avc_decoder_core.specs.History.{Entry, decoded_picture, History, ◌>>=◌, history_after_closing, history_at_opening, marks_of, pasts, sequence_sps}
+use Rattle.avc_types.specs.Results.{◌>>=◌}
+use Rattle.avc_decoder_core.specs.History.{Entry, decoded_picture, History, history_after_closing, history_at_opening, marks_of, pasts, sequence_sps}
 use Rattle.avc_decoder_core.specs.Opening.{count_on}
 use Rattle.avc_decoder_core.specs.Pictures.{output_pictures}
 use Rattle.avc_decoder_core.specs.FrameBufferState.{FrameBufferState}

@@ -20,10 +20,12 @@ use Rattle.avc_decoder_core.specs.declared.history_entry.HistoryEntry.{HistoryEn
 use Rattle.avc_decoder_core.specs.declared.history_entry.HistoryEntry.TheVariants as entries
 use Rattle.avc_decoder_core.specs.declared.frame_buffer.FrameBuffer.TheInside.{Inside}
 
+-- the entry of the history for which a token stands
 abbrev pub entry_of : HistoryEntry → Entry
 entry_of (entries.Picture sps header planes) = decoded_picture sps header (padded_planes_of planes)
 entry_of (entries.MissingFrame sps frame_num) = missing_frame sps frame_num
 
+-- the history, of tokens with the newest first
 abbrev pub history_of : List HistoryEntry → History
 history_of items = map entry_of items
 
@@ -32,6 +34,7 @@ abbrev pub frame_num_of : Entry → ℕ
 frame_num_of (decoded_picture sps h planes) = frame_num_after_marking (picture_entry sps h)
 frame_num_of (missing_frame sps frame_num) = frame_num
 
+-- what its fields say: the history, the frames held, and when pictures go out
 abbrev pub frame_buffer_state : Inside → FrameBufferState
 frame_buffer_state b = record { history = history_of b.history.items; frames = b.dpb.frames; output = b.dpb.output; failed = b.failed }
 
@@ -60,6 +63,7 @@ pub record IsStateAfter (history : History) (dpb : Contents (Frame 32)) (idx : O
   pub within : IsWithin 16 (arrivals history)
   pub sized : IfSome (sequence_sps history) (λ sps. Each (IsSizedAt history sps) (places_in (buffer_of dpb.output history)))
 
+-- the frames and numbers that are kept are those after the history, unless memory was refused
 abbrev pub IsFrameBufferState : Inside → Type 0
 IsFrameBufferState b = b.failed ≡ false → IsStateAfter (history_of b.history.items) b.dpb b.max_long_term_frame_idx b.prev_ref_frame_num
 
@@ -71,6 +75,7 @@ with_marks [] marked = []
 with_marks (f ∷ frames) [] = f ∷ frames
 with_marks (f ∷ frames) (m ∷ marked) = record f { mark = m.mark } ∷ with_marks frames marked
 
+-- the frames with these marks
 abbrev pub with_all_marks : Contents (Frame 32) → List MarkedFrame → Contents (Frame 32)
 with_all_marks c marked = record c { frames = with_marks c.frames marked }
 

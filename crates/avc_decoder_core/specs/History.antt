@@ -1,12 +1,14 @@
 -- The history of a sequence of pictures, and what decoding one more picture starts from. A history is written with its
 -- newest entry first; an entry's place is the number of those before it.
-use Rattle.std.specs.Prelude.{ℕ, zero, suc, ◌-◌, ℤ, pos, Bool, true, false, List, [], ◌∷◌, length, map, drop, Option, Some, None, slice_get, Result, Ok, Err}
+use Rattle.std.specs.Prelude.{ℕ, zero, suc, ◌-◌, ℤ, pos, Bool, true, false, if◌then◌else◌, List, [], ◌∷◌, length, map, drop, Option, Some, None, slice_get, Result, Ok, Err}
 use Rattle.std.specs.Option.{option_map}
 use Rattle.avc_types.specs.declared.current_frame_num.CurrentFrameNum.{CurrentFrameNum}
 use Rattle.avc_types.specs.declared.fault.Fault.{Fault}
 use Rattle.avc_types.specs.declared.fault.Fault.TheVariants as faults
+use Rattle.avc_types.specs.declared.references.Marking.{Marking}
 use Rattle.avc_types.specs.declared.references.Marking.TheVariants.{Idr, SlidingWindow}
 use Rattle.avc_types.specs.References.{Reference}
+use Rattle.avc_types.specs.Results.{◌>>=◌}
 use Rattle.avc_plane.specs.Planes.{Planes, StoredFrame}
 use Rattle.avc_params.specs.declared.sps.Sps.{Sps}
 use Rattle.avc_params.specs.Limits.{max_frame_num, dpb_size, restriction_of}
@@ -27,12 +29,6 @@ pub data Entry : Type 0 where
 -- all entries since decoding last started, the newest first
 abbrev pub History : Type 0
 History = List Entry
-
-infixl 10 ◌>>=◌
--- what follows a value; a fault stays
-abbrev pub ◌>>=◌ : {A B : Type 0} → Result A Fault → (A → Result B Fault) → Result B Fault
-(Ok x) >>= f = f x
-(Err e) >>= f = Err e
 
 -- ---- what order counts, marking and output ask of an entry (8.2.1, 8.2.5, C.4)
 
@@ -89,17 +85,18 @@ or_no_references (Err f) = []
 abbrev pub references_of : History → List Reference
 references_of h = or_no_references (marks_of h)
 
--- what becomes of the pictures before: at an IDR picture they go out, or are dropped by
+-- What becomes of the pictures before: at an IDR picture they go out, or are dropped by
 -- no_output_of_prior_pics_flag; with operation 5 they go out (C.4.4). That the flag is never
 -- inferred is this decoder's rule.
+abbrev pub prior_pictures_under : (operation_5 : Bool) → Option Marking → PriorPictures
+prior_pictures_under operation_5 None = remain
+prior_pictures_under operation_5 (Some (Idr no_output_of_prior_pics long_term)) =
+    if no_output_of_prior_pics then are_dropped else are_output
+prior_pictures_under operation_5 (Some _) = if operation_5 then are_output else remain
+
+-- the same by a picture's header (C.4.4)
 abbrev pub prior_pictures_of : Header → PriorPictures
-prior_pictures_of h = elim h.marking [
-  | None ↦ remain
-  | Some m ↦ elim m [
-    | Idr no_output long_term ↦ (elim no_output [ true ↦ are_dropped | false ↦ are_output ])
-    | _ ↦ (elim (has_operation_5 h) [ true ↦ are_output | false ↦ remain ])
-  ]
-]
+prior_pictures_of h = prior_pictures_under (has_operation_5 h) h.marking
 
 -- PicOrderCnt (8.2.1); 0 at a fault, at which there is no picture
 abbrev pub order_or_0 : Result Counts Fault → ℤ

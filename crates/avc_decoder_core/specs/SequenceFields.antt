@@ -12,9 +12,11 @@ use Rattle.avc_decoder_core.specs.SequenceState.{OpenPictureStart, SequenceState
 use Rattle.avc_decoder_core.specs.declared.open_picture.OpenPicture.{OpenPicture}
 use Rattle.avc_decoder_core.specs.declared.sequence.Sequence.TheInside.{Inside}
 
+-- the parameter set and the first header of the open picture
 abbrev pub open_picture_of : OpenPicture → OpenPictureStart
 open_picture_of o = record { sps = o.sps; header = o.header }
 
+-- what its fields say: the history of closed pictures, the open picture, and the frames held
 abbrev pub sequence_state : Inside → SequenceState
 sequence_state s = record {
   history = history_of s.closed.items;
@@ -31,6 +33,7 @@ pub record StandsOn (closed history : History) (o : OpenPicture) : Type 0 where
   pub follows : CanFollow history o.sps o.header
   pub order : o.order ≡ order_or_0 (order_counts o.sps o.header (pasts history))
 
+-- The history is the closed one, with the open picture's missing numbers where a picture is open.
 abbrev pub StandsOnIf : (closed history : History) → Option OpenPicture → Type 0
 StandsOnIf closed history None = closed ≡ history
 StandsOnIf closed history (Some o) = StandsOn closed history o
@@ -40,6 +43,7 @@ abbrev pub counted : History → Option OpenPicture → List Past
 counted history None = pasts history
 counted history (Some o) = picture o.sps o.header ∷ pasts history
 
+-- What is kept is what the histories leave: order counts, and the parameter set of the sequence.
 pub record IsStateOf (closed : History) (open_picture : Option OpenPicture) (buffer : FrameBufferState) (poc : OrderCountState)
     (sps : Option Sps) : Type 0 where
   pub going : buffer.failed ≡ false
@@ -47,5 +51,6 @@ pub record IsStateOf (closed : History) (open_picture : Option OpenPicture) (buf
   pub counts : poc ≡ order_count_state (counted buffer.history open_picture)
   pub set : sps ≡ sequence_sps buffer.history
 
+-- the same of a sequence's fields, unless memory was refused
 abbrev pub IsSequenceState : Inside → Type 0
 IsSequenceState s = s.failed ≡ false → IsStateOf (history_of s.closed.items) s.open_picture s.buffer s.poc s.sps

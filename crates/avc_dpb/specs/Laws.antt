@@ -21,6 +21,7 @@ Bumps references b (Some s) = IsNextOutput b.frames s × ((after_bumping referen
 Bumps references b None =
     ((k : ℕ) (t : Stored) → slice_get b.frames k ≡ Some t → t.held ≡ true → ⊥) × (after_bumping references b ≡ b)
 
+-- Bumping puts out the held picture that is first in output order (C.4.5.3).
 abbrev pub LeastGoesOut : Type 0
 LeastGoesOut =
     (references : List ℕ) (b : Buffer) (next : ℕ) → IsRising b.frames next
@@ -28,6 +29,7 @@ LeastGoesOut =
 
 -- ---- C.4.4: all held pictures go out by bumping again and again
 
+-- What goes out at once is what bumping puts out, until nothing is held (C.4.4).
 abbrev pub AllGoOutByBumping : Type 0
 AllGoOutByBumping = (references : List ℕ) (b : Buffer) (next : ℕ) → IsRising b.frames next
     → (with_all_output b).out ≡ (after_bumping_while (λ _. true) references (count_by (λ s. s.held) b.frames) b).out
@@ -58,6 +60,7 @@ abbrev pub IsWithin : (most : ℕ) → List Arrival → Type 0
 IsWithin most [] = Unit {0}
 IsWithin most (a ∷ older) = (a.capacity ≤ most) × IsWithin most older
 
+-- The buffer never holds more frames than the largest capacity of an entry.
 abbrev pub HoldsAtMost : Type 0
 HoldsAtMost = (output : Output) (most : ℕ) (history : List Arrival) → IsWithin most history → length (buffer_after output history).frames ≤ most
 
@@ -76,6 +79,7 @@ dropped_by remain b = []
 dropped_by are_output b = []
 dropped_by are_dropped b = held_places b.frames
 
+-- over a history: those that no_output_of_prior_pics_flag dropped
 abbrev pub dropped : Output → List Arrival → List ℕ
 dropped output [] = []
 dropped output (a ∷ older) = dropped output older ++ dropped_by a.prior_pictures (buffer_after output older)
@@ -153,5 +157,6 @@ pub record PutsOutLater (n : ℕ) (before : List ℕ) : Type 0 where
   pub goes_out : (old new : Buffer)
       → new_output (moved_buffer n before old) (moved_buffer n before new) ≡ map (λ place. place + n) (new_output old new)
 
+-- the same of any number of places, whatever has gone out before
 abbrev pub LaterFramesGoOutAlike : Type 0
 LaterFramesGoOutAlike = (n : ℕ) (before : List ℕ) → PutsOutLater n before

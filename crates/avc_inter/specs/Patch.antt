@@ -4,10 +4,12 @@ use Rattle.avc_types.specs.Arithmetic.{◌>>ℤ◌, clip1, mean_of_two}
 use Rattle.avc_inter.specs.Luma.{Wide, six_taps}
 use Rattle.avc_inter.specs.declared.bilinear.BilinearWeights.{BilinearWeights}
 
+-- the unrounded sum of six samples, a step apart (8.4.2.2.1)
 abbrev pub taps_along : List ℕ → (at step : ℕ) → ℤ
 taps_along p at step = six_taps (pos (slice_index p at)) (pos (slice_index p (at + step))) (pos (slice_index p (at + 2 * step)))
     (pos (slice_index p (at + 3 * step))) (pos (slice_index p (at + 4 * step))) (pos (slice_index p (at + 5 * step)))
 
+-- the half sample between the third and the fourth of them (8.4.2.2.1)
 abbrev pub half_along : List ℕ → (at step : ℕ) → ℕ
 half_along p at step = clip1 (taps_along p at step +ℤ pos 16 >>ℤ 5)
 
@@ -16,6 +18,7 @@ abbrev pub sums_along : List ℤ → (at step : ℕ) → ℤ
 sums_along m at step = six_taps (slice_index_or m at (pos 0)) (slice_index_or m (at + step) (pos 0)) (slice_index_or m (at + 2 * step) (pos 0))
     (slice_index_or m (at + 3 * step) (pos 0)) (slice_index_or m (at + 4 * step) (pos 0)) (slice_index_or m (at + 5 * step) (pos 0))
 
+-- the half sample j, from six unrounded sums (8.4.2.2.1)
 abbrev pub centre_along : List ℤ → (at step : ℕ) → ℕ
 centre_along m at step = clip1 (sums_along m at step +ℤ pos 512 >>ℤ 10)
 
@@ -26,9 +29,11 @@ centre_along m at step = clip1 (sums_along m at step +ℤ pos 512 >>ℤ 10)
 abbrev pub whole : List ℕ → (stride k : ℕ) → ℕ
 whole p stride k = slice_index p (2 * stride + 2 + k)
 
+-- that right of it
 abbrev pub whole_right : List ℕ → (stride k : ℕ) → ℕ
 whole_right p stride k = slice_index p (2 * stride + 3 + k)
 
+-- that below it
 abbrev pub whole_below : List ℕ → (stride k : ℕ) → ℕ
 whole_below p stride k = slice_index p (3 * stride + 2 + k)
 
@@ -36,15 +41,19 @@ whole_below p stride k = slice_index p (3 * stride + 2 + k)
 abbrev pub b_of : List ℕ → (stride k : ℕ) → ℕ
 b_of p stride k = half_along p (2 * stride + k) 1
 
+-- s, a row below b
 abbrev pub s_of : List ℕ → (stride k : ℕ) → ℕ
 s_of p stride k = half_along p (3 * stride + k) 1
 
+-- h, between the sample and that below it
 abbrev pub h_of : List ℕ → (stride k : ℕ) → ℕ
 h_of p stride k = half_along p (2 + k) stride
 
+-- m, a column right of h
 abbrev pub m_of : List ℕ → (stride k : ℕ) → ℕ
 m_of p stride k = half_along p (3 + k) stride
 
+-- j, in the middle of four samples
 abbrev pub j_of : List ℕ → (stride k : ℕ) → ℕ
 j_of p stride k = clip1 (six_taps (taps_along p k 1) (taps_along p (k + stride) 1) (taps_along p (k + 2 * stride) 1)
     (taps_along p (k + 3 * stride) 1) (taps_along p (k + 4 * stride) 1) (taps_along p (k + 5 * stride) 1) +ℤ pos 512 >>ℤ 10)
@@ -56,24 +65,28 @@ row_0_of p stride k (suc zero) = mean_of_two (whole p stride k) (b_of p stride k
 row_0_of p stride k (suc (suc zero)) = b_of p stride k
 row_0_of p stride k (suc (suc (suc f))) = mean_of_two (whole_right p stride k) (b_of p stride k)
 
+-- a quarter of a sample down
 abbrev pub row_1_of : List ℕ → (stride k fx : ℕ) → ℕ
 row_1_of p stride k zero = mean_of_two (whole p stride k) (h_of p stride k)
 row_1_of p stride k (suc zero) = mean_of_two (b_of p stride k) (h_of p stride k)
 row_1_of p stride k (suc (suc zero)) = mean_of_two (b_of p stride k) (j_of p stride k)
 row_1_of p stride k (suc (suc (suc f))) = mean_of_two (b_of p stride k) (m_of p stride k)
 
+-- a half of a sample down
 abbrev pub row_2_of : List ℕ → (stride k fx : ℕ) → ℕ
 row_2_of p stride k zero = h_of p stride k
 row_2_of p stride k (suc zero) = mean_of_two (h_of p stride k) (j_of p stride k)
 row_2_of p stride k (suc (suc zero)) = j_of p stride k
 row_2_of p stride k (suc (suc (suc f))) = mean_of_two (j_of p stride k) (m_of p stride k)
 
+-- three quarters of a sample down
 abbrev pub row_3_of : List ℕ → (stride k fx : ℕ) → ℕ
 row_3_of p stride k zero = mean_of_two (whole_below p stride k) (h_of p stride k)
 row_3_of p stride k (suc zero) = mean_of_two (h_of p stride k) (s_of p stride k)
 row_3_of p stride k (suc (suc zero)) = mean_of_two (j_of p stride k) (s_of p stride k)
 row_3_of p stride k (suc (suc (suc f))) = mean_of_two (m_of p stride k) (s_of p stride k)
 
+-- the sample at xFrac and yFrac (Table 8-12)
 abbrev pub quarter_of : List ℕ → (stride k fx fy : ℕ) → ℕ
 quarter_of p stride k fx zero = row_0_of p stride k fx
 quarter_of p stride k fx (suc zero) = row_1_of p stride k fx

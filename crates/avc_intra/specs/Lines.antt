@@ -9,9 +9,11 @@ use Rattle.avc_intra.specs.Neighbourhood.{Around, top, left_of}
 abbrev pub line_above : Around → List ℕ
 line_above p = top p (pos 0) ∷ top p (pos 1) ∷ top p (pos 2) ∷ top p (pos 3) ∷ top p (pos 4) ∷ top p (pos 5) ∷ top p (pos 6) ∷ top p (pos 7) ∷ top p (pos 7) ∷ []
 
+-- the samples left of the block downwards, the last of them again and again (8.3.1.2.9)
 abbrev pub line_left : Around → List ℕ
 line_left p = left_of p (pos 0) ∷ left_of p (pos 1) ∷ left_of p (pos 2) ∷ left_of p (pos 3) ∷ left_of p (pos 3) ∷ left_of p (pos 3) ∷ left_of p (pos 3) ∷ left_of p (pos 3) ∷ left_of p (pos 3) ∷ []
 
+-- the samples from below on the left round the corner to the right above
 abbrev pub line_round : Around → List ℕ
 line_round p = left_of p (pos 3) ∷ left_of p (pos 2) ∷ left_of p (pos 1) ∷ left_of p (pos 0) ∷ p (negsuc 0) (negsuc 0) ∷ top p (pos 0) ∷ top p (pos 1) ∷ top p (pos 2) ∷ top p (pos 3) ∷ []
 
@@ -19,6 +21,7 @@ line_round p = left_of p (pos 3) ∷ left_of p (pos 2) ∷ left_of p (pos 1) ∷
 abbrev pub pairs_of : List ℕ → List ℕ
 pairs_of line = map (λ i. mean_of_two (slice_index line i) (slice_index line (i + 1))) (range_with_len 0 8)
 
+-- the mean of each sample with the next two, weighted 1, 2, 1
 abbrev pub triples_of : List ℕ → List ℕ
 triples_of line = map (λ i. mean_of_three (slice_index line i) (slice_index line (i + 1)) (slice_index line (i + 2))) (range_with_len 0 7)
 

@@ -11,7 +11,7 @@ use Rattle.avc_bits.specs.Bits.{Bits, bits_of, more_data}
 use Rattle.avc_bits.specs.Codes.{ue}
 use Rattle.avc_mbsyntax.specs.declared.context.Context.{Context}
 use Rattle.avc_mbsyntax.specs.Reading.{macroblock}
-use Rattle.avc_mbsyntax.specs.SliceData.{SliceMbs, SliceStart, after, after_run, context, ended, i_data, p_data, placed, skipped, slice_data, stopped}
+use Rattle.avc_mbsyntax.specs.SliceData.{SliceMbs, SliceStart, after, after_run, context, ended, from_run, i_data, p_data, placed, skipped, slice_data, stopped, where_room}
 use Rattle.avc_make.specs.DataWriting.{CanFollow, CanStand, DataIsRead, data_bits, i_data_bits, is_skip, p_data_bits}
 use Rattle.avc_make.specs.MbWriting.{HasRanges, i_type, mb_bits, p_mb_number, qp_of, type_16x16}
 use Rattle.avc_make.specs.Words.{ReadsBack, bits_after_one, ue_word}
@@ -145,7 +145,7 @@ turn s turns before qp b = after_run s before qp b (λ before' qp' b'. p_data s 
 
 p_turn : (s : SliceStart) (turns : ℕ) (before : List PicMb) (qp run : ℕ) (b b' : Bits) → (length before == s.size) ≡ false → nat_lt (s.size - length before) run ≡ false → ue b ≡ Ok (run, b') →
     p_data s (suc turns) before qp b ≡ after (replicate run (skipped qp)) (turn s turns (before ++ replicate run (placed s (skipped qp))) qp b')
-p_turn s turns before qp run b b' below fits read = rw (p_data, below, read, fits) refl
+p_turn s turns before qp run b b' below fits read = rw (p_data, where_room, below, read, from_run, fits) refl
 
 -- what is read of one macroblock, and the rest
 abbrev after_read : SliceStart → (turns : ℕ) → List PicMb → Result (Mb × Bits) Fault → SliceMbs

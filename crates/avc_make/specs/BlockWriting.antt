@@ -18,9 +18,11 @@ after_zeros before (l ∷ levels) = if nat_abs l == 0 then after_zeros (before +
 abbrev pub coded : List ℤ → List (ℤ × ℕ)
 coded levels = reverse (after_zeros 0 levels)
 
+-- the levels of the coefficients that are not 0
 abbrev pub values_of : List (ℤ × ℕ) → List ℤ
 values_of found = map (λ c. c.0) found
 
+-- the zeros before each of them (run_before)
 abbrev pub runs_of : List (ℤ × ℕ) → List ℕ
 runs_of found = map (λ c. c.1) found
 
@@ -66,6 +68,7 @@ levels_bits suffix_length above_one (l ∷ values) = level_bits suffix_length (c
 abbrev pub IsCode : (suffix_length code : ℕ) → Type 0
 IsCode suffix_length code = code < least_code suffix_length 15 + 2 ^ suffix_size 15 suffix_length
 
+-- each level has a codeword, where suffixLength has come to be this (9.2.2.1)
 abbrev pub AreCodes : (suffix_length : ℕ) → (above_one : Bool) → List ℤ → Type 0
 AreCodes suffix_length above_one [] = Unit {0}
 AreCodes suffix_length above_one (l ∷ values) = IsCode suffix_length (code_of_level above_one l) × AreCodes (next_suffix_length suffix_length l) false values
@@ -86,6 +89,7 @@ run_bits zero zeros_left run = []
 run_bits (suc others) zero run = []
 run_bits (suc others) (suc zeros_left) run = or_none (run_word (suc zeros_left) run)
 
+-- the codewords of the runs, as long as zeros are left (9.2.3)
 abbrev pub runs_bits : (zeros_left : ℕ) → List ℕ → List Bool
 runs_bits zeros_left [] = []
 runs_bits zeros_left (run ∷ runs) = run_bits (length runs) zeros_left run ++ runs_bits (zeros_left - run) runs
@@ -112,6 +116,7 @@ HasCodes found =
     let ones = ones_first 3 values in
     AreCodes (first_length (length found) ones) (nat_lt ones 3) (drop ones values)
 
+-- all that is coded of the block has codewords
 abbrev pub IsWritable : List ℤ → Type 0
 IsWritable levels = HasCodes (coded levels)
 
@@ -130,5 +135,6 @@ pub record IsRewritten (most : ℕ) (nc : ℤ) (b left : Bits) (levels : List �
   pub writable : IsWritable levels
   pub ahead : b.ahead ≡ block_bits most nc levels ++ left.ahead
 
+-- A block that was read can be written, and its bits are those that were read.
 abbrev pub BlocksAreWritable : Type 0
 BlocksAreWritable = (most : ℕ) (nc : ℤ) (b left : Bits) (levels : List ℤ) → residual_block most nc b ≡ Ok (levels, left) → IsRewritten most nc b left levels

@@ -8,6 +8,7 @@ use Rattle.avc_mbsyntax.specs.SliceData.{SliceStart, context, placed, slice_data
 use Rattle.avc_make.specs.MbWriting.{HasRanges, mb_bits, qp_of}
 use Rattle.avc_make.specs.Words.{ue_word}
 
+-- the macroblock has no syntax of its own: mb_skip_run counts it
 abbrev pub is_skip : MbSyntax → Bool
 is_skip p_skip = true
 is_skip (i_pcm luma cb cr) = false
@@ -39,6 +40,7 @@ p_data_bits s before qp position run (m ∷ ms) =
           w ++ (w' ++ p_data_bits s (before ++ placed s m ∷ []) m.qp (position + length w + length w') 0 ms)
     ]
 
+-- slice_data of these macroblocks, from a position of the unit on (7.3.4)
 abbrev pub data_bits : SliceStart → (before : List PicMb) → (position : ℕ) → List Mb → List Bool
 data_bits s before position ms =
     elim s.is_p [ true ↦ p_data_bits s before s.qp position 0 ms | false ↦ i_data_bits s before s.qp position ms ]

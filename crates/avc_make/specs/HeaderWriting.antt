@@ -57,6 +57,7 @@ modification_bits (Subtract n) = joined (ue_word 0 ∷ ue_word n ∷ [])
 modification_bits (Add n) = joined (ue_word 1 ∷ ue_word n ∷ [])
 modification_bits (LongTerm n) = joined (ue_word 2 ∷ ue_word n ∷ [])
 
+-- the entries of ref_pic_list_modification, and 3, which ends them (7.3.3.1)
 abbrev pub modifications_bits : List Modification → List Bool
 modifications_bits list = joined (flat_map modification_bits list ∷ ue_word 3 ∷ [])
 
@@ -64,6 +65,7 @@ modifications_bits list = joined (flat_map modification_bits list ∷ ue_word 3 
 abbrev pub list_bits : Header → List Bool
 list_bits h = joined (optional_bits ue_word h.active_override ∷ optional_bits modifications_bits h.modifications ∷ where_bits pred_weight_table_bits h.pred_weight_table ∷ [])
 
+-- what a P slice alone has of the list; an I slice has nothing
 abbrev pub list_bits_where : (p : Bool) → Header → List Bool
 list_bits_where true h = list_bits h
 list_bits_where false h = []
@@ -77,6 +79,7 @@ operation_bits (MaxLongTermFrameIdx n) = joined (ue_word 4 ∷ ue_word n ∷ [])
 operation_bits UnmarkAll = ue_word 5
 operation_bits (CurrentToLongTerm index) = joined (ue_word 6 ∷ ue_word index ∷ [])
 
+-- dec_ref_pic_marking (7.3.3.3)
 abbrev pub marking_bits : Marking → List Bool
 marking_bits (Idr no_output_of_prior_pics_flag long_term_reference_flag) = joined (flag_bits no_output_of_prior_pics_flag ∷ flag_bits long_term_reference_flag ∷ [])
 marking_bits SlidingWindow = flag_bits false
@@ -88,19 +91,23 @@ deblocking_bits_of edges.All alpha beta = joined (ue_word 0 ∷ se_word alpha �
 deblocking_bits_of edges.NoEdges alpha beta = ue_word 1
 deblocking_bits_of edges.WithinSlice alpha beta = joined (ue_word 2 ∷ se_word alpha ∷ se_word beta ∷ [])
 
+-- disable_deblocking_filter_idc and the two offsets (7.3.3)
 abbrev pub deblocking_bits : Deblocking → List Bool
 deblocking_bits d = deblocking_bits_of d.disable_deblocking_filter_idc d.slice_alpha_c0_offset_div2 d.slice_beta_offset_div2
 
 -- ---- the header
 
+-- first_mb_in_slice, slice_type and pic_parameter_set_id (7.3.3)
 abbrev pub front_bits : Header → List Bool
 front_bits h = joined (ue_word h.first_mb_in_slice ∷ ue_word (slice_type_number h.slice_type) ∷ ue_word h.pic_parameter_set_id ∷ [])
 
+-- frame_num, idr_pic_id, the elements of the order count and redundant_pic_cnt (7.3.3)
 abbrev pub numbers_bits : Sps → Pps → Header → List Bool
 numbers_bits sps pps h =
     joined (bits_of (sps.log2_max_frame_num_minus4 + 4) h.frame_num ∷ where_bits ue_word h.idr_pic_id
     ∷ coded_order_bits sps.order_count pps.bottom_field_pic_order_in_frame_present_flag h.order ∷ where_bits ue_word h.redundant_pic_cnt ∷ [])
 
+-- slice_qp_delta, and what is said of deblocking (7.3.3)
 abbrev pub filtering_bits : Header → List Bool
 filtering_bits h = joined (se_word h.slice_qp_delta ∷ where_bits deblocking_bits h.deblocking ∷ [])
 
@@ -120,6 +127,7 @@ abbrev pub IsSeWhere : Bool → ℤ → Type 0
 IsSeWhere true v = IsSeValue v
 IsSeWhere false v = v ≡ pos 0
 
+-- the elements of the order count are those of pic_order_cnt_type, and fit (7.3.3)
 abbrev pub IsOrderOf : OrderCount → (bottom_present : Bool) → CodedOrder → Type 0
 IsOrderOf (orders.Type0 log2_minus4) bottom_present (Type0 lsb bottom) = (lsb < 2 ^ (log2_minus4 + 4)) × IsSeWhere bottom_present bottom
 IsOrderOf (orders.Type1 always_zero _ _ _) bottom_present (Type1 delta_0 delta_1) =
@@ -142,6 +150,7 @@ abbrev pub IsOverride : Pps → Option ℕ → Type 0
 IsOverride pps (Some count_minus1) = count_minus1 < 16
 IsOverride pps None = pps.num_ref_idx_l0_default_active_minus1 < 16
 
+-- What a P slice's header says of its list fits the parameter sets.
 pub record IsListOf (sps : Sps) (pps : Pps) (h : Header) : Type 0 where
   pub override : IsOverride pps h.active_override
   pub count : h.active_count ≡ active_count pps h.active_override
@@ -149,16 +158,19 @@ pub record IsListOf (sps : Sps) (pps : Pps) (h : Header) : Type 0 where
   pub is_weighted : is_some h.pred_weight_table ≡ pps.weighted_pred_flag
   pub weights : IfSome h.pred_weight_table (IsPredWeightTable h.active_count)
 
+-- An I slice's header says nothing of a list.
 pub record HasNoList (h : Header) : Type 0 where
   pub override : h.active_override ≡ None
   pub count : h.active_count ≡ 0
   pub list : h.modifications ≡ None
   pub weights : h.pred_weight_table ≡ None
 
+-- the one or the other
 abbrev pub IsListWhere : (p : Bool) → Sps → Pps → Header → Type 0
 IsListWhere true sps pps h = IsListOf sps pps h
 IsListWhere false sps pps h = HasNoList h
 
+-- the numbers of a marking operation have codewords (7.3.3.3)
 abbrev pub IsOperation : Operation → Type 0
 IsOperation (UnmarkShortTerm n) = IsUeValue n
 IsOperation (UnmarkLongTerm n) = IsUeValue n
@@ -174,14 +186,17 @@ IsMarkingOf false SlidingWindow = Unit {0}
 IsMarkingOf false (Adaptive list) = (length list ≤ most_operations) × Each IsOperation list
 IsMarkingOf _ _ = ⊥
 
+-- -6 to 6, as slice_alpha_c0_offset_div2 and slice_beta_offset_div2 are (7.4.3)
 abbrev pub IsOffset : ℤ → Type 0
 IsOffset v = (negsuc 5 ≤ℤ v) × (v ≤ℤ pos 6)
 
+-- the offsets are in range; where no edge is filtered they are not coded, and 0
 abbrev pub IsDeblockingOf : FilteredEdges → (alpha beta : ℤ) → Type 0
 IsDeblockingOf edges.NoEdges alpha beta = (alpha ≡ pos 0) × (beta ≡ pos 0)
 IsDeblockingOf edges.All alpha beta = IsOffset alpha × IsOffset beta
 IsDeblockingOf edges.WithinSlice alpha beta = IsOffset alpha × IsOffset beta
 
+-- the same of all three elements
 abbrev pub IsDeblocking : Deblocking → Type 0
 IsDeblocking d = IsDeblockingOf d.disable_deblocking_filter_idc d.slice_alpha_c0_offset_div2 d.slice_beta_offset_div2
 

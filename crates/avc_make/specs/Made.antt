@@ -8,9 +8,11 @@ pub record Made : Type 0 where
   pub bits : List Bool
   pub failed : Bool
 
+-- a maker with no bits yet
 abbrev pub nothing : Made
 nothing = record { bits = []; failed = false }
 
+-- with these bits behind the others
 abbrev pub with_bits : Made → List Bool → Made
 with_bits made word = record { bits = made.bits ++ word; failed = false }
 

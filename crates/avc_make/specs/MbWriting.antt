@@ -29,10 +29,12 @@ blocks_bits max size coded left up (k ∷ numbers) done (block ∷ blocks) =
     bits_where_coded max (pos (nc size left up (map total_coeff done) k)) (coded k) block ++ blocks_bits max size coded left up numbers (done ++ block ∷ []) blocks
 blocks_bits max size coded left up numbers done blocks = []
 
+-- the DC levels of one chroma component, where CodedBlockPatternChroma is not 0 (7.3.5.3)
 abbrev pub chroma_dc_bits : (chroma_pattern : ℕ) → List ℤ → List Bool
 chroma_dc_bits zero levels = []
 chroma_dc_bits (suc p) levels = block_bits 4 (negsuc 0) levels
 
+-- Intra16x16DCLevel, in an Intra 16x16 macroblock alone (7.3.5.3.1)
 abbrev pub luma_dc_bits : Context → (with_dc : Bool) → List ℤ → List Bool
 luma_dc_bits c true levels = block_bits 16 (pos (nc 16 (luma_side c.left) (luma_side c.up) [] 0)) levels
 luma_dc_bits c false levels = []
@@ -41,6 +43,7 @@ luma_dc_bits c false levels = []
 abbrev pub luma_max : (with_dc : Bool) → ℕ
 luma_max with_dc = elim with_dc [ true ↦ 15 | false ↦ 16 ]
 
+-- the sixteen luma blocks, each where CodedBlockPatternLuma says so (7.3.5.3.1)
 abbrev pub luma_words : Context → (max : ℕ) → (luma_pattern : ℕ) → List (List ℤ) → List Bool
 luma_words c max luma_pattern luma =
     blocks_bits max 16 (is_coded luma_pattern) (luma_side c.left) (luma_side c.up) (range_with_len 0 16) [] luma
@@ -60,6 +63,7 @@ chroma_words c r =
 abbrev pub block_words : Context → (with_dc : Bool) → Residual → List Bool
 block_words c with_dc r = luma_words c (luma_max with_dc) r.luma_pattern r.luma ++ chroma_words c r
 
+-- residual( ): the luma DC levels, and then all other blocks (7.3.5.3)
 abbrev pub residual_bits : Context → (with_dc : Bool) → Residual → List Bool
 residual_bits c with_dc r = luma_dc_bits c with_dc r.luma_dc ++ block_words c with_dc r
 
@@ -68,12 +72,14 @@ abbrev pub IsBlock : (max : ℕ) → (coded : Bool) → List ℤ → Type 0
 IsBlock max true block = (length block ≡ max) × IsWritable block
 IsBlock max false block = block ≡ replicate max (pos 0)
 
+-- the blocks of these numbers: each can be written, and has no levels where it is not coded
 abbrev pub AreBlocks : (max : ℕ) → (coded : ℕ → Bool) → (numbers : List ℕ) → List (List ℤ) → Type 0
 AreBlocks max coded [] [] = Unit {0}
 AreBlocks max coded (k ∷ numbers) (block ∷ blocks) = IsBlock max (coded k) block × AreBlocks max coded numbers blocks
 AreBlocks max coded [] (block ∷ blocks) = ⊥
 AreBlocks max coded (k ∷ numbers) [] = ⊥
 
+-- the luma DC levels can be written; there are none but in Intra 16x16
 abbrev pub IsLumaDc : (with_dc : Bool) → List ℤ → Type 0
 IsLumaDc true levels = IsBlock 16 true levels
 IsLumaDc false levels = levels ≡ []
@@ -83,6 +89,7 @@ abbrev pub IsChromaDc : (chroma_pattern : ℕ) → List ℤ → Type 0
 IsChromaDc zero levels = IsBlock 4 false levels
 IsChromaDc (suc p) levels = IsBlock 4 true levels
 
+-- a residual that can be written: patterns, mb_qp_delta and levels are in their ranges (7.4.5)
 pub record IsResidual (with_dc : Bool) (r : Residual) : Type 0 where
   pub luma_pattern : r.luma_pattern ≤ 15
   pub chroma_pattern : r.chroma_pattern ≤ 2
@@ -97,6 +104,7 @@ pub record IsResidual (with_dc : Bool) (r : Residual) : Type 0 where
 
 -- ---- coded_block_pattern (7.4.5, Table 9-4)
 
+-- coded_block_pattern: CodedBlockPatternLuma + 16 * CodedBlockPatternChroma (7.4.5)
 abbrev pub pattern_of : Residual → ℕ
 pattern_of r = r.luma_pattern + 16 * r.chroma_pattern
 
@@ -119,6 +127,7 @@ qp_delta_bits (suc p) delta = se_word delta
 abbrev pub pattern_bits : Context → (intra : Bool) → Residual → List Bool
 pattern_bits c intra r = joined (ue_word (pattern_number intra (pattern_of r)) ∷ qp_delta_bits (pattern_of r) r.mb_qp_delta ∷ residual_bits c false r ∷ [])
 
+-- the residual of a macroblock with coded_block_pattern; where that is 0, mb_qp_delta is not coded (7.3.5)
 pub record IsPattern (r : Residual) : Type 0 where
   pub residual : IsResidual false r
   pub no_delta : pattern_of r ≡ 0 → r.mb_qp_delta ≡ pos 0
@@ -130,10 +139,12 @@ abbrev pub mode_bits : Option ℕ → List Bool
 mode_bits None = true ∷ []
 mode_bits (Some rem) = false ∷ bits_of 3 rem
 
+-- rem_intra4x4_pred_mode, where it is coded, is 0 to 7 (7.4.5.1)
 abbrev pub IsCodedMode : Option ℕ → Type 0
 IsCodedMode None = Unit {0}
 IsCodedMode (Some rem) = rem < 8
 
+-- an I_NxN macroblock after mb_type: its modes, its pattern and its residual (7.3.5)
 abbrev pub i_nxn_bits : Context → List (Option ℕ) → (chroma_mode : ℕ) → Residual → List Bool
 i_nxn_bits c modes chroma_mode r = joined (flat_map mode_bits modes ∷ ue_word chroma_mode ∷ pattern_bits c true r ∷ [])
 
@@ -141,6 +152,7 @@ i_nxn_bits c modes chroma_mode r = joined (flat_map mode_bits modes ∷ ue_word 
 abbrev pub type_16x16 : (mode : ℕ) → Residual → ℕ
 type_16x16 mode r = suc (mode + 4 * r.chroma_pattern + elim (r.luma_pattern == 0) [ true ↦ 0 | false ↦ 12 ])
 
+-- an Intra 16x16 macroblock after mb_type (7.3.5)
 abbrev pub i_16x16_bits : Context → (chroma_mode : ℕ) → Residual → List Bool
 i_16x16_bits c chroma_mode r = joined (ue_word chroma_mode ∷ se_word r.mb_qp_delta ∷ residual_bits c true r ∷ [])
 
@@ -148,9 +160,11 @@ i_16x16_bits c chroma_mode r = joined (ue_word chroma_mode ∷ se_word r.mb_qp_d
 abbrev pub zeros_to_byte : (position : ℕ) → List Bool
 zeros_to_byte position = replicate ((8 - position % 8) % 8) false
 
+-- an I_PCM macroblock after mb_type: zeros up to the next byte, and the samples (7.3.5)
 abbrev pub i_pcm_bits : (position : ℕ) → (luma cb cr : List ℕ) → List Bool
 i_pcm_bits position luma cb cr = joined (zeros_to_byte position ∷ byte_bits luma ∷ byte_bits cb ∷ byte_bits cr ∷ [])
 
+-- so many samples of eight bits
 pub record AreSamples (n : ℕ) (samples : List ℕ) : Type 0 where
   pub all : length samples ≡ n
   pub bytes : Each (λ v. v < 256) samples
@@ -164,6 +178,7 @@ sub_mb_number Sub8x4 = 1
 sub_mb_number Sub4x8 = 2
 sub_mb_number Sub4x4 = 3
 
+-- sub_mb_type of each quarter, where there are quarters (7.3.5.2)
 abbrev pub sub_mb_types_bits : PMbType → List Bool
 sub_mb_types_bits (P8x8 subs) = flat_map (λ s. ue_word (sub_mb_number s)) subs
 sub_mb_types_bits (P8x8Ref0 subs) = flat_map (λ s. ue_word (sub_mb_number s)) subs
@@ -179,6 +194,7 @@ p_mb_number P8x16 = 2
 p_mb_number (P8x8 subs) = 3
 p_mb_number (P8x8Ref0 subs) = 4
 
+-- a macroblock of quarters has four
 abbrev pub HasQuarters : PMbType → Type 0
 HasQuarters (P8x8 subs) = length subs ≡ 4
 HasQuarters (P8x8Ref0 subs) = length subs ≡ 4
@@ -191,27 +207,34 @@ abbrev pub has_ref_idx : (active_count : ℕ) → PMbType → Bool
 has_ref_idx active_count (P8x8Ref0 subs) = false
 has_ref_idx active_count t = not (nat_le active_count 1)
 
+-- ref_idx_l0 of each partition, where it is coded (7.3.5.1)
 abbrev pub ref_idx_bits : (active_count : ℕ) → (coded : Bool) → List ℕ → List Bool
 ref_idx_bits active_count true indices = flat_map (te_word (active_count - 1)) indices
 ref_idx_bits active_count false indices = []
 
+-- so many reference indices, each of an entry of the list
 pub record AreIndices (active_count n : ℕ) (indices : List ℕ) : Type 0 where
   pub all : length indices ≡ n
   pub active : Each (λ i. (i ≤ active_count - 1) × (i < 4294967295)) indices
 
+-- the reference indices can be written; where they are not coded they are 0 (7.4.5.1)
 abbrev pub IsRefIdx : (active_count n : ℕ) → (coded : Bool) → List ℕ → Type 0
 IsRefIdx active_count n true indices = AreIndices active_count n indices
 IsRefIdx active_count n false indices = indices ≡ replicate n 0
 
+-- mvd_l0: the horizontal component, then the vertical one (7.3.5.1)
 abbrev pub mvd_bits : Mvd → List Bool
 mvd_bits d = se_word d.x ++ se_word d.y
 
+-- what se(v) can have (9.1.1)
 abbrev IsSe32 : ℤ → Type 0
 IsSe32 v = (neg_ℤ (pos 2147483648) <ℤ v) × (v <ℤ pos 2147483648)
 
+-- both components can be written
 abbrev pub IsMvd : Mvd → Type 0
 IsMvd d = IsSe32 d.x × IsSe32 d.y
 
+-- an inter macroblock after mb_type (7.3.5.1, 7.3.5.2)
 abbrev pub p_inter_bits : Context → PMbType → (ref_idx : List ℕ) → (mvd : List Mvd) → Residual → List Bool
 p_inter_bits c t ref_idx mvd r =
     joined (sub_mb_types_bits t ∷ ref_idx_bits c.active_count (has_ref_idx c.active_count t) ref_idx ∷ flat_map mvd_bits mvd ∷ pattern_bits c false r ∷ [])
@@ -232,23 +255,27 @@ mb_bits c position (i_nxn modes chroma_mode r) = ue_word (i_type c.is_p 0) ++ i_
 mb_bits c position (i_16x16 mode chroma_mode r) = ue_word (i_type c.is_p (type_16x16 mode r)) ++ i_16x16_bits c chroma_mode r
 mb_bits c position (p_inter t ref_idx mvd r) = ue_word (p_mb_number t) ++ p_inter_bits c t ref_idx mvd r
 
+-- an I_NxN macroblock that can be written
 pub record IsINxN (modes : List (Option ℕ)) (chroma_mode : ℕ) (r : Residual) : Type 0 where
   pub all : length modes ≡ 16
   pub modes_fit : Each IsCodedMode modes
   pub chroma : chroma_mode ≤ 3
   pub pattern : IsPattern r
 
+-- an Intra 16x16 macroblock that can be written: its luma AC levels are coded all or not at all
 pub record IsI16x16 (mode chroma_mode : ℕ) (r : Residual) : Type 0 where
   pub mode_fits : mode ≤ 3
   pub chroma : chroma_mode ≤ 3
   pub luma_pattern : r.luma_pattern ≡ elim (r.luma_pattern == 0) [ true ↦ 0 | false ↦ 15 ]
   pub residual : IsResidual true r
 
+-- an I_PCM macroblock that can be written
 pub record IsIPcm (luma cb cr : List ℕ) : Type 0 where
   pub luma_samples : AreSamples 256 luma
   pub cb_samples : AreSamples 64 cb
   pub cr_samples : AreSamples 64 cr
 
+-- an inter macroblock that can be written: an index for each partition and a vector for each part, in a P slice
 pub record IsPInter (c : Context) (t : PMbType) (indices : List ℕ) (mvds : List Mvd) (r : Residual) : Type 0 where
   pub in_p : c.is_p ≡ true
   pub quarters : HasQuarters t

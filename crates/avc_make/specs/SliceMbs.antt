@@ -25,6 +25,7 @@ own_start c = record {
   size = size_in_mbs c.sps;
 }
 
+-- a picture's macroblocks before the slice, of another slice: only their number matters to it
 abbrev pub earlier_mbs : CodedSlice → List PicMb
 earlier_mbs c = replicate c.header.first_mb_in_slice (record { slice = 0; mb = skipped 0 })
 
@@ -50,6 +51,7 @@ pub record IsReadBack (c : CodedSlice) (unit : List ℕ) : Type 0 where
       AreOthers s before → length before + length c.macroblocks ≤ s.size →
       slice_data s before (at (rbsp (drop 1 unit)) (placed_header c.sps c.pps c.header).position) ≡ record { mbs = c.macroblocks; fault = None }
 
+-- Each slice that can be written is read back from its unit.
 abbrev pub CodedSlicesAreRead : Type 0
 CodedSlicesAreRead =
     (c : CodedSlice) (unit : List ℕ) → IsCodedSlice c → IsUnit (slice_unit_header c.header) (coded_slice_bits c) unit → IsReadBack c unit

@@ -12,6 +12,7 @@ use Rattle.avc_params.specs.declared.sps.OrderCount.{OrderCount}
 use Rattle.avc_params.specs.declared.sps.OrderCount.TheVariants as orders
 use Rattle.avc_params.specs.declared.sps.Sps.{Sps}
 
+-- constraint_set0_flag to constraint_set5_flag
 abbrev pub constraint_bits : ConstraintFlags → List Bool
 constraint_bits c =
     c.constraint_set0_flag ∷ c.constraint_set1_flag ∷ c.constraint_set2_flag ∷ c.constraint_set3_flag ∷ c.constraint_set4_flag ∷ c.constraint_set5_flag ∷ []
@@ -32,14 +33,17 @@ order_bits orders.Type2 = ue_word 2
 abbrev pub IsSeValue : ℤ → Type 0
 IsSeValue v = (neg_ℤ (pos 2147483648) <ℤ v) × (v <ℤ pos 2147483648)
 
+-- the offsets of pic_order_cnt_type 1 have codewords
 abbrev pub HasSeValues : OrderCount → Type 0
 HasSeValues (orders.Type0 log2_max_pic_order_cnt_lsb_minus4) = Unit {0}
 HasSeValues (orders.Type1 always_zero non_ref top_to_bottom offsets) = IsSeValue non_ref × IsSeValue top_to_bottom × Each IsSeValue offsets
 HasSeValues orders.Type2 = Unit {0}
 
+-- the four offsets of frame cropping
 abbrev pub cropping_bits : Cropping → List Bool
 cropping_bits c = joined (ue_word c.frame_crop_left_offset ∷ ue_word c.frame_crop_right_offset ∷ ue_word c.frame_crop_top_offset ∷ ue_word c.frame_crop_bottom_offset ∷ [])
 
+-- width and height in macroblocks, each less one
 abbrev pub size_bits : Sps → List Bool
 size_bits sps = joined (ue_word sps.pic_width_in_mbs_minus1 ∷ ue_word sps.pic_height_in_map_units_minus1 ∷ [])
 

@@ -12,7 +12,8 @@ use Rattle.avc_types.specs.declared.references.Marking.TheVariants.{SlidingWindo
 use Rattle.avc_types.specs.declared.references.Operation.{Operation}
 use Rattle.avc_types.specs.References.{Reference, reference_of, references_at, reference_at, no_frame}
 use Rattle.avc_marking.specs.declared.frame.NewFrame.{NewFrame}
-use Rattle.avc_marking.specs.Marks.{MarkingEntry, Marks, OperationState, current_frame, with_current_frame, frame_num_after_marking, after_sliding_window, limit_of, after_adaptive_marking, marks_after, within_limit, after_operations, ◌>>=◌}
+use Rattle.avc_types.specs.Results.{◌>>=◌}
+use Rattle.avc_marking.specs.Marks.{MarkingEntry, Marks, OperationState, current_frame, with_current_frame, frame_num_after_marking, after_sliding_window, limit_of, after_adaptive_marking, marks_after, within_limit, after_operations}
 use Rattle.avc_marking.specs.Frames.{marking_entry, marks_at, operation_state, StandWith}
 use Rattle.avc_marking.proofs.Changes.{refilled, references-append, references-changed}
 use Rattle.avc_marking.proofs.OperationStates.{stand_with, operations-any}

@@ -17,7 +17,8 @@ use Rattle.avc_types.specs.declared.references.Marking.TheVariants.{Idr, Sliding
 use Rattle.avc_types.specs.declared.references.Operation.{Operation}
 use Rattle.avc_types.specs.declared.references.Operation.TheVariants.{UnmarkShortTerm, UnmarkLongTerm, AssignLongTerm, MaxLongTermFrameIdx, UnmarkAll, CurrentToLongTerm}
 use Rattle.avc_types.specs.References.{Reference, is_short, long_term_frame_idx, has_long_term_frame_idx, sorted_by, placed_by}
-use Rattle.avc_marking.specs.Marks.{MarkingEntry, Marks, OperationState, limit_of, ◌>>=◌, frame_or, refuse_unless, without_frame, with_other_mark, without_long_term_frame_idx, with_mark, is_index_allowed, precedes_in_window, first_in_window, after_sliding_window, frame_with_pic_num_x, without_short_term, long_term_frame_or_fault, without_long_term, with_long_term, with_max_long_term_frame_idx, max_long_term_frame_idx_below, with_references, long_term_current, with_long_term_current, after_operation, after_operations, is_unmark_all, current_frame, with_current_frame, within_limit, before_operations, after_adaptive_marking, marks_after, marks}
+use Rattle.avc_types.specs.Results.{◌>>=◌}
+use Rattle.avc_marking.specs.Marks.{MarkingEntry, Marks, OperationState, limit_of, frame_or, refuse_unless, without_frame, with_other_mark, without_long_term_frame_idx, with_mark, is_index_allowed, precedes_in_window, first_in_window, after_sliding_window, frame_with_pic_num_x, without_short_term, long_term_frame_or_fault, without_long_term, with_long_term, with_max_long_term_frame_idx, max_long_term_frame_idx_below, with_references, long_term_current, with_long_term_current, after_operation, after_operations, is_unmark_all, current_frame, with_current_frame, within_limit, before_operations, after_adaptive_marking, marks_after, marks}
 use Rattle.avc_marking.specs.Laws.{IsSameFrame, IsPartUpToMarks, AddsOwnFrameAlone, unmarks_all, LeavesOwnFrameAlone, SlidesAgain}
 use Rattle.avc_marking.proofs.Parts.{same-refl, part-refl, part-trans, part-append, part-none, part-filter, part-map, part-all, part-rising, rising-append, entries_of}
 

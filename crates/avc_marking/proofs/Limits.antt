@@ -14,7 +14,8 @@ use Rattle.avc_types.specs.declared.references.Marking.TheVariants.{Idr, Sliding
 use Rattle.avc_types.specs.References.{Reference, is_short, sorted_by}
 use Rattle.avc_marking.specs.Marks.{first_in_window}
 use Rattle.avc_marking.specs.Marks.{precedes_in_window}
-use Rattle.avc_marking.specs.Marks.{MarkingEntry, Marks, limit_of, after_sliding_window, without_frame, current_frame, with_current_frame, within_limit, after_operations, marks_after, marks, frame_or, ◌>>=◌}
+use Rattle.avc_types.specs.Results.{◌>>=◌}
+use Rattle.avc_marking.specs.Marks.{MarkingEntry, Marks, limit_of, after_sliding_window, without_frame, current_frame, with_current_frame, within_limit, after_operations, marks_after, marks, frame_or}
 use Rattle.avc_marking.specs.Frames.{first_in_window_of}
 use Rattle.avc_marking.specs.Laws.{StaysLimited, IsLimited}
 use Rattle.avc_marking.proofs.Sliding.{first-placed}

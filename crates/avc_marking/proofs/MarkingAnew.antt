@@ -21,7 +21,8 @@ use Rattle.avc_types.specs.declared.references.Operation.TheVariants.{UnmarkShor
 use Rattle.avc_types.specs.declared.references.Operation.TheVariants.{MaxLongTermFrameIdx, UnmarkAll, CurrentToLongTerm}
 use Rattle.avc_types.specs.References.{Reference, is_short, long_term_frame_idx, has_long_term_frame_idx, pic_num, has_pic_num}
 use Rattle.avc_types.specs.References.{placed_by, sorted_by, short_term_frame, long_term_frame, result_map}
-use Rattle.avc_marking.specs.Marks.{MarkingEntry, Marks, OperationState, no_marks, limit_of, ◌>>=◌, frame_or, refuse_unless}
+use Rattle.avc_types.specs.Results.{◌>>=◌}
+use Rattle.avc_marking.specs.Marks.{MarkingEntry, Marks, OperationState, no_marks, limit_of, frame_or, refuse_unless}
 use Rattle.avc_marking.specs.Marks.{without_frame, with_other_mark, without_long_term_frame_idx, with_mark, is_index_allowed}
 use Rattle.avc_marking.specs.Marks.{precedes_in_window, first_in_window, after_sliding_window, frame_with_pic_num_x}
 use Rattle.avc_marking.specs.Marks.{without_short_term, long_term_frame_or_fault, without_long_term, with_long_term}

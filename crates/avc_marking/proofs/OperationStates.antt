@@ -16,7 +16,8 @@ use Rattle.avc_types.specs.declared.references.Operation.TheVariants.{UnmarkShor
 use Rattle.avc_types.specs.References.{is_short, long_term_frame_idx, reference_at, no_frame}
 use Rattle.avc_marking.specs.declared.frame.FramesToUnmark.TheVariants.{Index, From}
 use Rattle.avc_marking.specs.declared.frame.NewFrame.{NewFrame}
-use Rattle.avc_marking.specs.Marks.{OperationState, with_references, refuse_unless, with_max_long_term_frame_idx, max_long_term_frame_idx_below, is_index_allowed, without_long_term_frame_idx, MarkingEntry, with_other_mark, with_mark, with_long_term, frame_with_pic_num_x, after_operation, after_operations, ◌>>=◌}
+use Rattle.avc_types.specs.Results.{◌>>=◌}
+use Rattle.avc_marking.specs.Marks.{OperationState, with_references, refuse_unless, with_max_long_term_frame_idx, max_long_term_frame_idx_below, is_index_allowed, without_long_term_frame_idx, MarkingEntry, with_other_mark, with_mark, with_long_term, frame_with_pic_num_x, after_operation, after_operations}
 use Rattle.avc_marking.specs.Frames.{entries_with, operation_state, StandWith, StandBefore, is_to_unmark, unmarked_if, marking_entry}
 use Rattle.avc_marking.proofs.Changes.{refilled, references-changed}
 

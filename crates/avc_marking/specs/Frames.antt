@@ -13,6 +13,7 @@ use Rattle.avc_marking.specs.declared.frame.FramesToUnmark.{FramesToUnmark}
 use Rattle.avc_marking.specs.declared.frame.FramesToUnmark.TheVariants.{Index, From, Every}
 use Rattle.avc_marking.specs.Marks.{MarkingEntry, Marks, OperationState, precedes_in_window, with_current_frame, without_frame}
 
+-- what marking asks of the new frame
 abbrev pub marking_entry : NewFrame → Option Marking → MarkingEntry
 marking_entry new marking = record {
   current = new.current;
@@ -51,10 +52,12 @@ abbrev pub entries_with : (assigned : Bool) → (entries : List ℕ) → (own : 
 entries_with true entries own = entries ++ own ∷ []
 entries_with false entries own = entries
 
+-- The frames are these entries of the history, and the picture's own one once that is assigned.
 pub record StandWith (assigned : Bool) (entries : List ℕ) (own : ℕ) (frames : List MarkedFrame) : Type 0 where
   pub each : length (entries_with assigned entries own) ≡ length frames
   pub rising : IsStrictlyIncreasing (entries ++ own ∷ [])
 
+-- the marks of these frames while the operations are gone through (8.2.5.4)
 abbrev pub operation_state : (entries : List ℕ) → (own : ℕ) → List MarkedFrame →
     (idx : Option ℕ) → (assigned : Bool) → OperationState
 operation_state entries own frames idx assigned = record {
@@ -69,9 +72,11 @@ is_to_unmark (Index index) r = has_long_term_frame_idx index r
 is_to_unmark (From index) r = not (is_short r || nat_lt (long_term_frame_idx r) index)
 is_to_unmark Every r = true
 
+-- a frame unused for reference
 abbrev pub unmarked : MarkedFrame → MarkedFrame
 unmarked f = record f { mark = None }
 
+-- a frame that becomes so if it passes the test
 abbrev pub unmarked_if : (Reference → Bool) → MarkedFrame → MarkedFrame
 unmarked_if test f = elim (is_marked test f) [ true ↦ unmarked f | false ↦ f ]
 
@@ -152,6 +157,7 @@ first_in_window_of current r None = Some r
 first_in_window_of current r (Some other) =
     elim (precedes_in_window current other r) [ true ↦ Some other | false ↦ Some r ]
 
+-- whether the frame at a place is a short-term reference
 abbrev pub IsShortAt : List MarkedFrame → (place : ℕ) → Bool → Type 0
 IsShortAt frames place is = is_marked is_short (slice_index_or frames place no_frame) ≡ is
 

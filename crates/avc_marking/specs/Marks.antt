@@ -12,6 +12,7 @@ use Rattle.avc_types.specs.declared.references.Marking.TheVariants.{Idr, Sliding
 use Rattle.avc_types.specs.declared.references.Operation.{Operation}
 use Rattle.avc_types.specs.declared.references.Operation.TheVariants.{UnmarkShortTerm, UnmarkLongTerm, AssignLongTerm, MaxLongTermFrameIdx, UnmarkAll, CurrentToLongTerm}
 use Rattle.avc_types.specs.References.{Reference, is_short, long_term_frame_idx, has_long_term_frame_idx, short_term_frame, long_term_frame, sorted_by, has_greater_pic_num}
+use Rattle.avc_types.specs.Results.{◌>>=◌}
 
 -- What marking asks of an entry of the history: a closed picture, or a frame that stands for a missing frame
 -- number (8.2.5.2). Such a frame is not existing and has the marking `sliding`.
@@ -35,12 +36,6 @@ no_marks = record { references = []; max_long_term_frame_idx = None }
 -- how many reference frames there may be: Max( max_num_ref_frames, 1 ) (8.2.5.3)
 abbrev pub limit_of : MarkingEntry → ℕ
 limit_of s = max s.max_num_ref_frames 1
-
-infixl 10 ◌>>=◌
--- what follows a value; a fault stays
-abbrev pub ◌>>=◌ : {A B : Type 0} → Result A Fault → (A → Result B Fault) → Result B Fault
-(Ok x) >>= f = f x
-(Err e) >>= f = Err e
 
 -- the frame where there is one, else the fault (this decoder's rule)
 abbrev pub frame_or : Fault → Option Reference → Result Reference Fault

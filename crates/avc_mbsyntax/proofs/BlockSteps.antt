@@ -1,6 +1,6 @@
 -- One block more.
 use Rattle.std.proofs.Common.{◌≡◌, ℕ, suc, ◌+◌, ◌<◌, ◌≤◌, min, ℤ, pos, Bool, true, false, List, [], ◌∷◌, ◌++◌, length, take, set, map, refl, ap, ◌∙◌, sym, arith, inl, inr}
-use Rattle.std.specs.Prelude.{Ok, Err, Option, ◌==◌, ◌||◌, nat_le, nat_lt}
+use Rattle.std.specs.Prelude.{Ok, Err, Option, ◌==◌, ◌||◌, nat_le, nat_lt, if◌then◌else◌}
 use Rattle.std.specs.List.{range_with_len}
 use Rattle.std.proofs.lemmas.Bool.{cases_lt, le-ltb}
 use Rattle.std.proofs.lemmas.List.{take_more_set, map-append}
@@ -18,7 +18,7 @@ use Rattle.avc_mbsyntax.specs.Reading.{block_where, blocks}
 -- ---- nC above 8
 
 abbrev table_by : (a b c : Bool) → Table Token
-table_by a b c = elim a [ true ↦ tokens coeff_token_0 | false ↦ elim b [ true ↦ tokens coeff_token_2 | false ↦ elim c [ true ↦ tokens coeff_token_4 | false ↦ tokens_8 ] ] ]
+table_by a b c = if a then tokens coeff_token_0 else if b then tokens coeff_token_2 else if c then tokens coeff_token_4 else tokens_8
 
 table_of_many : (n : ℕ) (a b c : Bool) → a ≡ false → b ≡ false → c ≡ false → table_by a b c ≡ tokens_8
 table_of_many n a b c e f g = rw (e, f, g) refl

@@ -13,7 +13,7 @@ use Rattle.avc_neigh.specs.declared.facts.TotalCoeffs.{TotalCoeffs}
 use Rattle.avc_mbsyntax.specs.declared.context.Context.{Context}
 use Rattle.avc_mbsyntax.specs.declared.stage.Stage.{Stage}
 use Rattle.avc_mbsyntax.specs.Reading.{macroblock}
-use Rattle.avc_mbsyntax.specs.SliceData.{SliceMbs, SliceStart, after, after_run, context, data_from, ended, i_data, left_total_coeffs, p_data, placed, skipped, stopped, up_total_coeffs}
+use Rattle.avc_mbsyntax.specs.SliceData.{SliceMbs, SliceStart, after, after_run, context, data_from, ended, from_run, i_data, left_total_coeffs, p_data, placed, skipped, stopped, up_total_coeffs, where_room}
 use Rattle.avc_mbsyntax.specs.Stages.{stage_after}
 use Rattle.avc_mbsyntax.specs.Rest.{after_skipped, one_more, rest_at, IsStage}
 
@@ -138,7 +138,7 @@ run_same s before qp run b k k' few within same =
     same (here ++ placed s r.0 ∷ []) (r.0).qp r.1 (omega (arith, long)) (omega (arith, long, passed_length s before qp run, other, few, within))))
 
 full_turn : (s : SliceStart) (n : ℕ) (before : List PicMb) (qp : ℕ) (b : Bits) → (length before == s.size) ≡ true → p_data s (suc n) before qp b ≡ stopped faults.TooManyMacroblocks
-full_turn s n before qp b full = rw (p_data, full) refl
+full_turn s n before qp b full = rw (p_data, where_room, full) refl
 
 -- so many turns or more are the same
 pub turns_same : (s : SliceStart) (m n : ℕ) (before : List PicMb) (qp : ℕ) (b : Bits) → s.size - length before ≤ m → s.size - length before ≤ n → length before ≤ s.size → p_data s m before qp b ≡ p_data s n before qp b
@@ -162,18 +162,18 @@ p_turn s before qp r b inter room some = inter_data s before qp b inter ∙ ap (
 
 pub p_fault : (s : SliceStart) (before : List PicMb) (qp r : ℕ) (b : Bits) (f : Fault) → s.is_p ≡ true → s.size ≡ length before + r → r ≢ 0 → ue b ≡ Err f → data_from s before qp b ≡ stopped f
 p_fault s before qp r b f inter room some read =
-    p_turn s before qp r b inter room some ∙ rw (p_data, is_open (length before) s.size r room some, read) refl
+    p_turn s before qp r b inter room some ∙ rw (p_data, where_room, is_open (length before) s.size r room some, read) refl
 
 pub p_over : (s : SliceStart) (before : List PicMb) (qp r run : ℕ) (b mid : Bits) → s.is_p ≡ true → s.size ≡ length before + r → r ≢ 0 → ue b ≡ Ok (run, mid) → r < run → data_from s before qp b ≡ stopped faults.TooManyMacroblocks
 p_over s before qp r run b mid inter room some read more =
     let over : nat_lt (s.size - length before) run ≡ true = lt-ltb (s.size - length before) run (omega (arith, room, more)) in
-    p_turn s before qp r b inter room some ∙ rw (p_data, is_open (length before) s.size r room some, read, over) refl
+    p_turn s before qp r b inter room some ∙ rw (p_data, where_room, is_open (length before) s.size r room some, read, from_run, over) refl
 
 pub p_run : (s : SliceStart) (before : List PicMb) (qp r run : ℕ) (b mid : Bits) → s.is_p ≡ true → s.size ≡ length before + r → r ≢ 0 → ue b ≡ Ok (run, mid) → run ≤ r → data_from s before qp b ≡ after_skipped s run before qp mid
 p_run s before qp r run b mid inter room some read few =
     let fits : nat_lt (s.size - length before) run ≡ false = le-ltb (s.size - length before) run (omega (arith, room, few)) in
     let turned : p_data s (suc (r - 1)) before qp b ≡ after (replicate run (skipped qp)) (after_run s (passed_over s before qp run) qp mid (λ before' qp' b'. p_data s (r - 1) before' qp' b')) =
-    rw (p_data, is_open (length before) s.size r room some, read, fits) refl in
+    rw (p_data, where_room, is_open (length before) s.size r room some, read, from_run, fits) refl in
     p_turn s before qp r b inter room some ∙ turned
     ∙ run_same s before qp run mid (λ before' qp' b'. p_data s (r - 1) before' qp' b') (λ before' qp' b'. p_data s (s.size - length before') before' qp' b') (omega (arith, room, few)) (omega (arith, room))
     (λ before' qp' b' longer inside. turns_same s (r - 1) (s.size - length before') before' qp' b' (omega (arith, room, longer)) (omega arith) inside)

@@ -8,6 +8,7 @@ use Rattle.avc_cavlc.specs.Block.{IsSmall}
 abbrev pub AreSmall : List ℤ → Type 0
 AreSmall levels = (i : ℕ) → IsSmall (slice_index_or levels i (pos 0))
 
+-- patterns and levels of a residual are in their ranges
 pub record IsResidual (r : Residual) : Type 0 where
   pub luma_bits : r.luma_pattern ≤ 15
   pub chroma_bits : r.chroma_pattern ≤ 2

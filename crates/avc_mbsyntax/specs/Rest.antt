@@ -66,6 +66,7 @@ one_more s before qp b =
           ]
     ]
 
+-- What reading one coded macroblock says of the rest: it is the first of it, or the fault stops there.
 abbrev pub IsOneMore : SliceStart → (before : List PicMb) → Result Mb Fault → SliceData → SliceData → Type 0
 IsOneMore s before (Ok mb) old new =
     (one_more s before old.qp (reader_bits old.reader) ≡ after (mb ∷ []) (rest_of s (before ++ placed s mb ∷ []) new)) × Follows s (before ++ placed s mb ∷ []) new × IsOfSlice s mb
@@ -76,6 +77,7 @@ abbrev pub IsRun : SliceStart → (before : List PicMb) → Result ℕ Fault →
 IsRun s before (Ok count) old new = (rest_of s before old ≡ rest_of s before new) × Follows s before new
 IsRun s before (Err f) old new = (rest_of s before old ≡ stopped f) × (rest_of s before new ≡ stopped f) × Follows s before new
 
+-- What handing out a skipped macroblock says of the rest: it is the first of it.
 abbrev pub IsSkipped : SliceStart → (before : List PicMb) → (count : ℕ) → Mb → SliceData → SliceData → Type 0
 IsSkipped s before count mb old new =
     (rest_of s before old ≡ after (mb ∷ []) (rest_of s (before ++ placed s mb ∷ []) new)) × Follows s (before ++ placed s mb ∷ []) new × IsOfSlice s mb

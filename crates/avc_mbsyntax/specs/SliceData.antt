@@ -70,55 +70,48 @@ context s before qp = record {
   up = up_total_coeffs s before;
 }
 
+-- the rest where there is more data, else no more macroblocks (7.3.4)
+abbrev pub where_more_data : Bits → SliceMbs → SliceMbs
+where_more_data b rest = elim (more_data b) [ true ↦ rest | false ↦ ended ]
+
+-- the rest where the picture has room for a macroblock more, else TooManyMacroblocks (this decoder's rule)
+abbrev pub where_room : SliceStart → (before : List PicMb) → SliceMbs → SliceMbs
+where_room s before rest = elim (length before == s.size) [ true ↦ stopped faults.TooManyMacroblocks | false ↦ rest ]
+
+-- A macroblock that is read, with what is left, and then `next` where there is more data (7.3.4): with the picture
+-- up to there, its QP_Y and what is left. Where it cannot be read, its fault.
+abbrev pub from_macroblock : SliceStart → (before : List PicMb) → (next : List PicMb → ℕ → Bits → SliceMbs) → Result (Mb × Bits) Fault → SliceMbs
+from_macroblock s before next (Err f) = stopped f
+from_macroblock s before next (Ok (mb, left)) =
+    after (mb ∷ []) (where_more_data left (next (before ++ placed s mb ∷ []) mb.qp left))
+
 -- In an I slice, where `left` macroblocks of the picture remain: one, and others while there
 -- is more data (7.3.4). TooManyMacroblocks is this decoder's rule.
 abbrev pub i_data : SliceStart → (left : ℕ) → (before : List PicMb) → (qp : ℕ) → Bits → SliceMbs
 i_data s zero before qp b = stopped faults.TooManyMacroblocks
-i_data s (suc left) before qp b =
-    elim (macroblock (context s before qp) b) [
-      | Err f ↦ stopped f
-      | Ok r ↦ after (r.0 ∷ []) (elim (more_data r.1) [
-        | true ↦ i_data s left (before ++ placed s r.0 ∷ []) (r.0).qp r.1
-        | false ↦ ended
-      ])
-    ]
+i_data s (suc left) before qp b = from_macroblock s before (i_data s left) (macroblock (context s before qp) b)
 
 -- What stands after a run of skipped macroblocks (7.3.4), all of them in `before`: nothing,
 -- or one macroblock, and then `next` with the picture up to there, its QP and what is left,
 -- where there is more data.
 abbrev pub after_run : SliceStart → (before : List PicMb) → (qp : ℕ) → Bits → (next : List PicMb → ℕ → Bits → SliceMbs) → SliceMbs
 after_run s before qp b next =
-    elim (more_data b) [
-      | false ↦ ended
-      | true ↦
-          elim (length before == s.size) [
-            | true ↦ stopped faults.TooManyMacroblocks
-            | false ↦
-                elim (macroblock (context s before qp) b) [
-                  | Err f ↦ stopped f
-                  | Ok r ↦ after (r.0 ∷ []) (elim (more_data r.1) [ true ↦ next (before ++ placed s r.0 ∷ []) (r.0).qp r.1 | false ↦ ended ])
-                ]
-          ]
-    ]
+    where_more_data b (where_room s before (from_macroblock s before next (macroblock (context s before qp) b)))
 
--- In a P slice, in so many turns at most: mb_skip_run, then as after_run says (7.3.4). There are as many
+-- A run of skipped macroblocks that is read (mb_skip_run), with what is left, and then as after_run says (7.3.4); or the
+-- fault. TooManyMacroblocks, where the picture has no room for them, is this decoder's rule.
+abbrev pub from_run : SliceStart → (before : List PicMb) → (qp : ℕ) → (next : List PicMb → ℕ → Bits → SliceMbs) → Result (ℕ × Bits) Fault → SliceMbs
+from_run s before qp next (Err f) = stopped f
+from_run s before qp next (Ok (run, left)) = elim (nat_lt (s.size - length before) run) [
+  | true ↦ stopped faults.TooManyMacroblocks
+  | false ↦ after (replicate run (skipped qp)) (after_run s (before ++ replicate run (placed s (skipped qp))) qp left next)
+]
+
+-- In a P slice, in so many turns at most: mb_skip_run, then as from_run says (7.3.4). There are as many
 -- turns as macroblocks remain, since each but the last reads one. TooManyMacroblocks is this decoder's rule.
 abbrev pub p_data : SliceStart → (turns : ℕ) → (before : List PicMb) → (qp : ℕ) → Bits → SliceMbs
 p_data s zero before qp b = stopped faults.TooManyMacroblocks
-p_data s (suc turns) before qp b =
-    elim (length before == s.size) [
-      | true ↦ stopped faults.TooManyMacroblocks
-      | false ↦
-          elim (ue b) [
-            | Err f ↦ stopped f
-            | Ok run ↦ elim (nat_lt (s.size - length before) run.0) [
-              | true ↦ stopped faults.TooManyMacroblocks
-              | false ↦
-                  after (replicate run.0 (skipped qp))
-                  (after_run s (before ++ replicate run.0 (placed s (skipped qp))) qp run.1 (λ before' qp' b'. p_data s turns before' qp' b'))
-            ]
-          ]
-    ]
+p_data s (suc turns) before qp b = where_room s before (from_run s before qp (p_data s turns) (ue b))
 
 -- The data from a macroblock of an I slice or a run of a P slice on (7.3.4); qp is that of the
 -- macroblock before in the slice.

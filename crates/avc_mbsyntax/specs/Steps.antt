@@ -13,6 +13,7 @@ ReadsAs seen result read old new = MatchResult result
     (λ value. (read (reader_bits old) ≡ Ok (seen value, reader_bits new)) × (reader_bytes new ≡ reader_bytes old))
     (λ fault. read (reader_bits old) ≡ Err fault)
 
+-- mb_type is P_8x8ref0 (Table 7-13)
 abbrev pub is_ref0 : PMbType → Bool
 is_ref0 P16x16 = false
 is_ref0 P16x8 = false

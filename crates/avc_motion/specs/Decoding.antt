@@ -14,6 +14,7 @@ use Rattle.avc_neigh.specs.declared.facts.Motion.{Motion}
 use Rattle.avc_motion.specs.declared.parts.Inter.{Inter}
 use Rattle.avc_motion.specs.Motion.{Near, motion_of_part, with_part, is_in_range, no_motion}
 
+-- the motion with these parts of the macroblock, or None at the first vector out of range (8.4.1)
 abbrev pub decoded : Near → PMbType → List ℕ → List Motion → List Part → List Mvd → Option (List Motion)
 decoded near shape ref_idx mine [] mvds = Some mine
 decoded near shape ref_idx mine (part ∷ parts) [] = Some mine
@@ -26,9 +27,11 @@ abbrev pub moved_by : Inter → List Motion → Part → Mvd → Motion
 moved_by i mine part mvd =
     motion_of_part (motion_near (facts_of i.neighbours.now)) i.mb_type.now (slice_index i.ref_idx.now part.partition) mine part mvd
 
+-- the same as the code has it at hand
 abbrev pub decoded_by : Inter → List Motion → List Part → List Mvd → Option (List Motion)
 decoded_by i mine parts mvds = decoded (motion_near (facts_of i.neighbours.now)) i.mb_type.now i.ref_idx.now mine parts mvds
 
+-- the parts of a sub-macroblock (Table 7-17)
 abbrev pub parts_in_quarter : SubMbType → ℕ → List Part
 parts_in_quarter s q = parts_of_quarter s (quarter_x q) (quarter_y q) q
 
@@ -48,9 +51,11 @@ pub record IsInside (part : Part) : Type 0 where
   pub row : part.y < 16
   pub of_partition : part.partition < 4
 
+-- the motion of the whole macroblock, or None
 abbrev pub decoded_whole : Near → PMbType → List ℕ → List Mvd → Option (List Motion)
 decoded_whole near shape ref_idx mvds = decoded near shape ref_idx no_motion (parts_of shape) mvds
 
+-- the motion of the sixteen blocks, or VectorRange
 abbrev pub blocks_or_fault : Option (List Motion) → Result (List Motion) Fault
 blocks_or_fault (Some motion) = Ok motion
 blocks_or_fault None = Err VectorRange

@@ -14,9 +14,11 @@ use Rattle.avc_neigh.specs.TotalCoeffs.{total_coeffs_of}
 abbrev pub FactsTell : {Y : Type 0} → (PicMb → Y) → (NeighbourFacts → Y) → List PicMb → List NeighbourFacts → Type 0
 FactsTell {Y} of_mb of_facts mbs facts = (rest : List Y) × (map of_mb mbs ≡ map of_facts facts ++ rest)
 
+-- the facts say in which slice each macroblock is
 abbrev pub TellSlices : List PicMb → List NeighbourFacts → Type 0
 TellSlices = FactsTell (λ m. m.slice) (λ f. f.slice)
 
+-- they say total_coeff of its blocks
 abbrev pub TellTotalCoeffs : List PicMb → List NeighbourFacts → Type 0
 TellTotalCoeffs = FactsTell (λ m. total_coeffs_of m.mb.syntax) (λ f. f.total_coeffs)
 
@@ -32,9 +34,11 @@ BlocksAreFound absent blocks =
     (mbs : List PicMb) (p : PictureFacts) (slice : ℕ) → IsNext mbs p slice
     → AreAround absent blocks (around p slice) mbs p.width (map blocks p.facts) (next_address p)
 
+-- The neighbours' motion is found by sample coordinates.
 abbrev pub MotionIsFound : Type 0
 MotionIsFound = BlocksAreFound motions.Absent (λ f. f.motion)
 
+-- So are their prediction modes.
 abbrev pub ModesAreFound : Type 0
 ModesAreFound = BlocksAreFound modes.Absent (λ f. f.modes)
 
@@ -54,6 +58,7 @@ is_there_by test earlier mbs a (Some s) =
     && (nat_lt s.address a || ((s.address == a) && earlier s.x s.y))
     && test (slice_get mbs s.address)
 
+-- a neighbour is there, and the test holds of its facts
 abbrev pub holds_of : (NeighbourFacts → Bool) → Option NeighbourFacts → Bool
 holds_of told None = false
 holds_of told (Some f) = told f

@@ -1,6 +1,6 @@
 -- The slices of a picture, where its frames stand n places later.
 use Rattle.std.specs.Prelude.{ℕ, zero, suc, ◌+◌, ◌==◌, nat_lt, Bool, true, false, List, [], ◌∷◌, ◌++◌, length, map, Option, Some, None, Result, Ok}
-use Rattle.std.specs.Prelude.{Err}
+use Rattle.std.specs.Prelude.{Err, if◌then◌else◌}
 use Rattle.std.specs.List.{find}
 use Rattle.std.specs.Option.{option_map}
 use Rattle.std.proofs.Common.{◌≡◌, ◌∙◌, refl, sym, ap}
@@ -140,27 +140,17 @@ module _ (n : ℕ) (p : PictureStart) where
           → elim fault [
             | Some f ↦ later g
             | None ↦
-                elim missing [
-                  | true ↦ refused (later g) s.unit faults.MissingMacroblocks
-                  | false ↦
-                      elim early [
-                        | true ↦ refused (later g) s.unit faults.ArbitrarySliceOrder
-                        | false ↦ with_reference_list moved s (later g) (list_of moved s.header)
-                      ]
-                ]
+                if missing then refused (later g) s.unit faults.MissingMacroblocks
+                else if early then refused (later g) s.unit faults.ArbitrarySliceOrder
+                else with_reference_list moved s (later g) (list_of moved s.header)
           ]
           ≡ later
           (elim fault [
             | Some f ↦ g
             | None ↦
-                elim missing [
-                  | true ↦ refused g s.unit faults.MissingMacroblocks
-                  | false ↦
-                      elim early [
-                        | true ↦ refused g s.unit faults.ArbitrarySliceOrder
-                        | false ↦ with_reference_list p s g (list_of p s.header)
-                      ]
-                ]
+                if missing then refused g s.unit faults.MissingMacroblocks
+                else if early then refused g s.unit faults.ArbitrarySliceOrder
+                else with_reference_list p s g (list_of p s.header)
           ])
       by_checks (Some f) missing early same = refl
       by_checks None true early same = refl

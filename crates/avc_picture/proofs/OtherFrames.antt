@@ -1,5 +1,5 @@
 -- Slices that name no reference frames are decoded the same whichever there are.
-use Rattle.std.specs.Prelude.{◌≡◌, true, false, List, [], ◌∷◌, All, Some, None, Ok, length, nat_lt}
+use Rattle.std.specs.Prelude.{◌≡◌, true, false, List, [], ◌∷◌, All, Some, None, Ok, length, nat_lt, if◌then◌else◌}
 use Rattle.std.proofs.Common.{refl, ap, ◌∙◌, sym}
 use Rattle.std.proofs.lemmas.List.Elements.{All-head, All-tail}
 use Rattle.avc_types.specs.declared.fault.Fault.TheVariants as faults
@@ -28,14 +28,9 @@ with_slice-other p other s before intra =
     ap (λ last. elim before.fault [
       | Some f ↦ before
       | None ↦
-          elim (nat_lt (length before.mbs) (s.header).first_mb_in_slice) [
-            | true ↦ refused before s.unit faults.MissingMacroblocks
-            | false ↦
-                elim (nat_lt (s.header).first_mb_in_slice (length before.mbs)) [
-                  | true ↦ refused before s.unit faults.ArbitrarySliceOrder
-                  | false ↦ last
-                ]
-          ]
+          if nat_lt (length before.mbs) (s.header).first_mb_in_slice then refused before s.unit faults.MissingMacroblocks
+          else if nat_lt (s.header).first_mb_in_slice (length before.mbs) then refused before s.unit faults.ArbitrarySliceOrder
+          else last
     ])
     (list_of_other p other s before intra)
 

@@ -74,10 +74,7 @@ module _ (p : PictureStart) (s : Slice) (g : Progress) (none : g.fault ≡ None)
   first = (s.header).first_mb_in_slice
 
   abbrev steps : Bool → Bool → Progress → Progress
-  steps less more read = elim less [
-    | true ↦ refused g s.unit MissingMacroblocks
-    | false ↦ elim more [ true ↦ refused g s.unit ArbitrarySliceOrder | false ↦ read ]
-  ]
+  steps less more read = if less then refused g s.unit MissingMacroblocks else if more then refused g s.unit ArbitrarySliceOrder else read
 
   stepped : with_slice p s g ≡ steps (nat_lt (length g.mbs) first) (nat_lt first (length g.mbs)) (with_reference_list p s g (list_of p s.header))
   stepped =

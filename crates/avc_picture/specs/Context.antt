@@ -47,16 +47,19 @@ abbrev pub IsListAt : {PAD : ℕ} → PictureStart → (entries : List ℕ) → 
 IsListAt p entries frames h (Ok places) = (list : List (Option Reference)) × (list_of p h ≡ Ok list) × HasPlaces entries frames list places
 IsListAt p entries frames h (Err f) = list_of p h ≡ Err f
 
+-- The answer is RefPicList0 as places among the frames, or its fault (8.2.4), whatever entries the frames have.
 abbrev pub HasList : {PAD : ℕ} → Sps → List (Frame PAD) → Header → Result (List (Option ℕ)) Fault → Type 0
 HasList sps frames h answer =
     (pps : Pps) (entries : List ℕ) → FramesStandAt entries frames → IsListAt (picture_start sps pps entries frames) entries frames h answer
 
 -- ---- the reference pictures
 
+-- the planes of a frame; a non-existing one has none
 abbrev planes_in : {PAD : ℕ} → Option (Frame PAD) → Option (PaddedPlanes PAD)
 planes_in None = None
 planes_in (Some f) = f.planes
 
+-- the planes of the frame at a place of the buffer
 abbrev pub planes_at : {PAD : ℕ} → List (Frame PAD) → Option ℕ → Option (PaddedPlanes PAD)
 planes_at frames None = None
 planes_at frames (Some place) = planes_in (slice_get frames place)
@@ -66,6 +69,7 @@ abbrev pub IsPictureAt : {PAD : ℕ} → List (Frame PAD) → Header → (r : �
 IsPictureAt frames h r place None = planes_at frames place ≡ None
 IsPictureAt frames h r place (Some p) = (planes_at frames place ≡ Some p.planes.now) × (slice_get (weights h) r ≡ p.weights)
 
+-- each of the first `count` reference indices has the picture of the frame at its place
 abbrev pub ArePicturesAt : {PAD : ℕ} → List (Frame PAD) → Header → (count : ℕ) → List (Option ℕ) → List (Option (ReferencePicture PAD)) → Type 0
 ArePicturesAt frames h count places pictures =
     (r : ℕ) → r < count → IsPictureAt frames h r (slice_index_or places r None) (slice_index_or pictures r None)
@@ -77,6 +81,7 @@ abbrev pub IsContextOf : {PAD : ℕ} → PictureStart → (entries : List ℕ) �
 IsContextOf p entries h list s =
     (c : Coded) (names : Names) → AreNames entries names → slice_facts c s.number ≡ facts_of p h list → IsSlice c names s
 
+-- The context is that of some RefPicList0 of the header, or there is no list, for this fault.
 abbrev pub IsMade : {PAD : ℕ} → PictureStart → (entries : List ℕ) → Header → Result (SliceContext PAD) Fault → Type 0
 IsMade p entries h (Ok s) = (list : List (Option Reference)) × (list_of p h ≡ Ok list) × IsContextOf p entries h list s
 IsMade p entries h (Err f) = list_of p h ≡ Err f

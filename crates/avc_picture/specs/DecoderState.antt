@@ -28,6 +28,7 @@ abbrev pub first_of : Option (ℕ × Fault) → SliceMbs → ℕ × Option Fault
 first_of None ms = (length ms.mbs, ms.fault)
 first_of (Some found) ms = (found.0, Some found.1)
 
+-- how many macroblocks of a slice's data count as read, and the first fault, where they begin at this address
 abbrev pub outcome : Coded → (address : ℕ) → SliceMbs → ℕ × Option Fault
 outcome c address ms = first_of (first_mb_fault c address (length ms.mbs)) ms
 
@@ -50,6 +51,7 @@ pub record CanGoOn {PAD : ℕ} (m : MbsState) (d : SliceData) (context : SliceCo
   pub start : SliceStart
   pub goes_on : GoesOn coded names start m d context
 
+-- the same from what is left of the data
 abbrev pub outcome_from : Coded → SliceStart → MbsState → SliceData → ℕ × Option Fault
 outcome_from c s m d = outcome c m.next (rest_of s (take m.next c.mbs) d)
 
@@ -107,6 +109,8 @@ abbrev pub IsKeptAfter : PictureStart → (entries : List ℕ) → Progress → 
 IsKeptAfter p entries g None slice_count read m = IsWellSoFar p entries g slice_count read m
 IsKeptAfter p entries g (Some f) slice_count read m = (option_map (λ found. found.1) g.fault ≡ Some f) × (g.read ≡ read)
 
+-- The decoder's fields say of the slices so far, the newest first, how many macroblocks have been read, the first
+-- fault, and, where there is none, what the macroblocks are.
 pub record IsDecoderState {PAD : ℕ} (sps : Sps) (pps : Pps) (frames : List (Frame PAD)) (slices : List Slice) (slice_count read : ℕ) (fault : Option Fault) (m : MbsState) : Type 0 where
   pub of_sps : IsSps sps
   pub of_pps : IsPps pps

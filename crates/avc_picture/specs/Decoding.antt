@@ -24,9 +24,11 @@ pub record Decoding (PAD : ℕ) : Type 0 where
   pub slices : List Slice
   pub failed : Bool
 
+-- a picture that has just been opened
 abbrev pub no_slice_yet : {PAD : ℕ} → Sps → Pps → List (Frame PAD) → Decoding PAD
 no_slice_yet sps pps frames = record { sps = sps; pps = pps; frames = frames; slices = []; failed = false }
 
+-- with a slice more, the newest
 abbrev pub with_slice_more : {PAD : ℕ} → Slice → Decoding PAD → Decoding PAD
 with_slice_more s d = record d { slices = s ∷ d.slices }
 
@@ -76,6 +78,7 @@ fault_at_end (Some found) full = Some found.1
 fault_at_end None true = None
 fault_at_end None false = Some MissingMacroblocks
 
+-- the fault of a picture that is to be closed now: of its slices, or that macroblocks are missing
 abbrev pub end_fault : {PAD : ℕ} → List ℕ → Decoding PAD → Option Fault
 end_fault entries d = fault_at_end (progress_at entries d).fault (is_full (start_at entries d) (progress_at entries d))
 

@@ -19,6 +19,7 @@ pub record IsKept (m : MbsState) : Type 0 where
   pub modes : HaveModes m.row.facts
   pub filter_room : length m.filter_facts ≡ m.canvas.height * m.canvas.width
 
+-- what the fields keep of the macroblocks so far
 abbrev pub state_of : {PAD : ℕ} → Inside PAD → MbsState
 state_of m = record { canvas = m.canvas; row = m.row; filter_facts = m.filter_facts.items; next = m.next }
 

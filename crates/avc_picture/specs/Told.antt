@@ -46,6 +46,7 @@ pub record IsTold (slice : ℕ) (n : Around) (constrained_intra_pred : Bool) (mb
   pub modes_are : AreModes n constrained_intra_pred mb.syntax f.modes
   pub in_range : HasModes n.a → HasModes n.b → All IsMode f.modes
 
+-- the motion of the macroblock among what is told of it, or the fault
 abbrev pub motion_told : Result NeighbourFacts Fault → Result (List Motion) Fault
 motion_told (Ok f) = Ok f.motion
 motion_told (Err f) = Err f

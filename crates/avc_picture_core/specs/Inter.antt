@@ -74,6 +74,7 @@ unfoldable pub predicted_from : {PAD : ℕ} → ReferencePicture PAD → Mv → 
 predicted_from p v k x y =
     weighted_by (option_map (component_weight k) p.weights) (fetched_from (padded_planes_of p.planes.now) v k x y)
 
+-- the inter prediction from the picture, where there is one (8.4.2)
 abbrev predicted_by : {PAD : ℕ} → Option (ReferencePicture PAD) → Mv → (k x y : ℕ) → ℕ
 predicted_by None v k x y = 0
 predicted_by (Some p) v k x y = predicted_from p v k x y

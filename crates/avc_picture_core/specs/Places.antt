@@ -35,9 +35,11 @@ ArePlanesBuilt p (Err f) old new = (refusal p ≡ Some f) × (new ≡ old)
 
 -- ---- sizes
 
+-- the plane kept its sides
 abbrev pub IsSameSize : (old new : Plane) → Type 0
 IsSameSize old new = (new.width ≡ old.width) × (new.height ≡ old.height)
 
+-- each plane kept its sides
 abbrev pub AreSameSize : (old new : Planes) → Type 0
 AreSameSize old new = IsSameSize old.luma new.luma × IsSameSize old.cb new.cb × IsSameSize old.cr new.cr
 

@@ -16,6 +16,7 @@ pub record IsReference {PAD : ℕ} (c : Coded) (slice r : ℕ) (p : ReferencePic
   pub frame : frame_named c slice r ≡ Some (record { entry = entry; existing = true; samples = samples_of (padded_planes_of p.planes.now) })
   pub weights : slice_get (slice_facts c slice).weights r ≡ p.weights
 
+-- the entry is the frame that reference index r names in the slice; there is none where it names no picture (8.4.2.1)
 abbrev pub ShowsReference : {PAD : ℕ} → Coded → (slice r : ℕ) → Option (ReferencePicture PAD) → Type 0
 ShowsReference c slice r None = is_picture (frame_named c slice r) ≡ false
 ShowsReference c slice r (Some p) = IsReference c slice r p
@@ -30,6 +31,7 @@ pub record IsWeight (w : Weight) : Type 0 where
   pub weight : IsWithin 128 w.weight
   pub offset : IsWithin 128 w.offset
 
+-- the weights of the three components are in their ranges (7.4.3.2)
 pub record AreWeights (w : Weights) : Type 0 where
   pub luma : IsWeight w.luma
   pub cb : IsWeight w.cb
@@ -40,5 +42,6 @@ pub record IsUsable {PAD : ℕ} (width height : ℕ) (p : ReferencePicture PAD) 
   pub sized : AreSized width height (padded_planes_of p.planes.now)
   pub weights : IfSome p.weights AreWeights
 
+-- each entry's picture, where it has one, is of this size, with its weights in their ranges
 abbrev pub AreUsable : {PAD : ℕ} → (width height : ℕ) → List (Option (ReferencePicture PAD)) → Type 0
 AreUsable width height references = All (λ entry. IfSome entry (IsUsable width height)) references

@@ -23,6 +23,7 @@ is_readable r k (negsuc _) (pos y) = r.a
 is_readable r k (pos x) (negsuc _) = if nat_lt x 16 then r.b else r.c
 is_readable r k (negsuc _) (negsuc _) = r.d
 
+-- the sides of block k that are readable, by where the four samples beside its corners lie (6.4.12)
 abbrev pub readable_sides : ReadableNeighbours → (k : ℕ) → Sides
 readable_sides r k =
     let x = pos (block_x k) in

@@ -8,9 +8,11 @@ use Rattle.avc_plane.specs.declared.frame.Frame.{Frame}
 use Rattle.avc_plane.specs.declared.frame.Planes.{Planes as StoredPlanes}
 use Rattle.avc_plane.specs.declared.frame.PaddedPlanes.{PaddedPlanes}
 
+-- the three planes as maps of samples
 abbrev pub planes_of : {PAD : ℕ} → StoredPlanes PAD → Planes
 planes_of p = record { luma = p.luma; cb = p.cb; cr = p.cr }
 
+-- the same of a frame's planes; what lies around them is not seen
 abbrev pub padded_planes_of : {PAD : ℕ} → PaddedPlanes PAD → Planes
 padded_planes_of p = record { luma = p.luma; cb = p.cb; cr = p.cr }
 
@@ -18,6 +20,7 @@ padded_planes_of p = record { luma = p.luma; cb = p.cb; cr = p.cr }
 abbrev pub marked_frame : {PAD : ℕ} → Frame PAD → MarkedFrame
 marked_frame f = record { frame_num = f.frame_num; existing = is_some f.planes; mark = f.mark }
 
+-- the frame of an entry of the history, with its mark
 abbrev pub stored_frame : {PAD : ℕ} → (entry : ℕ) → Frame PAD → StoredFrame
 stored_frame entry f = record { reference = reference_of entry (marked_frame f); planes = option_map padded_planes_of f.planes }
 

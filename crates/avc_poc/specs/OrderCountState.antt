@@ -10,6 +10,7 @@ use Rattle.avc_slice.specs.Header.{is_idr, is_reference, has_operation_5}
 use Rattle.avc_poc.specs.declared.previous.Previous.{Previous}
 use Rattle.avc_poc.specs.OrderCounts.{Counts, Past, past_number, previous_of, no_previous, frame_num_offset, resets_order_counts, previous_for, previous_from, counts_from, counts_by, number_in_range}
 
+-- What is kept between pictures.
 pub record OrderCountState : Type 0 where
   -- prevPicOrderCntMsb and prevPicOrderCntLsb
   pub previous : Previous
@@ -18,6 +19,7 @@ pub record OrderCountState : Type 0 where
   -- prevFrameNum
   pub frame_num : ℕ
 
+-- the offset, held at 2^31
 abbrev pub saturated : ℕ → ℕ
 saturated offset = min offset (2 ^ 31)
 
@@ -32,12 +34,15 @@ order_count_state (newest ∷ older) = record {
 
 -- ---- what the functions of this crate say of one another
 
+-- FrameNumOffset: greater by MaxFrameNum where frame_num has begun anew (8.2.1.2)
 abbrev pub next_offset : (offset before frame_num max : ℕ) → ℕ
 next_offset offset before frame_num max = if nat_lt frame_num before then saturated (offset + max) else offset
 
+-- TopFieldOrderCnt and BottomFieldOrderCnt
 abbrev pub pair : Counts → ℤ × ℤ
 pair c = (c.top, c.bottom)
 
+-- the counts of such a pair
 abbrev pub counts_of : ℤ × ℤ → Counts
 counts_of p = record { top = p.0; bottom = p.1 }
 
@@ -59,6 +64,7 @@ previous_after sps h before = elim (is_reference h) [ false ↦ before | true �
 abbrev pub picture_offset : Sps → Header → OrderCountState → ℕ
 picture_offset sps h s = elim (is_idr h) [ true ↦ 0 | false ↦ next_offset s.offset s.frame_num h.frame_num (max_frame_num sps) ]
 
+-- what a picture with this header leaves
 abbrev pub after_picture : Sps → Header → OrderCountState → OrderCountState
 after_picture sps h s = record {
   previous = previous_after sps h s.previous;
@@ -66,6 +72,7 @@ after_picture sps h s = record {
   frame_num = if has_operation_5 h then 0 else h.frame_num;
 }
 
+-- the counts of a picture with this header, or PocRange (8.2.1)
 abbrev pub counts_after : Sps → Header → OrderCountState → Result Counts Fault
 counts_after sps h s = counts_from sps h (previous_for h s.previous) (picture_offset sps h s + h.frame_num)
 
@@ -74,6 +81,7 @@ pub record IsNear (bits : ℕ) (z : ℤ) : Type 0 where
   pub low : neg_ℤ (pos (2 ^ bits)) ≤ℤ z
   pub high : z ≤ℤ pos (2 ^ bits)
 
+-- how far from 0 the kept count can be
 pub record IsPrevious (p : Previous) : Type 0 where
   pub msb : IsNear 34 p.msb
   pub lsb : IsNear 33 p.lsb

@@ -14,6 +14,7 @@ use Rattle.avc_run.specs.declared.fault.RunFault.{RunFault}
 use Rattle.avc_run.specs.declared.fault.RunFault.TheVariants.{Read, Write, Memory}
 use Rattle.avc_run.specs.declared.report.Report.{Report}
 
+-- the events that the bytes so far define
 abbrev pub come : Machine → List Event
 come m = events m.output max_unit m.bytes m.ended
 
@@ -35,6 +36,7 @@ reported r [] = r
 reported r (Picture p ∷ events) = reported (record r { pictures = saturated (r.pictures + 1) }) events
 reported r (Refused unit f ∷ events) = reported (record r { refused = r.refused ++ (unit, f) ∷ [] }) events
 
+-- of a picture this holds; of a refusal nothing is said
 abbrev pub IfPicture : Event → (Decoded → Type 0) → Type 0
 IfPicture (Picture p) holds = holds p
 IfPicture (Refused unit f) holds = Unit {0}

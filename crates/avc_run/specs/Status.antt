@@ -7,6 +7,7 @@ use Rattle.avc_run.specs.declared.report.Report.{Report}
 use Rattle.avc_run.specs.declared.exit.Answer.{Answer}
 use Rattle.avc_run.specs.declared.exit.Answer.TheVariants.{Help, Misuse}
 
+-- 3 where reading or writing failed, 4 where memory was refused
 abbrev pub fault_status : RunFault → ℕ
 fault_status Read = 3
 fault_status Write = 3
@@ -17,10 +18,12 @@ abbrev pub refused_status : List (ℕ × Fault) → ℕ
 refused_status [] = 0
 refused_status (_ ∷ _) = 1
 
+-- after decoding
 abbrev pub status_of : Result Report RunFault → ℕ
 status_of (Ok report) = refused_status report.refused
 status_of (Err fault) = fault_status fault
 
+-- after listing units or headers
 abbrev pub units_status : Result (Unit {0}) RunFault → ℕ
 units_status (Ok _) = 0
 units_status (Err fault) = fault_status fault
@@ -29,6 +32,7 @@ units_status (Err fault) = fault_status fault
 abbrev pub cut_status : (pieces number : ℕ) → ℕ
 cut_status pieces number = if nat_lt number pieces then 0 else 1
 
+-- after cutting out a piece
 abbrev pub cut_status_of : (number : ℕ) → Result ℕ RunFault → ℕ
 cut_status_of number (Ok count) = cut_status count number
 cut_status_of number (Err fault) = fault_status fault

@@ -8,6 +8,7 @@ use Rattle.avc_run.specs.declared.fault.RunFault.{RunFault}
 use Rattle.avc_run.specs.declared.fault.RunFault.TheVariants.{Read, Write, Memory}
 use Rattle.avc_run.specs.declared.report.Report.{Report}
 
+-- the end of a line
 abbrev newline : List ℕ
 newline = 10 ∷ []
 
@@ -16,9 +17,11 @@ abbrev pub refusal_line : ℕ × Fault → List ℕ
 refusal_line (unit, fault) =
     codes "refused unit " ++ decimal unit ++ codes ": " ++ decimal (number_of fault) ++ codes " " ++ name_of fault ++ newline
 
+-- one line for each refusal
 abbrev pub refusal_lines : Report → List ℕ
 refusal_lines report = flat_map refusal_line report.refused
 
+-- why the program stopped
 abbrev pub fault_line : RunFault → List ℕ
 fault_line Read = codes "avcdec: read fault" ++ newline
 fault_line Write = codes "avcdec: write fault" ++ newline
@@ -29,6 +32,7 @@ abbrev pub text_of : Result Report RunFault → List ℕ
 text_of (Ok report) = refusal_lines report
 text_of (Err fault) = fault_line fault
 
+-- that no piece has this number
 abbrev pub no_piece_line : (number : ℕ) → List ℕ
 no_piece_line number = codes "avcdec: no piece " ++ decimal number ++ newline
 

@@ -15,6 +15,7 @@ use Rattle.avc_slice.specs.declared.weights.CodedWeight.{CodedWeight}
 use Rattle.avc_slice.specs.declared.weights.EntryWeights.{EntryWeights}
 use Rattle.avc_slice.specs.declared.weights.PredWeightTable.{PredWeightTable}
 
+-- The offsets are -6 to 6 (7.4.3).
 pub record IsDeblocking (d : Deblocking) : Type 0 where
   pub alpha_low : negsuc 5 ≤ℤ d.slice_alpha_c0_offset_div2
   pub alpha_high : d.slice_alpha_c0_offset_div2 ≤ℤ pos 6
@@ -30,10 +31,12 @@ pub record IsCodedWeight (c : CodedWeight) : Type 0 where
   pub offset_low : negsuc 127 ≤ℤ c.offset
   pub offset_high : c.offset ≤ℤ pos 127
 
+-- the weights of both chroma components are in range
 pub record IsChromaWeights (c : ChromaWeights) : Type 0 where
   pub cb : IsCodedWeight c.cb
   pub cr : IsCodedWeight c.cr
 
+-- all weights that an entry has are in range (7.4.3.2)
 pub record IsEntryWeights (e : EntryWeights) : Type 0 where
   pub luma : IfSome e.luma IsCodedWeight
   pub chroma : IfSome e.chroma IsChromaWeights

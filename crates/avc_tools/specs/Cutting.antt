@@ -16,6 +16,7 @@ abbrev pub unit_at : List Unit → Option ℕ → List Unit
 unit_at units None = []
 unit_at units (Some place) = unit_list (slice_get units place)
 
+-- that unit written, if there is one
 abbrev pub written_at : List Unit → Option ℕ → List ℕ
 written_at units place = flat_map written (unit_at units place)
 
@@ -34,6 +35,7 @@ pub record ArePlacedAt {A : Type 0} (has_id : ℕ → SetUnit → Bool) (record_
 abbrev pub sps_unit : List Unit → ℕ → List Unit
 sps_unit before id = deciding_unit (is_some (sps_in_force (set_units before) id)) (is_sps id) before
 
+-- the same of picture parameter sets
 abbrev pub pps_unit : List Unit → ℕ → List Unit
 pps_unit before id = deciding_unit (is_some (pps_in_force (set_units before) id)) (is_pps id) before
 
@@ -47,6 +49,7 @@ pub record HasSets (before units : List Unit) (sets : SetPlaces) : Type 0 where
   pub sps : StandAt units 32 (sps_unit before) sets.sps.items
   pub pps : StandAt units 256 (pps_unit before) sets.pps.items
 
+-- the bytes of the piece that begins with the first of these units
 abbrev pub piece_in : (before : List Unit) → (here : List Unit) → List ℕ
 piece_in before [] = []
 piece_in before (u ∷ after) = flat_map written (piece before u after)
@@ -55,6 +58,7 @@ piece_in before (u ∷ after) = flat_map written (piece before u after)
 abbrev pub piece_at : List Unit → (place : ℕ) → List ℕ
 piece_at units place = piece_in (take place units) (drop place units)
 
+-- the same as a list, which is empty where that is no cut point
 abbrev pub pieces_in : (before : List Unit) → (here : List Unit) → List (List ℕ)
 pieces_in before [] = []
 pieces_in before (u ∷ after) = elim (is_start u) [ true ↦ flat_map written (piece before u after) ∷ [] | false ↦ [] ]

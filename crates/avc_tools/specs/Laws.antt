@@ -13,10 +13,12 @@ use Rattle.avc_decoder.specs.Events.{events}
 use Rattle.avc_decoder.specs.Laws.{is_picture}
 use Rattle.avc_tools.specs.Pieces.{pieces}
 
+-- the marking has no_output_of_prior_pics_flag 1
 abbrev pub drops_by : Option Marking → Bool
 drops_by (Some (Idr no_output long_term)) = no_output
 drops_by _ = false
 
+-- so has the slice that was read
 abbrev pub drops_prior : Result Slice Fault → Bool
 drops_prior (Ok s) = drops_by (s.header).marking
 drops_prior (Err f) = false

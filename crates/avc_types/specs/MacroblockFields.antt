@@ -29,5 +29,6 @@ syntax_of (I16x16 mode chroma_mode luma_dc levels) = i_16x16 mode chroma_mode (r
 syntax_of (PInter mb_type ref_idx mvd levels) =
     p_inter mb_type (take (partitions mb_type) ref_idx) (take (length (parts_of mb_type)) mvd) (residual_of [] levels)
 
+-- the macroblock: its syntax elements and QP_Y
 abbrev pub mb_of : Inside → Mb
 mb_of m = record { syntax = syntax_of m.syntax; qp = m.qp }

@@ -29,6 +29,7 @@ abbrev pub open_picture_of : (full : Bool) → Option Header → Option OpenPict
 open_picture_of full None = None
 open_picture_of full (Some h) = Some (record { last = h; full = full })
 
+-- the step begins a picture
 abbrev pub begins_a_picture : Next → Bool
 begins_a_picture (Begins s) = true
 begins_a_picture _ = false
@@ -40,6 +41,7 @@ last_header_after closes (Continues s) last = Some s.header
 last_header_after true _ last = None
 last_header_after false _ last = last
 
+-- the unit and what was made of it are kept
 abbrev pub after_step : GrouperState → StreamUnit → Step → GrouperState
 after_step g u s = record {
   sets = g.sets ++ set_units (u ∷ []);

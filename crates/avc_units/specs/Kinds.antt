@@ -11,6 +11,7 @@ use Rattle.avc_units.specs.declared.kinds.UnitKind.TheVariants as kinds
 use Rattle.avc_units.specs.declared.step.Step.{Step}
 use Rattle.avc_units.specs.declared.step_cases.UnitContext.{UnitContext}
 
+-- the kind of unit that the code's word stands for
 abbrev pub meant : UnitKind → Kind
 meant (kinds.Slice idr) = slice idr
 meant kinds.Partition = partition
@@ -19,6 +20,7 @@ meant kinds.Pps = pps
 meant kinds.Boundary = boundary
 meant kinds.Other = other
 
+-- what is known of the open picture, if one is open
 abbrev pub open_picture_in : UnitContext → Option OpenPictureFacts
 open_picture_in b = open_picture_of b.full b.last.now
 

@@ -31,7 +31,7 @@ tokens_own : (nc : ℤ) → AreOwn is_token_same (token_table nc)
 tokens_own (negsuc _) = refl
 tokens_own (pos n) = by_class (nat_lt n 2) (nat_lt n 4) (nat_lt n 8)
   where
-    by_class : (a b c : Bool) → AreOwn is_token_same (elim a [ true ↦ tokens coeff_token_0 | false ↦ elim b [ true ↦ tokens coeff_token_2 | false ↦ elim c [ true ↦ tokens coeff_token_4 | false ↦ tokens_8 ] ] ])
+    by_class : (a b c : Bool) → AreOwn is_token_same (if a then tokens coeff_token_0 else if b then tokens coeff_token_2 else if c then tokens coeff_token_4 else tokens_8)
     by_class true b c = refl
     by_class false true c = refl
     by_class false false true = refl

@@ -121,7 +121,7 @@ pub token_whole : (nc : ℤ) (t : Token) → IsToken t → (nc <ℤ pos 0 → t.
 token_whole (negsuc n) t is few = token_at (tokens coeff_token_chroma_dc) 4 t refl (omega arith) (few (omega (arith, ints))) is
 token_whole (pos n) t is few = by_class (nat_lt n 2) (nat_lt n 4) (nat_lt n 8)
   where
-    by_class : (a b c : Bool) → IsSome (word_of (is_token_same t) (elim a [ true ↦ tokens coeff_token_0 | false ↦ elim b [ true ↦ tokens coeff_token_2 | false ↦ elim c [ true ↦ tokens coeff_token_4 | false ↦ tokens_8 ] ] ]))
+    by_class : (a b c : Bool) → IsSome (word_of (is_token_same t) (if a then tokens coeff_token_0 else if b then tokens coeff_token_2 else if c then tokens coeff_token_4 else tokens_8))
     by_class true b c = token_at (tokens coeff_token_0) 16 t refl (omega arith) is.total is
     by_class false true c = token_at (tokens coeff_token_2) 16 t refl (omega arith) is.total is
     by_class false false true = token_at (tokens coeff_token_4) 16 t refl (omega arith) is.total is

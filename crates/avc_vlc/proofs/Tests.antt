@@ -1,6 +1,6 @@
 -- Tests of the tables that the checker computes.
 use Rattle.std.proofs.Common.{◌≡◌, ℕ, zero, suc, ◌-◌, List, [], ◌∷◌, Bool, true, false, refl}
-use Rattle.std.specs.Prelude.{ℤ, pos, negsuc, nat_lt, nat_le}
+use Rattle.std.specs.Prelude.{ℤ, pos, negsuc, nat_lt, nat_le, if◌then◌else◌}
 use Rattle.std.specs.List.{list_all}
 use Rattle.avc_vlc.specs.Tables.{coeff_token_0, coeff_token_2, coeff_token_4, total_zeros_4x4, total_zeros_chroma_dc, run_before_codes}
 use Rattle.avc_vlc.specs.Reading.{is_prefix_free, tokens, tokens_8, token_table, row_table, row_at, zeros_table, run_table}
@@ -10,7 +10,7 @@ pub tokens_free : (nc : ℤ) → is_prefix_free (token_table nc) ≡ true
 tokens_free (negsuc _) = refl
 tokens_free (pos n) = by_class (nat_lt n 2) (nat_lt n 4) (nat_lt n 8)
   where
-    by_class : (a b c : Bool) → is_prefix_free (elim a [ true ↦ tokens coeff_token_0 | false ↦ elim b [ true ↦ tokens coeff_token_2 | false ↦ elim c [ true ↦ tokens coeff_token_4 | false ↦ tokens_8 ] ] ]) ≡ true
+    by_class : (a b c : Bool) → is_prefix_free (if a then tokens coeff_token_0 else if b then tokens coeff_token_2 else if c then tokens coeff_token_4 else tokens_8) ≡ true
     by_class true b c = refl
     by_class false true c = refl
     by_class false false true = refl

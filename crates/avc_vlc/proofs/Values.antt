@@ -1,6 +1,6 @@
 -- Which values the tables have.
 use Rattle.std.proofs.Common.{◌≡◌, List, [], ◌∷◌, Bool, true, false, refl, subst, inl, inr}
-use Rattle.std.specs.Prelude.{ℤ, pos, negsuc, ◌&&◌, nat_lt, nat_le, Result, Ok, Err, IfOk}
+use Rattle.std.specs.Prelude.{ℤ, pos, negsuc, ◌&&◌, nat_lt, nat_le, Result, Ok, Err, IfOk, if◌then◌else◌}
 use Rattle.std.specs.List.{list_all}
 use Rattle.avc_types.specs.declared.fault.Fault.{Fault}
 use Rattle.avc_types.specs.declared.fault.Fault.TheVariants as faults
@@ -36,7 +36,7 @@ pub tokens_tested : (nc : ℤ) → list_all (λ e. is_token e.1) (token_table nc
 tokens_tested (negsuc _) = refl
 tokens_tested (pos n) = by_class (nat_lt n 2) (nat_lt n 4) (nat_lt n 8)
   where
-    by_class : (a b c : Bool) → list_all (λ e. is_token e.1) (elim a [ true ↦ tokens coeff_token_0 | false ↦ elim b [ true ↦ tokens coeff_token_2 | false ↦ elim c [ true ↦ tokens coeff_token_4 | false ↦ tokens_8 ] ] ]) ≡ true
+    by_class : (a b c : Bool) → list_all (λ e. is_token e.1) (if a then tokens coeff_token_0 else if b then tokens coeff_token_2 else if c then tokens coeff_token_4 else tokens_8) ≡ true
     by_class true b c = refl
     by_class false true c = refl
     by_class false false true = refl

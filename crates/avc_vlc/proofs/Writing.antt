@@ -78,7 +78,7 @@ six_found t number small here =
 -- ---- the classes of nC
 
 abbrev by_class : Bool → Bool → Bool → Table Token
-by_class a b c = elim a [ true ↦ tokens coeff_token_0 | false ↦ elim b [ true ↦ tokens coeff_token_2 | false ↦ elim c [ true ↦ tokens coeff_token_4 | false ↦ tokens_8 ] ] ]
+by_class a b c = if a then tokens coeff_token_0 else if b then tokens coeff_token_2 else if c then tokens coeff_token_4 else tokens_8
 
 pub class_0 : (nc : ℤ) → pos 0 ≤ℤ nc → nc <ℤ pos 2 → token_table nc ≡ tokens coeff_token_0
 class_0 (negsuc n) low high = absurd (omega (arith, ints))

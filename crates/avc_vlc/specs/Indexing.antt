@@ -124,6 +124,7 @@ AreShort rows = list_all (λ row. list_all (λ entry. nat_le entry.length 16) ro
 abbrev pub entry_word : {A : Type 0} → (same : A → A → Bool) → Table A → Entry A → Option (List Bool)
 entry_word same table entry = elim entry.value [ None ↦ None | Some own ↦ word_of (same own) table ]
 
+-- the codeword of the entry at a place; none where no codeword leads there
 abbrev pub place_word : {A : Type 0} → (tail row column : ℕ) → Entry A → Option (List Bool)
 place_word tail row column entry = elim entry.value [ None ↦ None | Some own ↦ Some (word_at tail row column entry.length) ]
 

@@ -12,11 +12,13 @@ use Rattle.avc_vlc.specs.Writing.{run_word, token_word, zeros_word}
 abbrev pub IsTableRead : {A : Type 0} → Table A → Type 0
 IsTableRead table = (b : Bits) → IsReadBy (IsIn table) faults.BadCode b (table_code table b)
 
+-- No codeword begins another: coeff_token, total_zeros and run_before.
 pub record TablesArePrefixFree : Type 0 where
   pub tokens : (nc : ℤ) → IsPrefixFree (IsIn (token_table nc))
   pub zeros : (total : ℕ) (chroma_dc : Bool) → IsPrefixFree (IsIn (zeros_table total chroma_dc))
   pub runs : (zeros_left : ℕ) → IsPrefixFree (IsIn (run_table zeros_left))
 
+-- Reading by each of the tables is as its code says (9.2).
 pub record TablesAreRead : Type 0 where
   pub tokens : (nc : ℤ) → IsTableRead (token_table nc)
   pub zeros : (total : ℕ) (chroma_dc : Bool) → IsTableRead (zeros_table total chroma_dc)
@@ -29,6 +31,7 @@ abbrev pub IsReadBack : {A : Type 0} → Read A → List Bool → A → Type 0
 IsReadBack part word value =
     (position : ℕ) (rest : List Bool) → part (record { position = position; ahead = word ++ rest }) ≡ Ok (value, record { position = position + length word; ahead = rest })
 
+-- The codeword of a value is read back as that value, whatever comes after it.
 pub record WordsAreRead : Type 0 where
   pub tokens : (nc : ℤ) (t : Token) (word : List Bool) → token_word nc t ≡ Some word → IsReadBack (coeff_token nc) word t
   pub zeros : (total : ℕ) (chroma_dc : Bool) (n : ℕ) (word : List Bool) → zeros_word total chroma_dc n ≡ Some word → IsReadBack (total_zeros total chroma_dc) word n

@@ -1,5 +1,5 @@
 -- Reading by a table of codewords (9.1.2, 9.2.1, 9.2.3).
-use Rattle.std.specs.Prelude.{◌≡◌, ◌⊎◌, ℕ, zero, suc, ◌+◌, ◌-◌, ◌*◌, ◌≤◌, ℤ, pos, negsuc, Bool, true, false, not, ◌&&◌, ◌||◌, nat_lt, nat_le, List, [], ◌∷◌, length, map, Option, Some, None, Result, Ok, Err}
+use Rattle.std.specs.Prelude.{◌≡◌, ◌⊎◌, ℕ, zero, suc, ◌+◌, ◌-◌, ◌*◌, ◌≤◌, ℤ, pos, negsuc, Bool, true, false, not, ◌&&◌, ◌||◌, nat_lt, nat_le, if◌then◌else◌, List, [], ◌∷◌, length, map, Option, Some, None, Result, Ok, Err}
 use Rattle.std.specs.List.{flat_map, enumerate_from, list_any, list_all, slice_get}
 use Rattle.avc_types.specs.declared.fault.Fault.{Fault}
 use Rattle.avc_types.specs.declared.fault.Fault.TheVariants as faults
@@ -87,15 +87,10 @@ tokens_8 =
 abbrev pub token_table : ℤ → Table Token
 token_table (negsuc _) = tokens coeff_token_chroma_dc
 token_table (pos n) =
-    elim (nat_lt n 2) [
-      | true ↦ tokens coeff_token_0
-      | false ↦
-          elim (nat_lt n 4) [
-            | true ↦ tokens coeff_token_2
-            | false ↦
-                elim (nat_lt n 8) [ true ↦ tokens coeff_token_4 | false ↦ tokens_8 ]
-          ]
-    ]
+    if nat_lt n 2 then tokens coeff_token_0
+    else if nat_lt n 4 then tokens coeff_token_2
+    else if nat_lt n 8 then tokens coeff_token_4
+    else tokens_8
 
 -- the ranges of TotalCoeff and TrailingOnes (9.2.1)
 pub record IsToken (t : Token) : Type 0 where

@@ -17,6 +17,7 @@ abbrev pub word_of : {A : Type 0} → (A → Bool) → Table A → Option (List 
 word_of is [] = None
 word_of is (entry ∷ table) = if is entry.1 then Some entry.0 else word_of is table
 
+-- the two are one value of coeff_token
 abbrev pub is_token_same : Token → Token → Bool
 is_token_same t other = other.total == t.total && other.ones == t.ones
 
@@ -31,12 +32,14 @@ token_is_same t other is =
 abbrev pub token_word : (nc : ℤ) → Token → Option (List Bool)
 token_word nc t = word_of (is_token_same t) (token_table nc)
 
+-- the two are one number
 abbrev pub is_number_same : ℕ → ℕ → Bool
 is_number_same n other = other == n
 
 pub number_is_same : (n other : ℕ) → is_number_same n other ≡ true → n ≡ other
 number_is_same n other is = sym (eqb-true other n is)
 
+-- total_zeros, where TotalCoeff has a codeword for it
 abbrev pub zeros_word : (total : ℕ) → (chroma_dc : Bool) → (zeros : ℕ) → Option (List Bool)
 zeros_word total chroma_dc zeros = word_of (is_number_same zeros) (zeros_table total chroma_dc)
 
