@@ -11,7 +11,7 @@ use Rattle.avc_decoder.specs.Events.{State, after_unit, at_end, events_from, fir
 use Rattle.avc_decoder.specs.Laws.{state_through}
 use Rattle.avc_decoder.specs.Machine.{Machine}
 use Rattle.avc_decoder.proofs.Growing.{events-append, read-append, turns_grow}
-use Rattle.avc_decoder.specs.States.{StreamState, IsDecoded, IsKept, more_read, after_units_in_stream, after_stream_end, after_unit_in_stream}
+use Rattle.avc_decoder.specs.States.{StreamState, IsDecoded, IsDecoderState, more_read, after_units_in_stream, after_stream_end, after_unit_in_stream}
 
 drop_some : {A : Type 0} (xs : List A) (n : ℕ) (x : A) → Some x ≡ slice_get xs n → drop n xs ≡ x ∷ drop (suc n) xs
 drop_some [] n x e = cc
@@ -186,8 +186,8 @@ abbrev pub machine_of : Output → List ℕ → (ended : Bool) → (taken : ℕ)
 machine_of output bytes ended taken failed = record { output = output; bytes = bytes; ended = ended; taken = taken; failed = failed }
 
 -- a piece more was handled
-pub kept_fed : (output : Output) (max : ℕ) (bytes bytes' piece : List ℕ) (ended failed : Bool) (taken : ℕ) (s s1 s2 : SplitterState) (t t2 : StreamState) (read read' : ℕ) → IsKept max (machine_of output bytes ended taken failed) s t read
-    → failed ≡ false → ended ≡ false → bytes' ≡ bytes ++ piece → s1 ≡ after_feed s piece → HandlesAll max s1 s2 t t2 → read' ≡ t2.read → IsKept max (machine_of output bytes' ended taken false) s2 t2 read'
+pub kept_fed : (output : Output) (max : ℕ) (bytes bytes' piece : List ℕ) (ended failed : Bool) (taken : ℕ) (s s1 s2 : SplitterState) (t t2 : StreamState) (read read' : ℕ) → IsDecoderState max (machine_of output bytes ended taken failed) s t read
+    → failed ≡ false → ended ≡ false → bytes' ≡ bytes ++ piece → s1 ≡ after_feed s piece → HandlesAll max s1 s2 t t2 → read' ≡ t2.read → IsDecoderState max (machine_of output bytes' ended taken false) s2 t2 read'
 kept_fed output max bytes bytes' piece ended failed taken s s1 s2 t t2 read read' i going unended given is all counts =
     let k = decoded_fed output max ended s s1 s2 t t2 piece (i.decoded going) unended is all in
     let same : s2.bytes ≡ bytes' = k.bytes_are ∙ ap (λ bs. bs ++ piece) (i.bytes going) ∙ sym given in
@@ -199,8 +199,8 @@ kept_fed output max bytes bytes' piece ended failed taken s s1 s2 t t2 read read
     }
 
 -- the end was handled
-pub kept_flushed : (output : Output) (max : ℕ) (bytes : List ℕ) (ended failed : Bool) (taken : ℕ) (s s1 s2 : SplitterState) (t t2 t3 : StreamState) (read read' : ℕ) → IsKept max (machine_of output bytes ended taken failed) s t read
-    → failed ≡ false → ended ≡ false → s1 ≡ after_finish s → HandlesAll max s1 s2 t t2 → t3 ≡ after_stream_end t2 → read' ≡ t3.read → IsKept max (machine_of output bytes true taken false) s2 t3 read'
+pub kept_flushed : (output : Output) (max : ℕ) (bytes : List ℕ) (ended failed : Bool) (taken : ℕ) (s s1 s2 : SplitterState) (t t2 t3 : StreamState) (read read' : ℕ) → IsDecoderState max (machine_of output bytes ended taken failed) s t read
+    → failed ≡ false → ended ≡ false → s1 ≡ after_finish s → HandlesAll max s1 s2 t t2 → t3 ≡ after_stream_end t2 → read' ≡ t3.read → IsDecoderState max (machine_of output bytes true taken false) s2 t3 read'
 kept_flushed output max bytes ended failed taken s s1 s2 t t2 t3 read read' i going unended is all ends counts =
     let k = decoded_finished output max ended s s1 s2 t t2 t3 (i.decoded going) unended is all ends in
     let same : s2.bytes ≡ bytes = k.bytes_are ∙ i.bytes going in
@@ -212,8 +212,8 @@ kept_flushed output max bytes ended failed taken s s1 s2 t t2 t3 read read' i go
     }
 
 -- memory was refused to a call with these bytes: the count is that before it
-pub kept_refused : (output : Output) (max : ℕ) (bytes bytes' piece : List ℕ) (ended ended' failed : Bool) (taken : ℕ) (s s' : SplitterState) (t t' : StreamState) (read : ℕ) → IsKept max (machine_of output bytes ended taken failed) s t read
-    → failed ≡ false → ended ≡ false → bytes' ≡ bytes ++ piece → IsKept max (machine_of output bytes' ended' taken true) s' t' read
+pub kept_refused : (output : Output) (max : ℕ) (bytes bytes' piece : List ℕ) (ended ended' failed : Bool) (taken : ℕ) (s s' : SplitterState) (t t' : StreamState) (read : ℕ) → IsDecoderState max (machine_of output bytes ended taken failed) s t read
+    → failed ≡ false → ended ≡ false → bytes' ≡ bytes ++ piece → IsDecoderState max (machine_of output bytes' ended' taken true) s' t' read
 kept_refused output max bytes bytes' piece ended ended' true taken s s' t t' read i going unended given = cc
 kept_refused output max bytes bytes' piece true ended' false taken s s' t t' read i going unended given = cc
 kept_refused output max bytes bytes' piece false ended' false taken s s' t t' read i going unended given =

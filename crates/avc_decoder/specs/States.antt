@@ -298,7 +298,7 @@ pub record IsDecoded (output : Output) (max : ℕ) (s : SplitterState) (ended : 
   pub read : f.read ≡ turns output max s.bytes ended
 
 -- What a decoder keeps of the machine: the macroblocks that are counted, and where memory was not refused, all of it.
-pub record IsKept (max : ℕ) (m : Machine) (s : SplitterState) (f : StreamState) (count : ℕ) : Type 0 where
+pub record IsDecoderState (max : ℕ) (m : Machine) (s : SplitterState) (f : StreamState) (count : ℕ) : Type 0 where
   pub count_is : IsCount max m count
   pub decoded : m.failed ≡ false → IsDecoded m.output max s m.ended f
   pub bytes : m.failed ≡ false → s.bytes ≡ m.bytes

@@ -29,7 +29,7 @@ pub struct Decoder<const MAX: usize> {
 
 impl<const MAX: usize> Model for Decoder<MAX> {
     ghost use Rattle.std.specs.Prelude.{length};
-    ghost use Rattle.avc_decoder.specs.States.{IsKept};
+    ghost use Rattle.avc_decoder.specs.States.{IsDecoderState};
     ghost use Rattle.avc_decoder.specs.Machine.{Machine};
 
     ghost Value = { Machine };
@@ -38,7 +38,7 @@ impl<const MAX: usize> Model for Decoder<MAX> {
 
     ghost invariant = { λ d.
         let m : Machine = record { output = d.output; bytes = d.bytes.items; ended = d.ended; taken = length d.taken.items; failed = d.failed } in
-        IsKept MAX m d.splitter d.stream d.read };
+        IsDecoderState MAX m d.splitter d.stream d.read };
 }
 
 impl<const MAX: usize> Decoder<MAX> {

@@ -18,7 +18,7 @@ use Rattle.avc_make.specs.DataWriting.{CanFollow, CanStand, data_bits, i_data_bi
 use Rattle.avc_make.specs.HeaderWriting.{header_bits, slice_unit_header}
 use Rattle.avc_make.specs.Made.{Made, nothing, with_bits}
 use Rattle.avc_make.specs.MbWriting.{mb_bits, qp_of}
-use Rattle.avc_make.specs.SliceSteps.{IsOf, IsTold, coded_bits, last_run_bits_where, own_bits, rest_bits, run_after, run_bits}
+use Rattle.avc_make.specs.SliceSteps.{IsOf, AreFactsOf, coded_bits, last_run_bits_where, own_bits, rest_bits, run_after, run_bits}
 use Rattle.avc_make.specs.SliceMbs.{IsCodedSlice, coded_slice_bits, earlier_mbs, own_start}
 use Rattle.avc_make.specs.Units.{IsUnit}
 use Rattle.avc_make.specs.Words.{ue_word}
@@ -27,8 +27,8 @@ use Rattle.avc_make.proofs.SliceDataBack.{bits_other, bits_skip, i_stand, on_kin
 
 -- ---- what the row has of them
 
-pub told_more : (width : ℕ) (before : List PicMb) (p : PictureFacts) (f : NeighbourFacts) (x : PicMb) → x.slice ≡ f.slice → total_coeffs_of x.mb.syntax ≡ f.total_coeffs → IsTold width before p →
-    IsTold width (before ++ x ∷ []) (with_facts p f)
+pub told_more : (width : ℕ) (before : List PicMb) (p : PictureFacts) (f : NeighbourFacts) (x : PicMb) → x.slice ≡ f.slice → total_coeffs_of x.mb.syntax ≡ f.total_coeffs → AreFactsOf width before p →
+    AreFactsOf width (before ++ x ∷ []) (with_facts p f)
 told_more width before p f x slice total_coeffs is = record {
   some = is.some;
   wide = is.wide;
@@ -54,7 +54,7 @@ left_counts before width slice a = option_map (λ m. total_coeffs_of m.syntax) (
 abbrev up_counts : List PicMb → (width slice a : ℕ) → Option TotalCoeffs
 up_counts before width slice a = option_map (λ m. total_coeffs_of m.syntax) (above before width slice a)
 
-pub context_told : (s : SliceStart) (before : List PicMb) (p : PictureFacts) (c : Context) (qp : ℕ) (left up : Option TotalCoeffs) → IsOf s c → IsTold s.width before p
+pub context_told : (s : SliceStart) (before : List PicMb) (p : PictureFacts) (c : Context) (qp : ℕ) (left up : Option TotalCoeffs) → IsOf s c → AreFactsOf s.width before p
     → left ≡ option_map (λ f. f.total_coeffs) (mb_a p 1) → up ≡ option_map (λ f. f.total_coeffs) (mb_b p 1) → of_parts c.is_p c.active_count qp left up ≡ context s before qp
 context_told s before p c qp left up own is is_left is_up =
     let slices = tells (λ m. m.slice) (λ f. f.slice) before p.facts is.slices in
@@ -171,19 +171,19 @@ before_of c i = earlier_mbs c ++ map (placed (own_start c)) (take i c.macroblock
 -- What was put of the first of them, and what the others will put, is all; the row has those that were put.
 pub record IsPut (c : CodedSlice) (old : Made) (i : ℕ) (row : PictureFacts) (qp run : ℕ) (now : Made) : Type 0 where
   pub going : now.failed ≡ false
-  pub told : IsTold (own_start c).width (before_of c i) row
+  pub told : AreFactsOf (own_start c).width (before_of c i) row
   pub few : run ≤ i
   pub follow : CanFollow (own_start c) (before_of c i) qp (drop i c.macroblocks)
   pub sum : now.bits ++ rest_bits (own_start c).is_p (own_start c) (before_of c i) qp (length now.bits) run (drop i c.macroblocks)
       ≡ old.bits ++ data_bits (own_start c) (earlier_mbs c) (length old.bits) c.macroblocks
 
-pub put_none : (c : CodedSlice) (old : Made) (row : PictureFacts) (qp : ℕ) → IsCodedSlice c → old.failed ≡ false → IsTold (own_start c).width (earlier_mbs c) row → qp ≡ (own_start c).qp → IsPut c old 0 row qp 0 old
+pub put_none : (c : CodedSlice) (old : Made) (row : PictureFacts) (qp : ℕ) → IsCodedSlice c → old.failed ≡ false → AreFactsOf (own_start c).width (earlier_mbs c) row → qp ≡ (own_start c).qp → IsPut c old 0 row qp 0 old
 put_none c old row qp is going told is_qp =
     let s = own_start c in
     let none : earlier_mbs c ≡ before_of c 0 = sym (append-nil (earlier_mbs c)) in
     record {
       going = going;
-      told = subst (λ b. IsTold s.width b row) none told;
+      told = subst (λ b. AreFactsOf s.width b row) none told;
       few = omega arith;
       follow = subst (λ q. CanFollow s (before_of c 0) q c.macroblocks) (sym is_qp) (subst (λ b. CanFollow s b s.qp c.macroblocks) none is.follow);
       sum =
@@ -219,7 +219,7 @@ stands_at c old now i row qp run m k syntax is here is_k is_syntax =
 
 pub put_next : (c : CodedSlice) (old now new : Made) (i : ℕ) (row row' : PictureFacts) (qp qp' run run' : ℕ) (m : Mb) (k : Context) (syntax : MbSyntax) → IsPut c old i row qp run now → IsAt c.macroblocks i m
     → k ≡ context (own_start c) (before_of c i) qp → syntax ≡ m.syntax → new ≡ with_bits now (own_bits k (length now.bits) run syntax)
-    → IsTold (own_start c).width (before_of c i ++ placed (own_start c) m ∷ []) row' → run' ≡ run_after run syntax → run' ≤ run + 1 → qp' ≡ m.qp → IsPut c old (i + 1) row' qp' run' new
+    → AreFactsOf (own_start c).width (before_of c i ++ placed (own_start c) m ∷ []) row' → run' ≡ run_after run syntax → run' ≤ run + 1 → qp' ≡ m.qp → IsPut c old (i + 1) row' qp' run' new
 put_next c old now new i row row' qp qp' run run' m k syntax is here is_k is_syntax is_new told is_run few is_qp =
     let s = own_start c in
     let before = before_of c i in
@@ -234,7 +234,7 @@ put_next c old now new i row row' qp qp' run run' m k syntax is here is_k is_syn
     own_put s before qp run m ms (drop i c.macroblocks) now new all here.first follow.0 follow.1 put is.sum in
     record {
       going = ap (λ t. t.failed) is_new;
-      told = subst (λ b. IsTold s.width b row') grown told;
+      told = subst (λ b. AreFactsOf s.width b row') grown told;
       few = omega (arith, few, is.few);
       follow = subst (λ q. CanFollow s (before_of c (i + 1)) q ms) (sym is_qp) (subst (λ b. CanFollow s b m.qp ms) grown follow.2);
       sum =

@@ -9,5 +9,5 @@ abbrev pub made_by : Inside → Made
 made_by s = record { bits = take (8 * length s.bytes.items - s.free) (byte_bits s.bytes.items); failed = s.failed }
 
 -- the free bits of the last byte are 0, unless memory was refused
-abbrev pub IsKept : Inside → Type 0
-IsKept s = s.failed ≡ false → IsFilled s.bytes.items (take (8 * length s.bytes.items - s.free) (byte_bits s.bytes.items)) s.free
+abbrev pub IsMakerState : Inside → Type 0
+IsMakerState s = s.failed ≡ false → IsFilled s.bytes.items (take (8 * length s.bytes.items - s.free) (byte_bits s.bytes.items)) s.free

@@ -11,7 +11,7 @@ use Rattle.avc_make.specs.MbWriting.{mb_bits}
 use Rattle.avc_make.specs.Words.{ue_word}
 
 -- The facts are those of the macroblocks so far, as far as nC asks for them.
-pub record IsTold (width : ℕ) (before : List PicMb) (p : PictureFacts) : Type 0 where
+pub record AreFactsOf (width : ℕ) (before : List PicMb) (p : PictureFacts) : Type 0 where
   pub some : 0 < width
   pub wide : p.width ≡ width
   pub slices : map (λ m. m.slice) before ≡ map (λ f. f.slice) p.facts

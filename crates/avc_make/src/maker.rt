@@ -25,11 +25,11 @@ impl Model for BitMaker {
 
     ghost Value = { Made };
 
-    ghost use Rattle.avc_make.specs.Making.{made_by, IsKept};
+    ghost use Rattle.avc_make.specs.Making.{made_by, IsMakerState};
 
     ghost view = { made_by };
 
-    ghost invariant = { IsKept };
+    ghost invariant = { IsMakerState };
 }
 
 impl BitMaker {

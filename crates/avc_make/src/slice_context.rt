@@ -8,7 +8,7 @@ ghost use Rattle.avc_neigh.specs.TotalCoeffs.{all_total_coeffs, residual_total_c
 ghost use Rattle.avc_mbsyntax.specs.SliceData.{SliceStart, context, placed};
 ghost use Rattle.avc_make.specs.HeaderWriting.{IsHeader};
 ghost use Rattle.avc_make.specs.SliceMbs.{earlier_mbs, own_start};
-ghost use Rattle.avc_make.specs.SliceSteps.{IsOf, IsTold};
+ghost use Rattle.avc_make.specs.SliceSteps.{IsOf, AreFactsOf};
 
 use crate::slice::CodedSlice;
 use avc_mbsyntax::Context;
@@ -26,7 +26,7 @@ const QP_AT_FIRST: i32 = 26;
 
 /// A row before the slice's first macroblock.
 pub(crate) fn row_before(alloc: Global, slice: &CodedSlice) -> Result<Row, OutOfMemory>
-    ensures { IfOk result (λ row. IsTold (own_start slice.now).width (earlier_mbs slice.now) row) }
+    ensures { IfOk result (λ row. AreFactsOf (own_start slice.now).width (earlier_mbs slice.now) row) }
 {
     let mut row = Row::new(alloc, slice.sps.width_in_mbs() as usize)?;
     let earlier = facts(EARLIER_SLICE, all_total_coeffs(0));
@@ -39,7 +39,7 @@ pub(crate) fn row_before(alloc: Global, slice: &CodedSlice) -> Result<Row, OutOf
 /// Adds the slice's next macroblock.
 pub(crate) fn put_facts(row: &mut Row, syntax: &Syntax)
     ensures { (s : SliceStart) (before : List PicMb) (m : Mb) → s.slice ≡ 1 → m.syntax ≡ syntax_of syntax.now
-        → IsTold s.width before row.old → IsTold s.width (before ++ placed s m ∷ []) row.new }
+        → AreFactsOf s.width before row.old → AreFactsOf s.width (before ++ placed s m ∷ []) row.new }
 {
     row.put(&facts(OWN_SLICE, total_coeffs_of(syntax)));
 }
@@ -61,7 +61,7 @@ pub(crate) fn first_context(slice: &CodedSlice) -> Context
 
 /// The context of the slice's next macroblock, after one with this QP_Y.
 pub(crate) fn context_beside(first: &Context, qp: u8, row: &Row) -> Context
-    ensures { (s : SliceStart) (before : List PicMb) → IsOf s first.now → IsTold s.width before row.now → result ≡ context s before qp }
+    ensures { (s : SliceStart) (before : List PicMb) → IsOf s first.now → AreFactsOf s.width before row.now → result ≡ context s before qp }
 {
     let around = row.around(OWN_SLICE);
     Context {

@@ -5,10 +5,10 @@ use Rattle.std.proofs.lemmas.Bool.{ne_eqb}
 use Rattle.std.proofs.lemmas.List.{get_or_default}
 use Rattle.avc_neigh.specs.declared.facts.NeighbourFacts.{NeighbourFacts}
 use Rattle.avc_neigh.specs.Around.{PictureFacts, back, of_slice, mb_a, mb_c}
-use Rattle.avc_neigh.specs.Kept.{KeepsRow}
+use Rattle.avc_neigh.specs.RowEntries.{AreRowEntries}
 
 module _ (facts : List NeighbourFacts) (column : ℕ) (entries : List (Option NeighbourFacts)) (corner : Option NeighbourFacts)
-    (keeps : KeepsRow facts column entries corner) (slice : ℕ) where
+    (keeps : AreRowEntries facts column entries corner) (slice : ℕ) where
   abbrev picture : PictureFacts
   picture = record { width = length entries; facts = facts }
 

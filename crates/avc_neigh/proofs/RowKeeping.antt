@@ -6,7 +6,7 @@ use Rattle.std.proofs.lemmas.Bool.Decides.{nat_tests}
 use Rattle.std.proofs.lemmas.Bool.{cases_lt}
 use Rattle.avc_neigh.specs.declared.facts.NeighbourFacts.{NeighbourFacts}
 use Rattle.avc_neigh.specs.Around.{back}
-use Rattle.avc_neigh.specs.Kept.{KeepsRow}
+use Rattle.avc_neigh.specs.RowEntries.{AreRowEntries}
 
 pub slice_get-append : {X : Type 0} (xs ys : List X) (i : ℕ) → i < length xs → slice_get (xs ++ ys) i ≡ slice_get xs i
 slice_get-append [] ys i h = absurd (omega arith)
@@ -48,7 +48,7 @@ back_more facts f n m some more = elim (cases_lt (length facts) n) [
 ]
 
 module _ (facts : List NeighbourFacts) (f : NeighbourFacts) (column : ℕ) (entries : List (Option NeighbourFacts))
-    (corner : Option NeighbourFacts) (keeps : KeepsRow facts column entries corner) where
+    (corner : Option NeighbourFacts) (keeps : AreRowEntries facts column entries corner) where
   abbrev width : ℕ
   width = length entries
 
@@ -73,7 +73,7 @@ module _ (facts : List NeighbourFacts) (f : NeighbourFacts) (column : ℕ) (entr
   ]
 
   -- in the row
-  within : (next : ℕ) → next ≡ column + 1 → next < width → KeepsRow (facts ++ f ∷ []) next entries' (get_or entries column None)
+  within : (next : ℕ) → next ≡ column + 1 → next < width → AreRowEntries (facts ++ f ∷ []) next entries' (get_or entries column None)
   within next more h = record {
     inside = omega (arith, wide);
     place =
@@ -93,7 +93,7 @@ module _ (facts : List NeighbourFacts) (f : NeighbourFacts) (column : ℕ) (entr
   }
 
   -- at its end
-  at_end : column + 1 ≡ width → KeepsRow (facts ++ f ∷ []) 0 entries' (get_or entries column None)
+  at_end : column + 1 ≡ width → AreRowEntries (facts ++ f ∷ []) 0 entries' (get_or entries column None)
   at_end last = record {
     inside = omega (arith, wide);
     place =
@@ -112,7 +112,7 @@ module _ (facts : List NeighbourFacts) (f : NeighbourFacts) (column : ℕ) (entr
   pub keeps_more : (facts' : List NeighbourFacts) (next broad : ℕ) (corner' : Option NeighbourFacts)
       → facts' ≡ facts ++ f ∷ [] → broad ≡ width → next ≡ (if nat_lt (column + 1) broad then column + 1 else 0)
       → corner' ≡ get_or entries column None
-      → KeepsRow facts' next entries' corner'
+      → AreRowEntries facts' next entries' corner'
   keeps_more facts' next broad corner' facts_is broad_is next_is corner_is = elim (cases_lt (column + 1) width) [
     | inl h ↦
         let t : nat_lt (column + 1) width ≡ true = grind (arith, nat_tests) in

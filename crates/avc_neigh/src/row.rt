@@ -28,13 +28,13 @@ pub struct Row {
 impl Model for Row {
     ghost use Rattle.std.specs.Prelude.{length};
     ghost use Rattle.avc_neigh.specs.Around.{PictureFacts};
-    ghost use Rattle.avc_neigh.specs.Kept.{KeepsRow};
+    ghost use Rattle.avc_neigh.specs.RowEntries.{AreRowEntries};
 
     ghost Value = { PictureFacts };
 
     ghost view = { λ r. record { width = length r.entries.items; facts = r.facts.items } };
 
-    ghost invariant = { λ r. KeepsRow r.facts.items r.column r.entries.items r.corner };
+    ghost invariant = { λ r. AreRowEntries r.facts.items r.column r.entries.items r.corner };
 }
 
 /// What is known of a macroblock, where it is of this slice (6.4.8).

@@ -12,10 +12,10 @@ use Rattle.avc_neigh.proofs.Found.{total_coeffs_found}
 use Rattle.avc_mbsyntax.specs.SliceData.{SliceStart, left_total_coeffs, up_total_coeffs}
 use Rattle.avc_deblock.specs.Facts.{Names}
 use Rattle.avc_picture.specs.FirstMbs.{HoldsFirst, MbsState}
-use Rattle.avc_picture.specs.Kept.{IsKept}
+use Rattle.avc_picture.specs.MacroblocksState.{PartsAgree}
 use Rattle.avc_picture.proofs.Tells.{tells_first}
 
-module _ (c : Coded) (names : Names) (m : MbsState) (holds : HoldsFirst c names m) (kept : IsKept m) (s : SliceStart)
+module _ (c : Coded) (names : Names) (m : MbsState) (holds : HoldsFirst c names m) (kept : PartsAgree m) (s : SliceStart)
     (width : s.width ≡ c.width) (slice : ℕ) (number : s.slice ≡ slice) where
   abbrev first : List PicMb
   first = take m.next c.mbs

@@ -14,7 +14,7 @@ use Rattle.avc_picture_core.specs.Faults.{macroblock_fault}
 use Rattle.avc_picture.specs.DecoderState.{GoesOn, GoesOnFrom, first_of, outcome, outcome_from}
 use Rattle.avc_picture.specs.FirstMbs.{HoldsFirst, MbsState}
 use Rattle.avc_picture.specs.Slices.{first_mb_fault}
-use Rattle.avc_picture.specs.Told.{IsRead}
+use Rattle.avc_picture.specs.MacroblockFacts.{IsRead}
 use Rattle.avc_picture.specs.declared.slice_context.SliceContext.{SliceContext}
 
 -- ---- lists

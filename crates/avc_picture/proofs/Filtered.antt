@@ -16,7 +16,7 @@ use Rattle.avc_deblock.specs.declared.facts.MbFacts.{MbFacts}
 use Rattle.avc_picture_core.specs.Built.{reference_of}
 use Rattle.avc_picture_core.specs.Faults.{is_picture}
 use Rattle.avc_picture.specs.FirstMbs.{IsSlice}
-use Rattle.avc_picture.specs.Told.{IsFilterTold, number_of}
+use Rattle.avc_picture.specs.MacroblockFacts.{IsFilterFacts, number_of}
 use Rattle.avc_picture.specs.declared.slice_context.SliceContext.{SliceContext}
 use Rattle.avc_picture.proofs.Quarters.{IsFrom}
 
@@ -51,7 +51,7 @@ number_from c slice numbers r (inter i v) there from = ap (λ j. slice_index_or 
 
 module _ {PAD : ℕ} (c : Coded) (names : Names) (s : SliceContext PAD) (slice : IsSlice c names s) (a : ℕ) (mb : Mb)
     (is : slice_get c.mbs a ≡ Some (record { slice = s.number; mb = mb })) (motion : List Motion) (long : length motion ≡ 16)
-    (r : ℕ → ℕ) (f : MbFacts) (told : IsFilterTold mb motion s f) where
+    (r : ℕ → ℕ) (f : MbFacts) (told : IsFilterFacts mb motion s f) where
   abbrev mb_there : PicMb
   mb_there = record { slice = s.number; mb = mb }
 

@@ -15,16 +15,16 @@ use Rattle.avc_neigh.specs.TotalCoeffs.{total_coeffs_of}
 use Rattle.avc_motion.specs.Motion.{is_intra}
 use Rattle.avc_plane.specs.Planes.{empty_planes}
 use Rattle.avc_picture.specs.FirstMbs.{HasNeighbourFacts, HoldsFirst, MbsState}
-use Rattle.avc_picture.specs.Kept.{HaveModes, IsKept}
+use Rattle.avc_picture.specs.MacroblocksState.{HaveModes, PartsAgree}
 
 all_of_one : (f : NeighbourFacts) → All IsMode f.modes → HaveModes (f ∷ [])
 all_of_one f h zero d below = h
 all_of_one f h (suc k) d below = absurd (omega (arith, below))
 
-pub has_entry : (old : MbsState) → IsKept old → old.next < old.canvas.width * old.canvas.height → old.next < length old.filter_facts
+pub has_entry : (old : MbsState) → PartsAgree old → old.next < old.canvas.width * old.canvas.height → old.next < length old.filter_facts
 has_entry old kept room = omega (arith, kept.filter_room, room, mul_comm old.canvas.width old.canvas.height)
 
-module _ (old : MbsState) (kept : IsKept old) (canvas : CanvasState) (width : canvas.width ≡ old.canvas.width)
+module _ (old : MbsState) (kept : PartsAgree old) (canvas : CanvasState) (width : canvas.width ≡ old.canvas.width)
     (height : canvas.height ≡ old.canvas.height) (facts : NeighbourFacts) (modes : All IsMode facts.modes) (f : MbFacts)
     (room : old.next < old.canvas.width * old.canvas.height) where
   same_area : canvas.width * canvas.height ≡ old.canvas.width * old.canvas.height
@@ -34,7 +34,7 @@ module _ (old : MbsState) (kept : IsKept old) (canvas : CanvasState) (width : ca
   same_area' = ap (λ w. canvas.height * w) width ∙ ap (λ h. h * old.canvas.width) height
 
   pub kept_more : (row : PictureFacts) → row ≡ with_facts old.row facts
-      → IsKept (record { canvas = canvas; row = row; filter_facts = slice_set old.filter_facts old.next f; next = old.next + 1 })
+      → PartsAgree (record { canvas = canvas; row = row; filter_facts = slice_set old.filter_facts old.next f; next = old.next + 1 })
   kept_more row e = record {
     wide = omega (arith, width, kept.wide);
     high = omega (arith, height, kept.high);
@@ -49,7 +49,7 @@ module _ (old : MbsState) (kept : IsKept old) (canvas : CanvasState) (width : ca
 module _ (canvas : CanvasState) (row : PictureFacts) (entries : List MbFacts) (width height : ℕ) (offset : ℤ) (constrained : Bool)
     (is_blank : canvas ≡ blank width height offset constrained) (none : row ≡ no_facts width) where
   pub kept_none : 0 < width → 0 < height → length entries ≡ height * width
-      → IsKept (record { canvas = canvas; row = row; filter_facts = entries; next = 0 })
+      → PartsAgree (record { canvas = canvas; row = row; filter_facts = entries; next = 0 })
   kept_none wide high long = record {
     wide = subst (λ x. 0 < x.width) (sym is_blank) wide;
     high = subst (λ x. 0 < x.height) (sym is_blank) high;

@@ -9,8 +9,8 @@ use Rattle.avc_neigh.specs.Modes.{IsMode, IsRem}
 use Rattle.avc_neigh.specs.declared.facts.NeighbourFacts.{NeighbourFacts}
 use Rattle.avc_mbsyntax.specs.Ranges.{IsSyntax}
 use Rattle.avc_picture_core.specs.Canvas.{IsInRange}
-use Rattle.avc_picture.specs.Kept.{HaveModes}
-use Rattle.avc_picture.specs.Told.{HasRems}
+use Rattle.avc_picture.specs.MacroblocksState.{HaveModes}
+use Rattle.avc_picture.specs.MacroblockFacts.{HasRems}
 
 is_rem : (m : Option ℕ) → IfSome m (λ rem. rem ≤ 7) → IsRem m
 is_rem None h = tt

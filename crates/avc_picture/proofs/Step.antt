@@ -22,8 +22,8 @@ use Rattle.avc_picture_core.specs.Faults.{is_picture, macroblock_fault, refusal}
 use Rattle.avc_picture_core.specs.References.{AreReferences}
 use Rattle.avc_picture_core.specs.declared.references.ReferencePicture.{ReferencePicture}
 use Rattle.avc_picture.specs.FirstMbs.{HasNeighbourFacts, HoldsFirst, IsSlice, MbsState}
-use Rattle.avc_picture.specs.Kept.{IsKept}
-use Rattle.avc_picture.specs.Told.{IsFilterTold, IsTold}
+use Rattle.avc_picture.specs.MacroblocksState.{PartsAgree}
+use Rattle.avc_picture.specs.MacroblockFacts.{IsFilterFacts, IsNeighbourFacts}
 use Rattle.avc_picture.specs.declared.slice_context.SliceContext.{SliceContext}
 use Rattle.avc_picture.proofs.Around.{modes_around, motion_around, sides_are}
 use Rattle.avc_picture.proofs.Before.{modes_last, modes_more, motion_last, motion_more, motion_stays}
@@ -60,7 +60,7 @@ intra_motion c known a (i_pcm luma cb cr) e = refl
 intra_motion c known a (i_nxn modes chroma r) e = refl
 intra_motion c known a (i_16x16 mode chroma r) e = refl
 
-module _ {PAD : ℕ} (c : Coded) (names : Names) (old : MbsState) (holds : HoldsFirst c names old) (kept : IsKept old)
+module _ {PAD : ℕ} (c : Coded) (names : Names) (old : MbsState) (holds : HoldsFirst c names old) (kept : PartsAgree old)
     (s : SliceContext PAD) (slice : IsSlice c names s) (mb : Mb) (is : slice_get c.mbs old.next ≡ Some (record { slice = s.number; mb = mb }))
     (n : Around) (n_is : n ≡ around old.row s.number) where
   abbrev a : ℕ
@@ -93,7 +93,7 @@ module _ {PAD : ℕ} (c : Coded) (names : Names) (old : MbsState) (holds : Holds
       macroblock_fault_is c a m is ∙ out_of_range place moved (motion_last c a m is) f (has c (motion_before c a) a motion_in)
 
   module _ (facts : NeighbourFacts) (has : HasMotion n mb.syntax (Ok facts.motion)) (constrained : Bool)
-      (flag : constrained ≡ old.canvas.constrained_intra_pred) (told : IsTold s.number n constrained mb facts)
+      (flag : constrained ≡ old.canvas.constrained_intra_pred) (told : IsNeighbourFacts s.number n constrained mb facts)
       (references : List (Option (ReferencePicture PAD))) (references_are : references ≡ s.references) where
     motion_is : slice_index_or (motion_before c (suc a)) a [] ≡ facts.motion
     motion_is = motion_found place moved (motion_last c a m is) facts.motion (has c (motion_before c a) a motion_in)
@@ -130,7 +130,7 @@ module _ {PAD : ℕ} (c : Coded) (names : Names) (old : MbsState) (holds : Holds
 
     module _ (canvas : CanvasState) (done : Unit {0})
         (built : (p : Place) → IsPlaceOn old.canvas a mb facts n references p → IsBuilt p (Ok done) old.canvas canvas)
-        (long : length facts.motion ≡ 16) (f : MbFacts) (filter_told : IsFilterTold mb facts.motion s f) where
+        (long : length facts.motion ≡ 16) (f : MbFacts) (filter_told : IsFilterFacts mb facts.motion s f) where
       here : IsBuilt place (Ok done) old.canvas canvas
       here = built place place_on
 

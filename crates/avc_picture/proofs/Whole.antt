@@ -14,13 +14,13 @@ use Rattle.avc_picture_core.specs.Built.{built, built_on}
 use Rattle.avc_plane.specs.Frames.{AreSized}
 use Rattle.avc_picture.specs.Decoded.{deblocked}
 use Rattle.avc_picture.specs.FirstMbs.{HoldsFirst, MbsState, first_built}
-use Rattle.avc_picture.specs.Kept.{IsKept}
+use Rattle.avc_picture.specs.MacroblocksState.{PartsAgree}
 
 pub all_built : (c : Coded) → first_built c (length c.mbs) ≡ built c
 all_built c =
     ap (built_on c (modes_before c (length c.mbs)) (motion_before c (length c.mbs)) 0 (empty_planes c.width c.height)) (take-length c.mbs)
 
-module _ (c : Coded) (names : Names) (m : MbsState) (holds : HoldsFirst c names m) (kept : IsKept m) (whole : m.next ≡ length c.mbs)
+module _ (c : Coded) (names : Names) (m : MbsState) (holds : HoldsFirst c names m) (kept : PartsAgree m) (whole : m.next ≡ length c.mbs)
     (all : length c.mbs ≡ c.width * c.height) where
   pub samples_are : m.canvas.planes ≡ built c
   samples_are = holds.built ∙ ap (first_built c) whole ∙ all_built c

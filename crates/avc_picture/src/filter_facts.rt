@@ -7,7 +7,7 @@ ghost use Rattle.avc_motion.specs.Motion as motions;
 ghost use Rattle.avc_deblock.specs.Edges as edges;
 ghost use Rattle.avc_deblock.specs.Edges.{has_coefficients};
 ghost use Rattle.avc_deblock.specs.Facts.{has_bit};
-ghost use Rattle.avc_picture.specs.Told.{number_of, IsFilterTold};
+ghost use Rattle.avc_picture.specs.MacroblockFacts.{number_of, IsFilterFacts};
 
 use crate::slice_context::SliceContext;
 use avc_deblock::MbFacts;
@@ -112,7 +112,7 @@ pub(crate) fn filter_facts<const PAD: usize>(
     motion: &[Motion; 16],
     slice: &SliceContext<'_, PAD>,
 ) -> MbFacts
-    ensures { IsFilterTold mb.now motion.now slice.now result }
+    ensures { IsFilterFacts mb.now motion.now slice.now result }
 {
     MbFacts {
         is_intra: is_intra(mb),

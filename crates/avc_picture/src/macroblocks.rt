@@ -13,7 +13,7 @@ ghost use Rattle.avc_deblock.specs.Facts.{Names};
 ghost use Rattle.avc_picture_core.specs.References.{AreUsable};
 ghost use Rattle.avc_picture.specs.Decoded.{deblocked};
 ghost use Rattle.avc_picture.specs.FirstMbs.{HasSameSize, HasSets, HoldsFirst, IsDecoded, IsSlice};
-ghost use Rattle.avc_picture.specs.Told.{IsRead};
+ghost use Rattle.avc_picture.specs.MacroblockFacts.{IsRead};
 
 use crate::filter_facts::filter_facts;
 use crate::neighbour_facts::neighbour_facts;
@@ -65,11 +65,11 @@ impl<const PAD: usize> Model for Macroblocks<PAD> {
 
     ghost Value = { MbsState };
 
-    ghost use Rattle.avc_picture.specs.Kept.{state_of, IsWell};
+    ghost use Rattle.avc_picture.specs.MacroblocksState.{state_of, AgreesWithCanvas};
 
     ghost view = { state_of };
 
-    ghost invariant = { IsWell };
+    ghost invariant = { AgreesWithCanvas };
 }
 
 /// total_coeff of a neighbouring macroblock, where it is available.

@@ -9,7 +9,7 @@ ghost use Rattle.avc_neigh.specs.Modes.{IsMode};
 ghost use Rattle.avc_neigh.specs.TotalCoeffs as total_coeffs_;
 ghost use Rattle.avc_neigh.specs.TotalCoeffs.{all_total_coeffs as each_total_coeff, total_coeffs_of};
 ghost use Rattle.avc_motion.specs.Motion.{HasMotion};
-ghost use Rattle.avc_picture.specs.Told.{AreModes, HasRems, IsTold, motion_told};
+ghost use Rattle.avc_picture.specs.MacroblockFacts.{AreModes, HasRems, IsNeighbourFacts, motion_result};
 
 use avc_motion::motion;
 use avc_neigh::{NearMode, NeighbourFacts, Neighbours, TotalCoeffs, intra4x4_modes};
@@ -88,8 +88,8 @@ pub(crate) fn neighbour_facts(
     constrained_intra_pred: bool,
 ) -> Result<NeighbourFacts, Fault>
     requires { HasRems mb.now.syntax }
-    ensures motion { HasMotion (facts_of neighbours.now) mb.now.syntax (motion_told result) }
-    ensures told { IfOk result (IsTold slice (facts_of neighbours.now) constrained_intra_pred mb.now) }
+    ensures motion { HasMotion (facts_of neighbours.now) mb.now.syntax (motion_result result) }
+    ensures told { IfOk result (IsNeighbourFacts slice (facts_of neighbours.now) constrained_intra_pred mb.now) }
 {
     let motion = motion(mb, neighbours)?;
     Ok(NeighbourFacts {

@@ -21,7 +21,7 @@ use crate::intra::{build_i_16x16, build_i_nxn};
 use crate::places::{MbPlace, PictureSize};
 use crate::quantisers::Quantisers;
 use crate::references::ReferencePicture;
-use crate::residual::{add_chroma, add_luma, leave};
+use crate::residual::{add_chroma, add_luma, add_nothing};
 use crate::samples::MbSamples;
 use crate::sides::ReadableNeighbours;
 use avc_neigh::{Motion, NeighbourFacts};
@@ -118,9 +118,9 @@ fn build_p_skip<const PAD: usize>(
         cr: [0; 64],
     };
     predict_inter(references, size, place, motion, &mut samples)?;
-    leave(&samples.luma);
-    leave(&samples.cb);
-    leave(&samples.cr);
+    add_nothing(&samples.luma);
+    add_nothing(&samples.cb);
+    add_nothing(&samples.cr);
     set_samples(planes, place, &samples.luma, &samples.cb, &samples.cr);
     Ok(())
 }

@@ -67,7 +67,7 @@ fn add_values<const W: usize, const N: usize>(
 }
 
 /// Nothing is done to these samples; each is one.
-pub(crate) fn leave<const N: usize>(samples: &[u8; N])
+pub(crate) fn add_nothing<const N: usize>(samples: &[u8; N])
     ensures { (k : ℕ) → k < N → slice_index samples.now k ≤ 255 }
 {
     for k in 0..N {
@@ -92,7 +92,7 @@ pub(crate) fn add<const W: usize, const N: usize>(
         else slice_index samples.old (W * y + x)) }
 {
     match residual {
-        None => leave(samples),
+        None => add_nothing(samples),
         Some(values) => add_values::<W, N>(samples, left, top, &values),
     }
 }

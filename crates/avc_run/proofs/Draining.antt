@@ -14,7 +14,7 @@ use Rattle.avc_decoder.specs.Machine.{Machine, next_event, after_take}
 use Rattle.avc_decoder.specs.declared.event.Event.{Event}
 use Rattle.avc_decoder.specs.declared.event.Event.TheVariants.{Picture, Refused}
 use Rattle.avc_run.specs.Decoding.{max_unit, shown, report_of}
-use Rattle.avc_run.specs.Draining.{come, due, drained, left_in, reported, BreaksOff, IsDraining, IsHandled}
+use Rattle.avc_run.specs.Draining.{events_defined, events_left, after_draining, count_left, report_with, BreaksOff, IsDraining, IsHandled}
 use Rattle.avc_run.specs.Reading.{WritesFirst, WritesSome}
 use Rattle.avc_run.specs.declared.fault.RunFault.{RunFault}
 use Rattle.avc_run.specs.declared.fault.RunFault.TheVariants.{Read, Write, Memory}
@@ -27,23 +27,23 @@ shown-append [] b = refl
 shown-append (Picture p ∷ a) b = ap (λ bs. i420 p ++ bs) (shown-append a b) ∙ sym (append_assoc (i420 p) (shown a) (shown b))
 shown-append (Refused unit f ∷ a) b = shown-append a b
 
-pub reported-append : (r : Report) (a b : List Event) → reported r (a ++ b) ≡ reported (reported r a) b
-reported-append r [] b = refl
-reported-append r (Picture p ∷ a) b = reported-append (record r { pictures = saturated (r.pictures + 1) }) a b
-reported-append r (Refused unit f ∷ a) b = reported-append (record r { refused = r.refused ++ (unit, f) ∷ [] }) a b
+pub report_with-append : (r : Report) (a b : List Event) → report_with r (a ++ b) ≡ report_with (report_with r a) b
+report_with-append r [] b = refl
+report_with-append r (Picture p ∷ a) b = report_with-append (record r { pictures = saturated (r.pictures + 1) }) a b
+report_with-append r (Refused unit f ∷ a) b = report_with-append (record r { refused = r.refused ++ (unit, f) ∷ [] }) a b
 
 held_more : (m : ℕ) → saturated (saturated m + 1) ≡ saturated (m + 1)
 held_more m = omega arith
 
 pub reported_is : (m : ℕ) (refused : List (ℕ × Fault)) (events : List Event)
-    → reported (record { pictures = saturated m; refused = refused }) events ≡ record { pictures = saturated (m + length (pictures_in events)); refused = refused ++ refusals_in events }
+    → report_with (record { pictures = saturated m; refused = refused }) events ≡ record { pictures = saturated (m + length (pictures_in events)); refused = refused ++ refusals_in events }
 reported_is m refused [] =
     let same : m ≡ m + 0 = omega arith in
     ap (λ rs. record { pictures = saturated m; refused = rs }) (sym (append-nil refused)) ∙ ap (λ k. record { pictures = saturated k; refused = refused ++ [] }) same
 reported_is m refused (Picture p ∷ events) =
     let n = length (pictures_in events) in
     let same : m + 1 + n ≡ m + suc n = omega arith in
-    ap (λ k. reported (record { pictures = k; refused = refused }) events) (held_more m)
+    ap (λ k. report_with (record { pictures = k; refused = refused }) events) (held_more m)
     ∙ reported_is (m + 1) refused events
     ∙ ap (λ k. record { pictures = saturated k; refused = refused ++ refusals_in events }) same
 reported_is m refused (Refused unit f ∷ events) =
@@ -64,14 +64,14 @@ drop_none (x ∷ xs) (suc k) e = drop_none xs k e
 -- ---- one event more
 
 -- where an event is taken
-due_next : (d : Machine) (e : Event) → Some e ≡ next_event max_unit d → due d ≡ e ∷ due (after_take (Some e) d)
-due_next d e is = drop_next (come d) d.taken e (sym is) ∙ ap (λ k. e ∷ drop k (come d)) (let same : suc d.taken ≡ d.taken + 1 = omega arith in same)
+due_next : (d : Machine) (e : Event) → Some e ≡ next_event max_unit d → events_left d ≡ e ∷ events_left (after_take (Some e) d)
+due_next d e is = drop_next (events_defined d) d.taken e (sym is) ∙ ap (λ k. e ∷ drop k (events_defined d)) (let same : suc d.taken ≡ d.taken + 1 = omega arith in same)
 
 pub begun : (d : Machine) (r : Report) (held : Option (List ℕ)) → Appends held held [] → IsDraining d d r r held held
 begun d r holds nothing = record { done = []; rest = refl; machine = ap (λ k. record d { taken = k }) (let same : d.taken ≡ d.taken + 0 = omega arith in same); report = refl; written = nothing }
 
 pub one_more : (d0 d d' : Machine) (r0 r r' : Report) (w0 w w' : Option (List ℕ)) (e : Event)
-    → Some e ≡ next_event max_unit d → d' ≡ after_take (Some e) d → r' ≡ reported r (e ∷ []) → Appends w w' (shown (e ∷ []))
+    → Some e ≡ next_event max_unit d → d' ≡ after_take (Some e) d → r' ≡ report_with r (e ∷ []) → Appends w w' (shown (e ∷ []))
     → IsDraining d0 d r0 r w0 w → IsDraining d0 d' r0 r' w0 w'
 one_more d0 d d' r0 r r' w0 w w' e next taken told wrote i =
     let after = i.done ++ e ∷ [] in
@@ -79,24 +79,24 @@ one_more d0 d d' r0 r r' w0 w w' e next taken told wrote i =
     let more : (d0.taken + length i.done) + 1 ≡ d0.taken + length after = omega (arith, count) in
     record {
       done = after;
-      rest = i.rest ∙ ap (λ es. i.done ++ es) (due_next d e next ∙ ap (λ m. e ∷ due m) (sym taken)) ∙ sym (append_assoc i.done (e ∷ []) (due d'));
+      rest = i.rest ∙ ap (λ es. i.done ++ es) (due_next d e next ∙ ap (λ m. e ∷ events_left m) (sym taken)) ∙ sym (append_assoc i.done (e ∷ []) (events_left d'));
       machine = taken ∙ ap (λ m. after_take (Some e) m) i.machine ∙ ap (λ k. record d0 { taken = k }) more;
-      report = told ∙ ap (λ q. reported q (e ∷ [])) i.report ∙ sym (reported-append r0 i.done (e ∷ []));
+      report = told ∙ ap (λ q. report_with q (e ∷ [])) i.report ∙ sym (report_with-append r0 i.done (e ∷ []));
       written = subst (Appends w0 w') (sym (shown-append i.done (e ∷ []))) (Appends-trans w0 w w' (shown i.done) (shown (e ∷ [])) i.written wrote);
     }
 
 -- ---- the end
 
 -- all that were due are done
-all_done : (d0 d : Machine) (r0 r : Report) (w0 w : Option (List ℕ)) → None ≡ next_event max_unit d → (i : IsDraining d0 d r0 r w0 w) → i.done ≡ due d0
-all_done d0 d r0 r w0 w none i = sym (i.rest ∙ ap (λ es. i.done ++ es) (drop_none (come d) d.taken (sym none)) ∙ append-nil i.done)
+all_done : (d0 d : Machine) (r0 r : Report) (w0 w : Option (List ℕ)) → None ≡ next_event max_unit d → (i : IsDraining d0 d r0 r w0 w) → i.done ≡ events_left d0
+all_done d0 d r0 r w0 w none i = sym (i.rest ∙ ap (λ es. i.done ++ es) (drop_none (events_defined d) d.taken (sym none)) ∙ append-nil i.done)
 
 pub handled : (d0 d d' : Machine) (r0 r : Report) (w0 w : Option (List ℕ)) → None ≡ next_event max_unit d → d' ≡ d → IsDraining d0 d r0 r w0 w → IsHandled d0 d' r0 r w0 w
 handled d0 d d' r0 r w0 w none same i =
     let all = all_done d0 d r0 r w0 w none i in
     record {
       machine = same ∙ i.machine ∙ ap (λ es. record d0 { taken = d0.taken + length es }) all;
-      report = i.report ∙ ap (λ es. reported r0 es) all;
+      report = i.report ∙ ap (λ es. report_with r0 es) all;
       written = subst (λ es. Appends w0 w (shown es)) all i.written;
     }
 
@@ -131,25 +131,25 @@ breaks_later Memory w0 w w' a b c all some = record {
 }
 
 -- before an event was taken
-pub stopped : (d0 d : Machine) (r0 r : Report) (w0 w : Option (List ℕ)) → IsDraining d0 d r0 r w0 w → WritesSome w0 w (shown (due d0))
+pub stopped : (d0 d : Machine) (r0 r : Report) (w0 w : Option (List ℕ)) → IsDraining d0 d r0 r w0 w → WritesSome w0 w (shown (events_left d0))
 stopped d0 d r0 r w0 w i =
     let a = shown i.done in
-    let all : shown (due d0) ≡ a ++ shown (due d) = ap (λ es. shown es) i.rest ∙ shown-append i.done (due d) in
+    let all : shown (events_left d0) ≡ a ++ shown (events_left d) = ap (λ es. shown es) i.rest ∙ shown-append i.done (events_left d) in
     record {
       count = length a;
-      within = omega (arith, ap (λ bs. length bs) all, length-append a (shown (due d)));
-      written = subst (Appends w0 w) (sym (ap (λ bs. take (length a) bs) all ∙ take_front a (shown (due d)))) i.written;
+      within = omega (arith, ap (λ bs. length bs) all, length-append a (shown (events_left d)));
+      written = subst (Appends w0 w) (sym (ap (λ bs. take (length a) bs) all ∙ take_front a (shown (events_left d)))) i.written;
     }
 
 -- in the midst of one
 pub stopped_in : (fault : RunFault) (d0 d : Machine) (r0 r : Report) (w0 w w' : Option (List ℕ)) (e : Event)
-    → Some e ≡ next_event max_unit d → BreaksOff fault w w' (shown (e ∷ [])) → IsDraining d0 d r0 r w0 w → BreaksOff fault w0 w' (shown (due d0))
+    → Some e ≡ next_event max_unit d → BreaksOff fault w w' (shown (e ∷ [])) → IsDraining d0 d r0 r w0 w → BreaksOff fault w0 w' (shown (events_left d0))
 stopped_in fault d0 d r0 r w0 w w' e next some i =
     let a = shown i.done in
     let b = shown (e ∷ []) in
-    let c = shown (due (after_take (Some e) d)) in
-    let all : shown (due d0) ≡ a ++ (b ++ c) =
-    ap (λ es. shown es) i.rest ∙ shown-append i.done (due d) ∙ ap (λ es. a ++ shown es) (due_next d e next) ∙ ap (λ bs. a ++ bs) (shown-append (e ∷ []) (due (after_take (Some e) d))) in
+    let c = shown (events_left (after_take (Some e) d)) in
+    let all : shown (events_left d0) ≡ a ++ (b ++ c) =
+    ap (λ es. shown es) i.rest ∙ shown-append i.done (events_left d) ∙ ap (λ es. a ++ shown es) (due_next d e next) ∙ ap (λ bs. a ++ bs) (shown-append (e ∷ []) (events_left (after_take (Some e) d))) in
     subst (BreaksOff fault w0 w') (sym all) (breaks_later fault w0 w w' a b c i.written some)
 
 -- ---- faults that are passed on
@@ -165,11 +165,11 @@ by_fault r f Q is q = subst (λ r. IfErr r Q) (sym is) q
 
 -- ---- as the loop says it
 
-pub smaller : (d d' : Machine) (e : Event) → Some e ≡ next_event max_unit d → d' ≡ after_take (Some e) d → left_in d' < left_in d
+pub smaller : (d d' : Machine) (e : Event) → Some e ≡ next_event max_unit d → d' ≡ after_take (Some e) d → count_left d' < count_left d
 smaller d d' e next taken =
-    let within = slice_get_within (come d) d.taken e (sym next) in
-    let less : length (come d) - (d.taken + 1) < length (come d) - d.taken = omega (arith, within) in
-    subst (λ m. left_in m < left_in d) (sym taken) less
+    let within = slice_get_within (events_defined d) d.taken e (sym next) in
+    let less : length (events_defined d) - (d.taken + 1) < length (events_defined d) - d.taken = omega (arith, within) in
+    subst (λ m. count_left m < count_left d) (sym taken) less
 
 pub is_none : {A : Type 0} (o : Option A) → ((x : A) → o ≡ Some x → ⊥) → o ≡ None
 is_none None other = refl

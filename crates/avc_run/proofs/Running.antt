@@ -11,26 +11,26 @@ use Rattle.avc_decoder.specs.Laws.{EventsOnlyGrow}
 use Rattle.avc_decoder.specs.Machine.{Machine, after_feed, after_flush}
 use Rattle.avc_decoder.specs.declared.event.Event.{Event}
 use Rattle.avc_run.specs.Decoding.{max_unit, defined, shown, report_of, Decodes}
-use Rattle.avc_run.specs.Draining.{come, due, drained, reported, BreaksOff, IsHandled, IsRunning}
+use Rattle.avc_run.specs.Draining.{events_defined, events_left, after_draining, report_with, BreaksOff, IsHandled, IsRunning}
 use Rattle.avc_run.specs.Reading.{HasRead, WritesFirst, WritesSome}
 use Rattle.avc_run.specs.declared.report.Report.{Report}
 use Rattle.avc_annexb.specs.Units.{saturated}
 use Rattle.avc_run.specs.declared.fault.RunFault.{RunFault}
 use Rattle.avc_run.specs.declared.fault.RunFault.TheVariants.{Read, Write, Memory}
-use Rattle.avc_run.proofs.Draining.{reported-append, reported_is, shown-append, breaks_later}
+use Rattle.avc_run.proofs.Draining.{report_with-append, reported_is, shown-append, breaks_later}
 
 -- ---- reports
 
 abbrev fresh : Report
 fresh = record { pictures = 0; refused = [] }
 
-told : (es : List Event) → reported fresh es ≡ report_of es
+told : (es : List Event) → report_with fresh es ≡ report_of es
 told es =
     let same : 0 + length (pictures_in es) ≡ length (pictures_in es) = omega arith in
     reported_is 0 [] es ∙ ap (λ n. record { pictures = saturated n; refused = refusals_in es }) same
 
-told_more : (a b : List Event) → reported (report_of a) b ≡ report_of (a ++ b)
-told_more a b = ap (λ r. reported r b) (sym (told a)) ∙ sym (reported-append fresh a b) ∙ told (a ++ b)
+told_more : (a b : List Event) → report_with (report_of a) b ≡ report_of (a ++ b)
+told_more a b = ap (λ r. report_with r b) (sym (told a)) ∙ sym (report_with-append fresh a b) ∙ told (a ++ b)
 
 -- ---- what is due
 
@@ -47,11 +47,11 @@ due_then grow output bytes more ended =
     let front = events output max_unit bytes false in
     (later.0, later.1, ap (λ es. drop (length front) es) later.1 ∙ drop-append_seam front later.0)
 
-drained_then : (m : Machine) (front others : List Event) → m.taken ≡ length front → come m ≡ front ++ others → due m ≡ others →
-    drained m ≡ record m { taken = length (come m) }
+drained_then : (m : Machine) (front others : List Event) → m.taken ≡ length front → events_defined m ≡ front ++ others → events_left m ≡ others →
+    after_draining m ≡ record m { taken = length (events_defined m) }
 drained_then m front others taken all due' =
-    let count : m.taken + length (due m) ≡ length (come m) =
-    ap (λ n. n + length (due m)) taken ∙ ap (λ es. length front + length es) due' ∙ sym (length-append front others) ∙ sym (ap (λ es. length es) all) in
+    let count : m.taken + length (events_left m) ≡ length (events_defined m) =
+    ap (λ n. n + length (events_left m)) taken ∙ ap (λ es. length front + length es) due' ∙ sym (length-append front others) ∙ sym (ap (λ es. length es) all) in
     ap (λ n. record m { taken = n }) count
 
 -- ---- the states of a run
@@ -66,15 +66,15 @@ one_piece grow output unread left left' w0 w w' d d' r r' piece i more h =
     let front = events output max_unit i.bytes false in
     let then' = due_then grow output i.bytes piece false in
     let same : after_feed piece d ≡ m = ap (λ n. after_feed piece n) i.machine in
-    let due_is : due (after_feed piece d) ≡ then'.0 = ap (λ n. due n) same ∙ then'.2 in
+    let due_is : events_left (after_feed piece d) ≡ then'.0 = ap (λ n. events_left n) same ∙ then'.2 in
     record {
       bytes = i.bytes ++ piece;
       consumed = Consumes-trans unread left left' i.bytes piece i.consumed more;
-      machine = h.machine ∙ ap (λ n. drained n) same ∙ drained_then m front then'.0 refl then'.1 then'.2;
-      report = h.report ∙ ap (λ q. reported q (due (after_feed piece d))) i.report ∙ ap (λ es. reported (report_of front) es) due_is ∙ told_more front then'.0 ∙ ap (λ es. report_of es) (sym then'.1);
+      machine = h.machine ∙ ap (λ n. after_draining n) same ∙ drained_then m front then'.0 refl then'.1 then'.2;
+      report = h.report ∙ ap (λ q. report_with q (events_left (after_feed piece d))) i.report ∙ ap (λ es. report_with (report_of front) es) due_is ∙ told_more front then'.0 ∙ ap (λ es. report_of es) (sym then'.1);
       written =
           subst (Appends w0 w') (ap (λ es. shown front ++ shown es) due_is ∙ sym (shown-append front then'.0) ∙ ap (λ es. shown es) (sym then'.1))
-          (Appends-trans w0 w w' (shown front) (shown (due (after_feed piece d))) i.written h.written);
+          (Appends-trans w0 w w' (shown front) (shown (events_left (after_feed piece d))) i.written h.written);
     }
 
 -- what is due at the end
@@ -95,13 +95,13 @@ ended grow output unread left left' w0 w w' d d' r r' len piece i none more at_e
     let front = events output max_unit i.bytes false in
     let then' = due_at_end grow output i.bytes in
     let same : after_flush d ≡ after_flush (taken_so_far output i.bytes) = ap (λ n. after_flush n) i.machine in
-    let due_is : due (after_flush d) ≡ then'.0 = ap (λ n. due n) same ∙ then'.2 in
+    let due_is : events_left (after_flush d) ≡ then'.0 = ap (λ n. events_left n) same ∙ then'.2 in
     let consumed = nothing_more unread left left' i.bytes piece len i.consumed none more in (
       i.bytes,
       record { consumed = consumed; whole = λ all. at_end },
       subst (Appends w0 w') (ap (λ es. shown front ++ shown es) due_is ∙ sym (shown-append front then'.0) ∙ ap (λ es. shown es) (sym then'.1))
-          (Appends-trans w0 w w' (shown front) (shown (due (after_flush d))) i.written h.written),
-      h.report ∙ ap (λ q. reported q (due (after_flush d))) i.report ∙ ap (λ es. reported (report_of front) es) due_is ∙ told_more front then'.0 ∙ ap (λ es. report_of es) (sym then'.1),
+          (Appends-trans w0 w w' (shown front) (shown (events_left (after_flush d))) i.written h.written),
+      h.report ∙ ap (λ q. report_with q (events_left (after_flush d))) i.report ∙ ap (λ es. report_with (report_of front) es) due_is ∙ told_more front then'.0 ∙ ap (λ es. report_of es) (sym then'.1),
     )
 
 -- ---- faults
@@ -130,29 +130,29 @@ broken output Memory unread left w0 w' bytes all read off = (bytes, all, read, o
 
 -- at the events of a piece
 pub broken_in : EventsOnlyGrow → (output : Output) (unread left left' w0 w w' : Option (List ℕ)) (d : Machine) (r : Report) (piece : List ℕ) (fault : RunFault) →
-    IsRunning output unread left w0 w d r → Consumes left left' piece → BreaksOff fault w w' (shown (due (after_feed piece d))) → Decodes output unread left' w0 w' (Err fault)
+    IsRunning output unread left w0 w d r → Consumes left left' piece → BreaksOff fault w w' (shown (events_left (after_feed piece d))) → Decodes output unread left' w0 w' (Err fault)
 broken_in grow output unread left left' w0 w w' d r piece fault i more off =
     let front = events output max_unit i.bytes false in
     let then' = due_then grow output i.bytes piece false in
-    let due_is : due (after_feed piece d) ≡ then'.0 = ap (λ n. due (after_feed piece n)) i.machine ∙ then'.2 in
-    let all : shown (events output max_unit (i.bytes ++ piece) false) ≡ shown front ++ (shown (due (after_feed piece d)) ++ []) =
-    ap (λ es. shown es) then'.1 ∙ shown-append front then'.0 ∙ ap (λ es. shown front ++ shown es) (sym due_is) ∙ ap (λ bs. shown front ++ bs) (sym (append-nil (shown (due (after_feed piece d))))) in
+    let due_is : events_left (after_feed piece d) ≡ then'.0 = ap (λ n. events_left (after_feed piece n)) i.machine ∙ then'.2 in
+    let all : shown (events output max_unit (i.bytes ++ piece) false) ≡ shown front ++ (shown (events_left (after_feed piece d)) ++ []) =
+    ap (λ es. shown es) then'.1 ∙ shown-append front then'.0 ∙ ap (λ es. shown front ++ shown es) (sym due_is) ∙ ap (λ bs. shown front ++ bs) (sym (append-nil (shown (events_left (after_feed piece d))))) in
     broken output fault unread left' w0 w' (i.bytes ++ piece) false
     (record { consumed = Consumes-trans unread left left' i.bytes piece i.consumed more; whole = λ all. cc })
-    (subst (BreaksOff fault w0 w') (sym all) (breaks_later fault w0 w w' (shown front) (shown (due (after_feed piece d))) [] i.written off))
+    (subst (BreaksOff fault w0 w') (sym all) (breaks_later fault w0 w w' (shown front) (shown (events_left (after_feed piece d))) [] i.written off))
 
 -- at the events of the end
 pub broken_at_end : EventsOnlyGrow → (output : Output) (unread left left' w0 w w' : Option (List ℕ)) (d : Machine) (r : Report) (len : ℕ) (piece : List ℕ) (fault : RunFault) →
-    IsRunning output unread left w0 w d r → len ≡ 0 → Consumes left left' (take len piece) → IsAtEnd left' → BreaksOff fault w w' (shown (due (after_flush d))) → Decodes output unread left' w0 w' (Err fault)
+    IsRunning output unread left w0 w d r → len ≡ 0 → Consumes left left' (take len piece) → IsAtEnd left' → BreaksOff fault w w' (shown (events_left (after_flush d))) → Decodes output unread left' w0 w' (Err fault)
 broken_at_end grow output unread left left' w0 w w' d r len piece fault i none more at_end off =
     let front = events output max_unit i.bytes false in
     let then' = due_at_end grow output i.bytes in
-    let due_is : due (after_flush d) ≡ then'.0 = ap (λ n. due (after_flush n)) i.machine ∙ then'.2 in
-    let all : shown (defined output i.bytes) ≡ shown front ++ (shown (due (after_flush d)) ++ []) =
-    ap (λ es. shown es) then'.1 ∙ shown-append front then'.0 ∙ ap (λ es. shown front ++ shown es) (sym due_is) ∙ ap (λ bs. shown front ++ bs) (sym (append-nil (shown (due (after_flush d))))) in
+    let due_is : events_left (after_flush d) ≡ then'.0 = ap (λ n. events_left (after_flush n)) i.machine ∙ then'.2 in
+    let all : shown (defined output i.bytes) ≡ shown front ++ (shown (events_left (after_flush d)) ++ []) =
+    ap (λ es. shown es) then'.1 ∙ shown-append front then'.0 ∙ ap (λ es. shown front ++ shown es) (sym due_is) ∙ ap (λ bs. shown front ++ bs) (sym (append-nil (shown (events_left (after_flush d))))) in
     broken output fault unread left' w0 w' i.bytes true
     (record { consumed = nothing_more unread left left' i.bytes piece len i.consumed none more; whole = λ is. at_end })
-    (subst (BreaksOff fault w0 w') (sym all) (breaks_later fault w0 w w' (shown front) (shown (due (after_flush d))) [] i.written off))
+    (subst (BreaksOff fault w0 w') (sym all) (breaks_later fault w0 w w' (shown front) (shown (events_left (after_flush d))) [] i.written off))
 
 -- all of the bytes
 some_are_all : (old new : Option (List ℕ)) (bytes : List ℕ) → Appends old new bytes → WritesSome old new bytes

@@ -15,26 +15,26 @@ use Rattle.avc_run.specs.declared.fault.RunFault.TheVariants.{Read, Write, Memor
 use Rattle.avc_run.specs.declared.report.Report.{Report}
 
 -- the events that the bytes so far define
-abbrev pub come : Machine → List Event
-come m = events m.output max_unit m.bytes m.ended
+abbrev pub events_defined : Machine → List Event
+events_defined m = events m.output max_unit m.bytes m.ended
 
 -- the events that were not taken
-abbrev pub due : Machine → List Event
-due m = drop m.taken (come m)
+abbrev pub events_left : Machine → List Event
+events_left m = drop m.taken (events_defined m)
 
 -- after all were taken
-abbrev pub drained : Machine → Machine
-drained m = record m { taken = m.taken + length (due m) }
+abbrev pub after_draining : Machine → Machine
+after_draining m = record m { taken = m.taken + length (events_left m) }
 
 -- how many are left
-abbrev pub left_in : Machine → ℕ
-left_in m = length (come m) - m.taken
+abbrev pub count_left : Machine → ℕ
+count_left m = length (events_defined m) - m.taken
 
 -- a report with these events more
-abbrev pub reported : Report → List Event → Report
-reported r [] = r
-reported r (Picture p ∷ events) = reported (record r { pictures = saturated (r.pictures + 1) }) events
-reported r (Refused unit f ∷ events) = reported (record r { refused = r.refused ++ (unit, f) ∷ [] }) events
+abbrev pub report_with : Report → List Event → Report
+report_with r [] = r
+report_with r (Picture p ∷ events) = report_with (record r { pictures = saturated (r.pictures + 1) }) events
+report_with r (Refused unit f ∷ events) = report_with (record r { refused = r.refused ++ (unit, f) ∷ [] }) events
 
 -- of a picture this holds; of a refusal nothing is said
 abbrev pub IfPicture : Event → (Decoded → Type 0) → Type 0
@@ -43,16 +43,16 @@ IfPicture (Refused unit f) holds = Unit {0}
 
 -- From `old` all events that were due were taken, told in the report and written.
 pub record IsHandled (old new : Machine) (before now : Report) (held holds : Option (List ℕ)) : Type 0 where
-  pub machine : new ≡ drained old
-  pub report : now ≡ reported before (due old)
-  pub written : Appends held holds (shown (due old))
+  pub machine : new ≡ after_draining old
+  pub report : now ≡ report_with before (events_left old)
+  pub written : Appends held holds (shown (events_left old))
 
 -- From `old` some events were taken and handled.
 pub record IsDraining (old new : Machine) (before now : Report) (held holds : Option (List ℕ)) : Type 0 where
   pub done : List Event
-  pub rest : due old ≡ done ++ due new
+  pub rest : events_left old ≡ done ++ events_left new
   pub machine : new ≡ record old { taken = old.taken + length done }
-  pub report : now ≡ reported before done
+  pub report : now ≡ report_with before done
   pub written : Appends held holds (shown done)
 
 -- These bytes were read, and the events that they define were taken, told and written.

@@ -2,7 +2,7 @@ pub mod Reading
 pub mod Decoding
 pub mod Listing
 pub mod Status
-pub mod Telling
+pub mod Messages
 pub mod Program
 pub mod Draining
 pub use Rattle.avc_decoder.specs.Output

@@ -5,7 +5,7 @@ use Rattle.avc_run.specs.Decoding.{Decodes}
 use Rattle.avc_run.specs.Listing.{Cuts, Lists}
 use Rattle.avc_run.specs.Reading.{WritesSome}
 use Rattle.avc_run.specs.Status.{cut_status_of, status_of, units_status}
-use Rattle.avc_run.specs.Telling.{fault_line, piece_text, text_of}
+use Rattle.avc_run.specs.Messages.{fault_line, piece_text, text_of}
 use Rattle.avc_run.specs.declared.fault.RunFault.{RunFault}
 use Rattle.avc_run.specs.declared.report.Report.{Report}
 

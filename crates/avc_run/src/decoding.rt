@@ -2,7 +2,7 @@ ghost use Rattle.std.specs.Prelude.{◌≡◌, ◌∷◌, [], IfErr, OnOk};
 ghost use Rattle.std.specs.Io.KnownBytes.{Appends};
 ghost use Rattle.avc_types.specs.Whole.{IsWhole};
 ghost use Rattle.avc_run.specs.Decoding.{shown, Decodes};
-ghost use Rattle.avc_run.specs.Draining.{due, reported, BreaksOff, IfPicture, IsHandled};
+ghost use Rattle.avc_run.specs.Draining.{events_left, report_with, BreaksOff, IfPicture, IsHandled};
 ghost use Rattle.avc_decoder.specs.Machine.{after_feed, after_flush, new_machine};
 
 use crate::fault::RunFault;
@@ -65,7 +65,7 @@ fn take_in<W: Write>(
     report: &mut Report,
 ) -> Result<(), RunFault>
     ensures ok { OnOk result (IsHandled (after_feed piece.now decoder.old) decoder.new report.old report.new (W.contents writer.old) (W.contents writer.new)) }
-    ensures err { IfErr result (λ fault. BreaksOff fault (W.contents writer.old) (W.contents writer.new) (shown (due (after_feed piece.now decoder.old)))) }
+    ensures err { IfErr result (λ fault. BreaksOff fault (W.contents writer.old) (W.contents writer.new) (shown (events_left (after_feed piece.now decoder.old)))) }
 {
     decoder.feed(piece)?;
     drain(decoder, writer, report)?;
@@ -79,7 +79,7 @@ fn finish<W: Write>(
     report: &mut Report,
 ) -> Result<(), RunFault>
     ensures ok { OnOk result (IsHandled (after_flush decoder.old) decoder.new report.old report.new (W.contents writer.old) (W.contents writer.new)) }
-    ensures err { IfErr result (λ fault. BreaksOff fault (W.contents writer.old) (W.contents writer.new) (shown (due (after_flush decoder.old)))) }
+    ensures err { IfErr result (λ fault. BreaksOff fault (W.contents writer.old) (W.contents writer.new) (shown (events_left (after_flush decoder.old)))) }
 {
     decoder.flush()?;
     drain(decoder, writer, report)?;
@@ -93,7 +93,7 @@ fn drain<W: Write>(
     report: &mut Report,
 ) -> Result<(), RunFault>
     ensures ok { OnOk result (IsHandled decoder.old decoder.new report.old report.new (W.contents writer.old) (W.contents writer.new)) }
-    ensures err { IfErr result (λ fault. BreaksOff fault (W.contents writer.old) (W.contents writer.new) (shown (due decoder.old))) }
+    ensures err { IfErr result (λ fault. BreaksOff fault (W.contents writer.old) (W.contents writer.new) (shown (events_left decoder.old))) }
 {
     pictures_are_whole();
     'events: while let Some(event) = decoder.take()? {
@@ -104,7 +104,7 @@ fn drain<W: Write>(
 
 fn handle<W: Write>(event: Event, writer: &mut W, report: &mut Report) -> Result<(), RunFault>
     requires { IfPicture event IsWhole }
-    ensures report { OnOk result (report.new ≡ reported report.old (event ∷ [])) }
+    ensures report { OnOk result (report.new ≡ report_with report.old (event ∷ [])) }
     ensures written { OnOk result (Appends (W.contents writer.old) (W.contents writer.new) (shown (event ∷ []))) }
     ensures err { IfErr result (λ fault. BreaksOff fault (W.contents writer.old) (W.contents writer.new) (shown (event ∷ []))) }
 {

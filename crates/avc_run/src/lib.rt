@@ -5,10 +5,10 @@ mod decoding;
 mod exit;
 mod fault;
 mod listing;
+mod messages;
 mod program;
 mod read;
 mod report;
-mod telling;
 #[cfg(test)]
 mod tests;
 
@@ -17,6 +17,6 @@ pub use decoding::run;
 pub use exit::{Answer, answer_status, cut_status, fault_status, status};
 pub use fault::RunFault;
 pub use listing::{run_cut, run_headers, run_units};
+pub use messages::{fault_line, refusal_lines};
 pub use program::{cut, decode, headers, units};
 pub use report::{Refusals, Report};
-pub use telling::{fault_line, refusal_lines};

@@ -6,8 +6,8 @@ ghost use Rattle.avc_run.specs.Reading.{WritesFirst};
 ghost use Rattle.avc_run.specs.declared.fault.RunFault.TheVariants as faults;
 
 use crate::fault::RunFault;
+use crate::messages::{write_all, write_text};
 use crate::read::read_all;
-use crate::telling::{write_all, write_text};
 use avc_tools::{cut, list_units, show_headers};
 use avc_types::Bytes;
 use std::alloc::Global;

@@ -4,15 +4,15 @@ ghost use Rattle.avc_tools.specs.Lines.{header_lines, unit_lines};
 ghost use Rattle.avc_run.specs.Program.{EndsCutting, EndsDecoding, EndsListing};
 ghost use Rattle.avc_run.specs.Reading.{WritesSome};
 ghost use Rattle.avc_run.specs.Status.{cut_status, fault_status};
-ghost use Rattle.avc_run.specs.Telling.{fault_line, piece_text, text_of};
+ghost use Rattle.avc_run.specs.Messages.{fault_line, piece_text, text_of};
 ghost use Rattle.avc_run.specs.declared.fault.RunFault.TheVariants as faults;
 
 use crate::decoding::run;
 use crate::exit::{cut_status, fault_status, status};
 use crate::fault::RunFault;
 use crate::listing::{run_cut, run_headers, run_units};
+use crate::messages::{fault_line, no_piece_line, refusal_lines, write_text};
 use crate::report::Report;
-use crate::telling::{fault_line, no_piece_line, refusal_lines, write_text};
 use avc_decoder::Output;
 use std::alloc::Global;
 use std::io::{Read, Write};
@@ -30,14 +30,14 @@ pub fn decode<R: Read, W: Write, E: Write>(
         (E.contents errors.old) (E.contents errors.new) result }
 {
     let run = run(alloc, output, reader, writer);
-    match tell(alloc, &run, errors) {
+    match write_messages(alloc, &run, errors) {
         Ok(()) => status(&run),
         Err(fault) => fail(fault, errors),
     }
 }
 
 // Tells of a run. An error is want of memory for the text.
-fn tell<E: Write>(
+fn write_messages<E: Write>(
     alloc: Global,
     run: &Result<Report, RunFault>,
     errors: &mut E,
@@ -117,7 +117,7 @@ pub fn cut<R: Read, W: Write, E: Write>(
         (E.contents errors.old) (E.contents errors.new) result }
 {
     match run_cut(alloc, number, reader, writer) {
-        Ok(count) => match tell_no_piece(alloc, count, number, errors) {
+        Ok(count) => match write_no_piece(alloc, count, number, errors) {
             Ok(()) => cut_status(count, u64::from(number)),
             Err(fault) => fail(fault, errors),
         },
@@ -126,7 +126,7 @@ pub fn cut<R: Read, W: Write, E: Write>(
 }
 
 // Tells that there is no piece of this number, where there is none. An error is want of memory for the text.
-fn tell_no_piece<E: Write>(
+fn write_no_piece<E: Write>(
     alloc: Global,
     count: usize,
     number: u32,

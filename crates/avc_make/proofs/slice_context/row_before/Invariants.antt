@@ -1,9 +1,9 @@
 use Rattle.std.specs.Prelude.{replicate}
 use Rattle.avc_mbsyntax.specs.SliceData.{skipped}
 use Rattle.avc_make.specs.SliceMbs.{own_start}
-use Rattle.avc_make.specs.SliceSteps.{IsTold}
+use Rattle.avc_make.specs.SliceSteps.{AreFactsOf}
 use Rattle.avc_make.proofs.slice_context.row_before.Given as goal
 
 -- the row has as many macroblocks of slice 0 as were put
 abbrev pub invariant-earlier : goal.invariant-earlier
-invariant-earlier l = IsTold (own_start l.slice).width (replicate l.counter (record { slice = 0; mb = skipped 0 })) l.row
+invariant-earlier l = AreFactsOf (own_start l.slice).width (replicate l.counter (record { slice = 0; mb = skipped 0 })) l.row

@@ -3,7 +3,7 @@ use Rattle.std.proofs.KnownBytes.{Keeps-refl}
 use Rattle.avc_run.specs.declared.fault.RunFault.TheVariants.{Read}
 use Rattle.avc_decoder.specs.Machine.{after_feed}
 use Rattle.avc_run.specs.Decoding.{shown}
-use Rattle.avc_run.specs.Draining.{due, BreaksOff, IsHandled}
+use Rattle.avc_run.specs.Draining.{events_left, BreaksOff, IsHandled}
 use Rattle.avc_decoder.specs.Laws.{EventsOnlyGrow}
 use Rattle.avc_run.proofs.Running.{broken_at_end, broken_in, decodes_err, ended, err_is, no_piece, one_piece, same_front, started, unread_on}
 use Rattle.avc_run.proofs.decoding.decode_by.Goals as goal
@@ -41,7 +41,7 @@ returns-in_err-take_in g c =
     let is : c.from_residual-in_err-take_in.result ≡ Err fault = err_is c.from_residual-in_err-take_in.result fault c.from_residual-in_err-take_in.ensures.1 in
     decodes_err c.args.decoder.now.output _ _ _ _ c.from_residual-in_err-take_in.result fault is
     (broken_in grow c.args.decoder.now.output _ _ _ _ _ _ c.pieces.decoder c.pieces.report _ fault c.pieces.invariant.runs c.in_ok-len.ensures.bytes
-    (subst (λ bs. BreaksOff fault (g.W.Write.contents c.pieces.writer) (g.W.Write.contents c.take_in.new.writer) (shown (due (after_feed bs c.pieces.decoder))))
+    (subst (λ bs. BreaksOff fault (g.W.Write.contents c.pieces.writer) (g.W.Write.contents c.take_in.new.writer) (shown (events_left (after_feed bs c.pieces.decoder))))
     (same_front c.in_ok-len.len c.pieces.piece.len c.read_once.new.piece _ c.deref.result.now c.deref.ensures.value c.in_ok-len.ensures.within (search rules)) c.in_err-take_in.ensures.err))
 
 pub pieces-preserved : goal.pieces-preserved

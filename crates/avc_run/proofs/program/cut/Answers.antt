@@ -1,20 +1,20 @@
 use Rattle.std.proofs.Common.{◌≡◌, Err, ap, subst, ◌∙◌}
 use Rattle.avc_run.specs.Reading.{WritesSome}
 use Rattle.avc_run.specs.Status.{fault_status}
-use Rattle.avc_run.specs.Telling.{fault_line}
+use Rattle.avc_run.specs.Messages.{fault_line}
 use Rattle.avc_run.specs.declared.fault.RunFault.TheVariants.{Memory}
 use Rattle.avc_run.proofs.Lines.{told_after}
 use Rattle.avc_run.proofs.Untold.{untold_piece}
 use Rattle.avc_run.proofs.program.cut.Goals as goal
 
-pub returns-in-Err-tell_no_piece : goal.returns-in-Err-tell_no_piece
-returns-in-Err-tell_no_piece g c =
-    let memory : c.in-Err-tell_no_piece.fault ≡ Memory = c.in-Err-tell_no_piece.ensures.err.0 in
+pub returns-in-Err-write_no_piece : goal.returns-in-Err-write_no_piece
+returns-in-Err-write_no_piece g c =
+    let memory : c.in-Err-write_no_piece.fault ≡ Memory = c.in-Err-write_no_piece.ensures.err.0 in
     record {
       run = Err Memory;
-      cuts = untold_piece c.args.number c.in-Ok.count _ _ _ _ c.in-Ok.ensures c.in-Err-tell_no_piece.ensures.none;
+      cuts = untold_piece c.args.number c.in-Ok.count _ _ _ _ c.in-Ok.ensures c.in-Err-write_no_piece.ensures.none;
       status_is = c.fail.ensures.status ∙ ap fault_status memory;
       told =
           subst (λ fault. WritesSome (g.E.Write.contents c.args.errors.now) (g.E.Write.contents c.fail.new.errors) (fault_line fault)) memory
-          (told_after _ _ _ _ c.in-Err-tell_no_piece.ensures.err.1 c.fail.ensures.told);
+          (told_after _ _ _ _ c.in-Err-write_no_piece.ensures.err.1 c.fail.ensures.told);
     }

@@ -1,7 +1,7 @@
 use Rattle.std.proofs.Common.{◌≡◌, Err, ap, subst, ◌∙◌}
 use Rattle.avc_run.specs.Reading.{WritesSome}
 use Rattle.avc_run.specs.Status.{fault_status}
-use Rattle.avc_run.specs.Telling.{fault_line}
+use Rattle.avc_run.specs.Messages.{fault_line}
 use Rattle.avc_run.specs.declared.fault.RunFault.TheVariants.{Memory}
 use Rattle.avc_run.proofs.Lines.{told_after}
 use Rattle.avc_run.proofs.Running.{untold}

@@ -3,7 +3,7 @@ use Rattle.avc_motion.specs.Motion.{motion_before}
 use Rattle.avc_plane.specs.Frames.{planes_of}
 use Rattle.avc_deblock.specs.Facts.{HaveFacts}
 use Rattle.avc_picture.specs.FirstMbs.{HoldsFirst, MbsState}
-use Rattle.avc_picture.specs.Kept.{state_of}
+use Rattle.avc_picture.specs.MacroblocksState.{state_of}
 use Rattle.avc_picture.proofs.Whole.{all_facts, all_rows, filtered_is, sized_room}
 use Rattle.avc_picture.proofs.macroblocks.Macroblocks.deblocked.Goals as goal
 

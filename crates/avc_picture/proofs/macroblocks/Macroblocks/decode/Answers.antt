@@ -5,7 +5,7 @@ use Rattle.avc_neigh.specs.BlockNear.{HasModes}
 use Rattle.avc_picture_core.specs.Faults.{macroblock_fault}
 use Rattle.avc_picture_core.specs.References.{AreUsable}
 use Rattle.avc_picture.specs.FirstMbs.{HoldsFirst, MbsState}
-use Rattle.avc_picture.specs.Kept.{state_of}
+use Rattle.avc_picture.specs.MacroblocksState.{state_of}
 use Rattle.avc_picture.proofs.Keeping.{has_entry, kept_more}
 use Rattle.avc_picture.proofs.Ranges.{in_range_of, modes_above, modes_left}
 use Rattle.avc_picture.proofs.Step.{build_fault, holds_more, no_fault, vector_fault}

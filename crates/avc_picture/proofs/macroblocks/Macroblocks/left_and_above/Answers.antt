@@ -3,7 +3,7 @@ use Rattle.std.proofs.Common.{◌∙◌, sym, ap, subst, take}
 use Rattle.avc_neigh.specs.Around.{Around}
 use Rattle.avc_mbsyntax.specs.SliceData.{left_total_coeffs, up_total_coeffs}
 use Rattle.avc_picture.specs.FirstMbs.{HoldsFirst, MbsState}
-use Rattle.avc_picture.specs.Kept.{state_of}
+use Rattle.avc_picture.specs.MacroblocksState.{state_of}
 use Rattle.avc_picture.proofs.Beside.{left_is, up_is}
 use Rattle.avc_picture.proofs.macroblocks.Macroblocks.left_and_above.Goals as goal
 

@@ -1,7 +1,7 @@
 ghost use Rattle.std.specs.Prelude.{◌≡◌, ◌++◌, IfErr, IfOk, OnOk, string_bytes};
 ghost use Rattle.std.specs.Io.KnownBytes.{Appends};
 ghost use Rattle.avc_run.specs.Reading.{WritesFirst};
-ghost use Rattle.avc_run.specs.Telling.{fault_line, no_piece_line, refusal_line, refusal_lines};
+ghost use Rattle.avc_run.specs.Messages.{fault_line, no_piece_line, refusal_line, refusal_lines};
 ghost use Rattle.avc_run.specs.declared.fault.RunFault.TheVariants as faults;
 
 use crate::fault::RunFault;

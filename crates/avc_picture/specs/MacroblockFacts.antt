@@ -40,16 +40,16 @@ AreModes n constrained_intra_pred syntax modes =
     → ModesAreAround n c.mbs c.width known a → modes ≡ modes_of c known a syntax
 
 -- what neighbours are told of a macroblock of this slice, beside its motion
-pub record IsTold (slice : ℕ) (n : Around) (constrained_intra_pred : Bool) (mb : Mb) (f : NeighbourFacts) : Type 0 where
+pub record IsNeighbourFacts (slice : ℕ) (n : Around) (constrained_intra_pred : Bool) (mb : Mb) (f : NeighbourFacts) : Type 0 where
   pub slice_is : f.slice ≡ slice
   pub total_coeffs_is : f.total_coeffs ≡ total_coeffs_of mb.syntax
   pub modes_are : AreModes n constrained_intra_pred mb.syntax f.modes
   pub in_range : HasModes n.a → HasModes n.b → All IsMode f.modes
 
 -- the motion of the macroblock among what is told of it, or the fault
-abbrev pub motion_told : Result NeighbourFacts Fault → Result (List Motion) Fault
-motion_told (Ok f) = Ok f.motion
-motion_told (Err f) = Err f
+abbrev pub motion_result : Result NeighbourFacts Fault → Result (List Motion) Fault
+motion_result (Ok f) = Ok f.motion
+motion_result (Err f) = Err f
 
 -- the number of the frame that a block is predicted from, by the slice's numbers; 0 of a block that is not
 abbrev pub number_of : (frame_numbers : List ℕ) → Motion → ℕ
@@ -58,7 +58,7 @@ number_of numbers intra = 0
 number_of numbers (inter r v) = slice_index_or numbers r 0
 
 -- what the deblocking filter is told of a macroblock of this slice with this motion
-pub record IsFilterTold {PAD : ℕ} (mb : Mb) (motion : List Motion) (s : SliceContext PAD) (f : MbFacts) : Type 0 where
+pub record IsFilterFacts {PAD : ℕ} (mb : Mb) (motion : List Motion) (s : SliceContext PAD) (f : MbFacts) : Type 0 where
   pub intra_is : f.is_intra ≡ is_intra mb.syntax
   pub coefficients_is : (k : ℕ) → k < 16 → has_bit f.coefficients k ≡ has_coefficients mb.syntax k
   pub pictures_are : (q : ℕ) → q < 4 → slice_index f.pictures q ≡ number_of s.frame_numbers (slice_index_or motion (4 * q) absent)

@@ -1,7 +1,7 @@
 use Rattle.std.proofs.Common.{◌≡◌, string_bytes, take}
 use Rattle.std.specs.List.{flat_map}
-use Rattle.avc_run.specs.Telling.{refusal_line}
-use Rattle.avc_run.proofs.telling.refusal_lines.Given as goal
+use Rattle.avc_run.specs.Messages.{refusal_line}
+use Rattle.avc_run.proofs.messages.refusal_lines.Given as goal
 
 abbrev pub invariant-loop-unit : goal.invariant-loop-unit
 invariant-loop-unit l = record { told : string_bytes l.text ≡ flat_map refusal_line (take l.unit-index l.unit-items) }

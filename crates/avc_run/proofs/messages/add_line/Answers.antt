@@ -2,7 +2,7 @@ use Rattle.std.proofs.Common.{◌++◌, ◌∙◌, ap, sym, string_bytes}
 use Rattle.std.specs.Prelude.{codes}
 use Rattle.std.specs.Fmt.{decimal}
 use Rattle.avc_run.proofs.Lines.{line_is}
-use Rattle.avc_run.proofs.telling.add_line.Goals as goal
+use Rattle.avc_run.proofs.messages.add_line.Goals as goal
 
 pub returns : goal.returns
 returns c =

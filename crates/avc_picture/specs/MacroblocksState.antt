@@ -10,7 +10,7 @@ abbrev pub HaveModes : List NeighbourFacts → Type 0
 HaveModes facts = All (λ f. All IsMode f.modes) facts
 
 -- The parts agree on how many macroblocks there are so far, and there is room for all of the picture.
-pub record IsKept (m : MbsState) : Type 0 where
+pub record PartsAgree (m : MbsState) : Type 0 where
   pub wide : 0 < m.canvas.width
   pub high : 0 < m.canvas.height
   pub row_width : m.row.width ≡ m.canvas.width
@@ -24,9 +24,9 @@ abbrev pub state_of : {PAD : ℕ} → Inside PAD → MbsState
 state_of m = record { canvas = m.canvas; row = m.row; filter_facts = m.filter_facts.items; next = m.next }
 
 -- the picture's size, and what its picture parameter set says, are those of the canvas
-pub record IsWell {PAD : ℕ} (m : Inside PAD) : Type 0 where
+pub record AgreesWithCanvas {PAD : ℕ} (m : Inside PAD) : Type 0 where
   pub width : m.width ≡ m.canvas.width
   pub height : m.height ≡ m.canvas.height
   pub offset : m.chroma_qp_index_offset ≡ m.canvas.chroma_qp_index_offset
   pub constrained : m.constrained_intra_pred ≡ m.canvas.constrained_intra_pred
-  pub kept : IsKept (state_of m)
+  pub kept : PartsAgree (state_of m)

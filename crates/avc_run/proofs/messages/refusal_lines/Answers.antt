@@ -1,7 +1,7 @@
 use Rattle.avc_types.specs.declared.fault.Fault.TheVariants.{Truncated}
-use Rattle.avc_run.specs.Telling.{refusal_line}
+use Rattle.avc_run.specs.Messages.{refusal_line}
 use Rattle.avc_run.proofs.Lines.{told_next}
-use Rattle.avc_run.proofs.telling.refusal_lines.Goals as goal
+use Rattle.avc_run.proofs.messages.refusal_lines.Goals as goal
 
 pub loop-unit-preserved : goal.loop-unit-preserved
 loop-unit-preserved c = record { told = told_next refusal_line _ _ (0, Truncated) c.as_slice-unit-items.result.now c.loop-unit.unit-index c.loop-unit-test.true c.loop-unit.invariant.told c.in_ok-add_line.ensures }
