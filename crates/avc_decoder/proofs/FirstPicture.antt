@@ -12,7 +12,7 @@ use Rattle.avc_types.specs.References.{Reference, result_map}
 use Rattle.avc_params.specs.Tables.{Sets}
 use Rattle.avc_params.specs.declared.pps.Pps.{Pps}
 use Rattle.avc_params.specs.declared.sps.Sps.{Sps}
-use Rattle.avc_plane.specs.Planes.{Planes, StoredFrame}
+use Rattle.avc_plane.specs.Planes.{Planes, StoredFrame, moved_stored}
 use Rattle.avc_reflist.specs.Lists.{reference_list}
 use Rattle.avc_slice.specs.Header.{is_idr, is_p}
 use Rattle.avc_slice.specs.declared.header.Header.{Header}
@@ -27,7 +27,7 @@ use Rattle.avc_units.specs.declared.step.Step.{Step}
 use Rattle.avc_dpb.specs.declared.output.Output.{Output}
 use Rattle.avc_decoder_core.specs.History.{Entry, History, buffer_of, decoded_picture, history_after_closing, history_at_opening}
 use Rattle.avc_decoder_core.specs.History.{stored_frames}
-use Rattle.avc_decoder_core.specs.Laws.{IsAnew, moved_stored}
+use Rattle.avc_decoder_core.specs.Laws.{IsAnew}
 use Rattle.avc_decoder_core.specs.Pictures.{held_pictures, output_pictures, pictures_at}
 use Rattle.avc_decoder.specs.FirstFault.{OpenPicture, closed_history, first_fault, first_header, history_at_opening_of, history_of}
 use Rattle.avc_decoder.specs.FirstFault.{picture_planes, progress_on, read_of, slices_of, start_on}

@@ -11,7 +11,7 @@ use Rattle.avc_params.specs.Tables.{Sets, sets_after}
 use Rattle.avc_params.specs.declared.pps.Pps.{Pps}
 use Rattle.avc_params.specs.declared.set_unit.SetUnit.{SetUnit}
 use Rattle.avc_params.specs.declared.sps.Sps.{Sps}
-use Rattle.avc_plane.specs.Planes.{Planes, StoredFrame}
+use Rattle.avc_plane.specs.Planes.{Planes, StoredFrame, moved_stored}
 use Rattle.avc_poc.specs.OrderCounts.{Counts, order_counts}
 use Rattle.avc_marking.specs.Marks.{Marks, missing_frame_nums, prev_ref_frame_num}
 use Rattle.avc_slice.specs.Header.{is_idr}
@@ -28,7 +28,6 @@ use Rattle.avc_types.specs.Results.{◌>>=◌}
 use Rattle.avc_decoder_core.specs.History.{Entry, History, decoded_picture, history_after_closing, history_at_opening}
 use Rattle.avc_decoder_core.specs.History.{is_same_sps, marking_entries, marks_of, missing_frame, pasts, picture_entry}
 use Rattle.avc_decoder_core.specs.History.{sequence_sps, stored_frames, with_missing, with_order_counts}
-use Rattle.avc_decoder_core.specs.Laws.{moved_stored}
 use Rattle.avc_decoder_core.specs.Pictures.{held_pictures, output_pictures}
 use Rattle.avc_decoder.specs.FirstFault.{OpenPicture, closed_history, first_fault, first_header, history_at_opening_of, history_of}
 use Rattle.avc_decoder.specs.FirstFault.{picture_planes, read_of, slices_of, start_on}

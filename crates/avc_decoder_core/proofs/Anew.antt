@@ -12,7 +12,7 @@ use Rattle.avc_types.specs.declared.fault.Fault.TheVariants as faults
 use Rattle.avc_types.specs.declared.references.Marking.{Marking}
 use Rattle.avc_types.specs.declared.references.Marking.TheVariants.{Idr, SlidingWindow, Adaptive}
 use Rattle.avc_types.specs.References.{Reference, result_map}
-use Rattle.avc_plane.specs.Planes.{Planes, StoredFrame}
+use Rattle.avc_plane.specs.Planes.{Planes, StoredFrame, moved_stored}
 use Rattle.avc_params.specs.declared.sps.Sps.{Sps}
 use Rattle.avc_params.specs.Limits.{dpb_size}
 use Rattle.avc_slice.specs.declared.header.Header.{Header}
@@ -31,7 +31,7 @@ use Rattle.avc_decoder_core.specs.History.{Entry, decoded_picture, missing_frame
 use Rattle.avc_decoder_core.specs.History.{entry_at, history_after_closing, history_at_opening, is_same_sps, marking_entries, marking_entry}
 use Rattle.avc_decoder_core.specs.History.{marks_of, new_output, or_no_references, order_or_0, pasts, picture_entry, planes_in, prior_pictures_of}
 use Rattle.avc_decoder_core.specs.History.{reorder_limit, sequence_sps, stored, stored_frames, with_missing, with_order_counts}
-use Rattle.avc_decoder_core.specs.Laws.{moved_stored, BeginsAnew, IdrPicturesBeginAnew}
+use Rattle.avc_decoder_core.specs.Laws.{BeginsAnew, IdrPicturesBeginAnew}
 use Rattle.avc_decoder_core.specs.Pictures.{entry_pictures, held_pictures, output_pictures, pictures_at}
 use Rattle.avc_decoder_core.proofs.MissingNumbers.{opened_idr}
 use Rattle.avc_decoder_core.proofs.Outputs.{held_below, length_arrivals, pictures_stay}

@@ -1,8 +1,8 @@
 -- What holds of the output of every history, and what an IDR picture begins anew.
-use Rattle.std.specs.Prelude.{◌≡◌, ℕ, ◌+◌, true, [], ◌∷◌, ◌++◌, length, map, Ok}
+use Rattle.std.specs.Prelude.{◌≡◌, true, [], ◌∷◌, ◌++◌, length, map, Ok}
 use Rattle.std.specs.Result.{is_ok}
 use Rattle.avc_types.specs.References.{result_map}
-use Rattle.avc_plane.specs.Planes.{Planes, StoredFrame}
+use Rattle.avc_plane.specs.Planes.{Planes, moved_stored}
 use Rattle.avc_dpb.specs.declared.output.Output.{Output}
 use Rattle.avc_dpb.specs.Bumping.{are_output}
 use Rattle.avc_params.specs.declared.sps.Sps.{Sps}
@@ -20,10 +20,6 @@ MissingNumbersKeepTheOrder =
     held_pictures output history ≡ output_pictures output history full ++ held_pictures output full
 
 -- ---- a history that begins anew
-
--- the same frame, n places later in the history
-abbrev pub moved_stored : ℕ → StoredFrame → StoredFrame
-moved_stored n f = record f { reference = record f.reference { entry = f.reference.entry + n } }
 
 -- It is an IDR picture, and the pictures before go out with it (7.4.1.2.4, C.4.4).
 pub record BeginsAnew (h : Header) : Type 0 where

@@ -167,6 +167,20 @@ record IsCoded {A : Type 0} (code : Read ℕ) (stop : ℕ) (item : ℕ → Read 
   code_back : (after : List Bool) → ReadsBack after code first number
   item_back : (after : List Bool) → ReadsBack after (item number) second x
 
+-- whose code is one of those up to `most`
+is_coded : {A : Type 0} (most stop number : ℕ) (item : ℕ → Read A) (word second : List Bool) (x : A) →
+    word ≡ ue_word number ++ second → (number == stop) ≡ false → number ≤ most → most ≤ 6 → ((after : List Bool) → ReadsBack after (item number) second x) →
+    IsCoded (ue_to most) stop item word x
+is_coded most stop number item word second x is other few small back = record {
+  number = number;
+  first = ue_word number;
+  second = second;
+  is_word = is;
+  goes_on = other;
+  code_back = λ after. back-ue_to after most number few (omega (arith, few, small));
+  item_back = back;
+}
+
 back-up_to : {A : Type 0} (rest : List Bool) (code : Read ℕ) (stop : ℕ) (item : ℕ → Read A) (fault : Fault) (word : A → List Bool) (P : A → Type 0) (last : List Bool) (room : ℕ) (xs : List A) →
     ((x : A) → P x → IsCoded code stop item (word x) x) → ((after : List Bool) → ReadsBack after code last stop) → (stop == stop) ≡ true → length xs ≤ room → Each P xs →
     ReadsBack rest (up_to code stop item fault room) (flat_map word xs ++ last) xs
@@ -189,33 +203,12 @@ back-up_to rest code stop item fault word P last (suc room) (x ∷ xs) coded end
 -- ---- what RefPicList0 is made by
 
 modification_coded : (max_frame_num : ℕ) → max_frame_num ≤ 65536 → (m : Modification) → IsModification max_frame_num m → IsCoded (ue_to 3) 3 (modification (max_frame_num - 1)) (modification_bits m) m
-modification_coded n few (Subtract v) is = record {
-  number = 0;
-  first = ue_word 0;
-  second = ue_word v;
-  is_word = refl;
-  goes_on = refl;
-  code_back = λ after. back-ue_to after 3 0 (omega arith) (omega arith);
-  item_back = λ after. back-last after (ue_word v) (ue_to (n - 1)) (λ k. Subtract k) v (back-ue_to after (n - 1) v (omega (arith, is)) (omega (arith, is, few)));
-}
-modification_coded n few (Add v) is = record {
-  number = 1;
-  first = ue_word 1;
-  second = ue_word v;
-  is_word = refl;
-  goes_on = refl;
-  code_back = λ after. back-ue_to after 3 1 (omega arith) (omega arith);
-  item_back = λ after. back-last after (ue_word v) (ue_to (n - 1)) (λ k. Add k) v (back-ue_to after (n - 1) v (omega (arith, is)) (omega (arith, is, few)));
-}
-modification_coded n few (LongTerm v) is = record {
-  number = 2;
-  first = ue_word 2;
-  second = ue_word v;
-  is_word = refl;
-  goes_on = refl;
-  code_back = λ after. back-ue_to after 3 2 (omega arith) (omega arith);
-  item_back = λ after. back-last after (ue_word v) ue (λ k. LongTerm k) v (back-ue after v is);
-}
+modification_coded n few (Subtract v) is = is_coded 3 3 0 _ _ (ue_word v) _ refl refl (omega arith) (omega arith)
+    (λ after. back-last after (ue_word v) (ue_to (n - 1)) (λ k. Subtract k) v (back-ue_to after (n - 1) v (omega (arith, is)) (omega (arith, is, few))))
+modification_coded n few (Add v) is = is_coded 3 3 1 _ _ (ue_word v) _ refl refl (omega arith) (omega arith)
+    (λ after. back-last after (ue_word v) (ue_to (n - 1)) (λ k. Add k) v (back-ue_to after (n - 1) v (omega (arith, is)) (omega (arith, is, few))))
+modification_coded n few (LongTerm v) is = is_coded 3 3 2 _ _ (ue_word v) _ refl refl (omega arith) (omega arith)
+    (λ after. back-last after (ue_word v) ue (λ k. LongTerm k) v (back-ue after v is))
 
 back-modifications : (max_frame_num room : ℕ) → max_frame_num ≤ 65536 → (rest : List Bool) (list : List Modification) → IsModificationList max_frame_num room list →
     ReadsBack rest (modifications max_frame_num room) (modifications_bits list) list
@@ -268,62 +261,18 @@ back-list rest false sps pps h within is =
 -- ---- marking
 
 operation_coded : (o : Operation) → IsOperation o → IsCoded (ue_to 6) 0 operation (operation_bits o) o
-operation_coded (UnmarkShortTerm n) is = record {
-  number = 1;
-  first = ue_word 1;
-  second = ue_word n;
-  is_word = refl;
-  goes_on = refl;
-  code_back = λ after. back-ue_to after 6 1 (omega arith) (omega arith);
-  item_back = λ after. back-last after (ue_word n) ue (λ k. UnmarkShortTerm k) n (back-ue after n is);
-}
-operation_coded (UnmarkLongTerm n) is = record {
-  number = 2;
-  first = ue_word 2;
-  second = ue_word n;
-  is_word = refl;
-  goes_on = refl;
-  code_back = λ after. back-ue_to after 6 2 (omega arith) (omega arith);
-  item_back = λ after. back-last after (ue_word n) ue (λ k. UnmarkLongTerm k) n (back-ue after n is);
-}
-operation_coded (AssignLongTerm n index) is = record {
-  number = 3;
-  first = ue_word 3;
-  second = ue_word n ++ ue_word index;
-  is_word = refl;
-  goes_on = refl;
-  code_back = λ after. back-ue_to after 6 3 (omega arith) (omega arith);
-  item_back =
-      λ after. back-bind after (ue_word n) (ue_word index) ue _ n (AssignLongTerm n index) (back-ue (ue_word index ++ after) n is.0)
-      (back-last after (ue_word index) ue (λ k. AssignLongTerm n k) index (back-ue after index is.1));
-}
-operation_coded (MaxLongTermFrameIdx n) is = record {
-  number = 4;
-  first = ue_word 4;
-  second = ue_word n;
-  is_word = refl;
-  goes_on = refl;
-  code_back = λ after. back-ue_to after 6 4 (omega arith) (omega arith);
-  item_back = λ after. back-last after (ue_word n) ue (λ k. MaxLongTermFrameIdx k) n (back-ue after n is);
-}
-operation_coded UnmarkAll is = record {
-  number = 5;
-  first = ue_word 5;
-  second = [];
-  is_word = sym (append-nil (ue_word 5));
-  goes_on = refl;
-  code_back = λ after. back-ue_to after 6 5 (omega arith) (omega arith);
-  item_back = λ after. back-give after UnmarkAll;
-}
-operation_coded (CurrentToLongTerm n) is = record {
-  number = 6;
-  first = ue_word 6;
-  second = ue_word n;
-  is_word = refl;
-  goes_on = refl;
-  code_back = λ after. back-ue_to after 6 6 (omega arith) (omega arith);
-  item_back = λ after. back-last after (ue_word n) ue (λ k. CurrentToLongTerm k) n (back-ue after n is);
-}
+operation_coded (UnmarkShortTerm n) is = is_coded 6 0 1 _ _ (ue_word n) _ refl refl (omega arith) (omega arith)
+    (λ after. back-last after (ue_word n) ue (λ k. UnmarkShortTerm k) n (back-ue after n is))
+operation_coded (UnmarkLongTerm n) is = is_coded 6 0 2 _ _ (ue_word n) _ refl refl (omega arith) (omega arith)
+    (λ after. back-last after (ue_word n) ue (λ k. UnmarkLongTerm k) n (back-ue after n is))
+operation_coded (AssignLongTerm n index) is = is_coded 6 0 3 _ _ (ue_word n ++ ue_word index) _ refl refl (omega arith) (omega arith)
+    (λ after. back-bind after (ue_word n) (ue_word index) ue _ n (AssignLongTerm n index) (back-ue (ue_word index ++ after) n is.0)
+    (back-last after (ue_word index) ue (λ k. AssignLongTerm n k) index (back-ue after index is.1)))
+operation_coded (MaxLongTermFrameIdx n) is = is_coded 6 0 4 _ _ (ue_word n) _ refl refl (omega arith) (omega arith)
+    (λ after. back-last after (ue_word n) ue (λ k. MaxLongTermFrameIdx k) n (back-ue after n is))
+operation_coded UnmarkAll is = is_coded 6 0 5 _ _ [] _ (sym (append-nil (ue_word 5))) refl (omega arith) (omega arith) (λ after. back-give after UnmarkAll)
+operation_coded (CurrentToLongTerm n) is = is_coded 6 0 6 _ _ (ue_word n) _ refl refl (omega arith) (omega arith)
+    (λ after. back-last after (ue_word n) ue (λ k. CurrentToLongTerm k) n (back-ue after n is))
 
 back-marking : (idr : Bool) (rest : List Bool) (m : Marking) → IsMarkingOf idr m → ReadsBack rest (marking idr) (marking_bits m) m
 back-marking true rest (Idr a b) is = back-bind rest (a ∷ []) (b ∷ []) flag _ a (Idr a b) (back-flag (b ∷ rest) a) (back-last rest (b ∷ []) flag (λ f. Idr a f) b (back-flag rest b))

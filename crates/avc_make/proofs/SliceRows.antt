@@ -1,37 +1,20 @@
 -- Worked examples of slice headers that are written, and of what stands before the samples of an I_PCM macroblock.
 use Rattle.std.specs.Prelude.{◌≡◌, pos, true, false, [], ◌∷◌, ◌++◌, take, None, Some, refl}
 use Rattle.std.specs.Int.Count.{count_leading_zeros}
-use Rattle.avc_types.specs.declared.references.Marking.TheVariants.{Idr, SlidingWindow}
 use Rattle.avc_bits.specs.Bits.{byte_bits}
 use Rattle.avc_params.specs.declared.sps.OrderCount.TheVariants as orders
-use Rattle.avc_slice.specs.declared.header.CodedOrder.TheVariants.{Type0, Type2}
+use Rattle.avc_slice.specs.declared.header.CodedOrder.TheVariants.{Type0}
 use Rattle.avc_slice.specs.declared.header.Header.{Header}
-use Rattle.avc_slice.specs.declared.header.SliceType.TheVariants.{AllI, AllP}
+use Rattle.avc_slice.specs.declared.header.SliceType.TheVariants.{AllI}
 use Rattle.avc_make.specs.HeaderWriting.{header_bits, slice_unit_header}
 use Rattle.avc_make.specs.MbWriting.{i_type, zeros_to_byte}
 use Rattle.avc_make.specs.Words.{se_word, ue_word}
-use Rattle.avc_make.proofs.Rows.{plain, small}
+use Rattle.avc_params.proofs.Rows.{plain, small}
+use Rattle.avc_slice.proofs.Rows as Read
 
 -- of the only slice of an IDR picture
 abbrev of_i : Header
-of_i = record {
-  nal_ref_idc = 3;
-  first_mb_in_slice = 0;
-  slice_type = AllI;
-  pic_parameter_set_id = 0;
-  frame_num = 0;
-  idr_pic_id = Some 0;
-  order = Type2;
-  redundant_pic_cnt = None;
-  active_override = None;
-  active_count = 0;
-  modifications = None;
-  pred_weight_table = None;
-  marking = Some (Idr false false);
-  slice_qp_delta = pos 0;
-  deblocking = None;
-  position = 0;
-}
+of_i = record Read.of_i { idr_pic_id = Some 0; position = 0 }
 
 writes_i : header_bits small plain of_i ≡ take 17 (byte_bits (0x88 ∷ 0x84 ∷ 0x93 ∷ []))
 unfolding se_word ue_word count_leading_zeros
@@ -47,24 +30,7 @@ writes_i_pcm = refl
 
 -- of a P slice of the next picture
 abbrev of_p : Header
-of_p = record {
-  nal_ref_idc = 2;
-  first_mb_in_slice = 0;
-  slice_type = AllP;
-  pic_parameter_set_id = 0;
-  frame_num = 1;
-  idr_pic_id = None;
-  order = Type2;
-  redundant_pic_cnt = None;
-  active_override = None;
-  active_count = 1;
-  modifications = None;
-  pred_weight_table = None;
-  marking = Some SlidingWindow;
-  slice_qp_delta = pos 0;
-  deblocking = None;
-  position = 0;
-}
+of_p = record Read.of_p { position = 0 }
 
 writes_p : header_bits small plain of_p ≡ take 15 (byte_bits (0x9A ∷ 0x22 ∷ []))
 unfolding se_word ue_word count_leading_zeros

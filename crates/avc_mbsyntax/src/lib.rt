@@ -6,7 +6,6 @@ mod context;
 mod elements;
 mod inter;
 mod intra;
-pub mod laws;
 mod macroblock;
 mod near;
 mod residual;

@@ -1,6 +1,7 @@
 -- No later part of a macroblock has a block of an earlier one.
-use Rattle.std.proofs.Common.{◌≡◌, ◌<◌, ◌+◌, ℕ, zero, suc, List, [], ◌∷◌, ◌++◌, length, Bool, true, false, refl, arith}
+use Rattle.std.proofs.Common.{◌≡◌, ◌<◌, ◌≤◌, ◌+◌, nat_lt, ℕ, zero, suc, List, [], ◌∷◌, ◌++◌, length, Bool, true, false, refl, arith}
 use Rattle.std.specs.Prelude.{not, ◌&&◌}
+use Rattle.std.proofs.lemmas.Bool.Decides.{nat_tests}
 use borrow.Author.Count.{below_more}
 use Rattle.avc_types.specs.declared.macroblock.Part.{Part}
 use Rattle.avc_types.specs.declared.macroblock.PMbType.{PMbType}
@@ -56,63 +57,67 @@ off_below (suc n) ps e k h =
     below_more (λ j. is_off j ps ≡ true) n (off_below n ps (and_second (is_off n ps) (all_off n ps) e))
     (and_first (is_off n ps) (all_off n ps) e) k (omega (arith, h))
 
-quarter1_off : (s : SubMbType) → all_off 4 (parts_of_quarter s 8 0 1) ≡ true
-quarter1_off Sub8x8 = refl
-quarter1_off Sub8x4 = refl
-quarter1_off Sub4x8 = refl
-quarter1_off Sub4x4 = refl
+-- the first block of each part of a quarter whose first block is n
+abbrev firsts : SubMbType → ℕ → List ℕ
+firsts Sub8x8 n = n ∷ []
+firsts Sub8x4 n = n ∷ (n + 2) ∷ []
+firsts Sub4x8 n = n ∷ (n + 1) ∷ []
+firsts Sub4x4 n = n ∷ (n + 1) ∷ (n + 2) ∷ (n + 3) ∷ []
 
-quarter2_off : (s : SubMbType) → all_off 8 (parts_of_quarter s 0 8 2) ≡ true
-quarter2_off Sub8x8 = refl
-quarter2_off Sub8x4 = refl
-quarter2_off Sub4x8 = refl
-quarter2_off Sub4x4 = refl
+-- each part has its block of these, all below n, and no later part has it
+abbrev are_own : ℕ → List Part → List ℕ → Bool
+are_own n [] ks = true
+are_own n (p ∷ ps) [] = false
+are_own n (p ∷ ps) (k ∷ ks) = (nat_lt k n && is_in_part p k) && (is_off k ps && are_own n ps ks)
 
-quarter3_off : (s : SubMbType) → all_off 12 (parts_of_quarter s 8 8 3) ≡ true
-quarter3_off Sub8x8 = refl
-quarter3_off Sub8x4 = refl
-quarter3_off Sub4x8 = refl
-quarter3_off Sub4x4 = refl
+apart_by : (n : ℕ) (ps rest : List Part) (ks : List ℕ) → n ≤ 16 → are_own n ps ks ≡ true →
+    ((k : ℕ) → k < n → is_off k rest ≡ true) → Apart rest → Apart (ps ++ rest)
+apart_by n [] rest ks few own off apart = apart
+apart_by n (p ∷ ps) rest [] few own off apart = cc
+apart_by n (p ∷ ps) rest (k ∷ ks) few own off apart =
+    let here = and_first (nat_lt k n && is_in_part p k) (is_off k ps && are_own n ps ks) own in
+    let later = and_second (nat_lt k n && is_in_part p k) (is_off k ps && are_own n ps ks) own in
+    let low : k < n = grind (arith, nat_tests, and_first (nat_lt k n) (is_in_part p k) here) in
+    let alone = off_both k ps rest (and_first (is_off k ps) (are_own n ps ks) later) (off k low) in (
+      record { block = k; below = omega (arith, few, low); inside = and_second (nat_lt k n) (is_in_part p k) here; alone = alone },
+      apart_by n ps rest ks few (and_second (is_off k ps) (are_own n ps ks) later) off apart,
+    )
 
-apart0 : (s : SubMbType) (rest : List Part) → ((k : ℕ) → k < 4 → is_off k rest ≡ true) → Apart rest → Apart (parts_of_quarter s 0 0 0 ++ rest)
-apart0 Sub8x8 rest off apart =
-    (record { block = 0; below = omega arith; inside = refl; alone = off 0 (omega arith) }, apart)
-apart0 Sub8x4 rest off apart =
-    (record { block = 0; below = omega arith; inside = refl; alone = off 0 (omega arith) }, (record { block = 2; below = omega arith; inside = refl; alone = off 2 (omega arith) }, apart))
-apart0 Sub4x8 rest off apart =
-    (record { block = 0; below = omega arith; inside = refl; alone = off 0 (omega arith) }, (record { block = 1; below = omega arith; inside = refl; alone = off 1 (omega arith) }, apart))
-apart0 Sub4x4 rest off apart =
-    (record { block = 0; below = omega arith; inside = refl; alone = off 0 (omega arith) }, (record { block = 1; below = omega arith; inside = refl; alone = off 1 (omega arith) }, (record { block = 2; below = omega arith; inside = refl; alone = off 2 (omega arith) }, (record { block = 3; below = omega arith; inside = refl; alone = off 3 (omega arith) }, apart))))
+-- the parts of a quarter whose first block is n: they have no earlier block, and each has its own
+abbrev stands : ℕ → SubMbType → List Part → Bool
+stands n s ps = all_off n ps && are_own (n + 4) ps (firsts s n)
 
-apart1 : (s : SubMbType) (rest : List Part) → ((k : ℕ) → k < 8 → is_off k rest ≡ true) → Apart rest → Apart (parts_of_quarter s 8 0 1 ++ rest)
-apart1 Sub8x8 rest off apart =
-    (record { block = 4; below = omega arith; inside = refl; alone = off 4 (omega arith) }, apart)
-apart1 Sub8x4 rest off apart =
-    (record { block = 4; below = omega arith; inside = refl; alone = off 4 (omega arith) }, (record { block = 6; below = omega arith; inside = refl; alone = off 6 (omega arith) }, apart))
-apart1 Sub4x8 rest off apart =
-    (record { block = 4; below = omega arith; inside = refl; alone = off 4 (omega arith) }, (record { block = 5; below = omega arith; inside = refl; alone = off 5 (omega arith) }, apart))
-apart1 Sub4x4 rest off apart =
-    (record { block = 4; below = omega arith; inside = refl; alone = off 4 (omega arith) }, (record { block = 5; below = omega arith; inside = refl; alone = off 5 (omega arith) }, (record { block = 6; below = omega arith; inside = refl; alone = off 6 (omega arith) }, (record { block = 7; below = omega arith; inside = refl; alone = off 7 (omega arith) }, apart))))
+off_before : (n : ℕ) (s : SubMbType) (ps : List Part) → stands n s ps ≡ true → (k : ℕ) → k < n → is_off k ps ≡ true
+off_before n s ps e = off_below n ps (and_first (all_off n ps) (are_own (n + 4) ps (firsts s n)) e)
 
-apart2 : (s : SubMbType) (rest : List Part) → ((k : ℕ) → k < 12 → is_off k rest ≡ true) → Apart rest → Apart (parts_of_quarter s 0 8 2 ++ rest)
-apart2 Sub8x8 rest off apart =
-    (record { block = 8; below = omega arith; inside = refl; alone = off 8 (omega arith) }, apart)
-apart2 Sub8x4 rest off apart =
-    (record { block = 8; below = omega arith; inside = refl; alone = off 8 (omega arith) }, (record { block = 10; below = omega arith; inside = refl; alone = off 10 (omega arith) }, apart))
-apart2 Sub4x8 rest off apart =
-    (record { block = 8; below = omega arith; inside = refl; alone = off 8 (omega arith) }, (record { block = 9; below = omega arith; inside = refl; alone = off 9 (omega arith) }, apart))
-apart2 Sub4x4 rest off apart =
-    (record { block = 8; below = omega arith; inside = refl; alone = off 8 (omega arith) }, (record { block = 9; below = omega arith; inside = refl; alone = off 9 (omega arith) }, (record { block = 10; below = omega arith; inside = refl; alone = off 10 (omega arith) }, (record { block = 11; below = omega arith; inside = refl; alone = off 11 (omega arith) }, apart))))
+apart_before : (n : ℕ) (s : SubMbType) (ps rest : List Part) → n ≤ 12 → stands n s ps ≡ true →
+    ((k : ℕ) → k < n + 4 → is_off k rest ≡ true) → Apart rest → Apart (ps ++ rest)
+apart_before n s ps rest few e off apart =
+    apart_by (n + 4) ps rest (firsts s n) (omega (arith, few)) (and_second (all_off n ps) (are_own (n + 4) ps (firsts s n)) e) off apart
 
-apart3 : (s : SubMbType) (rest : List Part) → ((k : ℕ) → k < 16 → is_off k rest ≡ true) → Apart rest → Apart (parts_of_quarter s 8 8 3 ++ rest)
-apart3 Sub8x8 rest off apart =
-    (record { block = 12; below = omega arith; inside = refl; alone = off 12 (omega arith) }, apart)
-apart3 Sub8x4 rest off apart =
-    (record { block = 12; below = omega arith; inside = refl; alone = off 12 (omega arith) }, (record { block = 14; below = omega arith; inside = refl; alone = off 14 (omega arith) }, apart))
-apart3 Sub4x8 rest off apart =
-    (record { block = 12; below = omega arith; inside = refl; alone = off 12 (omega arith) }, (record { block = 13; below = omega arith; inside = refl; alone = off 13 (omega arith) }, apart))
-apart3 Sub4x4 rest off apart =
-    (record { block = 12; below = omega arith; inside = refl; alone = off 12 (omega arith) }, (record { block = 13; below = omega arith; inside = refl; alone = off 13 (omega arith) }, (record { block = 14; below = omega arith; inside = refl; alone = off 14 (omega arith) }, (record { block = 15; below = omega arith; inside = refl; alone = off 15 (omega arith) }, apart))))
+quarter0 : (s : SubMbType) → stands 0 s (parts_of_quarter s 0 0 0) ≡ true
+quarter0 Sub8x8 = refl
+quarter0 Sub8x4 = refl
+quarter0 Sub4x8 = refl
+quarter0 Sub4x4 = refl
+
+quarter1 : (s : SubMbType) → stands 4 s (parts_of_quarter s 8 0 1) ≡ true
+quarter1 Sub8x8 = refl
+quarter1 Sub8x4 = refl
+quarter1 Sub4x8 = refl
+quarter1 Sub4x4 = refl
+
+quarter2 : (s : SubMbType) → stands 8 s (parts_of_quarter s 0 8 2) ≡ true
+quarter2 Sub8x8 = refl
+quarter2 Sub8x4 = refl
+quarter2 Sub4x8 = refl
+quarter2 Sub4x4 = refl
+
+quarter3 : (s : SubMbType) → stands 12 s (parts_of_quarter s 8 8 3) ≡ true
+quarter3 Sub8x8 = refl
+quarter3 Sub8x4 = refl
+quarter3 Sub4x8 = refl
+quarter3 Sub4x4 = refl
 
 abbrev from3 : SubMbType → List Part
 from3 s3 = parts_of_quarter s3 8 8 3 ++ []
@@ -124,13 +129,15 @@ abbrev from1 : SubMbType → SubMbType → SubMbType → List Part
 from1 s1 s2 s3 = parts_of_quarter s1 8 0 1 ++ from2 s2 s3
 
 off3 : (s3 : SubMbType) (k : ℕ) → k < 12 → is_off k (from3 s3) ≡ true
-off3 s3 k h = off_both k (parts_of_quarter s3 8 8 3) [] (off_below 12 (parts_of_quarter s3 8 8 3) (quarter3_off s3) k h) refl
+off3 s3 k h = off_both k (parts_of_quarter s3 8 8 3) [] (off_before 12 s3 (parts_of_quarter s3 8 8 3) (quarter3 s3) k h) refl
 
 off2 : (s2 s3 : SubMbType) (k : ℕ) → k < 8 → is_off k (from2 s2 s3) ≡ true
-off2 s2 s3 k h = off_both k (parts_of_quarter s2 0 8 2) (from3 s3) (off_below 8 (parts_of_quarter s2 0 8 2) (quarter2_off s2) k h) (off3 s3 k (omega (arith, h)))
+off2 s2 s3 k h =
+    off_both k (parts_of_quarter s2 0 8 2) (from3 s3) (off_before 8 s2 (parts_of_quarter s2 0 8 2) (quarter2 s2) k h) (off3 s3 k (omega (arith, h)))
 
 off1 : (s1 s2 s3 : SubMbType) (k : ℕ) → k < 4 → is_off k (from1 s1 s2 s3) ≡ true
-off1 s1 s2 s3 k h = off_both k (parts_of_quarter s1 8 0 1) (from2 s2 s3) (off_below 4 (parts_of_quarter s1 8 0 1) (quarter1_off s1) k h) (off2 s2 s3 k (omega (arith, h)))
+off1 s1 s2 s3 k h =
+    off_both k (parts_of_quarter s1 8 0 1) (from2 s2 s3) (off_before 4 s1 (parts_of_quarter s1 8 0 1) (quarter1 s1) k h) (off2 s2 s3 k (omega (arith, h)))
 
 none_off : (k : ℕ) → k < 16 → is_off k [] ≡ true
 none_off k h = refl
@@ -141,7 +148,10 @@ quarters_apart (s0 ∷ []) e = absurd (omega (arith, e))
 quarters_apart (s0 ∷ s1 ∷ []) e = absurd (omega (arith, e))
 quarters_apart (s0 ∷ s1 ∷ s2 ∷ []) e = absurd (omega (arith, e))
 quarters_apart (s0 ∷ s1 ∷ s2 ∷ s3 ∷ []) e =
-    apart0 s0 (from1 s1 s2 s3) (off1 s1 s2 s3) (apart1 s1 (from2 s2 s3) (off2 s2 s3) (apart2 s2 (from3 s3) (off3 s3) (apart3 s3 [] none_off tt)))
+    apart_before 0 s0 (parts_of_quarter s0 0 0 0) (from1 s1 s2 s3) (omega arith) (quarter0 s0) (off1 s1 s2 s3)
+    (apart_before 4 s1 (parts_of_quarter s1 8 0 1) (from2 s2 s3) (omega arith) (quarter1 s1) (off2 s2 s3)
+    (apart_before 8 s2 (parts_of_quarter s2 0 8 2) (from3 s3) (omega arith) (quarter2 s2) (off3 s3)
+    (apart_before 12 s3 (parts_of_quarter s3 8 8 3) [] (omega arith) (quarter3 s3) none_off tt)))
 quarters_apart (s0 ∷ s1 ∷ s2 ∷ s3 ∷ s4 ∷ subs) e = absurd (omega (arith, e))
 
 pub parts_apart : (shape : PMbType) → HasFourQuarters shape → Apart (parts_of shape)

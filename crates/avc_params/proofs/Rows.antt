@@ -14,7 +14,7 @@ use Rattle.avc_params.specs.declared.sps.OrderCount.TheVariants as orders
 use Rattle.avc_params.specs.declared.sps.Sps.{Sps}
 
 -- 16x16, order count type 2, one reference frame
-abbrev small : Sps
+abbrev pub small : Sps
 small = record {
   profile_idc = 66;
   constraint_flags = record {
@@ -86,7 +86,7 @@ limits_of (Err _) = None
 with_restriction : limits_of (sps_of (0x42 ∷ 0xC0 ∷ 0x0A ∷ 0xDA ∷ 0x72 ∷ 0x01 ∷ 0xFD ∷ 0x40 ∷ [])) ≡ Some (0, 1, 1)
 with_restriction = refl
 
-abbrev plain : Pps
+abbrev pub plain : Pps
 plain = record {
   pic_parameter_set_id = 0;
   seq_parameter_set_id = 0;

@@ -15,10 +15,10 @@ use Rattle.avc_slice.specs.declared.slice.Slice.{Slice}
 use Rattle.avc_slice.specs.Header.{is_p}
 use Rattle.avc_reflist.specs.Lists.{reference_list}
 use Rattle.avc_mbsyntax.specs.SliceData.{SliceMbs, slice_data}
-use Rattle.avc_plane.specs.Planes.{StoredFrame}
+use Rattle.avc_plane.specs.Planes.{StoredFrame, moved_stored}
 use Rattle.avc_picture_core.specs.Faults.{macroblock_fault}
 use Rattle.avc_picture.specs.Decoded.{deblocked}
-use Rattle.avc_picture.specs.Laws.{PicturesNameNoPlaces, moved_start, moved_stored}
+use Rattle.avc_picture.specs.Laws.{PicturesNameNoPlaces, moved_start}
 use Rattle.avc_picture.specs.Slices.{PictureStart, Progress, coded_of, current_of, data_of, facts_of, first_mb_fault, frame_of, list_of, or_empty}
 use Rattle.avc_picture.specs.Slices.{progress}
 use Rattle.avc_picture.specs.Slices.{read_whole, references_in, refused, start_of, with_first_fault, with_reference_list, with_slice, with_slice_data}

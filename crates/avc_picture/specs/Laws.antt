@@ -1,12 +1,8 @@
 -- Laws of pictures: what their samples and faults do not depend on.
-use Rattle.std.specs.Prelude.{◌≡◌, ℕ, ◌+◌, List, map}
+use Rattle.std.specs.Prelude.{◌≡◌, ℕ, List, map}
 use Rattle.avc_slice.specs.declared.slice.Slice.{Slice}
-use Rattle.avc_plane.specs.Planes.{StoredFrame}
+use Rattle.avc_plane.specs.Planes.{moved_stored}
 use Rattle.avc_picture.specs.Slices.{PictureStart, progress, planes_after_slices}
-
--- the same frame, n places later in the history
-abbrev pub moved_stored : ℕ → StoredFrame → StoredFrame
-moved_stored n f = record f { reference = record f.reference { entry = f.reference.entry + n } }
 
 -- what a picture is decoded with, whose frames stand n places later
 abbrev pub moved_start : ℕ → PictureStart → PictureStart

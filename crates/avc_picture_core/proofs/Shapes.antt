@@ -69,6 +69,9 @@ module _ (motion : List Motion) (q : ℕ) (few : q < 4) where
   right_of_quarter s = have_one motion (left + 4) top 4 8 (4 * q + 1) (omega arith) (λ x y a b c d.
       by_block (same_as motion (4 * q + 1)) q x y few (omega arith) (omega arith) c d (λ near _. absurd (omega arith)) (λ _ _. refl) (λ near _. absurd (omega arith)) (λ _ _. sym s.1))
 
+-- in as few rectangles as the shape of a quarter allows
+pub ruleset quarter_parts = (whole_quarter, upper_of_quarter, lower_of_quarter, left_of_quarter, right_of_quarter)
+
 -- a block alone
 pub one_block : (motion : List Motion) (left top : ℕ) → left % 4 ≡ 0 → top % 4 ≡ 0 → HaveOneMotion motion left top 4 4
 one_block motion left top left_whole top_whole = have_one motion left top 4 4 (block_at left top) refl (λ x y a b c d.
@@ -132,6 +135,9 @@ left_half motion s = have_one motion 0 0 8 16 0 refl (λ x y a b c d.
 pub right_half : (motion : List Motion) → IsMacroblockShape motion TallHalves → HaveOneMotion motion 8 0 8 16
 right_half motion s = have_one motion 8 0 8 16 4 refl (λ x y a b c d.
     by_quarter motion s.0 4 x y (omega arith) (omega arith) (λ near _. absurd (omega arith)) (λ _ _. refl) (λ near _. absurd (omega arith)) (λ _ _. sym s.1.1))
+
+-- in as few rectangles as the shape of a macroblock allows
+pub ruleset macroblock_parts = (whole_macroblock, upper_half, lower_half, left_half, right_half)
 
 -- all blocks are the same
 pub whole_blocks : (motion : List Motion) → IsMacroblockShape motion Whole → (k : ℕ) → k < 16 → same_as motion 0 k

@@ -171,7 +171,7 @@ fn predict_blocks<const PAD: usize>(
 }
 
 /// Predicts a quarter of a macroblock in as few rectangles as its motion allows.
-#[tactic(auto, using(crate::proofs::Shapes::whole_quarter, crate::proofs::Shapes::upper_of_quarter, crate::proofs::Shapes::lower_of_quarter, crate::proofs::Shapes::left_of_quarter, crate::proofs::Shapes::right_of_quarter))]
+#[tactic(auto, using(crate::proofs::Shapes::quarter_parts))]
 fn predict_quarter<const PAD: usize>(
     references: &[Option<ReferencePicture<'_, PAD>>],
     place: MbPlace,
@@ -220,7 +220,7 @@ fn predict_quarters<const PAD: usize>(
 }
 
 /// Predicts a macroblock of this shape.
-#[tactic(auto, using(crate::proofs::Shapes::whole_macroblock, crate::proofs::Shapes::upper_half, crate::proofs::Shapes::lower_half, crate::proofs::Shapes::left_half, crate::proofs::Shapes::right_half))]
+#[tactic(auto, using(crate::proofs::Shapes::macroblock_parts))]
 fn predict_macroblock<const PAD: usize>(
     references: &[Option<ReferencePicture<'_, PAD>>],
     place: MbPlace,

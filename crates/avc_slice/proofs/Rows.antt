@@ -21,7 +21,7 @@ sets = sets_after (OfSps (0x42 ∷ 0xC0 ∷ 0x0A ∷ 0xDA ∷ 0x71 ∷ []) ∷ O
 abbrev header_at : ℕ → List ℕ → Result Header Fault
 header_at header rbsp = header_in_rbsp header sets rbsp
 
-abbrev of_p : Header
+abbrev pub of_p : Header
 of_p = record {
   nal_ref_idc = 2;
   first_mb_in_slice = 0;
@@ -47,7 +47,7 @@ p_slice = refl
 two_pairs : header_at 0x41 (0x9A ∷ 0x2F ∷ 0x91 ∷ 0x80 ∷ []) ≡ Err faults.BadRefList
 two_pairs = refl
 
-abbrev of_i : Header
+abbrev pub of_i : Header
 of_i = record {
   nal_ref_idc = 3;
   first_mb_in_slice = 0;
