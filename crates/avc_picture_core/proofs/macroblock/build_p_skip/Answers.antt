@@ -14,5 +14,5 @@ returns-in_err-predict_inter-clause-built g c = λ p qp qp_of_chroma at width he
 pub returns-clause-built : goal.returns-clause-built
 returns-clause-built g c = λ p qp qp_of_chroma at width height motion are.
     planes_skip p c.args.place.column c.args.place.row qp qp_of_chroma c.args.motion.now c.predict_inter.new.samples (planes_of c.args.planes.now) (planes_of c.set_samples.new.planes) at motion
-    (c.in_ok-predict_inter.ensures p.coded p.slice width height are) c.leave.ensures c.leave-2.ensures c.leave-3.ensures
+    (c.in_ok-predict_inter.ensures p.coded p.slice width height are) c.add_nothing.ensures c.add_nothing-2.ensures c.add_nothing-3.ensures
     c.set_samples.ensures.luma c.set_samples.ensures.cb c.set_samples.ensures.cr

@@ -6,7 +6,7 @@ use Rattle.avc_picture_core.proofs.residual.add.Goals as goal
 pub returns-in-None : goal.returns-in-None
 returns-in-None g c = λ f is.
     let old = c.args.samples.now in
-    added_none g.row.W c.args.left c.args.top old old f c.requires.columns g.row.N c.requires.all refl c.leave.ensures (subst (IsResidualOf f) c.in-None.is is)
+    added_none g.row.W c.args.left c.args.top old old f c.requires.columns g.row.N c.requires.all refl c.add_nothing.ensures (subst (IsResidualOf f) c.in-None.is is)
 
 pub returns-in-Some : goal.returns-in-Some
 returns-in-Some g c = λ f is.
