@@ -9,7 +9,7 @@ use Rattle.avc_types.specs.declared.fault.Fault.TheVariants.{Truncated}
 use Rattle.avc_bits.specs.Bits.{Bits, bits_of, byte_bits, number_of, passed, times}
 use Rattle.avc_bits.specs.Codes.{u, skip}
 use Rattle.avc_bits.specs.Reader.{Reads, reader_bits}
-use Rattle.avc_bits.specs.Repeating.{one_first, fault_later, times_fault}
+use Rattle.avc_bits.proofs.Repeating.{one_first, fault_later, times_fault}
 use Rattle.avc_bits.specs.declared.reader.BitReader.{BitReader}
 use Rattle.avc_bits.proofs.Numbers.{length-bits_of, number-bits_of, take_bytes, drop_bytes}
 use Rattle.avc_bits.proofs.Reading.{u_short, u_long, skip_short, skip_long, take-ahead}

@@ -36,9 +36,10 @@ use Rattle.avc_decoder.specs.Events.{open_picture_facts, pictures, running, with
 use Rattle.avc_decoder.specs.Laws.{is_picture}
 use Rattle.avc_decoder.specs.declared.event.Event.{Event}
 use Rattle.avc_decoder.specs.declared.event.Event.TheVariants.{Picture}
+use Rattle.avc_decoder.proofs.Cases.{chosen, history_by, slice_outcome}
 use Rattle.avc_decoder.proofs.LaterPictures.{Follows, Gives, IsAfter, Over, SeesNoOlder, after_closing-same, closed_is, closing_grows}
 use Rattle.avc_decoder.proofs.LaterPictures.{failed-same, idr_opening_same}
-use Rattle.avc_decoder.proofs.OlderHistory.{GoesAlike, OpensAlike, facts-same, first_fault-same, history-same, history_by, over, picture_over}
+use Rattle.avc_decoder.proofs.OlderHistory.{GoesAlike, OpensAlike, facts-same, first_fault-same, history-same, over, picture_over}
 use Rattle.avc_decoder.proofs.OlderHistory.{result-same, result_over}
 
 -- ---- what an entry hides
@@ -232,13 +233,6 @@ closed_first output older o first =
 nothing_out : (output : Output) → (h : History) → output_pictures output h h ≡ []
 nothing_out output h = ap (pictures_at h) (drop-length (buffer_of output h).out)
 
-abbrev slice_outcome : (output : Output) → Option (ℕ × Fault) → History → OpenPicture → (now : History) → (read : ℕ)
-    → Outcome
-slice_outcome output f before o now read = elim f [
-  | Some found ↦ failed_at output before found.0 found.1 read
-  | None ↦ record { events = pictures (output_pictures output before now); phase = running o.before (Some o); read = read }
-]
-
 slice_by : (output : Output) → (older : History) (o : OpenPicture) → IsFirst output older o
     → (f : Option (ℕ × Fault)) (read' read : ℕ)
     → Owed output older (slice_outcome output f older (picture_over older o) older read') (slice_outcome output f [] o [] read)
@@ -319,9 +313,6 @@ next_first output older o first sets unit (Continues s) stays shown =
     slice_first output older (record o { last = s; earlier = o.last ∷ o.earlier }) (with_more output older o s first stays.0 stays.1)
     (history_of (picture_over older o)) (history_of o) (read_of (picture_over older o)) (read_of o)
     (base_older output older o first) (base_none output older o first)
-
-abbrev chosen : Bool → (closed other : Outcome) → Outcome
-chosen closes closed other = elim closes [ true ↦ closed | false ↦ other ]
 
 by_closes : (output : Output) → (older : History) (closes : Bool) (next : Next) (a' a b' b : Outcome)
     → KeepsPicture closes next

@@ -24,12 +24,10 @@ use Rattle.avc_slice.specs.declared.parts.Front.{Front}
 use Rattle.avc_slice.specs.declared.parts.Numbers.{Numbers}
 use Rattle.avc_slice.specs.declared.slice.Slice.{Slice}
 use Rattle.avc_units.specs.Grouping.{is_start, reads_zero, rbsp_of, slice_in, with_header}
+use Rattle.avc_decoder_core.proofs.MissingNumbers.{ok_same}
 use Rattle.avc_decoder.specs.Events.{both, sets_named}
 
 -- ---- parts that could be read
-
-ok_same : {A : Type 0} (a b : A) → ◌≡◌ {A = Result A Fault} (Ok a) (Ok b) → a ≡ b
-ok_same a b e = cc
 
 -- what a first part gave, and the second after it
 record AreRead {A B : Type 0} (part : Read A) (next : A → Read B) (b : Bits) (r : B × Bits) : Type 0 where

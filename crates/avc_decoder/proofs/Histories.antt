@@ -23,8 +23,8 @@ use Rattle.avc_decoder_core.proofs.Outputs.{places_below}
 use Rattle.avc_decoder.specs.Events.{at_last_slice, closing_result}
 use Rattle.avc_decoder.specs.FirstFault.{OpenPicture, closed_history, first_fault, first_header, first_slice}
 use Rattle.avc_decoder.specs.FirstFault.{history_at_opening_of, history_of, picture_planes}
+use Rattle.avc_decoder.proofs.Cases.{history_by}
 use Rattle.avc_decoder.proofs.LaterPictures.{Follows, base_grows, closed_is, closing_grows}
-use Rattle.avc_decoder.proofs.OlderHistory.{history_by}
 
 -- ---- what has gone out
 

@@ -29,15 +29,17 @@ use Rattle.avc_decoder_core.specs.History.{Entry, History, decoded_picture, hist
 use Rattle.avc_decoder_core.specs.History.{is_same_sps, marking_entries, marks_of, missing_frame, pasts, picture_entry}
 use Rattle.avc_decoder_core.specs.History.{sequence_sps, stored_frames, with_missing, with_order_counts}
 use Rattle.avc_decoder_core.specs.Pictures.{held_pictures, output_pictures}
+use Rattle.avc_decoder_core.proofs.MissingNumbers.{ok_same}
 use Rattle.avc_decoder.specs.FirstFault.{OpenPicture, closed_history, first_fault, first_header, history_at_opening_of, history_of}
 use Rattle.avc_decoder.specs.FirstFault.{picture_planes, read_of, slices_of, start_on}
 use Rattle.avc_decoder.specs.Events.{Outcome, Phase, State, after_closing, after_first_slice, after_next, after_next_slice, after_unit, at_end}
 use Rattle.avc_decoder.specs.Events.{at_last_slice, closed_outcome, closed_picture, closing_result, events_and_held, events_from, failed_at}
-use Rattle.avc_decoder.specs.Events.{followed_by, held_after, in_phase, is_running, is_waiting, open_facts_in}
+use Rattle.avc_decoder.specs.Events.{held_after, in_phase, is_running, is_waiting, open_facts_in}
 use Rattle.avc_decoder.specs.Events.{pictures, running, sets_named, waiting, with_slice}
 use Rattle.avc_decoder.specs.declared.event.Event.{Event}
 use Rattle.avc_decoder.specs.declared.event.Event.TheVariants.{Refused}
-use Rattle.avc_decoder.proofs.OlderHistory.{GoesAlike, OpensAlike, facts-same, first_fault-same, history-same, history_by}
+use Rattle.avc_decoder.proofs.Cases.{history_by, slice_outcome, unless_silent}
+use Rattle.avc_decoder.proofs.OlderHistory.{GoesAlike, OpensAlike, facts-same, first_fault-same, history-same}
 use Rattle.avc_decoder.proofs.OlderHistory.{over, picture_over, result-same, result_over}
 
 -- ---- histories from an entry on
@@ -66,9 +68,6 @@ pub record SeesNoOlder (output : Output) (e : Entry) (older : History) : Type 0 
 
 -- ---- what comes of a history
 
-ok_is : {A : Type 0} (a b : A) → ◌≡◌ {A = Result A Fault} (Ok a) (Ok b) → a ≡ b
-ok_is a b e = cc
-
 -- with the entries of missing numbers, or none
 pub record Grows (h full : History) : Type 0 where
   pub follows : Follows h full
@@ -88,7 +87,7 @@ grown x h full g = record {
 
 missing_grows : (sps : Sps) (numbers : List ℕ) (h full : History) → is_ok (marks_of h) ≡ true
     → with_missing sps numbers h ≡ Ok full → Grows h full
-missing_grows sps [] h full m e = subst (Grows h) (ok_is h full e) (unchanged h m)
+missing_grows sps [] h full m e = subst (Grows h) (ok_same h full e) (unchanged h m)
 missing_grows sps (n ∷ numbers) h full m e =
     let more = missing_frame sps n ∷ h in
     grown (missing_frame sps n) h full (by_marks (marks_of more) (λ ok. missing_grows sps numbers more full ok) e)
@@ -103,7 +102,7 @@ counted_same : (sps : Sps) (hd : Header) (h full : History) → with_order_count
 counted_same sps hd h full e = by_counts (order_counts sps hd (pasts h)) e
   where
     by_counts : (r : Result Counts Fault) → (r >>= λ c. Ok h) ≡ Ok full → h ≡ full
-    by_counts (Ok c) e' = ok_is h full e'
+    by_counts (Ok c) e' = ok_same h full e'
     by_counts (Err f) e' = cc
 
 pub idr_opening_same : (sps : Sps) (hd : Header) (h full : History) → is_idr hd ≡ true
@@ -168,7 +167,7 @@ closing_grows sps hd planes h full e =
   where
     by_marks : (x : Entry) (r : Result Marks Fault) → (is_ok r ≡ true → Grows h (x ∷ h)) → (r >>= λ m. Ok (x ∷ h)) ≡ Ok full
         → Grows h full × (full ≡ x ∷ h)
-    by_marks x (Ok m) grows e' = (subst (Grows h) (ok_is (x ∷ h) full e') (grows refl), sym (ok_is (x ∷ h) full e'))
+    by_marks x (Ok m) grows e' = (subst (Grows h) (ok_same (x ∷ h) full e') (grows refl), sym (ok_same (x ∷ h) full e'))
     by_marks x (Err f) grows e' = cc
 
 after_grown : (e : Entry) (h full : History) → IsAfter e h → Grows h full → IsAfter e full
@@ -308,13 +307,6 @@ closed-same output names e older sees o a =
 
 -- ---- a slice
 
-abbrev slice_outcome : (output : Output) → Option (ℕ × Fault) → History → OpenPicture → (now : History) → (read : ℕ)
-    → Outcome
-slice_outcome output f before o now read = elim f [
-  | Some found ↦ failed_at output before found.0 found.1 read
-  | None ↦ record { events = pictures (output_pictures output before now); phase = running o.before (Some o); read = read }
-]
-
 slice_by : (output : Output) → (e : Entry) (older : History) → SeesNoOlder output e older
     → (f : Option (ℕ × Fault)) (before : History) (o : OpenPicture) (now : History)
     (read read' : ℕ) → IsAfter e before → IsAfter e o.before → IsAfter e now → Follows before now
@@ -400,9 +392,6 @@ next-same output names e older sees sets unit (running h (Some o)) (Begins s) a 
     first_slice-same output names e older sees (sets_named sets s.header) h s a.0
 next-same output names e older sees sets unit (running h None) (Continues s) a = record { events = refl; phases = Over e sees refl a }
 next-same output names e older sees sets unit (running h (Some o)) (Continues s) a = next_slice-same output names e older sees h o s a.1
-
-abbrev unless_silent : Bool → (closed next : Outcome) → Outcome
-unless_silent silent closed next = elim silent [ true ↦ closed | false ↦ followed_by closed next ]
 
 pub followed-same : (output : Output)
     → (older : History) (due : List Event) (silent : Bool) (closed' closed next' next : Outcome)

@@ -1,5 +1,6 @@
 -- Pictures show no unit's number.
-use Rattle.std.proofs.Common.{◌≡◌, ℕ, Bool, true, false, ◌&&◌, List, [], ◌∷◌, map, refl, ap, ap₂, sym, ◌∙◌}
+use Rattle.std.proofs.Common.{◌≡◌, ℕ, true, ◌&&◌, List, [], ◌∷◌, map, refl, ap, ap₂, sym, ◌∙◌}
+use Rattle.std.specs.Cmp.{first_so, second_so}
 use Rattle.std.specs.List.{list_all}
 use Rattle.avc_annexb.specs.Laws.{contents}
 use Rattle.avc_annexb.specs.declared.unit.Unit.{Unit as Piece}
@@ -38,18 +39,11 @@ kinds_kept : (es : List Event) → list_all is_picture (map (renumbered_event to
 kinds_kept [] = refl
 kinds_kept (e ∷ es) = ap₂ (λ a b. a && b) (kind_kept e) (kinds_kept es)
 
-left : (a b : Bool) → (a && b) ≡ true → a ≡ true
-left true b h = refl
-left false b h = (cc)
-
-right : (a b : Bool) → (a && b) ≡ true → b ≡ true
-right true b h = h
-right false b h = (cc)
-
 pictures_kept : (es : List Event) → list_all is_picture es ≡ true → map (renumbered_event to_zero) es ≡ es
 pictures_kept [] h = refl
 pictures_kept (e ∷ es) h =
-    ap₂ (λ a b. a ∷ b) (event_kept e (left (is_picture e) (list_all is_picture es) h)) (pictures_kept es (right (is_picture e) (list_all is_picture es) h))
+    ap₂ (λ a b. a ∷ b) (event_kept e (first_so (is_picture e) (list_all is_picture es) h))
+    (pictures_kept es (second_so (is_picture e) (list_all is_picture es) h))
 
 same_pictures : (es es' : List Event) → list_all is_picture es ≡ true → map (renumbered_event to_zero) es' ≡ map (renumbered_event to_zero) es → es' ≡ es
 same_pictures es es' h e =
@@ -62,5 +56,6 @@ still_waiting s w = w ∙ ap (renumbered_phase to_zero) (sym w)
 pub pictures_name_no_units_so : SetsComeAlike → PicturesNameNoUnits
 pictures_name_no_units_so come s s' us us' output w w' sets same h =
     let these = events-same come to_zero us (map zeroed us) s s true refl refl (still_waiting s w) (alike_zeroed us us refl) in
-    let those = events-same come to_zero us' (map zeroed us) s' s true (sym output) (sym sets) (w ∙ ap (renumbered_phase to_zero) (sym w')) (alike_zeroed us us' same) in
+    let those =
+    events-same come to_zero us' (map zeroed us) s' s true (sym output) (sym sets) (w ∙ ap (renumbered_phase to_zero) (sym w')) (alike_zeroed us us' same) in
     same_pictures (events_from s us true) (events_from s' us' true) h (sym those ∙ these)

@@ -2,16 +2,15 @@
 use Rattle.std.specs.Prelude.{◌≡◌, ℕ, zero, suc, Bool, true, false, ◌==◌, List, ◌++◌, length, Option, Some, None, Result, Ok, Err, refl}
 use Rattle.std.proofs.Common.{ap, ◌∙◌}
 use Rattle.avc_types.specs.declared.fault.Fault.{Fault}
-use Rattle.avc_types.specs.declared.fault.Fault.TheVariants as faults
 use Rattle.avc_types.specs.Pictures.{PicMb}
 use Rattle.avc_types.specs.References.{result_map}
 use Rattle.avc_params.specs.Limits.{size_in_mbs}
-use Rattle.avc_slice.specs.declared.header.Header.{Header}
 use Rattle.avc_units.specs.Grouping.{OpenPictureFacts}
 use Rattle.avc_decoder_core.specs.History.{History}
 use Rattle.avc_decoder.specs.FirstFault.{OpenPicture, closed_history, first_fault, first_header, first_slice, history_at_opening_of}
 use Rattle.avc_decoder.specs.FirstFault.{history_of, progress_on, read_of}
 use Rattle.avc_decoder.specs.Events.{at_last_slice, closing_result, open_picture_facts}
+use Rattle.avc_decoder.proofs.Cases.{by_full, count_by, facts_by, fault_by, found_at_closing, history_by, then_closing, unless_found}
 
 -- ---- with an older history before it
 
@@ -35,9 +34,6 @@ pub record OpensAlike (older : History) (o : OpenPicture) : Type 0 where
   pub staying : GoesAlike older o o.before
 
 -- ---- its history
-
-abbrev pub history_by : ℕ → Result History Fault → (before : History) → History
-history_by address opened before = elim address [ suc _ ↦ before | zero ↦ elim opened [ Err f ↦ before | Ok history ↦ history ] ]
 
 history_by-same : (older : History) (address : ℕ) (opened : Result History Fault) (before : History)
     → history_by address (result_map (over older) opened) (before ++ older) ≡ history_by address opened before ++ older
@@ -63,9 +59,6 @@ goes_on older o a = goes_by older o (first_header o).first_mb_in_slice (history_
 
 -- ---- how many macroblocks have been read
 
-abbrev count_by : ℕ → Result History Fault → (History → ℕ) → ℕ
-count_by address opened counted = elim address [ suc _ ↦ 0 | zero ↦ elim opened [ Err f ↦ 0 | Ok history ↦ counted history ] ]
-
 count-same : (older : History) (address : ℕ) (opened : Result History Fault) (a b : History → ℕ)
     → ((h : History) → opened ≡ Ok h → a (h ++ older) ≡ b h)
     → count_by address (result_map (over older) opened) a ≡ count_by address opened b
@@ -82,21 +75,11 @@ read-same older o a =
 
 -- ---- its first fault
 
-abbrev marked : (unit : ℕ) → Result History Fault → Option (ℕ × Fault)
-marked unit (Ok h) = None
-marked unit (Err f) = Some (unit, f)
-
-abbrev by_full : (full : Bool) → (unit : ℕ) → Result History Fault → Option (ℕ × Fault)
-by_full full unit closed = elim full [ false ↦ Some (unit, faults.MissingMacroblocks) | true ↦ marked unit closed ]
-
 by_full-same : (older : History) (full : Bool) (unit : ℕ) (closed : Result History Fault)
     → by_full full unit (result_map (over older) closed) ≡ by_full full unit closed
 by_full-same older false unit closed = refl
 by_full-same older true unit (Ok h) = refl
 by_full-same older true unit (Err f) = refl
-
-abbrev found_at_closing : OpenPicture → History → Option (ℕ × Fault)
-found_at_closing o h = by_full (length (progress_on o h).mbs == size_in_mbs o.sps) (o.last).unit (closed_history o h)
 
 closing-same : (older : History) (o : OpenPicture) (h : History) → GoesAlike older o h
     → found_at_closing (picture_over older o) (h ++ older) ≡ found_at_closing o h
@@ -105,15 +88,6 @@ closing-same older o h g =
     ap (λ mbs. by_full (full mbs) (o.last).unit (closed_history (picture_over older o) (h ++ older))) g.mbs
     ∙ ap (by_full (full (progress_on o h).mbs) (o.last).unit) g.closed
     ∙ by_full-same older (full (progress_on o h).mbs) (o.last).unit (closed_history o h)
-
-abbrev then_closing : Option (ℕ × Fault) → (closing : Bool) → Option (ℕ × Fault) → Option (ℕ × Fault)
-then_closing f closing closed = elim f [ Some found ↦ Some found | None ↦ elim closing [ true ↦ closed | false ↦ None ] ]
-
-abbrev fault_by : ℕ → (unit : ℕ) → Result History Fault → (History → Option (ℕ × Fault)) → Option (ℕ × Fault)
-fault_by address unit opened later = elim address [
-  | suc _ ↦ Some (unit, faults.MissingMacroblocks)
-  | zero ↦ elim opened [ Err f ↦ Some (unit, f) | Ok history ↦ later history ]
-]
 
 fault-same : (older : History) (address unit : ℕ) (opened : Result History Fault) (a b : History → Option (ℕ × Fault))
     → ((h : History) → opened ≡ Ok h → a (h ++ older) ≡ b h)
@@ -151,9 +125,6 @@ last-same : (older : History) (o : OpenPicture) (closed : Result History Fault)
 last-same older o (Ok h) = refl
 last-same older o (Err f) = refl
 
-abbrev unless_found : Option (ℕ × Fault) → Result History (ℕ × Fault) → Result History (ℕ × Fault)
-unless_found f closed = elim f [ Some found ↦ Err found | None ↦ closed ]
-
 unless_found-same : (older : History) (f : Option (ℕ × Fault)) (c' c : Result History (ℕ × Fault)) → c' ≡ result_over older c
     → unless_found f c' ≡ result_over older (unless_found f c)
 unless_found-same older (Some found) c' c e = refl
@@ -171,9 +142,6 @@ result-same older o a =
     ∙ last-same older o (closed_history o (history_of o)))
 
 -- ---- what the next unit asks of it
-
-abbrev facts_by : Header → (full : Bool) → OpenPictureFacts
-facts_by last full = record { last = last; full = full }
 
 pub facts-same : (older : History) (o : OpenPicture) → OpensAlike older o
     → open_picture_facts (picture_over older o) ≡ open_picture_facts o

@@ -18,7 +18,6 @@ use Rattle.avc_slice.specs.declared.slice.Slice.{Slice}
 use Rattle.avc_picture.specs.Decoded.{deblocked}
 use Rattle.avc_picture.specs.Slices.{PictureStart, Progress, coded_of, is_full, list_of, progress}
 use Rattle.avc_picture.specs.Slices.{read_whole, refused, with_first_fault, with_reference_list, with_slice as with_slice_read, with_unit}
-use Rattle.avc_units.specs.Grouping.{OpenPictureFacts}
 use Rattle.avc_units.specs.declared.step.Next.{Next}
 use Rattle.avc_units.specs.declared.step.Next.TheVariants.{Nothing, Refusal, FaultOfOpen, FaultOfOwn, Begins, Continues}
 use Rattle.avc_units.specs.declared.step.Step.{Step}
@@ -33,6 +32,8 @@ use Rattle.avc_decoder.specs.Events.{held_after, history_in, in_phase, is_runnin
 use Rattle.avc_decoder.specs.Events.{pictures, running, sets_named, waiting, with_slice}
 use Rattle.avc_decoder.specs.declared.event.Event.{Event}
 use Rattle.avc_decoder.specs.declared.event.Event.TheVariants.{Picture, Refused}
+use Rattle.avc_decoder.proofs.Cases.{by_full, count_by, facts_by, fault_by, found_at_closing, history_by, outcome_of, slice_outcome}
+use Rattle.avc_decoder.proofs.Cases.{then_closing, unless_found, unless_silent}
 
 -- ---- what names a unit, with that unit's other number
 
@@ -152,15 +153,9 @@ closed-same r o h =
     ap (λ hd. history_after_closing o.sps hd (picture_planes (renumbered_picture r o) h) h) (header-same r o)
     ∙ ap (λ planes. history_after_closing o.sps (first_header o) planes h) (planes-same r o h)
 
-abbrev history_by : ℕ → Result History Fault → (before : History) → History
-history_by address opened before = elim address [ suc _ ↦ before | zero ↦ elim opened [ Err f ↦ before | Ok history ↦ history ] ]
-
 history-same : (r : ℕ → ℕ) (o : OpenPicture) → history_of (renumbered_picture r o) ≡ history_of o
 history-same r o =
     ap (λ (hd : Header). history_by hd.first_mb_in_slice (history_at_opening o.sps hd o.before) o.before) (header-same r o)
-
-abbrev count_by : ℕ → Result History Fault → (History → ℕ) → ℕ
-count_by address opened counted = elim address [ suc _ ↦ 0 | zero ↦ elim opened [ Err f ↦ 0 | Ok history ↦ counted history ] ]
 
 count-same : (address : ℕ) (opened : Result History Fault) (a b : History → ℕ) → ((h : History) → a h ≡ b h)
     → count_by address opened a ≡ count_by address opened b
@@ -174,26 +169,12 @@ read-same r o =
     ap (λ (hd : Header). count_by hd.first_mb_in_slice (history_at_opening o.sps hd o.before) counted) (header-same r o)
     ∙ count-same (first_header o).first_mb_in_slice (history_at_opening_of o) _ _ (λ h. ap (λ (g : Progress). g.read) (on-same r o h))
 
-abbrev facts_by : Header → (full : Bool) → OpenPictureFacts
-facts_by last full = record { last = last; full = full }
-
 pub facts-same : (r : ℕ → ℕ) (o : OpenPicture) → open_picture_facts (renumbered_picture r o) ≡ open_picture_facts o
 facts-same r o =
     ap (λ h. facts_by (o.last).header (is_full (start_on o h) (progress_on (renumbered_picture r o) h))) (history-same r o)
     ∙ ap (λ g. facts_by (o.last).header (is_full (start_on o (history_of o)) g)) (on-same r o (history_of o))
 
 -- ---- its first fault
-
-abbrev marked : (unit : ℕ) → Result History Fault → Option (ℕ × Fault)
-marked unit (Ok h) = None
-marked unit (Err f) = Some (unit, f)
-
--- at closing: macroblocks are missing, or marking is refused
-abbrev by_full : (full : Bool) → (unit : ℕ) → Result History Fault → Option (ℕ × Fault)
-by_full full unit closed = elim full [ false ↦ Some (unit, faults.MissingMacroblocks) | true ↦ marked unit closed ]
-
-abbrev found_at_closing : OpenPicture → History → Option (ℕ × Fault)
-found_at_closing o h = by_full (is_full (start_on o h) (progress_on o h)) (o.last).unit (closed_history o h)
 
 full-same : (r : ℕ → ℕ) (full : Bool) (unit : ℕ) (closed : Result History Fault)
     → by_full full (r unit) closed ≡ option_map (renumbered_fault r) (by_full full unit closed)
@@ -208,21 +189,12 @@ closing-same r o h =
     ∙ ap (by_full (is_full (start_on o h) (progress_on o h)) (r (o.last).unit)) (closed-same r o h)
     ∙ full-same r (is_full (start_on o h) (progress_on o h)) (o.last).unit (closed_history o h)
 
-abbrev then_closing : Option (ℕ × Fault) → (closing : Bool) → Option (ℕ × Fault) → Option (ℕ × Fault)
-then_closing f closing closed = elim f [ Some found ↦ Some found | None ↦ elim closing [ true ↦ closed | false ↦ None ] ]
-
 then-same : (r : ℕ → ℕ) (f : Option (ℕ × Fault)) (closing : Bool) (c' c : Option (ℕ × Fault))
     → c' ≡ option_map (renumbered_fault r) c
     → then_closing (option_map (renumbered_fault r) f) closing c' ≡ option_map (renumbered_fault r) (then_closing f closing c)
 then-same r (Some found) closing c' c e = refl
 then-same r None true c' c e = e
 then-same r None false c' c e = refl
-
-abbrev fault_by : ℕ → (unit : ℕ) → Result History Fault → (History → Option (ℕ × Fault)) → Option (ℕ × Fault)
-fault_by address unit opened later = elim address [
-  | suc _ ↦ Some (unit, faults.MissingMacroblocks)
-  | zero ↦ elim opened [ Err f ↦ Some (unit, f) | Ok history ↦ later history ]
-]
 
 fault-same : (r : ℕ → ℕ) (address unit : ℕ) (opened : Result History Fault) (a b : History → Option (ℕ × Fault))
     → ((h : History) → a h ≡ option_map (renumbered_fault r) (b h))
@@ -258,9 +230,6 @@ refused-same : (r : ℕ → ℕ) (out : List Decoded) (unit : ℕ) (f : Fault)
 refused-same r out unit f =
     map-append (renumbered_event r) (pictures out) (Refused unit f ∷ []) ∙ ap (λ es. es ++ Refused (r unit) f ∷ []) (pictures-same r out)
 
-abbrev outcome_of : List Event → Phase → (read : ℕ) → Outcome
-outcome_of es p read = record { events = es; phase = p; read = read }
-
 failed-same : (output : Output) (r : ℕ → ℕ) (h : History) (unit : ℕ) (f : Fault) (read : ℕ)
     → failed_at output h (r unit) f read ≡ renumbered_outcome r (failed_at output h unit f read)
 failed-same output r h unit f read = ap (λ es. outcome_of es waiting read) (sym (refused-same r (held_pictures output h) unit f))
@@ -269,9 +238,6 @@ last-same : (r : ℕ → ℕ) (o : OpenPicture) (closed : Result History Fault)
     → at_last_slice (renumbered_picture r o) closed ≡ renumbered_result r (at_last_slice o closed)
 last-same r o (Ok h) = refl
 last-same r o (Err f) = refl
-
-abbrev unless_found : Option (ℕ × Fault) → Result History (ℕ × Fault) → Result History (ℕ × Fault)
-unless_found f closed = elim f [ Some found ↦ Err found | None ↦ closed ]
 
 found-same : (r : ℕ → ℕ) (f : Option (ℕ × Fault)) (c' c : Result History (ℕ × Fault)) → c' ≡ renumbered_result r c
     → unless_found (option_map (renumbered_fault r) f) c' ≡ renumbered_result r (unless_found f c)
@@ -292,19 +258,15 @@ outcome-same : (output : Output) (r : ℕ → ℕ) (o : OpenPicture) (x : Result
 outcome-same output r o (Ok h) =
     ap (λ b. outcome_of (pictures (output_pictures output b h)) (running h None) 0) (history-same r o)
     ∙ ap (λ es. outcome_of es (running h None) 0) (sym (pictures-same r (output_pictures output (history_of o) h)))
-outcome-same output r o (Err found) = ap (λ b. failed_at output b (r found.0) found.1 0) (history-same r o) ∙ failed-same output r (history_of o) found.0 found.1 0
+outcome-same output r o (Err found) =
+    ap (λ b. failed_at output b (r found.0) found.1 0) (history-same r o)
+    ∙ failed-same output r (history_of o) found.0 found.1 0
 
 pub closed_picture-same : (output : Output) (r : ℕ → ℕ) (o : OpenPicture)
     → closed_picture output (renumbered_picture r o) ≡ renumbered_outcome r (closed_picture output o)
 closed_picture-same output r o = ap (closed_outcome output (renumbered_picture r o)) (result-same r o) ∙ outcome-same output r o (closing_result o)
 
 -- ---- a slice more
-
-abbrev slice_outcome : Output → Option (ℕ × Fault) → History → OpenPicture → (now : History) → (read : ℕ) → Outcome
-slice_outcome output f before o now read = elim f [
-  | Some found ↦ failed_at output before found.0 found.1 read
-  | None ↦ record { events = pictures (output_pictures output before now); phase = running o.before (Some o); read = read }
-]
 
 slice_outcome-same : (output : Output) (r : ℕ → ℕ) (f : Option (ℕ × Fault)) (before : History) (o : OpenPicture) (now : History) (read : ℕ)
     → slice_outcome output (option_map (renumbered_fault r) f) before (renumbered_picture r o) now read
@@ -382,9 +344,6 @@ followed-same : (r : ℕ → ℕ) (a b : Outcome)
 followed-same r a b =
     ap (λ es. outcome_of es (renumbered_phase r b.phase) (a.read + b.read)) (sym (map-append (renumbered_event r) a.events b.events))
 
-abbrev unless_silent : Bool → (closed next : Outcome) → Outcome
-unless_silent silent closed next = elim silent [ true ↦ closed | false ↦ followed_by closed next ]
-
 silent-same : (r : ℕ → ℕ) (silent : Bool) (closed next' next : Outcome) → next' ≡ renumbered_outcome r next
     → unless_silent silent (renumbered_outcome r closed) next' ≡ renumbered_outcome r (unless_silent silent closed next)
 silent-same r true closed next' next e = refl
@@ -410,7 +369,8 @@ in_phase-same output r sets unit what waiting = next-same output r sets unit wai
 in_phase-same output r sets unit what (running h None) = next-same output r sets unit (running h None) what.next
 in_phase-same output r sets unit what (running h (Some o)) =
     by_closes r what.closes _ _ _ _
-    (ap (after_closing output sets (r unit) (renumbered_step r what)) (closed_picture-same output r o) ∙ after_closing-same output r sets unit what (closed_picture output o))
+    (ap (after_closing output sets (r unit) (renumbered_step r what)) (closed_picture-same output r o)
+    ∙ after_closing-same output r sets unit what (closed_picture output o))
     (next-same output r sets unit (running h (Some o)) what.next)
 
 -- ---- the end

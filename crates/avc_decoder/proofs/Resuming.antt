@@ -31,6 +31,7 @@ use Rattle.avc_decoder.specs.Events.{no_change, open_facts_in, state_after, wait
 use Rattle.avc_decoder.specs.Laws.{StartsAnew, renumbered, state_through}
 use Rattle.avc_decoder.proofs.Renumbering.{at_end-same, in_phase-same, open_facts-same, renumbered_event}
 use Rattle.avc_decoder.proofs.Renumbering.{renumbered_outcome, renumbered_phase, renumbered_slice, renumbered_step, running-same}
+use Rattle.avc_decoder.proofs.Through.{output_through, sets-append, sets_through}
 use Rattle.avc_dpb.specs.declared.output.Output.{Output}
 
 -- ---- what a unit with another number does
@@ -161,18 +162,6 @@ events-same come r (u ∷ us) (u' ∷ us') s s' ended o e f a =
     ∙ sym (map-append (renumbered_event r) x.events (events_from (state_after s u x) us ended))
 
 -- ---- the parameter sets in front
-
-sets-append : (a b c : List SetUnit) → (a ++ (b ++ [])) ++ c ≡ a ++ (b ++ c)
-sets-append a b c = append_assoc a (b ++ []) c ∙ ap (λ m. a ++ m) (append_assoc b [] c)
-
--- after some units
-sets_through : (s : State) (us : List Piece) → (state_through s us).sets ≡ s.sets ++ set_units us
-sets_through s [] = sym (append-nil s.sets)
-sets_through s (u ∷ us) = sets_through (state_after s u (after_unit s u)) us ∙ sets-append s.sets _ (set_units us)
-
-mode_through : (s : State) (us : List Piece) → (state_through s us).output ≡ s.output
-mode_through s [] = refl
-mode_through s (u ∷ us) = mode_through (state_after s u (after_unit s u)) us
 
 -- Where decoding waits the unit is taken without a fault.
 abbrev NoFault : Piece → Type 0
@@ -320,7 +309,7 @@ resumes again are come output before others us k ended numbers later_numbers sam
     ap sets_after (sets_through (first_state output) before) ∙ sym (again before) ∙ ap sets_after (sym (sets-like sets front front_same)) in
     let renamed = alike r m k back others cut.back_same (numbered_later m us numbers) later_numbers (shifted m k) in
     let behind = events_after_sets front back (first_state output) ended refl (no_faults-like sets front front_same taken) in
-    events-same come r back others start (state_through (first_state output) before) ended (mode_through (first_state output) before) sets_same waits renamed
+    events-same come r back others start (state_through (first_state output) before) ended (output_through (first_state output) before) sets_same waits renamed
     ∙ ap (map (renumbered_event r)) (sym behind ∙ ap (λ ps. events_from (first_state output) ps ended) (take-append-drop m us))
 
 -- ---- of bytes

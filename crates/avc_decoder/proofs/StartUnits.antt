@@ -1,6 +1,7 @@
 -- A unit with which decoding could start, while it runs: what is held goes out, and then decoding goes on as from a new start.
 use Rattle.std.specs.Prelude.{◌≡◌, ℕ, Bool, true, false, not, ◌==◌, ◌&&◌, ◌-◌, List, [], ◌∷◌, ◌++◌, Option, Some, None, Result, Ok, Err}
 use Rattle.std.specs.Prelude.{is_some, IsTrue, refl}
+use Rattle.std.specs.Cmp.{first_so, second_so}
 use Rattle.std.specs.List.{list_all}
 use Rattle.std.specs.Result.{is_ok}
 use Rattle.std.proofs.Common.{ap, sym, subst, ◌∙◌, append_assoc, append-nil}
@@ -39,30 +40,24 @@ use Rattle.avc_decoder.specs.Events.{waiting, with_slice}
 use Rattle.avc_decoder.specs.Laws.{StartUnitsBeginAnew, is_picture, state_through}
 use Rattle.avc_decoder.specs.declared.event.Event.{Event}
 use Rattle.avc_decoder.specs.declared.event.Event.TheVariants.{Refused}
+use Rattle.avc_decoder.proofs.Cases.{chosen}
 use Rattle.avc_decoder.proofs.FirstPicture.{IsFirst, KeepsPicture, Owed, Paid, Still, closed_first, due, facts_first, failed_first, in_first}
 use Rattle.avc_decoder.proofs.FirstPicture.{slice_first}
 use Rattle.avc_decoder.proofs.Headers.{begins_at_zero, idr_continues, read_is, slice_of_unit, starts}
 use Rattle.avc_decoder.proofs.LaterPictures.{and_held-same, closed_is, closing_grows, events_alike, state_of}
 use Rattle.avc_decoder.proofs.OlderHistory.{picture_over}
+use Rattle.avc_decoder.proofs.Through.{output_through, sets_through}
 
 -- ---- events that are pictures
 
 abbrev AllPictures : List Event → Type 0
 AllPictures es = IsTrue (list_all is_picture es)
 
-front_and : (a b : Bool) → (a && b) ≡ true → a ≡ true
-front_and true b e = refl
-front_and false b e = e
-
-back_and : (a b : Bool) → (a && b) ≡ true → b ≡ true
-back_and true b e = e
-back_and false b e = cc
-
 front_shown : (a b : List Event) → AllPictures (a ++ b) → AllPictures a
-front_shown a b e = front_and (list_all is_picture a) (list_all is_picture b) (sym (list_all-append is_picture a b) ∙ e)
+front_shown a b e = first_so (list_all is_picture a) (list_all is_picture b) (sym (list_all-append is_picture a b) ∙ e)
 
 back_shown : (a b : List Event) → AllPictures (a ++ b) → AllPictures b
-back_shown a b e = back_and (list_all is_picture a) (list_all is_picture b) (sym (list_all-append is_picture a b) ∙ e)
+back_shown a b e = second_so (list_all is_picture a) (list_all is_picture b) (sym (list_all-append is_picture a b) ∙ e)
 
 not_refused : (es : List Event) (unit : ℕ) (f : Fault) → AllPictures (es ++ Refused unit f ∷ []) → false ≡ true
 not_refused es unit f e = back_shown es (Refused unit f ∷ []) e
@@ -285,9 +280,6 @@ closed_marked o h e =
 
 -- ---- where the open picture is closed first
 
-abbrev outcome_of : List Event → Phase → (read : ℕ) → Outcome
-outcome_of es p read = record { events = es; phase = p; read = read }
-
 -- the unit's slice begins a picture, whatever closing gave
 abbrev begins_after : (output : Output) → (sets : Sets) (unit : ℕ) → Slice → Outcome → Outcome
 begins_after output sets unit s closed =
@@ -465,9 +457,6 @@ closed_outcome_sound : (output : Output) → (o : OpenPicture) (r : Result Histo
 closed_outcome_sound output o (Ok h) m = m h refl
 closed_outcome_sound output o (Err found) m = tt
 
-abbrev chosen : Bool → (first second : Outcome) → Outcome
-chosen b first second = elim b [ true ↦ first | false ↦ second ]
-
 chosen_sound : (b : Bool) (first second : Outcome) → Sound first.phase → Sound second.phase
     → Sound (chosen b first second).phase
 chosen_sound true first second m n = m
@@ -495,32 +484,24 @@ sound_through s (u ∷ us) m =
 
 -- ---- the law
 
-sets-append : (a b c : List SetUnit) → (a ++ (b ++ [])) ++ c ≡ a ++ (b ++ c)
-sets-append a b c = append_assoc a (b ++ []) c ∙ ap (λ m. a ++ m) (append_assoc b [] c)
-
-sets_through : (s : State) (us : List Piece) → (state_through s us).sets ≡ s.sets ++ set_units us
-sets_through s [] = sym (append-nil s.sets)
-sets_through s (u ∷ us) = sets_through (state_after s u (after_unit s u)) us ∙ sets-append s.sets _ (set_units us)
-
-output_through : (s : State) (us : List Piece) → (state_through s us).output ≡ s.output
-output_through s [] = refl
-output_through s (u ∷ us) = output_through (state_after s u (after_unit s u)) us
-
 -- the pictures before go out where the flag is 0
-outputs_prior : (h : Header) → is_idr_marking h.marking ≡ true → ((n l : Bool) → h.marking ≡ Some (Idr n l) → n ≡ false) → prior_pictures_of h ≡ are_output
+outputs_prior : (h : Header) → is_idr_marking h.marking ≡ true → ((n l : Bool) → h.marking ≡ Some (Idr n l) → n ≡ false)
+    → prior_pictures_of h ≡ are_output
 outputs_prior h e f = by_marking (has_operation_5 h) h.marking e f
   where
     by_flag : (five n l : Bool) → n ≡ false → prior_pictures_under five (Some (Idr n l)) ≡ are_output
     by_flag five false l e = refl
     by_flag five true l e = cc
 
-    by_marking : (five : Bool) (m : Option Marking) → is_idr_marking m ≡ true → ((n l : Bool) → m ≡ Some (Idr n l) → n ≡ false) → prior_pictures_under five m ≡ are_output
+    by_marking : (five : Bool) (m : Option Marking) → is_idr_marking m ≡ true → ((n l : Bool) → m ≡ Some (Idr n l) → n ≡ false)
+        → prior_pictures_under five m ≡ are_output
     by_marking five None e f = cc
     by_marking five (Some (Idr n l)) e f = by_flag five n l (f n l refl)
     by_marking five (Some SlidingWindow) e f = cc
     by_marking five (Some (Adaptive operations)) e f = cc
 
-of_start_unit : HeadersKeepIdrRules → (sets : Sets) (u : Piece) (s : Slice) → is_start u ≡ true → slice_in sets u ≡ Ok s → is_idr_marking (s.header).marking ≡ true
+of_start_unit : HeadersKeepIdrRules → (sets : Sets) (u : Piece) (s : Slice) → is_start u ≡ true → slice_in sets u ≡ Ok s
+    → is_idr_marking (s.header).marking ≡ true
 of_start_unit rules sets u s e read =
     let unit_starts = starts u e in
     let of_unit = slice_of_unit sets u s read in
@@ -544,7 +525,8 @@ start_units rules anew names output before us u e prior shown =
     let state_is : (q : Phase) → events_from (state_of s.output s.sets q) (u ∷ us) true ≡ events_from (state_of output all q) (u ∷ us) true = λ q.
     ap (λ units. events_from (state_of s.output units q) (u ∷ us) true) (sets_through first before)
     ∙ ap (λ m. events_from (state_of m all q) (u ∷ us) true) (output_through first before) in
-    let out_prior : is_running p ≡ true → (t : Slice) → slice_in (sets_after all) u ≡ Ok t → prior_pictures_of t.header ≡ are_output = λ runs t read.
+    let out_prior : is_running p ≡ true → (t : Slice) → slice_in (sets_after all) u ≡ Ok t → prior_pictures_of t.header ≡ are_output =
+    λ runs t read.
     outputs_prior t.header (of_start_unit rules (sets_after all) u t e read) (λ n l. prior runs t n l read) in
     let shown_here : AllPictures (events_from (state_of output all p) (u ∷ us) true) = subst AllPictures (state_is p) shown in
     state_is p

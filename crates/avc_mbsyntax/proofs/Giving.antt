@@ -12,7 +12,7 @@ use Rattle.avc_bits.specs.declared.reader.BitReader.{BitReader}
 use Rattle.avc_bits.proofs.CodeLaws.{u_reads}
 use Rattle.avc_mbsyntax.specs.Reading.{block_mode, rem_mode}
 use Rattle.avc_mbsyntax.specs.Steps.{ReadsAs}
-use Rattle.avc_bits.specs.Giving.{Gives, gives-any, gives-bind, gives-check, gives-give, gives-then}
+use Rattle.avc_bits.proofs.Giving.{Gives, gives-any, gives-bind, gives-check, gives-give, gives-then}
 use Rattle.std.proofs.lemmas.Bool.Decides.{nat_tests}
 
 pub gives_all : {A : Type 0} (P : A → Type 0) (n : ℕ) (part : Read A) → Gives P part → Gives (All P) (times n part)

@@ -3,7 +3,7 @@ use Rattle.std.proofs.Common.{◌≡◌, ℕ, Option, IfSome, Result, Ok, Err, r
 use Rattle.avc_types.specs.declared.fault.Fault.{Fault}
 use Rattle.avc_bits.specs.Bits.{Bits, Read}
 use Rattle.avc_bits.specs.Codes.{flag}
-use Rattle.avc_bits.specs.Giving.{Gives, gives-any, gives-bind, gives-where_set}
+use Rattle.avc_bits.proofs.Giving.{Gives, gives-any, gives-bind, gives-where_set}
 use Rattle.avc_params.specs.Parsing.{optional}
 use Rattle.avc_params.specs.Reading.{whole}
 use Rattle.avc_params.specs.declared.set_fault.SetFault.{SetFault}

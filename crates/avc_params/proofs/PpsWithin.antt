@@ -8,7 +8,7 @@ use Rattle.avc_params.specs.Within.{IsPps}
 use Rattle.avc_params.specs.declared.pps.Pps.{Pps}
 use Rattle.avc_params.specs.declared.pps_reading.DefaultCounts.{DefaultCounts}
 use Rattle.avc_params.specs.declared.pps_reading.Quantisation.{Quantisation}
-use Rattle.avc_bits.specs.Giving.{Gives, IsFrom, bind-ok, gives-any, gives-bind, gives-check, gives-give, gives-se_within, gives-then, gives-u_to, gives-ue_to}
+use Rattle.avc_bits.proofs.Giving.{Gives, IsFrom, bind-ok, gives-any, gives-bind, gives-check, gives-give, gives-se_within, gives-then, gives-u_to, gives-ue_to}
 use Rattle.avc_params.proofs.Givings.{whole-ok}
 
 record IsCounts (c : DefaultCounts) : Type 0 where

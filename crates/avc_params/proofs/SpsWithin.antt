@@ -13,7 +13,7 @@ use Rattle.avc_params.specs.declared.sps.Sps.{Sps}
 use Rattle.avc_params.specs.declared.sps.OrderCount.TheVariants as orders
 use Rattle.avc_params.specs.declared.sps_reading.Identity.{Identity}
 use Rattle.avc_params.specs.declared.sps_reading.Size.{Size}
-use Rattle.avc_bits.specs.Giving.{Gives, gives-any, gives-bind, gives-check, gives-give, gives-times, gives-ue_to, bind-ok}
+use Rattle.avc_bits.proofs.Giving.{Gives, gives-any, gives-bind, gives-check, gives-give, gives-times, gives-ue_to, bind-ok}
 use Rattle.avc_params.proofs.Givings.{gives-optional, whole-ok}
 
 record IsSize (s : Size) : Type 0 where

@@ -8,7 +8,7 @@ use Rattle.avc_neigh.specs.declared.facts.NearMode.{NearMode}
 use Rattle.avc_neigh.specs.Modes.{modes_before}
 use Rattle.avc_neigh.specs.declared.facts.Motion.{Motion}
 use Rattle.avc_motion.specs.Motion.{motion_before}
-use Rattle.avc_plane.specs.Laws.{length-plane_of}
+use Rattle.avc_plane.proofs.PlaneMaps.{length-plane_of}
 use Rattle.avc_plane.specs.Plane.{Plane, sample, is_inside, plane_of, with_sample, with_block}
 use Rattle.avc_plane.specs.Planes.{Planes, empty_planes}
 use Rattle.avc_deblock.specs.Line.{Line, Setting, filtered}

@@ -3,7 +3,7 @@ use Rattle.std.proofs.Common.{◌≡◌, ℕ, ◌+◌, ◌-◌, ◌*◌, ◌<◌
 use Rattle.std.specs.Prelude.{Some, None}
 use Rattle.std.specs.Option.{unwrap_or}
 use Rattle.avc_plane.specs.Plane.{Plane, sample, with_block, is_inside}
-use Rattle.avc_plane.specs.Laws.{sample-plane_of}
+use Rattle.avc_plane.proofs.PlaneMaps.{sample-plane_of}
 use Rattle.avc_plane.proofs.Blocks.{plane_of_same, inside}
 use Rattle.avc_plane.proofs.Rectangles.{by_place}
 use Rattle.avc_intra.specs.Lines.{block4x4}

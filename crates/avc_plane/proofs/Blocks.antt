@@ -10,7 +10,7 @@ use Rattle.std.proofs.lemmas.Bool.Decides.{nat_tests}
 use Rattle.avc_plane.specs.Plane.{Plane, plane_of, sample, with_block, is_inside}
 use Rattle.avc_plane.specs.Padded.{stored_place, inner_plane}
 use Rattle.avc_plane.proofs.Stored.{stored_sample}
-use Rattle.avc_plane.specs.Laws.{length-plane_of, sample-with_block}
+use Rattle.avc_plane.proofs.PlaneMaps.{length-plane_of, sample-with_block}
 
 -- ---- planes that are the same at each place
 

@@ -8,7 +8,7 @@ use Rattle.std.proofs.lemmas.Bool.{cases_eq}
 use Rattle.std.proofs.lemmas.Grind.{common_steps, same_number_lists}
 use Rattle.avc_plane.specs.Plane.{sample, with_sample}
 use Rattle.avc_plane.specs.Padded.{stored_place, inner_plane}
-use Rattle.avc_plane.specs.Laws.{sample-plane_of, length-plane_of}
+use Rattle.avc_plane.proofs.PlaneMaps.{sample-plane_of, length-plane_of}
 
 module _ (pad width height : ℕ) (stored : List ℕ) (long : length stored ≡ (height + 2 * pad) * (width + 2 * pad)) where
   abbrev at : ℕ → ℕ → ℕ

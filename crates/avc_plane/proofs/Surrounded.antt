@@ -2,7 +2,7 @@
 use Rattle.std.proofs.Common.{ℕ, ◌≡◌, ◌+◌, ◌*◌, ◌<◌, arith, List, slice_index, length, ap, ◌∙◌, sym, pos, ◌-ℤ◌}
 use Rattle.avc_plane.specs.Plane.{Plane, sample, clamped}
 use Rattle.avc_plane.specs.Padded.{stored_place, inner_plane, nearest, IsSurrounded}
-use Rattle.avc_plane.specs.Laws.{sample-plane_of}
+use Rattle.avc_plane.proofs.PlaneMaps.{sample-plane_of}
 use Rattle.avc_plane.proofs.Blocks.{plane_of_same}
 use Rattle.avc_plane.proofs.Nearest.{nearest_inside, nearest_is_inside, clamped_is}
 

@@ -16,7 +16,7 @@ use Rattle.avc_slice.specs.Reading.{back, coded_order, filtering, found, front, 
 use Rattle.avc_slice.specs.declared.header.Header.{Header}
 use Rattle.avc_slice.specs.declared.parts.Front.{Front}
 use Rattle.avc_slice.specs.declared.parts.Numbers.{Numbers}
-use Rattle.avc_bits.specs.Giving.{Gives, gives-bind, gives-check, gives-give, gives-then}
+use Rattle.avc_bits.proofs.Giving.{Gives, gives-bind, gives-check, gives-give, gives-then}
 
 abbrev IsMarked : Header → Type 0
 IsMarked h = (is_some h.marking ≡ is_reference h) × (is_idr h ≡ true → has_idr_marking h ≡ true)

@@ -5,7 +5,7 @@ use Rattle.avc_types.specs.declared.fault.Fault.{Fault}
 use Rattle.avc_types.specs.declared.fault.Fault.TheVariants.{CodeTooLong}
 use Rattle.avc_bits.specs.Bits.{Bits, Read, ◌>>=◌, ◌>>◌, give, refuse, check, where_set, number_of}
 use Rattle.avc_bits.specs.Codes.{split, bits, zeros, zeros_before_one, signed_value, flag, ue, ue_to, se_within, se, u}
-use Rattle.avc_bits.specs.Giving.{bind-ok, left}
+use Rattle.avc_bits.proofs.Giving.{bind-ok, left}
 
 -- how many bits were passed or stand ahead
 abbrev pub total : Bits → ℕ

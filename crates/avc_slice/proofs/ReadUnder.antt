@@ -9,7 +9,7 @@ use Rattle.avc_types.specs.declared.edges.FilteredEdges.TheVariants.{All, NoEdge
 use Rattle.avc_types.specs.declared.references.Marking.TheVariants.{Adaptive}
 use Rattle.avc_bits.specs.Bits.{Bits, Read, start, bits_before_stop, ◌>>=◌, give, check, where_set}
 use Rattle.avc_bits.specs.Codes.{flag, se, se_within, u, ue, ue_to}
-use Rattle.avc_bits.specs.Giving.{Gives, IsFrom, bind-ok, gives-bind, gives-check, gives-give, gives-se_within, gives-then, gives-ue_to, gives-where_set, left, value}
+use Rattle.avc_bits.proofs.Giving.{Gives, IsFrom, bind-ok, gives-bind, gives-check, gives-give, gives-se_within, gives-then, gives-ue_to, gives-where_set, left, value}
 use Rattle.avc_params.specs.Limits.{max_frame_num, size_in_mbs}
 use Rattle.avc_params.specs.Tables.{Sets}
 use Rattle.avc_params.specs.declared.pps.Pps.{Pps}

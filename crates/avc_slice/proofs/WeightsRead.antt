@@ -4,7 +4,7 @@ use Rattle.std.specs.List.{All}
 use Rattle.std.proofs.lemmas.List.Elements.{All-cons, All-nil}
 use Rattle.avc_bits.specs.Bits.{Read, times}
 use Rattle.avc_bits.specs.Codes.{flag, se_within, ue_to}
-use Rattle.avc_bits.specs.Giving.{Gives, IsFrom, gives-bind, gives-give, gives-se_within, gives-then, gives-times, gives-ue_to, gives-where_set}
+use Rattle.avc_bits.proofs.Giving.{Gives, IsFrom, gives-bind, gives-give, gives-se_within, gives-then, gives-times, gives-ue_to, gives-where_set}
 use Rattle.avc_params.specs.Parsing.{optional}
 use Rattle.avc_slice.specs.WeightsReading.{chroma_weights, coded_weight, entry_weights, pred_weight_table}
 use Rattle.avc_slice.specs.declared.weights.EntryWeights.{EntryWeights}

@@ -2,7 +2,7 @@
 use Rattle.std.proofs.Common.{ℕ, ℤ, pos, ◌≡◌, ◌<◌, ◌+◌, ◌*◌, ◌/◌, ◌%◌, ◌+ℤ◌, arith, List, slice_index_or, get_or, set, length, ap, ◌∙◌, sym, subst, below_more, get_or-set_same, get_or-set_other}
 use Rattle.avc_types.specs.Arithmetic.{◌>>ℤ◌}
 use Rattle.avc_transform.specs.Residual.{transformed_row, transformed}
-use Rattle.avc_transform.specs.Laws.{same_inverse4}
+use Rattle.avc_transform.proofs.NoResidual.{same_inverse4}
 use Rattle.avc_transform.specs.Bounds.{HasRows}
 
 -- the transform of a matrix looks at its sixteen places alone

@@ -2,7 +2,7 @@ use Rattle.std.proofs.Common.{◌≡◌, ◌+◌, ◌++◌, ◌∷◌, [], Err, 
 use Rattle.std.proofs.lemmas.Int.{ints}
 use Rattle.avc_bits.specs.Bits.{times}
 use Rattle.avc_bits.specs.Reader.{reader_bits}
-use Rattle.avc_bits.specs.Repeating.{times_more, times_fault}
+use Rattle.avc_bits.proofs.Repeating.{times_more, times_fault}
 use Rattle.avc_cavlc.specs.Block.{IsLevel, trailing_one}
 use Rattle.avc_cavlc.proofs.LevelSteps.{all_more, length_more}
 use Rattle.avc_cavlc.proofs.level.read_trailing_ones.Goals as goal

@@ -2,7 +2,7 @@ use Rattle.std.proofs.Common.{◌≡◌, ◌<◌, Err, arith, rules, ◌∙◌, 
 use Rattle.std.proofs.lemmas.List.{take_more_set}
 use Rattle.avc_bits.specs.Bits.{times}
 use Rattle.avc_bits.specs.Reader.{reader_bits}
-use Rattle.avc_bits.specs.Repeating.{times_more, times_fault}
+use Rattle.avc_bits.proofs.Repeating.{times_more, times_fault}
 use Rattle.avc_mbsyntax.proofs.elements.read_elements.Goals as goal
 
 pub returns-in_err-element-clause-read : goal.returns-in_err-element-clause-read

@@ -2,7 +2,7 @@ use Rattle.std.proofs.lemmas.Grind.{common_steps}
 use Rattle.std.proofs.Common.{rules, arith, ◌≡◌, Err, ◌∙◌, ap}
 use Rattle.avc_bits.specs.Bits.{times}
 use Rattle.avc_bits.specs.Reader.{reader_bits}
-use Rattle.avc_bits.specs.Repeating.{times_more, times_fault}
+use Rattle.avc_bits.proofs.Repeating.{times_more, times_fault}
 use Rattle.avc_params.proofs.syntax.read_times.Goals as goal
 
 pub returns-in_err-read : goal.returns-in_err-read

@@ -1,5 +1,5 @@
 use Rattle.std.proofs.Common.{arith}
-use Rattle.avc_transform.specs.Laws.{no_residual}
+use Rattle.avc_transform.proofs.NoResidual.{no_residual}
 use Rattle.avc_picture_core.proofs.Coefficients.{no_level}
 use Rattle.avc_picture_core.proofs.residual.block_residual.Goals as goal
 

@@ -1,7 +1,7 @@
 use Rattle.std.proofs.Common.{◌≡◌, ℤ, pos, ◌+ℤ◌, arith, ap, ◌∙◌, sym, to_z, of_z, w32}
 use Rattle.std.proofs.lemmas.Int.{ints, to_z-of_z}
 use Rattle.avc_types.specs.Arithmetic.{◌>>ℤ◌}
-use Rattle.avc_transform.specs.Laws.{residual_of_dc}
+use Rattle.avc_transform.proofs.NoResidual.{residual_of_dc}
 use Rattle.avc_transform.specs.Residual.{residual4x4_with_dc}
 use Rattle.avc_picture_core.proofs.Coefficients.{no_level, same_everywhere}
 use Rattle.avc_picture_core.proofs.residual.block_residual_with_dc.Goals as goal

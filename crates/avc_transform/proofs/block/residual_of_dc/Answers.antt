@@ -1,7 +1,7 @@
 use Rattle.std.proofs.Common.{ℤ, pos, ◌+ℤ◌, ◌∙◌, ap, sym, rules, w32}
 use Rattle.std.proofs.lemmas.Int.{to_z-of_z}
 use Rattle.avc_types.specs.Arithmetic.{◌>>ℤ◌}
-use Rattle.avc_transform.specs.Laws.{residual_of_dc}
+use Rattle.avc_transform.proofs.NoResidual.{residual_of_dc}
 use Rattle.avc_transform.proofs.block.residual_of_dc.Goals as goal
 
 pub returns-clause-values : goal.returns-clause-values

@@ -2,7 +2,7 @@ use Rattle.std.proofs.Common.{◌≡◌, ℕ, ◌+◌, ◌*◌, ◌/◌, ◌%◌
 use Rattle.avc_transform.specs.Residual.{transformed_row}
 use Rattle.avc_transform.specs.Bounds.{IsBelow, AllBelow, matrix}
 use Rattle.avc_transform.proofs.Small.{cast_back, IsBelow-more}
-use Rattle.avc_transform.specs.Laws.{same_inverse4}
+use Rattle.avc_transform.proofs.NoResidual.{same_inverse4}
 use Rattle.avc_transform.proofs.Matrices.{place_of_four}
 use Rattle.avc_transform.proofs.Columns.{columns_more}
 use Rattle.avc_transform.proofs.inverse.rows_to_columns.Goals as goal

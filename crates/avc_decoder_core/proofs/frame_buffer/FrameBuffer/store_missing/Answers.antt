@@ -1,4 +1,5 @@
-use Rattle.std.proofs.Common.{◌≡◌, ◌∙◌, ◌≤◌, ◌∷◌, ◌+◌, ◌-◌, [], length, map, ap, ap₂, refl, rules, sym, subst, false, Some, Ok, Err, arith}
+use Rattle.std.proofs.Common.{◌≡◌, ◌∙◌, ◌≤◌, ◌∷◌, ◌+◌, ◌-◌, [], length, map, ap, ap₂, refl, rules, sym, subst}
+use Rattle.std.proofs.Common.{false, Some, Ok, Err, arith}
 use Rattle.std.proofs.lemmas.List.{length-map}
 use Rattle.avc_types.specs.declared.picture_error.PictureError.TheVariants.{Fault as Faulty}
 use Rattle.avc_types.specs.declared.references.Marking.TheVariants.{SlidingWindow}
@@ -8,17 +9,18 @@ use Rattle.avc_marking.specs.Marks.{marks_after}
 use Rattle.avc_decoder_core.specs.FrameBufferFields.{history_of, with_all_marks, IsStateAfter}
 use Rattle.avc_decoder_core.specs.Pictures.{output_pictures}
 use Rattle.std.specs.Result.{is_ok}
-use Rattle.avc_decoder_core.specs.History.{is_same_sps, marks_of, missing_frame, sequence_sps}
+use Rattle.avc_decoder_core.specs.History.{Entry, is_same_sps, marks_of, missing_frame, sequence_sps}
 use Rattle.avc_decoder_core.proofs.Entering.{marked_then}
 use Rattle.avc_decoder_core.proofs.State.{few_frames, refused}
-use Rattle.avc_decoder_core.proofs.StoredEntry.{frame_made, missing_arrival, missing_arrives, outputs_none, taken}
+use Rattle.avc_decoder_core.proofs.StoredEntry.{IsTaken, frame_made, missing_arrival, missing_arrives, outputs_none, taken}
 use Rattle.avc_decoder_core.proofs.frame_buffer.FrameBuffer.store_missing.Goals as goal
 
 pub marked_frames-marked-requires : goal.marked_frames-marked-requires
 marked_frames-marked-requires c =
     let i = c.self.inside in
     let on : i.failed ≡ false = ap (λ v. v.failed) c.self.view_is ∙ c.requires.going in
-    subst (λ fs. length fs ≤ 16) (sym c.frames.ensures) (few_frames (history_of i.history.items) i.dpb i.max_long_term_frame_idx i.prev_ref_frame_num (c.self.invariant on))
+    subst (λ fs. length fs ≤ 16) (sym c.frames.ensures)
+    (few_frames (history_of i.history.items) i.dpb i.max_long_term_frame_idx i.prev_ref_frame_num (c.self.invariant on))
 
 pub sliding_window-requires : goal.sliding_window-requires
 sliding_window-requires c =
@@ -37,61 +39,75 @@ returns-in_err-sliding_window-clause-err c =
     let new = c.sliding_window.new.frames.items in
     let idx = i.max_long_term_frame_idx in
     let f = c.in_err-sliding_window.field-0.0 in
-    let marks = subst (λ n. MarksFrame (λ entry. marks_after (marking_entry n (Some SlidingWindow)) entry (Some SlidingWindow)) old idx (Err f) new idx) c.new_frame.ensures (c.in_err-sliding_window.ensures.marks idx) in
+    let marks =
+    subst (λ n. MarksFrame (λ entry. marks_after (marking_entry n (Some SlidingWindow)) entry (Some SlidingWindow)) old idx (Err f) new idx)
+    c.new_frame.ensures (c.in_err-sliding_window.ensures.marks idx) in
     let then = marked_then e h i.dpb idx i.prev_ref_frame_num (c.self.invariant on) old new (Err f) idx
     (c.marked_frames-marked.ensures ∙ ap (map marked_frame) c.frames.ensures) marks in
     let is : c.from_residual.result ≡ Err (Faulty f) = search rules in
-    refused c.args.self.now c.args.self.now (marks_of (e ∷ c.args.self.now.history)) f c.from_residual.result is c.requires.going refl (sym (ap (λ v. marks_of (e ∷ v.history)) c.self.view_is) ∙ then)
+    refused c.args.self.now c.args.self.now (marks_of (e ∷ c.args.self.now.history)) f c.from_residual.result is c.requires.going refl
+    (sym (ap (λ v. marks_of (e ∷ v.history)) c.self.view_is) ∙ then)
+
+-- the entry
+abbrev entry : goal.After-self-3-1 → Entry
+entry c = missing_frame c.args.sps.now c.args.frame_num
+
+-- It has come to the history.
+record IsStored (c : goal.After-self-3-1) : Type 0 where
+  history : history_of c.with_newest-history.result.items ≡ entry c ∷ history_of c.self.inside.history.items
+  taken :
+      IsTaken c.self.inside.dpb.output (entry c) (history_of c.self.inside.history.items)
+      c.store.new.self c.self.inside.max_long_term_frame_idx c.args.frame_num [] c.in_ok-out.out.items
+
+stored : (c : goal.After-self-3-1) → IsStored c
+stored c =
+    let i = c.self.inside in
+    let h = history_of i.history.items in
+    let sps = c.args.sps.now in
+    let frame_num = c.args.frame_num in
+    let e = missing_frame sps frame_num in
+    let on : i.failed ≡ false = ap (λ v. v.failed) c.self.view_is ∙ c.requires.going in
+    let old = c.marked_frames-marked.result.items in
+    let new = c.sliding_window.new.frames.items in
+    let idx = i.max_long_term_frame_idx in
+    let marks =
+    subst (λ n. MarksFrame (λ entry. marks_after (marking_entry n (Some SlidingWindow)) entry (Some SlidingWindow)) old idx (Ok tt) new idx)
+    c.new_frame.ensures (c.in_ok-sliding_window.ensures.marks idx) in
+    let set : c.set_marks.new.dpb ≡ with_all_marks i.dpb new = c.set_marks.ensures ∙ ap (with_all_marks i.dpb) c.as_slice.ensures.value in
+    let last : (c.len.result - 1) + 1 ≡ length new = omega (arith, c.len.ensures.value, c.in_ok-sliding_window.ensures.length) in
+    let made =
+    frame_made e _ new c.deref.result.now c.entry_frame-frame.result (c.len.result - 1) _
+    (ap (λ s. missing_frame s frame_num) c.copied.ensures) c.deref.ensures.0 last c.entry_frame-frame.ensures in
+    let follows = ap (λ v. is_same_sps (sequence_sps v.history) sps) c.self.view_is ∙ c.requires.same in
+    record {
+      history = ap history_of c.with_newest-history.ensures ∙ ap (λ s. missing_frame s frame_num ∷ h) c.copied.ensures;
+      taken =
+          taken e h i.dpb idx i.prev_ref_frame_num (c.self.invariant on) follows c.requires.sps old new idx
+          (c.marked_frames-marked.ensures ∙ ap (map marked_frame) c.frames.ensures) c.in_ok-sliding_window.ensures.length marks
+          c.set_marks.new.dpb c.set_marks.new.dpb c.store.new.self set
+          [] c.in_ok-out.out.items (outputs_none c.set_marks.new.dpb) refl
+          c.entry_frame-frame.result made
+          (missing_arrival c.dpb_size.result) (missing_arrives sps frame_num h c.dpb_size.result c.dpb_size.ensures)
+          c.in_ok-out.ensures.ok c.in_ok-out.ensures.kept frame_num refl;
+    }
 
 pub invariant_of-self-2 : goal.invariant_of-self-2
 invariant_of-self-2 c = λ going.
-    let i = c.self.inside in
-    let h = history_of i.history.items in
-    let sps = c.args.sps.now in
-    let frame_num = c.args.frame_num in
-    let e = missing_frame sps frame_num in
-    let on : i.failed ≡ false = ap (λ v. v.failed) c.self.view_is ∙ c.requires.going in
-    let old = c.marked_frames-marked.result.items in
-    let new = c.sliding_window.new.frames.items in
-    let idx = i.max_long_term_frame_idx in
-    let marks = subst (λ n. MarksFrame (λ entry. marks_after (marking_entry n (Some SlidingWindow)) entry (Some SlidingWindow)) old idx (Ok tt) new idx) c.new_frame.ensures (c.in_ok-sliding_window.ensures.marks idx) in
-    let set : c.set_marks.new.dpb ≡ with_all_marks i.dpb new = c.set_marks.ensures ∙ ap (with_all_marks i.dpb) c.as_slice.ensures.value in
-    let last : (c.len.result - 1) + 1 ≡ length new = omega (arith, c.len.ensures.value, c.in_ok-sliding_window.ensures.length) in
-    let made = frame_made e _ new c.deref.result.now c.entry_frame-frame.result (c.len.result - 1) _ (ap (λ s. missing_frame s frame_num) c.copied.ensures) c.deref.ensures.0 last c.entry_frame-frame.ensures in
-    let done = taken e h i.dpb idx i.prev_ref_frame_num (c.self.invariant on) (ap (λ v. is_same_sps (sequence_sps v.history) sps) c.self.view_is ∙ c.requires.same) c.requires.sps old new idx
-    (c.marked_frames-marked.ensures ∙ ap (map marked_frame) c.frames.ensures) c.in_ok-sliding_window.ensures.length marks
-    c.set_marks.new.dpb c.set_marks.new.dpb c.store.new.self set [] c.in_ok-out.out.items (outputs_none c.set_marks.new.dpb) refl
-    c.entry_frame-frame.result made (missing_arrival c.dpb_size.result) (missing_arrives sps frame_num h c.dpb_size.result c.dpb_size.ensures)
-    c.in_ok-out.ensures.ok c.in_ok-out.ensures.kept frame_num refl in
-    let history : history_of c.with_newest-history.result.items ≡ e ∷ h = ap history_of c.with_newest-history.ensures ∙ ap (λ s. missing_frame s frame_num ∷ h) c.copied.ensures in
-    subst (λ h. IsStateAfter h c.store.new.self idx frame_num) (sym history) done.longer.state
+    let s = stored c in
+    subst (λ h. IsStateAfter h c.store.new.self c.self.inside.max_long_term_frame_idx c.args.frame_num) (sym s.history) (s.taken).longer.state
 
 pub returns-clause-ok : goal.returns-clause-ok
 returns-clause-ok c =
-    let i = c.self.inside in
-    let h = history_of i.history.items in
-    let sps = c.args.sps.now in
-    let frame_num = c.args.frame_num in
-    let e = missing_frame sps frame_num in
-    let on : i.failed ≡ false = ap (λ v. v.failed) c.self.view_is ∙ c.requires.going in
-    let old = c.marked_frames-marked.result.items in
-    let new = c.sliding_window.new.frames.items in
-    let idx = i.max_long_term_frame_idx in
-    let marks = subst (λ n. MarksFrame (λ entry. marks_after (marking_entry n (Some SlidingWindow)) entry (Some SlidingWindow)) old idx (Ok tt) new idx) c.new_frame.ensures (c.in_ok-sliding_window.ensures.marks idx) in
-    let set : c.set_marks.new.dpb ≡ with_all_marks i.dpb new = c.set_marks.ensures ∙ ap (with_all_marks i.dpb) c.as_slice.ensures.value in
-    let last : (c.len.result - 1) + 1 ≡ length new = omega (arith, c.len.ensures.value, c.in_ok-sliding_window.ensures.length) in
-    let made = frame_made e _ new c.deref.result.now c.entry_frame-frame.result (c.len.result - 1) _ (ap (λ s. missing_frame s frame_num) c.copied.ensures) c.deref.ensures.0 last c.entry_frame-frame.ensures in
-    let done = taken e h i.dpb idx i.prev_ref_frame_num (c.self.invariant on) (ap (λ v. is_same_sps (sequence_sps v.history) sps) c.self.view_is ∙ c.requires.same) c.requires.sps old new idx
-    (c.marked_frames-marked.ensures ∙ ap (map marked_frame) c.frames.ensures) c.in_ok-sliding_window.ensures.length marks
-    c.set_marks.new.dpb c.set_marks.new.dpb c.store.new.self set [] c.in_ok-out.out.items (outputs_none c.set_marks.new.dpb) refl
-    c.entry_frame-frame.result made (missing_arrival c.dpb_size.result) (missing_arrives sps frame_num h c.dpb_size.result c.dpb_size.ensures)
-    c.in_ok-out.ensures.ok c.in_ok-out.ensures.kept frame_num refl in
-    let history : history_of c.with_newest-history.result.items ≡ e ∷ h = ap history_of c.with_newest-history.ensures ∙ ap (λ s. missing_frame s frame_num ∷ h) c.copied.ensures in
-    let before = ap (λ v. v.history) c.self.view_is in
-    let output : i.dpb.output ≡ c.args.self.now.output = ap (λ v. v.output) c.self.view_is in
+    let s = stored c in
+    let e = entry c in
+    let now = c.args.self.now in
+    let before : history_of c.self.inside.history.items ≡ now.history = ap (λ v. v.history) c.self.view_is in
+    let output : c.self.inside.dpb.output ≡ now.output = ap (λ v. v.output) c.self.view_is in
     record {
       going = c.requires.going;
-      state = ap₂ (λ h o. record { history = h; frames = (c.store.new.self).frames; output = o; failed = false }) (history ∙ ap (λ h. e ∷ h) before) (done.longer.kept ∙ output);
-      marked = ap (λ h. is_ok (marks_of (e ∷ h))) (sym before) ∙ done.ok;
-      pictures = done.longer.pictures ∙ ap₂ (λ o h. output_pictures o h (e ∷ h)) output before;
+      state =
+          ap₂ (λ h o. record { history = h; frames = (c.store.new.self).frames; output = o; failed = false })
+          (s.history ∙ ap (λ h. e ∷ h) before) ((s.taken).longer.kept ∙ output);
+      marked = ap (λ h. is_ok (marks_of (e ∷ h))) (sym before) ∙ (s.taken).ok;
+      pictures = (s.taken).longer.pictures ∙ ap₂ (λ o h. output_pictures o h (e ∷ h)) output before;
     }

@@ -1,4 +1,5 @@
-use Rattle.std.proofs.Common.{◌≡◌, ◌∙◌, ◌≤◌, ◌∷◌, ◌+◌, ◌-◌, length, map, ap, ap₂, refl, rules, to_z, of_z, w32, sym, subst, OnOk, false, Ok, Err, arith}
+use Rattle.std.proofs.Common.{◌≡◌, ◌∙◌, ◌≤◌, ◌∷◌, ◌+◌, ◌-◌, length, map, ap, ap₂, refl, rules, to_z, of_z, w32, sym, subst, OnOk}
+use Rattle.std.proofs.Common.{false, Ok, Err, arith}
 use Rattle.std.proofs.lemmas.List.{length-map}
 use Rattle.avc_types.specs.declared.picture_error.PictureError.TheVariants.{Fault as Faulty, OutOfMemory as NoMemory}
 use Rattle.avc_poc.specs.OrderCounts.{order_counts}
@@ -9,17 +10,18 @@ use Rattle.avc_marking.specs.Marks.{frame_num_after_marking, marks_after}
 use Rattle.avc_decoder_core.specs.FrameBufferFields.{history_of, with_all_marks, IsStateAfter}
 use Rattle.avc_decoder_core.specs.Pictures.{output_pictures}
 use Rattle.std.specs.Result.{is_ok}
-use Rattle.avc_decoder_core.specs.History.{decoded_picture, marks_of, order_or_0, pasts, picture_entry}
+use Rattle.avc_decoder_core.specs.History.{Entry, decoded_picture, marks_of, order_or_0, pasts, picture_entry}
 use Rattle.avc_decoder_core.proofs.Entering.{marked_then}
 use Rattle.avc_decoder_core.proofs.State.{few_frames, refused}
-use Rattle.avc_decoder_core.proofs.StoredEntry.{frame_made, picture_arrival, picture_arrives, picture_previous, taken}
+use Rattle.avc_decoder_core.proofs.StoredEntry.{IsTaken, frame_made, picture_arrival, picture_arrives, picture_previous, taken}
 use Rattle.avc_decoder_core.proofs.frame_buffer.FrameBuffer.store_picture.Goals as goal
 
 pub marked_frames-marked-requires : goal.marked_frames-marked-requires
 marked_frames-marked-requires c =
     let i = c.self.inside in
     let on : i.failed ≡ false = ap (λ v. v.failed) c.self.view_is ∙ c.requires.going in
-    subst (λ fs. length fs ≤ 16) (sym c.frames.ensures) (few_frames (history_of i.history.items) i.dpb i.max_long_term_frame_idx i.prev_ref_frame_num (c.self.invariant on))
+    subst (λ fs. length fs ≤ 16) (sym c.frames.ensures)
+    (few_frames (history_of i.history.items) i.dpb i.max_long_term_frame_idx i.prev_ref_frame_num (c.self.invariant on))
 
 pub mark-requires : goal.mark-requires
 mark-requires c =
@@ -43,11 +45,14 @@ returns-in_err-mark-clause-err c =
     let idx = i.max_long_term_frame_idx in
     let new_idx = c.mark.new.max_long_term_frame_idx in
     let f = c.in_err-mark.field-0.0 in
-    let marks = subst (λ n. MarksFrame (λ entry. marks_after (marking_entry n header.marking) entry header.marking) old idx (Err f) new new_idx) c.new_frame-new.ensures c.in_err-mark.ensures.marks in
+    let marks =
+    subst (λ n. MarksFrame (λ entry. marks_after (marking_entry n header.marking) entry header.marking) old idx (Err f) new new_idx)
+    c.new_frame-new.ensures c.in_err-mark.ensures.marks in
     let then = marked_then e h i.dpb idx i.prev_ref_frame_num (c.self.invariant on) old new (Err f) new_idx
     (c.marked_frames-marked.ensures ∙ ap (map marked_frame) c.frames.ensures) marks in
     let is : c.from_residual.result ≡ Err (Faulty f) = search rules in
-    refused c.args.self.now c.args.self.now (marks_of (e ∷ c.args.self.now.history)) f c.from_residual.result is c.requires.going refl (sym (ap (λ h. marks_of (e ∷ h)) before) ∙ then)
+    refused c.args.self.now c.args.self.now (marks_of (e ∷ c.args.self.now.history)) f c.from_residual.result is c.requires.going refl
+    (sym (ap (λ h. marks_of (e ∷ h)) before) ∙ then)
 
 pub returns-in_err-more-clause-closed : goal.returns-in_err-more-clause-closed
 returns-in_err-more-clause-closed c =
@@ -55,8 +60,20 @@ returns-in_err-more-clause-closed c =
     let is : c.from_residual-in_err-more.result ≡ Err NoMemory = search rules in
     subst (λ r. OnOk r (history_of c.args.closed.now.items ≡ history_of c.self.inside.history.items)) (sym is) tt
 
-pub invariant_of-self-2 : goal.invariant_of-self-2
-invariant_of-self-2 c = λ going.
+-- the entry
+abbrev entry : goal.After-self-4-1 → Entry
+entry c = decoded_picture c.args.sps.now c.args.header.now (padded_planes_of c.args.planes)
+
+-- It has come to the history.
+record IsStored (c : goal.After-self-4-1) : Type 0 where
+  history : history_of c.with_newest-history.result.items ≡ entry c ∷ history_of c.self.inside.history.items
+  taken :
+      IsTaken c.self.inside.dpb.output (entry c) (history_of c.self.inside.history.items)
+      c.store.new.self c.mark.new.max_long_term_frame_idx c.prev_ref_frame_num_after-self-inside.result
+      c.in_ok-prior.prior.items c.in_ok-more.more.items
+
+stored : (c : goal.After-self-4-1) → IsStored c
+stored c =
     let i = c.self.inside in
     let h = history_of i.history.items in
     let sps = c.args.sps.now in
@@ -69,66 +86,59 @@ invariant_of-self-2 c = λ going.
     let new = c.mark.new.frames.items in
     let idx = i.max_long_term_frame_idx in
     let new_idx = c.mark.new.max_long_term_frame_idx in
-    let marks = subst (λ n. MarksFrame (λ entry. marks_after (marking_entry n header.marking) entry header.marking) old idx (Ok tt) new new_idx) c.new_frame-new.ensures c.in_ok-mark.ensures.marks in
+    let marks =
+    subst (λ n. MarksFrame (λ entry. marks_after (marking_entry n header.marking) entry header.marking) old idx (Ok tt) new new_idx)
+    c.new_frame-new.ensures c.in_ok-mark.ensures.marks in
     let number : c.frame_num_after_marking-frame_num.result ≡ frame_num_after_marking (picture_entry sps header) =
-    c.frame_num_after_marking-frame_num.ensures ∙ ap (λ n. frame_num_after_marking (marking_entry n header.marking)) c.new_frame-new.ensures in
+    c.frame_num_after_marking-frame_num.ensures
+    ∙ ap (λ n. frame_num_after_marking (marking_entry n header.marking)) c.new_frame-new.ensures in
     let set : c.set_marks.new.dpb ≡ with_all_marks i.dpb new = c.set_marks.ensures ∙ ap (with_all_marks i.dpb) c.as_slice.ensures.value in
     let last : (c.len.result - 1) + 1 ≡ length new = omega (arith, c.len.ensures.value, c.in_ok-mark.ensures.length) in
-    let same : decoded_picture c.copied.result c.copied-2.result planes ≡ e = ap₂ (λ s t. decoded_picture s t planes) c.copied.ensures c.copied-2.ensures in
-    let made = frame_made e _ new c.deref.result.now c.entry_frame-frame.result (c.len.result - 1) _ same c.deref.ensures.0 last c.entry_frame-frame.ensures in
+    let same : decoded_picture c.copied.result c.copied-2.result planes ≡ e =
+    ap₂ (λ s t. decoded_picture s t planes) c.copied.ensures c.copied-2.ensures in
+    let made =
+    frame_made e _ new c.deref.result.now c.entry_frame-frame.result (c.len.result - 1) _ same
+    c.deref.ensures.0 last c.entry_frame-frame.ensures in
     let follows = subst (λ h. CanFollow h sps header) (sym before) c.requires.follows in
     let count = to_z w32 (of_z w32 c.args.order) in
     let back : count ≡ c.args.order = search rules in
     let order = back ∙ c.requires.order ∙ ap (λ h. order_or_0 (order_counts sps header (pasts h))) (sym before) in
     let state = c.self.invariant on in
-    let done = taken e h i.dpb idx i.prev_ref_frame_num state (follows, c.requires.sized) c.requires.sps old new new_idx
-    (c.marked_frames-marked.ensures ∙ ap (map marked_frame) c.frames.ensures) c.in_ok-mark.ensures.length marks
-    c.set_marks.new.dpb c.output_prior_pictures.new.dpb c.store.new.self set c.in_ok-prior.prior.items c.in_ok-more.more.items c.in_ok-prior.ensures.ok c.in_ok-prior.ensures.kept
-    c.entry_frame-frame.result made (picture_arrival count c.is_reference.result c.dpb_size.result c.reorder_limit.result)
-    (picture_arrives sps header planes h count c.is_reference.result c.dpb_size.result c.reorder_limit.result order c.is_reference.ensures c.dpb_size.ensures c.reorder_limit.ensures)
-    c.in_ok-more.ensures.ok c.in_ok-more.ensures.kept c.prev_ref_frame_num_after-self-inside.result
-    (picture_previous sps header planes h i.prev_ref_frame_num c.frame_num_after_marking-frame_num.result c.prev_ref_frame_num_after-self-inside.result state.previous_is number c.prev_ref_frame_num_after-self-inside.ensures) in
-    let history : history_of c.with_newest-history.result.items ≡ e ∷ h = ap history_of c.with_newest-history.ensures ∙ ap (λ e. e ∷ h) same in
-    subst (λ h. IsStateAfter h c.store.new.self new_idx c.prev_ref_frame_num_after-self-inside.result) (sym history) done.longer.state
+    record {
+      history = ap history_of c.with_newest-history.ensures ∙ ap (λ e. e ∷ h) same;
+      taken =
+          taken e h i.dpb idx i.prev_ref_frame_num state (follows, c.requires.sized) c.requires.sps old new new_idx
+          (c.marked_frames-marked.ensures ∙ ap (map marked_frame) c.frames.ensures) c.in_ok-mark.ensures.length marks
+          c.set_marks.new.dpb c.output_prior_pictures.new.dpb c.store.new.self set
+          c.in_ok-prior.prior.items c.in_ok-more.more.items c.in_ok-prior.ensures.ok c.in_ok-prior.ensures.kept
+          c.entry_frame-frame.result made
+          (picture_arrival count c.is_reference.result c.dpb_size.result c.reorder_limit.result)
+          (picture_arrives sps header planes h count c.is_reference.result c.dpb_size.result c.reorder_limit.result
+          order c.is_reference.ensures c.dpb_size.ensures c.reorder_limit.ensures)
+          c.in_ok-more.ensures.ok c.in_ok-more.ensures.kept c.prev_ref_frame_num_after-self-inside.result
+          (picture_previous sps header planes h i.prev_ref_frame_num
+          c.frame_num_after_marking-frame_num.result c.prev_ref_frame_num_after-self-inside.result
+          state.previous_is number c.prev_ref_frame_num_after-self-inside.ensures);
+    }
+
+pub invariant_of-self-2 : goal.invariant_of-self-2
+invariant_of-self-2 c = λ going.
+    let s = stored c in
+    subst (λ h. IsStateAfter h c.store.new.self c.mark.new.max_long_term_frame_idx c.prev_ref_frame_num_after-self-inside.result)
+    (sym s.history) (s.taken).longer.state
 
 pub returns-clause-ok : goal.returns-clause-ok
 returns-clause-ok c =
-    let i = c.self.inside in
-    let h = history_of i.history.items in
-    let sps = c.args.sps.now in
-    let header = c.args.header.now in
-    let planes = padded_planes_of c.args.planes in
-    let e = decoded_picture sps header planes in
-    let on : i.failed ≡ false = ap (λ v. v.failed) c.self.view_is ∙ c.requires.going in
-    let before : h ≡ c.args.self.now.history = ap (λ v. v.history) c.self.view_is in
-    let old = c.marked_frames-marked.result.items in
-    let new = c.mark.new.frames.items in
-    let idx = i.max_long_term_frame_idx in
-    let new_idx = c.mark.new.max_long_term_frame_idx in
-    let marks = subst (λ n. MarksFrame (λ entry. marks_after (marking_entry n header.marking) entry header.marking) old idx (Ok tt) new new_idx) c.new_frame-new.ensures c.in_ok-mark.ensures.marks in
-    let number : c.frame_num_after_marking-frame_num.result ≡ frame_num_after_marking (picture_entry sps header) =
-    c.frame_num_after_marking-frame_num.ensures ∙ ap (λ n. frame_num_after_marking (marking_entry n header.marking)) c.new_frame-new.ensures in
-    let set : c.set_marks.new.dpb ≡ with_all_marks i.dpb new = c.set_marks.ensures ∙ ap (with_all_marks i.dpb) c.as_slice.ensures.value in
-    let last : (c.len.result - 1) + 1 ≡ length new = omega (arith, c.len.ensures.value, c.in_ok-mark.ensures.length) in
-    let same : decoded_picture c.copied.result c.copied-2.result planes ≡ e = ap₂ (λ s t. decoded_picture s t planes) c.copied.ensures c.copied-2.ensures in
-    let made = frame_made e _ new c.deref.result.now c.entry_frame-frame.result (c.len.result - 1) _ same c.deref.ensures.0 last c.entry_frame-frame.ensures in
-    let follows = subst (λ h. CanFollow h sps header) (sym before) c.requires.follows in
-    let count = to_z w32 (of_z w32 c.args.order) in
-    let back : count ≡ c.args.order = search rules in
-    let order = back ∙ c.requires.order ∙ ap (λ h. order_or_0 (order_counts sps header (pasts h))) (sym before) in
-    let state = c.self.invariant on in
-    let done = taken e h i.dpb idx i.prev_ref_frame_num state (follows, c.requires.sized) c.requires.sps old new new_idx
-    (c.marked_frames-marked.ensures ∙ ap (map marked_frame) c.frames.ensures) c.in_ok-mark.ensures.length marks
-    c.set_marks.new.dpb c.output_prior_pictures.new.dpb c.store.new.self set c.in_ok-prior.prior.items c.in_ok-more.more.items c.in_ok-prior.ensures.ok c.in_ok-prior.ensures.kept
-    c.entry_frame-frame.result made (picture_arrival count c.is_reference.result c.dpb_size.result c.reorder_limit.result)
-    (picture_arrives sps header planes h count c.is_reference.result c.dpb_size.result c.reorder_limit.result order c.is_reference.ensures c.dpb_size.ensures c.reorder_limit.ensures)
-    c.in_ok-more.ensures.ok c.in_ok-more.ensures.kept c.prev_ref_frame_num_after-self-inside.result
-    (picture_previous sps header planes h i.prev_ref_frame_num c.frame_num_after_marking-frame_num.result c.prev_ref_frame_num_after-self-inside.result state.previous_is number c.prev_ref_frame_num_after-self-inside.ensures) in
-    let history : history_of c.with_newest-history.result.items ≡ e ∷ h = ap history_of c.with_newest-history.ensures ∙ ap (λ e. e ∷ h) same in
-    let output : i.dpb.output ≡ c.args.self.now.output = ap (λ v. v.output) c.self.view_is in
+    let s = stored c in
+    let e = entry c in
+    let now = c.args.self.now in
+    let before : history_of c.self.inside.history.items ≡ now.history = ap (λ v. v.history) c.self.view_is in
+    let output : c.self.inside.dpb.output ≡ now.output = ap (λ v. v.output) c.self.view_is in
     record {
       going = c.requires.going;
-      state = ap₂ (λ h o. record { history = h; frames = (c.store.new.self).frames; output = o; failed = false }) (history ∙ ap (λ h. e ∷ h) before) (done.longer.kept ∙ output);
-      marked = ap (λ h. is_ok (marks_of (e ∷ h))) (sym before) ∙ done.ok;
-      pictures = c.in_ok-out.ensures ∙ done.longer.pictures ∙ ap₂ (λ o h. output_pictures o h (e ∷ h)) output before;
+      state =
+          ap₂ (λ h o. record { history = h; frames = (c.store.new.self).frames; output = o; failed = false })
+          (s.history ∙ ap (λ h. e ∷ h) before) ((s.taken).longer.kept ∙ output);
+      marked = ap (λ h. is_ok (marks_of (e ∷ h))) (sym before) ∙ (s.taken).ok;
+      pictures = c.in_ok-out.ensures ∙ (s.taken).longer.pictures ∙ ap₂ (λ o h. output_pictures o h (e ∷ h)) output before;
     }

@@ -3,7 +3,7 @@ use Rattle.std.proofs.Math.Seq.{take-add, take-length}
 use Rattle.avc_plane.specs.Plane.{Plane}
 use Rattle.avc_plane.specs.Padded.{stored_place}
 use Rattle.std.specs.Prelude.{slice_index}
-use Rattle.avc_plane.specs.Laws.{length-plane_of}
+use Rattle.avc_plane.proofs.PlaneMaps.{length-plane_of}
 use Rattle.avc_plane.proofs.padded.PaddedPlane.to_bytes.Goals as goal
 
 -- one row more

@@ -2,7 +2,7 @@ use Rattle.std.proofs.Common.{◌≡◌, ◌*◌, ◌∙◌, ◌+◌, ◌≤◌,
 use Rattle.std.specs.Prelude.{slice_index}
 use Rattle.avc_plane.specs.Plane.{Plane, sample}
 use Rattle.avc_plane.specs.Padded.{stored_place}
-use Rattle.avc_plane.specs.Laws.{length-plane_of}
+use Rattle.avc_plane.proofs.PlaneMaps.{length-plane_of}
 use Rattle.avc_plane.proofs.Stored.{stored_sample}
 use Rattle.avc_plane.proofs.Rectangles.{small, room, place}
 use Rattle.avc_plane.proofs.plane.Plane.rectangle.Goals as goal

@@ -1,0 +1,22 @@
+-- What the state after some units has: the parameter sets that they bring, and the mode of output.
+use Rattle.std.specs.Prelude.{◌≡◌, List, [], ◌∷◌, ◌++◌, refl}
+use Rattle.std.proofs.Common.{ap, sym, ◌∙◌, append_assoc, append-nil}
+use Rattle.avc_annexb.specs.declared.unit.Unit.{Unit as Piece}
+use Rattle.avc_params.specs.declared.set_unit.SetUnit.{SetUnit}
+use Rattle.avc_units.specs.Grouping.{set_units}
+use Rattle.avc_decoder.specs.Events.{State, after_unit, state_after}
+use Rattle.avc_decoder.specs.Laws.{state_through}
+
+-- one unit's sets, and then the others'
+pub sets-append : (a b c : List SetUnit) → (a ++ (b ++ [])) ++ c ≡ a ++ (b ++ c)
+sets-append a b c = append_assoc a (b ++ []) c ∙ ap (λ m. a ++ m) (append_assoc b [] c)
+
+-- those that came, and then what the units bring
+pub sets_through : (s : State) (us : List Piece) → (state_through s us).sets ≡ s.sets ++ set_units us
+sets_through s [] = sym (append-nil s.sets)
+sets_through s (u ∷ us) = sets_through (state_after s u (after_unit s u)) us ∙ sets-append s.sets _ (set_units us)
+
+-- the mode stays
+pub output_through : (s : State) (us : List Piece) → (state_through s us).output ≡ s.output
+output_through s [] = refl
+output_through s (u ∷ us) = output_through (state_after s u (after_unit s u)) us
