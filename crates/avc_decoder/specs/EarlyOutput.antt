@@ -38,6 +38,7 @@ stopped_at_end s =
     let closed = phase_after_closing s.output true s.phase in
     stopped s.phase closed ++ stopped closed waiting
 
+-- those of these units after a state, and of the end of the stream
 abbrev pub histories_from : State → List Unit → List History
 histories_from s [] = stopped_at_end s
 histories_from s (u ∷ units) = stopped_by_unit s u ++ histories_from (state_after s u (after_unit s u)) units
