@@ -162,7 +162,7 @@ number-drop n bits long =
     ap (λ v. v % 2 ^ (length bits - n)) whole ∙ mod-mul-add (number_of (take n bits)) (2 ^ (length bits - n)) (number_of (drop n bits)) below
 
 -- some of the bits
-number-part : (first count total : ℕ) (bits : List Bool) → length bits ≡ total → first + count ≤ total → number_of bits / 2 ^ (total - first - count) % 2 ^ count ≡ number_of (take count (drop first bits))
+pub number-part : (first count total : ℕ) (bits : List Bool) → length bits ≡ total → first + count ≤ total → number_of bits / 2 ^ (total - first - count) % 2 ^ count ≡ number_of (take count (drop first bits))
 number-part first count total bits len fits =
     let low = total - first - count in
     let rest : length (drop first bits) ≡ total - first = length-drop first bits ∙ ap (λ k. k - first) len in
@@ -263,13 +263,18 @@ eight_items xs first inside =
       next_item xs (first + 7) (first + 8) 0 (omega arith) (omega arith),
     ) refl
 
--- the bits at a place, by the eight bytes from there on
+-- the bits at a place in a byte, by the eight bytes from there on
+pub window_from : (bytes : List ℕ) (byte bit position count eight : ℕ) → position ≡ 8 * byte + bit → bit < 8 → byte + 8 ≤ length bytes → count ≤ 32 → eight ≡ number_of (take 64 (drop (8 * byte) (byte_bits bytes))) →
+    eight / 2 ^ (64 - bit - count) % 2 ^ count ≡ number_of (take count (drop position (byte_bits bytes)))
+window_from bytes byte bit position count eight at narrow inside few is =
+    let all = drop (8 * byte) (byte_bits bytes) in
+    let long : 64 ≤ length all = omega (arith, length-drop (8 * byte) (byte_bits bytes), length-byte_bits bytes) in
+    ap (λ v. v / 2 ^ (64 - bit - count) % 2 ^ count) is
+    ∙ number-part bit count 64 (take 64 all) (length-take-le 64 all long) (omega arith)
+    ∙ ap number_of (take_front all bit count 64 (omega arith))
+    ∙ ap (λ t. number_of (take count t)) (drop-drop bit (8 * byte) (byte_bits bytes) ∙ ap (λ k. drop k (byte_bits bytes)) (omega arith))
+
+-- the same by the position alone
 pub window_bits : (bytes : List ℕ) (position count eight : ℕ) → position / 8 + 8 ≤ length bytes → count ≤ 32 → eight ≡ number_of (take 64 (drop (8 * (position / 8)) (byte_bits bytes))) →
     eight / 2 ^ (64 - position % 8 - count) % 2 ^ count ≡ number_of (take count (drop position (byte_bits bytes)))
-window_bits bytes position count eight inside few is =
-    let all = drop (8 * (position / 8)) (byte_bits bytes) in
-    let long : 64 ≤ length all = omega (arith, length-drop (8 * (position / 8)) (byte_bits bytes), length-byte_bits bytes) in
-    ap (λ v. v / 2 ^ (64 - position % 8 - count) % 2 ^ count) is
-    ∙ number-part (position % 8) count 64 (take 64 all) (length-take-le 64 all long) (omega arith)
-    ∙ ap number_of (take_front all (position % 8) count 64 (omega arith))
-    ∙ ap (λ t. number_of (take count t)) (drop-drop (position % 8) (8 * (position / 8)) (byte_bits bytes) ∙ ap (λ k. drop k (byte_bits bytes)) (omega arith))
+window_bits bytes position count eight inside few is = window_from bytes (position / 8) (position % 8) position count eight (omega arith) (omega arith) inside few is

@@ -11,10 +11,10 @@ use Rattle.avc_types.specs.declared.fault.Fault.{Fault}
 use Rattle.avc_types.specs.declared.fault.Fault.TheVariants.{Truncated, CodeTooLong}
 use Rattle.avc_bits.specs.Bits.{Bits, bits_before_stop, bits_of, byte_bits, more_data, number_of, passed}
 use Rattle.avc_bits.specs.Codes.{split, zeros, zeros_before_one, u, ue, skip}
-use Rattle.avc_bits.specs.Reader.{leading, reader_bits}
+use Rattle.avc_bits.specs.Reader.{leading, left_of, position_of, reader_bits}
 use Rattle.avc_bits.specs.declared.reader.BitReader.{BitReader}
 use Rattle.avc_bits.proofs.Stops.{stop_prefix}
-use Rattle.avc_bits.proofs.Numbers.{number_lt, number-append, number-take, bits_of-number, take_front, pow_lt_back, pow_lt_trans}
+use Rattle.avc_bits.proofs.Numbers.{number_lt, number-append, number-take, bits_of-number, take_front, pow_lt_back, pow_lt_trans, number-part, field64_is}
 
 -- ---- so many bits
 
@@ -109,9 +109,27 @@ ue_long b few long =
 pub number-take_lt : (n : ℕ) (bits : List Bool) → number_of (take n bits) < 2 ^ n
 number-take_lt n bits = pow_lt_trans (number_of (take n bits)) (length (take n bits)) n (number_lt (take n bits)) (omega (arith, length-take n bits))
 
-pub length-ahead : (r : BitReader) → length (reader_bits r).ahead ≡ r.left
+-- what is left before the stop bit
+pub left_is : (r : BitReader) → left_of r ≡ length (bits_before_stop r.bytes.now) - position_of r
+left_is r = elim (cases_lt 0 r.beyond) [
+  | inl some ↦ omega (arith, r.stop, r.past some)
+  | inr none ↦ omega (arith, r.stop)
+]
+
+-- where some are left none were passed beyond the stop bit
+pub none_beyond : (r : BitReader) → 0 < left_of r → r.beyond ≡ 0
+none_beyond r some = elim (cases_lt 0 r.beyond) [
+  | inl more ↦ absurd (omega (arith, r.past more))
+  | inr none ↦ omega arith
+]
+
+-- those that are left are bits of the bytes
+pub within_bytes : (r : BitReader) (count : ℕ) → 0 < count → count ≤ left_of r → position_of r + count ≤ 8 * length r.bytes.now
+within_bytes r count some there = omega (arith, none_beyond r (omega arith), r.inside, r.before)
+
+pub length-ahead : (r : BitReader) → length (reader_bits r).ahead ≡ left_of r
 unfolding reader_bits
-length-ahead r = length-drop r.position (bits_before_stop r.bytes.now) ∙ sym r.all
+length-ahead r = length-drop (position_of r) (bits_before_stop r.bytes.now) ∙ sym (left_is r)
 
 take_drop : {X : Type 0} (first count : ℕ) (xs : List X) → take count (drop first xs) ≡ drop first (take (first + count) xs)
 take_drop first count xs = sym (drop-take first count xs)
@@ -124,23 +142,23 @@ some_left b left len = rw (← len) (some b.ahead)
     some (x ∷ bits) = lt-ltb 0 (suc (length bits)) (omega arith)
 
 -- the next bits are those of the bytes
-pub take-ahead : (r : BitReader) (count : ℕ) → count ≤ r.left → take count (reader_bits r).ahead ≡ take count (drop r.position (byte_bits r.bytes.now))
+pub take-ahead : (r : BitReader) (count : ℕ) → count ≤ left_of r → take count (reader_bits r).ahead ≡ take count (drop (position_of r) (byte_bits r.bytes.now))
 unfolding reader_bits
 take-ahead r zero there = refl
 take-ahead r (suc count) there =
-    ap (λ t. take (suc count) (drop r.position t)) (stop_prefix r.bytes.now)
-    ∙ take_front (byte_bits r.bytes.now) r.position (suc count) (length (bits_before_stop r.bytes.now)) (omega (arith, r.all))
+    ap (λ t. take (suc count) (drop (position_of r) t)) (stop_prefix r.bytes.now)
+    ∙ take_front (byte_bits r.bytes.now) (position_of r) (suc count) (length (bits_before_stop r.bytes.now)) (omega (arith, left_is r))
 
 -- and those after some of them
-pub take_later : (r : BitReader) (first count : ℕ) → first + count ≤ r.left → take count (drop first (reader_bits r).ahead) ≡ take count (drop (r.position + first) (byte_bits r.bytes.now))
+pub take_later : (r : BitReader) (first count : ℕ) → first + count ≤ left_of r → take count (drop first (reader_bits r).ahead) ≡ take count (drop (position_of r + first) (byte_bits r.bytes.now))
 take_later r first zero there = refl
 take_later r first (suc count) there =
     take_drop first (suc count) (reader_bits r).ahead ∙ ap (drop first) (take-ahead r (first + suc count) there)
-    ∙ sym (take_drop first (suc count) (drop r.position (byte_bits r.bytes.now)))
-    ∙ ap (take (suc count)) (drop-drop first r.position (byte_bits r.bytes.now))
+    ∙ sym (take_drop first (suc count) (drop (position_of r) (byte_bits r.bytes.now)))
+    ∙ ap (take (suc count)) (drop-drop first (position_of r) (byte_bits r.bytes.now))
 
 -- what u reads
-pub u_from : (r : BitReader) (after : Bits) (count value : ℕ) → count ≤ r.left → value ≡ number_of (take count (drop r.position (byte_bits r.bytes.now))) → after ≡ passed (reader_bits r) count →
+pub u_from : (r : BitReader) (after : Bits) (count value : ℕ) → count ≤ left_of r → value ≡ number_of (take count (drop (position_of r) (byte_bits r.bytes.now))) → after ≡ passed (reader_bits r) count →
     u count (reader_bits r) ≡ Ok (value, after)
 u_from r after count value there is is_after =
     u_long count (reader_bits r) (omega (arith, length-ahead r))
@@ -193,8 +211,8 @@ ue_fits zeros tail few small =
     (one_shl zeros 32 (omega arith), omega (arith, pow_pos zeros))
 
 -- what ue reads
-pub ue_from : (r : BitReader) (after : Bits) (zeros place tail : ℕ) → zeros ≡ leading (reader_bits r).ahead → zeros ≤ 31 → 2 * zeros + 1 ≤ r.left →
-    place ≡ r.position + (zeros + 1) → tail ≡ number_of (take zeros (drop place (byte_bits r.bytes.now))) → after ≡ passed (reader_bits r) (2 * zeros + 1) →
+pub ue_from : (r : BitReader) (after : Bits) (zeros place tail : ℕ) → zeros ≡ leading (reader_bits r).ahead → zeros ≤ 31 → 2 * zeros + 1 ≤ left_of r →
+    place ≡ position_of r + (zeros + 1) → tail ≡ number_of (take zeros (drop place (byte_bits r.bytes.now))) → after ≡ passed (reader_bits r) (2 * zeros + 1) →
     ue (reader_bits r) ≡ Ok (2 ^ zeros - 1 + tail, after)
 ue_from r after zeros place tail is few there is_place is_tail is_after =
     let b = reader_bits r in
@@ -271,7 +289,7 @@ peek_from bits count there value is_there is =
     ap (bits_of count) same ∙ bits_of-number count (front ++ zeros) (length-append front zeros ∙ omega (arith, len, long)) ∙ sym (padded bits count there is_there)
 
 -- bits of which enough stand ahead
-pub peek_window : (r : BitReader) (count value : ℕ) → count ≤ r.left → count ≤ 32 → value ≡ number_of (take count (drop r.position (byte_bits r.bytes.now))) →
+pub peek_window : (r : BitReader) (count value : ℕ) → count ≤ left_of r → count ≤ 32 → value ≡ number_of (take count (drop (position_of r) (byte_bits r.bytes.now))) →
     bits_of count value ≡ take count ((reader_bits r).ahead ++ replicate count false)
 peek_window r count value there few is =
     let long : count ≤ length (reader_bits r).ahead = omega (arith, length-ahead r) in
@@ -279,3 +297,25 @@ peek_window r count value there few is =
     ap (bits_of count) ahead
     ∙ bits_of-number count (take count (reader_bits r).ahead) (length-take-le count (reader_bits r).ahead long)
     ∙ sym (take-append-le count (reader_bits r).ahead (replicate count false) long)
+
+-- ---- zeros and a number behind the 1 after them, by one look
+
+pub zeros_value : (ahead : List Bool) (bits zeros count : ℕ) → 32 ≤ length ahead → bits ≡ number_of (take 32 ahead) → zeros ≡ count_leading_zeros 32 bits → zeros ≤ 15 → count ≤ 16 →
+    (zeros ≡ leading ahead) × (bits * 2 ^ (33 + zeros) % 2 ^ 64 / 2 / 2 ^ (63 - count) ≡ number_of (take count (drop (zeros + 1) ahead)))
+zeros_value ahead bits zeros count long is is_zeros few narrow =
+    let low : 64 - (33 + zeros) - count ≡ 32 - (zeros + 1) - count = omega arith in (
+      omega (arith, (leading_from ahead 32 bits (omega arith) is).1),
+      field64_is bits (33 + zeros) count (omega arith) (omega arith)
+          ∙ ap (λ k. bits / 2 ^ k % 2 ^ count) low
+          ∙ ap (λ v. v / 2 ^ (32 - (zeros + 1) - count) % 2 ^ count) is
+          ∙ number-part (zeros + 1) count 32 (take 32 ahead) (length-take-le 32 ahead long) (omega arith)
+          ∙ ap number_of (take_front ahead (zeros + 1) count 32 (omega arith)),
+    )
+
+-- what u reads after some bits
+pub u_after : (b after : Bits) (first count value : ℕ) → first + count ≤ length b.ahead → value ≡ number_of (take count (drop first b.ahead)) → after ≡ passed b (first + count) →
+    u count (passed b first) ≡ Ok (value, after)
+u_after b after first count value there is is_after =
+    let place : b.position + first + count ≡ b.position + (first + count) = omega arith in
+    let rest : drop count (drop first b.ahead) ≡ drop (first + count) b.ahead = drop-drop count first b.ahead in
+    rw (u_long count (passed b first) (omega (arith, length-drop first b.ahead)), place, rest, is_after, is) refl

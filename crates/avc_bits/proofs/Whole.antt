@@ -1,5 +1,5 @@
 -- Reading whole bytes.
-use Rattle.std.proofs.Common.{◌≡◌, ℕ, zero, suc, ◌+◌, ◌-◌, ◌*◌, ◌/◌, ◌%◌, ◌<◌, ◌≤◌, List, [], ◌∷◌, ◌++◌, length, Bool, Result, Ok, Err, refl, ap, ◌∙◌, sym, arith, take, drop, get_or, length-drop, length-append, append_assoc, inl, inr}
+use Rattle.std.proofs.Common.{◌≡◌, ℕ, zero, suc, ◌+◌, ◌-◌, ◌*◌, ◌%◌, ◌<◌, ◌≤◌, List, [], ◌∷◌, ◌++◌, length, Bool, Result, Ok, Err, refl, ap, ◌∙◌, sym, arith, take, drop, get_or, length-drop, length-append, append_assoc, inl, inr}
 use Rattle.std.specs.Prelude.{IfOk}
 use Rattle.std.proofs.lemmas.Bool.{cases_lt}
 use Rattle.std.proofs.lemmas.List.{take-append-drop, take_at, drop_at}
@@ -8,11 +8,11 @@ use Rattle.avc_types.specs.declared.fault.Fault.{Fault}
 use Rattle.avc_types.specs.declared.fault.Fault.TheVariants.{Truncated}
 use Rattle.avc_bits.specs.Bits.{Bits, bits_of, byte_bits, number_of, passed, times}
 use Rattle.avc_bits.specs.Codes.{u, skip}
-use Rattle.avc_bits.specs.Reader.{Reads, reader_bits}
+use Rattle.avc_bits.specs.Reader.{Reads, left_of, position_of, reader_bits}
 use Rattle.avc_bits.proofs.Repeating.{one_first, fault_later, times_fault}
 use Rattle.avc_bits.specs.declared.reader.BitReader.{BitReader}
 use Rattle.avc_bits.proofs.Numbers.{length-bits_of, number-bits_of, take_bytes, drop_bytes}
-use Rattle.avc_bits.proofs.Reading.{u_short, u_long, skip_short, skip_long, take-ahead}
+use Rattle.avc_bits.proofs.Reading.{u_short, u_long, skip_short, skip_long, take-ahead, none_beyond}
 
 pub times_short : (n : ℕ) (b : Bits) → length b.ahead < 8 * n → times n (u 8) b ≡ Err Truncated
 times_short zero b short = absurd (omega arith)
@@ -46,18 +46,18 @@ times_bytes (x ∷ xs) position next rest small is =
     (one_byte x position (byte_bits xs ++ rest) (small 0))
     (times_bytes xs (position + 8) next rest (λ k. small (suc k)) (omega arith))
 
-whole_position : (r : BitReader) → (reader_bits r).position % 8 ≡ 0 → r.position ≡ 8 * (r.position / 8)
+whole_position : (r : BitReader) → (reader_bits r).position % 8 ≡ 0 → 0 < left_of r → position_of r ≡ 8 * r.byte
 unfolding reader_bits
-whole_position r aligned = omega arith
+whole_position r aligned some = omega (arith, none_beyond r some, r.narrow)
 
 -- the bytes of the RBSP from an aligned position on
-pub bytes_from : (r : BitReader) (count : ℕ) (xs : List ℕ) (after : Bits) → (reader_bits r).position % 8 ≡ 0 → 8 * count ≤ r.left → xs ≡ take count (drop (r.position / 8) r.bytes.now) → length xs ≡ count →
+pub bytes_from : (r : BitReader) (count : ℕ) (xs : List ℕ) (after : Bits) → (reader_bits r).position % 8 ≡ 0 → 0 < count → 8 * count ≤ left_of r → xs ≡ take count (drop r.byte r.bytes.now) → length xs ≡ count →
     ((k : ℕ) → get_or xs k 0 < 256) → after ≡ passed (reader_bits r) (8 * count) → times count (u 8) (reader_bits r) ≡ Ok (xs, after)
-bytes_from r count xs after aligned there part len small is =
-    let first = r.position / 8 in
+bytes_from r count xs after aligned some there part len small is =
+    let first = r.byte in
     let bytes = r.bytes.now in
     let ahead = (reader_bits r).ahead in
-    let place : r.position ≡ 8 * first = whole_position r aligned in
+    let place : position_of r ≡ 8 * first = whole_position r aligned (omega arith) in
     let front : take (8 * count) ahead ≡ byte_bits xs =
     take-ahead r (8 * count) there ∙ ap (λ n. take (8 * count) (drop n (byte_bits bytes))) place
     ∙ ap (take (8 * count)) (drop_bytes first bytes) ∙ take_bytes count (drop first bytes) ∙ ap byte_bits (sym part) in

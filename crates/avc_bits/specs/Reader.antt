@@ -1,16 +1,25 @@
 -- What a reader stands for.
-use Rattle.std.specs.Prelude.{◌≡◌, ℕ, suc, List, [], ◌∷◌, Bool, true, false, Result, Ok, Err, MatchResult, refl}
+use Rattle.std.specs.Prelude.{◌≡◌, ℕ, suc, ◌+◌, ◌-◌, ◌*◌, ◌^◌, ◌<◌, ◌≤◌, List, [], ◌∷◌, Bool, true, false, Result, Ok, Err, MatchResult, refl}
 use Rattle.avc_types.specs.declared.fault.Fault.{Fault}
-use Rattle.avc_bits.specs.Bits.{Bits, Read, at}
+use Rattle.avc_bits.specs.Bits.{Bits, Read, at, passed}
+use Rattle.avc_bits.specs.Codes.{u, zeros_before_one}
 use Rattle.avc_bits.specs.declared.reader.BitReader.{BitReader}
 
 -- the RBSP that it reads
 unfoldable pub reader_bytes : BitReader → List ℕ
 reader_bytes r = r.bytes.now
 
+-- how many bits it has passed
+abbrev pub position_of : BitReader → ℕ
+position_of r = 8 * r.byte + r.bit + r.beyond
+
+-- how many bits it has ahead
+abbrev pub left_of : BitReader → ℕ
+left_of r = 8 * r.stop_byte + r.stop_bit - (8 * r.byte + r.bit)
+
 -- how many bits it has passed, and those that stand ahead before the stop bit
 unfoldable pub reader_bits : BitReader → Bits
-reader_bits r = at r.bytes.now r.position
+reader_bits r = at r.bytes.now (position_of r)
 
 -- A reader is one of its RBSP at its position.
 pub reader_at : (r : BitReader) → reader_bits r ≡ at (reader_bytes r) (reader_bits r).position
@@ -28,3 +37,11 @@ unfoldable pub leading : List Bool → ℕ
 leading [] = 0
 leading (true ∷ bits) = 0
 leading (false ∷ bits) = suc (leading bits)
+
+-- So many zeros, a 1 and a number of so many bits were read.
+pub record IsZerosAndBits (most count zeros value : ℕ) (old new : BitReader) : Type 0 where
+  pub few : zeros ≤ most
+  pub below : value < 2 ^ count
+  pub zeros_read : (limit : ℕ) → (fault : Fault) → most ≤ limit → zeros_before_one limit fault (reader_bits old) ≡ Ok (zeros, passed (reader_bits old) (zeros + 1))
+  pub value_read : u count (passed (reader_bits old) (zeros + 1)) ≡ Ok (value, reader_bits new)
+  pub bytes : reader_bytes new ≡ reader_bytes old

@@ -4,7 +4,8 @@ ghost use Rattle.std.specs.Prelude.{◌≡◌, ℕ, ◌+◌, ◌-◌, ◌*◌, �
 ghost use Rattle.avc_bits.specs.Bits.{bits_before_stop, bits_of, byte_bits, number_of};
 
 // the bits at a place, as a number
-#[inline]
+#[cold]
+#[inline(never)]
 pub(crate) fn bits_at(bytes: &[u8], position: u128, count: u32) -> u32
     requires few { count ≤ 32 }
     requires inside { 0 < count → position + count ≤ 8 * length bytes.now }

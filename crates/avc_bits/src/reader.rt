@@ -1,6 +1,6 @@
 ghost use Rattle.std.specs.Prelude.{◌≡◌, ◌+◌, ◌-◌, ◌*◌, ◌%◌, ◌^◌, ◌<◌, ◌≤◌, ◌≤ℤ◌, ◌<ℤ◌, pos, neg_ℤ, length};
-ghost use Rattle.std.specs.Prelude.{min, take, replicate, ◌++◌, false, IfOk, Err, MatchResult, Ok, OnErr};
-ghost use Rattle.avc_bits.specs.Bits.{at, bits_before_stop, bits_of, more_data, number_of, passed, start, times};
+ghost use Rattle.std.specs.Prelude.{IsTrue, drop, min, take, replicate, ◌++◌, false, IfOk, Err, MatchOption, MatchResult, Ok, OnErr};
+ghost use Rattle.avc_bits.specs.Bits.{at, bits_before_stop, bits_of, byte_bits, more_data, number_of, passed, start, times};
 ghost use Rattle.avc_bits.specs.Codes.{align, flag, se, se_within, signed_value, skip, te, te_to, u, u_to, ue, ue_to, zeros_before_one};
 
 use crate::bytes::{bits_at, bytes_at, eight_bytes, field_of_eight, stop_bit};
@@ -10,11 +10,21 @@ use avc_types::Fault;
 #[derive(Clone, Copy, Debug)]
 pub struct BitReader<'a> {
     bytes: &'a [u8],
-    position: u128,
-    // how many bits stand ahead
-    left: u128,
-    ghost all: { left ≡ length (bits_before_stop bytes.now) - position },
-    ghost inside: { 0 < left → position + left ≤ 8 * length bytes.now },
+    // the byte of the next bit, and how many bits of that byte were passed
+    byte: usize,
+    bit: usize,
+    // likewise of the stop bit
+    stop_byte: usize,
+    stop_bit: usize,
+    // how many bits past the stop bit were passed
+    beyond: u128,
+    ghost stop: { 8 * stop_byte + stop_bit ≡ length (bits_before_stop bytes.now) },
+    ghost inside: { 8 * stop_byte + stop_bit ≤ 8 * length bytes.now },
+    ghost before: { 8 * byte + bit ≤ 8 * stop_byte + stop_bit },
+    ghost narrow: { bit < 8 },
+    ghost stop_narrow: { stop_bit < 8 },
+    ghost past: { 0 < beyond → 8 * byte + bit ≡ 8 * stop_byte + stop_bit },
+    ghost fits: { 8 * byte + bit + beyond < 2 ^ 128 },
 }
 
 // some of the bits ahead as a number, and how many zeros stand before the first 1 of them
@@ -26,7 +36,7 @@ struct Front {
 }
 
 impl<'a> BitReader<'a> {
-    ghost use Rattle.avc_bits.specs.Reader.{Reads, leading, reader_bits, reader_bytes};
+    ghost use Rattle.avc_bits.specs.Reader.{IsZerosAndBits, Reads, leading, left_of, position_of, reader_bits, reader_bytes};
 
     /// A reader at the first bit of an RBSP.
     pub fn new(bytes: &'a [u8]) -> Self
@@ -42,11 +52,15 @@ impl<'a> BitReader<'a> {
         ensures bits { reader_bits result ≡ at bytes.now position }
         ensures bytes { reader_bytes result ≡ bytes.now }
     {
-        let left = stop_bit(bytes).saturating_sub(position);
+        let stop = stop_bit(bytes);
+        let here = position.min(stop);
         BitReader {
             bytes,
-            position,
-            left,
+            byte: (here / 8) as usize,
+            bit: (here % 8) as usize,
+            stop_byte: (stop / 8) as usize,
+            stop_bit: (stop % 8) as usize,
+            beyond: position - here,
         }
     }
 
@@ -55,7 +69,7 @@ impl<'a> BitReader<'a> {
     pub fn position(&self) -> u128
         ensures { result ≡ (reader_bits self.now).position }
     {
-        self.position
+        self.place()
     }
 
     /// Whether a bit stands ahead before the stop bit (more_rbsp_data, 7.2).
@@ -63,7 +77,7 @@ impl<'a> BitReader<'a> {
     pub fn more_data(&self) -> bool
         ensures { result ≡ more_data (reader_bits self.now) }
     {
-        self.left > 0
+        self.left() > 0
     }
 
     /// The next bits, at most 32, as a number, the most significant first; zeros from the stop bit on. Nothing is passed.
@@ -73,13 +87,8 @@ impl<'a> BitReader<'a> {
         ensures bits { bits_of count result ≡ take count ((reader_bits self.now).ahead ++ replicate count false) }
         ensures below { result < 2 ^ count }
     {
-        if self.left >= 64 {
-            let first = (self.position / 8) as usize;
-            field_of_eight(
-                eight_bytes(self.bytes, first),
-                (self.position % 8) as u32,
-                count,
-            )
+        if self.is_far() {
+            self.next_bits(count)
         } else {
             self.peek_near_end(count)
         }
@@ -87,13 +96,14 @@ impl<'a> BitReader<'a> {
 
     // the same, where the stop bit may be near
     #[cold]
+    #[inline(never)]
     fn peek_near_end(self, count: u32) -> u32
         requires { count ≤ 32 }
         ensures bits { bits_of count result ≡ take count ((reader_bits self.entry).ahead ++ replicate count false) }
         ensures below { result < 2 ^ count }
     {
-        let there = self.left.min(u128::from(count)) as u32;
-        let value = u64::from(bits_at(self.bytes, self.position, there));
+        let there = self.left_near(count);
+        let value = u64::from(bits_at(self.bytes, self.place(), there));
         (value << (count - there)) as u32
     }
 
@@ -103,7 +113,7 @@ impl<'a> BitReader<'a> {
         ensures read { Reads result (skip count) self.old self.new }
         ensures stays { OnErr result (self.new ≡ self.old) }
     {
-        if self.left < u128::from(count) {
+        if self.left_at_most(count) < count {
             return Err(Fault::Truncated);
         }
         *self = self.after(count);
@@ -118,10 +128,10 @@ impl<'a> BitReader<'a> {
         ensures below { IfOk result (λ value. value < 2 ^ count) }
         ensures stays { OnErr result (self.new ≡ self.old) }
     {
-        if self.left < u128::from(count) {
+        if self.left_within(count) < count {
             return Err(Fault::Truncated);
         }
-        let value = bits_at(self.bytes, self.position, count);
+        let value = self.next_bits(count);
         *self = self.after(count);
         Ok(value)
     }
@@ -163,11 +173,32 @@ impl<'a> BitReader<'a> {
         if zeros > limit {
             return Err(fault);
         }
-        if self.left <= u128::from(zeros) {
+        if self.left_within(zeros + 1) <= zeros {
             return Err(Fault::Truncated);
         }
         *self = self.after(zeros + 1);
         Ok(zeros)
+    }
+
+    /// How many zeros stand before the next 1, at most `most`, and u(count) behind that 1, both passed; `None` where they
+    /// are more, or where the stop bit may be near. Nothing is then passed.
+    #[inline]
+    pub fn zeros_and_bits(&mut self, most: u32, count: u32) -> Option<(u32, u32)>
+        requires few { most ≤ 15 }
+        requires narrow { count ≤ 16 }
+        ensures read { MatchOption result (self.new ≡ self.old) (λ p. IsZerosAndBits most count p.0 p.1 self.old self.new) }
+    {
+        if !self.is_far() {
+            return None;
+        }
+        let bits = self.next_bits(32);
+        let zeros = bits.leading_zeros();
+        if zeros > most {
+            return None;
+        }
+        let value = (u64::from(bits) << (33 + zeros)) >> 1 >> (63 - count);
+        *self = self.after(zeros + 1 + count);
+        Some((zeros, value as u32))
     }
 
     /// ue(v) (9.1): n zeros, a 1 and n bits, which is a number up to 2^32 - 2; `CodeTooLong` where n is above 31.
@@ -188,6 +219,7 @@ impl<'a> BitReader<'a> {
 
     // ue(v) of more than the next 32 bits, after this many zeros
     #[cold]
+    #[inline(never)]
     fn long_ue(&mut self, zeros: u32) -> Result<u32, Fault>
         requires { zeros ≡ min (leading (reader_bits self.old).ahead) 32 }
         ensures read { Reads result ue self.old self.new }
@@ -198,10 +230,10 @@ impl<'a> BitReader<'a> {
             return Err(Fault::CodeTooLong);
         }
         let length = 2 * zeros + 1;
-        if self.left < u128::from(length) {
+        if self.left_near(length) < length {
             return Err(Fault::Truncated);
         }
-        let tail = bits_at(self.bytes, self.position + u128::from(zeros + 1), zeros);
+        let tail = bits_at(self.bytes, self.place() + u128::from(zeros + 1), zeros);
         *self = self.after(length);
         Ok((1 << zeros) - 1 + tail)
     }
@@ -284,7 +316,7 @@ impl<'a> BitReader<'a> {
         ensures aligned { IfOk result (λ _. (reader_bits self.new).position % 8 ≡ 0) }
         ensures stays { OnErr result (self.new ≡ self.old) }
     {
-        let count = ((8 - self.position % 8) % 8) as u32;
+        let count = self.to_next_byte();
         self.skip(count)
     }
 
@@ -300,10 +332,10 @@ impl<'a> BitReader<'a> {
         ensures aligned { IfOk result (λ _. (reader_bits self.new).position % 8 ≡ 0) }
         ensures stays { OnErr result (self.new ≡ self.old) }
     {
-        if self.left < 8 * count as u128 {
+        if self.left() < 8 * count as u128 {
             return Err(Fault::Truncated);
         }
-        let first = (self.position / 8) as usize;
+        let first = self.byte;
         let bytes = self.bytes;
         *self = self.after_bytes(count);
         Ok(bytes_at(bytes, first, count))
@@ -313,14 +345,18 @@ impl<'a> BitReader<'a> {
     #[tactic(auto, unfolding(crate::specs::Reader::reader_bits, crate::specs::Reader::reader_bytes))]
     #[inline]
     fn after(&self, count: u32) -> Self
-        requires { count ≤ self.now.left }
+        requires { count ≤ left_of self.now }
         ensures bits { reader_bits result ≡ passed (reader_bits self.now) count }
         ensures bytes { reader_bytes result ≡ reader_bytes self.now }
     {
+        let bits = self.bit + count as usize;
         BitReader {
             bytes: self.bytes,
-            position: self.position + u128::from(count),
-            left: self.left - u128::from(count),
+            byte: self.byte + bits / 8,
+            bit: bits % 8,
+            stop_byte: self.stop_byte,
+            stop_bit: self.stop_bit,
+            beyond: self.beyond,
         }
     }
 
@@ -328,14 +364,98 @@ impl<'a> BitReader<'a> {
     #[tactic(auto, unfolding(crate::specs::Reader::reader_bits, crate::specs::Reader::reader_bytes))]
     #[inline]
     fn after_bytes(&self, count: usize) -> Self
-        requires { 8 * count ≤ self.now.left }
+        requires { 8 * count ≤ left_of self.now }
         ensures bits { reader_bits result ≡ passed (reader_bits self.now) (8 * count) }
         ensures bytes { reader_bytes result ≡ reader_bytes self.now }
     {
         BitReader {
             bytes: self.bytes,
-            position: self.position + 8 * count as u128,
-            left: self.left - 8 * count as u128,
+            byte: self.byte + count,
+            bit: self.bit,
+            stop_byte: self.stop_byte,
+            stop_bit: self.stop_bit,
+            beyond: self.beyond,
+        }
+    }
+
+    // whether the stop bit is so far ahead that no test against it is needed
+    #[inline]
+    fn is_far(&self) -> bool
+        ensures { IsTrue result → self.now.byte + 33 ≤ self.now.stop_byte }
+    {
+        self.stop_byte - self.byte > 32
+    }
+
+    // how many bits were passed
+    #[inline]
+    fn place(&self) -> u128
+        ensures { result ≡ position_of self.now }
+    {
+        8 * self.byte as u128 + self.bit as u128 + self.beyond
+    }
+
+    // how many bits stand before the start of the next byte, 0 where that is here
+    #[tactic(auto, unfolding(crate::specs::Reader::reader_bits))]
+    fn to_next_byte(&self) -> u32
+        ensures { result ≡ (8 - (reader_bits self.now).position % 8) % 8 }
+    {
+        ((8 - self.place() % 8) % 8) as u32
+    }
+
+    // how many bits stand ahead
+    #[inline]
+    fn left(&self) -> u128
+        ensures { result ≡ left_of self.now }
+    {
+        8 * (self.stop_byte - self.byte) as u128 + self.stop_bit as u128 - self.bit as u128
+    }
+
+    // the same, at most so many
+    #[cold]
+    #[inline(never)]
+    fn left_near(&self, most: u32) -> u32
+        ensures { result ≡ min (left_of self.now) most }
+    {
+        self.left().min(u128::from(most)) as u32
+    }
+
+    // how many bits stand ahead, at most so many
+    #[inline]
+    fn left_within(&self, most: u32) -> u32
+        requires { most ≤ 255 }
+        ensures { result ≡ min (left_of self.now) most }
+    {
+        if self.is_far() {
+            most
+        } else {
+            self.left_near(most)
+        }
+    }
+
+    // the same for any number
+    #[inline]
+    fn left_at_most(&self, most: u32) -> u32
+        ensures { result ≡ min (left_of self.now) most }
+    {
+        if most <= 255 {
+            self.left_within(most)
+        } else {
+            self.left_near(most)
+        }
+    }
+
+    // the next bits as a number
+    #[inline]
+    fn next_bits(&self, count: u32) -> u32
+        requires few { count ≤ 32 }
+        requires there { count ≤ left_of self.now }
+        ensures value { result ≡ number_of (take count (drop (position_of self.now) (byte_bits self.now.bytes.now))) }
+        ensures bound { result < 2 ^ count }
+    {
+        if self.is_far() {
+            field_of_eight(eight_bytes(self.bytes, self.byte), self.bit as u32, count)
+        } else {
+            bits_at(self.bytes, self.place(), count)
         }
     }
 
@@ -347,8 +467,8 @@ impl<'a> BitReader<'a> {
         ensures zeros { result.zeros ≡ min (leading (reader_bits self.now).ahead) 32 }
         ensures within { result.zeros ≤ result.count }
     {
-        let count = self.left.min(32) as u32;
-        let bits = bits_at(self.bytes, self.position, count);
+        let count = self.left_within(32);
+        let bits = self.next_bits(count);
         let zeros = bits.leading_zeros() - (32 - count);
         Front { count, bits, zeros }
     }

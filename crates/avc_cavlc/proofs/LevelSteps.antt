@@ -1,11 +1,14 @@
 -- One level more.
-use Rattle.std.proofs.Common.{◌≡◌, ℕ, zero, suc, ◌+◌, ℤ, Bool, false, List, [], ◌∷◌, ◌++◌, length, refl, ap, ◌∙◌, sym, arith, append_assoc, append-nil, length-append}
-use Rattle.std.specs.Prelude.{Result, Ok, Err}
+use Rattle.std.proofs.Common.{◌≡◌, ℕ, zero, suc, ◌+◌, ◌≤◌, ℤ, Bool, false, List, [], ◌∷◌, ◌++◌, length, refl, ap, ◌∙◌, sym, arith, append_assoc, append-nil, length-append}
+use Rattle.std.specs.Prelude.{Result, Ok, Err, ◌==◌}
 use Rattle.std.specs.List.{All}
 use Rattle.std.proofs.lemmas.List.Elements.{All-append}
 use Rattle.avc_types.specs.declared.fault.Fault.{Fault}
-use Rattle.avc_bits.specs.Bits.{Bits, ◌>>=◌, give}
-use Rattle.avc_cavlc.specs.Block.{level, levels, next_suffix_length}
+use Rattle.avc_bits.specs.Bits.{Bits, ◌>>=◌, give, passed}
+use Rattle.avc_bits.specs.Codes.{u, zeros_before_one}
+use Rattle.avc_types.specs.declared.fault.Fault.TheVariants.{BadCode}
+use Rattle.std.proofs.lemmas.Bool.{ne_eqb}
+use Rattle.avc_cavlc.specs.Block.{level, level_code, level_of_code, levels, next_suffix_length, suffix_size}
 use Rattle.avc_cavlc.specs.Steps.{levels_after}
 
 -- the others after one
@@ -34,3 +37,15 @@ all_more P xs x all here = All-append P xs (x ∷ []) all (one x here)
 
 pub length_more : (xs : List ℤ) (x : ℤ) → length (xs ++ x ∷ []) ≡ length xs + 1
 length_more xs x = length-append xs (x ∷ []) ∙ omega arith
+
+-- ---- a level with a short prefix
+
+pub short_suffix : (prefix sl : ℕ) → prefix ≤ 13 → suffix_size prefix sl ≡ sl
+short_suffix prefix sl few =
+    let not_14 : (prefix == 14) ≡ false = ne_eqb prefix 14 (omega arith) in
+    let not_15 : (prefix == 15) ≡ false = ne_eqb prefix 15 (omega arith) in
+    rw (not_14, not_15) refl
+
+pub level_short : (sl : ℕ) (above_one : Bool) (prefix suffix : ℕ) (b after : Bits) → prefix ≤ 13 → zeros_before_one 15 BadCode b ≡ Ok (prefix, passed b (prefix + 1)) →
+    u sl (passed b (prefix + 1)) ≡ Ok (suffix, after) → level sl above_one b ≡ Ok (level_of_code (level_code prefix sl suffix above_one), after)
+level_short sl above_one prefix suffix b after few is_prefix is_suffix = rw (is_prefix, short_suffix prefix sl few, is_suffix) refl

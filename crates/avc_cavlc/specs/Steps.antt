@@ -1,7 +1,16 @@
 -- What is left to read of a block when some of it has been read.
-use Rattle.std.specs.Prelude.{ℕ, ℤ, Bool, List, ◌++◌}
+use Rattle.std.specs.Prelude.{◌≡◌, ℕ, ℤ, Bool, List, ◌++◌, Result, Ok, Err, MatchResult}
+use Rattle.avc_types.specs.declared.fault.Fault.{Fault}
+use Rattle.avc_bits.specs.Reader.{reader_bits, reader_bytes}
+use Rattle.avc_bits.specs.declared.reader.BitReader.{BitReader}
 use Rattle.avc_bits.specs.Bits.{Read, ◌>>=◌, give}
 use Rattle.avc_cavlc.specs.Block.{each_after_zeros, levels, placed, runs}
+
+-- What was read into a place is what this part of the syntax reads, and the reader goes on after it.
+abbrev pub ReadsInto : {A : Type 0} → Result (Unit {0}) Fault → A → Read A → BitReader → BitReader → Type 0
+ReadsInto result value read old new = MatchResult result
+    (λ _. (read (reader_bits old) ≡ Ok (value, reader_bits new)) × (reader_bytes new ≡ reader_bytes old))
+    (λ fault. read (reader_bits old) ≡ Err fault)
 
 -- n levels, which come after those that are done
 abbrev pub levels_after : (done : List ℤ) → (n suffix_length : ℕ) → (above_one : Bool) → Read (List ℤ)

@@ -5,6 +5,7 @@ ghost use Rattle.avc_cavlc.specs.Block.{IsSmall, residual_block};
 
 use crate::level::read_levels;
 use crate::runs::read_placed;
+use crate::values::Values;
 use avc_bits::BitReader;
 use avc_types::{Fault, Levels};
 use avc_vlc::{read_coeff_token, read_total_zeros};
@@ -39,7 +40,8 @@ fn read_from<const MAXN: usize>(reader: &mut BitReader, nc: i8) -> Result<Levels
     if total > MAXN {
         return Err(Fault::TooManyCoefficients);
     }
-    let values = read_levels(reader, token)?;
+    let mut values = Values::new();
+    read_levels(reader, token, &mut values)?;
     let zeros = if total == 0 || total == MAXN {
         0
     } else {

@@ -1,10 +1,10 @@
 //! Levels that are not 0 (9.2.2).
-ghost use Rattle.std.specs.Prelude.{◌≡◌, ◌+◌, ◌-◌, ◌*◌, ◌^◌, ◌≤◌, ◌<◌, ℤ, pos, neg_ℤ, ◌≤ℤ◌, Bool, List, ◌++◌, length, nat_abs, IfOk, IsTrue, OnErr, All};
+ghost use Rattle.std.specs.Prelude.{◌≡◌, ◌+◌, ◌-◌, ◌*◌, ◌^◌, ◌≤◌, ◌<◌, ℤ, pos, neg_ℤ, ◌≤ℤ◌, Bool, List, [], ◌++◌, length, nat_abs, IfOk, IsTrue, OnErr, All};
 ghost use Rattle.avc_bits.specs.Bits.{times};
 ghost use Rattle.avc_bits.specs.Reader.{Reads};
 ghost use Rattle.avc_vlc.specs.Reading.{IsToken};
 ghost use Rattle.avc_cavlc.specs.Block.{IsLevel, level, level_code, level_of_code, levels, next_suffix_length, suffix_size, token_levels, trailing_one};
-ghost use Rattle.avc_cavlc.specs.Steps.{levels_after};
+ghost use Rattle.avc_cavlc.specs.Steps.{ReadsInto, levels_after};
 
 use crate::values::Values;
 use avc_bits::BitReader;
@@ -14,40 +14,47 @@ use avc_vlc::Token;
 /// The greatest suffixLength.
 const MOST_SUFFIX_BITS: u32 = 6;
 
-/// Reads the levels of a block that are not 0, the highest frequency first.
+/// Reads the levels of a block that are not 0, the highest frequency first, into values of which there are none yet.
 #[inline]
-pub(crate) fn read_levels(reader: &mut BitReader, token: Token) -> Result<Values, Fault>
-    requires { IsToken token }
-    ensures read { Reads result (token_levels token) reader.old reader.new }
-    ensures size { IfOk result (λ values. All IsLevel values) }
-    ensures count { IfOk result (λ values. length values ≡ token.total) }
+pub(crate) fn read_levels(
+    reader: &mut BitReader,
+    token: Token,
+    values: &mut Values,
+) -> Result<(), Fault>
+    requires token { IsToken token }
+    requires none { values.old ≡ [] }
+    ensures read { ReadsInto result values.new (token_levels token) reader.old reader.new }
+    ensures size { IfOk result (λ _. All IsLevel values.new) }
+    ensures count { IfOk result (λ _. length values.new ≡ token.total) }
 {
-    let ones = read_trailing_ones(reader, token.ones)?;
+    read_trailing_ones(reader, token.ones, values)?;
     let few_ones = token.ones < 3;
     let suffix_length = if token.total > 10 && few_ones { 1 } else { 0 };
     read_others(
         reader,
-        ones,
+        values,
         token.total - token.ones,
         suffix_length,
         few_ones,
     )
 }
 
-fn read_trailing_ones(reader: &mut BitReader, ones: u8) -> Result<Values, Fault>
-    requires { ones ≤ 3 }
-    ensures read { Reads result (times ones trailing_one) reader.old reader.new }
-    ensures size { IfOk result (λ values. All IsLevel values) }
-    ensures count { IfOk result (λ values. length values ≡ ones) }
+#[inline]
+fn read_trailing_ones(reader: &mut BitReader, ones: u8, values: &mut Values) -> Result<(), Fault>
+    requires few { ones ≤ 3 }
+    requires none { values.old ≡ [] }
+    ensures read { ReadsInto result values.new (times ones trailing_one) reader.old reader.new }
+    ensures size { IfOk result (λ _. All IsLevel values.new) }
+    ensures count { IfOk result (λ _. length values.new ≡ ones) }
 {
-    let mut values = Values::new();
     'ones: for k in 0..ones {
         let one = read_trailing_one(reader)?;
         values.push(one);
     }
-    Ok(values)
+    Ok(())
 }
 
+#[inline]
 fn read_trailing_one(reader: &mut BitReader) -> Result<i16, Fault>
     ensures read { Reads result trailing_one reader.old reader.new }
     ensures size { IfOk result IsLevel }
@@ -57,21 +64,21 @@ fn read_trailing_one(reader: &mut BitReader) -> Result<i16, Fault>
 }
 
 // The levels that are no trailing ones, put after those.
+#[inline]
 fn read_others(
     reader: &mut BitReader,
-    ones: Values,
+    values: &mut Values,
     count: u8,
     suffix_length: u32,
     above_one: bool,
-) -> Result<Values, Fault>
-    requires few { length ones + count ≤ 16 }
-    requires ones { All IsLevel ones }
+) -> Result<(), Fault>
+    requires few { length values.old + count ≤ 16 }
+    requires ones { All IsLevel values.old }
     requires length { suffix_length ≤ 1 }
-    ensures read { Reads result (levels_after ones count suffix_length above_one) reader.old reader.new }
-    ensures size { IfOk result (λ values. All IsLevel values) }
-    ensures count { IfOk result (λ values. length values ≡ length ones + count) }
+    ensures read { ReadsInto result values.new (levels_after values.old count suffix_length above_one) reader.old reader.new }
+    ensures size { IfOk result (λ _. All IsLevel values.new) }
+    ensures count { IfOk result (λ _. length values.new ≡ length values.old + count) }
 {
-    let mut values = ones;
     let mut bits = suffix_length;
     let mut first = above_one;
     'levels: for k in 0..count {
@@ -80,11 +87,34 @@ fn read_others(
         bits = next_suffix_length(bits, level);
         first = false;
     }
-    Ok(values)
+    Ok(())
 }
 
 // One level that is no trailing one; above_one says that its size is known to be above 1.
+#[inline]
 fn read_level(reader: &mut BitReader, suffix_length: u32, above_one: bool) -> Result<i16, Fault>
+    requires length { suffix_length ≤ 6 }
+    requires first { IsTrue above_one → suffix_length ≤ 1 }
+    ensures read { Reads result (level suffix_length above_one) reader.old reader.new }
+    ensures size { IfOk result IsLevel }
+{
+    match reader.zeros_and_bits(13, suffix_length) {
+        Some((prefix, suffix)) => {
+            let code = level_code(prefix, suffix_length, suffix, above_one);
+            Ok(level_of_code(code))
+        }
+        None => read_long_level(reader, suffix_length, above_one),
+    }
+}
+
+// The same, for any prefix and anywhere.
+#[cold]
+#[inline(never)]
+fn read_long_level(
+    reader: &mut BitReader,
+    suffix_length: u32,
+    above_one: bool,
+) -> Result<i16, Fault>
     requires length { suffix_length ≤ 6 }
     requires first { IsTrue above_one → suffix_length ≤ 1 }
     ensures read { Reads result (level suffix_length above_one) reader.old reader.new }

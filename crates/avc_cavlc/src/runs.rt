@@ -39,7 +39,7 @@ pub(crate) fn read_placed<const MAXN: usize>(
 }
 
 // The zeros before a value, where so many others come after it.
-#[inline]
+#[inline(always)]
 fn read_run(reader: &mut BitReader, others: usize, zeros_left: u8) -> Result<u8, Fault>
     ensures read { Reads result (run others zeros_left) reader.old reader.new }
     ensures most { IfOk result (λ zeros. zeros ≤ zeros_left) }

@@ -19,6 +19,7 @@ impl Model for Values {
 }
 
 impl Values {
+    #[inline]
     pub(crate) fn new() -> Self
         ensures { result ≡ [] }
     {
@@ -28,6 +29,7 @@ impl Values {
         }
     }
 
+    #[inline]
     pub(crate) fn push(&mut self, level: i16)
         requires { length self.old < 16 }
         ensures { self.new ≡ self.old ++ level ∷ [] }
@@ -36,6 +38,7 @@ impl Values {
         self.count += 1;
     }
 
+    #[inline]
     pub(crate) fn len(&self) -> usize
         ensures value { result ≡ length self.now }
         ensures few { result ≤ 16 }
@@ -43,6 +46,7 @@ impl Values {
         self.count
     }
 
+    #[inline]
     pub(crate) fn get(&self, k: usize) -> i16
         requires { k < length self.now }
         ensures { result ≡ slice_index_or self.now k (pos 0) }

@@ -1,5 +1,6 @@
 -- A line at strength 4 from its six new samples.
-use Rattle.std.proofs.Common.{◌≡◌, ℕ, Bool, true, false, nat_lt, ◌&&◌, if◌then◌else◌, refl, ap, ◌∙◌, sym}
+use Rattle.std.proofs.Common.{◌≡◌, ℕ, Bool, true, false, nat_lt, ◌&&◌, if◌then◌else◌, arith, refl, ap, ◌∙◌, sym}
+use Rattle.std.proofs.lemmas.Int.{ints}
 use Rattle.avc_types.specs.Arithmetic.{distance}
 use Rattle.avc_deblock.specs.Line.{Setting, Line, mirrored, filtered, filtered_strongly, strong_p0, strong_p1, strong_p2}
 use Rattle.avc_deblock.specs.Rows.{line, IsStrong, strong_at}
@@ -32,3 +33,23 @@ strong_is s alpha beta l on n2 n1 n0 m0 m1 m2 w is h =
     ap (λ (t : Setting). filtered t l) (setting_is s alpha beta w)
     ∙ ap (λ (f : Bool). if f then filtered_strongly (strong_at alpha beta s.tc0) l else l) (sym is)
     ∙ moved (strong_at alpha beta s.tc0) l on n2 n1 n0 m0 m1 m2 h
+
+-- the nearest sample, from what the code asks in another order
+pub either_nearest : (on near up f : Bool) (x y v : ℕ) → f ≡ (on && near && up) →
+    (if f then x else (if on then y else v)) ≡ (if on then (if up && near then x else y) else v)
+either_nearest true true true f x y v e = rw e refl
+either_nearest true true false f x y v e = rw e refl
+either_nearest true false true f x y v e = rw e refl
+either_nearest true false false f x y v e = rw e refl
+either_nearest false near up f x y v e = rw e refl
+
+pub either_other : (on near up f : Bool) (x v : ℕ) → f ≡ (on && near && up) →
+    (if f then x else v) ≡ (if on then (if up && near then x else v) else v)
+either_other true true true f x v e = rw e refl
+either_other true true false f x v e = rw e refl
+either_other true false true f x v e = rw e refl
+either_other true false false f x v e = rw e refl
+either_other false near up f x v e = rw e refl
+
+pub turned : (a b : ℕ) → distance a b ≡ distance b a
+turned a b = grind (arith, ints)

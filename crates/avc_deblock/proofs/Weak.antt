@@ -95,3 +95,8 @@ pub second_is : (on sp up : Bool) (t limit r : ℕ) (p : ℕ) (z : ℤ) → sp �
     r ≡ nat_abs (pos p +ℤ held (if on && up then t else 0) z)
 second_is on sp up t limit r p z same is h =
     h ∙ ap (λ (n : ℕ). nat_abs (pos p +ℤ held n z)) (is ∙ ap (λ (b : Bool). if on && b then t else 0) same)
+
+-- alpha of a segment, from a mark where its strength is 0
+pub marked : (b : Bool) (d low a : ℕ) → d ≡ (if b then 1 else 0) → low + 1 ≡ a → (if d == 0 then low + 1 else 0) ≡ (if b then 0 else a)
+marked true d low a e f = rw e refl
+marked false d low a e f = rw e f

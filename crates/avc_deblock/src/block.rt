@@ -1,8 +1,10 @@
-ghost use Rattle.std.specs.Prelude.{◌≡◌, ℕ, ◌+◌, ◌/◌, ◌<◌, ◌≤◌, slice_index};
+ghost use Rattle.std.specs.Prelude.{◌≡◌, ℕ, ◌+◌, ◌/◌, ◌<◌, ◌≤◌, ◌==◌, if◌then◌else◌, slice_index};
 ghost use Rattle.avc_deblock.specs.Line.{Setting, filtered};
 ghost use Rattle.avc_deblock.specs.Rows.{IsRiffled, IsTransposed, IsRowSet, IsWeak, IsStrong, IsWeakChroma, IsStrongChroma, line_down};
 
-use crate::lines::{strong_chroma_lines, strong_lines, weak_chroma_lines, weak_lines};
+use crate::lines::{
+    Limits, StrongLimits, strong_chroma_lines, strong_lines, weak_chroma_lines, weak_lines,
+};
 
 /// The halves of a table, one sample of each in turn.
 #[inline(always)]
@@ -75,8 +77,10 @@ pub(crate) fn spread(v: &[u8; 4]) -> [u8; 16]
 
 /// Filters the sixteen lines of luma down a block of eight rows of sixteen samples, at strengths of 0 to 3.
 #[inline(always)]
-pub(crate) fn weak_luma(t: &mut [u8; 128], alpha: &[u8; 16], beta: u8, tc0: &[u8; 16])
-    ensures { (s : Setting) (i : ℕ) → i < 16 → IsWeak s (slice_index alpha.now i) beta (slice_index tc0.now i) →
+pub(crate) fn weak_luma(t: &mut [u8; 128], limits: &Limits)
+    requires { (i : ℕ) → i < 16 → slice_index limits.now.tc0 i ≤ 92 }
+    ensures { (s : Setting) (i : ℕ) → i < 16 →
+        IsWeak s (if slice_index limits.now.dead i == 0 then slice_index limits.now.alpha1 i + 1 else 0) (slice_index limits.now.beta1 i + 1) (slice_index limits.now.tc0 i) →
         filtered s (line_down t.old i) ≡ line_down t.new i }
 {
     let p2 = row(t, 16);
@@ -85,9 +89,7 @@ pub(crate) fn weak_luma(t: &mut [u8; 128], alpha: &[u8; 16], beta: u8, tc0: &[u8
     let mut q0 = row(t, 64);
     let mut q1 = row(t, 80);
     let q2 = row(t, 96);
-    weak_lines(
-        &p2, &mut p1, &mut p0, &mut q0, &mut q1, &q2, alpha, beta, tc0,
-    );
+    weak_lines(&p2, &mut p1, &mut p0, &mut q0, &mut q1, &q2, limits);
     set_row(t, 32, &p1);
     set_row(t, 48, &p0);
     set_row(t, 64, &q0);
@@ -96,8 +98,9 @@ pub(crate) fn weak_luma(t: &mut [u8; 128], alpha: &[u8; 16], beta: u8, tc0: &[u8
 
 /// The same at strength 4.
 #[inline(always)]
-pub(crate) fn strong_luma(t: &mut [u8; 128], alpha: u8, beta: u8)
-    ensures { (s : Setting) (i : ℕ) → i < 16 → IsStrong s alpha beta → filtered s (line_down t.old i) ≡ line_down t.new i }
+pub(crate) fn strong_luma(t: &mut [u8; 128], limits: &StrongLimits)
+    requires { (i : ℕ) → i < 16 → slice_index limits.now.small1 i ≡ (slice_index limits.now.alpha1 i + 1) / 4 + 1 }
+    ensures { (s : Setting) (i : ℕ) → i < 16 → IsStrong s (slice_index limits.now.alpha1 i + 1) (slice_index limits.now.beta1 i + 1) → filtered s (line_down t.old i) ≡ line_down t.new i }
 {
     let p3 = row(t, 0);
     let mut p2 = row(t, 16);
@@ -108,7 +111,7 @@ pub(crate) fn strong_luma(t: &mut [u8; 128], alpha: u8, beta: u8)
     let mut q2 = row(t, 96);
     let q3 = row(t, 112);
     strong_lines(
-        &p3, &mut p2, &mut p1, &mut p0, &mut q0, &mut q1, &mut q2, &q3, alpha, beta,
+        &p3, &mut p2, &mut p1, &mut p0, &mut q0, &mut q1, &mut q2, &q3, limits,
     );
     set_row(t, 16, &p2);
     set_row(t, 32, &p1);
@@ -120,30 +123,32 @@ pub(crate) fn strong_luma(t: &mut [u8; 128], alpha: u8, beta: u8)
 
 /// Filters the sixteen lines of chroma down a block of eight rows of sixteen samples, at strengths of 0 to 3.
 #[inline(always)]
-pub(crate) fn weak_chroma(t: &mut [u8; 128], alpha: &[u8; 16], beta: u8, tc0: &[u8; 16])
-    ensures { (s : Setting) (i : ℕ) → i < 16 → IsWeakChroma s (slice_index alpha.now i) beta (slice_index tc0.now i) →
+pub(crate) fn weak_chroma(t: &mut [u8; 128], limits: &Limits)
+    requires { (i : ℕ) → i < 16 → slice_index limits.now.tc0 i ≤ 92 }
+    ensures { (s : Setting) (i : ℕ) → i < 16 →
+        IsWeakChroma s (if slice_index limits.now.dead i == 0 then slice_index limits.now.alpha1 i + 1 else 0) (slice_index limits.now.beta1 i + 1) (slice_index limits.now.tc0 i) →
         filtered s (line_down t.old i) ≡ line_down t.new i }
 {
     let p1 = row(t, 32);
     let mut p0 = row(t, 48);
     let mut q0 = row(t, 64);
     let q1 = row(t, 80);
-    weak_chroma_lines(&p1, &mut p0, &mut q0, &q1, alpha, beta, tc0);
+    weak_chroma_lines(&p1, &mut p0, &mut q0, &q1, limits);
     set_row(t, 48, &p0);
     set_row(t, 64, &q0);
 }
 
 /// The same at strength 4.
 #[inline(always)]
-pub(crate) fn strong_chroma(t: &mut [u8; 128], alpha: u8, beta: u8)
-    ensures { (s : Setting) (i : ℕ) → i < 16 → IsStrongChroma s alpha beta →
+pub(crate) fn strong_chroma(t: &mut [u8; 128], limits: &StrongLimits)
+    ensures { (s : Setting) (i : ℕ) → i < 16 → IsStrongChroma s (slice_index limits.now.alpha1 i + 1) (slice_index limits.now.beta1 i + 1) →
         filtered s (line_down t.old i) ≡ line_down t.new i }
 {
     let p1 = row(t, 32);
     let mut p0 = row(t, 48);
     let mut q0 = row(t, 64);
     let q1 = row(t, 80);
-    strong_chroma_lines(&p1, &mut p0, &mut q0, &q1, alpha, beta);
+    strong_chroma_lines(&p1, &mut p0, &mut q0, &q1, limits);
     set_row(t, 48, &p0);
     set_row(t, 64, &q0);
 }

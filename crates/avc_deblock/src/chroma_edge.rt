@@ -4,7 +4,8 @@ ghost use Rattle.avc_deblock.specs.Rows.{line_down};
 ghost use Rattle.avc_deblock.specs.OneEdge.{edge_filtered, chroma_setting, AreStrengths};
 
 use crate::block::{columns, rows_of, strong_chroma, weak_chroma};
-use crate::edge::{alphas, tc0s};
+use crate::edge::{deads, repeated, strong_limits, tc0s};
+use crate::lines::Limits;
 use crate::pair::{beside, half, joined, side, spread_twice};
 use crate::strengths::Strengths;
 use crate::thresholds::EdgeQp;
@@ -18,12 +19,22 @@ fn filter_chroma(t: &mut [u8; 128], strengths: &Strengths, qp: &EdgeQp)
         filtered (chroma_setting strengths.now qp.now i) (line_down t.old (8 * b + i)) ≡ line_down t.new (8 * b + i) }
 {
     let thresholds = qp.thresholds();
+    if thresholds.alpha == 0 || thresholds.beta == 0 {
+        return;
+    }
     match strengths {
-        Strengths::Four => strong_chroma(t, thresholds.alpha, thresholds.beta),
+        Strengths::Four => {
+            let limits = strong_limits(thresholds.alpha, thresholds.beta);
+            strong_chroma(t, &limits)
+        }
         Strengths::BelowFour(s) => {
-            let alpha = spread_twice(&alphas(s, thresholds.alpha));
-            let tc0 = spread_twice(&tc0s(s, thresholds.index_a));
-            weak_chroma(t, &alpha, thresholds.beta, &tc0)
+            let limits = Limits {
+                alpha1: repeated(thresholds.alpha - 1),
+                beta1: repeated(thresholds.beta - 1),
+                dead: deads(&spread_twice(s)),
+                tc0: spread_twice(&tc0s(s, thresholds.index_a)),
+            };
+            weak_chroma(t, &limits)
         }
     }
 }

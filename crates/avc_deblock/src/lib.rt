@@ -3,11 +3,13 @@
 
 mod block;
 mod block_strength;
+mod bytes;
 mod chroma_edge;
 mod edge;
 mod edge_strengths;
 mod facts;
 mod filter;
+mod kernels;
 pub mod laws;
 mod line;
 mod lines;
@@ -20,4 +22,6 @@ mod thresholds;
 
 pub use block_strength::strength;
 pub use facts::MbFacts;
+pub use kernels::{strong_horizontal, strong_vertical, weak_horizontal, weak_vertical};
+pub use lines::{Limits, StrongLimits};
 pub use filter::{picture, row};

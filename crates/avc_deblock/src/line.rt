@@ -1,25 +1,53 @@
-ghost use Rattle.std.specs.Prelude.{◌≡◌, ◌≤◌, ℕ, ◌+◌, ◌*◌, ◌/◌, pos, ◌+ℤ◌, nat_abs, nat_lt, min, if◌then◌else◌, ◌&&◌, ℤ};
-ghost use Rattle.avc_types.specs.Arithmetic.{clip1, distance};
+ghost use Rattle.std.specs.Prelude.{◌≡◌, ◌≤◌, ℕ, ◌+◌, ◌*◌, ◌/◌, ◌==◌, pos, ◌+ℤ◌, nat_abs, nat_lt, if◌then◌else◌, ◌&&◌, ℤ, Bool};
+ghost use Rattle.avc_types.specs.Arithmetic.{distance};
 ghost use Rattle.avc_deblock.specs.Line.{Setting, filtered, strong_p0, strong_p1, strong_p2};
-ghost use Rattle.avc_deblock.specs.Rows.{line, IsWeak, slope, bend, held, IsStrong, strong_at, IsWeakChroma, IsStrongChroma};
+ghost use Rattle.avc_deblock.specs.Rows.{line, IsWeak, bend, held, IsStrong, strong_at, IsWeakChroma, IsStrongChroma};
 
-/// 256 more than what p0 gains and q0 loses.
+use crate::bytes::{
+    biased_step, capped_sum, distance, far_mean, floor_mean, less, lowered, mean, mean_of_four,
+    near_mean, raised, rough_mean,
+};
+
+/// By how much a line is beyond the thresholds: 0 where it is filtered. `a1` and `b1` are one less than alpha and beta.
 #[inline(always)]
-fn step(p1: u8, p0: u8, q0: u8, q1: u8, tc: u8) -> u16
-    ensures low { 256 ≤ result + tc }
-    ensures high { result ≤ 256 + tc }
-    ensures value { (limit : ℕ) → tc ≡ min limit 255 → pos result ≡ pos 256 +ℤ held limit (slope p1 p0 q0 q1) }
+fn excess(p1: u8, p0: u8, q0: u8, q1: u8, a1: u8, b1: u8, dead: u8) -> u8
+    ensures { (result == 0) ≡ (nat_lt (distance p0 q0) (if dead == 0 then a1 + 1 else 0) && nat_lt (distance p1 p0) (b1 + 1) && nat_lt (distance q1 q0) (b1 + 1)) }
 {
-    let raw = (4 * u16::from(q0) + u16::from(p1) + 2052 - 4 * u16::from(p0) - u16::from(q1)) / 8;
-    raw.max(256 - u16::from(tc)).min(256 + u16::from(tc))
+    let outer = distance(p1, p0).max(distance(q1, q0));
+    less(distance(p0, q0), a1).max(less(outer, b1)).max(dead)
 }
 
-/// The sample that is 256 below, held between 0 and 255.
 #[inline(always)]
-fn sample(v: u16) -> u8
-    ensures { (z : ℤ) → pos v ≡ pos 256 +ℤ z → result ≡ clip1 z }
+fn is_zero(v: u8) -> bool
+    ensures { result ≡ (v == 0) }
 {
-    (v.max(256).min(511) - 256) as u8
+    v == 0
+}
+
+/// The line is filtered, and a side of it is smooth.
+#[inline(always)]
+fn is_smooth(excess: u8, p2: u8, p0: u8, b1: u8) -> bool
+    ensures { result ≡ ((excess == 0) && nat_lt (distance p2 p0) (b1 + 1)) }
+{
+    excess.max(less(distance(p2, p0), b1)) == 0
+}
+
+#[inline(always)]
+fn pick(a: bool, x: u8, y: u8) -> u8
+    ensures { result ≡ (if a then x else y) }
+{
+    if a { x } else { y }
+}
+
+/// tC.
+#[inline(always)]
+fn limit(on: bool, smooth_p: bool, smooth_q: bool, tc0: u8) -> u8
+    requires { tc0 ≤ 92 }
+    ensures value { (p q : Bool) → smooth_p ≡ (on && p) → smooth_q ≡ (on && q) →
+        result ≡ (if on then tc0 + (if p then 1 else 0) + (if q then 1 else 0) else 0) }
+    ensures small { result ≤ 94 }
+{
+    pick(on, tc0, 0) + u8::from(smooth_p) + u8::from(smooth_q)
 }
 
 /// p1, moved by at most `limit`.
@@ -27,17 +55,9 @@ fn sample(v: u16) -> u8
 fn second(p2: u8, p1: u8, p0: u8, q0: u8, limit: u8) -> u8
     ensures { result ≡ nat_abs (pos p1 +ℤ held limit (bend p2 p1 p0 q0)) }
 {
-    let middle = ((u16::from(p0) + u16::from(q0) + 1) / 2) as u8;
-    let mean = ((u16::from(p2) + u16::from(middle)) / 2) as u8;
-    mean.max(p1.max(limit) - limit)
-        .min(p1.min(255 - limit) + limit)
-}
-
-#[inline(always)]
-fn is_near(a: u8, b: u8, limit: u8) -> bool
-    ensures { result ≡ nat_lt (distance a b) limit }
-{
-    a.max(b) - a.min(b) < limit
+    floor_mean(p2, mean(p0, q0))
+        .max(less(p1, limit))
+        .min(capped_sum(p1, limit))
 }
 
 #[inline(always)]
@@ -48,19 +68,10 @@ pub(crate) fn all_three(a: bool, b: bool, c: bool) -> bool
 }
 
 #[inline(always)]
-fn if_both(a: bool, b: bool, v: u8) -> u8
-    ensures { result ≡ (if a && b then v else 0) }
+pub(crate) fn both(a: bool, b: bool) -> bool
+    ensures { result ≡ (a && b) }
 {
-    u8::from(a & b) * v
-}
-
-/// tC, or as much of it as can matter.
-#[inline(always)]
-fn limit(on: bool, tc0: u8, smooth_p: bool, smooth_q: bool) -> u8
-    ensures { result ≡ (if on then min (tc0 + (if smooth_p then 1 else 0) + (if smooth_q then 1 else 0)) 255 else 0) }
-{
-    let more = u8::from(smooth_p) + u8::from(smooth_q);
-    u8::from(on) * (tc0.min(255 - more) + more)
+    a & b
 }
 
 #[derive(Clone, Copy)]
@@ -79,44 +90,30 @@ pub(crate) fn weak_line(
     q0: u8,
     q1: u8,
     q2: u8,
-    alpha: u8,
-    beta: u8,
+    a1: u8,
+    b1: u8,
+    dead: u8,
     tc0: u8,
 ) -> Inner
-    ensures { (p3 q3 : ℕ) (s : Setting) → IsWeak s alpha beta tc0 →
+    requires { tc0 ≤ 92 }
+    ensures { (p3 q3 : ℕ) (s : Setting) → IsWeak s (if dead == 0 then a1 + 1 else 0) (b1 + 1) tc0 →
         filtered s (line p3 p2 p1 p0 q0 q1 q2 q3) ≡ line p3 p2 result.p1 result.p0 result.q0 result.q1 q2 q3 }
 {
-    let on = all_three(
-        is_near(p0, q0, alpha),
-        is_near(p1, p0, beta),
-        is_near(q1, q0, beta),
-    );
-    let smooth_p = is_near(p2, p0, beta);
-    let smooth_q = is_near(q2, q0, beta);
-    let d = step(p1, p0, q0, q1, limit(on, tc0, smooth_p, smooth_q));
+    let beyond = excess(p1, p0, q0, q1, a1, b1, dead);
+    let on = is_zero(beyond);
+    let smooth_p = is_smooth(beyond, p2, p0, b1);
+    let smooth_q = is_smooth(beyond, q2, q0, b1);
+    let tc = limit(on, smooth_p, smooth_q, tc0);
+    let step = biased_step(p1, p0, q0, q1);
     Inner {
-        p1: second(p2, p1, p0, q0, if_both(on, smooth_p, tc0)),
-        p0: sample(u16::from(p0) + d),
-        q0: sample(u16::from(q0) + 512 - d),
-        q1: second(q2, q1, q0, p0, if_both(on, smooth_q, tc0)),
+        p1: second(p2, p1, p0, q0, pick(smooth_p, tc0, 0)),
+        p0: raised(p0, step, tc),
+        q0: lowered(q0, step, tc),
+        q1: second(q2, q1, q0, p0, pick(smooth_q, tc0, 0)),
     }
 }
 
 // ---- strength 4
-
-#[inline(always)]
-fn pick(a: bool, x: u8, y: u8) -> u8
-    ensures { result ≡ (if a then x else y) }
-{
-    if a { x } else { y }
-}
-
-#[inline(always)]
-pub(crate) fn both(a: bool, b: bool) -> bool
-    ensures { result ≡ (a && b) }
-{
-    a & b
-}
 
 #[derive(Clone, Copy)]
 pub(crate) struct Side {
@@ -125,40 +122,21 @@ pub(crate) struct Side {
     pub(crate) p0: u8,
 }
 
-/// One side of a line.
+/// One side of a line: whether it is filtered, and whether by the wide means.
 #[inline(always)]
-fn strong_side(
-    on: bool,
-    p3: u8,
-    p2: u8,
-    p1: u8,
-    p0: u8,
-    q0: u8,
-    q1: u8,
-    alpha: u8,
-    beta: u8,
-) -> Side
-    ensures nearest { (t q2 q3 : ℕ) → result.p0 ≡ (if on then strong_p0 (strong_at alpha beta t) (line p3 p2 p1 p0 q0 q1 q2 q3) else p0) }
-    ensures second { (t q2 q3 : ℕ) → result.p1 ≡ (if on then strong_p1 (strong_at alpha beta t) (line p3 p2 p1 p0 q0 q1 q2 q3) else p1) }
-    ensures third { (t q2 q3 : ℕ) → result.p2 ≡ (if on then strong_p2 (strong_at alpha beta t) (line p3 p2 p1 p0 q0 q1 q2 q3) else p2) }
+fn strong_side(on: bool, smooth: bool, p3: u8, p2: u8, p1: u8, p0: u8, q0: u8, q1: u8) -> Side
+    ensures nearest { result.p0 ≡ (if smooth then (p2 + 2 * p1 + 2 * p0 + 2 * q0 + q1 + 4) / 8 else (if on then (2 * p1 + p0 + q1 + 2) / 4 else p0)) }
+    ensures second { result.p1 ≡ (if smooth then (p2 + p1 + p0 + q0 + 2) / 4 else p1) }
+    ensures third { result.p2 ≡ (if smooth then (2 * p3 + 3 * p2 + p1 + p0 + q0 + 4) / 8 else p2) }
 {
-    let smooth = both(is_near(p2, p0, beta), is_near(p0, q0, alpha / 4 + 2));
-    let (p3, p2w, p1w, p0w, q0w, q1w) = (
-        u16::from(p3),
-        u16::from(p2),
-        u16::from(p1),
-        u16::from(p0),
-        u16::from(q0),
-        u16::from(q1),
-    );
-    let near = ((p2w + 2 * p1w + 2 * p0w + 2 * q0w + q1w + 4) / 8) as u8;
-    let rough = ((2 * p1w + p0w + q1w + 2) / 4) as u8;
-    let middle = ((p2w + p1w + p0w + q0w + 2) / 4) as u8;
-    let far = ((2 * p3 + 3 * p2w + p1w + p0w + q0w + 4) / 8) as u8;
     Side {
-        p2: pick(on, pick(smooth, far, p2), p2),
-        p1: pick(on, pick(smooth, middle, p1), p1),
-        p0: pick(on, pick(smooth, near, rough), p0),
+        p2: pick(smooth, far_mean(p3, p2, p1, p0, q0), p2),
+        p1: pick(smooth, mean_of_four(p2, p1, p0, q0), p1),
+        p0: pick(
+            smooth,
+            near_mean(p2, p1, p0, q0, q1),
+            pick(on, rough_mean(p1, p0, q1), p0),
+        ),
     }
 }
 
@@ -166,6 +144,14 @@ fn strong_side(
 pub(crate) struct Sides {
     pub(crate) p: Side,
     pub(crate) q: Side,
+}
+
+/// The excess where the step at the edge is small enough for the wide means.
+#[inline(always)]
+fn excess_of_step(beyond: u8, p0: u8, q0: u8, c1: u8) -> u8
+    ensures { (result == 0) ≡ ((beyond == 0) && nat_lt (distance p0 q0) (c1 + 1)) }
+{
+    beyond.max(less(distance(p0, q0), c1))
 }
 
 #[inline(always)]
@@ -178,20 +164,22 @@ pub(crate) fn strong_line(
     q1: u8,
     q2: u8,
     q3: u8,
-    alpha: u8,
-    beta: u8,
+    a1: u8,
+    b1: u8,
+    c1: u8,
 ) -> Sides
-    ensures { (s : Setting) → IsStrong s alpha beta →
+    requires { c1 ≡ (a1 + 1) / 4 + 1 }
+    ensures { (s : Setting) → IsStrong s (a1 + 1) (b1 + 1) →
         filtered s (line p3 p2 p1 p0 q0 q1 q2 q3) ≡ line p3 result.p.p2 result.p.p1 result.p.p0 result.q.p0 result.q.p1 result.q.p2 q3 }
 {
-    let on = all_three(
-        is_near(p0, q0, alpha),
-        is_near(p1, p0, beta),
-        is_near(q1, q0, beta),
-    );
+    let beyond = excess(p1, p0, q0, q1, a1, b1, 0);
+    let on = is_zero(beyond);
+    let small = excess_of_step(beyond, p0, q0, c1);
+    let smooth_p = is_smooth(small, p2, p0, b1);
+    let smooth_q = is_smooth(small, q2, q0, b1);
     Sides {
-        p: strong_side(on, p3, p2, p1, p0, q0, q1, alpha, beta),
-        q: strong_side(on, q3, q2, q1, q0, p0, p1, alpha, beta),
+        p: strong_side(on, smooth_p, p3, p2, p1, p0, q0, q1),
+        q: strong_side(on, smooth_q, q3, q2, q1, q0, p0, p1),
     }
 }
 
@@ -204,57 +192,37 @@ pub(crate) struct Nearest {
 }
 
 #[inline(always)]
-fn chroma_limit(on: bool, tc0: u8) -> u8
-    ensures { result ≡ (if on then min (tc0 + 1) 255 else 0) }
-{
-    u8::from(on) * (tc0.min(254) + 1)
-}
-
-#[inline(always)]
 pub(crate) fn weak_chroma_line(
     p1: u8,
     p0: u8,
     q0: u8,
     q1: u8,
-    alpha: u8,
-    beta: u8,
+    a1: u8,
+    b1: u8,
+    dead: u8,
     tc0: u8,
 ) -> Nearest
-    ensures { (p3 p2 q2 q3 : ℕ) (s : Setting) → IsWeakChroma s alpha beta tc0 →
+    requires { tc0 ≤ 92 }
+    ensures { (p3 p2 q2 q3 : ℕ) (s : Setting) → IsWeakChroma s (if dead == 0 then a1 + 1 else 0) (b1 + 1) tc0 →
         filtered s (line p3 p2 p1 p0 q0 q1 q2 q3) ≡ line p3 p2 p1 result.p0 result.q0 q1 q2 q3 }
 {
-    let on = all_three(
-        is_near(p0, q0, alpha),
-        is_near(p1, p0, beta),
-        is_near(q1, q0, beta),
-    );
-    let d = step(p1, p0, q0, q1, chroma_limit(on, tc0));
+    let on = is_zero(excess(p1, p0, q0, q1, a1, b1, dead));
+    let tc = pick(on, tc0 + 1, 0);
+    let step = biased_step(p1, p0, q0, q1);
     Nearest {
-        p0: sample(u16::from(p0) + d),
-        q0: sample(u16::from(q0) + 512 - d),
+        p0: raised(p0, step, tc),
+        q0: lowered(q0, step, tc),
     }
 }
 
 #[inline(always)]
-fn rough(on: bool, p1: u8, p0: u8, q1: u8) -> u8
-    ensures { result ≡ (if on then (2 * p1 + p0 + q1 + 2) / 4 else p0) }
-{
-    let mean = ((2 * u16::from(p1) + u16::from(p0) + u16::from(q1) + 2) / 4) as u8;
-    pick(on, mean, p0)
-}
-
-#[inline(always)]
-pub(crate) fn strong_chroma_line(p1: u8, p0: u8, q0: u8, q1: u8, alpha: u8, beta: u8) -> Nearest
-    ensures { (p3 p2 q2 q3 : ℕ) (s : Setting) → IsStrongChroma s alpha beta →
+pub(crate) fn strong_chroma_line(p1: u8, p0: u8, q0: u8, q1: u8, a1: u8, b1: u8) -> Nearest
+    ensures { (p3 p2 q2 q3 : ℕ) (s : Setting) → IsStrongChroma s (a1 + 1) (b1 + 1) →
         filtered s (line p3 p2 p1 p0 q0 q1 q2 q3) ≡ line p3 p2 p1 result.p0 result.q0 q1 q2 q3 }
 {
-    let on = all_three(
-        is_near(p0, q0, alpha),
-        is_near(p1, p0, beta),
-        is_near(q1, q0, beta),
-    );
+    let on = is_zero(excess(p1, p0, q0, q1, a1, b1, 0));
     Nearest {
-        p0: rough(on, p1, p0, q1),
-        q0: rough(on, q1, q0, p1),
+        p0: pick(on, rough_mean(p1, p0, q1), p0),
+        q0: pick(on, rough_mean(q1, q0, p1), q0),
     }
 }

@@ -1,10 +1,38 @@
-ghost use Rattle.std.specs.Prelude.{◌≡◌, ℕ, ◌<◌, slice_index};
+ghost use Rattle.std.specs.Prelude.{◌≡◌, ℕ, ◌+◌, ◌/◌, ◌<◌, ◌≤◌, ◌==◌, if◌then◌else◌, slice_index};
 ghost use Rattle.avc_deblock.specs.Line.{Setting, filtered};
 ghost use Rattle.avc_deblock.specs.Rows.{line_of_rows, line_within, line_inside, IsWeak, IsStrong, IsWeakChroma, IsStrongChroma};
 
 use crate::line::{strong_chroma_line, strong_line, weak_chroma_line, weak_line};
 
-/// The edge of sixteen lines of luma, at a strength of 1 to 3.
+/// What sixteen lines are filtered with below strength 4.
+#[derive(Clone, Copy)]
+pub struct Limits {
+    /// One less than alpha.
+    pub alpha1: [u8; 16],
+
+    /// One less than beta.
+    pub beta1: [u8; 16],
+
+    /// Not 0 where the strength is 0.
+    pub dead: [u8; 16],
+
+    pub tc0: [u8; 16],
+}
+
+/// What sixteen lines are filtered with at strength 4.
+#[derive(Clone, Copy)]
+pub struct StrongLimits {
+    /// One less than alpha.
+    pub alpha1: [u8; 16],
+
+    /// One less than beta.
+    pub beta1: [u8; 16],
+
+    /// One less than a quarter of alpha and two.
+    pub small1: [u8; 16],
+}
+
+/// The edge of sixteen lines of luma, at a strength of 0 to 3.
 #[inline(always)]
 pub(crate) fn weak_lines(
     p2: &[u8; 16],
@@ -13,21 +41,22 @@ pub(crate) fn weak_lines(
     q0: &mut [u8; 16],
     q1: &mut [u8; 16],
     q2: &[u8; 16],
-    alpha: &[u8; 16],
-    beta: u8,
-    tc0: &[u8; 16],
+    limits: &Limits,
 )
-    ensures { (p3 q3 : ℕ) (s : Setting) (i : ℕ) → i < 16 → IsWeak s (slice_index alpha.now i) beta (slice_index tc0.now i) →
+    requires { (i : ℕ) → i < 16 → slice_index limits.now.tc0 i ≤ 92 }
+    ensures { (p3 q3 : ℕ) (s : Setting) (i : ℕ) → i < 16 →
+        IsWeak s (if slice_index limits.now.dead i == 0 then slice_index limits.now.alpha1 i + 1 else 0) (slice_index limits.now.beta1 i + 1) (slice_index limits.now.tc0 i) →
         filtered s (line_within p3 q3 p2.now p1.old p0.old q0.old q1.old q2.now i) ≡ line_within p3 q3 p2.now p1.new p0.new q0.new q1.new q2.now i }
 {
-    let (p2, a1, a0, b0, b1, q2, alpha, tc0) = (*p2, *p1, *p0, *q0, *q1, *q2, *alpha, *tc0);
+    let (p2, a1, a0, b0, b1, q2) = (*p2, *p1, *p0, *q0, *q1, *q2);
+    let (alpha1, beta1, dead, tc0) = (limits.alpha1, limits.beta1, limits.dead, limits.tc0);
     let mut o1 = a1;
     let mut o0 = a0;
     let mut r0 = b0;
     let mut r1 = b1;
     for i in 0..16 {
         let inner = weak_line(
-            p2[i], a1[i], a0[i], b0[i], b1[i], q2[i], alpha[i], beta, tc0[i],
+            p2[i], a1[i], a0[i], b0[i], b1[i], q2[i], alpha1[i], beta1[i], dead[i], tc0[i],
         );
         o1[i] = inner.p1;
         o0[i] = inner.p0;
@@ -51,14 +80,15 @@ pub(crate) fn strong_lines(
     q1: &mut [u8; 16],
     q2: &mut [u8; 16],
     q3: &[u8; 16],
-    alpha: u8,
-    beta: u8,
+    limits: &StrongLimits,
 )
-    ensures { (s : Setting) (i : ℕ) → i < 16 → IsStrong s alpha beta →
+    requires { (i : ℕ) → i < 16 → slice_index limits.now.small1 i ≡ (slice_index limits.now.alpha1 i + 1) / 4 + 1 }
+    ensures { (s : Setting) (i : ℕ) → i < 16 → IsStrong s (slice_index limits.now.alpha1 i + 1) (slice_index limits.now.beta1 i + 1) →
         filtered s (line_of_rows p3.now p2.old p1.old p0.old q0.old q1.old q2.old q3.now i)
         ≡ line_of_rows p3.now p2.new p1.new p0.new q0.new q1.new q2.new q3.now i }
 {
     let (p3, a2, a1, a0, b0, b1, b2, q3) = (*p3, *p2, *p1, *p0, *q0, *q1, *q2, *q3);
+    let (alpha1, beta1, small1) = (limits.alpha1, limits.beta1, limits.small1);
     let mut o2 = a2;
     let mut o1 = a1;
     let mut o0 = a0;
@@ -67,7 +97,7 @@ pub(crate) fn strong_lines(
     let mut r2 = b2;
     for i in 0..16 {
         let sides = strong_line(
-            p3[i], a2[i], a1[i], a0[i], b0[i], b1[i], b2[i], q3[i], alpha, beta,
+            p3[i], a2[i], a1[i], a0[i], b0[i], b1[i], b2[i], q3[i], alpha1[i], beta1[i], small1[i],
         );
         o2[i] = sides.p.p2;
         o1[i] = sides.p.p1;
@@ -84,25 +114,28 @@ pub(crate) fn strong_lines(
     *q2 = r2;
 }
 
-/// Sixteen lines of chroma, at strengths of 1 to 3.
+/// Sixteen lines of chroma, at strengths of 0 to 3.
 #[inline(always)]
 pub(crate) fn weak_chroma_lines(
     p1: &[u8; 16],
     p0: &mut [u8; 16],
     q0: &mut [u8; 16],
     q1: &[u8; 16],
-    alpha: &[u8; 16],
-    beta: u8,
-    tc0: &[u8; 16],
+    limits: &Limits,
 )
-    ensures { (p3 p2 q2 q3 : ℕ) (s : Setting) (i : ℕ) → i < 16 → IsWeakChroma s (slice_index alpha.now i) beta (slice_index tc0.now i) →
+    requires { (i : ℕ) → i < 16 → slice_index limits.now.tc0 i ≤ 92 }
+    ensures { (p3 p2 q2 q3 : ℕ) (s : Setting) (i : ℕ) → i < 16 →
+        IsWeakChroma s (if slice_index limits.now.dead i == 0 then slice_index limits.now.alpha1 i + 1 else 0) (slice_index limits.now.beta1 i + 1) (slice_index limits.now.tc0 i) →
         filtered s (line_inside p3 p2 q2 q3 p1.now p0.old q0.old q1.now i) ≡ line_inside p3 p2 q2 q3 p1.now p0.new q0.new q1.now i }
 {
-    let (p1, a0, b0, q1, alpha, tc0) = (*p1, *p0, *q0, *q1, *alpha, *tc0);
+    let (p1, a0, b0, q1) = (*p1, *p0, *q0, *q1);
+    let (alpha1, beta1, dead, tc0) = (limits.alpha1, limits.beta1, limits.dead, limits.tc0);
     let mut o0 = a0;
     let mut r0 = b0;
     for i in 0..16 {
-        let nearest = weak_chroma_line(p1[i], a0[i], b0[i], q1[i], alpha[i], beta, tc0[i]);
+        let nearest = weak_chroma_line(
+            p1[i], a0[i], b0[i], q1[i], alpha1[i], beta1[i], dead[i], tc0[i],
+        );
         o0[i] = nearest.p0;
         r0[i] = nearest.q0;
     }
@@ -117,17 +150,17 @@ pub(crate) fn strong_chroma_lines(
     p0: &mut [u8; 16],
     q0: &mut [u8; 16],
     q1: &[u8; 16],
-    alpha: u8,
-    beta: u8,
+    limits: &StrongLimits,
 )
-    ensures { (p3 p2 q2 q3 : ℕ) (s : Setting) (i : ℕ) → i < 16 → IsStrongChroma s alpha beta →
+    ensures { (p3 p2 q2 q3 : ℕ) (s : Setting) (i : ℕ) → i < 16 → IsStrongChroma s (slice_index limits.now.alpha1 i + 1) (slice_index limits.now.beta1 i + 1) →
         filtered s (line_inside p3 p2 q2 q3 p1.now p0.old q0.old q1.now i) ≡ line_inside p3 p2 q2 q3 p1.now p0.new q0.new q1.now i }
 {
     let (p1, a0, b0, q1) = (*p1, *p0, *q0, *q1);
+    let (alpha1, beta1) = (limits.alpha1, limits.beta1);
     let mut o0 = a0;
     let mut r0 = b0;
     for i in 0..16 {
-        let nearest = strong_chroma_line(p1[i], a0[i], b0[i], q1[i], alpha, beta);
+        let nearest = strong_chroma_line(p1[i], a0[i], b0[i], q1[i], alpha1[i], beta1[i]);
         o0[i] = nearest.p0;
         r0[i] = nearest.q0;
     }

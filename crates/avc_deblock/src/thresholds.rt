@@ -1,31 +1,27 @@
-ghost use Rattle.std.specs.Prelude.{◌≡◌, ◌+◌, ◌/◌, ◌<◌};
+ghost use Rattle.std.specs.Prelude.{◌≡◌, ◌+◌, ◌/◌, ◌<◌, ◌≤◌};
 ghost use Rattle.avc_deblock.specs.Line.{threshold_index, alpha_of, beta_of, tc0_of};
 
-// Table 8-16, from index 16 on.
-const ALPHA: [u8; 36] = [
-    4, 4, 5, 6, 7, 8, 9, 10, 12, 13, 15, 17, 20, 22, 25, 28, 32, 36, 40, 45, 50, 56, 63, 71, 80,
-    90, 101, 113, 127, 144, 162, 182, 203, 226, 255, 255,
+// Table 8-16 by index.
+const ALPHA: [u8; 52] = [
+    0, 0, 0, 0, 0, 0, 0, 0, 0, 0, 0, 0, 0, 0, 0, 0, 4, 4, 5, 6, 7, 8, 9, 10, 12, 13, 15, 17, 20,
+    22, 25, 28, 32, 36, 40, 45, 50, 56, 63, 71, 80, 90, 101, 113, 127, 144, 162, 182, 203, 226,
+    255, 255,
 ];
 
-const BETA: [u8; 36] = [
-    2, 2, 2, 3, 3, 3, 3, 4, 4, 4, 6, 6, 7, 7, 8, 8, 9, 9, 10, 10, 11, 11, 12, 12, 13, 13, 14, 14,
-    15, 15, 16, 16, 17, 17, 18, 18,
+const BETA: [u8; 52] = [
+    0, 0, 0, 0, 0, 0, 0, 0, 0, 0, 0, 0, 0, 0, 0, 0, 2, 2, 2, 3, 3, 3, 3, 4, 4, 4, 6, 6, 7, 7, 8, 8,
+    9, 9, 10, 10, 11, 11, 12, 12, 13, 13, 14, 14, 15, 15, 16, 16, 17, 17, 18, 18,
 ];
 
-// Table 8-17, from index 17 on: strengths 1, 2 and 3.
-const TC0_1: [u8; 35] = [
-    0, 0, 0, 0, 0, 0, 1, 1, 1, 1, 1, 1, 1, 1, 1, 1, 2, 2, 2, 2, 3, 3, 3, 4, 4, 4, 5, 6, 6, 7, 8, 9,
-    10, 11, 13,
-];
-
-const TC0_2: [u8; 35] = [
-    0, 0, 0, 0, 1, 1, 1, 1, 1, 1, 1, 1, 1, 1, 2, 2, 2, 2, 3, 3, 3, 4, 4, 5, 5, 6, 7, 8, 8, 10, 11,
-    12, 13, 15, 17,
-];
-
-const TC0_3: [u8; 35] = [
-    1, 1, 1, 1, 1, 1, 1, 1, 1, 1, 2, 2, 2, 2, 3, 3, 3, 4, 4, 4, 5, 6, 6, 7, 8, 9, 10, 11, 13, 14,
-    16, 18, 20, 23, 25,
+// Table 8-17: for each index tC0 at the strengths 0 to 3.
+const TC0: [u8; 208] = [
+    0, 0, 0, 0, 0, 0, 0, 0, 0, 0, 0, 0, 0, 0, 0, 0, 0, 0, 0, 0, 0, 0, 0, 0, 0, 0, 0, 0, 0, 0, 0, 0,
+    0, 0, 0, 0, 0, 0, 0, 0, 0, 0, 0, 0, 0, 0, 0, 0, 0, 0, 0, 0, 0, 0, 0, 0, 0, 0, 0, 0, 0, 0, 0, 0,
+    0, 0, 0, 0, 0, 0, 0, 1, 0, 0, 0, 1, 0, 0, 0, 1, 0, 0, 0, 1, 0, 0, 1, 1, 0, 0, 1, 1, 0, 1, 1, 1,
+    0, 1, 1, 1, 0, 1, 1, 1, 0, 1, 1, 1, 0, 1, 1, 2, 0, 1, 1, 2, 0, 1, 1, 2, 0, 1, 1, 2, 0, 1, 2, 3,
+    0, 1, 2, 3, 0, 2, 2, 3, 0, 2, 2, 4, 0, 2, 3, 4, 0, 2, 3, 4, 0, 3, 3, 5, 0, 3, 4, 6, 0, 3, 4, 6,
+    0, 4, 5, 7, 0, 4, 5, 8, 0, 4, 6, 9, 0, 5, 7, 10, 0, 6, 8, 11, 0, 6, 8, 13, 0, 7, 10, 14, 0, 8,
+    11, 16, 0, 9, 12, 18, 0, 10, 13, 20, 0, 11, 15, 23, 0, 13, 17, 25,
 ];
 
 /// What the lines of one edge have in common, beside their strengths (8.7.2.2).
@@ -72,11 +68,7 @@ fn alpha(index: u8) -> u8
     requires { index < 52 }
     ensures { result ≡ alpha_of index }
 {
-    if index < 16 {
-        0
-    } else {
-        ALPHA[usize::from(index - 16)]
-    }
+    ALPHA[usize::from(index)]
 }
 
 #[inline(always)]
@@ -84,11 +76,7 @@ fn beta(index: u8) -> u8
     requires { index < 52 }
     ensures { result ≡ beta_of index }
 {
-    if index < 16 {
-        0
-    } else {
-        BETA[usize::from(index - 16)]
-    }
+    BETA[usize::from(index)]
 }
 
 /// tC0 at a strength of 0 to 3; it is 0 at strength 0.
@@ -96,21 +84,10 @@ fn beta(index: u8) -> u8
 pub(crate) fn tc0(strength: u8, index: u8) -> u8
     requires strength { strength < 4 }
     requires index { index < 52 }
-    ensures { result ≡ tc0_of strength index }
+    ensures value { result ≡ tc0_of strength index }
+    ensures small { result ≤ 25 }
 {
-    if index < 17 {
-        return 0;
-    }
-    let place = usize::from(index - 17);
-    if strength == 0 {
-        0
-    } else if strength == 1 {
-        TC0_1[place]
-    } else if strength == 2 {
-        TC0_2[place]
-    } else {
-        TC0_3[place]
-    }
+    TC0[4 * usize::from(index) + usize::from(strength)]
 }
 
 impl EdgeQp {

@@ -19,13 +19,7 @@ pub fn taps(e: u8, f: u8, g: u8, h: u8, i: u8, j: u8) -> i16
 fn clipped(sum: i16) -> u8
     ensures { result ≡ clip1 sum }
 {
-    if sum < 0 {
-        0
-    } else if sum > 255 {
-        255
-    } else {
-        sum as u8
-    }
+    sum.max(0).min(255) as u8
 }
 
 fn rounded(sum: i16) -> i16
@@ -69,6 +63,23 @@ fn sixty_fourth(v: i16) -> i16
     v >> 6
 }
 
+fn wide_sum(a: i16, b: i16) -> i32
+    ensures { result ≡ a +ℤ b }
+{
+    i32::from(a) + i32::from(b)
+}
+
+/// The number, or that of sixteen bits that is nearest.
+fn nearest(v: i32) -> i16
+    ensures exact { neg_ℤ (pos 32768) ≤ℤ v → v ≤ℤ pos 32767 → result ≡ v }
+    ensures low { v <ℤ neg_ℤ (pos 32768) → result ≡ neg_ℤ (pos 32768) }
+    ensures high { pos 32767 <ℤ v → result ≡ pos 32767 }
+    ensures least { neg_ℤ (pos 32768) ≤ℤ result }
+    ensures most { result ≤ℤ pos 32767 }
+{
+    v.max(-32768).min(32767) as i16
+}
+
 /// The sum, or the number of sixteen bits that is nearest.
 fn sum_within(a: i16, b: i16) -> i16
     ensures exact { neg_ℤ (pos 32768) ≤ℤ (a +ℤ b) → (a +ℤ b) ≤ℤ pos 32767 → result ≡ a +ℤ b }
@@ -77,7 +88,7 @@ fn sum_within(a: i16, b: i16) -> i16
     ensures least { neg_ℤ (pos 32768) ≤ℤ result }
     ensures most { result ≤ℤ pos 32767 }
 {
-    a.saturating_add(b)
+    nearest(wide_sum(a, b))
 }
 
 /// The rounded and clipped sample of the three sums of two: a quarter first, then a sixteenth, then the whole.

@@ -1,8 +1,8 @@
 -- One block more.
-use Rattle.std.proofs.Common.{◌≡◌, ℕ, suc, ◌+◌, ◌<◌, ◌≤◌, min, ℤ, pos, Bool, true, false, List, [], ◌∷◌, ◌++◌, length, take, set, map, refl, ap, ◌∙◌, sym, arith, inl, inr}
-use Rattle.std.specs.Prelude.{Ok, Err, Option, ◌==◌, ◌||◌, nat_le, nat_lt, if◌then◌else◌}
+use Rattle.std.proofs.Common.{◌≡◌, ◌≢◌, ℕ, suc, ◌+◌, ◌/◌, ◌^◌, append-nil, append_assoc, ◌<◌, ◌≤◌, min, ℤ, pos, Bool, true, false, List, [], ◌∷◌, ◌++◌, length, take, set, map, refl, ap, ◌∙◌, sym, arith, inl, inr}
+use Rattle.std.specs.Prelude.{Ok, Err, Option, replicate, ◌==◌, ◌||◌, nat_le, nat_lt, if◌then◌else◌}
 use Rattle.std.specs.List.{range_with_len}
-use Rattle.std.proofs.lemmas.Bool.{cases_lt, le-ltb}
+use Rattle.std.proofs.lemmas.Bool.{cases_lt, le-ltb, ne_eqb}
 use Rattle.std.proofs.lemmas.List.{take_more_set, map-append}
 use Rattle.avc_types.specs.Macroblock.{total_coeff}
 use Rattle.avc_types.specs.declared.fault.Fault.{Fault}
@@ -13,7 +13,9 @@ use Rattle.avc_vlc.specs.Tables.{coeff_token_0, coeff_token_2, coeff_token_4}
 use Rattle.avc_vlc.specs.Reading.{Table, table_code, token_table, tokens, tokens_8, total_zeros}
 use Rattle.avc_cavlc.specs.Block.{placed, residual_block, runs, token_levels}
 use Rattle.avc_neigh.specs.TotalCoeffs.{nc}
-use Rattle.avc_mbsyntax.specs.Reading.{block_where, blocks}
+use Rattle.avc_mbsyntax.specs.Reading.{block_where, blocks, is_coded, no_levels}
+use Rattle.std.proofs.Math.Nat.{div-eq_of_lt}
+use Rattle.std.proofs.lemmas.Nat.{pow_pos}
 
 -- ---- nC above 8
 
@@ -57,6 +59,29 @@ no_block : (max size : ℕ) (coded : ℕ → Bool) (left up : Option (List ℕ))
     block_where max (coded k) (nc size left up (map total_coeff done) k) b ≡ Err f → blocks max size coded left up (k ∷ numbers) done b ≡ Err f
 unfolding blocks
 no_block max size coded left up k numbers done f b is = rw is refl
+
+-- where none is coded
+pub none_coded : (max size : ℕ) (coded : ℕ → Bool) (left up : Option (List ℕ)) (numbers : List ℕ) (done : List (List ℤ)) (b : Bits) → ((k : ℕ) → coded k ≡ false) →
+    blocks max size coded left up numbers done b ≡ Ok (done ++ replicate (length numbers) (no_levels max), b)
+unfolding blocks
+none_coded max size coded left up [] done b none = ap (λ l. Ok (l, b)) (sym (append-nil done))
+none_coded max size coded left up (k ∷ numbers) done b none =
+    next_block max size coded left up k numbers done (no_levels max) b b (rw (none k) refl)
+    ∙ none_coded max size coded left up numbers (done ++ no_levels max ∷ []) b none
+    ∙ ap (λ l. Ok (l, b)) (append_assoc done (no_levels max ∷ []) (replicate (length numbers) (no_levels max)))
+
+pub none_in_pattern : (k : ℕ) → is_coded 0 k ≡ false
+none_in_pattern k =
+    let none : 0 / 2 ^ (k / 4) ≡ 0 = div-eq_of_lt (pow_pos (k / 4)) in
+    rw none refl
+
+pub no_luma : (max : ℕ) (pattern : ℕ) (left up : Option (List ℕ)) (b : Bits) → pattern ≡ 0 →
+    blocks max 16 (is_coded pattern) left up (range_with_len 0 16) [] b ≡ Ok (replicate 16 (no_levels max), b)
+no_luma max pattern left up b none = rw none (none_coded max 16 (is_coded 0) left up (range_with_len 0 16) [] b none_in_pattern)
+
+pub no_chroma : (pattern : ℕ) (left up : Option (List ℕ)) (b : Bits) → pattern ≢ 2 →
+    blocks 15 8 (λ k. pattern == 2) left up (range_with_len 0 4) [] b ≡ Ok (replicate 4 (no_levels 15), b)
+no_chroma pattern left up b other = none_coded 15 8 (λ k. pattern == 2) left up (range_with_len 0 4) [] b (λ k. ne_eqb pattern 2 other)
 
 pub all_blocks : (max size : ℕ) (coded : ℕ → Bool) (left up : Option (List ℕ)) (numbers : List ℕ) (done all : List (List ℤ)) (b : Bits) → numbers ≡ [] → done ≡ all →
     blocks max size coded left up numbers done b ≡ Ok (all, b)

@@ -1,10 +1,10 @@
 -- What holds of the values that parts of a macroblock give.
-use Rattle.std.proofs.Common.{◌≡◌, ◌+◌, ◌-◌, ◌^◌, ◌<◌, ◌≤◌, ℕ, zero, suc, Bool, true, false, List, [], ◌∷◌, take, replicate, Some, None, IfSome, Result, Ok, Err, refl, ap, subst, arith}
+use Rattle.std.proofs.Common.{◌^◌, ◌<◌, ◌≤◌, ℕ, zero, suc, Bool, true, false, [], ◌∷◌, Some, None, IfSome, Result, Ok, Err, subst, arith}
 use Rattle.std.specs.Prelude.{Option, IfOk, nat_le}
 use Rattle.std.specs.List.{All}
 use Rattle.std.proofs.lemmas.List.Elements.{All-nil, All-cons}
 use Rattle.avc_types.specs.declared.fault.Fault.{Fault}
-use Rattle.avc_bits.specs.Bits.{Bits, Read, ◌>>=◌, give, times}
+use Rattle.avc_bits.specs.Bits.{Bits, Read, give, times}
 use Rattle.avc_types.specs.declared.fault.Fault.TheVariants as faults
 use Rattle.avc_bits.specs.Codes.{IsReadBy, IsU, Takes, flag, te, te_to, u}
 use Rattle.avc_bits.specs.Reader.{Reads, reader_bits}

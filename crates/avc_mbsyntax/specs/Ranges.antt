@@ -1,7 +1,7 @@
 -- What holds of every macroblock that is read (7.4.5).
 use Rattle.std.specs.Prelude.{ℕ, ◌-◌, ◌≤◌, ℤ, pos, List, IfSome, slice_index_or}
 use Rattle.std.specs.List.{All}
-use Rattle.avc_types.specs.Macroblock.{Residual, Mb, MbSyntax, p_skip, i_pcm, i_nxn, i_16x16, p_inter}
+use Rattle.avc_types.specs.Macroblock.{Residual, MbSyntax, p_skip, i_pcm, i_nxn, i_16x16, p_inter}
 use Rattle.avc_cavlc.specs.Block.{IsSmall}
 
 -- each level is from -2,528 to 2,528

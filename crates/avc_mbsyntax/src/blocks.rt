@@ -41,6 +41,9 @@ pub(crate) fn read_luma_blocks<const MAXN: usize>(
         (blocks MAXN 16 (is_coded luma_pattern) (option_copied left.entry) (option_copied up.entry) (range_with_len 0 16) []) reader.old reader.new }
 {
     let mut levels = [Levels::zero(); 16];
+    if luma_pattern == 0 {
+        return Ok(levels);
+    }
     let mut total_coeffs = [0; 16];
     'each: for k in 0..16 {
         let nc = nc_luma(left, up, &total_coeffs, k);
@@ -63,6 +66,9 @@ pub(crate) fn read_chroma_blocks(
         (blocks 15 8 (λ k. chroma_pattern == 2) (option_copied left.entry) (option_copied up.entry) (range_with_len 0 4) []) reader.old reader.new }
 {
     let mut levels = [Levels::zero(); 4];
+    if chroma_pattern != 2 {
+        return Ok(levels);
+    }
     let mut total_coeffs = [0; 4];
     'each: for k in 0..4 {
         let nc = nc_chroma(left, up, &total_coeffs, k);

@@ -35,6 +35,18 @@ impl<const N: usize> Code<N> {
         }
     }
 
+    // The bits that a reader has ahead, of which none are counted. Nothing is read.
+    #[inline(always)]
+    pub(crate) fn look(reader: &BitReader) -> Self
+        requires { N ≤ 16 }
+        ensures { Shows result (reader_bits reader.now).ahead }
+    {
+        Code {
+            word: reader.peek(32),
+            count: 0,
+        }
+    }
+
     /// How many bits there are.
     pub fn count(self) -> u32
         ensures { result ≡ length (code_bits self.entry) }

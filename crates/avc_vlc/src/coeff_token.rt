@@ -23,7 +23,7 @@ pub fn read_coeff_token(reader: &mut BitReader, nc: i8) -> Result<Token, Fault>
     ensures range { IfOk result IsToken }
     ensures stays { OnErr result (reader.new ≡ reader.old) }
 {
-    let code = Code::<16>::next(reader);
+    let code = Code::<16>::look(reader);
     token_entry(code, nc).read(reader)
 }
 

@@ -1,8 +1,8 @@
-ghost use Rattle.std.specs.Prelude.{◌≡◌, ◌≤◌, ℕ, List, Bool, true, false, length, slice_index_or, ◌<◌, MatchOption, OnErr};
+ghost use Rattle.std.specs.Prelude.{◌≡◌, ◌≤◌, ℕ, List, Bool, true, false, length, slice_index_or, ◌<◌, MatchOption, OnErr, None, Err};
 ghost use Rattle.std.specs.List.{list_any};
 ghost use Rattle.avc_bits.specs.Reader.{Reads, reader_bits};
 ghost use Rattle.avc_vlc.specs.Reading.{Table, table_code};
-ghost use Rattle.avc_vlc.specs.Indexing.{IsIndexed, holds};
+ghost use Rattle.avc_vlc.specs.Indexing.{Decides, IsIndexed, Shows, holds};
 
 use crate::code::Code;
 use crate::token::Token;
@@ -68,24 +68,32 @@ impl<V: Coded> Entry<V> {
 }
 
 impl<V: Copy> Entry<V> {
-    ghost use Rattle.avc_vlc.specs.Indexing.{Decides};
-
     /// Reads the codeword, or answers `Truncated` where the bits end inside the front, else `BadCode`.
     #[inline(always)]
     pub(crate) fn read(self, reader: &mut BitReader) -> Result<V, Fault>
         ensures read { (table : Table V) → Decides table (reader_bits reader.old).ahead self → Reads result (table_code table) reader.old reader.new }
         ensures stays { OnErr result (reader.new ≡ reader.old) }
     {
+        match self.value {
+            Some(value) => match reader.skip(u32::from(self.length)) {
+                Ok(()) => Ok(value),
+                Err(fault) => Err(fault),
+            },
+            None => Err(self.refused(reader)),
+        }
+    }
+
+    // the fault where no codeword begins with the front
+    #[cold]
+    #[inline(never)]
+    fn refused(self, reader: &BitReader) -> Fault
+        requires { self.value ≡ None }
+        ensures { (table : Table V) → Decides table (reader_bits reader.now).ahead self → table_code table (reader_bits reader.now) ≡ Err result }
+    {
         let mut after = *reader;
         match after.skip(u32::from(self.length)) {
-            Ok(()) => match self.value {
-                Some(value) => {
-                    *reader = after;
-                    Ok(value)
-                }
-                None => Err(Fault::BadCode),
-            },
-            Err(fault) => Err(fault),
+            Ok(()) => Fault::BadCode,
+            Err(fault) => fault,
         }
     }
 }
@@ -111,9 +119,20 @@ pub(crate) fn number_by(reader: &mut BitReader, rows: &[[Entry<u8>; 4]]) -> Resu
     ensures read { (table : Table ℕ) → IsIndexed table 2 rows.now → Reads result (table_code table) reader.old reader.new }
     ensures stays { OnErr result (reader.new ≡ reader.old) }
 {
-    let code = Code::<16>::next(reader);
+    let code = Code::<16>::look(reader);
     let (row, column) = code.place(rows.len() - 1, 2);
     rows[row][column].read(reader)
+}
+
+// What the bits decide by a table of numbers.
+#[inline(always)]
+pub(crate) fn number_at(code: Code<16>, rows: &[[Entry<u8>; 4]]) -> Entry<u8>
+    requires some { 1 ≤ length rows.now }
+    requires few { length rows.now ≤ 16 }
+    ensures { (table : Table ℕ) (ahead : List Bool) → IsIndexed table 2 rows.now → Shows code ahead → Decides table ahead result }
+{
+    let (row, column) = code.place(rows.len() - 1, 2);
+    rows[row][column]
 }
 
 // An entry: (length) of a front with which no codeword begins, (length, value) of a codeword, (length, TotalCoeff,

@@ -1,13 +1,15 @@
 //! run_before (9.2.3, Table 9-10). A table has a row for each number of zeros in front of the first 1, the last for all
 //! that are more, and a column for each value of the two bits behind that 1.
-ghost use Rattle.std.specs.Prelude.{◌≡◌, ◌≤◌, IfOk, OnErr};
+ghost use Rattle.std.specs.Prelude.{◌≡◌, ◌≤◌, List, Bool, IfOk, OnErr};
 ghost use Rattle.avc_bits.specs.Reader.{Reads};
 ghost use Rattle.avc_vlc.specs.Reading.{run_before, run_table, table_code};
+ghost use Rattle.avc_vlc.specs.Indexing.{Decides, Shows};
 ghost use Rattle.avc_vlc.specs.Writing.{is_number_same, run_word, word_bits, word_of};
 ghost use Rattle.std.specs.Option.{option_map};
 
+use crate::code::Code;
 use crate::codeword::Codeword;
-use crate::entry::{Entry, entry, number_by, row4};
+use crate::entry::{Entry, entry, number_at, number_by, row4};
 use avc_bits::BitReader;
 use avc_types::Fault;
 
@@ -15,6 +17,41 @@ use avc_types::Fault;
 /// Answers `Truncated`, or `BadCode` where no codeword stands or the run is longer; the reader then stays.
 #[inline]
 pub fn read_run_before(reader: &mut BitReader, zeros_left: u8) -> Result<u8, Fault>
+    ensures read { Reads result (run_before zeros_left) reader.old reader.new }
+    ensures most { IfOk result (λ run. run ≤ zeros_left) }
+    ensures stays { OnErr result (reader.new ≡ reader.old) }
+{
+    let code = Code::<16>::look(reader);
+    let entry = run_entry(code, zeros_left);
+    match entry.value {
+        Some(run) if run <= zeros_left => match reader.skip(u32::from(entry.length)) {
+            Ok(()) => Ok(run),
+            Err(fault) => Err(fault),
+        },
+        _ => read_checked(reader, zeros_left),
+    }
+}
+
+// what the bits decide
+#[inline(always)]
+fn run_entry(code: Code<16>, zeros_left: u8) -> Entry<u8>
+    ensures { (ahead : List Bool) → Shows code ahead → Decides (run_table zeros_left) ahead result }
+{
+    match zeros_left {
+        0..=1 => number_at(code, &LEFT_1),
+        2 => number_at(code, &LEFT_2),
+        3 => number_at(code, &LEFT_3),
+        4 => number_at(code, &LEFT_4),
+        5 => number_at(code, &LEFT_5),
+        6 => number_at(code, &LEFT_6),
+        _ => number_at(code, &LEFT_7),
+    }
+}
+
+// the same as read_run_before, and also where it answers BadCode
+#[cold]
+#[inline(never)]
+fn read_checked(reader: &mut BitReader, zeros_left: u8) -> Result<u8, Fault>
     ensures read { Reads result (run_before zeros_left) reader.old reader.new }
     ensures most { IfOk result (λ run. run ≤ zeros_left) }
     ensures stays { OnErr result (reader.new ≡ reader.old) }
@@ -28,7 +65,6 @@ pub fn read_run_before(reader: &mut BitReader, zeros_left: u8) -> Result<u8, Fau
     Ok(run)
 }
 
-#[inline(always)]
 fn read_run(reader: &mut BitReader, zeros_left: u8) -> Result<u8, Fault>
     ensures read { Reads result (table_code (run_table zeros_left)) reader.old reader.new }
     ensures stays { OnErr result (reader.new ≡ reader.old) }

@@ -9,7 +9,7 @@ use Rattle.avc_cavlc.proofs.level.read_others.Goals as goal
 pub returns-in_err-level-clause-read : goal.returns-in_err-level-clause-read
 returns-in_err-level-clause-read c =
     let left : c.args.count - c.levels.k ≡ suc (c.args.count - (c.levels.k + 1)) = omega arith in
-    let fault : levels_after c.args.ones c.args.count c.args.suffix_length c.args.above_one (reader_bits c.args.reader.now) ≡ Err c.in_err-level.field-0.0 =
+    let fault : levels_after c.args.values.now c.args.count c.args.suffix_length c.args.above_one (reader_bits c.args.reader.now) ≡ Err c.in_err-level.field-0.0 =
     c.levels.invariant.read ∙ level_fault c.levels.values (c.args.count - (c.levels.k + 1)) (c.args.count - c.levels.k) c.levels.bits c.levels.first c.in_err-level.field-0.0 (reader_bits c.levels.reader) left c.in_err-level.ensures.read in
     search rules
 

@@ -1,20 +1,36 @@
-use Rattle.avc_deblock.specs.Line.{Line}
-use Rattle.avc_deblock.specs.Rows.{line}
-use Rattle.avc_deblock.proofs.Strong.{strong_is}
+use Rattle.std.proofs.Common.{◌≡◌, ℕ, ◌+◌, ◌*◌, ◌/◌, Bool, nat_lt, ◌&&◌, ◌==◌, if◌then◌else◌, arith, refl, sym, ap, ◌∙◌}
+use Rattle.avc_types.specs.Arithmetic.{distance}
+use Rattle.avc_deblock.specs.Line.{Line, is_strongly_smooth}
+use Rattle.avc_deblock.specs.Rows.{line, strong_at}
+use Rattle.avc_deblock.proofs.Strong.{strong_is, either_nearest, either_other, turned}
 use Rattle.avc_deblock.proofs.line.strong_line.Goals as goal
 
 pub returns : goal.returns
 returns c s w =
     let a = c.args in
+    let alpha : ℕ = a.a1 + 1 in
+    let beta : ℕ = a.b1 + 1 in
     let l : Line = line a.p3 a.p2 a.p1 a.p0 a.q0 a.q1 a.q2 a.q3 in
+    let on : Bool = c.is_zero-on.result in
+    let zero_on : on ≡ (c.excess-beyond.result == 0) = c.is_zero-on.ensures in
+    let near : Bool = nat_lt (distance a.p0 a.q0) (alpha / 4 + 2) in
+    let two : a.c1 + 1 ≡ alpha / 4 + 2 = omega (arith) in
+    let small : (c.excess_of_step-small.result == 0) ≡ (on && near) =
+    c.excess_of_step-small.ensures ∙ ap (λ (b : Bool). b && nat_lt (distance a.p0 a.q0) (a.c1 + 1)) (sym zero_on) ∙ ap (λ (n : ℕ). on && nat_lt (distance a.p0 a.q0) n) two in
+    let up : Bool = nat_lt (distance a.p2 a.p0) beta in
+    let uq : Bool = nat_lt (distance a.q2 a.q0) beta in
+    let sp : c.is_smooth-smooth_p.result ≡ (on && near && up) = c.is_smooth-smooth_p.ensures ∙ ap (λ (b : Bool). b && up) small in
+    let sq : c.is_smooth-smooth_q.result ≡ (on && near && uq) = c.is_smooth-smooth_q.ensures ∙ ap (λ (b : Bool). b && uq) small in
+    let far : Bool = nat_lt (distance a.q0 a.p0) (alpha / 4 + 2) in
+    let tq : c.is_smooth-smooth_q.result ≡ (on && far && uq) = sq ∙ ap (λ (n : ℕ). on && nat_lt n (alpha / 4 + 2) && uq) (turned a.p0 a.q0) in
     let p = c.strong_side.ensures in
     let q = c.strong_side-2.ensures in
-    strong_is s a.alpha a.beta l c.all_three-on.result _ _ _ _ _ _ w (cc)
+    strong_is s alpha beta l on _ _ _ _ _ _ w (zero_on ∙ c.excess-beyond.ensures)
     (record {
-      p0_is = p.nearest s.tc0 a.q2 a.q3;
-      p1_is = p.second s.tc0 a.q2 a.q3;
-      p2_is = p.third s.tc0 a.q2 a.q3;
-      q0_is = q.nearest s.tc0 a.p2 a.p3;
-      q1_is = q.second s.tc0 a.p2 a.p3;
-      q2_is = q.third s.tc0 a.p2 a.p3;
+      p0_is = p.nearest ∙ either_nearest on near up _ _ _ _ sp;
+      p1_is = p.second ∙ either_other on near up _ _ _ sp;
+      p2_is = p.third ∙ either_other on near up _ _ _ sp;
+      q0_is = q.nearest ∙ either_nearest on far uq _ _ _ _ tq;
+      q1_is = q.second ∙ either_other on far uq _ _ _ tq;
+      q2_is = q.third ∙ either_other on far uq _ _ _ tq;
     })

@@ -9,7 +9,7 @@ use Rattle.avc_bits.specs.Reader.{reader_bits}
 use Rattle.avc_cavlc.proofs.Placing.{small_none}
 use Rattle.avc_mbsyntax.specs.Ranges.{AreSmall}
 use Rattle.avc_mbsyntax.specs.Reading.{blocks}
-use Rattle.avc_mbsyntax.proofs.BlockSteps.{all_blocks, blocks_fault, blocks_more, counts_more}
+use Rattle.avc_mbsyntax.proofs.BlockSteps.{all_blocks, blocks_fault, blocks_more, counts_more, no_chroma}
 use Rattle.avc_mbsyntax.proofs.blocks.read_chroma_blocks.Goals as goal
 
 pub returns-in_err-block-clause-read : goal.returns-in_err-block-clause-read
@@ -60,3 +60,12 @@ each-init c =
       small = All-replicate AreSmall 4 c.zero-levels.result zeros;
       bytes = refl;
     }
+
+pub returns-then-chroma_pattern-ne2-clause-read : goal.returns-then-chroma_pattern-ne2-clause-read
+returns-then-chroma_pattern-ne2-clause-read c =
+    (rw c.zero-levels.ensures (no_chroma c.args.chroma_pattern (option_copied c.args.left) (option_copied c.args.up) (reader_bits c.args.reader.now) (λ e. absurd (omega arith))), refl)
+
+pub returns-then-chroma_pattern-ne2-clause-small : goal.returns-then-chroma_pattern-ne2-clause-small
+returns-then-chroma_pattern-ne2-clause-small c =
+    let zeros : AreSmall c.zero-levels.result = rw c.zero-levels.ensures (λ i. small_none 15 i) in
+    All-replicate AreSmall 4 c.zero-levels.result zeros

@@ -8,7 +8,7 @@ use Rattle.avc_bits.specs.Reader.{reader_bits}
 use Rattle.avc_cavlc.proofs.Placing.{small_none}
 use Rattle.avc_mbsyntax.specs.Ranges.{AreSmall}
 use Rattle.avc_mbsyntax.specs.Reading.{blocks, is_coded}
-use Rattle.avc_mbsyntax.proofs.BlockSteps.{all_blocks, blocks_fault, blocks_more, counts_more}
+use Rattle.avc_mbsyntax.proofs.BlockSteps.{all_blocks, blocks_fault, blocks_more, counts_more, no_luma}
 use Rattle.avc_mbsyntax.proofs.blocks.read_luma_blocks.Goals as goal
 
 pub returns-in_err-block-clause-read : goal.returns-in_err-block-clause-read
@@ -59,3 +59,12 @@ each-init g c =
       small = All-replicate AreSmall 16 c.zero-levels.result zeros;
       bytes = refl;
     }
+
+pub returns-then-luma_pattern-eq0-clause-read : goal.returns-then-luma_pattern-eq0-clause-read
+returns-then-luma_pattern-eq0-clause-read g c =
+    (rw c.zero-levels.ensures (no_luma g.row.MAXN c.args.luma_pattern (option_copied c.args.left) (option_copied c.args.up) (reader_bits c.args.reader.now) (omega arith)), refl)
+
+pub returns-then-luma_pattern-eq0-clause-small : goal.returns-then-luma_pattern-eq0-clause-small
+returns-then-luma_pattern-eq0-clause-small g c =
+    let zeros : AreSmall c.zero-levels.result = rw c.zero-levels.ensures (λ i. small_none g.row.MAXN i) in
+    All-replicate AreSmall 16 c.zero-levels.result zeros

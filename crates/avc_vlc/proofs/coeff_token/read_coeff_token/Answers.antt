@@ -8,4 +8,4 @@ pub returns-clause-range : goal.returns-clause-range
 returns-clause-range c =
     let nc = to_z w8 (of_z w8 c.args.nc) in
     if_token nc c.read.result c.args.reader.now c.read.new.reader
-    (c.read.ensures.read (token_table nc) (c.token_entry.ensures (reader_bits c.args.reader.now).ahead c.next-code.ensures.ahead))
+    (c.read.ensures.read (token_table nc) (c.token_entry.ensures (reader_bits c.args.reader.now).ahead c.look-code.ensures))

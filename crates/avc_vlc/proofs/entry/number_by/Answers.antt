@@ -11,5 +11,5 @@ returns-clause-read c = λ table is.
       bits = place_bits (length c.args.rows.now - 1) 2 c.place-row.result.0 c.place-row.result.1;
       is_entry = indexed_place table 2 c.args.rows.now c.place-row.result.0 c.place-row.result.1 [] _ is within c.place-row.ensures.column
           (let long : length (get_or c.args.rows.now c.place-row.result.0 []) ≡ 4 = c.told-rows c.place-row.result.0 within in omega arith);
-      agrees = (c.place-row.ensures.agrees (reader_bits c.args.reader.now).ahead c.next-code.ensures.ahead).agrees;
+      agrees = (c.place-row.ensures.agrees (reader_bits c.args.reader.now).ahead c.look-code.ensures).agrees;
     })

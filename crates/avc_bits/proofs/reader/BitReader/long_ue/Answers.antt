@@ -1,13 +1,13 @@
-use Rattle.std.proofs.Common.{arith}
+use Rattle.std.proofs.Common.{arith, ◌+◌, ◌*◌}
 use Rattle.avc_bits.specs.Reader.{reader_bits}
-use Rattle.avc_bits.proofs.Reading.{length-ahead, ue_too_long, ue_short, ue_from, ue_fits}
+use Rattle.avc_bits.proofs.Reading.{length-ahead, ue_too_long, ue_short, ue_from, ue_fits, within_bytes}
 use Rattle.avc_bits.proofs.reader.BitReader.long_ue.Goals as goal
 
 pub returns-then-zeros-gt31-clause-read : goal.returns-then-zeros-gt31-clause-read
 returns-then-zeros-gt31-clause-read c = ue_too_long (reader_bits c.args.self.now) (omega arith)
 
-pub returns-then-self-from-clause-read : goal.returns-then-self-from-clause-read
-returns-then-self-from-clause-read c = ue_short (reader_bits c.args.self.now) (omega arith) (omega (arith, length-ahead c.args.self.now))
+pub returns-then-left_near-length-clause-read : goal.returns-then-left_near-length-clause-read
+returns-then-left_near-length-clause-read c = ue_short (reader_bits c.args.self.now) (omega arith) (omega (arith, length-ahead c.args.self.now))
 
 pub overflow_add-result : goal.overflow_add-result
 overflow_add-result c =
@@ -23,3 +23,6 @@ pub returns-clause-below : goal.returns-clause-below
 returns-clause-below c =
     let fits = ue_fits c.args.zeros c.bits_at-tail.result (omega arith) c.bits_at-tail.ensures.bound in
     omega (arith, fits.0, fits.1)
+
+pub bits_at-tail-requires-clause-inside : goal.bits_at-tail-requires-clause-inside
+bits_at-tail-requires-clause-inside c some = omega (arith, within_bytes c.args.self.now (2 * c.args.zeros + 1) (omega arith) (omega arith))

@@ -1,6 +1,7 @@
+use Rattle.std.proofs.Common.{sym, ◌∙◌}
 use Rattle.avc_bits.proofs.Reading.{length-ahead, some_left}
 use Rattle.avc_bits.specs.Reader.{reader_bits}
 use Rattle.avc_bits.proofs.reader.BitReader.more_data.Goals as goal
 
 pub returns : goal.returns
-returns c = some_left (reader_bits c.args.self.now) c.args.self.now.left (length-ahead c.args.self.now)
+returns c = some_left (reader_bits c.args.self.now) c.left.result (length-ahead c.args.self.now ∙ sym c.left.ensures)

@@ -3,8 +3,8 @@ use Rattle.avc_bits.specs.Reader.{reader_bits}
 use Rattle.avc_bits.proofs.Reading.{length-ahead, skip_short, skip_long}
 use Rattle.avc_bits.proofs.reader.BitReader.skip.Goals as goal
 
-pub returns-then-self-from-clause-read : goal.returns-then-self-from-clause-read
-returns-then-self-from-clause-read c = skip_short c.args.count (reader_bits c.args.self.now) (omega (arith, length-ahead c.args.self.now))
+pub returns-then-left_at_most-count-clause-read : goal.returns-then-left_at_most-count-clause-read
+returns-then-left_at_most-count-clause-read c = skip_short c.args.count (reader_bits c.args.self.now) (omega (arith, length-ahead c.args.self.now))
 
 pub returns-clause-read : goal.returns-clause-read
 returns-clause-read c = (

@@ -3,8 +3,8 @@ use Rattle.avc_bits.specs.Reader.{reader_bits}
 use Rattle.avc_bits.proofs.Reading.{length-ahead, u_short, u_from}
 use Rattle.avc_bits.proofs.reader.BitReader.u.Goals as goal
 
-pub returns-then-self-from-clause-read : goal.returns-then-self-from-clause-read
-returns-then-self-from-clause-read c = u_short c.args.count (reader_bits c.args.self.now) (omega (arith, length-ahead c.args.self.now))
+pub returns-then-left_within-count-clause-read : goal.returns-then-left_within-count-clause-read
+returns-then-left_within-count-clause-read c = u_short c.args.count (reader_bits c.args.self.now) (omega (arith, length-ahead c.args.self.now))
 
 pub returns-clause-read : goal.returns-clause-read
-returns-clause-read c = (u_from c.args.self.now (reader_bits c.after.result) c.args.count c.bits_at-value.result (omega arith) c.bits_at-value.ensures.value c.after.ensures.bits, c.after.ensures.bytes)
+returns-clause-read c = (u_from c.args.self.now (reader_bits c.after.result) c.args.count c.next_bits-value.result (omega arith) c.next_bits-value.ensures.value c.after.ensures.bits, c.after.ensures.bytes)

@@ -1,6 +1,5 @@
 use Rattle.std.proofs.Common.{ap, arith, sym}
 use Rattle.avc_bits.specs.Reader.{reader_bits}
-use Rattle.avc_mbsyntax.specs.Reading.{macroblock}
 use Rattle.avc_mbsyntax.specs.SliceData.{data_from}
 use Rattle.avc_mbsyntax.specs.Rest.{rest_of}
 use Rattle.avc_mbsyntax.proofs.slice_data.SliceData.new.Goals as goal

@@ -1,9 +1,9 @@
 use Rattle.std.proofs.Common.{◌≡◌, ◌<◌, ℕ, length, slice_index}
 use Rattle.std.specs.Prelude.{◌==◌, if◌then◌else◌}
-use Rattle.avc_deblock.proofs.edge.alphas.Given as goal
+use Rattle.avc_deblock.proofs.edge.deads.Given as goal
 
 abbrev pub invariant-loop-k : goal.invariant-loop-k
 invariant-loop-k l = record {
-  long : length l.out ≡ 4;
-  done : (k : ℕ) → k < l.k → slice_index l.out k ≡ (if slice_index l.strengths k == 0 then 0 else l.alpha);
+  long : length l.out ≡ 16;
+  done : (k : ℕ) → k < l.k → slice_index l.out k ≡ (if slice_index l.strengths k == 0 then 1 else 0);
 }

@@ -1,0 +1,63 @@
+-- The numbers of a table are small.
+use Rattle.std.proofs.Common.{◌≡◌, ℕ, zero, suc, ◌+◌, ◌*◌, ◌/◌, ◌%◌, ◌<◌, ◌≤◌, Bool, true, false, ◌&&◌, List, [], ◌∷◌, arith, refl, ap, ◌∙◌, below_more}
+use Rattle.std.specs.Prelude.{nat_le, slice_index, ◌==◌}
+use Rattle.avc_deblock.specs.Line.{alpha_of, beta_of, tc0_of}
+use Rattle.std.proofs.lemmas.Bool.Decides.{nat_tests}
+
+abbrev pub are_at_most : ℕ → List ℕ → Bool
+are_at_most n [] = true
+are_at_most n (x ∷ xs) = nat_le x n && are_at_most n xs
+
+first_of : (a b : Bool) → (a && b) ≡ true → a ≡ true
+first_of true b e = refl
+first_of false b e = e
+
+second_of : (a b : Bool) → (a && b) ≡ true → b ≡ true
+second_of true b e = e
+second_of false true e = refl
+second_of false false e = e
+
+le_of : (x n : ℕ) → nat_le x n ≡ true → x ≤ n
+le_of x n e = grind (arith, nat_tests)
+
+pub at_most : (n : ℕ) (xs : List ℕ) (k : ℕ) → are_at_most n xs ≡ true → slice_index xs k ≤ n
+at_most n [] k e = omega arith
+at_most n (x ∷ xs) zero e = le_of x n (first_of (nat_le x n) (are_at_most n xs) e)
+at_most n (x ∷ xs) (suc k) e = at_most n xs k (second_of (nat_le x n) (are_at_most n xs) e)
+
+-- Equal lists of numbers, by computing.
+abbrev pub are_same_below : ℕ → (ℕ → ℕ) → (ℕ → ℕ) → Bool
+are_same_below zero f g = true
+are_same_below (suc n) f g = (f n == g n) && are_same_below n f g
+
+same_of : (x y : ℕ) → (x == y) ≡ true → x ≡ y
+same_of x y e = grind (arith, nat_tests)
+
+pub same_below : (n : ℕ) (f g : ℕ → ℕ) → are_same_below n f g ≡ true → (k : ℕ) → k < n → f k ≡ g k
+same_below zero f g e k h = absurd (omega arith)
+same_below (suc n) f g e k h =
+    below_more (λ (k : ℕ). f k ≡ g k) n (same_below n f g (second_of (f n == g n) (are_same_below n f g) e)) (same_of (f n) (g n) (first_of (f n == g n) (are_same_below n f g) e)) k (omega arith)
+
+abbrev alphas : List ℕ
+alphas = 0 ∷ 0 ∷ 0 ∷ 0 ∷ 0 ∷ 0 ∷ 0 ∷ 0 ∷ 0 ∷ 0 ∷ 0 ∷ 0 ∷ 0 ∷ 0 ∷ 0 ∷ 0 ∷ 4 ∷ 4 ∷ 5 ∷ 6 ∷ 7 ∷ 8 ∷ 9 ∷ 10 ∷ 12 ∷ 13 ∷ 15 ∷ 17 ∷ 20 ∷ 22 ∷ 25 ∷ 28 ∷ 32 ∷ 36 ∷ 40 ∷ 45 ∷ 50 ∷ 56 ∷ 63 ∷ 71 ∷ 80 ∷ 90 ∷ 101 ∷ 113 ∷ 127 ∷ 144 ∷ 162 ∷ 182 ∷ 203 ∷ 226 ∷ 255 ∷ 255 ∷ []
+
+abbrev betas : List ℕ
+betas = 0 ∷ 0 ∷ 0 ∷ 0 ∷ 0 ∷ 0 ∷ 0 ∷ 0 ∷ 0 ∷ 0 ∷ 0 ∷ 0 ∷ 0 ∷ 0 ∷ 0 ∷ 0 ∷ 2 ∷ 2 ∷ 2 ∷ 3 ∷ 3 ∷ 3 ∷ 3 ∷ 4 ∷ 4 ∷ 4 ∷ 6 ∷ 6 ∷ 7 ∷ 7 ∷ 8 ∷ 8 ∷ 9 ∷ 9 ∷ 10 ∷ 10 ∷ 11 ∷ 11 ∷ 12 ∷ 12 ∷ 13 ∷ 13 ∷ 14 ∷ 14 ∷ 15 ∷ 15 ∷ 16 ∷ 16 ∷ 17 ∷ 17 ∷ 18 ∷ 18 ∷ []
+
+abbrev tc0s : List ℕ
+tc0s = 0 ∷ 0 ∷ 0 ∷ 0 ∷ 0 ∷ 0 ∷ 0 ∷ 0 ∷ 0 ∷ 0 ∷ 0 ∷ 0 ∷ 0 ∷ 0 ∷ 0 ∷ 0 ∷ 0 ∷ 0 ∷ 0 ∷ 0 ∷ 0 ∷ 0 ∷ 0 ∷ 0 ∷ 0 ∷ 0 ∷ 0 ∷ 0 ∷ 0 ∷ 0 ∷ 0 ∷ 0 ∷ 0 ∷ 0 ∷ 0 ∷ 0 ∷ 0 ∷ 0 ∷ 0 ∷ 0 ∷ 0 ∷ 0 ∷ 0 ∷ 0 ∷ 0 ∷ 0 ∷ 0 ∷ 0 ∷ 0 ∷ 0 ∷ 0 ∷ 0 ∷ 0 ∷ 0 ∷ 0 ∷ 0 ∷ 0 ∷ 0 ∷ 0 ∷ 0 ∷ 0 ∷ 0 ∷ 0 ∷ 0 ∷ 0 ∷ 0 ∷ 0 ∷ 0 ∷ 0 ∷ 0 ∷ 0 ∷ 1 ∷ 0 ∷ 0 ∷ 0 ∷ 1 ∷ 0 ∷ 0 ∷ 0 ∷ 1 ∷ 0 ∷ 0 ∷ 0 ∷ 1 ∷ 0 ∷ 0 ∷ 1 ∷ 1 ∷ 0 ∷ 0 ∷ 1 ∷ 1 ∷ 0 ∷ 1 ∷ 1 ∷ 1 ∷ 0 ∷ 1 ∷ 1 ∷ 1 ∷ 0 ∷ 1 ∷ 1 ∷ 1 ∷ 0 ∷ 1 ∷ 1 ∷ 1 ∷ 0 ∷ 1 ∷ 1 ∷ 2 ∷ 0 ∷ 1 ∷ 1 ∷ 2 ∷ 0 ∷ 1 ∷ 1 ∷ 2 ∷ 0 ∷ 1 ∷ 1 ∷ 2 ∷ 0 ∷ 1 ∷ 2 ∷ 3 ∷ 0 ∷ 1 ∷ 2 ∷ 3 ∷ 0 ∷ 2 ∷ 2 ∷ 3 ∷ 0 ∷ 2 ∷ 2 ∷ 4 ∷ 0 ∷ 2 ∷ 3 ∷ 4 ∷ 0 ∷ 2 ∷ 3 ∷ 4 ∷ 0 ∷ 3 ∷ 3 ∷ 5 ∷ 0 ∷ 3 ∷ 4 ∷ 6 ∷ 0 ∷ 3 ∷ 4 ∷ 6 ∷ 0 ∷ 4 ∷ 5 ∷ 7 ∷ 0 ∷ 4 ∷ 5 ∷ 8 ∷ 0 ∷ 4 ∷ 6 ∷ 9 ∷ 0 ∷ 5 ∷ 7 ∷ 10 ∷ 0 ∷ 6 ∷ 8 ∷ 11 ∷ 0 ∷ 6 ∷ 8 ∷ 13 ∷ 0 ∷ 7 ∷ 10 ∷ 14 ∷ 0 ∷ 8 ∷ 11 ∷ 16 ∷ 0 ∷ 9 ∷ 12 ∷ 18 ∷ 0 ∷ 10 ∷ 13 ∷ 20 ∷ 0 ∷ 11 ∷ 15 ∷ 23 ∷ 0 ∷ 13 ∷ 17 ∷ 25 ∷ []
+
+pub alpha_at : (j i : ℕ) → j ≡ i → i < 52 → slice_index alphas j ≡ alpha_of i
+alpha_at j i e h = ap (slice_index alphas) e ∙ same_below 52 (slice_index alphas) alpha_of refl i h
+
+pub beta_at : (j i : ℕ) → j ≡ i → i < 52 → slice_index betas j ≡ beta_of i
+beta_at j i e h = ap (slice_index betas) e ∙ same_below 52 (slice_index betas) beta_of refl i h
+
+pub tc0_at : (k i s : ℕ) → k ≡ 4 * i + s → i < 52 → s < 4 → slice_index tc0s k ≡ tc0_of s i
+tc0_at k i s e h g =
+    let two : (4 * i + s) % 4 ≡ s = omega arith in
+    let one : (4 * i + s) / 4 ≡ i = omega arith in
+    ap (slice_index tc0s) e ∙ same_below 208 (slice_index tc0s) (λ (k : ℕ). tc0_of (k % 4) (k / 4)) refl (4 * i + s) (omega arith) ∙ ap (λ (t : ℕ). tc0_of t ((4 * i + s) / 4)) two ∙ ap (tc0_of s) one
+
+pub tc0_small : (k : ℕ) → slice_index tc0s k ≤ 25
+tc0_small k = at_most 25 tc0s k refl

@@ -1,0 +1,19 @@
+use Rattle.std.proofs.Common.{◌+◌, ◌*◌, arith, sym, ap, ◌∙◌}
+use Rattle.std.specs.Prelude.{slice_index}
+use Rattle.avc_plane.specs.Plane.{sample}
+use Rattle.avc_deblock.specs.Line.{filtered}
+use Rattle.avc_deblock.proofs.Blocks.{same_samples}
+use Rattle.avc_deblock.proofs.OnPlane.{horizontal_block}
+use Rattle.avc_deblock.proofs.kernels.strong_horizontal.Goals as goal
+
+pub returns : goal.returns
+returns g c setting fits =
+    let s = c.args.plane.now in
+    let before = c.rectangle-lines.result in
+    let after = c.strong_luma.new.t in
+    c.set_rectangle.ensures
+    ∙ sym (horizontal_block setting c.args.left c.args.top 16 s c.rectangle-lines.ensures.all (λ x y. slice_index after (16 * y + x)) c.requires.columns c.requires.rows (omega arith)
+    (λ i low.
+    ap (filtered (setting i))
+    (same_samples (λ k. sample s (c.args.left + i) (c.args.top + k)) (λ k. slice_index before (16 * k + i)) (λ k less. sym (c.rectangle-lines.ensures.samples i k low less)))
+    ∙ c.strong_luma.ensures (setting i) i low (fits i low)))

@@ -1,0 +1,18 @@
+use Rattle.std.proofs.Common.{◌+◌, ◌*◌, sym, ap, ◌∙◌}
+use Rattle.std.specs.Prelude.{slice_index}
+use Rattle.avc_plane.specs.Plane.{sample}
+use Rattle.avc_deblock.specs.Line.{filtered}
+use Rattle.avc_deblock.proofs.Blocks.{same_samples, filtered_across}
+use Rattle.avc_deblock.proofs.OnPlane.{vertical_block}
+use Rattle.avc_deblock.proofs.kernels.weak_vertical.Goals as goal
+
+pub returns : goal.returns
+returns g c setting fits =
+    let s = c.args.plane.now in
+    let after = c.rows_of-after.result in
+    c.set_rectangle.ensures
+    ∙ sym (vertical_block setting c.args.left c.args.top 16 s c.rectangle-block.ensures.all (λ x y. slice_index after (8 * y + x)) c.requires.columns c.requires.rows
+    (λ i low.
+    ap (filtered (setting i))
+    (same_samples (λ k. sample s (c.args.left + k) (c.args.top + i)) (λ k. slice_index c.rectangle-block.result (8 * i + k)) (λ k less. sym (c.rectangle-block.ensures.samples k i less low)))
+    ∙ filtered_across (setting i) i c.rectangle-block.result c.columns-lines.result c.weak_luma.new.t after low c.columns-lines.ensures c.rows_of-after.ensures (c.weak_luma.ensures (setting i) i low (fits i low))))
