@@ -80,7 +80,7 @@ done_more place at gap next levels v is is_place is_at =
 
 -- ---- how many are not 0
 
-abbrev weight : ℤ → ℕ
+abbrev pub weight : ℤ → ℕ
 weight l = cond (not (nat_abs l == 0)) 1 0
 
 no_weight : (n : ℕ) → sum_by weight (replicate n (pos 0)) ≡ 0
@@ -103,7 +103,7 @@ coefficient_more gap v done is =
 pub small_level : (v : ℤ) → IsLevel v → IsSmall v
 small_level v is = record { low = omega (arith, ints, is.most); high = omega (arith, ints, is.most) }
 
-small_zero : IsSmall (pos 0)
+pub small_zero : IsSmall (pos 0)
 small_zero = record { low = omega (arith, ints); high = omega (arith, ints) }
 
 pub small_none : (max i : ℕ) → IsSmall (get_or (replicate max (pos 0)) i (pos 0))

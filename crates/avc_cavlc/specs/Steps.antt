@@ -7,7 +7,7 @@ use Rattle.avc_bits.specs.Bits.{Read, ◌>>=◌, give}
 use Rattle.avc_cavlc.specs.Block.{each_after_zeros, levels, placed, runs}
 
 -- What was read into a place is what this part of the syntax reads, and the reader goes on after it.
-abbrev pub ReadsInto : {A : Type 0} → Result (Unit {0}) Fault → A → Read A → BitReader → BitReader → Type 0
+abbrev pub ReadsInto : {V A : Type 0} → Result V Fault → A → Read A → BitReader → BitReader → Type 0
 ReadsInto result value read old new = MatchResult result
     (λ _. (read (reader_bits old) ≡ Ok (value, reader_bits new)) × (reader_bytes new ≡ reader_bytes old))
     (λ fault. read (reader_bits old) ≡ Err fault)

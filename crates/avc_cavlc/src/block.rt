@@ -1,7 +1,9 @@
 //! Residual blocks (7.3.5.3.2).
-ghost use Rattle.std.specs.Prelude.{◌≡◌, ◌+◌, ◌≤◌, ◌<◌, ℕ, ℤ, pos, slice_index_or, IfOk, OnErr};
+ghost use Rattle.std.specs.Prelude.{◌≡◌, ◌+◌, ◌-◌, ◌≤◌, ◌<◌, ℕ, ℤ, pos, slice_index_or, take, drop, replicate, IfOk, OnErr};
+ghost use Rattle.avc_types.specs.Macroblock.{total_coeff};
 ghost use Rattle.avc_bits.specs.Reader.{Reads};
 ghost use Rattle.avc_cavlc.specs.Block.{IsSmall, residual_block};
+ghost use Rattle.avc_cavlc.specs.Steps.{ReadsInto};
 
 use crate::level::read_levels;
 use crate::runs::read_placed;
@@ -19,36 +21,68 @@ pub fn read_block<const MAXN: usize>(reader: &mut BitReader, nc: i8) -> Result<L
     ensures small { IfOk result (λ levels. (i : ℕ) → IsSmall (slice_index_or levels i (pos 0))) }
     ensures stays { OnErr result (reader.new ≡ reader.old) }
 {
+    let mut block = [0; 16];
+    match read_block_into(reader, nc, MAXN as u8, &mut block) {
+        Ok(total_coeff) => {
+            let mut levels = [0; MAXN];
+            levels.copy_from_slice(&block[..MAXN]);
+            Ok(Levels::new(levels, total_coeff))
+        }
+        Err(fault) => Err(fault),
+    }
+}
+
+/// Reads the first `max` levels of a block of zeros, from the lowest frequency on, and answers how many of them are not 0
+/// (total_coeff). What is behind them stays 0. `max` and `nc` are as MAXN and `nc` of `read_block`, and so are the
+/// faults, after which the block has any value.
+pub fn read_block_into(
+    reader: &mut BitReader,
+    nc: i8,
+    max: u8,
+    block: &mut [i16; 16],
+) -> Result<u8, Fault>
+    requires few { max ≤ 16 }
+    requires zero { block.old ≡ replicate 16 (pos 0) }
+    ensures read { ReadsInto result (take max block.new) (residual_block max nc) reader.old reader.new }
+    ensures rest { IfOk result (λ _. drop max block.new ≡ replicate (16 - max) (pos 0)) }
+    ensures count { IfOk result (λ total. total ≡ total_coeff (take max block.new)) }
+    ensures small { IfOk result (λ _. (i : ℕ) → IsSmall (slice_index_or block.new i (pos 0))) }
+    ensures stays { OnErr result (reader.new ≡ reader.old) }
+{
     let mut after = *reader;
-    match read_from(&mut after, nc) {
-        Ok(levels) => {
+    match read_from(&mut after, nc, max, block) {
+        Ok(total_coeff) => {
             *reader = after;
-            Ok(levels)
+            Ok(total_coeff)
         }
         Err(fault) => Err(fault),
     }
 }
 
 #[inline(always)]
-fn read_from<const MAXN: usize>(reader: &mut BitReader, nc: i8) -> Result<Levels<MAXN>, Fault>
-    requires { MAXN ≤ 16 }
-    ensures read { Reads result (residual_block MAXN nc) reader.old reader.new }
-    ensures small { IfOk result (λ levels. (i : ℕ) → IsSmall (slice_index_or levels i (pos 0))) }
+fn read_from(reader: &mut BitReader, nc: i8, max: u8, block: &mut [i16; 16]) -> Result<u8, Fault>
+    requires few { max ≤ 16 }
+    requires zero { block.old ≡ replicate 16 (pos 0) }
+    ensures read { ReadsInto result (take max block.new) (residual_block max nc) reader.old reader.new }
+    ensures rest { IfOk result (λ _. drop max block.new ≡ replicate (16 - max) (pos 0)) }
+    ensures count { IfOk result (λ total. total ≡ total_coeff (take max block.new)) }
+    ensures small { IfOk result (λ _. (i : ℕ) → IsSmall (slice_index_or block.new i (pos 0))) }
 {
     let token = read_coeff_token(reader, nc)?;
-    let total = token.total as usize;
-    if total > MAXN {
+    let total = token.total;
+    if total > max {
         return Err(Fault::TooManyCoefficients);
     }
     let mut values = Values::new();
     read_levels(reader, token, &mut values)?;
-    let zeros = if total == 0 || total == MAXN {
+    let zeros = if total == 0 || total == max {
         0
     } else {
-        read_total_zeros(reader, token.total, MAXN == 4)?
+        read_total_zeros(reader, total, max == 4)?
     };
-    if total + zeros as usize > MAXN {
+    if zeros > max - total {
         return Err(Fault::TooManyCoefficients);
     }
-    read_placed(reader, &values, zeros)
+    read_placed(reader, &values, zeros, block)?;
+    Ok(total)
 }

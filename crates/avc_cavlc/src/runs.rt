@@ -1,41 +1,43 @@
 //! The places of the levels (9.2.3).
-ghost use Rattle.std.specs.Prelude.{◌≡◌, ◌+◌, ◌-◌, ◌≤◌, ◌<◌, ℕ, ℤ, pos, List, length, slice_index_or, IfOk, All};
+ghost use Rattle.std.specs.Prelude.{◌≡◌, ◌+◌, ◌-◌, ◌≤◌, ◌<◌, ℕ, ℤ, pos, List, length, replicate, slice_index_or, IfOk, All};
+ghost use Rattle.avc_types.specs.Macroblock.{total_coeff};
 ghost use Rattle.avc_bits.specs.Reader.{Reads};
 ghost use Rattle.avc_cavlc.specs.Block.{IsLevel, IsSmall, run};
-ghost use Rattle.avc_cavlc.specs.Steps.{placed_by_runs};
+ghost use Rattle.avc_cavlc.specs.Steps.{ReadsInto, placed_by_runs};
 
 use crate::values::Values;
 use avc_bits::BitReader;
-use avc_types::{Fault, Levels};
+use avc_types::Fault;
 use avc_vlc::read_run_before;
 
-/// Reads the run of zeros before each value, and puts the values in their places. `zeros` is how many zeros stand before
-/// the last of them.
+/// Reads the run of zeros before each value, and puts the values in their places in a block of zeros. `zeros` is how many
+/// zeros stand before the last of them.
 #[inline]
-pub(crate) fn read_placed<const MAXN: usize>(
+pub(crate) fn read_placed(
     reader: &mut BitReader,
     values: &Values,
     zeros: u8,
-) -> Result<Levels<MAXN>, Fault>
-    requires most { MAXN ≤ 16 }
-    requires room { length values.now + zeros ≤ MAXN }
+    block: &mut [i16; 16],
+) -> Result<(), Fault>
+    requires room { length values.now + zeros ≤ 16 }
     requires none { length values.now ≡ 0 → zeros ≡ 0 }
     requires size { All IsLevel values.now }
-    ensures read { Reads result (placed_by_runs MAXN values.now (length values.now) zeros) reader.old reader.new }
-    ensures small { IfOk result (λ levels. (i : ℕ) → IsSmall (slice_index_or levels i (pos 0))) }
+    requires zero { block.old ≡ replicate 16 (pos 0) }
+    ensures read { ReadsInto result block.new (placed_by_runs 16 values.now (length values.now) zeros) reader.old reader.new }
+    ensures count { IfOk result (λ _. total_coeff block.new ≡ length values.now) }
+    ensures small { IfOk result (λ _. (i : ℕ) → IsSmall (slice_index_or block.new i (pos 0))) }
 {
     let total = values.len();
-    let mut levels = [0; MAXN];
     let mut zeros_left = zeros;
     let mut place = total + zeros as usize;
     'values: for k in 0..total {
         place -= 1;
-        levels[place] = values.get(k);
+        block[place] = values.get(k);
         let zeros = read_run(reader, total - 1 - k, zeros_left)?;
         zeros_left -= zeros;
         place -= zeros as usize;
     }
-    Ok(Levels::new(levels, total as u8))
+    Ok(())
 }
 
 // The zeros before a value, where so many others come after it.

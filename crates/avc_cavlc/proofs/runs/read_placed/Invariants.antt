@@ -7,13 +7,13 @@ use Rattle.avc_cavlc.proofs.Placing.{IsOpen}
 use Rattle.avc_cavlc.proofs.runs.read_placed.Given as goal
 
 abbrev pub invariant-values : goal.invariant-values
-invariant-values g l = record {
-  long : length l.levels ≡ g.row.MAXN;
+invariant-values l = record {
+  long : length l.block ≡ 16;
   place : l.place ≡ (length l.values - l.k) + l.zeros_left;
   none : length l.values ≡ l.k → l.zeros_left ≡ 0;
-  is_open : IsOpen l.place l.levels;
-  read : placed_by_runs g.row.MAXN l.values (length l.values) l.zeros (reader_bits l.fn.reader) ≡ placed_before (drop l.place l.levels) (drop l.k l.values) (length l.values - l.k) l.zeros_left (reader_bits l.reader);
+  is_open : IsOpen l.place l.block;
+  read : placed_by_runs 16 l.values (length l.values) l.zeros (reader_bits l.fn.reader) ≡ placed_before (drop l.place l.block) (drop l.k l.values) (length l.values - l.k) l.zeros_left (reader_bits l.reader);
   bytes : reader_bytes l.reader ≡ reader_bytes l.fn.reader;
-  count : total_coeff (drop l.place l.levels) ≡ l.k;
-  small : (i : ℕ) → IsSmall (get_or l.levels i (pos 0));
+  count : total_coeff (drop l.place l.block) ≡ l.k;
+  small : (i : ℕ) → IsSmall (get_or l.block i (pos 0));
 }
