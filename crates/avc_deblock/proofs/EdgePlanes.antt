@@ -9,9 +9,8 @@ use Rattle.avc_plane.specs.Plane.{Plane}
 use Rattle.avc_plane.specs.Planes.{Planes}
 use Rattle.avc_deblock.specs.Line.{Setting, setting_of}
 use Rattle.avc_deblock.specs.Edges.{slice_at, strength_between, component_qp, setting_at}
-use Rattle.avc_deblock.specs.declared.strengths.Strengths.{Strengths}
 use Rattle.avc_deblock.specs.declared.thresholds.EdgeQp.{EdgeQp}
-use Rattle.avc_deblock.specs.OneEdge.{edge_filtered, strength_along, luma_setting, chroma_setting, component_edge, planes_edge, lines_of_edge, HasRoom}
+use Rattle.avc_deblock.specs.OneEdge.{edge_filtered, luma_setting, chroma_setting, component_edge, planes_edge, lines_of_edge, HasRoom}
 use Rattle.avc_deblock.specs.Facts.{edge_block, p_address, IsAt}
 use Rattle.avc_deblock.proofs.Settings.{edge_same, edge_size, edge_none}
 use Rattle.avc_deblock.proofs.Places.{vertical_q, horizontal_q, vertical_q_block, horizontal_q_block, vertical_p_block, horizontal_p_block, vertical_p, horizontal_p, vertical_setting, horizontal_setting}
@@ -20,8 +19,8 @@ five : (l : Bool) (s p q : ℕ) (a b : ℤ) (s' p' q' : ℕ) (a' b' : ℤ) → s
 five l s p q a b s' p' q' a' b' e f g h i = rw (e, f, g, h, i) refl
 
 -- the strengths and the QPs of edge n of macroblock a, for component k
-pub record IsSetting (c : Coded) (motion : List (List Motion)) (k : ℕ) (v : Bool) (n a : ℕ) (st : Strengths) (qp : EdgeQp) : Type 0 where
-  pub strengths : (j : ℕ) → j < 4 → strength_along st j ≡ strength_between c motion (p_address c v n a) (edge_block v ((n + 3) % 4) j) a (edge_block v n j)
+pub record IsSetting (c : Coded) (motion : List (List Motion)) (k : ℕ) (v : Bool) (n a : ℕ) (st : ℕ → ℕ) (qp : EdgeQp) : Type 0 where
+  pub strengths : (j : ℕ) → j < 4 → st j ≡ strength_between c motion (p_address c v n a) (edge_block v ((n + 3) % 4) j) a (edge_block v n j)
   pub p_is : qp.p ≡ component_qp c k (p_address c v n a)
   pub q_is : qp.q ≡ component_qp c k a
   pub a_is : qp.offset_a ≡ (slice_at c a).filter_offset_a
@@ -33,7 +32,7 @@ column_is c column row a at = ap (λ n. n % c.width) at.address ∙ mod-mul-add 
 row_is : (c : Coded) (column row a : ℕ) → IsAt c column row a → a / c.width ≡ row
 row_is c column row a at = ap (λ n. n / c.width) at.address ∙ div-mul-add row c.width column at.within
 
-module _ (c : Coded) (motion : List (List Motion)) (column row a n : ℕ) (at : IsAt c column row a) (n_low : n < 4) (st : Strengths) (qp : EdgeQp) where
+module _ (c : Coded) (motion : List (List Motion)) (column row a n : ℕ) (at : IsAt c column row a) (n_low : n < 4) (st : ℕ → ℕ) (qp : EdgeQp) where
   pub vertical_0 : (s : Plane) → 1 ≤ 4 * column + n → IsSetting c motion 0 true n a st qp → edge_filtered (luma_setting st qp) true (16 * column + 4 * n) (16 * row) 16 s ≡ component_edge c motion 0 true a (4 * n) s
   vertical_0 s some is =
       let columns = column_is c column row a at in
@@ -121,11 +120,29 @@ module _ (c : Coded) (motion : List (List Motion)) (column row a n : ℕ) (at : 
 three : (l l' b b' r r' : Plane) → l ≡ l' → b ≡ b' → r ≡ r' → (let s : Planes = record { luma = l; cb = b; cr = r } in s) ≡ record { luma = l'; cb = b'; cr = r' }
 three l l' b b' r r' e f g = rw (e, f, g) refl
 
+-- equal strengths give equal lines
+module _ (column row n : ℕ) (f g : ℕ → ℕ) (luma chroma : EdgeQp) (s : Planes) (same : (k : ℕ) → k < 4 → f k ≡ g k) where
+  luma_same : (i : ℕ) → i < 16 → luma_setting f luma i ≡ luma_setting g luma i
+  luma_same i low = ap (λ (k : ℕ). setting_of true k luma.p luma.q luma.offset_a luma.offset_b) (same (i / 4) (omega arith))
+
+  chroma_same : (i : ℕ) → i < 8 → chroma_setting f chroma i ≡ chroma_setting g chroma i
+  chroma_same i low = ap (λ (k : ℕ). setting_of false k chroma.p chroma.q chroma.offset_a chroma.offset_b) (same (i / 2) (omega arith))
+
+  pub same_strengths : (v : Bool) → lines_of_edge v column row n f luma chroma s ≡ lines_of_edge v column row n g luma chroma s
+  same_strengths true =
+      three _ _ _ _ _ _ (edge_same (luma_setting f luma) (luma_setting g luma) true (16 * column + 4 * n) (16 * row) 16 s.luma luma_same)
+      (ap (λ (p : Plane). if n % 2 == 0 then p else s.cb) (edge_same (chroma_setting f chroma) (chroma_setting g chroma) true (8 * column + 2 * n) (8 * row) 8 s.cb chroma_same))
+      (ap (λ (p : Plane). if n % 2 == 0 then p else s.cr) (edge_same (chroma_setting f chroma) (chroma_setting g chroma) true (8 * column + 2 * n) (8 * row) 8 s.cr chroma_same))
+  same_strengths false =
+      three _ _ _ _ _ _ (edge_same (luma_setting f luma) (luma_setting g luma) false (16 * column) (16 * row + 4 * n) 16 s.luma luma_same)
+      (ap (λ (p : Plane). if n % 2 == 0 then p else s.cb) (edge_same (chroma_setting f chroma) (chroma_setting g chroma) false (8 * column) (8 * row + 2 * n) 8 s.cb chroma_same))
+      (ap (λ (p : Plane). if n % 2 == 0 then p else s.cr) (edge_same (chroma_setting f chroma) (chroma_setting g chroma) false (8 * column) (8 * row + 2 * n) 8 s.cr chroma_same))
+
 -- QPs of both chroma components are one
-pub for_cr : (c : Coded) (motion : List (List Motion)) (v : Bool) (n a : ℕ) (st : Strengths) (qp : EdgeQp) → IsSetting c motion 1 v n a st qp → IsSetting c motion 2 v n a st qp
+pub for_cr : (c : Coded) (motion : List (List Motion)) (v : Bool) (n a : ℕ) (st : ℕ → ℕ) (qp : EdgeQp) → IsSetting c motion 1 v n a st qp → IsSetting c motion 2 v n a st qp
 for_cr c motion v n a st qp is = record { strengths = is.strengths; p_is = is.p_is; q_is = is.q_is; a_is = is.a_is; b_is = is.b_is }
 
-pub edge_planes : (c : Coded) (motion : List (List Motion)) (v : Bool) (column row a n : ℕ) → IsAt c column row a → n < 4 → (st : Strengths) (luma chroma : EdgeQp) (s : Planes) →
+pub edge_planes : (c : Coded) (motion : List (List Motion)) (v : Bool) (column row a n : ℕ) → IsAt c column row a → n < 4 → (st : ℕ → ℕ) (luma chroma : EdgeQp) (s : Planes) →
     (v ≡ true → 1 ≤ 4 * column + n) → (v ≡ false → 1 ≤ 4 * row + n) → IsSetting c motion 0 v n a st luma → IsSetting c motion 1 v n a st chroma →
     lines_of_edge v column row n st luma chroma s ≡ planes_edge c motion v a n s
 edge_planes c motion true column row a n at low st luma chroma s across down is_luma is_chroma =
@@ -146,8 +163,8 @@ kept_if false p s h = refl
 far_enough : (column n : ℕ) → 1 ≤ 4 * column + n → (n % 2 == 0) ≡ true → 4 ≤ 8 * column + 2 * n
 far_enough column n some even = grind (arith, nat_tests)
 
-pub edge_zero : (v : Bool) (column row n : ℕ) (st : Strengths) (luma chroma : EdgeQp) (s : Planes) → (v ≡ true → 1 ≤ 4 * column + n) → (v ≡ false → 1 ≤ 4 * row + n) →
-    ((k : ℕ) → k < 4 → strength_along st k ≡ 0) → lines_of_edge v column row n st luma chroma s ≡ s
+pub edge_zero : (v : Bool) (column row n : ℕ) (st : ℕ → ℕ) (luma chroma : EdgeQp) (s : Planes) → (v ≡ true → 1 ≤ 4 * column + n) → (v ≡ false → 1 ≤ 4 * row + n) →
+    ((k : ℕ) → k < 4 → st k ≡ 0) → lines_of_edge v column row n st luma chroma s ≡ s
 edge_zero true column row n st luma chroma s across down none =
     let some = across refl in
     three _ _ _ _ _ _ (edge_none (luma_setting st luma) true (16 * column + 4 * n) (16 * row) 16 s.luma (λ e. omega arith) (λ e. absurd (cc)) (λ i low. none (i / 4) (omega arith)))
@@ -170,7 +187,7 @@ pub record SameSize (s t : Planes) : Type 0 where
   pub cb : (s.cb.width ≡ t.cb.width) × (s.cb.height ≡ t.cb.height)
   pub cr : (s.cr.width ≡ t.cr.width) × (s.cr.height ≡ t.cr.height)
 
-edge_same_size : (v : Bool) (column row n : ℕ) (st : Strengths) (luma chroma : EdgeQp) (s : Planes) → SameSize (lines_of_edge v column row n st luma chroma s) s
+edge_same_size : (v : Bool) (column row n : ℕ) (st : ℕ → ℕ) (luma chroma : EdgeQp) (s : Planes) → SameSize (lines_of_edge v column row n st luma chroma s) s
 edge_same_size true column row n st luma chroma s = record {
   luma = edge_size (luma_setting st luma) true (16 * column + 4 * n) (16 * row) 16 s.luma;
   cb = size_if (n % 2 == 0) _ s.cb (edge_size (chroma_setting st chroma) true (8 * column + 2 * n) (8 * row) 8 s.cb);
@@ -192,7 +209,7 @@ room_in column row s t e h = record {
   cr_rows = omega (arith, e.cr.1, h.cr_rows);
 }
 
-pub room_kept : (v : Bool) (at_column at_row n : ℕ) (st : Strengths) (luma chroma : EdgeQp) (s t : Planes) → t ≡ lines_of_edge v at_column at_row n st luma chroma s →
+pub room_kept : (v : Bool) (at_column at_row n : ℕ) (st : ℕ → ℕ) (luma chroma : EdgeQp) (s t : Planes) → t ≡ lines_of_edge v at_column at_row n st luma chroma s →
     (column row : ℕ) → HasRoom column row s → HasRoom column row t
 room_kept v at_column at_row n st luma chroma s t is column row h =
     subst (HasRoom column row) (sym is) (room_in column row s (lines_of_edge v at_column at_row n st luma chroma s) (edge_same_size v at_column at_row n st luma chroma s) h)

@@ -37,13 +37,13 @@ abbrev pub AreStrengths : Strengths → Type 0
 AreStrengths Four = Unit {0}
 AreStrengths (BelowFour strengths) = (k : ℕ) → k < 4 → slice_index strengths k < 4
 
--- line i of sixteen
-abbrev pub luma_setting : Strengths → EdgeQp → ℕ → Setting
-luma_setting strengths qp i = setting_of true (strength_along strengths (i / 4)) qp.p qp.q qp.offset_a qp.offset_b
+-- line i of sixteen, where quarter k of the edge has the strength strengths(k)
+abbrev pub luma_setting : (ℕ → ℕ) → EdgeQp → ℕ → Setting
+luma_setting strengths qp i = setting_of true (strengths (i / 4)) qp.p qp.q qp.offset_a qp.offset_b
 
 -- line i of eight
-abbrev pub chroma_setting : Strengths → EdgeQp → ℕ → Setting
-chroma_setting strengths qp i = setting_of false (strength_along strengths (i / 2)) qp.p qp.q qp.offset_a qp.offset_b
+abbrev pub chroma_setting : (ℕ → ℕ) → EdgeQp → ℕ → Setting
+chroma_setting strengths qp i = setting_of false (strengths (i / 2)) qp.p qp.q qp.offset_a qp.offset_b
 
 -- ---- the edges of a macroblock
 
@@ -83,14 +83,14 @@ planes_mb c motion a s =
 -- ---- the same from strengths and QPs
 
 -- a chroma plane after edge n of the macroblock in this column and row of macroblocks: chroma has every second edge
-abbrev pub chroma_of_edge : Bool → (column row n : ℕ) → Strengths → EdgeQp → Plane → Plane
+abbrev pub chroma_of_edge : Bool → (column row n : ℕ) → (ℕ → ℕ) → EdgeQp → Plane → Plane
 chroma_of_edge true column row n strengths qp s =
     if n % 2 == 0 then edge_filtered (chroma_setting strengths qp) true (8 * column + 2 * n) (8 * row) 8 s else s
 chroma_of_edge false column row n strengths qp s =
     if n % 2 == 0 then edge_filtered (chroma_setting strengths qp) false (8 * column) (8 * row + 2 * n) 8 s else s
 
 -- the planes after that edge
-abbrev pub lines_of_edge : Bool → (column row n : ℕ) → Strengths → (luma chroma : EdgeQp) → Planes → Planes
+abbrev pub lines_of_edge : Bool → (column row n : ℕ) → (ℕ → ℕ) → (luma chroma : EdgeQp) → Planes → Planes
 lines_of_edge true column row n strengths luma chroma s = record {
   luma = edge_filtered (luma_setting strengths luma) true (16 * column + 4 * n) (16 * row) 16 s.luma;
   cb = chroma_of_edge true column row n strengths chroma s.cb;

@@ -1,11 +1,11 @@
 ghost use Rattle.std.specs.Prelude.{◌≡◌, ℕ, ◌+◌, ◌*◌, ◌<◌, ◌≤◌, true, false};
 ghost use Rattle.avc_deblock.specs.Line.{filtered};
 ghost use Rattle.avc_deblock.specs.Rows.{line_down};
-ghost use Rattle.avc_deblock.specs.OneEdge.{edge_filtered, chroma_setting, AreStrengths};
+ghost use Rattle.avc_deblock.specs.OneEdge.{edge_filtered, chroma_setting, strength_along, AreStrengths};
 
 use crate::block::{columns, rows_of, strong_chroma, weak_chroma};
-use crate::edge::{deads, repeated, strong_limits, tc0s};
 use crate::lines::Limits;
+use crate::luma_edge::{deads, repeated, strong_limits, tc0s};
 use crate::pair::{beside, half, joined, side, spread_twice};
 use crate::strengths::Strengths;
 use crate::thresholds::EdgeQp;
@@ -16,7 +16,7 @@ use avc_plane::Plane;
 fn filter_chroma(t: &mut [u8; 128], strengths: &Strengths, qp: &EdgeQp)
     requires { AreStrengths strengths.now }
     ensures { (b i : ℕ) → b < 2 → i < 8 →
-        filtered (chroma_setting strengths.now qp.now i) (line_down t.old (8 * b + i)) ≡ line_down t.new (8 * b + i) }
+        filtered (chroma_setting (strength_along strengths.now) qp.now i) (line_down t.old (8 * b + i)) ≡ line_down t.new (8 * b + i) }
 {
     let thresholds = qp.thresholds();
     if thresholds.alpha == 0 || thresholds.beta == 0 {
@@ -54,8 +54,8 @@ pub(crate) fn vertical_chroma<const PAD: usize>(
     requires cr_columns { left + 8 ≤ cr.old.width }
     requires cr_rows { top + 8 ≤ cr.old.height }
     requires strengths { AreStrengths strengths.now }
-    ensures cb { cb.new ≡ edge_filtered (chroma_setting strengths.now qp.now) true (left + 4) top 8 cb.old }
-    ensures cr { cr.new ≡ edge_filtered (chroma_setting strengths.now qp.now) true (left + 4) top 8 cr.old }
+    ensures cb { cb.new ≡ edge_filtered (chroma_setting (strength_along strengths.now) qp.now) true (left + 4) top 8 cb.old }
+    ensures cr { cr.new ≡ edge_filtered (chroma_setting (strength_along strengths.now) qp.now) true (left + 4) top 8 cr.old }
 {
     let of_cb = cb.rectangle::<8, 8, 64>(left, top);
     let of_cr = cr.rectangle::<8, 8, 64>(left, top);
@@ -84,8 +84,8 @@ pub(crate) fn horizontal_chroma<const PAD: usize>(
     requires cr_columns { left + 8 ≤ cr.old.width }
     requires cr_rows { top + 8 ≤ cr.old.height }
     requires strengths { AreStrengths strengths.now }
-    ensures cb { cb.new ≡ edge_filtered (chroma_setting strengths.now qp.now) false left (top + 4) 8 cb.old }
-    ensures cr { cr.new ≡ edge_filtered (chroma_setting strengths.now qp.now) false left (top + 4) 8 cr.old }
+    ensures cb { cb.new ≡ edge_filtered (chroma_setting (strength_along strengths.now) qp.now) false left (top + 4) 8 cb.old }
+    ensures cr { cr.new ≡ edge_filtered (chroma_setting (strength_along strengths.now) qp.now) false left (top + 4) 8 cr.old }
 {
     let of_cb = cb.rectangle::<8, 8, 64>(left, top);
     let of_cr = cr.rectangle::<8, 8, 64>(left, top);

@@ -1,10 +1,7 @@
-ghost use Rattle.std.specs.Prelude.{◌≡◌, ℕ, ◌+◌, ◌%◌, ◌<◌, ◌==◌, List, not};
-ghost use Rattle.avc_types.specs.Pictures.{Coded};
-ghost use Rattle.avc_neigh.specs.declared.facts.Motion.{Motion};
-ghost use Rattle.avc_deblock.specs.Edges.{strength_between};
+ghost use Rattle.std.specs.Prelude.{◌≡◌, ℕ, ◌+◌, ◌%◌, ◌<◌, slice_index};
 ghost use Rattle.avc_deblock.specs.OneEdge.{AreStrengths, strength_along};
-ghost use Rattle.avc_deblock.specs.Facts.{Names, HasFacts, edge_block, inter_strength};
-ghost use Rattle.std.specs.Prelude.{slice_index};
+ghost use Rattle.avc_deblock.specs.Facts.{edge_block, inter_strength};
+ghost use Rattle.avc_deblock.specs.ByFacts.{strength_of};
 
 use crate::facts::MbFacts;
 use crate::strengths::Strengths;
@@ -44,10 +41,7 @@ fn inter_strengths(p: &MbFacts, q: &MbFacts, is_vertical: bool, n: usize) -> [u8
 pub(crate) fn edge_strengths(p: &MbFacts, q: &MbFacts, is_vertical: bool, n: usize) -> Strengths
     requires { n < 4 }
     ensures low { AreStrengths result }
-    ensures value { (c : Coded) (motion : List (List Motion)) (names : Names) (pa qa k : ℕ) →
-        HasFacts c motion names pa p.now → HasFacts c motion names qa q.now →
-        (pa == qa) ≡ not (n == 0) → k < 4 →
-        strength_along result k ≡ strength_between c motion pa (edge_block is_vertical ((n + 3) % 4) k) qa (edge_block is_vertical n k) }
+    ensures value { (k : ℕ) → k < 4 → strength_along result k ≡ strength_of p.now q.now is_vertical n k }
 {
     if p.is_intra | q.is_intra {
         if n == 0 {

@@ -3,9 +3,10 @@ ghost use Rattle.avc_deblock.specs.declared.facts.MbFacts.{MbFacts as Facts};
 ghost use Rattle.avc_types.specs.Pictures.{Coded};
 ghost use Rattle.avc_neigh.specs.declared.facts.Motion.{Motion};
 ghost use Rattle.avc_plane.specs.Frames.{planes_of};
-ghost use Rattle.avc_deblock.specs.Edges.{all_filtered, line_filters, row_lines};
+ghost use Rattle.avc_deblock.specs.Edges.{all_filtered, line_filters};
 ghost use Rattle.avc_deblock.specs.OneEdge.{HasRoom};
 ghost use Rattle.avc_deblock.specs.Facts.{Names, HaveFacts};
+ghost use Rattle.avc_deblock.specs.ByFacts.{row_by_facts};
 
 use crate::facts::MbFacts;
 use crate::macroblock::macroblock;
@@ -24,10 +25,7 @@ pub fn row<const PAD: usize>(
     requires same { length above.now ≡ length facts.now }
     requires room { (column : ℕ) → column < length facts.now → HasRoom column row (planes_of planes.old) }
     ensures room { (column row : ℕ) → HasRoom column row (planes_of planes.old) → HasRoom column row (planes_of planes.new) }
-    ensures lines { (c : Coded) (motion : List (List Motion)) (names : Names) → c.width ≡ length facts.now →
-        c.chroma_qp_index_offset ≡ chroma_qp_index_offset → HaveFacts c motion names (row * c.width) facts.now →
-        (1 ≤ row → HaveFacts c motion names ((row - 1) * c.width) above.now) →
-        planes_of planes.new ≡ all_filtered c motion (planes_of planes.old) (row_lines c row) }
+    ensures lines { planes_of planes.new ≡ row_by_facts chroma_qp_index_offset row above.now facts.now (length facts.now) (planes_of planes.old) }
 {
     let _columns = planes.luma.width();
     let _rows = planes.luma.height();

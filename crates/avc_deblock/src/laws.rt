@@ -1,3 +1,4 @@
+ghost use Rattle.avc_deblock.specs.ByFacts.{RowIsThePictures};
 ghost use Rattle.avc_deblock.specs.Laws.{RowsInOrder, FactsOfFirstMacroblocksStay};
 
 /// The line filters of a picture are those of its rows of macroblocks, one row after another.
@@ -8,4 +9,9 @@ pub fn rows_in_order()
 /// Facts of a picture's first macroblocks are facts of every picture that begins with them.
 pub fn facts_of_first_macroblocks_stay()
     ensures { FactsOfFirstMacroblocksStay }
+{}
+
+/// Where its facts are a coded picture's, a row is filtered as by the picture's line filters of that row.
+pub fn row_by_facts_is_the_pictures()
+    ensures { RowIsThePictures }
 {}

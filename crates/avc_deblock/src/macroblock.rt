@@ -1,13 +1,12 @@
-ghost use Rattle.std.specs.Prelude.{◌≡◌, ℕ, ◌+◌, ◌-◌, ◌*◌, ◌^◌, ◌<◌, ◌≤◌, List, true, false};
-ghost use Rattle.avc_types.specs.Pictures.{Coded};
-ghost use Rattle.avc_neigh.specs.declared.facts.Motion.{Motion};
+ghost use Rattle.std.specs.Prelude.{◌≡◌, ℕ, ◌+◌, ◌*◌, ◌^◌, ◌<◌, ◌≤◌, true, false};
 ghost use Rattle.avc_plane.specs.Frames.{planes_of};
-ghost use Rattle.avc_deblock.specs.OneEdge.{planes_edges, planes_mb, HasRoom};
-ghost use Rattle.avc_deblock.specs.Facts.{Names, HasFacts, IsAt, p_address, filters_between};
+ghost use Rattle.avc_deblock.specs.OneEdge.{HasRoom};
+ghost use Rattle.avc_deblock.specs.Facts.{filters_between};
+ghost use Rattle.avc_deblock.specs.ByFacts.{edges_by_facts, mb_by_facts};
 
 use crate::facts::MbFacts;
 use crate::line::both;
-use crate::planes_edge::{Place, edge};
+use crate::planes_edge::{Place, edge_between};
 use avc_plane::Planes;
 use avc_types::FilteredEdges;
 
@@ -40,13 +39,11 @@ fn outer_edge<const PAD: usize>(
     requires rows_fit { 16 * place.row + 16 < 2 ^ 64 }
     requires room { HasRoom place.column place.row (planes_of planes.old) }
     ensures room { (column row : ℕ) → HasRoom column row (planes_of planes.old) → HasRoom column row (planes_of planes.new) }
-    ensures lines { (c : Coded) (motion : List (List Motion)) (names : Names) (a : ℕ) → IsAt c place.column place.row a →
-        place.chroma_qp_index_offset ≡ c.chroma_qp_index_offset →
-        (filters ≡ true → HasFacts c motion names (p_address c is_vertical 0 a) p.now) →
-        HasFacts c motion names a q.now → planes_of planes.new ≡ planes_edges c motion is_vertical filters false a (planes_of planes.old) }
+    ensures lines { planes_of planes.new
+        ≡ edges_by_facts is_vertical place.column place.row place.chroma_qp_index_offset filters false p.now q.now (planes_of planes.old) }
 {
     if filters {
-        edge(planes, p, q, is_vertical, 0, place);
+        edge_between(planes, p, q, is_vertical, 0, place);
     }
 }
 
@@ -62,14 +59,13 @@ fn inner_edges<const PAD: usize>(
     requires rows_fit { 16 * place.row + 16 < 2 ^ 64 }
     requires room { HasRoom place.column place.row (planes_of planes.old) }
     ensures room { (column row : ℕ) → HasRoom column row (planes_of planes.old) → HasRoom column row (planes_of planes.new) }
-    ensures lines { (c : Coded) (motion : List (List Motion)) (names : Names) (a : ℕ) → IsAt c place.column place.row a →
-        place.chroma_qp_index_offset ≡ c.chroma_qp_index_offset → HasFacts c motion names a q.now →
-        planes_of planes.new ≡ planes_edges c motion is_vertical false filters a (planes_of planes.old) }
+    ensures lines { planes_of planes.new
+        ≡ edges_by_facts is_vertical place.column place.row place.chroma_qp_index_offset false filters q.now q.now (planes_of planes.old) }
 {
     if filters {
-        edge(planes, q, q, is_vertical, 1, place);
-        edge(planes, q, q, is_vertical, 2, place);
-        edge(planes, q, q, is_vertical, 3, place);
+        edge_between(planes, q, q, is_vertical, 1, place);
+        edge_between(planes, q, q, is_vertical, 2, place);
+        edge_between(planes, q, q, is_vertical, 3, place);
     }
 }
 
@@ -85,11 +81,8 @@ pub(crate) fn macroblock<const PAD: usize>(
     requires rows_fit { 16 * place.row + 16 < 2 ^ 64 }
     requires room { HasRoom place.column place.row (planes_of planes.old) }
     ensures room { (column row : ℕ) → HasRoom column row (planes_of planes.old) → HasRoom column row (planes_of planes.new) }
-    ensures lines { (c : Coded) (motion : List (List Motion)) (names : Names) (a : ℕ) → IsAt c place.column place.row a →
-        place.chroma_qp_index_offset ≡ c.chroma_qp_index_offset → HasFacts c motion names a mb.now →
-        (1 ≤ place.column → HasFacts c motion names (a - 1) left.now) →
-        (1 ≤ place.row → HasFacts c motion names (a - c.width) above.now) →
-        planes_of planes.new ≡ planes_mb c motion a (planes_of planes.old) }
+    ensures lines { planes_of planes.new
+        ≡ mb_by_facts place.chroma_qp_index_offset place.column place.row left.now above.now mb.now (planes_of planes.old) }
 {
     let inner = both(mb.filters_edge_to(mb), !mb.is_still());
     let from_left = both(place.column > 0, mb.filters_edge_to(left));

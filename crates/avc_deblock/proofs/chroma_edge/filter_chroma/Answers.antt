@@ -3,7 +3,7 @@ use Rattle.std.specs.Prelude.{slice_index, ◌==◌, if◌then◌else◌}
 use Rattle.avc_deblock.specs.declared.strengths.Strengths.{Strengths}
 use Rattle.avc_deblock.specs.Line.{tc0_of}
 use Rattle.avc_deblock.specs.Rows.{IsStrongChroma, IsWeakChroma}
-use Rattle.avc_deblock.specs.OneEdge.{chroma_setting, AreStrengths}
+use Rattle.avc_deblock.specs.OneEdge.{strength_along, chroma_setting, AreStrengths}
 use Rattle.avc_deblock.proofs.Weak.{marked}
 use Rattle.avc_deblock.proofs.chroma_edge.filter_chroma.Goals as goal
 
@@ -11,8 +11,8 @@ pub returns-in-Four : goal.returns-in-Four
 returns-in-Four c b i bit low =
     let t = c.thresholds-thresholds in
     let limits = c.strong_limits-limits in
-    c.strong_chroma.ensures (chroma_setting c.args.strengths.now c.args.qp.now i) (8 * b + i) (omega arith)
-    (subst (λ (s : Strengths). IsStrongChroma (chroma_setting s c.args.qp.now i) (slice_index limits.result.alpha1 (8 * b + i) + 1) (slice_index limits.result.beta1 (8 * b + i) + 1)) (sym c.in-Four.is)
+    c.strong_chroma.ensures (chroma_setting (strength_along c.args.strengths.now) c.args.qp.now i) (8 * b + i) (omega arith)
+    (subst (λ (s : Strengths). IsStrongChroma (chroma_setting (strength_along s) c.args.qp.now i) (slice_index limits.result.alpha1 (8 * b + i) + 1) (slice_index limits.result.beta1 (8 * b + i) + 1)) (sym c.in-Four.is)
     (record { chroma = refl; strong = refl; alpha_is = limits.ensures.alpha (8 * b + i) (omega arith) ∙ t.ensures.alpha; beta_is = limits.ensures.beta (8 * b + i) (omega arith) ∙ t.ensures.beta }))
 
 pub returns-in-BelowFour : goal.returns-in-BelowFour
@@ -27,8 +27,8 @@ returns-in-BelowFour c b i bit low =
     let b1_is = c.repeated-in-BelowFour.ensures (8 * b + i) (omega arith) in
     let one_a : a1 + 1 ≡ t.result.alpha = omega arith in
     let one_b : b1 + 1 ≡ t.result.beta = omega arith in
-    c.weak_chroma.ensures (chroma_setting c.args.strengths.now c.args.qp.now i) (8 * b + i) (omega arith)
-    (subst (λ (s : Strengths). IsWeakChroma (chroma_setting s c.args.qp.now i) (if d == 0 then a1 + 1 else 0) (b1 + 1) tc) (sym c.in-BelowFour.is)
+    c.weak_chroma.ensures (chroma_setting (strength_along c.args.strengths.now) c.args.qp.now i) (8 * b + i) (omega arith)
+    (subst (λ (s : Strengths). IsWeakChroma (chroma_setting (strength_along s) c.args.qp.now i) (if d == 0 then a1 + 1 else 0) (b1 + 1) tc) (sym c.in-BelowFour.is)
     (record {
       chroma = refl;
       weak = small (i / 2) (omega arith);

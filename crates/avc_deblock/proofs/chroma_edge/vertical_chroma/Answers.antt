@@ -1,6 +1,6 @@
 use Rattle.std.proofs.Common.{arith, ap, ◌∙◌}
 use Rattle.std.specs.Prelude.{slice_index}
-use Rattle.avc_deblock.specs.OneEdge.{chroma_setting}
+use Rattle.avc_deblock.specs.OneEdge.{strength_along, chroma_setting}
 use Rattle.avc_deblock.proofs.Pairs.{vertical_part}
 use Rattle.avc_deblock.proofs.chroma_edge.vertical_chroma.Goals as goal
 
@@ -8,7 +8,7 @@ pub returns-clause-cb : goal.returns-clause-cb
 returns-clause-cb g c =
     let e = c.rectangle-of_cb.ensures in
     c.set_rectangle.ensures
-    ∙ vertical_part (chroma_setting c.args.strengths.now c.args.qp.now) c.args.left c.args.top 0 c.args.cb.now c.rectangle-of_cb.result c.half-new_cb.result (omega arith) e.all
+    ∙ vertical_part (chroma_setting (strength_along c.args.strengths.now) c.args.qp.now) c.args.left c.args.top 0 c.args.cb.now c.rectangle-of_cb.result c.half-new_cb.result (omega arith) e.all
     c.requires.cb_columns c.requires.cb_rows e.samples c.joined-block.result c.columns-lines.result c.filter_chroma.new.t c.rows_of-after.result
     (λ k low. ap (slice_index c.joined-block.result) (omega arith) ∙ c.joined-block.ensures.first k low) c.columns-lines.ensures c.rows_of-after.ensures
     (λ k low. c.half-new_cb.ensures k low ∙ ap (slice_index c.rows_of-after.result) (omega arith))
@@ -18,7 +18,7 @@ pub returns-clause-cr : goal.returns-clause-cr
 returns-clause-cr g c =
     let e = c.rectangle-of_cr.ensures in
     c.set_rectangle-2.ensures
-    ∙ vertical_part (chroma_setting c.args.strengths.now c.args.qp.now) c.args.left c.args.top 1 c.args.cr.now c.rectangle-of_cr.result c.half-new_cr.result (omega arith) e.all
+    ∙ vertical_part (chroma_setting (strength_along c.args.strengths.now) c.args.qp.now) c.args.left c.args.top 1 c.args.cr.now c.rectangle-of_cr.result c.half-new_cr.result (omega arith) e.all
     c.requires.cr_columns c.requires.cr_rows e.samples c.joined-block.result c.columns-lines.result c.filter_chroma.new.t c.rows_of-after.result
     (λ k low. ap (slice_index c.joined-block.result) (omega arith) ∙ c.joined-block.ensures.second k low) c.columns-lines.ensures c.rows_of-after.ensures
     (λ k low. c.half-new_cr.ensures k low ∙ ap (slice_index c.rows_of-after.result) (omega arith))

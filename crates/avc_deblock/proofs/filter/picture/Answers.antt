@@ -1,10 +1,11 @@
-use Rattle.std.proofs.Common.{◌≡◌, ◌∙◌, ℕ, ◌+◌, ◌-◌, ◌*◌, length, w8, arith, refl, sym, ap, subst}
+use Rattle.std.proofs.Common.{◌≡◌, ◌∙◌, ℕ, ◌+◌, ◌-◌, ◌*◌, length, w8, to_z, of_z, arith, refl, sym, ap, subst}
 use Rattle.std.specs.List.{range_with_len, flat_map}
 use Rattle.std.proofs.lemmas.Int.{to_z-of_z}
 use Rattle.avc_plane.specs.Frames.{planes_of}
 use Rattle.avc_deblock.specs.Edges.{all_filtered, mb_lines, row_lines}
 use Rattle.avc_deblock.specs.Facts.{HaveFacts}
 use Rattle.avc_deblock.proofs.Macroblocks.{one_row_more, part_facts, rows_are_all}
+use Rattle.avc_deblock.proofs.PictureFacts.{row_is}
 use Rattle.avc_deblock.proofs.filter.picture.Goals as goal
 
 pub row-requires : goal.row-requires
@@ -26,12 +27,19 @@ loop-y-preserved g c = record {
       let w = c.args.width in
       one_row_more coded motion y (y + 1) (planes_of c.args.planes.now) (planes_of c.loop-y.planes) (planes_of c.row.new.planes) refl
       (c.loop-y.invariant.lines coded motion names width offset have)
-      (c.row.ensures.lines coded motion names (width ∙ sym c.row_of.ensures.long) offset
-      (part_facts coded motion names facts c.row_of.result.now w y c.args.height width c.requires.all c.loop-y-test.true c.row_of.ensures.long c.row_of.ensures.value have)
-      (λ some.
-      let before : c.max.result - 1 ≡ y - 1 = omega (arith, c.max.ensures, some) in
-      subst (λ (r : ℕ). HaveFacts coded motion names (r * coded.width) c.row_of-above.result.now) before
-      (part_facts coded motion names facts c.row_of-above.result.now w (c.max.result - 1) c.args.height width c.requires.all (omega (arith, before, c.loop-y-test.true)) c.row_of-above.ensures.long c.row_of-above.ensures.value have)));
+      (c.row.ensures.lines
+      ∙ row_is coded motion names y (to_z w8 (of_z w8 c.args.chroma_qp_index_offset)) c.row_of-above.result.now c.row_of.result.now (planes_of c.loop-y.planes)
+      (record {
+        width_is = width ∙ sym c.row_of.ensures.long;
+        same = c.row_of-above.ensures.long ∙ sym c.row_of.ensures.long;
+        offset_is = offset;
+        facts_are =
+            (part_facts coded motion names facts c.row_of.result.now w y c.args.height width c.requires.all c.loop-y-test.true c.row_of.ensures.long c.row_of.ensures.value have);
+        above_are = (λ some.
+            let before : c.max.result - 1 ≡ y - 1 = omega (arith, c.max.ensures, some) in
+            subst (λ (r : ℕ). HaveFacts coded motion names (r * coded.width) c.row_of-above.result.now) before
+            (part_facts coded motion names facts c.row_of-above.result.now w (c.max.result - 1) c.args.height width c.requires.all (omega (arith, before, c.loop-y-test.true)) c.row_of-above.ensures.long c.row_of-above.ensures.value have));
+      }));
 }
 
 pub returns-clause-lines : goal.returns-clause-lines

@@ -1,9 +1,10 @@
-use Rattle.std.proofs.Common.{◌≡◌, ◌∙◌, ℕ, ◌+◌, ◌-◌, ◌*◌, w8, arith, refl, sym, ap}
-use Rattle.std.specs.List.{range_with_len, flat_map}
-use Rattle.std.proofs.lemmas.Int.{to_z-of_z}
+use Rattle.std.proofs.Common.{◌≡◌, ◌∙◌, ℕ, suc, ◌+◌, ◌-◌, ℤ, w8, to_z, of_z, arith, refl, ap}
+use Rattle.std.specs.Prelude.{slice_index_or}
+use Rattle.std.proofs.lemmas.List.{get_or_default}
 use Rattle.avc_plane.specs.Frames.{planes_of}
-use Rattle.avc_deblock.specs.Edges.{all_filtered, mb_lines, row_lines}
-use Rattle.avc_deblock.proofs.Macroblocks.{one_more, shifted}
+use Rattle.avc_plane.specs.Planes.{Planes}
+use Rattle.avc_deblock.specs.declared.facts.MbFacts.{MbFacts}
+use Rattle.avc_deblock.specs.ByFacts.{mb_by_facts, row_by_facts, no_facts}
 use Rattle.avc_deblock.proofs.filter.row.Goals as goal
 
 pub macroblock-requires : goal.macroblock-requires
@@ -19,27 +20,22 @@ macroblock-requires g c =
       ),
     )
 
+-- the same facts, by any number for the place and any default
+same_mb : (offset other : ℤ) (column row : ℕ) (l l' u u' f f' : MbFacts) (s t r : Planes) → other ≡ offset → l ≡ l' → u ≡ u' → f ≡ f' → t ≡ r →
+    s ≡ mb_by_facts other column row l u f t → s ≡ mb_by_facts offset column row l' u' f' r
+same_mb offset other column row l l' u u' f f' s t r e el eu ef et is = is ∙ rw (e, el, eu, ef, et)
+
 pub loop-column-preserved : goal.loop-column-preserved
 loop-column-preserved g c = record {
   room = λ column row h. c.macroblock.ensures.room column row (c.loop-column.invariant.room column row h);
-  lines = λ coded motion names width offset have above.
+  lines =
       let n = c.loop-column.column in
-      let row = c.args.row in
-      let low = c.loop-column-test.true in
-      one_more coded motion (row * coded.width) n (n + 1) (planes_of c.args.planes.now) (planes_of c.loop-column.planes) (planes_of c.macroblock.new.planes) refl
-      (c.loop-column.invariant.lines coded motion names width offset have above)
-      (c.macroblock.ensures.lines coded motion names (row * coded.width + n) (record { within = omega (arith, width, low); address = refl }) (sym offset) (have n _ low)
-      (λ some. shifted coded motion names _ _ _ (omega (arith, c.max.ensures, some)) (have (c.max.result - 1) _ (omega (arith, c.max.ensures, low))))
-      (λ some.
-      let back : row ≡ (row - 1) + 1 = omega arith in
-      let rows : row * coded.width ≡ ((row - 1) + 1) * coded.width = ap (λ (r : ℕ). r * coded.width) back in
-      shifted coded motion names _ _ _ (omega (arith, rows)) (above some n _ (omega (arith, c.requires.same, low)))));
+      let above = c.args.above.now in
+      let facts = c.args.facts.now in
+      let back : c.max.result - 1 ≡ n - 1 = omega (arith, c.max.ensures) in
+      let next : suc n ≡ n + 1 = omega arith in
+      same_mb (to_z w8 (of_z w8 c.args.chroma_qp_index_offset)) (to_z w8 (of_z w8 c.args.chroma_qp_index_offset)) n c.args.row _ _ _ _ _ _ (planes_of c.macroblock.new.planes) _ _ refl
+      (get_or_default facts (c.max.result - 1) _ no_facts (omega (arith, back)) ∙ ap (λ (k : ℕ). slice_index_or facts k no_facts) back)
+      (get_or_default above n _ no_facts (omega (arith, c.requires.same))) (get_or_default facts n _ no_facts (omega arith)) c.loop-column.invariant.lines c.macroblock.ensures.lines
+      ∙ ap (λ (k : ℕ). row_by_facts (to_z w8 (of_z w8 c.args.chroma_qp_index_offset)) c.args.row above facts k (planes_of c.args.planes.now)) next;
 }
-
-pub returns-clause-lines : goal.returns-clause-lines
-unfolding row_lines
-returns-clause-lines g c coded motion names width offset have above =
-    let n = c.loop-column.column in
-    let all : n ≡ coded.width = omega (arith, width) in
-    c.loop-column.invariant.lines coded motion names width (offset ∙ sym (to_z-of_z w8 c.args.chroma_qp_index_offset c.ranges.chroma_qp_index_offset)) have above
-    ∙ ap (λ (k : ℕ). all_filtered coded motion (planes_of c.args.planes.now) (flat_map (mb_lines coded) (range_with_len (c.args.row * coded.width) k))) all

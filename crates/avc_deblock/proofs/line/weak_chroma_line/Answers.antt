@@ -1,4 +1,4 @@
-use Rattle.std.proofs.Common.{◌≡◌, ℕ, ℤ, ◌+◌, pos, ◌+ℤ◌, ◌-ℤ◌, Bool, ◌==◌, if◌then◌else◌, arith, ap, ◌∙◌}
+use Rattle.std.proofs.Common.{ℕ, ℤ, ◌+◌, pos, ◌+ℤ◌, ◌-ℤ◌, ◌==◌, if◌then◌else◌, arith, ap, ◌∙◌}
 use Rattle.avc_types.specs.Arithmetic.{clip1}
 use Rattle.avc_deblock.specs.Line.{Line}
 use Rattle.avc_deblock.specs.Rows.{line, slope, held}

@@ -1,25 +1,28 @@
-use Rattle.std.proofs.Common.{◌∙◌, Bool, arith, sym, ap}
+use Rattle.std.proofs.Common.{◌∙◌, ℕ, Bool, arith, sym, ap}
 use Rattle.std.specs.Prelude.{if◌then◌else◌}
 use Rattle.avc_plane.specs.Frames.{planes_of}
-use Rattle.avc_deblock.specs.OneEdge.{planes_edge}
+use Rattle.avc_plane.specs.Planes.{Planes}
+use Rattle.avc_deblock.specs.ByFacts.{edge_by_facts}
 use Rattle.avc_deblock.proofs.macroblock.inner_edges.Goals as goal
 
-pub edge-requires-then-filters : goal.edge-requires-then-filters
-edge-requires-then-filters g c =
-    (omega arith, (omega arith, ((λ e. omega arith), ((λ e. omega arith), (c.requires.columns_fit, (c.requires.rows_fit, c.edge.ensures.room c.args.place.column c.args.place.row c.requires.room))))))
+pub edge_between-requires-then-filters : goal.edge_between-requires-then-filters
+edge_between-requires-then-filters g c =
+    (omega arith, (omega arith, ((λ e. omega arith), ((λ e. omega arith), (c.requires.columns_fit, (c.requires.rows_fit, c.edge_between.ensures.room c.args.place.column c.args.place.row c.requires.room))))))
 
-pub edge-requires-then-filters-2 : goal.edge-requires-then-filters-2
-edge-requires-then-filters-2 g c =
-    (omega arith, (omega arith, ((λ e. omega arith), ((λ e. omega arith), (c.requires.columns_fit, (c.requires.rows_fit, c.edge-then-filters.ensures.room c.args.place.column c.args.place.row (c.edge.ensures.room c.args.place.column c.args.place.row c.requires.room)))))))
+pub edge_between-requires-then-filters-2 : goal.edge_between-requires-then-filters-2
+edge_between-requires-then-filters-2 g c =
+    (omega arith, (omega arith, ((λ e. omega arith), ((λ e. omega arith), (c.requires.columns_fit, (c.requires.rows_fit, c.edge_between-then-filters.ensures.room c.args.place.column c.args.place.row (c.edge_between.ensures.room c.args.place.column c.args.place.row c.requires.room)))))))
 
 pub returns-then-filters-clause-room : goal.returns-then-filters-clause-room
-returns-then-filters-clause-room g c column row h = c.edge-then-filters-2.ensures.room column row (c.edge-then-filters.ensures.room column row (c.edge.ensures.room column row h))
+returns-then-filters-clause-room g c column row h =
+    c.edge_between-then-filters-2.ensures.room column row (c.edge_between-then-filters.ensures.room column row (c.edge_between.ensures.room column row h))
 
 pub returns-then-filters-clause-lines : goal.returns-then-filters-clause-lines
-returns-then-filters-clause-lines g c coded motion names a at offset hq =
+returns-then-filters-clause-lines g c =
     let s = planes_of c.args.planes.now in
-    let v = c.args.is_vertical in
-    c.edge-then-filters-2.ensures.lines coded motion names a at offset hq hq
-    ∙ ap (planes_edge coded motion v a 3)
-    (c.edge-then-filters.ensures.lines coded motion names a at offset hq hq ∙ ap (planes_edge coded motion v a 2) (c.edge.ensures.lines coded motion names a at offset hq hq))
-    ∙ ap (λ (b : Bool). if b then planes_edge coded motion v a 3 (planes_edge coded motion v a 2 (planes_edge coded motion v a 1 s)) else s) (sym c.if-filters.true)
+    let place = c.args.place in
+    let q = c.args.q.now in
+    let next : ℕ → Planes → Planes = λ (n : ℕ) (t : Planes). edge_by_facts c.args.is_vertical place.column place.row n place.chroma_qp_index_offset q q t in
+    c.edge_between-then-filters-2.ensures.lines
+    ∙ ap (next 3) (c.edge_between-then-filters.ensures.lines ∙ ap (next 2) c.edge_between.ensures.lines)
+    ∙ ap (λ (b : Bool). if b then next 3 (next 2 (next 1 s)) else s) (sym c.if-filters.true)

@@ -1,7 +1,7 @@
 ghost use Rattle.std.specs.Prelude.{◌≡◌, ℕ, ◌+◌, ◌/◌, ◌<◌, ◌≤◌, ◌==◌, if◌then◌else◌, slice_index, true, false};
 ghost use Rattle.avc_deblock.specs.Line.{filtered, tc0_of};
 ghost use Rattle.avc_deblock.specs.Rows.{line_down};
-ghost use Rattle.avc_deblock.specs.OneEdge.{edge_filtered, luma_setting, AreStrengths};
+ghost use Rattle.avc_deblock.specs.OneEdge.{edge_filtered, luma_setting, strength_along, AreStrengths};
 
 use crate::block::{columns, rows_of, spread, strong_luma, weak_luma};
 use crate::lines::{Limits, StrongLimits};
@@ -68,7 +68,7 @@ pub(crate) fn tc0s(strengths: &[u8; 4], index: u8) -> [u8; 4]
 #[inline(always)]
 fn filter_luma(t: &mut [u8; 128], strengths: &Strengths, qp: &EdgeQp)
     requires { AreStrengths strengths.now }
-    ensures { (i : ℕ) → i < 16 → filtered (luma_setting strengths.now qp.now i) (line_down t.old i) ≡ line_down t.new i }
+    ensures { (i : ℕ) → i < 16 → filtered (luma_setting (strength_along strengths.now) qp.now i) (line_down t.old i) ≡ line_down t.new i }
 {
     let thresholds = qp.thresholds();
     if thresholds.alpha == 0 || thresholds.beta == 0 {
@@ -103,7 +103,7 @@ pub(crate) fn vertical_luma<const PAD: usize>(
     requires columns { left + 8 ≤ plane.old.width }
     requires rows { top + 16 ≤ plane.old.height }
     requires strengths { AreStrengths strengths.now }
-    ensures { plane.new ≡ edge_filtered (luma_setting strengths.now qp.now) true (left + 4) top 16 plane.old }
+    ensures { plane.new ≡ edge_filtered (luma_setting (strength_along strengths.now) qp.now) true (left + 4) top 16 plane.old }
 {
     let block = plane.rectangle::<8, 16, 128>(left, top);
     let mut lines = columns(&block);
@@ -124,7 +124,7 @@ pub(crate) fn horizontal_luma<const PAD: usize>(
     requires columns { left + 16 ≤ plane.old.width }
     requires rows { top + 8 ≤ plane.old.height }
     requires strengths { AreStrengths strengths.now }
-    ensures { plane.new ≡ edge_filtered (luma_setting strengths.now qp.now) false left (top + 4) 16 plane.old }
+    ensures { plane.new ≡ edge_filtered (luma_setting (strength_along strengths.now) qp.now) false left (top + 4) 16 plane.old }
 {
     let mut lines = plane.rectangle::<16, 8, 128>(left, top);
     filter_luma(&mut lines, strengths, qp);

@@ -2,15 +2,15 @@ use Rattle.std.proofs.Common.{◌+◌, ◌*◌, sym, ap, ◌∙◌}
 use Rattle.std.specs.Prelude.{slice_index}
 use Rattle.avc_plane.specs.Plane.{sample}
 use Rattle.avc_deblock.specs.Line.{filtered}
-use Rattle.avc_deblock.specs.OneEdge.{luma_setting}
+use Rattle.avc_deblock.specs.OneEdge.{strength_along, luma_setting}
 use Rattle.avc_deblock.proofs.Blocks.{same_samples, filtered_across}
 use Rattle.avc_deblock.proofs.OnPlane.{vertical_block}
-use Rattle.avc_deblock.proofs.edge.vertical_luma.Goals as goal
+use Rattle.avc_deblock.proofs.luma_edge.vertical_luma.Goals as goal
 
 pub returns : goal.returns
 returns g c =
     let s = c.args.plane.now in
-    let setting = luma_setting c.args.strengths.now c.args.qp.now in
+    let setting = luma_setting (strength_along c.args.strengths.now) c.args.qp.now in
     let after = c.rows_of-after.result in
     c.set_rectangle.ensures
     ∙ sym (vertical_block setting c.args.left c.args.top 16 s c.rectangle-block.ensures.all (λ x y. slice_index after (8 * y + x)) c.requires.columns c.requires.rows

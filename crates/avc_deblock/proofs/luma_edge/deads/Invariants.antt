@@ -1,6 +1,6 @@
 use Rattle.std.proofs.Common.{◌≡◌, ◌<◌, ℕ, length, slice_index}
 use Rattle.std.specs.Prelude.{◌==◌, if◌then◌else◌}
-use Rattle.avc_deblock.proofs.edge.deads.Given as goal
+use Rattle.avc_deblock.proofs.luma_edge.deads.Given as goal
 
 abbrev pub invariant-loop-k : goal.invariant-loop-k
 invariant-loop-k l = record {

@@ -2,15 +2,15 @@ use Rattle.std.proofs.Common.{◌+◌, ◌*◌, arith, sym, ap, ◌∙◌}
 use Rattle.std.specs.Prelude.{slice_index}
 use Rattle.avc_plane.specs.Plane.{sample}
 use Rattle.avc_deblock.specs.Line.{filtered}
-use Rattle.avc_deblock.specs.OneEdge.{luma_setting}
+use Rattle.avc_deblock.specs.OneEdge.{strength_along, luma_setting}
 use Rattle.avc_deblock.proofs.Blocks.{same_samples}
 use Rattle.avc_deblock.proofs.OnPlane.{horizontal_block}
-use Rattle.avc_deblock.proofs.edge.horizontal_luma.Goals as goal
+use Rattle.avc_deblock.proofs.luma_edge.horizontal_luma.Goals as goal
 
 pub returns : goal.returns
 returns g c =
     let s = c.args.plane.now in
-    let setting = luma_setting c.args.strengths.now c.args.qp.now in
+    let setting = luma_setting (strength_along c.args.strengths.now) c.args.qp.now in
     let before = c.rectangle-lines.result in
     let after = c.filter_luma.new.t in
     c.set_rectangle.ensures

@@ -1,6 +1,6 @@
 use Rattle.std.proofs.Common.{◌≡◌, ◌<◌, ◌≤◌, ℕ, length, slice_index}
 use Rattle.avc_deblock.specs.Line.{tc0_of}
-use Rattle.avc_deblock.proofs.edge.tc0s.Given as goal
+use Rattle.avc_deblock.proofs.luma_edge.tc0s.Given as goal
 
 abbrev pub invariant-loop-k : goal.invariant-loop-k
 invariant-loop-k l = record {
