@@ -58,6 +58,42 @@ is_refused_and_resumes() {
     done <"$1.cuts"
 }
 
+# The unit of a slice of two macroblocks that is cut behind so many of its 58 bits, as octal escapes: rbsp_stop_one_bit and zeros come
+# behind them (7.3.2.11), and an 03 in front of each byte below 4 that follows two zero bytes (7.4.1.1).
+cut_slice() {
+    awk -v count="$1" 'BEGIN {
+        bits = substr("1000100010000100100100111001001100010100000000000000100101", 1, count) "1"
+        while (length(bits) % 8) bits = bits "0"
+        printf "\\145"
+        for (at = 1; at < length(bits); at += 8) {
+            byte = 0
+            for (k = 0; k < 8; k++) byte = 2 * byte + substr(bits, at + k, 1)
+            if (zeros == 2 && byte < 4) { printf "\\003"; zeros = 0 }
+            printf "\\%03o", byte
+            zeros = byte ? 0 : zeros + 1
+        }
+    }'
+}
+
+# Behind the sets of a 32x16 picture: without a bit the unit is dropped, since decoding has not begun; behind the header and the first
+# macroblock, 25 bits, a macroblock is missing; any other cut is Truncated; whole, the slice is the picture.
+is_cut_as_it_should() {
+    case $1 in
+    0) wanted='' ;;
+    25) wanted='refused unit 2: 22 MissingMacroblocks' ;;
+    58) wanted='' ;;
+    *) wanted='refused unit 2: 1 Truncated' ;;
+    esac
+    printf "\\000\\000\\000\\001\\147\\102\\300\\012\\332\\054\\100\\000\\000\\000\\001\\150\\316\\070\\200\\000\\000\\001$(cut_slice "$1")" |
+        "$program" decode >"$work/pictures" 2>"$work/told"
+    [ "$(cat "$work/told")" = "$wanted" ] || return 1
+    if [ "$1" = 58 ]; then
+        cmp -s "$work/pictures" "$work/two_macroblocks"
+    else
+        [ ! -s "$work/pictures" ]
+    fi
+}
+
 # The pieces of a stream with several IDR pictures, decoded one by one, give what the whole gives.
 pieces_decode_alike() {
     "$program" decode <"$1.264" >"$work/whole"
@@ -97,6 +133,17 @@ done
 
 for stream in "$here"/first_picture/*.264; do
     holds "each cut of ${stream#"$here"/}" is_refused_and_resumes "${stream%.264}"
+done
+
+# each luma row of two macroblocks, of which the second has 136, after the filter; then chroma
+LC_ALL=C awk 'BEGIN {
+    for (y = 0; y < 16; y++) for (x = 0; x < 32; x++) printf x < 15 ? "\200" : x == 15 ? "\202" : x == 16 ? "\206" : "\210"
+    for (k = 0; k < 256; k++) printf "\200"
+}' >"$work/two_macroblocks"
+bits=0
+while [ "$bits" -le 58 ]; do
+    holds "a slice of two macroblocks cut behind $bits bits" is_cut_as_it_should "$bits"
+    bits=$((bits + 1))
 done
 
 for stream in "$here"/encoder/*.264; do

@@ -14,6 +14,8 @@ mod same_macroblocks;
 #[cfg(test)]
 mod slice_headers;
 #[cfg(test)]
+mod want_of_memory;
+#[cfg(test)]
 mod written_slices;
 #[cfg(test)]
 mod written_syntax;

@@ -1,0 +1,134 @@
+// What stands after want of memory. Each call is tried once and, where a growth of it was refused, once more: with one growth refused,
+// whichever it is, the second gives what is wanted. With none refused the first does.
+use crate::written_syntax::{PPS, SPS};
+use avc_annexb::{Splitter, unescape};
+use avc_make::{BitMaker, cut_bits, write_pps, write_sps};
+use avc_neigh::Row;
+use avc_params::ParamTable;
+use avc_plane::Plane;
+use avc_tools::{cut, list_units, show_headers};
+use avc_types::OutOfMemory;
+use std::alloc::Global;
+use std::test::Fail;
+
+// A sequence parameter set of a 16x16 picture, a picture parameter set, and an IDR picture of one Intra 16x16 macroblock.
+const STREAM: [u8; 27] = [
+    0, 0, 0, 1, 0x67, 0x42, 0xC0, 0x0A, 0xDA, 0x71, 0, 0, 0, 1, 0x68, 0xCE, 0x38, 0x80, 0, 0, 1,
+    0x65, 0x88, 0x84, 0x93, 0xC0, 0,
+];
+
+const UNITS: &str = "0 4 6 7 3\n1 14 4 8 3\n2 21 5 5 3\n";
+
+const HEADERS: &str =
+    "0 sps 0 profile 66 level 10 size 16x16 refs 1 poc 2 dpb 16\n1 pps 0 sps 0 qp 26 refs 1 control 0 constrained 0\n2 slice 0 type I pps 0 frame 0 qp 26 idr 1\n";
+
+// What a call gives; where it wants memory, what it gives when it is made again.
+macro_rules! given {
+    ($call:expr) => {
+        match $call {
+            Ok(value) => value,
+            Err(_) => $call?,
+        }
+    };
+}
+
+#[test]
+fn calls_that_begin_anew(rt: HostRuntime) -> Result<(), Fail> {
+    let alloc = rt.alloc();
+    let body = given!(unescape(alloc, &[0x65, 0, 0, 3, 0]));
+    assert_eq!(rt; body.as_slice(), [0x65, 0, 0, 0].as_slice());
+    let sps = SPS;
+    let unit = given!(write_sps(alloc, &sps));
+    assert_eq!(rt;
+        unit.as_slice(),
+        [0x67, 0x42, 0xC0, 0x0A, 0xDA, 0x71].as_slice()
+    );
+    let unit = given!(write_pps(alloc, &PPS));
+    assert_eq!(rt; unit.as_slice(), [0x68, 0xCE, 0x38, 0x80].as_slice());
+    let bits = given!(cut_bits(alloc, &[0x88, 0x84, 0x93, 0xC0], 12));
+    assert_eq!(rt; bits.as_slice(), [0x88, 0x88].as_slice());
+    let row = given!(Row::new(alloc, 2));
+    assert!(rt; row.around(0).a.is_none());
+    let plane = given!(Plane::<32>::new(alloc, 16, 16));
+    assert_eq!(rt; plane.get(15, 15), 0);
+    Ok(())
+}
+
+#[test]
+fn texts_and_pieces(rt: HostRuntime) -> Result<(), Fail> {
+    let alloc = rt.alloc();
+    assert_eq!(rt; given!(list_units(alloc, &STREAM)).as_str(), UNITS);
+    assert_eq!(rt; given!(show_headers(alloc, &STREAM)).as_str(), HEADERS);
+    let pieces = given!(cut(alloc, &STREAM));
+    assert_eq!(rt; pieces.len(), 1);
+    Ok(())
+}
+
+// The number of units of the stream.
+fn units_of(splitter: &mut Splitter<1000>) -> Result<usize, OutOfMemory> {
+    splitter.feed(&STREAM)?;
+    splitter.finish()?;
+    let mut units = 0;
+    for _ in 0..4 {
+        units += usize::from(splitter.next_unit().is_some());
+    }
+    Ok(units)
+}
+
+#[test]
+fn splitters_want_memory_from_then_on(rt: HostRuntime) -> Result<(), Fail> {
+    let mut splitter = Splitter::<1000>::new(rt.alloc());
+    let units = match units_of(&mut splitter) {
+        Ok(units) => units,
+        Err(_) => {
+            assert!(rt; splitter.feed(&[]).is_err());
+            assert!(rt; splitter.finish().is_err());
+            assert!(rt; splitter.next_unit().is_none());
+            let mut anew = Splitter::<1000>::new(rt.alloc());
+            units_of(&mut anew)?
+        }
+    };
+    assert_eq!(rt; units, 3);
+    Ok(())
+}
+
+#[test]
+fn tables_stay_as_they_are(rt: HostRuntime) -> Result<(), Fail> {
+    let mut table = ParamTable::new(rt.alloc());
+    let sps = [0x42, 0xC0, 0x0A, 0xDA, 0x71];
+    let pps = [0xCE, 0x38, 0x80];
+    if table.put_sps(&sps).is_err() {
+        assert!(rt; table.sps(0).is_none());
+        table.put_sps(&sps)?;
+    }
+    if table.put_pps(&pps).is_err() {
+        assert!(rt; table.pps(0).is_none());
+        table.put_pps(&pps)?;
+    }
+    assert!(rt; table.sps(0).is_some());
+    assert!(rt; table.pps(0).is_some());
+    Ok(())
+}
+
+// Writes more bits than the first growth has room for, and says whether memory was found for all.
+fn writes(maker: &mut BitMaker) -> bool {
+    for _ in 0..100 {
+        if maker.put(32, 5).is_err() {
+            return false;
+        }
+    }
+    true
+}
+
+#[test]
+fn bit_makers_want_memory_from_then_on(rt: HostRuntime) -> Result<(), Fail> {
+    let mut maker = BitMaker::new(rt.alloc());
+    if !writes(&mut maker) {
+        assert!(rt; maker.flag(true).is_err());
+        assert!(rt; maker.put(0, 0).is_err());
+        maker = BitMaker::new(rt.alloc());
+        assert!(rt; writes(&mut maker));
+    }
+    assert_eq!(rt; maker.len(), 3200);
+    Ok(())
+}
