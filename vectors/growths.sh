@@ -92,8 +92,12 @@ refused_in_program() {
 
 # a test, each growth refused: it ends well, or in the want of memory of a growth that is its own
 refused_in_test() {
-    tests=$1
+    tests=$top/crates/$1/out/$1_tests
     test=$2
+    if [ ! -x "$tests" ] && ! (cd "$top/crates/$1" && rt test) >"$work/built" 2>&1; then
+        cat "$work/built"
+        exit 1
+    fi
     COUNTED=$work/count LD_PRELOAD=$work/refuse.so "$tests" "$test" >/dev/null 2>&1
     growths=$(cat "$work/count")
     number=1
@@ -116,11 +120,11 @@ for name in cases/held_before_refusal corners/operations_k39; do
     refused_in_program "$here/$name.264" cut 0
 done
 
-# The tests' programs are those that the gate has built.
+# The tests' programs are those that the gate has built, or are built now.
 for test in calls_that_begin_anew texts_and_pieces splitters_want_memory_from_then_on tables_stay_as_they_are bit_makers_want_memory_from_then_on; do
-    refused_in_test "$top/crates/avc_tests/out/avc_tests_tests" "want_of_memory::$test"
+    refused_in_test avc_tests "want_of_memory::$test"
 done
-refused_in_test "$top/crates/avc_run/out/avc_run_tests" tests::decodes_again_after_want_of_memory
+refused_in_test avc_run tests::decodes_again_after_want_of_memory
 
 echo "$passed passed, $failed failed"
 [ "$failed" = 0 ] && [ "$passed" -gt 0 ]
