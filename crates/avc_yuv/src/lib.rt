@@ -4,6 +4,7 @@
 mod bytes;
 mod fault;
 mod window;
+mod window_rows;
 mod write;
 
 pub use bytes::write_bytes;

@@ -1,18 +1,21 @@
 ghost use Rattle.std.specs.Prelude.{◌≡◌, ◌+◌, ◌-◌, ◌*◌, ◌/◌, ◌<◌, ◌≤◌, ◌^◌, true, nat_le, length, take, IfErr, OnOk};
 ghost use Rattle.std.specs.Io.KnownBytes.{Appends, Keeps};
 ghost use Rattle.avc_types.specs.Whole.{IsWhole};
-ghost use Rattle.avc_yuv.specs.I420.{i420, window, shown_width, shown_height};
-ghost use Rattle.avc_yuv.specs.Writing.{Writes};
+ghost use Rattle.avc_yuv.specs.I420.{i420, shown_width, shown_height};
 
-use crate::bytes::write_bytes;
 use crate::fault::WriteFault;
 use crate::window::Window;
+use crate::window_rows::write_window;
 use avc_types::Picture;
 use std::io::Write;
 
+/// How many bytes of rows are written at once, where a row is not as long as the plane's.
+const ROOM: usize = 131_072;
+
 /// Writes what is shown of a picture as I420: the samples of its crop window, luma, Cb and Cr, each row by row, one byte a
-/// sample. It stops at the first `write` that answers an error, also one that tells of an interruption, or that takes no byte.
-/// Of a picture whose planes or crop do not fit its size nothing is written.
+/// sample. A plane whose rows are shown from end to end goes out in one piece, of another one as many rows as 128 KiB hold. It
+/// stops at the first `write` that answers an error, also one that tells of an interruption, or that takes no byte. Of a picture
+/// whose planes or crop do not fit its size nothing is written.
 pub fn write_i420<W: Write>(picture: &Picture, writer: &mut W) -> Result<(), WriteFault>
     ensures ok { IsWhole picture.now → OnOk result (Appends (W.contents writer.old) (W.contents writer.new) (i420 picture.now)) }
     ensures before_all { IsWhole picture.now → IfErr result (λ fault. fault.written < length (i420 picture.now)) }
@@ -20,11 +23,26 @@ pub fn write_i420<W: Write>(picture: &Picture, writer: &mut W) -> Result<(), Wri
         (take fault.written (i420 picture.now))) }
     ensures unfit { (IsWhole picture.now → ⊥) → Keeps (W.contents writer.old) (W.contents writer.new) }
 {
-    if is_whole(picture) {
-        write_planes(picture, writer)
-    } else {
-        Ok(())
+    if !is_whole(picture) {
+        return Ok(());
     }
+    if picture.crop.left == 0 && picture.crop.right == 0 {
+        return write_planes(picture, &mut [], writer);
+    }
+    write_gathered(picture, writer)
+}
+
+// The rows are gathered in a call of its own, since their room is cleared at entry.
+#[inline(never)]
+fn write_gathered<W: Write>(picture: &Picture, writer: &mut W) -> Result<(), WriteFault>
+    requires { IsWhole picture.now }
+    ensures ok { OnOk result (Appends (W.contents writer.old) (W.contents writer.new) (i420 picture.now)) }
+    ensures before_all { IfErr result (λ fault. fault.written < length (i420 picture.now)) }
+    ensures err { IfErr result (λ fault. Appends (W.contents writer.old) (W.contents writer.new)
+        (take fault.written (i420 picture.now))) }
+{
+    let mut room = [0; ROOM];
+    write_planes(picture, &mut room, writer)
 }
 
 // Whether the planes and the crop fit the size.
@@ -50,7 +68,12 @@ fn fits(before: u32, after: u32, size: u32) -> bool
     u64::from(before) + u64::from(after) <= u64::from(size)
 }
 
-fn write_planes<W: Write>(picture: &Picture, writer: &mut W) -> Result<(), WriteFault>
+// In `room` rows are gathered.
+fn write_planes<W: Write>(
+    picture: &Picture,
+    room: &mut [u8],
+    writer: &mut W,
+) -> Result<(), WriteFault>
     requires { IsWhole picture.now }
     ensures ok { OnOk result (Appends (W.contents writer.old) (W.contents writer.new) (i420 picture.now)) }
     ensures before_all { IfErr result (λ fault. fault.written < length (i420 picture.now)) }
@@ -75,30 +98,8 @@ fn write_planes<W: Write>(picture: &Picture, writer: &mut W) -> Result<(), Write
         width: luma.width / 2,
         height: luma.height / 2,
     };
-    let written = write_window(picture.luma.as_slice(), luma, writer, 0)?;
-    let written = write_window(picture.cb.as_slice(), chroma, writer, written)?;
-    write_window(picture.cr.as_slice(), chroma, writer, written)?;
+    let written = write_window(picture.luma.as_slice(), luma, room, writer, 0)?;
+    let written = write_window(picture.cb.as_slice(), chroma, room, writer, written)?;
+    write_window(picture.cr.as_slice(), chroma, room, writer, written)?;
     Ok(())
-}
-
-// `before` bytes went out already, and so many are out afterwards.
-fn write_window<W: Write>(
-    samples: &[u8],
-    of: Window,
-    writer: &mut W,
-    before: u64,
-) -> Result<u64, WriteFault>
-    requires columns { of.left + of.width ≤ of.row_length }
-    requires last { of.top + of.height < 2 ^ 64 }
-    requires rows { (of.top + of.height) * of.row_length ≤ length samples.now }
-    requires room { before + of.width * of.height < 2 ^ 64 }
-    ensures { Writes before (window of.row_length samples.now of.left of.top of.width of.height)
-        (W.contents writer.old) (W.contents writer.new) result }
-{
-    let mut written = before;
-    for row in 0..of.height {
-        let start = (of.top + row) * of.row_length + of.left;
-        written = write_bytes(&samples[start..start + of.width], written, writer)?;
-    }
-    Ok(written)
 }

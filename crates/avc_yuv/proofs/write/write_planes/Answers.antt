@@ -1,6 +1,7 @@
-use Rattle.std.proofs.Common.{◌≡◌, ◌/◌, length, Err, arith, rules, subst, ◌*◌, ◌<◌, ◌^◌}
+use Rattle.std.proofs.Common.{◌≡◌, ◌/◌, length, Err, ap, ◌∙◌, arith, rules, subst, ◌*◌, ◌<◌, ◌^◌}
 use Rattle.avc_yuv.specs.I420.{shown_width, shown_height}
 use Rattle.avc_yuv.proofs.Parts.{room, length-window, cb_failed, cr_failed}
+use Rattle.avc_yuv.proofs.Windows.{chroma_rows}
 use Rattle.avc_yuv.proofs.write.write_planes.Goals as goal
 
 pub write_window-requires-2-clause-room : goal.write_window-requires-2-clause-room
@@ -39,3 +40,8 @@ returns-in_err-write_window-clause-err g c =
     cr_failed c.args.picture.now c.as_slice.result.now c.as_slice-2.result.now c.as_slice-3.result.now _ _ _ _ c.in_ok-written.written c.in_ok-written-2.written
     c.in_err-write_window.field-0.0 c.from_residual-in_err-write_window.result is
     c.as_slice.ensures c.as_slice-2.ensures c.as_slice-3.ensures c.in_ok-written.ensures c.in_ok-written-2.ensures c.in_err-write_window.ensures
+
+pub write_window-requires-3-clause-rows : goal.write_window-requires-3-clause-rows
+write_window-requires-3-clause-rows g c =
+    let p = c.args.picture.now in
+    chroma_rows (p.crop).top (p.crop).bottom p.width p.height (length c.as_slice-3.result.now) (search rules) (ap length c.as_slice-3.ensures ∙ c.requires.cr)

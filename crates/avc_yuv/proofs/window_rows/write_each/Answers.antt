@@ -2,7 +2,7 @@ use Rattle.std.proofs.Common.{◌≡◌, ◌+◌, ◌*◌, Err, sym, ap, ◌∙�
 use Rattle.std.specs.Io.KnownBytes.{Appends}
 use Rattle.avc_yuv.specs.I420.{window, part_of_row}
 use Rattle.avc_yuv.proofs.Parts.{next_row, row_failed, row_inside, length-rows, length-part_of_row}
-use Rattle.avc_yuv.proofs.write.write_window.Goals as goal
+use Rattle.avc_yuv.proofs.window_rows.write_each.Goals as goal
 
 pub returns-in_err-written : goal.returns-in_err-written
 returns-in_err-written g c =
