@@ -1,8 +1,9 @@
--- A worked example of a cropped picture.
-use Rattle.std.specs.Prelude.{◌≡◌, ◌*◌, ◌++◌, replicate, refl}
+-- Worked examples: a cropped picture, and rows in memory.
+use Rattle.std.specs.Prelude.{◌≡◌, ◌*◌, [], ◌∷◌, ◌++◌, replicate, refl}
 use Rattle.std.specs.List.{range_with_len, flat_map}
 use Rattle.avc_types.specs.declared.picture.Picture.{Picture}
 use Rattle.avc_yuv.specs.I420.{i420}
+use Rattle.avc_yuv.specs.Copying.{laid}
 
 -- 16x16 of which 10x10 are shown; luma sample (x, y) is 16 y + x
 abbrev rising : Picture
@@ -17,3 +18,7 @@ rising = record {
 
 shown : i420 rising ≡ flat_map (λ y. range_with_len (16 * y) 10) (range_with_len 0 10) ++ replicate 25 0x40 ++ replicate 25 0xC0
 shown = refl
+
+-- two rows of three bytes in memory, five bytes apart
+laid_apart : laid 5 ((1 ∷ 2 ∷ 3 ∷ []) ∷ (4 ∷ 5 ∷ 6 ∷ []) ∷ []) (replicate 9 0xFF) ≡ 1 ∷ 2 ∷ 3 ∷ 0xFF ∷ 0xFF ∷ 4 ∷ 5 ∷ 6 ∷ 0xFF ∷ []
+laid_apart = refl

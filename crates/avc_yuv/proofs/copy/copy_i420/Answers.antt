@@ -1,0 +1,24 @@
+use Rattle.std.proofs.Common.{arith}
+use Rattle.avc_yuv.proofs.Copying.{all_copied, length-i420}
+use Rattle.avc_yuv.proofs.copy.copy_i420.Goals as goal
+
+pub copy_dense-cb-requires-clause-room : goal.copy_dense-cb-requires-clause-room
+copy_dense-cb-requires-clause-room c =
+    let all = length-i420 c.args.picture.now c.window_of-luma.result c.window_of-chroma.result c.window_of-luma.ensures.window c.window_of-chroma.ensures.window in
+    omega (arith, all, c.requires.room)
+
+pub copy_dense-cr-requires-clause-room : goal.copy_dense-cr-requires-clause-room
+copy_dense-cr-requires-clause-room c =
+    let all = length-i420 c.args.picture.now c.window_of-luma.result c.window_of-chroma.result c.window_of-luma.ensures.window c.window_of-chroma.ensures.window in
+    omega (arith, all, c.requires.room, c.copy_dense-cb.ensures.place, c.copy_dense-cb.ensures.same_length)
+
+pub copy_dense-requires-clause-room : goal.copy_dense-requires-clause-room
+copy_dense-requires-clause-room c =
+    let all = length-i420 c.args.picture.now c.window_of-luma.result c.window_of-chroma.result c.window_of-luma.ensures.window c.window_of-chroma.ensures.window in
+    omega (arith, all, c.requires.room, c.copy_dense-cb.ensures.place, c.copy_dense-cb.ensures.same_length, c.copy_dense-cr.ensures.place, c.copy_dense-cr.ensures.same_length)
+
+pub returns : goal.returns
+returns c =
+    all_copied c.args.picture.now c.window_of-luma.result c.window_of-chroma.result _ _ _ c.args.out.now _ _ _ _ _ c.window_of-luma.ensures.window c.window_of-chroma.ensures.window
+    c.as_slice.ensures c.as_slice-2.ensures c.as_slice-3.ensures c.copy_dense-cb.ensures.place c.copy_dense-cr.ensures.place
+    c.copy_dense-cb.ensures.samples c.copy_dense-cr.ensures.samples c.copy_dense.ensures.samples

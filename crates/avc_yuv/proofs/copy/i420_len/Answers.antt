@@ -1,0 +1,13 @@
+use Rattle.std.proofs.Common.{arith}
+use Rattle.avc_yuv.proofs.Copying.{length-i420}
+use Rattle.avc_yuv.proofs.copy.i420_len.Goals as goal
+
+pub returns : goal.returns
+returns c =
+    omega (
+      arith,
+      length-i420 c.args.picture.now c.window_of-luma.result c.window_of-chroma.result c.window_of-luma.ensures.window c.window_of-chroma.ensures.window,
+      c.area.ensures.is,
+      c.area-2.ensures.is,
+      c.area-3.ensures.is,
+    )

@@ -1,0 +1,7 @@
+/// A colour component of a picture (6.2).
+#[derive(Clone, Copy, Debug, PartialEq, Eq)]
+pub enum Component {
+    Luma,
+    Cb,
+    Cr,
+}
