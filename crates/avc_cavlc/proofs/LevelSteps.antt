@@ -1,15 +1,17 @@
 -- One level more.
-use Rattle.std.proofs.Common.{◌≡◌, ℕ, zero, suc, ◌+◌, ◌≤◌, ℤ, Bool, false, List, [], ◌∷◌, ◌++◌, length, refl, ap, ◌∙◌, sym, arith, append_assoc, append-nil, length-append}
-use Rattle.std.specs.Prelude.{Result, Ok, Err, ◌==◌}
+use Rattle.std.proofs.Common.{◌≡◌, ℕ, zero, suc, ◌+◌, ◌-◌, ◌≤◌, ℤ, ◌<◌, Bool, false, List, [], ◌∷◌, ◌++◌, length, take, set, refl, ap, subst, sym, arith, append_assoc, append-nil, max}
+use Rattle.std.specs.Prelude.{Result, Ok, Err, ◌==◌, nat_abs}
 use Rattle.std.specs.List.{All}
+use Rattle.std.proofs.lemmas.List.{take_more_set}
 use Rattle.std.proofs.lemmas.List.Elements.{All-append}
 use Rattle.avc_types.specs.declared.fault.Fault.{Fault}
-use Rattle.avc_bits.specs.Bits.{Bits, ◌>>=◌, give, passed}
+use Rattle.avc_bits.specs.Bits.{Bits, ◌>>=◌, give, passed, times}
+use Rattle.avc_vlc.specs.declared.token.Token.{Token}
 use Rattle.avc_bits.specs.Codes.{u, zeros_before_one}
 use Rattle.avc_types.specs.declared.fault.Fault.TheVariants.{BadCode}
 use Rattle.std.proofs.lemmas.Bool.{ne_eqb}
-use Rattle.avc_cavlc.specs.Block.{level, level_code, level_of_code, levels, next_suffix_length, suffix_size}
-use Rattle.avc_cavlc.specs.Steps.{levels_after}
+use Rattle.avc_cavlc.specs.Block.{level, level_code, level_of_code, levels, next_suffix_length, suffix_size, token_levels, trailing_one}
+use Rattle.avc_cavlc.specs.Steps.{levels_after, raised}
 
 -- the others after one
 after_level : (r : Result (List ℤ × Bits) Fault) (done : List ℤ) (l : ℤ) (b : Bits) →
@@ -27,16 +29,21 @@ level_fault done n left sl above_one f b is_left is = rw (is_left, is) refl
 pub levels_none : (done : List ℤ) (left sl : ℕ) (above_one : Bool) (b : Bits) → left ≡ 0 → levels_after done left sl above_one b ≡ Ok (done, b)
 levels_none done left sl above_one b is_left = rw is_left (ap (λ l. Ok (l, b)) (append-nil done))
 
--- all are levels
-pub all_more : (P : ℤ → Type 0) (xs : List ℤ) (x : ℤ) → All P xs → P x → All P (xs ++ x ∷ [])
-all_more P xs x all here = All-append P xs (x ∷ []) all (one x here)
-  where
-    one : (x : ℤ) → P x → All P (x ∷ [])
-    one x here zero d within = here
-    one x here (suc k) d within = absurd (omega arith)
+-- all levels are trailing ones
+pub token_ones : (t : Token) (ones : List ℤ) (b after : Bits) → t.ones ≡ t.total → times t.ones trailing_one b ≡ Ok (ones, after) → token_levels t b ≡ Ok (ones, after)
+token_ones t ones b after is read =
+    let none : t.total - t.ones ≡ 0 = omega arith in
+    rw (read, none) (ap (λ l. Ok (l, after)) (append-nil ones))
 
-pub length_more : (xs : List ℤ) (x : ℤ) → length (xs ++ x ∷ []) ≡ length xs + 1
-length_more xs x = length-append xs (x ∷ []) ∙ omega arith
+-- ---- the array of levels
+
+one_level : (P : ℤ → Type 0) (x : ℤ) → P x → All P (x ∷ [])
+one_level P x here zero d within = here
+one_level P x here (suc k) d within = absurd (omega arith)
+
+-- one level more, put behind those that are done
+pub all_more : (P : ℤ → Type 0) (xs : List ℤ) (k : ℕ) (x : ℤ) → k < length xs → All P (take k xs) → P x → All P (take (k + 1) (set xs k x))
+all_more P xs k x within all here = subst (All P) (sym (take_more_set xs k x within)) (All-append P (take k xs) (x ∷ []) all (one_level P x here))
 
 -- ---- a level with a short prefix
 
@@ -49,3 +56,15 @@ short_suffix prefix sl few =
 pub level_short : (sl : ℕ) (above_one : Bool) (prefix suffix : ℕ) (b after : Bits) → prefix ≤ 13 → zeros_before_one 15 BadCode b ≡ Ok (prefix, passed b (prefix + 1)) →
     u sl (passed b (prefix + 1)) ≡ Ok (suffix, after) → level sl above_one b ≡ Ok (level_of_code (level_code prefix sl suffix above_one), after)
 level_short sl above_one prefix suffix b after few is_prefix is_suffix = rw (is_prefix, short_suffix prefix sl few, is_suffix) refl
+
+-- ---- suffixLength
+
+pub raised_first : (sl least size : ℕ) (l : ℤ) → least ≡ max sl 1 → size ≡ nat_abs l → raised least size ≡ next_suffix_length sl l
+raised_first zero least size l is same = rw (is, same) refl
+raised_first (suc sl) least size l is same =
+    let e : least ≡ suc sl = omega arith in
+    let some : (suc sl == 0) ≡ false = ne_eqb (suc sl) 0 (omega arith) in
+    rw (e, same, some) refl
+
+pub raised_next : (sl size : ℕ) (l : ℤ) → 1 ≤ sl → size ≡ nat_abs l → raised sl size ≡ next_suffix_length sl l
+raised_next sl size l some same = raised_first sl sl size l (omega arith) same

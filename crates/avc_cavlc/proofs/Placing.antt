@@ -1,11 +1,12 @@
 -- One value more is put in its place.
-use Rattle.std.proofs.Common.{◌≡◌, ℕ, zero, suc, ◌+◌, ◌-◌, ◌<◌, ◌≤◌, ℤ, pos, false, cond, List, [], ◌∷◌, ◌++◌, length, take, drop, set, get_or, refl, ap, subst, ◌∙◌, sym, arith, append_assoc, length-set, inl, inr, nat_abs}
+use Rattle.std.proofs.Common.{◌≡◌, ℕ, zero, suc, ◌+◌, ◌-◌, ◌<◌, ◌≤◌, ℤ, pos, false, cond, List, [], ◌∷◌, ◌++◌, length, reverse, take, drop, set, get_or, refl, ap, subst, ◌∙◌, sym, arith, append_assoc, length-set, inl, inr, nat_abs}
 use Rattle.std.specs.Prelude.{Result, Ok, Err, replicate, not, ◌==◌}
 use Rattle.std.specs.List.{sum_by}
 use Rattle.std.proofs.lemmas.Bool.{ne_eqb, cases_lt, cases_eq}
 use Rattle.std.proofs.lemmas.Int.{ints}
 use Rattle.std.proofs.lemmas.List.{length-replicate, drop-replicate, take-replicate, take-take, take-set-le, drop-set, drop-take, take-append-drop, drop-drop, get_or-set_same, get_or-set_other, get_or-replicate, get_or_past}
 use Rattle.std.proofs.lemmas.List.Sums.{sum_by-append}
+use Rattle.std.proofs.lemmas.Grind.{reverse_onto}
 use Rattle.avc_types.specs.declared.fault.Fault.{Fault}
 use Rattle.avc_bits.specs.Bits.{Bits, ◌>>=◌, give}
 use Rattle.avc_cavlc.specs.Block.{IsLevel, IsSmall, each_after_zeros, run, runs}
@@ -44,6 +45,38 @@ first_runs max values n gap b long none = by_runs (runs n gap b) refl
     by_runs (Ok p) is =
         let whole : length (each_after_zeros values p.0) ≡ n + gap = runs_length n values gap p.0 b p.1 long none is in
         rw is (ap (λ k. Ok (each_after_zeros values p.0 ++ replicate (max - k) (pos 0), p.1)) whole)
+
+-- ---- the values that are left when no run is coded any more
+
+run_none : (n : ℕ) (b : Bits) → run n 0 b ≡ Ok (0, b)
+run_none zero b = refl
+run_none (suc n) b = refl
+
+pub last_first : (done values : List ℤ) (v : ℤ) → reverse values ++ (v ∷ done) ≡ reverse (v ∷ values) ++ done
+last_first done values v = sym (append_assoc (reverse values) (v ∷ []) done) ∙ ap (λ l. l ++ done) (sym (reverse_onto values v []))
+
+-- no zeros are left
+side_by_side : (done values : List ℤ) (n : ℕ) (b : Bits) → length values ≡ n → placed_before done values n 0 b ≡ Ok (reverse values ++ done, b)
+side_by_side done [] n b long = no_run done [] n 0 b (omega arith) refl
+side_by_side done (v ∷ values) zero b long = absurd (omega arith)
+side_by_side done (v ∷ values) (suc n) b long =
+    run_more done (v ∷ values) values v n (suc n) 0 0 b b refl refl (run_none n b)
+    ∙ side_by_side (v ∷ done) values n b (omega arith)
+    ∙ ap (λ l. Ok (l, b)) (last_first done values v)
+
+-- one value is left, which has all zeros before it
+last_value : (done : List ℤ) (v : ℤ) (zeros_left : ℕ) (b : Bits) → placed_before done (v ∷ []) 1 zeros_left b ≡ Ok (replicate zeros_left (pos 0) ++ (v ∷ done), b)
+last_value done v zeros_left b =
+    run_more done (v ∷ []) [] v 0 1 zeros_left zeros_left b b refl refl refl
+    ∙ no_run (replicate zeros_left (pos 0) ++ (v ∷ done)) [] 0 (zeros_left - zeros_left) b refl refl
+
+pub no_runs : (done values : List ℤ) (n zeros_left : ℕ) (b : Bits) → length values ≡ n → 1 ≤ n → (2 ≤ n → zeros_left ≡ 0) →
+    placed_before done values n zeros_left b ≡ Ok (replicate zeros_left (pos 0) ++ (reverse values ++ done), b)
+no_runs done [] n zeros_left b long some none = absurd (omega arith)
+no_runs done (v ∷ []) n zeros_left b long some none = let one : n ≡ 1 = omega arith in rw one (last_value done v zeros_left b)
+no_runs done (v ∷ w ∷ values) n zeros_left b long some none =
+    let zero_left : zeros_left ≡ 0 = none (omega arith) in
+    rw zero_left (side_by_side done (v ∷ w ∷ values) n b long)
 
 -- ---- the array
 
@@ -89,6 +122,14 @@ no_weight (suc n) = sum_by-append weight (pos 0 ∷ []) (replicate n (pos 0)) �
 
 pub no_coefficients : (n : ℕ) → total_coeff (replicate n (pos 0)) ≡ 0
 no_coefficients n = no_weight n
+
+-- so many zeros in front count for nothing
+pub front_none : (n : ℕ) (levels : List ℤ) → take n levels ≡ replicate n (pos 0) → total_coeff levels ≡ total_coeff (drop n levels)
+front_none n levels front =
+    let both : total_coeff (take n levels ++ drop n levels) ≡ total_coeff (take n levels) + total_coeff (drop n levels) = sum_by-append weight (take n levels) (drop n levels) in
+    let none : total_coeff (take n levels) ≡ 0 = ap total_coeff front ∙ no_coefficients n in
+    let all : total_coeff levels ≡ total_coeff (take n levels ++ drop n levels) = ap total_coeff (sym (take-append-drop n levels)) in
+    omega (arith, both, none, all)
 
 pub coefficient_more : (gap : ℕ) (v : ℤ) (done : List ℤ) → IsLevel v → total_coeff (replicate gap (pos 0) ++ v ∷ done) ≡ total_coeff done + 1
 coefficient_more gap v done is =

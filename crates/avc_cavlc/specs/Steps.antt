@@ -1,16 +1,31 @@
 -- What is left to read of a block when some of it has been read.
-use Rattle.std.specs.Prelude.{◌≡◌, ℕ, ℤ, Bool, List, ◌++◌, Result, Ok, Err, MatchResult}
+use Rattle.std.specs.Prelude.{◌≡◌, ℕ, ◌+◌, ◌-◌, ◌*◌, ◌^◌, ℤ, pos, neg_ℤ, Bool, ◌&&◌, nat_lt, if◌then◌else◌, List, ◌++◌, Result, Ok, Err, MatchResult}
 use Rattle.avc_types.specs.declared.fault.Fault.{Fault}
 use Rattle.avc_bits.specs.Reader.{reader_bits, reader_bytes}
 use Rattle.avc_bits.specs.declared.reader.BitReader.{BitReader}
 use Rattle.avc_bits.specs.Bits.{Read, ◌>>=◌, give}
-use Rattle.avc_cavlc.specs.Block.{each_after_zeros, levels, placed, runs}
+use Rattle.avc_cavlc.specs.Block.{each_after_zeros, level_of_code, levels, placed, runs}
 
 -- What was read into a place is what this part of the syntax reads, and the reader goes on after it.
 abbrev pub ReadsInto : {V A : Type 0} → Result V Fault → A → Read A → BitReader → BitReader → Type 0
 ReadsInto result value read old new = MatchResult result
     (λ _. (read (reader_bits old) ≡ Ok (value, reader_bits new)) × (reader_bytes new ≡ reader_bytes old))
     (λ fault. read (reader_bits old) ≡ Err fault)
+
+-- The levelCode that was read is that of the level that this part of the syntax reads.
+abbrev pub ReadsCode : Result ℕ Fault → Read ℤ → BitReader → BitReader → Type 0
+ReadsCode result read old new = MatchResult result
+    (λ code. (read (reader_bits old) ≡ Ok (level_of_code code, reader_bits new)) × (reader_bytes new ≡ reader_bytes old))
+    (λ fault. read (reader_bits old) ≡ Err fault)
+
+-- a trailing one with this sign bit (9.2.2)
+abbrev pub one_of_sign : Bool → ℤ
+one_of_sign negative = if negative then neg_ℤ (pos 1) else pos 1
+
+-- suffixLength for the level after one of this size, where it is at least 1 (9.2.2)
+abbrev pub raised : (suffix_length size : ℕ) → ℕ
+raised suffix_length size =
+    if nat_lt suffix_length 6 && nat_lt (3 * 2 ^ (suffix_length - 1)) size then suffix_length + 1 else suffix_length
 
 -- n levels, which come after those that are done
 abbrev pub levels_after : (done : List ℤ) → (n suffix_length : ℕ) → (above_one : Bool) → Read (List ℤ)

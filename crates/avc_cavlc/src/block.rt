@@ -7,7 +7,6 @@ ghost use Rattle.avc_cavlc.specs.Steps.{ReadsInto};
 
 use crate::level::read_levels;
 use crate::runs::read_placed;
-use crate::values::Values;
 use avc_bits::BitReader;
 use avc_types::{Fault, Levels};
 use avc_vlc::{read_coeff_token, read_total_zeros};
@@ -70,12 +69,15 @@ fn read_from(reader: &mut BitReader, nc: i8, max: u8, block: &mut [i16; 16]) -> 
 {
     let token = read_coeff_token(reader, nc)?;
     let total = token.total;
+    if total == 0 {
+        return Ok(0);
+    }
     if total > max {
         return Err(Fault::TooManyCoefficients);
     }
-    let mut values = Values::new();
+    let mut values = [0; 16];
     read_levels(reader, token, &mut values)?;
-    let zeros = if total == 0 || total == max {
+    let zeros = if total == max {
         0
     } else {
         read_total_zeros(reader, total, max == 4)?
@@ -83,6 +85,6 @@ fn read_from(reader: &mut BitReader, nc: i8, max: u8, block: &mut [i16; 16]) -> 
     if zeros > max - total {
         return Err(Fault::TooManyCoefficients);
     }
-    read_placed(reader, &values, zeros, block)?;
+    read_placed(reader, &values, total, zeros, block)?;
     Ok(total)
 }

@@ -1,12 +1,10 @@
 //! Levels that are not 0 (9.2.2).
-ghost use Rattle.std.specs.Prelude.{◌≡◌, ◌+◌, ◌-◌, ◌*◌, ◌^◌, ◌≤◌, ◌<◌, ℤ, pos, neg_ℤ, ◌≤ℤ◌, Bool, List, [], ◌++◌, length, nat_abs, IfOk, IsTrue, OnErr, All};
+ghost use Rattle.std.specs.Prelude.{◌≡◌, ◌+◌, ◌-◌, ◌/◌, ◌^◌, ◌≤◌, ◌<◌, ℤ, pos, take, nat_abs, IfOk, IsTrue, All};
 ghost use Rattle.avc_bits.specs.Bits.{times};
-ghost use Rattle.avc_bits.specs.Reader.{Reads};
 ghost use Rattle.avc_vlc.specs.Reading.{IsToken};
-ghost use Rattle.avc_cavlc.specs.Block.{IsLevel, level, level_code, level_of_code, levels, next_suffix_length, suffix_size, token_levels, trailing_one};
-ghost use Rattle.avc_cavlc.specs.Steps.{ReadsInto, levels_after};
+ghost use Rattle.avc_cavlc.specs.Block.{IsLevel, level, level_code, level_of_code, next_suffix_length, suffix_size, token_levels, trailing_one};
+ghost use Rattle.avc_cavlc.specs.Steps.{ReadsCode, ReadsInto, levels_after, one_of_sign, raised};
 
-use crate::values::Values;
 use avc_bits::BitReader;
 use avc_types::Fault;
 use avc_vlc::Token;
@@ -14,116 +12,113 @@ use avc_vlc::Token;
 /// The greatest suffixLength.
 const MOST_SUFFIX_BITS: u32 = 6;
 
-/// Reads the levels of a block that are not 0, the highest frequency first, into values of which there are none yet.
-#[inline]
+/// Reads the levels of a block that are not 0, the highest frequency first, into the first of the values.
+#[inline(always)]
 pub(crate) fn read_levels(
     reader: &mut BitReader,
     token: Token,
-    values: &mut Values,
+    values: &mut [i16; 16],
 ) -> Result<(), Fault>
     requires token { IsToken token }
-    requires none { values.old ≡ [] }
-    ensures read { ReadsInto result values.new (token_levels token) reader.old reader.new }
-    ensures size { IfOk result (λ _. All IsLevel values.new) }
-    ensures count { IfOk result (λ _. length values.new ≡ token.total) }
+    ensures read { ReadsInto result (take token.total values.new) (token_levels token) reader.old reader.new }
+    ensures size { IfOk result (λ _. All IsLevel (take token.total values.new)) }
 {
     read_trailing_ones(reader, token.ones, values)?;
+    if token.ones == token.total {
+        return Ok(());
+    }
     let few_ones = token.ones < 3;
     let suffix_length = if token.total > 10 && few_ones { 1 } else { 0 };
-    read_others(
-        reader,
-        values,
-        token.total - token.ones,
-        suffix_length,
-        few_ones,
-    )
+    let ones = token.ones as usize;
+    let total = token.total as usize;
+    read_others(reader, values, ones, total, suffix_length, few_ones)
 }
 
-#[inline]
-fn read_trailing_ones(reader: &mut BitReader, ones: u8, values: &mut Values) -> Result<(), Fault>
+// The trailing ones, by one look at their signs, into the first of the values.
+#[inline(always)]
+fn read_trailing_ones(reader: &mut BitReader, ones: u8, values: &mut [i16; 16]) -> Result<(), Fault>
     requires few { ones ≤ 3 }
-    requires none { values.old ≡ [] }
-    ensures read { ReadsInto result values.new (times ones trailing_one) reader.old reader.new }
-    ensures size { IfOk result (λ _. All IsLevel values.new) }
-    ensures count { IfOk result (λ _. length values.new ≡ ones) }
+    ensures read { ReadsInto result (take ones values.new) (times ones trailing_one) reader.old reader.new }
+    ensures size { IfOk result (λ _. All IsLevel (take ones values.new)) }
 {
-    'ones: for k in 0..ones {
-        let one = read_trailing_one(reader)?;
-        values.push(one);
+    if ones == 0 {
+        return Ok(());
     }
+    let signs = reader.peek(3);
+    reader.skip(u32::from(ones))?;
+    values[0] = one_of_sign(signs / 4 % 2 == 1);
+    values[1] = one_of_sign(signs / 2 % 2 == 1);
+    values[2] = one_of_sign(signs % 2 == 1);
     Ok(())
 }
 
-#[inline]
-fn read_trailing_one(reader: &mut BitReader) -> Result<i16, Fault>
-    ensures read { Reads result trailing_one reader.old reader.new }
-    ensures size { IfOk result IsLevel }
+// a trailing one
+#[inline(always)]
+fn one_of_sign(negative: bool) -> i16
+    ensures { result ≡ one_of_sign negative }
 {
-    let negative = reader.flag()?;
-    Ok(if negative { -1 } else { 1 })
+    if negative { -1 } else { 1 }
 }
 
-// The levels that are no trailing ones, put after those.
-#[inline]
+// The levels that are no trailing ones, put behind those.
+#[inline(always)]
 fn read_others(
     reader: &mut BitReader,
-    values: &mut Values,
-    count: u8,
+    values: &mut [i16; 16],
+    ones: usize,
+    total: usize,
     suffix_length: u32,
     above_one: bool,
 ) -> Result<(), Fault>
-    requires few { length values.old + count ≤ 16 }
-    requires ones { All IsLevel values.old }
+    requires some { ones < total }
+    requires few { total ≤ 16 }
+    requires ones { All IsLevel (take ones values.old) }
     requires length { suffix_length ≤ 1 }
-    ensures read { ReadsInto result values.new (levels_after values.old count suffix_length above_one) reader.old reader.new }
-    ensures size { IfOk result (λ _. All IsLevel values.new) }
-    ensures count { IfOk result (λ _. length values.new ≡ length values.old + count) }
+    ensures read { ReadsInto result (take total values.new)
+        (levels_after (take ones values.old) (total - ones) suffix_length above_one) reader.old reader.new }
+    ensures size { IfOk result (λ _. All IsLevel (take total values.new)) }
 {
-    let mut bits = suffix_length;
-    let mut first = above_one;
-    'levels: for k in 0..count {
-        let level = read_level(reader, bits, first)?;
-        values.push(level);
-        bits = next_suffix_length(bits, level);
-        first = false;
+    let code = read_level_code(reader, suffix_length, above_one)?;
+    values[ones] = level_of_code(code);
+    let mut bits = raised(suffix_length.max(1), size_of_code(code));
+    'levels: for k in ones + 1..total {
+        let code = read_level_code(reader, bits, false)?;
+        values[k] = level_of_code(code);
+        bits = raised(bits, size_of_code(code));
     }
     Ok(())
 }
 
-// One level that is no trailing one; above_one says that its size is known to be above 1.
-#[inline]
-fn read_level(reader: &mut BitReader, suffix_length: u32, above_one: bool) -> Result<i16, Fault>
+// levelCode of one level that is no trailing one; above_one says that its size is known to be above 1.
+#[inline(always)]
+fn read_level_code(
+    reader: &mut BitReader,
+    suffix_length: u32,
+    above_one: bool,
+) -> Result<u32, Fault>
     requires length { suffix_length ≤ 6 }
     requires first { IsTrue above_one → suffix_length ≤ 1 }
-    ensures read { Reads result (level suffix_length above_one) reader.old reader.new }
-    ensures size { IfOk result IsLevel }
+    ensures read { ReadsCode result (level suffix_length above_one) reader.old reader.new }
+    ensures most { IfOk result (λ code. code ≤ 5055) }
 {
     match reader.zeros_and_bits(13, suffix_length) {
-        Some((prefix, suffix)) => {
-            let code = level_code(prefix, suffix_length, suffix, above_one);
-            Ok(level_of_code(code))
-        }
-        None => read_long_level(reader, suffix_length, above_one),
+        Some((prefix, suffix)) => Ok(level_code(prefix, suffix_length, suffix, above_one)),
+        None => read_long_code(reader, suffix_length, above_one),
     }
 }
 
 // The same, for any prefix and anywhere.
 #[cold]
 #[inline(never)]
-fn read_long_level(
-    reader: &mut BitReader,
-    suffix_length: u32,
-    above_one: bool,
-) -> Result<i16, Fault>
+fn read_long_code(reader: &mut BitReader, suffix_length: u32, above_one: bool) -> Result<u32, Fault>
     requires length { suffix_length ≤ 6 }
     requires first { IsTrue above_one → suffix_length ≤ 1 }
-    ensures read { Reads result (level suffix_length above_one) reader.old reader.new }
-    ensures size { IfOk result IsLevel }
+    ensures read { ReadsCode result (level suffix_length above_one) reader.old reader.new }
+    ensures most { IfOk result (λ code. code ≤ 5055) }
 {
     let prefix = reader.zeros_before_one(15, Fault::BadCode)?;
     let suffix = reader.u(suffix_size(prefix, suffix_length))?;
-    let code = level_code(prefix, suffix_length, suffix, above_one);
-    Ok(level_of_code(code))
+    Ok(level_code(prefix, suffix_length, suffix, above_one))
 }
 
 /// How many suffix bits follow a prefix (levelSuffixSize), where `suffix_length` (suffixLength) is at most 6.
@@ -161,17 +156,24 @@ pub fn level_code(prefix: u32, suffix_length: u32, suffix: u32, above_one: bool)
 }
 
 // 1, -1, 2, -2, .. for 0, 1, 2, 3, ..
-#[inline]
+#[inline(always)]
 fn level_of_code(code: u32) -> i16
     requires { code ≤ 5055 }
     ensures value { result ≡ level_of_code code }
     ensures size { IsLevel result }
 {
-    if code % 2 == 0 {
-        ((code + 2) / 2) as i16
-    } else {
-        0 - ((code + 1) / 2) as i16
-    }
+    let size = size_of_code(code) as i16;
+    if code % 2 == 0 { size } else { 0 - size }
+}
+
+// 1, 1, 2, 2, .. for 0, 1, 2, 3, ..
+#[inline(always)]
+fn size_of_code(code: u32) -> u32
+    requires { code ≤ 5055 }
+    ensures value { result ≡ nat_abs (level_of_code code) }
+    ensures half { result ≡ code / 2 + 1 }
+{
+    code / 2 + 1
 }
 
 /// suffixLength for the level after this one, from 1 to 6.
@@ -183,10 +185,21 @@ pub fn next_suffix_length(suffix_length: u32, level: i16) -> u32
     ensures some { 1 ≤ result }
     ensures few { result ≤ 6 }
 {
-    let least = suffix_length.max(1);
-    if least < MOST_SUFFIX_BITS && u32::from(level.unsigned_abs()) > 3 << (least - 1) {
-        least + 1
+    raised(suffix_length.max(1), u32::from(level.unsigned_abs()))
+}
+
+// suffixLength for the level after one of this size, where it is at least 1
+#[inline(always)]
+fn raised(suffix_length: u32, size: u32) -> u32
+    requires some { 1 ≤ suffix_length }
+    requires few { suffix_length ≤ 6 }
+    ensures value { result ≡ raised suffix_length size }
+    ensures some { 1 ≤ result }
+    ensures few { result ≤ 6 }
+{
+    if suffix_length < MOST_SUFFIX_BITS && size > 3 << (suffix_length - 1) {
+        suffix_length + 1
     } else {
-        least
+        suffix_length
     }
 }

@@ -4,7 +4,6 @@
 mod block;
 mod level;
 mod runs;
-mod values;
 
 pub use block::{read_block, read_block_into};
 pub use level::{level_code, next_suffix_length, suffix_size};

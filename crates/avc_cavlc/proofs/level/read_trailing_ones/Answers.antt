@@ -1,25 +1,32 @@
-use Rattle.std.proofs.Common.{◌≡◌, ◌+◌, ◌++◌, ◌∷◌, [], Err, arith, rules, to_z, of_z, w16, ap, ◌∙◌}
-use Rattle.std.proofs.lemmas.Int.{ints}
+use Rattle.std.proofs.Common.{◌≡◌, ◌∷◌, [], take, set, Ok, Err, arith, rules, to_z, of_z, w16, ap, subst, ◌∙◌, sym}
+use Rattle.std.specs.Prelude.{◌==◌, ◌/◌, ◌%◌}
+use Rattle.std.specs.List.{All}
 use Rattle.avc_bits.specs.Bits.{times}
+use Rattle.avc_bits.specs.Codes.{skip}
 use Rattle.avc_bits.specs.Reader.{reader_bits}
-use Rattle.avc_bits.proofs.Repeating.{times_more, times_fault}
 use Rattle.avc_cavlc.specs.Block.{IsLevel, trailing_one}
-use Rattle.avc_cavlc.proofs.LevelSteps.{all_more, length_more}
+use Rattle.avc_cavlc.specs.Steps.{one_of_sign}
+use Rattle.avc_cavlc.proofs.Ones.{ones_read, ones_fault, ones_put, ones_levels, three_ones, one_back}
 use Rattle.avc_cavlc.proofs.level.read_trailing_ones.Goals as goal
 
-pub returns-in_err-one-clause-read : goal.returns-in_err-one-clause-read
-returns-in_err-one-clause-read c =
-    let fault : times c.args.ones trailing_one (reader_bits c.args.reader.now) ≡ Err c.in_err-one.field-0.0 =
-    times_fault trailing_one c.args.ones c.ones.k (reader_bits c.args.reader.now) (reader_bits c.ones.reader) c.ones.values c.in_err-one.field-0.0 (omega arith) c.ones.invariant.read c.in_err-one.ensures.read in
+pub returns-in_err-skip-clause-read : goal.returns-in_err-skip-clause-read
+returns-in_err-skip-clause-read c =
+    let fault : times c.args.ones trailing_one (reader_bits c.args.reader.now) ≡ Err c.in_err-skip.field-0.0 = ones_fault c.args.ones (reader_bits c.args.reader.now) c.in_err-skip.field-0.0 (ap (λ n. skip n (reader_bits c.args.reader.now)) (sym c.from.ensures) ∙ c.in_err-skip.ensures.read) in
     search rules
 
-pub ones-preserved : goal.ones-preserved
-ones-preserved c =
-    let back : to_z w16 (of_z w16 c.in_ok-one.one) ≡ c.in_ok-one.one = omega (arith, ints) in
-    let pushed : c.push.new.self ≡ c.ones.values ++ c.in_ok-one.one ∷ [] = c.push.ensures ∙ ap (λ v. c.ones.values ++ v ∷ []) back in
-    rw pushed (record {
-      read = times_more trailing_one c.ones.k (reader_bits c.args.reader.now) (reader_bits c.ones.reader) (reader_bits c.read_trailing_one.new.reader) c.ones.values c.in_ok-one.one c.ones.invariant.read c.in_ok-one.ensures.read.0;
-      bytes = c.in_ok-one.ensures.read.1 ∙ c.ones.invariant.bytes;
-      size = all_more IsLevel c.ones.values c.in_ok-one.one c.ones.invariant.size c.in_ok-one.ensures.size;
-      count = length_more c.ones.values c.in_ok-one.one ∙ ap (λ n. n + 1) c.ones.invariant.count;
-    })
+put : (c : goal.After-one_of_sign-3) → take c.args.ones (set (set (set c.args.values.now 0 (to_z w16 (of_z w16 c.one_of_sign.result))) 1 (to_z w16 (of_z w16 c.one_of_sign-2.result))) 2 (to_z w16 (of_z w16 c.one_of_sign-3.result))) ≡ take c.args.ones (three_ones c.peek-signs.result)
+put c =
+    ones_put c.args.ones c.args.values.now _ _ _ c.requires.few (omega (arith, c.told-values))
+    ∙ ap (λ x. take c.args.ones (x ∷ to_z w16 (of_z w16 c.one_of_sign-2.result) ∷ to_z w16 (of_z w16 c.one_of_sign-3.result) ∷ [])) (one_back c.one_of_sign.result (c.peek-signs.result / 4 % 2 == 1) c.one_of_sign.ensures)
+    ∙ ap (λ x. take c.args.ones (one_of_sign (c.peek-signs.result / 4 % 2 == 1) ∷ x ∷ to_z w16 (of_z w16 c.one_of_sign-3.result) ∷ [])) (one_back c.one_of_sign-2.result (c.peek-signs.result / 2 % 2 == 1) c.one_of_sign-2.ensures)
+    ∙ ap (λ x. take c.args.ones (one_of_sign (c.peek-signs.result / 4 % 2 == 1) ∷ one_of_sign (c.peek-signs.result / 2 % 2 == 1) ∷ x ∷ [])) (one_back c.one_of_sign-3.result (c.peek-signs.result % 2 == 1) c.one_of_sign-3.ensures)
+
+pub returns-clause-read : goal.returns-clause-read
+returns-clause-read c = (
+  ones_read c.args.ones c.peek-signs.result (reader_bits c.args.reader.now) (reader_bits c.skip.new.self) c.requires.few c.peek-signs.ensures.bits (ap (λ n. skip n (reader_bits c.args.reader.now)) (sym c.from.ensures) ∙ c.in_ok-skip.ensures.read.0)
+      ∙ ap (λ l. Ok (l, reader_bits c.skip.new.self)) (sym (put c)),
+  c.in_ok-skip.ensures.read.1,
+)
+
+pub returns-clause-size : goal.returns-clause-size
+returns-clause-size c = subst (All IsLevel) (sym (put c)) (ones_levels c.args.ones c.peek-signs.result c.requires.few)

@@ -1,4 +1,4 @@
-use Rattle.std.proofs.Common.{◌≡◌, ◌+◌, ◌-◌, ℕ, pos, length, drop, get_or}
+use Rattle.std.proofs.Common.{◌≡◌, ◌+◌, ◌-◌, ◌<◌, ℕ, pos, drop, get_or, length, take}
 use Rattle.avc_bits.specs.Reader.{reader_bits, reader_bytes}
 use Rattle.avc_cavlc.specs.Block.{IsSmall}
 use Rattle.avc_types.specs.Macroblock.{total_coeff}
@@ -9,11 +9,15 @@ use Rattle.avc_cavlc.proofs.runs.read_placed.Given as goal
 abbrev pub invariant-values : goal.invariant-values
 invariant-values l = record {
   long : length l.block ≡ 16;
-  place : l.place ≡ (length l.values - l.k) + l.zeros_left;
-  none : length l.values ≡ l.k → l.zeros_left ≡ 0;
+  some : l.k < l.total;
+  place : l.place ≡ (l.total - l.k) + l.zeros_left;
   is_open : IsOpen l.place l.block;
-  read : placed_by_runs 16 l.values (length l.values) l.zeros (reader_bits l.fn.reader) ≡ placed_before (drop l.place l.block) (drop l.k l.values) (length l.values - l.k) l.zeros_left (reader_bits l.reader);
+  read : placed_by_runs 16 (take l.total l.values) l.total l.zeros (reader_bits l.fn.reader)
+      ≡ placed_before (drop l.place l.block) (drop l.k (take l.total l.values)) (l.total - l.k) l.zeros_left (reader_bits l.reader);
   bytes : reader_bytes l.reader ≡ reader_bytes l.fn.reader;
   count : total_coeff (drop l.place l.block) ≡ l.k;
   small : (i : ℕ) → IsSmall (get_or l.block i (pos 0));
 }
+
+abbrev pub decreases-values : goal.decreases-values
+decreases-values l = l.total - l.k

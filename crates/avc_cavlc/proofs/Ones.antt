@@ -1,0 +1,98 @@
+-- Trailing ones by one look at their sign bits.
+use Rattle.std.proofs.Common.{◌≡◌, ℕ, zero, suc, ◌+◌, ◌/◌, ◌%◌, ◌<◌, ◌≤◌, ℤ, Bool, true, false, List, [], ◌∷◌, ◌++◌, length, take, drop, set, map, refl, ap, subst, ◌∙◌, sym, arith, to_z, of_z, w16}
+use Rattle.std.specs.Prelude.{Ok, Err, replicate, ◌==◌}
+use Rattle.std.specs.List.{All}
+use Rattle.std.proofs.lemmas.Int.{ints}
+use Rattle.std.proofs.lemmas.List.{take-take, take-append-le, take-append-drop, length-take-le}
+use Rattle.avc_types.specs.declared.fault.Fault.{Fault}
+use Rattle.avc_types.specs.declared.fault.Fault.TheVariants.{Truncated}
+use Rattle.avc_bits.specs.Bits.{Bits, bits_of, passed, times}
+use Rattle.avc_bits.specs.Codes.{skip}
+use Rattle.avc_bits.proofs.Reading.{skip_short, skip_long}
+use Rattle.avc_bits.proofs.Repeating.{one_first, fault_later}
+use Rattle.avc_vlc.proofs.Entries.{skip-ok, skip-err}
+use Rattle.avc_cavlc.specs.Block.{IsLevel, trailing_one}
+use Rattle.avc_cavlc.specs.Steps.{one_of_sign}
+
+abbrev from : ℕ → List Bool → Bits
+from position ahead = record { position = position; ahead = ahead }
+
+first_read : (x : Bool) (p : ℕ) (rest : List Bool) → trailing_one (from p (x ∷ rest)) ≡ Ok (one_of_sign x, from (p + 1) rest)
+first_read true p rest = refl
+first_read false p rest = refl
+
+all_read : (n p : ℕ) (xs rest : List Bool) → length xs ≡ n → times n trailing_one (from p (xs ++ rest)) ≡ Ok (map one_of_sign xs, from (p + n) rest)
+all_read zero p [] rest long = ap (λ k. Ok ([], from k rest)) (omega arith)
+all_read zero p (x ∷ xs) rest long = absurd (omega arith)
+all_read (suc n) p [] rest long = absurd (omega arith)
+all_read (suc n) p (x ∷ xs) rest long =
+    one_first trailing_one n (from p (x ∷ (xs ++ rest))) (from (p + 1) (xs ++ rest)) (from (p + 1 + n) rest) (one_of_sign x) (map one_of_sign xs)
+    (first_read x p (xs ++ rest)) (all_read n (p + 1) xs rest (omega arith))
+    ∙ ap (λ k. Ok (one_of_sign x ∷ map one_of_sign xs, from k rest)) (omega arith)
+
+short_read : (n p : ℕ) (xs : List Bool) → length xs < n → times n trailing_one (from p xs) ≡ Err Truncated
+short_read zero p xs short = absurd (omega arith)
+short_read (suc n) p [] short = refl
+short_read (suc n) p (x ∷ xs) short =
+    fault_later trailing_one n (from p (x ∷ xs)) (from (p + 1) xs) (one_of_sign x) Truncated (first_read x p xs) (short_read n (p + 1) xs (omega arith))
+
+-- the ones of three bits
+abbrev pub three_ones : ℕ → List ℤ
+three_ones signs = one_of_sign (signs / 4 % 2 == 1) ∷ one_of_sign (signs / 2 % 2 == 1) ∷ one_of_sign (signs % 2 == 1) ∷ []
+
+some_ones : (n signs : ℕ) → n ≤ 3 → map one_of_sign (take n (bits_of 3 signs)) ≡ take n (three_ones signs)
+some_ones zero signs few = refl
+some_ones (suc zero) signs few = refl
+some_ones (suc (suc zero)) signs few = refl
+some_ones (suc (suc (suc zero))) signs few =
+    let whole : signs / 1 ≡ signs = omega arith in
+    ap (λ k. one_of_sign (signs / 4 % 2 == 1) ∷ one_of_sign (signs / 2 % 2 == 1) ∷ one_of_sign (k % 2 == 1) ∷ []) whole
+some_ones (suc (suc (suc (suc n)))) signs few = absurd (omega arith)
+
+pub ones_read : (n signs : ℕ) (b after : Bits) → n ≤ 3 → bits_of 3 signs ≡ take 3 (b.ahead ++ replicate 3 false) → skip n b ≡ Ok (tt, after) →
+    times n trailing_one b ≡ Ok (take n (three_ones signs), after)
+ones_read n signs b after few same skipped =
+    let long : n ≤ length b.ahead = skip-ok n b (tt, after) skipped in
+    let there : passed b n ≡ after = ap (λ r. elim r [ Ok p ↦ p.1 | Err f ↦ b ]) (sym (skip_long n b long) ∙ skipped) in
+    let front : take n (bits_of 3 signs) ≡ take n b.ahead =
+    ap (take n) same ∙ take-take n 3 (b.ahead ++ replicate 3 false) few ∙ take-append-le n b.ahead (replicate 3 false) long in
+    ap (λ l. times n trailing_one (from b.position l)) (sym (take-append-drop n b.ahead))
+    ∙ all_read n b.position (take n b.ahead) (drop n b.ahead) (length-take-le n b.ahead long)
+    ∙ ap (λ l. Ok (map one_of_sign l, passed b n)) (sym front)
+    ∙ ap (λ l. Ok (l, passed b n)) (some_ones n signs few)
+    ∙ ap (λ a. Ok (take n (three_ones signs), a)) there
+
+pub ones_fault : (n : ℕ) (b : Bits) (f : Fault) → skip n b ≡ Err f → times n trailing_one b ≡ Err f
+ones_fault n b f skipped =
+    let short : length b.ahead < n = skip-err n b f skipped in
+    let same : f ≡ Truncated = ap (λ r. elim r [ Ok p ↦ Truncated | Err g ↦ g ]) (sym skipped ∙ skip_short n b short) in
+    short_read n b.position b.ahead short ∙ ap (λ g. Err g) (sym same)
+
+-- ---- the array of levels
+
+pub ones_put : (n : ℕ) (xs : List ℤ) (x y z : ℤ) → n ≤ 3 → 3 ≤ length xs → take n (set (set (set xs 0 x) 1 y) 2 z) ≡ take n (x ∷ y ∷ z ∷ [])
+ones_put n [] x y z few long = absurd (omega arith)
+ones_put n (a ∷ []) x y z few long = absurd (omega arith)
+ones_put n (a ∷ b ∷ []) x y z few long = absurd (omega arith)
+ones_put zero (a ∷ b ∷ c ∷ xs) x y z few long = refl
+ones_put (suc zero) (a ∷ b ∷ c ∷ xs) x y z few long = refl
+ones_put (suc (suc zero)) (a ∷ b ∷ c ∷ xs) x y z few long = refl
+ones_put (suc (suc (suc zero))) (a ∷ b ∷ c ∷ xs) x y z few long = refl
+ones_put (suc (suc (suc (suc n)))) (a ∷ b ∷ c ∷ xs) x y z few long = absurd (omega arith)
+
+one_level : (negative : Bool) → IsLevel (one_of_sign negative)
+one_level true = record { some = omega (arith, ints); most = omega (arith, ints) }
+one_level false = record { some = omega (arith, ints); most = omega (arith, ints) }
+
+all_map : (bits : List Bool) → All IsLevel (map one_of_sign bits)
+all_map [] k d within = absurd (omega arith)
+all_map (x ∷ bits) zero d within = one_level x
+all_map (x ∷ bits) (suc k) d within = all_map bits k d (omega arith)
+
+pub ones_levels : (n signs : ℕ) → n ≤ 3 → All IsLevel (take n (three_ones signs))
+ones_levels n signs few = subst (All IsLevel) (some_ones n signs few) (all_map (take n (bits_of 3 signs)))
+
+-- a sign as 16 bits
+pub one_back : (x : ℤ) (negative : Bool) → x ≡ one_of_sign negative → to_z w16 (of_z w16 x) ≡ one_of_sign negative
+one_back x true is = rw is refl
+one_back x false is = rw is refl
