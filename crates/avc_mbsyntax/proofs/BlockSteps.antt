@@ -1,9 +1,9 @@
 -- One block more.
-use Rattle.std.proofs.Common.{◌≡◌, ◌≢◌, ℕ, suc, ◌+◌, ◌/◌, ◌^◌, append-nil, append_assoc, ◌<◌, ◌≤◌, min, ℤ, pos, Bool, true, false, List, [], ◌∷◌, ◌++◌, length, take, set, map, refl, ap, ◌∙◌, sym, arith, inl, inr}
+use Rattle.std.proofs.Common.{◌≡◌, ◌≢◌, ℕ, zero, suc, ◌+◌, ◌/◌, ◌^◌, append-nil, append_assoc, ◌<◌, ◌≤◌, min, ℤ, pos, Bool, true, false, List, [], ◌∷◌, ◌++◌, length, take, get_or, set, map, refl, ap, ◌∙◌, sym, arith, inl, inr}
 use Rattle.std.specs.Prelude.{Ok, Err, Option, replicate, ◌==◌, ◌||◌, nat_le, nat_lt, if◌then◌else◌}
 use Rattle.std.specs.List.{range_with_len}
 use Rattle.std.proofs.lemmas.Bool.{cases_lt, le-ltb, ne_eqb}
-use Rattle.std.proofs.lemmas.List.{take_more_set, map-append}
+use Rattle.std.proofs.lemmas.List.{get_or-replicate, get_or-set_other, get_or_past, length-replicate, map-append, take_more, take_more_set}
 use Rattle.avc_types.specs.Macroblock.{total_coeff}
 use Rattle.avc_types.specs.declared.fault.Fault.{Fault}
 use Rattle.avc_types.specs.declared.fault.Fault.TheVariants as faults
@@ -108,3 +108,39 @@ counts_more counts bs k b within inside so_far =
     ∙ ap (λ l. l ++ total_coeff b ∷ []) so_far
     ∙ sym (map-append total_coeff (take k bs) (b ∷ []))
     ∙ sym (ap (map total_coeff) (take_more_set bs k b inside))
+
+-- ---- a block that is not coded, whose place has its levels already
+
+pub total_none : (max : ℕ) → total_coeff (no_levels max) ≡ 0
+total_none zero = refl
+total_none (suc n) = total_none n
+
+pub block_passed : (max size : ℕ) (coded : ℕ → Bool) (left up : Option (List ℕ)) (k n more : ℕ) (levels : List (List ℤ)) (b : Bits) → more ≡ suc n → k < length levels →
+    get_or levels k (no_levels max) ≡ no_levels max → coded k ≡ false →
+    blocks max size coded left up (range_with_len k more) (take k levels) b ≡ blocks max size coded left up (range_with_len (k + 1) n) (take (k + 1) levels) b
+block_passed max size coded left up k n more levels b is_more within is_zero none =
+    let one : take (k + 1) levels ≡ take k levels ++ no_levels max ∷ [] = take_more levels k (no_levels max) within ∙ ap (λ z. take k levels ++ z ∷ []) is_zero in
+    rw is_more (next_block max size coded left up k (range_with_len (k + 1) n) (take k levels) (no_levels max) b b (rw none refl))
+    ∙ ap (λ l. blocks max size coded left up (range_with_len (k + 1) n) l b) (sym one)
+
+pub counts_passed : (counts : List ℕ) (bs : List (List ℤ)) (max k : ℕ) → k < length counts → k < length bs → get_or counts k 0 ≡ 0 → get_or bs k (no_levels max) ≡ no_levels max →
+    take k counts ≡ map total_coeff (take k bs) → take (k + 1) counts ≡ map total_coeff (take (k + 1) bs)
+counts_passed counts bs max k within inside none is_zero so_far =
+    let one : take (k + 1) bs ≡ take k bs ++ no_levels max ∷ [] = take_more bs k (no_levels max) inside ∙ ap (λ z. take k bs ++ z ∷ []) is_zero in
+    take_more counts k 0 within
+    ∙ ap (λ n. take k counts ++ n ∷ []) (none ∙ sym (total_none max))
+    ∙ ap (λ l. l ++ total_coeff (no_levels max) ∷ []) so_far
+    ∙ sym (map-append total_coeff (take k bs) (no_levels max ∷ []))
+    ∙ ap (map total_coeff) (sym one)
+
+-- those that come later are all 0 still
+pub all_zero : {A : Type 0} (n : ℕ) (a : A) (j : ℕ) → get_or (replicate n a) j a ≡ a
+all_zero n a j = elim (cases_lt j n) [
+  | inl within ↦ get_or-replicate n j a a within
+  | inr past ↦ get_or_past (replicate n a) j a (omega (arith, length-replicate n a, past))
+]
+
+pub still_zero : {A : Type 0} (xs : List A) (k : ℕ) (x a : A) → ((j : ℕ) → k ≤ j → get_or xs j a ≡ a) → (j : ℕ) → k + 1 ≤ j → get_or (set xs k x) j a ≡ a
+still_zero xs k x a zeros j later =
+    let other : j ≢ k = λ e. absurd (omega (arith, e, later)) in
+    get_or-set_other xs k j x a other ∙ zeros j (omega (arith, later))

@@ -11,7 +11,7 @@ use Rattle.avc_bits.specs.Reader.{Reads, reader_bits}
 use Rattle.avc_bits.specs.declared.reader.BitReader.{BitReader}
 use Rattle.avc_bits.proofs.CodeLaws.{u_reads}
 use Rattle.avc_mbsyntax.specs.Reading.{block_mode, rem_mode}
-use Rattle.avc_mbsyntax.specs.Steps.{ReadsAs}
+use Rattle.avc_mbsyntax.specs.Steps.{ReadsInto}
 use Rattle.avc_bits.proofs.Giving.{Gives, gives-any, gives-bind, gives-check, gives-give, gives-then}
 use Rattle.std.proofs.lemmas.Bool.Decides.{nat_tests}
 
@@ -50,6 +50,6 @@ pub if_gives : {V : Type 0} (P : V → Type 0) (result : Result V Fault) (part :
 if_gives P (Ok v) part old new read gives = gives (reader_bits old) (reader_bits new) v read.0
 if_gives P (Err f) part old new read gives = tt
 
-pub if_gives_as : {V W : Type 0} (seen : V → W) (P : W → Type 0) (result : Result V Fault) (part : Read W) (old new : BitReader) → ReadsAs seen result part old new → Gives P part → IfOk result (λ v. P (seen v))
-if_gives_as seen P (Ok v) part old new read gives = gives (reader_bits old) (reader_bits new) (seen v) read.0
-if_gives_as seen P (Err f) part old new read gives = tt
+pub if_gives_into : {W : Type 0} (P : W → Type 0) (result : Result (Unit {0}) Fault) (value : W) (part : Read W) (old new : BitReader) → ReadsInto result value part old new → Gives P part → IfOk result (λ _. P value)
+if_gives_into P (Ok v) value part old new read gives = gives (reader_bits old) (reader_bits new) value read.0
+if_gives_into P (Err f) value part old new read gives = tt

@@ -7,16 +7,16 @@ use Rattle.avc_bits.specs.Reader.{Reads, reader_bits}
 use Rattle.avc_bits.specs.declared.reader.BitReader.{BitReader}
 use Rattle.avc_cavlc.specs.Block.{residual_block}
 use Rattle.avc_mbsyntax.specs.Reading.{block_where}
-use Rattle.avc_mbsyntax.specs.Steps.{ReadsAs}
+use Rattle.avc_mbsyntax.specs.Steps.{ReadsInto}
 use Rattle.avc_mbsyntax.proofs.BlockSteps.{block_capped}
 
 pub reads_same : {V : Type 0} (result : Result V Fault) (p q : Read V) (old new : BitReader) → ((b : Bits) → p b ≡ q b) → Reads result p old new → Reads result q old new
 reads_same (Ok v) p q old new same read = (sym (same (reader_bits old)) ∙ read.0, read.1)
 reads_same (Err f) p q old new same read = sym (same (reader_bits old)) ∙ read
 
-pub reads_as_same : {V W : Type 0} (seen : V → W) (result : Result V Fault) (p q : Read W) (old new : BitReader) → ((b : Bits) → p b ≡ q b) → ReadsAs seen result p old new → ReadsAs seen result q old new
-reads_as_same seen (Ok v) p q old new same read = (sym (same (reader_bits old)) ∙ read.0, read.1)
-reads_as_same seen (Err f) p q old new same read = sym (same (reader_bits old)) ∙ read
+pub reads_into_same : {V : Type 0} (result : Result (Unit {0}) Fault) (value : V) (p q : Read V) (old new : BitReader) → ((b : Bits) → p b ≡ q b) → ReadsInto result value p old new → ReadsInto result value q old new
+reads_into_same (Ok v) value p q old new same read = (sym (same (reader_bits old)) ∙ read.0, read.1)
+reads_into_same (Err f) value p q old new same read = sym (same (reader_bits old)) ∙ read
 
-pub capped_read : (max nC : ℕ) (coded : Bool) (z : ℤ) (b : Bits) → coded ≡ true → z ≡ pos (min nC 8) → residual_block max z b ≡ block_where max coded nC b
-capped_read max nC coded z b is_coded is = rw (is_coded, is) (block_capped max nC b)
+pub capped_read : (max nC : ℕ) (z : ℤ) (b : Bits) → z ≡ pos (min nC 8) → residual_block max z b ≡ block_where max true nC b
+capped_read max nC z b is = rw is (block_capped max nC b)

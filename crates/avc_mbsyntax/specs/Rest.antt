@@ -1,5 +1,5 @@
 -- What is left of a slice's data when some of it has been read.
-use Rattle.std.specs.Prelude.{◌≡◌, ℕ, ◌+◌, ◌-◌, ◌==◌, ◌≤◌, true, false, List, [], ◌∷◌, ◌++◌, length, replicate, Option, Some, None, Result, Ok, Err}
+use Rattle.std.specs.Prelude.{◌≡◌, ℕ, ◌+◌, ◌-◌, ◌==◌, ◌≤◌, Bool, true, false, List, [], ◌∷◌, ◌++◌, length, replicate, Option, Some, None, Result, Ok, Err}
 use Rattle.avc_types.specs.declared.fault.Fault.{Fault}
 use Rattle.avc_types.specs.declared.fault.Fault.TheVariants as faults
 use Rattle.avc_types.specs.Macroblock.{Mb}
@@ -46,6 +46,17 @@ pub record Follows (s : SliceStart) (before : List PicMb) (d : SliceData) : Type
 pub record IsOfSlice (s : SliceStart) (mb : Mb) : Type 0 where
   pub range : IsSyntax s.active_count mb.syntax
   pub quantiser : s.qp ≤ 51 → mb.qp ≤ 51
+
+-- what is handed out by a call that answers whether there is a macroblock, which then stands in this place
+abbrev pub handed_out : Result Bool Fault → (place : Mb) → Result (Option Mb) Fault
+handed_out (Ok true) place = Ok (Some place)
+handed_out (Ok false) place = Ok None
+handed_out (Err f) place = Err f
+
+-- what is read by a call that reads a macroblock into this place
+abbrev pub read_out : Result (Unit {0}) Fault → (place : Mb) → Result Mb Fault
+read_out (Ok _) place = Ok place
+read_out (Err f) place = Err f
 
 -- What is handed out is the first of the rest, and then the others are the rest. A fault comes again.
 abbrev pub IsHandedOut : SliceStart → (before : List PicMb) → Result (Option Mb) Fault → SliceData → SliceData → Type 0

@@ -1,17 +1,28 @@
--- What is left to read of a macroblock when some of it has been read, and what fields stand for the elements that were read.
-use Rattle.std.specs.Prelude.{◌≡◌, Bool, true, false, Result, Ok, Err, MatchResult}
+-- What is read of a macroblock into its place.
+use Rattle.std.specs.Prelude.{◌≡◌, ℕ, Bool, true, false, replicate, Result, Ok, Err, MatchResult}
 use Rattle.avc_types.specs.declared.fault.Fault.{Fault}
 use Rattle.avc_types.specs.declared.macroblock.PMbType.{PMbType}
+use Rattle.avc_types.specs.declared.mb.BlockLevels.{BlockLevels}
 use Rattle.avc_types.specs.declared.macroblock.PMbType.TheVariants.{P16x16, P16x8, P8x16, P8x8, P8x8Ref0}
 use Rattle.avc_bits.specs.declared.reader.BitReader.{BitReader}
 use Rattle.avc_bits.specs.Bits.{Read}
 use Rattle.avc_bits.specs.Reader.{reader_bits, reader_bytes}
+use Rattle.avc_mbsyntax.specs.Reading.{no_levels}
 
--- What was read is a value of which `seen` is what this part of the syntax reads.
-abbrev pub ReadsAs : {V W : Type 0} → (seen : V → W) → Result V Fault → Read W → BitReader → BitReader → Type 0
-ReadsAs seen result read old new = MatchResult result
-    (λ value. (read (reader_bits old) ≡ Ok (seen value, reader_bits new)) × (reader_bytes new ≡ reader_bytes old))
+-- What was read into a place is what this part of the syntax reads, and the reader goes on after it. After a fault
+-- anything may stand there.
+abbrev pub ReadsInto : {V : Type 0} → Result (Unit {0}) Fault → (value : V) → Read V → BitReader → BitReader → Type 0
+ReadsInto result value read old new = MatchResult result
+    (λ _. (read (reader_bits old) ≡ Ok (value, reader_bits new)) × (reader_bytes new ≡ reader_bytes old))
     (λ fault. read (reader_bits old) ≡ Err fault)
+
+-- No level is coded yet: all are 0.
+pub record HasNoLevels {max : ℕ} (levels : BlockLevels max) : Type 0 where
+  pub no_luma : levels.luma ≡ replicate 16 (no_levels max)
+  pub no_cb_dc : levels.cb_dc ≡ no_levels 4
+  pub no_cr_dc : levels.cr_dc ≡ no_levels 4
+  pub no_cb_ac : levels.cb_ac ≡ replicate 4 (no_levels 15)
+  pub no_cr_ac : levels.cr_ac ≡ replicate 4 (no_levels 15)
 
 -- mb_type is P_8x8ref0 (Table 7-13)
 abbrev pub is_ref0 : PMbType → Bool

@@ -4,7 +4,7 @@ ghost use Rattle.avc_bits.specs.Bits.{Read, times};
 ghost use Rattle.avc_bits.specs.Codes.{te_to};
 ghost use Rattle.avc_bits.specs.Reader.{Reads};
 ghost use Rattle.avc_mbsyntax.specs.Reading.{block_mode, mvd_l0, sub_mb_type_code};
-ghost use Rattle.avc_mbsyntax.specs.Steps.{ReadsAs};
+ghost use Rattle.avc_mbsyntax.specs.Steps.{ReadsInto};
 
 use avc_bits::BitReader;
 use avc_types::{Fault, Mvd, SubMbType};
@@ -20,25 +20,24 @@ pub(crate) trait Element: Copy {
         ensures read { Reads result (part most) reader.old reader.new };
 }
 
-/// So many of them, which stand first in the array; the others are `blank`.
+/// Reads so many of them into the first places of the array.
 pub(crate) fn read_elements<T: Element, const N: usize>(
     reader: &mut BitReader,
     count: usize,
     most: u32,
-    blank: T,
-) -> Result<[T; N], Fault>
+    elements: &mut [T; N],
+) -> Result<(), Fault>
     requires room { count ≤ N }
     requires some { 1 ≤ most }
     requires byte { most < 256 }
-    ensures read { ReadsAs (take count) result (times count (T.part most)) reader.old reader.new }
-    ensures whole { count ≡ N → Reads result (times N (T.part most)) reader.old reader.new }
+    ensures read { ReadsInto result (take count elements.new) (times count (T.part most)) reader.old reader.new }
+    ensures whole { count ≡ N → ReadsInto result elements.new (times N (T.part most)) reader.old reader.new }
 {
-    let mut elements = [blank; N];
     'elements: for k in 0..count {
         let element = T::read(reader, most)?;
         elements[k] = element;
     }
-    Ok(elements)
+    Ok(())
 }
 
 /// prev_intra4x4_pred_mode_flag and rem_intra4x4_pred_mode (7.3.5.1).

@@ -1,51 +1,59 @@
 //! Inter macroblocks whose vectors are coded (7.3.5, 7.3.5.1, 7.3.5.2).
-ghost use Rattle.std.specs.Prelude.{◌≡◌, ◌≤◌, length, take, IfOk, All, ◌-◌};
+ghost use Rattle.std.specs.Prelude.{◌≡◌, ◌≤◌, length, replicate, take, IfOk, All, ◌-◌};
 ghost use Rattle.avc_types.specs.Macroblock.{parts_of, parts_of_quarter, parts_of_quarters, partitions};
 ghost use Rattle.avc_bits.specs.Bits.{times};
 ghost use Rattle.avc_bits.specs.Reader.{Reads};
 ghost use Rattle.avc_mbsyntax.specs.Ranges.{IsSyntax};
 ghost use Rattle.avc_mbsyntax.specs.Reading.{mvd_l0, p_mb, p_mb_type, ref_idx_l0, sub_mb_types};
-ghost use Rattle.avc_mbsyntax.specs.Steps.{ReadsAs, is_ref0};
+ghost use Rattle.avc_mbsyntax.specs.Steps.{ReadsInto, is_ref0};
 
 use crate::context::Context;
 use crate::elements::read_elements;
-use crate::residual::{qp_after, read_after_pattern};
+use crate::residual::{qp_after, read_after_pattern, zero_levels};
 use avc_bits::BitReader;
 use avc_types::{Fault, Mb, Mvd, PMbType, SubMbType, Syntax};
 use avc_vlc::read_cbp;
 
-/// A macroblock with this mb_type of a P slice, at most 4 (Table 7-13).
+// Of a part whose difference is not read yet.
+const NO_MVD: Mvd = Mvd { x: 0, y: 0 };
+
+/// Reads a macroblock with this mb_type of a P slice, at most 4 (Table 7-13).
 pub(crate) fn read_p_mb(
     reader: &mut BitReader,
     context: &Context,
     mb_type: u32,
-) -> Result<Mb, Fault>
-    ensures read { Reads result (p_mb context.now mb_type) reader.old reader.new }
-    ensures range { IfOk result (λ mb. IsSyntax context.now.active_count mb.syntax) }
-    ensures quantiser { context.now.qp ≤ 51 → IfOk result (λ mb. mb.qp ≤ 51) }
+    mb: &mut Mb,
+) -> Result<(), Fault>
+    ensures read { ReadsInto result mb.new (p_mb context.now mb_type) reader.old reader.new }
+    ensures range { IfOk result (λ _. IsSyntax context.now.active_count mb.new.syntax) }
+    ensures quantiser { context.now.qp ≤ 51 → IfOk result (λ _. mb.new.qp ≤ 51) }
 {
     let mb_type = read_p_mb_type(reader, mb_type)?;
-    let active_count = context.active_count;
-    let ref_idx = read_ref_idx(reader, active_count, &mb_type)?;
-    let mvd = read_mvd(reader, &mb_type)?;
+    let mut ref_idx = [0; 4];
+    read_ref_idx(reader, context.active_count, &mb_type, &mut ref_idx)?;
+    let mut mvd = [NO_MVD; 16];
+    read_mvd(reader, &mb_type, &mut mvd)?;
     let pattern = read_cbp(reader, false)?;
-    let levels = read_after_pattern(reader, context, pattern)?;
-    let qp = qp_after(context.qp, levels.mb_qp_delta);
-    Ok(Mb {
-        syntax: Syntax::PInter {
-            mb_type,
-            ref_idx,
-            mvd,
-            levels,
-        },
-        qp,
-    })
+    mb.syntax = Syntax::PInter {
+        mb_type,
+        ref_idx,
+        mvd,
+        levels: zero_levels(),
+    };
+    let Syntax::PInter { levels, .. } = &mut mb.syntax else {
+        unreachable!()
+    };
+    read_after_pattern(reader, context, pattern, levels)?;
+    mb.qp = qp_after(context.qp, levels.mb_qp_delta);
+    Ok(())
 }
 
 fn read_sub_mb_types(reader: &mut BitReader) -> Result<[SubMbType; 4], Fault>
     ensures { Reads result sub_mb_types reader.old reader.new }
 {
-    read_elements(reader, 4, 1, SubMbType::Sub8x8)
+    let mut sub_mb_types = [SubMbType::Sub8x8; 4];
+    read_elements(reader, 4, 1, &mut sub_mb_types)?;
+    Ok(sub_mb_types)
 }
 
 fn read_p_mb_type(reader: &mut BitReader, mb_type: u32) -> Result<PMbType, Fault>
@@ -60,28 +68,31 @@ fn read_p_mb_type(reader: &mut BitReader, mb_type: u32) -> Result<PMbType, Fault
     }
 }
 
+// Where none is coded each is 0, as before.
 fn read_ref_idx(
     reader: &mut BitReader,
     active_count: u8,
     mb_type: &PMbType,
-) -> Result<[u8; 4], Fault>
-    ensures range { IfOk result (λ ref_idx. All (λ ref. ref ≤ active_count - 1) (take (partitions mb_type.now) ref_idx)) }
-    ensures read { ReadsAs (take (partitions mb_type.now)) result (ref_idx_l0 active_count mb_type.now) reader.old reader.new }
+    ref_idx: &mut [u8; 4],
+) -> Result<(), Fault>
+    requires zero { ref_idx.old ≡ replicate 4 0 }
+    ensures range { IfOk result (λ _. All (λ ref. ref ≤ active_count - 1) (take (partitions mb_type.now) ref_idx.new)) }
+    ensures read { ReadsInto result (take (partitions mb_type.now) ref_idx.new) (ref_idx_l0 active_count mb_type.now) reader.old reader.new }
 {
     if is_ref0(mb_type) {
-        return Ok([0; 4]);
+        return Ok(());
     }
     if active_count <= 1 {
-        return Ok([0; 4]);
+        return Ok(());
     }
     let most = u32::from(active_count) - 1;
-    read_elements(reader, partitions(mb_type), most, 0)
+    read_elements(reader, partitions(mb_type), most, ref_idx)
 }
 
-fn read_mvd(reader: &mut BitReader, mb_type: &PMbType) -> Result<[Mvd; 16], Fault>
-    ensures { ReadsAs (take (length (parts_of mb_type.now))) result (times (length (parts_of mb_type.now)) mvd_l0) reader.old reader.new }
+fn read_mvd(reader: &mut BitReader, mb_type: &PMbType, mvd: &mut [Mvd; 16]) -> Result<(), Fault>
+    ensures { ReadsInto result (take (length (parts_of mb_type.now)) mvd.new) (times (length (parts_of mb_type.now)) mvd_l0) reader.old reader.new }
 {
-    read_elements(reader, part_count(mb_type), 1, Mvd { x: 0, y: 0 })
+    read_elements(reader, part_count(mb_type), 1, mvd)
 }
 
 fn is_ref0(mb_type: &PMbType) -> bool

@@ -1,19 +1,18 @@
 //! The residual of a macroblock (7.3.5.3).
-ghost use Rattle.std.specs.Prelude.{◌≡◌, ◌≤◌, ◌==◌, ◌≤ℤ◌, ℤ, pos, negsuc, List, [], IfOk, ◌<◌, All};
+ghost use Rattle.std.specs.Prelude.{◌≡◌, ◌≤◌, ◌==◌, ◌≤ℤ◌, ℤ, pos, negsuc, List, [], IfOk, ◌<◌, All, replicate};
 ghost use Rattle.std.specs.List.{range_with_len};
 ghost use Rattle.avc_types.specs.MacroblockFields.{residual_of};
 ghost use Rattle.avc_bits.specs.Reader.{Reads};
 ghost use Rattle.avc_mbsyntax.specs.Ranges.{AreSmall, IsResidual};
 ghost use Rattle.avc_mbsyntax.specs.Reading.{after_pattern, blocks, cb_side, cr_side, is_coded};
-ghost use Rattle.avc_mbsyntax.specs.Reading.{luma_dc_levels, luma_side, qp_after, qp_delta, qp_delta_where};
+ghost use Rattle.avc_mbsyntax.specs.Reading.{luma_dc_levels, luma_side, no_levels, qp_after, qp_delta, qp_delta_where};
 ghost use Rattle.avc_mbsyntax.specs.Reading.{residual_blocks};
-ghost use Rattle.avc_mbsyntax.specs.Steps.{ReadsAs};
+ghost use Rattle.avc_mbsyntax.specs.Steps.{HasNoLevels, ReadsInto};
 
-use crate::blocks::{read_block_where, read_chroma_blocks, read_chroma_dc, read_luma_blocks};
+use crate::blocks::{read_chroma_blocks, read_chroma_dc, read_luma_blocks, read_luma_dc};
 use crate::context::Context;
 use crate::near::{cb_side, cr_side, luma_side};
 use avc_bits::BitReader;
-use avc_neigh::nc_luma;
 use avc_types::{BlockLevels, Fault, Levels};
 
 /// Which blocks are coded, and mb_qp_delta.
@@ -24,16 +23,34 @@ pub(crate) struct Patterns {
     pub mb_qp_delta: i8,
 }
 
-/// What follows coded_block_pattern.
+/// Levels that are all 0, and nothing else coded.
+pub(crate) fn zero_levels<const MAXN: usize>() -> BlockLevels<MAXN>
+    ensures { HasNoLevels result }
+{
+    BlockLevels {
+        luma_pattern: 0,
+        chroma_pattern: 0,
+        mb_qp_delta: 0,
+        luma: [Levels::zero(); 16],
+        cb_dc: Levels::zero(),
+        cr_dc: Levels::zero(),
+        cb_ac: [Levels::zero(); 4],
+        cr_ac: [Levels::zero(); 4],
+    }
+}
+
+/// Reads what follows coded_block_pattern into levels that are all 0.
 pub(crate) fn read_after_pattern(
     reader: &mut BitReader,
     context: &Context,
     pattern: u8,
-) -> Result<BlockLevels<16>, Fault>
-    requires { pattern < 48 }
-    ensures delta { IfOk result (λ levels. negsuc 25 ≤ℤ levels.mb_qp_delta) }
-    ensures range { IfOk result (λ levels. IsResidual (residual_of [] levels)) }
-    ensures read { ReadsAs (residual_of []) result (after_pattern context.now pattern) reader.old reader.new }
+    levels: &mut BlockLevels<16>,
+) -> Result<(), Fault>
+    requires pattern { pattern < 48 }
+    requires zero { HasNoLevels levels.old }
+    ensures delta { IfOk result (λ _. negsuc 25 ≤ℤ levels.new.mb_qp_delta) }
+    ensures range { IfOk result (λ _. IsResidual (residual_of [] levels.new)) }
+    ensures read { ReadsInto result (residual_of [] levels.new) (after_pattern context.now pattern) reader.old reader.new }
 {
     let mb_qp_delta = read_qp_delta_where(reader, pattern != 0)?;
     let patterns = Patterns {
@@ -41,8 +58,8 @@ pub(crate) fn read_after_pattern(
         chroma_pattern: pattern / 16,
         mb_qp_delta,
     };
-    let levels = read_levels(reader, context, patterns)?;
-    Ok(levels)
+    read_levels(reader, context, patterns, levels)?;
+    Ok(())
 }
 
 fn read_qp_delta_where(reader: &mut BitReader, coded: bool) -> Result<i8, Fault>
@@ -62,17 +79,13 @@ pub(crate) fn read_qp_delta(reader: &mut BitReader) -> Result<i8, Fault>
 }
 
 /// Intra16x16DCLevel.
-pub(crate) fn read_luma_dc(reader: &mut BitReader, context: &Context) -> Result<Levels<16>, Fault>
+pub(crate) fn read_intra_dc(reader: &mut BitReader, context: &Context) -> Result<Levels<16>, Fault>
     ensures read { Reads result (luma_dc_levels context.now) reader.old reader.new }
     ensures small { IfOk result AreSmall }
 {
-    let nc = nc_luma(
-        luma_side(&context.left),
-        luma_side(&context.up),
-        &[0; 16],
-        0,
-    );
-    read_block_where(reader, true, nc)
+    let left = luma_side(&context.left);
+    let up = luma_side(&context.up);
+    read_luma_dc(reader, left, up)
 }
 
 // The luma blocks.
@@ -80,18 +93,17 @@ fn read_luma<const MAXN: usize>(
     reader: &mut BitReader,
     context: &Context,
     luma_pattern: u8,
-) -> Result<[Levels<MAXN>; 16], Fault>
-    requires { MAXN ≤ 16 }
-    ensures small { IfOk result (λ levels. All AreSmall levels) }
-    ensures read { Reads result (blocks MAXN 16 (is_coded luma_pattern) (luma_side context.now.left)
+    levels: &mut [Levels<MAXN>; 16],
+) -> Result<(), Fault>
+    requires max { MAXN ≤ 16 }
+    requires zero { levels.old ≡ replicate 16 (no_levels MAXN) }
+    ensures small { IfOk result (λ _. All AreSmall levels.new) }
+    ensures read { ReadsInto result levels.new (blocks MAXN 16 (is_coded luma_pattern) (luma_side context.now.left)
         (luma_side context.now.up) (range_with_len 0 16) []) reader.old reader.new }
 {
-    read_luma_blocks(
-        reader,
-        luma_pattern,
-        luma_side(&context.left),
-        luma_side(&context.up),
-    )
+    let left = luma_side(&context.left);
+    let up = luma_side(&context.up);
+    read_luma_blocks(reader, luma_pattern, left, up, levels)
 }
 
 // The AC blocks of Cb.
@@ -99,17 +111,16 @@ fn read_cb_ac(
     reader: &mut BitReader,
     context: &Context,
     chroma_pattern: u8,
-) -> Result<[Levels<15>; 4], Fault>
-    ensures small { IfOk result (λ levels. All AreSmall levels) }
-    ensures read { Reads result
+    levels: &mut [Levels<15>; 4],
+) -> Result<(), Fault>
+    requires zero { levels.old ≡ replicate 4 (no_levels 15) }
+    ensures small { IfOk result (λ _. All AreSmall levels.new) }
+    ensures read { ReadsInto result levels.new
         (blocks 15 8 (λ k. chroma_pattern == 2) (cb_side context.now.left) (cb_side context.now.up) (range_with_len 0 4) []) reader.old reader.new }
 {
-    read_chroma_blocks(
-        reader,
-        chroma_pattern,
-        cb_side(&context.left),
-        cb_side(&context.up),
-    )
+    let left = cb_side(&context.left);
+    let up = cb_side(&context.up);
+    read_chroma_blocks(reader, chroma_pattern, left, up, levels)
 }
 
 // The AC blocks of Cr.
@@ -117,48 +128,43 @@ fn read_cr_ac(
     reader: &mut BitReader,
     context: &Context,
     chroma_pattern: u8,
-) -> Result<[Levels<15>; 4], Fault>
-    ensures small { IfOk result (λ levels. All AreSmall levels) }
-    ensures read { Reads result
+    levels: &mut [Levels<15>; 4],
+) -> Result<(), Fault>
+    requires zero { levels.old ≡ replicate 4 (no_levels 15) }
+    ensures small { IfOk result (λ _. All AreSmall levels.new) }
+    ensures read { ReadsInto result levels.new
         (blocks 15 8 (λ k. chroma_pattern == 2) (cr_side context.now.left) (cr_side context.now.up) (range_with_len 0 4) []) reader.old reader.new }
 {
-    read_chroma_blocks(
-        reader,
-        chroma_pattern,
-        cr_side(&context.left),
-        cr_side(&context.up),
-    )
+    let left = cr_side(&context.left);
+    let up = cr_side(&context.up);
+    read_chroma_blocks(reader, chroma_pattern, left, up, levels)
 }
 
-/// The blocks, behind Intra16x16DCLevel.
+/// Reads the blocks, behind Intra16x16DCLevel, into levels that are all 0.
 pub(crate) fn read_levels<const MAXN: usize>(
     reader: &mut BitReader,
     context: &Context,
     patterns: Patterns,
-) -> Result<BlockLevels<MAXN>, Fault>
+    levels: &mut BlockLevels<MAXN>,
+) -> Result<(), Fault>
     requires max { MAXN ≤ 16 }
     requires luma { patterns.luma_pattern ≤ 15 }
     requires chroma { patterns.chroma_pattern ≤ 2 }
-    ensures read { (luma_dc : List ℤ) → ReadsAs (residual_of luma_dc) result
+    requires zero { HasNoLevels levels.old }
+    ensures read { (luma_dc : List ℤ) → ReadsInto result (residual_of luma_dc levels.new)
         (residual_blocks context.now MAXN luma_dc patterns.luma_pattern patterns.chroma_pattern patterns.mb_qp_delta) reader.old reader.new }
-    ensures delta { IfOk result (λ levels. levels.mb_qp_delta ≡ patterns.mb_qp_delta) }
-    ensures range { IfOk result (λ levels. (luma_dc : List ℤ) → AreSmall luma_dc → IsResidual (residual_of luma_dc levels)) }
+    ensures delta { IfOk result (λ _. levels.new.mb_qp_delta ≡ patterns.mb_qp_delta) }
+    ensures range { IfOk result (λ _. (luma_dc : List ℤ) → AreSmall luma_dc → IsResidual (residual_of luma_dc levels.new)) }
 {
-    let luma = read_luma(reader, context, patterns.luma_pattern)?;
-    let cb_dc = read_chroma_dc(reader, patterns.chroma_pattern)?;
-    let cr_dc = read_chroma_dc(reader, patterns.chroma_pattern)?;
-    let cb_ac = read_cb_ac(reader, context, patterns.chroma_pattern)?;
-    let cr_ac = read_cr_ac(reader, context, patterns.chroma_pattern)?;
-    Ok(BlockLevels {
-        luma_pattern: patterns.luma_pattern,
-        chroma_pattern: patterns.chroma_pattern,
-        mb_qp_delta: patterns.mb_qp_delta,
-        luma,
-        cb_dc,
-        cr_dc,
-        cb_ac,
-        cr_ac,
-    })
+    levels.luma_pattern = patterns.luma_pattern;
+    levels.chroma_pattern = patterns.chroma_pattern;
+    levels.mb_qp_delta = patterns.mb_qp_delta;
+    read_luma(reader, context, patterns.luma_pattern, &mut levels.luma)?;
+    read_chroma_dc(reader, patterns.chroma_pattern, &mut levels.cb_dc)?;
+    read_chroma_dc(reader, patterns.chroma_pattern, &mut levels.cr_dc)?;
+    read_cb_ac(reader, context, patterns.chroma_pattern, &mut levels.cb_ac)?;
+    read_cr_ac(reader, context, patterns.chroma_pattern, &mut levels.cr_ac)?;
+    Ok(())
 }
 
 /// QP_Y after mb_qp_delta (7.4.5).

@@ -1,11 +1,12 @@
 //! The data of a slice (7.3.4), one macroblock at a time.
 ghost use Rattle.std.specs.Prelude.{◌≡◌, ◌+◌, ◌<◌, List, length, true, IfOk};
+ghost use Rattle.std.specs.Option.{option_copied};
 ghost use Rattle.avc_types.specs.Pictures.{PicMb};
 ghost use Rattle.avc_bits.specs.Reader.{reader_bits};
 ghost use Rattle.avc_mbsyntax.specs.SliceData.{SliceStart, left_total_coeffs, slice_data, up_total_coeffs};
 
 use crate::context::Context;
-use crate::macroblock::read_macroblock;
+use crate::macroblock::read_into;
 use crate::stage::{Stage, stage_after};
 use avc_bits::BitReader;
 use avc_neigh::TotalCoeffs;
@@ -25,7 +26,7 @@ pub struct SliceData<'a> {
 }
 
 impl<'a> SliceData<'a> {
-    ghost use Rattle.avc_mbsyntax.specs.Rest.{Follows, IsHandedOut, IsOneMore, IsRun, IsSkipped, rest_of};
+    ghost use Rattle.avc_mbsyntax.specs.Rest.{Follows, IsHandedOut, IsOneMore, IsRun, IsSkipped, handed_out, read_out, rest_of};
     ghost use Rattle.avc_mbsyntax.specs.declared.stage.Stage.TheVariants.{Next, Skipped};
 
     /// The data that a reader has ahead: of a P slice or an I slice, with `active_count` entries in RefPicList0 and the
@@ -45,40 +46,43 @@ impl<'a> SliceData<'a> {
         }
     }
 
-    /// The next macroblock, or `None` where the data has ended, or the first fault in the data, which then comes again.
-    /// `left` and `up` have total_coeff of the macroblocks to the left of it and above, where these are available.
+    /// Reads the next macroblock into `mb`, and answers whether there was one; `false` where the data has ended, or the first
+    /// fault in the data, which then comes again. `left` and `up` have total_coeff of the macroblocks to the left of it and
+    /// above, where these are available. Without a macroblock, anything may stand in `mb`.
     pub fn next(
         &mut self,
-        left: Option<TotalCoeffs>,
-        up: Option<TotalCoeffs>,
-    ) -> Result<Option<Mb>, Fault>
-        ensures { (s : SliceStart) (before : List PicMb) → Follows s before self.old → left ≡ left_total_coeffs s before
-            → up ≡ up_total_coeffs s before → IsHandedOut s before result self.old self.new }
+        left: Option<&TotalCoeffs>,
+        up: Option<&TotalCoeffs>,
+        mb: &mut Mb,
+    ) -> Result<bool, Fault>
+        ensures { (s : SliceStart) (before : List PicMb) → Follows s before self.old → option_copied left.entry ≡ left_total_coeffs s before
+            → option_copied up.entry ≡ up_total_coeffs s before → IsHandedOut s before (handed_out result mb.new) self.old self.new }
     {
         match self.stage {
-            Stage::Next => self.start(left, up),
-            Stage::Skipped(count) => self.go_on(count, left, up),
-            Stage::Ended => Ok(None),
+            Stage::Next => self.start(left, up, mb),
+            Stage::Skipped(count) => self.go_on(count, left, up, mb),
+            Stage::Ended => Ok(false),
         }
     }
 
     // from a macroblock of an I slice, or a run of a P slice
     fn start(
         &mut self,
-        left: Option<TotalCoeffs>,
-        up: Option<TotalCoeffs>,
-    ) -> Result<Option<Mb>, Fault>
+        left: Option<&TotalCoeffs>,
+        up: Option<&TotalCoeffs>,
+        mb: &mut Mb,
+    ) -> Result<bool, Fault>
         requires { self.old.stage ≡ Next }
-        ensures { (s : SliceStart) (before : List PicMb) → Follows s before self.old → left ≡ left_total_coeffs s before
-            → up ≡ up_total_coeffs s before → IsHandedOut s before result self.old self.new }
+        ensures { (s : SliceStart) (before : List PicMb) → Follows s before self.old → option_copied left.entry ≡ left_total_coeffs s before
+            → option_copied up.entry ≡ up_total_coeffs s before → IsHandedOut s before (handed_out result mb.new) self.old self.new }
     {
         let is_p = self.is_p;
         if is_p {
             let count = self.read_run()?;
-            self.go_on(count, left, up)
+            self.go_on(count, left, up, mb)
         } else {
-            let mb = self.read_one(left, up)?;
-            Ok(Some(mb))
+            self.read_one(left, up, mb)?;
+            Ok(true)
         }
     }
 
@@ -105,43 +109,48 @@ impl<'a> SliceData<'a> {
     fn go_on(
         &mut self,
         count: u32,
-        left: Option<TotalCoeffs>,
-        up: Option<TotalCoeffs>,
-    ) -> Result<Option<Mb>, Fault>
+        left: Option<&TotalCoeffs>,
+        up: Option<&TotalCoeffs>,
+        mb: &mut Mb,
+    ) -> Result<bool, Fault>
         requires { self.old.stage ≡ Skipped count }
-        ensures { (s : SliceStart) (before : List PicMb) → Follows s before self.old → left ≡ left_total_coeffs s before
-            → up ≡ up_total_coeffs s before → IsHandedOut s before result self.old self.new }
+        ensures { (s : SliceStart) (before : List PicMb) → Follows s before self.old → option_copied left.entry ≡ left_total_coeffs s before
+            → option_copied up.entry ≡ up_total_coeffs s before → IsHandedOut s before (handed_out result mb.new) self.old self.new }
     {
         if count > 0 {
-            return Ok(Some(self.skip(count)));
+            self.skip(count, mb);
+            return Ok(true);
         }
         let more = self.reader.more_data();
         if more {
-            let mb = self.read_one(left, up)?;
-            return Ok(Some(mb));
+            self.read_one(left, up, mb)?;
+            return Ok(true);
         }
         self.stage = Stage::Ended;
-        Ok(None)
+        Ok(false)
     }
 
     // a skipped macroblock, the first of so many
-    fn skip(&mut self, count: u32) -> Mb
+    fn skip(&mut self, count: u32, mb: &mut Mb)
         requires stage { self.old.stage ≡ Skipped count }
         requires some { 0 < count }
-        ensures { (s : SliceStart) (before : List PicMb) → Follows s before self.old → IsSkipped s before count result self.old self.new }
+        ensures { (s : SliceStart) (before : List PicMb) → Follows s before self.old → IsSkipped s before count mb.new self.old self.new }
     {
         self.stage = Stage::Skipped(count - 1);
         self.remaining = self.remaining.saturating_sub(1);
-        Mb {
-            syntax: Syntax::PSkip,
-            qp: self.qp,
-        }
+        mb.syntax = Syntax::PSkip;
+        mb.qp = self.qp;
     }
 
     // a macroblock that is coded
-    fn read_one(&mut self, left: Option<TotalCoeffs>, up: Option<TotalCoeffs>) -> Result<Mb, Fault>
-        ensures { (s : SliceStart) (before : List PicMb) → Follows s before self.old → left ≡ left_total_coeffs s before
-            → up ≡ up_total_coeffs s before → IsOneMore s before result self.old self.new }
+    fn read_one(
+        &mut self,
+        left: Option<&TotalCoeffs>,
+        up: Option<&TotalCoeffs>,
+        mb: &mut Mb,
+    ) -> Result<(), Fault>
+        ensures { (s : SliceStart) (before : List PicMb) → Follows s before self.old → option_copied left.entry ≡ left_total_coeffs s before
+            → option_copied up.entry ≡ up_total_coeffs s before → IsOneMore s before (read_out result mb.new) self.old self.new }
     {
         if self.remaining == 0 {
             return Err(Fault::TooManyMacroblocks);
@@ -150,15 +159,15 @@ impl<'a> SliceData<'a> {
             is_p: self.is_p,
             active_count: self.active_count,
             qp: self.qp,
-            left,
-            up,
+            left: left.copied(),
+            up: up.copied(),
         };
         let mut reader = self.reader;
-        let mb = read_macroblock(&mut reader, &context)?;
+        read_into(&mut reader, &context, mb)?;
         self.stage = stage_after(&reader);
         self.reader = reader;
         self.remaining -= 1;
         self.qp = mb.qp;
-        Ok(mb)
+        Ok(())
     }
 }

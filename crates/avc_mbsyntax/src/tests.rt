@@ -1,6 +1,6 @@
 use crate::{Context, SliceData, read_macroblock};
 use avc_bits::BitReader;
-use avc_types::{Fault, Syntax};
+use avc_types::{Fault, Mb, Syntax};
 use std::test::Fail;
 
 // of the first macroblock of an I slice
@@ -62,10 +62,14 @@ fn stays_where_there_is_no_macroblock(rt: HostRuntime) -> Result<(), Fail> {
 // How many macroblocks a slice has, and the fault that comes then, of a picture of three macroblocks in which so many remain.
 fn read_all(bytes: &[u8], is_p: bool, remaining: u32) -> (u32, Option<Fault>) {
     let mut data = SliceData::new(BitReader::new(bytes), is_p, 1, 26, remaining);
+    let mut mb = Mb {
+        syntax: Syntax::PSkip,
+        qp: 0,
+    };
     for count in 0..4 {
-        match data.next(None, None) {
-            Ok(Some(_)) => {}
-            Ok(None) => return (count, None),
+        match data.next(None, None, &mut mb) {
+            Ok(true) => {}
+            Ok(false) => return (count, None),
             Err(fault) => return (count, Some(fault)),
         }
     }

@@ -73,11 +73,11 @@ impl<const PAD: usize> Model for Macroblocks<PAD> {
 }
 
 /// total_coeff of a neighbouring macroblock, where it is available.
-fn total_coeffs_of(facts: Option<&NeighbourFacts>) -> Option<TotalCoeffs>
-    ensures { result ≡ option_map (λ f. f.total_coeffs) (option_copied facts.entry) }
+fn total_coeffs_of(facts: Option<&NeighbourFacts>) -> Option<&TotalCoeffs>
+    ensures { option_copied result ≡ option_map (λ f. f.total_coeffs) (option_copied facts.entry) }
 {
     match facts {
-        Some(facts) => Some(facts.total_coeffs),
+        Some(facts) => Some(&facts.total_coeffs),
         None => None,
     }
 }
@@ -131,11 +131,11 @@ impl<const PAD: usize> Macroblocks<PAD> {
 
     /// total_coeff of the blocks of the macroblocks to the left of the next one and above it, where these are available to
     /// this slice (9.2.1).
-    pub(crate) fn left_and_above(&self, slice: u32) -> (Option<TotalCoeffs>, Option<TotalCoeffs>)
+    pub(crate) fn left_and_above(&self, slice: u32) -> (Option<&TotalCoeffs>, Option<&TotalCoeffs>)
         ensures left { (c : Coded) (names : Names) (s : SliceStart) → HoldsFirst c names self.now → s.width ≡ c.width → s.slice ≡ slice
-            → result.0 ≡ left_total_coeffs s (take self.now.next c.mbs) }
+            → option_copied result.0 ≡ left_total_coeffs s (take self.now.next c.mbs) }
         ensures up { (c : Coded) (names : Names) (s : SliceStart) → HoldsFirst c names self.now → s.width ≡ c.width → s.slice ≡ slice
-            → result.1 ≡ up_total_coeffs s (take self.now.next c.mbs) }
+            → option_copied result.1 ≡ up_total_coeffs s (take self.now.next c.mbs) }
     {
         let around = self.row.around(slice);
         (total_coeffs_of(around.a), total_coeffs_of(around.b))

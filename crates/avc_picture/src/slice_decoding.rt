@@ -6,7 +6,7 @@ ghost use Rattle.avc_params.specs.Limits.{height_in_mbs, max_macroblocks, size_i
 ghost use Rattle.avc_params.specs.Within.{IsPps, IsSps};
 ghost use Rattle.avc_slice.specs.Header.{slice_qp};
 ghost use Rattle.avc_slice.specs.Within.{IsHeader};
-ghost use Rattle.avc_mbsyntax.specs.Rest.{Follows, IsHandedOut};
+ghost use Rattle.avc_mbsyntax.specs.Rest.{Follows, IsHandedOut, handed_out};
 ghost use Rattle.avc_mbsyntax.specs.SliceData.{SliceStart};
 ghost use Rattle.avc_plane.specs.Planes.{StoredFrame};
 ghost use Rattle.avc_deblock.specs.Facts.{Names};
@@ -25,7 +25,7 @@ use avc_mbsyntax::SliceData;
 use avc_params::{Pps, Sps};
 use avc_plane::Frame;
 use avc_slice::Slice;
-use avc_types::{Fault, Mb};
+use avc_types::{Fault, Mb, Syntax};
 
 /// Pic_init_qp without its offset (7.4.2.2).
 const FIRST_QP: i32 = 26;
@@ -58,18 +58,19 @@ fn slice_data<'a>(sps: &Sps, pps: &Pps, slice: &'a Slice, read: u32) -> SliceDat
     )
 }
 
-/// The next macroblock of the data, as its neighbours in the picture have it read.
+/// Reads the next macroblock of the data into `mb`, as its neighbours in the picture have it read. Answers whether there was one.
 fn next_macroblock<const PAD: usize>(
     unread: &mut SliceData<'_>,
     macroblocks: &Macroblocks<PAD>,
     number: u32,
-) -> Result<Option<Mb>, Fault>
+    mb: &mut Mb,
+) -> Result<bool, Fault>
     ensures { (c : Coded) (names : Names) (s : SliceStart) → HoldsFirst c names macroblocks.now → s.width ≡ c.width → s.slice ≡ number
         → Follows s (take macroblocks.now.next c.mbs) unread.old
-        → IsHandedOut s (take macroblocks.now.next c.mbs) result unread.old unread.new }
+        → IsHandedOut s (take macroblocks.now.next c.mbs) (handed_out result mb.new) unread.old unread.new }
 {
     let (left, up) = macroblocks.left_and_above(number);
-    unread.next(left, up)
+    unread.next(left, up, mb)
 }
 
 /// Decodes the macroblocks of a slice, and counts in `read` those that are read, a faulty one included. Answers the first fault.
@@ -89,7 +90,11 @@ fn decode_data<const PAD: usize>(
     ensures answer { (c : Coded) (names : Names) (s : SliceStart) → GoesOn c names s macroblocks.old unread.old context.now
         → IsDataAnswer c names macroblocks.old.next (outcome_from c s macroblocks.old unread.old) result read.new macroblocks.new }
 {
-    'macroblocks: while let Some(mb) = next_macroblock(unread, macroblocks, context.number)? {
+    let mut mb = Mb {
+        syntax: Syntax::PSkip,
+        qp: 0,
+    };
+    'macroblocks: while next_macroblock(unread, macroblocks, context.number, &mut mb)? {
         *read += 1;
         macroblocks.decode(&mb, context)?;
     }

@@ -6,7 +6,7 @@ use avc_mbsyntax::SliceData;
 use avc_neigh::Row;
 use avc_params::ParamTable;
 use avc_slice::read_header;
-use avc_types::Fault;
+use avc_types::{Fault, Mb, Syntax};
 use std::alloc::Global;
 use std::test::Fail;
 
@@ -33,11 +33,19 @@ fn read(alloc: Global, rbsp: &[u8], table: &ParamTable) -> Result<(u32, Option<F
     };
     let mut row = Row::new(alloc, 2)?;
     let mut data = SliceData::new(BitReader::at(rbsp, header.position), false, 0, 26, 2);
+    let mut mb = Mb {
+        syntax: Syntax::PSkip,
+        qp: 0,
+    };
     for count in 0..3 {
         let around = row.around(0);
-        match data.next(total_coeffs_in(around.a), total_coeffs_in(around.b)) {
-            Ok(Some(mb)) => row.put(&facts(0, total_coeffs_of(&mb.syntax))),
-            Ok(None) => return Ok((count, None)),
+        match data.next(
+            total_coeffs_in(around.a),
+            total_coeffs_in(around.b),
+            &mut mb,
+        ) {
+            Ok(true) => row.put(&facts(0, total_coeffs_of(&mb.syntax))),
+            Ok(false) => return Ok((count, None)),
             Err(fault) => return Ok((count, Some(fault))),
         }
     }

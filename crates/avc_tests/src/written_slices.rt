@@ -13,7 +13,7 @@ use avc_mbsyntax::SliceData;
 use avc_neigh::{Motion, NearMode, NeighbourFacts, Row, TotalCoeffs};
 use avc_params::ParamTable;
 use avc_slice::{CodedOrder, Header, SliceType, read_header};
-use avc_types::{Marking, Mb, MbAddr};
+use avc_types::{Marking, Mb, MbAddr, Syntax};
 use std::alloc::Global;
 use std::test::Fail;
 
@@ -111,9 +111,9 @@ pub(crate) fn facts(slice: u32, total_coeffs: TotalCoeffs) -> NeighbourFacts {
     }
 }
 
-pub(crate) fn total_coeffs_in(facts: Option<&NeighbourFacts>) -> Option<TotalCoeffs> {
+pub(crate) fn total_coeffs_in(facts: Option<&NeighbourFacts>) -> Option<&TotalCoeffs> {
     match facts {
-        Some(facts) => Some(facts.total_coeffs),
+        Some(facts) => Some(&facts.total_coeffs),
         None => None,
     }
 }
@@ -164,18 +164,27 @@ fn has_macroblocks(
     let active_count = header.active_count.min(16) as u8;
     let remaining = u32::from(WIDTH) * u32::from(HEIGHT) - FIRST;
     let mut data = SliceData::new(reader, header.is_p(), active_count, SLICE_QP, remaining);
+    let mut mb = Mb {
+        syntax: Syntax::PSkip,
+        qp: 0,
+    };
     'each: for written in macroblocks {
         let around = row.around(1);
-        let Ok(Some(mb)) = data.next(total_coeffs_in(around.a), total_coeffs_in(around.b)) else {
-            return Ok(false);
-        };
+        match data.next(
+            total_coeffs_in(around.a),
+            total_coeffs_in(around.b),
+            &mut mb,
+        ) {
+            Ok(true) => {}
+            _ => return Ok(false),
+        }
         if !is_same(&mb, written) {
             return Ok(false);
         }
         row.put(&facts(1, total_coeffs_of(&mb.syntax)));
     }
-    match data.next(None, None) {
-        Ok(None) => Ok(true),
+    match data.next(None, None, &mut mb) {
+        Ok(false) => Ok(true),
         _ => Ok(false),
     }
 }

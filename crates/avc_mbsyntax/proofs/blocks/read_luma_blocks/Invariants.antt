@@ -1,10 +1,10 @@
-use Rattle.std.proofs.Common.{◌≡◌, ◌-◌, length, take, map, []}
+use Rattle.std.proofs.Common.{◌≡◌, ◌≤◌, ℕ, ◌-◌, length, take, map, [], get_or}
 use Rattle.std.specs.List.{All, range_with_len}
 use Rattle.std.specs.Option.{option_copied}
 use Rattle.avc_types.specs.Macroblock.{total_coeff}
 use Rattle.avc_bits.specs.Reader.{reader_bits, reader_bytes}
 use Rattle.avc_mbsyntax.specs.Ranges.{AreSmall}
-use Rattle.avc_mbsyntax.specs.Reading.{blocks, is_coded}
+use Rattle.avc_mbsyntax.specs.Reading.{blocks, is_coded, no_levels}
 use Rattle.avc_mbsyntax.proofs.blocks.read_luma_blocks.Given as goal
 
 abbrev pub invariant-each : goal.invariant-each
@@ -16,4 +16,6 @@ invariant-each g l = record {
       ≡ blocks g.row.MAXN 16 (is_coded l.luma_pattern) (option_copied l.left) (option_copied l.up) (range_with_len l.k (16 - l.k)) (take l.k l.levels) (reader_bits l.reader);
   small : All AreSmall l.levels;
   bytes : reader_bytes l.reader ≡ reader_bytes l.fn.reader;
+  zero : (j : ℕ) → l.k ≤ j → get_or l.levels j (no_levels g.row.MAXN) ≡ no_levels g.row.MAXN;
+  none : (j : ℕ) → l.k ≤ j → get_or l.total_coeffs j 0 ≡ 0;
 }

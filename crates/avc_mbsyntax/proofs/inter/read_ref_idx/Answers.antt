@@ -4,15 +4,15 @@ use Rattle.avc_bits.specs.Bits.{times}
 use Rattle.avc_bits.specs.Codes.{te_to}
 use Rattle.avc_mbsyntax.specs.Reading.{ref_idx_l0}
 use Rattle.std.specs.List.{All}
-use Rattle.avc_mbsyntax.proofs.Giving.{gives_all, gives_te_to, if_gives_as}
+use Rattle.avc_mbsyntax.proofs.Giving.{gives_all, gives_te_to, if_gives_into}
 use Rattle.avc_mbsyntax.proofs.RefIdx.{ref_idx_coded}
-use Rattle.avc_mbsyntax.proofs.Same.{reads_as_same}
+use Rattle.avc_mbsyntax.proofs.Same.{reads_into_same}
 use Rattle.avc_mbsyntax.proofs.inter.read_ref_idx.Goals as goal
 
 pub returns-clause-read : goal.returns-clause-read
 returns-clause-read c =
     let read = rw (c.partitions.ensures.value, c.from-most.ensures) at c.read_elements.ensures.read in
-    reads_as_same (take (partitions c.args.mb_type.now)) c.read_elements.result (times (partitions c.args.mb_type.now) (te_to (c.args.active_count - 1))) (ref_idx_l0 c.args.active_count c.args.mb_type.now) c.args.reader.now c.read_elements.new.reader
+    reads_into_same c.read_elements.result (take (partitions c.args.mb_type.now) c.read_elements.new.elements) (times (partitions c.args.mb_type.now) (te_to (c.args.active_count - 1))) (ref_idx_l0 c.args.active_count c.args.mb_type.now) c.args.reader.now c.read_elements.new.reader
     (λ b. sym (ref_idx_coded c.args.active_count c.args.mb_type.now b (sym c.is_ref0.ensures ∙ c.if-is_ref0.false) c.if-active_count-le1.false)) read
 
 pub returns-clause-range : goal.returns-clause-range
@@ -20,4 +20,4 @@ returns-clause-range c =
     let most = c.args.active_count - 1 in
     let count = partitions c.args.mb_type.now in
     let read = rw (c.partitions.ensures.value, c.from-most.ensures) at c.read_elements.ensures.read in
-    if_gives_as (take count) (All (λ ref. ref ≤ most)) c.read_elements.result (times count (te_to most)) c.args.reader.now c.read_elements.new.reader read (gives_all (λ ref. ref ≤ most) count (te_to most) (gives_te_to most))
+    if_gives_into (All (λ ref. ref ≤ most)) c.read_elements.result (take count c.read_elements.new.elements) (times count (te_to most)) c.args.reader.now c.read_elements.new.reader read (gives_all (λ ref. ref ≤ most) count (te_to most) (gives_te_to most))

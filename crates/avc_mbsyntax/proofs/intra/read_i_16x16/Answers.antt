@@ -1,4 +1,4 @@
-use Rattle.std.proofs.Common.{◌≡◌, ◌∙◌, ap, Err, arith, rules, to_z, of_z, w8, sym}
+use Rattle.std.proofs.Common.{◌≡◌, ◌%◌, ◌∙◌, ap, Err, arith, rules, to_z, of_z, w8, sym}
 use Rattle.std.proofs.lemmas.Int.{ints}
 use Rattle.avc_types.specs.MacroblockFields.{residual_of}
 use Rattle.avc_bits.specs.Reader.{reader_bits}
@@ -6,26 +6,34 @@ use Rattle.avc_mbsyntax.specs.Reading.{i_16x16_mb, qp_after}
 use Rattle.avc_mbsyntax.proofs.AfterPatterns.{i_16x16_fault, i_16x16_read}
 use Rattle.avc_mbsyntax.proofs.intra.read_i_16x16.Goals as goal
 
-pub returns-in_err-levels-clause-read : goal.returns-in_err-levels-clause-read
-returns-in_err-levels-clause-read c =
+pub returns-in_err-read_levels-clause-read : goal.returns-in_err-read_levels-clause-read
+returns-in_err-read_levels-clause-read c =
     let delta = c.in_ok-mb_qp_delta.mb_qp_delta in
     let back : to_z w8 (of_z w8 c.in_ok-mb_qp_delta.mb_qp_delta) ≡ c.in_ok-mb_qp_delta.mb_qp_delta = omega (arith, ints) in
-    let fault : i_16x16_mb c.args.context.now c.args.n (reader_bits c.args.reader.now) ≡ Err c.in_err-levels.field-0.0 =
-    i_16x16_fault c.args.context.now c.args.n c.in_ok-chroma_mode.field-0 c.luma_pattern_of.result delta (to_z w8 (of_z w8 delta)) c.in_ok-luma_dc.luma_dc (reader_bits c.args.reader.now) (reader_bits c.ue_to.new.self) (reader_bits c.read_qp_delta.new.reader) (reader_bits c.read_luma_dc.new.reader) c.in_err-levels.field-0.0
-    c.in_ok-chroma_mode.ensures.read.0 c.in_ok-mb_qp_delta.ensures.read.0 c.in_ok-luma_dc.ensures.read.0 c.luma_pattern_of.ensures.value back (c.in_err-levels.ensures.read c.in_ok-luma_dc.luma_dc) in
+    let fault : i_16x16_mb c.args.context.now c.args.n (reader_bits c.args.reader.now) ≡ Err c.in_err-read_levels.field-0.0 =
+    i_16x16_fault c.args.context.now c.args.n c.in_ok-chroma_mode.field-0 c.luma_pattern_of.result delta (to_z w8 (of_z w8 delta)) c.in_ok-luma_dc.luma_dc (reader_bits c.args.reader.now) (reader_bits c.ue_to.new.self) (reader_bits c.read_qp_delta.new.reader) (reader_bits c.read_intra_dc.new.reader) c.in_err-read_levels.field-0.0
+    c.in_ok-chroma_mode.ensures.read.0 c.in_ok-mb_qp_delta.ensures.read.0 c.in_ok-luma_dc.ensures.read.0 c.luma_pattern_of.ensures.value back (c.in_err-read_levels.ensures.read c.in_ok-luma_dc.luma_dc) in
     search rules
 
 pub returns-clause-read : goal.returns-clause-read
 returns-clause-read c =
     let delta = c.in_ok-mb_qp_delta.mb_qp_delta in
-    let levels = c.in_ok-levels.levels in
+    let levels = c.read_levels.new.levels in
     let back : to_z w8 (of_z w8 c.in_ok-mb_qp_delta.mb_qp_delta) ≡ c.in_ok-mb_qp_delta.mb_qp_delta = omega (arith, ints) in
-    let q : c.qp_after.result ≡ qp_after c.args.context.now.qp c.in_ok-levels.levels.mb_qp_delta = c.qp_after.ensures.value ∙ ap (qp_after c.args.context.now.qp) (sym c.in_ok-levels.ensures.delta) in (
-      i_16x16_read c.args.context.now c.args.n c.in_ok-chroma_mode.field-0 c.luma_pattern_of.result c.qp_after.result delta (to_z w8 (of_z w8 delta)) c.in_ok-luma_dc.luma_dc (residual_of c.in_ok-luma_dc.luma_dc levels)
-          (reader_bits c.args.reader.now) (reader_bits c.ue_to.new.self) (reader_bits c.read_qp_delta.new.reader) (reader_bits c.read_luma_dc.new.reader) (reader_bits c.read_levels.new.reader)
-          c.in_ok-chroma_mode.ensures.read.0 c.in_ok-mb_qp_delta.ensures.read.0 c.in_ok-luma_dc.ensures.read.0 c.luma_pattern_of.ensures.value back (c.in_ok-levels.ensures.read c.in_ok-luma_dc.luma_dc).0 q,
-      (c.in_ok-levels.ensures.read c.in_ok-luma_dc.luma_dc).1 ∙ c.in_ok-luma_dc.ensures.read.1 ∙ c.in_ok-mb_qp_delta.ensures.read.1 ∙ c.in_ok-chroma_mode.ensures.read.1,
+    let q : c.qp_after-mb-inside.result ≡ qp_after c.args.context.now.qp c.read_levels.new.levels.mb_qp_delta = c.qp_after-mb-inside.ensures.value ∙ ap (qp_after c.args.context.now.qp) (sym c.in_ok-read_levels.ensures.delta) in
+    let m : c.in-I16x16.mode ≡ c.args.n % 4 = search rules in
+    let ch : c.in-I16x16.chroma_mode ≡ c.in_ok-chroma_mode.field-0 = search rules in
+    let dc : c.in-I16x16.luma_dc ≡ c.in_ok-luma_dc.luma_dc = search rules in
+    rw (m, ch, dc) (
+      i_16x16_read c.args.context.now c.args.n c.in_ok-chroma_mode.field-0 c.luma_pattern_of.result c.qp_after-mb-inside.result delta (to_z w8 (of_z w8 delta)) c.in_ok-luma_dc.luma_dc (residual_of c.in_ok-luma_dc.luma_dc levels)
+          (reader_bits c.args.reader.now) (reader_bits c.ue_to.new.self) (reader_bits c.read_qp_delta.new.reader) (reader_bits c.read_intra_dc.new.reader) (reader_bits c.read_levels.new.reader)
+          c.in_ok-chroma_mode.ensures.read.0 c.in_ok-mb_qp_delta.ensures.read.0 c.in_ok-luma_dc.ensures.read.0 c.luma_pattern_of.ensures.value back (c.in_ok-read_levels.ensures.read c.in_ok-luma_dc.luma_dc).0 q,
+      (c.in_ok-read_levels.ensures.read c.in_ok-luma_dc.luma_dc).1 ∙ c.in_ok-luma_dc.ensures.read.1 ∙ c.in_ok-mb_qp_delta.ensures.read.1 ∙ c.in_ok-chroma_mode.ensures.read.1,
     )
 
 pub returns-clause-range : goal.returns-clause-range
-returns-clause-range c = (omega arith, c.in_ok-chroma_mode.ensures.most, c.in_ok-levels.ensures.range c.in_ok-luma_dc.luma_dc c.in_ok-luma_dc.ensures.small)
+returns-clause-range c =
+    let m : c.in-I16x16.mode ≡ c.args.n % 4 = search rules in
+    let ch : c.in-I16x16.chroma_mode ≡ c.in_ok-chroma_mode.field-0 = search rules in
+    let dc : c.in-I16x16.luma_dc ≡ c.in_ok-luma_dc.luma_dc = search rules in
+    rw (m, ch, dc) (omega arith, c.in_ok-chroma_mode.ensures.most, c.in_ok-read_levels.ensures.range c.in_ok-luma_dc.luma_dc c.in_ok-luma_dc.ensures.small)

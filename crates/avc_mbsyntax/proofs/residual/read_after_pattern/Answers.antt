@@ -6,21 +6,21 @@ use Rattle.avc_mbsyntax.specs.Reading.{after_pattern}
 use Rattle.avc_mbsyntax.proofs.AfterPatterns.{after_delta}
 use Rattle.avc_mbsyntax.proofs.residual.read_after_pattern.Goals as goal
 
-pub returns-in_err-levels-clause-read : goal.returns-in_err-levels-clause-read
-returns-in_err-levels-clause-read c =
+pub returns-in_err-read_levels-clause-read : goal.returns-in_err-read_levels-clause-read
+returns-in_err-read_levels-clause-read c =
     let back : to_z w8 (of_z w8 c.in_ok-mb_qp_delta.mb_qp_delta) ≡ c.in_ok-mb_qp_delta.mb_qp_delta = omega (arith, ints) in
-    let fault : after_pattern c.args.context.now c.args.pattern (reader_bits c.args.reader.now) ≡ Err c.in_err-levels.field-0.0 =
+    let fault : after_pattern c.args.context.now c.args.pattern (reader_bits c.args.reader.now) ≡ Err c.in_err-read_levels.field-0.0 =
     after_delta c.args.context.now c.args.pattern c.in_ok-mb_qp_delta.mb_qp_delta (to_z w8 (of_z w8 c.in_ok-mb_qp_delta.mb_qp_delta)) (reader_bits c.args.reader.now) (reader_bits c.read_qp_delta_where.new.reader) c.in_ok-mb_qp_delta.ensures.read.0 back
-    ∙ c.in_err-levels.ensures.read [] in
+    ∙ c.in_err-read_levels.ensures.read [] in
     search rules
 
 pub returns-clause-read : goal.returns-clause-read
 returns-clause-read c =
     let back : to_z w8 (of_z w8 c.in_ok-mb_qp_delta.mb_qp_delta) ≡ c.in_ok-mb_qp_delta.mb_qp_delta = omega (arith, ints) in (
       after_delta c.args.context.now c.args.pattern c.in_ok-mb_qp_delta.mb_qp_delta (to_z w8 (of_z w8 c.in_ok-mb_qp_delta.mb_qp_delta)) (reader_bits c.args.reader.now) (reader_bits c.read_qp_delta_where.new.reader) c.in_ok-mb_qp_delta.ensures.read.0 back
-          ∙ (c.in_ok-levels.ensures.read []).0,
-      (c.in_ok-levels.ensures.read []).1 ∙ c.in_ok-mb_qp_delta.ensures.read.1,
+          ∙ (c.in_ok-read_levels.ensures.read []).0,
+      (c.in_ok-read_levels.ensures.read []).1 ∙ c.in_ok-mb_qp_delta.ensures.read.1,
     )
 
 pub returns-clause-range : goal.returns-clause-range
-returns-clause-range c = c.in_ok-levels.ensures.range [] (λ i. small_none 0 i)
+returns-clause-range c = c.in_ok-read_levels.ensures.range [] (λ i. small_none 0 i)

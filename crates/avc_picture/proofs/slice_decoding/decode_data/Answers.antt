@@ -1,17 +1,17 @@
 use Rattle.std.proofs.Common.{◌≡◌, ◌+◌, ◌*◌, Ok, Err, take, sym, subst, ◌∙◌, arith, rules}
-use Rattle.avc_mbsyntax.specs.Rest.{IsHandedOut}
+use Rattle.avc_mbsyntax.specs.Rest.{IsHandedOut, handed_out}
 use Rattle.avc_picture.specs.DecoderState.{IsDataAnswer, outcome_from}
-use Rattle.avc_picture.proofs.DataAnswers.{ends-badly, ends-well, goes-further, less-left, none-of, same-area, usable-still}
+use Rattle.avc_picture.proofs.DataAnswers.{ends-badly, ends-well, goes-further, less-left, same-area, usable-still}
 use Rattle.avc_picture.proofs.DataGoesOn.{at-end, at-fault, faulty, goes-on-from, is-read, next-mb, room}
 use Rattle.avc_picture.proofs.slice_decoding.decode_data.Goals as goal
 
-pub returns-in_err-mb-clause-answer : goal.returns-in_err-mb-clause-answer
-returns-in_err-mb-clause-answer g c = λ coded names s go.
+pub returns-in_err-next_macroblock-clause-answer : goal.returns-in_err-next_macroblock-clause-answer
+returns-in_err-next_macroblock-clause-answer g c = λ coded names s go.
     let m = c.macroblocks.macroblocks in
     let far = c.macroblocks.invariant.goes_on coded names s go in
     let here = far.goes_on in
-    let out = c.in_err-mb.ensures coded names s here.holds here.width here.number here.follows in
-    let f = c.in_err-mb.field-0.0 in
+    let out = c.in_err-next_macroblock.ensures coded names s here.holds here.width here.number here.follows in
+    let f = c.in_err-next_macroblock.field-0.0 in
     let same : c.macroblocks.read + 0 ≡ c.macroblocks.read = omega arith in
     let e : c.from_residual.result ≡ Err f = search rules in
     subst (λ r. IsDataAnswer coded names c.args.macroblocks.now.next (outcome_from coded s c.args.macroblocks.now c.args.unread.now) r c.macroblocks.read m) (sym e)
@@ -25,15 +25,15 @@ decode-requires g c =
     let m = c.macroblocks.macroblocks in
     let here = (c.macroblocks.invariant.goes_on w.coded w.names w.start w.goes_on).goes_on in
     let d' = c.next_macroblock.new.unread in
-    let handed = c.in_ok-mb.ensures w.coded w.names w.start here.holds here.width here.number here.follows in
-    let out = subst (λ o. IsHandedOut w.start (take m.next w.coded.mbs) (Ok o) c.macroblocks.unread d') c.in-Some.is handed in (
+    let handed = c.in_ok-next_macroblock.ensures w.coded w.names w.start here.holds here.width here.number here.follows in
+    let out = subst (λ o. IsHandedOut w.start (take m.next w.coded.mbs) (handed_out (Ok o) c.next_macroblock.new.mb) c.macroblocks.unread d') c.if-branch.true handed in (
       omega arith,
       (
         omega arith,
         (
-          room w.coded w.names w.start m c.macroblocks.unread d' c.args.context.now c.in-Some.mb here out,
+          room w.coded w.names w.start m c.macroblocks.unread d' c.args.context.now c.next_macroblock.new.mb here out,
           (
-            is-read w.coded w.names w.start m c.macroblocks.unread d' c.args.context.now c.in-Some.mb here out,
+            is-read w.coded w.names w.start m c.macroblocks.unread d' c.args.context.now c.next_macroblock.new.mb here out,
             usable-still _ c.args.macroblocks.now m c.macroblocks.invariant.size c.requires.usable,
           ),
         ),
@@ -46,10 +46,10 @@ macroblocks-smaller g c =
     let m = c.macroblocks.macroblocks in
     let here = (c.macroblocks.invariant.goes_on w.coded w.names w.start w.goes_on).goes_on in
     let d' = c.next_macroblock.new.unread in
-    let handed = c.in_ok-mb.ensures w.coded w.names w.start here.holds here.width here.number here.follows in
-    let out = subst (λ o. IsHandedOut w.start (take m.next w.coded.mbs) (Ok o) c.macroblocks.unread d') c.in-Some.is handed in
+    let handed = c.in_ok-next_macroblock.ensures w.coded w.names w.start here.holds here.width here.number here.follows in
+    let out = subst (λ o. IsHandedOut w.start (take m.next w.coded.mbs) (handed_out (Ok o) c.next_macroblock.new.mb) c.macroblocks.unread d') c.if-branch.true handed in
     less-left (m.canvas.width * m.canvas.height) _ m.next _ (same-area m c.decode.new.self c.in_ok-decode.ensures.size) c.in_ok-decode.ensures.next
-    (room w.coded w.names w.start m c.macroblocks.unread d' c.args.context.now c.in-Some.mb here out)
+    (room w.coded w.names w.start m c.macroblocks.unread d' c.args.context.now c.next_macroblock.new.mb here out)
 
 pub macroblocks-preserved : goal.macroblocks-preserved
 macroblocks-preserved g c =
@@ -60,9 +60,9 @@ macroblocks-preserved g c =
     let m' = c.decode.new.self in
     let before = c.macroblocks.invariant in
     let here = (before.goes_on w.coded w.names w.start w.goes_on).goes_on in
-    let handed = c.in_ok-mb.ensures w.coded w.names w.start here.holds here.width here.number here.follows in
-    let out = subst (λ o. IsHandedOut w.start (take m.next w.coded.mbs) (Ok o) d d') c.in-Some.is handed in
-    let inside = room w.coded w.names w.start m d d' c.args.context.now c.in-Some.mb here out in
+    let handed = c.in_ok-next_macroblock.ensures w.coded w.names w.start here.holds here.width here.number here.follows in
+    let out = subst (λ o. IsHandedOut w.start (take m.next w.coded.mbs) (handed_out (Ok o) c.next_macroblock.new.mb) d d') c.if-branch.true handed in
+    let inside = room w.coded w.names w.start m d d' c.args.context.now c.next_macroblock.new.mb here out in
     let kept = c.in_ok-decode.ensures.size in
     let area = same-area m m' kept in
     let next = c.in_ok-decode.ensures.next in
@@ -73,11 +73,11 @@ macroblocks-preserved g c =
       goes_on = λ coded names s go.
           let far = before.goes_on coded names s go in
           let at = far.goes_on in
-          let handed' = c.in_ok-mb.ensures coded names s at.holds at.width at.number at.follows in
-          let out' = subst (λ o. IsHandedOut s (take m.next coded.mbs) (Ok o) d d') c.in-Some.is handed' in
-          let decoded = c.in_ok-decode.ensures.decoded coded names at.holds (next-mb coded names s m d d' c.args.context.now c.in-Some.mb at out') at.is_slice in
+          let handed' = c.in_ok-next_macroblock.ensures coded names s at.holds at.width at.number at.follows in
+          let out' = subst (λ o. IsHandedOut s (take m.next coded.mbs) (handed_out (Ok o) c.next_macroblock.new.mb) d d') c.if-branch.true handed' in
+          let decoded = c.in_ok-decode.ensures.decoded coded names at.holds (next-mb coded names s m d d' c.args.context.now c.next_macroblock.new.mb at out') at.is_slice in
           goes-further coded names s c.args.context.now c.args.macroblocks.now c.args.unread.now m d far c.macroblocks.read before.reached m' d'
-          (goes-on-from coded names s m d d' c.args.context.now c.in-Some.mb at out' m' next decoded.0 decoded.1);
+          (goes-on-from coded names s m d d' c.args.context.now c.next_macroblock.new.mb at out' m' next decoded.0 decoded.1);
     }
 
 pub returns-in_err-decode-clause-within : goal.returns-in_err-decode-clause-within
@@ -86,9 +86,9 @@ returns-in_err-decode-clause-within g c =
     let m = c.macroblocks.macroblocks in
     let here = (c.macroblocks.invariant.goes_on w.coded w.names w.start w.goes_on).goes_on in
     let d' = c.next_macroblock.new.unread in
-    let handed = c.in_ok-mb.ensures w.coded w.names w.start here.holds here.width here.number here.follows in
-    let out = subst (λ o. IsHandedOut w.start (take m.next w.coded.mbs) (Ok o) c.macroblocks.unread d') c.in-Some.is handed in
-    let inside = room w.coded w.names w.start m c.macroblocks.unread d' c.args.context.now c.in-Some.mb here out in
+    let handed = c.in_ok-next_macroblock.ensures w.coded w.names w.start here.holds here.width here.number here.follows in
+    let out = subst (λ o. IsHandedOut w.start (take m.next w.coded.mbs) (handed_out (Ok o) c.next_macroblock.new.mb) c.macroblocks.unread d') c.if-branch.true handed in
+    let inside = room w.coded w.names w.start m c.macroblocks.unread d' c.args.context.now c.next_macroblock.new.mb here out in
     let area = same-area c.args.macroblocks.now m c.macroblocks.invariant.size in
     omega (arith, inside, area, c.macroblocks.invariant.reached)
 
@@ -99,14 +99,14 @@ returns-in_err-decode-clause-answer g c = λ coded names s go.
     let d' = c.next_macroblock.new.unread in
     let far = c.macroblocks.invariant.goes_on coded names s go in
     let at = far.goes_on in
-    let handed = c.in_ok-mb.ensures coded names s at.holds at.width at.number at.follows in
-    let out = subst (λ o. IsHandedOut s (take m.next coded.mbs) (Ok o) d d') c.in-Some.is handed in
+    let handed = c.in_ok-next_macroblock.ensures coded names s at.holds at.width at.number at.follows in
+    let out = subst (λ o. IsHandedOut s (take m.next coded.mbs) (handed_out (Ok o) c.next_macroblock.new.mb) d d') c.if-branch.true handed in
     let f = c.in_err-decode.field-0.0 in
-    let wrong = c.in_err-decode.ensures.decoded coded names at.holds (next-mb coded names s m d d' c.args.context.now c.in-Some.mb at out) at.is_slice in
+    let wrong = c.in_err-decode.ensures.decoded coded names at.holds (next-mb coded names s m d d' c.args.context.now c.next_macroblock.new.mb at out) at.is_slice in
     let e : c.from_residual-in_err-decode.result ≡ Err f = search rules in
     subst (λ r. IsDataAnswer coded names c.args.macroblocks.now.next (outcome_from coded s c.args.macroblocks.now c.args.unread.now) r (c.macroblocks.read + 1) c.decode.new.self) (sym e)
     (ends-badly coded names s c.args.context.now c.args.macroblocks.now c.args.unread.now m d far c.macroblocks.read c.macroblocks.invariant.reached 1 f c.decode.new.self
-    (faulty coded names s m d d' c.args.context.now c.in-Some.mb at out f wrong))
+    (faulty coded names s m d d' c.args.context.now c.next_macroblock.new.mb at out f wrong))
 
 pub returns-clause-answer : goal.returns-clause-answer
 returns-clause-answer g c = λ coded names s go.
@@ -115,7 +115,7 @@ returns-clause-answer g c = λ coded names s go.
     let d' = c.next_macroblock.new.unread in
     let far = c.macroblocks.invariant.goes_on coded names s go in
     let at = far.goes_on in
-    let handed = c.in_ok-mb.ensures coded names s at.holds at.width at.number at.follows in
-    let out = subst (λ o. IsHandedOut s (take m.next coded.mbs) (Ok o) d d') (none-of c.in_ok-mb.field-0 c.in_default.not-Some) handed in
+    let handed = c.in_ok-next_macroblock.ensures coded names s at.holds at.width at.number at.follows in
+    let out = subst (λ o. IsHandedOut s (take m.next coded.mbs) (handed_out (Ok o) c.next_macroblock.new.mb) d d') c.if-branch.false handed in
     ends-well coded names s c.args.context.now c.args.macroblocks.now c.args.unread.now m d far c.macroblocks.read c.macroblocks.invariant.reached
     (at-end coded names s m d d' c.args.context.now at out)

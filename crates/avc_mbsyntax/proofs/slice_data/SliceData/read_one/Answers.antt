@@ -13,20 +13,20 @@ pub returns : goal.returns
 unfolding rest_of
 returns c = λ s before f l u.
     let d = c.args.self.now in
-    let mb = c.in_ok-mb.mb in
-    let mid = reader_bits c.read_macroblock.new.reader in
-    let same_qp : c.mb.inside.qp ≡ c.in_ok-mb.mb.qp = ap (λ m. m.qp) c.mb.view_is in
+    let mb = c.read_into.new.mb in
+    let mid = reader_bits c.read_into.new.reader in
+    let same_qp : c.mb.inside.qp ≡ c.read_into.new.mb.qp = ap (λ m. m.qp) c.mb.view_is in
     let some : 0 < c.args.self.now.remaining = omega (arith, c.if-self-eq0.false) in
     let room : (length before == s.size) ≡ false = is_open (length before) s.size d.remaining f.size c.if-self-eq0.false in
-    let read : macroblock (context s before c.args.self.now.qp) (reader_bits c.args.self.now.reader) ≡ Ok (c.in_ok-mb.mb, reader_bits c.read_macroblock.new.reader) =
-    ap (λ x. macroblock x (reader_bits d.reader)) (context_is s before d.is_p d.active_count d.qp c.args.left c.args.up f.is_p f.active_count l u) ∙ c.in_ok-mb.ensures.read.0 in (
+    let read : macroblock (context s before c.args.self.now.qp) (reader_bits c.args.self.now.reader) ≡ Ok (c.read_into.new.mb, reader_bits c.read_into.new.reader) =
+    ap (λ x. macroblock x (reader_bits d.reader)) (context_is s before d.is_p d.active_count d.qp c.copied.result c.copied-2.result f.is_p f.active_count (c.copied.ensures ∙ l) (c.copied-2.ensures ∙ u)) ∙ c.in_ok-read_into.ensures.read.0 in (
       one_read s before d.qp c.mb.inside.qp (reader_bits d.reader) mid mb c.stage_after-self.result room read c.stage_after-self.ensures same_qp,
       record {
         is_p = f.is_p;
         active_count = f.active_count;
         size = one_longer before (placed s mb) s.size d.remaining f.size some;
-        quantiser = λ small. omega (arith, c.in_ok-mb.ensures.quantiser (f.quantiser small), same_qp);
+        quantiser = λ small. omega (arith, c.in_ok-read_into.ensures.quantiser (f.quantiser small), same_qp);
         stage = subst (λ t. IsStage t s (d.remaining - 1)) (sym c.stage_after-self.ensures) (stage_is (more_data mid) s (d.remaining - 1));
       },
-      record { range = subst (λ n. IsSyntax n mb.syntax) (sym f.active_count) c.in_ok-mb.ensures.range; quantiser = λ small. c.in_ok-mb.ensures.quantiser (f.quantiser small) },
+      record { range = subst (λ n. IsSyntax n mb.syntax) (sym f.active_count) c.in_ok-read_into.ensures.range; quantiser = λ small. c.in_ok-read_into.ensures.quantiser (f.quantiser small) },
     )
