@@ -1,7 +1,6 @@
 -- No unit of a stream is longer than the stream.
 use Rattle.std.proofs.Common.{◌≡◌, ◌+◌, ◌≤◌, ℕ, zero, suc, Bool, true, false, List, [], ◌∷◌, ◌++◌, length, drop, slice_index, Option, Some, None, nat_le, refl, ap, sym, ◌∙◌, arith}
 use Rattle.std.proofs.lemmas.Bool.Decides.{nat_tests}
-use Rattle.std.specs.List.{flat_map}
 use Rattle.std.specs.Option.{option_map}
 use Rattle.std.proofs.lemmas.List.{length-drop}
 use Rattle.avc_annexb.specs.Units.{PlacedUnit, placed_units, numbered, unit_of, unit_at, units, unit_bytes, before_end, without_last_zeros, is_end, is_start, saturated}
@@ -42,10 +41,11 @@ without_no_more : (bytes : List ℕ) → length (without_last_zeros bytes) ≤ l
 without_no_more [] = omega arith
 without_no_more (b ∷ bytes) = at_head b bytes (without_last_zeros bytes) refl (without_no_more bytes)
 
-bytes_at : (bytes : List ℕ) (front : Option (List ℕ)) → NoMore (length bytes) front
-    → NoMore (length bytes) (elim front [ Some f ↦ Some f | None ↦ Some (without_last_zeros bytes) ])
-bytes_at bytes (Some f) h = h
-bytes_at bytes None h = without_no_more bytes
+bytes_at : (ended : Bool) (bytes : List ℕ) (front : Option (List ℕ)) → NoMore (length bytes) front
+    → NoMore (length bytes) (elim front [ Some f ↦ Some f | None ↦ elim ended [ true ↦ Some (without_last_zeros bytes) | false ↦ None ] ])
+bytes_at ended bytes (Some f) h = h
+bytes_at true bytes None h = without_no_more bytes
+bytes_at false bytes None h = tt
 
 -- A unit of so many bytes at most has its body, whatever the greatest length is from there on.
 abbrev AreShort : ℕ → List PlacedUnit → Type 0
@@ -73,15 +73,15 @@ short_if : (n : ℕ) (here : Bool) (us : List PlacedUnit) → AreShort n us → 
 short_if n true us h = h
 short_if n false us h = tt
 
-are_short : (place : ℕ) (bytes : List ℕ) → AreShort (length bytes) (placed_units place true bytes)
-are_short place [] = tt
-are_short place (b ∷ bytes) =
+are_short : (place : ℕ) (ended : Bool) (bytes : List ℕ) → AreShort (length bytes) (placed_units place ended bytes)
+are_short place ended [] = tt
+are_short place ended (b ∷ bytes) =
     let rest = drop 3 (b ∷ bytes) in
     let long : length rest ≤ suc (length bytes) = omega (arith, length-drop 3 (b ∷ bytes)) in
-    short-append (suc (length bytes)) _ (placed_units (place + 1) true bytes)
+    short-append (suc (length bytes)) _ (placed_units (place + 1) ended bytes)
     (short_if (suc (length bytes)) (is_start (b ∷ bytes)) _
-    (short_at (suc (length bytes)) (place + 3) (unit_bytes true rest) (no_more_than (length rest) (suc (length bytes)) _ long (bytes_at rest (before_end rest) (before_end_no_more rest)))))
-    (short_more (length bytes) (suc (length bytes)) _ (omega arith) (are_short (place + 1) bytes))
+    (short_at (suc (length bytes)) (place + 3) (unit_bytes ended rest) (no_more_than (length rest) (suc (length bytes)) _ long (bytes_at ended rest (before_end rest) (before_end_no_more rest)))))
+    (short_more (length bytes) (suc (length bytes)) _ (omega arith) (are_short (place + 1) ended bytes))
 
 -- with its body or without
 abbrev made : ℕ → PlacedUnit → Bool → Piece
@@ -105,9 +105,5 @@ same_units few many index (u ∷ us) le h =
     ∙ ap (λ vs. unit_of few index u ∷ vs) (same_units few many (index + 1) us le h.1)
 
 -- So they are all there, where the greatest length is that of the stream or more.
-pub whole_units : (many : ℕ) (bytes : List ℕ) → length bytes ≤ many → units many bytes true ≡ units (length bytes) bytes true
-whole_units many bytes le = same_units (length bytes) many 0 (placed_units 0 true bytes) le (are_short 0 bytes)
-
-pub each_alone : {X : Type 0} (us : List X) → flat_map (λ u. u ∷ []) us ≡ us
-each_alone [] = refl
-each_alone (u ∷ us) = ap (λ vs. u ∷ vs) (each_alone us)
+pub whole_units : (many : ℕ) (bytes : List ℕ) (ended : Bool) → length bytes ≤ many → units many bytes ended ≡ units (length bytes) bytes ended
+whole_units many bytes ended le = same_units (length bytes) many 0 (placed_units 0 ended bytes) le (are_short 0 ended bytes)

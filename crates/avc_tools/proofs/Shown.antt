@@ -1,50 +1,107 @@
 -- Headers, one line after the other.
-use Rattle.std.proofs.Common.{◌≡◌, ◌+◌, ◌<◌, ◌≤◌, ℕ, Bool, true, false, List, [], ◌∷◌, ◌++◌, length, take, drop, get_or, Option, Some, None, Ok, Err, refl, ap, sym, ◌∙◌, append_assoc, append-nil}
-use Rattle.std.proofs.lemmas.List.{drop_more, take_more, drop_all}
+use Rattle.std.proofs.Common.{◌≡◌, ◌^◌, ◌≤◌, ℕ, Bool, true, false, List, [], ◌∷◌, ◌++◌, length, Option, Some, None, Ok, Err, refl, ap, sym, ◌∙◌, arith, append_assoc, append-nil, length-append}
 use Rattle.avc_types.specs.declared.fault.Fault.{Fault}
 use Rattle.avc_types.specs.declared.fault.Fault.TheVariants as faults
-use Rattle.avc_annexb.specs.Units.{forbidden_zero_bit}
+use Rattle.avc_annexb.specs.Laws.{UnitsStay}
+use Rattle.avc_annexb.specs.SplitterState.{SplitterState}
+use Rattle.avc_annexb.specs.Units.{forbidden_zero_bit, units}
 use Rattle.avc_annexb.specs.declared.unit.Unit.{Unit}
 use Rattle.avc_params.specs.Tables.{Sets, sets_after}
+use Rattle.avc_params.specs.declared.set_unit.SetUnit.{SetUnit}
 use Rattle.avc_slice.specs.declared.header.Header.{Header}
 use Rattle.avc_slice.specs.Reading.{header_in_rbsp}
-use Rattle.avc_units.specs.GrouperState.{GrouperState, after_step}
 use Rattle.avc_units.specs.Grouping.{Kind, kind, list_of, rbsp_of, set_unit, set_units, slice_in, with_header}
-use Rattle.avc_units.specs.declared.step.Step.{Step}
-use Rattle.avc_tools.specs.Lines.{header_line, header_lines_from, header_text, line_of, refused_text, slice_text, text_of}
+use Rattle.avc_tools.proofs.Growing.{AreLeft, drained}
+use Rattle.avc_tools.proofs.Lengths.{whole_units}
+use Rattle.avc_tools.specs.Showing.{AreShown, header_lines_under}
+use Rattle.avc_tools.specs.Streams.{OnlyGrows, StreamSoFar, after_units_left, units_left}
+use Rattle.avc_tools.specs.Lines.{header_line, header_lines_from, header_lines_so_far, header_text, line_of, refused_text, slice_text, text_of}
 
 pub set_units-append : (us vs : List Unit) → set_units (us ++ vs) ≡ set_units us ++ set_units vs
 set_units-append [] vs = refl
 set_units-append (u ∷ us) vs = ap (λ l. list_of (set_unit u) ++ l) (set_units-append us vs) ∙ sym (append_assoc (list_of (set_unit u)) (set_units us) (set_units vs))
 
--- The lines of the units before i are there, and the sets that these brought.
-pub record IsShown (us : List Unit) (i : ℕ) (g : GrouperState) (text : List ℕ) : Type 0 where
-  pub sets : g.sets ≡ set_units (take i us)
-  pub lines : text ++ header_lines_from (take i us) (drop i us) ≡ header_lines_from [] us
+-- one unit's sets in front
+sets_then : (sets : List SetUnit) (u : Unit) (us : List Unit) → (sets ++ set_units (u ∷ [])) ++ set_units us ≡ sets ++ set_units (u ∷ us)
+sets_then sets u us =
+    append_assoc sets (set_units (u ∷ [])) (set_units us)
+    ∙ ap (λ l. sets ++ (l ++ set_units us)) (append-nil (list_of (set_unit u)))
 
-pub shown_more : (us : List Unit) (i : ℕ) (u : Unit) (g new : GrouperState) (s : Step) (text more : List ℕ) → i < length us → u ≡ get_or us i u → IsShown us i g text
-    → new ≡ after_step g u s → more ≡ text ++ header_line (sets_after g.sets) u → IsShown us (i + 1) new more
-shown_more us i u g new s text more low at h takes added =
-    let front : take (i + 1) us ≡ take i us ++ u ∷ [] = take_more us i u low ∙ ap (λ v. take i us ++ v ∷ []) (sym at) in
-    let back : drop i us ≡ u ∷ drop (i + 1) us = drop_more us i u low ∙ ap (λ v. v ∷ drop (i + 1) us) (sym at) in
-    let line : header_line (sets_after g.sets) u ≡ header_line (sets_after (set_units (take i us))) u = ap (λ ss. header_line (sets_after ss) u) h.sets in
+under-append : (sets : List SetUnit) (us vs : List Unit) → header_lines_under sets (us ++ vs) ≡ header_lines_under sets us ++ header_lines_under (sets ++ set_units us) vs
+under-append sets [] vs = ap (λ l. header_lines_under l vs) (sym (append-nil sets))
+under-append sets (u ∷ us) vs =
+    let line = header_line (sets_after sets) u in
+    let front = header_lines_under (sets ++ set_units (u ∷ [])) us in
+    ap (λ l. line ++ l) (under-append (sets ++ set_units (u ∷ [])) us vs)
+    ∙ ap (λ l. line ++ (front ++ header_lines_under l vs)) (sets_then sets u us)
+    ∙ sym (append_assoc line front (header_lines_under (sets ++ set_units (u ∷ us)) vs))
+
+from_under : (before us : List Unit) → header_lines_under (set_units before) us ≡ header_lines_from before us
+from_under before [] = refl
+from_under before (u ∷ us) =
+    ap (λ l. header_line (sets_after (set_units before)) u ++ l)
+    (ap (λ l. header_lines_under l us) (sym (set_units-append before (u ∷ []))) ∙ from_under (before ++ u ∷ []) us)
+
+-- The lines of these units are there, and the sets that these brought.
+pub record IsShown (before now : List SetUnit) (text : List ℕ) (done : List Unit) : Type 0 where
+  pub sets : now ≡ before ++ set_units done
+  pub lines : text ≡ header_lines_under before done
+
+pub shown_none : (before : List SetUnit) (text : List ℕ) → text ≡ [] → IsShown before before text []
+shown_none before text none = record { sets = sym (append-nil before); lines = none }
+
+pub shown_more : (before old new : List SetUnit) (text more : List ℕ) (u : Unit) → new ≡ old ++ set_units (u ∷ []) → more ≡ text ++ header_line (sets_after old) u
+    → (done : List Unit) → IsShown before old text done → IsShown before new more (done ++ u ∷ [])
+shown_more before old new text more u put added done h =
+    let here : header_line (sets_after old) u ≡ header_lines_under (before ++ set_units done) (u ∷ []) =
+    ap (λ ss. header_line (sets_after ss) u) h.sets ∙ sym (append-nil (header_line (sets_after (before ++ set_units done)) u)) in
     record {
-      sets = ap (λ (x : GrouperState). x.sets) takes
-          ∙ ap (λ ss. ss ++ set_units (u ∷ [])) h.sets
-          ∙ sym (set_units-append (take i us) (u ∷ []))
-          ∙ ap set_units (sym front);
-      lines = ap (λ t. t ++ header_lines_from (take (i + 1) us) (drop (i + 1) us)) (added ∙ ap (λ l. text ++ l) line)
-          ∙ ap (λ b. (text ++ header_line (sets_after (set_units (take i us))) u) ++ header_lines_from b (drop (i + 1) us)) front
-          ∙ append_assoc text (header_line (sets_after (set_units (take i us))) u) (header_lines_from (take i us ++ u ∷ []) (drop (i + 1) us))
-          ∙ ap (λ a. text ++ header_lines_from (take i us) a) (sym back)
-          ∙ h.lines;
+      sets = put ∙ ap (λ l. l ++ set_units (u ∷ [])) h.sets ∙ append_assoc before (set_units done) (set_units (u ∷ [])) ∙ ap (λ l. before ++ l) (sym (set_units-append done (u ∷ [])));
+      lines = added ∙ ap (λ l. l ++ header_line (sets_after old) u) h.lines ∙ ap (λ l. header_lines_under before done ++ l) here ∙ sym (under-append before done (u ∷ []));
     }
 
-pub shown_all : (us : List Unit) (i : ℕ) (g : GrouperState) (text : List ℕ) → length us ≤ i → IsShown us i g text → text ≡ header_lines_from [] us
-shown_all us i g text le h =
-    sym (append-nil text)
-    ∙ ap (λ a. text ++ header_lines_from (take i us) a) (sym (drop_all i us le))
-    ∙ h.lines
+pub header_lines_are : (max : ℕ) (bytes : List ℕ) (ended : Bool) → length bytes ≤ max → header_lines_under [] (units max bytes ended) ≡ header_lines_so_far bytes ended
+header_lines_are max bytes ended short = ap (λ us. header_lines_under [] us) (whole_units max bytes ended short) ∙ from_under [] (units (length bytes) bytes ended)
+
+-- once more has come
+pub shown_again : (max : ℕ) (old mid new : SplitterState) (sets now : List SetUnit) → AreShown max old sets → AreLeft max old mid → new ≡ after_units_left max mid
+    → now ≡ sets ++ set_units (units_left max mid) → AreShown max new now
+shown_again max old mid new sets now h left is put = record {
+  drained = drained max old mid new left is;
+  sets_are =
+      put ∙ ap (λ l. l ++ set_units (units_left max mid)) h.sets_are
+      ∙ sym (set_units-append (units max old.bytes old.ended) (units_left max mid))
+      ∙ ap set_units (sym left.all)
+      ∙ ap (λ s. set_units (units max s.bytes s.ended)) (sym is);
+}
+
+pub header_lines_added : (max : ℕ) (old mid new : SplitterState) (before : StreamSoFar) (sets : List SetUnit) (added : List ℕ) → AreShown max old sets → AreLeft max old mid
+    → new ≡ after_units_left max mid → before.bytes ≡ old.bytes → before.ended ≡ old.ended → added ≡ header_lines_under sets (units_left max mid) → length new.bytes ≤ max
+    → header_lines_so_far new.bytes new.ended ≡ header_lines_so_far before.bytes before.ended ++ added
+header_lines_added max old mid new before sets added h left is bytes ended lines short =
+    let same = ap (λ (s : SplitterState). length s.bytes) is in
+    let short_before : length old.bytes ≤ max = omega (arith, same, short, left.no_fewer) in
+    sym (header_lines_are max new.bytes new.ended short)
+    ∙ ap (λ s. header_lines_under [] (units max s.bytes s.ended)) is
+    ∙ ap (λ us. header_lines_under [] us) left.all
+    ∙ under-append [] (units max old.bytes old.ended) (units_left max mid)
+    ∙ ap (λ l. l ++ header_lines_under (set_units (units max old.bytes old.ended)) (units_left max mid)) (header_lines_are max old.bytes old.ended short_before)
+    ∙ ap (λ l. header_lines_so_far old.bytes old.ended ++ header_lines_under l (units_left max mid)) (sym h.sets_are)
+    ∙ ap (λ l. header_lines_so_far old.bytes old.ended ++ l) (sym lines)
+    ∙ ap (λ bs. header_lines_so_far bs old.ended ++ added) (sym bytes)
+    ∙ ap (λ e. header_lines_so_far before.bytes e ++ added) (sym ended)
+
+pub header_lines_grow : UnitsStay → OnlyGrows header_lines_so_far
+header_lines_grow stay bytes more ended short =
+    let max = 2 ^ 64 in
+    let later = stay max bytes more ended in
+    let front : length bytes ≤ max = omega (arith, short, length-append bytes more) in
+    let all : length (bytes ++ more) ≤ max = omega (arith, short) in (
+      header_lines_under (set_units (units max bytes false)) later.0,
+      sym (header_lines_are max (bytes ++ more) ended all) ∙ ap (λ us. header_lines_under [] us) later.1
+          ∙ under-append [] (units max bytes false) later.0
+          ∙ ap (λ l. l ++ header_lines_under (set_units (units max bytes false)) later.0) (header_lines_are max bytes false front),
+    )
 
 -- the line of a unit whose forbidden_zero_bit is 0
 abbrev line_by : Sets → Unit → Bool → Kind → Option (List ℕ) → List ℕ

@@ -41,9 +41,13 @@ unit_line u =
     decimal u.index ++ and_number u.offset ++ and_number u.length
     ++ and_number (nal_unit_type u.header) ++ and_number (nal_ref_idc u.header) ++ newline
 
--- a line for each unit of the stream, whatever its length
+-- a line for each unit whose end has been seen, whatever its length
+abbrev pub unit_lines_so_far : List ℕ → (ended : Bool) → List ℕ
+unit_lines_so_far bytes ended = flat_map unit_line (units (length bytes) bytes ended)
+
+-- a line for each unit of the stream
 abbrev pub unit_lines : List ℕ → List ℕ
-unit_lines bytes = flat_map unit_line (units (length bytes) bytes true)
+unit_lines bytes = unit_lines_so_far bytes true
 
 -- ---- headers
 
@@ -185,6 +189,10 @@ abbrev pub header_lines_from : (before after : List Unit) → List ℕ
 header_lines_from before [] = []
 header_lines_from before (u ∷ after) = header_line (tables before) u ++ header_lines_from (before ++ u ∷ []) after
 
+-- a line for each parameter set and each slice whose unit's end has been seen
+abbrev pub header_lines_so_far : List ℕ → (ended : Bool) → List ℕ
+header_lines_so_far bytes ended = header_lines_from [] (units (length bytes) bytes ended)
+
 -- a line for each parameter set and each slice of the stream
 abbrev pub header_lines : List ℕ → List ℕ
-header_lines bytes = header_lines_from [] (units (length bytes) bytes true)
+header_lines bytes = header_lines_so_far bytes true

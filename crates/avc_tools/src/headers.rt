@@ -1,11 +1,13 @@
-ghost use Rattle.std.specs.Prelude.{◌≡◌, ◌++◌, ◌+◌, ◌-◌, ◌*◌, IfOk, OnOk, Some, string_bytes};
+ghost use Rattle.std.specs.Prelude.{◌≡◌, [], ◌∷◌, ◌++◌, ◌+◌, ◌-◌, ◌*◌, false, IfOk, OnOk, Some, string_bytes};
 ghost use Rattle.std.specs.Fmt.{decimal};
 ghost use Rattle.std.specs.Option.{option_copied};
 ghost use Rattle.avc_params.specs.Reading.{pps_of, sps_of};
 ghost use Rattle.avc_params.specs.Tables.{sets_after};
 ghost use Rattle.avc_slice.specs.Header.{slice_qp};
-ghost use Rattle.avc_units.specs.Grouping.{rbsp_of, slice_in};
+ghost use Rattle.avc_units.specs.Grouping.{rbsp_of, set_units, slice_in};
 ghost use Rattle.avc_units.specs.Kinds.{meant};
+ghost use Rattle.avc_tools.specs.Showing.{header_lines_under};
+ghost use Rattle.avc_tools.specs.Streams.{after_units_left, max_unit, units_left};
 ghost use Rattle.avc_tools.specs.Lines.{flag_number, header_line, header_lines, header_text, line_of};
 ghost use Rattle.avc_tools.specs.Lines.{newline, order_type, pps_constrained, pps_control, pps_fields};
 ghost use Rattle.avc_tools.specs.Lines.{pps_flags, pps_identity, pps_text, qp_number, refused_text, set_text};
@@ -13,13 +15,16 @@ ghost use Rattle.avc_tools.specs.Lines.{shown_height, shown_width, slice_fields,
 ghost use Rattle.avc_tools.specs.Lines.{slice_qp_under, slice_text, sps_frames, sps_identity, sps_size};
 ghost use Rattle.avc_tools.specs.Lines.{sps_text, text_of, type_name};
 
-use crate::units::all_units;
-use avc_annexb::Unit;
+use crate::stream_text::StreamText;
+use crate::units::MAX_UNIT;
+use avc_annexb::laws::units_stay;
+use avc_annexb::{Splitter, Unit};
 use avc_params::{OrderCount, ParamTable, Pps, Sps, read_pps, read_sps};
 use avc_slice::{Header, read_header};
 use avc_types::{Fault, OutOfMemory};
-use avc_units::{Grouper, UnitKind, kind_of, rbsp_of};
+use avc_units::{UnitKind, kind_of, rbsp_of};
 use std::alloc::Global;
+use std::marker::Model;
 
 /// A line for each unit of a whole byte stream (Annex B) that brings a parameter set or a slice: its place among the units, and
 /// what the set (7.3.2.1.1, 7.3.2.2) or the slice header (7.3.3) says, or why it is refused. A slice is read with the sets in force
@@ -27,15 +32,134 @@ use std::alloc::Global;
 pub fn show_headers(alloc: Global, bytes: &[u8]) -> Result<String, OutOfMemory>
     ensures { IfOk result (λ text. string_bytes text ≡ header_lines bytes.now) }
 {
-    let all = all_units(alloc, bytes)?;
-    // it keeps the parameter sets
-    let mut grouper = Grouper::new(alloc);
+    let mut splitter = Splitter::<MAX_UNIT>::new(alloc);
+    splitter.feed(bytes)?;
+    splitter.finish()?;
+    let mut table = ParamTable::new(alloc);
+    let text = lines_of_headers_left(alloc, &mut splitter, &mut table)?;
+    Ok(text)
+}
+
+/// The same lines of a stream that comes in pieces, each once its unit has ended. A contract sees what came of the stream.
+#[derive(Drop)]
+pub struct HeaderLines {
+    alloc: Global,
+    splitter: Splitter<MAX_UNIT>,
+    // those that came with the units so far
+    table: ParamTable,
+    failed: bool,
+}
+
+impl Model for HeaderLines {
+    ghost use Rattle.std.specs.Prelude.{◌≡◌, false};
+    ghost use Rattle.avc_tools.specs.Streams.{StreamSoFar, max_unit};
+    ghost use Rattle.avc_tools.specs.Showing.{AreShown};
+
+    ghost Value = { StreamSoFar };
+
+    ghost view = { λ l. record { bytes = l.splitter.bytes; ended = l.splitter.ended; failed = l.failed } };
+
+    ghost invariant = { λ l. l.failed ≡ false → AreShown max_unit l.splitter l.table };
+}
+
+impl HeaderLines {
+    ghost use Rattle.avc_tools.specs.Streams.{new_stream};
+
+    /// At the start of a stream.
+    pub fn new(alloc: Global) -> HeaderLines
+        ensures { result ≡ new_stream }
+    {
+        HeaderLines {
+            alloc,
+            splitter: Splitter::new(alloc),
+            table: ParamTable::new(alloc),
+            failed: false,
+        }
+    }
+}
+
+impl StreamText for HeaderLines {
+    ghost use Rattle.avc_tools.specs.Lines.{header_lines_so_far};
+
+    ghost so_far = { λ l. l };
+
+    ghost text = { λ _. header_lines_so_far };
+
+    fn feed(&mut self, piece: &[u8]) -> Result<Vec<u8>, OutOfMemory> {
+        units_stay();
+        if self.failed {
+            return Err(OutOfMemory);
+        }
+        // until all of it is done
+        self.failed = true;
+        self.splitter.feed(piece)?;
+        let lines = lines_of_headers_left(self.alloc, &mut self.splitter, &mut self.table)?;
+        self.failed = false;
+        Ok(lines.into_bytes())
+    }
+
+    fn finish(&mut self) -> Result<Vec<u8>, OutOfMemory> {
+        units_stay();
+        if self.failed {
+            return Err(OutOfMemory);
+        }
+        self.failed = true;
+        self.splitter.finish()?;
+        let lines = lines_of_headers_left(self.alloc, &mut self.splitter, &mut self.table)?;
+        self.failed = false;
+        Ok(lines.into_bytes())
+    }
+
+    fn text_only_grows(&self) {
+        units_stay();
+    }
+}
+
+// Takes all units whose end has been seen, makes their lines, and keeps their parameter sets.
+fn lines_of_headers_left(
+    alloc: Global,
+    splitter: &mut Splitter<MAX_UNIT>,
+    table: &mut ParamTable,
+) -> Result<String, OutOfMemory>
+    requires { splitter.old.failed ≡ false }
+    ensures text { IfOk result (λ text. string_bytes text ≡ header_lines_under table.old (units_left max_unit splitter.old)) }
+    ensures table { OnOk result (table.new ≡ table.old ++ set_units (units_left max_unit splitter.old)) }
+    ensures taken { OnOk result (splitter.new ≡ after_units_left max_unit splitter.old) }
+{
     let mut text = String::new(alloc);
-    for unit in all.as_slice() {
-        add_unit(alloc, &mut text, grouper.table(), unit)?;
-        grouper.unit(unit, false)?;
+    while let Some(unit) = splitter.next_unit() {
+        add_unit(alloc, &mut text, table, &unit)?;
+        put_set(alloc, table, &unit)?;
     }
     Ok(text)
+}
+
+// The parameter set that a unit brings.
+fn put_set(alloc: Global, table: &mut ParamTable, unit: &Unit) -> Result<(), OutOfMemory>
+    ensures { OnOk result (table.new ≡ table.old ++ set_units (unit.now ∷ [])) }
+{
+    if unit.header >= 128 {
+        return Ok(());
+    }
+    match kind_of(unit.header) {
+        UnitKind::Sps => match rbsp_of(alloc, unit)? {
+            Some(rbsp) => {
+                table.put_sps(rbsp.as_slice())?;
+                Ok(())
+            }
+            None => Ok(()),
+        },
+        UnitKind::Pps => match rbsp_of(alloc, unit)? {
+            Some(rbsp) => {
+                table.put_pps(rbsp.as_slice())?;
+                Ok(())
+            }
+            None => Ok(()),
+        },
+        UnitKind::Slice { .. } | UnitKind::Partition | UnitKind::Boundary | UnitKind::Other => Ok(
+            (),
+        ),
+    }
 }
 
 fn add_unit(

@@ -6,8 +6,10 @@ mod headers;
 pub mod laws;
 mod piece;
 mod set_places;
+mod stream_text;
 mod units;
 
 pub use cutting::cut;
-pub use headers::show_headers;
-pub use units::list_units;
+pub use headers::{HeaderLines, show_headers};
+pub use stream_text::StreamText;
+pub use units::{UnitLines, list_units};

@@ -1,20 +1,109 @@
-ghost use Rattle.std.specs.Prelude.{◌≡◌, ◌++◌, true, IfOk, OnOk, length, string_bytes};
+ghost use Rattle.std.specs.Prelude.{◌≡◌, ◌++◌, false, true, length, IfOk, OnOk, string_bytes};
+ghost use Rattle.std.specs.List.{flat_map};
 ghost use Rattle.avc_annexb.specs.Units.{units};
 ghost use Rattle.avc_tools.specs.Lines.{unit_line, unit_lines};
+ghost use Rattle.avc_tools.specs.Streams.{after_units_left, units_left};
 
+use crate::stream_text::StreamText;
+use avc_annexb::laws::units_stay;
 use avc_annexb::{Splitter, Unit};
 use avc_types::OutOfMemory;
 use std::alloc::Global;
+use std::marker::Model;
+
+/// The most bytes of a unit, of those that are kept: no unit in memory has more.
+pub(crate) const MAX_UNIT: usize = usize::MAX;
 
 /// A line for each unit of a whole byte stream (Annex B): its place among the units, the place of its first byte, the number
 /// of its bytes, nal_unit_type and nal_ref_idc (7.3.1), in decimal, with one space between two numbers.
 pub fn list_units(alloc: Global, bytes: &[u8]) -> Result<String, OutOfMemory>
     ensures { IfOk result (λ text. string_bytes text ≡ unit_lines bytes.now) }
 {
-    // no line tells of a unit's body, so none is kept
     let mut splitter = Splitter::<1>::new(alloc);
     splitter.feed(bytes)?;
     splitter.finish()?;
+    let text = lines_of_units_left(alloc, &mut splitter)?;
+    Ok(text)
+}
+
+/// The same lines of a stream that comes in pieces, each once its unit has ended. A contract sees what came of the stream.
+#[derive(Drop)]
+pub struct UnitLines {
+    alloc: Global,
+    // no line tells of a unit's body, so none is kept
+    splitter: Splitter<1>,
+    failed: bool,
+}
+
+impl Model for UnitLines {
+    ghost use Rattle.std.specs.Prelude.{◌≡◌, false};
+    ghost use Rattle.avc_tools.specs.Streams.{IsDrained, StreamSoFar};
+
+    ghost Value = { StreamSoFar };
+
+    ghost view = { λ l. record { bytes = l.splitter.bytes; ended = l.splitter.ended; failed = l.failed } };
+
+    ghost invariant = { λ l. l.failed ≡ false → IsDrained 1 l.splitter };
+}
+
+impl UnitLines {
+    ghost use Rattle.avc_tools.specs.Streams.{new_stream};
+
+    /// At the start of a stream.
+    pub fn new(alloc: Global) -> UnitLines
+        ensures { result ≡ new_stream }
+    {
+        UnitLines {
+            alloc,
+            splitter: Splitter::new(alloc),
+            failed: false,
+        }
+    }
+}
+
+impl StreamText for UnitLines {
+    ghost use Rattle.avc_tools.specs.Lines.{unit_lines_so_far};
+
+    ghost so_far = { λ l. l };
+
+    ghost text = { λ _. unit_lines_so_far };
+
+    fn feed(&mut self, piece: &[u8]) -> Result<Vec<u8>, OutOfMemory> {
+        units_stay();
+        if self.failed {
+            return Err(OutOfMemory);
+        }
+        // until all of it is done
+        self.failed = true;
+        self.splitter.feed(piece)?;
+        let lines = lines_of_units_left(self.alloc, &mut self.splitter)?;
+        self.failed = false;
+        Ok(lines.into_bytes())
+    }
+
+    fn finish(&mut self) -> Result<Vec<u8>, OutOfMemory> {
+        units_stay();
+        if self.failed {
+            return Err(OutOfMemory);
+        }
+        self.failed = true;
+        self.splitter.finish()?;
+        let lines = lines_of_units_left(self.alloc, &mut self.splitter)?;
+        self.failed = false;
+        Ok(lines.into_bytes())
+    }
+
+    fn text_only_grows(&self) {
+        units_stay();
+    }
+}
+
+// Takes all units whose end has been seen, and makes their lines.
+fn lines_of_units_left(alloc: Global, splitter: &mut Splitter<1>) -> Result<String, OutOfMemory>
+    requires { splitter.old.failed ≡ false }
+    ensures text { IfOk result (λ text. string_bytes text ≡ flat_map unit_line (units_left 1 splitter.old)) }
+    ensures taken { OnOk result (splitter.new ≡ after_units_left 1 splitter.old) }
+{
     let mut text = String::new(alloc);
     while let Some(unit) = splitter.next_unit() {
         add_line(&mut text, &unit)?;
@@ -38,7 +127,7 @@ fn add_line(text: &mut String, unit: &Unit) -> Result<(), OutOfMemory>
 pub(crate) fn all_units(alloc: Global, bytes: &[u8]) -> Result<Vec<Unit>, OutOfMemory>
     ensures { IfOk result (λ all. all.items ≡ units (length bytes.now) bytes.now true) }
 {
-    let mut parts = Splitter::<{ usize::MAX }>::new(alloc);
+    let mut parts = Splitter::<MAX_UNIT>::new(alloc);
     parts.feed(bytes)?;
     parts.finish()?;
     let mut all = Vec::new(alloc);

@@ -1,11 +1,14 @@
-use Rattle.std.proofs.Common.{◌∙◌, ap, string_bytes, ◌++◌}
-use Rattle.avc_params.specs.Tables.{sets_after}
-use Rattle.avc_tools.specs.Lines.{header_line}
-use Rattle.avc_tools.proofs.Shown.{shown_more}
+use Rattle.std.proofs.Common.{[], true, ap, ◌∙◌, arith}
+use Rattle.avc_annexb.specs.SplitterState.{after_feed, after_finish}
+use Rattle.avc_tools.specs.Showing.{header_lines_under}
+use Rattle.avc_tools.specs.Streams.{max_unit, units_left}
+use Rattle.avc_tools.proofs.Shown.{header_lines_are}
 use Rattle.avc_tools.proofs.headers.show_headers.Goals as goal
 
-pub loop-unit-preserved : goal.loop-unit-preserved
-loop-unit-preserved c = record {
-  shown = shown_more _ _ c.unit-item.result c.loop-unit.grouper _ c.in_ok-unit.field-0 _ _ c.loop-unit-test.true c.unit-item.is c.loop-unit.invariant.shown c.in_ok-unit.ensures.state
-      (c.in_ok-add_unit.ensures ∙ ap (λ ss. string_bytes c.loop-unit.text ++ header_line (sets_after ss) c.unit-item.result) c.table.ensures);
-}
+pub returns : goal.returns
+returns c =
+    let fed = c.in_ok-feed.ensures.ok ∙ ap (λ s. after_feed s c.args.bytes.now) c.new-splitter.ensures in
+    c.in_ok-text.ensures.text
+    ∙ ap (λ sets. header_lines_under sets (units_left max_unit c.finish.new.self)) c.new-table.ensures
+    ∙ ap (λ s. header_lines_under [] (units_left max_unit s)) (c.in_ok-finish.ensures.ok ∙ ap after_finish fed)
+    ∙ header_lines_are max_unit c.args.bytes.now true (omega arith)

@@ -1,13 +1,28 @@
-use Rattle.std.proofs.Common.{arith, ◌∙◌}
-use Rattle.avc_tools.proofs.Lengths.{each_alone, whole_units}
-use Rattle.avc_tools.proofs.Listing.{listed_more, listed_all}
+use Rattle.std.proofs.Common.{◌≡◌, true, ◌++◌, ◌∷◌, [], ap, sym, subst, arith, refl, ◌∙◌}
+use Rattle.avc_annexb.specs.SplitterState.{after_feed, after_finish}
+use Rattle.avc_tools.specs.Streams.{max_unit}
+use Rattle.avc_tools.proofs.Draining.{IsDraining, all_taken, begun, one_more, whole_stream}
+use Rattle.avc_tools.proofs.Lengths.{whole_units}
 use Rattle.avc_tools.proofs.units.all_units.Goals as goal
 
+pub loop-unit-init : goal.loop-unit-init
+loop-unit-init c =
+    let fed = c.in_ok-feed.ensures.ok ∙ ap (λ s. after_feed s c.args.bytes.now) c.new-parts.ensures in
+    let whole = c.in_ok-finish.ensures.ok ∙ ap after_finish fed in
+    record {
+      draining =
+          subst (λ s. IsDraining max_unit (whole_stream c.args.bytes.now) s (λ done. c.new-all.result.items ≡ done)) (sym whole)
+          (begun max_unit (whole_stream c.args.bytes.now) _ c.new-all.ensures.items);
+    }
+
 pub loop-unit-preserved : goal.loop-unit-preserved
-loop-unit-preserved c = record { listed = listed_more _ _ _ _ _ _ _ _ c.in-Some.unit c.loop-unit.invariant.listed c.next_unit.ensures.unit c.next_unit.ensures.taken c.in-Some.is c.in_ok-push.ensures.items }
+loop-unit-preserved c = record {
+  draining =
+      one_more max_unit (whole_stream c.args.bytes.now) _ _ _ c.in-Some.unit _ _ c.loop-unit.invariant.draining refl c.next_unit.ensures.unit c.next_unit.ensures.taken c.in-Some.is
+      (λ done so_far. c.in_ok-push.ensures.items ∙ ap (λ us. us ++ c.in-Some.unit ∷ []) so_far);
+}
 
 pub returns : goal.returns
 returns c =
-    listed_all _ _ _ _ _ _ c.loop-unit.invariant.listed c.next_unit.ensures.unit c.in_default.is
-    ∙ each_alone _
-    ∙ whole_units 18446744073709551615 c.args.bytes.now (omega arith)
+    (all_taken max_unit (whole_stream c.args.bytes.now) _ _ _ _ c.loop-unit.invariant.draining refl c.next_unit.ensures.unit c.next_unit.ensures.taken c.in_default.is).0
+    ∙ whole_units max_unit c.args.bytes.now true (omega arith)

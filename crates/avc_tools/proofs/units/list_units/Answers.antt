@@ -1,12 +1,14 @@
-use Rattle.std.proofs.Common.{◌∙◌}
-use Rattle.avc_tools.proofs.Listing.{listed_more, listed_all, unit_lines_are}
+use Rattle.std.proofs.Common.{true, ap, ◌∙◌}
+use Rattle.std.specs.List.{flat_map}
+use Rattle.avc_annexb.specs.SplitterState.{after_feed, after_finish}
+use Rattle.avc_tools.specs.Lines.{unit_line}
+use Rattle.avc_tools.specs.Streams.{units_left}
+use Rattle.avc_tools.proofs.Growing.{unit_lines_are}
 use Rattle.avc_tools.proofs.units.list_units.Goals as goal
 
-pub loop-unit-preserved-in_ok-add_line : goal.loop-unit-preserved-in_ok-add_line
-loop-unit-preserved-in_ok-add_line c = record { listed = listed_more _ _ _ _ _ _ _ _ c.in-Some.unit c.loop-unit.invariant.listed c.next_unit.ensures.unit c.next_unit.ensures.taken c.in-Some.is c.in_ok-add_line.ensures }
-
-pub loop-unit-preserved : goal.loop-unit-preserved
-loop-unit-preserved c = record { listed = listed_more _ _ _ _ _ _ _ _ c.in-Some.unit c.loop-unit.invariant.listed c.next_unit.ensures.unit c.next_unit.ensures.taken c.in-Some.is c.in_ok-add_line.ensures }
-
 pub returns : goal.returns
-returns c = listed_all _ _ _ _ _ _ c.loop-unit.invariant.listed c.next_unit.ensures.unit c.in_default.is ∙ unit_lines_are c.args.bytes.now
+returns c =
+    let fed = c.in_ok-feed.ensures.ok ∙ ap (λ s. after_feed s c.args.bytes.now) c.new-splitter.ensures in
+    c.in_ok-text.ensures.text
+    ∙ ap (λ s. flat_map unit_line (units_left 1 s)) (c.in_ok-finish.ensures.ok ∙ ap after_finish fed)
+    ∙ unit_lines_are 1 c.args.bytes.now true

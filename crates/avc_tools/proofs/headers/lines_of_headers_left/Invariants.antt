@@ -1,0 +1,12 @@
+use Rattle.avc_annexb.specs.SplitterState.{units_waiting}
+use Rattle.std.proofs.Common.{string_bytes}
+use Rattle.avc_tools.specs.Streams.{max_unit}
+use Rattle.avc_tools.proofs.Draining.{IsDraining}
+use Rattle.avc_tools.proofs.Shown.{IsShown}
+use Rattle.avc_tools.proofs.headers.lines_of_headers_left.Given as goal
+
+abbrev pub invariant-loop-unit : goal.invariant-loop-unit
+invariant-loop-unit l = record { draining : IsDraining max_unit l.initial.splitter l.splitter (IsShown l.initial.table l.table (string_bytes l.text)) }
+
+abbrev pub decreases-loop-unit : goal.decreases-loop-unit
+decreases-loop-unit l = units_waiting max_unit l.splitter

@@ -1,0 +1,15 @@
+use Rattle.std.proofs.Common.{ap, sym, ◌∙◌}
+use Rattle.avc_tools.proofs.Growing.{drained, left_by_feed, unit_lines_added}
+use Rattle.avc_tools.proofs.units.UnitLinesStreamText.feed.Goals as goal
+
+pub invariant_of-self-2 : goal.invariant_of-self-2
+invariant_of-self-2 c =
+    let left = left_by_feed c.units_stay.ensures 1 _ _ c.args.piece.now (c.self.invariant c.if-self.false) c.in_ok-feed.ensures.ok in
+    λ _. drained 1 _ _ _ left c.in_ok-lines.ensures.taken
+
+pub returns-clause-added : goal.returns-clause-added
+returns-clause-added c =
+    let left = left_by_feed c.units_stay.ensures 1 _ _ c.args.piece.now (c.self.invariant c.if-self.false) c.in_ok-feed.ensures.ok in
+    λ _.
+    unit_lines_added _ _ _ c.args.self.now _ left c.in_ok-lines.ensures.taken
+    (ap (λ v. v.bytes) (sym c.self.view_is)) (ap (λ v. v.ended) (sym c.self.view_is)) (ap (λ v. v.items) c.into_bytes.ensures.value ∙ c.in_ok-lines.ensures.text)

@@ -1,0 +1,5 @@
+use Rattle.avc_tools.proofs.Growing.{unit_lines_grow}
+use Rattle.avc_tools.proofs.units.UnitLinesStreamText.text_only_grows.Goals as goal
+
+pub returns : goal.returns
+returns c = unit_lines_grow c.units_stay.ensures

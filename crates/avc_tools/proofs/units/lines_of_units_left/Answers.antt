@@ -1,0 +1,31 @@
+use Rattle.std.proofs.Common.{◌≡◌, ◌∷◌, [], ◌++◌, List, ap, ◌∙◌, sym, append-nil}
+use Rattle.std.specs.List.{flat_map}
+use Rattle.std.proofs.lemmas.Grind.{flat_map-append}
+use Rattle.avc_annexb.specs.declared.unit.Unit.{Unit}
+use Rattle.avc_tools.specs.Lines.{unit_line}
+use Rattle.avc_tools.proofs.Draining.{all_taken, one_more}
+use Rattle.avc_tools.proofs.units.lines_of_units_left.Goals as goal
+
+line_more : (done : List Unit) (u : Unit) (old new : List _) → new ≡ old ++ unit_line u → old ≡ flat_map unit_line done → new ≡ flat_map unit_line (done ++ u ∷ [])
+line_more done u old new added so_far =
+    added ∙ ap (λ l. l ++ unit_line u) so_far ∙ ap (λ l. flat_map unit_line done ++ l) (sym (append-nil (unit_line u))) ∙ sym (flat_map-append unit_line done (u ∷ []))
+
+pub loop-unit-preserved-in_ok-add_line : goal.loop-unit-preserved-in_ok-add_line
+loop-unit-preserved-in_ok-add_line c = record {
+  draining =
+      one_more 1 _ _ _ _ c.in-Some.unit _ _ c.loop-unit.invariant.draining c.requires c.next_unit.ensures.unit c.next_unit.ensures.taken c.in-Some.is
+      (λ done so_far. line_more done c.in-Some.unit _ _ c.in_ok-add_line.ensures so_far);
+}
+
+pub loop-unit-preserved : goal.loop-unit-preserved
+loop-unit-preserved c = record {
+  draining =
+      one_more 1 _ _ _ _ c.in-Some.unit _ _ c.loop-unit.invariant.draining c.requires c.next_unit.ensures.unit c.next_unit.ensures.taken c.in-Some.is
+      (λ done so_far. line_more done c.in-Some.unit _ _ c.in_ok-add_line.ensures so_far);
+}
+
+pub returns-clause-text : goal.returns-clause-text
+returns-clause-text c = (all_taken 1 _ _ _ _ _ c.loop-unit.invariant.draining c.requires c.next_unit.ensures.unit c.next_unit.ensures.taken c.in_default.is).0
+
+pub returns-clause-taken : goal.returns-clause-taken
+returns-clause-taken c = (all_taken 1 _ _ _ _ _ c.loop-unit.invariant.draining c.requires c.next_unit.ensures.unit c.next_unit.ensures.taken c.in_default.is).1
