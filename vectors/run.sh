@@ -183,6 +183,23 @@ for command in decode units; do
     holds "nothing is written" [ ! -s "$work/written" ]
 done
 
+# lines come while the stream goes on
+mkfifo "$work/live"
+for command in units headers; do
+    : >"$work/lines"
+    "$program" "$command" <"$work/live" >"$work/lines" &
+    exec 9>"$work/live"
+    cat "$picture" >&9
+    tries=0
+    until [ -s "$work/lines" ] || [ "$tries" = 100 ]; do
+        sleep 0.1
+        tries=$((tries + 1))
+    done
+    holds "$command of a stream that goes on" [ -s "$work/lines" ]
+    exec 9>&-
+    wait
+done
+
 # wrong words have a text on the standard error, and help that is asked for on the standard output
 for words in '' unit 'units more' 'decode --fast'; do
     # shellcheck disable=SC2086

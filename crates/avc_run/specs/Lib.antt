@@ -5,4 +5,5 @@ pub mod Status
 pub mod Messages
 pub mod Program
 pub mod Draining
+pub mod StreamWriting
 pub use Rattle.avc_decoder.specs.Output

@@ -1,18 +1,22 @@
 -- What `units`, `headers` and `cut` write.
-use Rattle.std.specs.Prelude.{◌≡◌, ℕ, true, false, List, [], length, slice_index_or, Option, Result, Ok, Err}
+use Rattle.std.specs.Prelude.{◌≡◌, ℕ, Bool, true, false, List, [], length, slice_index_or, Option, Result, Ok, Err}
 use Rattle.std.specs.Io.KnownBytes.{Appends, Keeps}
 use Rattle.avc_tools.specs.Pieces.{pieces}
-use Rattle.avc_run.specs.Reading.{HasRead, WritesFirst}
+use Rattle.avc_run.specs.Reading.{HasRead, WritesFirst, WritesSome}
 use Rattle.avc_run.specs.declared.fault.RunFault.{RunFault}
 use Rattle.avc_run.specs.declared.fault.RunFault.TheVariants.{Read, Write, Memory}
 
--- The text of all bytes that the reader had is written; after a write fault fewer than all of its bytes, and where reading failed
--- or no memory was found, none.
-abbrev pub Lists : (text : List ℕ → List ℕ) (unread left held holds : Option (List ℕ)) → Result (Unit {0}) RunFault → Type 0
-Lists text unread left held holds (Ok _) = (bytes : List ℕ) × HasRead unread left bytes true × Appends held holds (text bytes)
-Lists text unread left held holds (Err Write) = (bytes : List ℕ) × HasRead unread left bytes true × WritesFirst held holds (text bytes)
-Lists text unread left held holds (Err Read) = (bytes : List ℕ) × HasRead unread left bytes false × Keeps held holds
-Lists text unread left held holds (Err Memory) = (bytes : List ℕ) × HasRead unread left bytes false × Keeps held holds
+-- The text of all bytes that the reader had is written. After a read fault exactly that text is written that the bytes read so far
+-- have, after a write fault less than all of it, and after want of memory a first part of it.
+abbrev pub Lists : (text : List ℕ → (ended : Bool) → List ℕ) (unread left held holds : Option (List ℕ)) → Result (Unit {0}) RunFault → Type 0
+Lists text unread left held holds (Ok _) =
+    (bytes : List ℕ) × HasRead unread left bytes true × Appends held holds (text bytes true)
+Lists text unread left held holds (Err Write) =
+    (bytes : List ℕ) × (all : Bool) × HasRead unread left bytes all × WritesFirst held holds (text bytes all)
+Lists text unread left held holds (Err Memory) =
+    (bytes : List ℕ) × (all : Bool) × HasRead unread left bytes all × WritesSome held holds (text bytes all)
+Lists text unread left held holds (Err _) =
+    (bytes : List ℕ) × HasRead unread left bytes false × Appends held holds (text bytes false)
 
 -- the piece of a number, counted from 0; where there is none, no bytes
 abbrev pub numbered : List (List ℕ) → (number : ℕ) → List ℕ

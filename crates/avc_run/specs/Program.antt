@@ -1,5 +1,5 @@
 -- How the program's commands end.
-use Rattle.std.specs.Prelude.{◌≡◌, ℕ, List, [], Option, Result, Ok, Err}
+use Rattle.std.specs.Prelude.{◌≡◌, ℕ, Bool, List, [], Option, Result, Ok, Err}
 use Rattle.avc_decoder.specs.Output.{Output}
 use Rattle.avc_run.specs.Decoding.{Decodes}
 use Rattle.avc_run.specs.Listing.{Cuts, Lists}
@@ -23,7 +23,7 @@ units_text (Ok _) = []
 units_text (Err fault) = fault_line fault
 
 -- the same of `units` and `headers`
-pub record EndsListing (text : List ℕ → List ℕ) (unread left held holds before now : Option (List ℕ)) (status : ℕ) : Type 0 where
+pub record EndsListing (text : List ℕ → (ended : Bool) → List ℕ) (unread left held holds before now : Option (List ℕ)) (status : ℕ) : Type 0 where
   pub run : Result (Unit {0}) RunFault
   pub lists : Lists text unread left held holds run
   pub status_is : status ≡ units_status run

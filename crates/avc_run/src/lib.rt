@@ -9,6 +9,7 @@ mod messages;
 mod program;
 mod read;
 mod report;
+mod streaming;
 #[cfg(test)]
 mod tests;
 

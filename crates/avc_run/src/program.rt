@@ -1,6 +1,6 @@
 ghost use Rattle.std.specs.Prelude.{◌≡◌, IfErr, OnErr, OnOk};
 ghost use Rattle.std.specs.Io.KnownBytes.{Keeps};
-ghost use Rattle.avc_tools.specs.Lines.{header_lines, unit_lines};
+ghost use Rattle.avc_tools.specs.Lines.{header_lines_so_far, unit_lines_so_far};
 ghost use Rattle.avc_run.specs.Program.{EndsCutting, EndsDecoding, EndsListing};
 ghost use Rattle.avc_run.specs.Reading.{WritesSome};
 ghost use Rattle.avc_run.specs.Status.{cut_status, fault_status};
@@ -78,7 +78,7 @@ pub fn units<R: Read, W: Write, E: Write>(
     writer: &mut W,
     errors: &mut E,
 ) -> u8
-    ensures { EndsListing unit_lines (R.remaining reader.old) (R.remaining reader.new) (W.contents writer.old) (W.contents writer.new)
+    ensures { EndsListing unit_lines_so_far (R.remaining reader.old) (R.remaining reader.new) (W.contents writer.old) (W.contents writer.new)
         (E.contents errors.old) (E.contents errors.new) result }
 {
     match run_units(alloc, reader, writer) {
@@ -95,7 +95,7 @@ pub fn headers<R: Read, W: Write, E: Write>(
     writer: &mut W,
     errors: &mut E,
 ) -> u8
-    ensures { EndsListing header_lines (R.remaining reader.old) (R.remaining reader.new) (W.contents writer.old) (W.contents writer.new)
+    ensures { EndsListing header_lines_so_far (R.remaining reader.old) (R.remaining reader.new) (W.contents writer.old) (W.contents writer.new)
         (E.contents errors.old) (E.contents errors.new) result }
 {
     match run_headers(alloc, reader, writer) {

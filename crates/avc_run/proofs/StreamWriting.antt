@@ -1,0 +1,116 @@
+-- Writing a text of a stream, piece after piece.
+use Rattle.std.specs.Prelude.{◌≡◌, ℕ, suc, ◌+◌, ◌^◌, ◌<◌, Bool, true, false, if◌then◌else◌, List, [], ◌∷◌, ◌++◌, length, take, Option, Err}
+use Rattle.std.proofs.Common.{ap, sym, subst, ◌∙◌, arith, append-nil, length-append}
+use Rattle.std.specs.Io.KnownBytes.{Appends, Consumes, IsAtEnd}
+use Rattle.std.proofs.KnownBytes.{Appends-nil, Appends-trans, Consumes-nil, Consumes-trans}
+use Rattle.avc_tools.specs.Streams.{OnlyGrows, StreamSoFar, after_end, after_piece}
+use Rattle.avc_run.specs.Listing.{Lists}
+use Rattle.avc_run.specs.Reading.{HasRead}
+use Rattle.avc_run.specs.StreamWriting.{IsStopped, IsWriting, StopsWriting}
+use Rattle.avc_run.specs.declared.fault.RunFault.{RunFault}
+use Rattle.avc_run.specs.declared.fault.RunFault.TheVariants.{Write, Memory}
+
+-- a text by the bytes that came, and whether they are all
+abbrev pub Text : Type 0
+Text = List ℕ → (ended : Bool) → List ℕ
+
+-- ---- what comes to the text
+
+open_piece : (s : StreamSoFar) (piece : List ℕ) → s.ended ≡ false → after_piece s piece ≡ record s { bytes = s.bytes ++ piece }
+open_piece s piece open_end = ap (λ x. if x then s else record s { bytes = s.bytes ++ piece }) open_end
+
+-- where no memory was found nothing was written
+none_written : (text : Text) (before now : StreamSoFar) (held : Option (List ℕ)) (others : List ℕ) → text now.bytes now.ended ≡ text before.bytes before.ended ++ others
+    → IsStopped Memory text before now held held
+none_written text before now held others is = record {
+  added = others;
+  defined = is;
+  stopped = record { count = 0; within = omega arith; written = Appends-nil held };
+}
+
+pub no_memory_in : (text : Text) → OnlyGrows text → (s : StreamSoFar) (piece : List ℕ) (held : Option (List ℕ)) → s.ended ≡ false → length (s.bytes ++ piece) < 2 ^ 64
+    → IsStopped Memory text s (after_piece s piece) held held
+no_memory_in text grows s piece held open_end short =
+    let later = grows s.bytes piece false short in
+    none_written text s (after_piece s piece) held later.0
+    (ap (λ (t : StreamSoFar). text t.bytes t.ended) (open_piece s piece open_end) ∙ ap (λ x. text (s.bytes ++ piece) x) open_end ∙ later.1
+    ∙ ap (λ x. text s.bytes x ++ later.0) (sym open_end))
+
+pub no_memory_at_end : (text : Text) → OnlyGrows text → (s : StreamSoFar) (held : Option (List ℕ)) → s.ended ≡ false → length s.bytes < 2 ^ 64
+    → IsStopped Memory text s (after_end s) held held
+no_memory_at_end text grows s held open_end short =
+    let same = ap (λ (bs : List ℕ). length bs) (append-nil s.bytes) in
+    let later = grows s.bytes [] true (omega (arith, same, short)) in
+    none_written text s (after_end s) held later.0
+    (ap (λ bs. text bs true) (sym (append-nil s.bytes)) ∙ later.1 ∙ ap (λ x. text s.bytes x ++ later.0) (sym open_end))
+
+-- ---- faults
+
+-- a read of none
+nothing_more : (unread left left' : Option (List ℕ)) (bytes piece : List ℕ) (len : ℕ) → Consumes unread left bytes → len ≡ 0 → Consumes left left' (take len piece) → Consumes unread left' bytes
+nothing_more unread left left' bytes piece len so_far none more =
+    subst (Consumes unread left') (append-nil bytes) (Consumes-trans unread left left' bytes [] so_far (subst (λ n. Consumes left left' (take n piece)) none more))
+
+-- no memory for the first piece
+pub no_piece : (text : Text) (unread old : Option (List ℕ)) (f : RunFault) → f ≡ Memory → Lists text unread unread old old (Err f)
+no_piece text unread old f is =
+    subst (λ f. Lists text unread unread old old (Err f)) (sym is) (
+      [],
+      false,
+      record { consumed = Consumes-nil unread; whole = λ all. cc },
+      record { count = 0; within = omega arith; written = Appends-nil old },
+    )
+
+stopped : (text : Text) (fault : RunFault) (unread left w0 w' : Option (List ℕ)) (bytes : List ℕ) (all : Bool) → HasRead unread left bytes all
+    → StopsWriting fault w0 w' (text bytes all) → Lists text unread left w0 w' (Err fault)
+stopped text Write unread left w0 w' bytes all read off = (bytes, all, read, off)
+stopped text Memory unread left w0 w' bytes all read off = (bytes, all, read, off)
+stopped text _ unread left w0 w' bytes all read off = absurd off
+
+-- all of a, and then n bytes of b
+front_of_both : (a b : List ℕ) (n : ℕ) → take (length a + n) (a ++ b) ≡ a ++ take n b
+front_of_both [] b n = ap (λ k. take k b) (let same : 0 + n ≡ n = omega arith in same)
+front_of_both (x ∷ a) b n =
+    let same : length (x ∷ a) + n ≡ suc (length a + n) = omega arith in
+    ap (λ k. take k (x ∷ (a ++ b))) same ∙ ap (λ xs. x ∷ xs) (front_of_both a b n)
+
+-- a fault in b, after all of a
+stops_later : (fault : RunFault) (w0 w w' : Option (List ℕ)) (a b : List ℕ) → Appends w0 w a → StopsWriting fault w w' b → StopsWriting fault w0 w' (a ++ b)
+stops_later Write w0 w w' a b all some = record {
+  count = length a + some.count;
+  fewer = omega (arith, length-append a b, some.fewer);
+  written = subst (Appends w0 w') (sym (front_of_both a b some.count)) (Appends-trans w0 w w' a (take some.count b) all some.written);
+}
+stops_later Memory w0 w w' a b all some = record {
+  count = length a + some.count;
+  within = omega (arith, length-append a b, some.within);
+  written = subst (Appends w0 w') (sym (front_of_both a b some.count)) (Appends-trans w0 w w' a (take some.count b) all some.written);
+}
+stops_later _ w0 w w' a b all some = absurd some
+
+-- behind what was written
+stopped_behind : (text now_text : Text) (fault : RunFault) (n : ℕ) (s now : StreamSoFar) (unread left w0 w w' : Option (List ℕ)) → IsWriting text n s unread left w0 w → now_text ≡ text
+    → IsStopped fault now_text s now w w' → StopsWriting fault w0 w' (text now.bytes now.ended)
+stopped_behind text now_text fault n s now unread left w0 w w' i same off =
+    let defined : text now.bytes now.ended ≡ text s.bytes false ++ off.added =
+    ap (λ (f : Text). f now.bytes now.ended) (sym same) ∙ off.defined ∙ ap (λ (f : Text). f s.bytes s.ended ++ off.added) same
+    ∙ ap (λ x. text s.bytes x ++ off.added) i.open_end in
+    subst (StopsWriting fault w0 w') (sym defined) (stops_later fault w0 w w' (text s.bytes false) off.added i.written off.stopped)
+
+-- at a piece
+pub stopped_in : (text now_text : Text) (fault : RunFault) (n : ℕ) (s : StreamSoFar) (unread left left' w0 w w' : Option (List ℕ)) (piece : List ℕ) → IsWriting text n s unread left w0 w → now_text ≡ text
+    → Consumes left left' piece → IsStopped fault now_text s (after_piece s piece) w w' → Lists text unread left' w0 w' (Err fault)
+stopped_in text now_text fault n s unread left left' w0 w w' piece i same more off =
+    let next = open_piece s piece i.open_end in
+    stopped text fault unread left' w0 w' (s.bytes ++ piece) false
+    (record { consumed = Consumes-trans unread left left' s.bytes piece i.consumed more; whole = λ all. cc })
+    (subst (StopsWriting fault w0 w') (ap (λ (t : StreamSoFar). text t.bytes t.ended) next ∙ ap (λ x. text (s.bytes ++ piece) x) i.open_end)
+    (stopped_behind text now_text fault n s (after_piece s piece) unread left w0 w w' i same off))
+
+-- at the end
+pub stopped_at_end : (text now_text : Text) (fault : RunFault) (n : ℕ) (s : StreamSoFar) (unread left left' w0 w w' : Option (List ℕ)) (len : ℕ) (piece : List ℕ) → IsWriting text n s unread left w0 w → now_text ≡ text
+    → len ≡ 0 → Consumes left left' (take len piece) → IsAtEnd left' → IsStopped fault now_text s (after_end s) w w' → Lists text unread left' w0 w' (Err fault)
+stopped_at_end text now_text fault n s unread left left' w0 w w' len piece i same none more at_end off =
+    stopped text fault unread left' w0 w' s.bytes true
+    (record { consumed = nothing_more unread left left' s.bytes piece len i.consumed none more; whole = λ is. at_end })
+    (stopped_behind text now_text fault n s (after_end s) unread left w0 w w' i same off)
