@@ -1,12 +1,13 @@
 -- A macroblock of one motion without coefficients has no edge inside it that is filtered.
-use Rattle.std.proofs.Common.{◌≡◌, ◌∙◌, ℕ, suc, ◌+◌, ◌%◌, ◌<◌, Bool, true, false, arith, refl, sym, ap}
-use Rattle.std.specs.Prelude.{ℤ, not, ◌&&◌, ◌||◌, ◌==◌, if◌then◌else◌}
+use Rattle.std.proofs.Common.{◌≡◌, ◌∙◌, ℕ, suc, ◌+◌, ◌%◌, ◌<◌, ◌≤◌, Bool, true, false, arith, refl, sym, ap}
+use Rattle.std.specs.Prelude.{ℤ, nat_lt, not, ◌&&◌, ◌||◌, ◌==◌, if◌then◌else◌}
 use Rattle.avc_plane.specs.Planes.{Planes}
 use Rattle.avc_deblock.specs.declared.facts.MbFacts.{MbFacts}
-use Rattle.avc_deblock.specs.Facts.{edge_block, inter_strength}
-use Rattle.avc_deblock.specs.ByFacts.{strength_of, luma_qp_of, chroma_qp_of, edge_by_facts, edges_by_facts}
+use Rattle.avc_deblock.specs.Facts.{edge_block, inter_strength, filters_between}
+use Rattle.avc_deblock.specs.ByFacts.{strength_of, luma_qp_of, chroma_qp_of, edge_by_facts, edges_by_facts, mb_by_facts}
 use Rattle.avc_deblock.proofs.Between.{low_block}
 use Rattle.avc_deblock.proofs.EdgePlanes.{edge_zero}
+use Rattle.avc_deblock.proofs.PictureFacts.{some}
 
 module _ (column row : ℕ) (offset : ℤ) (f : MbFacts) (inter : f.is_intra ≡ false) (none : (j k : ℕ) → j < 16 → k < 16 → inter_strength f j f k ≡ 0) (v : Bool) where
   still_edge : (n : ℕ) → suc n < 4 → (s : Planes) → edge_by_facts v column row (suc n) offset f f s ≡ s
@@ -34,3 +35,48 @@ without_still column row offset f true inter none v inner s =
     ∙ sym (still_edges column row offset f (inter refl) (none refl) v inner s)
 without_still column row offset f false inter none v true s = refl
 without_still column row offset f false inter none v false s = refl
+
+-- ---- a macroblock
+
+-- inner edges over the outer one
+over : (v : Bool) (o i : Bool) (column row : ℕ) (e : ℤ) (p q : MbFacts) (s : Planes) →
+    edges_by_facts v column row e false i q q (edges_by_facts v column row e o false p q s) ≡ edges_by_facts v column row e o i p q s
+over v true i column row e p q s = refl
+over v false i column row e p q s = refl
+
+-- an outer edge at strength 0 can go
+outer_kept : (v : Bool) (column row : ℕ) (e : ℤ) (p q : MbFacts) (joins zero : Bool) → (joins ≡ true → v ≡ true → 1 ≤ column) → (joins ≡ true → v ≡ false → 1 ≤ row) →
+    (zero ≡ true → (k : ℕ) → k < 4 → strength_of p q v 0 k ≡ 0) → (s : Planes) →
+    edges_by_facts v column row e (joins && not zero) false p q s ≡ edges_by_facts v column row e joins false p q s
+outer_kept v column row e p q false zero across down none s = refl
+outer_kept v column row e p q true false across down none s = refl
+outer_kept v column row e p q true true across down none s =
+    sym
+    (edge_zero v column row 0 (strength_of p q v 0) (luma_qp_of p q) (chroma_qp_of e p q) s
+    (λ h. let some : 1 ≤ column = across refl h in omega arith) (λ h. let some : 1 ≤ row = down refl h in omega arith) (none refl))
+
+module _ (column row : ℕ) (e : ℤ) (left above mb : MbFacts) (still no_left no_top i l u : Bool)
+    (inter : still ≡ true → mb.is_intra ≡ false) (none : still ≡ true → (j k : ℕ) → j < 16 → k < 16 → inter_strength mb j mb k ≡ 0)
+    (left_zero : no_left ≡ true → (k : ℕ) → k < 4 → strength_of left mb true 0 k ≡ 0) (top_zero : no_top ≡ true → (k : ℕ) → k < 4 → strength_of above mb false 0 k ≡ 0)
+    (inner_is : i ≡ (filters_between mb mb && not still)) (left_is : l ≡ ((nat_lt 0 column && filters_between mb left) && not no_left))
+    (above_is : u ≡ ((nat_lt 0 row && filters_between mb above) && not no_top)) (s : Planes) where
+  pub mb_kept : edges_by_facts false column row e false i mb mb (edges_by_facts false column row e u false above mb (edges_by_facts true column row e false i mb mb (edges_by_facts true column row e l false left mb s)))
+      ≡ mb_by_facts e column row left above mb s
+  mb_kept =
+      let inside : Bool = filters_between mb mb in
+      let joins_left : Bool = nat_lt 0 column && filters_between mb left in
+      let joins_top : Bool = nat_lt 0 row && filters_between mb above in
+      let inner : Bool → Bool → Planes → Planes = λ (v : Bool) (o : Bool) (t : Planes). edges_by_facts v column row e false o mb mb t in
+      let at_left : Bool → Planes = λ (o : Bool). edges_by_facts true column row e o false left mb s in
+      let at_top : Bool → Planes → Planes = λ (o : Bool) (t : Planes). edges_by_facts false column row e o false above mb t in
+      ap (λ (b : Bool). inner false b (at_top u (inner true b (at_left l)))) inner_is
+      ∙ without_still column row e mb still inter none false inside (at_top u (inner true (inside && not still) (at_left l)))
+      ∙ ap (λ (t : Planes). inner false inside (at_top u t)) (without_still column row e mb still inter none true inside (at_left l))
+      ∙ ap (λ (b : Bool). inner false inside (at_top u (inner true inside (at_left b)))) left_is
+      ∙ ap (λ (b : Bool). inner false inside (at_top b (inner true inside (at_left (joins_left && not no_left))))) above_is
+      ∙ ap (inner false inside)
+      (outer_kept false column row e above mb joins_top no_top (λ h g. absurd (cc)) (λ h g. some (filters_between mb above) row h) top_zero (inner true inside (at_left (joins_left && not no_left))))
+      ∙ ap (λ (t : Planes). inner false inside (at_top joins_top (inner true inside t)))
+      (outer_kept true column row e left mb joins_left no_left (λ h g. some (filters_between mb left) column h) (λ h g. absurd (cc)) left_zero s)
+      ∙ over false joins_top inside column row e above mb (inner true inside (at_left joins_left))
+      ∙ ap (edges_by_facts false column row e joins_top inside above mb) (over true joins_left inside column row e left mb s)

@@ -2,6 +2,7 @@
 use Rattle.std.proofs.Common.{◌≡◌, ℕ, zero, suc, ◌+◌, ◌*◌, ◌/◌, ◌%◌, ◌<◌, ◌≤◌, Bool, true, false, ◌&&◌, List, [], ◌∷◌, arith, refl, ap, ◌∙◌, below_more}
 use Rattle.std.specs.Prelude.{nat_le, slice_index, ◌==◌}
 use Rattle.avc_deblock.specs.Line.{alpha_of, beta_of, tc0_of}
+use Rattle.avc_deblock.specs.OneEdge.{tc1_of}
 use Rattle.std.proofs.lemmas.Bool.Decides.{nat_tests}
 
 abbrev pub are_at_most : ℕ → List ℕ → Bool
@@ -44,8 +45,8 @@ alphas = 0 ∷ 0 ∷ 0 ∷ 0 ∷ 0 ∷ 0 ∷ 0 ∷ 0 ∷ 0 ∷ 0 ∷ 0 ∷ 0 ∷
 abbrev betas : List ℕ
 betas = 0 ∷ 0 ∷ 0 ∷ 0 ∷ 0 ∷ 0 ∷ 0 ∷ 0 ∷ 0 ∷ 0 ∷ 0 ∷ 0 ∷ 0 ∷ 0 ∷ 0 ∷ 0 ∷ 2 ∷ 2 ∷ 2 ∷ 3 ∷ 3 ∷ 3 ∷ 3 ∷ 4 ∷ 4 ∷ 4 ∷ 6 ∷ 6 ∷ 7 ∷ 7 ∷ 8 ∷ 8 ∷ 9 ∷ 9 ∷ 10 ∷ 10 ∷ 11 ∷ 11 ∷ 12 ∷ 12 ∷ 13 ∷ 13 ∷ 14 ∷ 14 ∷ 15 ∷ 15 ∷ 16 ∷ 16 ∷ 17 ∷ 17 ∷ 18 ∷ 18 ∷ []
 
-abbrev tc0s : List ℕ
-tc0s = 0 ∷ 0 ∷ 0 ∷ 0 ∷ 0 ∷ 0 ∷ 0 ∷ 0 ∷ 0 ∷ 0 ∷ 0 ∷ 0 ∷ 0 ∷ 0 ∷ 0 ∷ 0 ∷ 0 ∷ 0 ∷ 0 ∷ 0 ∷ 0 ∷ 0 ∷ 0 ∷ 0 ∷ 0 ∷ 0 ∷ 0 ∷ 0 ∷ 0 ∷ 0 ∷ 0 ∷ 0 ∷ 0 ∷ 0 ∷ 0 ∷ 0 ∷ 0 ∷ 0 ∷ 0 ∷ 0 ∷ 0 ∷ 0 ∷ 0 ∷ 0 ∷ 0 ∷ 0 ∷ 0 ∷ 0 ∷ 0 ∷ 0 ∷ 0 ∷ 0 ∷ 0 ∷ 0 ∷ 0 ∷ 0 ∷ 0 ∷ 0 ∷ 0 ∷ 0 ∷ 0 ∷ 0 ∷ 0 ∷ 0 ∷ 0 ∷ 0 ∷ 0 ∷ 0 ∷ 0 ∷ 0 ∷ 0 ∷ 1 ∷ 0 ∷ 0 ∷ 0 ∷ 1 ∷ 0 ∷ 0 ∷ 0 ∷ 1 ∷ 0 ∷ 0 ∷ 0 ∷ 1 ∷ 0 ∷ 0 ∷ 1 ∷ 1 ∷ 0 ∷ 0 ∷ 1 ∷ 1 ∷ 0 ∷ 1 ∷ 1 ∷ 1 ∷ 0 ∷ 1 ∷ 1 ∷ 1 ∷ 0 ∷ 1 ∷ 1 ∷ 1 ∷ 0 ∷ 1 ∷ 1 ∷ 1 ∷ 0 ∷ 1 ∷ 1 ∷ 2 ∷ 0 ∷ 1 ∷ 1 ∷ 2 ∷ 0 ∷ 1 ∷ 1 ∷ 2 ∷ 0 ∷ 1 ∷ 1 ∷ 2 ∷ 0 ∷ 1 ∷ 2 ∷ 3 ∷ 0 ∷ 1 ∷ 2 ∷ 3 ∷ 0 ∷ 2 ∷ 2 ∷ 3 ∷ 0 ∷ 2 ∷ 2 ∷ 4 ∷ 0 ∷ 2 ∷ 3 ∷ 4 ∷ 0 ∷ 2 ∷ 3 ∷ 4 ∷ 0 ∷ 3 ∷ 3 ∷ 5 ∷ 0 ∷ 3 ∷ 4 ∷ 6 ∷ 0 ∷ 3 ∷ 4 ∷ 6 ∷ 0 ∷ 4 ∷ 5 ∷ 7 ∷ 0 ∷ 4 ∷ 5 ∷ 8 ∷ 0 ∷ 4 ∷ 6 ∷ 9 ∷ 0 ∷ 5 ∷ 7 ∷ 10 ∷ 0 ∷ 6 ∷ 8 ∷ 11 ∷ 0 ∷ 6 ∷ 8 ∷ 13 ∷ 0 ∷ 7 ∷ 10 ∷ 14 ∷ 0 ∷ 8 ∷ 11 ∷ 16 ∷ 0 ∷ 9 ∷ 12 ∷ 18 ∷ 0 ∷ 10 ∷ 13 ∷ 20 ∷ 0 ∷ 11 ∷ 15 ∷ 23 ∷ 0 ∷ 13 ∷ 17 ∷ 25 ∷ []
+abbrev tc1s : List ℕ
+tc1s = 0 ∷ 1 ∷ 1 ∷ 1 ∷ 0 ∷ 1 ∷ 1 ∷ 1 ∷ 0 ∷ 1 ∷ 1 ∷ 1 ∷ 0 ∷ 1 ∷ 1 ∷ 1 ∷ 0 ∷ 1 ∷ 1 ∷ 1 ∷ 0 ∷ 1 ∷ 1 ∷ 1 ∷ 0 ∷ 1 ∷ 1 ∷ 1 ∷ 0 ∷ 1 ∷ 1 ∷ 1 ∷ 0 ∷ 1 ∷ 1 ∷ 1 ∷ 0 ∷ 1 ∷ 1 ∷ 1 ∷ 0 ∷ 1 ∷ 1 ∷ 1 ∷ 0 ∷ 1 ∷ 1 ∷ 1 ∷ 0 ∷ 1 ∷ 1 ∷ 1 ∷ 0 ∷ 1 ∷ 1 ∷ 1 ∷ 0 ∷ 1 ∷ 1 ∷ 1 ∷ 0 ∷ 1 ∷ 1 ∷ 1 ∷ 0 ∷ 1 ∷ 1 ∷ 1 ∷ 0 ∷ 1 ∷ 1 ∷ 2 ∷ 0 ∷ 1 ∷ 1 ∷ 2 ∷ 0 ∷ 1 ∷ 1 ∷ 2 ∷ 0 ∷ 1 ∷ 1 ∷ 2 ∷ 0 ∷ 1 ∷ 2 ∷ 2 ∷ 0 ∷ 1 ∷ 2 ∷ 2 ∷ 0 ∷ 2 ∷ 2 ∷ 2 ∷ 0 ∷ 2 ∷ 2 ∷ 2 ∷ 0 ∷ 2 ∷ 2 ∷ 2 ∷ 0 ∷ 2 ∷ 2 ∷ 2 ∷ 0 ∷ 2 ∷ 2 ∷ 3 ∷ 0 ∷ 2 ∷ 2 ∷ 3 ∷ 0 ∷ 2 ∷ 2 ∷ 3 ∷ 0 ∷ 2 ∷ 2 ∷ 3 ∷ 0 ∷ 2 ∷ 3 ∷ 4 ∷ 0 ∷ 2 ∷ 3 ∷ 4 ∷ 0 ∷ 3 ∷ 3 ∷ 4 ∷ 0 ∷ 3 ∷ 3 ∷ 5 ∷ 0 ∷ 3 ∷ 4 ∷ 5 ∷ 0 ∷ 3 ∷ 4 ∷ 5 ∷ 0 ∷ 4 ∷ 4 ∷ 6 ∷ 0 ∷ 4 ∷ 5 ∷ 7 ∷ 0 ∷ 4 ∷ 5 ∷ 7 ∷ 0 ∷ 5 ∷ 6 ∷ 8 ∷ 0 ∷ 5 ∷ 6 ∷ 9 ∷ 0 ∷ 5 ∷ 7 ∷ 10 ∷ 0 ∷ 6 ∷ 8 ∷ 11 ∷ 0 ∷ 7 ∷ 9 ∷ 12 ∷ 0 ∷ 7 ∷ 9 ∷ 14 ∷ 0 ∷ 8 ∷ 11 ∷ 15 ∷ 0 ∷ 9 ∷ 12 ∷ 17 ∷ 0 ∷ 10 ∷ 13 ∷ 19 ∷ 0 ∷ 11 ∷ 14 ∷ 21 ∷ 0 ∷ 12 ∷ 16 ∷ 24 ∷ 0 ∷ 14 ∷ 18 ∷ 26 ∷ []
 
 pub alpha_at : (j i : ℕ) → j ≡ i → i < 52 → slice_index alphas j ≡ alpha_of i
 alpha_at j i e h = ap (slice_index alphas) e ∙ same_below 52 (slice_index alphas) alpha_of refl i h
@@ -53,11 +54,14 @@ alpha_at j i e h = ap (slice_index alphas) e ∙ same_below 52 (slice_index alph
 pub beta_at : (j i : ℕ) → j ≡ i → i < 52 → slice_index betas j ≡ beta_of i
 beta_at j i e h = ap (slice_index betas) e ∙ same_below 52 (slice_index betas) beta_of refl i h
 
-pub tc0_at : (k i s : ℕ) → k ≡ 4 * i + s → i < 52 → s < 4 → slice_index tc0s k ≡ tc0_of s i
-tc0_at k i s e h g =
+pub tc1_at : (k i s : ℕ) → k ≡ 4 * i + s → i < 52 → s < 4 → slice_index tc1s k ≡ tc1_of s i
+tc1_at k i s e h g =
     let two : (4 * i + s) % 4 ≡ s = omega arith in
     let one : (4 * i + s) / 4 ≡ i = omega arith in
-    ap (slice_index tc0s) e ∙ same_below 208 (slice_index tc0s) (λ (k : ℕ). tc0_of (k % 4) (k / 4)) refl (4 * i + s) (omega arith) ∙ ap (λ (t : ℕ). tc0_of t ((4 * i + s) / 4)) two ∙ ap (tc0_of s) one
+    ap (slice_index tc1s) e ∙ same_below 208 (slice_index tc1s) (λ (k : ℕ). tc1_of (k % 4) (k / 4)) refl (4 * i + s) (omega arith) ∙ ap (λ (t : ℕ). tc1_of t ((4 * i + s) / 4)) two ∙ ap (tc1_of s) one
 
-pub tc0_small : (k : ℕ) → slice_index tc0s k ≤ 25
-tc0_small k = at_most 25 tc0s k refl
+pub tc1_small : (k : ℕ) → slice_index tc1s k ≤ 26
+tc1_small k = at_most 26 tc1s k refl
+
+pub no_tc0 : (n : ℕ) → n < 52 → tc0_of 0 n ≡ 0
+no_tc0 n low = same_below 52 (tc0_of 0) (λ (k : ℕ). 0) refl n low

@@ -1,8 +1,9 @@
 -- The samples of one component after the lines of one edge, ITU-T H.264 clause 8.7.1.
-use Rattle.std.specs.Prelude.{ℕ, ◌+◌, ◌*◌, ◌/◌, ◌%◌, ◌==◌, ◌<◌, ◌≤◌, Bool, true, false, if◌then◌else◌, List, [], ◌∷◌, slice_index}
+use Rattle.std.specs.Prelude.{◌≡◌, ℕ, ◌+◌, ◌-◌, ◌*◌, ◌/◌, ◌%◌, ◌==◌, ◌<◌, ◌≤◌, Bool, ◌||◌, true, false, if◌then◌else◌, List, [], ◌∷◌, slice_index}
 use Rattle.std.specs.List.{range_with_len}
 use Rattle.avc_plane.specs.Plane.{Plane}
-use Rattle.avc_deblock.specs.Line.{Setting, setting_of}
+use Rattle.avc_deblock.specs.Line.{Setting, setting_of, threshold_index, alpha_of, beta_of, tc0_of}
+use Rattle.avc_deblock.specs.Rows.{IsWeak, IsWeakChroma}
 use Rattle.avc_types.specs.Pictures.{Coded}
 use Rattle.avc_neigh.specs.declared.facts.Motion.{Motion}
 use Rattle.avc_plane.specs.Planes.{Planes}
@@ -10,6 +11,7 @@ use Rattle.avc_deblock.specs.Edges.{line_filtered, luma_per_sample, setting_at, 
 use Rattle.avc_deblock.specs.declared.strengths.Strengths.{Strengths}
 use Rattle.avc_deblock.specs.declared.strengths.Strengths.TheVariants.{Four, BelowFour}
 use Rattle.avc_deblock.specs.declared.thresholds.EdgeQp.{EdgeQp}
+use Rattle.avc_deblock.specs.declared.thresholds.QpLimits.{QpLimits}
 
 -- Some lines of an edge, one after another. Line 0 has q0 at (x, y); line i lies i rows below it, or i columns to its right
 -- where the edge is horizontal.
@@ -44,6 +46,33 @@ luma_setting strengths qp i = setting_of true (strengths (i / 4)) qp.p qp.q qp.o
 -- line i of eight
 abbrev pub chroma_setting : (ℕ → ℕ) → EdgeQp → ℕ → Setting
 chroma_setting strengths qp i = setting_of false (strengths (i / 2)) qp.p qp.q qp.offset_a qp.offset_b
+
+-- indexA and indexB of an edge's lines (8.7.2.2)
+abbrev pub index_a_of : EdgeQp → ℕ
+index_a_of qp = threshold_index ((qp.p + qp.q + 1) / 2) qp.offset_a
+
+abbrev pub index_b_of : EdgeQp → ℕ
+index_b_of qp = threshold_index ((qp.p + qp.q + 1) / 2) qp.offset_b
+
+-- one more than tC0 at a strength of 1 to 3 (Table 8-17), and 0 at strength 0, where nothing is filtered
+abbrev pub tc1_of : (strength index : ℕ) → ℕ
+tc1_of strength index = if strength == 0 then 0 else tc0_of strength index + 1
+
+-- what all lines between two QPs are filtered with (8.7.2.2)
+pub record AreLimits (l : QpLimits) (qp : EdgeQp) : Type 0 where
+  pub index : l.index_a ≡ index_a_of qp
+  pub low : l.index_a < 52
+  pub alpha : l.is_on ≡ true → l.alpha1 + 1 ≡ alpha_of (index_a_of qp)
+  pub beta : l.is_on ≡ true → l.beta1 + 1 ≡ beta_of (index_b_of qp)
+  pub off : l.is_on ≡ false → (alpha_of (index_a_of qp) == 0 || beta_of (index_b_of qp) == 0) ≡ true
+
+-- Line i of sixteen, or of eight, is one of luma, or of chroma, below strength 4 with these limits; tc1 is that of each quarter.
+abbrev pub FitsWeak : QpLimits → (tc1 : List ℕ) → Setting → (i : ℕ) → Type 0
+FitsWeak l tc1 s i = IsWeak s (if slice_index tc1 (i / 4) == 0 then 0 else l.alpha1 + 1) (l.beta1 + 1) (slice_index tc1 (i / 4) - 1)
+
+abbrev pub FitsWeakChroma : QpLimits → (tc1 : List ℕ) → Setting → (i : ℕ) → Type 0
+FitsWeakChroma l tc1 s i =
+    IsWeakChroma s (if slice_index tc1 (i / 2) == 0 then 0 else l.alpha1 + 1) (l.beta1 + 1) (slice_index tc1 (i / 2) - 1)
 
 -- ---- the edges of a macroblock
 

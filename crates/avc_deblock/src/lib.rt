@@ -23,6 +23,4 @@ mod thresholds;
 pub use block_strength::strength;
 pub use facts::MbFacts;
 pub use filter::{picture, row};
-pub use kernels::{strong_horizontal, strong_vertical, weak_horizontal, weak_vertical};
-pub use lines::{Limits, StrongLimits};
 pub use planes_edge::{Place, edge};

@@ -18,7 +18,7 @@ fn excess(p1: u8, p0: u8, q0: u8, q1: u8, a1: u8, b1: u8, dead: u8) -> u8
 }
 
 #[inline(always)]
-fn is_zero(v: u8) -> bool
+pub(crate) fn is_zero(v: u8) -> bool
     ensures { result ≡ (v == 0) }
 {
     v == 0

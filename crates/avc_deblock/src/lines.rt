@@ -1,35 +1,107 @@
-ghost use Rattle.std.specs.Prelude.{◌≡◌, ℕ, ◌+◌, ◌/◌, ◌<◌, ◌≤◌, ◌==◌, if◌then◌else◌, slice_index};
+ghost use Rattle.std.specs.Prelude.{◌≡◌, ℕ, ◌+◌, ◌-◌, ◌/◌, ◌<◌, ◌≤◌, ◌==◌, if◌then◌else◌, slice_index};
 ghost use Rattle.avc_deblock.specs.Line.{Setting, filtered};
 ghost use Rattle.avc_deblock.specs.Rows.{line_of_rows, line_within, line_inside, IsWeak, IsStrong, IsWeakChroma, IsStrongChroma};
 
+use crate::bytes::less;
 use crate::line::{strong_chroma_line, strong_line, weak_chroma_line, weak_line};
+use crate::thresholds::QpLimits;
 
 /// What sixteen lines are filtered with below strength 4.
 #[derive(Clone, Copy)]
-pub struct Limits {
+pub(crate) struct Limits {
     /// One less than alpha.
-    pub alpha1: [u8; 16],
+    pub(crate) alpha1: [u8; 16],
 
     /// One less than beta.
-    pub beta1: [u8; 16],
+    pub(crate) beta1: [u8; 16],
 
     /// Not 0 where the strength is 0.
-    pub dead: [u8; 16],
+    pub(crate) dead: [u8; 16],
 
-    pub tc0: [u8; 16],
+    pub(crate) tc0: [u8; 16],
 }
 
 /// What sixteen lines are filtered with at strength 4.
 #[derive(Clone, Copy)]
-pub struct StrongLimits {
+pub(crate) struct StrongLimits {
     /// One less than alpha.
-    pub alpha1: [u8; 16],
+    pub(crate) alpha1: [u8; 16],
 
     /// One less than beta.
-    pub beta1: [u8; 16],
+    pub(crate) beta1: [u8; 16],
 
     /// One less than a quarter of alpha and two.
-    pub small1: [u8; 16],
+    pub(crate) small1: [u8; 16],
+}
+
+/// One number for all lines.
+#[inline(always)]
+fn repeated(v: u8) -> [u8; 16]
+    ensures { (k : ℕ) → k < 16 → slice_index result k ≡ v }
+{
+    let mut out = [0; 16];
+    for k in 0..16 {
+        out[k] = v;
+    }
+    out
+}
+
+/// 1 where the number is 0.
+#[inline(always)]
+fn deads(tc1: &[u8; 16]) -> [u8; 16]
+    ensures { (k : ℕ) → k < 16 → slice_index result k ≡ 1 - slice_index tc1.now k }
+{
+    let tc1 = *tc1;
+    let mut out = [0; 16];
+    for k in 0..16 {
+        out[k] = less(1, tc1[k]);
+    }
+    out
+}
+
+/// One less than each number that is not 0.
+#[inline(always)]
+fn tc0s(tc1: &[u8; 16]) -> [u8; 16]
+    ensures { (k : ℕ) → k < 16 → slice_index result k ≡ slice_index tc1.now k - 1 }
+{
+    let tc1 = *tc1;
+    let mut out = [0; 16];
+    for k in 0..16 {
+        out[k] = less(tc1[k], 1);
+    }
+    out
+}
+
+impl QpLimits {
+    /// Those of sixteen lines; `tc1` is one more than tC0, or 0 where nothing is filtered.
+    #[inline(always)]
+    pub(crate) fn weak(&self, tc1: &[u8; 16]) -> Limits
+        ensures alpha { (k : ℕ) → k < 16 → slice_index result.alpha1 k ≡ self.now.alpha1 }
+        ensures beta { (k : ℕ) → k < 16 → slice_index result.beta1 k ≡ self.now.beta1 }
+        ensures dead { (k : ℕ) → k < 16 → slice_index result.dead k ≡ 1 - slice_index tc1.now k }
+        ensures tc0 { (k : ℕ) → k < 16 → slice_index result.tc0 k ≡ slice_index tc1.now k - 1 }
+    {
+        Limits {
+            alpha1: repeated(self.alpha1),
+            beta1: repeated(self.beta1),
+            dead: deads(tc1),
+            tc0: tc0s(tc1),
+        }
+    }
+
+    /// Those of sixteen lines at strength 4.
+    #[inline(always)]
+    pub(crate) fn strong(&self) -> StrongLimits
+        ensures alpha { (k : ℕ) → k < 16 → slice_index result.alpha1 k ≡ self.now.alpha1 }
+        ensures beta { (k : ℕ) → k < 16 → slice_index result.beta1 k ≡ self.now.beta1 }
+        ensures small { (k : ℕ) → k < 16 → slice_index result.small1 k ≡ (slice_index result.alpha1 k + 1) / 4 + 1 }
+    {
+        StrongLimits {
+            alpha1: repeated(self.alpha1),
+            beta1: repeated(self.beta1),
+            small1: repeated(((u16::from(self.alpha1) + 1) / 4 + 1) as u8),
+        }
+    }
 }
 
 /// The edge of sixteen lines of luma, at a strength of 0 to 3.

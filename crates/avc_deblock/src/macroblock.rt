@@ -1,12 +1,15 @@
 ghost use Rattle.std.specs.Prelude.{◌≡◌, ℕ, ◌+◌, ◌*◌, ◌^◌, ◌<◌, ◌≤◌, true, false};
 ghost use Rattle.avc_plane.specs.Frames.{planes_of};
-ghost use Rattle.avc_deblock.specs.OneEdge.{HasRoom};
+ghost use Rattle.avc_deblock.specs.OneEdge.{AreStrengths, HasRoom, strength_along};
 ghost use Rattle.avc_deblock.specs.Facts.{filters_between};
-ghost use Rattle.avc_deblock.specs.ByFacts.{edges_by_facts, mb_by_facts};
+ghost use Rattle.avc_deblock.specs.MbLimits.{ArePairLimits};
+ghost use Rattle.avc_deblock.specs.ByFacts.{edges_by_facts, mb_by_facts, strength_of};
 
+use crate::edge_strengths::edge_strengths;
 use crate::facts::MbFacts;
-use crate::line::both;
-use crate::planes_edge::{Place, edge_between};
+use crate::line::{all_three, both};
+use crate::planes_edge::{PairLimits, Place, edge_at, edge_between, limits_beside, pair_limits};
+use crate::strengths::Strengths;
 use avc_plane::Planes;
 use avc_types::FilteredEdges;
 
@@ -31,6 +34,8 @@ fn outer_edge<const PAD: usize>(
     q: &MbFacts,
     is_vertical: bool,
     filters: bool,
+    strengths: &Strengths,
+    limits: &PairLimits,
     place: Place,
 )
     requires vertical { filters ≡ true → is_vertical ≡ true → 1 ≤ place.column }
@@ -38,12 +43,15 @@ fn outer_edge<const PAD: usize>(
     requires columns_fit { 16 * place.column + 16 < 2 ^ 64 }
     requires rows_fit { 16 * place.row + 16 < 2 ^ 64 }
     requires room { HasRoom place.column place.row (planes_of planes.old) }
+    requires limits { ArePairLimits limits.now place.chroma_qp_index_offset p.now q.now }
+    requires are_strengths { AreStrengths strengths.now }
+    requires strengths { (k : ℕ) → k < 4 → strength_along strengths.now k ≡ strength_of p.now q.now is_vertical 0 k }
     ensures room { (column row : ℕ) → HasRoom column row (planes_of planes.old) → HasRoom column row (planes_of planes.new) }
     ensures lines { planes_of planes.new
         ≡ edges_by_facts is_vertical place.column place.row place.chroma_qp_index_offset filters false p.now q.now (planes_of planes.old) }
 {
     if filters {
-        edge_between(planes, p, q, is_vertical, 0, place);
+        edge_at(planes, p, q, is_vertical, 0, strengths, limits, place);
     }
 }
 
@@ -53,19 +61,21 @@ fn inner_edges<const PAD: usize>(
     q: &MbFacts,
     is_vertical: bool,
     filters: bool,
+    limits: &PairLimits,
     place: Place,
 )
     requires columns_fit { 16 * place.column + 16 < 2 ^ 64 }
     requires rows_fit { 16 * place.row + 16 < 2 ^ 64 }
     requires room { HasRoom place.column place.row (planes_of planes.old) }
+    requires limits { ArePairLimits limits.now place.chroma_qp_index_offset q.now q.now }
     ensures room { (column row : ℕ) → HasRoom column row (planes_of planes.old) → HasRoom column row (planes_of planes.new) }
     ensures lines { planes_of planes.new
         ≡ edges_by_facts is_vertical place.column place.row place.chroma_qp_index_offset false filters q.now q.now (planes_of planes.old) }
 {
     if filters {
-        edge_between(planes, q, q, is_vertical, 1, place);
-        edge_between(planes, q, q, is_vertical, 2, place);
-        edge_between(planes, q, q, is_vertical, 3, place);
+        edge_between(planes, q, q, is_vertical, 1, limits, place);
+        edge_between(planes, q, q, is_vertical, 2, limits, place);
+        edge_between(planes, q, q, is_vertical, 3, limits, place);
     }
 }
 
@@ -85,10 +95,39 @@ pub(crate) fn macroblock<const PAD: usize>(
         ≡ mb_by_facts place.chroma_qp_index_offset place.column place.row left.now above.now mb.now (planes_of planes.old) }
 {
     let inner = both(mb.filters_edge_to(mb), !mb.is_still());
-    let from_left = both(place.column > 0, mb.filters_edge_to(left));
-    let from_above = both(place.row > 0, mb.filters_edge_to(above));
-    outer_edge(planes, left, mb, true, from_left, place);
-    inner_edges(planes, mb, true, inner, place);
-    outer_edge(planes, above, mb, false, from_above, place);
-    inner_edges(planes, mb, false, inner, place);
+    let at_left = edge_strengths(left, mb, true, 0);
+    let at_top = edge_strengths(above, mb, false, 0);
+    let joins_left = both(place.column > 0, mb.filters_edge_to(left));
+    let joins_above = both(place.row > 0, mb.filters_edge_to(above));
+    let from_left = both(joins_left, !at_left.are_zero());
+    let from_above = both(joins_above, !at_top.are_zero());
+    let idle = all_three(!inner, !from_left, !from_above);
+    if idle {
+        return;
+    }
+    let own = pair_limits(mb, mb, place);
+    let left_limits = limits_beside(left, mb, own, place);
+    let above_limits = limits_beside(above, mb, own, place);
+    outer_edge(
+        planes,
+        left,
+        mb,
+        true,
+        from_left,
+        &at_left,
+        &left_limits,
+        place,
+    );
+    inner_edges(planes, mb, true, inner, &own, place);
+    outer_edge(
+        planes,
+        above,
+        mb,
+        false,
+        from_above,
+        &at_top,
+        &above_limits,
+        place,
+    );
+    inner_edges(planes, mb, false, inner, &own, place);
 }

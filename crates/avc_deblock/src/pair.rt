@@ -43,21 +43,6 @@ pub(crate) fn beside(a: &[u8; 64], b: &[u8; 64]) -> [u8; 128]
     out
 }
 
-/// The left or the right half of such rows.
-#[inline(always)]
-pub(crate) fn side(t: &[u8; 128], from: usize) -> [u8; 64]
-    requires { from + 8 ≤ 16 }
-    ensures { (r c : ℕ) → r < 8 → c < 8 → slice_index result (8 * r + c) ≡ slice_index t.now (16 * r + (from + c)) }
-{
-    let mut out = [0; 64];
-    for r in 0..8 {
-        for c in 0..8 {
-            out[8 * r + c] = t[16 * r + (from + c)];
-        }
-    }
-    out
-}
-
 /// A value for each quarter of an edge, at each line of the first eight and at each of the second.
 #[inline(always)]
 pub(crate) fn spread_twice(v: &[u8; 4]) -> [u8; 16]
@@ -66,6 +51,21 @@ pub(crate) fn spread_twice(v: &[u8; 4]) -> [u8; 16]
     let mut out = [0; 16];
     for k in 0..16 {
         out[k] = v[k % 8 / 2];
+    }
+    out
+}
+
+/// The two rows in the middle of such a block, of its left or its right half.
+#[inline(always)]
+pub(crate) fn nearest(t: &[u8; 128], from: usize) -> [u8; 16]
+    requires { from + 8 ≤ 16 }
+    ensures { (r c : ℕ) → r < 2 → c < 8 → slice_index result (8 * r + c) ≡ slice_index t.now (16 * (3 + r) + (from + c)) }
+{
+    let mut out = [0; 16];
+    for r in 0..2 {
+        for c in 0..8 {
+            out[8 * r + c] = t[16 * (3 + r) + (from + c)];
+        }
     }
     out
 }

@@ -1,14 +1,16 @@
 ghost use Rattle.std.specs.Prelude.{◌≡◌, ℕ, ◌+◌, ◌*◌, ◌^◌, ◌<◌, ◌≤◌, true, false};
 ghost use Rattle.avc_plane.specs.Frames.{planes_of};
-ghost use Rattle.avc_deblock.specs.OneEdge.{AreStrengths, chroma_of_edge, lines_of_edge, strength_along, HasRoom};
-ghost use Rattle.avc_deblock.specs.ByFacts.{edge_by_facts, luma_qp_of, chroma_qp_of};
+ghost use Rattle.avc_deblock.specs.OneEdge.{AreLimits, AreStrengths, chroma_of_edge, lines_of_edge, strength_along, HasRoom};
+ghost use Rattle.avc_deblock.specs.MbLimits.{ArePairLimits};
+ghost use Rattle.avc_deblock.specs.declared.thresholds.EdgeQp.{EdgeQp as Qps};
+ghost use Rattle.avc_deblock.specs.ByFacts.{edge_by_facts, luma_qp_of, chroma_qp_of, strength_of};
 
 use crate::chroma_edge::{horizontal_chroma, vertical_chroma};
 use crate::edge_strengths::edge_strengths;
 use crate::facts::MbFacts;
 use crate::luma_edge::{horizontal_luma, vertical_luma};
 use crate::strengths::Strengths;
-use crate::thresholds::EdgeQp;
+use crate::thresholds::{EdgeQp, QpLimits};
 use avc_plane::{Plane, Planes};
 use avc_transform::chroma_qp;
 
@@ -27,7 +29,7 @@ pub struct Place {
 
 impl Strengths {
     #[inline(always)]
-    fn are_zero(&self) -> bool
+    pub(crate) fn are_zero(&self) -> bool
         ensures { result ≡ true → (k : ℕ) → k < 4 → strength_along self.now k ≡ 0 }
     {
         match self {
@@ -37,102 +39,11 @@ impl Strengths {
     }
 }
 
-#[inline(always)]
-fn vertical_chroma_of<const PAD: usize>(
-    cb: &mut Plane<PAD>,
-    cr: &mut Plane<PAD>,
-    place: Place,
-    n: usize,
-    strengths: &Strengths,
-    qp: &EdgeQp,
-)
-    requires edge { n < 4 }
-    requires some { 1 ≤ 4 * place.column + n }
-    requires columns_fit { 16 * place.column + 16 < 2 ^ 64 }
-    requires rows_fit { 16 * place.row + 16 < 2 ^ 64 }
-    requires cb_columns { 8 * place.column + 8 ≤ cb.old.width }
-    requires cb_rows { 8 * place.row + 8 ≤ cb.old.height }
-    requires cr_columns { 8 * place.column + 8 ≤ cr.old.width }
-    requires cr_rows { 8 * place.row + 8 ≤ cr.old.height }
-    requires strengths { AreStrengths strengths.now }
-    ensures cb { cb.new ≡ chroma_of_edge true place.column place.row n (strength_along strengths.now) qp.now cb.old }
-    ensures cr { cr.new ≡ chroma_of_edge true place.column place.row n (strength_along strengths.now) qp.now cr.old }
-{
-    if n % 2 == 0 {
-        let left = 8 * place.column + 2 * n - 4;
-        vertical_chroma(cb, cr, left, 8 * place.row, strengths, qp);
-    }
-}
-
-#[inline(always)]
-fn horizontal_chroma_of<const PAD: usize>(
-    cb: &mut Plane<PAD>,
-    cr: &mut Plane<PAD>,
-    place: Place,
-    n: usize,
-    strengths: &Strengths,
-    qp: &EdgeQp,
-)
-    requires edge { n < 4 }
-    requires some { 1 ≤ 4 * place.row + n }
-    requires columns_fit { 16 * place.column + 16 < 2 ^ 64 }
-    requires rows_fit { 16 * place.row + 16 < 2 ^ 64 }
-    requires cb_columns { 8 * place.column + 8 ≤ cb.old.width }
-    requires cb_rows { 8 * place.row + 8 ≤ cb.old.height }
-    requires cr_columns { 8 * place.column + 8 ≤ cr.old.width }
-    requires cr_rows { 8 * place.row + 8 ≤ cr.old.height }
-    requires strengths { AreStrengths strengths.now }
-    ensures cb { cb.new ≡ chroma_of_edge false place.column place.row n (strength_along strengths.now) qp.now cb.old }
-    ensures cr { cr.new ≡ chroma_of_edge false place.column place.row n (strength_along strengths.now) qp.now cr.old }
-{
-    if n % 2 == 0 {
-        let top = 8 * place.row + 2 * n - 4;
-        horizontal_chroma(cb, cr, 8 * place.column, top, strengths, qp);
-    }
-}
-
-#[inline(never)]
-fn vertical<const PAD: usize>(
-    planes: &mut Planes<PAD>,
-    place: Place,
-    n: usize,
-    strengths: &Strengths,
-    luma: &EdgeQp,
-    chroma: &EdgeQp,
-)
-    requires edge { n < 4 }
-    requires some { 1 ≤ 4 * place.column + n }
-    requires columns_fit { 16 * place.column + 16 < 2 ^ 64 }
-    requires rows_fit { 16 * place.row + 16 < 2 ^ 64 }
-    requires room { HasRoom place.column place.row (planes_of planes.old) }
-    requires strengths { AreStrengths strengths.now }
-    ensures { planes_of planes.new ≡ lines_of_edge true place.column place.row n (strength_along strengths.now) luma.now chroma.now (planes_of planes.old) }
-{
-    let left = 16 * place.column + 4 * n - 4;
-    vertical_luma(&mut planes.luma, left, 16 * place.row, strengths, luma);
-    vertical_chroma_of(&mut planes.cb, &mut planes.cr, place, n, strengths, chroma);
-}
-
-#[inline(never)]
-fn horizontal<const PAD: usize>(
-    planes: &mut Planes<PAD>,
-    place: Place,
-    n: usize,
-    strengths: &Strengths,
-    luma: &EdgeQp,
-    chroma: &EdgeQp,
-)
-    requires edge { n < 4 }
-    requires some { 1 ≤ 4 * place.row + n }
-    requires columns_fit { 16 * place.column + 16 < 2 ^ 64 }
-    requires rows_fit { 16 * place.row + 16 < 2 ^ 64 }
-    requires room { HasRoom place.column place.row (planes_of planes.old) }
-    requires strengths { AreStrengths strengths.now }
-    ensures { planes_of planes.new ≡ lines_of_edge false place.column place.row n (strength_along strengths.now) luma.now chroma.now (planes_of planes.old) }
-{
-    let top = 16 * place.row + 4 * n - 4;
-    horizontal_luma(&mut planes.luma, 16 * place.column, top, strengths, luma);
-    horizontal_chroma_of(&mut planes.cb, &mut planes.cr, place, n, strengths, chroma);
+/// What all lines between two macroblocks are filtered with.
+#[derive(Clone, Copy)]
+pub(crate) struct PairLimits {
+    pub(crate) luma: QpLimits,
+    pub(crate) chroma: QpLimits,
 }
 
 #[inline(always)]
@@ -159,15 +70,171 @@ fn chroma_qps(p: &MbFacts, q: &MbFacts, place: Place) -> EdgeQp
     }
 }
 
-/// Filters edge `n` of macroblock `q` in all planes, 0 to 3 from its left edge on, or from its upper edge on. `p` is the macroblock on the
-/// other side.
+/// Those between `p` and `q`, with the offsets of the slice of `q`.
 #[inline(always)]
-pub(crate) fn edge_between<const PAD: usize>(
+pub(crate) fn pair_limits(p: &MbFacts, q: &MbFacts, place: Place) -> PairLimits
+    ensures { ArePairLimits result place.chroma_qp_index_offset p.now q.now }
+{
+    PairLimits {
+        luma: luma_qps(p, q).limits(),
+        chroma: chroma_qps(p, q, place).limits(),
+    }
+}
+
+/// The same where those inside `q` are known.
+#[inline(always)]
+pub(crate) fn limits_beside(p: &MbFacts, q: &MbFacts, own: PairLimits, place: Place) -> PairLimits
+    requires { ArePairLimits own place.chroma_qp_index_offset q.now q.now }
+    ensures { ArePairLimits result place.chroma_qp_index_offset p.now q.now }
+{
+    if p.qp == q.qp {
+        own
+    } else {
+        pair_limits(p, q, place)
+    }
+}
+
+#[inline(always)]
+fn vertical_chroma_of<const PAD: usize>(
+    cb: &mut Plane<PAD>,
+    cr: &mut Plane<PAD>,
+    place: Place,
+    n: usize,
+    strengths: &Strengths,
+    limits: &QpLimits,
+)
+    requires edge { n < 4 }
+    requires some { 1 ≤ 4 * place.column + n }
+    requires columns_fit { 16 * place.column + 16 < 2 ^ 64 }
+    requires rows_fit { 16 * place.row + 16 < 2 ^ 64 }
+    requires cb_columns { 8 * place.column + 8 ≤ cb.old.width }
+    requires cb_rows { 8 * place.row + 8 ≤ cb.old.height }
+    requires cr_columns { 8 * place.column + 8 ≤ cr.old.width }
+    requires cr_rows { 8 * place.row + 8 ≤ cr.old.height }
+    requires index { limits.now.index_a < 52 }
+    requires strengths { AreStrengths strengths.now }
+    ensures cb { (qp : Qps) → AreLimits limits.now qp → cb.new ≡ chroma_of_edge true place.column place.row n (strength_along strengths.now) qp cb.old }
+    ensures cr { (qp : Qps) → AreLimits limits.now qp → cr.new ≡ chroma_of_edge true place.column place.row n (strength_along strengths.now) qp cr.old }
+{
+    if n % 2 == 0 {
+        let left = 8 * place.column + 2 * n - 4;
+        vertical_chroma(cb, cr, left, 8 * place.row, strengths, limits);
+    }
+}
+
+#[inline(always)]
+fn horizontal_chroma_of<const PAD: usize>(
+    cb: &mut Plane<PAD>,
+    cr: &mut Plane<PAD>,
+    place: Place,
+    n: usize,
+    strengths: &Strengths,
+    limits: &QpLimits,
+)
+    requires edge { n < 4 }
+    requires some { 1 ≤ 4 * place.row + n }
+    requires columns_fit { 16 * place.column + 16 < 2 ^ 64 }
+    requires rows_fit { 16 * place.row + 16 < 2 ^ 64 }
+    requires cb_columns { 8 * place.column + 8 ≤ cb.old.width }
+    requires cb_rows { 8 * place.row + 8 ≤ cb.old.height }
+    requires cr_columns { 8 * place.column + 8 ≤ cr.old.width }
+    requires cr_rows { 8 * place.row + 8 ≤ cr.old.height }
+    requires index { limits.now.index_a < 52 }
+    requires strengths { AreStrengths strengths.now }
+    ensures cb { (qp : Qps) → AreLimits limits.now qp → cb.new ≡ chroma_of_edge false place.column place.row n (strength_along strengths.now) qp cb.old }
+    ensures cr { (qp : Qps) → AreLimits limits.now qp → cr.new ≡ chroma_of_edge false place.column place.row n (strength_along strengths.now) qp cr.old }
+{
+    if n % 2 == 0 {
+        let top = 8 * place.row + 2 * n - 4;
+        horizontal_chroma(cb, cr, 8 * place.column, top, strengths, limits);
+    }
+}
+
+#[inline(always)]
+fn vertical<const PAD: usize>(
+    planes: &mut Planes<PAD>,
+    place: Place,
+    n: usize,
+    strengths: &Strengths,
+    limits: &PairLimits,
+)
+    requires edge { n < 4 }
+    requires some { 1 ≤ 4 * place.column + n }
+    requires columns_fit { 16 * place.column + 16 < 2 ^ 64 }
+    requires rows_fit { 16 * place.row + 16 < 2 ^ 64 }
+    requires room { HasRoom place.column place.row (planes_of planes.old) }
+    requires strengths { AreStrengths strengths.now }
+    requires luma_index { limits.now.luma.index_a < 52 }
+    requires chroma_index { limits.now.chroma.index_a < 52 }
+    ensures { (luma chroma : Qps) → AreLimits limits.now.luma luma → AreLimits limits.now.chroma chroma →
+        planes_of planes.new ≡ lines_of_edge true place.column place.row n (strength_along strengths.now) luma chroma (planes_of planes.old) }
+{
+    let left = 16 * place.column + 4 * n - 4;
+    vertical_luma(
+        &mut planes.luma,
+        left,
+        16 * place.row,
+        strengths,
+        &limits.luma,
+    );
+    vertical_chroma_of(
+        &mut planes.cb,
+        &mut planes.cr,
+        place,
+        n,
+        strengths,
+        &limits.chroma,
+    );
+}
+
+#[inline(always)]
+fn horizontal<const PAD: usize>(
+    planes: &mut Planes<PAD>,
+    place: Place,
+    n: usize,
+    strengths: &Strengths,
+    limits: &PairLimits,
+)
+    requires edge { n < 4 }
+    requires some { 1 ≤ 4 * place.row + n }
+    requires columns_fit { 16 * place.column + 16 < 2 ^ 64 }
+    requires rows_fit { 16 * place.row + 16 < 2 ^ 64 }
+    requires room { HasRoom place.column place.row (planes_of planes.old) }
+    requires strengths { AreStrengths strengths.now }
+    requires luma_index { limits.now.luma.index_a < 52 }
+    requires chroma_index { limits.now.chroma.index_a < 52 }
+    ensures { (luma chroma : Qps) → AreLimits limits.now.luma luma → AreLimits limits.now.chroma chroma →
+        planes_of planes.new ≡ lines_of_edge false place.column place.row n (strength_along strengths.now) luma chroma (planes_of planes.old) }
+{
+    let top = 16 * place.row + 4 * n - 4;
+    horizontal_luma(
+        &mut planes.luma,
+        16 * place.column,
+        top,
+        strengths,
+        &limits.luma,
+    );
+    horizontal_chroma_of(
+        &mut planes.cb,
+        &mut planes.cr,
+        place,
+        n,
+        strengths,
+        &limits.chroma,
+    );
+}
+
+/// Filters edge `n` of macroblock `q` in all planes, 0 to 3 from its left edge on, or from its upper edge on, at these strengths. `p` is
+/// the macroblock on the other side.
+#[inline(always)]
+pub(crate) fn edge_at<const PAD: usize>(
     planes: &mut Planes<PAD>,
     p: &MbFacts,
     q: &MbFacts,
     is_vertical: bool,
     n: usize,
+    strengths: &Strengths,
+    limits: &PairLimits,
     place: Place,
 )
     requires edge { n < 4 }
@@ -176,6 +243,39 @@ pub(crate) fn edge_between<const PAD: usize>(
     requires columns_fit { 16 * place.column + 16 < 2 ^ 64 }
     requires rows_fit { 16 * place.row + 16 < 2 ^ 64 }
     requires room { HasRoom place.column place.row (planes_of planes.old) }
+    requires limits { ArePairLimits limits.now place.chroma_qp_index_offset p.now q.now }
+    requires are_strengths { AreStrengths strengths.now }
+    requires strengths { (k : ℕ) → k < 4 → strength_along strengths.now k ≡ strength_of p.now q.now is_vertical n k }
+    ensures room { (column row : ℕ) → HasRoom column row (planes_of planes.old) → HasRoom column row (planes_of planes.new) }
+    ensures lines { planes_of planes.new
+        ≡ edge_by_facts is_vertical place.column place.row n place.chroma_qp_index_offset p.now q.now (planes_of planes.old) }
+{
+    let (_p, _q) = (p, q);
+    if is_vertical {
+        vertical(planes, place, n, strengths, limits);
+    } else {
+        horizontal(planes, place, n, strengths, limits);
+    }
+}
+
+/// The same at the strengths between the two.
+#[inline(always)]
+pub(crate) fn edge_between<const PAD: usize>(
+    planes: &mut Planes<PAD>,
+    p: &MbFacts,
+    q: &MbFacts,
+    is_vertical: bool,
+    n: usize,
+    limits: &PairLimits,
+    place: Place,
+)
+    requires edge { n < 4 }
+    requires vertical { is_vertical ≡ true → 1 ≤ 4 * place.column + n }
+    requires horizontal { is_vertical ≡ false → 1 ≤ 4 * place.row + n }
+    requires columns_fit { 16 * place.column + 16 < 2 ^ 64 }
+    requires rows_fit { 16 * place.row + 16 < 2 ^ 64 }
+    requires room { HasRoom place.column place.row (planes_of planes.old) }
+    requires limits { ArePairLimits limits.now place.chroma_qp_index_offset p.now q.now }
     ensures room { (column row : ℕ) → HasRoom column row (planes_of planes.old) → HasRoom column row (planes_of planes.new) }
     ensures lines { planes_of planes.new
         ≡ edge_by_facts is_vertical place.column place.row n place.chroma_qp_index_offset p.now q.now (planes_of planes.old) }
@@ -184,13 +284,7 @@ pub(crate) fn edge_between<const PAD: usize>(
     if strengths.are_zero() {
         return;
     }
-    let luma = luma_qps(p, q);
-    let chroma = chroma_qps(p, q, place);
-    if is_vertical {
-        vertical(planes, place, n, &strengths, &luma, &chroma);
-    } else {
-        horizontal(planes, place, n, &strengths, &luma, &chroma);
-    }
+    edge_at(planes, p, q, is_vertical, n, &strengths, limits, place);
 }
 
 /// Filters edge `n` of macroblock `q` in all planes, on the samples as the edge before it left them: 0 to 3 from its left edge on where
@@ -213,5 +307,6 @@ pub fn edge<const VERTICAL: bool, const PAD: usize>(
     ensures lines { planes_of planes.new
         ≡ edge_by_facts VERTICAL place.column place.row n place.chroma_qp_index_offset p.now q.now (planes_of planes.old) }
 {
-    edge_between(planes, p, q, VERTICAL, n, place);
+    let limits = pair_limits(p, q, place);
+    edge_between(planes, p, q, VERTICAL, n, &limits, place);
 }

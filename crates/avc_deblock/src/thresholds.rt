@@ -1,5 +1,9 @@
-ghost use Rattle.std.specs.Prelude.{◌≡◌, ◌+◌, ◌/◌, ◌<◌, ◌≤◌};
-ghost use Rattle.avc_deblock.specs.Line.{threshold_index, alpha_of, beta_of, tc0_of};
+ghost use Rattle.std.specs.Prelude.{◌≡◌, ℕ, ◌+◌, ◌/◌, ◌<◌, ◌≤◌, slice_index, true};
+ghost use Rattle.avc_deblock.specs.Line.{threshold_index, alpha_of, beta_of};
+ghost use Rattle.avc_deblock.specs.OneEdge.{tc1_of, AreLimits};
+
+use crate::bytes::less;
+use crate::line::{all_three, both, is_zero};
 
 // Table 8-16 by index.
 const ALPHA: [u8; 52] = [
@@ -13,15 +17,15 @@ const BETA: [u8; 52] = [
     9, 9, 10, 10, 11, 11, 12, 12, 13, 13, 14, 14, 15, 15, 16, 16, 17, 17, 18, 18,
 ];
 
-// Table 8-17: for each index tC0 at the strengths 0 to 3.
-const TC0: [u8; 208] = [
-    0, 0, 0, 0, 0, 0, 0, 0, 0, 0, 0, 0, 0, 0, 0, 0, 0, 0, 0, 0, 0, 0, 0, 0, 0, 0, 0, 0, 0, 0, 0, 0,
-    0, 0, 0, 0, 0, 0, 0, 0, 0, 0, 0, 0, 0, 0, 0, 0, 0, 0, 0, 0, 0, 0, 0, 0, 0, 0, 0, 0, 0, 0, 0, 0,
-    0, 0, 0, 0, 0, 0, 0, 1, 0, 0, 0, 1, 0, 0, 0, 1, 0, 0, 0, 1, 0, 0, 1, 1, 0, 0, 1, 1, 0, 1, 1, 1,
-    0, 1, 1, 1, 0, 1, 1, 1, 0, 1, 1, 1, 0, 1, 1, 2, 0, 1, 1, 2, 0, 1, 1, 2, 0, 1, 1, 2, 0, 1, 2, 3,
-    0, 1, 2, 3, 0, 2, 2, 3, 0, 2, 2, 4, 0, 2, 3, 4, 0, 2, 3, 4, 0, 3, 3, 5, 0, 3, 4, 6, 0, 3, 4, 6,
-    0, 4, 5, 7, 0, 4, 5, 8, 0, 4, 6, 9, 0, 5, 7, 10, 0, 6, 8, 11, 0, 6, 8, 13, 0, 7, 10, 14, 0, 8,
-    11, 16, 0, 9, 12, 18, 0, 10, 13, 20, 0, 11, 15, 23, 0, 13, 17, 25,
+// Table 8-17: for each index one more than tC0 at the strengths 1 to 3; at strength 0, where nothing is filtered, 0.
+const TC1: [u8; 208] = [
+    0, 1, 1, 1, 0, 1, 1, 1, 0, 1, 1, 1, 0, 1, 1, 1, 0, 1, 1, 1, 0, 1, 1, 1, 0, 1, 1, 1, 0, 1, 1, 1,
+    0, 1, 1, 1, 0, 1, 1, 1, 0, 1, 1, 1, 0, 1, 1, 1, 0, 1, 1, 1, 0, 1, 1, 1, 0, 1, 1, 1, 0, 1, 1, 1,
+    0, 1, 1, 1, 0, 1, 1, 2, 0, 1, 1, 2, 0, 1, 1, 2, 0, 1, 1, 2, 0, 1, 2, 2, 0, 1, 2, 2, 0, 2, 2, 2,
+    0, 2, 2, 2, 0, 2, 2, 2, 0, 2, 2, 2, 0, 2, 2, 3, 0, 2, 2, 3, 0, 2, 2, 3, 0, 2, 2, 3, 0, 2, 3, 4,
+    0, 2, 3, 4, 0, 3, 3, 4, 0, 3, 3, 5, 0, 3, 4, 5, 0, 3, 4, 5, 0, 4, 4, 6, 0, 4, 5, 7, 0, 4, 5, 7,
+    0, 5, 6, 8, 0, 5, 6, 9, 0, 5, 7, 10, 0, 6, 8, 11, 0, 7, 9, 12, 0, 7, 9, 14, 0, 8, 11, 15, 0, 9,
+    12, 17, 0, 10, 13, 19, 0, 11, 14, 21, 0, 12, 16, 24, 0, 14, 18, 26,
 ];
 
 /// What the lines of one edge have in common, beside their strengths (8.7.2.2).
@@ -79,15 +83,66 @@ fn beta(index: u8) -> u8
     BETA[usize::from(index)]
 }
 
-/// tC0 at a strength of 0 to 3; it is 0 at strength 0.
+/// One more than tC0 at a strength of 1 to 3, and 0 at strength 0.
 #[inline(always)]
-pub(crate) fn tc0(strength: u8, index: u8) -> u8
+pub(crate) fn tc1(strength: u8, index: u8) -> u8
     requires strength { strength < 4 }
     requires index { index < 52 }
-    ensures value { result ≡ tc0_of strength index }
-    ensures small { result ≤ 25 }
+    ensures value { result ≡ tc1_of strength index }
+    ensures small { result ≤ 26 }
 {
-    TC0[4 * usize::from(index) + usize::from(strength)]
+    TC1[4 * usize::from(index) + usize::from(strength)]
+}
+
+#[inline(always)]
+fn are_equal(v: &[u8; 4]) -> bool
+    ensures { result ≡ true → (k : ℕ) → k < 4 → slice_index v.now k ≡ slice_index v.now 0 }
+{
+    all_three(v[1] == v[0], v[2] == v[0], v[3] == v[0])
+}
+
+#[inline(always)]
+fn each_tc1(strengths: &[u8; 4], index: u8) -> [u8; 4]
+    requires strengths { (k : ℕ) → k < 4 → slice_index strengths.now k < 4 }
+    requires index { index < 52 }
+    ensures value { (k : ℕ) → k < 4 → slice_index result k ≡ tc1_of (slice_index strengths.now k) index }
+    ensures small { (k : ℕ) → k < 4 → slice_index result k ≤ 26 }
+{
+    let mut out = [0; 4];
+    for k in 0..4 {
+        out[k] = tc1(strengths[k], index);
+    }
+    out
+}
+
+/// That of each quarter of an edge.
+#[inline(always)]
+pub(crate) fn tc1s(strengths: &[u8; 4], index: u8) -> [u8; 4]
+    requires strengths { (k : ℕ) → k < 4 → slice_index strengths.now k < 4 }
+    requires index { index < 52 }
+    ensures value { (k : ℕ) → k < 4 → slice_index result k ≡ tc1_of (slice_index strengths.now k) index }
+    ensures small { (k : ℕ) → k < 4 → slice_index result k ≤ 26 }
+{
+    if are_equal(strengths) {
+        [tc1(strengths[0], index); 4]
+    } else {
+        each_tc1(strengths, index)
+    }
+}
+
+/// What all lines between macroblocks of two QPs are filtered with (8.7.2.2).
+#[derive(Clone, Copy)]
+pub(crate) struct QpLimits {
+    /// One less than alpha.
+    pub(crate) alpha1: u8,
+
+    /// One less than beta.
+    pub(crate) beta1: u8,
+
+    pub(crate) index_a: u8,
+
+    /// Neither alpha nor beta is 0. Where one is, nothing is filtered.
+    pub(crate) is_on: bool,
 }
 
 impl EdgeQp {
@@ -103,6 +158,19 @@ impl EdgeQp {
             index_a,
             alpha: alpha(index_a),
             beta: beta(index_of(self.p, self.q, self.offset_b)),
+        }
+    }
+
+    #[inline(always)]
+    pub(crate) fn limits(&self) -> QpLimits
+        ensures { AreLimits result self.now }
+    {
+        let thresholds = self.thresholds();
+        QpLimits {
+            alpha1: less(thresholds.alpha, 1),
+            beta1: less(thresholds.beta, 1),
+            index_a: thresholds.index_a,
+            is_on: both(!is_zero(thresholds.alpha), !is_zero(thresholds.beta)),
         }
     }
 }

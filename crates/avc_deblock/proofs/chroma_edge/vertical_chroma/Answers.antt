@@ -1,25 +1,34 @@
-use Rattle.std.proofs.Common.{arith, ap, ◌∙◌}
+use Rattle.std.proofs.Common.{◌+◌, true, arith, sym, ap, ◌∙◌}
 use Rattle.std.specs.Prelude.{slice_index}
 use Rattle.avc_deblock.specs.OneEdge.{strength_along, chroma_setting}
+use Rattle.avc_deblock.proofs.Settings.{edge_off}
 use Rattle.avc_deblock.proofs.Pairs.{vertical_part}
 use Rattle.avc_deblock.proofs.chroma_edge.vertical_chroma.Goals as goal
 
 pub returns-clause-cb : goal.returns-clause-cb
-returns-clause-cb g c =
+returns-clause-cb g c qp are =
     let e = c.rectangle-of_cb.ensures in
     c.set_rectangle.ensures
-    ∙ vertical_part (chroma_setting (strength_along c.args.strengths.now) c.args.qp.now) c.args.left c.args.top 0 c.args.cb.now c.rectangle-of_cb.result c.half-new_cb.result (omega arith) e.all
+    ∙ vertical_part (chroma_setting (strength_along c.args.strengths.now) qp) c.args.left c.args.top 0 c.args.cb.now c.rectangle-of_cb.result c.half-new_cb.result (omega arith) e.all
     c.requires.cb_columns c.requires.cb_rows e.samples c.joined-block.result c.columns-lines.result c.filter_chroma.new.t c.rows_of-after.result
     (λ k low. ap (slice_index c.joined-block.result) (omega arith) ∙ c.joined-block.ensures.first k low) c.columns-lines.ensures c.rows_of-after.ensures
     (λ k low. c.half-new_cb.ensures k low ∙ ap (slice_index c.rows_of-after.result) (omega arith))
-    (λ i low. c.filter_chroma.ensures 0 i (omega arith) low)
+    (λ i low. c.filter_chroma.ensures qp are 0 i (omega arith) low)
 
 pub returns-clause-cr : goal.returns-clause-cr
-returns-clause-cr g c =
+returns-clause-cr g c qp are =
     let e = c.rectangle-of_cr.ensures in
     c.set_rectangle-2.ensures
-    ∙ vertical_part (chroma_setting (strength_along c.args.strengths.now) c.args.qp.now) c.args.left c.args.top 1 c.args.cr.now c.rectangle-of_cr.result c.half-new_cr.result (omega arith) e.all
+    ∙ vertical_part (chroma_setting (strength_along c.args.strengths.now) qp) c.args.left c.args.top 1 c.args.cr.now c.rectangle-of_cr.result c.half-new_cr.result (omega arith) e.all
     c.requires.cr_columns c.requires.cr_rows e.samples c.joined-block.result c.columns-lines.result c.filter_chroma.new.t c.rows_of-after.result
     (λ k low. ap (slice_index c.joined-block.result) (omega arith) ∙ c.joined-block.ensures.second k low) c.columns-lines.ensures c.rows_of-after.ensures
     (λ k low. c.half-new_cr.ensures k low ∙ ap (slice_index c.rows_of-after.result) (omega arith))
-    (λ i low. c.filter_chroma.ensures 1 i (omega arith) low)
+    (λ i low. c.filter_chroma.ensures qp are 1 i (omega arith) low)
+
+pub returns-then-not-limits-clause-cb : goal.returns-then-not-limits-clause-cb
+returns-then-not-limits-clause-cb g c qp are =
+    sym (edge_off (chroma_setting (strength_along c.args.strengths.now) qp) true (c.args.left + 4) c.args.top 8 c.args.cb.now (λ e. omega arith) (λ e. absurd (cc)) (λ i low. are.off c.if-not-limits.true))
+
+pub returns-then-not-limits-clause-cr : goal.returns-then-not-limits-clause-cr
+returns-then-not-limits-clause-cr g c qp are =
+    sym (edge_off (chroma_setting (strength_along c.args.strengths.now) qp) true (c.args.left + 4) c.args.top 8 c.args.cr.now (λ e. omega arith) (λ e. absurd (cc)) (λ i low. are.off c.if-not-limits.true))

@@ -1,19 +1,31 @@
-use Rattle.std.proofs.Common.{◌+◌, ◌*◌, arith, sym, ap, ◌∙◌}
+use Rattle.std.proofs.Common.{ℕ, ◌+◌, ◌-◌, ◌*◌, ◌/◌, ◌≡◌, ◌<◌, arith, refl, sym, ap, ◌∙◌}
 use Rattle.std.specs.Prelude.{slice_index}
 use Rattle.avc_plane.specs.Plane.{sample}
 use Rattle.avc_deblock.specs.Line.{filtered}
 use Rattle.avc_deblock.proofs.Blocks.{same_samples}
 use Rattle.avc_deblock.proofs.OnPlane.{horizontal_block}
+use Rattle.avc_deblock.specs.Rows.{line_of}
+use Rattle.avc_deblock.proofs.Keeps.{weak_keeps}
+use Rattle.avc_deblock.proofs.Within.{within_block}
+use Rattle.avc_deblock.proofs.Limits.{weak_row}
 use Rattle.avc_deblock.proofs.kernels.weak_horizontal.Goals as goal
 
 pub returns : goal.returns
 returns g c setting fits =
     let s = c.args.plane.now in
+    let left = c.args.left in
+    let top = c.args.top in
     let before = c.rectangle-lines.result in
     let after = c.weak_luma.new.t in
-    c.set_rectangle.ensures
-    ∙ sym (horizontal_block setting c.args.left c.args.top 16 s c.rectangle-lines.ensures.all (λ x y. slice_index after (16 * y + x)) c.requires.columns c.requires.rows (omega arith)
-    (λ i low.
+    let lines : (i : ℕ) → i < 16 → filtered (setting i) (line_of (λ k. sample s (left + i) (top + k))) ≡ line_of (λ k. slice_index after (16 * k + i)) =
+    λ i low.
     ap (filtered (setting i))
-    (same_samples (λ k. sample s (c.args.left + i) (c.args.top + k)) (λ k. slice_index before (16 * k + i)) (λ k less. sym (c.rectangle-lines.ensures.samples i k low less)))
-    ∙ c.weak_luma.ensures (setting i) i low (fits i low)))
+    (same_samples (λ k. sample s (left + i) (top + k)) (λ k. slice_index before (16 * k + i)) (λ k less. sym (c.rectangle-lines.ensures.samples i k low less)))
+    ∙ c.weak_luma.ensures (setting i) i low (
+    weak_row (setting i) _ _ _ _ (slice_index c.args.tc1.now (i / 4)) c.args.limits.now.alpha1 c.args.limits.now.beta1 (c.weak.ensures.alpha i low) (c.weak.ensures.beta i low) (c.weak.ensures.dead i low ∙ ap (λ (t : ℕ). 1 - t) (c.spread.ensures i low)) (c.weak.ensures.tc0 i low ∙ ap (λ (t : ℕ). t - 1) (c.spread.ensures i low)) (fits i low)) in
+    c.set_rectangle.ensures
+    ∙ within_block s left top 16 8 0 2 16 4 left (top + 2) (λ x y. slice_index after (16 * y + x)) (λ x y. slice_index c.half-inner.result (16 * y + x)) (omega arith) refl (omega arith) (omega arith)
+    (λ x y x_low y_low. c.half-inner.ensures (16 * y + x) (omega arith) ∙ ap (slice_index after) (omega arith))
+    (λ x y x_low y_low out.
+    weak_keeps (setting x) (λ k. sample s (left + x) (top + k)) (λ k. slice_index after (16 * k + x)) (fits x x_low).weak (lines x x_low) y y_low (λ p q. out (omega arith) (omega arith) p (omega arith)))
+    ∙ sym (horizontal_block setting left top 16 s c.rectangle-lines.ensures.all (λ x y. slice_index after (16 * y + x)) c.requires.columns c.requires.rows (omega arith) lines)

@@ -1,9 +1,10 @@
-use Rattle.std.proofs.Common.{◌+◌, ◌*◌, sym, ap, ◌∙◌}
+use Rattle.std.proofs.Common.{ℕ, ◌+◌, ◌-◌, ◌*◌, ◌/◌, sym, ap, ◌∙◌}
 use Rattle.std.specs.Prelude.{slice_index}
 use Rattle.avc_plane.specs.Plane.{sample}
 use Rattle.avc_deblock.specs.Line.{filtered}
 use Rattle.avc_deblock.proofs.Blocks.{same_samples, filtered_across}
 use Rattle.avc_deblock.proofs.OnPlane.{vertical_block}
+use Rattle.avc_deblock.proofs.Limits.{weak_row}
 use Rattle.avc_deblock.proofs.kernels.weak_vertical.Goals as goal
 
 pub returns : goal.returns
@@ -15,4 +16,5 @@ returns g c setting fits =
     (λ i low.
     ap (filtered (setting i))
     (same_samples (λ k. sample s (c.args.left + k) (c.args.top + i)) (λ k. slice_index c.rectangle-block.result (8 * i + k)) (λ k less. sym (c.rectangle-block.ensures.samples k i less low)))
-    ∙ filtered_across (setting i) i c.rectangle-block.result c.columns-lines.result c.weak_luma.new.t after low c.columns-lines.ensures c.rows_of-after.ensures (c.weak_luma.ensures (setting i) i low (fits i low))))
+    ∙ filtered_across (setting i) i c.rectangle-block.result c.columns-lines.result c.weak_luma.new.t after low c.columns-lines.ensures c.rows_of-after.ensures (c.weak_luma.ensures (setting i) i low (
+    weak_row (setting i) _ _ _ _ (slice_index c.args.tc1.now (i / 4)) c.args.limits.now.alpha1 c.args.limits.now.beta1 (c.weak.ensures.alpha i low) (c.weak.ensures.beta i low) (c.weak.ensures.dead i low ∙ ap (λ (t : ℕ). 1 - t) (c.spread.ensures i low)) (c.weak.ensures.tc0 i low ∙ ap (λ (t : ℕ). t - 1) (c.spread.ensures i low)) (fits i low)))))

@@ -1,20 +1,18 @@
-use Rattle.std.proofs.Common.{◌+◌, ◌*◌, sym, ap, ◌∙◌}
-use Rattle.std.specs.Prelude.{slice_index}
-use Rattle.avc_plane.specs.Plane.{sample}
-use Rattle.avc_deblock.specs.Line.{filtered}
-use Rattle.avc_deblock.specs.OneEdge.{strength_along, luma_setting}
-use Rattle.avc_deblock.proofs.Blocks.{same_samples, filtered_across}
-use Rattle.avc_deblock.proofs.OnPlane.{vertical_block}
+use Rattle.std.proofs.Common.{◌+◌, arith, sym, subst, true}
+use Rattle.avc_deblock.specs.OneEdge.{luma_setting, strength_along, AreStrengths}
+use Rattle.avc_deblock.proofs.Settings.{edge_off}
+use Rattle.avc_deblock.proofs.Limits.{fits_weak, fits_strong}
 use Rattle.avc_deblock.proofs.luma_edge.vertical_luma.Goals as goal
 
-pub returns : goal.returns
-returns g c =
-    let s = c.args.plane.now in
-    let setting = luma_setting (strength_along c.args.strengths.now) c.args.qp.now in
-    let after = c.rows_of-after.result in
-    c.set_rectangle.ensures
-    ∙ sym (vertical_block setting c.args.left c.args.top 16 s c.rectangle-block.ensures.all (λ x y. slice_index after (8 * y + x)) c.requires.columns c.requires.rows
-    (λ i low.
-    ap (filtered (setting i))
-    (same_samples (λ k. sample s (c.args.left + k) (c.args.top + i)) (λ k. slice_index c.rectangle-block.result (8 * i + k)) (λ k less. sym (c.rectangle-block.ensures.samples k i less low)))
-    ∙ filtered_across (setting i) i c.rectangle-block.result c.columns-lines.result c.filter_luma.new.t after low c.columns-lines.ensures c.rows_of-after.ensures (c.filter_luma.ensures i low)))
+pub returns-then-not-limits : goal.returns-then-not-limits
+returns-then-not-limits g c qp are =
+    sym (edge_off (luma_setting (strength_along c.args.strengths.now) qp) true (c.args.left + 4) c.args.top 16 c.args.plane.now (λ e. omega arith) (λ e. absurd (cc)) (λ i low. are.off c.if-not-limits.true))
+
+pub returns-in-Four : goal.returns-in-Four
+returns-in-Four g c qp are =
+    c.strong_vertical.ensures (luma_setting (strength_along c.args.strengths.now) qp) (λ i low. fits_strong c.args.limits.now qp are c.if-not-limits.false c.args.strengths.now c.in-Four.is i)
+
+pub returns-in-BelowFour : goal.returns-in-BelowFour
+returns-in-BelowFour g c qp are =
+    c.weak_vertical.ensures (luma_setting (strength_along c.args.strengths.now) qp)
+    (fits_weak c.args.limits.now qp are c.if-not-limits.false c.args.strengths.now c.in-BelowFour.s c.tc1s-tc1.result c.in-BelowFour.is (subst AreStrengths c.in-BelowFour.is c.requires.strengths) c.tc1s-tc1.ensures.value)

@@ -1,5 +1,5 @@
 use Rattle.std.proofs.Common.{◌≡◌, ◌<◌, ℕ, length, slice_index}
-use Rattle.avc_deblock.proofs.luma_edge.repeated.Given as goal
+use Rattle.avc_deblock.proofs.lines.repeated.Given as goal
 
 abbrev pub invariant-loop-k : goal.invariant-loop-k
 invariant-loop-k l = record {

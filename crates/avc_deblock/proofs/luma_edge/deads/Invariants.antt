@@ -1,9 +1,0 @@
-use Rattle.std.proofs.Common.{◌≡◌, ◌<◌, ℕ, length, slice_index}
-use Rattle.std.specs.Prelude.{◌==◌, if◌then◌else◌}
-use Rattle.avc_deblock.proofs.luma_edge.deads.Given as goal
-
-abbrev pub invariant-loop-k : goal.invariant-loop-k
-invariant-loop-k l = record {
-  long : length l.out ≡ 16;
-  done : (k : ℕ) → k < l.k → slice_index l.out k ≡ (if slice_index l.strengths k == 0 then 1 else 0);
-}

@@ -1,0 +1,10 @@
+use Rattle.std.proofs.Common.{◌≡◌, ◌<◌, ◌≤◌, ℕ, length, slice_index}
+use Rattle.avc_deblock.specs.OneEdge.{tc1_of}
+use Rattle.avc_deblock.proofs.thresholds.each_tc1.Given as goal
+
+abbrev pub invariant-loop-k : goal.invariant-loop-k
+invariant-loop-k l = record {
+  long : length l.out ≡ 4;
+  small : (k : ℕ) → k < l.k → slice_index l.out k ≤ 26;
+  done : (k : ℕ) → k < l.k → slice_index l.out k ≡ tc1_of (slice_index l.strengths k) l.index;
+}
