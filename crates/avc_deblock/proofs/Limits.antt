@@ -1,5 +1,5 @@
 -- The limits of an edge and the settings of its lines.
-use Rattle.std.proofs.Common.{◌≡◌, ℕ, zero, suc, ◌+◌, ◌-◌, ◌/◌, ◌<◌, Bool, true, false, List, slice_index, arith, refl, sym, ap, subst, ◌∙◌}
+use Rattle.std.proofs.Common.{◌≡◌, ℕ, zero, suc, ◌+◌, ◌-◌, ◌/◌, ◌%◌, ◌<◌, Bool, true, false, List, slice_index, arith, refl, sym, ap, subst, ◌∙◌}
 use Rattle.std.specs.Prelude.{if◌then◌else◌, ◌==◌}
 use Rattle.std.proofs.lemmas.Bool.Decides.{nat_tests}
 use Rattle.avc_deblock.specs.declared.thresholds.EdgeQp.{EdgeQp}
@@ -72,36 +72,36 @@ tc0_case (suc st) t n low e =
     omega arith
 
 module _ (l : QpLimits) (qp : EdgeQp) (are : AreLimits l qp) (on : l.is_on ≡ true) where
-  module _ (st : Strengths) (s tc1 : List ℕ) (below : st ≡ BelowFour s) (low : (k : ℕ) → k < 4 → slice_index s k < 4)
-      (tc1_is : (k : ℕ) → k < 4 → slice_index tc1 k ≡ tc1_of (slice_index s k) l.index_a) where
-    tc1_at : (k : ℕ) → k < 4 → slice_index tc1 k ≡ tc1_of (slice_index s k) (index_a_of qp)
-    tc1_at k less = tc1_is k less ∙ ap (tc1_of (slice_index s k)) are.index
-
+  module _ (st : Strengths) (s tc1 : List ℕ) (below : st ≡ BelowFour s) (low : (k : ℕ) → k < 4 → slice_index s k < 4) where
     index_low : index_a_of qp < 52
     index_low = subst (λ (n : ℕ). n < 52) are.index are.low
 
-    pub fits_weak : (i : ℕ) → i < 16 → FitsWeak l tc1 (luma_setting (strength_along st) qp i) i
-    fits_weak i less =
-        let quarter : i / 4 < 4 = omega arith in
+    tc1_at : (i k : ℕ) → slice_index tc1 i ≡ tc1_of (slice_index s k) l.index_a → slice_index tc1 i ≡ tc1_of (slice_index s k) (index_a_of qp)
+    tc1_at i k e = e ∙ ap (tc1_of (slice_index s k)) are.index
+
+    pub fits_weak : ((k : ℕ) → k < 16 → slice_index tc1 k ≡ tc1_of (slice_index s (k / 4)) l.index_a) → (i : ℕ) → i < 16 → FitsWeak l tc1 (luma_setting (strength_along st) qp i) i
+    fits_weak tc1_is i less =
         subst (λ (t : Strengths). FitsWeak l tc1 (luma_setting (strength_along t) qp i) i) (sym below)
         (record {
           luma = refl;
-          weak = low (i / 4) quarter;
-          alpha_is = alpha_case (slice_index s (i / 4)) (slice_index tc1 (i / 4)) (index_a_of qp) (l.alpha1 + 1) (alpha_of (index_a_of qp)) (tc1_at (i / 4) quarter) (are.alpha on);
+          weak = low (i / 4) (omega arith);
+          alpha_is = alpha_case (slice_index s (i / 4)) (slice_index tc1 i) (index_a_of qp) (l.alpha1 + 1) (alpha_of (index_a_of qp)) (tc1_at i (i / 4) (tc1_is i less)) (are.alpha on);
           beta_is = are.beta on;
-          tc0_is = tc0_case (slice_index s (i / 4)) (slice_index tc1 (i / 4)) (index_a_of qp) index_low (tc1_at (i / 4) quarter);
+          tc0_is = tc0_case (slice_index s (i / 4)) (slice_index tc1 i) (index_a_of qp) index_low (tc1_at i (i / 4) (tc1_is i less));
         })
 
-    pub fits_weak_chroma : (i : ℕ) → i < 8 → FitsWeakChroma l tc1 (chroma_setting (strength_along st) qp i) i
-    fits_weak_chroma i less =
-        let quarter : i / 2 < 4 = omega arith in
-        subst (λ (t : Strengths). FitsWeakChroma l tc1 (chroma_setting (strength_along t) qp i) i) (sym below)
+    -- line i of eight, which is line n of sixteen
+    pub fits_weak_chroma : ((k : ℕ) → k < 16 → slice_index tc1 k ≡ tc1_of (slice_index s (k % 8 / 2)) l.index_a) → (i n : ℕ) → n < 16 → n % 8 ≡ i →
+        FitsWeakChroma l tc1 (chroma_setting (strength_along st) qp i) n
+    fits_weak_chroma tc1_is i n less same =
+        let e : slice_index tc1 n ≡ tc1_of (slice_index s (i / 2)) l.index_a = tc1_is n less ∙ ap (λ (m : ℕ). tc1_of (slice_index s (m / 2)) l.index_a) same in
+        subst (λ (t : Strengths). FitsWeakChroma l tc1 (chroma_setting (strength_along t) qp i) n) (sym below)
         (record {
           chroma = refl;
-          weak = low (i / 2) quarter;
-          alpha_is = alpha_case (slice_index s (i / 2)) (slice_index tc1 (i / 2)) (index_a_of qp) (l.alpha1 + 1) (alpha_of (index_a_of qp)) (tc1_at (i / 2) quarter) (are.alpha on);
+          weak = low (i / 2) (omega arith);
+          alpha_is = alpha_case (slice_index s (i / 2)) (slice_index tc1 n) (index_a_of qp) (l.alpha1 + 1) (alpha_of (index_a_of qp)) (tc1_at n (i / 2) e) (are.alpha on);
           beta_is = are.beta on;
-          tc0_is = tc0_case (slice_index s (i / 2)) (slice_index tc1 (i / 2)) (index_a_of qp) index_low (tc1_at (i / 2) quarter);
+          tc0_is = tc0_case (slice_index s (i / 2)) (slice_index tc1 n) (index_a_of qp) index_low (tc1_at n (i / 2) e);
         })
 
   pub fits_strong : (st : Strengths) → st ≡ Four → (i : ℕ) → IsStrong (luma_setting (strength_along st) qp i) (l.alpha1 + 1) (l.beta1 + 1)

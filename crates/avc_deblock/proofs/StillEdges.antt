@@ -45,21 +45,23 @@ over v true i column row e p q s = refl
 over v false i column row e p q s = refl
 
 -- an outer edge at strength 0 can go
-outer_kept : (v : Bool) (column row : ℕ) (e : ℤ) (p q : MbFacts) (joins zero : Bool) → (joins ≡ true → v ≡ true → 1 ≤ column) → (joins ≡ true → v ≡ false → 1 ≤ row) →
-    (zero ≡ true → (k : ℕ) → k < 4 → strength_of p q v 0 k ≡ 0) → (s : Planes) →
-    edges_by_facts v column row e (joins && not zero) false p q s ≡ edges_by_facts v column row e joins false p q s
-outer_kept v column row e p q false zero across down none s = refl
-outer_kept v column row e p q true false across down none s = refl
-outer_kept v column row e p q true true across down none s =
+outer_kept : (v : Bool) (column row : ℕ) (e : ℤ) (p q : MbFacts) (acts joins : Bool) → (joins ≡ true → v ≡ true → 1 ≤ column) → (joins ≡ true → v ≡ false → 1 ≤ row) →
+    (acts ≡ true → joins ≡ true) → (acts ≡ false → joins ≡ true → (k : ℕ) → k < 4 → strength_of p q v 0 k ≡ 0) → (s : Planes) →
+    edges_by_facts v column row e acts false p q s ≡ edges_by_facts v column row e joins false p q s
+outer_kept v column row e p q true true across down on off s = refl
+outer_kept v column row e p q true false across down on off s = let never : false ≡ true = on refl in absurd (cc)
+outer_kept v column row e p q false false across down on off s = refl
+outer_kept v column row e p q false true across down on off s =
     sym
     (edge_zero v column row 0 (strength_of p q v 0) (luma_qp_of p q) (chroma_qp_of e p q) s
-    (λ h. let some : 1 ≤ column = across refl h in omega arith) (λ h. let some : 1 ≤ row = down refl h in omega arith) (none refl))
+    (λ h. let some : 1 ≤ column = across refl h in omega arith) (λ h. let some : 1 ≤ row = down refl h in omega arith) (off refl refl))
 
-module _ (column row : ℕ) (e : ℤ) (left above mb : MbFacts) (still no_left no_top i l u : Bool)
+module _ (column row : ℕ) (e : ℤ) (left above mb : MbFacts) (still i l u : Bool)
     (inter : still ≡ true → mb.is_intra ≡ false) (none : still ≡ true → (j k : ℕ) → j < 16 → k < 16 → inter_strength mb j mb k ≡ 0)
-    (left_zero : no_left ≡ true → (k : ℕ) → k < 4 → strength_of left mb true 0 k ≡ 0) (top_zero : no_top ≡ true → (k : ℕ) → k < 4 → strength_of above mb false 0 k ≡ 0)
-    (inner_is : i ≡ (filters_between mb mb && not still)) (left_is : l ≡ ((nat_lt 0 column && filters_between mb left) && not no_left))
-    (above_is : u ≡ ((nat_lt 0 row && filters_between mb above) && not no_top)) (s : Planes) where
+    (inner_is : i ≡ (filters_between mb mb && not still)) (left_on : l ≡ true → (nat_lt 0 column && filters_between mb left) ≡ true)
+    (left_off : l ≡ false → (nat_lt 0 column && filters_between mb left) ≡ true → (k : ℕ) → k < 4 → strength_of left mb true 0 k ≡ 0)
+    (top_on : u ≡ true → (nat_lt 0 row && filters_between mb above) ≡ true)
+    (top_off : u ≡ false → (nat_lt 0 row && filters_between mb above) ≡ true → (k : ℕ) → k < 4 → strength_of above mb false 0 k ≡ 0) (s : Planes) where
   pub mb_kept : edges_by_facts false column row e false i mb mb (edges_by_facts false column row e u false above mb (edges_by_facts true column row e false i mb mb (edges_by_facts true column row e l false left mb s)))
       ≡ mb_by_facts e column row left above mb s
   mb_kept =
@@ -72,11 +74,9 @@ module _ (column row : ℕ) (e : ℤ) (left above mb : MbFacts) (still no_left n
       ap (λ (b : Bool). inner false b (at_top u (inner true b (at_left l)))) inner_is
       ∙ without_still column row e mb still inter none false inside (at_top u (inner true (inside && not still) (at_left l)))
       ∙ ap (λ (t : Planes). inner false inside (at_top u t)) (without_still column row e mb still inter none true inside (at_left l))
-      ∙ ap (λ (b : Bool). inner false inside (at_top u (inner true inside (at_left b)))) left_is
-      ∙ ap (λ (b : Bool). inner false inside (at_top b (inner true inside (at_left (joins_left && not no_left))))) above_is
       ∙ ap (inner false inside)
-      (outer_kept false column row e above mb joins_top no_top (λ h g. absurd (cc)) (λ h g. some (filters_between mb above) row h) top_zero (inner true inside (at_left (joins_left && not no_left))))
+      (outer_kept false column row e above mb u joins_top (λ h g. absurd (cc)) (λ h g. some (filters_between mb above) row h) top_on top_off (inner true inside (at_left l)))
       ∙ ap (λ (t : Planes). inner false inside (at_top joins_top (inner true inside t)))
-      (outer_kept true column row e left mb joins_left no_left (λ h g. some (filters_between mb left) column h) (λ h g. absurd (cc)) left_zero s)
+      (outer_kept true column row e left mb l joins_left (λ h g. some (filters_between mb left) column h) (λ h g. absurd (cc)) left_on left_off s)
       ∙ over false joins_top inside column row e above mb (inner true inside (at_left joins_left))
       ∙ ap (edges_by_facts false column row e joins_top inside above mb) (over true joins_left inside column row e left mb s)

@@ -66,13 +66,12 @@ pub record AreLimits (l : QpLimits) (qp : EdgeQp) : Type 0 where
   pub beta : l.is_on ≡ true → l.beta1 + 1 ≡ beta_of (index_b_of qp)
   pub off : l.is_on ≡ false → (alpha_of (index_a_of qp) == 0 || beta_of (index_b_of qp) == 0) ≡ true
 
--- Line i of sixteen, or of eight, is one of luma, or of chroma, below strength 4 with these limits; tc1 is that of each quarter.
+-- Line i of sixteen is one of luma, or of chroma, below strength 4 with these limits; tc1 is that of each line.
 abbrev pub FitsWeak : QpLimits → (tc1 : List ℕ) → Setting → (i : ℕ) → Type 0
-FitsWeak l tc1 s i = IsWeak s (if slice_index tc1 (i / 4) == 0 then 0 else l.alpha1 + 1) (l.beta1 + 1) (slice_index tc1 (i / 4) - 1)
+FitsWeak l tc1 s i = IsWeak s (if slice_index tc1 i == 0 then 0 else l.alpha1 + 1) (l.beta1 + 1) (slice_index tc1 i - 1)
 
 abbrev pub FitsWeakChroma : QpLimits → (tc1 : List ℕ) → Setting → (i : ℕ) → Type 0
-FitsWeakChroma l tc1 s i =
-    IsWeakChroma s (if slice_index tc1 (i / 2) == 0 then 0 else l.alpha1 + 1) (l.beta1 + 1) (slice_index tc1 (i / 2) - 1)
+FitsWeakChroma l tc1 s i = IsWeakChroma s (if slice_index tc1 i == 0 then 0 else l.alpha1 + 1) (l.beta1 + 1) (slice_index tc1 i - 1)
 
 -- ---- the edges of a macroblock
 

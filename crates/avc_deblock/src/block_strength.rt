@@ -17,7 +17,7 @@ fn are_far(u: Mv, v: Mv) -> bool
 
 impl MbFacts {
     #[inline(always)]
-    fn has_coefficients(&self, block: usize) -> bool
+    pub(crate) fn has_coefficients(&self, block: usize) -> bool
         requires { block < 16 }
         ensures { result ≡ has_bit self.now.coefficients block }
     {

@@ -5,9 +5,9 @@ ghost use Rattle.avc_deblock.specs.OneEdge.{edge_filtered, chroma_setting, stren
 ghost use Rattle.avc_deblock.specs.declared.thresholds.EdgeQp.{EdgeQp as Qps};
 
 use crate::block::{columns, rows_of, strong_chroma, weak_chroma};
-use crate::pair::{beside, half, joined, nearest, spread_twice};
+use crate::pair::{beside, half, joined, nearest};
 use crate::strengths::Strengths;
-use crate::thresholds::{QpLimits, tc1s};
+use crate::thresholds::{QpLimits, chroma_tc1s};
 use avc_plane::Plane;
 
 /// Filters the lines of chroma down a block of eight rows of sixteen samples: eight lines of Cb, and then eight of Cr.
@@ -22,8 +22,8 @@ fn filter_chroma(t: &mut [u8; 128], strengths: &Strengths, limits: &QpLimits)
     match strengths {
         Strengths::Four => strong_chroma(t, &limits.strong()),
         Strengths::BelowFour(s) => {
-            let tc1 = tc1s(s, limits.index_a);
-            weak_chroma(t, &limits.weak(&spread_twice(&tc1)))
+            let tc1 = chroma_tc1s(s, limits.index_a);
+            weak_chroma(t, &limits.weak(&tc1))
         }
     }
 }

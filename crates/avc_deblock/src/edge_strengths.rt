@@ -8,7 +8,7 @@ use crate::strengths::Strengths;
 
 /// The luma block on the q side of edge `n` in its quarter `k`.
 #[inline(always)]
-fn edge_block(is_vertical: bool, n: usize, k: usize) -> usize
+pub(crate) fn edge_block(is_vertical: bool, n: usize, k: usize) -> usize
     requires n { n < 4 }
     requires k { k < 4 }
     ensures value { result ≡ edge_block is_vertical n k }

@@ -3,7 +3,7 @@ ghost use Rattle.avc_deblock.specs.Line.{Setting};
 ghost use Rattle.avc_deblock.specs.Rows.{IsStrong};
 ghost use Rattle.avc_deblock.specs.OneEdge.{edge_filtered, FitsWeak};
 
-use crate::block::{columns, rows_of, spread, strong_luma, weak_luma};
+use crate::block::{columns, rows_of, strong_luma, weak_luma};
 use crate::pair::half;
 use crate::thresholds::QpLimits;
 use avc_plane::Plane;
@@ -16,17 +16,17 @@ pub(crate) fn weak_horizontal<const PAD: usize>(
     left: usize,
     top: usize,
     limits: &QpLimits,
-    tc1: &[u8; 4],
+    tc1: &[u8; 16],
 )
     requires columns { left + 16 ≤ plane.old.width }
     requires rows { top + 8 ≤ plane.old.height }
-    requires small { (k : ℕ) → k < 4 → slice_index tc1.now k ≤ 93 }
+    requires small { (k : ℕ) → k < 16 → slice_index tc1.now k ≤ 93 }
     ensures { (setting : ℕ → Setting) → ((i : ℕ) → i < 16 → FitsWeak limits.now tc1.now (setting i) i) →
         plane.new ≡ edge_filtered setting false left (top + 4) 16 plane.old }
 {
     let _rows = plane.height();
     let mut lines = plane.rectangle::<16, 8, 128>(left, top);
-    weak_luma(&mut lines, &limits.weak(&spread(tc1)));
+    weak_luma(&mut lines, &limits.weak(tc1));
     let inner = half(&lines, 32);
     plane.set_rectangle::<16, 4, 64>(left, top + 2, &inner);
 }
@@ -38,17 +38,17 @@ pub(crate) fn weak_vertical<const PAD: usize>(
     left: usize,
     top: usize,
     limits: &QpLimits,
-    tc1: &[u8; 4],
+    tc1: &[u8; 16],
 )
     requires columns { left + 8 ≤ plane.old.width }
     requires rows { top + 16 ≤ plane.old.height }
-    requires small { (k : ℕ) → k < 4 → slice_index tc1.now k ≤ 93 }
+    requires small { (k : ℕ) → k < 16 → slice_index tc1.now k ≤ 93 }
     ensures { (setting : ℕ → Setting) → ((i : ℕ) → i < 16 → FitsWeak limits.now tc1.now (setting i) i) →
         plane.new ≡ edge_filtered setting true (left + 4) top 16 plane.old }
 {
     let block = plane.rectangle::<8, 16, 128>(left, top);
     let mut lines = columns(&block);
-    weak_luma(&mut lines, &limits.weak(&spread(tc1)));
+    weak_luma(&mut lines, &limits.weak(tc1));
     let after = rows_of(&lines);
     plane.set_rectangle::<8, 16, 128>(left, top, &after);
 }

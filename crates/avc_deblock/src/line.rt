@@ -1,4 +1,4 @@
-ghost use Rattle.std.specs.Prelude.{◌≡◌, ◌≤◌, ℕ, ◌+◌, ◌*◌, ◌/◌, ◌==◌, pos, ◌+ℤ◌, nat_abs, nat_lt, if◌then◌else◌, ◌&&◌, ℤ, Bool};
+ghost use Rattle.std.specs.Prelude.{◌≡◌, ◌≤◌, ℕ, ◌+◌, ◌*◌, ◌/◌, ◌==◌, pos, ◌+ℤ◌, nat_abs, nat_lt, if◌then◌else◌, ◌&&◌, ◌||◌, ℤ, Bool};
 ghost use Rattle.avc_types.specs.Arithmetic.{distance};
 ghost use Rattle.avc_deblock.specs.Line.{Setting, filtered, strong_p0, strong_p1, strong_p2};
 ghost use Rattle.avc_deblock.specs.Rows.{line, IsWeak, bend, held, IsStrong, strong_at, IsWeakChroma, IsStrongChroma};
@@ -72,6 +72,13 @@ pub(crate) fn both(a: bool, b: bool) -> bool
     ensures { result ≡ (a && b) }
 {
     a & b
+}
+
+#[inline(always)]
+pub(crate) fn either(a: bool, b: bool) -> bool
+    ensures { result ≡ (a || b) }
+{
+    a | b
 }
 
 #[derive(Clone, Copy)]

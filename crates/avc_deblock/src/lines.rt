@@ -36,7 +36,7 @@ pub(crate) struct StrongLimits {
 
 /// One number for all lines.
 #[inline(always)]
-fn repeated(v: u8) -> [u8; 16]
+pub(crate) fn repeated(v: u8) -> [u8; 16]
     ensures { (k : ℕ) → k < 16 → slice_index result k ≡ v }
 {
     let mut out = [0; 16];

@@ -1,15 +1,13 @@
-ghost use Rattle.std.specs.Prelude.{◌≡◌, ℕ, ◌+◌, ◌*◌, ◌^◌, ◌<◌, ◌≤◌, true, false};
+ghost use Rattle.std.specs.Prelude.{◌≡◌, ℕ, ◌+◌, ◌*◌, ◌^◌, ◌<◌, ◌≤◌, ◌&&◌, true, false};
 ghost use Rattle.avc_plane.specs.Frames.{planes_of};
-ghost use Rattle.avc_deblock.specs.OneEdge.{AreStrengths, HasRoom, strength_along};
+ghost use Rattle.avc_deblock.specs.OneEdge.{HasRoom};
 ghost use Rattle.avc_deblock.specs.Facts.{filters_between};
 ghost use Rattle.avc_deblock.specs.MbLimits.{ArePairLimits};
 ghost use Rattle.avc_deblock.specs.ByFacts.{edges_by_facts, mb_by_facts, strength_of};
 
-use crate::edge_strengths::edge_strengths;
 use crate::facts::MbFacts;
 use crate::line::{all_three, both};
-use crate::planes_edge::{PairLimits, Place, edge_at, edge_between, limits_beside, pair_limits};
-use crate::strengths::Strengths;
+use crate::planes_edge::{PairLimits, Place, edge_between, limits_beside, pair_limits};
 use avc_plane::Planes;
 use avc_types::FilteredEdges;
 
@@ -27,6 +25,23 @@ impl MbFacts {
     }
 }
 
+impl MbFacts {
+    /// The outer edge to `other` is to be filtered, where `other` exists. An edge at strength 0 need not be.
+    #[inline(always)]
+    fn reaches(&self, other: &MbFacts, is_vertical: bool, exists: bool) -> bool
+        ensures on { result ≡ true → (exists && filters_between self.now other.now) ≡ true }
+        ensures off { result ≡ false → (exists && filters_between self.now other.now) ≡ true →
+            (k : ℕ) → k < 4 → strength_of other.now self.now is_vertical 0 k ≡ 0 }
+    {
+        let filters = both(exists, self.filters_edge_to(other));
+        if filters {
+            !other.meets_quietly(self, is_vertical)
+        } else {
+            false
+        }
+    }
+}
+
 #[inline(always)]
 fn outer_edge<const PAD: usize>(
     planes: &mut Planes<PAD>,
@@ -34,7 +49,6 @@ fn outer_edge<const PAD: usize>(
     q: &MbFacts,
     is_vertical: bool,
     filters: bool,
-    strengths: &Strengths,
     limits: &PairLimits,
     place: Place,
 )
@@ -44,14 +58,12 @@ fn outer_edge<const PAD: usize>(
     requires rows_fit { 16 * place.row + 16 < 2 ^ 64 }
     requires room { HasRoom place.column place.row (planes_of planes.old) }
     requires limits { ArePairLimits limits.now place.chroma_qp_index_offset p.now q.now }
-    requires are_strengths { AreStrengths strengths.now }
-    requires strengths { (k : ℕ) → k < 4 → strength_along strengths.now k ≡ strength_of p.now q.now is_vertical 0 k }
     ensures room { (column row : ℕ) → HasRoom column row (planes_of planes.old) → HasRoom column row (planes_of planes.new) }
     ensures lines { planes_of planes.new
         ≡ edges_by_facts is_vertical place.column place.row place.chroma_qp_index_offset filters false p.now q.now (planes_of planes.old) }
 {
     if filters {
-        edge_at(planes, p, q, is_vertical, 0, strengths, limits, place);
+        edge_between(planes, p, q, is_vertical, 0, limits, place);
     }
 }
 
@@ -95,12 +107,8 @@ pub(crate) fn macroblock<const PAD: usize>(
         ≡ mb_by_facts place.chroma_qp_index_offset place.column place.row left.now above.now mb.now (planes_of planes.old) }
 {
     let inner = both(mb.filters_edge_to(mb), !mb.is_still());
-    let at_left = edge_strengths(left, mb, true, 0);
-    let at_top = edge_strengths(above, mb, false, 0);
-    let joins_left = both(place.column > 0, mb.filters_edge_to(left));
-    let joins_above = both(place.row > 0, mb.filters_edge_to(above));
-    let from_left = both(joins_left, !at_left.are_zero());
-    let from_above = both(joins_above, !at_top.are_zero());
+    let from_left = mb.reaches(left, true, place.column > 0);
+    let from_above = mb.reaches(above, false, place.row > 0);
     let idle = all_three(!inner, !from_left, !from_above);
     if idle {
         return;
@@ -108,26 +116,8 @@ pub(crate) fn macroblock<const PAD: usize>(
     let own = pair_limits(mb, mb, place);
     let left_limits = limits_beside(left, mb, own, place);
     let above_limits = limits_beside(above, mb, own, place);
-    outer_edge(
-        planes,
-        left,
-        mb,
-        true,
-        from_left,
-        &at_left,
-        &left_limits,
-        place,
-    );
+    outer_edge(planes, left, mb, true, from_left, &left_limits, place);
     inner_edges(planes, mb, true, inner, &own, place);
-    outer_edge(
-        planes,
-        above,
-        mb,
-        false,
-        from_above,
-        &at_top,
-        &above_limits,
-        place,
-    );
+    outer_edge(planes, above, mb, false, from_above, &above_limits, place);
     inner_edges(planes, mb, false, inner, &own, place);
 }

@@ -1,9 +1,11 @@
 ghost use Rattle.std.specs.Prelude.{◌≡◌, ℕ, ◌<◌, slice_index, slice_index_or, true, false};
 ghost use Rattle.avc_motion.specs.Motion.{zero_vector};
 ghost use Rattle.avc_deblock.specs.Facts.{inter_strength};
+ghost use Rattle.avc_deblock.specs.ByFacts.{strength_of};
 
+use crate::edge_strengths::edge_block;
 use crate::facts::MbFacts;
-use crate::line::{all_three, both};
+use crate::line::{all_three, both, either};
 
 impl MbFacts {
     #[inline(always)]
@@ -43,5 +45,41 @@ impl MbFacts {
             return false;
         }
         both(self.has_one_picture(), self.has_one_vector())
+    }
+}
+
+impl MbFacts {
+    /// The blocks have no coefficients, one picture and one vector.
+    #[inline(always)]
+    fn moves_as(&self, block: usize, q: &MbFacts, q_block: usize) -> bool
+        requires p { block < 16 }
+        requires q { q_block < 16 }
+        ensures { result ≡ true → inter_strength self.now block q.now q_block ≡ 0 }
+    {
+        let (u, v) = (self.vectors[block], q.vectors[q_block]);
+        let same_vector = both(u.x == v.x, u.y == v.y);
+        let same_picture = self.pictures[block / 4] == q.pictures[q_block / 4];
+        let any = either(self.has_coefficients(block), q.has_coefficients(q_block));
+        all_three(same_vector, same_picture, !any)
+    }
+
+    /// The strengths along the edge from `self` to `q`, which is another macroblock, are 0, as one look tells.
+    #[inline(always)]
+    pub(crate) fn meets_quietly(&self, q: &MbFacts, is_vertical: bool) -> bool
+        ensures { result ≡ true → (k : ℕ) → k < 4 → strength_of self.now q.now is_vertical 0 k ≡ 0 }
+    {
+        if self.is_intra | q.is_intra {
+            return false;
+        }
+        let mut quiet = true;
+        for k in 0..4 {
+            let here = self.moves_as(
+                edge_block(is_vertical, 3, k),
+                q,
+                edge_block(is_vertical, 0, k),
+            );
+            quiet = both(quiet, here);
+        }
+        quiet
     }
 }

@@ -1,9 +1,12 @@
-ghost use Rattle.std.specs.Prelude.{◌≡◌, ℕ, ◌+◌, ◌/◌, ◌<◌, ◌≤◌, slice_index, true};
+ghost use Rattle.std.specs.Prelude.{◌≡◌, ℕ, ◌+◌, ◌*◌, ◌/◌, ◌%◌, ◌<◌, ◌≤◌, slice_index, true};
 ghost use Rattle.avc_deblock.specs.Line.{threshold_index, alpha_of, beta_of};
 ghost use Rattle.avc_deblock.specs.OneEdge.{tc1_of, AreLimits};
 
+use crate::block::spread;
 use crate::bytes::less;
 use crate::line::{all_three, both, is_zero};
+use crate::lines::repeated;
+use crate::pair::spread_twice;
 
 // Table 8-16 by index.
 const ALPHA: [u8; 52] = [
@@ -115,18 +118,33 @@ fn each_tc1(strengths: &[u8; 4], index: u8) -> [u8; 4]
     out
 }
 
-/// That of each quarter of an edge.
+/// That of each of sixteen lines of luma.
 #[inline(always)]
-pub(crate) fn tc1s(strengths: &[u8; 4], index: u8) -> [u8; 4]
+pub(crate) fn luma_tc1s(strengths: &[u8; 4], index: u8) -> [u8; 16]
     requires strengths { (k : ℕ) → k < 4 → slice_index strengths.now k < 4 }
     requires index { index < 52 }
-    ensures value { (k : ℕ) → k < 4 → slice_index result k ≡ tc1_of (slice_index strengths.now k) index }
-    ensures small { (k : ℕ) → k < 4 → slice_index result k ≤ 26 }
+    ensures value { (k : ℕ) → k < 16 → slice_index result k ≡ tc1_of (slice_index strengths.now (k / 4)) index }
+    ensures small { (k : ℕ) → k < 16 → slice_index result k ≤ 26 }
 {
     if are_equal(strengths) {
-        [tc1(strengths[0], index); 4]
+        repeated(tc1(strengths[0], index))
     } else {
-        each_tc1(strengths, index)
+        spread(&each_tc1(strengths, index))
+    }
+}
+
+/// That of each of eight lines of chroma, twice.
+#[inline(always)]
+pub(crate) fn chroma_tc1s(strengths: &[u8; 4], index: u8) -> [u8; 16]
+    requires strengths { (k : ℕ) → k < 4 → slice_index strengths.now k < 4 }
+    requires index { index < 52 }
+    ensures value { (k : ℕ) → k < 16 → slice_index result k ≡ tc1_of (slice_index strengths.now (k % 8 / 2)) index }
+    ensures small { (k : ℕ) → k < 16 → slice_index result k ≤ 26 }
+{
+    if are_equal(strengths) {
+        repeated(tc1(strengths[0], index))
+    } else {
+        spread_twice(&each_tc1(strengths, index))
     }
 }
 

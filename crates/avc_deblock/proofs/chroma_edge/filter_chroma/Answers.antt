@@ -1,4 +1,4 @@
-use Rattle.std.proofs.Common.{◌≡◌, ℕ, ◌+◌, ◌-◌, ◌*◌, ◌/◌, ◌%◌, slice_index, arith, ap, subst, ◌∙◌}
+use Rattle.std.proofs.Common.{ℕ, ◌+◌, ◌*◌, slice_index, arith, subst}
 use Rattle.avc_deblock.specs.OneEdge.{chroma_setting, strength_along, AreStrengths}
 use Rattle.avc_deblock.proofs.Limits.{weak_chroma_row, strong_chroma_row, fits_weak_chroma, fits_strong_chroma}
 use Rattle.avc_deblock.proofs.chroma_edge.filter_chroma.Goals as goal
@@ -17,9 +17,6 @@ returns-in-BelowFour c qp are b i bit low =
     let s = chroma_setting (strength_along c.args.strengths.now) qp i in
     let e = c.weak.ensures in
     let n : ℕ = 8 * b + i in
-    let quarter : n % 8 / 2 ≡ i / 2 = omega arith in
-    let spread = c.spread_twice.ensures n (omega arith) ∙ ap (slice_index c.tc1s-tc1.result) quarter in
     c.weak_chroma.ensures s n (omega arith)
-    (weak_chroma_row s _ _ _ _ (slice_index c.tc1s-tc1.result (i / 2)) l.alpha1 l.beta1 (e.alpha n (omega arith)) (e.beta n (omega arith))
-    (e.dead n (omega arith) ∙ ap (λ (t : ℕ). 1 - t) spread) (e.tc0 n (omega arith) ∙ ap (λ (t : ℕ). t - 1) spread)
-    (fits_weak_chroma l qp are c.requires.on c.args.strengths.now c.in-BelowFour.s c.tc1s-tc1.result c.in-BelowFour.is (subst AreStrengths c.in-BelowFour.is c.requires.strengths) c.tc1s-tc1.ensures.value i low))
+    (weak_chroma_row s _ _ _ _ (slice_index c.chroma_tc1s-tc1.result n) l.alpha1 l.beta1 (e.alpha n (omega arith)) (e.beta n (omega arith)) (e.dead n (omega arith)) (e.tc0 n (omega arith))
+    (fits_weak_chroma l qp are c.requires.on c.args.strengths.now c.in-BelowFour.s c.chroma_tc1s-tc1.result c.in-BelowFour.is (subst AreStrengths c.in-BelowFour.is c.requires.strengths) c.chroma_tc1s-tc1.ensures.value i n (omega arith) (omega arith)))

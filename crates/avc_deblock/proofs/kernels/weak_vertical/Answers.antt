@@ -1,4 +1,4 @@
-use Rattle.std.proofs.Common.{ℕ, ◌+◌, ◌-◌, ◌*◌, ◌/◌, sym, ap, ◌∙◌}
+use Rattle.std.proofs.Common.{◌+◌, ◌*◌, sym, ap, ◌∙◌}
 use Rattle.std.specs.Prelude.{slice_index}
 use Rattle.avc_plane.specs.Plane.{sample}
 use Rattle.avc_deblock.specs.Line.{filtered}
@@ -17,4 +17,4 @@ returns g c setting fits =
     ap (filtered (setting i))
     (same_samples (λ k. sample s (c.args.left + k) (c.args.top + i)) (λ k. slice_index c.rectangle-block.result (8 * i + k)) (λ k less. sym (c.rectangle-block.ensures.samples k i less low)))
     ∙ filtered_across (setting i) i c.rectangle-block.result c.columns-lines.result c.weak_luma.new.t after low c.columns-lines.ensures c.rows_of-after.ensures (c.weak_luma.ensures (setting i) i low (
-    weak_row (setting i) _ _ _ _ (slice_index c.args.tc1.now (i / 4)) c.args.limits.now.alpha1 c.args.limits.now.beta1 (c.weak.ensures.alpha i low) (c.weak.ensures.beta i low) (c.weak.ensures.dead i low ∙ ap (λ (t : ℕ). 1 - t) (c.spread.ensures i low)) (c.weak.ensures.tc0 i low ∙ ap (λ (t : ℕ). t - 1) (c.spread.ensures i low)) (fits i low)))))
+    weak_row (setting i) _ _ _ _ (slice_index c.args.tc1.now i) c.args.limits.now.alpha1 c.args.limits.now.beta1 (c.weak.ensures.alpha i low) (c.weak.ensures.beta i low) (c.weak.ensures.dead i low) (c.weak.ensures.tc0 i low) (fits i low)))))
