@@ -28,12 +28,13 @@ fn carry_out(rt: &HostRuntime, request: Request) -> u8 {
     let mut reader = rt.stdin();
     let mut writer = io::writer(rt);
     let mut errors = rt.stderr();
-    match request {
+    let ending = match request {
         Request::Decode(output) => decode(alloc, output, &mut reader, &mut writer, &mut errors),
         Request::Units => units(alloc, &mut reader, &mut writer, &mut errors),
         Request::Headers => headers(alloc, &mut reader, &mut writer, &mut errors),
         Request::Cut(number) => cut(alloc, number, &mut reader, &mut writer, &mut errors),
-    }
+    };
+    ending.status
 }
 
 // The exit status after words that name nothing to do. A fault is told on the standard error.

@@ -5,7 +5,7 @@ use Rattle.std.proofs.Math.Seq.{drop-nil}
 use Rattle.std.proofs.lemmas.List.{take-append-le}
 use Rattle.std.proofs.lemmas.Option.{slice_get_within, get_or_from_slice_get}
 use Rattle.std.specs.Io.KnownBytes.{Appends}
-use Rattle.std.proofs.KnownBytes.{Appends-trans}
+use Rattle.std.proofs.KnownBytes.{Appends-nil, Appends-trans}
 use Rattle.avc_types.specs.declared.fault.Fault.{Fault}
 use Rattle.avc_annexb.specs.Units.{saturated}
 use Rattle.avc_yuv.specs.I420.{i420}
@@ -13,11 +13,11 @@ use Rattle.avc_decoder.specs.Events.{pictures_in, refusals_in}
 use Rattle.avc_decoder.specs.Machine.{Machine, next_event, after_take}
 use Rattle.avc_decoder.specs.declared.event.Event.{Event}
 use Rattle.avc_decoder.specs.declared.event.Event.TheVariants.{Picture, Refused}
-use Rattle.avc_run.specs.Decoding.{max_unit, shown, report_of}
+use Rattle.avc_run.specs.Decoding.{max_unit, shown, report_of, WritesPictures}
 use Rattle.avc_run.specs.Draining.{events_defined, events_left, after_draining, count_left, report_with, BreaksOff, IsDraining, IsHandled}
-use Rattle.avc_run.specs.Reading.{WritesFirst, WritesSome}
+use Rattle.avc_run.specs.Reading.{WritesFirst}
 use Rattle.avc_run.specs.declared.fault.RunFault.{RunFault}
-use Rattle.avc_run.specs.declared.fault.RunFault.TheVariants.{Read, Write, Memory}
+use Rattle.avc_run.specs.declared.fault.RunFault.TheVariants.{Read, Endless, Write, Memory}
 use Rattle.avc_run.specs.declared.report.Report.{Report}
 
 -- ---- lists of events
@@ -102,28 +102,40 @@ handled d0 d d' r0 r w0 w none same i =
 
 -- ---- a fault
 
-pub take_front : (a b : List ℕ) → take (length a) (a ++ b) ≡ a
+take_front : {A : Type 0} (a b : List A) → take (length a) (a ++ b) ≡ a
 take_front [] b = refl
 take_front (x ∷ a) b = ap (λ xs. x ∷ xs) (take_front a b)
 
-pub take_more : (a b c : List ℕ) (n : ℕ) → n ≤ length b → take (length a + n) (a ++ (b ++ c)) ≡ a ++ take n b
+take_more : {A : Type 0} (a b c : List A) (n : ℕ) → n ≤ length b → take (length a + n) (a ++ (b ++ c)) ≡ a ++ take n b
 take_more [] b c n within = ap (λ k. take k (b ++ c)) (let same : 0 + n ≡ n = omega arith in same) ∙ take-append-le n b c within
 take_more (x ∷ a) b c n within =
     let same : length (x ∷ a) + n ≡ suc (length a + n) = omega arith in
     ap (λ k. take k (x ∷ (a ++ (b ++ c)))) same ∙ ap (λ xs. x ∷ xs) (take_more a b c n within)
 
--- all of a, and then n bytes of b, before what would have followed
-parts : (w0 w w' : Option (List ℕ)) (a b c : List ℕ) (n : ℕ) → n ≤ length b → Appends w0 w a → Appends w w' (take n b) → Appends w0 w' (take (length a + n) (a ++ (b ++ c)))
-parts w0 w w' a b c n within all some = subst (Appends w0 w') (sym (take_more a b c n within)) (Appends-trans w0 w w' a (take n b) all some)
+shown_three : (a b c : List Event) → shown (a ++ (b ++ c)) ≡ shown a ++ (shown b ++ shown c)
+shown_three a b c = shown-append a (b ++ c) ∙ ap (λ bs. shown a ++ bs) (shown-append b c)
+
+-- the pictures of a, and of the first n events of b, before what would have followed
+parts : (w0 w w' : Option (List ℕ)) (a b c : List Event) (n : ℕ) → n ≤ length b → Appends w0 w (shown a) → Appends w w' (shown (take n b)) → Appends w0 w' (shown (take (length a + n) (a ++ (b ++ c))))
+parts w0 w w' a b c n within all some =
+    subst (Appends w0 w') (sym (ap (λ es. shown es) (take_more a b c n within) ∙ shown-append a (take n b))) (Appends-trans w0 w w' (shown a) (shown (take n b)) all some)
 
 -- a fault in b, after all of a and before c
-pub breaks_later : (fault : RunFault) (w0 w w' : Option (List ℕ)) (a b c : List ℕ) → Appends w0 w a → BreaksOff fault w w' b → BreaksOff fault w0 w' (a ++ (b ++ c))
+pub breaks_later : (fault : RunFault) (w0 w w' : Option (List ℕ)) (a b c : List Event) → Appends w0 w (shown a) → BreaksOff fault w w' b → BreaksOff fault w0 w' (a ++ (b ++ c))
 breaks_later Read w0 w w' a b c all some = some
-breaks_later Write w0 w w' a b c all some = record {
-  count = length a + some.count;
-  fewer = omega (arith, length-append a (b ++ c), length-append b c, some.fewer);
-  written = parts w0 w w' a b c some.count (omega (arith, some.fewer)) all some.written;
-}
+breaks_later Endless w0 w w' a b c all some = some
+breaks_later Write w0 w w' a b c all some =
+    let is = shown_three a b c in
+    let count = length (shown a) + some.count in
+    let long = ap (λ bs. length bs) is ∙ length-append (shown a) (shown b ++ shown c) ∙ ap (λ n. length (shown a) + n) (length-append (shown b) (shown c)) in
+    let within : some.count ≤ length (shown b) = omega (arith, some.fewer) in
+    record {
+      count = count;
+      fewer = omega (arith, long, some.fewer);
+      written =
+          subst (Appends w0 w') (sym (ap (λ bs. take count bs) is ∙ take_more (shown a) (shown b) (shown c) some.count within))
+          (Appends-trans w0 w w' (shown a) (take some.count (shown b)) all some.written);
+    }
 breaks_later Memory w0 w w' a b c all some = record {
   count = length a + some.count;
   within = omega (arith, length-append a (b ++ c), length-append b c, some.within);
@@ -131,26 +143,25 @@ breaks_later Memory w0 w w' a b c all some = record {
 }
 
 -- before an event was taken
-pub stopped : (d0 d : Machine) (r0 r : Report) (w0 w : Option (List ℕ)) → IsDraining d0 d r0 r w0 w → WritesSome w0 w (shown (events_left d0))
+pub stopped : (d0 d : Machine) (r0 r : Report) (w0 w : Option (List ℕ)) → IsDraining d0 d r0 r w0 w → WritesPictures w0 w (events_left d0)
 stopped d0 d r0 r w0 w i =
-    let a = shown i.done in
-    let all : shown (events_left d0) ≡ a ++ shown (events_left d) = ap (λ es. shown es) i.rest ∙ shown-append i.done (events_left d) in
     record {
-      count = length a;
-      within = omega (arith, ap (λ bs. length bs) all, length-append a (shown (events_left d)));
-      written = subst (Appends w0 w) (sym (ap (λ bs. take (length a) bs) all ∙ take_front a (shown (events_left d)))) i.written;
+      count = length i.done;
+      within = omega (arith, ap (λ es. length es) i.rest, length-append i.done (events_left d));
+      written = subst (Appends w0 w) (sym (ap (λ es. shown (take (length i.done) es)) i.rest ∙ ap (λ es. shown es) (take_front i.done (events_left d)))) i.written;
     }
 
 -- in the midst of one
 pub stopped_in : (fault : RunFault) (d0 d : Machine) (r0 r : Report) (w0 w w' : Option (List ℕ)) (e : Event)
-    → Some e ≡ next_event max_unit d → BreaksOff fault w w' (shown (e ∷ [])) → IsDraining d0 d r0 r w0 w → BreaksOff fault w0 w' (shown (events_left d0))
+    → Some e ≡ next_event max_unit d → BreaksOff fault w w' (e ∷ []) → IsDraining d0 d r0 r w0 w → BreaksOff fault w0 w' (events_left d0)
 stopped_in fault d0 d r0 r w0 w w' e next some i =
-    let a = shown i.done in
-    let b = shown (e ∷ []) in
-    let c = shown (events_left (after_take (Some e) d)) in
-    let all : shown (events_left d0) ≡ a ++ (b ++ c) =
-    ap (λ es. shown es) i.rest ∙ shown-append i.done (events_left d) ∙ ap (λ es. a ++ shown es) (due_next d e next) ∙ ap (λ bs. a ++ bs) (shown-append (e ∷ []) (events_left (after_take (Some e) d))) in
-    subst (BreaksOff fault w0 w') (sym all) (breaks_later fault w0 w w' a b c i.written some)
+    let c = events_left (after_take (Some e) d) in
+    let all : events_left d0 ≡ i.done ++ ((e ∷ []) ++ c) = i.rest ∙ ap (λ es. i.done ++ es) (due_next d e next) in
+    subst (BreaksOff fault w0 w') (sym all) (breaks_later fault w0 w w' i.done (e ∷ []) c i.written some)
+
+-- nothing was handled
+pub none_handled : (w : Option (List ℕ)) (events : List Event) → WritesPictures w w events
+none_handled w events = record { count = 0; within = omega arith; written = Appends-nil w }
 
 -- ---- faults that are passed on
 

@@ -1,6 +1,8 @@
 pub mod Reading
 pub mod Draining
+pub mod Feeding
 pub mod Running
 pub mod Lines
 pub mod StreamWriting
+pub mod Telling
 mod Untold

@@ -5,7 +5,6 @@ use Rattle.std.specs.Io.KnownBytes.{Appends, Keeps}
 use Rattle.std.proofs.Common.{ap, sym, ◌∙◌, append_assoc, append-nil, arith}
 use Rattle.std.proofs.Math.Seq.{take-suc}
 use Rattle.std.proofs.lemmas.Grind.{flat_map-append}
-use Rattle.avc_run.specs.Reading.{WritesSome}
 
 -- the parts of a line
 pub line_is : (unit number name : List ℕ) → unit ++ codes ": " ++ number ++ codes " " ++ name ++ 10 ∷ [] ≡ unit ++ (58 ∷ 32 ∷ (number ++ (32 ∷ (name ++ (10 ∷ [])))))
@@ -25,12 +24,8 @@ pub told_next : {A : Type 0} (line : A → List ℕ) (old new : List ℕ) (d : A
 told_next line old new d items i low so_far more =
     more ∙ ap (λ l. l ++ line (get_or items i d)) so_far ∙ sym (told_more line (take i items) (get_or items i d)) ∙ ap (flat_map line) (sym (take-suc items i d low)) ∙ ap (λ n. flat_map line (take n items)) (let same : suc i ≡ i + 1 = omega arith in same)
 
-kept_front : (a b c : Option (List ℕ)) (bytes : List ℕ) → Keeps a b → Appends b c bytes → Appends a c bytes
+pub kept_front : (a b c : Option (List ℕ)) (bytes : List ℕ) → Keeps a b → Appends b c bytes → Appends a c bytes
 kept_front None b c bytes kept more = tt
 kept_front (Some xs) None c bytes kept more = absurd kept
 kept_front (Some xs) (Some ys) None bytes kept more = absurd more
 kept_front (Some xs) (Some ys) (Some zs) bytes kept more = more ∙ ap (λ l. l ++ bytes) kept
-
--- after nothing was told
-pub told_after : (a b c : Option (List ℕ)) (bytes : List ℕ) → Keeps a b → WritesSome b c bytes → WritesSome a c bytes
-told_after a b c bytes kept some = record { count = some.count; within = some.within; written = kept_front a b c _ kept some.written }

@@ -1,5 +1,5 @@
 -- A run, piece after piece.
-use Rattle.std.specs.Prelude.{◌≡◌, ℕ, ◌+◌, ◌≤◌, Bool, true, false, List, [], ◌∷◌, ◌++◌, length, take, drop, Option, Result, Ok, Err, IsErrAnd, refl}
+use Rattle.std.specs.Prelude.{◌≡◌, ℕ, ◌+◌, ◌<◌, ◌≤◌, ◌^◌, Bool, true, false, List, [], ◌∷◌, ◌++◌, length, take, drop, Option, Result, Ok, Err, IsErrAnd, refl}
 use Rattle.std.proofs.Common.{ap, sym, subst, ◌∙◌, arith, append_assoc, append-nil, length-append}
 use Rattle.std.specs.Io.KnownBytes.{Appends, Consumes, IsAtEnd, Keeps}
 use Rattle.std.proofs.KnownBytes.{Appends-nil, Appends-trans, Consumes-kept, Consumes-nil, Consumes-trans}
@@ -8,15 +8,16 @@ use Rattle.std.proofs.lemmas.List.{take-append-le, take-take}
 use Rattle.avc_decoder.specs.Output.{Output}
 use Rattle.avc_decoder.specs.Events.{events, pictures_in, refusals_in}
 use Rattle.avc_decoder.specs.Laws.{EventsOnlyGrow}
-use Rattle.avc_decoder.specs.Machine.{Machine, after_feed, after_flush}
+use Rattle.avc_decoder.specs.Machine.{Machine, after_feed, after_flush, new_machine}
 use Rattle.avc_decoder.specs.declared.event.Event.{Event}
-use Rattle.avc_run.specs.Decoding.{max_unit, defined, shown, report_of, Decodes}
-use Rattle.avc_run.specs.Draining.{events_defined, events_left, after_draining, report_with, BreaksOff, IsHandled, IsRunning}
-use Rattle.avc_run.specs.Reading.{HasRead, WritesFirst, WritesSome}
+use Rattle.avc_run.specs.Decoding.{max_unit, defined, shown, report_of, Decodes, WritesPictures}
+use Rattle.avc_run.specs.Draining.{events_defined, events_left, after_draining, report_with, BreaksOff, IsDrained, IsHandled, IsRunning}
+use Rattle.avc_run.specs.Reading.{HasRead, WritesFirst}
 use Rattle.avc_run.specs.declared.report.Report.{Report}
 use Rattle.avc_annexb.specs.Units.{saturated}
+use Rattle.avc_types.specs.declared.fault.Fault.{Fault}
 use Rattle.avc_run.specs.declared.fault.RunFault.{RunFault}
-use Rattle.avc_run.specs.declared.fault.RunFault.TheVariants.{Read, Write, Memory}
+use Rattle.avc_run.specs.declared.fault.RunFault.TheVariants.{Read, Endless, Write, Memory}
 use Rattle.avc_run.proofs.Draining.{report_with-append, reported_is, shown-append, breaks_later}
 
 -- ---- reports
@@ -56,8 +57,8 @@ drained_then m front others taken all due' =
 
 -- ---- the states of a run
 
-pub started : (output : Output) (unread holds : Option (List ℕ)) → IsRunning output unread unread holds holds (taken_so_far output []) fresh
-started output unread holds = record { bytes = []; consumed = Consumes-nil unread; machine = refl; report = refl; written = Appends-nil holds }
+abbrev report_of_none : List (ℕ × Fault) → Report
+report_of_none refused = record { pictures = 0; refused = refused }
 
 pub one_piece : EventsOnlyGrow → (output : Output) (unread left left' w0 w w' : Option (List ℕ)) (d d' : Machine) (r r' : Report) (piece : List ℕ) →
     IsRunning output unread left w0 w d r → Consumes left left' piece → IsHandled (after_feed piece d) d' r r' w w' → IsRunning output unread left' w0 w' d' r'
@@ -111,60 +112,68 @@ pub unread_on : (output : Output) (unread left left' w0 w : Option (List ℕ)) (
 unread_on output unread left left' w0 w d r f i kept is =
     subst (λ f. Decodes output unread left' w0 w (Err f)) (sym is) (i.bytes, record { consumed = Consumes-kept unread left left' i.bytes i.consumed kept; whole = λ all. cc }, i.written)
 
--- no memory for the first piece
-pub no_piece : (output : Output) (unread old : Option (List ℕ)) (f : RunFault) → f ≡ Memory → Decodes output unread unread old old (Err f)
-no_piece output unread old f is =
-    subst (λ f. Decodes output unread unread old old (Err f)) (sym is) (
-      [],
-      false,
-      record { consumed = Consumes-nil unread; whole = λ all. cc },
-      record { count = 0; within = omega arith; written = Appends-nil old },
-    )
+-- so many reads, each of some bytes
+pub record IsReading (reads : ℕ) (output : Output) (unread left held holds : Option (List ℕ)) (m : Machine) (r : Report) : Type 0 where
+  pub runs : IsRunning output unread left held holds m r
+  pub many : reads ≤ length runs.bytes
+
+pub reading_begins : (output : Output) (unread holds : Option (List ℕ)) (m : Machine) (refused : List (ℕ × Fault)) → m ≡ new_machine output → refused ≡ []
+    → IsReading 0 output unread unread holds holds m (record { pictures = 0; refused = refused })
+reading_begins output unread holds m refused new none = record {
+  runs = record { bytes = []; consumed = Consumes-nil unread; machine = new; report = ap (λ rs. report_of_none rs) none; written = Appends-nil holds };
+  many = let low : 0 ≤ 0 = omega arith in low;
+}
+
+pub one_read : EventsOnlyGrow → (reads : ℕ) (output : Output) (unread left left' w0 w w' : Option (List ℕ)) (d d' : Machine) (r r' : Report) (piece : List ℕ) → 0 < length piece →
+    IsReading reads output unread left w0 w d r → Consumes left left' piece → IsHandled (after_feed piece d) d' r r' w w' → IsReading (reads + 1) output unread left' w0 w' d' r'
+unfolding one_piece
+one_read grow reads output unread left left' w0 w w' d d' r r' piece some i more h = record {
+  runs = one_piece grow output unread left left' w0 w w' d d' r r' piece i.runs more h;
+  many = let more' : reads + 1 ≤ length (i.runs.bytes ++ piece) = omega (arith, i.many, some, length-append i.runs.bytes piece) in more';
+}
+
+-- more reads than a run may take
+pub endless : (output : Output) (unread left w0 w : Option (List ℕ)) (d : Machine) (r : Report) (reads : ℕ) → IsReading reads output unread left w0 w d r → 2 ^ 32 ≤ reads → Decodes output unread left w0 w (Err Endless)
+endless output unread left w0 w d r reads i all =
+    (i.runs.bytes, record { consumed = i.runs.consumed; whole = λ all. cc }, i.runs.written, omega (arith, i.many, all))
 
 -- a fault at the events of all bytes so far
 broken : (output : Output) (fault : RunFault) (unread left w0 w' : Option (List ℕ)) (bytes : List ℕ) (all : Bool) → HasRead unread left bytes all
-    → BreaksOff fault w0 w' (shown (events output max_unit bytes all)) → Decodes output unread left w0 w' (Err fault)
+    → BreaksOff fault w0 w' (events output max_unit bytes all) → Decodes output unread left w0 w' (Err fault)
 broken output Read unread left w0 w' bytes all read off = absurd off
+broken output Endless unread left w0 w' bytes all read off = absurd off
 broken output Write unread left w0 w' bytes all read off = (bytes, all, read, off)
 broken output Memory unread left w0 w' bytes all read off = (bytes, all, read, off)
 
+-- the front, what broke off, and nothing after it
+nothing_after : (front due all : List Event) → all ≡ front ++ due → all ≡ front ++ (due ++ [])
+nothing_after front due all is = is ∙ ap (λ es. front ++ es) (sym (append-nil due))
+
 -- at the events of a piece
 pub broken_in : EventsOnlyGrow → (output : Output) (unread left left' w0 w w' : Option (List ℕ)) (d : Machine) (r : Report) (piece : List ℕ) (fault : RunFault) →
-    IsRunning output unread left w0 w d r → Consumes left left' piece → BreaksOff fault w w' (shown (events_left (after_feed piece d))) → Decodes output unread left' w0 w' (Err fault)
+    IsRunning output unread left w0 w d r → Consumes left left' piece → BreaksOff fault w w' (events_left (after_feed piece d)) → Decodes output unread left' w0 w' (Err fault)
 broken_in grow output unread left left' w0 w w' d r piece fault i more off =
     let front = events output max_unit i.bytes false in
+    let due = events_left (after_feed piece d) in
     let then' = due_then grow output i.bytes piece false in
-    let due_is : events_left (after_feed piece d) ≡ then'.0 = ap (λ n. events_left (after_feed piece n)) i.machine ∙ then'.2 in
-    let all : shown (events output max_unit (i.bytes ++ piece) false) ≡ shown front ++ (shown (events_left (after_feed piece d)) ++ []) =
-    ap (λ es. shown es) then'.1 ∙ shown-append front then'.0 ∙ ap (λ es. shown front ++ shown es) (sym due_is) ∙ ap (λ bs. shown front ++ bs) (sym (append-nil (shown (events_left (after_feed piece d))))) in
+    let due_is : due ≡ then'.0 = ap (λ n. events_left (after_feed piece n)) i.machine ∙ then'.2 in
+    let all = nothing_after front due (events output max_unit (i.bytes ++ piece) false) (then'.1 ∙ ap (λ es. front ++ es) (sym due_is)) in
     broken output fault unread left' w0 w' (i.bytes ++ piece) false
     (record { consumed = Consumes-trans unread left left' i.bytes piece i.consumed more; whole = λ all. cc })
-    (subst (BreaksOff fault w0 w') (sym all) (breaks_later fault w0 w w' (shown front) (shown (events_left (after_feed piece d))) [] i.written off))
+    (subst (BreaksOff fault w0 w') (sym all) (breaks_later fault w0 w w' front due [] i.written off))
 
 -- at the events of the end
 pub broken_at_end : EventsOnlyGrow → (output : Output) (unread left left' w0 w w' : Option (List ℕ)) (d : Machine) (r : Report) (len : ℕ) (piece : List ℕ) (fault : RunFault) →
-    IsRunning output unread left w0 w d r → len ≡ 0 → Consumes left left' (take len piece) → IsAtEnd left' → BreaksOff fault w w' (shown (events_left (after_flush d))) → Decodes output unread left' w0 w' (Err fault)
+    IsRunning output unread left w0 w d r → len ≡ 0 → Consumes left left' (take len piece) → IsAtEnd left' → BreaksOff fault w w' (events_left (after_flush d)) → Decodes output unread left' w0 w' (Err fault)
 broken_at_end grow output unread left left' w0 w w' d r len piece fault i none more at_end off =
     let front = events output max_unit i.bytes false in
+    let due = events_left (after_flush d) in
     let then' = due_at_end grow output i.bytes in
-    let due_is : events_left (after_flush d) ≡ then'.0 = ap (λ n. events_left (after_flush n)) i.machine ∙ then'.2 in
-    let all : shown (defined output i.bytes) ≡ shown front ++ (shown (events_left (after_flush d)) ++ []) =
-    ap (λ es. shown es) then'.1 ∙ shown-append front then'.0 ∙ ap (λ es. shown front ++ shown es) (sym due_is) ∙ ap (λ bs. shown front ++ bs) (sym (append-nil (shown (events_left (after_flush d))))) in
+    let due_is : due ≡ then'.0 = ap (λ n. events_left (after_flush n)) i.machine ∙ then'.2 in
+    let all = nothing_after front due (defined output i.bytes) (then'.1 ∙ ap (λ es. front ++ es) (sym due_is)) in
     broken output fault unread left' w0 w' i.bytes true
     (record { consumed = nothing_more unread left left' i.bytes piece len i.consumed none more; whole = λ is. at_end })
-    (subst (BreaksOff fault w0 w') (sym all) (breaks_later fault w0 w w' (shown front) (shown (events_left (after_flush d))) [] i.written off))
-
--- all of the bytes
-some_are_all : (old new : Option (List ℕ)) (bytes : List ℕ) → Appends old new bytes → WritesSome old new bytes
-some_are_all old new bytes all = record { count = length bytes; within = omega arith; written = subst (Appends old new) (sym (take-length bytes)) all }
-
--- where no memory is found for the text of a run
-pub untold : (output : Output) (unread left old new : Option (List ℕ)) (r : Result Report RunFault) → Decodes output unread left old new r → Decodes output unread left old new (Err Memory)
-untold output unread left old new (Ok report) run = (run.0, true, run.1, some_are_all old new (shown (defined output run.0)) run.2)
-untold output unread left old new (Err Read) run = (run.0, false, run.1, some_are_all old new (shown (events output max_unit run.0 false)) run.2)
-untold output unread left old new (Err Write) run =
-    (run.0, run.1, run.2, record { count = run.3.count; within = omega (arith, run.3.fewer); written = run.3.written })
-untold output unread left old new (Err Memory) run = run
+    (subst (BreaksOff fault w0 w') (sym all) (breaks_later fault w0 w w' front due [] i.written off))
 
 pub err_is : {A : Type 0} (r : Result A RunFault) (f : RunFault) → IsErrAnd r (λ e. e ≡ f) → r ≡ Err f
 err_is (Ok a) f is = absurd is
@@ -173,7 +182,9 @@ err_is (Err e) f is = ap (λ e. Err e) is
 pub decodes_err : (output : Output) (unread left old new : Option (List ℕ)) (r : Result Report RunFault) (f : RunFault) → r ≡ Err f → Decodes output unread left old new (Err f) → Decodes output unread left old new r
 decodes_err output unread left old new r f is d = subst (Decodes output unread left old new) (sym is) d
 
--- the front of a buffer of which the first part was written anew
-pub same_front : (len full : ℕ) (new rest now : List ℕ) → now ≡ take full (new ++ rest) → len ≤ length new → len ≤ full → take len now ≡ take len new
-same_front len full new rest now is within room =
-    ap (λ l. take len l) is ∙ take-take len full (new ++ rest) room ∙ take-append-le len new rest within
+-- all events that had come were taken
+pub drained : (output : Output) (unread left w0 w : Option (List ℕ)) (d : Machine) (r : Report) → IsRunning output unread left w0 w d r → IsDrained d
+drained output unread left w0 w d r i = record {
+  goes_on = ap (λ n. n.ended) i.machine;
+  taken = ap (λ n. n.taken) i.machine ∙ ap (λ n. length (events_defined n)) (sym i.machine);
+}

@@ -5,6 +5,7 @@ use Rattle.std.proofs.lemmas.List.{get_or_past}
 use Rattle.std.specs.Io.KnownBytes.{Appends, Keeps}
 use Rattle.avc_tools.specs.Pieces.{pieces}
 use Rattle.avc_run.specs.Listing.{Cuts, numbered}
+use Rattle.avc_run.specs.Messages.{no_piece_line, piece_text}
 use Rattle.avc_run.specs.Status.{cut_status}
 use Rattle.avc_run.specs.declared.fault.RunFault.TheVariants.{Memory}
 
@@ -30,3 +31,11 @@ pub untold_piece : (number count : ℕ) (unread left held holds : Option (List �
     → Cuts number unread left held holds (Err Memory)
 untold_piece number count unread left held holds run status =
     (run.0, record { consumed = run.1.consumed; whole = λ all. cc }, nothing_written held holds (numbered (pieces run.0) number) (none_numbered (pieces run.0) number count run.3 status) run.2)
+
+-- where there is no such piece, its line is what is told
+told_by : (below : Bool) (line : List ℕ) → (status_by below ≡ 0 → ⊥) → line ≡ (if below then [] else line)
+told_by true line other = absurd (other refl)
+told_by false line other = refl
+
+pub no_piece_text : (number count : ℕ) → (cut_status count number ≡ 0 → ⊥) → no_piece_line number ≡ piece_text number count
+no_piece_text number count other = told_by (nat_lt number count) (no_piece_line number) other

@@ -8,10 +8,10 @@ use Rattle.avc_decoder.specs.Machine.{Machine}
 use Rattle.avc_decoder.specs.declared.event.Event.{Event}
 use Rattle.avc_decoder.specs.declared.event.Event.TheVariants.{Picture, Refused}
 use Rattle.std.specs.Io.KnownBytes.{Appends, Consumes}
-use Rattle.avc_run.specs.Decoding.{max_unit, report_of, shown}
-use Rattle.avc_run.specs.Reading.{WritesFirst, WritesSome}
+use Rattle.avc_run.specs.Decoding.{max_unit, report_of, shown, WritesPictures}
+use Rattle.avc_run.specs.Reading.{WritesFirst}
 use Rattle.avc_run.specs.declared.fault.RunFault.{RunFault}
-use Rattle.avc_run.specs.declared.fault.RunFault.TheVariants.{Read, Write, Memory}
+use Rattle.avc_run.specs.declared.fault.RunFault.TheVariants.{Read, Endless, Write, Memory}
 use Rattle.avc_run.specs.declared.report.Report.{Report}
 
 -- the events that the bytes so far define
@@ -25,6 +25,11 @@ events_left m = drop m.taken (events_defined m)
 -- after all were taken
 abbrev pub after_draining : Machine → Machine
 after_draining m = record m { taken = m.taken + length (events_left m) }
+
+-- The stream has not ended, and all events that came were taken.
+pub record IsDrained (m : Machine) : Type 0 where
+  pub goes_on : m.ended ≡ false
+  pub taken : m.taken ≡ length (events_defined m)
 
 -- how many are left
 abbrev pub count_left : Machine → ℕ
@@ -63,8 +68,9 @@ pub record IsRunning (output : Output) (unread left held holds : Option (List �
   pub report : r ≡ report_of (events output max_unit bytes false)
   pub written : Appends held holds (shown (events output max_unit bytes false))
 
--- A fault broke off the writing of these bytes. None comes from reading here.
-abbrev pub BreaksOff : RunFault → (old new : Option (List ℕ)) → List ℕ → Type 0
-BreaksOff Read old new bytes = ⊥
-BreaksOff Write old new bytes = WritesFirst old new bytes
-BreaksOff Memory old new bytes = WritesSome old new bytes
+-- A fault broke off the handling of these events. None comes from reading here.
+abbrev pub BreaksOff : RunFault → (old new : Option (List ℕ)) → List Event → Type 0
+BreaksOff Read old new events = ⊥
+BreaksOff Endless old new events = ⊥
+BreaksOff Write old new events = WritesFirst old new (shown events)
+BreaksOff Memory old new events = WritesPictures old new events

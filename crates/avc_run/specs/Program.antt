@@ -1,33 +1,56 @@
 -- How the program's commands end.
-use Rattle.std.specs.Prelude.{◌≡◌, ℕ, Bool, List, [], Option, Result, Ok, Err}
+use Rattle.std.specs.Prelude.{◌≡◌, ℕ, Bool, true, false, List, [], Option, Result, Ok, Err}
+use Rattle.std.specs.Io.KnownBytes.{Appends}
 use Rattle.avc_decoder.specs.Output.{Output}
 use Rattle.avc_run.specs.Decoding.{Decodes}
 use Rattle.avc_run.specs.Listing.{Cuts, Lists}
-use Rattle.avc_run.specs.Reading.{WritesSome}
+use Rattle.avc_run.specs.Reading.{WritesFirst}
 use Rattle.avc_run.specs.Status.{cut_status_of, status_of, units_status}
 use Rattle.avc_run.specs.Messages.{fault_line, piece_text, text_of}
+use Rattle.avc_run.specs.declared.exit.Ending.{Ending}
 use Rattle.avc_run.specs.declared.fault.RunFault.{RunFault}
+use Rattle.avc_run.specs.declared.fault.RunFault.TheVariants.{Memory}
 use Rattle.avc_run.specs.declared.report.Report.{Report}
 
--- `decode` was a run, and its exit status and what it told on the standard error are those of this run. Where the standard error
--- takes no more, the rest is not told.
-pub record EndsDecoding (output : Output) (unread left held holds before now : Option (List ℕ)) (status : ℕ) : Type 0 where
+-- This text was told on the standard error, all of it, or where the standard error took no more the first of it.
+abbrev pub Tells : (before now : Option (List ℕ)) → List ℕ → (told : Bool) → Type 0
+Tells before now text true = Appends before now text
+Tells before now text false = WritesFirst before now text
+
+-- A run is told as it is. Where no memory was found for the lines of its refusals, it is told as ended by that.
+abbrev pub IsToldAs : (run told : Result Report RunFault) → Type 0
+IsToldAs (Ok report) (Ok told) = told ≡ report
+IsToldAs (Ok report) (Err fault) = fault ≡ Memory
+IsToldAs (Err fault) (Ok told) = ⊥
+IsToldAs (Err fault) (Err told) = told ≡ fault
+
+-- The exit status and what is told are those of this run.
+pub record TellsRun (run : Result Report RunFault) (before now : Option (List ℕ)) (ending : Ending) : Type 0 where
+  pub told_run : Result Report RunFault
+  pub as_it_is : IsToldAs run told_run
+  pub status_is : ending.status ≡ status_of told_run
+  pub told : Tells before now (text_of told_run) ending.told
+
+-- `decode` was a run, and its exit status and what it told are those of this run.
+pub record EndsDecoding (output : Output) (unread left held holds before now : Option (List ℕ)) (ending : Ending) : Type 0 where
   pub run : Result Report RunFault
   pub decodes : Decodes output unread left held holds run
-  pub status_is : status ≡ status_of run
-  pub told : WritesSome before now (text_of run)
+  pub tells : TellsRun run before now ending
 
 -- what `units` and `headers` tell on the standard error
 abbrev pub units_text : Result (Unit {0}) RunFault → List ℕ
 units_text (Ok _) = []
 units_text (Err fault) = fault_line fault
 
--- the same of `units` and `headers`
-pub record EndsListing (text : List ℕ → (ended : Bool) → List ℕ) (unread left held holds before now : Option (List ℕ)) (status : ℕ) : Type 0 where
+-- The same of `units` and `headers`: the exit status and what is told are those of this run.
+pub record TellsListing (run : Result (Unit {0}) RunFault) (before now : Option (List ℕ)) (ending : Ending) : Type 0 where
+  pub status_is : ending.status ≡ units_status run
+  pub told : Tells before now (units_text run) ending.told
+
+pub record EndsListing (text : List ℕ → (ended : Bool) → List ℕ) (unread left held holds before now : Option (List ℕ)) (ending : Ending) : Type 0 where
   pub run : Result (Unit {0}) RunFault
   pub lists : Lists text unread left held holds run
-  pub status_is : status ≡ units_status run
-  pub told : WritesSome before now (units_text run)
+  pub tells : TellsListing run before now ending
 
 -- what `cut` tells on the standard error
 abbrev pub cut_text : (number : ℕ) → Result ℕ RunFault → List ℕ
@@ -35,8 +58,8 @@ cut_text number (Ok count) = piece_text number count
 cut_text number (Err fault) = fault_line fault
 
 -- the same of `cut`
-pub record EndsCutting (number : ℕ) (unread left held holds before now : Option (List ℕ)) (status : ℕ) : Type 0 where
+pub record EndsCutting (number : ℕ) (unread left held holds before now : Option (List ℕ)) (ending : Ending) : Type 0 where
   pub run : Result ℕ RunFault
   pub cuts : Cuts number unread left held holds run
-  pub status_is : status ≡ cut_status_of number run
-  pub told : WritesSome before now (cut_text number run)
+  pub status_is : ending.status ≡ cut_status_of number run
+  pub told : Tells before now (cut_text number run) ending.told

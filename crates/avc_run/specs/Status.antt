@@ -2,7 +2,7 @@
 use Rattle.std.specs.Prelude.{ℕ, nat_lt, if◌then◌else◌, List, [], ◌∷◌, Result, Ok, Err}
 use Rattle.avc_types.specs.declared.fault.Fault.{Fault}
 use Rattle.avc_run.specs.declared.fault.RunFault.{RunFault}
-use Rattle.avc_run.specs.declared.fault.RunFault.TheVariants.{Read, Write, Memory}
+use Rattle.avc_run.specs.declared.fault.RunFault.TheVariants.{Read, Endless, Write, Memory}
 use Rattle.avc_run.specs.declared.report.Report.{Report}
 use Rattle.avc_run.specs.declared.exit.Answer.{Answer}
 use Rattle.avc_run.specs.declared.exit.Answer.TheVariants.{Help, Misuse}
@@ -10,6 +10,7 @@ use Rattle.avc_run.specs.declared.exit.Answer.TheVariants.{Help, Misuse}
 -- 3 where reading or writing failed, 4 where memory was refused
 abbrev pub fault_status : RunFault → ℕ
 fault_status Read = 3
+fault_status Endless = 3
 fault_status Write = 3
 fault_status Memory = 4
 

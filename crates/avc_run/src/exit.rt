@@ -14,12 +14,22 @@ pub enum Answer {
     Misuse,
 }
 
+/// How a command ended.
+#[derive(Clone, Copy, Debug, PartialEq, Eq)]
+pub struct Ending {
+    /// The exit status.
+    pub status: u8,
+
+    /// Whether the standard error took all that was told.
+    pub told: bool,
+}
+
 /// The exit status after a fault: 3 after one of reading or writing, 4 after want of memory.
 pub fn fault_status(fault: RunFault) -> u8
     ensures { result ≡ fault_status fault }
 {
     match fault {
-        RunFault::Read | RunFault::Write => 3,
+        RunFault::Read | RunFault::Endless | RunFault::Write => 3,
         RunFault::Memory => 4,
     }
 }

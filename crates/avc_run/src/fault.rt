@@ -7,9 +7,13 @@ use thiserror::Error;
 /// What ended a run before its end.
 #[derive(Clone, Copy, Debug, PartialEq, Eq, Error)]
 pub enum RunFault {
-    /// A `read` answered an error, or the input had no end within the reads that a run may take.
+    /// A `read` answered an error.
     #[error("read fault")]
     Read,
+
+    /// The input had no end within the reads that a run may take.
+    #[error("read fault")]
+    Endless,
 
     /// A `write` answered an error, or took no byte.
     #[error("write fault")]

@@ -16,7 +16,7 @@ pub fn fault_line(fault: RunFault) -> &'static str
     ensures { result.now ≡ fault_line fault }
 {
     match fault {
-        RunFault::Read => "avcdec: read fault\n",
+        RunFault::Read | RunFault::Endless => "avcdec: read fault\n",
         RunFault::Write => "avcdec: write fault\n",
         RunFault::Memory => "avcdec: out of memory\n",
     }

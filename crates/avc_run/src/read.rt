@@ -1,4 +1,4 @@
-ghost use Rattle.std.specs.Prelude.{◌≡◌, ◌≢◌, ℕ, List, IfOk, IfErr, OnErr, true, false, take, length, ◌≤◌, ◌<◌};
+ghost use Rattle.std.specs.Prelude.{◌≡◌, ◌≢◌, ◌^◌, ℕ, List, IfOk, IfErr, OnErr, true, false, take, length, ◌≤◌, ◌<◌};
 ghost use Rattle.std.specs.Io.KnownBytes.{Consumes, IsAtEnd, Keeps};
 ghost use Rattle.avc_run.specs.Reading.{HasRead};
 ghost use Rattle.avc_run.specs.declared.fault.RunFault.TheVariants as faults;
@@ -19,18 +19,19 @@ const _: () = prove!(PIECE == 65_536 && READS == 4_294_967_296);
 pub fn read_all<R: Read>(alloc: Global, reader: &mut R) -> Result<Vec<u8>, RunFault>
     ensures ok { IfOk result (λ bytes. HasRead (R.remaining reader.old) (R.remaining reader.new) bytes.items true) }
     ensures fault { IfErr result (λ fault. fault ≢ faults.Write) }
-    ensures err { OnErr result ((bytes : List ℕ) × HasRead (R.remaining reader.old) (R.remaining reader.new) bytes false) }
+    ensures err { IfErr result (λ fault. (bytes : List ℕ) × HasRead (R.remaining reader.old) (R.remaining reader.new) bytes false
+        × (fault ≡ faults.Endless → 2 ^ 32 ≤ length bytes)) }
 {
     let mut bytes = Vec::new(alloc);
     let mut piece = zeros(alloc, PIECE)?;
-    for _ in 0..READS {
+    for _read in 0..READS {
         let len = read_once(reader, &mut piece)?;
         if len == 0 {
             return Ok(bytes);
         }
         bytes.extend_from_slice(&piece[..len])?;
     }
-    Err(RunFault::Read)
+    Err(RunFault::Endless)
 }
 
 pub fn zeros(alloc: Global, count: usize) -> Result<Vec<u8>, RunFault>

@@ -33,7 +33,7 @@ pub(crate) fn write_stream<T: StreamText, R: Read, W: Write>(
         }
         take_in(text, &piece[..len], writer)?;
     }
-    Err(RunFault::Read)
+    Err(RunFault::Endless)
 }
 
 // The next bytes of the stream, and what comes to the text by them.

@@ -1,12 +1,13 @@
 // What no contract says: where a fault comes from, that memory is found where there is some, and what whole streams come to. Where
 // an allocation is refused (`rt try --test --fail-alloc N`), a test ends in that error, and not at an assertion.
 use crate::{
-    Answer, Refusals, Report, RunFault, answer_status, cut, cut_status, decode, fault_line,
-    headers, run, run_units, status, units,
+    Answer, Ending, Refusals, Report, RunFault, answer_status, cut, cut_status, decode, fault_line,
+    headers, run, run_units, status, tell, units,
 };
 use avc_decoder::{DecodeError, Decoder, Event, Output};
 use avc_types::{Fault, OutOfMemory};
 use std::alloc::{AllocError, Global};
+use std::cell::Cell;
 use std::io;
 use std::io::{Read, Write};
 use std::test::Fail;
@@ -91,17 +92,18 @@ fn one_by_one(bytes: &[u8], fails: bool) -> OneByOne<'_> {
     }
 }
 
-// Takes at most `piece` bytes a call and `room` in all, and then answers an error.
+// Takes at most `piece` bytes a call and `room` in all, and then answers an error, or 0.
 #[derive(Drop)]
 struct Limited {
     piece: usize,
     room: usize,
+    zero: bool,
 }
 
 impl Write for Limited {
     fn write(&mut self, buf: &[u8]) -> io::Result<usize> {
         let taken = buf.len().min(self.piece).min(self.room);
-        if taken == 0 {
+        if taken == 0 && !self.zero {
             return Err(io::ErrorKind::BrokenPipe.into());
         }
         self.room -= taken;
@@ -125,7 +127,7 @@ fn outcome_of(alloc: Global, parts: &[&[u8]]) -> Result<Outcome, RunFault> {
     let bytes = joined(alloc, parts)?;
     let mut written = Vec::new(alloc);
     let mut told = Vec::new(alloc);
-    let status = decode(
+    let Ending { status, .. } = decode(
         alloc,
         Output::Full,
         &mut one_by_one(&bytes, false),
@@ -295,9 +297,9 @@ fn ends_where_a_read_fails(rt: HostRuntime) -> Result<(), Fail> {
 fn ends_where_a_write_fails(rt: HostRuntime) -> Result<(), Fail> {
     let alloc = rt.alloc();
     let bytes = joined(alloc, &[SMALL, PLAIN, FIRST, GREY])?;
-    for piece in [1, 65_536] {
+    for (piece, zero) in [(1, false), (65_536, true)] {
         for room in 0..385usize {
-            let mut writer = Limited { piece, room };
+            let mut writer = Limited { piece, room, zero };
             let run = run(alloc, Output::Full, &mut bytes.as_slice(), &mut writer);
             let fault = if room == 384 {
                 None
@@ -339,8 +341,12 @@ fn lists_units(rt: HostRuntime) -> Result<(), Fail> {
         (false, 29, "avcdec: write fault\n"),
     ] {
         let mut told = Vec::new(alloc);
-        let mut writer = Limited { piece: 1, room };
-        let status = units(
+        let mut writer = Limited {
+            piece: 1,
+            room,
+            zero: false,
+        };
+        let Ending { status, .. } = units(
             alloc,
             &mut one_by_one(&bytes, fails),
             &mut writer,
@@ -370,7 +376,7 @@ const DROPPING_IDR: &[u8] = &[0, 0, 1, 0x65, 0x88, 0x82, 0xA4, 0xF0];
 fn piece_of(alloc: Global, bytes: &[u8], number: u32) -> Result<Outcome, RunFault> {
     let mut written = Vec::new(alloc);
     let mut told = Vec::new(alloc);
-    let status = cut(
+    let Ending { status, .. } = cut(
         alloc,
         number,
         &mut one_by_one(bytes, false),
@@ -437,7 +443,7 @@ fn shows_headers(rt: HostRuntime) -> Result<(), Fail> {
     );
     let mut written = Vec::new(alloc);
     let mut told = Vec::new(alloc);
-    let status = headers(
+    let Ending { status, .. } = headers(
         alloc,
         &mut one_by_one(&bytes, false),
         &mut written,
@@ -473,6 +479,7 @@ fn tells_by_its_status(rt: HostRuntime) -> Result<(), Fail> {
     );
     for (fault, number, line) in [
         (RunFault::Read, 3, "avcdec: read fault\n"),
+        (RunFault::Endless, 3, "avcdec: read fault\n"),
         (RunFault::Write, 3, "avcdec: write fault\n"),
         (RunFault::Memory, 4, "avcdec: out of memory\n"),
     ] {
@@ -495,34 +502,119 @@ fn tells_by_its_status(rt: HostRuntime) -> Result<(), Fail> {
 fn ends_by_a_fault_that_is_told(rt: HostRuntime) -> Result<(), Fail> {
     let alloc = rt.alloc();
     let mut told = Vec::new(alloc);
-    let mut written = Vec::new(alloc);
-    let status = decode(
-        alloc,
-        Output::Full,
-        &mut one_by_one(&[0], true),
-        &mut written,
-        &mut told,
+    let mut closed = Limited {
+        piece: 1,
+        room: 0,
+        zero: false,
+    };
+    let run = Err(RunFault::Read);
+    assert_eq!(rt;
+        (tell(alloc, &run, &mut told), tell(alloc, &run, &mut closed)),
+        (
+            Ending {
+                status: 3,
+                told: true
+            },
+            Ending {
+                status: 3,
+                told: false
+            }
+        )
     );
-    if status == 4 {
-        return Err(OutOfMemory.into());
-    }
     assert!(rt;
         told.as_slice() == "avcdec: read fault\n".as_bytes(),
         "the fault's line"
     );
-    let mut closed = Limited { piece: 1, room: 0 };
+    Ok(())
+}
+
+// Fails once, and then gives its bytes.
+#[derive(Drop)]
+struct Failing<'a> {
+    failed: bool,
+    bytes: &'a [u8],
+}
+
+impl<'a> Read for Failing<'a> {
+    fn read(&mut self, buf: &mut [u8]) -> io::Result<usize> {
+        if self.failed {
+            return self.bytes.read(buf);
+        }
+        self.failed = true;
+        Err(io::ErrorKind::Interrupted.into())
+    }
+}
+
+#[test]
+fn reads_no_more_after_a_fault(rt: HostRuntime) -> Result<(), Fail> {
+    let alloc = rt.alloc();
+    let mut reader = Failing {
+        failed: false,
+        bytes: SMALL,
+    };
+    let mut written = Vec::new(alloc);
+    let run = run(alloc, Output::Full, &mut reader, &mut written);
+    assert_eq!(rt; fault_of(run)?, Some(RunFault::Read));
+    assert_eq!(rt; (reader.bytes.len(), written.len()), (SMALL.len(), 0));
+    Ok(())
+}
+
+// How many bytes a writer has taken, for a reader to see.
+#[derive(Drop)]
+struct Seen<'a> {
+    taken: &'a Cell<usize>,
+}
+
+impl<'a> Write for Seen<'a> {
+    fn write(&mut self, buf: &[u8]) -> io::Result<usize> {
+        self.taken.set(self.taken.get().saturating_add(buf.len()));
+        Ok(buf.len())
+    }
+
+    fn flush(&mut self) -> io::Result<()> {
+        Ok(())
+    }
+}
+
+// Gives its bytes at once, and notes at the next read what the writer has taken by then.
+#[derive(Drop)]
+struct Noting<'a> {
+    bytes: &'a [u8],
+    taken: &'a Cell<usize>,
+    noted: Option<usize>,
+}
+
+impl<'a> Read for Noting<'a> {
+    fn read(&mut self, buf: &mut [u8]) -> io::Result<usize> {
+        if self.bytes.is_empty() && self.noted.is_none() {
+            self.noted = Some(self.taken.get());
+        }
+        self.bytes.read(buf)
+    }
+}
+
+#[test]
+fn writes_before_it_reads_on(rt: HostRuntime) -> Result<(), Fail> {
+    let alloc = rt.alloc();
+    let bytes = joined(
+        alloc,
+        &[SMALL, PLAIN, FIRST, GREY, NEXT_FIRST, GREY, DELIMITER],
+    )?;
+    let taken = Cell::new(0);
+    let mut reader = Noting {
+        bytes: &bytes,
+        taken: &taken,
+        noted: None,
+    };
+    let report = run(
+        alloc,
+        Output::Full,
+        &mut reader,
+        &mut Seen { taken: &taken },
+    )?;
     assert_eq!(rt;
-        (
-            status,
-            decode(
-                alloc,
-                Output::Full,
-                &mut one_by_one(&[0], true),
-                &mut written,
-                &mut closed
-            )
-        ),
-        (3, 3)
+        (reader.noted, report.pictures, taken.get()),
+        (Some(384), 2, 768)
     );
     Ok(())
 }

@@ -1,6 +1,5 @@
 use Rattle.std.proofs.Common.{◌≡◌, Err, rules, sym, ap, ◌∙◌}
 use Rattle.avc_decoder.specs.Machine.{after_take}
-use Rattle.avc_run.specs.Decoding.{shown}
 use Rattle.avc_run.specs.Draining.{events_left, BreaksOff}
 use Rattle.avc_run.proofs.Draining.{by_fault, by_memory, handled, is_none, one_more, smaller, stopped, stopped_in}
 use Rattle.avc_run.proofs.decoding.drain.Goals as goal
@@ -8,7 +7,7 @@ use Rattle.avc_run.proofs.decoding.drain.Goals as goal
 pub returns-in_err-event-clause-err : goal.returns-in_err-event-clause-err
 returns-in_err-event-clause-err g c =
     let writer = c.args.writer.now in
-    by_memory c.from_residual.result (λ fault. BreaksOff fault (g.W.Write.contents writer) (g.W.Write.contents c.events.writer) (shown (events_left c.args.decoder.now)))
+    by_memory c.from_residual.result (λ fault. BreaksOff fault (g.W.Write.contents writer) (g.W.Write.contents c.events.writer) (events_left c.args.decoder.now))
     c.from_residual.ensures.1 (stopped _ _ _ _ _ _ c.events.invariant)
 
 pub events-smaller : goal.events-smaller
@@ -26,7 +25,7 @@ pub returns-in_err-handle-clause-err : goal.returns-in_err-handle-clause-err
 returns-in_err-handle-clause-err g c =
     let fault = c.in_err-handle.field-0.0 in
     let is : c.from_residual-in_err-handle.result ≡ Err fault = search rules in
-    by_fault c.from_residual-in_err-handle.result fault (λ f. BreaksOff f (g.W.Write.contents c.args.writer.now) (g.W.Write.contents c.handle.new.writer) (shown (events_left c.args.decoder.now))) is
+    by_fault c.from_residual-in_err-handle.result fault (λ f. BreaksOff f (g.W.Write.contents c.args.writer.now) (g.W.Write.contents c.handle.new.writer) (events_left c.args.decoder.now)) is
     (stopped_in fault _ c.events.decoder _ _ _ _ _ c.in-Some.event (sym c.in-Some.is ∙ c.in_ok-event.ensures.1) c.in_err-handle.ensures.err c.events.invariant)
 
 pub returns-clause-ok : goal.returns-clause-ok

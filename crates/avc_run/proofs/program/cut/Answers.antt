@@ -1,9 +1,9 @@
 use Rattle.std.proofs.Common.{◌≡◌, Err, ap, subst, ◌∙◌}
-use Rattle.avc_run.specs.Reading.{WritesSome}
 use Rattle.avc_run.specs.Status.{fault_status}
+use Rattle.avc_run.specs.Program.{Tells}
 use Rattle.avc_run.specs.Messages.{fault_line}
 use Rattle.avc_run.specs.declared.fault.RunFault.TheVariants.{Memory}
-use Rattle.avc_run.proofs.Lines.{told_after}
+use Rattle.avc_run.proofs.Telling.{told_after}
 use Rattle.avc_run.proofs.Untold.{untold_piece}
 use Rattle.avc_run.proofs.program.cut.Goals as goal
 
@@ -15,6 +15,6 @@ returns-in-Err-write_no_piece g c =
       cuts = untold_piece c.args.number c.in-Ok.count _ _ _ _ c.in-Ok.ensures c.in-Err-write_no_piece.ensures.none;
       status_is = c.fail.ensures.status ∙ ap fault_status memory;
       told =
-          subst (λ fault. WritesSome (g.E.Write.contents c.args.errors.now) (g.E.Write.contents c.fail.new.errors) (fault_line fault)) memory
-          (told_after _ _ _ _ c.in-Err-write_no_piece.ensures.err.1 c.fail.ensures.told);
+          subst (λ fault. Tells (g.E.Write.contents c.args.errors.now) (g.E.Write.contents c.fail.new.errors) (fault_line fault) c.fail.result.told) memory
+          (told_after _ _ _ _ _ c.in-Err-write_no_piece.ensures.err.1 c.fail.ensures.told);
     }

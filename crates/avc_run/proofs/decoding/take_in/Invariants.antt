@@ -1,0 +1,13 @@
+use Rattle.std.proofs.Common.{◌≤◌, ◌-◌, length, take}
+use Rattle.avc_decoder.specs.Machine.{after_feed}
+use Rattle.avc_run.specs.Draining.{IsHandled}
+use Rattle.avc_run.proofs.decoding.take_in.Given as goal
+
+abbrev pub invariant-parts : goal.invariant-parts
+invariant-parts g l = record {
+  within : l.done ≤ length l.piece;
+  handled : IsHandled (after_feed (take l.done l.piece) l.initial.decoder) l.decoder l.initial.report l.report (g.W.Write.contents l.initial.writer) (g.W.Write.contents l.writer);
+}
+
+abbrev pub decreases-parts : goal.decreases-parts
+decreases-parts g l = length l.piece - l.done
