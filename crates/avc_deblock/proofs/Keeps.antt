@@ -49,16 +49,16 @@ module _ (s : Setting) (l : Line) (chroma : s.is_luma ≡ false) where
   kept_if_smooth : (b : Bool) (x y : ℕ) → (if s.is_luma && b then x else y) ≡ y
   kept_if_smooth b x y = ap (λ (z : Bool). if z && b then x else y) chroma
 
-  chroma_p2 : (filtered s l).p2 ≡ l.p2
+  pub chroma_p2 : (filtered s l).p2 ≡ l.p2
   chroma_p2 = either (λ (m : Line). m.p2) (is_filtered s l) (s.strength == 4) (filtered_strongly s l) (filtered_weakly s l) l (kept_if _ _ _ l.p2) refl
 
-  chroma_p1 : (filtered s l).p1 ≡ l.p1
+  pub chroma_p1 : (filtered s l).p1 ≡ l.p1
   chroma_p1 = either (λ (m : Line). m.p1) (is_filtered s l) (s.strength == 4) (filtered_strongly s l) (filtered_weakly s l) l (kept_if _ _ _ l.p1) (kept_if_smooth _ _ l.p1)
 
-  chroma_q2 : (filtered s l).q2 ≡ l.q2
+  pub chroma_q2 : (filtered s l).q2 ≡ l.q2
   chroma_q2 = either (λ (m : Line). m.q2) (is_filtered s l) (s.strength == 4) (filtered_strongly s l) (filtered_weakly s l) l (kept_if _ _ _ l.q2) refl
 
-  chroma_q1 : (filtered s l).q1 ≡ l.q1
+  pub chroma_q1 : (filtered s l).q1 ≡ l.q1
   chroma_q1 = either (λ (m : Line). m.q1) (is_filtered s l) (s.strength == 4) (filtered_strongly s l) (filtered_weakly s l) l (kept_if _ _ _ l.q1) (kept_if_smooth _ _ l.q1)
 
 -- those of a line of chroma, but p0 and q0

@@ -88,7 +88,7 @@ row_of : (k width height : ℕ) → k < width * height → k / width < height
 row_of k width height below = (div-lt_iff_lt-mul (some_column k width height below)).1 (omega (arith, mul_comm width height))
 
 -- A list is the plane with a block changed, if it is so at each place.
-block_is : (s : Plane) (ys : List ℕ) (left top width height : ℕ) (f : ℕ → ℕ → ℕ) → length ys ≡ s.width * s.height →
+pub block_is : (s : Plane) (ys : List ℕ) (left top width height : ℕ) (f : ℕ → ℕ → ℕ) → length ys ≡ s.width * s.height →
     ((a b : ℕ) → a < s.width → b < s.height → left ≤ a → a < left + width → top ≤ b → b < top + height → slice_index ys (b * s.width + a) ≡ f (a - left) (b - top)) →
     ((a b : ℕ) → a < s.width → b < s.height → (left ≤ a → a < left + width → top ≤ b → b < top + height → ⊥) → slice_index ys (b * s.width + a) ≡ sample s a b) →
     with_samples s ys ≡ with_block s left top width height f

@@ -1,4 +1,5 @@
 ghost use Rattle.avc_deblock.specs.ByFacts.{RowIsThePictures};
+ghost use Rattle.avc_deblock.specs.Locality.{RowChangesItsRows, RowReadsNoneBelow, RowCommutesWithBlocksBelow};
 ghost use Rattle.avc_deblock.specs.Laws.{RowsInOrder, FactsOfFirstMacroblocksStay};
 
 /// The line filters of a picture are those of its rows of macroblocks, one row after another.
@@ -14,4 +15,12 @@ pub fn facts_of_first_macroblocks_stay()
 /// Where its facts are a coded picture's, a row is filtered as by the picture's line filters of that row.
 pub fn row_by_facts_is_the_pictures()
     ensures { RowIsThePictures }
+{}
+
+/// The filter of a row of macroblocks neither reads nor changes a sample below the row, and changes none further above it than three
+/// rows of luma and one of chroma.
+pub fn row_is_local()
+    ensures changes { RowChangesItsRows }
+    ensures reads { RowReadsNoneBelow }
+    ensures commutes { RowCommutesWithBlocksBelow }
 {}
