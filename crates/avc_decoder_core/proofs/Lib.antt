@@ -16,3 +16,5 @@ pub mod Sequences
 pub mod Anew
 pub mod OwnReferences
 pub mod SequenceOrder
+pub mod Settled
+pub mod LongGaps

@@ -81,7 +81,7 @@ is_with_all sps (n ∷ numbers) history full e =
     let marked = first_marked sps n numbers history (ap is_ok e) in
     is_with_all sps numbers (missing_frame sps n ∷ history) full (sym (one_stored sps n numbers history marked) ∙ e)
 
-set_stays : (sps : Sps) (numbers : List ℕ) (history : History) → sequence_sps (with_all_missing sps numbers history) ≡ sequence_sps history
+pub set_stays : (sps : Sps) (numbers : List ℕ) (history : History) → sequence_sps (with_all_missing sps numbers history) ≡ sequence_sps history
 set_stays sps [] history = refl
 set_stays sps (n ∷ numbers) history = set_stays sps numbers (missing_frame sps n ∷ history)
 

@@ -1,5 +1,6 @@
 //! Laws of what goes out (C.4.5.3, E.2.1), and of what an IDR picture begins anew.
 
+ghost use Rattle.avc_decoder_core.specs.Gaps.{LongGapsLeaveTheirEnd};
 ghost use Rattle.avc_decoder_core.specs.Laws.{MissingNumbersKeepTheOrder, IdrPicturesBeginAnew};
 ghost use Rattle.avc_decoder_core.specs.SequenceOrder.{EarlyOutputKeepsHistories};
 
@@ -36,3 +37,9 @@ pub fn early_output_keeps_histories()
     early_output_keeps_the_order();
     marking_keeps_frames();
 }
+
+/// Of a long gap in frame_num only the last 16 missing numbers matter to what is kept, once the sliding window is full of frames that
+/// are not held (8.2.5.2).
+pub fn long_gaps_leave_their_end()
+    ensures { LongGapsLeaveTheirEnd }
+{}

@@ -1,8 +1,8 @@
 -- Laws of the buffer: that what the definition puts out is what C.4 asks for. Each is proved as the contract of a function of its name.
-use Rattle.std.specs.Prelude.{◌≡◌, ℕ, ◌+◌, ◌≤◌, ◌==◌, ◌≤ℤ◌, if◌then◌else◌, true, false, not, ◌||◌, List, [], ◌∷◌, ◌++◌, length, map, count_by, slice_get, Option, Some, None}
+use Rattle.std.specs.Prelude.{◌≡◌, ℕ, ◌+◌, ◌<◌, ◌≤◌, pos, ◌==◌, ◌≤ℤ◌, if◌then◌else◌, true, false, not, ◌||◌, List, [], ◌∷◌, ◌++◌, length, map, count_by, slice_get, Option, Some, None}
 use Rattle.std.specs.List.{filter, list_any}
 use Rattle.avc_dpb.specs.declared.output.Output.{Output}
-use Rattle.avc_dpb.specs.Bumping.{PriorPictures, remain, are_output, are_dropped, Arrival, Stored, Buffer, held_in_output_order, is_reference_in, after_bumping, after_bumping_while, with_all_output, after_prior_pictures, after_frame, after_entry, buffer_after, new_output}
+use Rattle.avc_dpb.specs.Bumping.{PriorPictures, remain, are_output, are_dropped, Arrival, Stored, Buffer, held_in_output_order, is_reference_in, needed_frames, after_bumping, after_bumping_while, with_all_output, after_prior_pictures, after_frame, after_entry, buffer_after, new_output}
 use Rattle.avc_dpb.specs.Contents.{IsRising}
 
 -- ---- C.4.5.3
@@ -122,6 +122,31 @@ ReferencesStay = (output : Output) (entry : ℕ) (a : Arrival) (b : Buffer)
     → IsRising b.frames entry → (list_any (λ r. r == entry) a.references ≡ true → HasRoom a b)
     → places_of_references a.references (after_frame output entry a b)
     ≡ places_of_references a.references b ++ (if list_any (λ r. r == entry) a.references then entry ∷ [] else [])
+
+-- ---- missing frame numbers
+
+-- a non-existing frame, with the places of the reference frames once it is marked (8.2.5.2)
+abbrev pub missing_arrival : (capacity : ℕ) → (references : List ℕ) → Arrival
+missing_arrival capacity references = record {
+  order = pos 0;
+  existing = false;
+  is_reference = true;
+  prior_pictures = remain;
+  capacity = capacity;
+  max_num_reorder_frames = None;
+  references = references;
+}
+
+-- that frame in the buffer (C.4.2)
+abbrev pub missing_stored : (entry : ℕ) → Stored
+missing_stored entry = record { entry = entry; order = pos 0; held = false }
+
+-- Where the frames that are still needed leave room for it, a non-existing frame is stored, and nothing goes out (C.4.2, C.4.5.3).
+abbrev pub MissingFramesFindRoom : Type 0
+MissingFramesFindRoom = (output : Output) (entry capacity : ℕ) (references : List ℕ) (b : Buffer)
+    → length (needed_frames references b.frames) + 1 ≤ capacity
+    → after_entry output entry (missing_arrival capacity references) b
+    ≡ record { frames = needed_frames references b.frames ++ missing_stored entry ∷ []; out = b.out }
 
 -- ---- a history that begins anew
 

@@ -2,7 +2,7 @@
 
 ghost use Rattle.avc_dpb.specs.Laws.{LeastGoesOut, AllGoOutByBumping, AllHeldGoOut, StandsInDecodingOrder};
 ghost use Rattle.avc_dpb.specs.Laws.{OutOnlyGrows, GoesOutInTurn, HoldsAtMost, GoesOutOnce};
-ghost use Rattle.avc_dpb.specs.Laws.{MissingFramesKeepTheOrder, ReferencesStay};
+ghost use Rattle.avc_dpb.specs.Laws.{MissingFramesKeepTheOrder, MissingFramesFindRoom, ReferencesStay};
 ghost use Rattle.avc_dpb.specs.Laws.{OutputBeginsAnew, AllHeldGoOutBefore, LaterFramesGoOutAlike};
 ghost use Rattle.avc_dpb.specs.Reordering.{EarlyOutputKeepsTheOrder};
 
@@ -49,6 +49,11 @@ pub fn goes_out_once()
 /// What goes out to make room for a non-existing frame goes out first of what is held (C.4.2).
 pub fn missing_frames_keep_the_order()
     ensures { MissingFramesKeepTheOrder }
+{}
+
+/// A non-existing frame for which there is room lets nothing go out (C.4.2).
+pub fn missing_frames_find_room()
+    ensures { MissingFramesFindRoom }
 {}
 
 /// Reference frames stay in the buffer, and the arriving frame with them if it is one (C.4.5.1).

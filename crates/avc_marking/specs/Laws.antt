@@ -1,11 +1,11 @@
 -- What holds of the marks of every history.
-use Rattle.std.specs.Prelude.{◌≡◌, ◌⊎◌, ℕ, ◌+◌, ◌<◌, ◌≤◌, Bool, true, false, List, [], ◌∷◌, ◌++◌, length, map, All, Option, None, Some, Ok}
-use Rattle.std.specs.List.{list_any}
+use Rattle.std.specs.Prelude.{◌≡◌, ◌⊎◌, ℕ, zero, suc, ◌+◌, ◌%◌, ◌<◌, ◌≤◌, Bool, true, false, List, [], ◌∷◌, ◌++◌, length, map, All, Option, None, Some, Ok}
+use Rattle.std.specs.List.{filter, list_any}
 use Rattle.std.specs.Result.{is_ok}
 use Rattle.avc_types.specs.declared.references.Mark.TheVariants.{Short}
 use Rattle.avc_types.specs.declared.references.Marking.{Marking}
 use Rattle.avc_types.specs.declared.references.Marking.TheVariants.{Idr, SlidingWindow, Adaptive}
-use Rattle.avc_types.specs.References.{Reference, result_map}
+use Rattle.avc_types.specs.References.{Reference, is_short, result_map}
 use Rattle.avc_marking.specs.Marks.{MarkingEntry, Marks, limit_of, current_frame, is_unmark_all, marks_after, marks, prev_ref_frame_num}
 
 -- An entry leaves no more reference frames than n, where there were no more before it and it allows no more.
@@ -62,6 +62,45 @@ abbrev pub SlidesAgain : Type 0
 SlidesAgain =
     (s s' : MarkingEntry) (entry entry' : ℕ) (m m' : Marks) → marks_after s entry (Some SlidingWindow) m ≡ Ok m' →
     is_ok (marks_after s' entry' (Some SlidingWindow) m') ≡ true
+
+-- ---- gaps in frame_num (8.2.5.2)
+
+-- each of the frames stands before this place
+abbrev pub StandBelow : (place : ℕ) → List Reference → Type 0
+StandBelow place [] = Unit {0}
+StandBelow place (r ∷ rs) = (r.entry < place) × StandBelow place rs
+
+-- later frames stand at later places: from `low` on, and before `next`
+abbrev pub StandFrom : (low next : ℕ) → List Reference → Type 0
+StandFrom low next [] = low ≤ next
+StandFrom low next (r ∷ rs) = (low ≤ r.entry) × StandFrom (r.entry + 1) next rs
+
+-- a short-term frame whose FrameNum is this number modulo MaxFrameNum
+pub record IsShortTerm (max number : ℕ) (r : Reference) : Type 0 where
+  pub frame_num : r.frame_num ≡ number % max
+  pub short : r.mark ≡ Short
+
+-- They are short-term, and later ones have greater numbers: from `low` on and below `next`, where numbers go on past MaxFrameNum.
+abbrev pub CountFrom : (max low next : ℕ) → List Reference → Type 0
+CountFrom max low next [] = low ≤ next
+CountFrom max low next (r ∷ rs) = (number : ℕ) × (low ≤ number × IsShortTerm max number r × CountFrom max (number + 1) next rs)
+
+-- As many frames are marked as may be: long-term ones, which stand before `place`, and short-term ones, from there on and before `next`.
+pub record IsFullWindow (place next limit : ℕ) (longs shorts : List Reference) : Type 0 where
+  pub long : filter is_short longs ≡ []
+  pub full : length longs + length shorts ≡ limit
+  pub places : StandFrom place next shorts
+  pub longs_before : StandBelow place longs
+
+-- The sliding window takes the first of short-term frames whose numbers rise up to the current one, if less than MaxFrameNum apart
+-- (8.2.5.3).
+abbrev pub WindowTakesTheFirst : Type 0
+WindowTakesTheFirst =
+    (s : MarkingEntry) (entry max low number place : ℕ) (longs shorts : List Reference) (first : Reference) (m : Marks) →
+    s.current ≡ record { frame_num = number % max; max_frame_num = max } →
+    IsFullWindow place entry (limit_of s) longs (first ∷ shorts) → CountFrom max low number (first ∷ shorts) → number < low + max →
+    m.references ≡ longs ++ first ∷ shorts →
+    marks_after s entry (Some SlidingWindow) m ≡ Ok (record m { references = (longs ++ shorts) ++ current_frame s entry Short ∷ [] })
 
 -- ---- what an IDR picture leaves of the entries before it
 

@@ -1,0 +1,92 @@
+-- A long gap in frame_num (8.2.5.2): once the sliding window is full of frames that are not held, further missing numbers let nothing
+-- go out, and only the last of them leave frames.
+use Rattle.std.specs.Prelude.{◌≡◌, ℕ, zero, suc, ◌+◌, ◌%◌, ◌<◌, ◌≤◌, false, List, [], ◌∷◌, ◌++◌, length, map, drop, Option, Ok}
+use Rattle.avc_types.specs.declared.references.Mark.TheVariants.{Short}
+use Rattle.avc_types.specs.References.{Reference}
+use Rattle.avc_params.specs.Limits.{dpb_size, max_frame_num, reference_limit}
+use Rattle.avc_params.specs.declared.sps.Sps.{Sps}
+use Rattle.avc_marking.specs.Laws.{CountFrom, IsFullWindow}
+use Rattle.avc_marking.specs.Marks.{frame_nums_from}
+use Rattle.avc_dpb.specs.declared.output.Output.{Output}
+use Rattle.avc_dpb.specs.Bumping.{Stored, needed_frames}
+use Rattle.avc_dpb.specs.Contents.{Contents}
+use Rattle.avc_dpb.specs.Laws.{missing_stored}
+use Rattle.avc_plane.specs.declared.frame.Frame.{Frame}
+use Rattle.avc_decoder_core.specs.FrameBufferFields.{IsStateAfter}
+use Rattle.avc_decoder_core.specs.History.{History, buffer_of, marks_of}
+use Rattle.avc_decoder_core.specs.Opening.{with_all_missing}
+use Rattle.avc_decoder_core.specs.Pictures.{output_pictures}
+
+-- the frame for a missing number, at a place of the history (8.2.5.2)
+abbrev pub missing_reference : (frame_num place : ℕ) → Reference
+missing_reference frame_num place = record { entry = place; frame_num = frame_num; existing = false; mark = Short }
+
+-- those for n missing numbers from `number` on, modulo max
+abbrev pub missing_references : (max number place n : ℕ) → List Reference
+missing_references max number place zero = []
+missing_references max number place (suc n) = missing_reference (number % max) place ∷ missing_references max (number + 1) (place + 1) n
+
+-- n of them in the buffer (C.4.2)
+abbrev pub stored_missing : (place n : ℕ) → List Stored
+stored_missing place zero = []
+stored_missing place (suc n) = missing_stored place ∷ stored_missing (place + 1) n
+
+-- The buffer's frames are these reference frames, and none is held.
+abbrev pub AreNotHeld : List Reference → List Stored → Type 0
+AreNotHeld [] [] = Unit {0}
+AreNotHeld [] (s ∷ frames) = ⊥
+AreNotHeld (r ∷ rs) [] = ⊥
+AreNotHeld (r ∷ rs) (s ∷ frames) = (s.entry ≡ r.entry) × (s.held ≡ false) × AreNotHeld rs frames
+
+-- each stands before this place
+abbrev pub AreBefore : (place : ℕ) → List Stored → Type 0
+AreBefore place [] = Unit {0}
+AreBefore place (s ∷ frames) = (s.entry < place) × AreBefore place frames
+
+-- What stays through a gap: the long-term frames and MaxLongTermFrameIdx, the buffer's frames that are held or long-term, and what has
+-- gone out.
+pub record Staying : Type 0 where
+  pub longs : List Reference
+  pub max_long_term_frame_idx : Option ℕ
+  pub frames : List Stored
+  pub out : List ℕ
+
+-- Before the missing number `number` the sliding window is full, and its short-term frames, which are the last of the buffer, are not
+-- held, and have rising numbers from `low` on.
+pub record IsSettled (output : Output) (sps : Sps) (h : History) (low number place : ℕ) (stays : Staying) (shorts : List Reference)
+    (lasts : List Stored) : Type 0 where
+  pub marked : marks_of h ≡ Ok (record { references = stays.longs ++ shorts; max_long_term_frame_idx = stays.max_long_term_frame_idx })
+  pub buffer : buffer_of output h ≡ record { frames = stays.frames ++ lasts; out = stays.out }
+  pub window : IsFullWindow place (length h) (reference_limit sps) stays.longs shorts
+  pub counts : CountFrom (max_frame_num sps) low number shorts
+  pub not_held : AreNotHeld shorts lasts
+  pub needed : needed_frames (map (λ r. r.entry) stays.longs) stays.frames ≡ stays.frames
+  pub before : AreBefore place stays.frames
+  pub room : length stays.frames + length lasts ≤ dpb_size sps
+
+-- These numbers can be missing after the history and leave only the frames of the last of them: its window is settled, and they come
+-- to less than MaxFrameNum with the numbers of its frames.
+pub record IsLongGap (output : Output) (sps : Sps) (h : History) (numbers : List ℕ) : Type 0 where
+  pub low : ℕ
+  pub number : ℕ
+  pub place : ℕ
+  pub stays : Staying
+  pub shorts : List Reference
+  pub lasts : List Stored
+  pub settled : IsSettled output sps h low number place stays shorts lasts
+  pub some_short : 0 < length shorts
+  pub few_shorts : length shorts ≤ 16
+  pub numbers_are : numbers ≡ frame_nums_from (max_frame_num sps) number (length numbers)
+  pub near : number + length numbers ≤ low + max_frame_num sps
+
+-- What is kept after the shorter history is what is kept after the longer one, and neither lets a picture out.
+pub record LeavesItsEnd (output : Output) (before shorter longer : History) : Type 0 where
+  pub same_state : (c : Contents (Frame 32)) (idx : Option ℕ) (previous : ℕ) → c.output ≡ output → IsStateAfter shorter c idx previous → IsStateAfter longer c idx previous
+  pub nothing_out : output_pictures output before longer ≡ []
+  pub nothing_out_shorter : output_pictures output before shorter ≡ []
+
+-- Of a long gap only the last 16 numbers matter.
+abbrev pub LongGapsLeaveTheirEnd : Type 0
+LongGapsLeaveTheirEnd =
+    (output : Output) (sps : Sps) (h : History) (numbers : List ℕ) (skipped : ℕ) → IsLongGap output sps h numbers → skipped + 16 ≤ length numbers →
+    LeavesItsEnd output h (with_all_missing sps (drop skipped numbers) h) (with_all_missing sps numbers h)
