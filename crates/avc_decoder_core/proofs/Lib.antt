@@ -18,3 +18,5 @@ pub mod OwnReferences
 pub mod SequenceOrder
 pub mod Settled
 pub mod LongGaps
+pub mod Settling
+pub mod StoringMissing

@@ -1,5 +1,5 @@
 -- The frames that a long gap leaves are those of its last numbers.
-use Rattle.std.proofs.Common.{◌≡◌, ℕ, zero, suc, ◌+◌, ◌<◌, ◌≤◌, Bool, true, false, cond, List, [], ◌∷◌, ◌++◌, length, map, drop, Option, Some, None, Ok, is_some, refl, ap, ap₂}
+use Rattle.std.proofs.Common.{◌≡◌, ℕ, zero, suc, ◌+◌, ◌<◌, ◌≤◌, Bool, true, false, cond, List, [], ◌∷◌, ◌++◌, length, map, drop, Option, Some, None, Ok, is_ok, is_some, refl, ap, ap₂}
 use Rattle.std.proofs.Common.{sym, ◌∙◌, subst, arith, length-append}
 use Rattle.std.specs.Prelude.{◌==◌, ◌%◌, ◌-◌, pos, IfSome}
 use Rattle.std.proofs.lemmas.List.{length-map, map-append, append_cancel_right}
@@ -23,15 +23,15 @@ use Rattle.avc_dpb.proofs.Conserved.{stands_in_decoding_order}
 use Rattle.avc_decoder_core.specs.Frames.{coded_frame, frame_at, frame_of, mark_in}
 use Rattle.avc_decoder_core.specs.FrameBufferFields.{Each, IsSizedAt, IsStateAfter, places_in}
 use Rattle.avc_decoder_core.specs.Gaps.{AreBefore, AreNotHeld, IsLongGap, LongGapsLeaveTheirEnd, IsSettled, Staying, missing_reference, missing_references, stored_missing}
-use Rattle.avc_decoder_core.specs.History.{Entry, History, arrivals, buffer_of, entry_at, marking_entries, marks_of, missing_frame, new_output, or_no_references, planes_in, sequence_sps}
+use Rattle.avc_decoder_core.specs.History.{Entry, History, arrivals, buffer_of, entry_at, marking_entries, marks_of, missing_frame, new_output, or_no_references, planes_in, sequence_sps, with_missing}
 use Rattle.avc_decoder_core.specs.Opening.{with_all_missing}
 use Rattle.avc_decoder_core.specs.Pictures.{output_pictures, pictures_at}
 use Rattle.avc_decoder_core.proofs.FramesAt.{entry_before, entry_newest}
-use Rattle.avc_decoder_core.proofs.MissingNumbers.{ok_same, set_stays}
+use Rattle.avc_decoder_core.proofs.MissingNumbers.{all_marked, first_marked, ok_same, set_stays}
 use Rattle.avc_decoder_core.proofs.Places.{each_append}
 use Rattle.avc_decoder_core.proofs.References.{mark_of_first, unmarked_below, other_entry}
 use Rattle.avc_decoder_core.proofs.SameSequence.{if_some}
-use Rattle.avc_decoder_core.proofs.Settled.{settled_on}
+use Rattle.avc_decoder_core.proofs.Settled.{settled_on, settled_once}
 use Rattle.avc_decoder_core.proofs.Storing.{length-arrivals}
 
 -- ---- the last numbers
@@ -248,15 +248,17 @@ length_missing max (suc n) a place = ap suc (length_missing max n (a + 1) (place
 sized_before : (S L : History) (sps : Sps) (place : ℕ) (frames : List Stored) (rest : List ℕ) → ((p : ℕ) → p < place → entry_at S p ≡ entry_at L p) → AreBefore place frames →
     Each (IsSizedAt S sps) (map (λ s. s.entry) frames ++ rest) → Each (IsSizedAt L sps) (map (λ s. s.entry) frames)
 sized_before S L sps place [] rest same h sized = tt
-sized_before S L sps place (s ∷ frames) rest same h sized =
-    (subst (λ o. IfSome (planes_in o) (AreSized (width_in_mbs sps) (height_in_mbs sps))) (same s.entry h.0) sized.0,
-    sized_before S L sps place frames rest same h.1 sized.1)
+sized_before S L sps place (s ∷ frames) rest same h sized = (
+  subst (λ o. IfSome (planes_in o) (AreSized (width_in_mbs sps) (height_in_mbs sps))) (same s.entry h.0) sized.0,
+  sized_before S L sps place frames rest same h.1 sized.1,
+)
 
 sized_missing : (P : ℕ → Type 0) (w q : ℕ) → ((i : ℕ) → i < w → P (q + i)) → Each P (map (λ s. s.entry) (stored_missing q w))
 sized_missing P zero q each = tt
-sized_missing P (suc w) q each =
-    (subst P (let z : q + 0 ≡ q = omega arith in z) (each 0 (omega arith)),
-    sized_missing P w (q + 1) (λ i low. subst P (let z : q + suc i ≡ (q + 1) + i = omega arith in z) (each (suc i) (omega (arith, low)))))
+sized_missing P (suc w) q each = (
+  subst P (let z : q + 0 ≡ q = omega arith in z) (each 0 (omega arith)),
+  sized_missing P w (q + 1) (λ i low. subst P (let z : q + suc i ≡ (q + 1) + i = omega arith in z) (each (suc i) (omega (arith, low)))),
+)
 
 -- ---- the state
 
@@ -524,3 +526,39 @@ long_gaps_leave_their_end output sps h numbers skipped g far = record {
 
     L : History
     L = with_all_missing sps (frame_nums_from max g.number (w + (skipped + k))) h
+
+-- ---- the last numbers can be marked
+
+one_marked : (output : Output) (sps : Sps) (h : History) (low number place : ℕ) (stays : Staying) (shorts : List Reference) (lasts : List Stored) →
+    IsSettled output sps h low number place stays shorts lasts → number < low + max_frame_num sps → 0 < length shorts →
+    is_ok (marks_of (missing_frame sps (number % max_frame_num sps) ∷ h)) ≡ true
+one_marked output sps h low number place stays [] lasts settled near some = absurd (omega (arith, some))
+one_marked output sps h low number place stays (r ∷ rs) [] settled near some = absurd settled.not_held
+one_marked output sps h low number place stays (r ∷ rs) (s ∷ ss) settled near some =
+    ap is_ok (settled_once output sps h low number place stays r rs s ss settled near).marked
+
+pub end_marked : (output : Output) (sps : Sps) (h : History) (numbers : List ℕ) (skipped : ℕ) → IsLongGap output sps h numbers → skipped + 16 ≤ length numbers →
+    is_ok (with_missing sps (drop skipped numbers) h) ≡ true
+end_marked output sps h numbers skipped g far =
+    ap (λ l. is_ok (with_missing sps l h)) (shorter_is ∙ ap (frame_nums_from max a) (let z : length numbers - skipped ≡ suc m = omega (arith, far) in z))
+    ∙ ap is_ok (all_marked sps (a % max) (frame_nums_from max (a + 1) m) h
+    (one_marked output sps h g.low a g.place g.stays g.shorts g.lasts
+    (settled_later output sps h g.low g.number a g.place g.stays g.shorts g.lasts (omega arith) g.settled) (let n = g.near in omega (arith, n, far)) g.some_short))
+  where
+    max : ℕ
+    max = max_frame_num sps
+
+    a : ℕ
+    a = g.number + skipped
+
+    m : ℕ
+    m = length numbers - skipped - 1
+
+    shorter_is : drop skipped numbers ≡ frame_nums_from max a (length numbers - skipped)
+    shorter_is =
+        ap (drop skipped) (g.numbers_are ∙ ap (frame_nums_from max g.number) (let z : length numbers ≡ skipped + (length numbers - skipped) = omega (arith, far) in z))
+        ∙ numbers_from max skipped (length numbers - skipped) g.number
+
+pub all_of : (sps : Sps) (numbers : List ℕ) (h : History) → is_ok (with_missing sps numbers h) ≡ true → with_missing sps numbers h ≡ Ok (with_all_missing sps numbers h)
+all_of sps [] h e = refl
+all_of sps (n ∷ numbers) h e = all_marked sps n numbers h (first_marked sps n numbers h e)

@@ -15,19 +15,34 @@ use Rattle.avc_dpb.specs.StoredFrame.{shown_frame}
 use Rattle.avc_decoder_core.specs.Frames.{frame_at}
 use Rattle.avc_decoder_core.specs.History.{Entry, decoded_picture, missing_frame, History, arrivals, buffer_of, entry_at, marking_entries, marks_of}
 use Rattle.avc_decoder_core.specs.History.{picture_entry, planes_in, sequence_sps}
+use Rattle.avc_decoder_core.specs.Opening.{with_all_missing}
 use Rattle.avc_decoder_core.specs.FrameBufferState.{FrameBufferState}
 use Rattle.avc_decoder_core.specs.declared.history_entry.HistoryEntry.{HistoryEntry}
 use Rattle.avc_decoder_core.specs.declared.history_entry.HistoryEntry.TheVariants as entries
 use Rattle.avc_decoder_core.specs.declared.frame_buffer.FrameBuffer.TheInside.{Inside}
 
--- the entry of the history for which a token stands
+-- the last of these numbers
+abbrev pub last_number : List ℕ → ℕ
+last_number [] = 0
+last_number (n ∷ []) = n
+last_number (n ∷ m ∷ numbers) = last_number (m ∷ numbers)
+
+-- the newest entry of the history for which a token stands
 abbrev pub entry_of : HistoryEntry → Entry
 entry_of (entries.Picture sps header planes) = decoded_picture sps header (padded_planes_of planes)
 entry_of (entries.MissingFrame sps frame_num) = missing_frame sps frame_num
+entry_of (entries.MissingFrames sps numbers) = missing_frame sps (last_number numbers)
+
+-- the history with what a token stands for
+abbrev pub with_token : HistoryEntry → History → History
+with_token (entries.Picture sps header planes) h = decoded_picture sps header (padded_planes_of planes) ∷ h
+with_token (entries.MissingFrame sps frame_num) h = missing_frame sps frame_num ∷ h
+with_token (entries.MissingFrames sps numbers) h = with_all_missing sps numbers h
 
 -- the history, of tokens with the newest first
 abbrev pub history_of : List HistoryEntry → History
-history_of items = map entry_of items
+history_of [] = []
+history_of (t ∷ items) = with_token t (history_of items)
 
 -- the number of the entry's frame once it is marked (7.4.3)
 abbrev pub frame_num_of : Entry → ℕ

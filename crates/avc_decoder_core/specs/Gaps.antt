@@ -1,7 +1,8 @@
 -- A long gap in frame_num (8.2.5.2): once the sliding window is full of frames that are not held, further missing numbers let nothing
 -- go out, and only the last of them leave frames.
-use Rattle.std.specs.Prelude.{◌≡◌, ℕ, zero, suc, ◌+◌, ◌%◌, ◌<◌, ◌≤◌, false, List, [], ◌∷◌, ◌++◌, length, map, drop, Option, Ok}
-use Rattle.avc_types.specs.declared.references.Mark.TheVariants.{Short}
+use Rattle.std.specs.Prelude.{◌≡◌, ℕ, zero, suc, ◌+◌, ◌%◌, ◌-◌, ◌<◌, ◌≤◌, ◌==◌, ◌&&◌, nat_lt, if◌then◌else◌, Bool, true, false, not, List, [], ◌∷◌, ◌++◌, length, map, drop, slice_get, Option, Some, None, Ok}
+use Rattle.avc_types.specs.declared.references.Mark.{Mark}
+use Rattle.avc_types.specs.declared.references.Mark.TheVariants.{Short, Long}
 use Rattle.avc_types.specs.References.{Reference}
 use Rattle.avc_params.specs.Limits.{dpb_size, max_frame_num, reference_limit}
 use Rattle.avc_params.specs.declared.sps.Sps.{Sps}
@@ -9,10 +10,11 @@ use Rattle.avc_marking.specs.Laws.{CountFrom, IsFullWindow}
 use Rattle.avc_marking.specs.Marks.{frame_nums_from}
 use Rattle.avc_dpb.specs.declared.output.Output.{Output}
 use Rattle.avc_dpb.specs.Bumping.{Stored, needed_frames}
-use Rattle.avc_dpb.specs.Contents.{Contents}
+use Rattle.avc_dpb.specs.Contents.{Contents, is_held_at}
 use Rattle.avc_dpb.specs.Laws.{missing_stored}
 use Rattle.avc_plane.specs.declared.frame.Frame.{Frame}
 use Rattle.avc_decoder_core.specs.FrameBufferFields.{IsStateAfter}
+use Rattle.avc_decoder_core.specs.FrameBufferState.{FrameBufferState}
 use Rattle.avc_decoder_core.specs.History.{History, buffer_of, marks_of}
 use Rattle.avc_decoder_core.specs.Opening.{with_all_missing}
 use Rattle.avc_decoder_core.specs.Pictures.{output_pictures}
@@ -79,9 +81,40 @@ pub record IsLongGap (output : Output) (sps : Sps) (h : History) (numbers : List
   pub numbers_are : numbers ≡ frame_nums_from (max_frame_num sps) number (length numbers)
   pub near : number + length numbers ≤ low + max_frame_num sps
 
--- What is kept after the shorter history is what is kept after the longer one, and neither lets a picture out.
+-- ---- the test for it
+
+-- a frame with this mark that stays through a gap: it is held or long-term
+abbrev pub is_staying : (held : Bool) → Option Mark → Bool
+is_staying held None = held
+is_staying held (Some Short) = false
+is_staying held (Some (Long index)) = true
+
+-- a short-term frame that is not held
+abbrev pub is_leaving : (held : Bool) → Option Mark → Bool
+is_leaving held None = false
+is_leaving held (Some Short) = not held
+is_leaving held (Some (Long index)) = false
+
+-- The frame at a place of the buffer stays if that is before `first`; from there on it leaves, and numbers go on from `low`.
+abbrev pub has_its_place : (first low max place : ℕ) → (held : Bool) → Frame 32 → Bool
+has_its_place first low max place held f =
+    if nat_lt place first then is_staying held f.mark else is_leaving held f.mark && f.frame_num == (low + (place - first)) % max
+
+-- the frame that stands there does
+abbrev pub settles_at : Contents (Frame 32) → (first low max place : ℕ) → Bool
+settles_at c first low max place =
+    elim (slice_get c.frames place) [ None ↦ false | Some f ↦ has_its_place first low max place (is_held_at c.slots place) f ]
+
+-- ---- the law
+
+-- What is kept after the shorter history is what is kept after the longer one.
+abbrev pub KeepsTheSame : Output → (shorter longer : History) → Type 0
+KeepsTheSame output shorter longer =
+    (c : Contents (Frame 32)) (idx : Option ℕ) (previous : ℕ) → c.output ≡ output → IsStateAfter shorter c idx previous → IsStateAfter longer c idx previous
+
+-- It is, and neither lets a picture out.
 pub record LeavesItsEnd (output : Output) (before shorter longer : History) : Type 0 where
-  pub same_state : (c : Contents (Frame 32)) (idx : Option ℕ) (previous : ℕ) → c.output ≡ output → IsStateAfter shorter c idx previous → IsStateAfter longer c idx previous
+  pub same_state : KeepsTheSame output shorter longer
   pub nothing_out : output_pictures output before longer ≡ []
   pub nothing_out_shorter : output_pictures output before shorter ≡ []
 
@@ -90,3 +123,7 @@ abbrev pub LongGapsLeaveTheirEnd : Type 0
 LongGapsLeaveTheirEnd =
     (output : Output) (sps : Sps) (h : History) (numbers : List ℕ) (skipped : ℕ) → IsLongGap output sps h numbers → skipped + 16 ≤ length numbers →
     LeavesItsEnd output h (with_all_missing sps (drop skipped numbers) h) (with_all_missing sps numbers h)
+
+-- the frame buffer, which stands for another history
+abbrev pub with_history : History → FrameBufferState → FrameBufferState
+with_history history b = record { history = history; frames = b.frames; output = b.output; failed = b.failed }

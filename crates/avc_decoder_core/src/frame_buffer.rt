@@ -9,17 +9,21 @@ ghost use Rattle.avc_decoder_core.specs.History.{marks_of, missing_frame, order_
 ghost use Rattle.avc_decoder_core.specs.History.{prior_pictures_of, reorder_limit, sequence_sps};
 ghost use Rattle.avc_decoder_core.specs.SequenceState.{AreFramesIn, AreStoredIn};
 ghost use Rattle.avc_marking.specs.Marks.{missing_frame_nums, prev_ref_frame_num};
-ghost use Rattle.avc_params.specs.Limits.{height_in_mbs, width_in_mbs};
+ghost use Rattle.avc_decoder_core.specs.Gaps.{IsLongGap, KeepsTheSame, with_history};
+ghost use Rattle.avc_decoder_core.specs.Opening.{with_all_missing};
+ghost use Rattle.avc_params.specs.Limits.{height_in_mbs, reference_limit, width_in_mbs};
 ghost use Rattle.avc_params.specs.Within.{IsSps};
 ghost use Rattle.avc_plane.specs.Frames.{marked_frame, padded_planes_of, AreSized};
 ghost use Rattle.avc_poc.specs.OrderCounts.{order_counts};
 
 use crate::cropping::crop_of;
 use crate::history_entry::HistoryEntry;
+use crate::long_gaps::{all_settle, short_term_count};
 use arrayvec::ArrayVec;
 use avc_dpb::{ArrivingFrame, Dpb, Output};
 use avc_marking::{
-    MissingFrameNums, NewFrame, frame_num_after_marking, mark, missing_frame_nums, sliding_window,
+    MissingFrameNums, NewFrame, frame_num_after_marking, mark, missing_frame_nums, reference_count,
+    sliding_window,
 };
 use avc_params::Sps;
 use avc_plane::{Frame, PADDING, PaddedPlanes};
@@ -88,6 +92,13 @@ fn marked_frames(frames: &[Frame<PADDING>]) -> ArrayVec<MarkedFrame, 17>
     marked
 }
 
+/// How many reference frames there may be (8.2.5.3).
+fn reference_limit(sps: &Sps) -> usize
+    ensures { result ≡ reference_limit sps.now }
+{
+    usize::from(sps.max_num_ref_frames.max(1))
+}
+
 /// PrevRefFrameNum after a picture: its own number where it is a reference picture (7.4.3).
 fn prev_ref_frame_num_after(previous: u32, frame_num: u32, header: &Header) -> u32
     ensures { result ≡ (if is_some header.now.marking then frame_num else previous) }
@@ -139,6 +150,7 @@ fn entry_frame(entry: HistoryEntry, frame_num: u32, mark: Option<Mark>) -> Frame
             coded_frame(sps, Some(planes), frame_num, mark)
         }
         HistoryEntry::MissingFrame { sps, .. } => coded_frame(sps, None, frame_num, mark),
+        HistoryEntry::MissingFrames { sps, .. } => coded_frame(sps, None, frame_num, mark),
     }
 }
 
@@ -290,6 +302,51 @@ impl FrameBuffer {
         self.prev_ref_frame_num = frame_num;
         self.failed = false;
         Ok(out)
+    }
+
+    /// Whether only the last of these missing numbers matter: the sliding window is full, and takes only frames that are not held. A
+    /// window is so after at most twice as many missing numbers as it has frames.
+    pub fn is_settled(&self, sps: &Sps, numbers: &MissingFrameNums) -> bool
+        requires going { self.now.failed ≡ false }
+        requires sps { IsSps sps.now }
+        ensures { result ≡ true → IsLongGap self.now.output sps.now self.now.history numbers.now }
+    {
+        let Some(number) = numbers.first(sps.max_frame_num()) else {
+            return false;
+        };
+        let max = u64::from(sps.max_frame_num());
+        let frames = self.dpb.frames();
+        let shorts = short_term_count(frames);
+        let marked = marked_frames(frames);
+        if shorts == 0
+            || reference_count(marked.as_slice()) != reference_limit(sps)
+            || (sps.dpb_size() as usize) < frames.len()
+            || max < u64::from(numbers.len()) + shorts as u64
+        {
+            return false;
+        }
+        let low = u64::from(number) + max - shorts as u64;
+        all_settle(&self.dpb, frames.len() - shorts, low, max)
+    }
+
+    /// The history with these missing numbers.
+    pub fn history_with(&self, sps: &Sps, numbers: &MissingFrameNums) -> History<HistoryEntry>
+        ensures { history_of result.items ≡ with_all_missing sps.now numbers.now self.now.history }
+    {
+        let entries = HistoryEntry::MissingFrames {
+            sps: sps.copied(),
+            numbers: numbers.copied(),
+        };
+        self.history.with_newest(&entries)
+    }
+
+    /// What is kept is kept after this history too, and stands for it from now on.
+    pub fn stand_for(&mut self, history: History<HistoryEntry>)
+        requires going { self.old.failed ≡ false }
+        requires same { KeepsTheSame self.old.output self.old.history (history_of history.items) }
+        ensures { self.new ≡ with_history (history_of history.items) self.old }
+    {
+        self.history = history;
     }
 
     /// Marks a decoded picture (8.2.5.1) with this PicOrderCnt and stores it. `closed` becomes the history with it. Answers the

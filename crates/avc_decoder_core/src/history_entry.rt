@@ -1,8 +1,9 @@
+use avc_marking::MissingFrameNums;
 use avc_params::Sps;
 use avc_plane::{PADDING, PaddedPlanes};
 use avc_slice::Header;
 
-/// An entry of the history.
+/// What came to the history at once: an entry, or several.
 #[derive(Drop)]
 pub enum HistoryEntry {
     /// A closed picture with its first slice's header.
@@ -16,5 +17,11 @@ pub enum HistoryEntry {
     MissingFrame {
         sps: Sps,
         frame_num: u32,
+    },
+
+    /// Frame numbers that are missing one after another.
+    MissingFrames {
+        sps: Sps,
+        numbers: MissingFrameNums,
     },
 }

@@ -5,6 +5,8 @@ mod cropping;
 mod frame_buffer;
 mod history_entry;
 pub mod laws;
+mod long_gaps;
+mod missing_frames;
 mod open_picture;
 mod sequence;
 

@@ -14,6 +14,7 @@ ghost use Rattle.avc_slice.specs.Header.{has_idr_marking, is_idr, is_reference};
 
 use crate::frame_buffer::FrameBuffer;
 use crate::history_entry::HistoryEntry;
+use crate::missing_frames::store_missing;
 use crate::open_picture::OpenPicture;
 use avc_dpb::Output;
 use avc_marking::MissingFrameNums;
@@ -117,36 +118,6 @@ fn next_count(mut poc: Poc, header: &Header, sps: &Sps) -> Result<(i32, Poc), Fa
 {
     let (top, bottom) = poc.next(header, sps)?;
     Ok((top.min(bottom), poc))
-}
-
-/// More pictures go out.
-fn output_more(out: &mut Vec<Picture>, mut more: Vec<Picture>) -> Result<(), OutOfMemory>
-    ensures { OnOk result (out.new.items ≡ out.old.items ++ more.items) }
-{
-    out.append(&mut more)?;
-    Ok(())
-}
-
-/// Stores a frame for each of these missing numbers, which can be marked. Answers the pictures that go out.
-fn store_missing(
-    alloc: Global,
-    buffer: &mut FrameBuffer,
-    mut numbers: MissingFrameNums,
-    sps: &Sps,
-) -> Result<Vec<Picture>, PictureError>
-    requires going { buffer.old.failed ≡ false }
-    requires sps { IsSps sps.now }
-    requires same { is_same_sps (sequence_sps buffer.old.history) sps.now ≡ true }
-    requires marked { is_ok (with_missing sps.now numbers buffer.old.history) ≡ true }
-    ensures ok { IfOk result (λ out. StoresAll buffer.old (with_missing sps.now numbers buffer.old.history) out.items buffer.new) }
-    ensures err { IfErr result (λ error. error ≡ NoMemory) }
-{
-    let mut out = Vec::new(alloc);
-    while let Some(frame_num) = numbers.next() {
-        let more = buffer.store_missing(sps, frame_num)?;
-        output_more(&mut out, more)?;
-    }
-    Ok(out)
 }
 
 /// Stores a frame for each missing number before a picture that can be opened. Answers the pictures that go out.

@@ -1,5 +1,5 @@
 -- What the buffer's type holds, and the buffer that it stands for.
-use Rattle.std.specs.Prelude.{◌≡◌, ◌==◌, ℕ, zero, suc, ◌<◌, Bool, false, List, [], ◌∷◌, map, Option, ◌+◌}
+use Rattle.std.specs.Prelude.{◌≡◌, ◌==◌, ℕ, zero, suc, ◌<◌, Bool, false, List, [], ◌∷◌, map, Option, None, Some, slice_get, ◌+◌}
 use Rattle.std.specs.List.{filter_map, list_any}
 use Rattle.avc_types.specs.declared.references.Mark.{Mark}
 use Rattle.avc_dpb.specs.declared.slot.Slot.{Slot}
@@ -79,6 +79,10 @@ abbrev pub DropsAll : {T : Type 0} → (old new : Contents T) → Type 0
 DropsAll {T} old new =
     (b : Buffer) (next : ℕ) (frame_of : ℕ → T) → IsBuffer old b next frame_of →
     IsBuffer new (after_prior_pictures are_dropped b) next frame_of
+
+-- the frame at a place is held
+abbrev pub is_held_at : List Slot → (place : ℕ) → Bool
+is_held_at slots place = elim (slice_get slots place) [ None ↦ false | Some s ↦ s.held ]
 
 -- the list with the element at one place changed
 abbrev pub changed_at : {A : Type 0} → (A → A) → List A → (place : ℕ) → List A

@@ -3,7 +3,7 @@ ghost use Rattle.std.specs.Prelude.{if◌then◌else◌, length, map, slice_get,
 ghost use Rattle.std.specs.Prelude.{IsErr, IfSome, Some};
 ghost use Rattle.std.specs.List.{filter, filter_map};
 ghost use Rattle.avc_dpb.specs.Bumping.{empty_buffer};
-ghost use Rattle.avc_dpb.specs.Contents.{DropsAll, IsBuffer, OutputsAll, Stores, with_mark};
+ghost use Rattle.avc_dpb.specs.Contents.{DropsAll, IsBuffer, OutputsAll, Stores, is_held_at, with_mark};
 ghost use Rattle.avc_dpb.specs.Steps.{IsPlaced, IsReordered};
 ghost use Rattle.avc_dpb.specs.Places.{is_needed, needed_items, items_at, with_references};
 
@@ -59,6 +59,16 @@ impl<T: BufferedFrame + Drop> Dpb<T> {
         ensures { result.now ≡ self.now.frames }
     {
         self.frames.as_slice()
+    }
+
+    /// Whether the stored frame at this place is held: it has not gone out yet.
+    pub fn is_held(&self, place: usize) -> bool
+        ensures { result ≡ is_held_at self.now.slots place }
+    {
+        match self.slots.get(place) {
+            Some(slot) => slot.held,
+            None => false,
+        }
     }
 
     /// Changes the mark of the stored frame at this place; with None it is unused for reference.

@@ -148,9 +148,10 @@ none_before : (max number v low next lower : ℕ) (r : Reference) (rs : List Ref
 none_before max number v low next lower r [] is before near counts behind places = tt
 none_before max number v low next lower r (s ∷ rs) is before near counts behind places =
     let w = counts.0 in
-    let rest = counts.1 in
-    (not_before max number v w r s is (rest.1).frame_num (omega (arith, before, rest.0)) (omega (arith, counted max (w + 1) number rs rest.2)) near (omega (arith, behind, places.0)),
-    none_before max number v (w + 1) next (s.entry + 1) r rs is (omega (arith, before, rest.0)) near rest.2 (omega (arith, behind, places.0)) places.1)
+    let rest = counts.1 in (
+      not_before max number v w r s is (rest.1).frame_num (omega (arith, before, rest.0)) (omega (arith, counted max (w + 1) number rs rest.2)) near (omega (arith, behind, places.0)),
+      none_before max number v (w + 1) next (s.entry + 1) r rs is (omega (arith, before, rest.0)) near rest.2 (omega (arith, behind, places.0)) places.1,
+    )
   where
     counted : (max low number : ℕ) (rs : List Reference) → CountFrom max low number rs → low ≤ number
     counted max low number [] h = h

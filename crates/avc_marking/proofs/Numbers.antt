@@ -1,5 +1,5 @@
 -- Frame numbers modulo MaxFrameNum.
-use Rattle.std.proofs.Common.{◌≡◌, ℕ, zero, suc, ◌+◌, ◌-◌, ◌<◌, ◌%◌, List, [], ◌∷◌, Bool, true, false, Result, Ok, Err, refl, sym, ap, ◌∙◌, arith, add-zero}
+use Rattle.std.proofs.Common.{◌≡◌, ℕ, zero, suc, ◌+◌, ◌-◌, ◌<◌, ◌%◌, List, [], ◌∷◌, length, drop, ap₂, Bool, true, false, Result, Ok, Err, refl, sym, ap, ◌∙◌, arith, add-zero}
 use Rattle.std.proofs.Math.Nat.{mod-add-mod, mod-eq_of_lt}
 use Rattle.std.specs.Prelude.{◌==◌, if◌then◌else◌, is_some}
 use Rattle.avc_types.specs.declared.fault.Fault.{Fault}
@@ -14,6 +14,21 @@ numbers-mod max a (suc n) =
     let tail : frame_nums_from max (a % max + 1) n ≡ frame_nums_from max (a + 1) n =
     sym (numbers-mod max (a % max + 1) n) ∙ ap (λ x. frame_nums_from max x n) (mod-add-mod a max 1) ∙ numbers-mod max (a + 1) n in
     ap (λ x. x ∷ frame_nums_from max (a % max + 1) n) head ∙ ap (λ xs. a % max ∷ xs) tail
+
+pub length-numbers : (max n a : ℕ) → length (frame_nums_from max a n) ≡ n
+length-numbers max zero a = refl
+length-numbers max (suc n) a = ap suc (length-numbers max n (a + 1))
+
+-- all but the first k
+pub numbers-skipped : (max k n a : ℕ) → drop k (frame_nums_from max a (k + n)) ≡ frame_nums_from max (a + k) n
+numbers-skipped max zero n a =
+    let z : a ≡ a + 0 = omega arith in
+    let y : 0 + n ≡ n = omega arith in
+    ap₂ (λ x m. frame_nums_from max x m) z y
+numbers-skipped max (suc k) n a =
+    let z : (a + 1) + k ≡ a + suc k = omega arith in
+    let y : suc k + n ≡ suc (k + n) = omega arith in
+    ap (λ m. drop (suc k) (frame_nums_from max a m)) y ∙ numbers-skipped max k n (a + 1) ∙ ap (λ x. frame_nums_from max x n) z
 
 pub numbers-next : (max next after left : ℕ) → next < max → 0 < left → after ≡ (next + 1) % max →
     frame_nums_from max next left ≡ next ∷ frame_nums_from max after (left - 1)

@@ -1,5 +1,5 @@
-ghost use Rattle.std.specs.Prelude.{◌≡◌, ◌+◌, ◌%◌, [], ◌<◌, drop, slice_get};
-ghost use Rattle.avc_marking.specs.Marks.{missing_frame_nums};
+ghost use Rattle.std.specs.Prelude.{◌≡◌, ◌+◌, ◌%◌, [], ◌<◌, ◌≤◌, drop, length, slice_get, IfSome};
+ghost use Rattle.avc_marking.specs.Marks.{frame_nums_from, missing_frame_nums};
 ghost use Rattle.avc_marking.specs.Frames.{marking_entry};
 
 use crate::frame::NewFrame;
@@ -47,6 +47,47 @@ impl MissingFrameNums {
             next: 0,
             left: 0,
             max_frame_num,
+        }
+    }
+
+    /// The same numbers once more.
+    pub fn copied(&self) -> MissingFrameNums
+        ensures { result ≡ self.now }
+    {
+        MissingFrameNums {
+            next: self.next,
+            left: self.left,
+            max_frame_num: self.max_frame_num,
+        }
+    }
+
+    /// How many they are.
+    pub fn len(&self) -> u32
+        ensures { result ≡ length self.now }
+    {
+        self.left
+    }
+
+    /// The first of them, where they are counted modulo this MaxFrameNum.
+    pub fn first(&self, max_frame_num: u32) -> Option<u32>
+        ensures { IfSome result (λ number. self.now ≡ frame_nums_from max_frame_num number (length self.now)) }
+    {
+        if self.left == 0 || self.max_frame_num != max_frame_num {
+            return None;
+        }
+        Some(self.next)
+    }
+
+    /// All but so many of the first.
+    pub fn skip(&self, count: u32) -> MissingFrameNums
+        requires { count ≤ length self.now }
+        ensures { result ≡ drop count self.now }
+    {
+        let next = (u64::from(self.next) + u64::from(count)) % u64::from(self.max_frame_num);
+        MissingFrameNums {
+            next: next as u32,
+            left: self.left - count,
+            max_frame_num: self.max_frame_num,
         }
     }
 

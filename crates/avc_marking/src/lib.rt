@@ -11,4 +11,4 @@ mod window;
 pub use frame::NewFrame;
 pub use gaps::{MissingFrameNums, missing_frame_nums};
 pub use marking::{frame_num_after_marking, mark};
-pub use window::sliding_window;
+pub use window::{count as reference_count, sliding_window};

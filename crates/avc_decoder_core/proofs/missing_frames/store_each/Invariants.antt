@@ -2,7 +2,7 @@ use Rattle.std.proofs.Common.{◌≡◌, true, false, length}
 use Rattle.avc_decoder_core.specs.History.{is_same_sps, sequence_sps, with_missing}
 use Rattle.avc_decoder_core.specs.Pictures.{output_pictures}
 use Rattle.avc_decoder_core.proofs.Outputs.{Extends}
-use Rattle.avc_decoder_core.proofs.sequence.store_missing.Given as goal
+use Rattle.avc_decoder_core.proofs.missing_frames.store_each.Given as goal
 
 -- the frames of the first numbers are stored
 abbrev pub invariant-loop-frame_num : goal.invariant-loop-frame_num

@@ -6,7 +6,7 @@ use Rattle.avc_decoder_core.specs.FrameBufferState.{FrameBufferState}
 use Rattle.avc_decoder_core.specs.Pictures.{output_pictures}
 use Rattle.avc_decoder_core.proofs.MissingNumbers.{left_after}
 use Rattle.avc_decoder_core.proofs.Outputs.{Extends, extends_more, output_more}
-use Rattle.avc_decoder_core.proofs.sequence.store_missing.Goals as goal
+use Rattle.avc_decoder_core.proofs.missing_frames.store_each.Goals as goal
 
 pub loop-frame_num-preserved : goal.loop-frame_num-preserved
 loop-frame_num-preserved c =

@@ -1,0 +1,6 @@
+use Rattle.std.proofs.Common.{◌≡◌, ℕ, ◌<◌, true}
+use Rattle.avc_decoder_core.specs.Gaps.{settles_at}
+use Rattle.avc_decoder_core.proofs.long_gaps.all_settle.Given as goal
+
+abbrev pub invariant-loop-place : goal.invariant-loop-place
+invariant-loop-place l = (p : ℕ) → p < l.place → settles_at l.dpb l.first l.low l.max p ≡ true
