@@ -1,11 +1,11 @@
 -- Lanes one by one.
-use Rattle.std.proofs.Common.{ℕ, ℤ, zero, suc, ◌+◌, ◌*◌, ◌≤◌, ◌<◌, ◌-ℤ◌, ◌≡◌, arith, refl, ap, ◌∙◌, FitsSigned, Fits, w16, w32, to_z, of_z, pos, List, [], ◌∷◌, map, get_or, length, replicate, subst, sym, ⊎_elim, ◌-◌}
+use Rattle.std.proofs.Common.{ℕ, ℤ, zero, suc, ◌+◌, ◌*◌, ◌≤◌, ◌<◌, ◌-ℤ◌, ◌≡◌, arith, refl, ◌∙◌, FitsSigned, w32, to_z, of_z, pos, List, [], ◌∷◌, map, get_or, length, subst, sym, ⊎_elim, ◌-◌}
 use Rattle.std.proofs.lemmas.List.{length-map}
 use Rattle.std.proofs.lemmas.Bool.{cases_lt}
 use Rattle.std.proofs.Math.Nat.{mul-le-mul_right}
 use Rattle.std.proofs.lemmas.Int.{ints, to_z-of_z}
 use Rattle.std.proofs.lemmas.Simd.{Each1-zip2, Each2-of, get_or-put_chunk_below, get_or-put_chunk_at}
-use Rattle.std.specs.Simd.Lanes.{zip2, Each1, Each2, put_chunk}
+use Rattle.std.specs.Simd.Lanes.{zip2, Each1, put_chunk}
 use Rattle.avc_inter.specs.Luma.{six_taps}
 
 pub sums_small : (m n : ℕ) (a b : List ℕ) → Each1 (λ x. x ≤ m) a → Each1 (λ y. y ≤ n) b → Each1 (λ z. z ≤ m + n) (zip2 (λ x y. x + y) a b)

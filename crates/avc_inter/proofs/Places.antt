@@ -1,5 +1,5 @@
 -- Places on and about a plane: in sixty-four bits, and in its padded rows.
-use Rattle.std.proofs.Common.{ℕ, ℤ, ◌≡◌, ◌+◌, ◌-◌, ◌*◌, ◌^◌, ◌<◌, ◌≤◌, arith, ap, ◌∙◌, subst, pos, ◌+ℤ◌, ◌-ℤ◌, to_z, of_z, w64, slice_index, List, length}
+use Rattle.std.proofs.Common.{ℕ, ℤ, ◌≡◌, ◌+◌, ◌*◌, ◌^◌, ◌<◌, ◌≤◌, arith, ap, ◌∙◌, subst, pos, ◌+ℤ◌, ◌-ℤ◌, to_z, of_z, w64, slice_index, List, length}
 use Rattle.std.specs.Prelude.{Option, Some, IfSome, nat_abs}
 use Rattle.std.proofs.lemmas.Int.{ints}
 use Rattle.std.proofs.lemmas.Nat.{row_fits}

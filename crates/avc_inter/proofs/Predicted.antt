@@ -1,5 +1,5 @@
 -- Blocks that the calls predict, as blocks of the definition's samples.
-use Rattle.std.proofs.Common.{ℕ, ℤ, ◌≡◌, ◌+◌, ◌*◌, ◌/◌, ◌<◌, ◌≤◌, arith, ap, ◌∙◌, sym, pos, ◌+ℤ◌, ◌-ℤ◌, to_z, of_z, w64, slice_index, List}
+use Rattle.std.proofs.Common.{ℕ, ℤ, ◌≡◌, ◌+◌, ◌*◌, ◌<◌, ◌≤◌, arith, ap, ◌∙◌, pos, ◌+ℤ◌, ◌-ℤ◌, to_z, of_z, w64, slice_index, List, mul_comm}
 use Rattle.std.proofs.lemmas.Int.{ints}
 use Rattle.std.proofs.lemmas.Nat.{row_fits}
 use Rattle.avc_types.specs.Arithmetic.{◌>>ℤ◌, low_bits}
@@ -10,7 +10,9 @@ use Rattle.avc_plane.specs.Plane.{clamped}
 use Rattle.avc_inter.specs.Bounds.{IsMoved}
 use Rattle.avc_inter.specs.Luma.{Wide, quarter, inter_luma}
 use Rattle.avc_inter.specs.Patch.{IsPatch, IsThere, quarter_of}
+use Rattle.avc_inter.specs.SixRows.{place_of, AreLanes}
 use Rattle.avc_inter.proofs.Shown.{Shows, quarter_shown}
+use Rattle.avc_inter.proofs.SixRows.{place_at}
 
 pub back_moved : (z : ℤ) → IsMoved z → to_z w64 (of_z w64 z) ≡ z
 back_moved z p = omega (arith, ints, p.low, p.high)
@@ -56,18 +58,29 @@ pub moved_is : (s : Wide) (left left' top top' : ℤ) (w h : ℕ) → left' ≡ 
 moved_is s left left' top top' w h is_left is_top =
     ap (λ z. block_of w h (λ i j. s (z +ℤ pos i) (top' +ℤ pos j))) is_left ∙ ap (λ z. block_of w h (λ i j. s (left +ℤ pos i) (z +ℤ pos j))) is_top
 
--- a block between whole samples
-pub between_is : (s : Wide) (left left' top top' : ℤ) (w h n fx fy : ℕ) (p out : List ℕ) → IsPatch s left' top' (w + 5) (h + 5) p → left' ≡ left -ℤ pos 2 → top' ≡ top -ℤ pos 2 →
-    n ≡ (h * (w + 5) + 15) / 16 * 16 → ((k : ℕ) → k < n → slice_index out k ≡ quarter_of p (w + 5) k fx fy) →
-    block_of w h (λ x y. slice_index out (0 + y * (w + 5) + x)) ≡ block_of w h (λ i j. quarter s (left +ℤ pos i) (top +ℤ pos j) fx fy)
-between_is s left left' top top' w h n fx fy p out shown is_left is_top enough all =
-    let shows : Shows s left top w h (w + 5) p = record {
-      at = λ i j column row.
-          let across : left' +ℤ pos i ≡ left +ℤ pos i -ℤ pos 2 = omega (arith, ints) in
-          let down : top' +ℤ pos j ≡ top +ℤ pos j -ℤ pos 2 = omega (arith, ints) in
-          shown.at i j column row ∙ ap (λ z. s z (top' +ℤ pos j)) across ∙ ap (λ z. s (left +ℤ pos i -ℤ pos 2) z) down;
-    } in
-    block_of_same w h (λ x y. slice_index out (0 + y * (w + 5) + x)) (λ i j. quarter s (left +ℤ pos i) (top +ℤ pos j) fx fy) (λ i j column row.
-    ap (λ k. slice_index out k) (omega arith)
-    ∙ all (j * (w + 5) + i) (omega (arith, row_fits j (w + 5) h (w + 5) row (omega arith)))
-    ∙ quarter_shown s left top w h (w + 5) p shows i j column row fx fy)
+-- a block between whole samples, from rows that show what is around it
+module _ (s : Wide) (left left' top top' : ℤ) (is_left : left' ≡ left -ℤ pos 2) (is_top : top' ≡ top -ℤ pos 2) (w h columns lines first stride fx fy : ℕ) (p : List ℕ)
+    (shown : (i j : ℕ) → i < columns → j < lines → slice_index p (first + j * stride + i) ≡ s (left' +ℤ pos i) (top' +ℤ pos j))
+    (wide : w + 5 ≤ columns) (low : h + 5 ≤ lines) where
+  shows : Shows s left top w h first stride p
+  shows = record {
+    at = λ i j column row.
+        let across : left' +ℤ pos i ≡ left +ℤ pos i -ℤ pos 2 = omega (arith, ints, is_left) in
+        let down : top' +ℤ pos j ≡ top +ℤ pos j -ℤ pos 2 = omega (arith, ints, is_top) in
+        shown i j (omega (arith, wide)) (omega (arith, low)) ∙ ap (λ z. s z (top' +ℤ pos j)) across ∙ ap (λ z. s (left +ℤ pos i -ℤ pos 2) z) down;
+  }
+
+  pub between_is : block_of w h (λ x y. quarter_of p stride (first + (y * stride + x)) fx fy) ≡ block_of w h (λ i j. quarter s (left +ℤ pos i) (top +ℤ pos j) fx fy)
+  between_is = block_of_same w h _ _ (λ i j column row. quarter_shown s left top w h first stride p shows i j column row fx fy)
+
+-- the samples of a block in rows of sixteen are those of its rows and columns
+pub in_rows : (columns stride : ℕ) → AreLanes columns → (p out : List ℕ) (at n fx fy w h : ℕ) → w ≤ columns → h * columns ≤ n →
+    ((k : ℕ) → k < n → slice_index out k ≡ quarter_of p stride (at + place_of columns stride k) fx fy) →
+    block_of w h (λ x y. slice_index out (0 + y * columns + x)) ≡ block_of w h (λ x y. quarter_of p stride (at + (y * stride + x)) fx fy)
+in_rows columns stride lanes p out at n fx fy w h narrow enough all =
+    block_of_same w h _ _ (λ x y column row.
+    let low : x < columns = omega (arith, narrow) in
+    let here : 0 + y * columns + x ≡ columns * y + x = omega (arith, mul_comm columns y) in
+    ap (slice_index out) here
+    ∙ all (columns * y + x) (omega (arith, row_fits y columns h columns row (omega arith), mul_comm columns y))
+    ∙ ap (λ k. quarter_of p stride (at + k) fx fy) (place_at columns stride lanes y x low))

@@ -6,24 +6,24 @@ use Rattle.avc_types.specs.Arithmetic.{◌>>ℤ◌, clip1, mean_of_two}
 use Rattle.avc_inter.specs.Luma.{Wide, six_taps, across, down, half_b, half_h, half_j, half_m, half_s, quarter}
 use Rattle.avc_inter.specs.Patch.{taps_along, whole, whole_right, whole_below, b_of, s_of, h_of, m_of, j_of, quarter_of}
 
--- p shows w columns and h rows of the map s, those at (left, top) and right of and below them, and the samples around them
-pub record Shows (s : Wide) (left top : ℤ) (w h stride : ℕ) (p : List ℕ) : Type 0 where
-  pub at : (i j : ℕ) → i < w + 5 → j < h + 5 → slice_index p (j * stride + i) ≡ s (left +ℤ pos i -ℤ pos 2) (top +ℤ pos j -ℤ pos 2)
+-- from place `first` on, p shows w columns and h rows of the map s, those at (left, top) and right of and below them, and the samples around them
+pub record Shows (s : Wide) (left top : ℤ) (w h first stride : ℕ) (p : List ℕ) : Type 0 where
+  pub at : (i j : ℕ) → i < w + 5 → j < h + 5 → slice_index p (first + j * stride + i) ≡ s (left +ℤ pos i -ℤ pos 2) (top +ℤ pos j -ℤ pos 2)
 
 -- the sample in column i and row j of the list
-shown : (s : Wide) (left top : ℤ) (w h stride : ℕ) (p : List ℕ) → Shows s left top w h stride p →
-    (n i j : ℕ) (u v : ℤ) → i < w + 5 → j < h + 5 → n ≡ j * stride + i → u ≡ left +ℤ pos i -ℤ pos 2 → v ≡ top +ℤ pos j -ℤ pos 2 → slice_index p n ≡ s u v
-shown s left top w h stride p all n i j u v q r e f g = rw (e, f, g) (all.at i j q r)
+shown : (s : Wide) (left top : ℤ) (w h first stride : ℕ) (p : List ℕ) → Shows s left top w h first stride p →
+    (n i j : ℕ) (u v : ℤ) → i < w + 5 → j < h + 5 → n ≡ first + j * stride + i → u ≡ left +ℤ pos i -ℤ pos 2 → v ≡ top +ℤ pos j -ℤ pos 2 → slice_index p n ≡ s u v
+shown s left top w h first stride p all n i j u v q r e f g = rw (e, f, g) (all.at i j q r)
 
 same_taps : (e f g h i j e' f' g' h' i' j' : ℕ) → e ≡ e' → f ≡ f' → g ≡ g' → h ≡ h' → i ≡ i' → j ≡ j' →
     six_taps (pos e) (pos f) (pos g) (pos h) (pos i) (pos j) ≡ six_taps (pos e') (pos f') (pos g') (pos h') (pos i') (pos j')
 same_taps e f g h i j e' f' g' h' i' j' a b c d x y = cc (a, b, c, d, x, y)
 
 -- the taps along row j of the list, and down its column i
-across_is : (s : Wide) (left top : ℤ) (w h stride : ℕ) (p : List ℕ) → Shows s left top w h stride p →
-    (n x j : ℕ) (v : ℤ) → x < w → j < h + 5 → n ≡ j * stride + x → v ≡ top +ℤ pos j -ℤ pos 2 → taps_along p n 1 ≡ across s (left +ℤ pos x) v
-across_is s left top w h stride p all n x j v q r e g =
-    let one = λ (n' i : ℕ) (u : ℤ) (m : n' ≡ j * stride + i) (l : i < w + 5) (f : u ≡ left +ℤ pos i -ℤ pos 2). shown s left top w h stride p all n' i j u v l r m f g in
+across_is : (s : Wide) (left top : ℤ) (w h first stride : ℕ) (p : List ℕ) → Shows s left top w h first stride p →
+    (n x j : ℕ) (v : ℤ) → x < w → j < h + 5 → n ≡ first + j * stride + x → v ≡ top +ℤ pos j -ℤ pos 2 → taps_along p n 1 ≡ across s (left +ℤ pos x) v
+across_is s left top w h first stride p all n x j v q r e g =
+    let one = λ (n' i : ℕ) (u : ℤ) (m : n' ≡ first + j * stride + i) (l : i < w + 5) (f : u ≡ left +ℤ pos i -ℤ pos 2). shown s left top w h first stride p all n' i j u v l r m f g in
     same_taps _ _ _ _ _ _ _ _ _ _ _ _
     (one n x (left +ℤ pos x -ℤ pos 2) e (omega arith) refl)
     (one (n + 1) (x + 1) (left +ℤ pos x -ℤ pos 1) (omega arith) (omega arith) (omega (arith, ints)))
@@ -32,10 +32,10 @@ across_is s left top w h stride p all n x j v q r e g =
     (one (n + 4 * 1) (x + 4) (left +ℤ pos x +ℤ pos 2) (omega arith) (omega arith) (omega (arith, ints)))
     (one (n + 5 * 1) (x + 5) (left +ℤ pos x +ℤ pos 3) (omega arith) (omega arith) (omega (arith, ints)))
 
-down_is : (s : Wide) (left top : ℤ) (w h stride : ℕ) (p : List ℕ) → Shows s left top w h stride p →
-    (n i y : ℕ) (u : ℤ) → i < w + 5 → y < h → n ≡ y * stride + i → u ≡ left +ℤ pos i -ℤ pos 2 → taps_along p n stride ≡ down s u (top +ℤ pos y)
-down_is s left top w h stride p all n i y u q r e f =
-    let one = λ (n' j : ℕ) (v : ℤ) (m : n' ≡ j * stride + i) (l : j < h + 5) (g : v ≡ top +ℤ pos j -ℤ pos 2). shown s left top w h stride p all n' i j u v q l m f g in
+down_is : (s : Wide) (left top : ℤ) (w h first stride : ℕ) (p : List ℕ) → Shows s left top w h first stride p →
+    (n i y : ℕ) (u : ℤ) → i < w + 5 → y < h → n ≡ first + y * stride + i → u ≡ left +ℤ pos i -ℤ pos 2 → taps_along p n stride ≡ down s u (top +ℤ pos y)
+down_is s left top w h first stride p all n i y u q r e f =
+    let one = λ (n' j : ℕ) (v : ℤ) (m : n' ≡ first + j * stride + i) (l : j < h + 5) (g : v ≡ top +ℤ pos j -ℤ pos 2). shown s left top w h first stride p all n' i j u v q l m f g in
     same_taps _ _ _ _ _ _ _ _ _ _ _ _
     (one n y (top +ℤ pos y -ℤ pos 2) e (omega arith) refl)
     (one (n + stride) (y + 1) (top +ℤ pos y -ℤ pos 1) (omega (arith, add-mul y 1 stride)) (omega arith) (omega (arith, ints)))
@@ -73,21 +73,21 @@ by_fractions p stride k s u v g right below b s' h m j (suc (suc zero)) (suc (su
 by_fractions p stride k s u v g right below b s' h m j (suc (suc (suc f))) (suc (suc (suc f'))) = mean_same m s'
 
 -- each position, at column x and row y of the block
-positions : (s : Wide) (left top : ℤ) (w h stride : ℕ) (p : List ℕ) → Shows s left top w h stride p → (x y : ℕ) → x < w → y < h →
-    (whole p stride (y * stride + x) ≡ s (left +ℤ pos x) (top +ℤ pos y))
-    × (whole_right p stride (y * stride + x) ≡ s (left +ℤ pos x +ℤ pos 1) (top +ℤ pos y))
-    × (whole_below p stride (y * stride + x) ≡ s (left +ℤ pos x) (top +ℤ pos y +ℤ pos 1))
-    × (b_of p stride (y * stride + x) ≡ half_b s (left +ℤ pos x) (top +ℤ pos y))
-    × (s_of p stride (y * stride + x) ≡ half_s s (left +ℤ pos x) (top +ℤ pos y))
-    × (h_of p stride (y * stride + x) ≡ half_h s (left +ℤ pos x) (top +ℤ pos y))
-    × (m_of p stride (y * stride + x) ≡ half_m s (left +ℤ pos x) (top +ℤ pos y))
-    × (j_of p stride (y * stride + x) ≡ half_j s (left +ℤ pos x) (top +ℤ pos y))
-positions s left top w h stride p all x y q r =
-    let k = y * stride + x in
+positions : (s : Wide) (left top : ℤ) (w h first stride : ℕ) (p : List ℕ) → Shows s left top w h first stride p → (x y : ℕ) → x < w → y < h →
+    (whole p stride (first + (y * stride + x)) ≡ s (left +ℤ pos x) (top +ℤ pos y))
+    × (whole_right p stride (first + (y * stride + x)) ≡ s (left +ℤ pos x +ℤ pos 1) (top +ℤ pos y))
+    × (whole_below p stride (first + (y * stride + x)) ≡ s (left +ℤ pos x) (top +ℤ pos y +ℤ pos 1))
+    × (b_of p stride (first + (y * stride + x)) ≡ half_b s (left +ℤ pos x) (top +ℤ pos y))
+    × (s_of p stride (first + (y * stride + x)) ≡ half_s s (left +ℤ pos x) (top +ℤ pos y))
+    × (h_of p stride (first + (y * stride + x)) ≡ half_h s (left +ℤ pos x) (top +ℤ pos y))
+    × (m_of p stride (first + (y * stride + x)) ≡ half_m s (left +ℤ pos x) (top +ℤ pos y))
+    × (j_of p stride (first + (y * stride + x)) ≡ half_j s (left +ℤ pos x) (top +ℤ pos y))
+positions s left top w h first stride p all x y q r =
+    let k = first + (y * stride + x) in
     let half = λ (z : ℤ). clip1 (z +ℤ pos 16 >>ℤ 5) in
-    let at = λ (n i j : ℕ) (u v : ℤ). shown s left top w h stride p all n i j u v in
-    let across = λ (n j : ℕ) (v : ℤ) (l : j < h + 5). across_is s left top w h stride p all n x j v q l in
-    let down = λ (n i : ℕ) (u : ℤ) (l : i < w + 5). down_is s left top w h stride p all n i y u l r in (
+    let at = λ (n i j : ℕ) (u v : ℤ). shown s left top w h first stride p all n i j u v in
+    let across = λ (n j : ℕ) (v : ℤ) (l : j < h + 5). across_is s left top w h first stride p all n x j v q l in
+    let down = λ (n i : ℕ) (u : ℤ) (l : i < w + 5). down_is s left top w h first stride p all n i y u l r in (
       at (2 * stride + 2 + k) (x + 2) (y + 2) (left +ℤ pos x) (top +ℤ pos y) (omega arith) (omega arith) (omega (arith, add-mul y 2 stride)) (omega (arith, ints)) (omega (arith, ints)),
       at (2 * stride + 3 + k) (x + 3) (y + 2) (left +ℤ pos x +ℤ pos 1) (top +ℤ pos y) (omega arith) (omega arith) (omega (arith, add-mul y 2 stride)) (omega (arith, ints)) (omega (arith, ints)),
       at (3 * stride + 2 + k) (x + 2) (y + 3) (left +ℤ pos x) (top +ℤ pos y +ℤ pos 1) (omega arith) (omega arith) (omega (arith, add-mul y 3 stride)) (omega (arith, ints)) (omega (arith, ints)),
@@ -96,7 +96,7 @@ positions s left top w h stride p all x y q r =
       ap half (down (2 + k) (x + 2) (left +ℤ pos x) (omega arith) (omega arith) (omega (arith, ints))),
       ap half (down (3 + k) (x + 3) (left +ℤ pos x +ℤ pos 1) (omega arith) (omega arith) (omega (arith, ints))),
       same_centre _ _ _ _ _ _ _ _ _ _ _ _
-          (across k y (top +ℤ pos y -ℤ pos 2) (omega arith) refl refl)
+          (across k y (top +ℤ pos y -ℤ pos 2) (omega arith) (omega arith) refl)
           (across (k + stride) (y + 1) (top +ℤ pos y -ℤ pos 1) (omega arith) (omega (arith, add-mul y 1 stride)) (omega (arith, ints)))
           (across (k + 2 * stride) (y + 2) (top +ℤ pos y) (omega arith) (omega (arith, add-mul y 2 stride)) (omega (arith, ints)))
           (across (k + 3 * stride) (y + 3) (top +ℤ pos y +ℤ pos 1) (omega arith) (omega (arith, add-mul y 3 stride)) (omega (arith, ints)))
@@ -105,8 +105,8 @@ positions s left top w h stride p all x y q r =
     )
 
 -- all sixteen
-pub quarter_shown : (s : Wide) (left top : ℤ) (w h stride : ℕ) (p : List ℕ) → Shows s left top w h stride p → (x y : ℕ) → x < w → y < h →
-    (fx fy : ℕ) → quarter_of p stride (y * stride + x) fx fy ≡ quarter s (left +ℤ pos x) (top +ℤ pos y) fx fy
-quarter_shown s left top w h stride p all x y q r fx fy =
-    let (g, right, below, b, s', h', m, j) = positions s left top w h stride p all x y q r in
-    by_fractions p stride (y * stride + x) s (left +ℤ pos x) (top +ℤ pos y) g right below b s' h' m j fx fy
+pub quarter_shown : (s : Wide) (left top : ℤ) (w h first stride : ℕ) (p : List ℕ) → Shows s left top w h first stride p → (x y : ℕ) → x < w → y < h →
+    (fx fy : ℕ) → quarter_of p stride (first + (y * stride + x)) fx fy ≡ quarter s (left +ℤ pos x) (top +ℤ pos y) fx fy
+quarter_shown s left top w h first stride p all x y q r fx fy =
+    let (g, right, below, b, s', h', m, j) = positions s left top w h first stride p all x y q r in
+    by_fractions p stride (first + (y * stride + x)) s (left +ℤ pos x) (top +ℤ pos y) g right below b s' h' m j fx fy

@@ -1,5 +1,5 @@
 -- The six-tap filter over samples that lie in a list, each a step behind the last.
-use Rattle.std.specs.Prelude.{ℕ, zero, suc, ◌+◌, ◌*◌, ◌/◌, ◌<◌, ◌≤◌, ◌≡◌, ℤ, pos, ◌+ℤ◌, ◌-ℤ◌, List, length, slice_index, slice_index_or}
+use Rattle.std.specs.Prelude.{ℕ, zero, suc, ◌+◌, ◌*◌, ◌/◌, ◌<◌, ◌≤◌, ◌≡◌, ℤ, pos, ◌+ℤ◌, List, length, slice_index, slice_index_or}
 use Rattle.avc_types.specs.Arithmetic.{◌>>ℤ◌, clip1, mean_of_two}
 use Rattle.avc_inter.specs.Luma.{Wide, six_taps}
 use Rattle.avc_inter.specs.declared.bilinear.BilinearWeights.{BilinearWeights}
@@ -12,6 +12,10 @@ taps_along p at step = six_taps (pos (slice_index p at)) (pos (slice_index p (at
 -- the half sample between the third and the fourth of them (8.4.2.2.1)
 abbrev pub half_along : List ℕ → (at step : ℕ) → ℕ
 half_along p at step = clip1 (taps_along p at step +ℤ pos 16 >>ℤ 5)
+
+-- the half sample b of its unrounded sum (8.4.2.2.1)
+abbrev pub rounded_sum : ℤ → ℕ
+rounded_sum sum = clip1 (sum +ℤ pos 16 >>ℤ 5)
 
 -- over unrounded sums
 abbrev pub sums_along : List ℤ → (at step : ℕ) → ℤ

@@ -1,11 +1,32 @@
 -- The six-tap filter over six rows of samples.
-use Rattle.std.specs.Prelude.{ℕ, ◌+◌, ◌*◌, ◌<◌, ◌≤◌, ◌≡◌, ℤ, pos, ◌+ℤ◌, List, slice_index, slice_index_or}
+use Rattle.std.specs.Prelude.{ℕ, ◌+◌, ◌*◌, ◌/◌, ◌%◌, ◌<◌, ◌≤◌, ◌≡◌, ℤ, pos, ◌+ℤ◌, List, length, slice_index, slice_index_or}
 use Rattle.avc_types.specs.Arithmetic.{◌>>ℤ◌, clip1}
+use Rattle.avc_inter.specs.Bounds.{IsSum}
 use Rattle.avc_inter.specs.Luma.{six_taps}
+
+-- where sample k of a block of so many columns is behind its first one, in rows that begin a stride apart
+abbrev pub place_of : (columns stride k : ℕ) → ℕ
+place_of columns stride k = k / columns * stride + k % columns
+
+-- the first n samples of a block are there, its first one at this place
+abbrev pub HasPlaces : (columns stride n at : ℕ) → List ℕ → Type 0
+HasPlaces columns stride n at p = (k : ℕ) → k < n → at + place_of columns stride k < length p
+
+-- whole rows of so many columns are sixteen samples
+pub record AreLanes (columns : ℕ) : Type 0 where
+  pub some : 0 < columns
+  pub most : columns ≤ 16
+  pub all : 16 / columns * columns ≡ 16
+
+-- so many times sixteen samples of a block from this place on are there, five rows more, and five columns right of them
+abbrev pub HasRoom : (columns stride count at : ℕ) → List ℕ → Type 0
+HasRoom columns stride count at p = HasPlaces columns stride (16 * (count + (5 * columns + 15) / 16)) (at + 5) p
 
 -- the unrounded sum at place k of the rows (8.4.2.2.1)
 abbrev pub taps_of : (e f g h i j : List ℕ) → ℕ → ℤ
-taps_of e f g h i j k = six_taps (pos (slice_index e k)) (pos (slice_index f k)) (pos (slice_index g k)) (pos (slice_index h k)) (pos (slice_index i k)) (pos (slice_index j k))
+taps_of e f g h i j k =
+    six_taps (pos (slice_index e k)) (pos (slice_index f k)) (pos (slice_index g k))
+    (pos (slice_index h k)) (pos (slice_index i k)) (pos (slice_index j k))
 
 -- the half sample there
 abbrev pub half_of : (e f g h i j : List ℕ) → ℕ → ℕ
@@ -13,7 +34,13 @@ half_of e f g h i j k = clip1 (taps_of e f g h i j k +ℤ pos 16 >>ℤ 5)
 
 -- the half sample j of six rows of unrounded sums
 abbrev pub centre_of : (e f g h i j : List ℤ) → ℕ → ℕ
-centre_of e f g h i j k = clip1 (six_taps (slice_index_or e k (pos 0)) (slice_index_or f k (pos 0)) (slice_index_or g k (pos 0)) (slice_index_or h k (pos 0)) (slice_index_or i k (pos 0)) (slice_index_or j k (pos 0)) +ℤ pos 512 >>ℤ 10)
+centre_of e f g h i j k =
+    clip1 (six_taps (slice_index_or e k (pos 0)) (slice_index_or f k (pos 0)) (slice_index_or g k (pos 0))
+    (slice_index_or h k (pos 0)) (slice_index_or i k (pos 0)) (slice_index_or j k (pos 0)) +ℤ pos 512 >>ℤ 10)
+
+-- the first n numbers are unrounded sums
+abbrev pub AreSums : ℕ → List ℤ → Type 0
+AreSums n m = (k : ℕ) → k < n → IsSum (slice_index_or m k (pos 0))
 
 -- u is t with the sixteen samples r as its row of this number
 pub record IsRowPut (row : ℕ) (r t u : List ℕ) : Type 0 where

@@ -53,6 +53,14 @@ fn blend(w: BilinearWeights, here: u8, right: u8, below: u8, across: u8) -> u8
     ((sum + 32) / 64) as u8
 }
 
+/// The next multiple of sixteen.
+pub fn rounded_up(n: usize) -> usize
+    requires { n < 65536 }
+    ensures { result ≡ (n + 15) / 16 * 16 }
+{
+    (n + 15) / 16 * 16
+}
+
 /// The means of each sample and its three neighbours, in a list with `stride` samples in a row.
 #[inline(always)]
 pub fn blends(p: &[u8], stride: usize, n: usize, w: BilinearWeights, out: &mut [u8])

@@ -6,9 +6,8 @@ ghost use Rattle.avc_plane.specs.Plane.{sample, clamped};
 ghost use Rattle.avc_inter.specs.Chroma.{bilinear, inter_chroma};
 ghost use Rattle.avc_inter.specs.Bounds.{IsMoved};
 
-use crate::bilinear::{BilinearWeights, blends};
+use crate::bilinear::{BilinearWeights, blends, rounded_up};
 use crate::patch::{fetch, set_whole};
-use crate::positions::rounded_up;
 use crate::vector::{chroma_fraction, chroma_place};
 use avc_plane::PaddedPlane;
 use avc_types::{Block, Mv};

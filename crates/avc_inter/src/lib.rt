@@ -3,7 +3,6 @@
 
 mod bilinear;
 mod chroma_prediction;
-mod lines;
 mod luma_prediction;
 mod patch;
 mod positions;
@@ -16,5 +15,4 @@ mod weighting;
 pub use chroma_prediction::chroma;
 pub use luma_prediction::luma;
 pub use row::six_tap_row;
-pub use rows::{centre_rows, diagonal_rows, half_rows, middle_rows, quarter_rows, sum_rows};
 pub use weighting::weight;

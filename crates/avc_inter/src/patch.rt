@@ -79,7 +79,8 @@ fn fetch_held_row<const PAD: usize>(
 }
 
 /// Fetches rows, each coordinate held inside the plane.
-fn fetch_held<const PAD: usize>(
+#[inline(never)]
+pub fn fetch_held<const PAD: usize>(
     plane: &PaddedPlane<PAD>,
     left: i64,
     top: i64,
@@ -103,17 +104,19 @@ fn fetch_held<const PAD: usize>(
 
 /// Where a patch lies in the padded rows of its plane.
 #[derive(Clone, Copy)]
-struct Within {
+pub struct Within {
     /// The place of its first sample.
-    first: usize,
+    pub first: usize,
     /// From a row to the next.
-    stride: usize,
+    pub stride: usize,
+
+    ghost narrow: { stride < 2 ^ 32 },
 }
 
 /// Where the padded rows of a plane have the samples in `columns` columns from `left` on, or sixteen, and `count` rows from `top` on; None
 /// where they don't have them all.
 #[inline(always)]
-fn find_within<const PAD: usize>(
+pub fn find_within<const PAD: usize>(
     plane: &PaddedPlane<PAD>,
     left: i64,
     top: i64,

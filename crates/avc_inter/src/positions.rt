@@ -1,177 +1,164 @@
-//! The sixteen quarter positions over a patch (Table 8-12).
+//! The sixteen quarter positions of a block (Table 8-12).
 //!
-//! A patch has `stride` samples in a row, and first those two columns left of the block and two rows above it. `n` counts the samples
-//! of the block from the first row to the last, with those between its rows; `N` and `M` are how many samples and sums there is room for.
+//! `at` is the place two rows above the block's first sample and two columns left of it, in rows that begin `stride` apart. L is how many
+//! columns the block has, and `count` how many times sixteen samples. What is read is in the `count_around` rows of sixteen from there on.
 
-ghost use Rattle.std.specs.Prelude.{◌≡◌, ℕ, ◌+◌, ◌*◌, ◌/◌, ◌<◌, ◌≤◌, length, slice_index};
-ghost use Rattle.avc_inter.specs.Patch.{j_of, row_0_of, row_1_of, row_2_of, row_3_of, quarter_of};
+ghost use Rattle.std.specs.Prelude.{◌≡◌, ℕ, ◌+◌, ◌*◌, ◌/◌, ◌<◌, ◌≤◌, ◌^◌, pos, length, slice_index, slice_index_or};
+ghost use Rattle.avc_inter.specs.Patch.{taps_along, row_0_of, row_1_of, row_2_of, row_3_of, quarter_of};
+ghost use Rattle.avc_inter.specs.SixRows.{place_of, AreLanes, AreSums, HasRoom};
 
-use crate::lines::{centres, copies, halves, means, sums};
+use crate::rows::{
+    centre_rows, centre_rows_across, centre_rows_down, diagonal_rows, half_rows, quarter_rows,
+    sum_rows, whole_rows,
+};
 
-/// The next multiple of sixteen.
-pub fn rounded_up(n: usize) -> usize
-    requires { n < 65536 }
-    ensures { result ≡ (n + 15) / 16 * 16 }
+/// How many times sixteen samples a block has with the five rows more that the six taps ask for.
+pub fn count_around(columns: usize, count: usize) -> usize
+    requires narrow { columns ≤ 16 }
+    requires low { count ≤ 16 }
+    ensures value { result ≡ count + (5 * columns + 15) / 16 }
+    ensures enough { 16 * count + 5 * columns ≤ 16 * result }
+    ensures few { result ≤ 21 }
 {
-    (n + 15) / 16 * 16
+    count + (5 * columns + 15) / 16
 }
 
-/// The half samples j.
-fn middles<const N: usize, const M: usize>(p: &[u8], stride: usize, n: usize, out: &mut [u8; N])
-    requires room { n ≤ N }
-    requires few { M < 65536 }
-    requires sums { (n + 5 * stride + 15) / 16 * 16 ≤ M }
-    requires samples { M + 5 ≤ length p.now }
-    ensures { (k : ℕ) → k < n → slice_index out.new k ≡ j_of p.now stride k }
+/// The unrounded sums of a block and of five rows more.
+#[inline(always)]
+fn sums_around<const L: usize>(
+    p: &[u8],
+    at: usize,
+    stride: usize,
+    count: usize,
+    sums: &mut [i16; 336],
+)
+    requires lanes { AreLanes L }
+    requires narrow { stride < 2 ^ 32 }
+    requires few { count ≤ 16 }
+    requires room { HasRoom L stride count at p.now }
+    ensures value { (k : ℕ) → k < 16 * count + 5 * L → slice_index_or sums.new k (pos 0) ≡ taps_along p.now (at + place_of L stride k) 1 }
+    ensures small { AreSums (16 * count + 5 * L) sums.new }
+    ensures within { 16 * count + 5 * L ≤ 336 }
 {
-    let mut m = [0i16; M];
-    sums(p, rounded_up(n + 5 * stride), &mut m);
-    centres(&m, stride, n, out);
+    sum_rows::<L>(p, at, stride, count_around(L, count), sums);
 }
 
 /// The positions at a whole row.
-fn row_0<const N: usize, const M: usize>(
-    p: &[u8],
-    stride: usize,
-    n: usize,
-    fx: u8,
-    out: &mut [u8; N],
-)
-    requires room { n ≤ N }
-    requires few { M < 65536 }
-    requires sums { (n + 5 * stride + 15) / 16 * 16 ≤ M }
-    requires samples { M + 5 ≤ length p.now }
+#[inline(always)]
+fn row_0<const L: usize>(p: &[u8], at: usize, stride: usize, count: usize, fx: u8, out: &mut [u8])
+    requires lanes { AreLanes L }
+    requires narrow { stride < 2 ^ 32 }
+    requires few { count ≤ 16 }
+    requires out { 16 * count ≤ length out.old }
+    requires room { HasRoom L stride count at p.now }
     requires fraction { fx < 4 }
-    ensures { (k : ℕ) → k < n → slice_index out.new k ≡ row_0_of p.now stride k fx }
+    ensures { (k : ℕ) → k < 16 * count → slice_index out.new k ≡ row_0_of p.now stride (at + place_of L stride k) fx }
 {
+    let b = 2 * stride;
     match fx {
-        0 => copies(p, 2 * stride + 2, n, out),
-        1 => {
-            halves(p, 2 * stride, 1, n, out);
-            means(p, 2 * stride + 2, n, out);
-        }
-        2 => halves(p, 2 * stride, 1, n, out),
-        _ => {
-            halves(p, 2 * stride, 1, n, out);
-            means(p, 2 * stride + 3, n, out);
-        }
+        0 => whole_rows::<L>(p, at, b + 2, stride, count, out),
+        1 => quarter_rows::<L>(p, at, b, b + 2, stride, 1, count, out),
+        2 => half_rows::<L>(p, at, b, stride, 1, count, out),
+        _ => quarter_rows::<L>(p, at, b, b + 3, stride, 1, count, out),
     }
 }
 
 /// The positions a quarter below a whole row.
-fn row_1<const N: usize, const M: usize>(
-    p: &[u8],
-    stride: usize,
-    n: usize,
-    fx: u8,
-    out: &mut [u8; N],
-)
-    requires room { n ≤ N }
-    requires few { M < 65536 }
-    requires sums { (n + 5 * stride + 15) / 16 * 16 ≤ M }
-    requires samples { M + 5 ≤ length p.now }
+#[inline(always)]
+fn row_1<const L: usize>(p: &[u8], at: usize, stride: usize, count: usize, fx: u8, out: &mut [u8])
+    requires lanes { AreLanes L }
+    requires narrow { stride < 2 ^ 32 }
+    requires few { count ≤ 16 }
+    requires out { 16 * count ≤ length out.old }
+    requires room { HasRoom L stride count at p.now }
     requires fraction { fx < 4 }
-    ensures { (k : ℕ) → k < n → slice_index out.new k ≡ row_1_of p.now stride k fx }
+    ensures { (k : ℕ) → k < 16 * count → slice_index out.new k ≡ row_1_of p.now stride (at + place_of L stride k) fx }
 {
-    if fx == 0 {
-        halves(p, 2, stride, n, out);
-        means(p, 2 * stride + 2, n, out);
-    } else {
-        let mut b = [0u8; N];
-        halves(p, 2 * stride, 1, n, &mut b);
-        match fx {
-            1 => halves(p, 2, stride, n, out),
-            2 => middles::<N, M>(p, stride, n, out),
-            _ => halves(p, 3, stride, n, out),
+    let b = 2 * stride;
+    match fx {
+        0 => quarter_rows::<L>(p, at, 2, b + 2, stride, stride, count, out),
+        1 => diagonal_rows::<L>(p, at, b, 2, stride, count, out),
+        2 => {
+            let mut sums = [0; 336];
+            sums_around::<L>(p, at, stride, count, &mut sums);
+            centre_rows_across::<L>(&sums, 2 * L, count, out);
         }
-        means(&b, 0, n, out);
+        _ => diagonal_rows::<L>(p, at, b, 3, stride, count, out),
     }
 }
 
 /// The positions a half below a whole row.
-fn row_2<const N: usize, const M: usize>(
-    p: &[u8],
-    stride: usize,
-    n: usize,
-    fx: u8,
-    out: &mut [u8; N],
-)
-    requires room { n ≤ N }
-    requires few { M < 65536 }
-    requires sums { (n + 5 * stride + 15) / 16 * 16 ≤ M }
-    requires samples { M + 5 ≤ length p.now }
+#[inline(always)]
+fn row_2<const L: usize>(p: &[u8], at: usize, stride: usize, count: usize, fx: u8, out: &mut [u8])
+    requires lanes { AreLanes L }
+    requires narrow { stride < 2 ^ 32 }
+    requires few { count ≤ 16 }
+    requires out { 16 * count ≤ length out.old }
+    requires room { HasRoom L stride count at p.now }
     requires fraction { fx < 4 }
-    ensures { (k : ℕ) → k < n → slice_index out.new k ≡ row_2_of p.now stride k fx }
+    ensures { (k : ℕ) → k < 16 * count → slice_index out.new k ≡ row_2_of p.now stride (at + place_of L stride k) fx }
 {
-    match fx {
-        0 => halves(p, 2, stride, n, out),
-        1 => {
-            let mut h = [0u8; N];
-            halves(p, 2, stride, n, &mut h);
-            middles::<N, M>(p, stride, n, out);
-            means(&h, 0, n, out);
-        }
-        2 => middles::<N, M>(p, stride, n, out),
-        _ => {
-            let mut j = [0u8; N];
-            middles::<N, M>(p, stride, n, &mut j);
-            halves(p, 3, stride, n, out);
-            means(&j, 0, n, out);
+    if fx == 0 {
+        half_rows::<L>(p, at, 2, stride, stride, count, out);
+    } else {
+        let mut sums = [0; 336];
+        sums_around::<L>(p, at, stride, count, &mut sums);
+        match fx {
+            1 => centre_rows_down::<L>(&sums, p, at, 2, stride, count, out),
+            2 => centre_rows::<L>(&sums, count, out),
+            _ => centre_rows_down::<L>(&sums, p, at, 3, stride, count, out),
         }
     }
 }
 
 /// The positions three quarters below a whole row.
-fn row_3<const N: usize, const M: usize>(
-    p: &[u8],
-    stride: usize,
-    n: usize,
-    fx: u8,
-    out: &mut [u8; N],
-)
-    requires room { n ≤ N }
-    requires few { M < 65536 }
-    requires sums { (n + 5 * stride + 15) / 16 * 16 ≤ M }
-    requires samples { M + 5 ≤ length p.now }
+#[inline(always)]
+fn row_3<const L: usize>(p: &[u8], at: usize, stride: usize, count: usize, fx: u8, out: &mut [u8])
+    requires lanes { AreLanes L }
+    requires narrow { stride < 2 ^ 32 }
+    requires few { count ≤ 16 }
+    requires out { 16 * count ≤ length out.old }
+    requires room { HasRoom L stride count at p.now }
     requires fraction { fx < 4 }
-    ensures { (k : ℕ) → k < n → slice_index out.new k ≡ row_3_of p.now stride k fx }
+    ensures { (k : ℕ) → k < 16 * count → slice_index out.new k ≡ row_3_of p.now stride (at + place_of L stride k) fx }
 {
-    if fx == 0 {
-        halves(p, 2, stride, n, out);
-        means(p, 3 * stride + 2, n, out);
-    } else {
-        let mut first = [0u8; N];
-        match fx {
-            1 => halves(p, 2, stride, n, &mut first),
-            2 => middles::<N, M>(p, stride, n, &mut first),
-            _ => halves(p, 3, stride, n, &mut first),
+    let s = 3 * stride;
+    match fx {
+        0 => quarter_rows::<L>(p, at, 2, s + 2, stride, stride, count, out),
+        1 => diagonal_rows::<L>(p, at, s, 2, stride, count, out),
+        2 => {
+            let mut sums = [0; 336];
+            sums_around::<L>(p, at, stride, count, &mut sums);
+            centre_rows_across::<L>(&sums, 3 * L, count, out);
         }
-        halves(p, 3 * stride, 1, n, out);
-        means(&first, 0, n, out);
+        _ => diagonal_rows::<L>(p, at, s, 3, stride, count, out),
     }
 }
 
 /// The samples of a block by the fractions of a vector.
-pub fn quarters<const N: usize, const M: usize>(
+#[inline(never)]
+pub fn quarters<const L: usize>(
     p: &[u8],
+    at: usize,
     stride: usize,
-    n: usize,
+    count: usize,
     fx: u8,
     fy: u8,
-    out: &mut [u8; N],
+    out: &mut [u8],
 )
-    requires room { n ≤ N }
-    requires few { M < 65536 }
-    requires sums { (n + 5 * stride + 15) / 16 * 16 ≤ M }
-    requires samples { M + 5 ≤ length p.now }
+    requires lanes { AreLanes L }
+    requires narrow { stride < 2 ^ 32 }
+    requires few { count ≤ 16 }
+    requires out { 16 * count ≤ length out.old }
+    requires room { HasRoom L stride count at p.now }
     requires columns { fx < 4 }
     requires rows { fy < 4 }
-    ensures { (k : ℕ) → k < n → slice_index out.new k ≡ quarter_of p.now stride k fx fy }
+    ensures { (k : ℕ) → k < 16 * count → slice_index out.new k ≡ quarter_of p.now stride (at + place_of L stride k) fx fy }
 {
     match fy {
-        0 => row_0::<N, M>(p, stride, n, fx, out),
-        1 => row_1::<N, M>(p, stride, n, fx, out),
-        2 => row_2::<N, M>(p, stride, n, fx, out),
-        _ => row_3::<N, M>(p, stride, n, fx, out),
+        0 => row_0::<L>(p, at, stride, count, fx, out),
+        1 => row_1::<L>(p, at, stride, count, fx, out),
+        2 => row_2::<L>(p, at, stride, count, fx, out),
+        _ => row_3::<L>(p, at, stride, count, fx, out),
     }
 }

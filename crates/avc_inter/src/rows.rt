@@ -1,23 +1,39 @@
-//! The six-tap filter over rows of sixteen samples, read where they lie and written into rows of sixteen.
+//! The six-tap filter over rows of sixteen samples, read where they lie (8.4.2.2.1).
+//!
+//! Sixteen samples are one row of a block of 16 columns or two rows of a block of 8. L is how many columns the block has. Its rows begin `stride` apart in the list that they are read from, and one behind another in what is written. `count`
+//! is how many times sixteen samples the block has.
 
-ghost use Rattle.std.specs.Prelude.{◌≡◌, ℕ, ◌+◌, ◌*◌, ◌<◌, ◌≤◌, pos, length, slice_index, slice_index_or};
+ghost use Rattle.std.specs.Prelude.{◌≡◌, ℕ, ◌+◌, ◌*◌, ◌/◌, ◌<◌, ◌≤◌, ◌^◌, pos, length, slice_index, slice_index_or};
 ghost use Rattle.avc_types.specs.Arithmetic.{mean_of_two};
 ghost use Rattle.avc_inter.specs.Bounds.{IsSum};
-ghost use Rattle.avc_inter.specs.Patch.{taps_along, half_along, centre_along, j_of};
-ghost use Rattle.avc_inter.specs.SixRows.{half_of, taps_of, IsRowPut, AreSumsPut};
+ghost use Rattle.avc_inter.specs.Patch.{taps_along, half_along, centre_along, rounded_sum};
+ghost use Rattle.avc_inter.specs.SixRows.{place_of, HasPlaces, AreLanes, half_of, taps_of, centre_of, AreSums, IsRowPut, AreSumsPut};
 
-use crate::lines::centres;
-use crate::taps::{half, mean, taps};
+use crate::taps::{centre, half, mean, rounded_half, taps};
 
-/// Sixteen neighbouring samples.
+/// Reads L samples of a row.
 #[inline(always)]
-fn sixteen(p: &[u8], at: usize) -> [u8; 16]
-    requires { at + 16 ≤ length p.now }
-    ensures { (k : ℕ) → k < 16 → slice_index result k ≡ slice_index p.now (at + k) }
+fn load<const L: usize>(p: &[u8], from: usize, out: &mut [u8; 16], to: usize)
+    requires source { from + L ≤ length p.now }
+    requires target { to + L ≤ 16 }
+    ensures before { (k : ℕ) → k < to → slice_index out.new k ≡ slice_index out.old k }
+    ensures here { (k : ℕ) → k < L → slice_index out.new (to + k) ≡ slice_index p.now (from + k) }
+{
+    for k in 0..L {
+        out[to + k] = p[from + k];
+    }
+}
+
+/// Sixteen samples of a block whose first one is at this place.
+#[inline(always)]
+pub fn sixteen<const L: usize>(p: &[u8], at: usize, stride: usize) -> [u8; 16]
+    requires lanes { AreLanes L }
+    requires samples { HasPlaces L stride 16 at p.now }
+    ensures { (k : ℕ) → k < 16 → slice_index result k ≡ slice_index p.now (at + place_of L stride k) }
 {
     let mut out = [0; 16];
-    for k in 0..16 {
-        out[k] = p[at + k];
+    for y in 0..16 / L {
+        load::<L>(p, at + y * stride, &mut out, L * y);
     }
     out
 }
@@ -44,23 +60,24 @@ fn halves_of(
 
 /// The half samples between each third and fourth of six samples a step apart.
 #[inline(always)]
-fn half_row(p: &[u8], at: usize, step: usize) -> [u8; 16]
-    requires { at + 5 * step + 16 ≤ length p.now }
-    ensures { (k : ℕ) → k < 16 → slice_index result k ≡ half_along p.now (at + k) step }
+fn half_row<const L: usize>(p: &[u8], at: usize, stride: usize, step: usize) -> [u8; 16]
+    requires lanes { AreLanes L }
+    requires samples { HasPlaces L stride 16 (at + 5 * step) p.now }
+    ensures { (k : ℕ) → k < 16 → slice_index result k ≡ half_along p.now (at + place_of L stride k) step }
 {
-    let e = sixteen(p, at);
-    let f = sixteen(p, at + step);
-    let g = sixteen(p, at + 2 * step);
-    let h = sixteen(p, at + 3 * step);
-    let i = sixteen(p, at + 4 * step);
-    let j = sixteen(p, at + 5 * step);
+    let e = sixteen::<L>(p, at, stride);
+    let f = sixteen::<L>(p, at + step, stride);
+    let g = sixteen::<L>(p, at + 2 * step, stride);
+    let h = sixteen::<L>(p, at + 3 * step, stride);
+    let i = sixteen::<L>(p, at + 4 * step, stride);
+    let j = sixteen::<L>(p, at + 5 * step, stride);
     halves_of(&e, &f, &g, &h, &i, &j)
 }
 
-/// Puts a row into its place.
+/// Puts sixteen samples into their place.
 #[inline(always)]
-fn put_row(out: &mut [u8; 256], row: usize, r: &[u8; 16])
-    requires { row < 16 }
+pub fn put_row(out: &mut [u8], row: usize, r: &[u8; 16])
+    requires { 16 * row + 16 ≤ length out.old }
     ensures { IsRowPut row r.now out.old out.new }
 {
     let from = 16 * row;
@@ -69,21 +86,118 @@ fn put_row(out: &mut [u8; 256], row: usize, r: &[u8; 16])
     }
 }
 
-/// The half samples of a block of sixteen columns: b with step 1, h with the stride.
-pub fn half_rows(
+/// Whole samples, from `by` behind place `at` on.
+#[inline(always)]
+pub fn whole_rows<const L: usize>(
     p: &[u8],
     at: usize,
+    by: usize,
+    stride: usize,
+    count: usize,
+    out: &mut [u8],
+)
+    requires lanes { AreLanes L }
+    requires narrow { stride < 2 ^ 32 }
+    requires room { 16 * count ≤ length out.old }
+    requires samples { HasPlaces L stride (16 * count) (at + by) p.now }
+    ensures { (k : ℕ) → k < 16 * count → slice_index out.new k ≡ slice_index p.now (by + (at + place_of L stride k)) }
+{
+    let lines = 16 / L * stride;
+    for y in 0..count {
+        let row = sixteen::<L>(p, at + by + y * lines, stride);
+        put_row(out, y, &row);
+    }
+}
+
+/// Half samples: b or s with step 1, h or m with the stride. The first of the six samples is `by` behind place `at`.
+#[inline(always)]
+pub fn half_rows<const L: usize>(
+    p: &[u8],
+    at: usize,
+    by: usize,
     stride: usize,
     step: usize,
-    rows: usize,
-    out: &mut [u8; 256],
+    count: usize,
+    out: &mut [u8],
 )
-    requires few { rows ≤ 16 }
-    requires samples { (j : ℕ) → j < rows → at + j * stride + 5 * step + 16 ≤ length p.now }
-    ensures { (j : ℕ) → j < rows → (i : ℕ) → i < 16 → slice_index out.new (16 * j + i) ≡ half_along p.now (at + j * stride + i) step }
+    requires lanes { AreLanes L }
+    requires narrow { stride < 2 ^ 32 }
+    requires room { 16 * count ≤ length out.old }
+    requires samples { HasPlaces L stride (16 * count) (at + by + 5 * step) p.now }
+    ensures { (k : ℕ) → k < 16 * count → slice_index out.new k ≡ half_along p.now (by + (at + place_of L stride k)) step }
 {
-    for y in 0..rows {
-        let row = half_row(p, at + y * stride, step);
+    let lines = 16 / L * stride;
+    for y in 0..count {
+        let row = half_row::<L>(p, at + by + y * lines, stride, step);
+        put_row(out, y, &row);
+    }
+}
+
+#[inline(always)]
+fn means_of(a: &[u8; 16], b: &[u8; 16]) -> [u8; 16]
+    ensures { (k : ℕ) → k < 16 → slice_index result k ≡ mean_of_two (slice_index a.now k) (slice_index b.now k) }
+{
+    let (a, b) = (*a, *b);
+    let mut out = [0; 16];
+    for k in 0..16 {
+        out[k] = mean(a[k], b[k]);
+    }
+    out
+}
+
+/// Half samples, each with its mean with a whole sample, which is `whole` behind place `at`.
+#[inline(always)]
+pub fn quarter_rows<const L: usize>(
+    p: &[u8],
+    at: usize,
+    by: usize,
+    whole: usize,
+    stride: usize,
+    step: usize,
+    count: usize,
+    out: &mut [u8],
+)
+    requires lanes { AreLanes L }
+    requires narrow { stride < 2 ^ 32 }
+    requires room { 16 * count ≤ length out.old }
+    requires samples { HasPlaces L stride (16 * count) (at + by + 5 * step) p.now }
+    requires whole { HasPlaces L stride (16 * count) (at + whole) p.now }
+    ensures { (k : ℕ) → k < 16 * count → slice_index out.new k ≡
+        mean_of_two (slice_index p.now (whole + (at + place_of L stride k))) (half_along p.now (by + (at + place_of L stride k)) step) }
+{
+    let lines = 16 / L * stride;
+    for y in 0..count {
+        let half = half_row::<L>(p, at + by + y * lines, stride, step);
+        let whole = sixteen::<L>(p, at + whole + y * lines, stride);
+        let row = means_of(&whole, &half);
+        put_row(out, y, &row);
+    }
+}
+
+/// The means of two half samples: b or s, whose six samples begin `across` behind place `at`, and h or m, `down` behind it.
+#[inline(always)]
+pub fn diagonal_rows<const L: usize>(
+    p: &[u8],
+    at: usize,
+    across: usize,
+    down: usize,
+    stride: usize,
+    count: usize,
+    out: &mut [u8],
+)
+    requires lanes { AreLanes L }
+    requires narrow { stride < 2 ^ 32 }
+    requires room { 16 * count ≤ length out.old }
+    requires across { HasPlaces L stride (16 * count) (at + across + 5 * 1) p.now }
+    requires down { HasPlaces L stride (16 * count) (at + down + 5 * stride) p.now }
+    ensures { (k : ℕ) → k < 16 * count → slice_index out.new k ≡
+        mean_of_two (half_along p.now (across + (at + place_of L stride k)) 1) (half_along p.now (down + (at + place_of L stride k)) stride) }
+{
+    let lines = 16 / L * stride;
+    for y in 0..count {
+        let b = half_row::<L>(p, at + across + y * lines, stride, 1);
+        let h = half_row::<L>(p, at + down + y * lines, stride, stride);
+        let row = means_of(&b, &h);
         put_row(out, y, &row);
     }
 }
@@ -110,18 +224,20 @@ fn sums_of(
 }
 
 /// The unrounded taps over each six neighbours.
+// inlined, the loop over rows would be taken for the one to make wide
 #[inline(never)]
-fn sum_row(p: &[u8], at: usize) -> [i16; 16]
-    requires { at + 5 + 16 ≤ length p.now }
-    ensures value { (k : ℕ) → k < 16 → slice_index_or result k (pos 0) ≡ taps_along p.now (at + k) 1 }
+fn sum_row<const L: usize>(p: &[u8], at: usize, stride: usize) -> [i16; 16]
+    requires lanes { AreLanes L }
+    requires samples { HasPlaces L stride 16 (at + 5 * 1) p.now }
+    ensures value { (k : ℕ) → k < 16 → slice_index_or result k (pos 0) ≡ taps_along p.now (at + place_of L stride k) 1 }
     ensures small { (k : ℕ) → k < 16 → IsSum (slice_index_or result k (pos 0)) }
 {
-    let e = sixteen(p, at);
-    let f = sixteen(p, at + 1);
-    let g = sixteen(p, at + 2);
-    let h = sixteen(p, at + 3);
-    let i = sixteen(p, at + 4);
-    let j = sixteen(p, at + 5);
+    let e = sixteen::<L>(p, at, stride);
+    let f = sixteen::<L>(p, at + 1, stride);
+    let g = sixteen::<L>(p, at + 2, stride);
+    let h = sixteen::<L>(p, at + 3, stride);
+    let i = sixteen::<L>(p, at + 4, stride);
+    let j = sixteen::<L>(p, at + 5, stride);
     sums_of(&e, &f, &g, &h, &i, &j)
 }
 
@@ -136,93 +252,158 @@ fn put_sums(out: &mut [i16; 336], row: usize, r: &[i16; 16])
     }
 }
 
-/// The unrounded sums of a block of sixteen columns.
+/// Unrounded sums.
 #[inline(always)]
-pub fn sum_rows(p: &[u8], at: usize, stride: usize, rows: usize, out: &mut [i16; 336])
-    requires few { rows ≤ 21 }
-    requires samples { (j : ℕ) → j < rows → at + j * stride + 5 + 16 ≤ length p.now }
-    ensures value { (j : ℕ) → j < rows → (i : ℕ) → i < 16 → slice_index_or out.new (16 * j + i) (pos 0) ≡ taps_along p.now (at + j * stride + i) 1 }
-    ensures small { (j : ℕ) → j < rows → (i : ℕ) → i < 16 → IsSum (slice_index_or out.new (16 * j + i) (pos 0)) }
+pub fn sum_rows<const L: usize>(
+    p: &[u8],
+    at: usize,
+    stride: usize,
+    count: usize,
+    out: &mut [i16; 336],
+)
+    requires lanes { AreLanes L }
+    requires narrow { stride < 2 ^ 32 }
+    requires few { count ≤ 21 }
+    requires samples { HasPlaces L stride (16 * count) (at + 5 * 1) p.now }
+    ensures value { (k : ℕ) → k < 16 * count → slice_index_or out.new k (pos 0) ≡ taps_along p.now (at + place_of L stride k) 1 }
+    ensures small { AreSums (16 * count) out.new }
 {
-    for y in 0..rows {
-        let row = sum_row(p, at + y * stride);
+    let lines = 16 / L * stride;
+    for y in 0..count {
+        let row = sum_row::<L>(p, at + y * lines, stride);
         put_sums(out, y, &row);
     }
 }
 
-/// The half samples of such sums, six rows apart.
-pub fn centre_rows(m: &[i16; 336], out: &mut [u8; 256])
-    requires { (k : ℕ) → k < 336 → IsSum (slice_index_or m.now k (pos 0)) }
-    ensures { (k : ℕ) → k < 256 → slice_index out.new k ≡ centre_along m.now k 16 }
-{
-    centres(m, 16, 256, out);
-}
-
+/// Sixteen sums.
 #[inline(always)]
-fn means_of(a: &[u8; 16], b: &[u8; 16]) -> [u8; 16]
-    ensures { (k : ℕ) → k < 16 → slice_index result k ≡ mean_of_two (slice_index a.now k) (slice_index b.now k) }
+fn sixteen_sums(m: &[i16; 336], at: usize) -> [i16; 16]
+    requires few { at + 16 ≤ 336 }
+    requires small { AreSums (at + 16) m.now }
+    ensures value { (k : ℕ) → k < 16 → slice_index_or result k (pos 0) ≡ slice_index_or m.now (at + k) (pos 0) }
+    ensures small { AreSums 16 result }
 {
-    let (a, b) = (*a, *b);
     let mut out = [0; 16];
     for k in 0..16 {
-        out[k] = mean(a[k], b[k]);
+        out[k] = m[at + k];
     }
     out
 }
 
-/// The half samples of a block of sixteen columns, each with its mean with the sample of the list at `from` and on.
-pub fn quarter_rows(
+/// The half samples j of six rows of sums.
+#[inline(always)]
+fn centres_of(
+    e: &[i16; 16],
+    f: &[i16; 16],
+    g: &[i16; 16],
+    h: &[i16; 16],
+    i: &[i16; 16],
+    j: &[i16; 16],
+) -> [u8; 16]
+    requires e { AreSums 16 e.now }
+    requires f { AreSums 16 f.now }
+    requires g { AreSums 16 g.now }
+    requires h { AreSums 16 h.now }
+    requires i { AreSums 16 i.now }
+    requires j { AreSums 16 j.now }
+    ensures { (k : ℕ) → k < 16 → slice_index result k ≡ centre_of e.now f.now g.now h.now i.now j.now k }
+{
+    let (e, f, g, h, i, j) = (*e, *f, *g, *h, *i, *j);
+    let mut out = [0; 16];
+    for k in 0..16 {
+        out[k] = centre(e[k], f[k], g[k], h[k], i[k], j[k]);
+    }
+    out
+}
+
+/// The half samples j of sums, six a step apart.
+#[inline(always)]
+fn centre_row(m: &[i16; 336], at: usize, step: usize) -> [u8; 16]
+    requires few { at + 5 * step + 16 ≤ 336 }
+    requires small { AreSums (at + 5 * step + 16) m.now }
+    ensures { (k : ℕ) → k < 16 → slice_index result k ≡ centre_along m.now (at + k) step }
+{
+    let e = sixteen_sums(m, at);
+    let f = sixteen_sums(m, at + step);
+    let g = sixteen_sums(m, at + 2 * step);
+    let h = sixteen_sums(m, at + 3 * step);
+    let i = sixteen_sums(m, at + 4 * step);
+    let j = sixteen_sums(m, at + 5 * step);
+    centres_of(&e, &f, &g, &h, &i, &j)
+}
+
+/// The half samples j.
+#[inline(always)]
+pub fn centre_rows<const L: usize>(m: &[i16; 336], count: usize, out: &mut [u8])
+    requires room { 16 * count ≤ length out.old }
+    requires few { 16 * count + 5 * L ≤ 336 }
+    requires small { AreSums (16 * count + 5 * L) m.now }
+    ensures { (k : ℕ) → k < 16 * count → slice_index out.new k ≡ centre_along m.now k L }
+{
+    for y in 0..count {
+        let row = centre_row(m, 16 * y, L);
+        put_row(out, y, &row);
+    }
+}
+
+/// The half samples b or s of their sums.
+#[inline(always)]
+fn rounded_row(m: &[i16; 336], at: usize) -> [u8; 16]
+    requires few { at + 16 ≤ 336 }
+    requires small { AreSums (at + 16) m.now }
+    ensures { (k : ℕ) → k < 16 → slice_index result k ≡ rounded_sum (slice_index_or m.now (at + k) (pos 0)) }
+{
+    let sums = sixteen_sums(m, at);
+    let mut out = [0; 16];
+    for k in 0..16 {
+        out[k] = rounded_half(sums[k]);
+    }
+    out
+}
+
+/// The means of j and of b or s, whose sums begin at `from`.
+#[inline(always)]
+pub fn centre_rows_across<const L: usize>(m: &[i16; 336], from: usize, count: usize, out: &mut [u8])
+    requires room { 16 * count ≤ length out.old }
+    requires from { from ≤ 5 * L }
+    requires few { 16 * count + 5 * L ≤ 336 }
+    requires small { AreSums (16 * count + 5 * L) m.now }
+    ensures { (k : ℕ) → k < 16 * count → slice_index out.new k ≡
+        mean_of_two (centre_along m.now k L) (rounded_sum (slice_index_or m.now (from + k) (pos 0))) }
+{
+    for y in 0..count {
+        let middle = centre_row(m, 16 * y, L);
+        let half = rounded_row(m, from + 16 * y);
+        let row = means_of(&middle, &half);
+        put_row(out, y, &row);
+    }
+}
+
+/// The means of j and of h or m, whose six samples begin `by` behind place `at`.
+#[inline(always)]
+pub fn centre_rows_down<const L: usize>(
+    m: &[i16; 336],
     p: &[u8],
     at: usize,
-    from: usize,
+    by: usize,
     stride: usize,
-    step: usize,
-    rows: usize,
-    out: &mut [u8; 256],
+    count: usize,
+    out: &mut [u8],
 )
-    requires few { rows ≤ 16 }
-    requires samples { (j : ℕ) → j < rows → at + j * stride + 5 * step + 16 ≤ length p.now }
-    requires whole { (j : ℕ) → j < rows → from + j * stride + 16 ≤ length p.now }
-    ensures { (j : ℕ) → j < rows → (i : ℕ) → i < 16 →
-        slice_index out.new (16 * j + i) ≡ mean_of_two (slice_index p.now (from + j * stride + i)) (half_along p.now (at + j * stride + i) step) }
+    requires lanes { AreLanes L }
+    requires narrow { stride < 2 ^ 32 }
+    requires room { 16 * count ≤ length out.old }
+    requires samples { HasPlaces L stride (16 * count) (at + by + 5 * stride) p.now }
+    requires few { 16 * count + 5 * L ≤ 336 }
+    requires small { AreSums (16 * count + 5 * L) m.now }
+    ensures { (k : ℕ) → k < 16 * count → slice_index out.new k ≡
+        mean_of_two (centre_along m.now k L) (half_along p.now (by + (at + place_of L stride k)) stride) }
 {
-    for y in 0..rows {
-        let half = half_row(p, at + y * stride, step);
-        let whole = sixteen(p, from + y * stride);
-        let row = means_of(&whole, &half);
+    let lines = 16 / L * stride;
+    for y in 0..count {
+        let middle = centre_row(m, 16 * y, L);
+        let half = half_row::<L>(p, at + by + y * lines, stride, stride);
+        let row = means_of(&middle, &half);
         put_row(out, y, &row);
     }
-}
-
-/// The means of two half samples of a block of sixteen columns: b or s, and h or m.
-pub fn diagonal_rows(
-    p: &[u8],
-    across: usize,
-    down: usize,
-    stride: usize,
-    rows: usize,
-    out: &mut [u8; 256],
-)
-    requires few { rows ≤ 16 }
-    requires across { (j : ℕ) → j < rows → across + j * stride + 5 + 16 ≤ length p.now }
-    requires down { (j : ℕ) → j < rows → down + j * stride + 5 * stride + 16 ≤ length p.now }
-    ensures { (j : ℕ) → j < rows → (i : ℕ) → i < 16 →
-        slice_index out.new (16 * j + i) ≡ mean_of_two (half_along p.now (across + j * stride + i) 1) (half_along p.now (down + j * stride + i) stride) }
-{
-    for y in 0..rows {
-        let b = half_row(p, across + y * stride, 1);
-        let h = half_row(p, down + y * stride, stride);
-        let row = means_of(&b, &h);
-        put_row(out, y, &row);
-    }
-}
-
-/// The half samples j of a block of sixteen columns and rows.
-pub fn middle_rows(p: &[u8], at: usize, stride: usize, out: &mut [u8; 256])
-    requires { (j : ℕ) → j < 21 → at + j * stride + 5 + 16 ≤ length p.now }
-    ensures { (j : ℕ) → j < 16 → (i : ℕ) → i < 16 → slice_index out.new (16 * j + i) ≡ j_of p.now stride (at + j * stride + i) }
-{
-    let mut m = [0; 336];
-    sum_rows(p, at, stride, 21, &mut m);
-    centre_rows(&m, out);
 }

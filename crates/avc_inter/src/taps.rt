@@ -35,6 +35,14 @@ pub fn half(e: u8, f: u8, g: u8, h: u8, i: u8, j: u8) -> u8
     clipped(rounded(taps(e, f, g, h, i, j)))
 }
 
+/// The half sample of its sum.
+pub fn rounded_half(sum: i16) -> u8
+    requires { IsSum sum }
+    ensures { result ≡ clip1 (sum +ℤ pos 16 >>ℤ 5) }
+{
+    clipped(rounded(sum))
+}
+
 /// The sum of two sums.
 fn pair(a: i16, b: i16) -> i16
     requires first { IsSum a }

@@ -28,24 +28,13 @@ returns-then-this-le8 g c =
     ∙ luma_is p.width p.height (sample p) c.args.mv c.args.x c.args.y c.luma_fraction-fx.result c.luma_fraction-fy.result left.result _ top.result _ _ _ (back_moved left.result left.ensures.small) (back_moved top.result top.ensures.small) across down
     left.ensures.value top.ensures.value c.luma_fraction-fx.ensures.value c.luma_fraction-fy.ensures.value g.row.W g.row.H
 
-pub returns-then-this-le8-2 : goal.returns-then-this-le8-2
-returns-then-this-le8-2 g c =
+pub returns-else-this-le8 : goal.returns-else-this-le8
+returns-else-this-le8 g c =
     let p = c.args.reference.now in
     let left = c.luma_place-left in
     let top = c.luma_place-top in
     let across : to_z w16 (of_z w16 c.args.mv.x) ≡ c.args.mv.x = omega (arith, ints) in
     let down : to_z w16 (of_z w16 c.args.mv.y) ≡ c.args.mv.y = omega (arith, ints) in
-    c.set_between-then-this-le8-2.ensures
-    ∙ luma_is p.width p.height (sample p) c.args.mv c.args.x c.args.y c.luma_fraction-fx.result c.luma_fraction-fy.result left.result _ top.result _ _ _ (back_moved left.result left.ensures.small) (back_moved top.result top.ensures.small) across down
-    left.ensures.value top.ensures.value c.luma_fraction-fx.ensures.value c.luma_fraction-fy.ensures.value g.row.W g.row.H
-
-pub returns-else-this-le8-2 : goal.returns-else-this-le8-2
-returns-else-this-le8-2 g c =
-    let p = c.args.reference.now in
-    let left = c.luma_place-left in
-    let top = c.luma_place-top in
-    let across : to_z w16 (of_z w16 c.args.mv.x) ≡ c.args.mv.x = omega (arith, ints) in
-    let down : to_z w16 (of_z w16 c.args.mv.y) ≡ c.args.mv.y = omega (arith, ints) in
-    c.set_between-else-this-le8-2.ensures
+    c.set_between-else-this-le8.ensures
     ∙ luma_is p.width p.height (sample p) c.args.mv c.args.x c.args.y c.luma_fraction-fx.result c.luma_fraction-fy.result left.result _ top.result _ _ _ (back_moved left.result left.ensures.small) (back_moved top.result top.ensures.small) across down
     left.ensures.value top.ensures.value c.luma_fraction-fx.ensures.value c.luma_fraction-fy.ensures.value g.row.W g.row.H

@@ -1,8 +1,8 @@
-use Rattle.std.proofs.Common.{◌≡◌, ℕ, List, to_z, of_z, w64, ◌∙◌}
+use Rattle.std.proofs.Common.{ℕ, List, to_z, of_z, w64, ◌∙◌}
 use Rattle.avc_plane.specs.Plane.{sample, clamped}
 use Rattle.avc_plane.specs.Padded.{IsSurrounded}
 use Rattle.avc_inter.specs.Patch.{IsThere}
-use Rattle.avc_inter.proofs.Places.{at_some, moved_sample, place_back}
+use Rattle.avc_inter.proofs.Places.{at_some, moved_sample}
 use Rattle.avc_inter.proofs.patch.fetch.Goals as goal
 
 pub copy_rows-requires-clause-source : goal.copy_rows-requires-clause-source

@@ -1,4 +1,4 @@
-use Rattle.std.proofs.Common.{◌≡◌, ℕ, ◌+◌, ◌<◌, ◌-ℤ◌, ◌+ℤ◌, pos, to_z, of_z, w64, slice_index, slice_set, length, arith, ap, ◌∙◌}
+use Rattle.std.proofs.Common.{◌≡◌, ◌+◌, ◌<◌, ◌-ℤ◌, ◌+ℤ◌, pos, to_z, of_z, w64, slice_index, slice_set, length, arith, ap, ◌∙◌}
 use Rattle.std.specs.Prelude.{nat_abs}
 use Rattle.std.proofs.lemmas.List.{get_or-set_same, get_or-set_other}
 use borrow.Author.Count.{below_more}

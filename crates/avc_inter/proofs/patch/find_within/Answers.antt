@@ -1,4 +1,4 @@
-use Rattle.std.proofs.Common.{◌≡◌, ℕ, ◌+◌, ◌*◌, ◌≤◌, ◌+ℤ◌, pos, to_z, of_z, w64, slice_index, ap, ◌∙◌, arith}
+use Rattle.std.proofs.Common.{◌≡◌, ◌+◌, ◌*◌, ◌≤◌, ◌+ℤ◌, pos, to_z, of_z, w64, slice_index, ap, ◌∙◌, arith}
 use Rattle.avc_inter.proofs.Places.{at_some, row_is_there, sample_there}
 use Rattle.avc_inter.proofs.patch.find_within.Goals as goal
 

@@ -1,4 +1,4 @@
-use Rattle.std.proofs.Common.{◌≡◌, ℕ, List, to_z, of_z, w64, arith, ◌∙◌}
+use Rattle.std.proofs.Common.{ℕ, List, to_z, of_z, w64, arith, ◌∙◌}
 use Rattle.avc_plane.specs.Plane.{sample, clamped}
 use Rattle.avc_plane.specs.Padded.{IsSurrounded}
 use Rattle.avc_inter.specs.Patch.{IsThere}

@@ -1,17 +1,29 @@
-use Rattle.std.proofs.Common.{ℕ, List, slice_index, ◌+◌, ◌≡◌, arith, ap, ◌∙◌}
+use Rattle.std.proofs.Common.{◌≡◌, ◌+◌, ◌*◌, arith, refl, ap, ◌∙◌}
 use Rattle.avc_types.specs.Arithmetic.{mean_of_two}
+use Rattle.avc_inter.proofs.SixRows.{room_for, middle_is, same_mean, mean_turned}
 use Rattle.avc_inter.proofs.positions.row_2.Goals as goal
 
--- a mean of the same two
-same_mean : (a : List ℕ) (r b x y k : ℕ) → r ≡ mean_of_two (slice_index a (0 + k)) b → slice_index a k ≡ x → b ≡ y → r ≡ mean_of_two x y
-same_mean a r b x y k e p q =
-    let same : 0 + k ≡ k = omega arith in
-    e ∙ ap (λ i. mean_of_two (slice_index a i) b) same ∙ ap (λ v. mean_of_two v b) p ∙ ap (λ v. mean_of_two x v) q
+pub half_rows-requires-clause-samples : goal.half_rows-requires-clause-samples
+half_rows-requires-clause-samples g c =
+    room_for g.row.L c.args.stride c.requires.lanes c.args.count c.args.at c.args.p.now c.requires.room (c.args.at + 2 + 5 * c.args.stride) 5 (omega arith) (omega arith)
+
+pub centre_rows_down-requires-clause-samples : goal.centre_rows_down-requires-clause-samples
+centre_rows_down-requires-clause-samples g c =
+    room_for g.row.L c.args.stride c.requires.lanes c.args.count c.args.at c.args.p.now c.requires.room (c.args.at + 2 + 5 * c.args.stride) 5 (omega arith) (omega arith)
+
+pub centre_rows_down-requires-in_default-clause-samples : goal.centre_rows_down-requires-in_default-clause-samples
+centre_rows_down-requires-in_default-clause-samples g c =
+    room_for g.row.L c.args.stride c.requires.lanes c.args.count c.args.at c.args.p.now c.requires.room (c.args.at + 3 + 5 * c.args.stride) 5 (omega arith) (omega arith)
 
 pub returns-in-1 : goal.returns-in-1
-returns-in-1 g c k h = rw (c.in-1.is) (same_mean c.halves-in-1.new.out _ _ _ _ k (c.means.ensures k h) (c.halves-in-1.ensures k h) (c.middles.ensures k h))
+returns-in-1 g c k low =
+    rw (c.in-1.is) (c.centre_rows_down.ensures k low ∙ mean_turned _ _ ∙ ap (mean_of_two _) (middle_is g.row.L c.args.stride c.requires.lanes c.args.p.now c.sums_around.new.sums c.args.at (16 * c.args.count + 5 * g.row.L) k (omega arith) c.sums_around.ensures.value))
+
+pub returns-in-2 : goal.returns-in-2
+returns-in-2 g c k low =
+    rw (c.in-2.is) (c.centre_rows.ensures k low ∙ middle_is g.row.L c.args.stride c.requires.lanes c.args.p.now c.sums_around.new.sums c.args.at (16 * c.args.count + 5 * g.row.L) k (omega arith) c.sums_around.ensures.value)
 
 pub returns-in_default : goal.returns-in_default
-returns-in_default g c k h =
+returns-in_default g c k low =
     let three : c.args.fx ≡ 3 = omega (arith, c.requires.fraction, c.in_default) in
-    rw three (same_mean c.middles-in_default.new.out _ _ _ _ k (c.means-in_default.ensures k h) (c.middles-in_default.ensures k h) (c.halves-in_default.ensures k h))
+    rw three (c.centre_rows_down-in_default.ensures k low ∙ same_mean _ _ _ _ (middle_is g.row.L c.args.stride c.requires.lanes c.args.p.now c.sums_around.new.sums c.args.at (16 * c.args.count + 5 * g.row.L) k (omega arith) c.sums_around.ensures.value) refl)

@@ -2,7 +2,7 @@ use Rattle.std.proofs.Common.{ℕ, ◌≡◌, ◌≤◌, ◌*◌, arith, Fits, w
 use Rattle.std.proofs.Math.Nat.{mul-le-mul}
 use Rattle.std.proofs.lemmas.List.{length-map}
 use Rattle.std.proofs.lemmas.Simd.{Each1-weaker, Each2-splat, zip2_splat}
-use Rattle.std.specs.Simd.Lanes.{zip2, Each1}
+use Rattle.std.specs.Simd.Lanes.{zip2}
 use Rattle.avc_inter.proofs.Lanes.{multiples_small, get_or-multiples}
 use Rattle.avc_inter.proofs.row.multiples.Goals as goal
 

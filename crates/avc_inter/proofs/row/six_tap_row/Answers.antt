@@ -1,4 +1,4 @@
-use Rattle.std.proofs.Common.{◌≡◌, arith, length}
+use Rattle.std.proofs.Common.{◌≡◌, arith}
 use Rattle.std.proofs.lemmas.Simd.{length-put_chunk}
 use Rattle.avc_inter.specs.SixTapRow.{taps_at}
 use Rattle.avc_inter.proofs.Lanes.{stored_more}

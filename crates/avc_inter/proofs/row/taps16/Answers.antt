@@ -1,6 +1,5 @@
-use Rattle.std.proofs.Common.{ℕ, ℤ, ◌≡◌, ◌<◌, ◌+◌, ◌-ℤ◌, pos, arith, ap, ◌∙◌, FitsSigned, w32, get_or, slice_index, slice_index_or, List, length, map, to_z, of_z}
+use Rattle.std.proofs.Common.{ℕ, ℤ, ◌≡◌, ◌<◌, ◌+◌, pos, arith, ap, ◌∙◌, w32, slice_index, slice_index_or, List, length, map, to_z, of_z}
 use Rattle.std.proofs.lemmas.List.{length-map}
-use Rattle.std.proofs.lemmas.Int.{ints}
 use Rattle.std.proofs.lemmas.Simd.{get_or-chunk}
 use Rattle.std.specs.Simd.Lanes.{chunk}
 use Rattle.avc_inter.specs.SixTapRow.{taps_at}

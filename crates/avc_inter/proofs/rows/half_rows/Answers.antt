@@ -1,9 +1,24 @@
-use Rattle.std.proofs.Common.{◌+◌, ◌*◌, arith, ◌∙◌, below_more}
+use Rattle.std.proofs.Common.{◌+◌, ◌*◌, arith, rules, ◌∙◌}
+use Rattle.avc_inter.proofs.SixRows.{row_begins, row_within, by_row, half_in_row}
 use Rattle.avc_inter.proofs.rows.half_rows.Goals as goal
 
+pub overflow_mul-y : goal.overflow_mul-y
+overflow_mul-y g c =
+    omega (arith, row_begins g.row.L c.args.stride c.requires.lanes (16 * c.args.count) (c.args.at + c.args.by + 5 * c.args.step) c.loop-y.y c.args.p.now c.requires.samples (omega (arith, c.loop-y-test.true)))
+
+pub overflow_add-at-in-loop-y : goal.overflow_add-at-in-loop-y
+overflow_add-at-in-loop-y g c =
+    omega (arith, row_begins g.row.L c.args.stride c.requires.lanes (16 * c.args.count) (c.args.at + c.args.by + 5 * c.args.step) c.loop-y.y c.args.p.now c.requires.samples (omega (arith, c.loop-y-test.true)))
+
+pub half_row-row-requires-clause-samples : goal.half_row-row-requires-clause-samples
+half_row-row-requires-clause-samples g c =
+    row_within g.row.L c.args.stride c.requires.lanes (16 * c.args.count) (c.args.at + c.args.by) (5 * c.args.step) c.loop-y.y c.args.p.now c.requires.samples (omega (arith, c.loop-y-test.true))
+
 pub loop-y-preserved : goal.loop-y-preserved
-loop-y-preserved c = record {
-  done = below_more _ _
-      (λ j h i low. c.put_row.ensures.before (16 * j + i) (omega arith) ∙ c.loop-y.invariant.done j h i low)
-      (λ i low. c.put_row.ensures.inside i low ∙ c.half_row-row.ensures i low);
-}
+loop-y-preserved g c =
+    record {
+      long = search rules;
+      done = by_row _ c.loop-y.y
+          (λ k low. c.put_row.ensures.before k low ∙ c.loop-y.invariant.done k low)
+          (λ i low. c.put_row.ensures.inside i low ∙ c.half_row-row.ensures i low ∙ half_in_row g.row.L c.args.stride c.requires.lanes c.args.p.now c.args.at c.args.by c.args.step c.loop-y.y i);
+    }

@@ -1,10 +1,11 @@
-use Rattle.std.proofs.Common.{◌≡◌, ◌<◌, ◌+◌, ◌*◌, ℕ, slice_index}
+use Rattle.std.proofs.Common.{◌≡◌, ◌<◌, ◌+◌, ◌*◌, ℕ, length, slice_index}
 use Rattle.avc_types.specs.Arithmetic.{mean_of_two}
 use Rattle.avc_inter.specs.Patch.{half_along}
+use Rattle.avc_inter.specs.SixRows.{place_of}
 use Rattle.avc_inter.proofs.rows.quarter_rows.Given as goal
 
 abbrev pub invariant-loop-y : goal.invariant-loop-y
-invariant-loop-y l = record {
-  done : (j : ℕ) → j < l.y → (i : ℕ) → i < 16 →
-      slice_index l.out (16 * j + i) ≡ mean_of_two (slice_index l.p (l.from + j * l.stride + i)) (half_along l.p (l.at + j * l.stride + i) l.step);
+invariant-loop-y g l = record {
+  long : length l.out ≡ length l.fn.out;
+  done : (k : ℕ) → k < 16 * l.y → slice_index l.out k ≡ mean_of_two (slice_index l.p (l.whole + (l.at + place_of g.row.L l.stride k))) (half_along l.p (l.by + (l.at + place_of g.row.L l.stride k)) l.step);
 }

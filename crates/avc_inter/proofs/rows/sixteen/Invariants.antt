@@ -1,8 +1,9 @@
-use Rattle.std.proofs.Common.{◌≡◌, ◌<◌, ◌+◌, ℕ, length, slice_index}
+use Rattle.std.proofs.Common.{◌≡◌, ◌<◌, ◌+◌, ◌*◌, ℕ, length, slice_index}
+use Rattle.avc_inter.specs.SixRows.{place_of}
 use Rattle.avc_inter.proofs.rows.sixteen.Given as goal
 
-abbrev pub invariant-loop-k : goal.invariant-loop-k
-invariant-loop-k l = record {
+abbrev pub invariant-loop-y : goal.invariant-loop-y
+invariant-loop-y g l = record {
   long : length l.out ≡ 16;
-  done : (k : ℕ) → k < l.k → slice_index l.out k ≡ slice_index l.p (l.at + k);
+  done : (k : ℕ) → k < g.row.L * l.y → slice_index l.out k ≡ slice_index l.p (l.at + place_of g.row.L l.stride k);
 }

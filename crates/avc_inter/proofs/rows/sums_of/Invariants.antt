@@ -1,4 +1,4 @@
-use Rattle.std.proofs.Common.{◌≡◌, ◌<◌, ℕ, length, pos, slice_index_or}
+use Rattle.std.proofs.Common.{◌≡◌, ◌<◌, ℕ, length, slice_index_or, pos}
 use Rattle.avc_inter.specs.Bounds.{IsSum}
 use Rattle.avc_inter.specs.SixRows.{taps_of}
 use Rattle.avc_inter.proofs.rows.sums_of.Given as goal
