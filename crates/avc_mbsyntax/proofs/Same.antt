@@ -1,12 +1,15 @@
 -- A part of the syntax in other words.
-use Rattle.std.proofs.Common.{◌≡◌, ℕ, ℤ, pos, min, true, ◌∙◌, sym}
-use Rattle.std.specs.Prelude.{Bool, Result, Ok, Err}
+use Rattle.std.proofs.Common.{◌≡◌, ◌≢◌, ℕ, zero, suc, ◌-◌, ℤ, pos, min, true, false, ap, refl, ◌∙◌, sym, arith}
+use Rattle.std.specs.Prelude.{Bool, Result, Ok, Err, ◌==◌}
+use Rattle.std.proofs.lemmas.Bool.{ne_eqb}
 use Rattle.avc_types.specs.declared.fault.Fault.{Fault}
+use Rattle.avc_types.specs.Macroblock.{Mb}
 use Rattle.avc_bits.specs.Bits.{Bits, Read}
 use Rattle.avc_bits.specs.Reader.{Reads, reader_bits}
 use Rattle.avc_bits.specs.declared.reader.BitReader.{BitReader}
 use Rattle.avc_cavlc.specs.Block.{residual_block}
-use Rattle.avc_mbsyntax.specs.Reading.{block_where}
+use Rattle.avc_mbsyntax.specs.Reading.{block_where, i_16x16_mb, i_mb, i_pcm_mb}
+use Rattle.avc_mbsyntax.specs.declared.context.Context.{Context}
 use Rattle.avc_mbsyntax.specs.Steps.{ReadsInto}
 use Rattle.avc_mbsyntax.proofs.BlockSteps.{block_capped}
 
@@ -20,3 +23,14 @@ reads_into_same (Err f) value p q old new same read = sym (same (reader_bits old
 
 pub capped_read : (max nC : ℕ) (z : ℤ) (b : Bits) → z ≡ pos (min nC 8) → residual_block max z b ≡ block_where max true nC b
 capped_read max nC z b is = rw is (block_capped max nC b)
+
+abbrev by_type : Context → (n : ℕ) → (pcm : Bool) → Read Mb
+by_type c n pcm = elim pcm [ true ↦ i_pcm_mb c | false ↦ i_16x16_mb c n ]
+
+-- mb_type 1 to 24 of an I slice
+pub i_mb_16x16 : (c : Context) (t : ℕ) (b : Bits) → t ≢ 0 → t ≢ 25 → i_16x16_mb c (t - 1) b ≡ i_mb c t b
+i_mb_16x16 c zero b some other = absurd (some refl)
+i_mb_16x16 c (suc n) b some other =
+    let less : suc n - 1 ≡ n = omega arith in
+    let o : (n == 24) ≡ false = ne_eqb n 24 (λ e. other (omega (arith, e))) in
+    ap (λ m. i_16x16_mb c m b) less ∙ sym (ap (λ pcm. by_type c n pcm b) o)

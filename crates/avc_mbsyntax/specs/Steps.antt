@@ -1,5 +1,6 @@
 -- What is read of a macroblock into its place.
-use Rattle.std.specs.Prelude.{◌≡◌, ℕ, Bool, true, false, replicate, Result, Ok, Err, MatchResult}
+use Rattle.std.specs.Prelude.{◌≡◌, ℕ, pos, Bool, true, false, replicate, Result, Ok, Err, MatchResult}
+use Rattle.std.specs.Option.{option_copied}
 use Rattle.avc_types.specs.declared.fault.Fault.{Fault}
 use Rattle.avc_types.specs.declared.macroblock.PMbType.{PMbType}
 use Rattle.avc_types.specs.declared.mb.BlockLevels.{BlockLevels}
@@ -8,6 +9,8 @@ use Rattle.avc_bits.specs.declared.reader.BitReader.{BitReader}
 use Rattle.avc_bits.specs.Bits.{Read}
 use Rattle.avc_bits.specs.Reader.{reader_bits, reader_bytes}
 use Rattle.avc_mbsyntax.specs.Reading.{no_levels}
+use Rattle.avc_mbsyntax.specs.declared.context.Context.{Context}
+use Rattle.avc_mbsyntax.specs.declared.context.LentContext.{LentContext}
 
 -- What was read into a place is what this part of the syntax reads, and the reader goes on after it. After a fault
 -- anything may stand there.
@@ -16,8 +19,11 @@ ReadsInto result value read old new = MatchResult result
     (λ _. (read (reader_bits old) ≡ Ok (value, reader_bits new)) × (reader_bytes new ≡ reader_bytes old))
     (λ fault. read (reader_bits old) ≡ Err fault)
 
--- No level is coded yet: all are 0.
+-- Nothing is coded yet: all is 0.
 pub record HasNoLevels {max : ℕ} (levels : BlockLevels max) : Type 0 where
+  pub no_luma_pattern : levels.luma_pattern ≡ 0
+  pub no_chroma_pattern : levels.chroma_pattern ≡ 0
+  pub no_delta : levels.mb_qp_delta ≡ pos 0
   pub no_luma : levels.luma ≡ replicate 16 (no_levels max)
   pub no_cb_dc : levels.cb_dc ≡ no_levels 4
   pub no_cr_dc : levels.cr_dc ≡ no_levels 4
@@ -31,3 +37,13 @@ is_ref0 P16x8 = false
 is_ref0 P8x16 = false
 is_ref0 (P8x8 subs) = false
 is_ref0 (P8x8Ref0 subs) = true
+
+-- what the context is whose neighbours' counts are lent
+abbrev pub context_of : LentContext → Context
+context_of c = record {
+  is_p = c.is_p;
+  active_count = c.active_count;
+  qp = c.qp;
+  left = option_copied c.left;
+  up = option_copied c.up;
+}

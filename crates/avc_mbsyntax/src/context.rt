@@ -1,3 +1,6 @@
+ghost use Rattle.std.specs.Prelude.{◌≡◌};
+ghost use Rattle.avc_mbsyntax.specs.Steps.{context_of};
+
 use avc_neigh::TotalCoeffs;
 
 /// What reading a macroblock asks of its slice and of its neighbours.
@@ -17,4 +20,28 @@ pub struct Context {
 
     /// Of the macroblock above, where it is available.
     pub up: Option<TotalCoeffs>,
+}
+
+/// The same, with what the neighbours have in its place.
+#[derive(Clone, Copy)]
+pub(crate) struct LentContext<'a> {
+    pub is_p: bool,
+    pub active_count: u8,
+    pub qp: u8,
+    pub left: Option<&'a TotalCoeffs>,
+    pub up: Option<&'a TotalCoeffs>,
+}
+
+impl Context {
+    pub(crate) fn lent(&self) -> LentContext<'_>
+        ensures { context_of result ≡ self.now }
+    {
+        LentContext {
+            is_p: self.is_p,
+            active_count: self.active_count,
+            qp: self.qp,
+            left: self.left.as_ref(),
+            up: self.up.as_ref(),
+        }
+    }
 }

@@ -5,9 +5,9 @@ ghost use Rattle.avc_bits.specs.Bits.{times};
 ghost use Rattle.avc_bits.specs.Reader.{Reads};
 ghost use Rattle.avc_mbsyntax.specs.Ranges.{IsSyntax};
 ghost use Rattle.avc_mbsyntax.specs.Reading.{mvd_l0, p_mb, p_mb_type, ref_idx_l0, sub_mb_types};
-ghost use Rattle.avc_mbsyntax.specs.Steps.{ReadsInto, is_ref0};
+ghost use Rattle.avc_mbsyntax.specs.Steps.{ReadsInto, context_of, is_ref0};
 
-use crate::context::Context;
+use crate::context::LentContext;
 use crate::elements::read_elements;
 use crate::residual::{qp_after, read_after_pattern, zero_levels};
 use avc_bits::BitReader;
@@ -20,11 +20,11 @@ const NO_MVD: Mvd = Mvd { x: 0, y: 0 };
 /// Reads a macroblock with this mb_type of a P slice, at most 4 (Table 7-13).
 pub(crate) fn read_p_mb(
     reader: &mut BitReader,
-    context: &Context,
+    context: &LentContext<'_>,
     mb_type: u32,
     mb: &mut Mb,
 ) -> Result<(), Fault>
-    ensures read { ReadsInto result mb.new (p_mb context.now mb_type) reader.old reader.new }
+    ensures read { ReadsInto result mb.new (p_mb (context_of context.now) mb_type) reader.old reader.new }
     ensures range { IfOk result (λ _. IsSyntax context.now.active_count mb.new.syntax) }
     ensures quantiser { context.now.qp ≤ 51 → IfOk result (λ _. mb.new.qp ≤ 51) }
 {

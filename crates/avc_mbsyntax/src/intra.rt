@@ -3,9 +3,9 @@ ghost use Rattle.std.specs.Prelude.{◌≡◌, ◌≤◌, true, IfOk, All, IfSom
 ghost use Rattle.avc_bits.specs.Bits.{times};
 ghost use Rattle.avc_mbsyntax.specs.Ranges.{IsSyntax};
 ghost use Rattle.avc_mbsyntax.specs.Reading.{block_mode, i_16x16_mb, i_mb, i_nxn_mb, i_pcm_mb, luma_pattern_of};
-ghost use Rattle.avc_mbsyntax.specs.Steps.{ReadsInto};
+ghost use Rattle.avc_mbsyntax.specs.Steps.{ReadsInto, context_of};
 
-use crate::context::Context;
+use crate::context::LentContext;
 use crate::elements::read_elements;
 use crate::residual::{
     Patterns, qp_after, read_after_pattern, read_intra_dc, read_levels, read_qp_delta, zero_levels,
@@ -18,12 +18,12 @@ use avc_vlc::read_cbp;
 /// Reads a macroblock with this mb_type of an I slice (Table 7-11).
 pub(crate) fn read_i_mb(
     reader: &mut BitReader,
-    context: &Context,
+    context: &LentContext<'_>,
     mb_type: u32,
     mb: &mut Mb,
 ) -> Result<(), Fault>
     requires { mb_type ≤ 25 }
-    ensures read { ReadsInto result mb.new (i_mb context.now mb_type) reader.old reader.new }
+    ensures read { ReadsInto result mb.new (i_mb (context_of context.now) mb_type) reader.old reader.new }
     ensures range { IfOk result (λ _. IsSyntax context.now.active_count mb.new.syntax) }
     ensures quantiser { context.now.qp ≤ 51 → IfOk result (λ _. mb.new.qp ≤ 51) }
 {
@@ -41,8 +41,8 @@ fn read_modes(reader: &mut BitReader, modes: &mut [Option<u8>; 16]) -> Result<()
     read_elements(reader, 16, 1, modes)
 }
 
-fn read_i_nxn(reader: &mut BitReader, context: &Context, mb: &mut Mb) -> Result<(), Fault>
-    ensures read { ReadsInto result mb.new (i_nxn_mb context.now) reader.old reader.new }
+fn read_i_nxn(reader: &mut BitReader, context: &LentContext<'_>, mb: &mut Mb) -> Result<(), Fault>
+    ensures read { ReadsInto result mb.new (i_nxn_mb (context_of context.now)) reader.old reader.new }
     ensures range { IfOk result (λ _. IsSyntax context.now.active_count mb.new.syntax) }
     ensures quantiser { context.now.qp ≤ 51 → IfOk result (λ _. mb.new.qp ≤ 51) }
 {
@@ -63,9 +63,14 @@ fn read_i_nxn(reader: &mut BitReader, context: &Context, mb: &mut Mb) -> Result<
     Ok(())
 }
 
-fn read_i_16x16(reader: &mut BitReader, context: &Context, n: u8, mb: &mut Mb) -> Result<(), Fault>
+fn read_i_16x16(
+    reader: &mut BitReader,
+    context: &LentContext<'_>,
+    n: u8,
+    mb: &mut Mb,
+) -> Result<(), Fault>
     requires { n ≤ 24 }
-    ensures read { ReadsInto result mb.new (i_16x16_mb context.now n) reader.old reader.new }
+    ensures read { ReadsInto result mb.new (i_16x16_mb (context_of context.now) n) reader.old reader.new }
     ensures range { IfOk result (λ _. IsSyntax context.now.active_count mb.new.syntax) }
     ensures quantiser { context.now.qp ≤ 51 → IfOk result (λ _. mb.new.qp ≤ 51) }
 {
@@ -99,8 +104,8 @@ fn luma_pattern_of(n: u8) -> u8
     if n >= 12 { 15 } else { 0 }
 }
 
-fn read_i_pcm(reader: &mut BitReader, context: &Context, mb: &mut Mb) -> Result<(), Fault>
-    ensures read { ReadsInto result mb.new (i_pcm_mb context.now) reader.old reader.new }
+fn read_i_pcm(reader: &mut BitReader, context: &LentContext<'_>, mb: &mut Mb) -> Result<(), Fault>
+    ensures read { ReadsInto result mb.new (i_pcm_mb (context_of context.now)) reader.old reader.new }
     ensures range { IfOk result (λ _. IsSyntax context.now.active_count mb.new.syntax) }
     ensures quantiser { context.now.qp ≤ 51 → IfOk result (λ _. mb.new.qp ≤ 51) }
 {

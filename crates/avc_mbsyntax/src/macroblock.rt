@@ -3,9 +3,9 @@ ghost use Rattle.std.specs.Prelude.{◌≡◌, OnErr, IfOk, ◌≤◌};
 ghost use Rattle.avc_bits.specs.Reader.{Reads};
 ghost use Rattle.avc_mbsyntax.specs.Ranges.{IsSyntax};
 ghost use Rattle.avc_mbsyntax.specs.Reading.{macroblock};
-ghost use Rattle.avc_mbsyntax.specs.Steps.{ReadsInto};
+ghost use Rattle.avc_mbsyntax.specs.Steps.{ReadsInto, context_of};
 
-use crate::context::Context;
+use crate::context::{Context, LentContext};
 use crate::inter::read_p_mb;
 use crate::intra::read_i_mb;
 use avc_bits::BitReader;
@@ -24,14 +24,18 @@ pub fn read_macroblock(reader: &mut BitReader, context: &Context) -> Result<Mb, 
         qp: context.qp,
     };
     let mut after = *reader;
-    read_into(&mut after, context, &mut mb)?;
+    read_into(&mut after, &context.lent(), &mut mb)?;
     *reader = after;
     Ok(mb)
 }
 
 /// Reads one macroblock into its place, in which anything may stand after a fault.
-pub(crate) fn read_into(reader: &mut BitReader, context: &Context, mb: &mut Mb) -> Result<(), Fault>
-    ensures read { ReadsInto result mb.new (macroblock context.now) reader.old reader.new }
+pub(crate) fn read_into(
+    reader: &mut BitReader,
+    context: &LentContext<'_>,
+    mb: &mut Mb,
+) -> Result<(), Fault>
+    ensures read { ReadsInto result mb.new (macroblock (context_of context.now)) reader.old reader.new }
     ensures range { IfOk result (λ _. IsSyntax context.now.active_count mb.new.syntax) }
     ensures quantiser { context.now.qp ≤ 51 → IfOk result (λ _. mb.new.qp ≤ 51) }
 {

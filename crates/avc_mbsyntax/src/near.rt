@@ -34,3 +34,33 @@ pub fn cr_side(total_coeffs: &Option<TotalCoeffs>) -> Option<&[u8; 4]>
         None => None,
     }
 }
+
+/// The same of lent ones.
+pub(crate) fn luma_counts(total_coeffs: Option<&TotalCoeffs>) -> Option<&[u8; 16]>
+    ensures { option_copied result ≡ luma_side (option_copied total_coeffs.entry) }
+{
+    match total_coeffs {
+        Some(total_coeffs) => Some(&total_coeffs.luma),
+        None => None,
+    }
+}
+
+/// Likewise.
+pub(crate) fn cb_counts(total_coeffs: Option<&TotalCoeffs>) -> Option<&[u8; 4]>
+    ensures { option_copied result ≡ cb_side (option_copied total_coeffs.entry) }
+{
+    match total_coeffs {
+        Some(total_coeffs) => Some(&total_coeffs.cb),
+        None => None,
+    }
+}
+
+/// Likewise.
+pub(crate) fn cr_counts(total_coeffs: Option<&TotalCoeffs>) -> Option<&[u8; 4]>
+    ensures { option_copied result ≡ cr_side (option_copied total_coeffs.entry) }
+{
+    match total_coeffs {
+        Some(total_coeffs) => Some(&total_coeffs.cr),
+        None => None,
+    }
+}

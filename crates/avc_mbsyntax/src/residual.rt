@@ -1,17 +1,18 @@
 //! The residual of a macroblock (7.3.5.3).
 ghost use Rattle.std.specs.Prelude.{◌≡◌, ◌≤◌, ◌==◌, ◌≤ℤ◌, ℤ, pos, negsuc, List, [], IfOk, ◌<◌, All, replicate};
 ghost use Rattle.std.specs.List.{range_with_len};
+ghost use Rattle.std.specs.Option.{option_copied};
 ghost use Rattle.avc_types.specs.MacroblockFields.{residual_of};
 ghost use Rattle.avc_bits.specs.Reader.{Reads};
 ghost use Rattle.avc_mbsyntax.specs.Ranges.{AreSmall, IsResidual};
 ghost use Rattle.avc_mbsyntax.specs.Reading.{after_pattern, blocks, cb_side, cr_side, is_coded};
 ghost use Rattle.avc_mbsyntax.specs.Reading.{luma_dc_levels, luma_side, no_levels, qp_after, qp_delta, qp_delta_where};
 ghost use Rattle.avc_mbsyntax.specs.Reading.{residual_blocks};
-ghost use Rattle.avc_mbsyntax.specs.Steps.{HasNoLevels, ReadsInto};
+ghost use Rattle.avc_mbsyntax.specs.Steps.{HasNoLevels, ReadsInto, context_of};
 
 use crate::blocks::{read_chroma_blocks, read_chroma_dc, read_luma_blocks, read_luma_dc};
-use crate::context::Context;
-use crate::near::{cb_side, cr_side, luma_side};
+use crate::context::LentContext;
+use crate::near::{cb_counts, cr_counts, luma_counts};
 use avc_bits::BitReader;
 use avc_types::{BlockLevels, Fault, Levels};
 
@@ -42,7 +43,7 @@ pub(crate) fn zero_levels<const MAXN: usize>() -> BlockLevels<MAXN>
 /// Reads what follows coded_block_pattern into levels that are all 0.
 pub(crate) fn read_after_pattern(
     reader: &mut BitReader,
-    context: &Context,
+    context: &LentContext<'_>,
     pattern: u8,
     levels: &mut BlockLevels<16>,
 ) -> Result<(), Fault>
@@ -50,8 +51,11 @@ pub(crate) fn read_after_pattern(
     requires zero { HasNoLevels levels.old }
     ensures delta { IfOk result (λ _. negsuc 25 ≤ℤ levels.new.mb_qp_delta) }
     ensures range { IfOk result (λ _. IsResidual (residual_of [] levels.new)) }
-    ensures read { ReadsInto result (residual_of [] levels.new) (after_pattern context.now pattern) reader.old reader.new }
+    ensures read { ReadsInto result (residual_of [] levels.new) (after_pattern (context_of context.now) pattern) reader.old reader.new }
 {
+    if pattern == 0 {
+        return Ok(());
+    }
     let mb_qp_delta = read_qp_delta_where(reader, pattern != 0)?;
     let patterns = Patterns {
         luma_pattern: pattern % 16,
@@ -79,71 +83,74 @@ pub(crate) fn read_qp_delta(reader: &mut BitReader) -> Result<i8, Fault>
 }
 
 /// Intra16x16DCLevel.
-pub(crate) fn read_intra_dc(reader: &mut BitReader, context: &Context) -> Result<Levels<16>, Fault>
-    ensures read { Reads result (luma_dc_levels context.now) reader.old reader.new }
+pub(crate) fn read_intra_dc(
+    reader: &mut BitReader,
+    context: &LentContext<'_>,
+) -> Result<Levels<16>, Fault>
+    ensures read { Reads result (luma_dc_levels (context_of context.now)) reader.old reader.new }
     ensures small { IfOk result AreSmall }
 {
-    let left = luma_side(&context.left);
-    let up = luma_side(&context.up);
+    let left = luma_counts(context.left);
+    let up = luma_counts(context.up);
     read_luma_dc(reader, left, up)
 }
 
 // The luma blocks.
 fn read_luma<const MAXN: usize>(
     reader: &mut BitReader,
-    context: &Context,
+    context: &LentContext<'_>,
     luma_pattern: u8,
     levels: &mut [Levels<MAXN>; 16],
 ) -> Result<(), Fault>
     requires max { MAXN ≤ 16 }
     requires zero { levels.old ≡ replicate 16 (no_levels MAXN) }
     ensures small { IfOk result (λ _. All AreSmall levels.new) }
-    ensures read { ReadsInto result levels.new (blocks MAXN 16 (is_coded luma_pattern) (luma_side context.now.left)
-        (luma_side context.now.up) (range_with_len 0 16) []) reader.old reader.new }
+    ensures read { ReadsInto result levels.new (blocks MAXN 16 (is_coded luma_pattern) (luma_side (option_copied context.now.left))
+        (luma_side (option_copied context.now.up)) (range_with_len 0 16) []) reader.old reader.new }
 {
-    let left = luma_side(&context.left);
-    let up = luma_side(&context.up);
+    let left = luma_counts(context.left);
+    let up = luma_counts(context.up);
     read_luma_blocks(reader, luma_pattern, left, up, levels)
 }
 
 // The AC blocks of Cb.
 fn read_cb_ac(
     reader: &mut BitReader,
-    context: &Context,
+    context: &LentContext<'_>,
     chroma_pattern: u8,
     levels: &mut [Levels<15>; 4],
 ) -> Result<(), Fault>
     requires zero { levels.old ≡ replicate 4 (no_levels 15) }
     ensures small { IfOk result (λ _. All AreSmall levels.new) }
     ensures read { ReadsInto result levels.new
-        (blocks 15 8 (λ k. chroma_pattern == 2) (cb_side context.now.left) (cb_side context.now.up) (range_with_len 0 4) []) reader.old reader.new }
+        (blocks 15 8 (λ k. chroma_pattern == 2) (cb_side (option_copied context.now.left)) (cb_side (option_copied context.now.up)) (range_with_len 0 4) []) reader.old reader.new }
 {
-    let left = cb_side(&context.left);
-    let up = cb_side(&context.up);
+    let left = cb_counts(context.left);
+    let up = cb_counts(context.up);
     read_chroma_blocks(reader, chroma_pattern, left, up, levels)
 }
 
 // The AC blocks of Cr.
 fn read_cr_ac(
     reader: &mut BitReader,
-    context: &Context,
+    context: &LentContext<'_>,
     chroma_pattern: u8,
     levels: &mut [Levels<15>; 4],
 ) -> Result<(), Fault>
     requires zero { levels.old ≡ replicate 4 (no_levels 15) }
     ensures small { IfOk result (λ _. All AreSmall levels.new) }
     ensures read { ReadsInto result levels.new
-        (blocks 15 8 (λ k. chroma_pattern == 2) (cr_side context.now.left) (cr_side context.now.up) (range_with_len 0 4) []) reader.old reader.new }
+        (blocks 15 8 (λ k. chroma_pattern == 2) (cr_side (option_copied context.now.left)) (cr_side (option_copied context.now.up)) (range_with_len 0 4) []) reader.old reader.new }
 {
-    let left = cr_side(&context.left);
-    let up = cr_side(&context.up);
+    let left = cr_counts(context.left);
+    let up = cr_counts(context.up);
     read_chroma_blocks(reader, chroma_pattern, left, up, levels)
 }
 
 /// Reads the blocks, behind Intra16x16DCLevel, into levels that are all 0.
 pub(crate) fn read_levels<const MAXN: usize>(
     reader: &mut BitReader,
-    context: &Context,
+    context: &LentContext<'_>,
     patterns: Patterns,
     levels: &mut BlockLevels<MAXN>,
 ) -> Result<(), Fault>
@@ -152,7 +159,7 @@ pub(crate) fn read_levels<const MAXN: usize>(
     requires chroma { patterns.chroma_pattern ≤ 2 }
     requires zero { HasNoLevels levels.old }
     ensures read { (luma_dc : List ℤ) → ReadsInto result (residual_of luma_dc levels.new)
-        (residual_blocks context.now MAXN luma_dc patterns.luma_pattern patterns.chroma_pattern patterns.mb_qp_delta) reader.old reader.new }
+        (residual_blocks (context_of context.now) MAXN luma_dc patterns.luma_pattern patterns.chroma_pattern patterns.mb_qp_delta) reader.old reader.new }
     ensures delta { IfOk result (λ _. levels.new.mb_qp_delta ≡ patterns.mb_qp_delta) }
     ensures range { IfOk result (λ _. (luma_dc : List ℤ) → AreSmall luma_dc → IsResidual (residual_of luma_dc levels.new)) }
 {

@@ -5,7 +5,7 @@ ghost use Rattle.avc_types.specs.Pictures.{PicMb};
 ghost use Rattle.avc_bits.specs.Reader.{reader_bits};
 ghost use Rattle.avc_mbsyntax.specs.SliceData.{SliceStart, left_total_coeffs, slice_data, up_total_coeffs};
 
-use crate::context::Context;
+use crate::context::LentContext;
 use crate::macroblock::read_into;
 use crate::stage::{Stage, stage_after};
 use avc_bits::BitReader;
@@ -155,12 +155,12 @@ impl<'a> SliceData<'a> {
         if self.remaining == 0 {
             return Err(Fault::TooManyMacroblocks);
         }
-        let context = Context {
+        let context = LentContext {
             is_p: self.is_p,
             active_count: self.active_count,
             qp: self.qp,
-            left: left.copied(),
-            up: up.copied(),
+            left,
+            up,
         };
         let mut reader = self.reader;
         read_into(&mut reader, &context, mb)?;

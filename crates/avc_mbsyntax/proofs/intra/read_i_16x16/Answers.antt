@@ -2,6 +2,7 @@ use Rattle.std.proofs.Common.{◌≡◌, ◌%◌, ◌∙◌, ap, Err, arith, rul
 use Rattle.std.proofs.lemmas.Int.{ints}
 use Rattle.avc_types.specs.MacroblockFields.{residual_of}
 use Rattle.avc_bits.specs.Reader.{reader_bits}
+use Rattle.avc_mbsyntax.specs.Steps.{context_of}
 use Rattle.avc_mbsyntax.specs.Reading.{i_16x16_mb, qp_after}
 use Rattle.avc_mbsyntax.proofs.AfterPatterns.{i_16x16_fault, i_16x16_read}
 use Rattle.avc_mbsyntax.proofs.intra.read_i_16x16.Goals as goal
@@ -10,8 +11,8 @@ pub returns-in_err-read_levels-clause-read : goal.returns-in_err-read_levels-cla
 returns-in_err-read_levels-clause-read c =
     let delta = c.in_ok-mb_qp_delta.mb_qp_delta in
     let back : to_z w8 (of_z w8 c.in_ok-mb_qp_delta.mb_qp_delta) ≡ c.in_ok-mb_qp_delta.mb_qp_delta = omega (arith, ints) in
-    let fault : i_16x16_mb c.args.context.now c.args.n (reader_bits c.args.reader.now) ≡ Err c.in_err-read_levels.field-0.0 =
-    i_16x16_fault c.args.context.now c.args.n c.in_ok-chroma_mode.field-0 c.luma_pattern_of.result delta (to_z w8 (of_z w8 delta)) c.in_ok-luma_dc.luma_dc (reader_bits c.args.reader.now) (reader_bits c.ue_to.new.self) (reader_bits c.read_qp_delta.new.reader) (reader_bits c.read_intra_dc.new.reader) c.in_err-read_levels.field-0.0
+    let fault : i_16x16_mb (context_of c.args.context.now) c.args.n (reader_bits c.args.reader.now) ≡ Err c.in_err-read_levels.field-0.0 =
+    i_16x16_fault (context_of c.args.context.now) c.args.n c.in_ok-chroma_mode.field-0 c.luma_pattern_of.result delta (to_z w8 (of_z w8 delta)) c.in_ok-luma_dc.luma_dc (reader_bits c.args.reader.now) (reader_bits c.ue_to.new.self) (reader_bits c.read_qp_delta.new.reader) (reader_bits c.read_intra_dc.new.reader) c.in_err-read_levels.field-0.0
     c.in_ok-chroma_mode.ensures.read.0 c.in_ok-mb_qp_delta.ensures.read.0 c.in_ok-luma_dc.ensures.read.0 c.luma_pattern_of.ensures.value back (c.in_err-read_levels.ensures.read c.in_ok-luma_dc.luma_dc) in
     search rules
 
@@ -25,7 +26,7 @@ returns-clause-read c =
     let ch : c.in-I16x16.chroma_mode ≡ c.in_ok-chroma_mode.field-0 = search rules in
     let dc : c.in-I16x16.luma_dc ≡ c.in_ok-luma_dc.luma_dc = search rules in
     rw (m, ch, dc) (
-      i_16x16_read c.args.context.now c.args.n c.in_ok-chroma_mode.field-0 c.luma_pattern_of.result c.qp_after-mb-inside.result delta (to_z w8 (of_z w8 delta)) c.in_ok-luma_dc.luma_dc (residual_of c.in_ok-luma_dc.luma_dc levels)
+      i_16x16_read (context_of c.args.context.now) c.args.n c.in_ok-chroma_mode.field-0 c.luma_pattern_of.result c.qp_after-mb-inside.result delta (to_z w8 (of_z w8 delta)) c.in_ok-luma_dc.luma_dc (residual_of c.in_ok-luma_dc.luma_dc levels)
           (reader_bits c.args.reader.now) (reader_bits c.ue_to.new.self) (reader_bits c.read_qp_delta.new.reader) (reader_bits c.read_intra_dc.new.reader) (reader_bits c.read_levels.new.reader)
           c.in_ok-chroma_mode.ensures.read.0 c.in_ok-mb_qp_delta.ensures.read.0 c.in_ok-luma_dc.ensures.read.0 c.luma_pattern_of.ensures.value back (c.in_ok-read_levels.ensures.read c.in_ok-luma_dc.luma_dc).0 q,
       (c.in_ok-read_levels.ensures.read c.in_ok-luma_dc.luma_dc).1 ∙ c.in_ok-luma_dc.ensures.read.1 ∙ c.in_ok-mb_qp_delta.ensures.read.1 ∙ c.in_ok-chroma_mode.ensures.read.1,

@@ -1,5 +1,6 @@
 use Rattle.std.proofs.Common.{◌≡◌, ◌<◌, ◌-◌, false, ap, sym, subst, ◌∙◌, arith, length, Ok}
 use Rattle.std.specs.Prelude.{◌==◌}
+use Rattle.std.specs.Option.{option_copied}
 use Rattle.avc_bits.specs.Bits.{more_data}
 use Rattle.avc_bits.specs.Reader.{reader_bits}
 use Rattle.avc_mbsyntax.specs.Ranges.{IsSyntax}
@@ -19,7 +20,7 @@ returns c = λ s before f l u.
     let some : 0 < c.args.self.now.remaining = omega (arith, c.if-self-eq0.false) in
     let room : (length before == s.size) ≡ false = is_open (length before) s.size d.remaining f.size c.if-self-eq0.false in
     let read : macroblock (context s before c.args.self.now.qp) (reader_bits c.args.self.now.reader) ≡ Ok (c.read_into.new.mb, reader_bits c.read_into.new.reader) =
-    ap (λ x. macroblock x (reader_bits d.reader)) (context_is s before d.is_p d.active_count d.qp c.copied.result c.copied-2.result f.is_p f.active_count (c.copied.ensures ∙ l) (c.copied-2.ensures ∙ u)) ∙ c.in_ok-read_into.ensures.read.0 in (
+    ap (λ x. macroblock x (reader_bits d.reader)) (context_is s before d.is_p d.active_count d.qp (option_copied c.args.left) (option_copied c.args.up) f.is_p f.active_count l u) ∙ c.in_ok-read_into.ensures.read.0 in (
       one_read s before d.qp c.mb.inside.qp (reader_bits d.reader) mid mb c.stage_after-self.result room read c.stage_after-self.ensures same_qp,
       record {
         is_p = f.is_p;
