@@ -44,14 +44,16 @@ pub(crate) fn read_elements<T: Element, const N: usize>(
 impl Element for Option<u8> {
     ghost part = { λ _. block_mode };
 
+    // One look at the flag and the three bits that may stand behind it.
+    #[tactic(auto, using(crate::proofs::Modes::mode_none, crate::proofs::Modes::mode_some))]
     fn read(reader: &mut BitReader, most: u32) -> Result<Option<u8>, Fault> {
-        let predicted = reader.flag()?;
-        if predicted {
-            Ok(None)
-        } else {
-            let rem = reader.u(3)? as u8;
-            Ok(Some(rem))
+        let four = reader.peek(4);
+        if four >= 8 {
+            reader.skip(1)?;
+            return Ok(None);
         }
+        reader.skip(4)?;
+        Ok(Some(four as u8))
     }
 }
 

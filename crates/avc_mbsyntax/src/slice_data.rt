@@ -2,6 +2,7 @@
 ghost use Rattle.std.specs.Prelude.{◌≡◌, ◌+◌, ◌<◌, List, length, true, IfOk};
 ghost use Rattle.std.specs.Option.{option_copied};
 ghost use Rattle.avc_types.specs.Pictures.{PicMb};
+ghost use Rattle.avc_types.specs.declared.mb.Syntax.TheVariants.{PSkip};
 ghost use Rattle.avc_bits.specs.Reader.{reader_bits};
 ghost use Rattle.avc_mbsyntax.specs.SliceData.{SliceStart, left_total_coeffs, slice_data, up_total_coeffs};
 
@@ -23,6 +24,16 @@ pub struct SliceData<'a> {
     // how many macroblocks of the picture remain
     remaining: u32,
     stage: Stage,
+}
+
+// P_Skip in this place, which is large: nothing is written where that stands there already.
+fn set_skipped(syntax: &mut Syntax)
+    ensures { syntax.new ≡ PSkip }
+{
+    match syntax {
+        Syntax::PSkip => {}
+        _ => *syntax = Syntax::PSkip,
+    }
 }
 
 impl<'a> SliceData<'a> {
@@ -138,7 +149,7 @@ impl<'a> SliceData<'a> {
     {
         self.stage = Stage::Skipped(count - 1);
         self.remaining = self.remaining.saturating_sub(1);
-        mb.syntax = Syntax::PSkip;
+        set_skipped(&mut mb.syntax);
         mb.qp = self.qp;
     }
 

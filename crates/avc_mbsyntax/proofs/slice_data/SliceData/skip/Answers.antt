@@ -8,7 +8,7 @@ use Rattle.avc_mbsyntax.proofs.slice_data.SliceData.skip.Goals as goal
 
 pub returns : goal.returns
 unfolding rest_of
-returns c = λ s before f.
+returns c = rw c.set_skipped.ensures (λ s before f.
     let d = c.args.self.now in
     let count : c.args.count ≡ suc (c.args.count - 1) = omega (arith, c.requires.some) in
     let kept : IsStage (Skipped c.args.count) s c.args.self.now.remaining = subst (λ t. IsStage t s c.args.self.now.remaining) c.requires.stage f.stage in
@@ -22,4 +22,4 @@ returns c = λ s before f.
         stage = (kept.0, omega (arith, kept.1, c.saturating_sub-self.ensures));
       },
       record { range = tt; quantiser = f.quantiser },
-    )
+    ))
