@@ -1,0 +1,65 @@
+-- What each call of C does to a decoder, or to none.
+use Rattle.std.specs.Prelude.{◌≡◌, ◌⊎◌, ℕ, Bool, true, false, List, Option, Some, None, Result}
+use Rattle.avc_decoder.specs.Output.{Output}
+use Rattle.avc_decoder.specs.Output.TheVariants.{Early, Full}
+use Rattle.avc_decoder.specs.Machine.{Machine, new_machine, IsCount, IsFeedAnswer, IsTakeAnswer}
+use Rattle.avc_decoder.specs.declared.error.DecodeError.{DecodeError}
+use Rattle.avc_decoder.specs.declared.event.Event.{Event}
+use Rattle.avc_c.specs.Copies.{IsI420Copied, IsPlaneCopied}
+use Rattle.avc_c.specs.EventRecords.{call_status, picture_of, record_of, take_status}
+use Rattle.avc_c.specs.Statuses.{number_of}
+use Rattle.avc_c.specs.declared.address.OpenDecoder.{OpenDecoder}
+use Rattle.avc_c.specs.declared.event.EventRecord.{EventRecord}
+use Rattle.avc_c.specs.declared.status.Status.TheVariants.{Ok, OutOfMemory, Closed, IsOpen}
+
+-- the most bytes of a unit
+abbrev pub max_unit : ℕ
+max_unit = 134217728
+
+-- when pictures go out
+abbrev pub output_of : (early : Bool) → Output
+output_of true = Early
+output_of false = Full
+
+-- a decoder as it is opened: of no bytes, and with no picture
+abbrev pub opened : (early : Bool) → OpenDecoder
+opened early = record { decoder = new_machine (output_of early); picture = None }
+
+-- a decoder is opened, or there was no memory; an open one stays as it is
+abbrev pub IsOpened : (early : Bool) → Option OpenDecoder → (status : ℕ) → Option OpenDecoder → Type 0
+IsOpened early (Some d) status new = (status ≡ number_of IsOpen) × (new ≡ Some d)
+IsOpened early None status new = ((status ≡ number_of Ok) × (new ≡ Some (opened early))) ⊎ ((status ≡ number_of OutOfMemory) × (new ≡ None))
+
+-- bytes are fed, or the end is told; the picture that was taken stays
+abbrev pub IsFed : (after : Machine → Machine) → Option OpenDecoder → (status : ℕ) → Option OpenDecoder → Type 0
+IsFed after None status new = (status ≡ number_of Closed) × (new ≡ None)
+IsFed after (Some d) status new =
+    (answer : Result (Unit {0}) DecodeError) × (m : Machine) × IsFeedAnswer d.decoder (after d.decoder) answer m × (status ≡ number_of (call_status answer))
+    × (new ≡ Some (record { decoder = m; picture = d.picture }))
+
+-- a new stream begins, with no picture
+abbrev pub IsReset : Option OpenDecoder → (status : ℕ) → Option OpenDecoder → Type 0
+IsReset None status new = (status ≡ number_of Closed) × (new ≡ None)
+IsReset (Some d) status new = (status ≡ number_of Ok) × (new ≡ Some (record { decoder = new_machine (d.decoder).output; picture = None }))
+
+-- the next event is told, and its picture kept
+abbrev pub IsTaken : Option OpenDecoder → (before : EventRecord) → (status : ℕ) → (event : EventRecord) → Option OpenDecoder → Type 0
+IsTaken None before status event new = (status ≡ number_of Closed) × (event ≡ before) × (new ≡ None)
+IsTaken (Some d) before status event new =
+    (answer : Result (Option Event) DecodeError) × (m : Machine) × IsTakeAnswer max_unit d.decoder answer m × (status ≡ number_of (take_status answer))
+    × (event ≡ record_of answer) × (new ≡ Some (record { decoder = m; picture = picture_of answer }))
+
+-- the picture that was taken last is copied
+abbrev pub IsI420CopiedOut : Option OpenDecoder → (old : List ℕ) → (status : ℕ) → (new : List ℕ) → Type 0
+IsI420CopiedOut None old status new = (status ≡ number_of Closed) × (new ≡ old)
+IsI420CopiedOut (Some d) old status new = IsI420Copied d.picture old status new
+
+-- a plane of it is copied
+abbrev pub IsPlaneCopiedOut : Option OpenDecoder → (plane : ℕ) → (old : List ℕ) → (stride status : ℕ) → (new : List ℕ) → Type 0
+IsPlaneCopiedOut None plane old stride status new = (status ≡ number_of Closed) × (new ≡ old)
+IsPlaneCopiedOut (Some d) plane old stride status new = IsPlaneCopied d.picture plane old stride status new
+
+-- the macroblocks that were read are counted
+abbrev pub IsCounted : Option OpenDecoder → (count : ℕ) → Type 0
+IsCounted None count = count ≡ 0
+IsCounted (Some d) count = IsCount max_unit d.decoder count

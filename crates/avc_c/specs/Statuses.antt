@@ -1,0 +1,16 @@
+-- The numbers of the statuses.
+use Rattle.std.specs.Prelude.{ℕ}
+use Rattle.avc_c.specs.declared.status.Status.{Status}
+use Rattle.avc_c.specs.declared.status.Status.TheVariants.{Ok, OutOfMemory, Ended, Closed, IsOpen, NoPicture, NoRoom, NoPlane, NoFault}
+
+-- the number by which C tells them apart
+abbrev pub number_of : Status → ℕ
+number_of Ok = 0
+number_of OutOfMemory = 1
+number_of Ended = 2
+number_of Closed = 3
+number_of IsOpen = 4
+number_of NoPicture = 5
+number_of NoRoom = 6
+number_of NoPlane = 7
+number_of NoFault = 8

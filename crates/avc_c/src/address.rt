@@ -1,0 +1,79 @@
+ghost use Rattle.std.specs.Prelude.{◌≡◌, Option, Some, None};
+ghost use Rattle.avc_c.specs.declared.address.OpenDecoder.{OpenDecoder};
+ghost use Rattle.avc_c.specs.OpenDecoders.{IsOpen};
+
+use crate::picture::LastPicture;
+use crate::raw_box::RawBox;
+use avc_decoder::Decoder;
+use std::alloc::Global;
+use std::marker::Model;
+
+/// A decoder and the picture that was taken last.
+#[derive(Drop)]
+pub struct OpenDecoder {
+    pub decoder: Decoder<134_217_728>,
+    pub picture: LastPicture,
+}
+
+/// Where an open decoder lies, of which it is the owner; or nothing.
+#[repr(C)]
+#[derive(Drop)]
+pub struct DecoderAddress {
+    at: *mut u8,
+    alloc: Global,
+    pub ghost decoder: { Option OpenDecoder },
+}
+
+impl Model for DecoderAddress {
+    ghost use Rattle.avc_c.specs.Owned.{owned};
+
+    ghost also_owns = { λ a. owned a.alloc a.at a.decoder };
+}
+
+impl DecoderAddress {
+    /// Nothing.
+    pub fn none(alloc: Global) -> DecoderAddress
+        ensures { result.decoder ≡ None }
+    {
+        DecoderAddress {
+            at: std::ptr::null_mut(),
+            alloc,
+        }
+    }
+
+    /// That of a decoder, which it owns from now on.
+    pub fn of(decoder: Box<OpenDecoder>) -> DecoderAddress
+        ensures { result.decoder ≡ Some decoder.value }
+    {
+        DecoderAddress::of_raw(RawBox::from_box(decoder))
+    }
+
+    /// The decoder.
+    pub fn into_box(self) -> Box<OpenDecoder>
+        requires { IsOpen self.decoder }
+        ensures { Some result.value ≡ self.decoder }
+    {
+        self.into_raw().into_box()
+    }
+
+    fn of_raw(raw: RawBox<OpenDecoder, Global>) -> DecoderAddress
+        ensures { result.decoder ≡ Some raw.value }
+    {
+        let RawBox { at, alloc } = raw;
+        DecoderAddress {
+            at: at as *mut u8,
+            alloc,
+        }
+    }
+
+    fn into_raw(self) -> RawBox<OpenDecoder, Global>
+        requires { IsOpen self.decoder }
+        ensures { Some result.value ≡ self.decoder }
+    {
+        let DecoderAddress { at, alloc } = self;
+        RawBox {
+            at: at as *mut OpenDecoder,
+            alloc,
+        }
+    }
+}

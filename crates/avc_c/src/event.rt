@@ -1,0 +1,69 @@
+ghost use Rattle.std.specs.Prelude.{◌≡◌};
+ghost use Rattle.avc_c.specs.EventRecords.{picture_record, record_of};
+
+use avc_decoder::{DecodeError, Event};
+use avc_types::Picture;
+
+/// What C is told of an event: nothing (0), a picture (1) or a refusal (2). What does not belong to its kind is 0.
+#[repr(C)]
+#[derive(Clone, Copy, Debug, PartialEq, Eq)]
+pub struct EventRecord {
+    pub kind: u32,
+    /// Number of the fault of a refusal.
+    pub fault: u32,
+    /// The unit of a refusal, counted from 0.
+    pub unit: u64,
+    /// The coded size of a picture, in luma samples.
+    pub width: u32,
+    pub height: u32,
+    /// What is not shown of a picture, in luma samples from each side.
+    pub crop_left: u32,
+    pub crop_right: u32,
+    pub crop_top: u32,
+    pub crop_bottom: u32,
+}
+
+const NOTHING: EventRecord = EventRecord {
+    kind: 0,
+    fault: 0,
+    unit: 0,
+    width: 0,
+    height: 0,
+    crop_left: 0,
+    crop_right: 0,
+    crop_top: 0,
+    crop_bottom: 0,
+};
+
+impl EventRecord {
+    fn of_picture(picture: &Picture) -> EventRecord
+        ensures { result ≡ picture_record picture.now }
+    {
+        EventRecord {
+            kind: 1,
+            width: picture.width,
+            height: picture.height,
+            crop_left: picture.crop.left,
+            crop_right: picture.crop.right,
+            crop_top: picture.crop.top,
+            crop_bottom: picture.crop.bottom,
+            ..NOTHING
+        }
+    }
+
+    pub(crate) fn of(answer: &Result<Option<Event>, DecodeError>) -> EventRecord
+        ensures { result ≡ record_of answer.now }
+    {
+        match answer {
+            Ok(Some(Event::Picture(picture))) => EventRecord::of_picture(picture),
+            Ok(Some(Event::Refused { unit, fault })) => EventRecord {
+                kind: 2,
+                fault: u32::from(fault.number()),
+                unit: *unit,
+                ..NOTHING
+            },
+            Ok(None) => NOTHING,
+            Err(_) => NOTHING,
+        }
+    }
+}

@@ -1,0 +1,182 @@
+ghost use Rattle.std.specs.Prelude.{◌≡◌, Some, None};
+ghost use Rattle.avc_decoder.specs.Machine.{after_feed, after_flush};
+ghost use Rattle.avc_c.specs.Exports.{IsOpened, IsFed, IsReset, IsTaken, IsI420CopiedOut, IsPlaneCopiedOut, IsCounted};
+ghost use Rattle.avc_c.specs.FaultNames.{IsNamed};
+
+use crate::address::OpenDecoder;
+use crate::event::EventRecord;
+use crate::fault::copy_name;
+use crate::handle::DecoderHandle;
+use crate::picture::LastPicture;
+use crate::status::Status;
+use avc_decoder::laws::pictures_are_whole;
+use avc_decoder::{Decoder, Output};
+use std::alloc::Global;
+
+/// Opens a decoder that is closed.
+#[unsafe(no_mangle)]
+pub extern "C" fn avcdec_open(alloc: Global, decoder: &mut DecoderHandle, early: bool) -> u32
+    ensures { IsOpened early decoder.old.address.decoder result decoder.new.address.decoder }
+{
+    if decoder.is_open {
+        return Status::IsOpen.number();
+    }
+    let output = if early { Output::Early } else { Output::Full };
+    let open = OpenDecoder {
+        decoder: Decoder::new(alloc, output),
+        picture: LastPicture::none(),
+    };
+    match Box::new(alloc, open) {
+        Ok(open) => {
+            decoder.insert(open);
+            Status::Ok.number()
+        }
+        Err(_) => Status::OutOfMemory.number(),
+    }
+}
+
+/// Closes a decoder and frees what it holds. A closed one stays closed.
+#[unsafe(no_mangle)]
+pub extern "C" fn avcdec_close(alloc: Global, decoder: &mut DecoderHandle)
+    ensures { decoder.new.address.decoder ≡ None }
+{
+    if decoder.is_open {
+        let _ = decoder.remove(alloc);
+    }
+}
+
+/// Gives the next bytes of the stream.
+#[unsafe(no_mangle)]
+pub extern "C" fn avcdec_feed(alloc: Global, decoder: &mut DecoderHandle, bytes: &[u8]) -> u32
+    ensures { IsFed (after_feed bytes.now) decoder.old.address.decoder result decoder.new.address.decoder }
+{
+    if !decoder.is_open {
+        return Status::Closed.number();
+    }
+    let mut open = decoder.remove(alloc);
+    let answer = open.decoder.feed(bytes);
+    decoder.insert(open);
+    Status::of_call(answer).number()
+}
+
+/// Ends the stream.
+#[unsafe(no_mangle)]
+pub extern "C" fn avcdec_flush(alloc: Global, decoder: &mut DecoderHandle) -> u32
+    ensures { IsFed after_flush decoder.old.address.decoder result decoder.new.address.decoder }
+{
+    if !decoder.is_open {
+        return Status::Closed.number();
+    }
+    let mut open = decoder.remove(alloc);
+    let answer = open.decoder.flush();
+    decoder.insert(open);
+    Status::of_call(answer).number()
+}
+
+/// Begins a new stream.
+#[unsafe(no_mangle)]
+pub extern "C" fn avcdec_reset(alloc: Global, decoder: &mut DecoderHandle) -> u32
+    ensures { IsReset decoder.old.address.decoder result decoder.new.address.decoder }
+{
+    if !decoder.is_open {
+        return Status::Closed.number();
+    }
+    let mut open = decoder.remove(alloc);
+    open.decoder.reset();
+    open.picture = LastPicture::none();
+    decoder.insert(open);
+    Status::Ok.number()
+}
+
+/// Takes the next event. Its picture is there until the next take, reset or close.
+#[unsafe(no_mangle)]
+pub extern "C" fn avcdec_take(
+    alloc: Global,
+    decoder: &mut DecoderHandle,
+    event: &mut EventRecord,
+) -> u32
+    ensures { IsTaken decoder.old.address.decoder event.old result event.new decoder.new.address.decoder }
+{
+    if !decoder.is_open {
+        return Status::Closed.number();
+    }
+    pictures_are_whole();
+    let mut open = decoder.remove(alloc);
+    let answer = open.decoder.take();
+    let status = Status::of_take(&answer);
+    *event = EventRecord::of(&answer);
+    open.picture = LastPicture::of(answer);
+    decoder.insert(open);
+    status.number()
+}
+
+/// Copies what is shown of the picture that was taken last, as I420.
+#[unsafe(no_mangle)]
+pub extern "C" fn avcdec_copy_i420(
+    alloc: Global,
+    decoder: &mut DecoderHandle,
+    out: &mut [u8],
+) -> u32
+    ensures decoder { decoder.new.address.decoder ≡ decoder.old.address.decoder }
+    ensures copied { IsI420CopiedOut decoder.old.address.decoder out.old result out.new }
+{
+    if !decoder.is_open {
+        return Status::Closed.number();
+    }
+    let open = decoder.remove(alloc);
+    let status = open.picture.copy_i420(out);
+    decoder.insert(open);
+    status.number()
+}
+
+/// Copies what is shown of one plane of the picture that was taken last, a row every `stride` bytes.
+#[unsafe(no_mangle)]
+pub extern "C" fn avcdec_copy_plane(
+    alloc: Global,
+    decoder: &mut DecoderHandle,
+    plane: u32,
+    out: &mut [u8],
+    stride: usize,
+) -> u32
+    ensures decoder { decoder.new.address.decoder ≡ decoder.old.address.decoder }
+    ensures copied { IsPlaneCopiedOut decoder.old.address.decoder plane out.old stride result out.new }
+{
+    if !decoder.is_open {
+        return Status::Closed.number();
+    }
+    let open = decoder.remove(alloc);
+    let status = open.picture.copy_plane(plane, out, stride);
+    decoder.insert(open);
+    status.number()
+}
+
+/// How many macroblocks have been read since the last reset; 0 where the decoder is closed.
+#[unsafe(no_mangle)]
+pub extern "C" fn avcdec_turns(alloc: Global, decoder: &mut DecoderHandle) -> u64
+    ensures decoder { decoder.new.address.decoder ≡ decoder.old.address.decoder }
+    ensures turns { IsCounted decoder.old.address.decoder result }
+{
+    if !decoder.is_open {
+        return 0;
+    }
+    let open = decoder.remove(alloc);
+    let turns = open.decoder.turns();
+    decoder.insert(open);
+    turns
+}
+
+/// Copies the name of a fault, and a 0 behind it.
+#[unsafe(no_mangle)]
+pub extern "C" fn avcdec_fault_name(fault: u32, name: &mut [u8]) -> u32
+    ensures { IsNamed fault name.old result name.new }
+{
+    copy_name(fault, name).number()
+}
+
+/// The version of the library: 65536 times its first number, 256 times its second, and its third.
+#[unsafe(no_mangle)]
+pub extern "C" fn avcdec_version() -> u32
+    ensures { result ≡ 0x00_01_00 }
+{
+    0x00_01_00
+}

@@ -1,0 +1,22 @@
+//! The decoder for programs in C: the functions of include/avcdec.h.
+#![tactic(auto)]
+
+mod address;
+mod event;
+mod exports;
+mod fault;
+mod handle;
+pub mod laws;
+mod picture;
+mod raw_box;
+mod status;
+
+pub use address::{DecoderAddress, OpenDecoder};
+pub use event::EventRecord;
+pub use exports::{
+    avcdec_close, avcdec_copy_i420, avcdec_copy_plane, avcdec_fault_name, avcdec_feed,
+    avcdec_flush, avcdec_open, avcdec_reset, avcdec_take, avcdec_turns, avcdec_version,
+};
+pub use handle::DecoderHandle;
+pub use picture::LastPicture;
+pub use status::Status;

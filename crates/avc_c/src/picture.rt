@@ -1,0 +1,95 @@
+ghost use Rattle.std.specs.Prelude.{◌≡◌, IfSome, Option, None};
+ghost use Rattle.avc_types.specs.Whole.{IsWhole};
+ghost use Rattle.avc_c.specs.EventRecords.{picture_of};
+ghost use Rattle.avc_c.specs.Statuses.{number_of};
+ghost use Rattle.avc_c.specs.Copies.{IsI420Copied, IsPlaneCopied, component_of};
+
+use crate::status::Status;
+use avc_decoder::{DecodeError, Event};
+use avc_types::Picture;
+use avc_yuv::{Component, copy_i420, copy_plane, i420_len, plane_columns, plane_len};
+use std::marker::Model;
+
+/// The picture that was taken last, where the last event is one. Its planes and its crop fit its size.
+#[derive(Drop)]
+pub struct LastPicture {
+    picture: Option<Picture>,
+}
+
+impl Model for LastPicture {
+    ghost use Rattle.std.specs.Prelude.{IfSome, Option};
+    ghost use Rattle.avc_types.specs.Whole.{IsWhole};
+    ghost use Rattle.avc_types.specs.declared.picture.Picture.{Picture};
+
+    ghost Value = { Option Picture };
+
+    ghost view = { λ p. p.picture };
+
+    ghost invariant = { λ p. IfSome p.picture IsWhole };
+}
+
+impl LastPicture {
+    pub(crate) fn none() -> LastPicture
+        ensures { result ≡ None }
+    {
+        LastPicture { picture: None }
+    }
+
+    /// The picture of an answer of `take`.
+    pub(crate) fn of(answer: Result<Option<Event>, DecodeError>) -> LastPicture
+        requires { IfSome (picture_of answer) IsWhole }
+        ensures { result ≡ picture_of answer }
+    {
+        match answer {
+            Ok(Some(Event::Picture(picture))) => LastPicture {
+                picture: Some(picture),
+            },
+            Ok(Some(Event::Refused { .. })) => LastPicture::none(),
+            Ok(None) => LastPicture::none(),
+            Err(_) => LastPicture::none(),
+        }
+    }
+
+    /// Copies what is shown, as I420.
+    pub(crate) fn copy_i420(&self, out: &mut [u8]) -> Status
+        ensures { IsI420Copied self.now out.old (number_of result) out.new }
+    {
+        let Some(picture) = &self.picture else {
+            return Status::NoPicture;
+        };
+        if (out.len() as u128) < i420_len(picture) {
+            return Status::NoRoom;
+        }
+        copy_i420(picture, out);
+        Status::Ok
+    }
+
+    /// Copies what is shown of one plane, a row every `stride` bytes.
+    pub(crate) fn copy_plane(&self, plane: u32, out: &mut [u8], stride: usize) -> Status
+        ensures { IsPlaneCopied self.now plane out.old stride (number_of result) out.new }
+    {
+        let Some(picture) = &self.picture else {
+            return Status::NoPicture;
+        };
+        let Some(component) = component_of(plane) else {
+            return Status::NoPlane;
+        };
+        if stride < plane_columns(picture, component) {
+            return Status::NoRoom;
+        }
+        if (out.len() as u128) < plane_len(picture, component, stride) {
+            return Status::NoRoom;
+        }
+        copy_plane(picture, component, out, stride);
+        Status::Ok
+    }
+}
+
+// The component with this number.
+fn component_of(plane: u32) -> Option<Component>
+    ensures { result ≡ component_of plane }
+{
+    [Component::Luma, Component::Cb, Component::Cr]
+        .get(plane as usize)
+        .copied()
+}

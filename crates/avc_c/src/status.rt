@@ -1,0 +1,57 @@
+ghost use Rattle.std.specs.Prelude.{◌≡◌};
+ghost use Rattle.avc_c.specs.EventRecords.{call_status, take_status};
+
+use avc_decoder::{DecodeError, Event};
+
+/// What a call answers to C.
+#[derive(Clone, Copy, Debug, PartialEq, Eq)]
+pub enum Status {
+    Ok = 0,
+    /// Of feed, flush and take until the decoder is reset or closed.
+    OutOfMemory = 1,
+    /// The stream has been ended by a flush.
+    Ended = 2,
+    Closed = 3,
+    IsOpen = 4,
+    /// The event that was taken last is no picture.
+    NoPicture = 5,
+    /// The memory that was given is too small, or its rows are.
+    NoRoom = 6,
+    /// No plane has this number.
+    NoPlane = 7,
+    /// No fault has this number.
+    NoFault = 8,
+}
+
+impl Status {
+    ghost use Rattle.avc_c.specs.Statuses.{number_of};
+
+    /// The number by which C tells statuses apart.
+    pub fn number(self) -> u32
+        ensures { result ≡ number_of self }
+    {
+        self as u32
+    }
+
+    /// Of a feed or flush.
+    pub(crate) fn of_call(answer: Result<(), DecodeError>) -> Status
+        ensures { result ≡ call_status answer }
+    {
+        match answer {
+            Ok(()) => Status::Ok,
+            Err(DecodeError::OutOfMemory) => Status::OutOfMemory,
+            Err(DecodeError::Ended) => Status::Ended,
+        }
+    }
+
+    /// Of a take.
+    pub(crate) fn of_take(answer: &Result<Option<Event>, DecodeError>) -> Status
+        ensures { result ≡ take_status answer.now }
+    {
+        match answer {
+            Ok(_) => Status::Ok,
+            Err(DecodeError::OutOfMemory) => Status::OutOfMemory,
+            Err(DecodeError::Ended) => Status::Ended,
+        }
+    }
+}
