@@ -1,0 +1,89 @@
+"""Streams with what must come out. AVCDEC_VECTORS is the folder of streams, else that of the repository."""
+
+import hashlib
+import importlib.util
+import os
+import pathlib
+import random
+import unittest
+
+import avcdec
+
+VECTORS = pathlib.Path(os.environ.get("AVCDEC_VECTORS", pathlib.Path(__file__).parents[3] / "vectors"))
+
+SETS = bytes.fromhex("0000000167 42C00ADA71 0000000168CE3880")
+GREY = SETS + bytes.fromhex("00000165888493C0")
+
+
+def expected(stream: pathlib.Path, kind: str) -> str:
+    path = stream.with_suffix(kind)
+    return path.read_text() if path.exists() else ""
+
+
+class Streams(unittest.TestCase):
+    def test_pictures_and_refusals_are_those_expected(self) -> None:
+        streams = sorted((VECTORS / "cases").glob("*.264"))
+        self.assertGreater(len(streams), 50)
+        for stream in streams:
+            with self.subTest(stream.name), open(stream, "rb") as file:
+                samples, refusals = hashlib.md5(), ""
+                for event in avcdec.decode(file):
+                    if isinstance(event, avcdec.Picture):
+                        samples.update(event.i420)
+                    else:
+                        refusals += f"{event}\n"
+                self.assertEqual(samples.hexdigest(), expected(stream, ".md5").split()[0])
+                self.assertEqual(refusals, expected(stream, ".refused"))
+
+    def test_cuttings_are_alike(self) -> None:
+        chance = random.Random(5)
+        data = (VECTORS / "cases" / "gap.264").read_bytes()
+        whole = list(avcdec.decode(data))
+        for _ in range(20):
+            cuts = sorted(chance.randrange(len(data) + 1) for _ in range(9))
+            pieces = [data[a:b] for a, b in zip([0] + cuts, cuts + [len(data)])]
+            self.assertEqual(list(avcdec.decode(pieces)), whole)
+
+
+class Calls(unittest.TestCase):
+    def test_a_picture_has_planes_and_rows(self) -> None:
+        (picture,) = avcdec.decode(GREY)
+        self.assertEqual((picture.width, picture.height, picture.coded_size), (16, 16, (16, 16)))
+        self.assertEqual([(p.width, p.height) for p in picture.planes], [(16, 16), (8, 8), (8, 8)])
+        self.assertEqual([bytes(row) for row in picture.cr.rows()], [bytes([128] * 8)] * 8)
+        with self.assertRaises(IndexError):
+            picture.luma.row(16)
+
+    @unittest.skipUnless(importlib.util.find_spec("numpy"), "numpy is not installed")
+    def test_a_plane_is_an_array(self) -> None:
+        (picture,) = avcdec.decode(GREY)
+        self.assertEqual(picture.cb.array().shape, (8, 8))
+        self.assertTrue((picture.luma.array() == 128).all())
+
+    def test_a_refusal_is_told_as_by_the_program(self) -> None:
+        (refusal,) = avcdec.decode(bytes.fromhex("000001E742"))
+        self.assertEqual((refusal.unit, refusal.fault, refusal.name), (0, 4, "ForbiddenBit"))
+        self.assertEqual(str(refusal), "refused unit 0: 4 ForbiddenBit")
+
+    def test_nothing_is_fed_after_the_end(self) -> None:
+        with avcdec.Decoder(early=True) as decoder:
+            decoder.feed(GREY)
+            self.assertIsNone(decoder.take())
+            decoder.end_access_unit()
+            decoder.flush()
+            self.assertIsInstance(decoder.take(), avcdec.Picture)
+            self.assertEqual(decoder.turns, 1)
+            with self.assertRaises(avcdec.Ended):
+                decoder.feed(b"")
+            decoder.reset()
+            self.assertEqual(decoder.turns, 0)
+            decoder.feed(b"")
+        with self.assertRaises(avcdec.Error):
+            decoder.feed(b"")
+
+    def test_the_version_is_that_of_the_header(self) -> None:
+        self.assertEqual(avcdec.version(), (0, 1, 0))
+
+
+if __name__ == "__main__":
+    unittest.main()

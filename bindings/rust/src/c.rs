@@ -1,0 +1,55 @@
+//! The C interface: include/avcdec.h.
+
+use std::ffi::c_void;
+use std::os::raw::c_char;
+
+pub const OK: u32 = 0;
+pub const OUT_OF_MEMORY: u32 = 1;
+pub const ENDED: u32 = 2;
+
+pub const PICTURE: u32 = 1;
+pub const REFUSED: u32 = 2;
+
+pub const NAME_SIZE: usize = 32;
+
+#[repr(C)]
+pub struct Decoder {
+    open: bool,
+    state: *mut c_void,
+}
+
+impl Decoder {
+    pub fn closed() -> Decoder {
+        Decoder {
+            open: false,
+            state: std::ptr::null_mut(),
+        }
+    }
+}
+
+#[repr(C)]
+#[derive(Clone, Copy, Default)]
+pub struct Event {
+    pub kind: u32,
+    pub fault: u32,
+    pub unit: u64,
+    pub width: u32,
+    pub height: u32,
+    pub crop_left: u32,
+    pub crop_right: u32,
+    pub crop_top: u32,
+    pub crop_bottom: u32,
+}
+
+extern "C" {
+    pub fn avcdec_open(decoder: *mut Decoder, early: bool) -> u32;
+    pub fn avcdec_close(decoder: *mut Decoder);
+    pub fn avcdec_feed(decoder: *mut Decoder, bytes: *const u8, length: usize) -> u32;
+    pub fn avcdec_flush(decoder: *mut Decoder) -> u32;
+    pub fn avcdec_reset(decoder: *mut Decoder) -> u32;
+    pub fn avcdec_take(decoder: *mut Decoder, event: *mut Event) -> u32;
+    pub fn avcdec_copy_i420(decoder: *mut Decoder, out: *mut u8, length: usize) -> u32;
+    pub fn avcdec_turns(decoder: *mut Decoder) -> u64;
+    pub fn avcdec_fault_name(fault: u32, name: *mut c_char, length: usize) -> u32;
+    pub fn avcdec_version() -> u32;
+}

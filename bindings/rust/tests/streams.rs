@@ -1,0 +1,102 @@
+//! Streams with what must come out. AVCDEC_VECTORS is the folder of streams, else that of the repository.
+
+use avcdec::{Decoder, Error, Event, Output, Refusal};
+use std::fs;
+use std::path::{Path, PathBuf};
+
+// what a decoder hands out: how many pictures, all samples, and the refusals as lines
+#[derive(Debug, Default, PartialEq, Eq)]
+struct Given {
+    pictures: usize,
+    samples: Vec<u8>,
+    refusals: Vec<String>,
+}
+
+impl Given {
+    fn take_all(&mut self, decoder: &mut Decoder) {
+        for event in decoder.events() {
+            match event.unwrap() {
+                Event::Picture(picture) => {
+                    self.pictures += 1;
+                    self.samples.extend(picture.i420());
+                }
+                Event::Refused(refusal) => self.refusals.push(refusal.to_string()),
+            }
+        }
+    }
+}
+
+fn decode(bytes: &[u8], piece: usize) -> Given {
+    let mut decoder = Decoder::new(Output::Full).unwrap();
+    let mut given = Given::default();
+    for part in bytes.chunks(piece) {
+        decoder.feed(part).unwrap();
+        given.take_all(&mut decoder);
+    }
+    decoder.flush().unwrap();
+    given.take_all(&mut decoder);
+    assert_eq!(decoder.feed(&[]), Err(Error::Ended));
+    given
+}
+
+fn streams() -> Vec<PathBuf> {
+    let vectors = std::env::var("AVCDEC_VECTORS").unwrap_or_else(|_| "../../vectors".into());
+    let folder = Path::new(&vectors).join("cases");
+    let mut streams: Vec<PathBuf> = fs::read_dir(folder)
+        .unwrap()
+        .map(|entry| entry.unwrap().path())
+        .filter(|path| path.extension().map_or(false, |kind| kind == "264"))
+        .collect();
+    streams.sort();
+    assert!(streams.len() > 50, "{} streams", streams.len());
+    streams
+}
+
+#[test]
+fn refusals_are_those_expected_however_the_stream_is_cut() {
+    for path in streams() {
+        let bytes = fs::read(&path).unwrap();
+        let whole = decode(&bytes, bytes.len().max(1));
+        let expected: Vec<String> = fs::read_to_string(path.with_extension("refused"))
+            .unwrap_or_default()
+            .lines()
+            .map(String::from)
+            .collect();
+        assert_eq!(whole.refusals, expected, "{path:?}");
+        assert_eq!(decode(&bytes, 7), whole, "{path:?}");
+    }
+}
+
+#[test]
+fn a_cropped_picture_has_its_planes() {
+    // 16x16, of which 10x10 are shown: all samples are 128
+    let stream = [
+        0u8, 0, 0, 1, 0x67, 0x42, 0xC0, 0x0A, 0xDA, 0x76, 0x49, 0x10, 0, 0, 0, 1, 0x68, 0xCE, 0x38, 0x80, 0, 0, 1, 0x65, 0x88, 0x84,
+        0x93, 0xC0,
+    ];
+    let mut decoder = Decoder::new(Output::Early).unwrap();
+    decoder.feed(&stream).unwrap();
+    assert_eq!(decoder.take(), Ok(None));
+    decoder.end_access_unit().unwrap();
+    decoder.flush().unwrap();
+    let Ok(Some(Event::Picture(picture))) = decoder.take() else {
+        panic!("no picture");
+    };
+    assert_eq!((picture.width(), picture.height(), picture.coded_size()), (10, 10, (16, 16)));
+    assert_eq!(picture.i420(), [128; 150]);
+    assert_eq!(picture.planes().map(|plane| (plane.width, plane.height, plane.rows().count())), [(10, 10, 10), (5, 5, 5), (5, 5, 5)]);
+    assert_eq!(decoder.turns(), 1);
+    decoder.reset();
+    assert_eq!(decoder.turns(), 0);
+}
+
+#[test]
+fn a_refusal_names_unit_and_fault() {
+    let mut decoder = Decoder::new(Output::Full).unwrap();
+    decoder.feed(&[0, 0, 0, 1, 0x67, 0x64, 0x00, 0x0A, 0xDA, 0x71]).unwrap();
+    decoder.flush().unwrap();
+    let Ok(Some(Event::Refused(Refusal { unit, fault }))) = decoder.take() else {
+        panic!("no refusal");
+    };
+    assert_eq!((unit, fault.number(), fault.name().as_str()), (0, 10, "Profile"));
+}

@@ -1,0 +1,181 @@
+/* avcdec.h: a decoder for H.264 (Rec. ITU-T H.264), Constrained Baseline profile.
+ *
+ *     avcdec_decoder decoder = AVCDEC_DECODER_CLOSED;
+ *     avcdec_event event;
+ *     avcdec_open(&decoder, false);
+ *     avcdec_feed(&decoder, bytes, length);
+ *     while (avcdec_take(&decoder, &event) == AVCDEC_OK && event.kind != AVCDEC_NOTHING)
+ *         if (event.kind == AVCDEC_PICTURE)
+ *             avcdec_copy_i420(&decoder, memory, avcdec_i420_size(&event));
+ *     avcdec_close(&decoder);
+ *
+ * The functions may be called in any order, on any bytes. A call that does not fit what the decoder holds answers a status and
+ * changes nothing.
+ *
+ * Ownership. The caller owns the avcdec_decoder itself and all memory that it passes; no function keeps a pointer to it. The library
+ * owns what it allocates and frees it in avcdec_close.
+ *
+ * Threads. One call at a time for each decoder, and a decoder stays on the thread that opened it. Two decoders may be used by two
+ * threads at once: they share nothing.
+ *
+ * Pointers. Each pointer leads to memory of the size that the function says, and is not null, except that bytes may be null where
+ * their length is 0. While a call runs nobody else writes to that memory. Two pointers of one call lead to different memory.
+ */
+#ifndef AVCDEC_H
+#define AVCDEC_H
+
+#include <stdbool.h>
+#include <stddef.h>
+#include <stdint.h>
+
+#ifdef __cplusplus
+extern "C" {
+#endif
+
+#define AVCDEC_VERSION_MAJOR 0
+#define AVCDEC_VERSION_MINOR 1
+#define AVCDEC_VERSION_PATCH 0
+
+/* Whether a decoder is open, and what the library holds of it. All zero, it is closed; so it is before avcdec_open. From then until
+ * avcdec_close read, write and copy nothing of it: pass its address. */
+typedef struct avcdec_decoder {
+    bool open;
+    void *state;
+} avcdec_decoder;
+
+#define AVCDEC_DECODER_CLOSED {false, NULL}
+
+/* What a call answers. */
+typedef uint32_t avcdec_status;
+enum {
+    AVCDEC_OK = 0,
+    AVCDEC_OUT_OF_MEMORY = 1, /* no memory was found; feed, flush and take answer so until avcdec_reset or avcdec_close */
+    AVCDEC_ENDED = 2,         /* avcdec_flush has ended the stream; events may still be taken */
+    AVCDEC_CLOSED = 3,        /* the decoder is closed */
+    AVCDEC_IS_OPEN = 4,       /* the decoder is open already */
+    AVCDEC_NO_PICTURE = 5,    /* the event that was taken last is no picture */
+    AVCDEC_NO_ROOM = 6,       /* the memory given is too small, or its rows are */
+    AVCDEC_NO_PLANE = 7,      /* no plane has this number */
+    AVCDEC_NO_FAULT = 8       /* no fault has this number */
+};
+
+/* What an event is. */
+enum {
+    AVCDEC_NOTHING = 0, /* the bytes so far define no further event */
+    AVCDEC_PICTURE = 1, /* a picture, in output order */
+    AVCDEC_REFUSED = 2  /* a refusal of a picture, or of a unit: see unit and fault */
+};
+
+/* Planes of a picture. */
+enum { AVCDEC_LUMA = 0, AVCDEC_CB = 1, AVCDEC_CR = 2 };
+
+/* What was taken. A field that does not belong to its kind is 0. */
+typedef struct avcdec_event {
+    uint32_t kind;
+    uint32_t fault;         /* of a refusal: number of the fault; avcdec_fault_name has its name */
+    uint64_t unit;          /* of a refusal: the NAL unit in which the fault stands, counted from 0 since open or reset */
+    uint32_t width, height; /* of a picture: coded size in luma samples; a chroma plane has half of each */
+    uint32_t crop_left, crop_right, crop_top, crop_bottom; /* of a picture: luma samples not shown, from each side; all even */
+} avcdec_event;
+
+/* Opens a decoder that is closed. It begins as after avcdec_reset. With early false a picture goes out only once the decoded picture
+ * buffer has no room for it, or at an IDR picture or the end; with early true as soon as the stream's max_num_reorder_frames allows:
+ * for calls. Streams that do not give that number wait as with false.
+ * OK; OUT_OF_MEMORY (still closed); IS_OPEN (nothing changes). */
+avcdec_status avcdec_open(avcdec_decoder *decoder, bool early);
+
+/* Closes a decoder and frees what it holds, pictures that were not taken too. A closed one stays closed. */
+void avcdec_close(avcdec_decoder *decoder);
+
+/* Gives the next bytes of the stream (Annex B: with start codes), cut anywhere. All units whose end they bring are decoded during the
+ * call. A unit ends where the next start code begins: see avcdec_end_access_unit.
+ * All pictures of the piece wait inside, each in memory of its own, until they are taken. So give pieces of at most 65,536 bytes or
+ * one access unit, and take all events after each: then few pictures wait.
+ * A unit may have at most 134,217,728 bytes; a longer one is refused with fault NalTooLong.
+ * OK; OUT_OF_MEMORY; ENDED (nothing changes); CLOSED. */
+avcdec_status avcdec_feed(avcdec_decoder *decoder, const uint8_t *bytes, size_t length);
+
+/* Ends the stream: the last unit ends, and all pictures that are held go out, to be taken.
+ * OK; OUT_OF_MEMORY; ENDED (nothing changes); CLOSED. */
+avcdec_status avcdec_flush(avcdec_decoder *decoder);
+
+/* Begins a new stream and forgets the old one: parameter sets, pictures, events that were not taken, want of memory, and the end.
+ * The choice of early stays. Decoding begins at the next IDR picture that has its parameter sets.
+ * OK; CLOSED. */
+avcdec_status avcdec_reset(avcdec_decoder *decoder);
+
+/* Takes the next event that the bytes so far define; its picture can be copied until the next take, reset or close. Asks for no
+ * memory.
+ * OK (*event is set; its kind is AVCDEC_NOTHING where there is none yet); OUT_OF_MEMORY (its kind is AVCDEC_NOTHING);
+ * CLOSED (*event is not touched). */
+avcdec_status avcdec_take(avcdec_decoder *decoder, avcdec_event *event);
+
+/* Copies what is shown of the picture that was taken last, as I420 without gaps: luma, Cb, Cr, each row by row. It fills the first
+ * avcdec_i420_size bytes of out, which has room for length bytes.
+ * OK; NO_PICTURE; NO_ROOM (length is too small); CLOSED. But for OK no byte is written. */
+avcdec_status avcdec_copy_i420(avcdec_decoder *decoder, uint8_t *out, size_t length);
+
+/* Copies what is shown of one plane (AVCDEC_LUMA, AVCDEC_CB, AVCDEC_CR) of the picture that was taken last. Row y goes to the bytes
+ * from y * stride on; the bytes between rows stay as they are. out has room for length bytes: stride * (rows - 1) + columns are
+ * enough (avcdec_plane_rows, avcdec_plane_columns).
+ * OK; NO_PICTURE; NO_PLANE; NO_ROOM (length is too small, or stride less than the columns); CLOSED. But for OK no byte is written. */
+avcdec_status avcdec_copy_plane(avcdec_decoder *decoder, uint32_t plane, uint8_t *out, size_t length, size_t stride);
+
+/* How many macroblocks of slices have been read since open or reset: a measure of the work done. 0 where the decoder is closed. */
+uint64_t avcdec_turns(avcdec_decoder *decoder);
+
+/* Copies the name of a fault, and a 0 behind it, to name, which has room for length bytes: AVCDEC_NAME_SIZE are enough.
+ * OK; NO_FAULT; NO_ROOM. But for OK no byte is written. */
+#define AVCDEC_NAME_SIZE 32
+avcdec_status avcdec_fault_name(uint32_t fault, char *name, size_t length);
+
+/* The version of the library that runs: 65536 * major + 256 * minor + patch. */
+uint32_t avcdec_version(void);
+
+/* The heap. It is the C library's, unless these are called in place of malloc, realloc and free. All three are given, from one
+ * allocator; blocks are aligned to 16 bytes; null says that there is no memory; sizes are never 0. They may be called by several
+ * threads where several threads use decoders.
+ * Call this while no decoder is open and no other thread calls the library. Null gives the C library's back. */
+typedef struct avcdec_heap {
+    void *(*allocate)(size_t size);
+    void *(*reallocate)(void *block, size_t size); /* as realloc: where it answers null the block stays */
+    void (*release)(void *block);
+} avcdec_heap;
+void avcdec_use_heap(const avcdec_heap *heap);
+
+/* How many columns and rows of luma samples are shown of a picture. */
+static inline uint32_t avcdec_shown_width(const avcdec_event *picture) {
+    return picture->width - picture->crop_left - picture->crop_right;
+}
+static inline uint32_t avcdec_shown_height(const avcdec_event *picture) {
+    return picture->height - picture->crop_top - picture->crop_bottom;
+}
+
+/* How many columns and rows are shown of one plane of a picture. */
+static inline uint32_t avcdec_plane_columns(const avcdec_event *picture, uint32_t plane) {
+    return avcdec_shown_width(picture) / (plane == AVCDEC_LUMA ? 1u : 2u);
+}
+static inline uint32_t avcdec_plane_rows(const avcdec_event *picture, uint32_t plane) {
+    return avcdec_shown_height(picture) / (plane == AVCDEC_LUMA ? 1u : 2u);
+}
+
+/* How many bytes avcdec_copy_i420 fills. */
+static inline size_t avcdec_i420_size(const avcdec_event *picture) {
+    size_t luma = (size_t)avcdec_shown_width(picture) * avcdec_shown_height(picture);
+    size_t chroma = (size_t)avcdec_plane_columns(picture, AVCDEC_CB) * avcdec_plane_rows(picture, AVCDEC_CB);
+    return luma + 2 * chroma;
+}
+
+/* Says that the bytes so far end with a whole access unit, as a packet of a call or a container does: its last unit ends and its
+ * picture is decoded now, and not only once the next unit begins. It feeds an access unit delimiter (7.3.2.4) and a start code, so
+ * it adds 1 to the count of units. Answers as avcdec_feed. */
+static inline avcdec_status avcdec_end_access_unit(avcdec_decoder *decoder) {
+    static const uint8_t delimiter[] = {0, 0, 1, 9, 0xF0, 0, 0, 1};
+    return avcdec_feed(decoder, delimiter, sizeof delimiter);
+}
+
+#ifdef __cplusplus
+}
+#endif
+
+#endif
