@@ -1,0 +1,121 @@
+/* growths IN: each growth of a stream's decoding is refused in turn. The call answers so, and each call after it until the decoder is
+ * reset; then the same events come as where nothing is refused. In the end no block is left. Prints how many growths there were. */
+#include <avcdec.h>
+#include <stdio.h>
+#include <stdlib.h>
+#include <string.h>
+
+#define CHECK(holds)                                                    \
+    do {                                                                \
+        if (!(holds)) {                                                 \
+            fprintf(stderr, "line %d, growth %ld\n", __LINE__, refuse); \
+            exit(1);                                                    \
+        }                                                               \
+    } while (0)
+
+/* How many growths there were, which one is refused (0: none), and how many blocks are there. */
+static long growths, refuse, blocks;
+
+static void *allocate(size_t size) {
+    if (++growths == refuse)
+        return NULL;
+    blocks++;
+    return malloc(size);
+}
+
+static void *reallocate(void *block, size_t size) {
+    return ++growths == refuse ? NULL : realloc(block, size);
+}
+
+static void release(void *block) {
+    blocks--;
+    free(block);
+}
+
+static uint8_t stream[1 << 22];
+static size_t length;
+
+/* What came: events, and a sum over all that they say and show. */
+typedef struct given {
+    uint64_t events, sum;
+} given;
+
+static void add(given *to, const uint8_t *bytes, size_t count) {
+    for (size_t at = 0; at < count; at++)
+        to->sum = to->sum * 1099511628211u + bytes[at] + 1;
+}
+
+static avcdec_status take_events(avcdec_decoder *decoder, given *to) {
+    avcdec_event event;
+    avcdec_status status;
+    while ((status = avcdec_take(decoder, &event)) == AVCDEC_OK && event.kind != AVCDEC_NOTHING) {
+        to->events++;
+        add(to, (const uint8_t *)&event, sizeof event);
+        if (event.kind == AVCDEC_PICTURE) {
+            size_t size = avcdec_i420_size(&event);
+            uint8_t *samples = (uint8_t *)malloc(size);
+            CHECK(samples != NULL && avcdec_copy_i420(decoder, samples, size) == AVCDEC_OK);
+            add(to, samples, size);
+            free(samples);
+        }
+    }
+    return status;
+}
+
+/* The first status that is not OK, or OK. */
+static avcdec_status decode(avcdec_decoder *decoder, given *to) {
+    avcdec_status status;
+    for (size_t at = 0; at < length; at += 500) {
+        if ((status = avcdec_feed(decoder, stream + at, length - at < 500 ? length - at : 500)) != AVCDEC_OK)
+            return status;
+        if ((status = take_events(decoder, to)) != AVCDEC_OK)
+            return status;
+    }
+    if ((status = avcdec_flush(decoder)) != AVCDEC_OK)
+        return status;
+    return take_events(decoder, to);
+}
+
+/* One decoding, where growth `refuse` is refused. */
+static given try_decoding(void) {
+    avcdec_decoder decoder = AVCDEC_DECODER_CLOSED;
+    avcdec_event event;
+    given all = {0, 0};
+    growths = 0;
+    if (avcdec_open(&decoder, false) != AVCDEC_OK) {
+        CHECK(growths == refuse && !decoder.open);
+        CHECK(avcdec_open(&decoder, false) == AVCDEC_OK);
+    }
+    avcdec_status status = decode(&decoder, &all);
+    if (status != AVCDEC_OK) {
+        CHECK(status == AVCDEC_OUT_OF_MEMORY && growths == refuse);
+        CHECK(avcdec_feed(&decoder, stream, 1) == AVCDEC_OUT_OF_MEMORY && avcdec_flush(&decoder) == AVCDEC_OUT_OF_MEMORY);
+        CHECK(avcdec_take(&decoder, &event) == AVCDEC_OUT_OF_MEMORY && event.kind == AVCDEC_NOTHING);
+        CHECK(avcdec_reset(&decoder) == AVCDEC_OK);
+        all.events = all.sum = 0;
+        CHECK(decode(&decoder, &all) == AVCDEC_OK);
+    }
+    avcdec_close(&decoder);
+    CHECK(blocks == 0);
+    return all;
+}
+
+int main(int count, char **words) {
+    FILE *in = count == 2 ? fopen(words[1], "rb") : NULL;
+    CHECK(in != NULL);
+    length = fread(stream, 1, sizeof stream, in);
+    CHECK(feof(in));
+    fclose(in);
+    avcdec_heap heap = {allocate, reallocate, release};
+    avcdec_use_heap(&heap);
+    given whole = try_decoding();
+    long all = growths;
+    CHECK(whole.events > 0 && all > 0);
+    for (refuse = 1; refuse <= all; refuse++) {
+        given again = try_decoding();
+        CHECK(again.events == whole.events && again.sum == whole.sum);
+    }
+    avcdec_use_heap(NULL);
+    printf("%ld\n", all);
+    return 0;
+}
