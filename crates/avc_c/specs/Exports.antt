@@ -1,7 +1,7 @@
 -- What each call of C does to a decoder, or to none.
 use Rattle.std.specs.Prelude.{◌≡◌, ◌⊎◌, ℕ, Bool, true, false, List, Option, Some, None, Result}
-use Rattle.avc_decoder.specs.Output.{Output}
-use Rattle.avc_decoder.specs.Output.TheVariants.{Early, Full}
+use Rattle.avc_dpb.specs.declared.output.Output.{Output}
+use Rattle.avc_dpb.specs.declared.output.Output.TheVariants.{Early, Full}
 use Rattle.avc_decoder.specs.Machine.{Machine, new_machine, IsCount, IsFeedAnswer, IsTakeAnswer}
 use Rattle.avc_decoder.specs.declared.error.DecodeError.{DecodeError}
 use Rattle.avc_decoder.specs.declared.event.Event.{Event}
