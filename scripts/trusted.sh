@@ -51,7 +51,7 @@ table() {
     done
 }
 
-all=$(reached crates/avc_decoder/specs/Machine.antt crates/avc_decoder/specs/Headline.antt)
+all=$(reached crates/avc_decoder/specs/Machine.antt crates/avc_decoder/specs/Headline.antt crates/avc_c/specs/CallsOfC.antt crates/avc_c/specs/FaultNames.antt)
 count=$(echo "$all" | grep -c '^specs ')
 every=$(find crates -path '*/out' -prune -o -path '*/specs/*.antt' ! -name Lib.antt -print | wc -l)
 
@@ -61,7 +61,7 @@ cat <<TXT
 Made by \`scripts/trusted.sh\`; \`test.sh\` fails where it is out of date.
 
 The headline is the contract of \`run_calls\` in avc_decoder with the laws of its \`laws\` module: whatever calls are made, the events that are
-taken are those that the definitions below give for the bytes. Proofs are checked; these $count files of definitions (of $every in all) are what a person
+taken are those that the definitions below give for the bytes. For C it is \`calls_are_a_run\` in avc_c: C is told the replies of such a run. Proofs are checked; these $count files of definitions (of $every in all) are what a person
 checks, against Rec. ITU-T H.264 where that is their source. What other files define is used between the layers alone: nobody needs to believe it.
 Beside them are believed the toolchain with its library's contracts, and the C library.
 
@@ -94,6 +94,15 @@ $(echo "$all" | table machine)
 | File | About |
 |---|---|
 $(echo "$all" | sed -n 's/^src //p' | while read -r file; do echo "| [$(echo "$file" | sed -E 's/^crates\///; s/\/src\//: /; s/\.rt$//')](../$file) | $(about "$file") |"; done)
+
+## What C is trusted with
+
+The library for C (avc_c) asks this of its callers, and nothing checks it: that each pointer leads to memory as long as the call says,
+that nobody else writes there while the call runs, that the decoder's struct is zero before it is opened, is not copied or changed while
+it is open, and that a decoder stays on one thread. Of the heap (bindings/c/heap.c, over \`malloc\`, \`realloc\` and \`free\` or what the
+caller gives in their place) it is believed that a block is as long as was asked, aligned to 16 bytes, apart from all others, that it
+stays until it is freed, and that a growth that fails leaves it. That closing frees all memory is tested and not proved. The bindings for Rust and
+Python, and the examples, are tested.
 
 ## Statements that are still open
 
