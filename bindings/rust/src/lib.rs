@@ -91,7 +91,10 @@ impl Fault {
         let mut name = [0u8; c::NAME_SIZE];
         // the name has room, and ends in a 0
         unsafe { c::avcdec_fault_name(self.0, name.as_mut_ptr().cast(), name.len()) };
-        name.iter().take_while(|byte| **byte != 0).map(|byte| char::from(*byte)).collect()
+        name.iter()
+            .take_while(|byte| **byte != 0)
+            .map(|byte| char::from(*byte))
+            .collect()
     }
 }
 
@@ -187,8 +190,13 @@ impl Decoder {
     fn picture(&mut self, event: &c::Event) -> Picture {
         let mut picture = Picture::of_size(event);
         let samples = picture.samples_mut();
-        let status = unsafe { c::avcdec_copy_i420(&mut self.handle, samples.as_mut_ptr(), samples.len()) };
-        assert_eq!(status, c::OK, "a picture was taken, and there is room for it");
+        let status =
+            unsafe { c::avcdec_copy_i420(&mut self.handle, samples.as_mut_ptr(), samples.len()) };
+        assert_eq!(
+            status,
+            c::OK,
+            "a picture was taken, and there is room for it"
+        );
         picture
     }
 }

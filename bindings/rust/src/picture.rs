@@ -81,7 +81,11 @@ impl Picture {
 
     pub fn cr(&self) -> Plane<'_> {
         let chroma = (self.width / 2) * (self.height / 2);
-        self.plane(self.width * self.height + chroma, self.width / 2, self.height / 2)
+        self.plane(
+            self.width * self.height + chroma,
+            self.width / 2,
+            self.height / 2,
+        )
     }
 
     /// Luma, Cb, Cr.

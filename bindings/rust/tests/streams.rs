@@ -71,8 +71,8 @@ fn refusals_are_those_expected_however_the_stream_is_cut() {
 fn a_cropped_picture_has_its_planes() {
     // 16x16, of which 10x10 are shown: all samples are 128
     let stream = [
-        0u8, 0, 0, 1, 0x67, 0x42, 0xC0, 0x0A, 0xDA, 0x76, 0x49, 0x10, 0, 0, 0, 1, 0x68, 0xCE, 0x38, 0x80, 0, 0, 1, 0x65, 0x88, 0x84,
-        0x93, 0xC0,
+        0u8, 0, 0, 1, 0x67, 0x42, 0xC0, 0x0A, 0xDA, 0x76, 0x49, 0x10, 0, 0, 0, 1, 0x68, 0xCE, 0x38,
+        0x80, 0, 0, 1, 0x65, 0x88, 0x84, 0x93, 0xC0,
     ];
     let mut decoder = Decoder::new(Output::Early).unwrap();
     decoder.feed(&stream).unwrap();
@@ -82,9 +82,17 @@ fn a_cropped_picture_has_its_planes() {
     let Ok(Some(Event::Picture(picture))) = decoder.take() else {
         panic!("no picture");
     };
-    assert_eq!((picture.width(), picture.height(), picture.coded_size()), (10, 10, (16, 16)));
+    assert_eq!(
+        (picture.width(), picture.height(), picture.coded_size()),
+        (10, 10, (16, 16))
+    );
     assert_eq!(picture.i420(), [128; 150]);
-    assert_eq!(picture.planes().map(|plane| (plane.width, plane.height, plane.rows().count())), [(10, 10, 10), (5, 5, 5), (5, 5, 5)]);
+    assert_eq!(
+        picture
+            .planes()
+            .map(|plane| (plane.width, plane.height, plane.rows().count())),
+        [(10, 10, 10), (5, 5, 5), (5, 5, 5)]
+    );
     assert_eq!(decoder.turns(), 1);
     decoder.reset();
     assert_eq!(decoder.turns(), 0);
@@ -93,10 +101,15 @@ fn a_cropped_picture_has_its_planes() {
 #[test]
 fn a_refusal_names_unit_and_fault() {
     let mut decoder = Decoder::new(Output::Full).unwrap();
-    decoder.feed(&[0, 0, 0, 1, 0x67, 0x64, 0x00, 0x0A, 0xDA, 0x71]).unwrap();
+    decoder
+        .feed(&[0, 0, 0, 1, 0x67, 0x64, 0x00, 0x0A, 0xDA, 0x71])
+        .unwrap();
     decoder.flush().unwrap();
     let Ok(Some(Event::Refused(Refusal { unit, fault }))) = decoder.take() else {
         panic!("no refusal");
     };
-    assert_eq!((unit, fault.number(), fault.name().as_str()), (0, 10, "Profile"));
+    assert_eq!(
+        (unit, fault.number(), fault.name().as_str()),
+        (0, 10, "Profile")
+    );
 }
