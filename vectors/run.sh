@@ -201,14 +201,14 @@ for command in units headers; do
 done
 
 # wrong words have a text on the standard error, and help that is asked for on the standard output
-for words in '' unit 'units more' 'decode --fast'; do
+for words in '' unit 'units in more' 'decode --fast' 'decode --format png'; do
     # shellcheck disable=SC2086
     "$program" $words <"$picture" >"$work/written" 2>"$work/told"
     holds "status of '$words'" [ $? = 2 ]
     holds "text of '$words'" [ -s "$work/told" ]
     holds "nothing is written after '$words'" [ ! -s "$work/written" ]
 done
-for words in --help 'help units' 'decode --help'; do
+for words in --help --version 'help units' 'decode --help'; do
     # shellcheck disable=SC2086
     "$program" $words <"$picture" >"$work/written" 2>"$work/told"
     judge "$words" $? 0 ''
@@ -217,6 +217,39 @@ done
 "$program" --help </dev/null >/dev/full 2>"$work/told"
 judge 'help to a full device' $? 3 'avcdec: write fault
 '
+
+# files: the same bytes as by the standard streams, and - is one of these. An output that exists is emptied first.
+"$program" decode <"$picture" >"$work/pictures"
+cat "$picture" "$picture" "$picture" >"$work/out"
+"$program" decode "$picture" -o "$work/out" >"$work/written" 2>"$work/told"
+judge 'decode from file to file' $? 0 ''
+holds 'the file has the pictures' cmp -s "$work/out" "$work/pictures"
+holds 'nothing is written beside it' [ ! -s "$work/written" ]
+"$program" decode - --output - <"$picture" >"$work/written" 2>"$work/told"
+judge 'decode - -o -' $? 0 ''
+holds 'the same pictures' cmp -s "$work/written" "$work/pictures"
+"$program" decode --format null "$picture" >"$work/written" 2>"$work/told"
+judge 'decode --format null' $? 0 ''
+holds 'nothing is written' [ ! -s "$work/written" ]
+for command in units headers 'cut 0'; do
+    # shellcheck disable=SC2086
+    "$program" $command <"$picture" >"$work/lines"
+    # shellcheck disable=SC2086
+    "$program" $command "$picture" >"$work/written" 2>"$work/told"
+    judge "$command of a file" $? 0 ''
+    holds "the same by $command" cmp -s "$work/written" "$work/lines"
+done
+"$program" decode "$work/none" >"$work/written" 2>"$work/told"
+judge 'a file that is not there' $? 3 "avcdec: read fault: $work/none
+"
+"$program" decode "$picture" -o "$work" >"$work/written" 2>"$work/told"
+judge 'a directory to be written' $? 3 "avcdec: write fault: $work
+"
+
+# pictures of 12 bytes of stream each do not wait for one another: memory stays below what 40 of them take (1920x1080)
+many=$here/hostile/many_pictures_in_one_piece.264
+(ulimit -v 160000 && exec "$program" decode "$many") 2>"$work/told" | md5sum >"$work/sum"
+holds 'many pictures in one piece' grep -q '^a88c79335722cf88e0eabdc690415f37 ' "$work/sum"
 
 echo "$passed passed, $failed failed"
 [ "$failed" = 0 ] && [ "$passed" -gt 0 ]

@@ -5,10 +5,14 @@ mod request;
 #[cfg(test)]
 mod tests;
 
-use avc_run::{Answer, RunFault, answer_status, cut, decode, fault_line, headers, units};
+use avc_run::{
+    Answer, RunFault, answer_status, cut, decode, fault_line, fault_status, headers, units,
+};
 use clap::error::ErrorKind;
-use request::{Request, requested, words_of};
+use request::{Request, Task, requested, words_of};
+use std::fs::File;
 use std::io;
+use std::io::{Read, Write};
 use std::process::ExitCode;
 
 fn main(rt: HostRuntime) -> ExitCode {
@@ -23,18 +27,50 @@ fn main(rt: HostRuntime) -> ExitCode {
 }
 
 // Does what was asked for, and answers the exit status.
-fn carry_out(rt: &HostRuntime, request: Request) -> u8 {
+fn carry_out(rt: &HostRuntime, request: Request<'_>) -> u8 {
+    match request.input {
+        Some(name) => match File::open(rt, name) {
+            Ok(mut file) => carry_out_on(rt, request, &mut file),
+            Err(_) => unopened(rt, RunFault::Read, name),
+        },
+        None => carry_out_on(rt, request, &mut rt.stdin()),
+    }
+}
+
+// The same on this input.
+fn carry_out_on<R: Read>(rt: &HostRuntime, request: Request<'_>, reader: &mut R) -> u8 {
+    match request.output {
+        Some(name) => match File::create(rt, name) {
+            Ok(mut file) => carry_out_between(rt, request.task, reader, &mut file),
+            Err(_) => unopened(rt, RunFault::Write, name),
+        },
+        None => carry_out_between(rt, request.task, reader, &mut io::writer(rt)),
+    }
+}
+
+// The same from this input to this output.
+fn carry_out_between<R: Read, W: Write>(
+    rt: &HostRuntime,
+    task: Task,
+    reader: &mut R,
+    writer: &mut W,
+) -> u8 {
     let alloc = rt.alloc();
-    let mut reader = rt.stdin();
-    let mut writer = io::writer(rt);
     let mut errors = rt.stderr();
-    let ending = match request {
-        Request::Decode(output) => decode(alloc, output, &mut reader, &mut writer, &mut errors),
-        Request::Units => units(alloc, &mut reader, &mut writer, &mut errors),
-        Request::Headers => headers(alloc, &mut reader, &mut writer, &mut errors),
-        Request::Cut(number) => cut(alloc, number, &mut reader, &mut writer, &mut errors),
+    let ending = match task {
+        Task::Decode(output) => decode(alloc, output, reader, writer, &mut errors),
+        Task::Check(output) => decode(alloc, output, reader, &mut io::sink(), &mut errors),
+        Task::Units => units(alloc, reader, writer, &mut errors),
+        Task::Headers => headers(alloc, reader, writer, &mut errors),
+        Task::Cut(number) => cut(alloc, number, reader, writer, &mut errors),
     };
     ending.status
+}
+
+// Tells of a file that can't be opened, and answers the exit status.
+fn unopened<R: Eprint>(rt: &R, fault: RunFault, name: &str) -> u8 {
+    let _ = eprintln!(rt; "avcdec: {fault}: {name}");
+    fault_status(fault)
 }
 
 // The exit status after words that name nothing to do. A fault is told on the standard error.

@@ -9,9 +9,24 @@ use std::{env, io};
 
 /// What the words of the command line ask for.
 #[derive(Clone, Copy, Debug, PartialEq, Eq)]
-pub enum Request {
-    /// The pictures of a stream, each as soon as it goes out in this mode.
+pub struct Request<'a> {
+    pub task: Task,
+
+    /// The file that is read, where it is not the standard input.
+    pub input: Option<&'a str>,
+
+    /// The file that is written, where it is not the standard output.
+    pub output: Option<&'a str>,
+}
+
+/// What is done with a stream.
+#[derive(Clone, Copy, Debug, PartialEq, Eq)]
+pub enum Task {
+    /// The pictures are written, each as soon as it goes out in this mode.
     Decode(Output),
+
+    /// The pictures are decoded so, and not written.
+    Check(Output),
 
     /// A line for each unit.
     Units,
@@ -44,21 +59,51 @@ const EARLY: &str = "early";
 
 const NUMBER: &str = "N";
 
+const INPUT: &str = "INPUT";
+
+const OUTPUT: &str = "output";
+
+const FORMAT: &str = "format";
+
+const I420: &str = "i420";
+
+const NULL: &str = "null";
+
+const FORMATS: &[&str] = &[I420, NULL];
+
+/// The word that names the standard input or output.
+const STANDARD: &str = "-";
+
+const STATUSES: &str = concat!(
+    "Exit status: 0 all well, 1 decode refused something or cut has no such piece, 2 wrong words, ",
+    "3 reading or writing failed, 4 out of memory"
+);
+
 fn grammar<'a>(alloc: Global) -> Result<Grammar<'a>, Error> {
-    let units = Grammar::new(alloc, UNITS).about("Prints a line for each unit");
-    let headers = Grammar::new(alloc, HEADERS).about(
-        "Prints a line for each parameter set and slice",
-    );
+    let units = Grammar::new(alloc, UNITS)
+        .about("Prints a line for each unit: INDEX OFFSET LENGTH TYPE REFIDC")
+        .after_help("Example: avcdec units in.264 | head -3");
+    let headers = Grammar::new(alloc, HEADERS)
+        .about("Prints a line for each parameter set and slice")
+        .after_help("Example: avcdec headers in.264 | grep sps");
     Ok(
         Grammar::new(alloc, "avcdec")
             .bin_name("avcdec")?
-            .about("Reads an H.264 byte stream (Annex B) from standard input")
+            .version("0.1.0")
+            .about("Reads an H.264 byte stream (Annex B)")
+            .after_help(STATUSES)
             .subcommand_required(true)
             .subcommand(decode_grammar(alloc)?)?
-            .subcommand(units)?
-            .subcommand(headers)?
+            .subcommand(units.arg(input(alloc))?)?
+            .subcommand(headers.arg(input(alloc))?)?
             .subcommand(cut_grammar(alloc)?)?,
     )
+}
+
+fn input<'a>(alloc: Global) -> Arg<'a> {
+    Arg::new(alloc, INPUT)
+        .help("The file to read; standard input where none is named, and for -")
+        .action(ArgAction::Set)
 }
 
 fn decode_grammar<'a>(alloc: Global) -> Result<Grammar<'a>, Error> {
@@ -66,10 +111,36 @@ fn decode_grammar<'a>(alloc: Global) -> Result<Grammar<'a>, Error> {
         .long(EARLY)
         .help("Writes a picture as soon as the stream's reorder number lets it go out")
         .action(ArgAction::SetTrue);
-    let decode = Grammar::new(alloc, DECODE).about(
-        "Writes the decoded pictures as I420, cropped, in output order",
-    );
-    Ok(decode.arg(early)?)
+    let decode = Grammar::new(alloc, DECODE)
+        .about("Writes the decoded pictures as I420, cropped, in output order")
+        .after_help("Example: avcdec decode in.264 -o out.yuv");
+    Ok(
+        decode
+            .arg(early)?
+            .arg(format(alloc))?
+            .arg(output(alloc))?
+            .arg(input(alloc))?,
+    )
+}
+
+fn format<'a>(alloc: Global) -> Arg<'a> {
+    Arg::new(alloc, FORMAT)
+        .long(FORMAT)
+        .help("How the pictures are written: null decodes and writes nothing")
+        .action(ArgAction::Set)
+        .value_parser(FORMATS)
+        .default_value(I420)
+}
+
+fn output<'a>(alloc: Global) -> Arg<'a> {
+    Arg::new(alloc, OUTPUT)
+        .long(OUTPUT)
+        .short('o')
+        .value_name("FILE")
+        .help(
+            "The file to write, which is emptied first; standard output where none is named, and for -",
+        )
+        .action(ArgAction::Set)
 }
 
 fn cut_grammar<'a>(alloc: Global) -> Result<Grammar<'a>, Error> {
@@ -78,10 +149,12 @@ fn cut_grammar<'a>(alloc: Global) -> Result<Grammar<'a>, Error> {
         .required(true)
         .action(ArgAction::Set)
         .value_parser(clap::value_parser!(u32));
-    let cut = Grammar::new(alloc, CUT).about(
-        "Writes one of the pieces that can be decoded by themselves, each from an IDR picture on",
-    );
-    Ok(cut.arg(number)?)
+    let cut = Grammar::new(alloc, CUT)
+        .about(
+            "Writes one of the pieces that can be decoded by themselves, each from an IDR picture on",
+        )
+        .after_help("Example: avcdec cut 2 in.264 | avcdec decode -o piece.yuv");
+    Ok(cut.arg(number)?.arg(output(alloc))?.arg(input(alloc))?)
 }
 
 // The command of this name, if there is one.
@@ -104,22 +177,57 @@ fn mode_of(early: bool) -> Output
     if early { Output::Early } else { Output::Full }
 }
 
-// The request of a command, if its words are there.
-fn request_of(command: &str, matches: &ArgMatches) -> Option<Request> {
-    match command_named(command)? {
-        Command::Decode => Some(Request::Decode(mode_of(matches.get_flag(EARLY)))),
-        Command::Units => Some(Request::Units),
-        Command::Headers => Some(Request::Headers),
+// The task of a command, if its words are there.
+fn task_of(command: Command, matches: &ArgMatches<'_>) -> Option<Task> {
+    match command {
+        Command::Decode => {
+            let mode = mode_of(matches.get_flag(EARLY));
+            match word(matches, FORMAT) {
+                Some(NULL) => Some(Task::Check(mode)),
+                _ => Some(Task::Decode(mode)),
+            }
+        }
+        Command::Units => Some(Task::Units),
+        Command::Headers => Some(Task::Headers),
         Command::Cut => {
             let number = matches.get_one::<u32>(NUMBER)?;
-            Some(Request::Cut(number))
+            Some(Task::Cut(number))
         }
     }
 }
 
+// The word that was given for an option.
+fn word<'a>(matches: &ArgMatches<'a>, id: &str) -> Option<&'a str> {
+    let words = matches.get_raw(id)?;
+    words.first().copied()
+}
+
+// The file that the word names, where it is not the standard input or output.
+fn file_named<'a>(word: Option<&'a str>) -> Option<&'a str> {
+    match word {
+        Some(STANDARD) => None,
+        _ => word,
+    }
+}
+
+// The request of a command, if its words are there.
+fn request_of<'a>(name: &str, matches: &ArgMatches<'a>) -> Option<Request<'a>> {
+    let command = command_named(name)?;
+    let task = task_of(command, matches)?;
+    let output = match command {
+        Command::Decode | Command::Cut => word(matches, OUTPUT),
+        Command::Units | Command::Headers => None,
+    };
+    Some(Request {
+        task,
+        input: file_named(word(matches, INPUT)),
+        output: file_named(output),
+    })
+}
+
 /// Reads the words of the command line, of which the first is the program's name. What it does not take, and a request for help,
 /// is an `Err` with the text to print.
-pub fn requested(alloc: Global, words: &[String]) -> Result<Request, Error> {
+pub fn requested(alloc: Global, words: &[String]) -> Result<Request<'_>, Error> {
     let mut command_line = grammar(alloc)?;
     let matches = command_line.try_get_matches_from_mut(words)?;
     let request = match matches.subcommand() {

@@ -1,73 +1,94 @@
 // What no contract says: what the words of the command line mean. Where an allocation is refused
 // (`rt try --test --fail-alloc N`), a test ends in that error, and not at an assertion.
-use crate::request::{Request, requested};
+use crate::request::{Request, Task, requested};
 use avc_run::Output;
 use clap::error::ErrorKind;
 use std::alloc::Global;
 use std::test::Fail;
 
 // How the words are taken: a request, or an error of this kind with this exit status.
-fn taken(alloc: Global, line: &str) -> Result<Result<Request, (ErrorKind, i32)>, clap::Error> {
+fn taken(
+    alloc: Global,
+    line: &str,
+    wanted: Result<Request<'_>, (ErrorKind, i32)>,
+) -> Result<bool, clap::Error> {
     let mut words = Vec::new(alloc);
     for word in line.split_whitespace() {
         words.push(String::from_str(alloc, word)?)?;
     }
     match requested(alloc, &words) {
         Err(error) if error.kind() == ErrorKind::OutOfMemory => Err(error),
-        Err(error) => Ok(Err((error.kind(), error.exit_code()))),
-        Ok(request) => Ok(Ok(request)),
+        Err(error) => Ok(wanted == Err((error.kind(), error.exit_code()))),
+        Ok(request) => Ok(wanted == Ok(request)),
     }
+}
+
+// From standard input to standard output.
+fn plain(task: Task) -> Result<Request<'static>, (ErrorKind, i32)> {
+    Ok(Request {
+        task,
+        input: None,
+        output: None,
+    })
 }
 
 #[test]
 fn takes_words(rt: HostRuntime) -> Result<(), Fail> {
-    let alloc = rt.alloc();
-    assert_eq!(rt;
-        taken(alloc, "avcdec decode")?,
-        Ok(Request::Decode(Output::Full))
-    );
-    assert_eq!(rt;
-        taken(alloc, "avcdec decode --early")?,
-        Ok(Request::Decode(Output::Early))
-    );
-    assert_eq!(rt;
-        taken(alloc, "avcdec units --early")?,
-        Err((ErrorKind::UnknownArgument, 2))
-    );
-    assert_eq!(rt; taken(alloc, "avcdec units")?, Ok(Request::Units));
-    assert_eq!(rt; taken(alloc, "avcdec headers")?, Ok(Request::Headers));
-    assert_eq!(rt; taken(alloc, "avcdec cut 0")?, Ok(Request::Cut(0)));
-    assert_eq!(rt;
-        taken(alloc, "avcdec cut 4294967295")?,
-        Ok(Request::Cut(4_294_967_295))
-    );
-    assert_eq!(rt;
-        taken(alloc, "avcdec cut 4294967296")?,
-        Err((ErrorKind::ValueValidation, 2))
-    );
-    assert_eq!(rt;
-        taken(alloc, "avcdec cut")?,
-        Err((ErrorKind::MissingRequiredArgument, 2))
-    );
-    assert_eq!(rt;
-        taken(alloc, "avcdec --help")?,
-        Err((ErrorKind::DisplayHelp, 0))
-    );
-    assert_eq!(rt;
-        taken(alloc, "avcdec help units")?,
-        Err((ErrorKind::DisplayHelp, 0))
-    );
-    assert_eq!(rt;
-        taken(alloc, "avcdec")?,
-        Err((ErrorKind::MissingSubcommand, 2))
-    );
-    assert_eq!(rt;
-        taken(alloc, "avcdec unit")?,
-        Err((ErrorKind::InvalidSubcommand, 2))
-    );
-    assert_eq!(rt;
-        taken(alloc, "avcdec units more")?,
-        Err((ErrorKind::UnknownArgument, 2))
-    );
+    let full = Task::Decode(Output::Full);
+    let cases = [
+        ("avcdec decode", plain(full)),
+        ("avcdec decode - -o -", plain(full)),
+        (
+            "avcdec decode in.264 -o out.yuv",
+            Ok(Request {
+                task: full,
+                input: Some("in.264"),
+                output: Some("out.yuv"),
+            }),
+        ),
+        ("avcdec decode --early", plain(Task::Decode(Output::Early))),
+        ("avcdec decode --format i420", plain(full)),
+        (
+            "avcdec decode --format null",
+            plain(Task::Check(Output::Full)),
+        ),
+        (
+            "avcdec decode --format png",
+            Err((ErrorKind::InvalidValue, 2)),
+        ),
+        ("avcdec units --early", Err((ErrorKind::UnknownArgument, 2))),
+        ("avcdec units", plain(Task::Units)),
+        (
+            "avcdec headers in.264",
+            Ok(Request {
+                task: Task::Headers,
+                input: Some("in.264"),
+                output: None,
+            }),
+        ),
+        (
+            "avcdec cut 0 --output piece.264 in.264",
+            Ok(Request {
+                task: Task::Cut(0),
+                input: Some("in.264"),
+                output: Some("piece.264"),
+            }),
+        ),
+        ("avcdec cut 4294967295", plain(Task::Cut(4_294_967_295))),
+        (
+            "avcdec cut 4294967296",
+            Err((ErrorKind::ValueValidation, 2)),
+        ),
+        ("avcdec cut", Err((ErrorKind::MissingRequiredArgument, 2))),
+        ("avcdec --help", Err((ErrorKind::DisplayHelp, 0))),
+        ("avcdec --version", Err((ErrorKind::DisplayVersion, 0))),
+        ("avcdec help units", Err((ErrorKind::DisplayHelp, 0))),
+        ("avcdec", Err((ErrorKind::MissingSubcommand, 2))),
+        ("avcdec unit", Err((ErrorKind::InvalidSubcommand, 2))),
+        ("avcdec units in more", Err((ErrorKind::UnknownArgument, 2))),
+    ];
+    for (line, wanted) in cases {
+        assert!(rt; taken(rt.alloc(), line, wanted)?, "{line}");
+    }
     Ok(())
 }
