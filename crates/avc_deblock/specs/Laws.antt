@@ -1,11 +1,14 @@
 -- Laws of the order of the line filters, and of the facts of macroblocks.
-use Rattle.std.specs.Prelude.{◌≡◌, ℕ, ◌+◌, ◌*◌, ◌<◌, ◌≤◌, List, [], length, slice_index_or}
+use Rattle.std.specs.Prelude.{◌≡◌, ℕ, ◌+◌, ◌*◌, ◌<◌, ◌≤◌, List, [], ◌∷◌, true, length, slice_index_or}
 use Rattle.std.specs.List.{range_with_len, flat_map}
 use Rattle.avc_types.specs.Pictures.{Coded}
 use Rattle.avc_neigh.specs.declared.facts.Motion.{Motion}
 use Rattle.avc_deblock.specs.Edges.{line_filters, row_lines, mb_at, slice_at}
 use Rattle.avc_deblock.specs.Facts.{Names, HaveFacts}
 use Rattle.avc_deblock.specs.declared.facts.MbFacts.{MbFacts}
+use Rattle.avc_plane.specs.Plane.{Plane}
+use Rattle.avc_deblock.specs.OneEdge.{lines_filtered, luma_setting}
+use Rattle.avc_deblock.specs.ByFacts.{no_facts, strength_of, luma_qp_of}
 
 -- The line filters of a picture are those of its rows of macroblocks, one row after another.
 abbrev pub RowsInOrder : Type 0
@@ -23,3 +26,23 @@ FactsOfFirstMacroblocksStay =
     (n : ℕ) (c d : Coded) (motion_c motion_d : List (List Motion)) (names : Names) (first : ℕ) (facts : List MbFacts) →
     AgreeBelow n c d motion_c motion_d → first + length facts ≤ n →
     HaveFacts c motion_c names first facts → HaveFacts d motion_d names first facts
+
+-- ---- a worked row
+
+-- an intra macroblock of QP 51, at offsets 0
+abbrev intra_at_51 : MbFacts
+intra_at_51 = record no_facts { qp = 51 }
+
+-- one row of luma after the first line of its macroblock's vertical edge n, which lies 4 + 4 * n samples from its left
+abbrev line_of_edge : (n : ℕ) → Plane → Plane
+line_of_edge n s =
+    lines_filtered (luma_setting (strength_of intra_at_51 intra_at_51 true n) (luma_qp_of intra_at_51 intra_at_51)) true (4 + 4 * n) 0 (0 ∷ []) s
+
+abbrev one_row : List ℕ → Plane
+one_row samples = record { width = 12; height = 1; samples = samples }
+
+-- A step from 100 to 160, at edge 0 at strength 4 and then at edge 1 at strength 3, which reads what edge 0 left.
+abbrev pub TwoEdgesOfAStep : Type 0
+TwoEdgesOfAStep =
+    line_of_edge 1 (line_of_edge 0 (one_row (100 ∷ 100 ∷ 100 ∷ 100 ∷ 160 ∷ 160 ∷ 160 ∷ 160 ∷ 160 ∷ 160 ∷ 160 ∷ 160 ∷ [])))
+    ≡ one_row (100 ∷ 108 ∷ 115 ∷ 123 ∷ 138 ∷ 145 ∷ 152 ∷ 159 ∷ 161 ∷ 160 ∷ 160 ∷ 160 ∷ [])

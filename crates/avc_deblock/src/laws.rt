@@ -1,6 +1,6 @@
 ghost use Rattle.avc_deblock.specs.ByFacts.{RowIsThePictures};
 ghost use Rattle.avc_deblock.specs.Locality.{RowChangesItsRows, RowReadsNoneBelow, RowCommutesWithBlocksBelow};
-ghost use Rattle.avc_deblock.specs.Laws.{RowsInOrder, FactsOfFirstMacroblocksStay};
+ghost use Rattle.avc_deblock.specs.Laws.{RowsInOrder, FactsOfFirstMacroblocksStay, TwoEdgesOfAStep};
 
 /// The line filters of a picture are those of its rows of macroblocks, one row after another.
 pub fn rows_in_order()
@@ -23,4 +23,9 @@ pub fn row_is_local()
     ensures changes { RowChangesItsRows }
     ensures reads { RowReadsNoneBelow }
     ensures commutes { RowCommutesWithBlocksBelow }
+{}
+
+/// The second of two edges filters what the first left.
+pub fn two_edges_of_a_step()
+    ensures { TwoEdgesOfAStep }
 {}

@@ -63,12 +63,12 @@ impl MbFacts {
         all_three(same_vector, same_picture, !any)
     }
 
-    /// The strengths along the edge from `self` to `q`, which is another macroblock, are 0, as one look tells.
+    /// The strengths along the edge from `self` to `q`, which is another macroblock without coefficients, are 0, as one look tells.
     #[inline(always)]
     pub(crate) fn meets_quietly(&self, q: &MbFacts, is_vertical: bool) -> bool
         ensures { result ≡ true → (k : ℕ) → k < 4 → strength_of self.now q.now is_vertical 0 k ≡ 0 }
     {
-        if self.is_intra | q.is_intra {
+        if self.is_intra | q.is_intra | (q.coefficients != 0) {
             return false;
         }
         let mut quiet = true;
