@@ -1,6 +1,7 @@
 #!/bin/sh
 # Proves every crate from nothing, tries the edits that must fail, and runs the tests; sees that docs/TRUSTED.md is up to date;
-# then decodes the streams of vectors/ with the built program. Each part that counts ends in a line 'N passed, 0 failed'.
+# then decodes the streams of vectors/ with the built program, refuses each growth of memory once, and tests the library with its
+# bindings and the GStreamer element, where their tools are there. Each part that counts ends in a line 'N passed, 0 failed'.
 set -eu
 cd "$(dirname "$0")"
 trusted=$(mktemp)
@@ -12,3 +13,6 @@ if ! cmp -s "$trusted" docs/TRUSTED.md; then
 fi
 rt ci
 vectors/run.sh
+vectors/growths.sh
+scripts/test-library.sh
+bindings/gstreamer/test.sh --short
