@@ -1,5 +1,8 @@
 -- What a parameter set's unit says.
-use Rattle.std.proofs.Common.{◌≡◌, ℕ, List, Option, Some, None, Result, Ok, Err, IfOk, refl, ap}
+use Rattle.std.proofs.Common.{◌≡◌, ℕ, List, Option, Some, None, Result, Ok, Err, IfOk, OnErr, Bool, true, is_some, refl, ap}
+use Rattle.std.proofs.lemmas.Option.{none-some}
+use Rattle.avc_annexb.specs.Escapes.{rbsp}
+use Rattle.avc_annexb.specs.declared.unit.Unit.{Unit}
 use Rattle.std.specs.Option.{option_map}
 use Rattle.avc_types.specs.declared.fault.Fault.{Fault}
 use Rattle.avc_types.specs.declared.memory.OutOfMemory.{OutOfMemory}
@@ -8,7 +11,7 @@ use Rattle.avc_params.specs.Tables.{refused}
 use Rattle.avc_params.specs.declared.set_fault.SetFault.{SetFault}
 use Rattle.avc_slice.specs.declared.slice.Slice.{Slice}
 use Rattle.avc_units.specs.GrouperState.{IfSlice}
-use Rattle.avc_units.specs.Grouping.{ends_picture, fault_in, pps, refusal_of, set_fault, sps}
+use Rattle.avc_units.specs.Grouping.{ends_picture, fault_in, pps, rbsp_of, refusal_of, set_fault, sps}
 use Rattle.avc_units.specs.declared.step.Step.{Step}
 
 fault-refused : {A : Type 0} (r : Result A SetFault) → option_map (λ why. why.fault) (refused r) ≡ fault_in r
@@ -31,3 +34,15 @@ no-slice (Some f) P = tt
 pub set-step : (r : Result Step OutOfMemory) (fault : Option Fault) (P : Slice → Type 0) → IfOk r (λ s. s ≡ ends_picture (refusal_of fault)) → IfOk r (λ s. IfSlice s.next P)
 set-step (Ok s) fault P is = rw is (no-slice fault P)
 set-step (Err e) fault P is = tt
+
+-- a unit with an RBSP is not too long
+pub has-body : (u : Unit) (bytes : List ℕ) → rbsp_of u ≡ Some bytes → is_some u.body ≡ true
+has-body u bytes e = by u.body e
+  where
+    by : (o : Option (List ℕ)) → (elim o as (λ _. Option (List ℕ)) [ Some body ↦ Some (rbsp body) | None ↦ None ]) ≡ Some bytes → is_some o ≡ true
+    by (Some body) e = refl
+    by None e = absurd (none-some bytes e)
+
+pub on-err : {A E : Type 0} (r : Result A E) (P : Type 0) → P → OnErr r P
+on-err (Ok x) P p = tt
+on-err (Err e) P p = p

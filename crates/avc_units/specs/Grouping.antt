@@ -1,5 +1,5 @@
 -- What each unit does to the open picture and to the parameter sets (7.4.1.2, and this decoder's rules for faults).
-use Rattle.std.specs.Prelude.{ℕ, Bool, true, false, not, ◌==◌, ◌&&◌, ◌||◌, nat_le, List, [], ◌∷◌, ◌++◌, Option, Some, None, Result, Ok, Err, if◌then◌else◌}
+use Rattle.std.specs.Prelude.{◌≡◌, is_some, ℕ, Bool, true, false, not, ◌==◌, ◌&&◌, ◌||◌, nat_le, List, [], ◌∷◌, ◌++◌, Option, Some, None, Result, Ok, Err, if◌then◌else◌}
 use Rattle.avc_types.specs.declared.fault.Fault.{Fault}
 use Rattle.avc_types.specs.declared.fault.Fault.TheVariants as faults
 use Rattle.avc_annexb.specs.Units.{forbidden_zero_bit, nal_unit_type}
@@ -56,6 +56,21 @@ abbrev pub rbsp_of : Unit → Option (List ℕ)
 rbsp_of u = elim u.body [ Some body ↦ Some (rbsp body) | None ↦ None ]
 
 -- ---- parameter sets (7.4.1.2.1)
+
+-- a unit of this kind is read: its body is unescaped
+abbrev pub is_read : Kind → Bool
+is_read (slice idr) = true
+is_read partition = false
+is_read sps = true
+is_read pps = true
+is_read boundary = false
+is_read other = false
+
+-- Only of such a unit memory may be wanted: a slice or a parameter set that is not too long (this decoder's rule).
+pub record MayWantMemory (u : Unit) : Type 0 where
+  pub allowed : forbidden_zero_bit u.header ≡ false
+  pub not_too_long : is_some u.body ≡ true
+  pub read : is_read (kind u) ≡ true
 
 -- the parameter set in an RBSP of this kind, if it is one
 abbrev pub set_of : Kind → Option (List ℕ) → Option SetUnit

@@ -2,7 +2,7 @@ ghost use Rattle.std.specs.Prelude.{◌≡◌, false, true, IfOk, OnErr, OnOk};
 ghost use Rattle.avc_params.specs.Tables.{sets_after};
 ghost use Rattle.avc_units.specs.GrouperState.{after_fault, begins_a_picture, after_step, last_header_after};
 ghost use Rattle.avc_units.specs.GrouperState.{open_picture_of, new_grouper, IfSlice, IsSliceUnder};
-ghost use Rattle.avc_units.specs.Grouping.{step};
+ghost use Rattle.avc_units.specs.Grouping.{step, MayWantMemory};
 
 use crate::step::{Next, Step};
 use crate::step_cases::UnitContext;
@@ -79,6 +79,7 @@ impl Grouper {
         ensures sets { IfOk result (λ s. IfSlice s.next (λ _. self.new.sets ≡ self.old.sets)) }
         ensures going { OnOk result (self.old.failed ≡ false) }
         ensures err { OnErr result (self.new.failed ≡ true) }
+        ensures memory { self.old.failed ≡ false → OnErr result (MayWantMemory unit.now) }
     {
         if self.failed {
             return Err(OutOfMemory);

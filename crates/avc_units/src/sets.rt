@@ -1,4 +1,4 @@
-ghost use Rattle.std.specs.Prelude.{◌≡◌, ◌++◌, IfOk, OnOk};
+ghost use Rattle.std.specs.Prelude.{◌≡◌, ◌++◌, true, is_some, IfOk, OnErr, OnOk};
 ghost use Rattle.std.specs.Option.{option_map};
 ghost use Rattle.avc_units.specs.Grouping.{ends_picture, list_of, pps, rbsp_of, refusal_of, set_fault, set_of, sps};
 
@@ -11,7 +11,8 @@ use std::alloc::Global;
 
 /// The RBSP of a unit that is not too long.
 pub fn rbsp_of(alloc: Global, unit: &Unit) -> Result<Option<Bytes>, OutOfMemory>
-    ensures { IfOk result (λ bytes. bytes ≡ rbsp_of unit.now) }
+    ensures value { IfOk result (λ bytes. bytes ≡ rbsp_of unit.now) }
+    ensures memory { OnErr result (is_some unit.now.body ≡ true) }
 {
     match &unit.body {
         Some(body) => Ok(Some(Bytes::from_vec(unescape(alloc, body.as_slice())?))),
@@ -37,6 +38,7 @@ pub(crate) fn put_sps(
 ) -> Result<Step, OutOfMemory>
     ensures step { IfOk result (λ s. s ≡ ends_picture (refusal_of (set_fault sps (rbsp_of unit.now)))) }
     ensures put { OnOk result (table.new ≡ table.old ++ list_of (set_of sps (rbsp_of unit.now))) }
+    ensures memory { OnErr result (is_some unit.now.body ≡ true) }
 {
     match rbsp_of(alloc, unit)? {
         Some(rbsp) => {
@@ -55,6 +57,7 @@ pub(crate) fn put_pps(
 ) -> Result<Step, OutOfMemory>
     ensures step { IfOk result (λ s. s ≡ ends_picture (refusal_of (set_fault pps (rbsp_of unit.now)))) }
     ensures put { OnOk result (table.new ≡ table.old ++ list_of (set_of pps (rbsp_of unit.now))) }
+    ensures memory { OnErr result (is_some unit.now.body ≡ true) }
 {
     match rbsp_of(alloc, unit)? {
         Some(rbsp) => {

@@ -1,4 +1,4 @@
-ghost use Rattle.std.specs.Prelude.{◌≡◌, ◌&&◌, false, IfOk};
+ghost use Rattle.std.specs.Prelude.{◌≡◌, ◌&&◌, true, false, is_some, IfOk, OnErr};
 ghost use Rattle.avc_annexb.specs.Units.{forbidden_zero_bit};
 ghost use Rattle.avc_bits.specs.Bits.{start};
 ghost use Rattle.avc_bits.specs.Codes.{ue};
@@ -73,6 +73,7 @@ pub(crate) fn slice_unit(
     requires kind { kind unit.now ≡ slice idr }
     ensures step { IfOk result (λ s. s ≡ step_by context.entry (sets_after table.now) unit.now (slice idr)) }
     ensures slice { IfOk result (λ s. IfSlice s.next (IsSliceUnder (sets_after table.now))) }
+    ensures memory { OnErr result (is_some unit.now.body ≡ true) }
 {
     match rbsp_of(alloc, unit)? {
         Some(rbsp) => {

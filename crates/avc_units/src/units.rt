@@ -1,8 +1,8 @@
-ghost use Rattle.std.specs.Prelude.{◌≡◌, ◌++◌, ◌∷◌, [], false, IfOk, OnOk};
+ghost use Rattle.std.specs.Prelude.{◌≡◌, ◌++◌, ◌∷◌, [], true, false, is_some, IfOk, OnErr, OnOk};
 ghost use Rattle.avc_annexb.specs.Units.{forbidden_zero_bit};
 ghost use Rattle.avc_params.specs.Tables.{sets_after};
 ghost use Rattle.avc_units.specs.GrouperState.{IfSlice, IsSliceUnder};
-ghost use Rattle.avc_units.specs.Grouping.{kind, list_of, rbsp_of, set_of, set_units, step};
+ghost use Rattle.avc_units.specs.Grouping.{is_read, kind, list_of, rbsp_of, set_of, set_units, step, MayWantMemory};
 ghost use Rattle.avc_units.specs.Kinds.{meant, open_picture_in, step_by};
 
 use crate::kinds::{UnitKind, kind_of};
@@ -29,6 +29,8 @@ fn step_by(
     ensures put { OnOk result (table.new ≡ table.old ++ list_of (set_of (meant unit_kind) (rbsp_of unit.now))) }
     ensures slice { IfOk result (λ s. IfSlice s.next (IsSliceUnder (sets_after table.new))) }
     ensures sets { IfOk result (λ s. IfSlice s.next (λ _. table.new ≡ table.old)) }
+    ensures body { OnErr result (is_some unit.now.body ≡ true) }
+    ensures read { OnErr result (is_read (meant unit_kind) ≡ true) }
 {
     match unit_kind {
         UnitKind::Slice { idr } => slice_unit(alloc, table, context, unit, idr),
@@ -51,6 +53,7 @@ pub(crate) fn step_of(
     ensures put { OnOk result (table.new ≡ table.old ++ set_units (unit.now ∷ [])) }
     ensures slice { IfOk result (λ s. IfSlice s.next (IsSliceUnder (sets_after table.new))) }
     ensures sets { IfOk result (λ s. IfSlice s.next (λ _. table.new ≡ table.old)) }
+    ensures memory { OnErr result (MayWantMemory unit.now) }
 {
     if unit.header >= 128 {
         return Ok(Step {
