@@ -123,7 +123,8 @@ fn read_cb_ac(
     requires zero { levels.old ≡ replicate 4 (no_levels 15) }
     ensures small { IfOk result (λ _. All AreSmall levels.new) }
     ensures read { ReadsInto result levels.new
-        (blocks 15 8 (λ k. chroma_pattern == 2) (cb_side (option_copied context.now.left)) (cb_side (option_copied context.now.up)) (range_with_len 0 4) []) reader.old reader.new }
+        (blocks 15 8 (λ k. chroma_pattern == 2) (cb_side (option_copied context.now.left))
+        (cb_side (option_copied context.now.up)) (range_with_len 0 4) []) reader.old reader.new }
 {
     let left = cb_counts(context.left);
     let up = cb_counts(context.up);
@@ -140,7 +141,8 @@ fn read_cr_ac(
     requires zero { levels.old ≡ replicate 4 (no_levels 15) }
     ensures small { IfOk result (λ _. All AreSmall levels.new) }
     ensures read { ReadsInto result levels.new
-        (blocks 15 8 (λ k. chroma_pattern == 2) (cr_side (option_copied context.now.left)) (cr_side (option_copied context.now.up)) (range_with_len 0 4) []) reader.old reader.new }
+        (blocks 15 8 (λ k. chroma_pattern == 2) (cr_side (option_copied context.now.left))
+        (cr_side (option_copied context.now.up)) (range_with_len 0 4) []) reader.old reader.new }
 {
     let left = cr_counts(context.left);
     let up = cr_counts(context.up);
