@@ -79,7 +79,6 @@ fn fetch_held_row<const PAD: usize>(
 }
 
 /// Fetches rows, each coordinate held inside the plane.
-#[inline(never)]
 pub fn fetch_held<const PAD: usize>(
     plane: &PaddedPlane<PAD>,
     left: i64,
