@@ -1,8 +1,9 @@
 -- Writing a text of a stream, piece after piece.
-use Rattle.std.specs.Prelude.{◌≡◌, ℕ, suc, ◌+◌, ◌^◌, ◌<◌, Bool, true, false, if◌then◌else◌, List, [], ◌∷◌, ◌++◌, length, take, Option, Err}
+use Rattle.std.specs.Prelude.{◌≡◌, ℕ, suc, ◌+◌, ◌^◌, ◌<◌, ◌≤◌, Bool, true, false, if◌then◌else◌, List, [], ◌∷◌, ◌++◌, length, take, Option, Err}
 use Rattle.std.proofs.Common.{ap, sym, subst, ◌∙◌, arith, append-nil, length-append}
 use Rattle.std.specs.Io.KnownBytes.{Appends, Consumes, IsAtEnd}
 use Rattle.std.proofs.KnownBytes.{Appends-nil, Appends-trans, Consumes-nil, Consumes-trans}
+use Rattle.std.proofs.lemmas.List.{take-append-le, take-take}
 use Rattle.avc_tools.specs.Streams.{OnlyGrows, StreamSoFar, after_end, after_piece}
 use Rattle.avc_run.specs.Listing.{Lists}
 use Rattle.avc_run.specs.Reading.{HasRead}
@@ -114,3 +115,8 @@ stopped_at_end text now_text fault n s unread left left' w0 w w' len piece i sam
     stopped text fault unread left' w0 w' s.bytes true
     (record { consumed = nothing_more unread left left' s.bytes piece len i.consumed none more; whole = λ is. at_end })
     (stopped_behind text now_text fault n s (after_end s) unread left w0 w w' i same off)
+
+-- what a read gave, of the buffer that it was put into
+pub same_front : (len full : ℕ) (new rest now : List ℕ) → now ≡ take full (new ++ rest) → len ≤ length new → len ≤ full → take len now ≡ take len new
+same_front len full new rest now is within room =
+    ap (λ l. take len l) is ∙ take-take len full (new ++ rest) room ∙ take-append-le len new rest within

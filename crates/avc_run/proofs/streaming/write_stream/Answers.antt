@@ -2,8 +2,8 @@ use Rattle.std.proofs.Common.{◌≡◌, Err, rules, subst}
 use Rattle.avc_tools.specs.Streams.{after_piece}
 use Rattle.avc_run.specs.StreamWriting.{IsStopped}
 use Rattle.avc_run.proofs.Draining.{by_fault}
-use Rattle.avc_run.proofs.Running.{err_is, same_front}
-use Rattle.avc_run.proofs.StreamWriting.{stopped_at_end, stopped_in, no_piece}
+use Rattle.avc_run.proofs.Running.{err_is}
+use Rattle.avc_run.proofs.StreamWriting.{stopped_at_end, stopped_in, no_piece, same_front}
 use Rattle.avc_run.proofs.streaming.write_stream.Goals as goal
 
 pub returns-in_err-piece-clause-err : goal.returns-in_err-piece-clause-err
