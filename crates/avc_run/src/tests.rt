@@ -7,7 +7,6 @@ use crate::{
 use avc_decoder::{DecodeError, Decoder, Event, Output};
 use avc_types::{Fault, OutOfMemory};
 use std::alloc::{AllocError, Global};
-use std::cell::Cell;
 use std::io;
 use std::io::{Read, Write};
 use std::test::Fail;
@@ -524,97 +523,6 @@ fn ends_by_a_fault_that_is_told(rt: HostRuntime) -> Result<(), Fail> {
     assert!(rt;
         told.as_slice() == "avcdec: read fault\n".as_bytes(),
         "the fault's line"
-    );
-    Ok(())
-}
-
-// Fails once, and then gives its bytes.
-#[derive(Drop)]
-struct Failing<'a> {
-    failed: bool,
-    bytes: &'a [u8],
-}
-
-impl<'a> Read for Failing<'a> {
-    fn read(&mut self, buf: &mut [u8]) -> io::Result<usize> {
-        if self.failed {
-            return self.bytes.read(buf);
-        }
-        self.failed = true;
-        Err(io::ErrorKind::Interrupted.into())
-    }
-}
-
-#[test]
-fn reads_no_more_after_a_fault(rt: HostRuntime) -> Result<(), Fail> {
-    let alloc = rt.alloc();
-    let mut reader = Failing {
-        failed: false,
-        bytes: SMALL,
-    };
-    let mut written = Vec::new(alloc);
-    let run = run(alloc, Output::Full, &mut reader, &mut written);
-    assert_eq!(rt; fault_of(run)?, Some(RunFault::Read));
-    assert_eq!(rt; (reader.bytes.len(), written.len()), (SMALL.len(), 0));
-    Ok(())
-}
-
-// How many bytes a writer has taken, for a reader to see.
-#[derive(Drop)]
-struct Seen<'a> {
-    taken: &'a Cell<usize>,
-}
-
-impl<'a> Write for Seen<'a> {
-    fn write(&mut self, buf: &[u8]) -> io::Result<usize> {
-        self.taken.set(self.taken.get().saturating_add(buf.len()));
-        Ok(buf.len())
-    }
-
-    fn flush(&mut self) -> io::Result<()> {
-        Ok(())
-    }
-}
-
-// Gives its bytes at once, and notes at the next read what the writer has taken by then.
-#[derive(Drop)]
-struct Noting<'a> {
-    bytes: &'a [u8],
-    taken: &'a Cell<usize>,
-    noted: Option<usize>,
-}
-
-impl<'a> Read for Noting<'a> {
-    fn read(&mut self, buf: &mut [u8]) -> io::Result<usize> {
-        if self.bytes.is_empty() && self.noted.is_none() {
-            self.noted = Some(self.taken.get());
-        }
-        self.bytes.read(buf)
-    }
-}
-
-#[test]
-fn writes_before_it_reads_on(rt: HostRuntime) -> Result<(), Fail> {
-    let alloc = rt.alloc();
-    let bytes = joined(
-        alloc,
-        &[SMALL, PLAIN, FIRST, GREY, NEXT_FIRST, GREY, DELIMITER],
-    )?;
-    let taken = Cell::new(0);
-    let mut reader = Noting {
-        bytes: &bytes,
-        taken: &taken,
-        noted: None,
-    };
-    let report = run(
-        alloc,
-        Output::Full,
-        &mut reader,
-        &mut Seen { taken: &taken },
-    )?;
-    assert_eq!(rt;
-        (reader.noted, report.pictures, taken.get()),
-        (Some(384), 2, 768)
     );
     Ok(())
 }
