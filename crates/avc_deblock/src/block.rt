@@ -80,7 +80,8 @@ pub(crate) fn spread(v: &[u8; 4]) -> [u8; 16]
 pub(crate) fn weak_luma(t: &mut [u8; 128], limits: &Limits)
     requires { (i : ℕ) → i < 16 → slice_index limits.now.tc0 i ≤ 92 }
     ensures { (s : Setting) (i : ℕ) → i < 16 →
-        IsWeak s (if slice_index limits.now.dead i == 0 then slice_index limits.now.alpha1 i + 1 else 0) (slice_index limits.now.beta1 i + 1) (slice_index limits.now.tc0 i) →
+        IsWeak s (if slice_index limits.now.dead i == 0 then slice_index limits.now.alpha1 i + 1 else 0)
+        (slice_index limits.now.beta1 i + 1) (slice_index limits.now.tc0 i) →
         filtered s (line_down t.old i) ≡ line_down t.new i }
 {
     let p2 = row(t, 16);
@@ -100,7 +101,9 @@ pub(crate) fn weak_luma(t: &mut [u8; 128], limits: &Limits)
 #[inline(always)]
 pub(crate) fn strong_luma(t: &mut [u8; 128], limits: &StrongLimits)
     requires { (i : ℕ) → i < 16 → slice_index limits.now.small1 i ≡ (slice_index limits.now.alpha1 i + 1) / 4 + 1 }
-    ensures { (s : Setting) (i : ℕ) → i < 16 → IsStrong s (slice_index limits.now.alpha1 i + 1) (slice_index limits.now.beta1 i + 1) → filtered s (line_down t.old i) ≡ line_down t.new i }
+    ensures { (s : Setting) (i : ℕ) → i < 16 →
+        IsStrong s (slice_index limits.now.alpha1 i + 1) (slice_index limits.now.beta1 i + 1) →
+        filtered s (line_down t.old i) ≡ line_down t.new i }
 {
     let p3 = row(t, 0);
     let mut p2 = row(t, 16);
@@ -126,7 +129,8 @@ pub(crate) fn strong_luma(t: &mut [u8; 128], limits: &StrongLimits)
 pub(crate) fn weak_chroma(t: &mut [u8; 128], limits: &Limits)
     requires { (i : ℕ) → i < 16 → slice_index limits.now.tc0 i ≤ 92 }
     ensures { (s : Setting) (i : ℕ) → i < 16 →
-        IsWeakChroma s (if slice_index limits.now.dead i == 0 then slice_index limits.now.alpha1 i + 1 else 0) (slice_index limits.now.beta1 i + 1) (slice_index limits.now.tc0 i) →
+        IsWeakChroma s (if slice_index limits.now.dead i == 0 then slice_index limits.now.alpha1 i + 1 else 0)
+        (slice_index limits.now.beta1 i + 1) (slice_index limits.now.tc0 i) →
         filtered s (line_down t.old i) ≡ line_down t.new i }
 {
     let p1 = row(t, 32);

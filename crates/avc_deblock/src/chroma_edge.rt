@@ -80,8 +80,10 @@ pub(crate) fn horizontal_chroma<const PAD: usize>(
     requires cr_rows { top + 8 ≤ cr.old.height }
     requires index { limits.now.index_a < 52 }
     requires strengths { AreStrengths strengths.now }
-    ensures cb { (qp : Qps) → AreLimits limits.now qp → cb.new ≡ edge_filtered (chroma_setting (strength_along strengths.now) qp) false left (top + 4) 8 cb.old }
-    ensures cr { (qp : Qps) → AreLimits limits.now qp → cr.new ≡ edge_filtered (chroma_setting (strength_along strengths.now) qp) false left (top + 4) 8 cr.old }
+    ensures cb { (qp : Qps) → AreLimits limits.now qp →
+        cb.new ≡ edge_filtered (chroma_setting (strength_along strengths.now) qp) false left (top + 4) 8 cb.old }
+    ensures cr { (qp : Qps) → AreLimits limits.now qp →
+        cr.new ≡ edge_filtered (chroma_setting (strength_along strengths.now) qp) false left (top + 4) 8 cr.old }
 {
     if !limits.is_on {
         return;

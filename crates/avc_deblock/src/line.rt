@@ -11,7 +11,8 @@ use crate::bytes::{
 /// By how much a line is beyond the thresholds: 0 where it is filtered. `a1` and `b1` are one less than alpha and beta.
 #[inline(always)]
 fn excess(p1: u8, p0: u8, q0: u8, q1: u8, a1: u8, b1: u8, dead: u8) -> u8
-    ensures { (result == 0) ≡ (nat_lt (distance p0 q0) (if dead == 0 then a1 + 1 else 0) && nat_lt (distance p1 p0) (b1 + 1) && nat_lt (distance q1 q0) (b1 + 1)) }
+    ensures { (result == 0) ≡ (nat_lt (distance p0 q0) (if dead == 0 then a1 + 1 else 0)
+        && nat_lt (distance p1 p0) (b1 + 1) && nat_lt (distance q1 q0) (b1 + 1)) }
 {
     let outer = distance(p1, p0).max(distance(q1, q0));
     less(distance(p0, q0), a1).max(less(outer, b1)).max(dead)

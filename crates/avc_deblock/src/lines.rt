@@ -117,7 +117,8 @@ pub(crate) fn weak_lines(
 )
     requires { (i : ℕ) → i < 16 → slice_index limits.now.tc0 i ≤ 92 }
     ensures { (p3 q3 : ℕ) (s : Setting) (i : ℕ) → i < 16 →
-        IsWeak s (if slice_index limits.now.dead i == 0 then slice_index limits.now.alpha1 i + 1 else 0) (slice_index limits.now.beta1 i + 1) (slice_index limits.now.tc0 i) →
+        IsWeak s (if slice_index limits.now.dead i == 0 then slice_index limits.now.alpha1 i + 1 else 0)
+        (slice_index limits.now.beta1 i + 1) (slice_index limits.now.tc0 i) →
         filtered s (line_within p3 q3 p2.now p1.old p0.old q0.old q1.old q2.now i) ≡ line_within p3 q3 p2.now p1.new p0.new q0.new q1.new q2.now i }
 {
     let (p2, a1, a0, b0, b1, q2) = (*p2, *p1, *p0, *q0, *q1, *q2);
@@ -197,7 +198,8 @@ pub(crate) fn weak_chroma_lines(
 )
     requires { (i : ℕ) → i < 16 → slice_index limits.now.tc0 i ≤ 92 }
     ensures { (p3 p2 q2 q3 : ℕ) (s : Setting) (i : ℕ) → i < 16 →
-        IsWeakChroma s (if slice_index limits.now.dead i == 0 then slice_index limits.now.alpha1 i + 1 else 0) (slice_index limits.now.beta1 i + 1) (slice_index limits.now.tc0 i) →
+        IsWeakChroma s (if slice_index limits.now.dead i == 0 then slice_index limits.now.alpha1 i + 1 else 0)
+        (slice_index limits.now.beta1 i + 1) (slice_index limits.now.tc0 i) →
         filtered s (line_inside p3 p2 q2 q3 p1.now p0.old q0.old q1.now i) ≡ line_inside p3 p2 q2 q3 p1.now p0.new q0.new q1.now i }
 {
     let (p1, a0, b0, q1) = (*p1, *p0, *q0, *q1);
