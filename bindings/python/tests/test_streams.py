@@ -81,6 +81,27 @@ class Calls(unittest.TestCase):
         with self.assertRaises(avcdec.Error):
             decoder.feed(b"")
 
+    def test_a_picture_waits_until_its_place_is_wanted(self) -> None:
+        one_frame_held = bytes.fromhex("000000016742C00ADA7201FD40 0000000168CE3880 00000165888493C0")
+        with avcdec.Decoder() as decoder:
+            decoder.feed(one_frame_held + bytes.fromhex("000001419A22A0"))
+            self.assertIsNone(decoder.take())
+            decoder.feed(bytes.fromhex("00000109000001"))
+            self.assertIsInstance(decoder.take(), avcdec.Picture)
+            self.assertIsNone(decoder.take())
+            decoder.flush()
+            self.assertIsInstance(decoder.take(), avcdec.Picture)
+            self.assertIsNone(decoder.take())
+
+    def test_a_slice_at_a_wrong_address_is_not_decoded(self) -> None:
+        two_slices = bytes.fromhex("000000016742C00ADA2C40 0000000168CE3880 00000165888493C0 00000165422124F0")
+        with avcdec.Decoder() as decoder:
+            decoder.feed(two_slices + bytes.fromhex("00000165422124F0"))
+            decoder.flush()
+            self.assertEqual(str(decoder.take()), "refused unit 4: 21 ArbitrarySliceOrder")
+            self.assertIsNone(decoder.take())
+            self.assertEqual(decoder.turns, 2)
+
     def test_the_version_is_that_of_the_header(self) -> None:
         self.assertEqual(avcdec.version(), (0, 1, 0))
 

@@ -19,8 +19,9 @@ const STREAM: [u8; 27] = [
 
 const UNITS: &str = "0 4 6 7 3\n1 14 4 8 3\n2 21 5 5 3\n";
 
-const HEADERS: &str =
-    "0 sps 0 profile 66 level 10 size 16x16 refs 1 poc 2 dpb 16\n1 pps 0 sps 0 qp 26 refs 1 control 0 constrained 0\n2 slice 0 type I pps 0 frame 0 qp 26 idr 1\n";
+const HEADERS: &str = "0 sps 0 profile 66 level 10 size 16x16 refs 1 poc 2 dpb 16\n\
+    1 pps 0 sps 0 qp 26 refs 1 control 0 constrained 0\n\
+    2 slice 0 type I pps 0 frame 0 qp 26 idr 1\n";
 
 // What a call gives; where it wants memory, what it gives when it is made again.
 macro_rules! given {
