@@ -71,9 +71,8 @@ fn store_row<const W: usize>(stored: &mut [u8], start: usize, samples: &[u8], fr
     ensures before { (j : ℕ) → j < start → slice_index stored.new j ≡ slice_index stored.old j }
     ensures behind { (j : ℕ) → start + W ≤ j → slice_index stored.new j ≡ slice_index stored.old j }
 {
-    for x in 0..W {
-        stored[start + x] = samples[from + x];
-    }
+    // one copy of a known length: as a loop over bytes it is not made one of vectors, since the two might overlap
+    stored[start..start + W].copy_from_slice(&samples[from..from + W]);
 }
 
 #[inline(always)]
