@@ -1,7 +1,7 @@
 -- The blocks of a part filled in, block by block.
-use Rattle.std.specs.Prelude.{if◌then◌else◌, map}
-use Rattle.std.specs.List.{range_with_len}
-use Rattle.std.proofs.Common.{◌≡◌, ◌<◌, ◌≤◌, ◌+◌, ℕ, Bool, List, length, slice_index_or, slice_set, refl, arith, ap, ◌∙◌, sym}
+use Rattle.std.specs.Prelude.{if◌then◌else◌}
+use Rattle.std.proofs.Common.{◌≡◌, ◌<◌, ◌≤◌, ◌+◌, ◌*◌, ℕ, List, length, slice_index_or, slice_set, refl, arith, ap, ◌∙◌, sym, inl, inr}
+use Rattle.std.proofs.lemmas.Bool.{cases_lt}
 use Rattle.std.proofs.lemmas.List.{same_lists, get_or-set_same, get_or-set_other, get_or_default}
 use Rattle.std.proofs.lemmas.List.FromFn.{get_or-map-range_with_len}
 use borrow.Author.Count.{below_more}
@@ -9,6 +9,7 @@ use Rattle.avc_types.specs.declared.macroblock.Part.{Part}
 use Rattle.avc_neigh.specs.declared.facts.Motion.{Motion}
 use Rattle.avc_neigh.specs.declared.facts.Motion.TheVariants.{Absent as absent}
 use Rattle.avc_motion.specs.Motion.{with_part, is_in_part}
+use Rattle.avc_motion.specs.Decoding.{IsQuarterFilled}
 
 pub length-with_part : (mine : List Motion) (part : Part) (m : Motion) → length (with_part mine part m) ≡ 16
 unfolding with_part
@@ -27,14 +28,25 @@ same_blocks xs ys e f same = same_lists xs ys (e ∙ sym f) (λ k d h.
     let below : k < 16 = omega arith in
     get_or_default xs k d absent h ∙ same k below ∙ get_or_default ys k absent d (omega arith))
 
--- One more block is filled in.
-pub done_more : (mine old now : List Motion) (part : Part) (m v : Motion) (i : ℕ) → i < 16 → length now ≡ 16
-    → now ≡ slice_set mine i v → length mine ≡ 16
-    → v ≡ (if is_in_part part i then m else slice_index_or mine i absent)
-    → slice_index_or mine i absent ≡ slice_index_or old i absent
-    → ((k : ℕ) → k < i → slice_index_or mine k absent ≡ slice_index_or (with_part old part m) k absent)
-    → (k : ℕ) → k < i + 1 → slice_index_or now k absent ≡ slice_index_or (with_part old part m) k absent
-done_more mine old now part m v i h long set long' value same done =
-    below_more (λ k. slice_index_or now k absent ≡ slice_index_or (with_part old part m) k absent) i
-    (λ k below. rw set (get_or-set_other mine i k v absent (λ e. absurd (omega (arith, e))) ∙ done k below))
-    (rw set (get_or-set_same mine i v absent (omega arith) ∙ value ∙ ap (λ x. if is_in_part part i then m else x) same ∙ sym (at-with_part old part m i h)))
+-- One more block is set.
+pub set_more : (f : ℕ → Motion) (mine : List Motion) (v : Motion) (first i : ℕ) → i < length mine → v ≡ f i
+    → ((j : ℕ) → first ≤ j → j < i → slice_index_or mine j absent ≡ f j)
+    → (j : ℕ) → first ≤ j → j < i + 1 → slice_index_or (slice_set mine i v) j absent ≡ f j
+set_more f mine v first i h value done j from below =
+    below_more (λ n. first ≤ n → slice_index_or (slice_set mine i v) n absent ≡ f n) i
+    (λ n less some. get_or-set_other mine i n v absent (λ e. absurd (omega (arith, e))) ∙ done n some less)
+    (λ some. get_or-set_same mine i v absent h ∙ value) j below from
+
+-- ---- a quarter of the blocks
+
+-- One more quarter is filled in.
+pub quarter_more : (old mine now : List Motion) (part : Part) (m : Motion) (q : ℕ) → q < 4 → IsQuarterFilled part q m mine now
+    → ((k : ℕ) → k < 4 * q → slice_index_or mine k absent ≡ slice_index_or (with_part old part m) k absent)
+    → ((k : ℕ) → 4 * q ≤ k → slice_index_or mine k absent ≡ slice_index_or old k absent)
+    → (k : ℕ) → k < 4 * (q + 1) → slice_index_or now k absent ≡ slice_index_or (with_part old part m) k absent
+quarter_more old mine now part m q few filled done left k below =
+    elim (cases_lt k (4 * q)) [
+    | inl less ↦ filled.before k less ∙ done k less
+    | inr from ↦
+        filled.here k (from, omega arith) ∙ ap (λ x. if is_in_part part k then m else x) (left k from) ∙ sym (at-with_part old part m k (omega arith))
+    ]

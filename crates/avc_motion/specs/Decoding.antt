@@ -1,5 +1,5 @@
 -- The parts of a macroblock one by one, up to the first vector that can't be had.
-use Rattle.std.specs.Prelude.{◌≡◌, ℕ, ◌+◌, ◌<◌, ◌≤◌, if◌then◌else◌, List, [], ◌∷◌, Option, Some, None, Result, Ok, Err, length, slice_index}
+use Rattle.std.specs.Prelude.{◌≡◌, ℕ, ◌+◌, ◌*◌, ◌<◌, ◌≤◌, if◌then◌else◌, List, [], ◌∷◌, Option, Some, None, Result, Ok, Err, length, slice_index, slice_index_or}
 use Rattle.avc_types.specs.declared.fault.Fault.{Fault}
 use Rattle.avc_types.specs.declared.fault.Fault.TheVariants.{VectorRange}
 use Rattle.avc_types.specs.declared.macroblock.Mvd.{Mvd}
@@ -11,8 +11,9 @@ use Rattle.avc_types.specs.Macroblock.{parts_of, parts_of_quarter, quarter_x, qu
 use Rattle.avc_neigh.specs.Around.{facts_of}
 use Rattle.avc_neigh.specs.BlockNear.{motion_near}
 use Rattle.avc_neigh.specs.declared.facts.Motion.{Motion}
+use Rattle.avc_neigh.specs.declared.facts.Motion.TheVariants.{Absent as absent}
 use Rattle.avc_motion.specs.declared.parts.Inter.{Inter}
-use Rattle.avc_motion.specs.Motion.{Near, motion_of_part, with_part, is_in_range, no_motion}
+use Rattle.avc_motion.specs.Motion.{Near, motion_of_part, with_part, is_in_part, is_in_range, no_motion}
 
 -- the motion with these parts of the macroblock, or None at the first vector out of range (8.4.1)
 abbrev pub decoded : Near → PMbType → List ℕ → List Motion → List Part → List Mvd → Option (List Motion)
@@ -67,3 +68,13 @@ HasFourQuarters P16x8 = Unit {0}
 HasFourQuarters P8x16 = Unit {0}
 HasFourQuarters (P8x8 subs) = length subs ≡ 4
 HasFourQuarters (P8x8Ref0 subs) = length subs ≡ 4
+
+-- Block k lies in quarter q of the macroblock (6.4.7).
+abbrev pub IsOfQuarter : (q k : ℕ) → Type 0
+IsOfQuarter q k = (4 * q ≤ k) × (k < 4 * q + 4)
+
+-- The blocks of quarter q that lie in the part have motion m, all others what they had.
+pub record IsQuarterFilled (part : Part) (q : ℕ) (m : Motion) (old new : List Motion) : Type 0 where
+  pub here : (k : ℕ) → IsOfQuarter q k → slice_index_or new k absent ≡ (if is_in_part part k then m else slice_index_or old k absent)
+  pub before : (k : ℕ) → k < 4 * q → slice_index_or new k absent ≡ slice_index_or old k absent
+  pub behind : (k : ℕ) → 4 * q + 4 ≤ k → slice_index_or new k absent ≡ slice_index_or old k absent

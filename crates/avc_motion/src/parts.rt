@@ -1,9 +1,9 @@
-ghost use Rattle.std.specs.Prelude.{◌≡◌, ℕ, ◌≤◌, ◌<◌, ◌+◌, ◌*◌, pos, ◌+ℤ◌, if◌then◌else◌, length, Some, None};
+ghost use Rattle.std.specs.Prelude.{◌≡◌, ℕ, ◌≤◌, ◌<◌, ◌+◌, ◌*◌, pos, ◌+ℤ◌, true, false, if◌then◌else◌, length, slice_index_or, Some, None};
 ghost use Rattle.std.specs.List.{All};
-ghost use Rattle.avc_neigh.specs.declared.facts.Motion.TheVariants.{Inter as inter};
+ghost use Rattle.avc_neigh.specs.declared.facts.Motion.TheVariants.{Absent as absent, Inter as inter};
 ghost use Rattle.avc_types.specs.Macroblock as macroblocks;
 ghost use Rattle.avc_motion.specs.Motion as motions;
-ghost use Rattle.avc_motion.specs.Decoding.{in_range_only};
+ghost use Rattle.avc_motion.specs.Decoding.{in_range_only, IsOfQuarter, IsQuarterFilled};
 
 use crate::neighbouring::NeighbouringPartitions;
 use avc_neigh::{Motion, Neighbours};
@@ -61,12 +61,71 @@ fn pick(is_first: bool, first: Motion, second: Motion) -> Motion
     if is_first { first } else { second }
 }
 
+/// All blocks of a quarter lie in the part.
+fn has_quarter(part: Part, quarter: usize) -> bool
+    requires { quarter < 4 }
+    ensures { result ≡ true → (k : ℕ) → IsOfQuarter quarter k → motions.is_in_part part k ≡ true }
+{
+    let (x, y) = (8 * (quarter % 2), 8 * (quarter / 2));
+    usize::from(part.x) <= x
+        && x + 8 <= usize::from(part.x) + usize::from(part.width)
+        && usize::from(part.y) <= y
+        && y + 8 <= usize::from(part.y) + usize::from(part.height)
+}
+
+/// No block of a quarter lies in the part.
+fn is_apart(part: Part, quarter: usize) -> bool
+    requires { quarter < 4 }
+    ensures { result ≡ true → (k : ℕ) → IsOfQuarter quarter k → motions.is_in_part part k ≡ false }
+{
+    let (x, y) = (8 * (quarter % 2), 8 * (quarter / 2));
+    x + 8 <= usize::from(part.x)
+        || usize::from(part.x) + usize::from(part.width) <= x
+        || y + 8 <= usize::from(part.y)
+        || usize::from(part.y) + usize::from(part.height) <= y
+}
+
+/// Gives all blocks of a quarter their motion.
+fn fill_whole(mine: &mut [Motion; 16], quarter: usize, motion: Motion)
+    requires { quarter < 4 }
+    ensures here { (k : ℕ) → IsOfQuarter quarter k → slice_index_or mine.new k absent ≡ motion }
+    ensures before { (k : ℕ) → k < 4 * quarter → slice_index_or mine.new k absent ≡ slice_index_or mine.old k absent }
+    ensures behind { (k : ℕ) → 4 * quarter + 4 ≤ k → slice_index_or mine.new k absent ≡ slice_index_or mine.old k absent }
+{
+    for k in 4 * quarter..4 * quarter + 4 {
+        mine[k] = motion;
+    }
+}
+
+/// Gives those blocks of a quarter that lie in the part their motion.
+fn fill_blocks(mine: &mut [Motion; 16], part: Part, quarter: usize, motion: Motion)
+    requires { quarter < 4 }
+    ensures { IsQuarterFilled part quarter motion mine.old mine.new }
+{
+    for k in 4 * quarter..4 * quarter + 4 {
+        mine[k] = pick(is_in_part(part, k), motion, mine[k]);
+    }
+}
+
+/// The same. Each block is looked at only where some lie in the part and some do not.
+#[inline(always)]
+fn fill_quarter(mine: &mut [Motion; 16], part: Part, quarter: usize, motion: Motion)
+    requires { quarter < 4 }
+    ensures { IsQuarterFilled part quarter motion mine.old mine.new }
+{
+    if has_quarter(part, quarter) {
+        fill_whole(mine, quarter, motion);
+    } else if !is_apart(part, quarter) {
+        fill_blocks(mine, part, quarter, motion);
+    }
+}
+
 /// Gives the blocks of a part their motion.
 fn fill(mine: &mut [Motion; 16], part: Part, motion: Motion)
     ensures { mine.new ≡ motions.with_part mine.old part motion }
 {
-    for k in 0..16 {
-        mine[k] = pick(is_in_part(part, k), motion, mine[k]);
+    for quarter in 0..4 {
+        fill_quarter(mine, part, quarter, motion);
     }
 }
 

@@ -1,0 +1,12 @@
+use Rattle.std.proofs.Common.{◌≡◌, ◌≤◌, ◌<◌, ◌*◌, ℕ, length, slice_index_or}
+use Rattle.avc_neigh.specs.declared.facts.Motion.TheVariants.{Absent as absent}
+use Rattle.avc_motion.proofs.parts.fill_whole.Given as goal
+
+abbrev pub invariant-loop-k : goal.invariant-loop-k
+invariant-loop-k l = record {
+  long : length l.mine ≡ 16;
+  from : 4 * l.quarter ≤ l.k;
+  done : (j : ℕ) → 4 * l.quarter ≤ j → j < l.k → slice_index_or l.mine j absent ≡ l.motion;
+  before : (j : ℕ) → j < 4 * l.quarter → slice_index_or l.mine j absent ≡ slice_index_or l.fn.mine j absent;
+  left : (j : ℕ) → l.k ≤ j → slice_index_or l.mine j absent ≡ slice_index_or l.fn.mine j absent;
+}
