@@ -94,7 +94,7 @@ pub closes_short : (s s' : SequenceState) (q q' : QueueState) (unit : ℕ) (d : 
 closes_short s s' q q' unit d f e w is_fault answer es eq =
     let history = current_history s in
     let h = (w.last).header in
-    let ends : EndsWith s d (Some f) = ends_with s h d (Some f) w.frames (subst (λ x. IsFinishAnswer d (Err x)) is_fault answer).1 in
+    let ends : EndsWith s d (Some f) = ends_with s h d (Some f) w.frames (subst (λ x. IsFinishAnswer d (Err x)) is_fault answer) in
     let short = short_alone (progress_on_history history d).fault (is_full (start_with (stored_frames history) d) (progress_on_history history d)) f (well_on s h d w.frames w.well) ends in
     let o = opened_as s d w.last w.earlier in
     let st = stands_as s unit d w in

@@ -19,7 +19,8 @@ use Rattle.avc_decoder_core.specs.SequenceState.{IsOpened, SequenceState, empty_
 use Rattle.avc_decoder.specs.PictureFrames.{HasItsFrames, IsRefused, read_of_slice, start_with}
 use Rattle.avc_decoder.specs.FirstFault.{OpenPicture, first_fault, history_of, progress_on, read_of}
 use Rattle.avc_decoder.specs.Events.{Outcome, after_first_slice, after_next_slice, failed_at, is_waiting, pictures, running, with_slice}
-use Rattle.avc_decoder.specs.States.{HasOutcome, Decodes, IsOpenIn, QueueState, open_picture_from, open_picture_of, with_events}
+use Rattle.avc_decoder.specs.States.{HasOutcome, HasSliceOutcome, Decodes, DecodesIn, IsOpen, IsOpenIn, QueueState, continued_in, open_picture_from, open_picture_of, with_events}
+use Rattle.avc_decoder.specs.declared.open_picture.AfterSlice.{AfterSlice}
 use Rattle.avc_decoder.proofs.FirstFaults.{Stands, history_is, no_fault, read_is, slice_fault}
 use Rattle.avc_decoder.specs.declared.event.Event.TheVariants.{Picture, Refused}
 use Rattle.avc_decoder.proofs.Closing.{opened_as, stands_as, well_at}
@@ -104,7 +105,6 @@ further_well s q unit d slice w frames well =
     let open' : IsOpenIn s slice.unit (with_slice_more slice d) = record {
       last = slice;
       earlier = w.last ∷ w.earlier;
-      going = w.going;
       on = w.on;
       slices = all;
       unit = refl;
@@ -132,9 +132,32 @@ further_faulty s q unit d slice f w r =
 pub further_slice : (s s' : SequenceState) (q q' : QueueState) (unit : ℕ) (d : Decoding 32) (slice : Slice) (picture : Option (Decoding 32)) (read : ℕ) → IsOpenIn s unit d → Decodes d slice s q picture s' q' → read ≡ read_of_slice (current_history s) d slice
     → Goes s.output (after_next_slice s.output (running s.history (open_picture_of s.history (Some d))) slice) picture read q slice.unit s' q'
 further_slice s s' q q' unit d slice (Some d') read w k er =
-    rw (k.1, k.4, k.5, er) (subst (GoesAs s d slice (Some (with_slice_more slice d)) (read_of_slice (current_history s) d slice) q s q) (sym w.slices) (further_well s q unit d slice w (subst (HasItsFrames s slice.header) k.1 k.2) (subst HasNoFault k.1 k.3)))
+    rw (k.0, k.3, k.4, er) (subst (GoesAs s d slice (Some (with_slice_more slice d)) (read_of_slice (current_history s) d slice) q s q) (sym w.slices) (further_well s q unit d slice w (subst (HasItsFrames s slice.header) k.0 k.1) (subst HasNoFault k.0 k.2)))
 further_slice s s' q q' unit d slice None read w k er =
     rw (k.2, k.3, er) (subst (GoesAs s d slice None (read_of_slice (current_history s) d slice) q (empty_sequence s.output) (with_events (failed_at s.output (current_history s) slice.unit k.0 0).events q)) (sym w.slices) (further_faulty s q unit d slice k.0 w k.1))
+
+-- of the picture that is open, if one is
+pub record Continues (s : SequenceState) (q : QueueState) (slice : Slice) (open_one : Option (Decoding 32)) (after : AfterSlice) (picture : Option (Decoding 32)) (s' : SequenceState) (q' : QueueState) : Type 0 where
+  pub fault : after.fault ≡ is_waiting (continued_in s.output s.history open_one slice).phase
+  pub state : HasSliceOutcome s.output (continued_in s.output s.history open_one slice) q slice after picture s' q'
+
+pub continues : (s s' : SequenceState) (q q' : QueueState) (unit : ℕ) (slice : Slice) (open_one : Option (Decoding 32)) (after : AfterSlice) (picture : Option (Decoding 32)) → IsOpen s unit open_one → DecodesIn open_one slice s q after picture s' q'
+    → Continues s q slice open_one after picture s' q'
+continues s s' q q' unit slice (Some d) after picture w k =
+    let goes = further_slice s s' q q' unit d slice picture after.read w k.0 k.1 in
+    record { fault = k.2 ∙ goes.fault; state = goes.state }
+continues s s' q q' unit slice None after picture w k =
+    rw (k.0, k.1) (record {
+      fault = k.4;
+      state = record {
+        works = w;
+        mode = refl;
+        history = refl;
+        open_picture = refl;
+        count = k.3;
+        queue = k.2 ∙ sym (ap (λ es. record q { events = es }) (append-nil q.events));
+      };
+    })
 
 -- ---- the first slice
 
@@ -152,7 +175,6 @@ first_well s q sps pps frames all slice on first stands has well =
     let open' : IsOpenIn s1 slice.unit d' = record {
       last = slice;
       earlier = [];
-      going = refl;
       on = on;
       slices = refl;
       unit = refl;
@@ -196,5 +218,5 @@ first_slice law s s1 s' q q1 q' sps pps frames slice out d picture read first i 
     by_picture : (p : Option (Decoding 32)) → Decodes (no_slice_yet sps pps frames) slice opened (with_events (pictures (output_pictures s.output s.history (current_history opened))) q) p s' q'
         → history_at_opening sps slice.header s.history ≡ Ok (current_history opened) → Goes s.output (after_first_slice s.output (Some (pps, sps)) s.history slice) p (read_of_slice (current_history opened) (no_slice_yet sps pps frames) slice) q slice.unit s' q'
     by_picture (Some d') k stands =
-        rw (k.1, k.4, k.5) (first_well s q sps pps frames s1.frames slice i.going first stands (subst (HasItsFrames opened slice.header) k.1 k.2) (subst HasNoFault k.1 k.3))
+        rw (k.0, k.3, k.4) (first_well s q sps pps frames s1.frames slice i.going first stands (subst (HasItsFrames opened slice.header) k.0 k.1) (subst HasNoFault k.0 k.2))
     by_picture None k stands = rw (k.2, k.3) (first_faulty law s q sps pps frames slice (current_history opened) k.0 first stands k.1)

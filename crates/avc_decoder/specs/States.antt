@@ -1,5 +1,5 @@
 -- What the decoder's parts keep.
-use Rattle.std.specs.Prelude.{◌≡◌, ℕ, zero, suc, ◌+◌, Bool, true, false, List, [], ◌∷◌, ◌++◌, length, Option, Some, None, IfSome, Ok}
+use Rattle.std.specs.Prelude.{◌≡◌, ℕ, zero, suc, ◌+◌, ◌-◌, Bool, true, false, List, [], ◌∷◌, ◌++◌, length, Option, Some, None, IfSome, is_none, Ok}
 use Rattle.avc_types.specs.declared.fault.Fault.{Fault}
 use Rattle.avc_annexb.specs.SplitterState.{SplitterState}
 use Rattle.avc_annexb.specs.Units.{units, saturated}
@@ -11,7 +11,7 @@ use Rattle.avc_slice.specs.declared.header.Header.{Header}
 use Rattle.avc_slice.specs.declared.slice.Slice.{Slice}
 use Rattle.avc_slice.specs.Header.{is_idr}
 use Rattle.avc_slice.specs.Within.{IsHeader}
-use Rattle.avc_picture.specs.Decoding.{Decoding, HasNoFault, with_slice_more}
+use Rattle.avc_picture.specs.Decoding.{Decoding, HasNoFault, HasRead, IsSliceAnswer, with_slice_more}
 use Rattle.avc_units.specs.GrouperState.{GrouperState, IsSliceUnder, after_fault}
 use Rattle.avc_units.specs.declared.step.Next.{Next}
 use Rattle.avc_units.specs.declared.step.Next.TheVariants.{Begins, Continues}
@@ -20,13 +20,14 @@ use Rattle.avc_decoder_core.specs.History.{History, history_at_opening}
 use Rattle.avc_decoder_core.specs.Pictures.{held_pictures}
 use Rattle.avc_decoder_core.specs.SequenceState.{SequenceState, empty_sequence, current_history}
 use Rattle.avc_decoder.specs.FirstFault.{OpenPicture, oldest}
-use Rattle.avc_decoder.specs.PictureFrames.{HasItsFrames, IsRefused}
+use Rattle.avc_decoder.specs.PictureFrames.{HasItsFrames, IsRefused, read_of_slice}
 use Rattle.avc_decoder.specs.Events.{Phase, waiting, running, State, first_state, Outcome, no_change, pictures, failed_at, history_in, base_in}
 use Rattle.avc_decoder.specs.Events.{closed_picture, after_first_slice, after_next, after_next_slice, after_unit, state_after, events, turns, open_picture_facts, at_end}
 use Rattle.avc_decoder.specs.Laws.{state_through}
 use Rattle.avc_decoder.specs.Machine.{Machine, IsCount}
 use Rattle.avc_decoder.specs.declared.event.Event.{Event}
 use Rattle.avc_decoder.specs.declared.open_picture.AfterSlice.{AfterSlice}
+use Rattle.avc_decoder.specs.declared.open_picture.SliceAnswer.{SliceAnswer}
 use Rattle.avc_decoder.specs.declared.event.Event.TheVariants.{Refused}
 
 -- ---- events
@@ -104,7 +105,6 @@ open_picture_of h (Some d) = open_picture_from h d.sps d.pps d.slices
 pub record IsOpenIn (s : SequenceState) (last_unit : ℕ) (d : Decoding 32) : Type 0 where
   pub last : Slice
   pub earlier : List Slice
-  pub going : d.failed ≡ false
   pub on : s.failed ≡ false
   pub slices : d.slices ≡ last ∷ earlier
   pub unit : last_unit ≡ last.unit
@@ -133,12 +133,33 @@ pub record HasOutcome (output : Output) (o : Outcome) (q : QueueState) (last_uni
 
 -- One slice more was decoded, or its fault went out.
 abbrev pub Decodes : (d : Decoding 32) → Slice → SequenceState → QueueState → Option (Decoding 32) → SequenceState → QueueState → Type 0
-Decodes d slice s q (Some d') s' q' = (d.failed ≡ false) × (d' ≡ with_slice_more slice d) × HasItsFrames s slice.header d' × HasNoFault d' × (s' ≡ s) × (q' ≡ q)
+Decodes d slice s q (Some d') s' q' = (d' ≡ with_slice_more slice d) × HasItsFrames s slice.header d' × HasNoFault d' × (s' ≡ s) × (q' ≡ q)
 Decodes d slice s q None s' q' =
     (f : Fault)
     × IsRefused (current_history s) (with_slice_more slice d) slice f
     × (s' ≡ empty_sequence s.output)
     × (q' ≡ with_events (failed_at s.output (current_history s) slice.unit f 0).events q)
+
+-- The picture decoder has read so many macroblocks more.
+pub record HasReadMore (d d' : Decoding 32) (read : ℕ) : Type 0 where
+  pub before : ℕ
+  pub after : ℕ
+  pub has_before : HasRead before d
+  pub has_after : HasRead after d'
+  pub more : read ≡ after - before
+
+-- What a slice answers in the open picture, and leaves of it; where none is open, nothing comes of it.
+abbrev pub IsAnswerIn : (picture : Option (Decoding 32)) → Slice → SliceAnswer → (picture' : Option (Decoding 32)) → Type 0
+IsAnswerIn (Some d) slice a (Some d') = IsSliceAnswer d slice a.answer d' × HasReadMore d d' a.read
+IsAnswerIn None slice a None = (a.answer ≡ Ok tt) × (a.read ≡ 0)
+IsAnswerIn (Some d) slice a None = ⊥
+IsAnswerIn None slice a (Some d') = ⊥
+
+-- One slice more was decoded of the open picture, or its fault went out; where none is open, nothing comes of it.
+abbrev pub DecodesIn : Option (Decoding 32) → Slice → SequenceState → QueueState → AfterSlice → Option (Decoding 32) → SequenceState → QueueState → Type 0
+DecodesIn (Some d) slice s q after picture s' q' =
+    Decodes d slice s q picture s' q' × (after.read ≡ read_of_slice (current_history s) d slice) × (after.fault ≡ is_none picture)
+DecodesIn None slice s q after picture s' q' = (picture ≡ None) × (s' ≡ s) × (q' ≡ q) × (after.read ≡ 0) × (after.fault ≡ false)
 
 -- what closing the open picture gives, if there is one
 abbrev pub closed_in : Output → History → Option OpenPicture → Outcome
@@ -158,13 +179,13 @@ closed_of output h d = closed_in output h (open_picture_of h (Some d))
 abbrev pub begun_in : Output → Pps → Sps → History → Slice → Outcome
 begun_in output pps sps h s = after_first_slice output (Some (pps, sps)) h s
 
--- what a further slice of the open picture gives
-abbrev pub continued_in : Output → History → Decoding 32 → Slice → Outcome
-continued_in output h d s = after_next_slice output (running h (open_picture_of h (Some d))) s
+-- what a further slice of the open picture gives, if there is one
+abbrev pub continued_in : Output → History → Option (Decoding 32) → Slice → Outcome
+continued_in output h picture s = after_next_slice output (running h (open_picture_of h picture)) s
 
 -- A slice has come to this outcome.
-abbrev pub HasSliceOutcome : Output → Outcome → QueueState → Slice → AfterSlice → SequenceState → QueueState → Type 0
-HasSliceOutcome output o q slice after s' q' = HasOutcome output o q slice.unit after.picture after.read s' q'
+abbrev pub HasSliceOutcome : Output → Outcome → QueueState → Slice → AfterSlice → Option (Decoding 32) → SequenceState → QueueState → Type 0
+HasSliceOutcome output o q slice after picture s' q' = HasOutcome output o q slice.unit picture after.read s' q'
 
 -- a picture is open, and all its macroblocks have been read
 abbrev pub is_full_in : Option OpenPicture → Bool

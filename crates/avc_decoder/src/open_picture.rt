@@ -1,11 +1,11 @@
-ghost use Rattle.std.specs.Prelude.{◌≡◌, false, None, IfOk, OnOk, is_none};
+ghost use Rattle.std.specs.Prelude.{◌≡◌, false, None, IfOk, IfSome, OnOk};
 ghost use Rattle.avc_decoder.specs.Events.{failed_at, is_waiting, pictures};
-ghost use Rattle.avc_decoder.specs.PictureFrames.{frames_for, read_of_slice, CanHave};
-ghost use Rattle.avc_decoder.specs.States.{begun_in, closed_of, continued_in, with_events, HasOutcome, HasSliceOutcome, Decodes, IsOpenIn};
+ghost use Rattle.avc_decoder.specs.PictureFrames.{frames_for, CanHave};
+ghost use Rattle.avc_decoder.specs.States.{begun_in, closed_of, continued_in, with_events, HasOutcome, HasSliceOutcome, DecodesIn, HasReadMore, IsAnswerIn, IsOpen, IsOpenIn};
 ghost use Rattle.avc_decoder_core.specs.Pictures.{held_pictures};
 ghost use Rattle.avc_decoder_core.specs.SequenceState.{empty_sequence, current_history, AreFramesIn, AreStoredIn};
 ghost use Rattle.avc_params.specs.Within.{IsPps, IsSps};
-ghost use Rattle.avc_picture.specs.Decoding.{HasNoFault};
+ghost use Rattle.avc_picture.specs.Decoding.{HasNoFault, IsSliceAnswer};
 ghost use Rattle.avc_slice.specs.Header.{is_idr};
 ghost use Rattle.avc_slice.specs.Within.{IsHeader};
 
@@ -19,11 +19,17 @@ use avc_slice::{Header, Slice};
 use avc_types::{Fault, OutOfMemory, PictureError};
 use std::alloc::Global;
 
-/// What a slice has left: the picture, which is gone where that was a fault, and how many of its macroblocks were read, a faulty
-/// one included.
-#[derive(Drop)]
+/// Whether a slice was a fault, and how many of its macroblocks were read, a faulty one included.
+#[derive(Clone, Copy)]
 pub struct AfterSlice {
-    pub picture: Option<PictureDecoder<PADDING>>,
+    pub fault: bool,
+    pub read: u32,
+}
+
+/// What a slice is answered by its picture, and how many of its macroblocks were read.
+#[derive(Clone, Copy)]
+pub struct SliceAnswer {
+    pub answer: Result<(), PictureError>,
     pub read: u32,
 }
 
@@ -60,29 +66,31 @@ pub fn close_picture(
     }
 }
 
-/// Opens a picture with its first slice.
+/// Opens a picture with its first slice. It is made and decoded in its place, since it is large.
 pub fn begin_picture(
     alloc: Global,
     sequence: &mut Sequence,
     queue: &mut Queue,
+    picture: &mut Option<PictureDecoder<PADDING>>,
     slice: &Slice,
     sets: ActiveSets,
 ) -> Result<AfterSlice, OutOfMemory>
     requires going { sequence.old.failed ≡ false }
     requires rest { sequence.old.open_picture ≡ None }
+    requires none { picture.old ≡ None }
     requires sps { IsSps sets.sps.now }
     requires pps { IsPps sets.pps.now }
     requires within { IsHeader sets.sps.now sets.pps.now slice.now.rbsp slice.now.header }
-    ensures fault { IfOk result (λ after. is_none after.picture
+    ensures fault { IfOk result (λ after. after.fault
         ≡ is_waiting (begun_in sequence.old.output sets.entry.pps.now sets.entry.sps.now sequence.old.history slice.now).phase) }
     ensures state { IfOk result (λ after.
         let o = begun_in sequence.old.output sets.entry.pps.now sets.entry.sps.now sequence.old.history slice.now in
-        HasSliceOutcome sequence.old.output o queue.old slice.now after sequence.new queue.new) }
+        HasSliceOutcome sequence.old.output o queue.old slice.now after picture.new sequence.new queue.new) }
 {
     if slice.header.first_mb_in_slice.get() != 0 {
         fail(sequence, queue, slice.unit, Fault::MissingMacroblocks)?;
         return Ok(AfterSlice {
-            picture: None,
+            fault: true,
             read: 0,
         });
     }
@@ -90,7 +98,7 @@ pub fn begin_picture(
         Ok(out) => {
             queue.show(out)?;
             let frames = frames_for(sequence, &slice.header);
-            let picture = PictureDecoder::begin(alloc, sets.sps, sets.pps, frames)?;
+            *picture = Some(PictureDecoder::begin(alloc, sets.sps, sets.pps, frames)?);
             let after = decode_slice(sequence, queue, picture, slice)?;
             // at a fault what the missing numbers let out and what was held then go out in one order
             missing_numbers_keep_the_order();
@@ -99,7 +107,7 @@ pub fn begin_picture(
         Err(PictureError::Fault(fault)) => {
             fail(sequence, queue, slice.unit, fault)?;
             Ok(AfterSlice {
-                picture: None,
+                fault: true,
                 read: 0,
             })
         }
@@ -107,19 +115,19 @@ pub fn begin_picture(
     }
 }
 
-/// Decodes one slice more of the open picture.
+/// Decodes one slice more of the open picture, if there is one.
 pub fn continue_picture(
     sequence: &mut Sequence,
     queue: &mut Queue,
-    picture: PictureDecoder<PADDING>,
+    picture: &mut Option<PictureDecoder<PADDING>>,
     last_unit: u64,
     slice: &Slice,
 ) -> Result<AfterSlice, OutOfMemory>
-    requires picture { IsOpenIn sequence.old last_unit picture }
-    requires can { CanHave sequence.old picture slice.now }
-    ensures fault { IfOk result (λ after. is_none after.picture ≡ is_waiting (continued_in sequence.old.output sequence.old.history picture slice.now).phase) }
+    requires picture { IsOpen sequence.old last_unit picture.old }
+    requires can { IfSome picture.old (λ d. CanHave sequence.old d slice.now) }
+    ensures fault { IfOk result (λ after. after.fault ≡ is_waiting (continued_in sequence.old.output sequence.old.history picture.old slice.now).phase) }
     ensures state { IfOk result (λ after. HasSliceOutcome sequence.old.output
-        (continued_in sequence.old.output sequence.old.history picture slice.now) queue.old slice.now after sequence.new queue.new) }
+        (continued_in sequence.old.output sequence.old.history picture.old slice.now) queue.old slice.now after picture.new sequence.new queue.new) }
 {
     let after = decode_slice(sequence, queue, picture, slice)?;
     Ok(after)
@@ -138,33 +146,65 @@ fn frames_for<'a>(sequence: &'a Sequence, header: &Header) -> &'a [Frame<PADDING
     sequence.frames()
 }
 
-/// Decodes one slice more. At a fault all held pictures go out, and then the refusal.
+/// What the picture answers to one slice more.
+fn answer_in(
+    picture: &mut PictureDecoder<PADDING>,
+    slice: &Slice,
+    frames: &[Frame<PADDING>],
+) -> SliceAnswer
+    requires within { IsHeader picture.old.sps picture.old.pps slice.now.rbsp slice.now.header }
+    requires frames { frames.now ≡ picture.old.frames }
+    ensures answer { IsSliceAnswer picture.old slice.now result.answer picture.new }
+    ensures read { HasReadMore picture.old picture.new result.read }
+{
+    let before = picture.read();
+    let answer = picture.slice(slice, frames);
+    let read = picture.read().saturating_sub(before);
+    SliceAnswer { answer, read }
+}
+
+/// What the open picture answers, if there is one.
+fn answer_if_open(
+    sequence: &Sequence,
+    picture: &mut Option<PictureDecoder<PADDING>>,
+    slice: &Slice,
+) -> SliceAnswer
+    requires { IfSome picture.old (λ d. CanHave sequence.now d slice.now) }
+    ensures { IsAnswerIn picture.old slice.now result picture.new }
+{
+    match picture {
+        Some(picture) => answer_in(picture, slice, frames_for(sequence, &slice.header)),
+        None => SliceAnswer {
+            answer: Ok(()),
+            read: 0,
+        },
+    }
+}
+
+/// Decodes one slice more of the open picture, if there is one. At a fault the picture is gone, all held pictures go out, and then
+/// the refusal.
 fn decode_slice(
     sequence: &mut Sequence,
     queue: &mut Queue,
-    mut picture: PictureDecoder<PADDING>,
+    picture: &mut Option<PictureDecoder<PADDING>>,
     slice: &Slice,
 ) -> Result<AfterSlice, OutOfMemory>
-    requires can { CanHave sequence.old picture slice.now }
-    requires well { HasNoFault picture }
-    ensures state { IfOk result (λ after. Decodes picture slice.now sequence.old queue.old after.picture sequence.new queue.new) }
-    ensures read { IfOk result (λ after. after.read ≡ read_of_slice (current_history sequence.old) picture slice.now) }
+    requires can { IfSome picture.old (λ d. CanHave sequence.old d slice.now) }
+    requires well { IfSome picture.old HasNoFault }
+    ensures { IfOk result (λ after. DecodesIn picture.old slice.now sequence.old queue.old after picture.new sequence.new queue.new) }
 {
-    let before = picture.read();
-    match picture.slice(slice, frames_for(sequence, &slice.header)) {
-        Ok(()) => {
-            let read = picture.read().saturating_sub(before);
-            Ok(AfterSlice {
-                picture: Some(picture),
-                read,
-            })
-        }
+    let answered = answer_if_open(sequence, picture, slice);
+    match answered.answer {
+        Ok(()) => Ok(AfterSlice {
+            fault: false,
+            read: answered.read,
+        }),
         Err(PictureError::Fault(fault)) => {
-            let read = picture.read().saturating_sub(before);
+            *picture = None;
             fail(sequence, queue, slice.unit, fault)?;
             Ok(AfterSlice {
-                picture: None,
-                read,
+                fault: true,
+                read: answered.read,
             })
         }
         Err(PictureError::OutOfMemory) => Err(OutOfMemory),

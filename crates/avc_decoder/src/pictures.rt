@@ -112,12 +112,17 @@ impl Pictures {
         let first = slice.get();
         self.failed = true;
         self.last_unit = first.unit;
-        let after = begin_picture(self.alloc, &mut self.sequence, &mut self.queue, first, sets)?;
+        let after = begin_picture(
+            self.alloc,
+            &mut self.sequence,
+            &mut self.queue,
+            &mut self.picture,
+            first,
+            sets,
+        )?;
         self.read = count_more(self.read, after.read);
-        let fault = after.picture.is_none();
-        self.picture = after.picture;
         self.failed = false;
-        Ok(fault)
+        Ok(after.fault)
     }
 
     /// Decodes one slice more of the open picture, if there is one. Says whether that was a fault.
@@ -129,24 +134,19 @@ impl Pictures {
         ensures state { OnOk result (self.new
             ≡ after_outcome (after_next_slice self.old.output (running self.old.history self.old.open_picture) slice) self.old) }
     {
-        let Some(picture) = self.picture.take() else {
-            return Ok(false);
-        };
         let further = slice.get();
         self.failed = true;
         let after = continue_picture(
             &mut self.sequence,
             &mut self.queue,
-            picture,
+            &mut self.picture,
             self.last_unit,
             further,
         )?;
         self.last_unit = further.unit;
         self.read = count_more(self.read, after.read);
-        let fault = after.picture.is_none();
-        self.picture = after.picture;
         self.failed = false;
-        Ok(fault)
+        Ok(after.fault)
     }
 
     /// A fault of the open picture, or of a unit that is a faulty picture of its own.

@@ -12,7 +12,7 @@ use Rattle.avc_mbsyntax.specs.declared.slice_data.SliceData.{SliceData}
 use Rattle.avc_deblock.specs.Facts.{Names}
 use Rattle.avc_picture_core.specs.Faults.{macroblock_fault}
 use Rattle.avc_picture.specs.DecoderState.{GoesOn, GoesOnFrom, first_of, outcome, outcome_from}
-use Rattle.avc_picture.specs.FirstMbs.{HoldsFirst, MbsState}
+use Rattle.avc_picture.specs.FirstMbs.{HoldsFirst, IsSlice, MbsState}
 use Rattle.avc_picture.specs.Slices.{first_mb_fault}
 use Rattle.avc_picture.specs.MacroblockFacts.{IsRead}
 use Rattle.avc_picture.specs.declared.slice_context.SliceContext.{SliceContext}
@@ -104,6 +104,10 @@ module _ {PAD : ℕ} (c : Coded) (names : Names) (s : SliceStart) (m : MbsState)
   pub is-read : IsRead mb
   is-read = record { active_count = s.active_count; syntax = (out.2).range; quantiser = (out.2).quantiser g.quantiser }
 
+  -- the slice has a macroblock
+  pub slice-is : IsSlice c names context
+  slice-is = g.is_slice mb rest.mbs (ap (λ ms. ms.mbs) out.0)
+
   taken : (next : ℕ) → next ≡ suc m.next → take next c.mbs ≡ before ++ placed s mb ∷ []
   taken next e =
       let after-it : next ≡ suc (length before) = omega (arith, e, long) in
@@ -116,7 +120,7 @@ module _ {PAD : ℕ} (c : Coded) (names : Names) (s : SliceStart) (m : MbsState)
       let same = taken m'.next e in
       record {
         holds = holds;
-        is_slice = g.is_slice;
+        is_slice = λ first others e. slice-is;
         width = g.width;
         size = g.size;
         number = g.number;

@@ -3,7 +3,7 @@ use Rattle.std.specs.List.{range_with_len}
 use Rattle.std.specs.List.Sorted.{IsStrictlyIncreasing}
 use Rattle.std.specs.Option.{option_map}
 use Rattle.std.specs.Prelude.{◌==◌}
-use Rattle.std.proofs.Common.{◌≡◌, ℕ, suc, ◌+◌, ◌*◌, ◌≤◌, Bool, true, false, List, [], ◌∷◌, length, Option, Some, None, Result, Ok, Err, refl, ap, sym, subst, ◌∙◌, arith}
+use Rattle.std.proofs.Common.{◌≡◌, ℕ, ◌+◌, ◌*◌, ◌≤◌, Bool, true, false, List, [], ◌∷◌, length, Option, Some, None, Result, Ok, Err, refl, ap, sym, subst, ◌∙◌, arith}
 use Rattle.std.proofs.lemmas.Bool.Decides.{nat_tests}
 use Rattle.std.proofs.lemmas.List.{length-map}
 use Rattle.std.proofs.lemmas.List.FromFn.{get_or-range_with_len, length-range_with_len}
@@ -22,7 +22,7 @@ use Rattle.avc_deblock.specs.Facts.{Names}
 use Rattle.avc_picture.specs.Context.{FramesStandAt, picture_start}
 use Rattle.avc_picture.specs.Decoded.{deblocked}
 use Rattle.avc_picture.specs.Decoding.{AreFramesOf, Decoding, HasNoFault, Refuses, end_fault, fault_at_end}
-use Rattle.avc_picture.specs.DecoderState.{IsDecoderState, IsStateOrFault, IsWellSoFar, IsWellSomewhere}
+use Rattle.avc_picture.specs.DecoderState.{IsDecoderState, IsStateOrFault, IsWellSoFar, IsWellSomewhere, number_after}
 use Rattle.avc_picture.specs.FirstMbs.{HasSets, HoldsFirst, MbsState}
 use Rattle.avc_picture.specs.Sizes.{IsSized}
 use Rattle.avc_picture.specs.Slices.{PictureStart, Progress, coded_of, is_full, planes_after_slices, progress, with_slice}
@@ -64,10 +64,10 @@ stays p s g f e = faulted g.fault f g _ e
 
 module _ {PAD : ℕ} (sps : Sps) (pps : Pps) (fs : List (Frame PAD)) (slices more : List Slice) (s : Slice) (count read : ℕ) (m : MbsState) (newest : more ≡ s ∷ slices) where
   abbrev old : Decoding PAD
-  old = record { sps = sps; pps = pps; frames = fs; slices = slices; failed = false }
+  old = record { sps = sps; pps = pps; frames = fs; slices = slices }
 
   abbrev new : Decoding PAD
-  new = record { sps = sps; pps = pps; frames = fs; slices = more; failed = false }
+  new = record { sps = sps; pps = pps; frames = fs; slices = more }
 
   abbrev start : List ℕ → PictureStart
   start es = picture_start sps pps es fs
@@ -107,9 +107,9 @@ module _ {PAD : ℕ} (sps : Sps) (pps : Pps) (fs : List (Frame PAD)) (slices mor
 
     abbrev Decodes : Result (Unit {0}) Fault → Type 0
     Decodes result = (es : List ℕ) (g : Progress) → FramesStandAt es fs → IsWellSoFar (start es) es g count read m
-        → IsStateOrFault (start es) es (with_slice (start es) s g) s.unit (suc count) result read' m'
+        → IsStateOrFault (start es) es (with_slice (start es) s g) s.unit (number_after count read read') result read' m'
 
-    pub kept-more : (count' : ℕ) → count' ≡ suc count → Decodes (Ok tt) → IsDecoderState sps pps fs more count' read' None m'
+    pub kept-more : (count' : ℕ) → count' ≡ number_after count read read' → Decodes (Ok tt) → IsDecoderState sps pps fs more count' read' None m'
     kept-more count' e decodes = record {
       of_sps = kept.of_sps;
       of_pps = kept.of_pps;
@@ -119,7 +119,7 @@ module _ {PAD : ℕ} (sps : Sps) (pps : Pps) (fs : List (Frame PAD)) (slices mor
       within = within;
       keeps = λ es stand.
           subst (λ n. IsWellSoFar (start es) es (progress (start es) more) n read' m') (sym e)
-          (subst (λ g. IsWellSoFar (start es) es g (suc count) read' m') (more-is es) (decodes es (progress (start es) slices) stand (kept.keeps es stand)));
+          (subst (λ g. IsWellSoFar (start es) es g (number_after count read read') read' m') (more-is es) (decodes es (progress (start es) slices) stand (kept.keeps es stand)));
     }
 
     fault-is : (f : Fault) → Decodes (Err f) → (es : List ℕ) → FramesStandAt es fs → ((progress (start es) more).fault ≡ Some (s.unit, f)) × ((progress (start es) more).read ≡ read')
@@ -150,7 +150,7 @@ module _ {PAD : ℕ} (sps : Sps) (pps : Pps) (fs : List (Frame PAD)) (slices mor
 
 module _ {PAD : ℕ} (sps : Sps) (pps : Pps) (fs : List (Frame PAD)) (slices : List Slice) (count read : ℕ) (m : MbsState) (kept : IsDecoderState sps pps fs slices count read None m) where
   abbrev d : Decoding PAD
-  d = record { sps = sps; pps = pps; frames = fs; slices = slices; failed = false }
+  d = record { sps = sps; pps = pps; frames = fs; slices = slices }
 
   abbrev begun : List ℕ → PictureStart
   begun es = picture_start sps pps es fs
@@ -216,6 +216,7 @@ kept-first sps pps fs slices m none is_sps is_pps are holds next width height = 
     none = refl;
     read_is = refl;
     reached = next;
+    few = omega arith;
     decoded = record {
       next = sym next;
       count = refl;

@@ -8,6 +8,7 @@ use Rattle.std.proofs.Math.Path.{fun_ext}
 use Rattle.std.proofs.lemmas.List.{length-map, map-append}
 use Rattle.avc_types.specs.declared.fault.Fault.{Fault}
 use Rattle.avc_types.specs.declared.fault.Fault.TheVariants as faults
+use Rattle.avc_types.specs.Macroblock.{Mb}
 use Rattle.avc_types.specs.Pictures.{Coded, Frame, SliceFacts}
 use Rattle.avc_types.specs.References.{Reference, result_map}
 use Rattle.avc_slice.specs.declared.header.Header.{Header}
@@ -21,7 +22,7 @@ use Rattle.avc_picture.specs.Decoded.{deblocked}
 use Rattle.avc_picture.specs.Laws.{PicturesNameNoPlaces, moved_start}
 use Rattle.avc_picture.specs.Slices.{PictureStart, Progress, coded_of, current_of, data_of, facts_of, first_mb_fault, frame_of, list_of, or_empty}
 use Rattle.avc_picture.specs.Slices.{progress}
-use Rattle.avc_picture.specs.Slices.{read_whole, references_in, refused, start_of, with_first_fault, with_reference_list, with_slice, with_slice_data}
+use Rattle.avc_picture.specs.Slices.{read_whole, references_in, refused, start_of, with_facts, with_first_fault, with_reference_list, with_slice, with_slice_data}
 use Rattle.avc_picture.specs.Slices.{with_unit}
 use Rattle.avc_picture.proofs.MovedBuilt.{macroblock_fault-moved}
 use Rattle.avc_picture.proofs.MovedFilters.{deblocked-moved}
@@ -97,11 +98,16 @@ module _ (n : ℕ) (p : PictureStart) where
 
   -- ---- one slice more
 
+  with_facts-moved : (slices : List SliceFacts) (facts : SliceFacts) (mbs : List Mb) →
+      with_facts (map (moved_facts n) slices) (moved_facts n facts) mbs ≡ map (moved_facts n) (with_facts slices facts mbs)
+  with_facts-moved slices facts [] = refl
+  with_facts-moved slices facts (mb ∷ mbs) = sym (map-append (moved_facts n) slices (facts ∷ []))
+
   read_whole-moved : (s : Slice) (g : Progress) (facts : SliceFacts) (ms : SliceMbs) →
       read_whole s (later g) (moved_facts n facts) ms ≡ later (read_whole s g facts ms)
   read_whole-moved s g facts ms = λ i. record {
     mbs = g.mbs ++ map (λ mb. record { slice = length-map g.slices (moved_facts n) i; mb = mb }) ms.mbs;
-    slices = sym (map-append (moved_facts n) g.slices (facts ∷ [])) i;
+    slices = with_facts-moved g.slices facts ms.mbs i;
     fault = with_unit s.unit ms.fault;
     read = g.read + length ms.mbs;
   }

@@ -1,11 +1,13 @@
 -- One slice more of a picture.
 use Rattle.std.specs.List.Sorted.{IsStrictlyIncreasing}
-use Rattle.std.specs.Prelude.{nat_lt, slice_index, slice_index_or, if◌then◌else◌}
+use Rattle.std.specs.Prelude.{◌==◌, nat_lt, slice_index, slice_index_or, if◌then◌else◌}
 use Rattle.std.proofs.Common.{◌≡◌, ℕ, suc, ◌+◌, ◌*◌, ◌<◌, ◌≤◌, ◌⊎◌, inl, inr, Bool, true, false, List, [], ◌∷◌, ◌++◌, length, take, map, Option, Some, None, Result, Ok, Err, refl, ap, sym, subst, ◌∙◌, arith, append_assoc}
+use Rattle.std.proofs.lemmas.Bool.Decides.{nat_tests}
 use Rattle.std.proofs.lemmas.List.{append-nil, length-append, length-map, take_at}
 use Rattle.std.proofs.lemmas.List.Kept.{AllPairs-from_increasing}
 use Rattle.avc_types.specs.declared.fault.Fault.{Fault}
 use Rattle.avc_types.specs.declared.fault.Fault.TheVariants.{ArbitrarySliceOrder, MissingMacroblocks}
+use Rattle.avc_types.specs.Macroblock.{Mb}
 use Rattle.avc_types.specs.Pictures.{Coded, SliceFacts}
 use Rattle.avc_types.specs.References.{Reference}
 use Rattle.avc_params.specs.Limits.{width_in_mbs}
@@ -19,9 +21,9 @@ use Rattle.avc_motion.specs.Motion.{slice_facts}
 use Rattle.avc_plane.specs.declared.frame.Frame.{Frame}
 use Rattle.avc_deblock.specs.Facts.{Names}
 use Rattle.avc_picture.specs.Context.{AreNames, IsContextOf, picture_start}
-use Rattle.avc_picture.specs.DecoderState.{CanGoOn, GoesOn, IsDataAnswer, IsDataOf, IsStateOrFault, IsWellSoFar, address_fault, first_of, outcome, outcome_from}
+use Rattle.avc_picture.specs.DecoderState.{CanGoOn, GoesOn, IsDataAnswer, IsDataOf, IsStateOrFault, IsWellSoFar, address_fault, first_of, number_after, outcome, outcome_from}
 use Rattle.avc_picture.specs.FirstMbs.{BeginsWith, MbsState}
-use Rattle.avc_picture.specs.Slices.{PictureStart, Progress, coded_of, data_of, facts_of, first_mb_fault, list_of, read_whole, refused, start_of, with_first_fault, with_reference_list, with_slice, with_unit}
+use Rattle.avc_picture.specs.Slices.{PictureStart, Progress, coded_of, data_of, facts_of, first_mb_fault, list_of, read_whole, refused, start_of, with_facts, with_first_fault, with_reference_list, with_slice, with_unit}
 use Rattle.avc_picture.specs.declared.slice_context.SliceContext.{SliceContext}
 
 -- ---- the frames' numbers
@@ -61,6 +63,36 @@ begins-itself c = record {
   later_slices = [];
   slices = sym (append-nil c.slices);
 }
+
+-- ---- the slices that macroblocks lie in
+
+-- the facts of a slice with these macroblocks, where it has any
+abbrev facts-in : SliceFacts → List Mb → List SliceFacts
+facts-in facts [] = []
+facts-in facts (mb ∷ mbs) = facts ∷ []
+
+with-facts-is : (slices : List SliceFacts) (facts : SliceFacts) (mbs : List Mb) → with_facts slices facts mbs ≡ slices ++ facts-in facts mbs
+with-facts-is slices facts [] = sym (append-nil slices)
+with-facts-is slices facts (mb ∷ mbs) = refl
+
+numbered : (slices : List SliceFacts) (facts : SliceFacts) (mbs : List Mb) (number read read' : ℕ) → length slices ≡ number → read' ≡ read + length mbs
+    → number_after number read read' ≡ length (with_facts slices facts mbs)
+numbered slices facts [] number read read' e h =
+    let same : (read == read') ≡ true = grind (arith, nat_tests, h) in
+    ap (λ b. if b then number else suc number) same ∙ sym e
+numbered slices facts (mb ∷ mbs) number read read' e h =
+    let more : (read == read') ≡ false = grind (arith, nat_tests, h) in
+    let one : length (slices ++ facts ∷ []) ≡ length slices + 1 = length-append slices (facts ∷ []) in
+    let next : suc number ≡ length (slices ++ facts ∷ []) = omega (arith, one, e) in
+    ap (λ b. if b then number else suc number) more ∙ next
+
+few-after : (slices : List SliceFacts) (facts : SliceFacts) (mbs : List Mb) (number read read' : ℕ) → length slices ≡ number → number ≤ read → read' ≡ read + length mbs
+    → length (with_facts slices facts mbs) ≤ read'
+few-after slices facts [] number read read' e few h = omega (arith, e, few, h)
+few-after slices facts (mb ∷ mbs) number read read' e few h =
+    let one : length (slices ++ facts ∷ []) ≡ length slices + 1 = length-append slices (facts ∷ []) in
+    let some : length (mb ∷ mbs) ≡ suc (length mbs) = refl in
+    omega (arith, one, some, e, few, h)
 
 -- ---- what refuses a slice
 
@@ -133,14 +165,15 @@ module _ {PAD : ℕ} (sps : Sps) (pps : Pps) (es : List ℕ) (fs : List (Frame P
       constrained = b.constrained;
       later_mbs = map (placed start) ms.mbs ++ b.later_mbs;
       mbs = b.mbs ∙ append_assoc g.mbs (map (placed start) ms.mbs) b.later_mbs;
-      later_slices = facts ∷ b.later_slices;
-      slices = b.slices ∙ append_assoc g.slices (facts ∷ []) b.later_slices;
+      later_slices = facts-in facts ms.mbs ++ b.later_slices;
+      slices = b.slices ∙ ap (λ xs. xs ++ b.later_slices) (with-facts-is g.slices facts ms.mbs) ∙ append_assoc g.slices (facts-in facts ms.mbs) b.later_slices;
     }
 
-    facts-are : (c : Coded) → BeginsWith c (coded_of p whole) → slice_facts c context.number ≡ facts
-    facts-are c b =
+    facts-are : (c : Coded) (mb : Mb) (mbs : List Mb) → BeginsWith c (coded_of p whole) → ms.mbs ≡ mb ∷ mbs → slice_facts c context.number ≡ facts
+    facts-are c mb mbs b some =
         ap (λ n. slice_facts c n) (num ∙ sym well.decoded.count)
-        ∙ ap (λ xs. slice_facts (record c { slices = xs }) (length g.slices)) (begins-before c b).slices
+        ∙ ap (λ xs. slice_facts (record c { slices = xs }) (length g.slices))
+            ((begins-before c b).slices ∙ ap (λ xs. g.slices ++ (facts-in facts xs ++ b.later_slices)) some)
         ∙ get-here g.slices b.later_slices facts _
 
     taken : (c : Coded) → BeginsWith c (coded_of p whole) → take m.next c.mbs ≡ g.mbs
@@ -149,7 +182,7 @@ module _ {PAD : ℕ} (sps : Sps) (pps : Pps) (es : List ℕ) (fs : List (Frame P
     pub slice-goes-on : (c : Coded) (names : Names) → BeginsWith c (coded_of p whole) → AreNames es names → GoesOn c names start m unread context
     slice-goes-on c names b are = record {
       holds = well.decoded.holds c names (begins-before c b) are;
-      is_slice = made c names are (facts-are c b);
+      is_slice = λ mb mbs e. made c names are (facts-are c mb mbs b (sym (ap (λ r. r.mbs) (ap (λ xs. rest_of start xs unread) (taken c b) ∙ dat.1)) ∙ e));
       width = sym b.width;
       size = sym (ap (λ w. w * c.height) b.width ∙ ap (λ h. width_in_mbs sps * h) b.height);
       number = well.decoded.count ∙ sym num;
@@ -205,7 +238,7 @@ module _ {PAD : ℕ} (sps : Sps) (pps : Pps) (es : List ℕ) (fs : List (Frame P
       own : IsDataAnswer (coded_of p whole) (names-of es rising) m.next (outcome_from (coded_of p whole) start m unread) result read' m'
       own = answer (coded_of p whole) (names-of es rising) (slice-goes-on (coded_of p whole) (names-of es rising) (begins-itself (coded_of p whole)) (are-names es rising))
 
-      pub all-decoded : result ≡ Ok tt → IsWellSoFar p es (with_slice p s g) (suc number) read' m'
+      pub all-decoded : result ≡ Ok tt → IsWellSoFar p es (with_slice p s g) (number_after number read read') read' m'
       all-decoded ok =
           let mine = subst (λ r. IsDataAnswer (coded_of p whole) (names-of es rising) m.next (outcome_from (coded_of p whole) start m unread) r read' m') ok own in
           let no : (first_of found ms).1 ≡ None = sym (ap (λ o. o.1) expected) ∙ mine.0 in
@@ -214,22 +247,25 @@ module _ {PAD : ℕ} (sps : Sps) (pps : Pps) (es : List ℕ) (fs : List (Frame P
           let coded : coded_of p (with_slice p s g) ≡ coded_of p whole = ap (coded_of p) sliced ∙ coded-after found in
           let mbs-length : length (with_slice p s g).mbs ≡ length g.mbs + length ms.mbs =
           ap (λ c. length c.mbs) coded ∙ length-append g.mbs (map (placed start) ms.mbs) ∙ ap (λ n. length g.mbs + n) (length-map ms.mbs (placed start)) in
-          let slices-length : length (with_slice p s g).slices ≡ length g.slices + 1 = ap (λ c. length c.slices) coded ∙ length-append g.slices (facts ∷ []) in
+          let slices-length : length (with_slice p s g).slices ≡ length (with_facts g.slices facts ms.mbs) = ap (λ c. length c.slices) coded in
+          let reads : read' ≡ read + length ms.mbs = omega (arith, same, count, mine.1, well.reached) in
+          let number-is : number_after number read read' ≡ length (with_facts g.slices facts ms.mbs) = numbered g.slices facts ms.mbs number read read' well.decoded.count reads in
           let read-is : (with_slice p s g).read ≡ g.read + (first_of found ms).0 = ap (λ x. x.read) sliced ∙ read-after found in
           record {
             none = ap (λ x. x.fault) sliced ∙ fault-after found ∙ ap (with_unit s.unit) no;
             read_is = omega (arith, read-is, well.read_is, well.reached, same, mine.1);
             reached = mine.2;
+            few = subst (λ n. n ≤ read') (sym number-is) (few-after g.slices facts ms.mbs number read read' well.decoded.count well.few reads);
             decoded = record {
               next = omega (arith, mbs-length, well.decoded.next, count, same, mine.1, mine.2);
-              count = omega (arith, slices-length, well.decoded.count);
+              count = slices-length ∙ sym number-is;
               holds = λ c names b are.
                   (subst (λ r. IsDataAnswer c names m.next (outcome_from c start m unread) r read' m') ok
                   (answer c names (slice-goes-on c names (subst (BeginsWith c) coded b) are))).3;
             };
           }
 
-      pub faulty-slice : (f : Fault) → result ≡ Err f → IsStateOrFault p es (with_slice p s g) s.unit (suc number) (Err f) read' m'
+      pub faulty-slice : (f : Fault) → result ≡ Err f → IsStateOrFault p es (with_slice p s g) s.unit (number_after number read read') (Err f) read' m'
       faulty-slice f err =
           let mine = subst (λ r. IsDataAnswer (coded_of p whole) (names-of es rising) m.next (outcome_from (coded_of p whole) start m unread) r read' m') err own in
           let same : (outcome_from (coded_of p whole) start m unread).0 ≡ (first_of found ms).0 = ap (λ o. o.0) expected in
@@ -238,9 +274,9 @@ module _ {PAD : ℕ} (sps : Sps) (pps : Pps) (es : List ℕ) (fs : List (Frame P
             omega (arith, read-is, well.read_is, well.reached, same, mine.1),
           )
 
-      pub slice-decoded : IsStateOrFault p es (with_slice p s g) s.unit (suc number) result read' m'
+      pub slice-decoded : IsStateOrFault p es (with_slice p s g) s.unit (number_after number read read') result read' m'
       slice-decoded = by_result result refl
         where
-          by_result : (r : Result (Unit {0}) Fault) → result ≡ r → IsStateOrFault p es (with_slice p s g) s.unit (suc number) r read' m'
+          by_result : (r : Result (Unit {0}) Fault) → result ≡ r → IsStateOrFault p es (with_slice p s g) s.unit (number_after number read read') r read' m'
           by_result (Ok done) e = all-decoded e
           by_result (Err f) e = faulty-slice f e

@@ -1,8 +1,9 @@
 -- What a picture decoder keeps of the slices so far.
-use Rattle.std.specs.Prelude.{◌≡◌, ℕ, ◌+◌, ◌*◌, ◌≤◌, nat_lt, if◌then◌else◌, List, ◌++◌, length, map, take, Option, Some, None, Result, Ok, Err}
+use Rattle.std.specs.Prelude.{◌≡◌, ℕ, ◌+◌, ◌*◌, ◌≤◌, suc, ◌==◌, nat_lt, if◌then◌else◌, List, ◌++◌, ◌∷◌, length, map, take, Option, Some, None, Result, Ok, Err}
 use Rattle.std.specs.Option.{option_map}
 use Rattle.avc_types.specs.declared.fault.Fault.{Fault}
 use Rattle.avc_types.specs.declared.fault.Fault.TheVariants.{ArbitrarySliceOrder, MissingMacroblocks}
+use Rattle.avc_types.specs.Macroblock.{Mb}
 use Rattle.avc_types.specs.Pictures.{Coded, PicMb}
 use Rattle.avc_params.specs.declared.sps.Sps.{Sps}
 use Rattle.avc_params.specs.declared.pps.Pps.{Pps}
@@ -35,7 +36,8 @@ outcome c address ms = first_of (first_mb_fault c address (length ms.mbs)) ms
 -- Behind the macroblocks that are decoded, the picture has those that the data still has.
 pub record GoesOn {PAD : ℕ} (c : Coded) (names : Names) (s : SliceStart) (m : MbsState) (d : SliceData) (context : SliceContext PAD) : Type 0 where
   pub holds : HoldsFirst c names m
-  pub is_slice : IsSlice c names context
+  -- where the data still has macroblocks
+  pub is_slice : (mb : Mb) (mbs : List Mb) → (rest_of s (take m.next c.mbs) d).mbs ≡ mb ∷ mbs → IsSlice c names context
   pub width : s.width ≡ c.width
   pub size : s.size ≡ c.width * c.height
   pub number : s.slice ≡ context.number
@@ -88,7 +90,12 @@ pub record IsWellSoFar (p : PictureStart) (entries : List ℕ) (g : Progress) (s
   pub none : g.fault ≡ None
   pub read_is : g.read ≡ read
   pub reached : m.next ≡ read
+  pub few : slice_count ≤ read
   pub decoded : AreDecoded p entries g slice_count m
+
+-- the number of the slice behind one with this number, in which the picture goes from so many macroblocks to so many
+abbrev pub number_after : (number before after : ℕ) → ℕ
+number_after number before after = if before == after then number else suc number
 
 -- after a slice of this unit
 abbrev pub IsStateOrFault : PictureStart → (entries : List ℕ) → Progress → (unit slice_count : ℕ) → Result (Unit {0}) Fault → (read : ℕ) → MbsState → Type 0

@@ -15,18 +15,16 @@ use Rattle.avc_plane.specs.declared.frame.Frame.{Frame}
 use Rattle.avc_plane.specs.declared.frame.PaddedPlanes.{PaddedPlanes}
 use Rattle.avc_picture.specs.Slices.{PictureStart, Progress, progress, is_full, planes_after_slices}
 
--- The picture's parameter sets, the frames of the buffer in decoding order, its slices so far, the newest first, and whether
--- memory was refused.
+-- The picture's parameter sets, the frames of the buffer in decoding order, and its slices so far, the newest first.
 pub record Decoding (PAD : ℕ) : Type 0 where
   pub sps : Sps
   pub pps : Pps
   pub frames : List (Frame PAD)
   pub slices : List Slice
-  pub failed : Bool
 
 -- a picture that has just been opened
 abbrev pub no_slice_yet : {PAD : ℕ} → Sps → Pps → List (Frame PAD) → Decoding PAD
-no_slice_yet sps pps frames = record { sps = sps; pps = pps; frames = frames; slices = []; failed = false }
+no_slice_yet sps pps frames = record { sps = sps; pps = pps; frames = frames; slices = [] }
 
 -- with a slice more, the newest
 abbrev pub with_slice_more : {PAD : ℕ} → Slice → Decoding PAD → Decoding PAD
@@ -58,11 +56,11 @@ pub record Refuses {PAD : ℕ} (old : Decoding PAD) (s : Slice) (f : Fault) (new
   pub fault : (entries : List ℕ) → CanStandAt entries new → option_map (λ found. found.1) (progress_at entries new).fault ≡ Some f
   pub unit : HasNoFault old → (entries : List ℕ) → CanStandAt entries new → (progress_at entries new).fault ≡ Some (s.unit, f)
 
--- From `old`, one slice more may be answered so and leave `new`. Want of memory stays.
+-- From `old`, one slice more may be answered so and leave `new`. No memory is wanted.
 abbrev pub IsSliceAnswer : {PAD : ℕ} → Decoding PAD → Slice → Result (Unit {0}) PictureError → (new : Decoding PAD) → Type 0
-IsSliceAnswer old s (Ok done) new = (old.failed ≡ false) × (new ≡ with_slice_more s old) × HasNoFault new
-IsSliceAnswer old s (Err (Faulty f)) new = (old.failed ≡ false) × (new ≡ with_slice_more s old) × Refuses old s f new
-IsSliceAnswer old s (Err OutOfMemory) new = new.failed ≡ true
+IsSliceAnswer old s (Ok done) new = (new ≡ with_slice_more s old) × HasNoFault new
+IsSliceAnswer old s (Err (Faulty f)) new = (new ≡ with_slice_more s old) × Refuses old s f new
+IsSliceAnswer old s (Err OutOfMemory) new = ⊥
 
 -- The next expected address is the number of macroblocks.
 abbrev pub IsFull : {PAD : ℕ} → (full : Bool) → Decoding PAD → Type 0
@@ -82,11 +80,10 @@ fault_at_end None false = Some MissingMacroblocks
 abbrev pub end_fault : {PAD : ℕ} → List ℕ → Decoding PAD → Option Fault
 end_fault entries d = fault_at_end (progress_at entries d).fault (is_full (start_at entries d) (progress_at entries d))
 
--- The picture, or why there is none. Want of memory stays.
+-- The picture, or why there is none. No memory is wanted.
 abbrev pub IsFinishAnswer : {PAD : ℕ} → Decoding PAD → Result (PaddedPlanes PAD) PictureError → Type 0
 IsFinishAnswer d (Ok planes) =
-    (d.failed ≡ false)
-    × ((entries : List ℕ) → CanStandAt entries d → end_fault entries d ≡ None)
+    ((entries : List ℕ) → CanStandAt entries d → end_fault entries d ≡ None)
     × ((entries : List ℕ) → CanStandAt entries d → padded_planes_of planes ≡ planes_after_slices (start_at entries d) d.slices)
-IsFinishAnswer d (Err (Faulty f)) = (d.failed ≡ false) × ((entries : List ℕ) → CanStandAt entries d → end_fault entries d ≡ Some f)
-IsFinishAnswer d (Err OutOfMemory) = d.failed ≡ true
+IsFinishAnswer d (Err (Faulty f)) = (entries : List ℕ) → CanStandAt entries d → end_fault entries d ≡ Some f
+IsFinishAnswer d (Err OutOfMemory) = ⊥

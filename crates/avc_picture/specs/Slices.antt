@@ -8,6 +8,7 @@ use Rattle.avc_types.specs.declared.fault.Fault.{Fault}
 use Rattle.avc_types.specs.declared.fault.Fault.TheVariants as faults
 use Rattle.avc_types.specs.declared.references.Modification.{Modification}
 use Rattle.avc_types.specs.References.{Reference}
+use Rattle.avc_types.specs.Macroblock.{Mb}
 use Rattle.avc_types.specs.Pictures.{Samples, Frame, SliceFacts, PicMb, Coded}
 use Rattle.avc_params.specs.declared.sps.Sps.{Sps}
 use Rattle.avc_params.specs.declared.pps.Pps.{Pps}
@@ -144,11 +145,16 @@ refused progress unit f = record progress { fault = Some (unit, f) }
 abbrev pub with_unit : (unit : ℕ) → Option Fault → Option (ℕ × Fault)
 with_unit unit f = option_map (λ g. (unit, g)) f
 
+-- the slices that macroblocks lie in, with one more where these macroblocks are its own: without any it takes no number
+abbrev pub with_facts : List SliceFacts → SliceFacts → List Mb → List SliceFacts
+with_facts slices facts [] = slices
+with_facts slices facts (mb ∷ mbs) = slices ++ facts ∷ []
+
 -- all of the slice's data, as it is read under these facts (7.3.4)
 abbrev pub read_whole : Slice → (before : Progress) → SliceFacts → SliceMbs → Progress
 read_whole s before facts ms = record {
   mbs = before.mbs ++ map (λ mb. record { slice = length before.slices; mb = mb }) ms.mbs;
-  slices = before.slices ++ facts ∷ [];
+  slices = with_facts before.slices facts ms.mbs;
   fault = with_unit s.unit ms.fault;
   read = before.read + length ms.mbs;
 }

@@ -1,9 +1,10 @@
-ghost use Rattle.std.specs.Prelude.{◌≡◌, ◌==◌, false, IfOk};
+ghost use Rattle.std.specs.Prelude.{◌≡◌, ◌==◌, ◌^◌, ◌<◌, ◌≤◌, IfOk};
 ghost use Rattle.avc_params.specs.Limits.{height_in_mbs, size_in_mbs, width_in_mbs};
 ghost use Rattle.avc_params.specs.Within.{IsPps, IsSps};
 ghost use Rattle.avc_slice.specs.Within.{IsHeader};
 ghost use Rattle.avc_plane.specs.Frames.{padded_planes_of, AreSized};
 ghost use Rattle.avc_picture.specs.Decoding.{no_slice_yet, AreFramesOf, HasNoFault, HasRead, IsFinishAnswer, IsFull, IsSliceAnswer};
+ghost use Rattle.avc_picture.specs.DecoderState.{number_after};
 
 use crate::macroblocks::Macroblocks;
 use crate::slice_decoding::decode_slice;
@@ -27,27 +28,32 @@ pub struct PictureDecoder<const PAD: usize> {
     // how many macroblocks have been read, a faulty one included
     read: u32,
 
-    // the number of the next slice
+    // how many slices have macroblocks, which is the number of the next one
     slice_count: u32,
     fault: Option<Fault>,
-
-    // no number was left for a slice
-    failed: bool,
     slices: History<Slice>,
     frames: History<Frame<PAD>>,
 }
 
 // All memory of a picture is taken where it begins, so that it is not refused later.
 impl<const PAD: usize> Model for PictureDecoder<PAD> {
-    ghost use Rattle.std.specs.Prelude.{◌≡◌, false};
     ghost use Rattle.avc_picture.specs.Decoding.{Decoding};
     ghost use Rattle.avc_picture.specs.DecoderState.{IsDecoderState};
 
     ghost Value = { Decoding PAD };
 
-    ghost view = { λ d. record { sps = d.sps; pps = d.pps; frames = d.frames.items; slices = d.slices.items; failed = d.failed } };
+    ghost view = { λ d. record { sps = d.sps; pps = d.pps; frames = d.frames.items; slices = d.slices.items } };
 
     ghost invariant = { λ d. IsDecoderState d.sps d.pps d.frames.items d.slices.items d.slice_count d.read d.fault d.macroblocks };
+}
+
+/// The number of the slice behind one with this number, in which the picture went from `before` macroblocks to `after`.
+fn number_after(number: u32, before: u32, after: u32) -> u32
+    requires few { number ≤ before }
+    requires small { before < 2 ^ 31 }
+    ensures { result ≡ number_after number before after }
+{
+    if before == after { number } else { number + 1 }
 }
 
 impl<const PAD: usize> PictureDecoder<PAD> {
@@ -74,31 +80,23 @@ impl<const PAD: usize> PictureDecoder<PAD> {
             read: 0,
             slice_count: 0,
             fault: None,
-            failed: false,
             slices: History::new(),
             frames: History::new().with_all(frames),
         })
     }
 
-    /// Decodes one slice more, or answers the first fault in the slices so far. After a fault or want of memory it answers the
-    /// same from then on. A picture can have 2^32 - 1 slices without a fault: for more it wants memory. `frames` are those that
-    /// the picture began with.
+    /// Decodes one slice more, or answers the first fault in the slices so far, and the same from then on. It takes no memory, and
+    /// never wants any. `frames` are those that the picture began with.
     pub fn slice(&mut self, slice: &Slice, frames: &[Frame<PAD>]) -> Result<(), PictureError>
         requires within { IsHeader self.old.sps self.old.pps slice.now.rbsp slice.now.header }
         requires frames { frames.now ≡ self.old.frames }
         ensures { IsSliceAnswer self.old slice.now result self.new }
     {
-        if self.failed {
-            return Err(PictureError::OutOfMemory);
-        }
         if let Some(fault) = self.fault {
             self.slices = self.slices.with_newest(slice);
             return Err(PictureError::Fault(fault));
         }
-        if self.slice_count == u32::MAX {
-            self.failed = true;
-            return Err(PictureError::OutOfMemory);
-        }
+        let before = self.read;
         let decoded = decode_slice(
             &self.sps,
             &self.pps,
@@ -111,7 +109,7 @@ impl<const PAD: usize> PictureDecoder<PAD> {
         self.slices = self.slices.with_newest(slice);
         match decoded {
             Ok(()) => {
-                self.slice_count += 1;
+                self.slice_count = number_after(self.slice_count, before, self.read);
                 Ok(())
             }
             Err(fault) => {
@@ -123,29 +121,25 @@ impl<const PAD: usize> PictureDecoder<PAD> {
 
     /// How many macroblocks have been read so far: up to the first fault, the faulty one included.
     pub fn read(&self) -> u32
-        ensures { self.now.failed ≡ false → HasRead result self.now }
+        ensures { HasRead result self.now }
     {
         self.read
     }
 
     /// Whether the slices so far hold all macroblocks of the picture.
     pub fn full(&self) -> bool
-        requires going { self.now.failed ≡ false }
-        requires well { HasNoFault self.now }
+        requires { HasNoFault self.now }
         ensures { IsFull result self.now }
     {
         self.read == self.sps.size_in_mbs()
     }
 
     /// The samples of the picture after deblocking. Where the slices have a fault it answers the first, and else
-    /// MissingMacroblocks where they do not hold all macroblocks.
+    /// MissingMacroblocks where they do not hold all macroblocks. It takes no memory, and never wants any.
     pub fn finish(self) -> Result<PaddedPlanes<PAD>, PictureError>
         ensures answer { IsFinishAnswer self.entry result }
         ensures sized { IfOk result (λ planes. AreSized (width_in_mbs self.entry.sps) (height_in_mbs self.entry.sps) (padded_planes_of planes)) }
     {
-        if self.failed {
-            return Err(PictureError::OutOfMemory);
-        }
         if let Some(fault) = self.fault {
             return Err(PictureError::Fault(fault));
         }

@@ -13,7 +13,7 @@ ghost use Rattle.avc_deblock.specs.Facts.{Names};
 ghost use Rattle.avc_picture_core.specs.References.{AreUsable};
 ghost use Rattle.avc_picture.specs.Context.{FramesStandAt, picture_start};
 ghost use Rattle.avc_picture.specs.Decoding.{AreFramesOf};
-ghost use Rattle.avc_picture.specs.DecoderState.{CanGoOn, GoesOn, IsDataAnswer, IsDataOf, IsStateOrFault, IsWellSoFar, IsWellSomewhere, outcome_from};
+ghost use Rattle.avc_picture.specs.DecoderState.{CanGoOn, GoesOn, IsDataAnswer, IsDataOf, IsStateOrFault, IsWellSoFar, IsWellSomewhere, number_after, outcome_from};
 ghost use Rattle.avc_picture.specs.FirstMbs.{HasSameSize, HoldsFirst};
 ghost use Rattle.avc_picture.specs.Slices.{Progress, data_of, start_of, with_slice};
 
@@ -124,7 +124,7 @@ pub(crate) fn decode_slice<const PAD: usize>(
     ensures state { (entries : List ℕ) (g : Progress) → FramesStandAt entries frames.now
         → IsWellSoFar (picture_start sps.now pps.now entries frames.now) entries g number read.old macroblocks.old
         → IsStateOrFault (picture_start sps.now pps.now entries frames.now) entries (with_slice (picture_start sps.now pps.now entries frames.now) slice.now g)
-        slice.now.unit (suc number) result read.new macroblocks.new }
+        slice.now.unit (number_after number read.old read.new) result read.new macroblocks.new }
 {
     check_address(*read, &slice.header)?;
     let context = SliceContext::new(number, sps, &slice.header, frames)?;

@@ -16,9 +16,9 @@ close-requires c = record { sized = sized_as c.args.sequence.now c.args.last_uni
 pub returns-in_ok-show-in-Ok-close : goal.returns-in_ok-show-in-Ok-close
 returns-in_ok-show-in-Ok-close c =
     let s = c.args.sequence.now in
-    let full = ends_full s c.args.last_unit c.args.picture c.requires.picture c.in-Ok.ensures.answer.1 in
+    let full = ends_full s c.args.last_unit c.args.picture c.requires.picture c.in-Ok.ensures.answer.0 in
     let planes = padded_planes_of c.in-Ok.planes in
-    let made = has_planes s (c.requires.picture.last).header c.args.picture planes c.requires.picture.frames c.in-Ok.ensures.answer.2 in
+    let made = has_planes s (c.requires.picture.last).header c.args.picture planes c.requires.picture.frames c.in-Ok.ensures.answer.1 in
     let k = closes_done s c.close.new.self c.args.queue.now c.show.new.self c.args.last_unit c.args.picture planes c.in-Ok-close.out.items c.requires.picture full made c.in-Ok-close.ensures.ok c.in_ok-show-in-Ok-close.ensures in
     record { fault = k.fault; state = k.state }
 
@@ -26,8 +26,8 @@ returns-in_ok-show-in-Ok-close c =
 pub returns-in_ok-fail-in-Err-Fault-close : goal.returns-in_ok-fail-in-Err-Fault-close
 returns-in_ok-fail-in-Err-Fault-close c =
     let s = c.args.sequence.now in
-    let full = ends_full s c.args.last_unit c.args.picture c.requires.picture c.in-Ok.ensures.answer.1 in
+    let full = ends_full s c.args.last_unit c.args.picture c.requires.picture c.in-Ok.ensures.answer.0 in
     let planes = padded_planes_of c.in-Ok.planes in
-    let made = has_planes s (c.requires.picture.last).header c.args.picture planes c.requires.picture.frames c.in-Ok.ensures.answer.2 in
+    let made = has_planes s (c.requires.picture.last).header c.args.picture planes c.requires.picture.frames c.in-Ok.ensures.answer.1 in
     let k = closes_unmarked s c.close.new.self c.fail-in-Err-Fault-close.new.sequence c.args.queue.now c.fail-in-Err-Fault-close.new.queue c.args.last_unit c.args.picture planes c.in-Err-Fault-close.fault c.in-Err-Fault-close.field-0 c.requires.picture full made c.in-Err-Fault-close.ensures.err c.in-Err-Fault-close.field-0-is c.in_ok-fail-in-Err-Fault-close.ensures.sequence c.in_ok-fail-in-Err-Fault-close.ensures.queue in
     record { fault = k.fault; state = k.state }

@@ -2,7 +2,7 @@ use Rattle.std.proofs.Common.{◌≡◌, ◌+◌, ◌*◌, Ok, Err, take, sym, s
 use Rattle.avc_mbsyntax.specs.Rest.{IsHandedOut, handed_out}
 use Rattle.avc_picture.specs.DecoderState.{IsDataAnswer, outcome_from}
 use Rattle.avc_picture.proofs.DataAnswers.{ends-badly, ends-well, goes-further, less-left, same-area, usable-still}
-use Rattle.avc_picture.proofs.DataGoesOn.{at-end, at-fault, faulty, goes-on-from, is-read, next-mb, room}
+use Rattle.avc_picture.proofs.DataGoesOn.{at-end, at-fault, faulty, goes-on-from, is-read, next-mb, room, slice-is}
 use Rattle.avc_picture.proofs.slice_decoding.decode_data.Goals as goal
 
 pub returns-in_err-next_macroblock-clause-answer : goal.returns-in_err-next_macroblock-clause-answer
@@ -75,7 +75,7 @@ macroblocks-preserved g c =
           let at = far.goes_on in
           let handed' = c.in_ok-next_macroblock.ensures coded names s at.holds at.width at.number at.follows in
           let out' = subst (λ o. IsHandedOut s (take m.next coded.mbs) (handed_out (Ok o) c.next_macroblock.new.mb) d d') c.if-branch.true handed' in
-          let decoded = c.in_ok-decode.ensures.decoded coded names at.holds (next-mb coded names s m d d' c.args.context.now c.next_macroblock.new.mb at out') at.is_slice in
+          let decoded = c.in_ok-decode.ensures.decoded coded names at.holds (next-mb coded names s m d d' c.args.context.now c.next_macroblock.new.mb at out') (slice-is coded names s m d d' c.args.context.now c.next_macroblock.new.mb at out') in
           goes-further coded names s c.args.context.now c.args.macroblocks.now c.args.unread.now m d far c.macroblocks.read before.reached m' d'
           (goes-on-from coded names s m d d' c.args.context.now c.next_macroblock.new.mb at out' m' next decoded.0 decoded.1);
     }
@@ -102,7 +102,7 @@ returns-in_err-decode-clause-answer g c = λ coded names s go.
     let handed = c.in_ok-next_macroblock.ensures coded names s at.holds at.width at.number at.follows in
     let out = subst (λ o. IsHandedOut s (take m.next coded.mbs) (handed_out (Ok o) c.next_macroblock.new.mb) d d') c.if-branch.true handed in
     let f = c.in_err-decode.field-0.0 in
-    let wrong = c.in_err-decode.ensures.decoded coded names at.holds (next-mb coded names s m d d' c.args.context.now c.next_macroblock.new.mb at out) at.is_slice in
+    let wrong = c.in_err-decode.ensures.decoded coded names at.holds (next-mb coded names s m d d' c.args.context.now c.next_macroblock.new.mb at out) (slice-is coded names s m d d' c.args.context.now c.next_macroblock.new.mb at out) in
     let e : c.from_residual-in_err-decode.result ≡ Err f = search rules in
     subst (λ r. IsDataAnswer coded names c.args.macroblocks.now.next (outcome_from coded s c.args.macroblocks.now c.args.unread.now) r (c.macroblocks.read + 1) c.decode.new.self) (sym e)
     (ends-badly coded names s c.args.context.now c.args.macroblocks.now c.args.unread.now m d far c.macroblocks.read c.macroblocks.invariant.reached 1 f c.decode.new.self

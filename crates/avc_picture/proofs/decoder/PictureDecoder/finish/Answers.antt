@@ -1,4 +1,4 @@
-use Rattle.std.proofs.Common.{◌≡◌, false, Some, None, List, ℕ, sym, subst, ◌∙◌, arith}
+use Rattle.std.proofs.Common.{◌≡◌, Some, None, List, ℕ, sym, subst, ◌∙◌, arith}
 use Rattle.avc_types.specs.declared.fault.Fault.TheVariants.{MissingMacroblocks}
 use Rattle.avc_params.specs.Limits.{height_in_mbs, size_in_mbs, width_in_mbs}
 use Rattle.avc_plane.specs.Frames.{padded_planes_of, planes_of, AreSized}
@@ -15,22 +15,18 @@ returns-in-Some-clause-answer g c =
     let d = c.self.inside in
     let f = c.in-Some.fault in
     let kept = subst (λ o. IsDecoderState d.sps d.pps d.frames.items d.slices.items d.slice_count d.read o d.macroblocks) c.in-Some.is c.self.invariant in
-    subst (λ (v : Decoding g.row.PAD). (v.failed ≡ false) × ((es : List ℕ) → CanStandAt es v → end_fault es v ≡ Some f)) c.self.view_is (
-      c.if-self.false,
-      λ es stand.
-          let so_far = progress (picture_start d.sps d.pps es d.frames.items) d.slices.items in
-          first-at-end so_far.fault (is_full (picture_start d.sps d.pps es d.frames.items) so_far) f (kept.keeps es stand).0,
-    )
+    subst (λ (v : Decoding g.row.PAD). (es : List ℕ) → CanStandAt es v → end_fault es v ≡ Some f) c.self.view_is
+    (λ es stand.
+        let so_far = progress (picture_start d.sps d.pps es d.frames.items) d.slices.items in
+        first-at-end so_far.fault (is_full (picture_start d.sps d.pps es d.frames.items) so_far) f (kept.keeps es stand).0)
 
 pub returns-then-self-size_in_mbs-clause-answer : goal.returns-then-self-size_in_mbs-clause-answer
 returns-then-self-size_in_mbs-clause-answer g c =
     let d = c.self.inside in
     let kept = subst (λ o. IsDecoderState d.sps d.pps d.frames.items d.slices.items d.slice_count d.read o d.macroblocks) (none-of d.fault c.in_default.not-Some) c.self.invariant in
     let other = differs d.read (size_in_mbs d.sps) (λ e. c.if-self-size_in_mbs.true (e ∙ sym c.size_in_mbs.ensures)) in
-    subst (λ (v : Decoding g.row.PAD). (v.failed ≡ false) × ((es : List ℕ) → CanStandAt es v → end_fault es v ≡ Some MissingMacroblocks)) c.self.view_is (
-      c.if-self.false,
-      missing-at-end d.sps d.pps d.frames.items d.slices.items d.slice_count d.read d.macroblocks kept other,
-    )
+    subst (λ (v : Decoding g.row.PAD). (es : List ℕ) → CanStandAt es v → end_fault es v ≡ Some MissingMacroblocks) c.self.view_is
+    (missing-at-end d.sps d.pps d.frames.items d.slices.items d.slice_count d.read d.macroblocks kept other)
 
 pub pad-requires : goal.pad-requires
 pad-requires g c =
@@ -56,9 +52,8 @@ returns-clause-answer g c =
     let d = c.self.inside in
     let kept = subst (λ o. IsDecoderState d.sps d.pps d.frames.items d.slices.items d.slice_count d.read o d.macroblocks) (none-of d.fault c.in_default.not-Some) c.self.invariant in
     let full : d.read ≡ size_in_mbs d.sps = c.if-self-size_in_mbs.false ∙ c.size_in_mbs.ensures in
-    subst (λ (v : Decoding g.row.PAD). (v.failed ≡ false) × ((es : List ℕ) → CanStandAt es v → end_fault es v ≡ None)
+    subst (λ (v : Decoding g.row.PAD). ((es : List ℕ) → CanStandAt es v → end_fault es v ≡ None)
     × ((es : List ℕ) → CanStandAt es v → padded_planes_of c.pad.result ≡ planes_after_slices (start_at es v) v.slices)) c.self.view_is (
-      c.if-self.false,
       none-at-end d.sps d.pps d.frames.items d.slices.items d.slice_count d.read d.macroblocks kept (agrees d.read (size_in_mbs d.sps) full),
       λ es stand.
           c.pad.ensures ∙ planes-at-end d.sps d.pps d.frames.items d.slices.items d.slice_count d.read d.macroblocks kept full (planes_of c.deblocked.result) c.deblocked.ensures.samples es stand,

@@ -1,4 +1,4 @@
-use Rattle.std.proofs.Common.{◌≡◌, false, List, ap, sym, subst, ◌∙◌, arith}
+use Rattle.std.proofs.Common.{◌≡◌, ◌≤◌, List, ap, sym, subst, ◌∙◌, arith}
 use Rattle.avc_slice.specs.Within.{IsHeader}
 use Rattle.avc_slice.specs.declared.slice.Slice.{Slice}
 use Rattle.avc_picture.specs.Decoding.{AreFramesOf, Decoding, Refuses, with_slice_more}
@@ -15,10 +15,9 @@ returns-in-Some g c =
     let f = c.in-Some.fault in
     let kept = subst (λ o. IsDecoderState d.sps d.pps d.frames.items d.slices.items d.slice_count d.read o d.macroblocks) c.in-Some.is c.self.invariant in
     let again = refused-again d.sps d.pps d.frames.items d.slices.items more slice d.slice_count d.read d.macroblocks c.with_newest-self-inside.ensures f kept in
-    let new : Decoding g.row.PAD = record { sps = d.sps; pps = d.pps; frames = d.frames.items; slices = more; failed = d.failed } in
-    subst (λ (v : Decoding g.row.PAD). (v.failed ≡ false) × (new ≡ with_slice_more slice v) × Refuses v slice f new) c.self.view_is (
-      c.if-self.false,
-      ap (λ (s : List Slice). record { sps = d.sps; pps = d.pps; frames = d.frames.items; slices = s; failed = d.failed }) c.with_newest-self-inside.ensures,
+    let new : Decoding g.row.PAD = record { sps = d.sps; pps = d.pps; frames = d.frames.items; slices = more } in
+    subst (λ (v : Decoding g.row.PAD). (new ≡ with_slice_more slice v) × Refuses v slice f new) c.self.view_is (
+      ap (λ (s : List Slice). record { sps = d.sps; pps = d.pps; frames = d.frames.items; slices = s }) c.with_newest-self-inside.ensures,
       record { fault = again.fault; unit = again.unit },
     )
 
@@ -57,3 +56,9 @@ decode_slice-decoded-requires g c =
         ),
       ),
     )
+
+pub number_after-self-inside-requires-clause-few : goal.number_after-self-inside-requires-clause-few
+number_after-self-inside-requires-clause-few g c =
+    let d = c.self.inside in
+    let sound = subst (λ o. IsDecoderState d.sps d.pps d.frames.items d.slices.items d.slice_count d.read o d.macroblocks) (none-of d.fault c.in_default.not-Some) c.self.invariant in
+    (well-somewhere d.sps d.pps d.frames.items d.slices.items d.slice_count d.read d.macroblocks sound).well.few
