@@ -173,7 +173,7 @@ module _ {PAD : ℕ} (sps : Sps) (pps : Pps) (es : List ℕ) (fs : List (Frame P
     facts-are c mb mbs b some =
         ap (λ n. slice_facts c n) (num ∙ sym well.decoded.count)
         ∙ ap (λ xs. slice_facts (record c { slices = xs }) (length g.slices))
-            ((begins-before c b).slices ∙ ap (λ xs. g.slices ++ (facts-in facts xs ++ b.later_slices)) some)
+        ((begins-before c b).slices ∙ ap (λ xs. g.slices ++ (facts-in facts xs ++ b.later_slices)) some)
         ∙ get-here g.slices b.later_slices facts _
 
     taken : (c : Coded) → BeginsWith c (coded_of p whole) → take m.next c.mbs ≡ g.mbs

@@ -17,8 +17,8 @@ returns-in-Some-clause-answer g c =
     let kept = subst (λ o. IsDecoderState d.sps d.pps d.frames.items d.slices.items d.slice_count d.read o d.macroblocks) c.in-Some.is c.self.invariant in
     subst (λ (v : Decoding g.row.PAD). (es : List ℕ) → CanStandAt es v → end_fault es v ≡ Some f) c.self.view_is
     (λ es stand.
-        let so_far = progress (picture_start d.sps d.pps es d.frames.items) d.slices.items in
-        first-at-end so_far.fault (is_full (picture_start d.sps d.pps es d.frames.items) so_far) f (kept.keeps es stand).0)
+    let so_far = progress (picture_start d.sps d.pps es d.frames.items) d.slices.items in
+    first-at-end so_far.fault (is_full (picture_start d.sps d.pps es d.frames.items) so_far) f (kept.keeps es stand).0)
 
 pub returns-then-self-size_in_mbs-clause-answer : goal.returns-then-self-size_in_mbs-clause-answer
 returns-then-self-size_in_mbs-clause-answer g c =
