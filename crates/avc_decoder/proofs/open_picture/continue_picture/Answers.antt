@@ -1,4 +1,3 @@
-use Rattle.avc_decoder.proofs.Keeping.{well_in}
 use Rattle.avc_decoder.proofs.Slicing.{continues}
 use Rattle.avc_decoder.proofs.open_picture.continue_picture.Goals as goal
 
