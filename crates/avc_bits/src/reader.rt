@@ -80,6 +80,15 @@ impl<'a> BitReader<'a> {
         self.left() > 0
     }
 
+    /// Whether surely 256 bits or more stand ahead. Where they do, a caller that asks first has each look and skip without a
+    /// test of its own.
+    #[inline]
+    pub fn has_many(&self) -> bool
+        ensures { IsTrue result → 256 ≤ length (reader_bits self.now).ahead }
+    {
+        self.is_far()
+    }
+
     /// The next bits, at most 32, as a number, the most significant first; zeros from the stop bit on. Nothing is passed.
     #[inline]
     pub fn peek(&self, count: u32) -> u32
@@ -208,19 +217,31 @@ impl<'a> BitReader<'a> {
         ensures below { IfOk result (λ value. value < 2 ^ 32 - 1) }
         ensures stays { OnErr result (self.new ≡ self.old) }
     {
-        let front = self.front();
-        let length = 2 * front.zeros + 1;
-        if length > front.count {
-            return self.long_ue(front.zeros);
+        if self.is_far() {
+            let front = self.front();
+            let length = 2 * front.zeros + 1;
+            if length <= front.count {
+                *self = self.after(length);
+                return Ok((front.bits >> (front.count - length)) - 1);
+            }
         }
-        *self = self.after(length);
-        Ok((front.bits >> (front.count - length)) - 1)
+        self.any_ue()
     }
 
-    // ue(v) of more than the next 32 bits, after this many zeros
+    // the same, of any length and anywhere
     #[cold]
     #[inline(never)]
-    fn long_ue(&mut self, zeros: u32) -> Result<u32, Fault>
+    fn any_ue(&mut self) -> Result<u32, Fault>
+        ensures read { Reads result ue self.old self.new }
+        ensures below { IfOk result (λ value. value < 2 ^ 32 - 1) }
+        ensures stays { OnErr result (self.new ≡ self.old) }
+    {
+        let zeros = self.front().zeros;
+        self.ue_after(zeros)
+    }
+
+    // the same, where so many zeros stand in front
+    fn ue_after(&mut self, zeros: u32) -> Result<u32, Fault>
         requires { zeros ≡ min (leading (reader_bits self.old).ahead) 32 }
         ensures read { Reads result ue self.old self.new }
         ensures below { IfOk result (λ value. value < 2 ^ 32 - 1) }
@@ -244,12 +265,12 @@ impl<'a> BitReader<'a> {
         ensures most { IfOk result (λ value. value ≤ top) }
         ensures stays { OnErr result (self.new ≡ self.old) }
     {
-        let mut reader = *self;
-        let value = reader.ue()?;
+        let before = *self;
+        let value = self.ue()?;
         if value > top {
+            *self = before;
             return Err(Fault::OutOfRange);
         }
-        *self = reader;
         Ok(value)
     }
 
@@ -270,12 +291,12 @@ impl<'a> BitReader<'a> {
         ensures high { IfOk result (λ value. value ≤ℤ high) }
         ensures stays { OnErr result (self.new ≡ self.old) }
     {
-        let mut reader = *self;
-        let value = reader.se()?;
+        let before = *self;
+        let value = self.se()?;
         if value < low || value > high {
+            *self = before;
             return Err(Fault::OutOfRange);
         }
-        *self = reader;
         Ok(value)
     }
 
@@ -301,12 +322,12 @@ impl<'a> BitReader<'a> {
         ensures most { IfOk result (λ value. value ≤ range) }
         ensures stays { OnErr result (self.new ≡ self.old) }
     {
-        let mut reader = *self;
-        let value = reader.te(range)?;
+        let before = *self;
+        let value = self.te(range)?;
         if value > range {
+            *self = before;
             return Err(Fault::OutOfRange);
         }
-        *self = reader;
         Ok(value)
     }
 
@@ -413,8 +434,8 @@ impl<'a> BitReader<'a> {
     // the same, at most so many
     #[cold]
     #[inline(never)]
-    fn left_near(&self, most: u32) -> u32
-        ensures { result ≡ min (left_of self.now) most }
+    fn left_near(self, most: u32) -> u32
+        ensures { result ≡ min (left_of self.entry) most }
     {
         self.left().min(u128::from(most)) as u32
     }

@@ -103,7 +103,13 @@ fn read_level_code(
 {
     match reader.zeros_and_bits(13, suffix_length) {
         Some((prefix, suffix)) => Ok(level_code(prefix, suffix_length, suffix, above_one)),
-        None => read_long_code(reader, suffix_length, above_one),
+        None => {
+            // a copy, so that the caller's may stay in registers
+            let mut after = *reader;
+            let code = read_long_code(&mut after, suffix_length, above_one)?;
+            *reader = after;
+            Ok(code)
+        }
     }
 }
 

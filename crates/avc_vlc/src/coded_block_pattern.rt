@@ -13,14 +13,13 @@ pub fn read_cbp(reader: &mut BitReader, intra: bool) -> Result<u8, Fault>
     ensures below { IfOk result (λ pattern. pattern < 48) }
     ensures stays { OnErr result (reader.new ≡ reader.old) }
 {
-    let mut after = *reader;
-    let number = after.ue()?;
+    let before = *reader;
+    let number = reader.ue()?;
     if number > 47 {
+        *reader = before;
         return Err(Fault::BadCode);
     }
-    let pattern = cbp_of(number, intra);
-    *reader = after;
-    Ok(pattern)
+    Ok(cbp_of(number, intra))
 }
 
 /// CodedBlockPatternLuma + 16 * CodedBlockPatternChroma of a codeNum of me(v), in an intra macroblock or in another.

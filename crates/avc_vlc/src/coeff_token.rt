@@ -23,6 +23,33 @@ pub fn read_coeff_token(reader: &mut BitReader, nc: i8) -> Result<Token, Fault>
     ensures range { IfOk result IsToken }
     ensures stays { OnErr result (reader.new ≡ reader.old) }
 {
+    if reader.has_many() {
+        return read_token(reader, nc);
+    }
+    // a copy, so that the caller's may stay in registers
+    let mut after = *reader;
+    let token = read_near_end(&mut after, nc)?;
+    *reader = after;
+    Ok(token)
+}
+
+// the same, where the stop bit may be near
+#[cold]
+#[inline(never)]
+fn read_near_end(reader: &mut BitReader, nc: i8) -> Result<Token, Fault>
+    ensures read { Reads result (coeff_token nc) reader.old reader.new }
+    ensures range { IfOk result IsToken }
+    ensures stays { OnErr result (reader.new ≡ reader.old) }
+{
+    read_token(reader, nc)
+}
+
+#[inline(always)]
+fn read_token(reader: &mut BitReader, nc: i8) -> Result<Token, Fault>
+    ensures read { Reads result (coeff_token nc) reader.old reader.new }
+    ensures range { IfOk result IsToken }
+    ensures stays { OnErr result (reader.new ≡ reader.old) }
+{
     let code = Code::<16>::look(reader);
     token_entry(code, nc).read(reader)
 }

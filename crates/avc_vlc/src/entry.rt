@@ -79,18 +79,18 @@ impl<V: Copy> Entry<V> {
                 Ok(()) => Ok(value),
                 Err(fault) => Err(fault),
             },
-            None => Err(self.refused(reader)),
+            None => Err(self.refused(*reader)),
         }
     }
 
     // the fault where no codeword begins with the front
     #[cold]
     #[inline(never)]
-    fn refused(self, reader: &BitReader) -> Fault
+    fn refused(self, reader: BitReader) -> Fault
         requires { self.value ≡ None }
-        ensures { (table : Table V) → Decides table (reader_bits reader.now).ahead self → table_code table (reader_bits reader.now) ≡ Err result }
+        ensures { (table : Table V) → Decides table (reader_bits reader.entry).ahead self → table_code table (reader_bits reader.entry) ≡ Err result }
     {
-        let mut after = *reader;
+        let mut after = reader;
         match after.skip(u32::from(self.length)) {
             Ok(()) => Fault::BadCode,
             Err(fault) => fault,

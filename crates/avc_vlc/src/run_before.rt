@@ -21,6 +21,18 @@ pub fn read_run_before(reader: &mut BitReader, zeros_left: u8) -> Result<u8, Fau
     ensures most { IfOk result (λ run. run ≤ zeros_left) }
     ensures stays { OnErr result (reader.new ≡ reader.old) }
 {
+    if reader.has_many() {
+        return read_coded(reader, zeros_left);
+    }
+    read_aside(reader, zeros_left)
+}
+
+#[inline(always)]
+fn read_coded(reader: &mut BitReader, zeros_left: u8) -> Result<u8, Fault>
+    ensures read { Reads result (run_before zeros_left) reader.old reader.new }
+    ensures most { IfOk result (λ run. run ≤ zeros_left) }
+    ensures stays { OnErr result (reader.new ≡ reader.old) }
+{
     let code = Code::<16>::look(reader);
     let entry = run_entry(code, zeros_left);
     match entry.value {
@@ -28,8 +40,21 @@ pub fn read_run_before(reader: &mut BitReader, zeros_left: u8) -> Result<u8, Fau
             Ok(()) => Ok(run),
             Err(fault) => Err(fault),
         },
-        _ => read_checked(reader, zeros_left),
+        _ => read_aside(reader, zeros_left),
     }
+}
+
+// The same with a copy of the reader, so that the caller's may stay in registers.
+#[inline(always)]
+fn read_aside(reader: &mut BitReader, zeros_left: u8) -> Result<u8, Fault>
+    ensures read { Reads result (run_before zeros_left) reader.old reader.new }
+    ensures most { IfOk result (λ run. run ≤ zeros_left) }
+    ensures stays { OnErr result (reader.new ≡ reader.old) }
+{
+    let mut after = *reader;
+    let run = read_checked(&mut after, zeros_left)?;
+    *reader = after;
+    Ok(run)
 }
 
 // what the bits decide
@@ -48,7 +73,7 @@ fn run_entry(code: Code<16>, zeros_left: u8) -> Entry<u8>
     }
 }
 
-// the same as read_run_before, and also where it answers BadCode
+// the same, also where the run is longer and where the stop bit may be near
 #[cold]
 #[inline(never)]
 fn read_checked(reader: &mut BitReader, zeros_left: u8) -> Result<u8, Fault>

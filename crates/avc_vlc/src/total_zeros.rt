@@ -18,6 +18,31 @@ pub fn read_total_zeros(reader: &mut BitReader, total: u8, chroma_dc: bool) -> R
     ensures read { Reads result (total_zeros total chroma_dc) reader.old reader.new }
     ensures stays { OnErr result (reader.new ≡ reader.old) }
 {
+    if reader.has_many() {
+        return read_zeros(reader, total, chroma_dc);
+    }
+    // a copy, so that the caller's may stay in registers
+    let mut after = *reader;
+    let zeros = read_near_end(&mut after, total, chroma_dc)?;
+    *reader = after;
+    Ok(zeros)
+}
+
+// the same, where the stop bit may be near
+#[cold]
+#[inline(never)]
+fn read_near_end(reader: &mut BitReader, total: u8, chroma_dc: bool) -> Result<u8, Fault>
+    ensures read { Reads result (total_zeros total chroma_dc) reader.old reader.new }
+    ensures stays { OnErr result (reader.new ≡ reader.old) }
+{
+    read_zeros(reader, total, chroma_dc)
+}
+
+#[inline(always)]
+fn read_zeros(reader: &mut BitReader, total: u8, chroma_dc: bool) -> Result<u8, Fault>
+    ensures read { Reads result (total_zeros total chroma_dc) reader.old reader.new }
+    ensures stays { OnErr result (reader.new ≡ reader.old) }
+{
     if chroma_dc {
         read_chroma_dc(reader, total)
     } else {
@@ -25,6 +50,7 @@ pub fn read_total_zeros(reader: &mut BitReader, total: u8, chroma_dc: bool) -> R
     }
 }
 
+#[inline(always)]
 fn read_4x4(reader: &mut BitReader, total: u8) -> Result<u8, Fault>
     ensures read { Reads result (total_zeros total false) reader.old reader.new }
     ensures stays { OnErr result (reader.new ≡ reader.old) }
@@ -49,6 +75,7 @@ fn read_4x4(reader: &mut BitReader, total: u8) -> Result<u8, Fault>
     }
 }
 
+#[inline(always)]
 fn read_chroma_dc(reader: &mut BitReader, total: u8) -> Result<u8, Fault>
     ensures read { Reads result (total_zeros total true) reader.old reader.new }
     ensures stays { OnErr result (reader.new ≡ reader.old) }

@@ -2,7 +2,7 @@ use Rattle.std.proofs.Common.{w8, to_z, of_z}
 use Rattle.avc_bits.specs.Reader.{reader_bits}
 use Rattle.avc_vlc.specs.Reading.{token_table}
 use Rattle.avc_vlc.proofs.Values.{if_token}
-use Rattle.avc_vlc.proofs.coeff_token.read_coeff_token.Goals as goal
+use Rattle.avc_vlc.proofs.coeff_token.read_token.Goals as goal
 
 pub returns-clause-range : goal.returns-clause-range
 returns-clause-range c =

@@ -1,7 +1,7 @@
 use Rattle.std.proofs.Common.{arith, ◌+◌, ◌*◌}
 use Rattle.avc_bits.specs.Reader.{reader_bits}
 use Rattle.avc_bits.proofs.Reading.{length-ahead, ue_too_long, ue_short, ue_from, ue_fits, within_bytes}
-use Rattle.avc_bits.proofs.reader.BitReader.long_ue.Goals as goal
+use Rattle.avc_bits.proofs.reader.BitReader.ue_after.Goals as goal
 
 pub returns-then-zeros-gt31-clause-read : goal.returns-then-zeros-gt31-clause-read
 returns-then-zeros-gt31-clause-read c = ue_too_long (reader_bits c.args.self.now) (omega arith)

@@ -5,7 +5,7 @@ use Rattle.avc_bits.specs.Bits.{Bits}
 use Rattle.avc_bits.specs.Reader.{reader_bits}
 use Rattle.avc_vlc.specs.Reading.{run_before, run_table, table_code}
 use Rattle.avc_vlc.proofs.Entries.{reads_word, reads_cut}
-use Rattle.avc_vlc.proofs.run_before.read_run_before.Goals as goal
+use Rattle.avc_vlc.proofs.run_before.read_coded.Goals as goal
 
 run_read : (zeros_left run : ℕ) (b left : Bits) → table_code (run_table zeros_left) b ≡ Ok (run, left) → run ≤ zeros_left → run_before zeros_left b ≡ Ok (run, left)
 run_read zeros_left run b left is few = rw (is, le-leb run zeros_left few) refl
