@@ -22,7 +22,7 @@ pub(crate) fn bits_at(bytes: &[u8], position: u128, count: u32) -> u32
 }
 
 // eight bytes as a number, the first one the most significant
-#[inline]
+#[inline(always)]
 pub(crate) fn eight_bytes(bytes: &[u8], first: usize) -> u64
     requires { first + 8 ≤ length bytes.now }
     ensures { result ≡ number_of (take 64 (drop (8 * first) (byte_bits bytes.now))) }
@@ -51,7 +51,7 @@ pub(crate) fn bytes_at(bytes: &[u8], first: usize, count: usize) -> &[u8]
 }
 
 // bits of 64, counted from the most significant one
-#[inline]
+#[inline(always)]
 pub(crate) fn field_of_eight(eight: u64, first: u32, count: u32) -> u32
     requires near { first ≤ 7 }
     requires few { count ≤ 32 }

@@ -82,7 +82,7 @@ impl<'a> BitReader<'a> {
 
     /// Whether surely 256 bits or more stand ahead. Where they do, a caller that asks first has each look and skip without a
     /// test of its own.
-    #[inline]
+    #[inline(always)]
     pub fn has_many(&self) -> bool
         ensures { IsTrue result → 256 ≤ length (reader_bits self.now).ahead }
     {
@@ -90,7 +90,7 @@ impl<'a> BitReader<'a> {
     }
 
     /// The next bits, at most 32, as a number, the most significant first; zeros from the stop bit on. Nothing is passed.
-    #[inline]
+    #[inline(always)]
     pub fn peek(&self, count: u32) -> u32
         requires { count ≤ 32 }
         ensures bits { bits_of count result ≡ take count ((reader_bits self.now).ahead ++ replicate count false) }
@@ -117,7 +117,7 @@ impl<'a> BitReader<'a> {
     }
 
     /// Passes this many bits, or `Truncated`.
-    #[inline]
+    #[inline(always)]
     pub fn skip(&mut self, count: u32) -> Result<(), Fault>
         ensures read { Reads result (skip count) self.old self.new }
         ensures stays { OnErr result (self.new ≡ self.old) }
@@ -364,7 +364,7 @@ impl<'a> BitReader<'a> {
 
     // the reader after so many of the bits ahead
     #[tactic(auto, unfolding(crate::specs::Reader::reader_bits, crate::specs::Reader::reader_bytes))]
-    #[inline]
+    #[inline(always)]
     fn after(&self, count: u32) -> Self
         requires { count ≤ left_of self.now }
         ensures bits { reader_bits result ≡ passed (reader_bits self.now) count }
@@ -400,7 +400,7 @@ impl<'a> BitReader<'a> {
     }
 
     // whether the stop bit is so far ahead that no test against it is needed
-    #[inline]
+    #[inline(always)]
     fn is_far(&self) -> bool
         ensures { IsTrue result → self.now.byte + 33 ≤ self.now.stop_byte }
     {
@@ -441,7 +441,7 @@ impl<'a> BitReader<'a> {
     }
 
     // how many bits stand ahead, at most so many
-    #[inline]
+    #[inline(always)]
     fn left_within(&self, most: u32) -> u32
         requires { most ≤ 255 }
         ensures { result ≡ min (left_of self.now) most }
@@ -454,7 +454,7 @@ impl<'a> BitReader<'a> {
     }
 
     // the same for any number
-    #[inline]
+    #[inline(always)]
     fn left_at_most(&self, most: u32) -> u32
         ensures { result ≡ min (left_of self.now) most }
     {
@@ -466,7 +466,7 @@ impl<'a> BitReader<'a> {
     }
 
     // the next bits as a number
-    #[inline]
+    #[inline(always)]
     fn next_bits(&self, count: u32) -> u32
         requires few { count ≤ 32 }
         requires there { count ≤ left_of self.now }

@@ -2,11 +2,11 @@
 use Rattle.std.proofs.Common.{◌≡◌, ℕ, ◌-◌, ◌^◌, ◌<◌, List, [], length, map, get_or, refl, ap, ◌∙◌, sym, arith}
 use Rattle.std.specs.Prelude.{Option, Some, None}
 use Rattle.std.specs.List.{range_with_len}
-use Rattle.std.proofs.lemmas.List.{get_or-map}
+use Rattle.std.proofs.lemmas.List.{get_or-map, get_or-replicate}
 use Rattle.std.proofs.lemmas.List.FromFn.{get_or-map-range_with_len}
 use Rattle.avc_vlc.specs.declared.entry.Entry.{Entry}
 use Rattle.avc_vlc.specs.Reading.{Table, tokens_8}
-use Rattle.avc_vlc.specs.Indexing.{IsIndexed, index, entry_of, place_bits, six_bit_entry}
+use Rattle.avc_vlc.specs.Indexing.{AreIndexed, IsIndexed, index, entry_of, place_bits, six_bit_entry}
 use Rattle.avc_bits.specs.Bits.{bits_of}
 
 -- the entry at a place
@@ -20,6 +20,19 @@ indexed_place {A} table tail rows row column none e is within narrow there =
     sym (get_or-map-range_with_len (cell row) 0 (2 ^ tail) column column None narrow (omega arith))
     ∙ ap (λ l. get_or l column None) (sym here ∙ given)
     ∙ get_or-map Some (get_or rows row none) column e None there
+
+-- one of several tables
+pub indexed_table : {A : Type 0} (each : ℕ → Table A) (tail rows : ℕ) (tables : List (List (List (Entry A)))) (k : ℕ) (none : List (List (Entry A))) →
+    AreIndexed each tail rows tables → k < length tables → IsIndexed (each k) tail (get_or tables k none)
+indexed_table {A} each tail rows tables k none is there =
+    let long : length (get_or tables k none) ≡ rows =
+    sym (get_or-map length tables k none 0 there) ∙ ap (λ l. get_or l k 0) is.long ∙ get_or-replicate (length tables) k rows 0 there in
+    record {
+      same = ap (index (each k) tail) long
+          ∙ sym (get_or-map-range_with_len (λ i. index (each i) tail rows) 0 (length tables) k k [] there (omega arith))
+          ∙ ap (λ l. get_or l k []) is.same
+          ∙ get_or-map (map (map Some)) tables k none [] there;
+    }
 
 six_computed : map (λ n. entry_of tokens_8 (bits_of 6 n)) (range_with_len 0 64) ≡ map (λ n. Some (six_bit_entry n)) (range_with_len 0 64)
 six_computed = refl

@@ -72,6 +72,11 @@ index table tail rows =
 pub record IsIndexed {A : Type 0} (table : Table A) (tail : ℕ) (rows : List (List (Entry A))) : Type 0 where
   pub same : index table tail (length rows) ≡ map (map Some) rows
 
+-- each of the tables in the list, with so many rows each, is the index of its table
+pub record AreIndexed {A : Type 0} (each : ℕ → Table A) (tail rows : ℕ) (tables : List (List (List (Entry A)))) : Type 0 where
+  pub long : map length tables ≡ replicate (length tables) rows
+  pub same : map (λ k. index (each k) tail rows) (range_with_len 0 (length tables)) ≡ map (map (map Some)) tables
+
 -- the place is that of the bits ahead
 pub record IsPlaceOf (ahead : List Bool) (last tail row column : ℕ) : Type 0 where
   pub agrees : Agree (place_bits last tail row column) ahead

@@ -2,7 +2,7 @@ ghost use Rattle.std.specs.Prelude.{◌≡◌, ◌≤◌, ℕ, List, Bool, true,
 ghost use Rattle.std.specs.List.{list_any};
 ghost use Rattle.avc_bits.specs.Reader.{Reads, reader_bits};
 ghost use Rattle.avc_vlc.specs.Reading.{Table, table_code};
-ghost use Rattle.avc_vlc.specs.Indexing.{Decides, IsIndexed, Shows, holds};
+ghost use Rattle.avc_vlc.specs.Indexing.{AreIndexed, Decides, IsIndexed, Shows, holds};
 
 use crate::code::Code;
 use crate::token::Token;
@@ -133,6 +133,21 @@ pub(crate) fn number_at(code: Code<16>, rows: &[[Entry<u8>; 4]]) -> Entry<u8>
 {
     let (row, column) = code.place(rows.len() - 1, 2);
     rows[row][column]
+}
+
+// What the bits decide by one of several tables of numbers.
+#[inline(always)]
+pub(crate) fn number_in<const ROWS: usize, const TABLES: usize>(
+    code: Code<16>,
+    tables: &[[[Entry<u8>; 4]; ROWS]; TABLES],
+    table: usize,
+) -> Entry<u8>
+    requires some { 1 ≤ ROWS }
+    requires few { ROWS ≤ 16 }
+    requires there { table < TABLES }
+    ensures { (each : ℕ → Table ℕ) (ahead : List Bool) → AreIndexed each 2 ROWS tables.now → Shows code ahead → Decides (each table) ahead result }
+{
+    number_at(code, &tables[table])
 }
 
 // An entry: (length) of a front with which no codeword begins, (length, value) of a codeword, (length, TotalCoeff,

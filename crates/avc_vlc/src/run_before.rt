@@ -9,7 +9,7 @@ ghost use Rattle.std.specs.Option.{option_map};
 
 use crate::code::Code;
 use crate::codeword::Codeword;
-use crate::entry::{Entry, entry, number_at, number_by, row4};
+use crate::entry::{Entry, entry, number_in, row4};
 use avc_bits::BitReader;
 use avc_types::Fault;
 
@@ -62,15 +62,8 @@ fn read_aside(reader: &mut BitReader, zeros_left: u8) -> Result<u8, Fault>
 fn run_entry(code: Code<16>, zeros_left: u8) -> Entry<u8>
     ensures { (ahead : List Bool) → Shows code ahead → Decides (run_table zeros_left) ahead result }
 {
-    match zeros_left {
-        0..=1 => number_at(code, &LEFT_1),
-        2 => number_at(code, &LEFT_2),
-        3 => number_at(code, &LEFT_3),
-        4 => number_at(code, &LEFT_4),
-        5 => number_at(code, &LEFT_5),
-        6 => number_at(code, &LEFT_6),
-        _ => number_at(code, &LEFT_7),
-    }
+    let table = zeros_left.saturating_sub(1).min(6);
+    number_in(code, &RUN_BEFORE, table as usize)
 }
 
 // the same, also where the run is longer and where the stop bit may be near
@@ -94,15 +87,8 @@ fn read_run(reader: &mut BitReader, zeros_left: u8) -> Result<u8, Fault>
     ensures read { Reads result (table_code (run_table zeros_left)) reader.old reader.new }
     ensures stays { OnErr result (reader.new ≡ reader.old) }
 {
-    match zeros_left {
-        0..=1 => number_by(reader, &LEFT_1),
-        2 => number_by(reader, &LEFT_2),
-        3 => number_by(reader, &LEFT_3),
-        4 => number_by(reader, &LEFT_4),
-        5 => number_by(reader, &LEFT_5),
-        6 => number_by(reader, &LEFT_6),
-        _ => number_by(reader, &LEFT_7),
-    }
+    let code = Code::<16>::look(reader);
+    run_entry(code, zeros_left).read(reader)
 }
 
 /// The codeword of so many zeros right before a level, where `zeros_left` zeros are left for it and those before it;
@@ -121,54 +107,66 @@ fn word_of_run(zeros_left: u8, run: u8) -> Option<Codeword>
     ensures { option_map word_bits result ≡ word_of (is_number_same run) (run_table zeros_left) }
 {
     match zeros_left {
-        0..=1 => Codeword::of(&LEFT_1, 2, run),
-        2 => Codeword::of(&LEFT_2, 2, run),
-        3 => Codeword::of(&LEFT_3, 2, run),
-        4 => Codeword::of(&LEFT_4, 2, run),
-        5 => Codeword::of(&LEFT_5, 2, run),
-        6 => Codeword::of(&LEFT_6, 2, run),
-        _ => Codeword::of(&LEFT_7, 2, run),
+        0..=1 => Codeword::of(&RUN_BEFORE[0], 2, run),
+        2 => Codeword::of(&RUN_BEFORE[1], 2, run),
+        3 => Codeword::of(&RUN_BEFORE[2], 2, run),
+        4 => Codeword::of(&RUN_BEFORE[3], 2, run),
+        5 => Codeword::of(&RUN_BEFORE[4], 2, run),
+        6 => Codeword::of(&RUN_BEFORE[5], 2, run),
+        _ => Codeword::of(&RUN_BEFORE[6], 2, run),
     }
 }
 
-static LEFT_1: [[Entry<u8>; 4]; 2] = [row4!((1, 0)), row4!((1, 1))];
+// Twelve rows, of which those behind the given ones are the last of them again.
+macro_rules! rows12 {
+    ($a:expr, $last:expr) => {
+        rows12!($a, $last, $last)
+    };
+    ($a:expr, $b:expr, $last:expr) => {
+        rows12!($a, $b, $last, $last)
+    };
+    ($a:expr, $b:expr, $c:expr, $last:expr) => {
+        [
+            $a, $b, $c, $last, $last, $last, $last, $last, $last, $last, $last, $last,
+        ]
+    };
+}
 
-static LEFT_2: [[Entry<u8>; 4]; 3] = [row4!((1, 0)), row4!((2, 1)), row4!((2, 2))];
-
-static LEFT_3: [[Entry<u8>; 4]; 3] = [row4!((2, 1), (2, 0)), row4!((2, 2)), row4!((2, 3))];
-
-static LEFT_4: [[Entry<u8>; 4]; 4] = [
-    row4!((2, 1), (2, 0)),
-    row4!((2, 2)),
-    row4!((3, 3)),
-    row4!((3, 4)),
-];
-
-static LEFT_5: [[Entry<u8>; 4]; 4] = [
-    row4!((2, 1), (2, 0)),
-    row4!((3, 3), (3, 2)),
-    row4!((3, 4)),
-    row4!((3, 5)),
-];
-
-static LEFT_6: [[Entry<u8>; 4]; 4] = [
-    row4!((3, 6), (3, 5), (2, 0), (2, 0)),
-    row4!((3, 4), (3, 3)),
-    row4!((3, 2)),
-    row4!((3, 1)),
-];
-
-static LEFT_7: [[Entry<u8>; 4]; 12] = [
-    row4!((3, 3), (3, 2), (3, 1), (3, 0)),
-    row4!((3, 5), (3, 4)),
-    row4!((3, 6)),
-    row4!((4, 7)),
-    row4!((5, 8)),
-    row4!((6, 9)),
-    row4!((7, 10)),
-    row4!((8, 11)),
-    row4!((9, 12)),
-    row4!((10, 13)),
-    row4!((11, 14)),
-    row4!((11)),
+// By zerosLeft: 1 to 6, and above 6.
+static RUN_BEFORE: [[[Entry<u8>; 4]; 12]; 7] = [
+    rows12!(row4!((1, 0)), row4!((1, 1))),
+    rows12!(row4!((1, 0)), row4!((2, 1)), row4!((2, 2))),
+    rows12!(row4!((2, 1), (2, 0)), row4!((2, 2)), row4!((2, 3))),
+    rows12!(
+        row4!((2, 1), (2, 0)),
+        row4!((2, 2)),
+        row4!((3, 3)),
+        row4!((3, 4))
+    ),
+    rows12!(
+        row4!((2, 1), (2, 0)),
+        row4!((3, 3), (3, 2)),
+        row4!((3, 4)),
+        row4!((3, 5))
+    ),
+    rows12!(
+        row4!((3, 6), (3, 5), (2, 0), (2, 0)),
+        row4!((3, 4), (3, 3)),
+        row4!((3, 2)),
+        row4!((3, 1))
+    ),
+    [
+        row4!((3, 3), (3, 2), (3, 1), (3, 0)),
+        row4!((3, 5), (3, 4)),
+        row4!((3, 6)),
+        row4!((4, 7)),
+        row4!((5, 8)),
+        row4!((6, 9)),
+        row4!((7, 10)),
+        row4!((8, 11)),
+        row4!((9, 12)),
+        row4!((10, 13)),
+        row4!((11, 14)),
+        row4!((11)),
+    ],
 ];
