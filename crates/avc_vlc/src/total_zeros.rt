@@ -1,13 +1,15 @@
 //! total_zeros (9.2.3, Tables 9-7 to 9-9). A table has a row for each number of zeros in front of the first 1, the last
 //! for all that are more, and a column for each value of the two bits behind that 1.
-ghost use Rattle.std.specs.Prelude.{◌≡◌, ◌≤◌, true, false, OnErr};
+ghost use Rattle.std.specs.Prelude.{◌≡◌, ◌≤◌, List, Bool, true, false, OnErr};
 ghost use Rattle.avc_bits.specs.Reader.{Reads};
-ghost use Rattle.avc_vlc.specs.Reading.{total_zeros};
+ghost use Rattle.avc_vlc.specs.Reading.{total_zeros, zeros_table};
+ghost use Rattle.avc_vlc.specs.Indexing.{Decides, Shows};
 ghost use Rattle.avc_vlc.specs.Writing.{word_bits, zeros_word};
 ghost use Rattle.std.specs.Option.{option_map};
 
+use crate::code::Code;
 use crate::codeword::Codeword;
-use crate::entry::{Entry, entry, number_by, row4};
+use crate::entry::{Entry, entry, number_by, number_in, row4};
 use avc_bits::BitReader;
 use avc_types::Fault;
 
@@ -55,24 +57,20 @@ fn read_4x4(reader: &mut BitReader, total: u8) -> Result<u8, Fault>
     ensures read { Reads result (total_zeros total false) reader.old reader.new }
     ensures stays { OnErr result (reader.new ≡ reader.old) }
 {
-    match total {
-        0..=1 => number_by(reader, &TOTAL_1),
-        2 => number_by(reader, &TOTAL_2),
-        3 => number_by(reader, &TOTAL_3),
-        4 => number_by(reader, &TOTAL_4),
-        5 => number_by(reader, &TOTAL_5),
-        6 => number_by(reader, &TOTAL_6),
-        7 => number_by(reader, &TOTAL_7),
-        8 => number_by(reader, &TOTAL_8),
-        9 => number_by(reader, &TOTAL_9),
-        10 => number_by(reader, &TOTAL_10),
-        11 => number_by(reader, &TOTAL_11),
-        12 => number_by(reader, &TOTAL_12),
-        13 => number_by(reader, &TOTAL_13),
-        14 => number_by(reader, &TOTAL_14),
-        15 => number_by(reader, &TOTAL_15),
-        _ => Err(Fault::BadCode),
+    if total > 15 {
+        return Err(Fault::BadCode);
     }
+    let code = Code::<16>::look(reader);
+    zeros_entry(code, total).read(reader)
+}
+
+// what the bits decide
+#[inline(always)]
+fn zeros_entry(code: Code<16>, total: u8) -> Entry<u8>
+    requires { total ≤ 15 }
+    ensures { (ahead : List Bool) → Shows code ahead → Decides (zeros_table total false) ahead result }
+{
+    number_in(code, &TOTAL_ZEROS, usize::from(total.saturating_sub(1)))
 }
 
 #[inline(always)]
@@ -103,21 +101,21 @@ fn word_4x4(total: u8, zeros: u8) -> Option<Codeword>
     ensures { option_map word_bits result ≡ zeros_word total false zeros }
 {
     match total {
-        0..=1 => Codeword::of(&TOTAL_1, 2, zeros),
-        2 => Codeword::of(&TOTAL_2, 2, zeros),
-        3 => Codeword::of(&TOTAL_3, 2, zeros),
-        4 => Codeword::of(&TOTAL_4, 2, zeros),
-        5 => Codeword::of(&TOTAL_5, 2, zeros),
-        6 => Codeword::of(&TOTAL_6, 2, zeros),
-        7 => Codeword::of(&TOTAL_7, 2, zeros),
-        8 => Codeword::of(&TOTAL_8, 2, zeros),
-        9 => Codeword::of(&TOTAL_9, 2, zeros),
-        10 => Codeword::of(&TOTAL_10, 2, zeros),
-        11 => Codeword::of(&TOTAL_11, 2, zeros),
-        12 => Codeword::of(&TOTAL_12, 2, zeros),
-        13 => Codeword::of(&TOTAL_13, 2, zeros),
-        14 => Codeword::of(&TOTAL_14, 2, zeros),
-        15 => Codeword::of(&TOTAL_15, 2, zeros),
+        0..=1 => Codeword::of(&TOTAL_ZEROS[0], 2, zeros),
+        2 => Codeword::of(&TOTAL_ZEROS[1], 2, zeros),
+        3 => Codeword::of(&TOTAL_ZEROS[2], 2, zeros),
+        4 => Codeword::of(&TOTAL_ZEROS[3], 2, zeros),
+        5 => Codeword::of(&TOTAL_ZEROS[4], 2, zeros),
+        6 => Codeword::of(&TOTAL_ZEROS[5], 2, zeros),
+        7 => Codeword::of(&TOTAL_ZEROS[6], 2, zeros),
+        8 => Codeword::of(&TOTAL_ZEROS[7], 2, zeros),
+        9 => Codeword::of(&TOTAL_ZEROS[8], 2, zeros),
+        10 => Codeword::of(&TOTAL_ZEROS[9], 2, zeros),
+        11 => Codeword::of(&TOTAL_ZEROS[10], 2, zeros),
+        12 => Codeword::of(&TOTAL_ZEROS[11], 2, zeros),
+        13 => Codeword::of(&TOTAL_ZEROS[12], 2, zeros),
+        14 => Codeword::of(&TOTAL_ZEROS[13], 2, zeros),
+        15 => Codeword::of(&TOTAL_ZEROS[14], 2, zeros),
         _ => None,
     }
 }
@@ -133,127 +131,138 @@ fn chroma_dc_word(total: u8, zeros: u8) -> Option<Codeword>
     }
 }
 
-static TOTAL_1: [[Entry<u8>; 4]; 10] = [
-    row4!((1, 0)),
-    row4!((3, 2), (3, 1)),
-    row4!((4, 4), (4, 3)),
-    row4!((5, 6), (5, 5)),
-    row4!((6, 8), (6, 7)),
-    row4!((7, 10), (7, 9)),
-    row4!((8, 12), (8, 11)),
-    row4!((9, 14), (9, 13)),
-    row4!((9, 15)),
-    row4!((9)),
+// Ten rows, of which those behind the given ones are the last of them again.
+macro_rules! rows10 {
+    ($a:expr, $last:expr) => {
+        rows10!($a, $last, $last)
+    };
+    ($a:expr, $b:expr, $last:expr) => {
+        rows10!($a, $b, $last, $last)
+    };
+    ($a:expr, $b:expr, $c:expr, $last:expr) => {
+        rows10!($a, $b, $c, $last, $last)
+    };
+    ($a:expr, $b:expr, $c:expr, $d:expr, $last:expr) => {
+        rows10!($a, $b, $c, $d, $last, $last)
+    };
+    ($a:expr, $b:expr, $c:expr, $d:expr, $e:expr, $last:expr) => {
+        rows10!($a, $b, $c, $d, $e, $last, $last)
+    };
+    ($a:expr, $b:expr, $c:expr, $d:expr, $e:expr, $f:expr, $last:expr) => {
+        [$a, $b, $c, $d, $e, $f, $last, $last, $last, $last]
+    };
+}
+
+// By TotalCoeff, 1 to 15.
+static TOTAL_ZEROS: [[[Entry<u8>; 4]; 10]; 15] = [
+    [
+        row4!((1, 0)),
+        row4!((3, 2), (3, 1)),
+        row4!((4, 4), (4, 3)),
+        row4!((5, 6), (5, 5)),
+        row4!((6, 8), (6, 7)),
+        row4!((7, 10), (7, 9)),
+        row4!((8, 12), (8, 11)),
+        row4!((9, 14), (9, 13)),
+        row4!((9, 15)),
+        row4!((9)),
+    ],
+    rows10!(
+        row4!((3, 3), (3, 2), (3, 1), (3, 0)),
+        row4!((4, 6), (4, 5), (3, 4), (3, 4)),
+        row4!((4, 8), (4, 7)),
+        row4!((5, 10), (5, 9)),
+        row4!((6, 12), (6, 11)),
+        row4!((6, 13)),
+        row4!((6, 14))
+    ),
+    rows10!(
+        row4!((3, 6), (3, 3), (3, 2), (3, 1)),
+        row4!((4, 4), (4, 0), (3, 7), (3, 7)),
+        row4!((4, 8), (4, 5)),
+        row4!((5, 10), (5, 9)),
+        row4!((5, 12)),
+        row4!((6, 11)),
+        row4!((6, 13))
+    ),
+    rows10!(
+        row4!((3, 6), (3, 5), (3, 4), (3, 1)),
+        row4!((4, 3), (4, 2), (3, 8), (3, 8)),
+        row4!((4, 9), (4, 7)),
+        row4!((5, 10), (5, 0)),
+        row4!((5, 11)),
+        row4!((5, 12))
+    ),
+    rows10!(
+        row4!((3, 6), (3, 5), (3, 4), (3, 3)),
+        row4!((4, 1), (4, 0), (3, 7), (3, 7)),
+        row4!((4, 8), (4, 2)),
+        row4!((4, 10)),
+        row4!((5, 9)),
+        row4!((5, 11))
+    ),
+    rows10!(
+        row4!((3, 5), (3, 4), (3, 3), (3, 2)),
+        row4!((3, 7), (3, 6)),
+        row4!((3, 9)),
+        row4!((4, 8)),
+        row4!((5, 1)),
+        row4!((6, 0)),
+        row4!((6, 10))
+    ),
+    rows10!(
+        row4!((3, 3), (3, 2), (2, 5), (2, 5)),
+        row4!((3, 6), (3, 4)),
+        row4!((3, 8)),
+        row4!((4, 7)),
+        row4!((5, 1)),
+        row4!((6, 0)),
+        row4!((6, 9))
+    ),
+    rows10!(
+        row4!((2, 5), (2, 4)),
+        row4!((3, 6), (3, 3)),
+        row4!((3, 7)),
+        row4!((4, 1)),
+        row4!((5, 2)),
+        row4!((6, 0)),
+        row4!((6, 8))
+    ),
+    rows10!(
+        row4!((2, 4), (2, 3)),
+        row4!((2, 6)),
+        row4!((3, 5)),
+        row4!((4, 2)),
+        row4!((5, 7)),
+        row4!((6, 0)),
+        row4!((6, 1))
+    ),
+    rows10!(
+        row4!((2, 4), (2, 3)),
+        row4!((2, 5)),
+        row4!((3, 2)),
+        row4!((4, 6)),
+        row4!((5, 0)),
+        row4!((5, 1))
+    ),
+    rows10!(
+        row4!((1, 4)),
+        row4!((3, 3), (3, 5)),
+        row4!((3, 2)),
+        row4!((4, 1)),
+        row4!((4, 0))
+    ),
+    rows10!(
+        row4!((1, 3)),
+        row4!((2, 2)),
+        row4!((3, 4)),
+        row4!((4, 1)),
+        row4!((4, 0))
+    ),
+    rows10!(row4!((1, 2)), row4!((2, 3)), row4!((3, 1)), row4!((3, 0))),
+    rows10!(row4!((1, 2)), row4!((2, 1)), row4!((2, 0))),
+    rows10!(row4!((1, 1)), row4!((1, 0))),
 ];
-
-static TOTAL_2: [[Entry<u8>; 4]; 7] = [
-    row4!((3, 3), (3, 2), (3, 1), (3, 0)),
-    row4!((4, 6), (4, 5), (3, 4), (3, 4)),
-    row4!((4, 8), (4, 7)),
-    row4!((5, 10), (5, 9)),
-    row4!((6, 12), (6, 11)),
-    row4!((6, 13)),
-    row4!((6, 14)),
-];
-
-static TOTAL_3: [[Entry<u8>; 4]; 7] = [
-    row4!((3, 6), (3, 3), (3, 2), (3, 1)),
-    row4!((4, 4), (4, 0), (3, 7), (3, 7)),
-    row4!((4, 8), (4, 5)),
-    row4!((5, 10), (5, 9)),
-    row4!((5, 12)),
-    row4!((6, 11)),
-    row4!((6, 13)),
-];
-
-static TOTAL_4: [[Entry<u8>; 4]; 6] = [
-    row4!((3, 6), (3, 5), (3, 4), (3, 1)),
-    row4!((4, 3), (4, 2), (3, 8), (3, 8)),
-    row4!((4, 9), (4, 7)),
-    row4!((5, 10), (5, 0)),
-    row4!((5, 11)),
-    row4!((5, 12)),
-];
-
-static TOTAL_5: [[Entry<u8>; 4]; 6] = [
-    row4!((3, 6), (3, 5), (3, 4), (3, 3)),
-    row4!((4, 1), (4, 0), (3, 7), (3, 7)),
-    row4!((4, 8), (4, 2)),
-    row4!((4, 10)),
-    row4!((5, 9)),
-    row4!((5, 11)),
-];
-
-static TOTAL_6: [[Entry<u8>; 4]; 7] = [
-    row4!((3, 5), (3, 4), (3, 3), (3, 2)),
-    row4!((3, 7), (3, 6)),
-    row4!((3, 9)),
-    row4!((4, 8)),
-    row4!((5, 1)),
-    row4!((6, 0)),
-    row4!((6, 10)),
-];
-
-static TOTAL_7: [[Entry<u8>; 4]; 7] = [
-    row4!((3, 3), (3, 2), (2, 5), (2, 5)),
-    row4!((3, 6), (3, 4)),
-    row4!((3, 8)),
-    row4!((4, 7)),
-    row4!((5, 1)),
-    row4!((6, 0)),
-    row4!((6, 9)),
-];
-
-static TOTAL_8: [[Entry<u8>; 4]; 7] = [
-    row4!((2, 5), (2, 4)),
-    row4!((3, 6), (3, 3)),
-    row4!((3, 7)),
-    row4!((4, 1)),
-    row4!((5, 2)),
-    row4!((6, 0)),
-    row4!((6, 8)),
-];
-
-static TOTAL_9: [[Entry<u8>; 4]; 7] = [
-    row4!((2, 4), (2, 3)),
-    row4!((2, 6)),
-    row4!((3, 5)),
-    row4!((4, 2)),
-    row4!((5, 7)),
-    row4!((6, 0)),
-    row4!((6, 1)),
-];
-
-static TOTAL_10: [[Entry<u8>; 4]; 6] = [
-    row4!((2, 4), (2, 3)),
-    row4!((2, 5)),
-    row4!((3, 2)),
-    row4!((4, 6)),
-    row4!((5, 0)),
-    row4!((5, 1)),
-];
-
-static TOTAL_11: [[Entry<u8>; 4]; 5] = [
-    row4!((1, 4)),
-    row4!((3, 3), (3, 5)),
-    row4!((3, 2)),
-    row4!((4, 1)),
-    row4!((4, 0)),
-];
-
-static TOTAL_12: [[Entry<u8>; 4]; 5] = [
-    row4!((1, 3)),
-    row4!((2, 2)),
-    row4!((3, 4)),
-    row4!((4, 1)),
-    row4!((4, 0)),
-];
-
-static TOTAL_13: [[Entry<u8>; 4]; 4] = [row4!((1, 2)), row4!((2, 3)), row4!((3, 1)), row4!((3, 0))];
-
-static TOTAL_14: [[Entry<u8>; 4]; 3] = [row4!((1, 2)), row4!((2, 1)), row4!((2, 0))];
-
-static TOTAL_15: [[Entry<u8>; 4]; 2] = [row4!((1, 1)), row4!((1, 0))];
 
 static CHROMA_DC_1: [[Entry<u8>; 4]; 4] = [
     row4!((1, 0)),

@@ -1,8 +1,18 @@
-use Rattle.std.proofs.Common.{◌≡◌, ◌-◌, refl, arith, false}
-use Rattle.avc_vlc.specs.Reading.{zeros_table}
+use Rattle.std.proofs.Common.{◌≡◌, ℕ, ◌-◌, List, [], refl, ap, arith}
+use Rattle.std.specs.Prelude.{Some, None, Err}
+use Rattle.std.proofs.lemmas.Option.{slice_get_past}
+use Rattle.avc_types.specs.declared.fault.Fault.TheVariants as faults
+use Rattle.avc_bits.specs.Bits.{Bits}
+use Rattle.avc_bits.specs.Reader.{reader_bits}
+use Rattle.avc_vlc.specs.Tables.{total_zeros_4x4}
+use Rattle.avc_vlc.specs.Reading.{row_at, row_table, table_code}
 use Rattle.avc_vlc.proofs.total_zeros.read_4x4.Goals as goal
 
-pub returns-in-0-to-1-clause-read : goal.returns-in-0-to-1-clause-read
-returns-in-0-to-1-clause-read c =
-    let first : c.args.total - 1 ≡ 0 = omega arith in
-    rw first (c.number_by-in-0-to-1.ensures.read (zeros_table 1 false) (record { same = refl }))
+no_codeword : (row : List (ℕ × ℕ)) (b : Bits) → row ≡ [] → table_code (row_table row) b ≡ Err faults.BadCode
+no_codeword row b none = rw none refl
+
+pub returns-then-total-gt15-clause-read : goal.returns-then-total-gt15-clause-read
+returns-then-total-gt15-clause-read c =
+    let past : row_at total_zeros_4x4 (c.args.total - 1) ≡ [] =
+    ap (λ o. elim o [ Some row ↦ row | None ↦ [] ]) (slice_get_past total_zeros_4x4 (c.args.total - 1) (omega arith)) in
+    no_codeword (row_at total_zeros_4x4 (c.args.total - 1)) (reader_bits c.args.reader.now) past

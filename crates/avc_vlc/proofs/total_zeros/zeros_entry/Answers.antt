@@ -1,0 +1,10 @@
+use Rattle.std.proofs.Common.{ℕ, refl, subst, ◌∙◌}
+use Rattle.avc_vlc.specs.Tables.{total_zeros_4x4}
+use Rattle.avc_vlc.specs.Indexing.{Decides}
+use Rattle.avc_vlc.specs.Reading.{Table, row_at, row_table}
+use Rattle.avc_vlc.proofs.total_zeros.zeros_entry.Goals as goal
+
+pub returns : goal.returns
+returns c = λ ahead is.
+    let each : ℕ → Table ℕ = λ k. row_table (row_at total_zeros_4x4 k) in
+    subst (λ k. Decides (each k) ahead c.number_in.result) (c.from.ensures ∙ c.saturating_sub.ensures) (c.number_in.ensures each ahead (record { long = refl; same = refl }) is)
