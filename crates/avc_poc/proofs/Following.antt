@@ -10,13 +10,13 @@ use Rattle.avc_params.specs.Limits.{max_frame_num}
 use Rattle.avc_slice.specs.declared.header.Header.{Header}
 use Rattle.avc_slice.specs.Header.{is_idr, is_reference, has_operation_5}
 use Rattle.avc_poc.specs.declared.previous.Previous.{Previous}
-use Rattle.avc_poc.specs.OrderCounts.{Past, picture, frame_num_offset, previous_for, previous_of, number_in_range, in_range, counts_by, counts_from, order_counts, resets_order_counts, past_number, previous_from, no_previous}
+use Rattle.avc_poc.specs.OrderCounts.{Past, missing, picture, frame_num_offset, previous_for, previous_of, number_in_range, in_range, counts_by, counts_from, order_counts, resets_order_counts, past_number, previous_from, no_previous}
 use Rattle.avc_poc.specs.OrderCountState.{OrderCountState, order_count_state, saturated, next_offset, picture_offset, after_picture, previous_after, counts_after}
 
 none_below : (n : ℕ) → nat_lt n 0 ≡ false
 none_below n = grind (arith, nat_tests)
 
-held_more : (b : Bool) (o m : ℕ) → (if b then saturated (saturated o + m) else saturated o) ≡ saturated (if b then o + m else o)
+pub held_more : (b : Bool) (o m : ℕ) → (if b then saturated (saturated o + m) else saturated o) ≡ saturated (if b then o + m else o)
 held_more true o m = omega arith
 held_more false o m = refl
 
@@ -34,6 +34,11 @@ offset_law sps h [] = held_step (is_idr h) true 0 0 h.frame_num (max_frame_num s
     at_first true = refl
     at_first false = refl
 offset_law sps h (x ∷ others) = held_step (is_idr h) (resets_order_counts x) (frame_num_offset (x ∷ others)) (past_number x) h.frame_num (max_frame_num sps)
+
+pub missing_offset : (sps : Sps) (n : ℕ) (older : List Past)
+    → next_offset (order_count_state older).offset (order_count_state older).frame_num n (max_frame_num sps) ≡ saturated (frame_num_offset (missing sps n ∷ older))
+missing_offset sps n [] = rw (none_below n) refl
+missing_offset sps n (x ∷ others) = held_step false (resets_order_counts x) (frame_num_offset (x ∷ others)) (past_number x) n (max_frame_num sps)
 
 -- FrameNumOffset may be held at 2^31, since no count is answered from there on
 tested : {A : Type 0} (f : ℕ → A) (z : A) (x n : ℕ) (b : Bool) → nat_lt x (2 ^ 31) ≡ b
@@ -54,7 +59,7 @@ held_counts (orders.Type1 z a b cycle) sps h p x n =
     tested (λ k. in_range h (counts_by (orders.Type1 z a b cycle) sps h p k)) (Err PocRange) x n (nat_lt x (2 ^ 31)) refl
 held_counts orders.Type2 sps h p x n = tested (λ k. in_range h (counts_by orders.Type2 sps h p k)) (Err PocRange) x n (nat_lt x (2 ^ 31)) refl
 
-previous_law : (older : List Past) → (order_count_state older).previous ≡ previous_of older
+pub previous_law : (older : List Past) → (order_count_state older).previous ≡ previous_of older
 previous_law [] = refl
 previous_law (x ∷ others) = refl
 

@@ -1,5 +1,5 @@
 -- What earlier pictures and missing frame numbers leave to the next picture (8.2.1): all that its order counts ask of them.
-use Rattle.std.specs.Prelude.{◌≡◌, ℕ, ◌+◌, ◌^◌, min, ℤ, pos, neg_ℤ, ◌≤ℤ◌, true, false, nat_lt, if◌then◌else◌, List, [], ◌∷◌, Result, Ok, Err}
+use Rattle.std.specs.Prelude.{◌≡◌, ℕ, zero, suc, ◌+◌, ◌*◌, ◌/◌, ◌%◌, ◌^◌, min, ℤ, pos, neg_ℤ, ◌≤ℤ◌, true, false, nat_lt, if◌then◌else◌, List, [], ◌∷◌, Result, Ok, Err}
 use Rattle.std.specs.Result.{is_ok}
 use Rattle.avc_types.specs.declared.fault.Fault.{Fault}
 use Rattle.avc_types.specs.declared.fault.Fault.TheVariants.{PocRange}
@@ -8,7 +8,7 @@ use Rattle.avc_params.specs.Limits.{max_frame_num}
 use Rattle.avc_slice.specs.declared.header.Header.{Header}
 use Rattle.avc_slice.specs.Header.{is_idr, is_reference, has_operation_5}
 use Rattle.avc_poc.specs.declared.previous.Previous.{Previous}
-use Rattle.avc_poc.specs.OrderCounts.{Counts, Past, past_number, previous_of, no_previous, frame_num_offset, resets_order_counts, previous_for, previous_from, counts_from, counts_by, number_in_range}
+use Rattle.avc_poc.specs.OrderCounts.{Counts, Past, missing, past_number, previous_of, no_previous, frame_num_offset, resets_order_counts, previous_for, previous_from, counts_from, counts_by, number_in_range}
 
 -- What is kept between pictures.
 pub record OrderCountState : Type 0 where
@@ -89,3 +89,19 @@ pub record IsPrevious (p : Previous) : Type 0 where
 -- With some FrameNumOffset + frame_num the picture has counts.
 abbrev pub IsCounted : Sps → Header → Previous → Type 0
 IsCounted sps h previous = (number : ℕ) × is_ok (counts_from sps h previous number) ≡ true
+
+-- ---- gaps in frame_num (8.2.5.2)
+
+-- the older entries, and n missing numbers from `first` on, modulo MaxFrameNum
+abbrev pub with_missing_from : Sps → (first n : ℕ) → (older : List Past) → List Past
+with_missing_from sps first zero older = older
+with_missing_from sps first (suc n) older = with_missing_from sps (first + 1) n (missing sps (first % max_frame_num sps) ∷ older)
+
+-- What one missing number and n more leave, where the first is below MaxFrameNum: FrameNumOffset is greater by MaxFrameNum each time
+-- that they have come round (8.2.1.2, 8.2.1.3). Nothing else changes but prevFrameNum.
+abbrev pub after_missing_from : (max first n : ℕ) → OrderCountState → OrderCountState
+after_missing_from max first n s = record {
+  previous = s.previous;
+  offset = saturated (next_offset s.offset s.frame_num first max + (first + n) / max * max);
+  frame_num = (first + n) % max;
+}

@@ -1,4 +1,4 @@
-ghost use Rattle.std.specs.Prelude.{◌≡◌, ◌≤◌, ◌^◌, ◌+◌};
+ghost use Rattle.std.specs.Prelude.{◌≡◌, ◌≤◌, ◌<◌, ◌^◌, ◌+◌, ◌*◌, ◌/◌};
 ghost use Rattle.avc_poc.specs.OrderCountState.{saturated, next_offset};
 
 /// From here on FrameNumOffset is held, since each count of types 1 and 2 is out of range.
@@ -17,4 +17,19 @@ pub(crate) fn next_offset(offset: u32, before: u32, frame_num: u32, max_frame_nu
     } else {
         offset
     }
+}
+
+/// FrameNumOffset once frame numbers have gone on to `last`, counted from the 0 before the first of them: one MaxFrameNum more each
+/// time that they have come round.
+pub(crate) fn offset_at(offset: u32, last: u64, max_frame_num: u32) -> u32
+    requires offset_small { offset ≤ 2 ^ 31 }
+    requires some { 0 < max_frame_num }
+    requires max_small { max_frame_num ≤ 2 ^ 16 }
+    requires last_small { last < 2 ^ 33 }
+    ensures value { result ≡ saturated (offset + last / max_frame_num * max_frame_num) }
+    ensures small { result ≤ 2 ^ 31 }
+{
+    let max = u64::from(max_frame_num);
+    let rounds = last / max;
+    (u64::from(offset) + rounds * max).min(u64::from(GREATEST)) as u32
 }

@@ -1,13 +1,15 @@
-ghost use Rattle.std.specs.Prelude.{◌≡◌, ◌≤◌, ◌^◌, List, [], ◌∷◌, true};
+ghost use Rattle.std.specs.Prelude.{◌≡◌, ◌≤◌, ◌<◌, ◌^◌, List, [], ◌∷◌, true};
 ghost use Rattle.std.specs.Result.{OnErr, OnOk, is_ok};
+ghost use Rattle.avc_params.specs.Limits.{max_frame_num};
 ghost use Rattle.avc_params.specs.Within.{IsOrderCount, IsSps};
 ghost use Rattle.avc_poc.specs.OrderCountState.{IsCounted, IsPrevious, after_picture, count_pair};
 ghost use Rattle.avc_poc.specs.OrderCountState.{counts_after, order_count_state, picture_offset};
-ghost use Rattle.avc_poc.specs.OrderCountState.{previous_after};
+ghost use Rattle.avc_poc.specs.OrderCountState.{previous_after, with_missing_from};
 ghost use Rattle.avc_poc.specs.OrderCounts.{Past, missing, order_counts, picture, previous_for};
 
 use crate::counting::counts_from;
-use crate::frame_number::next_offset;
+use crate::frame_number::{next_offset, offset_at};
+use crate::laws::gaps_count_at_once;
 use crate::previous::Previous;
 use crate::type_0::previous_from;
 use avc_params::Sps;
@@ -151,5 +153,24 @@ impl Poc {
     {
         self.offset = next_offset(self.offset, self.frame_num, frame_num, sps.max_frame_num());
         self.frame_num = frame_num;
+    }
+
+    /// So many frame numbers are missing before the next picture, from `first` on, modulo MaxFrameNum. This takes as long for many as
+    /// for one.
+    pub fn missing_from(&mut self, first: u32, count: u32, sps: &Sps)
+        requires sps { IsSps sps.now }
+        requires first { first < max_frame_num sps.now }
+        ensures { (older : List Past) → self.old ≡ order_count_state older →
+            self.new ≡ order_count_state (with_missing_from sps.now first count older) }
+    {
+        if count == 0 {
+            return;
+        }
+        gaps_count_at_once();
+        let max = sps.max_frame_num();
+        let offset = next_offset(self.offset, self.frame_num, first, max);
+        let last = u64::from(first) + u64::from(count - 1);
+        self.offset = offset_at(offset, last, max);
+        self.frame_num = (last % u64::from(max)) as u32;
     }
 }
