@@ -1,5 +1,5 @@
 -- Missing numbers before a picture.
-use Rattle.std.proofs.Common.{◌≡◌, ℕ, ℤ, Bool, true, false, List, [], ◌∷◌, length, drop, Some, None, slice_get, Result, Ok, Err, is_ok, is_some, refl}
+use Rattle.std.proofs.Common.{◌≡◌, ℕ, zero, suc, ◌+◌, ◌%◌, ℤ, Bool, true, false, List, [], ◌∷◌, length, drop, Some, None, slice_get, Result, Ok, Err, is_ok, is_some, refl}
 use Rattle.std.proofs.Common.{ap, ap₂, sym, ◌∙◌, rules}
 use Rattle.std.proofs.lemmas.Bool.{false≢true}
 use Rattle.std.proofs.lemmas.Option.{none-some, same_Some}
@@ -8,13 +8,14 @@ use Rattle.avc_types.specs.References.{result_map}
 use Rattle.avc_types.specs.declared.fault.Fault.{Fault}
 use Rattle.avc_types.specs.declared.fault.Fault.TheVariants as faults
 use Rattle.avc_params.specs.declared.sps.Sps.{Sps}
+use Rattle.avc_params.specs.Limits.{max_frame_num}
 use Rattle.avc_slice.specs.declared.header.Header.{Header}
 use Rattle.avc_slice.specs.Header.{is_idr, is_reference, has_idr_marking}
 use Rattle.avc_poc.specs.OrderCounts.{Counts, order_counts, picture}
-use Rattle.avc_poc.specs.OrderCountState.{OrderCountState, order_count_state, count_pair, pair}
+use Rattle.avc_poc.specs.OrderCountState.{OrderCountState, order_count_state, count_pair, pair, with_missing_from}
 use Rattle.avc_types.specs.declared.references.Marking.TheVariants.{SlidingWindow}
 use Rattle.avc_marking.proofs.KeptFrames.{slides_again}
-use Rattle.avc_marking.specs.Marks.{MarkingEntry, Marks, marks_after, missing_frame_nums, prev_ref_frame_num}
+use Rattle.avc_marking.specs.Marks.{MarkingEntry, Marks, frame_nums_from, marks_after, missing_frame_nums, prev_ref_frame_num}
 use Rattle.avc_types.specs.Results.{◌>>=◌}
 use Rattle.avc_decoder_core.specs.History.{missing_frame, History, history_at_opening, is_same_sps, marking_entries, marking_entry, marks_of}
 use Rattle.avc_decoder_core.specs.History.{order_or_0, picture_entry, pasts, sequence_sps, with_missing, with_order_counts}
@@ -319,3 +320,18 @@ same_at_opening sps h history idr opens =
 
 pub numbers_known : (sps : Sps) (h : Header) (history : History) (f : Fault) → is_idr h ≡ false → is_ok (history_at_opening sps h history) ≡ true → Err f ≡ missing_before sps h history → ⊥
 numbers_known sps h history f idr opens e = false≢true (sym (ap is_ok (refused_numbers sps h history f idr e)) ∙ opens)
+
+-- ---- all at once
+
+pub counts_from : (sps : Sps) (first n : ℕ) (history : History)
+    → order_count_state (with_missing_from sps first n (pasts history)) ≡ order_count_state (pasts (with_all_missing sps (frame_nums_from (max_frame_num sps) first n) history))
+counts_from sps first zero history = refl
+counts_from sps first (suc n) history = counts_from sps (first + 1) n (missing_frame sps (first % max_frame_num sps) ∷ history)
+
+pub counted_at_once : (sps : Sps) (numbers : List ℕ) (max first n : ℕ) (counts : OrderCountState) (history : History) → max ≡ max_frame_num sps
+    → n ≡ length numbers → numbers ≡ frame_nums_from max first (length numbers) → counts ≡ order_count_state (with_missing_from sps first n (pasts history))
+    → counts ≡ order_count_state (pasts (with_all_missing sps numbers history))
+counted_at_once sps numbers max first n counts history max_is n_is numbers_are told =
+    let same : frame_nums_from (max_frame_num sps) first n ≡ numbers =
+        ap (λ (m : ℕ). frame_nums_from m first n) (sym max_is) ∙ ap (frame_nums_from max first) n_is ∙ sym numbers_are in
+    told ∙ counts_from sps first n history ∙ ap (λ (l : List ℕ). order_count_state (pasts (with_all_missing sps l history))) same

@@ -80,11 +80,18 @@ fn missing_frame_nums(
     }
 }
 
-/// These numbers are missing.
+/// These numbers are missing. As they go on modulo MaxFrameNum, this takes as long for many as for one.
 fn count_missing(poc: &mut Poc, mut numbers: MissingFrameNums, sps: &Sps)
     requires { IsSps sps.now }
     ensures { CountsMissing sps.now numbers poc.old poc.new }
 {
+    let max_frame_num = sps.max_frame_num();
+    if let Some(first) = numbers.first(max_frame_num) {
+        if first < max_frame_num {
+            poc.missing_from(first, numbers.len(), sps);
+            return;
+        }
+    }
     while let Some(frame_num) = numbers.next() {
         poc.missing(frame_num, sps);
     }
