@@ -2,23 +2,16 @@
 use Rattle.std.proofs.Common.{◌≡◌, ◌+◌, ◌-◌, ◌<◌, ◌≤◌, ℕ, Bool, true, false, List, [], ◌∷◌, ◌++◌, length, map, take, drop, get_or, refl, ap, sym, ◌∙◌, arith, append_assoc, append-nil}
 use Rattle.std.proofs.lemmas.Grind.{flat_map-append}
 use Rattle.std.proofs.lemmas.List.{drop-map, drop_all, drop_more, length-map, take_more}
-use Rattle.std.specs.List.{filter, flat_map, range_with_len}
+use Rattle.std.specs.List.{filter, flat_map}
 use Rattle.avc_annexb.specs.declared.unit.Unit.{Unit}
 use Rattle.avc_units.specs.Grouping.{is_start}
 use Rattle.avc_annexb.specs.Written.{written}
 use Rattle.avc_units.specs.Resuming.{sets_in_force}
-use Rattle.avc_tools.specs.Cutting.{HasSets, piece_at, piece_in, pieces_at, pieces_in, pps_unit, sps_unit, written_at}
+use Rattle.avc_tools.specs.Cutting.{HasSets, kept_bytes, piece_at, piece_in, pieces_at, pieces_in}
 use Rattle.avc_tools.specs.Pieces.{after_slices, leads, piece, pieces_from, rest_of_piece, through_slices}
-use Rattle.avc_tools.specs.declared.set_places.SetPlaces.{SetPlaces}
-use Rattle.avc_tools.proofs.SetPlaces.{standing_written}
+use Rattle.avc_tools.specs.declared.sets_in_force.SetsInForce.{SetsInForce}
+use Rattle.avc_tools.proofs.SetsInForce.{sets_written}
 use Rattle.avc_tools.proofs.Slices.{after_is_rest, part_from}
-
-sets_written : (before us : List Unit) (sets : SetPlaces) → HasSets before us sets
-    → flat_map (written_at us) sets.sps.items ++ flat_map (written_at us) sets.pps.items ≡ flat_map written (sets_in_force before)
-sets_written before us sets h =
-    ap (λ w. w ++ flat_map (written_at us) sets.pps.items) (standing_written us (sps_unit before) 32 sets.sps.items h.sps)
-    ∙ ap (λ w. flat_map written (flat_map (sps_unit before) (range_with_len 0 32)) ++ w) (standing_written us (pps_unit before) 256 sets.pps.items h.pps)
-    ∙ sym (flat_map-append written (flat_map (sps_unit before) (range_with_len 0 32)) (flat_map (pps_unit before) (range_with_len 0 256)))
 
 -- the five parts
 joined : (sets leading : List Unit) (u : Unit) (rest : List Unit)
@@ -28,9 +21,9 @@ joined sets leading u rest =
     ∙ ap (λ w. w ++ flat_map written (u ∷ rest)) (sym (flat_map-append written sets leading))
     ∙ sym (flat_map-append written (sets ++ leading) (u ∷ rest))
 
-pub piece_written : (us : List Unit) (place k : ℕ) (u : Unit) (sets : SetPlaces) (s0 s1 s2 s3 s4 s5 : List ℕ) → place < length us → u ≡ get_or us place u → HasSets (take place us) us sets
+pub piece_written : (us : List Unit) (place k : ℕ) (u : Unit) (sets : SetsInForce) (s0 s1 s2 s3 s4 s5 : List ℕ) → place < length us → u ≡ get_or us place u → HasSets (take place us) sets
     → k ≡ length (through_slices (take place us)) → s0 ≡ []
-    → s1 ≡ s0 ++ flat_map (written_at us) sets.sps.items → s2 ≡ s1 ++ flat_map (written_at us) sets.pps.items
+    → s1 ≡ s0 ++ flat_map kept_bytes sets.sps.items → s2 ≡ s1 ++ flat_map kept_bytes sets.pps.items
     → s3 ≡ s2 ++ flat_map written (filter leads (take (length (take place us) - k) (drop k (take place us)))) → s4 ≡ s3 ++ written u
     → s5 ≡ s4 ++ flat_map written (rest_of_piece (take (length us - (place + 1)) (drop (place + 1) us)))
     → s5 ≡ piece_at us place
@@ -41,7 +34,7 @@ piece_written us place k u sets s0 s1 s2 s3 s4 s5 low at h is_k e0 e1 e2 e3 e4 e
     let kept : take (length before - k) (drop k before) ≡ after_slices before =
     part_from k before ∙ ap (λ n. drop n before) is_k ∙ sym (after_is_rest before) in
     let two : s2 ≡ flat_map written (sets_in_force before) =
-    e2 ∙ ap (λ w. w ++ flat_map (written_at us) sets.pps.items) (e1 ∙ ap (λ w. w ++ flat_map (written_at us) sets.sps.items) e0) ∙ sets_written before us sets h in
+    e2 ∙ ap (λ w. w ++ flat_map kept_bytes sets.pps.items) (e1 ∙ ap (λ w. w ++ flat_map kept_bytes sets.sps.items) e0) ∙ sets_written before sets h in
     let three : s3 ≡ flat_map written (sets_in_force before) ++ flat_map written leading =
     e3 ∙ ap (λ w. w ++ flat_map written (filter leads (take (length before - k) (drop k before)))) two
     ∙ ap (λ l. flat_map written (sets_in_force before) ++ flat_map written (filter leads l)) kept in

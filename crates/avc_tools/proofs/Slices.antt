@@ -11,10 +11,10 @@ use Rattle.avc_units.specs.Grouping.{is_start}
 use Rattle.avc_annexb.specs.Written.{written}
 use Rattle.avc_tools.specs.Pieces.{after_slices, is_left_out, is_slice, rest_of_piece, through_slices}
 
-stops : {X : Type 0} (p : X → Bool) (x : X) (xs : List X) → p x ≡ false → take_while p (x ∷ xs) ≡ []
+pub stops : {X : Type 0} (p : X → Bool) (x : X) (xs : List X) → p x ≡ false → take_while p (x ∷ xs) ≡ []
 stops p x xs e = take_while-cons p x xs ∙ ap (λ b. cond b (x ∷ take_while p xs) []) e
 
-goes_on : {X : Type 0} (p : X → Bool) (x : X) (xs : List X) → p x ≡ true → take_while p (x ∷ xs) ≡ x ∷ take_while p xs
+pub goes_on : {X : Type 0} (p : X → Bool) (x : X) (xs : List X) → p x ≡ true → take_while p (x ∷ xs) ≡ x ∷ take_while p xs
 goes_on p x xs e = take_while-cons p x xs ∙ ap (λ b. cond b (x ∷ take_while p xs) []) e
 
 abbrev is_other : Unit → Bool
@@ -48,6 +48,14 @@ front_and_rest p (x ∷ xs) = by (p x) refl (front_and_rest p xs)
     by true e h = ap (λ t. t ++ drop (length t) (x ∷ xs)) (goes_on p x xs e) ∙ ap (λ t. x ∷ t) h
     by false e h = ap (λ t. t ++ drop (length t) (x ∷ xs)) (stops p x xs e)
 
+pub after_slice : (us : List Unit) (u : Unit) → is_slice u ≡ true → after_slices (us ++ u ∷ []) ≡ []
+after_slice us u is = ap (λ r. reverse (take_while is_other r)) (reverse-append us (u ∷ [])) ∙ ap reverse (stops is_other u (reverse us) (ap not is))
+
+pub after_other : (us : List Unit) (u : Unit) → is_slice u ≡ false → after_slices (us ++ u ∷ []) ≡ after_slices us ++ u ∷ []
+after_other us u is =
+    ap (λ r. reverse (take_while is_other r)) (reverse-append us (u ∷ [])) ∙ ap reverse (goes_on is_other u (reverse us) (ap not is))
+    ∙ reverse-append (u ∷ []) (take_while is_other (reverse us))
+
 pub split_at_slices : (us : List Unit) → through_slices us ++ after_slices us ≡ us
 split_at_slices us =
     let others = take_while is_other (reverse us) in
@@ -64,7 +72,7 @@ after_is_rest us = sym (drop-append_seam (through_slices us) (after_slices us)) 
 
 -- ---- up to the next unit with which decoding can start
 
-abbrev goes_before : Unit → Bool
+abbrev pub goes_before : Unit → Bool
 goes_before u = not (is_start u)
 
 -- how many units stand before it
@@ -83,7 +91,7 @@ front_before_start (u ∷ us) = by (is_start u) refl (front_before_start us)
     by true e h = stops goes_before u us (ap not e) ∙ ap (λ n. take n (u ∷ us)) (sym (by_flag us u true e))
     by false e h = goes_on goes_before u us (ap not e) ∙ ap (λ t. u ∷ t) h ∙ ap (λ n. take n (u ∷ us)) (sym (by_flag us u false e))
 
-any_by : (us : List Unit) (u : Unit) (b : Bool) → is_start u ≡ b → list_any is_start (u ∷ us) ≡ cond b true (list_any is_start us)
+pub any_by : (us : List Unit) (u : Unit) (b : Bool) → is_start u ≡ b → list_any is_start (u ∷ us) ≡ cond b true (list_any is_start us)
 any_by us u true e = rw (list_any, e) refl
 any_by us u false e = rw (list_any, e) refl
 
@@ -103,7 +111,7 @@ none_starts (u ∷ us) low = by (is_start u) refl (none_starts us)
     by true e h = let n = by_flag us u true e in absurd (omega (arith, low, n))
     by false e h = let n = by_flag us u false e in any_by us u false e ∙ h (omega (arith, low, n))
 
-abbrev rest_by : Bool → (after us : List Unit) → List Unit
+abbrev pub rest_by : Bool → (after us : List Unit) → List Unit
 rest_by starts after us = if starts then through_slices us ++ filter (λ u. not (is_left_out u)) (after_slices us) else after
 
 pub rest_all : (after : List Unit) → length after ≤ before_start after → rest_of_piece after ≡ after

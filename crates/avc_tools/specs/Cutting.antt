@@ -9,27 +9,23 @@ use Rattle.avc_units.specs.Grouping.{is_start, set_units}
 use Rattle.avc_annexb.specs.Written.{written}
 use Rattle.avc_units.specs.Resuming.{deciding_unit, satisfies, unit_list}
 use Rattle.avc_tools.specs.Pieces.{piece}
-use Rattle.avc_tools.specs.declared.set_places.SetPlaces.{SetPlaces}
+use Rattle.avc_tools.specs.declared.sets_in_force.SetsInForce.{SetsInForce}
 
--- the unit at a place, if there is one
-abbrev pub unit_at : List Unit → Option ℕ → List Unit
-unit_at units None = []
-unit_at units (Some place) = unit_list (slice_get units place)
+-- the bytes of a unit that is kept, if one is
+abbrev pub kept_bytes : Option (List ℕ) → List ℕ
+kept_bytes None = []
+kept_bytes (Some unit) = unit
 
--- that unit written, if there is one
-abbrev pub written_at : List Unit → Option ℕ → List ℕ
-written_at units place = flat_map written (unit_at units place)
+-- what is kept under an id, after a unit that has the id or not, and whose set is accepted or not
+abbrev pub replaced : (has_id accepted : Bool) → (unit : List ℕ) → Option (List ℕ) → Option (List ℕ)
+replaced true true unit old = Some unit
+replaced true false unit old = None
+replaced false accepted unit old = old
 
--- the place of the unit that decides, after a unit that has the id or not, and whose set is accepted or not
-abbrev pub placed : (has_id accepted : Bool) → (place : ℕ) → Option ℕ → Option ℕ
-placed true true place old = Some place
-placed true false place old = None
-placed false accepted place old = old
-
--- Places by id, before and after a unit at this place that brings this set, or none.
-pub record ArePlacedAt {A : Type 0} (has_id : ℕ → SetUnit → Bool) (record_of : Option SetUnit → Option A) (set : Option SetUnit) (place : ℕ) (old new : List (Option ℕ)) : Type 0 where
+-- Units kept by id, before and after this one that brings this set, or none.
+pub record AreReplaced {A : Type 0} (has_id : ℕ → SetUnit → Bool) (record_of : Option SetUnit → Option A) (set : Option SetUnit) (unit : List ℕ) (old new : List (Option (List ℕ))) : Type 0 where
   pub long : length new ≡ length old
-  pub each : (id : ℕ) → id < length old → stored new id ≡ placed (satisfies (has_id id) set) (is_some (record_of set)) place (stored old id)
+  pub each : (id : ℕ) → id < length old → stored new id ≡ replaced (satisfies (has_id id) set) (is_some (record_of set)) unit (stored old id)
 
 -- the unit whose sequence parameter set is in force under an id, and whose picture parameter set is (7.4.1.2.1)
 abbrev pub sps_unit : List Unit → ℕ → List Unit
@@ -39,15 +35,15 @@ sps_unit before id = deciding_unit (is_some (sps_in_force (set_units before) id)
 abbrev pub pps_unit : List Unit → ℕ → List Unit
 pps_unit before id = deciding_unit (is_some (pps_in_force (set_units before) id)) (is_pps id) before
 
--- At these places stand the units by id.
-pub record StandAt (units : List Unit) (count : ℕ) (by_id : ℕ → List Unit) (places : List (Option ℕ)) : Type 0 where
-  pub long : length places ≡ count
-  pub each : (id : ℕ) → id < count → unit_at units (stored places id) ≡ by_id id
+-- These are kept by id, each written.
+pub record AreKept (count : ℕ) (by_id : ℕ → List Unit) (kept : List (Option (List ℕ))) : Type 0 where
+  pub long : length kept ≡ count
+  pub each : (id : ℕ) → id < count → kept_bytes (stored kept id) ≡ flat_map written (by_id id)
 
--- The places are those of the sets in force after the units before.
-pub record HasSets (before units : List Unit) (sets : SetPlaces) : Type 0 where
-  pub sps : StandAt units 32 (sps_unit before) sets.sps.items
-  pub pps : StandAt units 256 (pps_unit before) sets.pps.items
+-- Those are kept whose sets are in force after the units before.
+pub record HasSets (before : List Unit) (sets : SetsInForce) : Type 0 where
+  pub sps : AreKept 32 (sps_unit before) sets.sps.items
+  pub pps : AreKept 256 (pps_unit before) sets.pps.items
 
 -- the bytes of the piece that begins with the first of these units
 abbrev pub piece_in : (before : List Unit) → (here : List Unit) → List ℕ

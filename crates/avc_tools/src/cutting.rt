@@ -4,7 +4,7 @@ ghost use Rattle.avc_tools.specs.Cutting.{HasSets, pieces_at};
 ghost use Rattle.avc_tools.specs.Pieces.{pieces, pieces_from};
 
 use crate::piece::piece_at;
-use crate::set_places::SetPlaces;
+use crate::sets_in_force::SetsInForce;
 use crate::units::all_units;
 use avc_annexb::Unit;
 use avc_types::{Bytes, OutOfMemory};
@@ -36,11 +36,11 @@ fn pieces_of(alloc: Global, units: &[Unit], starts: &[bool]) -> Result<Vec<Bytes
     requires { starts.now ≡ map is_start units.now }
     ensures { IfOk result (λ all. all.items ≡ pieces_from [] units.now) }
 {
-    let mut sets = SetPlaces::new(alloc)?;
+    let mut sets = SetsInForce::new(alloc)?;
     let mut all = Vec::new(alloc);
     for (place, unit) in units.iter().enumerate() {
         add_piece(alloc, &mut all, &sets, units, starts, place)?;
-        sets.take_in(alloc, unit, place)?;
+        sets.take_in(alloc, unit)?;
     }
     Ok(all)
 }
@@ -49,13 +49,13 @@ fn pieces_of(alloc: Global, units: &[Unit], starts: &[bool]) -> Result<Vec<Bytes
 fn add_piece(
     alloc: Global,
     all: &mut Vec<Bytes>,
-    sets: &SetPlaces,
+    sets: &SetsInForce,
     units: &[Unit],
     starts: &[bool],
     place: usize,
 ) -> Result<(), OutOfMemory>
     requires place { place < length units.now }
-    requires sets { HasSets (take place units.now) units.now sets.now }
+    requires sets { HasSets (take place units.now) sets.now }
     requires starts { starts.now ≡ map is_start units.now }
     ensures { OnOk result (all.new.items ≡ all.old.items ++ pieces_at units.now place) }
 {

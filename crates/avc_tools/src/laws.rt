@@ -1,8 +1,9 @@
 //! Laws of pieces, over the definitions alone.
 
 ghost use Rattle.avc_tools.specs.Laws.{PiecesDecodeAlike};
+ghost use Rattle.avc_tools.specs.PieceSoFar.{PiecesAreWhole, PiecesStay};
 
-use avc_annexb::laws::{units_are_whole, units_are_within, written_units_stand_alone};
+use avc_annexb::laws::{units_are_whole, units_are_within, units_stay, written_units_stand_alone};
 use avc_decoder::laws::{pictures_name_no_units, start_units_begin_anew};
 use avc_units::laws::{sets_are_in_force_again, sets_in_force_are_units};
 
@@ -20,4 +21,13 @@ pub fn pieces_decode_alike()
     written_units_stand_alone();
     units_are_within();
     units_are_whole();
+}
+
+/// A piece whose stream comes is at the end the one that the whole stream has, and once the next has begun it stays as it is,
+/// whatever follows.
+pub fn pieces_come_whole()
+    ensures whole { PiecesAreWhole }
+    ensures stay { PiecesStay }
+{
+    units_stay();
 }

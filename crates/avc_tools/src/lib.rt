@@ -1,15 +1,19 @@
 //! Texts of units and headers, and pieces of a stream.
 #![tactic(auto)]
 
+mod cutter;
 mod cutting;
 mod headers;
 pub mod laws;
 mod piece;
-mod set_places;
+mod piece_text;
+mod sets_in_force;
 mod stream_text;
 mod units;
+mod writing;
 
 pub use cutting::cut;
 pub use headers::{HeaderLines, show_headers};
+pub use piece_text::PieceText;
 pub use stream_text::StreamText;
 pub use units::{UnitLines, list_units};

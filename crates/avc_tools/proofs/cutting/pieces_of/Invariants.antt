@@ -5,6 +5,6 @@ use Rattle.avc_tools.proofs.cutting.pieces_of.Given as goal
 
 abbrev pub invariant-loop-place : goal.invariant-loop-place
 invariant-loop-place l = record {
-  sets : HasSets (take l.place l.units) l.units l.sets;
+  sets : HasSets (take l.place l.units) l.sets;
   pieces : l.all.items ++ pieces_from (take l.place l.units) (drop l.place l.units) ≡ pieces_from [] l.units;
 }

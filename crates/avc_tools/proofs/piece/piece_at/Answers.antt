@@ -2,7 +2,7 @@ use Rattle.std.proofs.Common.{◌+◌, ◌++◌, ap, sym, ◌∙◌, map, drop}
 use Rattle.std.proofs.lemmas.List.{drop-map}
 use Rattle.std.specs.List.{flat_map}
 use Rattle.avc_units.specs.Grouping.{is_start}
-use Rattle.avc_tools.specs.Cutting.{written_at}
+use Rattle.avc_tools.specs.Cutting.{kept_bytes}
 use Rattle.avc_tools.proofs.PieceWriting.{piece_written}
 use Rattle.avc_tools.proofs.Slices.{part_from}
 use Rattle.avc_tools.proofs.piece.piece_at.Goals as goal
@@ -18,6 +18,6 @@ pub returns : goal.returns
 returns c =
     piece_written c.args.units.now c.args.place c.count_through_slices.result c.index-units-place.result c.args.sets.now _ _ _ _ _ _ c.requires.place c.index-units-place.is c.requires.sets
     c.count_through_slices.ensures c.new-piece.ensures.items
-    (c.in_ok-write_placed.ensures ∙ ap (λ places. c.new-piece.result.items ++ flat_map (written_at c.args.units.now) places) c.deref.ensures.value)
-    (c.in_ok-write_placed-2.ensures ∙ ap (λ places. c.write_placed.new.piece.items ++ flat_map (written_at c.args.units.now) places) c.deref-2.ensures.value)
+    (c.in_ok-write_kept.ensures ∙ ap (λ places. c.new-piece.result.items ++ flat_map kept_bytes places) c.deref.ensures.value)
+    (c.in_ok-write_kept-2.ensures ∙ ap (λ places. c.write_kept.new.piece.items ++ flat_map kept_bytes places) c.deref-2.ensures.value)
     c.in_ok-write_leads.ensures c.in_ok-write_unit.ensures c.in_ok-write_rest.ensures

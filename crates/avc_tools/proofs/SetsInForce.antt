@@ -1,12 +1,11 @@
--- The places of the units whose parameter sets are in force, after one unit more.
+-- The units whose parameter sets are in force, after one unit more.
 use Rattle.std.proofs.Common.{◌≡◌, ◌+◌, ◌<◌, ℕ, suc, Bool, true, false, List, [], ◌∷◌, ◌++◌, length, Option, Some, None, is_some, Result, Ok, Err, if◌then◌else◌, refl, ap, sym, subst, ◌∙◌, arith, append-nil, take, get_or}
-use Rattle.std.specs.Prelude.{replicate, slice_get}
+use Rattle.std.specs.Prelude.{replicate}
 use Rattle.std.proofs.Math.Bool.{cond}
 use Rattle.std.proofs.lemmas.Bool.{eq-eqb}
 use Rattle.std.proofs.lemmas.List.Elements.{filter-append}
 use Rattle.std.proofs.lemmas.Grind.{flat_map-append}
 use Rattle.std.proofs.lemmas.List.{get_or-replicate, length-replicate, take_more}
-use Rattle.std.proofs.lemmas.Option.{slice_get-get_or}
 use Rattle.std.specs.Option.{option_map}
 use Rattle.std.specs.List.{filter, flat_map, range_with_len}
 use Rattle.avc_types.specs.declared.fault.Fault.{Fault}
@@ -27,9 +26,9 @@ use Rattle.avc_params.specs.declared.set_unit.SetUnit.TheVariants.{OfPps, OfSps}
 use Rattle.avc_params.specs.declared.sps.Sps.{Sps}
 use Rattle.avc_units.specs.Grouping.{kind, list_of, pps, rbsp_of, set_unit, set_units, sps}
 use Rattle.avc_annexb.specs.Written.{written}
-use Rattle.avc_units.specs.Resuming.{deciding_unit, satisfies, unit_list}
-use Rattle.avc_tools.specs.Cutting.{ArePlacedAt, HasSets, StandAt, placed, unit_at, written_at}
-use Rattle.avc_tools.specs.declared.set_places.SetPlaces.{SetPlaces}
+use Rattle.avc_units.specs.Resuming.{deciding_unit, satisfies, sets_in_force, unit_list}
+use Rattle.avc_tools.specs.Cutting.{AreKept, AreReplaced, HasSets, kept_bytes, pps_unit, replaced, sps_unit}
+use Rattle.avc_tools.specs.declared.sets_in_force.SetsInForce.{SetsInForce}
 use Rattle.avc_tools.proofs.Shown.{set_units-append}
 
 -- ---- ids
@@ -78,52 +77,52 @@ refused_id part id b why f = refused_by part id b why (part b) refl f
 
 -- ---- one set is put
 
-chosen : (has_id : Bool) (place : ℕ) (old : Option ℕ) → (if has_id then Some place else old) ≡ placed has_id true place old
-chosen true place old = refl
-chosen false place old = refl
+chosen : (has_id : Bool) (unit : List ℕ) (old : Option (List ℕ)) → (if has_id then Some unit else old) ≡ replaced has_id true unit old
+chosen true unit old = refl
+chosen false unit old = refl
 
-erased : (has_id : Bool) (place : ℕ) (old : Option ℕ) → (if has_id then None else old) ≡ placed has_id false place old
-erased true place old = refl
-erased false place old = refl
+erased : (has_id : Bool) (unit : List ℕ) (old : Option (List ℕ)) → (if has_id then None else old) ≡ replaced has_id false unit old
+erased true unit old = refl
+erased false unit old = refl
 
-pub sps_put : SpsInForceKeepsLimits → (rbsp : List ℕ) (set : Sps) (place : ℕ) (old new : List (Option ℕ)) → sps_of rbsp ≡ Ok set → length new ≡ length old
-    → ((k : ℕ) → k < length old → stored new k ≡ (if is_id k (Some set.seq_parameter_set_id) then Some place else stored old k))
-    → ArePlacedAt is_sps sps_record (Some (OfSps rbsp)) place old new
-sps_put law rbsp set place old new is long put = record {
+pub sps_put : SpsInForceKeepsLimits → (rbsp : List ℕ) (set : Sps) (unit : List ℕ) (old new : List (Option (List ℕ))) → sps_of rbsp ≡ Ok set → length new ≡ length old
+    → ((k : ℕ) → k < length old → stored new k ≡ (if is_id k (Some set.seq_parameter_set_id) then Some unit else stored old k))
+    → AreReplaced is_sps sps_record (Some (OfSps rbsp)) unit old new
+sps_put law rbsp set unit old new is long put = record {
   long = long;
-  each = λ k low. put k low ∙ chosen (is_id k (Some set.seq_parameter_set_id)) place (stored old k)
-      ∙ ap (λ o. placed (is_id k o) true place (stored old k)) (sym (sps_id_is law rbsp set is))
-      ∙ ap (λ a. placed (is_id k (sps_id rbsp)) a place (stored old k)) (sym (ap (λ r. is_some (accepted r)) is));
+  each = λ k low. put k low ∙ chosen (is_id k (Some set.seq_parameter_set_id)) unit (stored old k)
+      ∙ ap (λ o. replaced (is_id k o) true unit (stored old k)) (sym (sps_id_is law rbsp set is))
+      ∙ ap (λ a. replaced (is_id k (sps_id rbsp)) a unit (stored old k)) (sym (ap (λ r. is_some (accepted r)) is));
 }
 
-pub sps_erased : (rbsp : List ℕ) (why : SetFault) (place : ℕ) (old new : List (Option ℕ)) → sps_of rbsp ≡ Err why → length new ≡ length old
+pub sps_erased : (rbsp : List ℕ) (why : SetFault) (unit : List ℕ) (old new : List (Option (List ℕ))) → sps_of rbsp ≡ Err why → length new ≡ length old
     → ((k : ℕ) → k < length old → stored new k ≡ (if is_id k why.id then None else stored old k))
-    → ArePlacedAt is_sps sps_record (Some (OfSps rbsp)) place old new
-sps_erased rbsp why place old new is long put = record {
+    → AreReplaced is_sps sps_record (Some (OfSps rbsp)) unit old new
+sps_erased rbsp why unit old new is long put = record {
   long = long;
-  each = λ k low. put k low ∙ erased (is_id k why.id) place (stored old k)
-      ∙ ap (λ o. placed (is_id k o) false place (stored old k)) (sym (refused_id sps_part (sps_id rbsp) (start rbsp) why is))
-      ∙ ap (λ a. placed (is_id k (sps_id rbsp)) a place (stored old k)) (sym (ap (λ r. is_some (accepted r)) is));
+  each = λ k low. put k low ∙ erased (is_id k why.id) unit (stored old k)
+      ∙ ap (λ o. replaced (is_id k o) false unit (stored old k)) (sym (refused_id sps_part (sps_id rbsp) (start rbsp) why is))
+      ∙ ap (λ a. replaced (is_id k (sps_id rbsp)) a unit (stored old k)) (sym (ap (λ r. is_some (accepted r)) is));
 }
 
-pub pps_put : PpsInForceKeepsLimits → (rbsp : List ℕ) (set : Pps) (place : ℕ) (old new : List (Option ℕ)) → pps_of rbsp ≡ Ok set → length new ≡ length old
-    → ((k : ℕ) → k < length old → stored new k ≡ (if is_id k (Some set.pic_parameter_set_id) then Some place else stored old k))
-    → ArePlacedAt is_pps pps_record (Some (OfPps rbsp)) place old new
-pps_put law rbsp set place old new is long put = record {
+pub pps_put : PpsInForceKeepsLimits → (rbsp : List ℕ) (set : Pps) (unit : List ℕ) (old new : List (Option (List ℕ))) → pps_of rbsp ≡ Ok set → length new ≡ length old
+    → ((k : ℕ) → k < length old → stored new k ≡ (if is_id k (Some set.pic_parameter_set_id) then Some unit else stored old k))
+    → AreReplaced is_pps pps_record (Some (OfPps rbsp)) unit old new
+pps_put law rbsp set unit old new is long put = record {
   long = long;
-  each = λ k low. put k low ∙ chosen (is_id k (Some set.pic_parameter_set_id)) place (stored old k)
-      ∙ ap (λ o. placed (is_id k o) true place (stored old k)) (sym (pps_id_is law rbsp set is))
-      ∙ ap (λ a. placed (is_id k (pps_id rbsp)) a place (stored old k)) (sym (ap (λ r. is_some (accepted r)) is));
+  each = λ k low. put k low ∙ chosen (is_id k (Some set.pic_parameter_set_id)) unit (stored old k)
+      ∙ ap (λ o. replaced (is_id k o) true unit (stored old k)) (sym (pps_id_is law rbsp set is))
+      ∙ ap (λ a. replaced (is_id k (pps_id rbsp)) a unit (stored old k)) (sym (ap (λ r. is_some (accepted r)) is));
 }
 
-pub pps_erased : (rbsp : List ℕ) (why : SetFault) (place : ℕ) (old new : List (Option ℕ)) → pps_of rbsp ≡ Err why → length new ≡ length old
+pub pps_erased : (rbsp : List ℕ) (why : SetFault) (unit : List ℕ) (old new : List (Option (List ℕ))) → pps_of rbsp ≡ Err why → length new ≡ length old
     → ((k : ℕ) → k < length old → stored new k ≡ (if is_id k why.id then None else stored old k))
-    → ArePlacedAt is_pps pps_record (Some (OfPps rbsp)) place old new
-pps_erased rbsp why place old new is long put = record {
+    → AreReplaced is_pps pps_record (Some (OfPps rbsp)) unit old new
+pps_erased rbsp why unit old new is long put = record {
   long = long;
-  each = λ k low. put k low ∙ erased (is_id k why.id) place (stored old k)
-      ∙ ap (λ o. placed (is_id k o) false place (stored old k)) (sym (refused_id pps_part (pps_id rbsp) (start rbsp) why is))
-      ∙ ap (λ a. placed (is_id k (pps_id rbsp)) a place (stored old k)) (sym (ap (λ r. is_some (accepted r)) is));
+  each = λ k low. put k low ∙ erased (is_id k why.id) unit (stored old k)
+      ∙ ap (λ o. replaced (is_id k o) false unit (stored old k)) (sym (refused_id pps_part (pps_id rbsp) (start rbsp) why is))
+      ∙ ap (λ a. replaced (is_id k (pps_id rbsp)) a unit (stored old k)) (sym (ap (λ r. is_some (accepted r)) is));
 }
 
 -- ---- what a unit brings
@@ -173,57 +172,68 @@ decided_more record_of test before u false e =
     ∙ ap (λ o. cond (is_some (record_of o)) (unit_list (last (filter (brings test) before))) []) (ap (λ l. last (filter test l)) (set_units-append before (u ∷ [])) ∙ last_set test (set_units before) (set_unit u) false e)
     ∙ sym (by_last (is_some (record_of (last (filter test (set_units before))))) test before _ refl)
 
-at_placed : (us : List Unit) (i : ℕ) (u : Unit) (hit in_force : Bool) (old : Option ℕ) → slice_get us i ≡ Some u
-    → unit_at us (placed hit in_force i old) ≡ cond hit (cond in_force (u ∷ []) []) (unit_at us old)
-at_placed us i u true true old e = ap unit_list e
-at_placed us i u true false old e = refl
-at_placed us i u false in_force old e = refl
+kept_replaced : (u : Unit) (hit in_force : Bool) (old : Option (List ℕ)) (by_id : List Unit) → kept_bytes old ≡ flat_map written by_id
+    → kept_bytes (replaced hit in_force (written u) old) ≡ flat_map written (cond hit (cond in_force (u ∷ []) []) by_id)
+kept_replaced u true true old by_id e = sym (append-nil (written u))
+kept_replaced u true false old by_id e = refl
+kept_replaced u false in_force old by_id e = e
 
-stand_more : {A : Type 0} (record_of : Option SetUnit → Option A) (has_id : ℕ → SetUnit → Bool) (count : ℕ) (before us : List Unit) (u : Unit) (i : ℕ) (old new : List (Option ℕ)) → slice_get us i ≡ Some u
-    → StandAt us count (λ id. decided record_of (has_id id) before) old → ArePlacedAt has_id record_of (set_unit u) i old new → StandAt us count (λ id. decided record_of (has_id id) (before ++ u ∷ [])) new
-stand_more record_of has_id count before us u i old new at h put = record {
+kept_more : {A : Type 0} (record_of : Option SetUnit → Option A) (has_id : ℕ → SetUnit → Bool) (count : ℕ) (before : List Unit) (u : Unit) (old new : List (Option (List ℕ)))
+    → AreKept count (λ id. decided record_of (has_id id) before) old → AreReplaced has_id record_of (set_unit u) (written u) old new → AreKept count (λ id. decided record_of (has_id id) (before ++ u ∷ [])) new
+kept_more record_of has_id count before u old new h put = record {
   long = put.long ∙ h.long;
   each = λ id low.
-      ap (unit_at us) (put.each id (omega (arith, low, h.long)))
-      ∙ at_placed us i u (brings (has_id id) u) (is_some (record_of (set_unit u))) (stored old id) at
-      ∙ ap (cond (brings (has_id id) u) (cond (is_some (record_of (set_unit u))) (u ∷ []) [])) (h.each id low)
-      ∙ sym (decided_more record_of (has_id id) before u (brings (has_id id) u) refl);
+      ap kept_bytes (put.each id (omega (arith, low, h.long)))
+      ∙ kept_replaced u (brings (has_id id) u) (is_some (record_of (set_unit u))) (stored old id) (decided record_of (has_id id) before) (h.each id low)
+      ∙ ap (flat_map written) (sym (decided_more record_of (has_id id) before u (brings (has_id id) u) refl));
 }
 
-pub sets_more : (us : List Unit) (i : ℕ) (u : Unit) (old new : SetPlaces) → i < length us → u ≡ get_or us i u → HasSets (take i us) us old
-    → ArePlacedAt is_sps sps_record (set_unit u) i old.sps.items new.sps.items → ArePlacedAt is_pps pps_record (set_unit u) i old.pps.items new.pps.items
-    → HasSets (take (i + 1) us) us new
-sets_more us i u old new low at h sps_put pps_put =
-    let here : slice_get us i ≡ Some u = slice_get-get_or us i u low ∙ ap Some (sym at) in
+pub sets_more : (before : List Unit) (u : Unit) (old new : SetsInForce) → HasSets before old
+    → AreReplaced is_sps sps_record (set_unit u) (written u) old.sps.items new.sps.items → AreReplaced is_pps pps_record (set_unit u) (written u) old.pps.items new.pps.items
+    → HasSets (before ++ u ∷ []) new
+sets_more before u old new h sps_put pps_put = record {
+  sps = kept_more sps_record is_sps 32 before u old.sps.items new.sps.items h.sps sps_put;
+  pps = kept_more pps_record is_pps 256 before u old.pps.items new.pps.items h.pps pps_put;
+}
+
+-- one place more in a list
+pub sets_next : (us : List Unit) (i : ℕ) (u : Unit) (old new : SetsInForce) → i < length us → u ≡ get_or us i u → HasSets (take i us) old
+    → AreReplaced is_sps sps_record (set_unit u) (written u) old.sps.items new.sps.items → AreReplaced is_pps pps_record (set_unit u) (written u) old.pps.items new.pps.items
+    → HasSets (take (i + 1) us) new
+sets_next us i u old new low at h sps_put pps_put =
     let front : take i us ++ u ∷ [] ≡ take (i + 1) us = sym (take_more us i u low ∙ ap (λ y. take i us ++ y ∷ []) (sym at)) in
-    subst (λ before. HasSets before us new) front (record {
-      sps = stand_more sps_record is_sps 32 (take i us) us u i old.sps.items new.sps.items here h.sps sps_put;
-      pps = stand_more pps_record is_pps 256 (take i us) us u i old.pps.items new.pps.items here h.pps pps_put;
-    })
+    subst (λ before. HasSets before new) front (sets_more (take i us) u old new h sps_put pps_put)
 
-stand_none : (us : List Unit) (count : ℕ) (places : List (Option ℕ)) → places ≡ replicate count None → StandAt us count (λ id. []) places
-stand_none us count places is = record {
+kept_none : (count : ℕ) (kept : List (Option (List ℕ))) → kept ≡ replicate count None → AreKept count (λ id. []) kept
+kept_none count kept is = record {
   long = ap length is ∙ length-replicate count None;
-  each = λ id low. ap (λ ps. unit_at us (stored ps id)) is ∙ ap (unit_at us) (get_or-replicate count id None None low);
+  each = λ id low. ap (λ ps. kept_bytes (stored ps id)) is ∙ ap kept_bytes (get_or-replicate count id None None low);
 }
 
-pub sets_none : (us : List Unit) (sets : SetPlaces) → sets.sps.items ≡ replicate 32 None → sets.pps.items ≡ replicate 256 None → HasSets [] us sets
-sets_none us sets sps_are pps_are = record { sps = stand_none us 32 _ sps_are; pps = stand_none us 256 _ pps_are }
+pub sets_none : (sets : SetsInForce) → sets.sps.items ≡ replicate 32 None → sets.pps.items ≡ replicate 256 None → HasSets [] sets
+sets_none sets sps_are pps_are = record { sps = kept_none 32 _ sps_are; pps = kept_none 256 _ pps_are }
 
--- ---- the units at the places are written
+-- ---- what is kept is written
 
-stand_written : (us : List Unit) (by_id : ℕ → List Unit) (start : ℕ) (places : List (Option ℕ)) → ((k : ℕ) → k < length places → unit_at us (stored places k) ≡ by_id (start + k))
-    → flat_map (written_at us) places ≡ flat_map written (flat_map by_id (range_with_len start (length places)))
-stand_written us by_id start [] each = refl
-stand_written us by_id start (p ∷ places) each =
-    let here : unit_at us p ≡ by_id start = each 0 (omega arith) ∙ ap by_id (omega arith) in
-    let others = stand_written us by_id (start + 1) places (λ k low. each (suc k) (omega (arith, low)) ∙ ap by_id (omega arith)) in
-    ap (λ w. flat_map written w ++ flat_map (written_at us) places) here
+kept_written : (by_id : ℕ → List Unit) (start : ℕ) (kept : List (Option (List ℕ))) → ((k : ℕ) → k < length kept → kept_bytes (stored kept k) ≡ flat_map written (by_id (start + k)))
+    → flat_map kept_bytes kept ≡ flat_map written (flat_map by_id (range_with_len start (length kept)))
+kept_written by_id start [] each = refl
+kept_written by_id start (p ∷ kept) each =
+    let here : kept_bytes p ≡ flat_map written (by_id start) = each 0 (omega arith) ∙ ap (λ k. flat_map written (by_id k)) (omega arith) in
+    let others = kept_written by_id (start + 1) kept (λ k low. each (suc k) (omega (arith, low)) ∙ ap (λ k. flat_map written (by_id k)) (omega arith)) in
+    ap (λ w. w ++ flat_map kept_bytes kept) here
     ∙ ap (λ w. flat_map written (by_id start) ++ w) others
-    ∙ sym (flat_map-append written (by_id start) (flat_map by_id (range_with_len (start + 1) (length places))))
+    ∙ sym (flat_map-append written (by_id start) (flat_map by_id (range_with_len (start + 1) (length kept))))
 
-pub standing_written : (us : List Unit) (by_id : ℕ → List Unit) (count : ℕ) (places : List (Option ℕ)) → StandAt us count by_id places
-    → flat_map (written_at us) places ≡ flat_map written (flat_map by_id (range_with_len 0 count))
-standing_written us by_id count places h =
-    stand_written us by_id 0 places (λ k low. h.each k (omega (arith, low, h.long)) ∙ ap by_id (omega arith))
+all_written : (by_id : ℕ → List Unit) (count : ℕ) (kept : List (Option (List ℕ))) → AreKept count by_id kept
+    → flat_map kept_bytes kept ≡ flat_map written (flat_map by_id (range_with_len 0 count))
+all_written by_id count kept h =
+    kept_written by_id 0 kept (λ k low. h.each k (omega (arith, low, h.long)) ∙ ap (λ k. flat_map written (by_id k)) (omega arith))
     ∙ ap (λ n. flat_map written (flat_map by_id (range_with_len 0 n))) h.long
+
+pub sets_written : (before : List Unit) (sets : SetsInForce) → HasSets before sets
+    → flat_map kept_bytes sets.sps.items ++ flat_map kept_bytes sets.pps.items ≡ flat_map written (sets_in_force before)
+sets_written before sets h =
+    ap (λ w. w ++ flat_map kept_bytes sets.pps.items) (all_written (sps_unit before) 32 sets.sps.items h.sps)
+    ∙ ap (λ w. flat_map written (flat_map (sps_unit before) (range_with_len 0 32)) ++ w) (all_written (pps_unit before) 256 sets.pps.items h.pps)
+    ∙ sym (flat_map-append written (flat_map (sps_unit before) (range_with_len 0 32)) (flat_map (pps_unit before) (range_with_len 0 256)))

@@ -1,0 +1,135 @@
+-- A piece whose stream comes is written as far as it is settled.
+use Rattle.std.proofs.Common.{◌≡◌, ◌+◌, ◌≤◌, ℕ, Bool, true, false, if◌then◌else◌, List, [], ◌∷◌, ◌++◌, length, is_some, refl, ap, sym, subst, ◌∙◌, arith, append_assoc, append-nil, inl, inr, ◌⊎◌}
+use Rattle.avc_annexb.specs.SplitterState.{SplitterState, after_feed}
+use Rattle.avc_annexb.specs.Units.{units}
+use Rattle.avc_annexb.specs.declared.unit.Unit.{Unit}
+use Rattle.avc_tools.specs.PieceSoFar.{bytes_of, numbered_piece, piece_text}
+use Rattle.avc_tools.specs.PieceSoFar.{is_over as piece_is_over}
+use Rattle.avc_tools.specs.Stages.{IsCutOff, IsCutOn, IsCutting, Stage, StandsAt, next, over, phase_of, piece_of, stage_after, stage_of, text_of, waiting, writing}
+use Rattle.avc_tools.specs.Streams.{StreamSoFar, after_end, after_piece, after_units_left, units_left}
+use Rattle.avc_tools.specs.declared.cutter.Cutter.{Cutter}
+use Rattle.avc_tools.specs.declared.cutter.CutPhase.{CutPhase}
+use Rattle.avc_tools.specs.declared.cutter.CutPhase.TheVariants as phases
+use Rattle.avc_tools.proofs.Growing.{AreLeft, drained}
+use Rattle.avc_tools.proofs.Stages.{after-append, is_over, numbered_is, over_is}
+
+-- ---- unit by unit
+
+-- These units were taken in, and this is what they brought.
+abbrev pub IsCutFrom : (old now : Cutter) → (piece : List ℕ) → (done : List Unit) → Type 0
+IsCutFrom old now piece done = (s : Stage) → StandsAt s old → IsCutOn s (stage_after s done) now [] piece
+
+pub cut_none : (c : Cutter) (piece : List ℕ) → piece ≡ [] → IsCutFrom c c piece []
+cut_none c piece none = λ s h. record { stands = h; added = []; defined = sym (append-nil (text_of s false)); written_on = none }
+
+pub cut_more : (old mid now : Cutter) (piece more : List ℕ) (u : Unit) → ((s : Stage) → StandsAt s mid → IsCutOn s (next s u) now piece more)
+    → (done : List Unit) → IsCutFrom old mid piece done → IsCutFrom old now more (done ++ u ∷ [])
+cut_more old mid now piece more u step done i = λ s h.
+    let one = i s h in
+    let two = step (stage_after s done) one.stands in
+    subst (λ t. IsCutOn s t now [] more) (sym (after-append s done (u ∷ []))) (record {
+      stands = two.stands;
+      added = one.added ++ two.added;
+      defined = two.defined ∙ ap (λ t. t ++ two.added) one.defined ∙ append_assoc (text_of s false) one.added two.added;
+      written_on = two.written_on ∙ ap (λ t. t ++ two.added) one.written_on;
+    })
+
+-- ---- once more has come
+
+stage_is : (max number : ℕ) (old mid new : SplitterState) → AreLeft max old mid → new ≡ after_units_left max mid → stage_after (stage_of max number old) (units_left max mid) ≡ stage_of max number new
+stage_is max number old mid new left is =
+    sym (after-append (waiting number []) (units max old.bytes old.ended) (units_left max mid)) ∙ ap (stage_after (waiting number [])) (sym left.all) ∙ ap (stage_of max number) (sym is)
+
+pub cutting_again : (max number : ℕ) (old mid new : SplitterState) (before ended : Bool) (c now : Cutter) (piece : List ℕ) → IsCutting max number old before c → AreLeft max old mid → new ≡ after_units_left max mid
+    → ended ≡ mid.ended → IsCutFrom c now piece (units_left max mid) → IsCutting max number new ended now
+cutting_again max number old mid new before ended c now piece h left is end_is cut = record {
+  drained = drained max old mid new left is;
+  end_is = end_is ∙ ap (λ s. s.ended) (sym is);
+  stands = subst (λ t. StandsAt t now) (stage_is max number old mid new left is) (cut (stage_of max number old) h.stands).stands;
+}
+
+pub feed_keeps_end : (s new : SplitterState) (piece : List ℕ) → new ≡ after_feed s piece → s.ended ≡ new.ended
+feed_keeps_end s new piece is = by s.ended refl ∙ ap (λ t. t.ended) (sym is)
+  where
+    by : (e : Bool) → s.ended ≡ e → s.ended ≡ (after_feed s piece).ended
+    by true e = ap (λ x. (if x then s else record s { bytes = s.bytes ++ piece }).ended) (sym e)
+    by false e = ap (λ x. (if x then s else record s { bytes = s.bytes ++ piece }).ended) (sym e)
+
+pub text_added : (max number : ℕ) (old mid new : SplitterState) (before : StreamSoFar) (ended : Bool) (c now : Cutter) (part more added : List ℕ) → IsCutting max number old ended c → ended ≡ false → AreLeft max old mid
+    → new ≡ after_units_left max mid → before.bytes ≡ old.bytes → before.ended ≡ old.ended → IsCutFrom c now part (units_left max mid)
+    → text_of (stage_of max number new) new.ended ≡ text_of (stage_of max number new) false ++ more → added ≡ part ++ more → length new.bytes ≤ max
+    → piece_text number new.bytes new.ended ≡ piece_text number before.bytes before.ended ++ added
+text_added max number old mid new before ended c now part more added h open_end left is bytes end_is cut last sum short =
+    let same = ap (λ (s : SplitterState). length s.bytes) is in
+    let short_before : length old.bytes ≤ max = omega (arith, same, short, left.no_fewer) in
+    let made = cut (stage_of max number old) h.stands in
+    let old_open : old.ended ≡ false = sym h.end_is ∙ open_end in
+    ap bytes_of (numbered_is max number new.bytes new.ended short)
+    ∙ last
+    ∙ ap (λ s. text_of s false ++ more) (sym (stage_is max number old mid new left is))
+    ∙ ap (λ t. t ++ more) (made.defined ∙ ap (λ t. text_of (stage_of max number old) false ++ t) (sym made.written_on))
+    ∙ append_assoc (text_of (stage_of max number old) false) part more
+    ∙ ap (λ t. text_of (stage_of max number old) false ++ t) (sym sum)
+    ∙ ap (λ e. text_of (stage_of max number old) e ++ added) (sym old_open)
+    ∙ ap (λ p. bytes_of p ++ added) (sym (numbered_is max number old.bytes old.ended short_before))
+    ∙ ap (λ bs. piece_text number bs old.ended ++ added) (sym bytes)
+    ∙ ap (λ e. piece_text number before.bytes e ++ added) (sym end_is)
+
+pub no_more_at : (s : Stage) (ended : Bool) → ended ≡ false → text_of s ended ≡ text_of s false ++ []
+no_more_at s ended e = ap (text_of s) e ∙ sym (append-nil (text_of s false))
+
+-- at the end
+pub text_ended : (max number : ℕ) (old mid new : SplitterState) (before : StreamSoFar) (ended : Bool) (c now : Cutter) (part added : List ℕ) → IsCutting max number old ended c → ended ≡ false → AreLeft max old mid
+    → new ≡ after_units_left max mid → before.bytes ≡ old.bytes → before.ended ≡ old.ended → mid.ended ≡ true → IsCutFrom c now part (units_left max mid)
+    → ((s : Stage) → StandsAt s now → IsCutOff s part added) → length new.bytes ≤ max
+    → piece_text number new.bytes new.ended ≡ piece_text number before.bytes before.ended ++ added
+text_ended max number old mid new before ended c now part added h open_end left is bytes end_is over_there cut rest short =
+    let there = cutting_again max number old mid new ended mid.ended c now part h left is refl cut in
+    let off = rest (stage_of max number new) there.stands in
+    let at_end : new.ended ≡ true = ap (λ s. s.ended) is ∙ over_there in
+    text_added max number old mid new before ended c now part off.added added h open_end left is bytes end_is cut (ap (text_of (stage_of max number new)) at_end ∙ off.defined) off.written_on short
+
+-- past the end
+pub stays_by_piece : (s : StreamSoFar) (piece : List ℕ) → s.ended ≡ true → s ≡ after_piece s piece
+stays_by_piece s piece e = ap (λ x. if x then s else record s { bytes = s.bytes ++ piece }) (sym e)
+
+pub stays_by_end : (s : StreamSoFar) → s.ended ≡ true → s ≡ after_end s
+stays_by_end s e = ap (λ x. record s { ended = x }) e
+
+-- ---- what the code tells
+
+abbrev pub begun_in : CutPhase → Bool
+begun_in phases.Waiting = false
+begun_in phases.Writing = true
+begun_in phases.Over = true
+
+abbrev pub over_in : CutPhase → Bool
+over_in phases.Waiting = false
+over_in phases.Writing = false
+over_in phases.Over = true
+
+begun_by : (s : Stage) (ended : Bool) → is_some (piece_of s ended) ≡ begun_in (phase_of s)
+begun_by (waiting left before) ended = refl
+begun_by (writing before c after) ended = refl
+begun_by (over before c after) ended = refl
+
+over_by : (s : Stage) → is_over s ≡ over_in (phase_of s)
+over_by (waiting left before) = refl
+over_by (writing before c after) = refl
+over_by (over before c after) = refl
+
+pub tells_begun : (max number : ℕ) (s : SplitterState) (ended : Bool) (c : Cutter) → IsCutting max number s ended c → length s.bytes ≤ max → begun_in c.phase ≡ is_some (numbered_piece number s.bytes s.ended)
+tells_begun max number s ended c h short =
+    ap begun_in h.stands.phase ∙ sym (begun_by (stage_of max number s) s.ended) ∙ ap is_some (sym (numbered_is max number s.bytes s.ended short))
+
+pub tells_over : (max number : ℕ) (s : SplitterState) (ended : Bool) (c : Cutter) → IsCutting max number s ended c → length s.bytes ≤ max → over_in c.phase ≡ piece_is_over number s.bytes s.ended
+tells_over max number s ended c h short =
+    ap over_in h.stands.phase ∙ sym (over_by (stage_of max number s)) ∙ sym (over_is max number s.bytes s.ended short)
+
+pub either_begun : (x : CutPhase) → (x ≡ phases.Writing) ⊎ (x ≡ phases.Over) → begun_in x ≡ true
+either_begun x (inl e) = ap begun_in e
+either_begun x (inr e) = ap begun_in e
+
+pub either_not_over : (x : CutPhase) → (x ≡ phases.Waiting) ⊎ (x ≡ phases.Writing) → over_in x ≡ false
+either_not_over x (inl e) = ap over_in e
+either_not_over x (inr e) = ap over_in e

@@ -1,0 +1,255 @@
+-- One piece unit by unit is what the definition says.
+use Rattle.std.proofs.Common.{◌≡◌, ◌+◌, ◌≤◌, ◌<◌, ◌^◌, ℕ, zero, suc, Bool, true, false, not, ◌||◌, List, [], ◌∷◌, ◌++◌, length, Option, Some, None, is_some, if◌then◌else◌, refl, ap, sym, ◌∙◌, arith, append_assoc, append-nil, length-append}
+use Rattle.std.proofs.lemmas.Grind.{flat_map-append}
+use Rattle.std.proofs.lemmas.List.Folds.{list_any-append}
+use Rattle.std.specs.List.{filter, flat_map, list_any, slice_get, take_while}
+use Rattle.avc_annexb.specs.Laws.{UnitsStay}
+use Rattle.avc_annexb.specs.Units.{units}
+use Rattle.avc_annexb.specs.Written.{written}
+use Rattle.avc_annexb.specs.declared.unit.Unit.{Unit}
+use Rattle.avc_units.specs.Grouping.{is_start}
+use Rattle.avc_units.specs.Resuming.{sets_in_force}
+use Rattle.avc_tools.specs.PieceSoFar.{PiecesAreWhole, PiecesStay, bytes_of, numbered_piece, piece_so_far, piece_text, pieces_so_far, pieces_so_far_from, rest_so_far}
+use Rattle.avc_tools.specs.PieceSoFar.{is_over as piece_is_over}
+use Rattle.avc_tools.specs.Pieces.{after_slices, is_left_out, is_slice, leads, piece, pieces, pieces_from, rest_of_piece, through_slices}
+use Rattle.avc_tools.specs.Stages.{Stage, begun, made, next, over, piece_of, stage_after, staying, text_of, waiting, writing}
+use Rattle.avc_tools.specs.Streams.{OnlyGrows}
+use Rattle.avc_tools.proofs.Lengths.{whole_units}
+use Rattle.avc_tools.proofs.Slices.{any_by, goes_before, goes_on, rest_by, split_at_slices, stops, through_other, through_slice}
+
+-- ---- stages
+
+pub after-append : (s : Stage) (us vs : List Unit) → stage_after s (us ++ vs) ≡ stage_after (stage_after s us) vs
+after-append s [] vs = refl
+after-append s (u ∷ us) vs = after-append (next s u) us vs
+
+over_stays : (before : List Unit) (c : Unit) (after us : List Unit) → stage_after (over before c after) us ≡ over before c after
+over_stays before c after [] = refl
+over_stays before c after (u ∷ us) = over_stays before c after us
+
+-- the next units, by whether the first is a cut point
+abbrev writing_next : (starts : Bool) → (before : List Unit) (c : Unit) (after : List Unit) (u : Unit) → Stage
+writing_next starts before c after u = if starts then over before c after else writing before c (after ++ u ∷ [])
+
+abbrev waiting_next : (starts : Bool) → (left : ℕ) (before : List Unit) (u : Unit) → Stage
+waiting_next starts left before u = if starts then begun left before u else waiting left (before ++ u ∷ [])
+
+-- ---- the rest of a piece so far
+
+no_start_more : (a : List Unit) (u : Unit) → list_any is_start a ≡ false → is_start u ≡ false → list_any is_start (a ++ u ∷ []) ≡ false
+no_start_more a u none e = list_any-append is_start a (u ∷ []) ∙ ap (λ b. b || list_any is_start (u ∷ [])) none ∙ any_by [] u false e
+
+a_start : (a : List Unit) (u : Unit) (us : List Unit) → list_any is_start a ≡ false → is_start u ≡ true → list_any is_start (a ++ u ∷ us) ≡ true
+a_start a u us none e = list_any-append is_start a (u ∷ us) ∙ ap (λ b. b || list_any is_start (u ∷ us)) none ∙ any_by us u true e
+
+before_it : (a : List Unit) (u : Unit) (us : List Unit) → list_any is_start a ≡ false → is_start u ≡ true → take_while goes_before (a ++ u ∷ us) ≡ a
+before_it [] u us none e = stops goes_before u us (ap not e)
+before_it (v ∷ a) u us none e = by (is_start v) refl (before_it a u us)
+  where
+    by : (b : Bool) → is_start v ≡ b → (list_any is_start a ≡ false → is_start u ≡ true → take_while goes_before (a ++ u ∷ us) ≡ a) → take_while goes_before ((v ∷ a) ++ u ∷ us) ≡ v ∷ a
+    by true f h = let wrong : true ≡ false = sym (any_by a v true f) ∙ none in cc
+    by false f h = goes_on goes_before v (a ++ u ∷ us) (ap not f) ∙ ap (λ l. v ∷ l) (h (sym (any_by a v false f) ∙ none) e)
+
+abbrev rest_if : (ended starts : Bool) → (after : List Unit) → List Unit
+rest_if ended starts after = if ended || starts then rest_of_piece after else through_slices after
+
+none_yet : (a : List Unit) (ended : Bool) → list_any is_start a ≡ false → rest_so_far a ended ≡ (if ended then a else through_slices a)
+none_yet a true none = ap (λ b. rest_by b a (take_while goes_before a)) none
+none_yet a false none = ap (λ b. rest_if false b a) none
+
+rest_cut_at : (a : List Unit) (u : Unit) (us : List Unit) → list_any is_start a ≡ false → is_start u ≡ true → rest_of_piece (a ++ u ∷ us) ≡ through_slices a ++ staying a
+rest_cut_at a u us none e =
+    ap (λ b. rest_by b (a ++ u ∷ us) (take_while goes_before (a ++ u ∷ us))) (a_start a u us none e)
+    ∙ ap (rest_by true (a ++ u ∷ us)) (before_it a u us none e)
+
+next_begun : (a : List Unit) (u : Unit) (us : List Unit) (ended : Bool) → list_any is_start a ≡ false → is_start u ≡ true → rest_so_far (a ++ u ∷ us) ended ≡ through_slices a ++ staying a
+next_begun a u us true none e = rest_cut_at a u us none e
+next_begun a u us false none e = ap (λ b. rest_if false b (a ++ u ∷ us)) (a_start a u us none e) ∙ rest_cut_at a u us none e
+
+-- ---- the piece
+
+written_is : (before : List Unit) (c : Unit) (a us : List Unit) (ended : Bool) → list_any is_start a ≡ false
+    → piece_of (stage_after (writing before c a) us) ended ≡ Some (made before c (rest_so_far (a ++ us) ended))
+written_is before c a [] ended none =
+    ap (λ l. Some (made before c l)) (sym (none_yet a ended none) ∙ ap (λ l. rest_so_far l ended) (sym (append-nil a)))
+written_is before c a (u ∷ us) ended none = by (is_start u) refl (written_is before c (a ++ u ∷ []) us ended)
+  where
+    by : (b : Bool) → is_start u ≡ b
+        → (list_any is_start (a ++ u ∷ []) ≡ false → piece_of (stage_after (writing before c (a ++ u ∷ [])) us) ended ≡ Some (made before c (rest_so_far ((a ++ u ∷ []) ++ us) ended)))
+        → piece_of (stage_after (writing before c a) (u ∷ us)) ended ≡ Some (made before c (rest_so_far (a ++ u ∷ us) ended))
+    by true e h =
+        ap (λ b. piece_of (stage_after (writing_next b before c a u) us) ended) e
+        ∙ ap (λ s. piece_of s ended) (over_stays before c a us)
+        ∙ ap (λ l. Some (made before c l)) (sym (next_begun a u us ended none e))
+    by false e h =
+        ap (λ b. piece_of (stage_after (writing_next b before c a u) us) ended) e
+        ∙ h (no_start_more a u none e)
+        ∙ ap (λ l. Some (made before c (rest_so_far l ended))) (append_assoc a (u ∷ []) us)
+
+abbrev listed : (starts : Bool) → (x : List ℕ) (others : List (List ℕ)) → List (List ℕ)
+listed starts x others = elim starts [ true ↦ x ∷ others | false ↦ others ]
+
+abbrev first_in : (before : List Unit) (u : Unit) (us : List Unit) (ended : Bool) → List ℕ
+first_in before u us ended = flat_map written (piece_so_far before u us ended)
+
+abbrev others_in : (before : List Unit) (u : Unit) (us : List Unit) (ended : Bool) → List (List ℕ)
+others_in before u us ended = pieces_so_far_from (before ++ u ∷ []) us ended
+
+piece_is : (left : ℕ) (before us : List Unit) (ended : Bool) → slice_get (pieces_so_far_from before us ended) left ≡ piece_of (stage_after (waiting left before) us) ended
+piece_is left before [] ended = refl
+piece_is left before (u ∷ us) ended = by (is_start u) refl left (λ n. piece_is n (before ++ u ∷ []) us ended)
+  where
+    by : (b : Bool) → is_start u ≡ b → (n : ℕ) → ((m : ℕ) → slice_get (others_in before u us ended) m ≡ piece_of (stage_after (waiting m (before ++ u ∷ [])) us) ended)
+        → slice_get (pieces_so_far_from before (u ∷ us) ended) n ≡ piece_of (stage_after (waiting n before) (u ∷ us)) ended
+    by false e n h =
+        ap (λ b. slice_get (listed b (first_in before u us ended) (others_in before u us ended)) n) e ∙ h n ∙ ap (λ b. piece_of (stage_after (waiting_next b n before u) us) ended) (sym e)
+    by true e zero h =
+        ap (λ b. slice_get (listed b (first_in before u us ended) (others_in before u us ended)) 0) e ∙ sym (written_is before u [] us ended refl)
+        ∙ ap (λ b. piece_of (stage_after (waiting_next b 0 before u) us) ended) (sym e)
+    by true e (suc n) h =
+        ap (λ b. slice_get (listed b (first_in before u us ended) (others_in before u us ended)) (suc n)) e ∙ h n
+        ∙ ap (λ b. piece_of (stage_after (waiting_next b (suc n) before u) us) ended) (sym e)
+
+-- ---- whether it is over
+
+abbrev pub is_over : Stage → Bool
+is_over (waiting left before) = false
+is_over (writing before c after) = false
+is_over (over before c after) = true
+
+over_when : (before : List Unit) (c : Unit) (a us : List Unit) → is_over (stage_after (writing before c a) us) ≡ list_any is_start us
+over_when before c a [] = refl
+over_when before c a (u ∷ us) = by (is_start u) refl (over_when before c (a ++ u ∷ []) us)
+  where
+    by : (b : Bool) → is_start u ≡ b → is_over (stage_after (writing before c (a ++ u ∷ [])) us) ≡ list_any is_start us → is_over (stage_after (writing before c a) (u ∷ us)) ≡ list_any is_start (u ∷ us)
+    by true e h = ap (λ b. is_over (stage_after (writing_next b before c a u) us)) e ∙ ap is_over (over_stays before c a us) ∙ sym (any_by us u true e)
+    by false e h = ap (λ b. is_over (stage_after (writing_next b before c a u) us)) e ∙ h ∙ sym (any_by us u false e)
+
+first_when : (before us : List Unit) (ended : Bool) → is_some (slice_get (pieces_so_far_from before us ended) 0) ≡ list_any is_start us
+first_when before [] ended = refl
+first_when before (u ∷ us) ended = by (is_start u) refl (first_when (before ++ u ∷ []) us ended)
+  where
+    by : (b : Bool) → is_start u ≡ b → is_some (slice_get (others_in before u us ended) 0) ≡ list_any is_start us → is_some (slice_get (pieces_so_far_from before (u ∷ us) ended) 0) ≡ list_any is_start (u ∷ us)
+    by true e h = ap (λ b. is_some (slice_get (listed b (first_in before u us ended) (others_in before u us ended)) 0)) e ∙ sym (any_by us u true e)
+    by false e h = ap (λ b. is_some (slice_get (listed b (first_in before u us ended) (others_in before u us ended)) 0)) e ∙ h ∙ sym (any_by us u false e)
+
+next_is : (left : ℕ) (before us : List Unit) (ended : Bool) → is_some (slice_get (pieces_so_far_from before us ended) (suc left)) ≡ is_over (stage_after (waiting left before) us)
+next_is left before [] ended = refl
+next_is left before (u ∷ us) ended = by (is_start u) refl left (λ n. next_is n (before ++ u ∷ []) us ended)
+  where
+    by : (b : Bool) → is_start u ≡ b → (n : ℕ) → ((m : ℕ) → is_some (slice_get (others_in before u us ended) (suc m)) ≡ is_over (stage_after (waiting m (before ++ u ∷ [])) us))
+        → is_some (slice_get (pieces_so_far_from before (u ∷ us) ended) (suc n)) ≡ is_over (stage_after (waiting n before) (u ∷ us))
+    by false e n h =
+        ap (λ b. is_some (slice_get (listed b (first_in before u us ended) (others_in before u us ended)) (suc n))) e ∙ h n ∙ ap (λ b. is_over (stage_after (waiting_next b n before u) us)) (sym e)
+    by true e zero h =
+        ap (λ b. is_some (slice_get (listed b (first_in before u us ended) (others_in before u us ended)) 1)) e ∙ first_when (before ++ u ∷ []) us ended ∙ sym (over_when before u [] us)
+        ∙ ap (λ b. is_over (stage_after (waiting_next b 0 before u) us)) (sym e)
+    by true e (suc n) h =
+        ap (λ b. is_some (slice_get (listed b (first_in before u us ended) (others_in before u us ended)) (suc (suc n)))) e ∙ h n
+        ∙ ap (λ b. is_over (stage_after (waiting_next b (suc n) before u) us)) (sym e)
+
+-- ---- by the bytes of a stream
+
+abbrev pub stage_at : (max number : ℕ) → List ℕ → (ended : Bool) → Stage
+stage_at max number bytes ended = stage_after (waiting number []) (units max bytes ended)
+
+pub numbered_is : (max number : ℕ) (bytes : List ℕ) (ended : Bool) → length bytes ≤ max → numbered_piece number bytes ended ≡ piece_of (stage_at max number bytes ended) ended
+numbered_is max number bytes ended short =
+    ap (λ us. slice_get (pieces_so_far_from [] us ended) number) (sym (whole_units max bytes ended short)) ∙ piece_is number [] (units max bytes ended) ended
+
+pub over_is : (max number : ℕ) (bytes : List ℕ) (ended : Bool) → length bytes ≤ max → piece_is_over number bytes ended ≡ is_over (stage_at max number bytes ended)
+over_is max number bytes ended short =
+    ap (λ n. is_some (numbered_piece n bytes ended)) (omega arith)
+    ∙ ap (λ us. is_some (slice_get (pieces_so_far_from [] us ended) (suc number))) (sym (whole_units max bytes ended short)) ∙ next_is number [] (units max bytes ended) ended
+
+-- ---- more comes to it
+
+made-append : (before : List Unit) (c : Unit) (x y : List Unit) → made before c (x ++ y) ≡ made before c x ++ flat_map written y
+made-append before c x y =
+    let front = sets_in_force before ++ filter leads (after_slices before) in
+    ap (flat_map written) (sym (append_assoc front (c ∷ x) y)) ∙ flat_map-append written (front ++ c ∷ x) y
+
+pub added_at_end : (before : List Unit) (c : Unit) (a : List Unit) → made before c a ≡ made before c (through_slices a) ++ flat_map written (after_slices a)
+added_at_end before c a = ap (made before c) (sym (split_at_slices a)) ∙ made-append before c (through_slices a) (after_slices a)
+
+pub added_by_slice : (before : List Unit) (c : Unit) (a : List Unit) (u : Unit) → is_slice u ≡ true
+    → made before c (through_slices (a ++ u ∷ [])) ≡ made before c (through_slices a) ++ (flat_map written (after_slices a) ++ flat_map written (u ∷ []))
+added_by_slice before c a u e =
+    ap (made before c) (through_slice a u e) ∙ made-append before c a (u ∷ []) ∙ ap (λ t. t ++ flat_map written (u ∷ [])) (added_at_end before c a)
+    ∙ append_assoc (made before c (through_slices a)) (flat_map written (after_slices a)) (flat_map written (u ∷ []))
+
+pub added_by_next : (before : List Unit) (c : Unit) (a : List Unit) → made before c (through_slices a ++ staying a) ≡ made before c (through_slices a) ++ flat_map written (staying a)
+added_by_next before c a = made-append before c (through_slices a) (staying a)
+
+through_more : (before : List Unit) (c : Unit) (a : List Unit) (u : Unit) → (more : List ℕ) × (made before c (through_slices (a ++ u ∷ [])) ≡ made before c (through_slices a) ++ more)
+through_more before c a u = by (is_slice u) refl
+  where
+    by : (b : Bool) → is_slice u ≡ b → (more : List ℕ) × (made before c (through_slices (a ++ u ∷ [])) ≡ made before c (through_slices a) ++ more)
+    by true e = (flat_map written (after_slices a) ++ flat_map written (u ∷ []), added_by_slice before c a u e)
+    by false e = ([], ap (made before c) (through_other a u e) ∙ sym (append-nil (made before c (through_slices a))))
+
+abbrev Grows : Stage → List Unit → Bool → Type 0
+Grows s us ended = (others : List ℕ) × (text_of (stage_after s us) ended ≡ text_of s false ++ others)
+
+grows_written : (before : List Unit) (c : Unit) (a us : List Unit) (ended : Bool) → Grows (writing before c a) us ended
+grows_written before c a [] true = (flat_map written (after_slices a), added_at_end before c a)
+grows_written before c a [] false = ([], sym (append-nil (made before c (through_slices a))))
+grows_written before c a (u ∷ us) ended = by (is_start u) refl (grows_written before c (a ++ u ∷ []) us ended)
+  where
+    by : (b : Bool) → is_start u ≡ b → Grows (writing before c (a ++ u ∷ [])) us ended → Grows (writing before c a) (u ∷ us) ended
+    by true e h = (
+      flat_map written (staying a),
+      ap (λ b. text_of (stage_after (writing_next b before c a u) us) ended) e ∙ ap (λ s. text_of s ended) (over_stays before c a us) ∙ added_by_next before c a,
+    )
+    by false e h =
+        let more = through_more before c a u in (
+          more.0 ++ h.0,
+          ap (λ b. text_of (stage_after (writing_next b before c a u) us) ended) e ∙ h.1 ∙ ap (λ t. t ++ h.0) more.1
+              ∙ append_assoc (made before c (through_slices a)) more.0 h.0,
+        )
+
+pub grows : (s : Stage) (us : List Unit) (ended : Bool) → Grows s us ended
+grows (waiting left before) us ended = (text_of (stage_after (waiting left before) us) ended, refl)
+grows (writing before c a) us ended = grows_written before c a us ended
+grows (over before c a) us ended = ([], ap (λ s. text_of s ended) (over_stays before c a us) ∙ sym (append-nil (text_of (over before c a) false)))
+
+pub piece_text_grows : UnitsStay → (number : ℕ) → OnlyGrows (piece_text number)
+piece_text_grows stay number bytes more ended short =
+    let max = length (bytes ++ more) in
+    let later = stay max bytes more ended in
+    let s = stage_at max number bytes false in
+    let rest = grows s later.0 ended in (
+      rest.0,
+      ap bytes_of (numbered_is max number (bytes ++ more) ended (omega arith))
+          ∙ ap (λ us. text_of (stage_after (waiting number []) us) ended) later.1
+          ∙ ap (λ t. text_of t ended) (after-append (waiting number []) (units max bytes false) later.0)
+          ∙ rest.1
+          ∙ ap (λ p. bytes_of p ++ rest.0) (sym (numbered_is max number bytes false (omega (arith, length-append bytes more)))),
+    )
+
+-- ---- laws of pieces
+
+all_so_far : (before us : List Unit) → pieces_so_far_from before us true ≡ pieces_from before us
+all_so_far before [] = refl
+all_so_far before (u ∷ us) = ap (λ others. listed (is_start u) (flat_map written (piece before u us)) others) (all_so_far (before ++ u ∷ []) us)
+
+pub pieces_are_whole : PiecesAreWhole
+pieces_are_whole bytes = all_so_far [] (units (length bytes) bytes true)
+
+stays_over : (s : Stage) (us : List Unit) → is_over s ≡ true → piece_of (stage_after s us) true ≡ Some (text_of s false)
+stays_over (waiting left before) us e = cc
+stays_over (writing before c a) us e = cc
+stays_over (over before c a) us e = ap (λ s. piece_of s true) (over_stays before c a us)
+
+pub pieces_stay : UnitsStay → PiecesStay
+pieces_stay stay number bytes more is =
+    let max = length (bytes ++ more) in
+    let later = stay max bytes more true in
+    let s = stage_at max number bytes false in
+    let short : length bytes ≤ max = omega (arith, length-append bytes more) in
+    ap (λ ps. slice_get ps number) (sym (pieces_are_whole (bytes ++ more)))
+    ∙ numbered_is max number (bytes ++ more) true (omega arith)
+    ∙ ap (λ us. piece_of (stage_after (waiting number []) us) true) later.1
+    ∙ ap (λ t. piece_of t true) (after-append (waiting number []) (units max bytes false) later.0)
+    ∙ stays_over s later.0 (sym (over_is max number bytes false short) ∙ is)
+    ∙ ap (λ p. Some (bytes_of p)) (sym (numbered_is max number bytes false short))

@@ -1,0 +1,13 @@
+use Rattle.std.proofs.Common.{◌++◌, [], ap, sym, ◌∙◌, if◌then◌else◌}
+use Rattle.avc_annexb.specs.Written.{written}
+use Rattle.avc_tools.proofs.Taking.{leading_more, leading_none}
+use Rattle.avc_tools.proofs.cutter.hold_leading.Goals as goal
+
+pub returns-then-is_slice : goal.returns-then-is_slice
+returns-then-is_slice c = λ before h. c.clear.ensures.items ∙ sym (leading_none before c.args.unit.now (sym c.is_slice.ensures ∙ c.if-is_slice.true))
+
+pub returns : goal.returns
+returns c =
+    λ before h.
+    leading_more before c.args.unit.now c.args.held.now.items c.write_if.new.piece.items (sym c.is_slice.ensures ∙ c.if-is_slice.false)
+    (c.in_ok-write_if.ensures ∙ ap (λ b. c.args.held.now.items ++ (if b then written c.args.unit.now else [])) c.leads.ensures) h

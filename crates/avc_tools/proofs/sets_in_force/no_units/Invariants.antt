@@ -1,0 +1,6 @@
+use Rattle.std.proofs.Common.{◌≡◌, None}
+use Rattle.std.specs.Prelude.{replicate}
+use Rattle.avc_tools.proofs.sets_in_force.no_units.Given as goal
+
+abbrev pub invariant-loop-id : goal.invariant-loop-id
+invariant-loop-id l = record { none : l.units.items ≡ replicate l._id None }

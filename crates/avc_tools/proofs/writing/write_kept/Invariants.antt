@@ -1,0 +1,7 @@
+use Rattle.std.proofs.Common.{◌≡◌, ◌++◌, take}
+use Rattle.std.specs.List.{flat_map}
+use Rattle.avc_tools.specs.Cutting.{kept_bytes}
+use Rattle.avc_tools.proofs.writing.write_kept.Given as goal
+
+abbrev pub invariant-loop-unit : goal.invariant-loop-unit
+invariant-loop-unit l = record { written : l.piece.items ≡ l.initial.piece.items ++ flat_map kept_bytes (take l.unit-index l.units) }

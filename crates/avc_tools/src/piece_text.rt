@@ -1,0 +1,146 @@
+ghost use Rattle.std.specs.Prelude.{◌≡◌, [], false, IfOk, OnOk};
+ghost use Rattle.avc_tools.specs.Stages.{IsCutOn, Stage, StandsAt, stage_after};
+ghost use Rattle.avc_tools.specs.Streams.{after_units_left, max_unit, units_left};
+
+use crate::cutter::{CutPhase, Cutter};
+use crate::stream_text::StreamText;
+use crate::units::MAX_UNIT;
+use avc_annexb::Splitter;
+use avc_annexb::laws::units_stay;
+use avc_types::OutOfMemory;
+use std::alloc::Global;
+use std::marker::Model;
+
+/// One of the pieces of a stream (Annex B) that comes in pieces itself, each part as soon as it belongs to it whatever follows:
+/// its units up to a slice with this slice, and those behind its last slice at its end. It keeps the unit that is not over, those
+/// behind the last slice, and the parameter sets in force. A contract sees the piece's number, and what came of the stream.
+#[derive(Drop)]
+pub struct PieceText {
+    alloc: Global,
+    number: u32,
+    splitter: Splitter<MAX_UNIT>,
+    cutter: Cutter,
+    ended: bool,
+    failed: bool,
+}
+
+impl Model for PieceText {
+    ghost use Rattle.std.specs.Prelude.{◌≡◌, false};
+    ghost use Rattle.avc_tools.specs.PieceSoFar.{PieceSoFar};
+    ghost use Rattle.avc_tools.specs.Stages.{IsCutting};
+    ghost use Rattle.avc_tools.specs.Streams.{max_unit};
+
+    ghost Value = { PieceSoFar };
+
+    ghost view = { λ p. record {
+      number = p.number;
+      stream = record { bytes = p.splitter.bytes; ended = p.splitter.ended; failed = p.failed };
+    } };
+
+    ghost invariant = { λ p. p.failed ≡ false → IsCutting max_unit p.number p.splitter p.ended p.cutter };
+}
+
+impl PieceText {
+    ghost use Rattle.std.specs.Prelude.{◌^◌, ◌<◌, is_some, length};
+    ghost use Rattle.avc_tools.specs.PieceSoFar.{is_over, numbered_piece};
+    ghost use Rattle.avc_tools.specs.Streams.{new_stream};
+
+    /// At the start of a stream, for the piece of this number, counted from 0.
+    pub fn new(alloc: Global, number: u32) -> Result<PieceText, OutOfMemory>
+        ensures { IfOk result (λ text. text ≡ record { number = number; stream = new_stream }) }
+    {
+        Ok(PieceText {
+            alloc,
+            number,
+            splitter: Splitter::new(alloc),
+            cutter: Cutter::new(alloc, number)?,
+            ended: false,
+            failed: false,
+        })
+    }
+
+    /// Whether there is such a piece in what came of the stream.
+    pub fn has_begun(&self) -> bool
+        ensures { self.now.stream.failed ≡ false → length self.now.stream.bytes < 2 ^ 64
+            → result ≡ is_some (numbered_piece self.now.number self.now.stream.bytes self.now.stream.ended) }
+    {
+        match self.cutter.phase {
+            CutPhase::Waiting => false,
+            CutPhase::Writing | CutPhase::Over => true,
+        }
+    }
+
+    /// Whether the next piece has begun too, so that nothing more is written.
+    pub fn is_over(&self) -> bool
+        ensures { self.now.stream.failed ≡ false → length self.now.stream.bytes < 2 ^ 64
+            → result ≡ is_over self.now.number self.now.stream.bytes self.now.stream.ended }
+    {
+        match self.cutter.phase {
+            CutPhase::Waiting | CutPhase::Writing => false,
+            CutPhase::Over => true,
+        }
+    }
+}
+
+impl StreamText for PieceText {
+    ghost use Rattle.avc_tools.specs.PieceSoFar.{piece_text};
+
+    ghost so_far = { λ p. p.stream };
+
+    ghost text = { λ p. piece_text p.number };
+
+    fn feed(&mut self, piece: &[u8]) -> Result<Vec<u8>, OutOfMemory> {
+        units_stay();
+        if self.failed {
+            return Err(OutOfMemory);
+        }
+        if self.ended {
+            return Ok(Vec::new(self.alloc));
+        }
+        // until all of it is done
+        self.failed = true;
+        self.splitter.feed(piece)?;
+        let added = cut_units_left(self.alloc, &mut self.splitter, &mut self.cutter)?;
+        self.failed = false;
+        Ok(added)
+    }
+
+    fn finish(&mut self) -> Result<Vec<u8>, OutOfMemory> {
+        units_stay();
+        if self.failed {
+            return Err(OutOfMemory);
+        }
+        if self.ended {
+            return Ok(Vec::new(self.alloc));
+        }
+        self.failed = true;
+        self.splitter.finish()?;
+        let mut added = cut_units_left(self.alloc, &mut self.splitter, &mut self.cutter)?;
+        self.cutter.write_held(&mut added)?;
+        self.ended = true;
+        self.failed = false;
+        Ok(added)
+    }
+
+    fn text_only_grows(&self) {
+        units_stay();
+    }
+}
+
+// Takes all units whose end has been seen, and makes what they bring to the piece.
+fn cut_units_left(
+    alloc: Global,
+    splitter: &mut Splitter<MAX_UNIT>,
+    cutter: &mut Cutter,
+) -> Result<Vec<u8>, OutOfMemory>
+    requires { splitter.old.failed ≡ false }
+    ensures piece { IfOk result (λ added. (s : Stage) → StandsAt s cutter.old
+        → IsCutOn s (stage_after s (units_left max_unit splitter.old)) cutter.new [] added.items) }
+    ensures taken { OnOk result (splitter.new ≡ after_units_left max_unit splitter.old) }
+{
+    let mut piece = Vec::new(alloc);
+    while let Some(unit) = splitter.next_unit() {
+        cutter.take_in(alloc, &unit, &mut piece)?;
+    }
+    Ok(piece)
+}
