@@ -1,5 +1,5 @@
 -- Events that are taken one after another.
-use Rattle.std.specs.Prelude.{◌≡◌, ℕ, zero, suc, ◌+◌, ◌-◌, ◌<◌, ◌≤◌, min, ◌^◌, List, [], ◌∷◌, ◌++◌, length, take, drop, Option, Some, None, Result, Ok, Err, IfErr, IsErrAnd, slice_get, refl}
+use Rattle.std.specs.Prelude.{◌≡◌, ℕ, zero, suc, ◌+◌, ◌-◌, ◌<◌, ◌≤◌, List, [], ◌∷◌, ◌++◌, length, take, drop, Option, Some, None, Result, Ok, Err, IfErr, IsErrAnd, slice_get, refl}
 use Rattle.std.proofs.Common.{ap, sym, subst, ◌∙◌, arith, append_assoc, append-nil, length-append, drop-cons}
 use Rattle.std.proofs.Math.Seq.{drop-nil}
 use Rattle.std.proofs.lemmas.List.{take-append-le}
@@ -8,24 +8,49 @@ use Rattle.std.specs.Io.KnownBytes.{Appends}
 use Rattle.std.proofs.KnownBytes.{Appends-nil, Appends-trans}
 use Rattle.avc_types.specs.declared.fault.Fault.{Fault}
 use Rattle.avc_annexb.specs.Units.{saturated}
-use Rattle.avc_yuv.specs.I420.{i420}
 use Rattle.avc_decoder.specs.Events.{pictures_in, refusals_in}
 use Rattle.avc_decoder.specs.Machine.{Machine, next_event, after_take}
 use Rattle.avc_decoder.specs.declared.event.Event.{Event}
 use Rattle.avc_decoder.specs.declared.event.Event.TheVariants.{Picture, Refused}
-use Rattle.avc_run.specs.Decoding.{max_unit, shown, report_of, WritesPictures}
-use Rattle.avc_run.specs.Draining.{events_defined, events_left, after_draining, count_left, report_with, BreaksOff, IsDraining, IsHandled}
+use Rattle.avc_run.specs.Decoding.{max_unit}
+use Rattle.avc_run.specs.Formats.{pictures_after, written_from, Format, StopsPicture, WritesPicturesAs}
+use Rattle.avc_run.specs.Draining.{events_defined, events_left, count_left, report_with, BreaksOff, IsDraining, IsHandled}
 use Rattle.avc_run.specs.Reading.{WritesFirst}
+use Rattle.avc_types.specs.declared.picture.Picture.{Picture as Decoded}
 use Rattle.avc_run.specs.declared.fault.RunFault.{RunFault}
-use Rattle.avc_run.specs.declared.fault.RunFault.TheVariants.{Read, Endless, Write, Memory}
+use Rattle.avc_run.specs.declared.fault.RunFault.TheVariants.{Read, Endless, Write, Memory, Size}
 use Rattle.avc_run.specs.declared.report.Report.{Report}
 
 -- ---- lists of events
 
-pub shown-append : (a b : List Event) → shown (a ++ b) ≡ shown a ++ shown b
-shown-append [] b = refl
-shown-append (Picture p ∷ a) b = ap (λ bs. i420 p ++ bs) (shown-append a b) ∙ sym (append_assoc (i420 p) (shown a) (shown b))
-shown-append (Refused unit f ∷ a) b = shown-append a b
+pub written-append : (f : Format) (n : ℕ) (a b : List Event) → written_from f n (a ++ b) ≡ written_from f n a ++ written_from f (pictures_after n a) b
+written-append f n [] b = refl
+written-append f n (Picture p ∷ a) b =
+    let k = saturated (n + 1) in
+    ap (λ bs. f.text n p ++ bs) (written-append f k a b) ∙ sym (append_assoc (f.text n p) (written_from f k a) (written_from f (pictures_after k a) b))
+written-append f n (Refused unit x ∷ a) b = written-append f n a b
+
+after-append : (n : ℕ) (a b : List Event) → pictures_after n (a ++ b) ≡ pictures_after (pictures_after n a) b
+after-append n [] b = refl
+after-append n (Picture p ∷ a) b = after-append (saturated (n + 1)) a b
+after-append n (Refused unit x ∷ a) b = after-append n a b
+
+-- the number of pictures that a report has
+pub pictures_now : (r : Report) (a : List Event) → (report_with r a).pictures ≡ pictures_after r.pictures a
+pictures_now r [] = refl
+pictures_now r (Picture p ∷ a) = pictures_now (record r { pictures = saturated (r.pictures + 1) }) a
+pictures_now r (Refused unit f ∷ a) = pictures_now (record r { refused = r.refused ++ (unit, f) ∷ [] }) a
+
+pub number_after : (r r' : Report) (a : List Event) → r' ≡ report_with r a → r'.pictures ≡ pictures_after r.pictures a
+number_after r r' a is = ap (λ q. q.pictures) is ∙ pictures_now r a
+
+-- what was written behind other events
+pub behind : (f : Format) (r r' : Report) (w0 w w' : Option (List ℕ)) (a b : List Event) → r' ≡ report_with r a → Appends w0 w (written_from f r.pictures a)
+    → Appends w w' (written_from f r'.pictures b) → Appends w0 w' (written_from f r.pictures (a ++ b))
+behind f r r' w0 w w' a b told before more =
+    subst (Appends w0 w') (sym (written-append f r.pictures a b))
+    (Appends-trans w0 w w' (written_from f r.pictures a) (written_from f (pictures_after r.pictures a) b) before
+    (subst (λ n. Appends w w' (written_from f n b)) (number_after r r' a told) more))
 
 pub report_with-append : (r : Report) (a b : List Event) → report_with r (a ++ b) ≡ report_with (report_with r a) b
 report_with-append r [] b = refl
@@ -67,13 +92,13 @@ drop_none (x ∷ xs) (suc k) e = drop_none xs k e
 due_next : (d : Machine) (e : Event) → Some e ≡ next_event max_unit d → events_left d ≡ e ∷ events_left (after_take (Some e) d)
 due_next d e is = drop_next (events_defined d) d.taken e (sym is) ∙ ap (λ k. e ∷ drop k (events_defined d)) (let same : suc d.taken ≡ d.taken + 1 = omega arith in same)
 
-pub begun : (d : Machine) (r : Report) (held : Option (List ℕ)) → Appends held held [] → IsDraining d d r r held held
-begun d r holds nothing = record { done = []; rest = refl; machine = ap (λ k. record d { taken = k }) (let same : d.taken ≡ d.taken + 0 = omega arith in same); report = refl; written = nothing }
+pub begun : (f : Format) (d : Machine) (r : Report) (held : Option (List ℕ)) → Appends held held [] → IsDraining f d d r r held held
+begun f d r holds nothing = record { done = []; rest = refl; machine = ap (λ k. record d { taken = k }) (let same : d.taken ≡ d.taken + 0 = omega arith in same); report = refl; written = nothing }
 
-pub one_more : (d0 d d' : Machine) (r0 r r' : Report) (w0 w w' : Option (List ℕ)) (e : Event)
-    → Some e ≡ next_event max_unit d → d' ≡ after_take (Some e) d → r' ≡ report_with r (e ∷ []) → Appends w w' (shown (e ∷ []))
-    → IsDraining d0 d r0 r w0 w → IsDraining d0 d' r0 r' w0 w'
-one_more d0 d d' r0 r r' w0 w w' e next taken told wrote i =
+pub one_more : (f : Format) (d0 d d' : Machine) (r0 r r' : Report) (w0 w w' : Option (List ℕ)) (e : Event)
+    → Some e ≡ next_event max_unit d → d' ≡ after_take (Some e) d → r' ≡ report_with r (e ∷ []) → Appends w w' (written_from f r.pictures (e ∷ []))
+    → IsDraining f d0 d r0 r w0 w → IsDraining f d0 d' r0 r' w0 w'
+one_more f d0 d d' r0 r r' w0 w w' e next taken told wrote i =
     let after = i.done ++ e ∷ [] in
     let count : length after ≡ length i.done + 1 = length-append i.done (e ∷ []) in
     let more : (d0.taken + length i.done) + 1 ≡ d0.taken + length after = omega (arith, count) in
@@ -82,22 +107,22 @@ one_more d0 d d' r0 r r' w0 w w' e next taken told wrote i =
       rest = i.rest ∙ ap (λ es. i.done ++ es) (due_next d e next ∙ ap (λ m. e ∷ events_left m) (sym taken)) ∙ sym (append_assoc i.done (e ∷ []) (events_left d'));
       machine = taken ∙ ap (λ m. after_take (Some e) m) i.machine ∙ ap (λ k. record d0 { taken = k }) more;
       report = told ∙ ap (λ q. report_with q (e ∷ [])) i.report ∙ sym (report_with-append r0 i.done (e ∷ []));
-      written = subst (Appends w0 w') (sym (shown-append i.done (e ∷ []))) (Appends-trans w0 w w' (shown i.done) (shown (e ∷ [])) i.written wrote);
+      written = behind f r0 r w0 w w' i.done (e ∷ []) i.report i.written wrote;
     }
 
 -- ---- the end
 
 -- all that were due are done
-all_done : (d0 d : Machine) (r0 r : Report) (w0 w : Option (List ℕ)) → None ≡ next_event max_unit d → (i : IsDraining d0 d r0 r w0 w) → i.done ≡ events_left d0
-all_done d0 d r0 r w0 w none i = sym (i.rest ∙ ap (λ es. i.done ++ es) (drop_none (events_defined d) d.taken (sym none)) ∙ append-nil i.done)
+all_done : (f : Format) (d0 d : Machine) (r0 r : Report) (w0 w : Option (List ℕ)) → None ≡ next_event max_unit d → (i : IsDraining f d0 d r0 r w0 w) → i.done ≡ events_left d0
+all_done f d0 d r0 r w0 w none i = sym (i.rest ∙ ap (λ es. i.done ++ es) (drop_none (events_defined d) d.taken (sym none)) ∙ append-nil i.done)
 
-pub handled : (d0 d d' : Machine) (r0 r : Report) (w0 w : Option (List ℕ)) → None ≡ next_event max_unit d → d' ≡ d → IsDraining d0 d r0 r w0 w → IsHandled d0 d' r0 r w0 w
-handled d0 d d' r0 r w0 w none same i =
-    let all = all_done d0 d r0 r w0 w none i in
+pub handled : (f : Format) (d0 d d' : Machine) (r0 r : Report) (w0 w : Option (List ℕ)) → None ≡ next_event max_unit d → d' ≡ d → IsDraining f d0 d r0 r w0 w → IsHandled f d0 d' r0 r w0 w
+handled f d0 d d' r0 r w0 w none same i =
+    let all = all_done f d0 d r0 r w0 w none i in
     record {
       machine = same ∙ i.machine ∙ ap (λ es. record d0 { taken = d0.taken + length es }) all;
       report = i.report ∙ ap (λ es. report_with r0 es) all;
-      written = subst (λ es. Appends w0 w (shown es)) all i.written;
+      written = subst (λ es. Appends w0 w (written_from f r0.pictures es)) all i.written;
     }
 
 -- ---- a fault
@@ -112,56 +137,96 @@ take_more (x ∷ a) b c n within =
     let same : length (x ∷ a) + n ≡ suc (length a + n) = omega arith in
     ap (λ k. take k (x ∷ (a ++ (b ++ c)))) same ∙ ap (λ xs. x ∷ xs) (take_more a b c n within)
 
-shown_three : (a b c : List Event) → shown (a ++ (b ++ c)) ≡ shown a ++ (shown b ++ shown c)
-shown_three a b c = shown-append a (b ++ c) ∙ ap (λ bs. shown a ++ bs) (shown-append b c)
+written_three : (f : Format) (n : ℕ) (a b c : List Event) → written_from f n (a ++ (b ++ c))
+    ≡ written_from f n a ++ (written_from f (pictures_after n a) b ++ written_from f (pictures_after (pictures_after n a) b) c)
+written_three f n a b c = written-append f n a (b ++ c) ∙ ap (λ bs. written_from f n a ++ bs) (written-append f (pictures_after n a) b c)
 
 -- the pictures of a, and of the first n events of b, before what would have followed
-parts : (w0 w w' : Option (List ℕ)) (a b c : List Event) (n : ℕ) → n ≤ length b → Appends w0 w (shown a) → Appends w w' (shown (take n b)) → Appends w0 w' (shown (take (length a + n) (a ++ (b ++ c))))
-parts w0 w w' a b c n within all some =
-    subst (Appends w0 w') (sym (ap (λ es. shown es) (take_more a b c n within) ∙ shown-append a (take n b))) (Appends-trans w0 w w' (shown a) (shown (take n b)) all some)
+parts : (f : Format) (m : ℕ) (w0 w w' : Option (List ℕ)) (a b c : List Event) (n : ℕ) → n ≤ length b → Appends w0 w (written_from f m a)
+    → Appends w w' (written_from f (pictures_after m a) (take n b)) → Appends w0 w' (written_from f m (take (length a + n) (a ++ (b ++ c))))
+parts f m w0 w w' a b c n within all some =
+    subst (Appends w0 w') (sym (ap (λ es. written_from f m es) (take_more a b c n within) ∙ written-append f m a (take n b)))
+    (Appends-trans w0 w w' (written_from f m a) (written_from f (pictures_after m a) (take n b)) all some)
 
 -- a fault in b, after all of a and before c
-pub breaks_later : (fault : RunFault) (w0 w w' : Option (List ℕ)) (a b c : List Event) → Appends w0 w (shown a) → BreaksOff fault w w' b → BreaksOff fault w0 w' (a ++ (b ++ c))
-breaks_later Read w0 w w' a b c all some = some
-breaks_later Endless w0 w w' a b c all some = some
-breaks_later Write w0 w w' a b c all some =
-    let is = shown_three a b c in
-    let count = length (shown a) + some.count in
-    let long = ap (λ bs. length bs) is ∙ length-append (shown a) (shown b ++ shown c) ∙ ap (λ n. length (shown a) + n) (length-append (shown b) (shown c)) in
-    let within : some.count ≤ length (shown b) = omega (arith, some.fewer) in
+pub breaks_later : (f : Format) (n : ℕ) (fault : RunFault) (w0 w w' : Option (List ℕ)) (a b c : List Event) → Appends w0 w (written_from f n a)
+    → BreaksOff f (pictures_after n a) fault w w' b → BreaksOff f n fault w0 w' (a ++ (b ++ c))
+breaks_later f n Read w0 w w' a b c all some = some
+breaks_later f n Endless w0 w w' a b c all some = some
+breaks_later f n Write w0 w w' a b c all some =
+    let is = written_three f n a b c in
+    let m = pictures_after n a in
+    let x = written_from f n a in
+    let y = written_from f m b in
+    let z = written_from f (pictures_after m b) c in
+    let count = length x + some.count in
+    let long = ap (λ bs. length bs) is ∙ length-append x (y ++ z) ∙ ap (λ n. length x + n) (length-append y z) in
+    let within : some.count ≤ length y = omega (arith, some.fewer) in
     record {
       count = count;
       fewer = omega (arith, long, some.fewer);
       written =
-          subst (Appends w0 w') (sym (ap (λ bs. take count bs) is ∙ take_more (shown a) (shown b) (shown c) some.count within))
-          (Appends-trans w0 w w' (shown a) (take some.count (shown b)) all some.written);
+          subst (Appends w0 w') (sym (ap (λ bs. take count bs) is ∙ take_more x y z some.count within))
+          (Appends-trans w0 w w' x (take some.count y) all some.written);
     }
-breaks_later Memory w0 w w' a b c all some = record {
+breaks_later f n Memory w0 w w' a b c all some = record {
   count = length a + some.count;
   within = omega (arith, length-append a (b ++ c), length-append b c, some.within);
-  written = parts w0 w w' a b c some.count some.within all some.written;
+  written = parts f n w0 w w' a b c some.count some.within all some.written;
 }
+breaks_later f n Size w0 w w' a b c all some =
+    let next = Picture some.picture in
+    record {
+      front = a ++ some.front;
+      picture = some.picture;
+      rest = some.rest ++ c;
+      parts = ap (λ es. a ++ es) (ap (λ es. es ++ c) some.parts ∙ append_assoc some.front (next ∷ some.rest) c) ∙ sym (append_assoc a some.front (next ∷ (some.rest ++ c)));
+      another = ap (λ k. f.fits k some.picture) (after-append n a some.front) ∙ some.another;
+      written =
+          subst (Appends w0 w') (sym (written-append f n a some.front))
+          (Appends-trans w0 w w' (written_from f n a) (written_from f (pictures_after n a) some.front) all some.written);
+    }
+
+-- the same, told by the report
+pub breaks_behind : (f : Format) (r r' : Report) (fault : RunFault) (w0 w w' : Option (List ℕ)) (a b c : List Event) → r' ≡ report_with r a
+    → Appends w0 w (written_from f r.pictures a) → BreaksOff f r'.pictures fault w w' b → BreaksOff f r.pictures fault w0 w' (a ++ (b ++ c))
+breaks_behind f r r' fault w0 w w' a b c told all some =
+    breaks_later f r.pictures fault w0 w w' a b c all (subst (λ n. BreaksOff f n fault w w' b) (number_after r r' a told) some)
 
 -- before an event was taken
-pub stopped : (d0 d : Machine) (r0 r : Report) (w0 w : Option (List ℕ)) → IsDraining d0 d r0 r w0 w → WritesPictures w0 w (events_left d0)
-stopped d0 d r0 r w0 w i =
+pub stopped : (f : Format) (d0 d : Machine) (r0 r : Report) (w0 w : Option (List ℕ)) → IsDraining f d0 d r0 r w0 w → WritesPicturesAs f r0.pictures w0 w (events_left d0)
+stopped f d0 d r0 r w0 w i =
     record {
       count = length i.done;
       within = omega (arith, ap (λ es. length es) i.rest, length-append i.done (events_left d));
-      written = subst (Appends w0 w) (sym (ap (λ es. shown (take (length i.done) es)) i.rest ∙ ap (λ es. shown es) (take_front i.done (events_left d)))) i.written;
+      written =
+          subst (Appends w0 w) (sym (ap (λ es. written_from f r0.pictures (take (length i.done) es)) i.rest
+          ∙ ap (λ es. written_from f r0.pictures es) (take_front i.done (events_left d)))) i.written;
     }
 
 -- in the midst of one
-pub stopped_in : (fault : RunFault) (d0 d : Machine) (r0 r : Report) (w0 w w' : Option (List ℕ)) (e : Event)
-    → Some e ≡ next_event max_unit d → BreaksOff fault w w' (e ∷ []) → IsDraining d0 d r0 r w0 w → BreaksOff fault w0 w' (events_left d0)
-stopped_in fault d0 d r0 r w0 w w' e next some i =
+pub stopped_in : (f : Format) (fault : RunFault) (d0 d : Machine) (r0 r : Report) (w0 w w' : Option (List ℕ)) (e : Event)
+    → Some e ≡ next_event max_unit d → BreaksOff f r.pictures fault w w' (e ∷ []) → IsDraining f d0 d r0 r w0 w → BreaksOff f r0.pictures fault w0 w' (events_left d0)
+stopped_in f fault d0 d r0 r w0 w w' e next some i =
     let c = events_left (after_take (Some e) d) in
     let all : events_left d0 ≡ i.done ++ ((e ∷ []) ++ c) = i.rest ∙ ap (λ es. i.done ++ es) (due_next d e next) in
-    subst (BreaksOff fault w0 w') (sym all) (breaks_later fault w0 w w' i.done (e ∷ []) c i.written some)
+    subst (BreaksOff f r0.pictures fault w0 w') (sym all) (breaks_behind f r0 r fault w0 w w' i.done (e ∷ []) c i.report i.written some)
+
+-- in the writing of one picture
+in_picture : (f : Format) (n : ℕ) (fault : RunFault) (w w' : Option (List ℕ)) (p : Decoded) → StopsPicture fault (f.fits n p) w w' (f.text n p) → BreaksOff f n fault w w' (Picture p ∷ [])
+in_picture f n Write w w' p some = subst (WritesFirst w w') (sym (append-nil (f.text n p))) some
+in_picture f n Memory w w' p some = record { count = 0; within = omega arith; written = some }
+in_picture f n Size w w' p some = record { front = []; picture = p; rest = []; parts = refl; another = some.0; written = some.1 }
+in_picture f n Read w w' p some = absurd some
+in_picture f n Endless w w' p some = absurd some
+
+pub picture_broken : (f : Format) (n : ℕ) (fault : RunFault) (w w' : Option (List ℕ)) (e : Event) (p : Decoded) → e ≡ Picture p → StopsPicture fault (f.fits n p) w w' (f.text n p)
+    → BreaksOff f n fault w w' (e ∷ [])
+picture_broken f n fault w w' e p is some = subst (λ e. BreaksOff f n fault w w' (e ∷ [])) (sym is) (in_picture f n fault w w' p some)
 
 -- nothing was handled
-pub none_handled : (w : Option (List ℕ)) (events : List Event) → WritesPictures w w events
-none_handled w events = record { count = 0; within = omega arith; written = Appends-nil w }
+pub none_handled : (f : Format) (n : ℕ) (w : Option (List ℕ)) (events : List Event) → WritesPicturesAs f n w w events
+none_handled f n w events = record { count = 0; within = omega arith; written = Appends-nil w }
 
 -- ---- faults that are passed on
 

@@ -1,19 +1,20 @@
 -- A piece that is fed in parts.
-use Rattle.std.specs.Prelude.{◌≡◌, ℕ, ◌+◌, ◌-◌, ◌≤◌, false, List, [], ◌++◌, length, take, drop, Option, refl}
+use Rattle.std.specs.Prelude.{◌≡◌, ℕ, ◌+◌, ◌-◌, false, List, [], ◌++◌, length, take, drop, Option}
 use Rattle.std.proofs.Common.{ap, sym, subst, ◌∙◌, arith, append_assoc, append-nil, length-append}
 use Rattle.std.specs.Io.KnownBytes.{Appends}
-use Rattle.std.proofs.KnownBytes.{Appends-nil, Appends-trans}
+use Rattle.std.proofs.KnownBytes.{Appends-nil}
 use Rattle.std.proofs.Math.Seq.{drop-append_seam, take-add, take-length}
 use Rattle.std.proofs.lemmas.List.{take-append-drop}
 use Rattle.avc_decoder.specs.Laws.{EventsOnlyGrow}
 use Rattle.avc_decoder.specs.Machine.{Machine, after_feed}
 use Rattle.avc_decoder.specs.declared.event.Event.{Event}
 use Rattle.avc_decoder.specs.Events.{events}
-use Rattle.avc_run.specs.Decoding.{max_unit, shown}
-use Rattle.avc_run.specs.Draining.{events_defined, events_left, after_draining, report_with, BreaksOff, IsDrained, IsHandled}
+use Rattle.avc_run.specs.Decoding.{max_unit}
+use Rattle.avc_run.specs.Formats.{written_from, Format}
+use Rattle.avc_run.specs.Draining.{events_defined, events_left, report_with, BreaksOff, IsDrained, IsHandled}
 use Rattle.avc_run.specs.declared.report.Report.{Report}
 use Rattle.avc_run.specs.declared.fault.RunFault.{RunFault}
-use Rattle.avc_run.proofs.Draining.{breaks_later, report_with-append, shown-append}
+use Rattle.avc_run.proofs.Draining.{behind, breaks_behind, report_with-append}
 
 abbrev given : Machine → (bytes : List ℕ) (taken : ℕ) → Machine
 given m bytes taken = record m { bytes = bytes; taken = taken }
@@ -36,8 +37,8 @@ comes grow d part i =
     }
 
 -- after a part all that came is taken
-drained_after : EventsOnlyGrow → (d0 d : Machine) (part : List ℕ) (r0 r : Report) (w0 w : Option (List ℕ)) → IsDrained d0 → IsHandled (after_feed part d0) d r0 r w0 w → IsDrained d
-drained_after grow d0 d part r0 r w0 w i h =
+drained_after : (f : Format) → EventsOnlyGrow → (d0 d : Machine) (part : List ℕ) (r0 r : Report) (w0 w : Option (List ℕ)) → IsDrained d0 → IsHandled f (after_feed part d0) d r0 r w0 w → IsDrained d
+drained_after f grow d0 d part r0 r w0 w i h =
     let x = comes grow d0 part i in
     let m = after_feed part d0 in
     let count : d0.taken + length (events_left m) ≡ length (events_defined m) =
@@ -48,11 +49,11 @@ drained_after grow d0 d part r0 r w0 w i h =
     }
 
 -- two parts
-both : EventsOnlyGrow → (d0 d : Machine) (a b : List ℕ) (r0 r : Report) (w0 w : Option (List ℕ)) → IsDrained d0 → IsHandled (after_feed a d0) d r0 r w0 w
+both : (f : Format) → EventsOnlyGrow → (d0 d : Machine) (a b : List ℕ) (r0 r : Report) (w0 w : Option (List ℕ)) → IsDrained d0 → IsHandled f (after_feed a d0) d r0 r w0 w
     → events_left (after_feed (a ++ b) d0) ≡ events_left (after_feed a d0) ++ events_left (after_feed b d)
-both grow d0 d a b r0 r w0 w i h =
+both f grow d0 d a b r0 r w0 w i h =
     let x = comes grow d0 a i in
-    let y = comes grow d b (drained_after grow d0 d a r0 r w0 w i h) in
+    let y = comes grow d b (drained_after f grow d0 d a r0 r w0 w i h) in
     let z = comes grow d0 (a ++ b) i in
     let joined : events_defined (after_feed (a ++ b) d0) ≡ events_defined (after_feed b d) =
     ap (λ bs. events d0.output max_unit bs d0.ended) (sym (append_assoc d0.bytes a b)) ∙ ap (λ n. events_defined (after_feed b n)) (sym h.machine) in
@@ -75,12 +76,12 @@ later_events grow d front rest i =
           ∙ drop-append_seam (events_defined d) (x.others ++ later.0) ∙ ap (λ es. es ++ later.0) (sym x.left),
     )
 
-handled_both : EventsOnlyGrow → (d0 d d' : Machine) (a b : List ℕ) (r0 r r' : Report) (w0 w w' : Option (List ℕ)) → IsDrained d0
-    → IsHandled (after_feed a d0) d r0 r w0 w → IsHandled (after_feed b d) d' r r' w w' → IsHandled (after_feed (a ++ b) d0) d' r0 r' w0 w'
-handled_both grow d0 d d' a b r0 r r' w0 w w' i h more =
+handled_both : (f : Format) → EventsOnlyGrow → (d0 d d' : Machine) (a b : List ℕ) (r0 r r' : Report) (w0 w w' : Option (List ℕ)) → IsDrained d0
+    → IsHandled f (after_feed a d0) d r0 r w0 w → IsHandled f (after_feed b d) d' r r' w w' → IsHandled f (after_feed (a ++ b) d0) d' r0 r' w0 w'
+handled_both f grow d0 d d' a b r0 r r' w0 w w' i h more =
     let x = events_left (after_feed a d0) in
     let y = events_left (after_feed b d) in
-    let all = both grow d0 d a b r0 r w0 w i h in
+    let all = both f grow d0 d a b r0 r w0 w i h in
     let bytes : d.bytes ++ b ≡ d0.bytes ++ (a ++ b) = ap (λ n. n.bytes ++ b) h.machine ∙ append_assoc d0.bytes a b in
     let count : d.taken + length y ≡ d0.taken + length (events_left (after_feed (a ++ b) d0)) =
     omega (arith, ap (λ n. n.taken) h.machine, ap (λ es. length es) all, length-append x y) in
@@ -88,14 +89,14 @@ handled_both grow d0 d d' a b r0 r r' w0 w w' i h more =
       machine = more.machine ∙ ap (λ n. given n (d.bytes ++ b) (d.taken + length y)) h.machine
           ∙ ap (λ bs. given d0 bs (d.taken + length y)) bytes ∙ ap (given d0 (d0.bytes ++ (a ++ b))) count;
       report = more.report ∙ ap (λ q. report_with q y) h.report ∙ sym (report_with-append r0 x y) ∙ ap (λ es. report_with r0 es) (sym all);
-      written = subst (Appends w0 w') (sym (ap (λ es. shown es) all ∙ shown-append x y)) (Appends-trans w0 w w' (shown x) (shown y) h.written more.written);
+      written = subst (λ es. Appends w0 w' (written_from f r0.pictures es)) (sym all) (behind f r0 r w0 w w' x y h.report h.written more.written);
     }
 
 -- ---- as the loop says it
 
 -- before the first part
-pub none_fed : EventsOnlyGrow → (d : Machine) (r : Report) (w : Option (List ℕ)) (piece : List ℕ) → IsDrained d → IsHandled (after_feed (take 0 piece) d) d r r w w
-none_fed grow d r w piece i =
+pub none_fed : (f : Format) → EventsOnlyGrow → (d : Machine) (r : Report) (w : Option (List ℕ)) (piece : List ℕ) → IsDrained d → IsHandled f (after_feed (take 0 piece) d) d r r w w
+none_fed f grow d r w piece i =
     let nothing : events_left (after_feed [] d) ≡ [] =
     ap (λ bs. drop d.taken (events d.output max_unit bs d.ended)) (append-nil d.bytes) ∙ ap (λ n. drop n (events_defined d)) i.taken
     ∙ ap (λ es. drop (length (events_defined d)) es) (sym (append-nil (events_defined d))) ∙ drop-append_seam (events_defined d) [] in
@@ -103,7 +104,7 @@ none_fed grow d r w piece i =
     record {
       machine = ap (λ bs. given d bs d.taken) (sym (append-nil d.bytes)) ∙ ap (given d (d.bytes ++ [])) count;
       report = ap (λ es. report_with r es) (sym nothing);
-      written = subst (Appends w w) (ap (λ es. shown es) (sym nothing)) (Appends-nil w);
+      written = subst (Appends w w) (ap (λ es. written_from f r.pictures es) (sym nothing)) (Appends-nil w);
     }
 
 -- n bytes, and then so many more
@@ -112,27 +113,27 @@ first_more piece n len part is =
     let few : n + len - n ≡ len = omega arith in
     ap (λ p. take n piece ++ p) (is ∙ ap (λ k. take k (drop n piece)) few) ∙ sym (take-add n len piece)
 
-pub one_part : EventsOnlyGrow → (d0 d d' : Machine) (piece part : List ℕ) (n len : ℕ) (r0 r r' : Report) (w0 w w' : Option (List ℕ)) → IsDrained d0 → part ≡ take (n + len - n) (drop n piece)
-    → IsHandled (after_feed (take n piece) d0) d r0 r w0 w → IsHandled (after_feed part d) d' r r' w w' → IsHandled (after_feed (take (n + len) piece) d0) d' r0 r' w0 w'
-one_part grow d0 d d' piece part n len r0 r r' w0 w w' i is h more =
-    subst (λ bs. IsHandled (after_feed bs d0) d' r0 r' w0 w') (first_more piece n len part is) (handled_both grow d0 d d' (take n piece) part r0 r r' w0 w w' i h more)
+pub one_part : (f : Format) → EventsOnlyGrow → (d0 d d' : Machine) (piece part : List ℕ) (n len : ℕ) (r0 r r' : Report) (w0 w w' : Option (List ℕ)) → IsDrained d0 → part ≡ take (n + len - n) (drop n piece)
+    → IsHandled f (after_feed (take n piece) d0) d r0 r w0 w → IsHandled f (after_feed part d) d' r r' w w' → IsHandled f (after_feed (take (n + len) piece) d0) d' r0 r' w0 w'
+one_part f grow d0 d d' piece part n len r0 r r' w0 w w' i is h more =
+    subst (λ bs. IsHandled f (after_feed bs d0) d' r0 r' w0 w') (first_more piece n len part is) (handled_both f grow d0 d d' (take n piece) part r0 r r' w0 w w' i h more)
 
 -- all parts
-pub all_fed : (d0 d : Machine) (piece : List ℕ) (n : ℕ) (r0 r : Report) (w0 w : Option (List ℕ)) → n ≡ length piece → IsHandled (after_feed (take n piece) d0) d r0 r w0 w → IsHandled (after_feed piece d0) d r0 r w0 w
-all_fed d0 d piece n r0 r w0 w all h = subst (λ bs. IsHandled (after_feed bs d0) d r0 r w0 w) (ap (λ k. take k piece) all ∙ take-length piece) h
+pub all_fed : (f : Format) (d0 d : Machine) (piece : List ℕ) (n : ℕ) (r0 r : Report) (w0 w : Option (List ℕ)) → n ≡ length piece → IsHandled f (after_feed (take n piece) d0) d r0 r w0 w → IsHandled f (after_feed piece d0) d r0 r w0 w
+all_fed f d0 d piece n r0 r w0 w all h = subst (λ bs. IsHandled f (after_feed bs d0) d r0 r w0 w) (ap (λ k. take k piece) all ∙ take-length piece) h
 
 -- a fault in a part
-pub part_broken : EventsOnlyGrow → (d0 d : Machine) (piece part : List ℕ) (n len : ℕ) (r0 r : Report) (w0 w w' : Option (List ℕ)) (fault : RunFault) → IsDrained d0
-    → part ≡ take (n + len - n) (drop n piece) → IsHandled (after_feed (take n piece) d0) d r0 r w0 w → BreaksOff fault w w' (events_left (after_feed part d))
-    → BreaksOff fault w0 w' (events_left (after_feed piece d0))
-part_broken grow d0 d piece part n len r0 r w0 w w' fault i is h off =
+pub part_broken : (f : Format) → EventsOnlyGrow → (d0 d : Machine) (piece part : List ℕ) (n len : ℕ) (r0 r : Report) (w0 w w' : Option (List ℕ)) (fault : RunFault) → IsDrained d0
+    → part ≡ take (n + len - n) (drop n piece) → IsHandled f (after_feed (take n piece) d0) d r0 r w0 w → BreaksOff f r.pictures fault w w' (events_left (after_feed part d))
+    → BreaksOff f r0.pictures fault w0 w' (events_left (after_feed piece d0))
+part_broken f grow d0 d piece part n len r0 r w0 w w' fault i is h off =
     let front = take (n + len) piece in
     let rest = drop (n + len) piece in
     let a = events_left (after_feed (take n piece) d0) in
     let b = events_left (after_feed part d) in
     let so_far : events_left (after_feed front d0) ≡ a ++ b =
-    ap (λ bs. events_left (after_feed bs d0)) (sym (first_more piece n len part is)) ∙ both grow d0 d (take n piece) part r0 r w0 w i h in
+    ap (λ bs. events_left (after_feed bs d0)) (sym (first_more piece n len part is)) ∙ both f grow d0 d (take n piece) part r0 r w0 w i h in
     let c = later_events grow d0 front rest i in
     let whole : events_left (after_feed piece d0) ≡ a ++ (b ++ c.0) =
     ap (λ bs. events_left (after_feed bs d0)) (sym (take-append-drop (n + len) piece)) ∙ c.1 ∙ ap (λ es. es ++ c.0) so_far ∙ append_assoc a b c.0 in
-    subst (BreaksOff fault w0 w') (sym whole) (breaks_later fault w0 w w' a b c.0 h.written off)
+    subst (BreaksOff f r0.pictures fault w0 w') (sym whole) (breaks_behind f r0 r fault w0 w w' a b c.0 h.report h.written off)

@@ -1,5 +1,5 @@
 -- Bytes that were read before a fault.
-use Rattle.std.proofs.Common.{◌≡◌, ℕ, ◌≤◌, ◌^◌, false, true, List, length, Option}
+use Rattle.std.proofs.Common.{◌≡◌, ℕ, ◌≤◌, ◌^◌, false, List, length, Option}
 use Rattle.std.specs.Io.KnownBytes.{Consumes}
 use Rattle.avc_run.specs.Reading.{HasRead}
 use Rattle.avc_run.specs.declared.fault.RunFault.{RunFault}

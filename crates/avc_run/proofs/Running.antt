@@ -1,24 +1,24 @@
 -- A run, piece after piece.
-use Rattle.std.specs.Prelude.{◌≡◌, ℕ, ◌+◌, ◌<◌, ◌≤◌, ◌^◌, Bool, true, false, List, [], ◌∷◌, ◌++◌, length, take, drop, Option, Result, Ok, Err, IsErrAnd, refl}
-use Rattle.std.proofs.Common.{ap, sym, subst, ◌∙◌, arith, append_assoc, append-nil, length-append}
+use Rattle.std.specs.Prelude.{◌≡◌, ℕ, ◌+◌, ◌<◌, ◌≤◌, ◌^◌, Bool, true, false, List, [], ◌++◌, length, take, drop, Option, Result, Ok, Err, IsErrAnd, refl}
+use Rattle.std.proofs.Common.{ap, sym, subst, ◌∙◌, arith, append-nil, length-append}
 use Rattle.std.specs.Io.KnownBytes.{Appends, Consumes, IsAtEnd, Keeps}
-use Rattle.std.proofs.KnownBytes.{Appends-nil, Appends-trans, Consumes-kept, Consumes-nil, Consumes-trans}
-use Rattle.std.proofs.Math.Seq.{drop-append_seam, take-length}
-use Rattle.std.proofs.lemmas.List.{take-append-le, take-take}
+use Rattle.std.proofs.KnownBytes.{Appends-nil, Consumes-kept, Consumes-nil, Consumes-trans}
+use Rattle.std.proofs.Math.Seq.{drop-append_seam}
 use Rattle.avc_decoder.specs.Output.{Output}
 use Rattle.avc_decoder.specs.Events.{events, pictures_in, refusals_in}
 use Rattle.avc_decoder.specs.Laws.{EventsOnlyGrow}
 use Rattle.avc_decoder.specs.Machine.{Machine, after_feed, after_flush, new_machine}
 use Rattle.avc_decoder.specs.declared.event.Event.{Event}
-use Rattle.avc_run.specs.Decoding.{max_unit, defined, shown, report_of, Decodes, WritesPictures}
+use Rattle.avc_run.specs.Decoding.{max_unit, defined, report_of}
+use Rattle.avc_run.specs.Formats.{pictures_after, written_from, DecodesAs, Format}
 use Rattle.avc_run.specs.Draining.{events_defined, events_left, after_draining, report_with, BreaksOff, IsDrained, IsHandled, IsRunning}
-use Rattle.avc_run.specs.Reading.{HasRead, WritesFirst}
+use Rattle.avc_run.specs.Reading.{HasRead}
 use Rattle.avc_run.specs.declared.report.Report.{Report}
 use Rattle.avc_annexb.specs.Units.{saturated}
 use Rattle.avc_types.specs.declared.fault.Fault.{Fault}
 use Rattle.avc_run.specs.declared.fault.RunFault.{RunFault}
-use Rattle.avc_run.specs.declared.fault.RunFault.TheVariants.{Read, Endless, Write, Memory}
-use Rattle.avc_run.proofs.Draining.{report_with-append, reported_is, shown-append, breaks_later}
+use Rattle.avc_run.specs.declared.fault.RunFault.TheVariants.{Read, Endless, Write, Memory, Size}
+use Rattle.avc_run.proofs.Draining.{behind, breaks_behind, pictures_now, report_with-append, reported_is}
 
 -- ---- reports
 
@@ -32,6 +32,18 @@ told es =
 
 told_more : (a b : List Event) → report_with (report_of a) b ≡ report_of (a ++ b)
 told_more a b = ap (λ r. report_with r b) (sym (told a)) ∙ sym (report_with-append fresh a b) ∙ told (a ++ b)
+
+-- a report's number of pictures, as they are counted from 0
+counted : (es : List Event) → (report_of es).pictures ≡ pictures_after 0 es
+counted es = ap (λ r. r.pictures) (sym (told es)) ∙ pictures_now fresh es
+
+-- what was written from the start on, and then behind it
+abbrev OfAll : Format → (old new : Option (List ℕ)) → List Event → Type 0
+OfAll f old new es = Appends old new (written_from f 0 es)
+
+joined : (f : Format) (r : Report) (w0 w w' : Option (List ℕ)) (a b : List Event) → r ≡ report_of a → OfAll f w0 w a → Appends w w' (written_from f r.pictures b)
+    → OfAll f w0 w' (a ++ b)
+joined f r w0 w w' a b is before more = behind f fresh r w0 w w' a b (is ∙ sym (told a)) before more
 
 -- ---- what is due
 
@@ -60,9 +72,9 @@ drained_then m front others taken all due' =
 abbrev report_of_none : List (ℕ × Fault) → Report
 report_of_none refused = record { pictures = 0; refused = refused }
 
-pub one_piece : EventsOnlyGrow → (output : Output) (unread left left' w0 w w' : Option (List ℕ)) (d d' : Machine) (r r' : Report) (piece : List ℕ) →
-    IsRunning output unread left w0 w d r → Consumes left left' piece → IsHandled (after_feed piece d) d' r r' w w' → IsRunning output unread left' w0 w' d' r'
-one_piece grow output unread left left' w0 w w' d d' r r' piece i more h =
+pub one_piece : (f : Format) → EventsOnlyGrow → (output : Output) (unread left left' w0 w w' : Option (List ℕ)) (d d' : Machine) (r r' : Report) (piece : List ℕ) →
+    IsRunning f output unread left w0 w d r → Consumes left left' piece → IsHandled f (after_feed piece d) d' r r' w w' → IsRunning f output unread left' w0 w' d' r'
+one_piece f grow output unread left left' w0 w w' d d' r r' piece i more h =
     let m = after_feed piece (taken_so_far output i.bytes) in
     let front = events output max_unit i.bytes false in
     let then' = due_then grow output i.bytes piece false in
@@ -73,9 +85,7 @@ one_piece grow output unread left left' w0 w w' d d' r r' piece i more h =
       consumed = Consumes-trans unread left left' i.bytes piece i.consumed more;
       machine = h.machine ∙ ap (λ n. after_draining n) same ∙ drained_then m front then'.0 refl then'.1 then'.2;
       report = h.report ∙ ap (λ q. report_with q (events_left (after_feed piece d))) i.report ∙ ap (λ es. report_with (report_of front) es) due_is ∙ told_more front then'.0 ∙ ap (λ es. report_of es) (sym then'.1);
-      written =
-          subst (Appends w0 w') (ap (λ es. shown front ++ shown es) due_is ∙ sym (shown-append front then'.0) ∙ ap (λ es. shown es) (sym then'.1))
-          (Appends-trans w0 w w' (shown front) (shown (events_left (after_feed piece d))) i.written h.written);
+      written = subst (OfAll f w0 w') (ap (λ es. front ++ es) due_is ∙ sym then'.1) (joined f r w0 w w' front (events_left (after_feed piece d)) i.report i.written h.written);
     }
 
 -- what is due at the end
@@ -90,101 +100,109 @@ nothing_more : (unread left left' : Option (List ℕ)) (bytes piece : List ℕ) 
 nothing_more unread left left' bytes piece len so_far none more =
     subst (Consumes unread left') (append-nil bytes) (Consumes-trans unread left left' bytes [] so_far (subst (λ n. Consumes left left' (take n piece)) none more))
 
-pub ended : EventsOnlyGrow → (output : Output) (unread left left' w0 w w' : Option (List ℕ)) (d d' : Machine) (r r' : Report) (len : ℕ) (piece : List ℕ) →
-    IsRunning output unread left w0 w d r → len ≡ 0 → Consumes left left' (take len piece) → IsAtEnd left' → IsHandled (after_flush d) d' r r' w w' → Decodes output unread left' w0 w' (Ok r')
-ended grow output unread left left' w0 w w' d d' r r' len piece i none more at_end h =
+pub ended : (f : Format) → EventsOnlyGrow → (output : Output) (unread left left' w0 w w' : Option (List ℕ)) (d d' : Machine) (r r' : Report) (len : ℕ) (piece : List ℕ) →
+    IsRunning f output unread left w0 w d r → len ≡ 0 → Consumes left left' (take len piece) → IsAtEnd left' → IsHandled f (after_flush d) d' r r' w w' → DecodesAs f output unread left' w0 w' (Ok r')
+ended f grow output unread left left' w0 w w' d d' r r' len piece i none more at_end h =
     let front = events output max_unit i.bytes false in
     let then' = due_at_end grow output i.bytes in
     let same : after_flush d ≡ after_flush (taken_so_far output i.bytes) = ap (λ n. after_flush n) i.machine in
     let due_is : events_left (after_flush d) ≡ then'.0 = ap (λ n. events_left n) same ∙ then'.2 in
     let consumed = nothing_more unread left left' i.bytes piece len i.consumed none more in (
       i.bytes,
+      true,
       record { consumed = consumed; whole = λ all. at_end },
-      subst (Appends w0 w') (ap (λ es. shown front ++ shown es) due_is ∙ sym (shown-append front then'.0) ∙ ap (λ es. shown es) (sym then'.1))
-          (Appends-trans w0 w w' (shown front) (shown (events_left (after_flush d))) i.written h.written),
+      subst (OfAll f w0 w') (ap (λ es. front ++ es) due_is ∙ sym then'.1) (joined f r w0 w w' front (events_left (after_flush d)) i.report i.written h.written),
       h.report ∙ ap (λ q. report_with q (events_left (after_flush d))) i.report ∙ ap (λ es. report_with (report_of front) es) due_is ∙ told_more front then'.0 ∙ ap (λ es. report_of es) (sym then'.1),
+      λ other. cc,
     )
+
+-- as many pictures as are wanted
+pub enough : (f : Format) (output : Output) (unread left w0 w : Option (List ℕ)) (d : Machine) (r : Report) → IsRunning f output unread left w0 w d r → f.enough r.pictures ≡ true
+    → DecodesAs f output unread left w0 w (Ok r)
+enough f output unread left w0 w d r i all = (i.bytes, false, record { consumed = i.consumed; whole = λ is. cc }, i.written, i.report, λ other. all)
 
 -- ---- faults
 
 -- one of reading
-pub unread_on : (output : Output) (unread left left' w0 w : Option (List ℕ)) (d : Machine) (r : Report) (f : RunFault) → IsRunning output unread left w0 w d r → Keeps left left' → f ≡ Read → Decodes output unread left' w0 w (Err f)
-unread_on output unread left left' w0 w d r f i kept is =
-    subst (λ f. Decodes output unread left' w0 w (Err f)) (sym is) (i.bytes, record { consumed = Consumes-kept unread left left' i.bytes i.consumed kept; whole = λ all. cc }, i.written)
+pub unread_on : (f : Format) (output : Output) (unread left left' w0 w : Option (List ℕ)) (d : Machine) (r : Report) (fault : RunFault) → IsRunning f output unread left w0 w d r → Keeps left left' → fault ≡ Read → DecodesAs f output unread left' w0 w (Err fault)
+unread_on f output unread left left' w0 w d r fault i kept is =
+    subst (λ fault. DecodesAs f output unread left' w0 w (Err fault)) (sym is) (i.bytes, record { consumed = Consumes-kept unread left left' i.bytes i.consumed kept; whole = λ all. cc }, i.written)
 
 -- so many reads, each of some bytes
-pub record IsReading (reads : ℕ) (output : Output) (unread left held holds : Option (List ℕ)) (m : Machine) (r : Report) : Type 0 where
-  pub runs : IsRunning output unread left held holds m r
+pub record IsReading (format : Format) (reads : ℕ) (output : Output) (unread left held holds : Option (List ℕ)) (m : Machine) (r : Report) : Type 0 where
+  pub runs : IsRunning format output unread left held holds m r
   pub many : reads ≤ length runs.bytes
 
-pub reading_begins : (output : Output) (unread holds : Option (List ℕ)) (m : Machine) (refused : List (ℕ × Fault)) → m ≡ new_machine output → refused ≡ []
-    → IsReading 0 output unread unread holds holds m (record { pictures = 0; refused = refused })
-reading_begins output unread holds m refused new none = record {
+pub reading_begins : (f : Format) (output : Output) (unread holds : Option (List ℕ)) (m : Machine) (refused : List (ℕ × Fault)) → m ≡ new_machine output → refused ≡ []
+    → IsReading f 0 output unread unread holds holds m (record { pictures = 0; refused = refused })
+reading_begins f output unread holds m refused new none = record {
   runs = record { bytes = []; consumed = Consumes-nil unread; machine = new; report = ap (λ rs. report_of_none rs) none; written = Appends-nil holds };
   many = let low : 0 ≤ 0 = omega arith in low;
 }
 
-pub one_read : EventsOnlyGrow → (reads : ℕ) (output : Output) (unread left left' w0 w w' : Option (List ℕ)) (d d' : Machine) (r r' : Report) (piece : List ℕ) → 0 < length piece →
-    IsReading reads output unread left w0 w d r → Consumes left left' piece → IsHandled (after_feed piece d) d' r r' w w' → IsReading (reads + 1) output unread left' w0 w' d' r'
+pub one_read : (f : Format) → EventsOnlyGrow → (reads : ℕ) (output : Output) (unread left left' w0 w w' : Option (List ℕ)) (d d' : Machine) (r r' : Report) (piece : List ℕ) → 0 < length piece →
+    IsReading f reads output unread left w0 w d r → Consumes left left' piece → IsHandled f (after_feed piece d) d' r r' w w' → IsReading f (reads + 1) output unread left' w0 w' d' r'
 unfolding one_piece
-one_read grow reads output unread left left' w0 w w' d d' r r' piece some i more h = record {
-  runs = one_piece grow output unread left left' w0 w w' d d' r r' piece i.runs more h;
+one_read f grow reads output unread left left' w0 w w' d d' r r' piece some i more h = record {
+  runs = one_piece f grow output unread left left' w0 w w' d d' r r' piece i.runs more h;
   many = let more' : reads + 1 ≤ length (i.runs.bytes ++ piece) = omega (arith, i.many, some, length-append i.runs.bytes piece) in more';
 }
 
 -- more reads than a run may take
-pub endless : (output : Output) (unread left w0 w : Option (List ℕ)) (d : Machine) (r : Report) (reads : ℕ) → IsReading reads output unread left w0 w d r → 2 ^ 32 ≤ reads → Decodes output unread left w0 w (Err Endless)
-endless output unread left w0 w d r reads i all =
+pub endless : (f : Format) (output : Output) (unread left w0 w : Option (List ℕ)) (d : Machine) (r : Report) (reads : ℕ) → IsReading f reads output unread left w0 w d r → 2 ^ 32 ≤ reads → DecodesAs f output unread left w0 w (Err Endless)
+endless f output unread left w0 w d r reads i all =
     (i.runs.bytes, record { consumed = i.runs.consumed; whole = λ all. cc }, i.runs.written, omega (arith, i.many, all))
 
 -- a fault at the events of all bytes so far
-broken : (output : Output) (fault : RunFault) (unread left w0 w' : Option (List ℕ)) (bytes : List ℕ) (all : Bool) → HasRead unread left bytes all
-    → BreaksOff fault w0 w' (events output max_unit bytes all) → Decodes output unread left w0 w' (Err fault)
-broken output Read unread left w0 w' bytes all read off = absurd off
-broken output Endless unread left w0 w' bytes all read off = absurd off
-broken output Write unread left w0 w' bytes all read off = (bytes, all, read, off)
-broken output Memory unread left w0 w' bytes all read off = (bytes, all, read, off)
+broken : (f : Format) (output : Output) (fault : RunFault) (unread left w0 w' : Option (List ℕ)) (bytes : List ℕ) (all : Bool) → HasRead unread left bytes all
+    → BreaksOff f 0 fault w0 w' (events output max_unit bytes all) → DecodesAs f output unread left w0 w' (Err fault)
+broken f output Read unread left w0 w' bytes all read off = absurd off
+broken f output Endless unread left w0 w' bytes all read off = absurd off
+broken f output Write unread left w0 w' bytes all read off = (bytes, all, read, off)
+broken f output Memory unread left w0 w' bytes all read off = (bytes, all, read, off)
+broken f output Size unread left w0 w' bytes all read off = (bytes, all, read, off)
 
 -- the front, what broke off, and nothing after it
 nothing_after : (front due all : List Event) → all ≡ front ++ due → all ≡ front ++ (due ++ [])
 nothing_after front due all is = is ∙ ap (λ es. front ++ es) (sym (append-nil due))
 
 -- at the events of a piece
-pub broken_in : EventsOnlyGrow → (output : Output) (unread left left' w0 w w' : Option (List ℕ)) (d : Machine) (r : Report) (piece : List ℕ) (fault : RunFault) →
-    IsRunning output unread left w0 w d r → Consumes left left' piece → BreaksOff fault w w' (events_left (after_feed piece d)) → Decodes output unread left' w0 w' (Err fault)
-broken_in grow output unread left left' w0 w w' d r piece fault i more off =
+pub broken_in : (f : Format) → EventsOnlyGrow → (output : Output) (unread left left' w0 w w' : Option (List ℕ)) (d : Machine) (r : Report) (piece : List ℕ) (fault : RunFault) →
+    IsRunning f output unread left w0 w d r → Consumes left left' piece → BreaksOff f r.pictures fault w w' (events_left (after_feed piece d)) → DecodesAs f output unread left' w0 w' (Err fault)
+broken_in f grow output unread left left' w0 w w' d r piece fault i more off =
     let front = events output max_unit i.bytes false in
     let due = events_left (after_feed piece d) in
     let then' = due_then grow output i.bytes piece false in
     let due_is : due ≡ then'.0 = ap (λ n. events_left (after_feed piece n)) i.machine ∙ then'.2 in
     let all = nothing_after front due (events output max_unit (i.bytes ++ piece) false) (then'.1 ∙ ap (λ es. front ++ es) (sym due_is)) in
-    broken output fault unread left' w0 w' (i.bytes ++ piece) false
+    broken f output fault unread left' w0 w' (i.bytes ++ piece) false
     (record { consumed = Consumes-trans unread left left' i.bytes piece i.consumed more; whole = λ all. cc })
-    (subst (BreaksOff fault w0 w') (sym all) (breaks_later fault w0 w w' front due [] i.written off))
+    (subst (BreaksOff f 0 fault w0 w') (sym all) (breaks_behind f fresh r fault w0 w w' front due [] (i.report ∙ sym (told front)) i.written off))
 
 -- at the events of the end
-pub broken_at_end : EventsOnlyGrow → (output : Output) (unread left left' w0 w w' : Option (List ℕ)) (d : Machine) (r : Report) (len : ℕ) (piece : List ℕ) (fault : RunFault) →
-    IsRunning output unread left w0 w d r → len ≡ 0 → Consumes left left' (take len piece) → IsAtEnd left' → BreaksOff fault w w' (events_left (after_flush d)) → Decodes output unread left' w0 w' (Err fault)
-broken_at_end grow output unread left left' w0 w w' d r len piece fault i none more at_end off =
+pub broken_at_end : (f : Format) → EventsOnlyGrow → (output : Output) (unread left left' w0 w w' : Option (List ℕ)) (d : Machine) (r : Report) (len : ℕ) (piece : List ℕ) (fault : RunFault) →
+    IsRunning f output unread left w0 w d r → len ≡ 0 → Consumes left left' (take len piece) → IsAtEnd left' → BreaksOff f r.pictures fault w w' (events_left (after_flush d)) → DecodesAs f output unread left' w0 w' (Err fault)
+broken_at_end f grow output unread left left' w0 w w' d r len piece fault i none more at_end off =
     let front = events output max_unit i.bytes false in
     let due = events_left (after_flush d) in
     let then' = due_at_end grow output i.bytes in
     let due_is : due ≡ then'.0 = ap (λ n. events_left (after_flush n)) i.machine ∙ then'.2 in
     let all = nothing_after front due (defined output i.bytes) (then'.1 ∙ ap (λ es. front ++ es) (sym due_is)) in
-    broken output fault unread left' w0 w' i.bytes true
+    broken f output fault unread left' w0 w' i.bytes true
     (record { consumed = nothing_more unread left left' i.bytes piece len i.consumed none more; whole = λ is. at_end })
-    (subst (BreaksOff fault w0 w') (sym all) (breaks_later fault w0 w w' front due [] i.written off))
+    (subst (BreaksOff f 0 fault w0 w') (sym all) (breaks_behind f fresh r fault w0 w w' front due [] (i.report ∙ sym (told front)) i.written off))
 
 pub err_is : {A : Type 0} (r : Result A RunFault) (f : RunFault) → IsErrAnd r (λ e. e ≡ f) → r ≡ Err f
 err_is (Ok a) f is = absurd is
 err_is (Err e) f is = ap (λ e. Err e) is
 
-pub decodes_err : (output : Output) (unread left old new : Option (List ℕ)) (r : Result Report RunFault) (f : RunFault) → r ≡ Err f → Decodes output unread left old new (Err f) → Decodes output unread left old new r
-decodes_err output unread left old new r f is d = subst (Decodes output unread left old new) (sym is) d
+pub decodes_err : (format : Format) (output : Output) (unread left old new : Option (List ℕ)) (r : Result Report RunFault) (f : RunFault) → r ≡ Err f
+    → DecodesAs format output unread left old new (Err f) → DecodesAs format output unread left old new r
+decodes_err format output unread left old new r f is d = subst (DecodesAs format output unread left old new) (sym is) d
 
 -- all events that had come were taken
-pub drained : (output : Output) (unread left w0 w : Option (List ℕ)) (d : Machine) (r : Report) → IsRunning output unread left w0 w d r → IsDrained d
-drained output unread left w0 w d r i = record {
+pub drained : (f : Format) (output : Output) (unread left w0 w : Option (List ℕ)) (d : Machine) (r : Report) → IsRunning f output unread left w0 w d r → IsDrained d
+drained f output unread left w0 w d r i = record {
   goes_on = ap (λ n. n.ended) i.machine;
   taken = ap (λ n. n.taken) i.machine ∙ ap (λ n. length (events_defined n)) (sym i.machine);
 }

@@ -1,18 +1,15 @@
 -- What `decode` writes and reports.
-use Rattle.std.specs.Prelude.{◌≡◌, ℕ, ◌≤◌, ◌^◌, Bool, true, false, List, [], ◌∷◌, length, take, Option, Result, Ok, Err}
+use Rattle.std.specs.Prelude.{◌≡◌, ℕ, ◌≤◌, ◌^◌, Bool, true, false, List, length, take, Option, Result, Ok, Err}
 use Rattle.std.specs.List.{flat_map}
 use Rattle.std.specs.Io.KnownBytes.{Appends}
-use Rattle.avc_types.specs.declared.fault.Fault.{Fault}
-use Rattle.avc_types.specs.declared.picture.Picture.{Picture as Decoded}
 use Rattle.avc_annexb.specs.Units.{saturated}
 use Rattle.avc_yuv.specs.I420.{i420}
 use Rattle.avc_decoder.specs.Output.{Output}
 use Rattle.avc_decoder.specs.Events.{events, pictures_in, refusals_in}
 use Rattle.avc_decoder.specs.declared.event.Event.{Event}
-use Rattle.avc_decoder.specs.declared.event.Event.TheVariants.{Picture, Refused}
 use Rattle.avc_run.specs.Reading.{HasRead, WritesFirst}
 use Rattle.avc_run.specs.declared.fault.RunFault.{RunFault}
-use Rattle.avc_run.specs.declared.fault.RunFault.TheVariants.{Read, Endless, Write, Memory}
+use Rattle.avc_run.specs.declared.fault.RunFault.TheVariants.{Read, Endless, Write, Memory, Size}
 use Rattle.avc_run.specs.declared.report.Report.{Report}
 
 -- A unit of more bytes is too long.
@@ -39,7 +36,8 @@ pub record WritesPictures (old new : Option (List ℕ)) (events : List Event) : 
 
 -- Of all bytes that the reader had, the defined pictures are written, and the report is on what they define. After a read fault
 -- exactly the pictures are written that the bytes read so far define, and also where there were more reads than a run may take,
--- each of some bytes; after a write fault fewer than all of their bytes, and after want of memory the first of these pictures.
+-- each of some bytes; after a write fault fewer than all of their bytes, and after want of memory the first of these pictures. No
+-- size is another one.
 abbrev pub Decodes : Output → (unread left held holds : Option (List ℕ)) → Result Report RunFault → Type 0
 Decodes output unread left held holds (Ok report) =
     (bytes : List ℕ) × HasRead unread left bytes true × Appends held holds (shown (defined output bytes)) × (report ≡ report_of (defined output bytes))
@@ -51,3 +49,4 @@ Decodes output unread left held holds (Err Write) =
     (bytes : List ℕ) × (all : Bool) × HasRead unread left bytes all × WritesFirst held holds (shown (events output max_unit bytes all))
 Decodes output unread left held holds (Err Memory) =
     (bytes : List ℕ) × (all : Bool) × HasRead unread left bytes all × WritesPictures held holds (events output max_unit bytes all)
+Decodes output unread left held holds (Err Size) = ⊥

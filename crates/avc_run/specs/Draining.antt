@@ -8,10 +8,11 @@ use Rattle.avc_decoder.specs.Machine.{Machine}
 use Rattle.avc_decoder.specs.declared.event.Event.{Event}
 use Rattle.avc_decoder.specs.declared.event.Event.TheVariants.{Picture, Refused}
 use Rattle.std.specs.Io.KnownBytes.{Appends, Consumes}
-use Rattle.avc_run.specs.Decoding.{max_unit, report_of, shown, WritesPictures}
+use Rattle.avc_run.specs.Decoding.{max_unit, report_of}
+use Rattle.avc_run.specs.Formats.{written_from, EndsAtAnotherSize, Format, WritesPicturesAs}
 use Rattle.avc_run.specs.Reading.{WritesFirst}
 use Rattle.avc_run.specs.declared.fault.RunFault.{RunFault}
-use Rattle.avc_run.specs.declared.fault.RunFault.TheVariants.{Read, Endless, Write, Memory}
+use Rattle.avc_run.specs.declared.fault.RunFault.TheVariants.{Read, Endless, Write, Memory, Size}
 use Rattle.avc_run.specs.declared.report.Report.{Report}
 
 -- the events that the bytes so far define
@@ -47,30 +48,31 @@ IfPicture (Picture p) holds = holds p
 IfPicture (Refused unit f) holds = Unit {0}
 
 -- From `old` all events that were due were taken, told in the report and written.
-pub record IsHandled (old new : Machine) (before now : Report) (held holds : Option (List ℕ)) : Type 0 where
+pub record IsHandled (format : Format) (old new : Machine) (before now : Report) (held holds : Option (List ℕ)) : Type 0 where
   pub machine : new ≡ after_draining old
   pub report : now ≡ report_with before (events_left old)
-  pub written : Appends held holds (shown (events_left old))
+  pub written : Appends held holds (written_from format before.pictures (events_left old))
 
 -- From `old` some events were taken and handled.
-pub record IsDraining (old new : Machine) (before now : Report) (held holds : Option (List ℕ)) : Type 0 where
+pub record IsDraining (format : Format) (old new : Machine) (before now : Report) (held holds : Option (List ℕ)) : Type 0 where
   pub done : List Event
   pub rest : events_left old ≡ done ++ events_left new
   pub machine : new ≡ record old { taken = old.taken + length done }
   pub report : now ≡ report_with before done
-  pub written : Appends held holds (shown done)
+  pub written : Appends held holds (written_from format before.pictures done)
 
 -- These bytes were read, and the events that they define were taken, told and written.
-pub record IsRunning (output : Output) (unread left held holds : Option (List ℕ)) (m : Machine) (r : Report) : Type 0 where
+pub record IsRunning (format : Format) (output : Output) (unread left held holds : Option (List ℕ)) (m : Machine) (r : Report) : Type 0 where
   pub bytes : List ℕ
   pub consumed : Consumes unread left bytes
   pub machine : m ≡ record { output = output; bytes = bytes; ended = false; taken = length (events output max_unit bytes false); failed = false }
   pub report : r ≡ report_of (events output max_unit bytes false)
-  pub written : Appends held holds (shown (events output max_unit bytes false))
+  pub written : Appends held holds (written_from format 0 (events output max_unit bytes false))
 
--- A fault broke off the handling of these events. None comes from reading here.
-abbrev pub BreaksOff : RunFault → (old new : Option (List ℕ)) → List Event → Type 0
-BreaksOff Read old new events = ⊥
-BreaksOff Endless old new events = ⊥
-BreaksOff Write old new events = WritesFirst old new (shown events)
-BreaksOff Memory old new events = WritesPictures old new events
+-- A fault broke off the handling of these events, before which so many pictures went out. None comes from reading here.
+abbrev pub BreaksOff : Format → (number : ℕ) → RunFault → (old new : Option (List ℕ)) → List Event → Type 0
+BreaksOff format n Read old new events = ⊥
+BreaksOff format n Endless old new events = ⊥
+BreaksOff format n Write old new events = WritesFirst old new (written_from format n events)
+BreaksOff format n Memory old new events = WritesPicturesAs format n old new events
+BreaksOff format n Size old new events = EndsAtAnotherSize format n old new events

@@ -1,5 +1,6 @@
 pub mod Reading
 pub mod Decoding
+pub mod Formats
 pub mod Listing
 pub mod Status
 pub mod Messages

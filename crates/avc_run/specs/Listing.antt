@@ -4,7 +4,7 @@ use Rattle.std.specs.Io.KnownBytes.{Appends, Keeps}
 use Rattle.avc_tools.specs.Pieces.{pieces}
 use Rattle.avc_run.specs.Reading.{HasRead, WritesFirst, WritesSome}
 use Rattle.avc_run.specs.declared.fault.RunFault.{RunFault}
-use Rattle.avc_run.specs.declared.fault.RunFault.TheVariants.{Read, Endless, Write, Memory}
+use Rattle.avc_run.specs.declared.fault.RunFault.TheVariants.{Read, Endless, Write, Memory, Size}
 
 -- The text of all bytes that the reader had is written. After a read fault exactly that text is written that the bytes read so far
 -- have, after a write fault less than all of it, and after want of memory a first part of it. Input without an end has as many bytes
@@ -18,6 +18,7 @@ Lists text unread left held holds (Err Memory) =
     (bytes : List ℕ) × (all : Bool) × HasRead unread left bytes all × WritesSome held holds (text bytes all)
 Lists text unread left held holds (Err Endless) =
     (bytes : List ℕ) × HasRead unread left bytes false × Appends held holds (text bytes false) × (2 ^ 32 ≤ length bytes)
+Lists text unread left held holds (Err Size) = ⊥
 Lists text unread left held holds (Err Read) =
     (bytes : List ℕ) × HasRead unread left bytes false × Appends held holds (text bytes false)
 
@@ -34,3 +35,4 @@ Cuts number unread left held holds (Err Write) = (bytes : List ℕ) × HasRead u
 Cuts number unread left held holds (Err Read) = (bytes : List ℕ) × HasRead unread left bytes false × Keeps held holds
 Cuts number unread left held holds (Err Endless) = (bytes : List ℕ) × HasRead unread left bytes false × Keeps held holds × (2 ^ 32 ≤ length bytes)
 Cuts number unread left held holds (Err Memory) = (bytes : List ℕ) × HasRead unread left bytes false × Keeps held holds
+Cuts number unread left held holds (Err Size) = ⊥

@@ -5,7 +5,7 @@ use Rattle.std.specs.Fmt.{decimal}
 use Rattle.avc_types.specs.declared.fault.Fault.{Fault}
 use Rattle.avc_types.specs.Faults.{number_of, name_of}
 use Rattle.avc_run.specs.declared.fault.RunFault.{RunFault}
-use Rattle.avc_run.specs.declared.fault.RunFault.TheVariants.{Read, Endless, Write, Memory}
+use Rattle.avc_run.specs.declared.fault.RunFault.TheVariants.{Read, Endless, Write, Memory, Size}
 use Rattle.avc_run.specs.declared.report.Report.{Report}
 
 -- the end of a line
@@ -27,6 +27,7 @@ fault_line Read = codes "avcdec: read fault" ++ newline
 fault_line Endless = codes "avcdec: read fault" ++ newline
 fault_line Write = codes "avcdec: write fault" ++ newline
 fault_line Memory = codes "avcdec: out of memory" ++ newline
+fault_line Size = codes "avcdec: a picture of another size" ++ newline
 
 -- of a run
 abbrev pub text_of : Result Report RunFault → List ℕ

@@ -2,17 +2,18 @@
 use Rattle.std.specs.Prelude.{ℕ, nat_lt, if◌then◌else◌, List, [], ◌∷◌, Result, Ok, Err}
 use Rattle.avc_types.specs.declared.fault.Fault.{Fault}
 use Rattle.avc_run.specs.declared.fault.RunFault.{RunFault}
-use Rattle.avc_run.specs.declared.fault.RunFault.TheVariants.{Read, Endless, Write, Memory}
+use Rattle.avc_run.specs.declared.fault.RunFault.TheVariants.{Read, Endless, Write, Memory, Size}
 use Rattle.avc_run.specs.declared.report.Report.{Report}
 use Rattle.avc_run.specs.declared.exit.Answer.{Answer}
 use Rattle.avc_run.specs.declared.exit.Answer.TheVariants.{Help, Misuse}
 
--- 3 where reading or writing failed, 4 where memory was refused
+-- 3 where reading or writing failed, also for a picture of another size, 4 where memory was refused
 abbrev pub fault_status : RunFault → ℕ
 fault_status Read = 3
 fault_status Endless = 3
 fault_status Write = 3
 fault_status Memory = 4
+fault_status Size = 3
 
 -- 1 where something was refused
 abbrev pub refused_status : List (ℕ × Fault) → ℕ

@@ -1,18 +1,19 @@
 ghost use Rattle.std.specs.Prelude.{◌≡◌, ◌∷◌, [], IfErr, OnOk};
 ghost use Rattle.std.specs.Io.KnownBytes.{Appends};
 ghost use Rattle.avc_types.specs.Whole.{IsWhole};
-ghost use Rattle.avc_run.specs.Decoding.{shown, Decodes};
+ghost use Rattle.avc_run.specs.Decoding.{Decodes};
+ghost use Rattle.avc_run.specs.Formats.{written_from, DecodesAs};
 ghost use Rattle.avc_run.specs.Draining.{events_left, report_with, BreaksOff, IfPicture, IsDrained, IsHandled};
 ghost use Rattle.avc_run.specs.Parts.{start_code};
 ghost use Rattle.avc_decoder.specs.Machine.{after_feed, after_flush, new_machine};
 
 use crate::fault::RunFault;
+use crate::format::{I420, PictureFormat};
 use crate::parts::{START_CODE, part_length};
 use crate::read::{PIECE, READS, read_once};
 use crate::report::{Refusals, Report};
 use avc_decoder::laws::{events_only_grow, pictures_are_whole};
 use avc_decoder::{Decoder, Event, Output};
-use avc_yuv::write_i420;
 use memchr::memmem::Finder;
 use std::alloc::Global;
 use std::io::{Read, Write};
@@ -30,19 +31,35 @@ pub fn run<R: Read, W: Write>(
 ) -> Result<Report, RunFault>
     ensures { Decodes output (R.remaining reader.old) (R.remaining reader.new) (W.contents writer.old) (W.contents writer.new) result }
 {
+    run_as(alloc, output, &I420, reader, writer)
+}
+
+/// The same in this format. Where it wants no more pictures, the bytes are not read to their end.
+pub fn run_as<F: PictureFormat, R: Read, W: Write>(
+    alloc: Global,
+    output: Output,
+    format: &F,
+    reader: &mut R,
+    writer: &mut W,
+) -> Result<Report, RunFault>
+    ensures { DecodesAs (F.format format.now) output (R.remaining reader.old) (R.remaining reader.new) (W.contents writer.old)
+        (W.contents writer.new) result }
+{
     let mut decoder = Decoder::<MAX_UNIT>::new(alloc, output);
-    decode_by(&mut decoder, alloc, reader, writer)
+    decode_by(&mut decoder, alloc, format, reader, writer)
 }
 
 // The same by a new decoder.
-fn decode_by<R: Read, W: Write>(
+fn decode_by<F: PictureFormat, R: Read, W: Write>(
     decoder: &mut Decoder<MAX_UNIT>,
     alloc: Global,
+    format: &F,
     reader: &mut R,
     writer: &mut W,
 ) -> Result<Report, RunFault>
     requires { decoder.old ≡ new_machine decoder.old.output }
-    ensures { Decodes decoder.old.output (R.remaining reader.old) (R.remaining reader.new) (W.contents writer.old) (W.contents writer.new) result }
+    ensures { DecodesAs (F.format format.now) decoder.old.output (R.remaining reader.old) (R.remaining reader.new) (W.contents writer.old)
+        (W.contents writer.new) result }
 {
     events_only_grow();
     let finder = Finder::new(&START_CODE);
@@ -54,92 +71,106 @@ fn decode_by<R: Read, W: Write>(
     'pieces: for _read in 0..READS {
         let len = read_once(reader, &mut piece)?;
         if len == 0 {
-            finish(decoder, writer, &mut report)?;
+            finish(decoder, format, writer, &mut report)?;
             return Ok(report);
         }
-        take_in(decoder, &finder, &piece[..len], writer, &mut report)?;
+        take_in(decoder, &finder, &piece[..len], format, writer, &mut report)?;
+        if format.is_enough(report.pictures) {
+            return Ok(report);
+        }
     }
     Err(RunFault::Endless)
 }
 
 // The next bytes of the stream, and all events that come by them. They are fed in parts that end at most two units, so that few
 // pictures wait at a time.
-fn take_in<W: Write>(
+fn take_in<F: PictureFormat, W: Write>(
     decoder: &mut Decoder<MAX_UNIT>,
     finder: &Finder<'_>,
     piece: &[u8],
+    format: &F,
     writer: &mut W,
     report: &mut Report,
 ) -> Result<(), RunFault>
     requires drained { IsDrained decoder.old }
     requires finder { finder.now ≡ start_code }
-    ensures ok { OnOk result (IsHandled (after_feed piece.now decoder.old) decoder.new report.old report.new (W.contents writer.old) (W.contents writer.new)) }
-    ensures err { IfErr result (λ fault. BreaksOff fault (W.contents writer.old) (W.contents writer.new) (events_left (after_feed piece.now decoder.old))) }
+    ensures ok { OnOk result (IsHandled (F.format format.now) (after_feed piece.now decoder.old) decoder.new report.old report.new (W.contents writer.old) (W.contents writer.new)) }
+    ensures err { IfErr result (λ fault. BreaksOff (F.format format.now) report.old.pictures fault (W.contents writer.old) (W.contents writer.new) (events_left (after_feed piece.now decoder.old))) }
 {
     events_only_grow();
     let mut done = 0;
     'parts: while done < piece.len() {
         let len = part_length(finder, &piece[done..]);
-        take_part(decoder, &piece[done..done + len], writer, report)?;
+        take_part(decoder, &piece[done..done + len], format, writer, report)?;
         done += len;
     }
     Ok(())
 }
 
 // The same of a part.
-fn take_part<W: Write>(
+fn take_part<F: PictureFormat, W: Write>(
     decoder: &mut Decoder<MAX_UNIT>,
     piece: &[u8],
+    format: &F,
     writer: &mut W,
     report: &mut Report,
 ) -> Result<(), RunFault>
-    ensures ok { OnOk result (IsHandled (after_feed piece.now decoder.old) decoder.new report.old report.new (W.contents writer.old) (W.contents writer.new)) }
-    ensures err { IfErr result (λ fault. BreaksOff fault (W.contents writer.old) (W.contents writer.new) (events_left (after_feed piece.now decoder.old))) }
+    ensures ok { OnOk result (IsHandled (F.format format.now) (after_feed piece.now decoder.old) decoder.new report.old report.new (W.contents writer.old) (W.contents writer.new)) }
+    ensures err { IfErr result (λ fault. BreaksOff (F.format format.now) report.old.pictures fault (W.contents writer.old) (W.contents writer.new) (events_left (after_feed piece.now decoder.old))) }
 {
     decoder.feed(piece)?;
-    drain(decoder, writer, report)?;
+    drain(decoder, format, writer, report)?;
     Ok(())
 }
 
 // The end of the stream, and all events that come by it.
-fn finish<W: Write>(
+fn finish<F: PictureFormat, W: Write>(
     decoder: &mut Decoder<MAX_UNIT>,
+    format: &F,
     writer: &mut W,
     report: &mut Report,
 ) -> Result<(), RunFault>
-    ensures ok { OnOk result (IsHandled (after_flush decoder.old) decoder.new report.old report.new (W.contents writer.old) (W.contents writer.new)) }
-    ensures err { IfErr result (λ fault. BreaksOff fault (W.contents writer.old) (W.contents writer.new) (events_left (after_flush decoder.old))) }
+    ensures ok { OnOk result (IsHandled (F.format format.now) (after_flush decoder.old) decoder.new report.old report.new (W.contents writer.old) (W.contents writer.new)) }
+    ensures err { IfErr result (λ fault. BreaksOff (F.format format.now) report.old.pictures fault (W.contents writer.old) (W.contents writer.new) (events_left (after_flush decoder.old))) }
 {
     decoder.flush()?;
-    drain(decoder, writer, report)?;
+    drain(decoder, format, writer, report)?;
     Ok(())
 }
 
 // Takes all events that have come.
-fn drain<W: Write>(
+fn drain<F: PictureFormat, W: Write>(
     decoder: &mut Decoder<MAX_UNIT>,
+    format: &F,
     writer: &mut W,
     report: &mut Report,
 ) -> Result<(), RunFault>
-    ensures ok { OnOk result (IsHandled decoder.old decoder.new report.old report.new (W.contents writer.old) (W.contents writer.new)) }
-    ensures err { IfErr result (λ fault. BreaksOff fault (W.contents writer.old) (W.contents writer.new) (events_left decoder.old)) }
+    ensures ok { OnOk result (IsHandled (F.format format.now) decoder.old decoder.new report.old report.new (W.contents writer.old) (W.contents writer.new)) }
+    ensures err { IfErr result (λ fault. BreaksOff (F.format format.now) report.old.pictures fault (W.contents writer.old) (W.contents writer.new) (events_left decoder.old)) }
 {
     pictures_are_whole();
     'events: while let Some(event) = decoder.take()? {
-        handle(event, writer, report)?;
+        handle(event, format, writer, report)?;
     }
     Ok(())
 }
 
-fn handle<W: Write>(event: Event, writer: &mut W, report: &mut Report) -> Result<(), RunFault>
+fn handle<F: PictureFormat, W: Write>(
+    event: Event,
+    format: &F,
+    writer: &mut W,
+    report: &mut Report,
+) -> Result<(), RunFault>
     requires { IfPicture event IsWhole }
     ensures report { OnOk result (report.new ≡ report_with report.old (event ∷ [])) }
-    ensures written { OnOk result (Appends (W.contents writer.old) (W.contents writer.new) (shown (event ∷ []))) }
-    ensures err { IfErr result (λ fault. BreaksOff fault (W.contents writer.old) (W.contents writer.new) (event ∷ [])) }
+    ensures written { OnOk result (Appends (W.contents writer.old) (W.contents writer.new)
+        (written_from (F.format format.now) report.old.pictures (event ∷ []))) }
+    ensures err { IfErr result (λ fault. BreaksOff (F.format format.now) report.old.pictures fault (W.contents writer.old) (W.contents writer.new)
+        (event ∷ [])) }
 {
     match event {
         Event::Picture(picture) => {
-            write_i420(&picture, writer)?;
+            format.write(report.pictures, &picture, writer)?;
             report.pictures = report.pictures.saturating_add(1);
             Ok(())
         }

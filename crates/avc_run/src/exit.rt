@@ -24,12 +24,12 @@ pub struct Ending {
     pub told: bool,
 }
 
-/// The exit status after a fault: 3 after one of reading or writing, 4 after want of memory.
+/// The exit status after a fault: 3 after one of reading or writing, or at a picture of another size, 4 after want of memory.
 pub fn fault_status(fault: RunFault) -> u8
     ensures { result ≡ fault_status fault }
 {
     match fault {
-        RunFault::Read | RunFault::Endless | RunFault::Write => 3,
+        RunFault::Read | RunFault::Endless | RunFault::Write | RunFault::Size => 3,
         RunFault::Memory => 4,
     }
 }

@@ -22,6 +22,10 @@ pub enum RunFault {
     /// The system gave no memory.
     #[error("out of memory")]
     Memory,
+
+    /// A picture has another size than those before it, and the format has one size.
+    #[error("a picture of another size")]
+    Size,
 }
 
 ghost use Rattle.std.specs.Prelude.{◌≡◌};

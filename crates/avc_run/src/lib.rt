@@ -4,6 +4,7 @@
 mod decoding;
 mod exit;
 mod fault;
+mod format;
 mod listing;
 mod messages;
 mod parts;
@@ -15,9 +16,10 @@ mod streaming;
 mod tests;
 
 pub use avc_decoder::Output;
-pub use decoding::run;
+pub use decoding::{run, run_as};
 pub use exit::{Answer, Ending, answer_status, cut_status, fault_status, status};
 pub use fault::RunFault;
+pub use format::{I420, PictureFormat};
 pub use listing::{run_cut, run_headers, run_units};
 pub use messages::{fault_line, refusal_lines};
 pub use program::{cut, decode, end_listing, headers, tell, units};

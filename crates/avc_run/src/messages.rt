@@ -19,6 +19,7 @@ pub fn fault_line(fault: RunFault) -> &'static str
         RunFault::Read | RunFault::Endless => "avcdec: read fault\n",
         RunFault::Write => "avcdec: write fault\n",
         RunFault::Memory => "avcdec: out of memory\n",
+        RunFault::Size => "avcdec: a picture of another size\n",
     }
 }
 

@@ -19,6 +19,7 @@ const _: () = prove!(PIECE == 65_536 && READS == 4_294_967_296);
 pub fn read_all<R: Read>(alloc: Global, reader: &mut R) -> Result<Vec<u8>, RunFault>
     ensures ok { IfOk result (λ bytes. HasRead (R.remaining reader.old) (R.remaining reader.new) bytes.items true) }
     ensures fault { IfErr result (λ fault. fault ≢ faults.Write) }
+    ensures size { IfErr result (λ fault. fault ≢ faults.Size) }
     ensures err { IfErr result (λ fault. (bytes : List ℕ) × HasRead (R.remaining reader.old) (R.remaining reader.new) bytes false
         × (fault ≡ faults.Endless → 2 ^ 32 ≤ length bytes)) }
 {

@@ -7,8 +7,8 @@ use Rattle.avc_run.proofs.decoding.drain.Goals as goal
 pub returns-in_err-event-clause-err : goal.returns-in_err-event-clause-err
 returns-in_err-event-clause-err g c =
     let writer = c.args.writer.now in
-    by_memory c.from_residual.result (λ fault. BreaksOff fault (g.W.Write.contents writer) (g.W.Write.contents c.events.writer) (events_left c.args.decoder.now))
-    c.from_residual.ensures.1 (stopped _ _ _ _ _ _ c.events.invariant)
+    by_memory c.from_residual.result (λ fault. BreaksOff (g.F.PictureFormat.format c.args.format.now) c.args.report.now.pictures fault (g.W.Write.contents writer) (g.W.Write.contents c.events.writer) (events_left c.args.decoder.now))
+    c.from_residual.ensures.1 (stopped (g.F.PictureFormat.format c.args.format.now) _ _ _ _ _ _ c.events.invariant)
 
 pub events-smaller : goal.events-smaller
 events-smaller g c =
@@ -17,7 +17,7 @@ events-smaller g c =
 
 pub events-preserved : goal.events-preserved
 events-preserved g c =
-    one_more _ c.events.decoder c.take.new.self _ c.events.report c.handle.new.report _ _ _ c.in-Some.event
+    one_more (g.F.PictureFormat.format c.args.format.now) _ c.events.decoder c.take.new.self _ c.events.report c.handle.new.report _ _ _ c.in-Some.event
     (sym c.in-Some.is ∙ c.in_ok-event.ensures.1) (c.in_ok-event.ensures.2 ∙ ap (λ o. after_take o c.events.decoder) c.in-Some.is)
     c.in_ok-handle.ensures.report c.in_ok-handle.ensures.written c.events.invariant
 
@@ -25,11 +25,11 @@ pub returns-in_err-handle-clause-err : goal.returns-in_err-handle-clause-err
 returns-in_err-handle-clause-err g c =
     let fault = c.in_err-handle.field-0.0 in
     let is : c.from_residual-in_err-handle.result ≡ Err fault = search rules in
-    by_fault c.from_residual-in_err-handle.result fault (λ f. BreaksOff f (g.W.Write.contents c.args.writer.now) (g.W.Write.contents c.handle.new.writer) (events_left c.args.decoder.now)) is
-    (stopped_in fault _ c.events.decoder _ _ _ _ _ c.in-Some.event (sym c.in-Some.is ∙ c.in_ok-event.ensures.1) c.in_err-handle.ensures.err c.events.invariant)
+    by_fault c.from_residual-in_err-handle.result fault (λ f. BreaksOff (g.F.PictureFormat.format c.args.format.now) c.args.report.now.pictures f (g.W.Write.contents c.args.writer.now) (g.W.Write.contents c.handle.new.writer) (events_left c.args.decoder.now)) is
+    (stopped_in (g.F.PictureFormat.format c.args.format.now) fault _ c.events.decoder _ _ _ _ _ c.in-Some.event (sym c.in-Some.is ∙ c.in_ok-event.ensures.1) c.in_err-handle.ensures.err c.events.invariant)
 
 pub returns-clause-ok : goal.returns-clause-ok
 returns-clause-ok g c =
     let none = is_none c.in_ok-event.field-0 c.in_default.not-Some in
-    handled _ c.events.decoder c.take.new.self _ _ _ _ (sym none ∙ c.in_ok-event.ensures.1)
+    handled (g.F.PictureFormat.format c.args.format.now) _ c.events.decoder c.take.new.self _ _ _ _ (sym none ∙ c.in_ok-event.ensures.1)
     (c.in_ok-event.ensures.2 ∙ ap (λ o. after_take o c.events.decoder) none) c.events.invariant

@@ -1,7 +1,5 @@
-use Rattle.std.proofs.Common.{◌≡◌, Err, arith, refl, rules}
+use Rattle.std.proofs.Common.{arith, refl, rules}
 use Rattle.avc_decoder.specs.Laws.{EventsOnlyGrow}
-use Rattle.avc_run.specs.Draining.{events_left, BreaksOff}
-use Rattle.avc_decoder.specs.Machine.{after_feed}
 use Rattle.avc_run.proofs.Draining.{by_fault}
 use Rattle.avc_run.proofs.Running.{err_is}
 use Rattle.avc_run.proofs.Feeding.{all_fed, none_fed, one_part, part_broken}
@@ -10,14 +8,14 @@ use Rattle.avc_run.proofs.decoding.take_in.Goals as goal
 pub parts-init : goal.parts-init
 parts-init g c =
     let grow : EventsOnlyGrow = c.events_only_grow.ensures in
-    record { within = omega arith; handled = none_fed grow _ _ _ c.args.piece.now c.requires.drained }
+    record { within = omega arith; handled = none_fed (g.F.PictureFormat.format c.args.format.now) grow _ _ _ c.args.piece.now c.requires.drained }
 
 pub parts-preserved : goal.parts-preserved
 parts-preserved g c =
     let grow : EventsOnlyGrow = c.events_only_grow.ensures in
     record {
       within = search rules;
-      handled = one_part grow _ c.parts.decoder c.take_part.new.decoder c.args.piece.now _ c.parts.done c.part_length-len.result _ c.parts.report c.take_part.new.report _ _ _ c.requires.drained refl
+      handled = one_part (g.F.PictureFormat.format c.args.format.now) grow _ c.parts.decoder c.take_part.new.decoder c.args.piece.now _ c.parts.done c.part_length-len.result _ c.parts.report c.take_part.new.report _ _ _ c.requires.drained refl
           c.parts.invariant.handled c.in_ok-take_part.ensures.ok;
     }
 
@@ -26,7 +24,7 @@ returns-in_err-take_part-clause-err g c =
     let grow : EventsOnlyGrow = c.events_only_grow.ensures in
     let fault = c.in_err-take_part.field-0.0 in
     by_fault c.from_residual.result fault _ (err_is c.from_residual.result fault c.from_residual.ensures.1)
-    (part_broken grow _ c.parts.decoder c.args.piece.now _ c.parts.done c.part_length-len.result _ c.parts.report _ _ _ fault c.requires.drained refl c.parts.invariant.handled c.in_err-take_part.ensures.err)
+    (part_broken (g.F.PictureFormat.format c.args.format.now) grow _ c.parts.decoder c.args.piece.now _ c.parts.done c.part_length-len.result _ c.parts.report _ _ _ fault c.requires.drained refl c.parts.invariant.handled c.in_err-take_part.ensures.err)
 
 pub returns-clause-ok : goal.returns-clause-ok
-returns-clause-ok g c = all_fed _ c.parts.decoder c.args.piece.now c.parts.done _ c.parts.report _ _ (search rules) c.parts.invariant.handled
+returns-clause-ok g c = all_fed (g.F.PictureFormat.format c.args.format.now) _ c.parts.decoder c.args.piece.now c.parts.done _ c.parts.report _ _ (search rules) c.parts.invariant.handled

@@ -6,7 +6,7 @@ use Rattle.avc_run.proofs.decoding.take_in.Given as goal
 abbrev pub invariant-parts : goal.invariant-parts
 invariant-parts g l = record {
   within : l.done ≤ length l.piece;
-  handled : IsHandled (after_feed (take l.done l.piece) l.initial.decoder) l.decoder l.initial.report l.report (g.W.Write.contents l.initial.writer) (g.W.Write.contents l.writer);
+  handled : IsHandled (g.F.PictureFormat.format l.format) (after_feed (take l.done l.piece) l.initial.decoder) l.decoder l.initial.report l.report (g.W.Write.contents l.initial.writer) (g.W.Write.contents l.writer);
 }
 
 abbrev pub decreases-parts : goal.decreases-parts
