@@ -1,0 +1,107 @@
+ghost use Rattle.std.specs.Prelude.{◌≡◌, ◌++◌, ◌==◌, true, IfErr, IfOk, OnOk, if◌then◌else◌, string_bytes};
+ghost use Rattle.std.specs.Io.KnownBytes.{Appends};
+ghost use Rattle.avc_run.specs.Formats.{StopsPicture};
+ghost use Rattle.avc_run.specs.declared.fault.RunFault.TheVariants as faults;
+ghost use Rattle.avc_formats.specs.Digesting.{digest_line, EndsDigesting, EndsVerifying, Sums, WritesDigest};
+
+use crate::md5_writer::Md5Writer;
+use crate::text::write_text;
+use avc_run::{Ending, Output, PictureFormat, Report, RunFault, run_as, tell};
+use std::alloc::Global;
+use std::io::{Read, Write};
+
+/// The command `decode --format md5`: decodes a byte stream (Annex B), writes the MD5 of all that `decode` would write in this
+/// format, as `md5sum` does, and tells of refusals, or of the fault that ended the run, on `errors`. After a fault there is no MD5.
+pub fn decode_md5<F: PictureFormat, R: Read, W: Write, E: Write>(
+    alloc: Global,
+    output: Output,
+    format: &F,
+    reader: &mut R,
+    writer: &mut W,
+    errors: &mut E,
+) -> Ending
+    ensures { EndsDigesting (F.format format.now) output (R.remaining reader.old) (R.remaining reader.new) (W.contents writer.old)
+        (W.contents writer.new) (E.contents errors.old) (E.contents errors.new) result }
+{
+    let run = run_md5(alloc, output, format, reader, writer);
+    tell(alloc, &run, errors)
+}
+
+/// The command `decode --verify`: decodes a byte stream (Annex B), compares the MD5 of all that `decode` would write in this format,
+/// and tells of refusals, or of the fault that ended the run, on `errors`. The status is 1 where it is another one.
+pub fn verify<F: PictureFormat, R: Read, E: Write>(
+    alloc: Global,
+    output: Output,
+    format: &F,
+    expected: [u8; 16],
+    reader: &mut R,
+    errors: &mut E,
+) -> Ending
+    ensures { EndsVerifying (F.format format.now) output expected (R.remaining reader.old) (R.remaining reader.new)
+        (E.contents errors.old) (E.contents errors.new) result }
+{
+    let (run, digest) = sum(alloc, output, format, reader);
+    let decoded = tell(alloc, &run, errors);
+    if digest == expected {
+        return decoded;
+    }
+    Ending {
+        status: mismatch_status(decoded.status),
+        told: decoded.told,
+    }
+}
+
+// The exit status where the digest is another one, by that of the run.
+fn mismatch_status(status: u8) -> u8
+    ensures { result ≡ (if status == 0 then 1 else status) }
+{
+    if status == 0 { 1 } else { status }
+}
+
+// Decodes, and writes the digest.
+fn run_md5<F: PictureFormat, R: Read, W: Write>(
+    alloc: Global,
+    output: Output,
+    format: &F,
+    reader: &mut R,
+    writer: &mut W,
+) -> Result<Report, RunFault>
+    ensures { WritesDigest (F.format format.now) output (R.remaining reader.old) (R.remaining reader.new) (W.contents writer.old)
+        (W.contents writer.new) result }
+{
+    let (run, digest) = sum(alloc, output, format, reader);
+    let report = run?;
+    write_digest(alloc, digest, writer)?;
+    Ok(report)
+}
+
+// The run, and the digest of what it would have written.
+fn sum<F: PictureFormat, R: Read>(
+    alloc: Global,
+    output: Output,
+    format: &F,
+    reader: &mut R,
+) -> (Result<Report, RunFault>, [u8; 16])
+    ensures { Sums (F.format format.now) output (R.remaining reader.old) (R.remaining reader.new) result.0 result.1 }
+{
+    let mut writer = Md5Writer::new();
+    let run = run_as(alloc, output, format, reader, &mut writer);
+    (run, writer.digest())
+}
+
+fn write_digest<W: Write>(alloc: Global, digest: [u8; 16], writer: &mut W) -> Result<(), RunFault>
+    ensures ok { OnOk result (Appends (W.contents writer.old) (W.contents writer.new) (digest_line digest)) }
+    ensures err { IfErr result (λ fault. StopsPicture fault true (W.contents writer.old) (W.contents writer.new) (digest_line digest)) }
+{
+    let line = line_of(alloc, digest)?;
+    write_text(&line, writer)
+}
+
+fn line_of(alloc: Global, digest: [u8; 16]) -> Result<String, RunFault>
+    ensures ok { IfOk result (λ line. string_bytes line ≡ digest_line digest) }
+    ensures err { IfErr result (λ fault. fault ≡ faults.Memory) }
+{
+    let mut line = hex::encode(alloc, &digest)?;
+    line.push_str("  -\n")?;
+    Ok(line)
+}
