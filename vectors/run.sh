@@ -200,8 +200,10 @@ for command in units headers; do
     wait
 done
 
+some_md5=d41d8cd98f00b204e9800998ecf8427e
 # wrong words have a text on the standard error, and help that is asked for on the standard output
-for words in '' unit 'units in more' 'decode --fast' 'decode --format png'; do
+for words in '' unit 'units in more' 'decode --fast' 'decode --format png' 'decode --limit x' 'decode --skip' 'units --skip 1' \
+    'decode --verify 0' "decode --verify $some_md5 --format md5" "decode --verify $some_md5 -o $work/out"; do
     # shellcheck disable=SC2086
     "$program" $words <"$picture" >"$work/written" 2>"$work/told"
     holds "status of '$words'" [ $? = 2 ]
@@ -231,6 +233,43 @@ holds 'the same pictures' cmp -s "$work/written" "$work/pictures"
 "$program" decode --format null "$picture" >"$work/written" 2>"$work/told"
 judge 'decode --format null' $? 0 ''
 holds 'nothing is written' [ ! -s "$work/written" ]
+
+# ten pictures of 150x90, cropped
+moving=$here/encoder/pub_o_crop_150x90.264
+
+# checksums: the line that md5sum writes of the same pictures
+"$program" decode "$moving" | md5sum >"$work/sum"
+"$program" decode --format md5 "$moving" >"$work/written" 2>"$work/told"
+judge 'decode --format md5' $? 0 ''
+holds 'the same line as by md5sum' cmp -s "$work/written" "$work/sum"
+"$program" decode --verify "$(cut -d ' ' -f 1 <"$work/sum")" "$moving" >"$work/written" 2>"$work/told"
+judge 'decode --verify' $? 0 ''
+holds 'nothing is written by --verify' [ ! -s "$work/written" ]
+"$program" decode --verify "$some_md5" "$moving" >"$work/written" 2>"$work/told"
+judge 'decode --verify of another MD5' $? 1 ''
+"$program" decode --format md5 "$moving" >/dev/full 2>"$work/told"
+judge 'decode --format md5 to a full device' $? 3 'avcdec: write fault
+'
+
+# some of the pictures: their bytes are those that head and tail take
+"$program" decode "$moving" >"$work/pictures"
+size=$((150 * 90 * 3 / 2))
+for range in '0 1' '1 1' '2 3' '0 0' '1000 1'; do
+    skip=${range% *}
+    limit=${range#* }
+    "$program" decode --skip "$skip" --limit "$limit" "$moving" >"$work/written" 2>"$work/told"
+    judge "decode --skip $skip --limit $limit" $? 0 ''
+    tail -c +$((skip * size + 1)) "$work/pictures" | head -c $((limit * size)) >"$work/lines"
+    holds "pictures $skip and so on, $limit" cmp -s "$work/written" "$work/lines"
+done
+"$program" decode --skip 2 "$moving" >"$work/written" 2>"$work/told"
+judge 'decode --skip 2' $? 0 ''
+tail -c +$((2 * size + 1)) "$work/pictures" >"$work/lines"
+holds 'all but two pictures' cmp -s "$work/written" "$work/lines"
+# decoding stops: the rest of the stream, which would be refused, is not read
+{ cat "$moving" && head -c 200000 /dev/zero && cat "$here/foreign/for_cabac_main.264"; } >"$work/long"
+"$program" decode --limit 1 <"$work/long" >"$work/written" 2>"$work/told"
+judge 'decode --limit 1 of more' $? 0 ''
 for command in units headers 'cut 0'; do
     # shellcheck disable=SC2086
     "$program" $command <"$picture" >"$work/lines"

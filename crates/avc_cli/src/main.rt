@@ -5,11 +5,14 @@ mod request;
 #[cfg(test)]
 mod tests;
 
+use avc_formats::{Selected, decode_as, decode_md5, verify};
 use avc_run::{
-    Answer, RunFault, answer_status, cut, decode, fault_line, fault_status, headers, units,
+    Answer, Ending, I420, RunFault, answer_status, cut, decode, fault_line, fault_status, headers,
+    units,
 };
 use clap::error::ErrorKind;
-use request::{Request, Task, requested, words_of};
+use request::{Form, Request, Showing, Task, requested, words_of};
+use std::alloc::Global;
 use std::fs::File;
 use std::io;
 use std::io::{Read, Write};
@@ -60,11 +63,34 @@ fn carry_out_between<R: Read, W: Write>(
     let ending = match task {
         Task::Decode(output) => decode(alloc, output, reader, writer, &mut errors),
         Task::Check(output) => decode(alloc, output, reader, &mut io::sink(), &mut errors),
+        Task::Show(showing) => show(alloc, showing, reader, writer, &mut errors),
         Task::Units => units(alloc, reader, writer, &mut errors),
         Task::Headers => headers(alloc, reader, writer, &mut errors),
         Task::Cut(number) => cut(alloc, number, reader, writer, &mut errors),
     };
     ending.status
+}
+
+// Shows some of the pictures, or their MD5.
+fn show<R: Read, W: Write, E: Write>(
+    alloc: Global,
+    showing: Showing,
+    reader: &mut R,
+    writer: &mut W,
+    errors: &mut E,
+) -> Ending {
+    let mode = showing.mode;
+    let format = Selected {
+        format: I420,
+        skip: showing.skip,
+        limit: showing.limit,
+    };
+    match showing.form {
+        Form::I420 => decode_as(alloc, mode, &format, reader, writer, errors),
+        Form::Null => decode_as(alloc, mode, &format, reader, &mut io::sink(), errors),
+        Form::Md5 => decode_md5(alloc, mode, &format, reader, writer, errors),
+        Form::Verify(expected) => verify(alloc, mode, &format, expected, reader, errors),
+    }
 }
 
 // Tells of a file that can't be opened, and answers the exit status.

@@ -4,6 +4,7 @@ ghost use Rattle.avc_cli.specs.Commands.{mode_of, Names};
 use avc_run::Output;
 use clap::error::ErrorKind;
 use clap::{Arg, ArgAction, ArgMatches, Command as Grammar, Error};
+use hex::FromHex;
 use std::alloc::{AllocError, Global};
 use std::{env, io};
 
@@ -28,6 +29,9 @@ pub enum Task {
     /// The pictures are decoded so, and not written.
     Check(Output),
 
+    /// Some of the pictures are decoded so, and written or compared in another way.
+    Show(Showing),
+
     /// A line for each unit.
     Units,
 
@@ -36,6 +40,36 @@ pub enum Task {
 
     /// The piece of this number.
     Cut(u32),
+}
+
+/// Which pictures, and what becomes of them.
+#[derive(Clone, Copy, Debug, PartialEq, Eq)]
+pub struct Showing {
+    pub mode: Output,
+
+    /// How many pictures are left out first.
+    pub skip: u64,
+
+    /// How many are decoded behind these at most.
+    pub limit: u64,
+
+    pub form: Form,
+}
+
+/// What becomes of pictures.
+#[derive(Clone, Copy, Debug, PartialEq, Eq)]
+pub enum Form {
+    /// They are written as I420.
+    I420,
+
+    /// They are not written.
+    Null,
+
+    /// Their MD5 is written.
+    Md5,
+
+    /// Their MD5 is compared with this one.
+    Verify([u8; 16]),
 }
 
 /// The commands, which the first word names.
@@ -69,13 +103,24 @@ const I420: &str = "i420";
 
 const NULL: &str = "null";
 
-const FORMATS: &[&str] = &[I420, NULL];
+const MD5: &str = "md5";
+
+const FORMATS: &[&str] = &[I420, NULL, MD5];
+
+const VERIFY: &str = "verify";
+
+const SKIP: &str = "skip";
+
+const LIMIT: &str = "limit";
+
+/// The limit where all pictures are wanted.
+const NO_LIMIT: u64 = u64::MAX;
 
 /// The word that names the standard input or output.
 const STANDARD: &str = "-";
 
 const STATUSES: &str = concat!(
-    "Exit status: 0 all well, 1 decode refused something or cut has no such piece, 2 wrong words, ",
+    "Exit status: 0 all well, 1 decode refused something or found another MD5 or cut has no such piece, 2 wrong words, ",
     "3 reading or writing failed, 4 out of memory"
 );
 
@@ -118,15 +163,37 @@ fn decode_grammar<'a>(alloc: Global) -> Result<Grammar<'a>, Error> {
         decode
             .arg(early)?
             .arg(format(alloc))?
+            .arg(verify(alloc)?)?
+            .arg(count(alloc, SKIP, "Leaves out the first N pictures"))?
+            .arg(count(alloc, LIMIT, "Decodes until N pictures are out, those left out not counted"))?
             .arg(output(alloc))?
             .arg(input(alloc))?,
     )
 }
 
+fn verify<'a>(alloc: Global) -> Result<Arg<'a>, Error> {
+    let verify = Arg::new(alloc, VERIFY)
+        .long(VERIFY)
+        .value_name("MD5")
+        .help("Writes nothing; the status is 1 where the pictures have another MD5, in hex digits")
+        .action(ArgAction::Set);
+    Ok(verify.conflicts_with(FORMAT)?.conflicts_with(OUTPUT)?)
+}
+
+// An option that takes a number of pictures.
+fn count<'a>(alloc: Global, name: &'a str, help: &'a str) -> Arg<'a> {
+    Arg::new(alloc, name)
+        .long(name)
+        .value_name(NUMBER)
+        .help(help)
+        .action(ArgAction::Set)
+        .value_parser(clap::value_parser!(u64))
+}
+
 fn format<'a>(alloc: Global) -> Arg<'a> {
     Arg::new(alloc, FORMAT)
         .long(FORMAT)
-        .help("How the pictures are written: null decodes and writes nothing")
+        .help("How the pictures are written: md5 writes their MD5 alone, null nothing")
         .action(ArgAction::Set)
         .value_parser(FORMATS)
         .default_value(I420)
@@ -180,13 +247,7 @@ fn mode_of(early: bool) -> Output
 // The task of a command, if its words are there.
 fn task_of(command: Command, matches: &ArgMatches<'_>) -> Option<Task> {
     match command {
-        Command::Decode => {
-            let mode = mode_of(matches.get_flag(EARLY));
-            match word(matches, FORMAT) {
-                Some(NULL) => Some(Task::Check(mode)),
-                _ => Some(Task::Decode(mode)),
-            }
-        }
+        Command::Decode => showing_of(matches).map(task_of_showing),
         Command::Units => Some(Task::Units),
         Command::Headers => Some(Task::Headers),
         Command::Cut => {
@@ -194,6 +255,45 @@ fn task_of(command: Command, matches: &ArgMatches<'_>) -> Option<Task> {
             Some(Task::Cut(number))
         }
     }
+}
+
+// What is shown, if the words are there.
+fn showing_of(matches: &ArgMatches<'_>) -> Option<Showing> {
+    let form = match word(matches, VERIFY) {
+        Some(digits) => Form::Verify(digest_of(digits)?),
+        None => form_named(word(matches, FORMAT)),
+    };
+    Some(Showing {
+        mode: mode_of(matches.get_flag(EARLY)),
+        skip: matches.get_one::<u64>(SKIP).unwrap_or(0),
+        limit: matches.get_one::<u64>(LIMIT).unwrap_or(NO_LIMIT),
+        form,
+    })
+}
+
+// All pictures have tasks of their own.
+fn task_of_showing(showing: Showing) -> Task {
+    if showing.skip != 0 || showing.limit != NO_LIMIT {
+        return Task::Show(showing);
+    }
+    match showing.form {
+        Form::I420 => Task::Decode(showing.mode),
+        Form::Null => Task::Check(showing.mode),
+        Form::Md5 | Form::Verify(_) => Task::Show(showing),
+    }
+}
+
+fn form_named(name: Option<&str>) -> Form {
+    match name {
+        Some(NULL) => Form::Null,
+        Some(MD5) => Form::Md5,
+        _ => Form::I420,
+    }
+}
+
+// The MD5 that 32 hex digits name.
+fn digest_of(digits: &str) -> Option<[u8; 16]> {
+    <[u8; 16] as FromHex>::from_hex(digits).ok()
 }
 
 // The word that was given for an option.
@@ -230,14 +330,14 @@ fn request_of<'a>(name: &str, matches: &ArgMatches<'a>) -> Option<Request<'a>> {
 pub fn requested(alloc: Global, words: &[String]) -> Result<Request<'_>, Error> {
     let mut command_line = grammar(alloc)?;
     let matches = command_line.try_get_matches_from_mut(words)?;
-    let request = match matches.subcommand() {
-        Some((name, words)) => request_of(name, words),
-        None => None,
+    let (kind, message) = match matches.subcommand() {
+        Some((name, words)) => match request_of(name, words) {
+            Some(request) => return Ok(request),
+            None => (ErrorKind::ValueValidation, "--verify takes an MD5 of 32 hex digits"),
+        },
+        None => (ErrorKind::MissingSubcommand, "a command is missing"),
     };
-    match request {
-        Some(request) => Ok(request),
-        None => Err(command_line.error(ErrorKind::MissingSubcommand, "a command is missing")?),
-    }
+    Err(command_line.error(kind, message)?)
 }
 
 /// The words of the command line. Where one of them is no text that is an `Err` with the text to print.

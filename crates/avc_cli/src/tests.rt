@@ -1,6 +1,6 @@
 // What no contract says: what the words of the command line mean. Where an allocation is refused
 // (`rt try --test --fail-alloc N`), a test ends in that error, and not at an assertion.
-use crate::request::{Request, Task, requested};
+use crate::request::{Form, Request, Showing, Task, requested};
 use avc_run::Output;
 use clap::error::ErrorKind;
 use std::alloc::Global;
@@ -32,6 +32,16 @@ fn plain(task: Task) -> Result<Request<'static>, (ErrorKind, i32)> {
     })
 }
 
+// So many pictures in this form.
+fn shown(limit: u64, form: Form) -> Task {
+    Task::Show(Showing {
+        mode: Output::Full,
+        skip: 0,
+        limit,
+        form,
+    })
+}
+
 #[test]
 fn takes_words(rt: HostRuntime) -> Result<(), Fail> {
     let full = Task::Decode(Output::Full);
@@ -52,6 +62,47 @@ fn takes_words(rt: HostRuntime) -> Result<(), Fail> {
             "avcdec decode --format null",
             plain(Task::Check(Output::Full)),
         ),
+        (
+            "avcdec decode --skip 1 --limit 2 --early",
+            plain(Task::Show(Showing {
+                mode: Output::Early,
+                skip: 1,
+                limit: 2,
+                form: Form::I420,
+            })),
+        ),
+        (
+            "avcdec decode --format null --limit 2",
+            plain(shown(2, Form::Null)),
+        ),
+        (
+            "avcdec decode --format md5",
+            plain(shown(u64::MAX, Form::Md5)),
+        ),
+        (
+            "avcdec decode --verify 000102030405060708090a0b0c0d0e0F",
+            plain(shown(
+                u64::MAX,
+                Form::Verify([0, 1, 2, 3, 4, 5, 6, 7, 8, 9, 10, 11, 12, 13, 14, 15]),
+            )),
+        ),
+        (
+            "avcdec decode --verify 000102030405060708090a0b0c0d0e",
+            Err((ErrorKind::ValueValidation, 2)),
+        ),
+        (
+            "avcdec decode --verify 000102030405060708090a0b0c0d0e0F -o out",
+            Err((ErrorKind::ArgumentConflict, 2)),
+        ),
+        (
+            "avcdec decode --verify 000102030405060708090a0b0c0d0e0F --format null",
+            Err((ErrorKind::ArgumentConflict, 2)),
+        ),
+        (
+            "avcdec decode --skip -1",
+            Err((ErrorKind::UnknownArgument, 2)),
+        ),
+        ("avcdec units --limit 2", Err((ErrorKind::UnknownArgument, 2))),
         (
             "avcdec decode --format png",
             Err((ErrorKind::InvalidValue, 2)),
