@@ -165,7 +165,11 @@ fn decode_grammar<'a>(alloc: Global) -> Result<Grammar<'a>, Error> {
             .arg(format(alloc))?
             .arg(verify(alloc)?)?
             .arg(count(alloc, SKIP, "Leaves out the first N pictures"))?
-            .arg(count(alloc, LIMIT, "Decodes until N pictures are out, those left out not counted"))?
+            .arg(count(
+                alloc,
+                LIMIT,
+                "Decodes until N pictures are out, those left out not counted",
+            ))?
             .arg(output(alloc))?
             .arg(input(alloc))?,
     )
@@ -333,7 +337,10 @@ pub fn requested(alloc: Global, words: &[String]) -> Result<Request<'_>, Error> 
     let (kind, message) = match matches.subcommand() {
         Some((name, words)) => match request_of(name, words) {
             Some(request) => return Ok(request),
-            None => (ErrorKind::ValueValidation, "--verify takes an MD5 of 32 hex digits"),
+            None => (
+                ErrorKind::ValueValidation,
+                "--verify takes an MD5 of 32 hex digits",
+            ),
         },
         None => (ErrorKind::MissingSubcommand, "a command is missing"),
     };

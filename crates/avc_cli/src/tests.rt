@@ -102,7 +102,10 @@ fn takes_words(rt: HostRuntime) -> Result<(), Fail> {
             "avcdec decode --skip -1",
             Err((ErrorKind::UnknownArgument, 2)),
         ),
-        ("avcdec units --limit 2", Err((ErrorKind::UnknownArgument, 2))),
+        (
+            "avcdec units --limit 2",
+            Err((ErrorKind::UnknownArgument, 2)),
+        ),
         (
             "avcdec decode --format png",
             Err((ErrorKind::InvalidValue, 2)),

@@ -29,7 +29,12 @@ impl<F: PictureFormat> Selected<F> {
 impl<F: PictureFormat> PictureFormat for Selected<F> {
     ghost format = { λ s. selected (F.format s.format) s.skip s.limit };
 
-    fn write<W: Write>(&self, number: u64, picture: &Picture, writer: &mut W) -> Result<(), RunFault> {
+    fn write<W: Write>(
+        &self,
+        number: u64,
+        picture: &Picture,
+        writer: &mut W,
+    ) -> Result<(), RunFault> {
         if !self.is_wanted(number) {
             return Ok(());
         }

@@ -43,10 +43,14 @@ plainly output unread left held holds (Err Endless) (bytes, read, wrote, many) =
     (bytes, read, subst (Appends held holds) (written_plain 0 (events output max_unit bytes false)) wrote, many)
 plainly output unread left held holds (Err Write) (bytes, all, read, some) =
     (bytes, all, read, subst (WritesFirst held holds) (written_plain 0 (events output max_unit bytes all)) some)
-plainly output unread left held holds (Err Memory) (bytes, all, read, some) =
-    (bytes, all, read, record {
-      count = some.count;
-      within = some.within;
-      written = subst (Appends held holds) (written_plain 0 (take some.count (events output max_unit bytes all))) some.written;
-    })
+plainly output unread left held holds (Err Memory) (bytes, all, read, some) = (
+  bytes,
+  all,
+  read,
+  record {
+    count = some.count;
+    within = some.within;
+    written = subst (Appends held holds) (written_plain 0 (take some.count (events output max_unit bytes all))) some.written;
+  },
+)
 plainly output unread left held holds (Err Size) (bytes, all, read, some) = let another : true ≡ false = some.another in cc

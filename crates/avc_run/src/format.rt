@@ -15,7 +15,12 @@ pub trait PictureFormat {
 
     /// Writes the picture of a number, from 0. Want of memory, and a picture of another size than the format can have, are told
     /// before anything is written.
-    fn write<W: Write>(&self, number: u64, picture: &Picture, writer: &mut W) -> Result<(), RunFault>
+    fn write<W: Write>(
+        &self,
+        number: u64,
+        picture: &Picture,
+        writer: &mut W,
+    ) -> Result<(), RunFault>
         requires { IsWhole picture.now }
         ensures ok { OnOk result (Appends (W.contents writer.old) (W.contents writer.new) ((format self.now).text number picture.now)) }
         ensures err { IfErr result (λ fault. StopsPicture fault ((format self.now).fits number picture.now) (W.contents writer.old)
@@ -34,7 +39,12 @@ impl PictureFormat for I420 {
     ghost format = { λ _. plain };
 
     #[inline(always)]
-    fn write<W: Write>(&self, number: u64, picture: &Picture, writer: &mut W) -> Result<(), RunFault> {
+    fn write<W: Write>(
+        &self,
+        number: u64,
+        picture: &Picture,
+        writer: &mut W,
+    ) -> Result<(), RunFault> {
         write_i420(picture, writer)?;
         Ok(())
     }
