@@ -36,7 +36,7 @@ fn set_component<const PAD: usize>(plane: &mut Plane<PAD>, place: MbPlace, sampl
 {
     let left = first_column(plane, 8, place.column);
     let top = first_row(plane, 8, place.row);
-    plane.set_rectangle::<8, 8, 64>(left, top, samples);
+    plane.copy_rectangle::<8, 8, 64>(left, top, samples);
 }
 
 /// Lays the samples of a macroblock into the planes.
@@ -54,7 +54,7 @@ fn set_samples<const PAD: usize>(
 {
     let left = first_column(&planes.luma, 16, place.column);
     let top = first_row(&planes.luma, 16, place.row);
-    planes.luma.set_rectangle::<16, 16, 256>(left, top, luma);
+    planes.luma.copy_rectangle::<16, 16, 256>(left, top, luma);
     set_component(&mut planes.cb, place, cb);
     set_component(&mut planes.cr, place, cr);
 }

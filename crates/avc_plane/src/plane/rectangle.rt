@@ -24,7 +24,8 @@ impl<const PAD: usize> Plane<PAD> {
         load::<W, H, N>(&self.stored, start, stride)
     }
 
-    /// Changes the samples of a rectangle, and no other. `samples` are as `rectangle` gives them.
+    /// Changes the samples of a rectangle, and no other. `samples` are as `rectangle` gives them, and were just computed: they need
+    /// not go through memory.
     #[inline(always)]
     pub fn set_rectangle<const W: usize, const H: usize, const N: usize>(
         &mut self,
@@ -37,9 +38,40 @@ impl<const PAD: usize> Plane<PAD> {
         requires all { W * H ≡ N }
         ensures { self.new ≡ with_block self.old left top W H (λ x y. slice_index samples.now (W * y + x)) }
     {
+        self.store_rectangle::<W, H, N, false>(left, top, samples);
+    }
+
+    /// The same of samples that lie in memory: each row is one copy.
+    #[inline(always)]
+    pub fn copy_rectangle<const W: usize, const H: usize, const N: usize>(
+        &mut self,
+        left: usize,
+        top: usize,
+        samples: &[u8; N],
+    )
+        requires columns { left + W ≤ self.old.width }
+        requires rows { top + H ≤ self.old.height }
+        requires all { W * H ≡ N }
+        ensures { self.new ≡ with_block self.old left top W H (λ x y. slice_index samples.now (W * y + x)) }
+    {
+        self.store_rectangle::<W, H, N, true>(left, top, samples);
+    }
+
+    #[inline(always)]
+    fn store_rectangle<const W: usize, const H: usize, const N: usize, const COPIES: bool>(
+        &mut self,
+        left: usize,
+        top: usize,
+        samples: &[u8; N],
+    )
+        requires columns { left + W ≤ self.old.width }
+        requires rows { top + H ≤ self.old.height }
+        requires all { W * H ≡ N }
+        ensures { self.new ≡ with_block self.old left top W H (λ x y. slice_index samples.now (W * y + x)) }
+    {
         let stride = self.width + 2 * PAD;
         let start = (top + PAD) * stride + (left + PAD);
-        store::<W, H, N>(&mut self.stored, start, stride, samples);
+        store::<W, H, N, COPIES>(&mut self.stored, start, stride, samples);
     }
 }
 
@@ -64,19 +96,30 @@ fn load<const W: usize, const H: usize, const N: usize>(
 }
 
 #[inline(always)]
-fn store_row<const W: usize>(stored: &mut [u8], start: usize, samples: &[u8], from: usize)
+fn store_row<const W: usize, const COPIES: bool>(
+    stored: &mut [u8],
+    start: usize,
+    samples: &[u8],
+    from: usize,
+)
     requires room { start + W ≤ length stored.old }
     requires within { from + W ≤ length samples.now }
     ensures inside { (x : ℕ) → x < W → slice_index stored.new (start + x) ≡ slice_index samples.now (from + x) }
     ensures before { (j : ℕ) → j < start → slice_index stored.new j ≡ slice_index stored.old j }
     ensures behind { (j : ℕ) → start + W ≤ j → slice_index stored.new j ≡ slice_index stored.old j }
 {
-    // one copy of a known length: as a loop over bytes it is not made one of vectors, since the two might overlap
-    stored[start..start + W].copy_from_slice(&samples[from..from + W]);
+    if COPIES {
+        // of a known length: a loop over bytes is not made one of vectors, since the two might overlap
+        stored[start..start + W].copy_from_slice(&samples[from..from + W]);
+        return;
+    }
+    for x in 0..W {
+        stored[start + x] = samples[from + x];
+    }
 }
 
 #[inline(always)]
-fn store<const W: usize, const H: usize, const N: usize>(
+fn store<const W: usize, const H: usize, const N: usize, const COPIES: bool>(
     stored: &mut [u8],
     start: usize,
     stride: usize,
@@ -89,6 +132,6 @@ fn store<const W: usize, const H: usize, const N: usize>(
     ensures outside { IsSameOutside W H start stride stored.old stored.new }
 {
     for y in 0..H {
-        store_row::<W>(stored, start + y * stride, samples, W * y);
+        store_row::<W, COPIES>(stored, start + y * stride, samples, W * y);
     }
 }

@@ -5,7 +5,7 @@ use Rattle.avc_plane.specs.Plane.{Plane, with_block}
 use Rattle.avc_plane.specs.Padded.{inner_plane}
 use Rattle.avc_plane.specs.Strided.{IsSameOutside}
 use Rattle.avc_plane.proofs.Rectangles.{small, room, stored_rectangle}
-use Rattle.avc_plane.proofs.plane.Plane.set_rectangle.Goals as goal
+use Rattle.avc_plane.proofs.plane.Plane.store_rectangle.Goals as goal
 
 pub store-requires : goal.store-requires
 store-requires g c =
