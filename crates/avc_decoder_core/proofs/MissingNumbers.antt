@@ -333,5 +333,5 @@ pub counted_at_once : (sps : Sps) (numbers : List ℕ) (max first n : ℕ) (coun
     → counts ≡ order_count_state (pasts (with_all_missing sps numbers history))
 counted_at_once sps numbers max first n counts history max_is n_is numbers_are told =
     let same : frame_nums_from (max_frame_num sps) first n ≡ numbers =
-        ap (λ (m : ℕ). frame_nums_from m first n) (sym max_is) ∙ ap (frame_nums_from max first) n_is ∙ sym numbers_are in
+    ap (λ (m : ℕ). frame_nums_from m first n) (sym max_is) ∙ ap (frame_nums_from max first) n_is ∙ sym numbers_are in
     told ∙ counts_from sps first n history ∙ ap (λ (l : List ℕ). order_count_state (pasts (with_all_missing sps l history))) same

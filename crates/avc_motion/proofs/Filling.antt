@@ -46,7 +46,7 @@ pub quarter_more : (old mine now : List Motion) (part : Part) (m : Motion) (q : 
     → (k : ℕ) → k < 4 * (q + 1) → slice_index_or now k absent ≡ slice_index_or (with_part old part m) k absent
 quarter_more old mine now part m q few filled done left k below =
     elim (cases_lt k (4 * q)) [
-    | inl less ↦ filled.before k less ∙ done k less
-    | inr from ↦
-        filled.here k (from, omega arith) ∙ ap (λ x. if is_in_part part k then m else x) (left k from) ∙ sym (at-with_part old part m k (omega arith))
+      | inl less ↦ filled.before k less ∙ done k less
+      | inr from ↦
+          filled.here k (from, omega arith) ∙ ap (λ x. if is_in_part part k then m else x) (left k from) ∙ sym (at-with_part old part m k (omega arith))
     ]

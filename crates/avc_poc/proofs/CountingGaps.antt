@@ -62,10 +62,10 @@ numbers_on (suc n) sps b j older some offset number =
     let m = max_frame_num sps in
     let next : List Past = missing sps ((j + 1) % m) ∷ older in
     let on : saturated (frame_num_offset next) ≡ saturated (b + (j + 1) / m * m) =
-        sym (missing_offset sps ((j + 1) % m) older)
-        ∙ ap (λ (o : ℕ). next_offset o (order_count_state older).frame_num ((j + 1) % m) m) offset
-        ∙ ap (λ (k : ℕ). next_offset (saturated (b + j / m * m)) k ((j + 1) % m) m) number
-        ∙ next_round b m j some in
+    sym (missing_offset sps ((j + 1) % m) older)
+    ∙ ap (λ (o : ℕ). next_offset o (order_count_state older).frame_num ((j + 1) % m) m) offset
+    ∙ ap (λ (k : ℕ). next_offset (saturated (b + j / m * m)) k ((j + 1) % m) m) number
+    ∙ next_round b m j some in
     let same : j + 1 + n ≡ j + suc n = omega arith in
     numbers_on n sps b (j + 1) next some on refl
     ∙ ap (λ (k : ℕ). state (order_count_state next) b m k) same
@@ -81,7 +81,7 @@ gaps_count_at_once_so sps first n older below some =
     let b : ℕ = next_offset s.offset s.frame_num first m in
     let next : List Past = missing sps (first % m) ∷ older in
     let held : b ≡ saturated (frame_num_offset next) =
-        ap (λ (k : ℕ). next_offset s.offset s.frame_num k m) (sym (mod-eq_of_lt below)) ∙ missing_offset sps (first % m) older in
+    ap (λ (k : ℕ). next_offset s.offset s.frame_num k m) (sym (mod-eq_of_lt below)) ∙ missing_offset sps (first % m) older in
     let none : first / m * m ≡ 0 = ap (λ k. k * m) (div-eq_of_lt below) ∙ zero-mul m in
     numbers_on n sps b first next some (held_again (frame_num_offset next) b (first / m * m) held none) refl
     ∙ same_previous sps (first % m) b m (first + n) older
