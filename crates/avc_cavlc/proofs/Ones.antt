@@ -1,5 +1,5 @@
 -- Trailing ones by one look at their sign bits.
-use Rattle.std.proofs.Common.{◌≡◌, ℕ, zero, suc, ◌+◌, ◌/◌, ◌%◌, ◌<◌, ◌≤◌, ℤ, Bool, true, false, List, [], ◌∷◌, ◌++◌, length, take, drop, set, map, refl, ap, subst, ◌∙◌, sym, arith, to_z, of_z, w16}
+use Rattle.std.proofs.Common.{◌≡◌, ℕ, zero, suc, ◌+◌, ◌-◌, ◌/◌, ◌%◌, ◌^◌, ◌<◌, ◌≤◌, ℤ, pos, Bool, true, false, List, [], ◌∷◌, ◌++◌, length, take, drop, set, get_or, map, refl, ap, subst, ◌∙◌, sym, arith, to_z, of_z, w16}
 use Rattle.std.specs.Prelude.{Ok, Err, replicate, ◌==◌}
 use Rattle.std.specs.List.{All}
 use Rattle.std.proofs.lemmas.Int.{ints}
@@ -38,15 +38,13 @@ short_read (suc n) p (x ∷ xs) short =
 
 -- the ones of three bits
 abbrev pub three_ones : ℕ → List ℤ
-three_ones signs = one_of_sign (signs / 4 % 2 == 1) ∷ one_of_sign (signs / 2 % 2 == 1) ∷ one_of_sign (signs % 2 == 1) ∷ []
+three_ones signs = one_of_sign (signs / 4 % 2 == 1) ∷ one_of_sign (signs / 2 % 2 == 1) ∷ one_of_sign (signs / 1 % 2 == 1) ∷ []
 
 some_ones : (n signs : ℕ) → n ≤ 3 → map one_of_sign (take n (bits_of 3 signs)) ≡ take n (three_ones signs)
 some_ones zero signs few = refl
 some_ones (suc zero) signs few = refl
 some_ones (suc (suc zero)) signs few = refl
-some_ones (suc (suc (suc zero))) signs few =
-    let whole : signs / 1 ≡ signs = omega arith in
-    ap (λ k. one_of_sign (signs / 4 % 2 == 1) ∷ one_of_sign (signs / 2 % 2 == 1) ∷ one_of_sign (k % 2 == 1) ∷ []) whole
+some_ones (suc (suc (suc zero))) signs few = refl
 some_ones (suc (suc (suc (suc n)))) signs few = absurd (omega arith)
 
 pub ones_read : (n signs : ℕ) (b after : Bits) → n ≤ 3 → bits_of 3 signs ≡ take 3 (b.ahead ++ replicate 3 false) → skip n b ≡ Ok (tt, after) →
@@ -96,3 +94,29 @@ ones_levels n signs few = subst (All IsLevel) (some_ones n signs few) (all_map (
 pub one_back : (x : ℤ) (negative : Bool) → x ≡ one_of_sign negative → to_z w16 (of_z w16 x) ≡ one_of_sign negative
 one_back x true is = rw is refl
 one_back x false is = rw is refl
+
+-- ---- the ones of each three sign bits
+
+abbrev pub table : List (List ℤ)
+table =
+    map three_ones (0 ∷ 1 ∷ 2 ∷ 3 ∷ 4 ∷ 5 ∷ 6 ∷ 7 ∷ [])
+
+of_signs : (signs : ℕ) → signs < 8 → get_or table signs [] ≡ three_ones signs
+of_signs zero few = refl
+of_signs (suc zero) few = refl
+of_signs (suc (suc zero)) few = refl
+of_signs (suc (suc (suc zero))) few = refl
+of_signs (suc (suc (suc (suc zero)))) few = refl
+of_signs (suc (suc (suc (suc (suc zero))))) few = refl
+of_signs (suc (suc (suc (suc (suc (suc zero)))))) few = refl
+of_signs (suc (suc (suc (suc (suc (suc (suc zero))))))) few = refl
+of_signs (suc (suc (suc (suc (suc (suc (suc (suc n)))))))) few = absurd (omega arith)
+
+one_of : (signs k : ℕ) → k < 3 → get_or (three_ones signs) k (pos 0) ≡ one_of_sign (signs / 2 ^ (2 - k) % 2 == 1)
+one_of signs zero few = refl
+one_of signs (suc zero) few = refl
+one_of signs (suc (suc zero)) few = refl
+one_of signs (suc (suc (suc n))) few = absurd (omega arith)
+
+pub one_there : (signs k : ℕ) → signs < 8 → k < 3 → get_or (get_or table signs []) k (pos 0) ≡ one_of_sign (signs / 2 ^ (2 - k) % 2 == 1)
+one_there signs k three few = ap (λ l. get_or l k (pos 0)) (of_signs signs three) ∙ one_of signs k few

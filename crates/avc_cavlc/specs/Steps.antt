@@ -1,9 +1,10 @@
 -- What is left to read of a block when some of it has been read.
-use Rattle.std.specs.Prelude.{◌≡◌, ℕ, ◌+◌, ◌-◌, ◌*◌, ◌^◌, ℤ, pos, neg_ℤ, Bool, ◌&&◌, nat_lt, if◌then◌else◌, List, ◌++◌, Result, Ok, Err, MatchResult}
+use Rattle.std.specs.Prelude.{◌≡◌, ℕ, ◌+◌, ◌-◌, ◌*◌, ◌^◌, ◌≤◌, ℤ, pos, neg_ℤ, Bool, ◌&&◌, nat_lt, if◌then◌else◌, List, ◌++◌, length, Result, Ok, Err, MatchResult}
 use Rattle.avc_types.specs.declared.fault.Fault.{Fault}
 use Rattle.avc_bits.specs.Reader.{reader_bits, reader_bytes}
 use Rattle.avc_bits.specs.declared.reader.BitReader.{BitReader}
-use Rattle.avc_bits.specs.Bits.{Read, ◌>>=◌, give}
+use Rattle.avc_bits.specs.Bits.{Bits, Read, ◌>>=◌, give, passed}
+use Rattle.avc_cavlc.specs.declared.level.LongCode.{LongCode}
 use Rattle.avc_cavlc.specs.Block.{each_after_zeros, level_of_code, levels, placed, runs}
 
 -- What was read into a place is what this part of the syntax reads, and the reader goes on after it.
@@ -17,6 +18,12 @@ abbrev pub ReadsCode : Result ℕ Fault → Read ℤ → BitReader → BitReader
 ReadsCode result read old new = MatchResult result
     (λ code. (read (reader_bits old) ≡ Ok (level_of_code code, reader_bits new)) × (reader_bytes new ≡ reader_bytes old))
     (λ fault. read (reader_bits old) ≡ Err fault)
+
+-- The levelCode is that of the level that this part of the syntax reads, and its length is that of what is read.
+abbrev pub IsLongCode : Result LongCode Fault → Read ℤ → Bits → Type 0
+IsLongCode result read b = MatchResult result
+    (λ code. (read b ≡ Ok (level_of_code code.number, passed b code.length)) × (code.length ≤ length b.ahead))
+    (λ fault. read b ≡ Err fault)
 
 -- a trailing one with this sign bit (9.2.2)
 abbrev pub one_of_sign : Bool → ℤ

@@ -1,9 +1,10 @@
 //! Levels that are not 0 (9.2.2).
-ghost use Rattle.std.specs.Prelude.{◌≡◌, ◌+◌, ◌-◌, ◌/◌, ◌^◌, ◌≤◌, ◌<◌, ℤ, pos, take, nat_abs, IfOk, IsTrue, All};
+ghost use Rattle.std.specs.Prelude.{◌≡◌, ◌+◌, ◌-◌, ◌/◌, ◌%◌, ◌==◌, ◌^◌, ◌≤◌, ◌<◌, ℤ, pos, take, nat_abs, IfOk, IsTrue, All};
 ghost use Rattle.avc_bits.specs.Bits.{times};
+ghost use Rattle.avc_bits.specs.Reader.{reader_bits};
 ghost use Rattle.avc_vlc.specs.Reading.{IsToken};
 ghost use Rattle.avc_cavlc.specs.Block.{IsLevel, level, level_code, level_of_code, next_suffix_length, suffix_size, token_levels, trailing_one};
-ghost use Rattle.avc_cavlc.specs.Steps.{ReadsCode, ReadsInto, levels_after, one_of_sign, raised};
+ghost use Rattle.avc_cavlc.specs.Steps.{IsLongCode, ReadsCode, ReadsInto, levels_after, one_of_sign, raised};
 
 use avc_bits::BitReader;
 use avc_types::Fault;
@@ -46,19 +47,33 @@ fn read_trailing_ones(reader: &mut BitReader, ones: u8, values: &mut [i16; 16]) 
     }
     let signs = reader.peek(3);
     reader.skip(u32::from(ones))?;
-    values[0] = one_of_sign(signs / 4 % 2 == 1);
-    values[1] = one_of_sign(signs / 2 % 2 == 1);
-    values[2] = one_of_sign(signs % 2 == 1);
+    values[0] = one_at(signs, 0);
+    values[1] = one_at(signs, 1);
+    values[2] = one_at(signs, 2);
     Ok(())
 }
 
-// a trailing one
+// one of the ones of three sign bits
 #[inline(always)]
-fn one_of_sign(negative: bool) -> i16
-    ensures { result ≡ one_of_sign negative }
+fn one_at(signs: u32, k: usize) -> i16
+    requires three { signs < 8 }
+    requires within { k < 3 }
+    ensures { result ≡ one_of_sign (signs / 2 ^ (2 - k) % 2 == 1) }
 {
-    if negative { -1 } else { 1 }
+    ONES[signs as usize][k]
 }
+
+// the ones of three sign bits, the first one's sign the most significant bit
+static ONES: [[i16; 3]; 8] = [
+    [1, 1, 1],
+    [1, 1, -1],
+    [1, -1, 1],
+    [1, -1, -1],
+    [-1, 1, 1],
+    [-1, 1, -1],
+    [-1, -1, 1],
+    [-1, -1, -1],
+];
 
 // The levels that are no trailing ones, put behind those.
 #[inline(always)]
@@ -103,28 +118,47 @@ fn read_level_code(
 {
     match reader.zeros_and_bits(13, suffix_length) {
         Some((prefix, suffix)) => Ok(level_code(prefix, suffix_length, suffix, above_one)),
-        None => {
-            // a copy, so that the caller's may stay in registers
-            let mut after = *reader;
-            let code = read_long_code(&mut after, suffix_length, above_one)?;
-            *reader = after;
-            Ok(code)
-        }
+        None => read_long_code(reader, suffix_length, above_one),
     }
 }
 
 // The same, for any prefix and anywhere.
-#[cold]
-#[inline(never)]
+#[inline(always)]
 fn read_long_code(reader: &mut BitReader, suffix_length: u32, above_one: bool) -> Result<u32, Fault>
     requires length { suffix_length ≤ 6 }
     requires first { IsTrue above_one → suffix_length ≤ 1 }
     ensures read { ReadsCode result (level suffix_length above_one) reader.old reader.new }
     ensures most { IfOk result (λ code. code ≤ 5055) }
 {
-    let prefix = reader.zeros_before_one(15, Fault::BadCode)?;
-    let suffix = reader.u(suffix_size(prefix, suffix_length))?;
-    Ok(level_code(prefix, suffix_length, suffix, above_one))
+    let code = long_code(*reader, suffix_length, above_one)?;
+    reader.skip(code.length)?;
+    Ok(code.number)
+}
+
+// levelCode of a level ahead, and its length in bits
+#[derive(Clone, Copy)]
+struct LongCode {
+    number: u32,
+    length: u32,
+}
+
+// what stands ahead; the reader is a copy, so that the caller's may stay in registers
+#[cold]
+#[inline(never)]
+fn long_code(reader: BitReader, suffix_length: u32, above_one: bool) -> Result<LongCode, Fault>
+    requires length { suffix_length ≤ 6 }
+    requires first { IsTrue above_one → suffix_length ≤ 1 }
+    ensures read { IsLongCode result (level suffix_length above_one) (reader_bits reader.entry) }
+    ensures most { IfOk result (λ code. code.number ≤ 5055) }
+{
+    let mut after = reader;
+    let prefix = after.zeros_before_one(15, Fault::BadCode)?;
+    let size = suffix_size(prefix, suffix_length);
+    let suffix = after.u(size)?;
+    Ok(LongCode {
+        number: level_code(prefix, suffix_length, suffix, above_one),
+        length: prefix + 1 + size,
+    })
 }
 
 /// How many suffix bits follow a prefix (levelSuffixSize), where `suffix_length` (suffixLength) is at most 6.

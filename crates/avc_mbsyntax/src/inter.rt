@@ -31,15 +31,17 @@ pub(crate) fn read_p_mb(
     let mb_type = read_p_mb_type(reader, mb_type)?;
     let mut ref_idx = [0; 4];
     read_ref_idx(reader, context.active_count, &mb_type, &mut ref_idx)?;
-    let mut mvd = [NO_MVD; 16];
-    read_mvd(reader, &mb_type, &mut mvd)?;
-    let pattern = read_cbp(reader, false)?;
     mb.syntax = Syntax::PInter {
         mb_type,
         ref_idx,
-        mvd,
+        mvd: [NO_MVD; 16],
         levels: zero_levels(),
     };
+    let Syntax::PInter { mvd, .. } = &mut mb.syntax else {
+        unreachable!()
+    };
+    read_mvd(reader, &mb_type, mvd)?;
+    let pattern = read_cbp(reader, false)?;
     let Syntax::PInter { levels, .. } = &mut mb.syntax else {
         unreachable!()
     };

@@ -1,7 +1,7 @@
 //! coeff_token (9.2.1, Table 9-5). A table has a row for each number of zeros in front of the first 1, the last for all
 //! that are more, and a column for each value of the three bits behind that 1.
 ghost use Rattle.std.specs.Prelude.{◌≡◌, ◌≤◌, ◌<◌, List, Bool, length, IfOk, OnErr};
-ghost use Rattle.avc_bits.specs.Reader.{Reads};
+ghost use Rattle.avc_bits.specs.Reader.{Reads, reader_bits};
 ghost use Rattle.avc_vlc.specs.Tables.{coeff_token_0, coeff_token_2, coeff_token_4, coeff_token_chroma_dc};
 ghost use Rattle.avc_vlc.specs.Reading.{IsToken, Table, coeff_token, token_table, tokens, tokens_8};
 ghost use Rattle.avc_vlc.specs.Indexing.{Decides, IsIndexed, Shows, six_bit_entry, six_bit_number};
@@ -24,34 +24,41 @@ pub fn read_coeff_token(reader: &mut BitReader, nc: i8) -> Result<Token, Fault>
     ensures stays { OnErr result (reader.new ≡ reader.old) }
 {
     if reader.has_many() {
-        return read_token(reader, nc);
+        let code = Code::<16>::look(reader);
+        read_coded(reader, token_entry(code, nc), nc)
+    } else {
+        read_near_end(reader, nc)
     }
-    // a copy, so that the caller's may stay in registers
-    let mut after = *reader;
-    let token = read_near_end(&mut after, nc)?;
-    *reader = after;
-    Ok(token)
 }
 
-// the same, where the stop bit may be near
-#[cold]
-#[inline(never)]
+// The same, where the stop bit may be near.
+#[inline(always)]
 fn read_near_end(reader: &mut BitReader, nc: i8) -> Result<Token, Fault>
     ensures read { Reads result (coeff_token nc) reader.old reader.new }
     ensures range { IfOk result IsToken }
     ensures stays { OnErr result (reader.new ≡ reader.old) }
 {
-    read_token(reader, nc)
+    read_coded(reader, entry_near_end(*reader, nc), nc)
 }
 
+// what the bits decide, where the stop bit may be near
+#[cold]
+#[inline(never)]
+fn entry_near_end(reader: BitReader, nc: i8) -> Entry<Token>
+    ensures { Decides (token_table nc) (reader_bits reader.entry).ahead result }
+{
+    token_entry(Code::<16>::look(&reader), nc)
+}
+
+// Reads what the bits decide.
 #[inline(always)]
-fn read_token(reader: &mut BitReader, nc: i8) -> Result<Token, Fault>
+fn read_coded(reader: &mut BitReader, entry: Entry<Token>, nc: i8) -> Result<Token, Fault>
+    requires { Decides (token_table nc) (reader_bits reader.old).ahead entry }
     ensures read { Reads result (coeff_token nc) reader.old reader.new }
     ensures range { IfOk result IsToken }
     ensures stays { OnErr result (reader.new ≡ reader.old) }
 {
-    let code = Code::<16>::look(reader);
-    token_entry(code, nc).read(reader)
+    entry.read(reader)
 }
 
 /// The codeword of TotalCoeff and TrailingOnes, `None` where nC has none for them.

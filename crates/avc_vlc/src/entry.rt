@@ -119,9 +119,34 @@ pub(crate) fn number_by(reader: &mut BitReader, rows: &[[Entry<u8>; 4]]) -> Resu
     ensures read { (table : Table ℕ) → IsIndexed table 2 rows.now → Reads result (table_code table) reader.old reader.new }
     ensures stays { OnErr result (reader.new ≡ reader.old) }
 {
-    let code = Code::<16>::look(reader);
-    let (row, column) = code.place(rows.len() - 1, 2);
-    rows[row][column].read(reader)
+    if reader.has_many() {
+        let code = Code::<16>::look(reader);
+        number_at(code, rows).read(reader)
+    } else {
+        number_near_end(reader, rows)
+    }
+}
+
+// The same, where the stop bit may be near.
+#[inline(always)]
+fn number_near_end(reader: &mut BitReader, rows: &[[Entry<u8>; 4]]) -> Result<u8, Fault>
+    requires some { 1 ≤ length rows.now }
+    requires few { length rows.now ≤ 16 }
+    ensures read { (table : Table ℕ) → IsIndexed table 2 rows.now → Reads result (table_code table) reader.old reader.new }
+    ensures stays { OnErr result (reader.new ≡ reader.old) }
+{
+    entry_near_end(*reader, rows).read(reader)
+}
+
+// what the bits decide, where the stop bit may be near
+#[cold]
+#[inline(never)]
+fn entry_near_end(reader: BitReader, rows: &[[Entry<u8>; 4]]) -> Entry<u8>
+    requires some { 1 ≤ length rows.now }
+    requires few { length rows.now ≤ 16 }
+    ensures { (table : Table ℕ) → IsIndexed table 2 rows.now → Decides table (reader_bits reader.entry).ahead result }
+{
+    number_at(Code::<16>::look(&reader), rows)
 }
 
 // What the bits decide by a table of numbers.

@@ -1,8 +1,8 @@
 //! run_before (9.2.3, Table 9-10). A table has a row for each number of zeros in front of the first 1, the last for all
 //! that are more, and a column for each value of the two bits behind that 1.
-ghost use Rattle.std.specs.Prelude.{◌≡◌, ◌≤◌, List, Bool, IfOk, OnErr};
-ghost use Rattle.avc_bits.specs.Reader.{Reads};
-ghost use Rattle.avc_vlc.specs.Reading.{run_before, run_table, table_code};
+ghost use Rattle.std.specs.Prelude.{◌≡◌, ◌≤◌, ◌<◌, List, Bool, Err, IfOk, IfSome, OnErr};
+ghost use Rattle.avc_bits.specs.Reader.{Reads, reader_bits};
+ghost use Rattle.avc_vlc.specs.Reading.{run_before, run_table};
 ghost use Rattle.avc_vlc.specs.Indexing.{Decides, Shows};
 ghost use Rattle.avc_vlc.specs.Writing.{is_number_same, run_word, word_bits, word_of};
 ghost use Rattle.std.specs.Option.{option_map};
@@ -22,39 +22,62 @@ pub fn read_run_before(reader: &mut BitReader, zeros_left: u8) -> Result<u8, Fau
     ensures stays { OnErr result (reader.new ≡ reader.old) }
 {
     if reader.has_many() {
-        return read_coded(reader, zeros_left);
+        let code = Code::<16>::look(reader);
+        read_coded(reader, run_entry(code, zeros_left), zeros_left)
+    } else {
+        read_near_end(reader, zeros_left)
     }
-    read_aside(reader, zeros_left)
 }
 
+// The same, where the stop bit may be near.
 #[inline(always)]
-fn read_coded(reader: &mut BitReader, zeros_left: u8) -> Result<u8, Fault>
+fn read_near_end(reader: &mut BitReader, zeros_left: u8) -> Result<u8, Fault>
     ensures read { Reads result (run_before zeros_left) reader.old reader.new }
     ensures most { IfOk result (λ run. run ≤ zeros_left) }
     ensures stays { OnErr result (reader.new ≡ reader.old) }
 {
-    let code = Code::<16>::look(reader);
-    let entry = run_entry(code, zeros_left);
+    read_coded(reader, entry_near_end(*reader, zeros_left), zeros_left)
+}
+
+// what the bits decide, where the stop bit may be near
+#[cold]
+#[inline(never)]
+fn entry_near_end(reader: BitReader, zeros_left: u8) -> Entry<u8>
+    ensures { Decides (run_table zeros_left) (reader_bits reader.entry).ahead result }
+{
+    run_entry(Code::<16>::look(&reader), zeros_left)
+}
+
+// Reads what the bits decide.
+#[inline(always)]
+fn read_coded(reader: &mut BitReader, entry: Entry<u8>, zeros_left: u8) -> Result<u8, Fault>
+    requires { Decides (run_table zeros_left) (reader_bits reader.old).ahead entry }
+    ensures read { Reads result (run_before zeros_left) reader.old reader.new }
+    ensures most { IfOk result (λ run. run ≤ zeros_left) }
+    ensures stays { OnErr result (reader.new ≡ reader.old) }
+{
     match entry.value {
         Some(run) if run <= zeros_left => match reader.skip(u32::from(entry.length)) {
             Ok(()) => Ok(run),
             Err(fault) => Err(fault),
         },
-        _ => read_aside(reader, zeros_left),
+        _ => Err(refused(*reader, entry, zeros_left)),
     }
 }
 
-// The same with a copy of the reader, so that the caller's may stay in registers.
-#[inline(always)]
-fn read_aside(reader: &mut BitReader, zeros_left: u8) -> Result<u8, Fault>
-    ensures read { Reads result (run_before zeros_left) reader.old reader.new }
-    ensures most { IfOk result (λ run. run ≤ zeros_left) }
-    ensures stays { OnErr result (reader.new ≡ reader.old) }
+// the fault where no codeword stands or the run is longer
+#[cold]
+#[inline(never)]
+fn refused(reader: BitReader, entry: Entry<u8>, zeros_left: u8) -> Fault
+    requires decided { Decides (run_table zeros_left) (reader_bits reader).ahead entry }
+    requires longer { IfSome entry.value (λ run. zeros_left < run) }
+    ensures { run_before zeros_left (reader_bits reader.entry) ≡ Err result }
 {
-    let mut after = *reader;
-    let run = read_checked(&mut after, zeros_left)?;
-    *reader = after;
-    Ok(run)
+    let mut after = reader;
+    match after.skip(u32::from(entry.length)) {
+        Ok(()) => Fault::BadCode,
+        Err(fault) => fault,
+    }
 }
 
 // what the bits decide
@@ -64,31 +87,6 @@ fn run_entry(code: Code<16>, zeros_left: u8) -> Entry<u8>
 {
     let table = zeros_left.saturating_sub(1).min(6);
     number_in(code, &RUN_BEFORE, table as usize)
-}
-
-// the same, also where the run is longer and where the stop bit may be near
-#[cold]
-#[inline(never)]
-fn read_checked(reader: &mut BitReader, zeros_left: u8) -> Result<u8, Fault>
-    ensures read { Reads result (run_before zeros_left) reader.old reader.new }
-    ensures most { IfOk result (λ run. run ≤ zeros_left) }
-    ensures stays { OnErr result (reader.new ≡ reader.old) }
-{
-    let mut after = *reader;
-    let run = read_run(&mut after, zeros_left)?;
-    if run > zeros_left {
-        return Err(Fault::BadCode);
-    }
-    *reader = after;
-    Ok(run)
-}
-
-fn read_run(reader: &mut BitReader, zeros_left: u8) -> Result<u8, Fault>
-    ensures read { Reads result (table_code (run_table zeros_left)) reader.old reader.new }
-    ensures stays { OnErr result (reader.new ≡ reader.old) }
-{
-    let code = Code::<16>::look(reader);
-    run_entry(code, zeros_left).read(reader)
 }
 
 /// The codeword of so many zeros right before a level, where `zeros_left` zeros are left for it and those before it;

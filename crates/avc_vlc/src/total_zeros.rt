@@ -1,7 +1,7 @@
 //! total_zeros (9.2.3, Tables 9-7 to 9-9). A table has a row for each number of zeros in front of the first 1, the last
 //! for all that are more, and a column for each value of the two bits behind that 1.
 ghost use Rattle.std.specs.Prelude.{◌≡◌, ◌≤◌, List, Bool, true, false, OnErr};
-ghost use Rattle.avc_bits.specs.Reader.{Reads};
+ghost use Rattle.avc_bits.specs.Reader.{Reads, reader_bits};
 ghost use Rattle.avc_vlc.specs.Reading.{total_zeros, zeros_table};
 ghost use Rattle.avc_vlc.specs.Indexing.{Decides, Shows};
 ghost use Rattle.avc_vlc.specs.Writing.{word_bits, zeros_word};
@@ -20,31 +20,6 @@ pub fn read_total_zeros(reader: &mut BitReader, total: u8, chroma_dc: bool) -> R
     ensures read { Reads result (total_zeros total chroma_dc) reader.old reader.new }
     ensures stays { OnErr result (reader.new ≡ reader.old) }
 {
-    if reader.has_many() {
-        return read_zeros(reader, total, chroma_dc);
-    }
-    // a copy, so that the caller's may stay in registers
-    let mut after = *reader;
-    let zeros = read_near_end(&mut after, total, chroma_dc)?;
-    *reader = after;
-    Ok(zeros)
-}
-
-// the same, where the stop bit may be near
-#[cold]
-#[inline(never)]
-fn read_near_end(reader: &mut BitReader, total: u8, chroma_dc: bool) -> Result<u8, Fault>
-    ensures read { Reads result (total_zeros total chroma_dc) reader.old reader.new }
-    ensures stays { OnErr result (reader.new ≡ reader.old) }
-{
-    read_zeros(reader, total, chroma_dc)
-}
-
-#[inline(always)]
-fn read_zeros(reader: &mut BitReader, total: u8, chroma_dc: bool) -> Result<u8, Fault>
-    ensures read { Reads result (total_zeros total chroma_dc) reader.old reader.new }
-    ensures stays { OnErr result (reader.new ≡ reader.old) }
-{
     if chroma_dc {
         read_chroma_dc(reader, total)
     } else {
@@ -60,8 +35,32 @@ fn read_4x4(reader: &mut BitReader, total: u8) -> Result<u8, Fault>
     if total > 15 {
         return Err(Fault::BadCode);
     }
-    let code = Code::<16>::look(reader);
-    zeros_entry(code, total).read(reader)
+    if reader.has_many() {
+        let code = Code::<16>::look(reader);
+        zeros_entry(code, total).read(reader)
+    } else {
+        read_near_end(reader, total)
+    }
+}
+
+// The same, where the stop bit may be near.
+#[inline(always)]
+fn read_near_end(reader: &mut BitReader, total: u8) -> Result<u8, Fault>
+    requires { total ≤ 15 }
+    ensures read { Reads result (total_zeros total false) reader.old reader.new }
+    ensures stays { OnErr result (reader.new ≡ reader.old) }
+{
+    entry_near_end(*reader, total).read(reader)
+}
+
+// what the bits decide, where the stop bit may be near
+#[cold]
+#[inline(never)]
+fn entry_near_end(reader: BitReader, total: u8) -> Entry<u8>
+    requires { total ≤ 15 }
+    ensures { Decides (zeros_table total false) (reader_bits reader.entry).ahead result }
+{
+    zeros_entry(Code::<16>::look(&reader), total)
 }
 
 // what the bits decide

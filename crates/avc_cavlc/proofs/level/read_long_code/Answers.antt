@@ -1,8 +1,14 @@
-use Rattle.std.proofs.Common.{◌<◌, ◌^◌, ℕ, subst}
-use Rattle.avc_cavlc.proofs.LevelCodes.{level_code_most}
+use Rattle.std.proofs.Common.{Ok, ap, ◌∙◌}
+use Rattle.avc_bits.specs.Reader.{reader_bits}
+use Rattle.avc_cavlc.specs.Block.{level_of_code}
+use Rattle.avc_cavlc.proofs.LongCodes.{skipped_is, never_cut}
 use Rattle.avc_cavlc.proofs.level.read_long_code.Goals as goal
 
-pub returns-clause-most : goal.returns-clause-most
-returns-clause-most c =
-    let P : ℕ → Type 0 = λ n. c.in_ok-suffix.suffix < 2 ^ n in
-    rw c.level_code.ensures (level_code_most c.in_ok-prefix.prefix c.args.suffix_length c.in_ok-suffix.suffix c.args.above_one c.in_ok-prefix.ensures.most c.requires.length (subst P c.suffix_size.ensures.value c.in_ok-suffix.ensures.below) c.requires.first)
+pub returns-in_err-skip-clause-read : goal.returns-in_err-skip-clause-read
+returns-in_err-skip-clause-read c =
+    never_cut c.in_ok-code.code.length (reader_bits c.args.reader.now) _ c.in_ok-code.ensures.read.1 c.in_err-skip.ensures.read
+
+pub returns-clause-read : goal.returns-clause-read
+returns-clause-read c =
+    let left = skipped_is c.in_ok-code.code.length (reader_bits c.args.reader.now) (reader_bits c.skip.new.self) c.in_ok-code.ensures.read.1 c.in_ok-skip.ensures.read.0 in
+    (c.in_ok-code.ensures.read.0 ∙ ap (λ b. Ok (level_of_code c.in_ok-code.code.number, b)) left, c.in_ok-skip.ensures.read.1)

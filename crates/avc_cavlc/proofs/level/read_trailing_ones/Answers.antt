@@ -14,12 +14,12 @@ returns-in_err-skip-clause-read c =
     let fault : times c.args.ones trailing_one (reader_bits c.args.reader.now) ≡ Err c.in_err-skip.field-0.0 = ones_fault c.args.ones (reader_bits c.args.reader.now) c.in_err-skip.field-0.0 (ap (λ n. skip n (reader_bits c.args.reader.now)) (sym c.from.ensures) ∙ c.in_err-skip.ensures.read) in
     search rules
 
-put : (c : goal.After-one_of_sign-3) → take c.args.ones (set (set (set c.args.values.now 0 (to_z w16 (of_z w16 c.one_of_sign.result))) 1 (to_z w16 (of_z w16 c.one_of_sign-2.result))) 2 (to_z w16 (of_z w16 c.one_of_sign-3.result))) ≡ take c.args.ones (three_ones c.peek-signs.result)
+put : (c : goal.After-one_at-3) → take c.args.ones (set (set (set c.args.values.now 0 (to_z w16 (of_z w16 c.one_at.result))) 1 (to_z w16 (of_z w16 c.one_at-2.result))) 2 (to_z w16 (of_z w16 c.one_at-3.result))) ≡ take c.args.ones (three_ones c.peek-signs.result)
 put c =
     ones_put c.args.ones c.args.values.now _ _ _ c.requires.few (omega (arith, c.told-values))
-    ∙ ap (λ x. take c.args.ones (x ∷ to_z w16 (of_z w16 c.one_of_sign-2.result) ∷ to_z w16 (of_z w16 c.one_of_sign-3.result) ∷ [])) (one_back c.one_of_sign.result (c.peek-signs.result / 4 % 2 == 1) c.one_of_sign.ensures)
-    ∙ ap (λ x. take c.args.ones (one_of_sign (c.peek-signs.result / 4 % 2 == 1) ∷ x ∷ to_z w16 (of_z w16 c.one_of_sign-3.result) ∷ [])) (one_back c.one_of_sign-2.result (c.peek-signs.result / 2 % 2 == 1) c.one_of_sign-2.ensures)
-    ∙ ap (λ x. take c.args.ones (one_of_sign (c.peek-signs.result / 4 % 2 == 1) ∷ one_of_sign (c.peek-signs.result / 2 % 2 == 1) ∷ x ∷ [])) (one_back c.one_of_sign-3.result (c.peek-signs.result % 2 == 1) c.one_of_sign-3.ensures)
+    ∙ ap (λ x. take c.args.ones (x ∷ to_z w16 (of_z w16 c.one_at-2.result) ∷ to_z w16 (of_z w16 c.one_at-3.result) ∷ [])) (one_back c.one_at.result (c.peek-signs.result / 4 % 2 == 1) c.one_at.ensures)
+    ∙ ap (λ x. take c.args.ones (one_of_sign (c.peek-signs.result / 4 % 2 == 1) ∷ x ∷ to_z w16 (of_z w16 c.one_at-3.result) ∷ [])) (one_back c.one_at-2.result (c.peek-signs.result / 2 % 2 == 1) c.one_at-2.ensures)
+    ∙ ap (λ x. take c.args.ones (one_of_sign (c.peek-signs.result / 4 % 2 == 1) ∷ one_of_sign (c.peek-signs.result / 2 % 2 == 1) ∷ x ∷ [])) (one_back c.one_at-3.result (c.peek-signs.result / 1 % 2 == 1) c.one_at-3.ensures)
 
 pub returns-clause-read : goal.returns-clause-read
 returns-clause-read c = (

@@ -16,11 +16,9 @@ run_fault zeros_left b fault is = rw is refl
 pub returns-in-Ok-clause-read : goal.returns-in-Ok-clause-read
 returns-in-Ok-clause-read c =
     let b = reader_bits c.args.reader.now in
-    let d = c.run_entry-entry.ensures b.ahead c.look-code.ensures in
-    (run_read c.args.zeros_left _ b (reader_bits c.skip.new.self) (reads_word (run_table c.args.zeros_left) c.run_entry-entry.result c.from.result b (reader_bits c.skip.new.self) _ d c.from.ensures c.in-Ok.ensures.read.0 c.in-Some.is) (omega arith), c.in-Ok.ensures.read.1)
+    (run_read c.args.zeros_left _ b (reader_bits c.skip.new.self) (reads_word (run_table c.args.zeros_left) c.args.entry c.from.result b (reader_bits c.skip.new.self) _ c.requires c.from.ensures c.in-Ok.ensures.read.0 c.in-Some.is) (omega arith), c.in-Ok.ensures.read.1)
 
 pub returns-in-Err-clause-read : goal.returns-in-Err-clause-read
 returns-in-Err-clause-read c =
     let b = reader_bits c.args.reader.now in
-    let d = c.run_entry-entry.ensures b.ahead c.look-code.ensures in
-    run_fault c.args.zeros_left b c.in-Err.fault (reads_cut (run_table c.args.zeros_left) c.run_entry-entry.result c.from.result b c.in-Err.fault d c.from.ensures c.in-Err.ensures.read)
+    run_fault c.args.zeros_left b c.in-Err.fault (reads_cut (run_table c.args.zeros_left) c.args.entry c.from.result b c.in-Err.fault c.requires c.from.ensures c.in-Err.ensures.read)
