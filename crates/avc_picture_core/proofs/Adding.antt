@@ -10,6 +10,7 @@ use Rattle.avc_transform.specs.Bounds.{matrix, HasRows}
 use Rattle.avc_plane.specs.Plane.{is_inside}
 use Rattle.avc_plane.proofs.Rectangles.{by_place}
 use Rattle.avc_picture_core.specs.Built.{sum_of}
+use Rattle.avc_picture_core.proofs.Coefficients.{everywhere, same_everywhere}
 
 -- a residual of 0 changes nothing
 pub unchanged : (v : ℕ) (z : ℤ) → v ≤ 255 → z ≡ pos 0 → sum_of v z ≡ v
@@ -43,6 +44,15 @@ module _ (w left top : ℕ) (old new : List ℕ) (f : ℕ → ℕ → ℤ) (colu
       (λ none. outside (w * y + x) (λ u v u_low v_low same.
       let s = same_from_place y x (top + v) (left + u) w column (omega arith) (omega (arith, same)) in
       none (omega (arith, s.1)) (omega (arith, s.1)) (omega (arith, s.0)) (omega (arith, s.0))))
+
+  pub added_value : (value : ℤ) → ((x y : ℕ) → x < 4 → y < 4 → f x y ≡ value)
+      → ((x y : ℕ) → x < 4 → y < 4 → slice_index new (w * (top + y) + (left + x)) ≡ sum_of (slice_index old (w * (top + y) + (left + x))) value)
+      → ((q : ℕ) → ((x y : ℕ) → x < 4 → y < 4 → q ≢ w * (top + y) + (left + x)) → slice_index new q ≡ slice_index old q)
+      → IsAdded
+  added_value value same within outside =
+      added_values (everywhere value) (λ x y column row. same_everywhere value x y column row ∙ sym (same x y column row))
+      (λ x y column row. within x y column row ∙ ap (sum_of (slice_index old (w * (top + y) + (left + x)))) (sym (same_everywhere value x y column row)))
+      outside
 
   pub added_none : (n : ℕ) → w * w ≡ n → new ≡ old → ((k : ℕ) → k < n → slice_index old k ≤ 255) → ((x y : ℕ) → x < 4 → y < 4 → f x y ≡ pos 0) → IsAdded
   added_none n all same small none x y column row =

@@ -1,11 +1,15 @@
 -- Blocks whose levels are all 0.
-use Rattle.std.proofs.Common.{◌≡◌, ℕ, zero, suc, ◌+◌, ◌*◌, ◌<◌, ℤ, pos, negsuc, false, not, cond, List, [], ◌∷◌, slice_index_or, refl, ap, arith}
+use Rattle.std.proofs.Common.{◌≡◌, ℕ, zero, suc, ◌+◌, ◌*◌, ◌/◌, ◌%◌, ◌^◌, ◌<◌, ℤ, pos, negsuc, ◌+ℤ◌, ◌*ℤ◌, false, not, cond, List, [], ◌∷◌, slice_index_or, refl, ap, ◌∙◌, arith}
+use Rattle.std.proofs.Math.IntN.{*ℤ-zero, zero-*ℤ}
+use Rattle.avc_types.specs.Arithmetic.{◌>>ℤ◌}
 use Rattle.std.specs.Prelude.{◌==◌, nat_abs}
 use Rattle.std.proofs.lemmas.List.Sums.{sum_by-append}
 use Rattle.std.proofs.lemmas.Bool.Decides.{nat_tests}
 use Rattle.std.specs.List.{sum_by}
 use Rattle.avc_types.specs.Macroblock.{total_coeff}
-use Rattle.avc_transform.specs.Residual.{level}
+use Rattle.avc_transform.specs.Residual.{level, even_scale, hadamard2, chroma_dc, chroma_dc_product, chroma_dc_scaled}
+use Rattle.avc_transform.specs.MacroblockResidual.{chroma_residual}
+use Rattle.avc_transform.proofs.NoResidual.{residual_of_dc}
 use Rattle.avc_transform.proofs.BelowFour.{below_four}
 
 abbrev weight : ℤ → ℕ
@@ -33,15 +37,47 @@ no_level (l ∷ ls) e (suc i) =
     no_level ls (omega (arith, both, e)) i
 
 -- a block with the same value everywhere
+abbrev pub everywhere : ℤ → List ℤ
+everywhere v = v ∷ v ∷ v ∷ v ∷ v ∷ v ∷ v ∷ v ∷ v ∷ v ∷ v ∷ v ∷ v ∷ v ∷ v ∷ v ∷ []
+
 pub same_everywhere : (v : ℤ) (x y : ℕ) → x < 4 → y < 4
-    → slice_index_or (v ∷ v ∷ v ∷ v ∷ v ∷ v ∷ v ∷ v ∷ v ∷ v ∷ v ∷ v ∷ v ∷ v ∷ v ∷ v ∷ []) (4 * y + x) (pos 0) ≡ v
+    → slice_index_or (everywhere v) (4 * y + x) (pos 0) ≡ v
 same_everywhere v x y column row =
-    below_four (λ u. slice_index_or (v ∷ v ∷ v ∷ v ∷ v ∷ v ∷ v ∷ v ∷ v ∷ v ∷ v ∷ v ∷ v ∷ v ∷ v ∷ v ∷ []) (4 * y + u) (pos 0) ≡ v)
+    below_four (λ u. slice_index_or (everywhere v) (4 * y + u) (pos 0) ≡ v)
     (at 0 y row refl refl refl refl) (at 1 y row refl refl refl refl) (at 2 y row refl refl refl refl) (at 3 y row refl refl refl refl) x column where
       at : (u y : ℕ) → y < 4
-          → slice_index_or (v ∷ v ∷ v ∷ v ∷ v ∷ v ∷ v ∷ v ∷ v ∷ v ∷ v ∷ v ∷ v ∷ v ∷ v ∷ v ∷ []) (4 * 0 + u) (pos 0) ≡ v
-          → slice_index_or (v ∷ v ∷ v ∷ v ∷ v ∷ v ∷ v ∷ v ∷ v ∷ v ∷ v ∷ v ∷ v ∷ v ∷ v ∷ v ∷ []) (4 * 1 + u) (pos 0) ≡ v
-          → slice_index_or (v ∷ v ∷ v ∷ v ∷ v ∷ v ∷ v ∷ v ∷ v ∷ v ∷ v ∷ v ∷ v ∷ v ∷ v ∷ v ∷ []) (4 * 2 + u) (pos 0) ≡ v
-          → slice_index_or (v ∷ v ∷ v ∷ v ∷ v ∷ v ∷ v ∷ v ∷ v ∷ v ∷ v ∷ v ∷ v ∷ v ∷ v ∷ v ∷ []) (4 * 3 + u) (pos 0) ≡ v
-          → slice_index_or (v ∷ v ∷ v ∷ v ∷ v ∷ v ∷ v ∷ v ∷ v ∷ v ∷ v ∷ v ∷ v ∷ v ∷ v ∷ v ∷ []) (4 * y + u) (pos 0) ≡ v
-      at u y row e0 e1 e2 e3 = below_four (λ w. slice_index_or (v ∷ v ∷ v ∷ v ∷ v ∷ v ∷ v ∷ v ∷ v ∷ v ∷ v ∷ v ∷ v ∷ v ∷ v ∷ v ∷ []) (4 * w + u) (pos 0) ≡ v) e0 e1 e2 e3 y row
+          → slice_index_or (everywhere v) (4 * 0 + u) (pos 0) ≡ v
+          → slice_index_or (everywhere v) (4 * 1 + u) (pos 0) ≡ v
+          → slice_index_or (everywhere v) (4 * 2 + u) (pos 0) ≡ v
+          → slice_index_or (everywhere v) (4 * 3 + u) (pos 0) ≡ v
+          → slice_index_or (everywhere v) (4 * y + u) (pos 0) ≡ v
+      at u y row e0 e1 e2 e3 = below_four (λ w. slice_index_or (everywhere v) (4 * w + u) (pos 0) ≡ v) e0 e1 e2 e3 y row
+
+-- ---- a chroma component whose levels are all 0
+
+nothing_times : (a b l : ℤ) → l ≡ pos 0 → a *ℤ l *ℤ b ≡ pos 0
+nothing_times a b l none = ap (λ (z : ℤ). a *ℤ z *ℤ b) none ∙ ap (λ (z : ℤ). z *ℤ b) (*ℤ-zero a) ∙ zero-*ℤ b
+
+nothing_in_all : (a b c d : ℤ) → a ≡ pos 0 → b ≡ pos 0 → c ≡ pos 0 → d ≡ pos 0
+    → ◌≡◌ {A = ℤ} (pos 0 +ℤ (pos 0 +ℤ a +ℤ b) +ℤ (pos 0 +ℤ c +ℤ d)) (pos 0)
+nothing_in_all a b c d ea eb ec ed = rw (ea, eb, ec, ed) refl
+
+no_chroma_product : (dc : List ℤ) (x y : ℕ) → ((i : ℕ) → level dc i ≡ pos 0) → chroma_dc_product dc x y ≡ pos 0
+no_chroma_product dc x y none =
+    let term = λ (u v : ℕ). nothing_times (hadamard2 v y) (hadamard2 x u) (level dc (2 * v + u)) (none (2 * v + u)) in
+    nothing_in_all _ _ _ _ (term 0 0) (term 1 0) (term 0 1) (term 1 1)
+
+no_chroma_dc : (qp : ℕ) (dc : List ℤ) (x y : ℕ) → ((i : ℕ) → level dc i ≡ pos 0) → chroma_dc qp dc x y ≡ pos 0
+no_chroma_dc qp dc x y none =
+    ap (chroma_dc_scaled qp) (no_chroma_product dc x y none)
+    ∙ ap (λ (z : ℤ). (z *ℤ pos (2 ^ (qp / 6))) >>ℤ 5) (zero-*ℤ (pos (16 * even_scale (qp % 6))))
+    ∙ ap (λ (z : ℤ). z >>ℤ 5) (zero-*ℤ (pos (2 ^ (qp / 6))))
+
+-- it has no residual
+pub no_chroma : (qp : ℕ) (dc : List ℤ) (ac : List (List ℤ)) (x y : ℕ) → total_coeff dc ≡ 0
+    → ((k : ℕ) → k < 4 → total_coeff (slice_index_or ac k []) ≡ 0) → x < 8 → y < 8 → chroma_residual qp dc ac x y ≡ pos 0
+no_chroma qp dc ac x y no_dc no_ac column row =
+    let k = 2 * (y / 4) + x / 4 in
+    residual_of_dc qp (chroma_dc qp dc (x / 4) (y / 4)) (slice_index_or ac k []) (x % 4) (y % 4)
+    (no_level (slice_index_or ac k []) (no_ac k (omega arith)))
+    ∙ ap (λ (z : ℤ). (z +ℤ pos 32) >>ℤ 6) (no_chroma_dc qp dc (x / 4) (y / 4) (no_level dc no_dc))

@@ -1,30 +1,29 @@
 //! The luma of an I_NxN macroblock: each 4x4 block from those before it (8.3.1.2).
-ghost use Rattle.std.specs.Prelude.{◌≡◌, ℕ, ℤ, ◌+◌, ◌*◌, ◌^◌, ◌<◌, ◌≤◌, true, [], All, IfSome, slice_index, slice_index_or};
+ghost use Rattle.std.specs.Prelude.{◌≡◌, ℕ, ◌+◌, ◌*◌, ◌<◌, ◌≤◌, true, [], All, slice_index, slice_index_or};
 ghost use Rattle.std.specs.List.{list_all, range_with_len};
 ghost use Rattle.std.specs.Option.{unwrap_or};
 ghost use Rattle.avc_types.specs.MacroblockFields.{residual_of};
 ghost use Rattle.avc_neigh.specs.Modes.{IsMode};
 ghost use Rattle.avc_neigh.specs.declared.facts.NearMode.TheVariants.{Absent as absent};
-ghost use Rattle.avc_mbsyntax.specs.Ranges.{IsResidual};
-ghost use Rattle.avc_transform.specs.Bounds.{AllBelow};
+ghost use Rattle.avc_mbsyntax.specs.Ranges.{AreSmall, IsResidual};
+ghost use Rattle.avc_transform.specs.Residual.{residual4x4};
 ghost use Rattle.avc_transform.specs.MacroblockResidual.{luma_residual};
 ghost use Rattle.avc_plane.specs.Plane.{with_block};
 ghost use Rattle.avc_intra.specs.Luma4x4.{can_predict4x4, intra4x4, mode4x4_of};
 ghost use Rattle.avc_picture_core.specs.Built.{Place, mode_number, seen_from, sum_of, with_blocks4x4};
 ghost use Rattle.avc_picture_core.specs.Nxn.{IsNxnAt};
-ghost use Rattle.avc_picture_core.specs.Residuals.{IsResidualOf};
 ghost use Rattle.avc_picture_core.specs.Sides.{AreInside, readable_sides};
 
 use crate::around::around4x4;
 use crate::corner::{first_column, first_row};
 use crate::modes::mode4x4;
 use crate::places::MbPlace;
-use crate::residual::{add, block_residual, left_of_block, top_of_block};
+use crate::residual::{add_block, left_of_block, top_of_block};
 use crate::sides::ReadableNeighbours;
 use avc_intra::{Mode4x4, Sides};
 use avc_neigh::NearMode;
 use avc_plane::Plane;
-use avc_types::BlockLevels;
+use avc_types::{BlockLevels, Levels};
 
 /// Each block has the sides that its mode needs.
 pub(crate) fn has_sides4x4(readable: ReadableNeighbours, modes: &[NearMode; 16]) -> bool
@@ -47,18 +46,21 @@ fn block_samples<const PAD: usize>(
     top: usize,
     sides: Sides,
     mode: Mode4x4,
-    residual: Option<[i32; 16]>,
+    levels: &Levels<16>,
+    qp: u8,
 ) -> [u8; 16]
     requires columns { left + 4 ≤ plane.now.width }
     requires rows { top + 4 ≤ plane.now.height }
     requires mode { can_predict4x4 sides mode ≡ true }
-    requires small { IfSome residual (AllBelow 16 (2 ^ 25)) }
-    ensures { AreInside left top plane.now.width sides → (f : ℕ → ℕ → ℤ) → IsResidualOf f residual → (x y : ℕ) → x < 4 → y < 4 →
-        slice_index result (4 * y + x) ≡ sum_of (unwrap_or (intra4x4 sides (seen_from plane.now left top) mode x y) 0) (f x y) }
+    requires quantiser { qp ≤ 51 }
+    requires levels { AreSmall levels.now }
+    ensures { AreInside left top plane.now.width sides → (x y : ℕ) → x < 4 → y < 4 →
+        slice_index result (4 * y + x)
+        ≡ sum_of (unwrap_or (intra4x4 sides (seen_from plane.now left top) mode x y) 0) (residual4x4 qp levels.now x y) }
 {
     let around = around4x4(plane, left, top, sides);
     let mut samples = around.predicted(mode);
-    add::<4, 16>(&mut samples, 0, 0, residual);
+    add_block::<4, 16>(&mut samples, 0, 0, levels, qp);
     samples
 }
 
@@ -69,17 +71,20 @@ fn build_block<const PAD: usize>(
     top: usize,
     sides: Sides,
     mode: Mode4x4,
-    residual: Option<[i32; 16]>,
+    levels: &Levels<16>,
+    qp: u8,
 )
     requires columns { left + 4 ≤ plane.old.width }
     requires rows { top + 4 ≤ plane.old.height }
     requires mode { can_predict4x4 sides mode ≡ true }
-    requires small { IfSome residual (AllBelow 16 (2 ^ 25)) }
+    requires quantiser { qp ≤ 51 }
+    requires levels { AreSmall levels.now }
     ensures size { (plane.new.width ≡ plane.old.width) × (plane.new.height ≡ plane.old.height) }
-    ensures block { AreInside left top plane.old.width sides → (f : ℕ → ℕ → ℤ) → IsResidualOf f residual →
-        plane.new ≡ with_block plane.old left top 4 4 (λ x y. sum_of (unwrap_or (intra4x4 sides (seen_from plane.old left top) mode x y) 0) (f x y)) }
+    ensures block { AreInside left top plane.old.width sides →
+        plane.new ≡ with_block plane.old left top 4 4
+        (λ x y. sum_of (unwrap_or (intra4x4 sides (seen_from plane.old left top) mode x y) 0) (residual4x4 qp levels.now x y)) }
 {
-    let samples = block_samples(plane, left, top, sides, mode, residual);
+    let samples = block_samples(plane, left, top, sides, mode, levels, qp);
     plane.set_rectangle::<4, 4, 16>(left, top, &samples);
 }
 
@@ -108,7 +113,14 @@ pub(crate) fn build_luma4x4<const PAD: usize>(
         let left = column + left_of_block(k);
         let top = row + top_of_block(k);
         let mode = mode4x4(modes[k]);
-        let residual = block_residual(&levels.luma[k], qp);
-        build_block(plane, left, top, readable.sides(k), mode, residual);
+        build_block(
+            plane,
+            left,
+            top,
+            readable.sides(k),
+            mode,
+            &levels.luma[k],
+            qp,
+        );
     }
 }

@@ -1,5 +1,5 @@
 -- Numbers that are small enough for their 32 bits.
-use Rattle.std.proofs.Common.{ℕ, ℤ, pos, negsuc, zero, suc, neg_ℤ, ◌≡◌, ◌<◌, ◌≤◌, ◌^◌, ◌*◌, ◌/◌, ◌%◌, ◌*ℤ◌, arith, to_z, of_z, w16, w32, List, slice_index_or, ap, ◌∙◌, sym, refl, zero-mul, mul_assoc, false, ◌+◌, ◌-◌, ◌==◌, if◌then◌else◌}
+use Rattle.std.proofs.Common.{ℕ, ℤ, pos, negsuc, zero, suc, neg_ℤ, ◌≡◌, ◌<◌, ◌≤◌, ◌^◌, ◌*◌, ◌/◌, ◌%◌, ◌*ℤ◌, arith, to_z, of_z, w16, w32, List, slice_index_or, ap, ◌∙◌, refl, zero-mul, mul_assoc, false, ◌+◌, ◌-◌, ◌==◌, if◌then◌else◌}
 use Rattle.std.specs.Int.RustNames.{unsigned_abs}
 use Rattle.std.proofs.lemmas.Int.{ints, unsigned_abs-mul}
 use Rattle.std.proofs.lemmas.Bool.Decides.{nat_tests}
@@ -42,9 +42,9 @@ level_read levels p q r small e told =
     let read = told ∙ narrow in
     ap (λ z. to_z w32 (of_z w32 z)) read ∙ cast_back _ (IsBelow-more (2 ^ 12) (2 ^ 31) _ (omega arith) small) ∙ ap (level levels) e
 
-pub scaled_is : (qp : ℕ) (c l r : ℤ) (s x y : ℕ) → l ≡ c → s ≡ level_scale (qp % 6) x y * 2 ^ (qp / 6) → r ≡ l *ℤ pos s → r ≡ scaled qp c x y
-scaled_is qp c l r s x y el es told =
-    told ∙ ap (λ z. z *ℤ pos s) el ∙ ap (λ n. c *ℤ pos n) es ∙ sym (times_times c (level_scale (qp % 6) x y) (2 ^ (qp / 6)))
+pub scaled_is : (qp : ℕ) (c l r : ℤ) (s p x y : ℕ) → l ≡ c → s ≡ level_scale (qp % 6) x y → p ≡ 2 ^ (qp / 6) → r ≡ l *ℤ pos s *ℤ pos p → r ≡ scaled qp c x y
+scaled_is qp c l r s p x y el es ep told =
+    told ∙ ap (λ (z : ℤ). z *ℤ pos s *ℤ pos p) el ∙ ap (λ n. c *ℤ pos n *ℤ pos p) es ∙ ap (λ n. c *ℤ pos (level_scale (qp % 6) x y) *ℤ pos n) ep
 
 -- behind the DC value the levels are one place nearer
 pub scaled_after_dc : (qp : ℕ) (dc : ℤ) (levels : List ℤ) (x y : ℕ) → 0 < x + y → scaled_block_with_dc qp dc levels x y ≡ scaled qp (level levels (zigzag x y - 1)) x y

@@ -7,14 +7,7 @@ pub fn clipped_sum(sample: u8, residual: i32) -> u8
     requires { IsBelow (2 ^ 25) residual }
     ensures { result ≡ clip1 (pos sample +ℤ residual) }
 {
-    let sum = i32::from(sample) + residual;
-    if sum < 0 {
-        0
-    } else if sum > 255 {
-        255
-    } else {
-        sum as u8
-    }
+    (i32::from(sample) + residual).max(0).min(255) as u8
 }
 
 /// The samples of a 4x4 block before deblocking, from its prediction and its residual (8.5.14): each sum held to 0 to 255.

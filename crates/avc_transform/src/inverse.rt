@@ -71,3 +71,13 @@ pub fn transformed(d: &[i32; 16]) -> [i32; 16]
     }
     out
 }
+
+/// The same, never inlined: behind a DC value and fifteen levels the two make fewer instructions apart.
+#[inline(never)]
+pub fn transformed_apart(d: &[i32; 16]) -> [i32; 16]
+    requires { AllBelow 16 (2 ^ 27) d.now }
+    ensures values { HasRows (transformed (matrix d.now)) result }
+    ensures small { AllBelow 16 (2 ^ 25) result }
+{
+    transformed(d)
+}

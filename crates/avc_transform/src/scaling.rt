@@ -1,18 +1,30 @@
-ghost use Rattle.std.specs.Prelude.{◌≡◌, ℕ, ◌+◌, ◌*◌, ◌-◌, ◌/◌, ◌%◌, ◌^◌, ◌<◌, ◌≤◌, ◌*ℤ◌, pos, slice_index, slice_index_or};
+ghost use Rattle.std.specs.Prelude.{◌≡◌, ℕ, ◌+◌, ◌*◌, ◌-◌, ◌/◌, ◌%◌, ◌^◌, ◌<◌, ◌≤◌, ◌*ℤ◌, pos, slice_index_or};
 ghost use Rattle.avc_transform.specs.Bounds.{IsBelow, AllBelow, HasRows};
-ghost use Rattle.avc_transform.specs.Residual.{scaled_block, scaled_block_with_dc, level, zigzag, level_scale, even_scale};
+ghost use Rattle.avc_transform.specs.Residual.{scaled_block, scaled_block_with_dc, level, zigzag, even_scale};
 
 /// The place in the zig-zag scan of each place of a 4x4 block, row by row (8.5.6).
 const ZIGZAG: [usize; 16] = [0, 1, 5, 6, 2, 4, 7, 12, 3, 8, 11, 13, 9, 10, 14, 15];
 
-/// normAdjust4x4 by QP modulo 6 (8.5.9): where column and row are even, where both are odd, and elsewhere.
-const LEVEL_SCALE: [[u8; 3]; 6] = [
-    [10, 16, 13],
-    [11, 18, 14],
-    [13, 20, 16],
-    [14, 23, 18],
-    [16, 25, 20],
-    [18, 29, 23],
+/// normAdjust4x4 by QP modulo 6 (8.5.9), at each place of a 4x4 block, row by row.
+const LEVEL_SCALE: [[u8; 16]; 6] = [
+    [
+        10, 13, 10, 13, 13, 16, 13, 16, 10, 13, 10, 13, 13, 16, 13, 16,
+    ],
+    [
+        11, 14, 11, 14, 14, 18, 14, 18, 11, 14, 11, 14, 14, 18, 14, 18,
+    ],
+    [
+        13, 16, 13, 16, 16, 20, 16, 20, 13, 16, 13, 16, 16, 20, 16, 20,
+    ],
+    [
+        14, 18, 14, 18, 18, 23, 18, 23, 14, 18, 14, 18, 18, 23, 18, 23,
+    ],
+    [
+        16, 20, 16, 20, 20, 25, 20, 25, 16, 20, 16, 20, 20, 25, 20, 25,
+    ],
+    [
+        18, 23, 18, 23, 23, 29, 23, 29, 18, 23, 18, 23, 23, 29, 23, 29,
+    ],
 ];
 
 /// A power of two, by which a number is shifted left.
@@ -42,20 +54,25 @@ pub fn dc_scale(qp: u8) -> u32
     16 * u32::from(LEVEL_SCALE[usize::from(qp % 6)][0])
 }
 
-/// The scales of a block's levels with their shift (8.5.12.1), by how many of column and row are odd.
-fn block_scales(qp: u8) -> [u32; 3]
-    requires { qp ≤ 51 }
-    ensures value { (x y : ℕ) → x < 4 → y < 4 → slice_index result (x % 2 + y % 2) ≡ level_scale (qp % 6) x y * 2 ^ (qp / 6) }
-    ensures small { (k : ℕ) → k < 3 → slice_index result k < 2 ^ 13 }
+/// A product times a power of two.
+fn raised(product: i32, power: u32) -> i32
+    requires product { IsBelow (2 ^ 17) product }
+    requires power { power ≤ 2 ^ 8 }
+    ensures value { result ≡ product *ℤ pos power }
+    ensures small { (m : ℕ) → IsBelow m product → IsBelow (m * 257) result }
 {
-    let power = power_of_two(qp / 6);
-    let scales = &LEVEL_SCALE[usize::from(qp % 6)];
-    let [even, odd, mixed] = *scales;
-    [
-        u32::from(even) * power,
-        u32::from(mixed) * power,
-        u32::from(odd) * power,
-    ]
+    product * power as i32
+}
+
+/// A level times its scale and a power of two (8.5.12.1). The power comes last: so the compiler takes several levels at once.
+fn scaled(level: i16, scale: u8, power: u32) -> i32
+    requires level { IsBelow (2 ^ 12) level }
+    requires scale { scale < 30 }
+    requires power { power ≤ 2 ^ 8 }
+    ensures value { result ≡ level *ℤ pos scale *ℤ pos power }
+    ensures small { IsBelow (2 ^ 25) result }
+{
+    raised(times(i32::from(level), u32::from(scale)), power)
 }
 
 /// The levels at their places in the block (8.5.6).
@@ -78,10 +95,11 @@ pub fn scaled_levels(levels: &[i16; 16], qp: u8) -> [i32; 16]
     ensures values { HasRows (scaled_block qp levels.now) result }
     ensures small { AllBelow 16 (2 ^ 25) result }
 {
-    let scales = block_scales(qp);
+    let scales = &LEVEL_SCALE[usize::from(qp % 6)];
+    let power = power_of_two(qp / 6);
     let mut out = [0; 16];
     for i in 0..16 {
-        out[i] = times(i32::from(levels[ZIGZAG[i]]), scales[i % 2 + i / 4 % 2]);
+        out[i] = scaled(levels[ZIGZAG[i]], scales[i], power);
     }
     out
 }
@@ -94,10 +112,11 @@ pub fn scaled_levels_with_dc(dc: i32, levels: &[i16; 15], qp: u8) -> [i32; 16]
     ensures values { HasRows (scaled_block_with_dc qp dc levels.now) result }
     ensures small { AllBelow 16 (2 ^ 27) result }
 {
-    let scales = block_scales(qp);
+    let scales = &LEVEL_SCALE[usize::from(qp % 6)];
+    let power = power_of_two(qp / 6);
     let mut out = [dc; 16];
     for i in 1..16 {
-        out[i] = times(i32::from(levels[ZIGZAG[i] - 1]), scales[i % 2 + i / 4 % 2]);
+        out[i] = scaled(levels[ZIGZAG[i] - 1], scales[i], power);
     }
     out
 }

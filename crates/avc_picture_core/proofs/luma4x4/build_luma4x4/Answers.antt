@@ -36,7 +36,7 @@ loop-k-preserved g c =
           (subst (λ w. AreInside left top w (readable_sides c.args.readable k)) (sym inv.wide)
           (subst (λ v. AreInside left v s.width (readable_sides c.args.readable k)) (sym at_top)
           (subst (λ u. AreInside u (16 * c.args.place.row + block_y k) s.width (readable_sides c.args.readable k)) (sym at_left) (at.may_read.inside k c.loop-k-test.true)))) in
-          c.build_block.ensures.block within f c.block_residual-residual.ensures.values
+          c.build_block.ensures.block within
           ∙ nxn_block p k cur left top c.sides.result c.mode4x4-mode.result f
           (ap (λ n. n + block_x k) at.left ∙ sym at_left) (ap (λ n. n + block_y k) at.top ∙ sym at_top)
           (at.may_read.sides k c.loop-k-test.true ∙ sym c.sides.ensures)

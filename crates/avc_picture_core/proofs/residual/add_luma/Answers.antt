@@ -16,7 +16,7 @@ loop-k-preserved c =
     let levels = slice_index_or blocks k c.index-levels-k.result in
     let mine : slice_index_or blocks k [] ≡ levels = any_default blocks k c.index-levels-k.result [] (search rules) in
     record {
-      done = one_more 16 block_at (luma_residual qp (residual_of [] c.args.levels.now)) c.args.samples.now k left top (residual4x4 qp levels) c.loop-k.samples c.add.new.samples c.left_of_block.ensures.inside
+      done = one_more 16 block_at (luma_residual qp (residual_of [] c.args.levels.now)) c.args.samples.now k left top (residual4x4 qp levels) c.loop-k.samples c.add_block.new.samples c.left_of_block.ensures.inside
           (λ x y column row p q r s.
           let spot = luma_spot k left top x y c.loop-k-test.true c.left_of_block.ensures.value c.top_of_block.ensures.value p q r s in (
             spot.0,
@@ -24,5 +24,5 @@ loop-k-preserved c =
                 ∙ ap (λ l. residual4x4 qp l (x % 4) (y % 4)) (sym mine ∙ ap (λ n. slice_index_or blocks n []) (sym spot.0)),
           ))
           (λ x y column row is. luma_within k left top x y c.left_of_block.ensures.value c.top_of_block.ensures.value column row is)
-          c.loop-k.invariant.done (c.add.ensures (residual4x4 qp levels) c.block_residual-residual.ensures.values);
+          c.loop-k.invariant.done c.add_block.ensures;
     }

@@ -1,11 +1,10 @@
 use Rattle.std.proofs.lemmas.Int.{ints}
-use Rattle.avc_picture_core.specs.Residuals.{IsResidualOf}
 use Rattle.std.proofs.Common.{subst, to_z, of_z, w32, rules, ◌≡◌, ◌+◌, ◌-◌, ◌/◌, ◌%◌, ℤ, pos, [], ap, ◌∙◌, sym, slice_index_or, arith}
 use Rattle.avc_types.specs.MacroblockFields.{residual_of}
 use Rattle.avc_neigh.specs.Blocks.{block_at}
 use Rattle.avc_transform.specs.Residual.{residual4x4_with_dc, luma_dc}
 use Rattle.avc_transform.specs.MacroblockResidual.{luma_residual_16x16}
-use Rattle.avc_picture_core.proofs.Adding.{any_default, luma_spot, luma_within, one_more}
+use Rattle.avc_picture_core.proofs.Adding.{IsAdded, any_default, luma_spot, luma_within, one_more}
 use Rattle.avc_picture_core.proofs.residual.add_luma_16x16.Goals as goal
 
 pub loop-k-preserved : goal.loop-k-preserved
@@ -22,7 +21,7 @@ loop-k-preserved c =
     let small = c.luma_dc-values.ensures.small (top + left / 4) (omega (arith, c.top_of_block-top.ensures.value, c.left_of_block-left.ensures.inside, c.top_of_block-top.ensures.inside)) in
     let back : to_z w32 (of_z w32 dc) ≡ dc = omega (arith, ints, small.low, small.high) in
     record {
-      done = one_more 16 block_at (luma_residual_16x16 qp (residual_of dcs c.args.levels.now)) c.args.samples.now k left top (residual4x4_with_dc qp dc levels) c.loop-k.samples c.add.new.samples c.left_of_block-left.ensures.inside
+      done = one_more 16 block_at (luma_residual_16x16 qp (residual_of dcs c.args.levels.now)) c.args.samples.now k left top (residual4x4_with_dc qp dc levels) c.loop-k.samples c.add_block_with_dc.new.samples c.left_of_block-left.ensures.inside
           (λ x y column row p q r s.
           let spot = luma_spot k left top x y c.loop-k-test.true c.left_of_block-left.ensures.value c.top_of_block-top.ensures.value p q r s in
           let value : dc ≡ luma_dc qp dcs (x / 4) (y / 4) =
@@ -35,6 +34,5 @@ loop-k-preserved c =
                 ∙ ap (λ l. residual4x4_with_dc qp (luma_dc qp dcs (x / 4) (y / 4)) l (x % 4) (y % 4)) (sym mine ∙ ap (λ n. slice_index_or blocks n []) (sym spot.0)),
           ))
           (λ x y column row is. luma_within k left top x y c.left_of_block-left.ensures.value c.top_of_block-top.ensures.value column row is)
-          c.loop-k.invariant.done (c.add.ensures (residual4x4_with_dc qp dc levels)
-          (subst (λ (z : ℤ). IsResidualOf (residual4x4_with_dc qp z levels) c.block_residual_with_dc-residual.result) back c.block_residual_with_dc-residual.ensures.values));
+          c.loop-k.invariant.done (subst (λ (z : ℤ). IsAdded 16 left top c.loop-k.samples c.add_block_with_dc.new.samples (residual4x4_with_dc qp z levels) c.left_of_block-left.ensures.inside) back c.add_block_with_dc.ensures);
     }

@@ -10,5 +10,5 @@ returns-clause-values c x y column row =
     let d = c.scaled_levels_with_dc.result in
     let levels = c.args.levels.now in
     let scaled = subst (λ (dc : ℤ). HasRows (scaled_block_with_dc c.args.qp dc levels) d) (to_z-of_z w32 c.args.dc c.ranges.dc) c.scaled_levels_with_dc.ensures.values in
-    c.transformed.ensures.values x y column row
+    c.transformed_apart.ensures.values x y column row
     ∙ same_transformed (matrix d) (scaled_block_with_dc c.args.qp c.args.dc levels) scaled x y
