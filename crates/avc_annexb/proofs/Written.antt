@@ -115,7 +115,6 @@ said-moved max p q ended bytes =
 -- From a unit on, the units are those that begin at its place.
 record GoesOn (ended : Bool) (place : ℕ) (bytes : List ℕ) (k : ℕ) (unit : PlacedUnit) : Type 0 where
   skipped : ℕ
-  within : skipped ≤ length bytes
   offset : unit.offset ≡ place + skipped
   rest : drop k (placed_units place ended bytes) ≡ units_from unit.offset ended (drop skipped bytes)
 
@@ -123,7 +122,7 @@ goes_on_later : (ended : Bool) (place b : ℕ) (bytes : List ℕ) (k k' : ℕ) (
     drop k' (placed_units place ended (b ∷ bytes)) ≡ drop k (placed_units (place + 1) ended bytes) →
     GoesOn ended (place + 1) bytes k unit → GoesOn ended place (b ∷ bytes) k' unit
 goes_on_later ended place b bytes k k' unit same g =
-    record { skipped = suc g.skipped; within = omega (arith, g.within); offset = omega (arith, g.offset); rest = same ∙ g.rest }
+    record { skipped = suc g.skipped; offset = omega (arith, g.offset); rest = same ∙ g.rest }
 
 start_is : (bytes : List ℕ) → is_start bytes ≡ true → bytes ≡ 0 ∷ 0 ∷ 1 ∷ drop 3 bytes
 start_is bytes is = (starts_is Decides-eqb bytes (0 ∷ 0 ∷ 1 ∷ []) (is_start bytes) refl).0 is
@@ -140,7 +139,6 @@ goes_on_here ended place b bytes unit is at =
     let rest = drop 3 (b ∷ bytes) in
     record {
       skipped = 3;
-      within = omega (arith, ap length is_that);
       offset = at;
       rest = ap (placed_units place ended) is_that ∙ found_start place ended rest ∙ ap (λ p. units_from p ended rest) (sym at);
     }
@@ -179,11 +177,11 @@ said_behind max place ended bytes =
     ap (said max) (found_start (place + 1) ended bytes ∙ ap (λ p. units_from p ended bytes) (omega arith))
 
 said_from : (max : ℕ) (ended : Bool) (bytes : List ℕ) (k : ℕ) (unit : PlacedUnit) →
-    length bytes < 2 ^ 64 - 1 → slice_get (placed_units 0 ended bytes) k ≡ Some unit → (place : ℕ) →
+    saturated unit.offset < 2 ^ 64 - 1 → slice_get (placed_units 0 ended bytes) k ≡ Some unit → (place : ℕ) →
     said max (placed_units place ended (start_code ++ drop (saturated unit.offset) bytes)) ≡ said max (drop k (placed_units 0 ended bytes))
 said_from max ended bytes k unit fits is place =
     let g = goes_on ended 0 bytes k unit is in
-    let at : saturated unit.offset ≡ g.skipped = omega (arith, g.within, g.offset) in
+    let at : saturated unit.offset ≡ g.skipped = omega (arith, fits, g.offset) in
     let rest = drop g.skipped bytes in
     ap (λ n. said max (placed_units place ended (start_code ++ drop n bytes))) at ∙ said_behind max place ended rest
     ∙ said-moved max (place + 4) unit.offset ended rest ∙ ap (said max) (sym g.rest)
@@ -263,10 +261,10 @@ said_written max bytes ended (u ∷ us) rest all there last place =
     ∙ ap (λ t. contents u ∷ t) (said_written max bytes ended us rest all others last (place + 1 + 3 + length w.front))
 
 pub written_units_stand_so : WrittenUnitsStand
-written_units_stand_so max bytes ended us k u fits there is =
+written_units_stand_so max bytes ended us k u there is fits =
     let r = numbered_get max 0 (placed_units 0 ended bytes) k u is in
     let from = saturated r.unit.offset in
-    let units_behind = said_from max ended bytes k r.unit fits r.is_there in
+    let units_behind = said_from max ended bytes k r.unit (subst (λ n. n < 2 ^ 64 - 1) (ap (λ v. v.offset) r.is) fits) r.is_there in
     ap (λ n. map contents (units max (flat_map written us ++ start_code ++ drop n bytes) ended)) (ap (λ v. v.offset) r.is)
     ∙ ap (λ t. map contents (units max t ended)) (append_assoc (flat_map written us) start_code (drop from bytes))
     ∙ said-numbered max 0 (placed_units 0 ended (flat_map written us ++ (start_code ++ drop from bytes)))

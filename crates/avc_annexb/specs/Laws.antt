@@ -20,13 +20,13 @@ pub record IsUnitOf (max : ℕ) (bytes : List ℕ) (u : Unit) : Type 0 where
   pub short : IsTrue (is_some u.body)
 
 -- A stream that is written of units of a stream, and then goes on with that stream from one of its
--- units, has these units, and then those from that one on.
+-- units, has these units, and then those from that one on; the offset of that one is below the greatest u64, so not cut off.
 abbrev pub WrittenUnitsStand : Type 0
 WrittenUnitsStand =
     (max : ℕ) (bytes : List ℕ) (ended : Bool) (written_units : List Unit) (k : ℕ) (u : Unit) →
-    length bytes < 2 ^ 64 - 1 →
     All (IsUnitOf max bytes) written_units →
     slice_get (units max bytes ended) k ≡ Some u →
+    u.offset < 2 ^ 64 - 1 →
     map contents (units max (flat_map written written_units ++ start_code ++ drop u.offset bytes) ended)
     ≡ map contents written_units ++ map contents (drop k (units max bytes ended))
 

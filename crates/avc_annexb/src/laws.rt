@@ -7,7 +7,7 @@ pub fn units_stay()
 {}
 
 /// A stream that is written of units of a stream, and then goes on with that stream from one of its units, has these
-/// units, and then those from that one on.
+/// units, and then those from that one on. The offset of that one is below the greatest u64.
 pub fn written_units_stand()
     ensures { WrittenUnitsStand }
 {}

@@ -220,6 +220,7 @@ impl Sequence {
 
     /// Closes the open picture, whose samples are these: marks it, and lets pictures go out. Answers these.
     pub fn close(&mut self, planes: PaddedPlanes<PADDING>) -> Result<Vec<Picture>, PictureError>
+        requires picture { self.old.failed ≡ false → is_some self.old.open_picture ≡ true }
         requires sized { (o : OpenPictureStart) → self.old.open_picture ≡ Some o → AreSizedAs o (padded_planes_of planes) }
         ensures ok { IfOk result (λ out.
             (o : OpenPictureStart) → self.old.open_picture ≡ Some o → IsClosed self.old o (padded_planes_of planes) out.items self.new) }
@@ -231,7 +232,7 @@ impl Sequence {
             return Err(PictureError::OutOfMemory);
         }
         let Some(open_picture) = self.open_picture.take() else {
-            return Ok(Vec::new(self.alloc));
+            unreachable!()
         };
         self.failed = true;
         match self.buffer.store_picture(

@@ -16,6 +16,7 @@ use Rattle.avc_params.specs.declared.pps.Pps.{Pps}
 use Rattle.avc_params.specs.declared.sps.OrderCount.{OrderCount}
 use Rattle.avc_params.specs.declared.sps.OrderCount.TheVariants as orders
 use Rattle.avc_params.specs.declared.sps.Sps.{Sps}
+use Rattle.avc_slice.specs.Filling.{filled}
 use Rattle.avc_slice.specs.Header.{is_idr, is_p_type, slice_qp}
 use Rattle.avc_slice.specs.Reading.{active_count, active_override, back, coded_order, deblocking, filtering, found, front, header_in_rbsp, header_of, idr_pic_id, is_qp, list_part, marking, modification, modification_list, modifications, most_operations, no_edges, numbers, offset_pair, operation, operations, optional_se, overridden_count, p_list, position_here, primary, redundant_pic_cnt, slice_type_of, unless_ended, up_to, value_or_fault}
 use Rattle.avc_slice.specs.WeightsReading.{pred_weight_table}
@@ -337,10 +338,10 @@ header-read header sets rbsp h e =
     }
 
 -- the same of an answer
-pub answer-kept : (header : ℕ) (sets : Sets) (rbsp : List ℕ) (r : Result Header Fault) → r ≡ header_in_rbsp header sets rbsp → IfOk r (λ h. IsReadUnder sets rbsp h)
-answer-kept header sets rbsp (Ok h) e = (header-read header sets rbsp h (sym e)).kept
-answer-kept header sets rbsp (Err f) e = tt
+pub filled-kept : (header : ℕ) (sets : Sets) (rbsp : List ℕ) (h : Header) (r : Result (Unit {0}) Fault) → filled r h ≡ header_in_rbsp header sets rbsp → IfOk r (λ _. IsReadUnder sets rbsp h)
+filled-kept header sets rbsp h (Ok _) e = (header-read header sets rbsp h (sym e)).kept
+filled-kept header sets rbsp h (Err f) e = tt
 
-pub answer-idr : (header : ℕ) (sets : Sets) (rbsp : List ℕ) (r : Result Header Fault) → r ≡ header_in_rbsp header sets rbsp → IfOk r (λ h. is_idr h ≡ (header % 32 == 5))
-answer-idr header sets rbsp (Ok h) e = (header-read header sets rbsp h (sym e)).idr_is
-answer-idr header sets rbsp (Err f) e = tt
+pub filled-idr : (header : ℕ) (sets : Sets) (rbsp : List ℕ) (h : Header) (r : Result (Unit {0}) Fault) → filled r h ≡ header_in_rbsp header sets rbsp → IfOk r (λ _. is_idr h ≡ (header % 32 == 5))
+filled-idr header sets rbsp h (Ok _) e = (header-read header sets rbsp h (sym e)).idr_is
+filled-idr header sets rbsp h (Err f) e = tt

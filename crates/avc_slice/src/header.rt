@@ -1,5 +1,6 @@
 ghost use Rattle.std.specs.Prelude.{◌≡◌, IfSome, slice_get};
 ghost use Rattle.std.specs.List.{list_any};
+ghost use Rattle.avc_slice.specs.Filling.{empty_header};
 ghost use Rattle.avc_slice.specs.Header.{has_operation_5, is_unmark_all, is_idr, is_p, is_p_type, is_reference};
 ghost use Rattle.avc_slice.specs.Weights.{weights};
 ghost use Rattle.avc_slice.specs.Within.{IsPredWeightTable};
@@ -121,6 +122,30 @@ fn has_unmark_all(operations: &[Operation]) -> bool
 }
 
 impl Header {
+    /// A header in which nothing stands yet.
+    pub fn empty() -> Header
+        ensures { result ≡ empty_header }
+    {
+        Header {
+            nal_ref_idc: 0,
+            first_mb_in_slice: MbAddr::new(0),
+            slice_type: SliceType::I,
+            pic_parameter_set_id: 0,
+            frame_num: 0,
+            idr_pic_id: None,
+            order: CodedOrder::Type2,
+            redundant_pic_cnt: None,
+            active_override: None,
+            active_count: 0,
+            modifications: None,
+            pred_weight_table: None,
+            marking: None,
+            slice_qp_delta: 0,
+            deblocking: None,
+            position: 0,
+        }
+    }
+
     /// The slice is one of an IDR picture (nal_unit_type 5).
     pub fn is_idr(&self) -> bool
         ensures { result ≡ is_idr self.now }

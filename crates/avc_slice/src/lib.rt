@@ -16,8 +16,8 @@ mod slice;
 mod weights;
 mod weights_reading;
 
-pub use begins::begins_picture;
+pub use begins::{PictureFields, begins_picture};
 pub use header::{CodedOrder, Deblocking, Header, SliceType};
-pub use reading::read_header;
+pub use reading::{put_header, read_header};
 pub use slice::Slice;
 pub use weights::{ChromaWeights, CodedWeight, EntryWeights, PredWeightTable};

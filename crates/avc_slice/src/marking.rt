@@ -1,5 +1,8 @@
 ghost use Rattle.std.specs.Prelude.{◌≡◌};
+ghost use Rattle.std.specs.Prelude.{true};
+ghost use Rattle.avc_bits.specs.Bits.{where_set};
 ghost use Rattle.avc_bits.specs.Reader.{Reads};
+ghost use Rattle.avc_slice.specs.Filling.{Fills, adaptive};
 ghost use Rattle.avc_slice.specs.Reading.{any_operation, marking, most_operations, operations};
 
 use crate::list::{Coded, Ending, read_up_to};
@@ -41,22 +44,37 @@ fn read_operations(reader: &mut BitReader) -> Result<UpTo<Operation, 64>, Fault>
     read_up_to(reader, ending, 0, MOST_OPERATIONS)
 }
 
-/// dec_ref_pic_marking (7.3.3.3), of an IDR picture or of another.
-pub(crate) fn read_marking(reader: &mut BitReader, idr: bool) -> Result<Marking, Fault>
-    ensures { Reads result (marking idr) reader.old reader.new }
+/// The operations are put into the header where they stay, since they are large.
+#[inline(never)]
+fn put_operations(reader: &mut BitReader, place: &mut Option<Marking>) -> Result<(), Fault>
+    ensures { Fills result place.new (where_set true adaptive) reader.old reader.new }
+{
+    *place = Some(Marking::Adaptive(read_operations(reader)?));
+    Ok(())
+}
+
+/// dec_ref_pic_marking (7.3.3.3), of an IDR picture or of another, put into the header.
+pub(crate) fn put_marking(
+    reader: &mut BitReader,
+    idr: bool,
+    place: &mut Option<Marking>,
+) -> Result<(), Fault>
+    ensures { Fills result place.new (where_set true (marking idr)) reader.old reader.new }
 {
     if idr {
         let no_output_of_prior_pics_flag = reader.flag()?;
         let long_term_reference_flag = reader.flag()?;
-        return Ok(Marking::Idr {
+        *place = Some(Marking::Idr {
             no_output_of_prior_pics_flag,
             long_term_reference_flag,
         });
+        return Ok(());
     }
     let adaptive_ref_pic_marking_mode_flag = reader.flag()?;
     if adaptive_ref_pic_marking_mode_flag {
-        Ok(Marking::Adaptive(read_operations(reader)?))
+        put_operations(reader, place)
     } else {
-        Ok(Marking::SlidingWindow)
+        *place = Some(Marking::SlidingWindow);
+        Ok(())
     }
 }

@@ -28,6 +28,13 @@ pub struct ListPart {
     pub pred_weight_table: Option<PredWeightTable>,
 }
 
+/// How long RefPicList0 is.
+#[derive(Clone, Copy)]
+pub struct ActiveCount {
+    pub active_override: Option<u32>,
+    pub active_count: u32,
+}
+
 /// The quantiser and the deblocking fields.
 #[derive(Clone, Copy)]
 pub struct Filtering {

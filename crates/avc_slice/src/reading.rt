@@ -1,22 +1,23 @@
-ghost use Rattle.std.specs.Prelude.{◌≡◌, ◌≤◌, ◌==◌, ◌%◌, not, IfOk, IfSome};
+ghost use Rattle.std.specs.Prelude.{◌≡◌, ◌≤◌, ◌==◌, ◌%◌, true, not, IfOk, IfSome, None};
 ghost use Rattle.avc_bits.specs.Bits.{where_set};
 ghost use Rattle.avc_bits.specs.Reader.{Reads};
 ghost use Rattle.avc_params.specs.Limits.{max_frame_num};
 ghost use Rattle.avc_params.specs.Tables.{sets_after};
 ghost use Rattle.avc_params.specs.Within.{IsPps, IsSps};
+ghost use Rattle.avc_slice.specs.Filling.{Fills, FillsList, empty_header, filled};
 ghost use Rattle.avc_slice.specs.Header.{is_idr, slice_qp};
 ghost use Rattle.avc_slice.specs.Reading.{active_count, active_override, back, deblocking, idr_pic_id, is_qp};
 ghost use Rattle.avc_slice.specs.Reading.{marking, redundant_pic_cnt, filtering, front, header_in_rbsp};
-ghost use Rattle.avc_slice.specs.Reading.{list_part, modification_list, numbers, p_list, slice_type_of};
+ghost use Rattle.avc_slice.specs.Reading.{list_part, modification_list, modifications, numbers, p_list, slice_type_of};
 ghost use Rattle.avc_slice.specs.WeightsReading.{pred_weight_table};
 ghost use Rattle.avc_slice.specs.Within.{IsReadUnder};
 
 use crate::deblocking::read_deblocking;
 use crate::header::{Deblocking, Header, SliceType};
-use crate::marking::read_marking;
+use crate::marking::put_marking;
 use crate::modification::read_modifications;
 use crate::order::read_order;
-use crate::parts::{Filtering, Front, ListPart, Numbers};
+use crate::parts::{ActiveCount, Filtering, Front, Numbers};
 use crate::weights::PredWeightTable;
 use crate::weights_reading::read_pred_weight_table;
 use avc_bits::BitReader;
@@ -121,21 +122,39 @@ fn read_active_override(reader: &mut BitReader, pps: &Pps) -> Result<Option<u32>
     }
 }
 
-/// The entries of the list modification, where its flag is 1.
-fn read_modification_list(
+/// The entries are put into the header where they stay, since they are large.
+#[inline(never)]
+fn put_modifications(
     reader: &mut BitReader,
     max_frame_num: u32,
     active_count: u32,
-) -> Result<Option<UpTo<Modification, 16>>, Fault>
+    place: &mut Option<UpTo<Modification, 16>>,
+) -> Result<(), Fault>
     requires numbers { 1 ≤ max_frame_num }
     requires room { active_count ≤ 16 }
-    ensures { Reads result (modification_list max_frame_num active_count) reader.old reader.new }
+    ensures { Fills result place.new (where_set true (modifications max_frame_num active_count)) reader.old reader.new }
+{
+    *place = Some(read_modifications(reader, max_frame_num, active_count)?);
+    Ok(())
+}
+
+/// The entries of the list modification, where its flag is 1.
+fn put_modification_list(
+    reader: &mut BitReader,
+    max_frame_num: u32,
+    active_count: u32,
+    place: &mut Option<UpTo<Modification, 16>>,
+) -> Result<(), Fault>
+    requires numbers { 1 ≤ max_frame_num }
+    requires room { active_count ≤ 16 }
+    requires none { place.old ≡ None }
+    ensures { Fills result place.new (modification_list max_frame_num active_count) reader.old reader.new }
 {
     let ref_pic_list_modification_flag_l0 = reader.flag()?;
     if ref_pic_list_modification_flag_l0 {
-        Ok(Some(read_modifications(reader, max_frame_num, active_count)?))
+        put_modifications(reader, max_frame_num, active_count, place)
     } else {
-        Ok(None)
+        Ok(())
     }
 }
 
@@ -150,52 +169,81 @@ fn active_count_of(pps: &Pps, active_override: Option<u32>) -> u32
     }
 }
 
+/// The table is put into the header where it stays, since it is large.
+#[inline(never)]
+fn put_pred_weight_table(
+    reader: &mut BitReader,
+    active_count: u32,
+    place: &mut Option<PredWeightTable>,
+) -> Result<(), Fault>
+    requires { active_count ≤ 16 }
+    ensures { Fills result place.new (where_set true (pred_weight_table active_count)) reader.old reader.new }
+{
+    *place = Some(read_pred_weight_table(reader, active_count)?);
+    Ok(())
+}
+
 /// pred_weight_table, where it is `present`.
-fn read_optional_weights(
+fn put_optional_weights(
     reader: &mut BitReader,
     present: bool,
     active_count: u32,
-) -> Result<Option<PredWeightTable>, Fault>
-    requires { active_count ≤ 16 }
-    ensures { Reads result (where_set present (pred_weight_table active_count)) reader.old reader.new }
+    place: &mut Option<PredWeightTable>,
+) -> Result<(), Fault>
+    requires room { active_count ≤ 16 }
+    requires none { place.old ≡ None }
+    ensures { Fills result place.new (where_set present (pred_weight_table active_count)) reader.old reader.new }
 {
     if present {
-        Ok(Some(read_pred_weight_table(reader, active_count)?))
+        put_pred_weight_table(reader, active_count, place)
     } else {
-        Ok(None)
+        Ok(())
     }
 }
 
 /// What RefPicList0 of a P slice is made by, and by what its predictions are weighted.
-fn read_p_list(reader: &mut BitReader, pps: &Pps, sps: &Sps) -> Result<ListPart, Fault>
-    requires { IsSps sps.now }
-    ensures { Reads result (p_list pps.now sps.now) reader.old reader.new }
+fn put_p_list(
+    reader: &mut BitReader,
+    pps: &Pps,
+    sps: &Sps,
+    modifications: &mut Option<UpTo<Modification, 16>>,
+    table: &mut Option<PredWeightTable>,
+) -> Result<ActiveCount, Fault>
+    requires sps { IsSps sps.now }
+    requires none { modifications.old ≡ None }
+    requires no_table { table.old ≡ None }
+    ensures { FillsList result modifications.new table.new (p_list pps.now sps.now) reader.old reader.new }
 {
     let active_override = read_active_override(reader, pps)?;
     let active_count = active_count_of(pps, active_override);
-    let modifications = read_modification_list(reader, sps.max_frame_num(), active_count)?;
-    let pred_weight_table = read_optional_weights(reader, pps.weighted_pred_flag, active_count)?;
-    Ok(ListPart {
+    put_modification_list(reader, sps.max_frame_num(), active_count, modifications)?;
+    put_optional_weights(reader, pps.weighted_pred_flag, active_count, table)?;
+    Ok(ActiveCount {
         active_override,
         active_count,
-        modifications,
-        pred_weight_table,
     })
 }
 
 /// The part of P slices; an I slice has none.
-fn read_list_part(reader: &mut BitReader, p: bool, pps: &Pps, sps: &Sps) -> Result<ListPart, Fault>
-    requires { IsSps sps.now }
-    ensures { Reads result (list_part p pps.now sps.now) reader.old reader.new }
+fn put_list_part(
+    reader: &mut BitReader,
+    p: bool,
+    pps: &Pps,
+    sps: &Sps,
+    modifications: &mut Option<UpTo<Modification, 16>>,
+    table: &mut Option<PredWeightTable>,
+) -> Result<ActiveCount, Fault>
+    requires sps { IsSps sps.now }
+    requires none { modifications.old ≡ None }
+    requires no_table { table.old ≡ None }
+    ensures { FillsList result modifications.new table.new (list_part p pps.now sps.now) reader.old reader.new }
 {
     if p {
-        read_p_list(reader, pps, sps)
+        put_p_list(reader, pps, sps, modifications, table)
     } else {
-        Ok(ListPart {
+        Ok(ActiveCount {
             active_override: None,
             active_count: 0,
-            modifications: None,
-            pred_weight_table: None,
         })
     }
 }
@@ -246,63 +294,71 @@ fn read_filtering(reader: &mut BitReader, pps: &Pps) -> Result<Filtering, Fault>
 }
 
 /// dec_ref_pic_marking, where nal_ref_idc is not 0.
-fn read_reference_marking(
+fn put_reference_marking(
     reader: &mut BitReader,
     nal_ref_idc: u8,
     idr: bool,
-) -> Result<Option<Marking>, Fault>
-    ensures { Reads result (where_set (not (nal_ref_idc == 0)) (marking idr)) reader.old reader.new }
+    place: &mut Option<Marking>,
+) -> Result<(), Fault>
+    requires { place.old ≡ None }
+    ensures { Fills result place.new (where_set (not (nal_ref_idc == 0)) (marking idr)) reader.old reader.new }
 {
     if nal_ref_idc == 0 {
-        Ok(None)
+        Ok(())
     } else {
-        Ok(Some(read_marking(reader, idr)?))
+        put_marking(reader, idr, place)
     }
 }
 
-/// What stands after the front, under its parameter sets.
-fn read_back(
+/// What stands after the front, under its parameter sets, put into a header in which nothing stands yet.
+fn put_back(
     reader: &mut BitReader,
     nal_ref_idc: u8,
     idr: bool,
     front: Front,
     pps: &Pps,
     sps: &Sps,
-) -> Result<Header, Fault>
+    place: &mut Header,
+) -> Result<(), Fault>
     requires sps { IsSps sps.now }
     requires pps { IsPps pps.now }
-    ensures { Reads result (back nal_ref_idc idr front pps.now sps.now) reader.old reader.new }
+    requires empty { place.old ≡ empty_header }
+    ensures { Fills result place.new (back nal_ref_idc idr front pps.now sps.now) reader.old reader.new }
 {
     if front.first_mb_in_slice >= sps.size_in_mbs() {
         return Err(Fault::OutOfRange);
     }
     let numbers = read_numbers(reader, idr, pps, sps)?;
-    let list = read_list_part(reader, front.slice_type.is_p(), pps, sps)?;
-    let marking = read_reference_marking(reader, nal_ref_idc, idr)?;
+    let list = put_list_part(
+        reader,
+        front.slice_type.is_p(),
+        pps,
+        sps,
+        &mut place.modifications,
+        &mut place.pred_weight_table,
+    )?;
+    put_reference_marking(reader, nal_ref_idc, idr, &mut place.marking)?;
     let filtering = read_filtering(reader, pps)?;
-    Ok(Header {
-        nal_ref_idc,
-        first_mb_in_slice: MbAddr::new(front.first_mb_in_slice),
-        slice_type: front.slice_type,
-        pic_parameter_set_id: front.pic_parameter_set_id,
-        frame_num: numbers.frame_num,
-        idr_pic_id: numbers.idr_pic_id,
-        order: numbers.order,
-        redundant_pic_cnt: numbers.redundant_pic_cnt,
-        active_override: list.active_override,
-        active_count: list.active_count,
-        modifications: list.modifications,
-        pred_weight_table: list.pred_weight_table,
-        marking,
-        slice_qp_delta: filtering.slice_qp_delta,
-        deblocking: filtering.deblocking,
-        position: reader.position(),
-    })
+    place.nal_ref_idc = nal_ref_idc;
+    place.first_mb_in_slice = MbAddr::new(front.first_mb_in_slice);
+    place.slice_type = front.slice_type;
+    place.pic_parameter_set_id = front.pic_parameter_set_id;
+    place.frame_num = numbers.frame_num;
+    place.idr_pic_id = numbers.idr_pic_id;
+    place.order = numbers.order;
+    place.redundant_pic_cnt = numbers.redundant_pic_cnt;
+    place.active_override = list.active_override;
+    place.active_count = list.active_count;
+    place.slice_qp_delta = filtering.slice_qp_delta;
+    place.deblocking = filtering.deblocking;
+    place.position = reader.position();
+    Ok(())
 }
 
 // The header, or the first fault in it.
-fn read_fields(header: u8, rbsp: &[u8], table: &ParamTable) -> Result<Header, Fault>
-    ensures { result ≡ header_in_rbsp header (sets_after table.now) rbsp.now }
+fn put_fields(header: u8, rbsp: &[u8], table: &ParamTable, place: &mut Header) -> Result<(), Fault>
+    requires { place.old ≡ empty_header }
+    ensures { filled result place.new ≡ header_in_rbsp header (sets_after table.now) rbsp.now }
 {
     let nal_ref_idc = header / 32 % 4;
     let idr = header % 32 == 5;
@@ -314,7 +370,7 @@ fn read_fields(header: u8, rbsp: &[u8], table: &ParamTable) -> Result<Header, Fa
     let Some(sps) = table.sps(pps.seq_parameter_set_id) else {
         return Err(Fault::NoParameterSet);
     };
-    read_back(&mut reader, nal_ref_idc, idr, front, pps, sps)
+    put_back(&mut reader, nal_ref_idc, idr, front, pps, sps, place)
 }
 
 /// The slice header of a unit of type 1 or 5 (7.3.3), by the unit's first byte and its RBSP, under the parameter sets in
@@ -325,5 +381,22 @@ pub fn read_header(header: u8, rbsp: &[u8], table: &ParamTable) -> Result<Header
     ensures kept { IfOk result (λ h. IsReadUnder (sets_after table.now) rbsp.now h) }
     ensures idr { IfOk result (λ h. is_idr h ≡ (header % 32 == 5)) }
 {
-    read_fields(header, rbsp, table)
+    let mut read = Header::empty();
+    put_header(header, rbsp, table, &mut read)?;
+    Ok(read)
+}
+
+/// The same, put into a header in which nothing stands yet: a header is large, and so it is not handed on.
+pub fn put_header(
+    header: u8,
+    rbsp: &[u8],
+    table: &ParamTable,
+    place: &mut Header,
+) -> Result<(), Fault>
+    requires { place.old ≡ empty_header }
+    ensures header { filled result place.new ≡ header_in_rbsp header (sets_after table.now) rbsp.now }
+    ensures kept { IfOk result (λ _. IsReadUnder (sets_after table.now) rbsp.now place.new) }
+    ensures idr { IfOk result (λ _. is_idr place.new ≡ (header % 32 == 5)) }
+{
+    put_fields(header, rbsp, table, place)
 }

@@ -1,5 +1,5 @@
 -- What a parameter set's unit says.
-use Rattle.std.proofs.Common.{◌≡◌, ℕ, List, Option, Some, None, Result, Ok, Err, IfOk, OnErr, Bool, true, is_some, refl, ap}
+use Rattle.std.proofs.Common.{◌≡◌, ℕ, List, Option, Some, None, Result, Ok, Err, IfOk, OnErr, true, is_some, refl, ap}
 use Rattle.std.proofs.lemmas.Option.{none-some}
 use Rattle.avc_annexb.specs.Escapes.{rbsp}
 use Rattle.avc_annexb.specs.declared.unit.Unit.{Unit}

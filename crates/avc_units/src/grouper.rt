@@ -4,12 +4,12 @@ ghost use Rattle.avc_units.specs.GrouperState.{after_fault, begins_a_picture, af
 ghost use Rattle.avc_units.specs.GrouperState.{open_picture_of, new_grouper, IfSlice, IsSliceUnder};
 ghost use Rattle.avc_units.specs.Grouping.{step, MayWantMemory};
 
+use crate::last_header::LastHeader;
 use crate::step::{Next, Step};
 use crate::step_cases::UnitContext;
 use crate::units::step_of;
 use avc_annexb::Unit;
 use avc_params::ParamTable;
-use avc_slice::Header;
 use avc_types::OutOfMemory;
 use std::alloc::Global;
 use std::marker::Model;
@@ -21,7 +21,7 @@ pub struct Grouper {
     table: ParamTable,
     running: bool,
     // the header of the open picture's last slice
-    last: Option<Header>,
+    last: Option<LastHeader>,
     // whether the last unit begins a picture also where closing was a fault
     restarts: bool,
     failed: bool,
@@ -44,13 +44,15 @@ fn begins_a_picture(next: &Next) -> bool
     }
 }
 
-/// Keeps the header of the open picture's last slice after a step. Where there is none, its room is not cleared again.
-fn keep_last_header(last: &mut Option<Header>, closes: bool, next: &Next)
+/// Keeps the header of the open picture's last slice after a step.
+fn keep_last_header(last: &mut Option<LastHeader>, closes: bool, next: &Next)
     ensures { last.new ≡ last_header_after closes next.now last.old }
 {
     match next {
-        Next::Begins(slice) | Next::Continues(slice) => *last = Some(slice.get().header.copied()),
-        _ if closes && last.is_some() => *last = None,
+        Next::Begins(slice) | Next::Continues(slice) => *last = Some(LastHeader::new(
+            &slice.get().header,
+        )),
+        _ if closes => *last = None,
         _ => {}
     }
 }

@@ -4,6 +4,7 @@
 mod grouper;
 mod heap_slice;
 mod kinds;
+mod last_header;
 pub mod laws;
 mod sets;
 mod slices;

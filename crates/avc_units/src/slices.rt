@@ -15,7 +15,7 @@ use crate::step_cases::{UnitContext, no_effect, slice_or_start};
 use avc_annexb::Unit;
 use avc_bits::BitReader;
 use avc_params::ParamTable;
-use avc_slice::{Slice, read_header};
+use avc_slice::{Header, Slice, put_header};
 use avc_types::{Bytes, Fault, OutOfMemory};
 use std::alloc::Global;
 
@@ -47,13 +47,13 @@ fn read_slice(
     ensures slice { IfOk result (λ read. read ≡ with_header unit.now rbsp (header_in_rbsp unit.now.header (sets_after table.now) rbsp)) }
     ensures kept { IfOk result (λ read. IfOk read (IsSliceUnder (sets_after table.now))) }
 {
-    match read_header(unit.header, rbsp.as_slice(), table) {
-        Ok(header) => {
-            let slice = Slice {
-                unit: unit.index,
-                header,
-                rbsp,
-            };
+    let mut slice = Slice {
+        unit: unit.index,
+        header: Header::empty(),
+        rbsp,
+    };
+    match put_header(unit.header, slice.rbsp.as_slice(), table, &mut slice.header) {
+        Ok(()) => {
             let slice = HeapSlice::new(alloc, slice)?;
             Ok(Ok(slice))
         }

@@ -3,8 +3,8 @@ ghost use Rattle.avc_units.specs.Grouping.{ends_picture, no_effect, readable, sl
 ghost use Rattle.avc_units.specs.Kinds.{slice_or_start, open_picture_in};
 
 use crate::heap_slice::HeapSlice;
+use crate::last_header::LastHeader;
 use crate::step::{Next, Step};
-use avc_slice::{Header, begins_picture};
 use avc_types::Fault;
 
 /// What a unit finds: whether decoding runs, and the open picture, if there is one, with the header of its last slice and
@@ -12,7 +12,7 @@ use avc_types::Fault;
 #[derive(Clone, Copy)]
 pub(crate) struct UnitContext<'a> {
     pub running: bool,
-    pub last: &'a Option<Header>,
+    pub last: &'a Option<LastHeader>,
     pub full: bool,
 }
 
@@ -59,7 +59,7 @@ fn readable(context: UnitContext, starts: bool, slice: HeapSlice) -> Step
     ensures { result ≡ readable (open_picture_in context.entry) starts slice }
 {
     match context.last {
-        Some(last) if !begins_picture(last, &slice.get().header) => Step {
+        Some(last) if !last.is_followed_by_picture(&slice.get().header) => Step {
             closes: false,
             next: Next::Continues(slice),
             even_after_fault: false,

@@ -1,0 +1,111 @@
+-- Units are taken one after the other.
+use Rattle.std.proofs.Common.{◌≡◌, ◌≤◌, ℕ, Bool, true, false, List, [], ◌∷◌, ◌++◌, length, if◌then◌else◌, refl, ap, sym, ◌∙◌, append_assoc, append-nil}
+use Rattle.avc_annexb.specs.SplitterState.{SplitterState, after_feed}
+use Rattle.avc_annexb.specs.Units.{units}
+use Rattle.avc_annexb.specs.declared.unit.Unit.{Unit}
+use Rattle.avc_params.specs.Tables.{sets_after}
+use Rattle.avc_params.specs.declared.set_unit.SetUnit.{SetUnit}
+use Rattle.avc_units.specs.Grouping.{list_of, set_unit, set_units}
+use Rattle.avc_tools.proofs.Growing.{AreLeft, drained}
+use Rattle.avc_tools.proofs.Lengths.{whole_units}
+use Rattle.avc_tools.proofs.Shown.{set_units-append}
+use Rattle.avc_tools.specs.Streams.{StreamSoFar, after_end, after_piece, after_units_left, units_left}
+use Rattle.avc_info.specs.Facts.{no_facts}
+use Rattle.avc_info.specs.Info.{AreNoted, info_so_far}
+use Rattle.avc_info.specs.Noting.{after_unit, facts_after}
+use Rattle.avc_info.specs.Text.{info_text}
+use Rattle.avc_info.specs.declared.stream_facts.StreamFacts.{StreamFacts}
+
+-- one unit's sets in front
+sets_then : (sets : List SetUnit) (u : Unit) (us : List Unit) → (sets ++ set_units (u ∷ [])) ++ set_units us ≡ sets ++ set_units (u ∷ us)
+sets_then sets u us =
+    append_assoc sets (set_units (u ∷ [])) (set_units us)
+    ∙ ap (λ l. sets ++ (l ++ set_units us)) (append-nil (list_of (set_unit u)))
+
+facts-append : (sets : List SetUnit) (us vs : List Unit) (f : StreamFacts) → facts_after sets (us ++ vs) f ≡ facts_after (sets ++ set_units us) vs (facts_after sets us f)
+facts-append sets [] vs f = ap (λ l. facts_after l vs f) (sym (append-nil sets))
+facts-append sets (u ∷ us) vs f =
+    let first = after_unit (sets_after sets) u f in
+    let later = facts_after (sets ++ set_units (u ∷ [])) us first in
+    facts-append (sets ++ set_units (u ∷ [])) us vs first
+    ∙ ap (λ l. facts_after l vs later) (sets_then sets u us)
+
+-- These units were taken, with the sets that they brought.
+pub record IsNoted (before now : List SetUnit) (first facts : StreamFacts) (done : List Unit) : Type 0 where
+  pub sets : now ≡ before ++ set_units done
+  pub facts_are : facts ≡ facts_after before done first
+
+pub noted_none : (before : List SetUnit) (first : StreamFacts) → IsNoted before before first first []
+noted_none before first = record { sets = sym (append-nil before); facts_are = refl }
+
+pub noted_more : (before old new : List SetUnit) (first f more : StreamFacts) (u : Unit) → new ≡ old ++ set_units (u ∷ []) → more ≡ after_unit (sets_after old) u f
+    → (done : List Unit) → IsNoted before old first f done → IsNoted before new first more (done ++ u ∷ [])
+noted_more before old new first f more u put added done h = record {
+  sets = put ∙ ap (λ l. l ++ set_units (u ∷ [])) h.sets ∙ append_assoc before (set_units done) (set_units (u ∷ [])) ∙ ap (λ l. before ++ l) (sym (set_units-append done (u ∷ [])));
+  facts_are =
+      added ∙ ap (λ x. after_unit (sets_after old) u x) h.facts_are
+      ∙ ap (λ ss. after_unit (sets_after ss) u (facts_after before done first)) h.sets
+      ∙ sym (facts-append before done (u ∷ []) first);
+}
+
+-- once more has come
+pub noted_again : (max : ℕ) (old mid new : SplitterState) (ended ended' : Bool) (sets now : List SetUnit) (f more : StreamFacts) → AreNoted max old ended sets f → AreLeft max old mid
+    → new ≡ after_units_left max mid → now ≡ sets ++ set_units (units_left max mid) → more ≡ facts_after sets (units_left max mid) f → ended' ≡ mid.ended
+    → AreNoted max new ended' now more
+noted_again max old mid new ended ended' sets now f more h left is put added e = record {
+  drained = drained max old mid new left is;
+  end_is = e ∙ ap (λ (s : SplitterState). s.ended) (sym is);
+  sets_are =
+      put ∙ ap (λ l. l ++ set_units (units_left max mid)) h.sets_are
+      ∙ sym (set_units-append (units max old.bytes old.ended) (units_left max mid))
+      ∙ ap set_units (sym left.all)
+      ∙ ap (λ (s : SplitterState). set_units (units max s.bytes s.ended)) (sym is);
+  facts_are =
+      added ∙ ap (λ x. facts_after sets (units_left max mid) x) h.facts_are
+      ∙ ap (λ ss. facts_after ss (units_left max mid) (facts_after [] (units max old.bytes old.ended) no_facts)) h.sets_are
+      ∙ sym (facts-append [] (units max old.bytes old.ended) (units_left max mid) no_facts)
+      ∙ ap (λ us. facts_after [] us no_facts) (sym left.all)
+      ∙ ap (λ (s : SplitterState). facts_after [] (units max s.bytes s.ended) no_facts) (sym is);
+}
+
+-- at the end
+pub told_at_end : (max : ℕ) (s : SplitterState) (ended : Bool) (sets : List SetUnit) (f : StreamFacts) (before : StreamSoFar) (added : List ℕ) → AreNoted max s ended sets f
+    → ended ≡ true → before.ended ≡ false → added ≡ info_text f → length s.bytes ≤ max
+    → info_so_far s.bytes s.ended ≡ info_so_far before.bytes before.ended ++ added
+told_at_end max s ended sets f before added h is_ended open_before text short =
+    let all : s.ended ≡ true = sym h.end_is ∙ is_ended in
+    ap (λ e. info_so_far s.bytes e) all
+    ∙ ap (λ us. info_text (facts_after [] us no_facts)) (sym (whole_units max s.bytes true short))
+    ∙ ap (λ e. info_text (facts_after [] (units max s.bytes e) no_facts)) (sym all)
+    ∙ ap info_text (sym h.facts_are)
+    ∙ sym text
+    ∙ ap (λ e. info_so_far before.bytes e ++ added) (sym open_before)
+
+-- before it
+pub nothing_yet : (s : SplitterState) (before : StreamSoFar) (added : List ℕ) → s.ended ≡ false → before.ended ≡ false → added ≡ []
+    → info_so_far s.bytes s.ended ≡ info_so_far before.bytes before.ended ++ added
+nothing_yet s before added now_open open_before none =
+    ap (λ e. info_so_far s.bytes e) now_open
+    ∙ sym none
+    ∙ ap (λ e. info_so_far before.bytes e ++ added) (sym open_before)
+
+-- ---- the end of what came
+
+kept_end : (s : SplitterState) (piece : List ℕ) → s.ended ≡ (after_feed s piece).ended
+kept_end s piece = by s.ended
+  where
+    by : (e : Bool) → s.ended ≡ (if e then s else record s { bytes = s.bytes ++ piece }).ended
+    by true = refl
+    by false = refl
+
+pub feed_keeps_end : (old new : SplitterState) (piece : List ℕ) → new ≡ after_feed old piece → old.ended ≡ new.ended
+feed_keeps_end old new piece is = kept_end old piece ∙ ap (λ (s : SplitterState). s.ended) (sym is)
+
+pub open_still : (max : ℕ) (old mid new : SplitterState) (piece : List ℕ) → old.ended ≡ false → mid ≡ after_feed old piece → new ≡ after_units_left max mid → new.ended ≡ false
+open_still max old mid new piece open_before fed is = ap (λ (s : SplitterState). s.ended) is ∙ sym (feed_keeps_end old mid piece fed) ∙ open_before
+
+pub stays_by_piece : (s : StreamSoFar) (piece : List ℕ) → s.ended ≡ true → s ≡ after_piece s piece
+stays_by_piece s piece e = ap (λ x. if x then s else record s { bytes = s.bytes ++ piece }) (sym e)
+
+pub stays_by_end : (s : StreamSoFar) → s.ended ≡ true → s ≡ after_end s
+stays_by_end s e = ap (λ x. record s { ended = x }) e

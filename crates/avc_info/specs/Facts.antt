@@ -1,0 +1,96 @@
+-- What parameter sets and slice headers say of a stream.
+use Rattle.std.specs.Prelude.{ℕ, ◌+◌, max, Bool, true, ◌&&◌, if◌then◌else◌, Option, Some, None, option_and_then}
+use Rattle.std.specs.Option.{option_map}
+use Rattle.avc_types.specs.declared.fault.Fault.{Fault}
+use Rattle.avc_annexb.specs.Units.{saturated}
+use Rattle.avc_params.specs.Limits.{restriction_of}
+use Rattle.avc_params.specs.Tables.{Sets}
+use Rattle.avc_params.specs.declared.sps.Sps.{Sps}
+use Rattle.avc_params.specs.declared.vui.Timing.{Timing}
+use Rattle.avc_slice.specs.Begins.{begins}
+use Rattle.avc_slice.specs.Header.{is_idr}
+use Rattle.avc_slice.specs.declared.header.Header.{Header}
+use Rattle.avc_tools.specs.Lines.{shown_height, shown_width}
+use Rattle.avc_info.specs.declared.sequence_facts.SequenceFacts.{SequenceFacts}
+use Rattle.avc_info.specs.declared.slice_counts.SliceCounts.{SliceCounts}
+use Rattle.avc_info.specs.declared.stream_facts.StreamFacts.{StreamFacts}
+
+-- the clock, where it is given (E.2.1)
+abbrev pub timing_of : Sps → Option Timing
+timing_of s = elim s.vui [ None ↦ None | Some vui ↦ vui.timing ]
+
+-- max_num_reorder_frames, where it is given (E.2.1)
+abbrev pub reorder_number : Sps → Option ℕ
+reorder_number s = option_map (λ r. r.max_num_reorder_frames) (restriction_of s)
+
+-- what a sequence parameter set says
+abbrev pub said_by : Sps → SequenceFacts
+said_by s = record {
+  width = shown_width s;
+  height = shown_height s;
+  profile_idc = s.profile_idc;
+  constraint_set1_flag = s.constraint_flags.constraint_set1_flag;
+  constraint_set3_flag = s.constraint_flags.constraint_set3_flag;
+  level_idc = s.level_idc;
+  timing = timing_of s;
+  max_num_ref_frames = s.max_num_ref_frames;
+  max_num_reorder_frames = reorder_number s;
+}
+
+-- ---- slices
+
+-- the slice begins a picture (7.4.1.2.4), behind the slice before it
+abbrev pub begins_after : Option Header → Header → Bool
+begins_after None h = true
+begins_after (Some last) h = begins last h
+
+-- one more, where this holds
+abbrev pub one_more_if : Bool → ℕ → ℕ
+one_more_if more n = if more then saturated (n + 1) else n
+
+-- how many slices its picture has up to this one
+abbrev pub slices_with : (is_first : Bool) → (before : ℕ) → ℕ
+slices_with is_first before = if is_first then 1 else saturated (before + 1)
+
+-- with one slice more. An IDR picture begins a coded video sequence (3.30)
+abbrev pub with_slice : SliceCounts → Header → SliceCounts
+with_slice c h = record {
+  last = Some h;
+  pictures = one_more_if (begins_after c.last h) c.pictures;
+  sequences = one_more_if (begins_after c.last h && is_idr h) c.sequences;
+  slices = slices_with (begins_after c.last h) c.slices;
+  most_slices = max c.most_slices (slices_with (begins_after c.last h) c.slices);
+}
+
+-- of no slices
+abbrev pub no_slices : SliceCounts
+no_slices = record { last = None; pictures = 0; sequences = 0; slices = 0; most_slices = 0 }
+
+-- ---- a stream
+
+-- nothing has come
+abbrev pub no_facts : StreamFacts
+no_facts = record { sequence = None; counts = no_slices; refused = 0; first_refusal = None }
+
+-- the first of two that is there
+abbrev pub first_of : {A : Type 0} → Option A → Option A → Option A
+first_of (Some a) b = Some a
+first_of None b = b
+
+-- the sequence parameter set that a slice refers to (7.4.3)
+abbrev pub sps_under : Sets → Header → Option Sps
+sps_under sets h = option_and_then (λ p. sets.sps p.seq_parameter_set_id) (sets.pps h.pic_parameter_set_id)
+
+-- with a slice whose header was read under these sets: what is said of the sequence is what the first slice's set says
+abbrev pub after_slice : Sets → Header → StreamFacts → StreamFacts
+after_slice sets h f = record f {
+  sequence = first_of f.sequence (option_map said_by (sps_under sets h));
+  counts = with_slice f.counts h;
+}
+
+-- with a unit that is refused
+abbrev pub after_refusal : (unit : ℕ) → Fault → StreamFacts → StreamFacts
+after_refusal unit fault f = record f {
+  refused = saturated (f.refused + 1);
+  first_refusal = first_of f.first_refusal (Some (record { unit = unit; fault = fault }));
+}

@@ -1,0 +1,24 @@
+-- What `info` writes.
+use Rattle.std.specs.Prelude.{◌≡◌, ℕ, Bool, if◌then◌else◌, List, []}
+use Rattle.avc_annexb.specs.SplitterState.{SplitterState}
+use Rattle.avc_annexb.specs.Units.{units}
+use Rattle.avc_params.specs.declared.set_unit.SetUnit.{SetUnit}
+use Rattle.avc_units.specs.Grouping.{set_units}
+use Rattle.avc_tools.specs.Streams.{IsDrained}
+use Rattle.avc_info.specs.Facts.{no_facts}
+use Rattle.avc_info.specs.Noting.{facts_after, facts_of}
+use Rattle.avc_info.specs.Text.{info_text}
+use Rattle.avc_info.specs.declared.stream_facts.StreamFacts.{StreamFacts}
+
+-- the facts of the whole stream, once it has ended
+abbrev pub info_so_far : List ℕ → (ended : Bool) → List ℕ
+info_so_far bytes ended = if ended then info_text (facts_of bytes) else []
+
+-- ---- for private clauses
+
+-- All units whose end has been seen were taken, and these are the sets that they brought and the facts.
+pub record AreNoted (max : ℕ) (s : SplitterState) (ended : Bool) (sets : List SetUnit) (facts : StreamFacts) : Type 0 where
+  pub drained : IsDrained max s
+  pub end_is : ended ≡ s.ended
+  pub sets_are : sets ≡ set_units (units max s.bytes s.ended)
+  pub facts_are : facts ≡ facts_after [] (units max s.bytes s.ended) no_facts

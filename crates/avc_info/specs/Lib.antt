@@ -1,0 +1,4 @@
+pub mod Facts
+pub mod Text
+pub mod Noting
+pub mod Info

@@ -1,0 +1,108 @@
+-- The text that tells people of a stream.
+use Rattle.std.specs.Prelude.{ℕ, ◌*◌, ◌/◌, ◌%◌, Bool, ◌==◌, ◌&&◌, ◌||◌, if◌then◌else◌, List, [], ◌∷◌, ◌++◌, Option, Some, None, codes}
+use Rattle.std.specs.Fmt.{decimal}
+use Rattle.avc_types.specs.Faults.{number_of, name_of}
+use Rattle.avc_params.specs.declared.vui.Timing.{Timing}
+use Rattle.avc_info.specs.declared.sequence_facts.SequenceFacts.{SequenceFacts}
+use Rattle.avc_info.specs.declared.slice_counts.SliceCounts.{SliceCounts}
+use Rattle.avc_info.specs.declared.stream_facts.Refusal.{Refusal}
+use Rattle.avc_info.specs.declared.stream_facts.StreamFacts.{StreamFacts}
+
+-- the end of a line
+abbrev pub newline : List ℕ
+newline = 10 ∷ []
+
+-- the profile's name (A.2)
+abbrev pub profile_name : SequenceFacts → List ℕ
+profile_name s =
+    if s.profile_idc == 66 then (if s.constraint_set1_flag then codes "Constrained Baseline" else codes "Baseline")
+    else (if s.profile_idc == 77 then codes "Main" else codes "Extended")
+
+-- the level is 1b (7.4.2.1.1)
+abbrev pub is_level_1b : SequenceFacts → Bool
+is_level_1b s = s.level_idc == 9 || (s.level_idc == 11 && s.constraint_set3_flag)
+
+-- the level's number (A.3.1)
+abbrev pub level_text : SequenceFacts → List ℕ
+level_text s =
+    if is_level_1b s then codes ", level 1b"
+    else codes ", level " ++ decimal (s.level_idc / 10) ++ codes "." ++ decimal (s.level_idc % 10)
+
+-- frames in a thousand seconds, rounded down: a frame takes two ticks (E.2.1)
+abbrev pub rate_of : Timing → Option ℕ
+rate_of t = if t.num_units_in_tick == 0 then None else Some (1000 * t.time_scale / (2 * t.num_units_in_tick))
+
+-- where there is a clock
+abbrev pub frame_rate : Option Timing → Option ℕ
+frame_rate None = None
+frame_rate (Some t) = rate_of t
+
+-- three digits behind the point
+abbrev pub behind_point : ℕ → List ℕ
+behind_point n = codes "." ++ (decimal (n / 100 % 10) ++ (decimal (n / 10 % 10) ++ decimal (n % 10)))
+
+-- frames in a second, by those in a thousand seconds
+abbrev pub rate_text : ℕ → List ℕ
+rate_text n = codes ", frame rate " ++ decimal (n / 1000) ++ behind_point n
+
+-- where they are given
+abbrev pub rate_if_given : Option ℕ → List ℕ
+rate_if_given None = codes ", frame rate not given"
+rate_if_given (Some rate) = rate_text rate
+
+-- of a sequence parameter set
+abbrev pub clock_text : SequenceFacts → List ℕ
+clock_text s = rate_if_given (frame_rate s.timing)
+
+-- the size after cropping
+abbrev pub size_text : SequenceFacts → List ℕ
+size_text s = codes "size " ++ decimal s.width ++ codes "x" ++ decimal s.height
+
+-- the profile
+abbrev pub profile_text : SequenceFacts → List ℕ
+profile_text s = codes ", profile " ++ profile_name s
+
+-- the first line
+abbrev pub shape_line : SequenceFacts → List ℕ
+shape_line s = size_text s ++ profile_text s ++ level_text s ++ clock_text s ++ newline
+
+-- how many reference frames there may be
+abbrev pub references_text : SequenceFacts → List ℕ
+references_text s = codes "reference frames " ++ decimal s.max_num_ref_frames
+
+-- max_num_reorder_frames, where it is given
+abbrev pub reordering_text : Option ℕ → List ℕ
+reordering_text None = codes ", reorder number not given"
+reordering_text (Some n) = codes ", reorder number " ++ decimal n
+
+-- the second line
+abbrev pub frames_line : SequenceFacts → List ℕ
+frames_line s = references_text s ++ reordering_text s.max_num_reorder_frames ++ newline
+
+-- of a stream with a picture
+abbrev pub sequence_text : Option SequenceFacts → List ℕ
+sequence_text None = []
+sequence_text (Some s) = shape_line s ++ frames_line s
+
+-- the pictures
+abbrev pub counts_line : SliceCounts → List ℕ
+counts_line c =
+    codes "pictures " ++ decimal c.pictures ++ codes ", sequences " ++ decimal c.sequences
+    ++ codes ", slices a picture " ++ decimal c.most_slices ++ newline
+
+-- how many units are refused
+abbrev pub refused_text : ℕ → List ℕ
+refused_text n = codes "refused " ++ decimal n
+
+-- the first of them
+abbrev pub refusal_text : Option Refusal → List ℕ
+refusal_text None = []
+refusal_text (Some r) = codes ", the first unit " ++ decimal r.unit ++ codes ": " ++ decimal (number_of r.fault) ++ codes " " ++ name_of r.fault
+
+-- the last line
+abbrev pub refused_line : StreamFacts → List ℕ
+refused_line f = refused_text f.refused ++ refusal_text f.first_refusal ++ newline
+
+-- all of it
+abbrev pub info_text : StreamFacts → List ℕ
+info_text f = sequence_text f.sequence ++ counts_line f.counts ++ refused_line f

@@ -1,0 +1,140 @@
+ghost use Rattle.std.specs.Prelude.{◌≡◌, ◌++◌, false, OnOk};
+ghost use Rattle.avc_units.specs.Grouping.{set_units};
+ghost use Rattle.avc_tools.specs.Streams.{after_units_left, max_unit, units_left};
+ghost use Rattle.avc_info.specs.Noting.{facts_after};
+
+use crate::noting::note_unit;
+use crate::stream_facts::StreamFacts;
+use crate::text::info_text;
+use avc_annexb::Splitter;
+use avc_annexb::laws::units_stay;
+use avc_params::ParamTable;
+use avc_tools::StreamText;
+use avc_types::OutOfMemory;
+use std::alloc::Global;
+use std::marker::Model;
+
+// No unit in memory has more bytes.
+const MAX_UNIT: usize = usize::MAX;
+
+/// The facts of a stream (Annex B) that comes in pieces, told for people at its end. It keeps the unit that is not over and the
+/// parameter sets in force. A contract sees what came of the stream.
+#[derive(Drop)]
+pub struct InfoLines {
+    alloc: Global,
+    splitter: Splitter<MAX_UNIT>,
+    table: ParamTable,
+    facts: StreamFacts,
+    ended: bool,
+    failed: bool,
+}
+
+impl Model for InfoLines {
+    ghost use Rattle.std.specs.Prelude.{◌≡◌, false};
+    ghost use Rattle.avc_tools.specs.Streams.{StreamSoFar, max_unit};
+    ghost use Rattle.avc_info.specs.Info.{AreNoted};
+
+    ghost Value = { StreamSoFar };
+
+    ghost view = { λ l. record { bytes = l.splitter.bytes; ended = l.splitter.ended; failed = l.failed } };
+
+    ghost invariant = { λ l. l.failed ≡ false → AreNoted max_unit l.splitter l.ended l.table l.facts };
+}
+
+impl InfoLines {
+    ghost use Rattle.avc_tools.specs.Streams.{new_stream};
+
+    /// At the start of a stream.
+    pub fn new(alloc: Global) -> InfoLines
+        ensures { result ≡ new_stream }
+    {
+        InfoLines {
+            alloc,
+            splitter: Splitter::new(alloc),
+            table: ParamTable::new(alloc),
+            facts: StreamFacts::new(),
+            ended: false,
+            failed: false,
+        }
+    }
+}
+
+impl StreamText for InfoLines {
+    ghost use Rattle.avc_info.specs.Info.{info_so_far};
+
+    ghost so_far = { λ l. l };
+
+    ghost number = { λ _. 0 };
+
+    ghost text = { λ _. info_so_far };
+
+    // it is written at the end
+    ghost over = { λ _ _ _. false };
+
+    fn feed(&mut self, piece: &[u8]) -> Result<Vec<u8>, OutOfMemory> {
+        units_stay();
+        if self.failed {
+            return Err(OutOfMemory);
+        }
+        if self.ended {
+            return Ok(Vec::new(self.alloc));
+        }
+        // until all of it is done
+        self.failed = true;
+        self.splitter.feed(piece)?;
+        note_units_left(
+            self.alloc,
+            &mut self.splitter,
+            &mut self.table,
+            &mut self.facts,
+        )?;
+        self.failed = false;
+        Ok(Vec::new(self.alloc))
+    }
+
+    fn finish(&mut self) -> Result<Vec<u8>, OutOfMemory> {
+        units_stay();
+        if self.failed {
+            return Err(OutOfMemory);
+        }
+        if self.ended {
+            return Ok(Vec::new(self.alloc));
+        }
+        self.failed = true;
+        self.splitter.finish()?;
+        note_units_left(
+            self.alloc,
+            &mut self.splitter,
+            &mut self.table,
+            &mut self.facts,
+        )?;
+        let text = info_text(self.alloc, &self.facts)?;
+        self.ended = true;
+        self.failed = false;
+        Ok(text.into_bytes())
+    }
+
+    fn is_over(&self) -> bool {
+        false
+    }
+
+    fn text_only_grows(&self) {}
+}
+
+// Takes all units whose end has been seen, what they say, and the parameter sets that they bring.
+fn note_units_left(
+    alloc: Global,
+    splitter: &mut Splitter<MAX_UNIT>,
+    table: &mut ParamTable,
+    facts: &mut StreamFacts,
+) -> Result<(), OutOfMemory>
+    requires { splitter.old.failed ≡ false }
+    ensures sets { OnOk result (table.new ≡ table.old ++ set_units (units_left max_unit splitter.old)) }
+    ensures facts { OnOk result (facts.new ≡ facts_after table.old (units_left max_unit splitter.old) facts.old) }
+    ensures taken { OnOk result (splitter.new ≡ after_units_left max_unit splitter.old) }
+{
+    while let Some(unit) = splitter.next_unit() {
+        note_unit(alloc, facts, table, &unit)?;
+    }
+    Ok(())
+}

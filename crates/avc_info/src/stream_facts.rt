@@ -1,0 +1,81 @@
+ghost use Rattle.std.specs.Prelude.{◌≡◌};
+ghost use Rattle.std.specs.Option.{option_map};
+ghost use Rattle.avc_params.specs.Tables.{sets_after};
+ghost use Rattle.avc_info.specs.Facts.{after_refusal, after_slice, no_facts, said_by, sps_under};
+
+use crate::sequence_facts::SequenceFacts;
+use crate::slice_counts::SliceCounts;
+use avc_params::ParamTable;
+use avc_slice::Header;
+use avc_types::Fault;
+
+/// A unit that is refused.
+#[derive(Clone, Copy, Debug, PartialEq, Eq)]
+pub struct Refusal {
+    /// Its place among the stream's units, from 0.
+    pub unit: u64,
+
+    pub fault: Fault,
+}
+
+/// What a stream's parameter sets and slice headers say of it.
+#[derive(Drop)]
+pub struct StreamFacts {
+    /// What the sequence parameter set of the first slice says.
+    pub sequence: Option<SequenceFacts>,
+
+    pub counts: SliceCounts,
+
+    /// How many units have a set or header that is refused.
+    pub refused: u64,
+
+    /// The first of them.
+    pub first_refusal: Option<Refusal>,
+}
+
+impl StreamFacts {
+    /// Of no units.
+    pub fn new() -> StreamFacts
+        ensures { result ≡ no_facts }
+    {
+        StreamFacts {
+            sequence: None,
+            counts: SliceCounts::new(),
+            refused: 0,
+            first_refusal: None,
+        }
+    }
+
+    /// Takes a slice header that was read under these sets.
+    pub(crate) fn add_slice(&mut self, table: &ParamTable, header: Header)
+        ensures { self.new ≡ after_slice (sets_after table.now) header self.old }
+    {
+        if self.sequence.is_none() {
+            self.sequence = said_under(table, &header);
+        }
+        self.counts.count(header);
+    }
+
+    /// Takes a unit that is refused.
+    pub(crate) fn add_refusal(&mut self, unit: u64, fault: Fault)
+        ensures { self.new ≡ after_refusal unit fault self.old }
+    {
+        self.refused = self.refused.saturating_add(1);
+        if self.first_refusal.is_none() {
+            self.first_refusal = Some(Refusal { unit, fault });
+        }
+    }
+}
+
+/// What the slice's sequence parameter set says.
+fn said_under(table: &ParamTable, header: &Header) -> Option<SequenceFacts>
+    ensures { result ≡ option_map said_by (sps_under (sets_after table.now) header.now) }
+{
+    match table.pps(header.pic_parameter_set_id) {
+        Some(pps) => match table.sps(pps.seq_parameter_set_id) {
+            Some(sps) => Some(SequenceFacts::of(sps)),
+            None => None,
+        },
+        None => None,
+    }
+}

@@ -1,0 +1,226 @@
+ghost use Rattle.std.specs.Prelude.{◌≡◌, ◌++◌, IfOk, OnOk, string_bytes};
+ghost use Rattle.avc_info.specs.Text.{clock_text, counts_line, frame_rate, frames_line, info_text, is_level_1b};
+ghost use Rattle.avc_info.specs.Text.{level_text, profile_name, profile_text, rate_of, rate_text};
+ghost use Rattle.avc_info.specs.Text.{newline, references_text, reordering_text, refusal_text, refused_line, refused_text, sequence_text, shape_line, size_text};
+
+use crate::sequence_facts::SequenceFacts;
+use crate::slice_counts::SliceCounts;
+use crate::stream_facts::{Refusal, StreamFacts};
+use avc_params::Timing;
+use avc_types::OutOfMemory;
+use std::alloc::Global;
+
+/// A stream's facts for people.
+pub fn info_text(alloc: Global, facts: &StreamFacts) -> Result<String, OutOfMemory>
+    ensures { IfOk result (λ text. string_bytes text ≡ info_text facts.now) }
+{
+    let mut text = String::new(alloc);
+    add_sequence(&mut text, &facts.sequence)?;
+    add_counts(&mut text, &facts.counts)?;
+    add_refused(&mut text, facts)?;
+    Ok(text)
+}
+
+fn add_sequence(text: &mut String, sequence: &Option<SequenceFacts>) -> Result<(), OutOfMemory>
+    ensures { OnOk result (string_bytes text.new ≡ string_bytes text.old ++ sequence_text sequence.now) }
+{
+    match sequence {
+        Some(sequence) => {
+            add_shape(text, sequence)?;
+            add_frames(text, sequence)?;
+            Ok(())
+        }
+        None => Ok(()),
+    }
+}
+
+fn add_shape(text: &mut String, sequence: &SequenceFacts) -> Result<(), OutOfMemory>
+    ensures { OnOk result (string_bytes text.new ≡ string_bytes text.old ++ shape_line sequence.now) }
+{
+    add_size(text, sequence)?;
+    add_profile(text, sequence)?;
+    add_level(text, sequence)?;
+    add_clock(text, sequence)?;
+    end_line(text)?;
+    Ok(())
+}
+
+fn add_size(text: &mut String, sequence: &SequenceFacts) -> Result<(), OutOfMemory>
+    ensures { OnOk result (string_bytes text.new ≡ string_bytes text.old ++ size_text sequence.now) }
+{
+    let width = sequence.width;
+    let height = sequence.height;
+    write!(text, "size {width}x{height}")?;
+    Ok(())
+}
+
+fn add_profile(text: &mut String, sequence: &SequenceFacts) -> Result<(), OutOfMemory>
+    ensures { OnOk result (string_bytes text.new ≡ string_bytes text.old ++ profile_text sequence.now) }
+{
+    let name = profile_name(sequence);
+    write!(text, ", profile {name}")?;
+    Ok(())
+}
+
+/// The profile's name (A.2).
+pub fn profile_name(sequence: &SequenceFacts) -> &'static str
+    ensures { result.now ≡ profile_name sequence.now }
+{
+    match sequence.profile_idc {
+        66 => {
+            if sequence.constraint_set1_flag {
+                "Constrained Baseline"
+            } else {
+                "Baseline"
+            }
+        }
+        77 => "Main",
+        _ => "Extended",
+    }
+}
+
+fn add_level(text: &mut String, sequence: &SequenceFacts) -> Result<(), OutOfMemory>
+    ensures { OnOk result (string_bytes text.new ≡ string_bytes text.old ++ level_text sequence.now) }
+{
+    if is_level_1b(sequence) {
+        text.push_str(", level 1b")?;
+        return Ok(());
+    }
+    let whole = sequence.level_idc / 10;
+    let tenth = sequence.level_idc % 10;
+    write!(text, ", level {whole}.{tenth}")?;
+    Ok(())
+}
+
+/// Whether it is level 1b (7.4.2.1.1).
+fn is_level_1b(sequence: &SequenceFacts) -> bool
+    ensures { result ≡ is_level_1b sequence.now }
+{
+    sequence.level_idc == 9 || (sequence.level_idc == 11 && sequence.constraint_set3_flag)
+}
+
+fn add_clock(text: &mut String, sequence: &SequenceFacts) -> Result<(), OutOfMemory>
+    ensures { OnOk result (string_bytes text.new ≡ string_bytes text.old ++ clock_text sequence.now) }
+{
+    match frame_rate(sequence.timing) {
+        Some(rate) => add_rate(text, rate),
+        None => {
+            text.push_str(", frame rate not given")?;
+            Ok(())
+        }
+    }
+}
+
+fn add_rate(text: &mut String, rate: u64) -> Result<(), OutOfMemory>
+    ensures { OnOk result (string_bytes text.new ≡ string_bytes text.old ++ rate_text rate) }
+{
+    let whole = rate / 1000;
+    let tenth = rate / 100 % 10;
+    let hundredth = rate / 10 % 10;
+    let thousandth = rate % 10;
+    write!(text, ", frame rate {whole}.{tenth}{hundredth}{thousandth}")?;
+    Ok(())
+}
+
+/// Frames in a thousand seconds, where it is given, rounded down.
+fn frame_rate(timing: Option<Timing>) -> Option<u64>
+    ensures { result ≡ frame_rate timing }
+{
+    match timing {
+        Some(timing) => rate_of(timing),
+        None => None,
+    }
+}
+
+// A frame takes two ticks (E.2.1).
+fn rate_of(timing: Timing) -> Option<u64>
+    ensures { result ≡ rate_of timing }
+{
+    if timing.num_units_in_tick == 0 {
+        return None;
+    }
+    Some(1000 * u64::from(timing.time_scale) / (2 * u64::from(timing.num_units_in_tick)))
+}
+
+fn add_frames(text: &mut String, sequence: &SequenceFacts) -> Result<(), OutOfMemory>
+    ensures { OnOk result (string_bytes text.new ≡ string_bytes text.old ++ frames_line sequence.now) }
+{
+    add_references(text, sequence)?;
+    add_reordering(text, sequence)?;
+    end_line(text)?;
+    Ok(())
+}
+
+fn add_references(text: &mut String, sequence: &SequenceFacts) -> Result<(), OutOfMemory>
+    ensures { OnOk result (string_bytes text.new ≡ string_bytes text.old ++ references_text sequence.now) }
+{
+    let references = sequence.max_num_ref_frames;
+    write!(text, "reference frames {references}")?;
+    Ok(())
+}
+
+fn add_reordering(text: &mut String, sequence: &SequenceFacts) -> Result<(), OutOfMemory>
+    ensures { OnOk result (string_bytes text.new ≡ string_bytes text.old ++ reordering_text sequence.now.max_num_reorder_frames) }
+{
+    match sequence.max_num_reorder_frames {
+        Some(reordered) => {
+            write!(text, ", reorder number {reordered}")?;
+            Ok(())
+        }
+        None => {
+            text.push_str(", reorder number not given")?;
+            Ok(())
+        }
+    }
+}
+
+fn add_counts(text: &mut String, counts: &SliceCounts) -> Result<(), OutOfMemory>
+    ensures { OnOk result (string_bytes text.new ≡ string_bytes text.old ++ counts_line counts.now) }
+{
+    let pictures = counts.pictures;
+    let sequences = counts.sequences;
+    let slices = counts.most_slices;
+    writeln!(
+        text,
+        "pictures {pictures}, sequences {sequences}, slices a picture {slices}"
+    )?;
+    Ok(())
+}
+
+fn add_refused(text: &mut String, facts: &StreamFacts) -> Result<(), OutOfMemory>
+    ensures { OnOk result (string_bytes text.new ≡ string_bytes text.old ++ refused_line facts.now) }
+{
+    add_refused_count(text, facts.refused)?;
+    add_first_refusal(text, facts.first_refusal)?;
+    end_line(text)?;
+    Ok(())
+}
+
+fn add_refused_count(text: &mut String, refused: u64) -> Result<(), OutOfMemory>
+    ensures { OnOk result (string_bytes text.new ≡ string_bytes text.old ++ refused_text refused) }
+{
+    write!(text, "refused {refused}")?;
+    Ok(())
+}
+
+fn add_first_refusal(text: &mut String, refusal: Option<Refusal>) -> Result<(), OutOfMemory>
+    ensures { OnOk result (string_bytes text.new ≡ string_bytes text.old ++ refusal_text refusal) }
+{
+    match refusal {
+        Some(refusal) => {
+            let unit = refusal.unit;
+            let number = refusal.fault.number();
+            let name = refusal.fault.name();
+            write!(text, ", the first unit {unit}: {number} {name}")?;
+            Ok(())
+        }
+        None => Ok(()),
+    }
+}
+
+fn end_line(text: &mut String) -> Result<(), OutOfMemory>
+    ensures { OnOk result (string_bytes text.new ≡ string_bytes text.old ++ newline) }
+{
+    text.push_str("\n")?;
+    Ok(())
+}
