@@ -1,6 +1,7 @@
 -- The units that were not taken are handled, and with them all.
-use Rattle.std.proofs.Common.{◌≡◌, ◌+◌, ℕ, zero, suc, Bool, true, false, List, [], ◌∷◌, ◌++◌, length, drop, Option, Some, None, refl, ap, sym, ◌∙◌, arith, add-one, add-zero, add_assoc, append_assoc, append-nil, le_of_eq, le_trans, length-append, subst}
-use Rattle.std.specs.Prelude.{slice_get}
+use Rattle.std.proofs.Common.{◌≡◌, ◌+◌, ◌<◌, ℕ, zero, suc, Bool, true, false, List, [], ◌∷◌, ◌++◌, length, drop, Option, Some, None, Result, Err, refl, ap, sym, ◌∙◌, arith, add-one, add-zero, add_assoc, append_assoc, append-nil, le_of_eq, le_trans, length-append, subst}
+use Rattle.std.specs.Prelude.{◌==◌, slice_get}
+use Rattle.std.proofs.lemmas.Bool.Decides.{nat_tests}
 use Rattle.std.proofs.Math.Seq.{drop-append_seam}
 use Rattle.avc_annexb.specs.SplitterState.{SplitterState, after_feed, after_finish, next_unit_of, after_next_unit}
 use Rattle.avc_annexb.specs.Units.{saturated, units}
@@ -9,7 +10,10 @@ use Rattle.avc_annexb.proofs.Staying.{units_stay_first}
 use Rattle.avc_dpb.specs.declared.output.Output.{Output}
 use Rattle.avc_decoder.specs.Events.{State, after_unit, at_end, events_from, first_state, read_from, state_after, turns}
 use Rattle.avc_decoder.specs.Laws.{state_through}
-use Rattle.avc_decoder.specs.Machine.{Machine}
+use Rattle.avc_decoder.specs.Machine.{Machine, IsFeedAnswer}
+use Rattle.avc_decoder.specs.Machine as machine
+use Rattle.avc_decoder.specs.declared.error.DecodeError.{DecodeError}
+use Rattle.avc_decoder.specs.declared.error.DecodeError.TheVariants.{OutOfMemory as NoMemory}
 use Rattle.avc_decoder.proofs.Growing.{events-append, read-append, turns_grow}
 use Rattle.avc_decoder.specs.States.{StreamState, IsDecoded, IsDecoderState, more_read, after_units_in_stream, after_stream_end, after_unit_in_stream}
 
@@ -23,6 +27,26 @@ drop_none [] zero e = refl
 drop_none [] (suc n) e = refl
 drop_none (y ∷ ys) zero e = cc
 drop_none (y ∷ ys) (suc n) e = drop_none ys n e
+
+-- ---- want of memory
+
+-- more bytes change the machine
+pub some_bytes : (m : Machine) (piece : List ℕ) → (length piece == 0) ≡ false → machine.after_feed piece m ≡ m → ⊥
+some_bytes m piece some same =
+    let long : length (m.bytes ++ piece) ≡ length m.bytes = ap (λ (x : Machine). length x.bytes) same in
+    let sum : length (m.bytes ++ piece) ≡ length m.bytes + length piece = length-append m.bytes piece in
+    let positive : 0 < length piece = grind (arith, nat_tests) in
+    absurd (omega (arith, long, sum, positive))
+
+pub refused_to : (m after new : Machine) (result : Result (Unit {0}) DecodeError) → m.failed ≡ false → m.ended ≡ false → (after ≡ m → ⊥) → after.output ≡ m.output → result ≡ Err NoMemory
+    → new ≡ record after { failed = true } → IsFeedAnswer m after result new
+refused_to m after new result going unended changes output e is =
+    subst (λ r. IsFeedAnswer m after r new) (sym e) (record {
+      refused = is ∙ sym (ap (λ b. elim b [ true ↦ m | false ↦ record after { failed = true } ]) going);
+      before_end = λ _. unended;
+      changes = λ _. changes;
+      output = ap (λ (x : Machine). x.output) is ∙ output;
+    })
 
 -- ---- the units that wait, one after another
 

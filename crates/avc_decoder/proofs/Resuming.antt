@@ -1,15 +1,14 @@
 -- A stream that begins at one of its units decodes as it did there.
-use Rattle.std.specs.Prelude.{◌≡◌, ℕ, zero, suc, ◌+◌, ◌-◌, ◌^◌, ◌<◌, Bool, true, false, List, [], ◌∷◌, ◌++◌, length, map, take, drop}
+use Rattle.std.specs.Prelude.{◌≡◌, ℕ, zero, suc, ◌+◌, ◌-◌, ◌^◌, ◌<◌, Bool, true, false, List, [], ◌∷◌, ◌++◌, length, map, take, drop, not, ◌&&◌}
 use Rattle.std.specs.Prelude.{Option, Some, None, Result, Ok, Err, All, slice_get, refl}
 use Rattle.std.proofs.Common.{ap, sym, ◌∙◌, arith, append_assoc, append-nil}
 use Rattle.std.proofs.Math.Seq.{drop-append_seam, take-append_seam}
 use Rattle.std.proofs.lemmas.List.{drop-map, length-map, map-append, take-append-drop, take-map}
 use Rattle.std.proofs.lemmas.List.Elements.{All-cons, All-head, All-nil, All-tail, All-weaker}
-use Rattle.std.proofs.lemmas.Option.{slice_get_within}
 use Rattle.std.specs.List.{flat_map}
 use Rattle.avc_types.specs.declared.fault.Fault.{Fault}
 use Rattle.avc_types.specs.declared.fault.Fault.TheVariants as faults
-use Rattle.avc_annexb.specs.Laws.{IsUnitOf, UnitsAreFew, UnitsAreNumbered, UnitsStay, WrittenUnitsStand, contents}
+use Rattle.avc_annexb.specs.Laws.{IsUnitOf, UnitsAreNumbered, UnitsStay, WrittenUnitsStand, contents}
 use Rattle.avc_annexb.specs.Units.{forbidden_zero_bit, saturated, units}
 use Rattle.avc_annexb.specs.Written.{start_code, written}
 use Rattle.avc_annexb.specs.declared.unit.Unit.{Unit as Piece}
@@ -24,13 +23,18 @@ use Rattle.avc_units.specs.Grouping.{rbsp_of, readable, refusal_of, running_step
 use Rattle.avc_units.specs.Grouping.{slice_step, step, unreadable, waiting_step, with_header}
 use Rattle.avc_units.specs.Laws.{IsSetOf, SetsAreInForceAgain, SetsComeAlike, SetsInForceAreUnits}
 use Rattle.avc_units.specs.Resuming.{resumed, sets_in_force}
-use Rattle.avc_units.specs.declared.step.Next.TheVariants.{Nothing}
+use Rattle.avc_units.specs.declared.step.Next.{Next}
+use Rattle.avc_units.specs.declared.step.Next.TheVariants.{Nothing, FaultOfOpen, FaultOfOwn, Begins, Continues}
 use Rattle.avc_units.specs.declared.step.Step.{Step}
-use Rattle.avc_decoder.specs.Events.{Outcome, State, after_unit, at_end, events_from, first_state, in_phase, is_running}
-use Rattle.avc_decoder.specs.Events.{no_change, open_facts_in, state_after, waiting}
-use Rattle.avc_decoder.specs.Laws.{StartsAnew, renumbered, state_through}
+use Rattle.avc_decoder_core.specs.History.{History}
+use Rattle.avc_decoder.specs.Events.{Outcome, Phase, State, after_closing, after_next, after_unit, at_end, closed_picture, events_from, first_state}
+use Rattle.avc_decoder.specs.Events.{followed_by, in_phase, is_running, is_waiting, no_change, open_facts_in, open_picture_facts, running, state_after, waiting}
+use Rattle.avc_decoder.specs.FirstFault.{OpenPicture}
+use Rattle.avc_decoder.specs.Laws.{CanStart, HaveOwnNumbers, StartsAnew, closing_events, renumbered, state_through}
+use Rattle.avc_decoder.specs.declared.event.Event.{Event}
 use Rattle.avc_decoder.proofs.Renumbering.{at_end-same, in_phase-same, open_facts-same, renumbered_event}
 use Rattle.avc_decoder.proofs.Renumbering.{renumbered_outcome, renumbered_phase, renumbered_slice, renumbered_step, running-same}
+use Rattle.avc_decoder.proofs.StartUnits.{says}
 use Rattle.avc_decoder.proofs.Through.{output_through, sets-append, sets_through}
 use Rattle.avc_dpb.specs.declared.output.Output.{Output}
 
@@ -287,15 +291,20 @@ numbered_later n us a j u e = let same : 0 + (n + j) ≡ n + j = omega arith in 
 shifted : (m k j : ℕ) → m + j + k - m ≡ k + j
 shifted m k j = omega arith
 
+-- where decoding waits after these units
+abbrev waiting_after : Output → (before : List Piece) → State
+waiting_after output before =
+    let s = state_through (first_state output) before in
+    waiting_with s.output s.sets
+
 -- Units that bring the sets in force after `before` again, and then others: the events of these are those that they have behind `before`.
 resumes : SetsAreInForceAgain → SetsInForceAreUnits → SetsComeAlike
     → (output : Output) (before others us : List Piece) (k : ℕ) (ended : Bool)
     → Numbered 0 us → Numbered k others
     → map contents us ≡ map contents (sets_in_force before) ++ map contents others
-    → (state_through (first_state output) before).phase ≡ waiting
-    → events_from (state_through (first_state output) before) others ended
+    → events_from (waiting_after output before) others ended
     ≡ map (renumbered (length (sets_in_force before)) k) (events_from (first_state output) us ended)
-resumes again are come output before others us k ended numbers later_numbers same waits =
+resumes again are come output before others us k ended numbers later_numbers same =
     let sets = sets_in_force before in
     let m = length sets in
     let r : ℕ → ℕ = λ n. n + k - m in
@@ -309,7 +318,7 @@ resumes again are come output before others us k ended numbers later_numbers sam
     ap sets_after (sets_through (first_state output) before) ∙ sym (again before) ∙ ap sets_after (sym (sets-like sets front front_same)) in
     let renamed = alike r m k back others cut.back_same (numbered_later m us numbers) later_numbers (shifted m k) in
     let behind = events_after_sets front back (first_state output) ended refl (no_faults-like sets front front_same taken) in
-    events-same come r back others start (state_through (first_state output) before) ended (output_through (first_state output) before) sets_same waits renamed
+    events-same come r back others start (waiting_after output before) ended (output_through (first_state output) before) sets_same refl renamed
     ∙ ap (map (renumbered_event r)) (sym behind ∙ ap (λ ps. events_from (first_state output) ps ended) (take-append-drop m us))
 
 -- ---- of bytes
@@ -349,30 +358,110 @@ set_of_stream max bytes ended k u v s i = record {
   short = i.short;
 }
 
-unsaturated : (n : ℕ) → n < 2 ^ 64 - 1 → saturated n ≡ n
-unsaturated n few = omega arith
+unsaturated : (i n : ℕ) → i ≡ saturated n → i < 2 ^ 64 - 1 → i ≡ n
+unsaturated i n e few = omega (arith, e, few)
 
-numbers_are : UnitsAreNumbered → UnitsAreFew → (max : ℕ) (bytes : List ℕ) (ended : Bool) → length bytes < 2 ^ 64 - 1 → (n : ℕ)
+numbers_are : UnitsAreNumbered → (max : ℕ) (bytes : List ℕ) (ended : Bool) → HaveOwnNumbers (units max bytes ended) → (n : ℕ)
     → Numbered n (drop n (units max bytes ended))
-numbers_are numbered few max bytes ended short n j u e =
+numbers_are numbered max bytes ended own n j u e =
     let there : slice_get (units max bytes ended) (n + j) ≡ Some u = sym (get-drop n (units max bytes ended) j) ∙ e in
-    let within : n + j < 2 ^ 64 - 1 = omega (arith, slice_get_within (units max bytes ended) (n + j) u there, few max bytes ended, short) in
-    numbered max bytes ended (n + j) u there ∙ unsaturated (n + j) within
+    unsaturated u.index (n + j) (numbered max bytes ended (n + j) u there) (own (n + j) u there)
 
-pub starts_anew : UnitsStay → WrittenUnitsStand → UnitsAreNumbered → UnitsAreFew → SetsAreInForceAgain → SetsInForceAreUnits
-    → SetsComeAlike → StartsAnew
-starts_anew stay stand numbered few again are come output max bytes ended k short starts =
+-- ---- the unit that closes a faulty picture
+
+-- what a slice that can be read does where a picture is open, by whether it begins another; and one that cannot, by whether that is full
+abbrev readable_by : Slice → (b : Bool) → Step
+readable_by s b = elim b [
+  | true ↦ record { closes = true; next = Begins s; even_after_fault = true }
+  | false ↦ record { closes = false; next = Continues s; even_after_fault = false }
+]
+
+abbrev unreadable_by : Fault → (b : Bool) → Step
+unreadable_by f b = elim b [
+  | true ↦ record { closes = true; next = FaultOfOwn f; even_after_fault = false }
+  | false ↦ record { closes = false; next = FaultOfOpen f; even_after_fault = false }
+]
+
+begins_by : (s : Slice) (b : Bool) → (readable_by s b).closes ≡ true → (readable_by s b).next ≡ Begins s
+begins_by s true closes = refl
+begins_by s false closes = cc
+
+never_by : (f : Fault) (b : Bool) → (unreadable_by f b).closes ≡ true → (unreadable_by f b).even_after_fault ≡ true → (unreadable_by f b).next ≡ FaultOfOwn f
+never_by f true closes even = cc
+never_by f false closes even = cc
+
+-- it begins a picture as it would where decoding waits
+begins_alike : (o : OpenPictureFacts) (read : Result Slice Fault) → (slice_step (Some o) true read).closes ≡ true
+    → (slice_step (Some o) true read).even_after_fault ≡ true → (slice_step (Some o) true read).next ≡ (slice_step None true read).next
+begins_alike o (Ok s) closes even = begins_by s (begins o.last s.header) closes
+begins_alike o (Err f) closes even = never_by f o.full closes even
+
+next_alike : (sets : Sets) (o : OpenPictureFacts) (u : Piece) → is_start u ≡ true → (step sets true (Some o) u).closes ≡ true
+    → (step sets true (Some o) u).even_after_fault ≡ true → (step sets true (Some o) u).next ≡ (step sets false None u).next
+next_alike sets o u e closes even =
+    let read = slice_in sets u in
+    let runs = (says sets u e).runs (Some o) in
+    ap (λ (w : Step). w.next) runs
+    ∙ begins_alike o read (ap (λ (w : Step). w.closes) (sym runs) ∙ closes) (ap (λ (w : Step). w.even_after_fault) (sym runs) ∙ even)
+    ∙ ap (λ (w : Step). w.next) (sym (says sets u e).waits)
+
+-- after a closing that is a fault, a unit that begins a picture even then
+fault_first : (output : Output) (sets : Sets) (unit : ℕ) (what : Step) (closed : Outcome) → closed.phase ≡ waiting → what.even_after_fault ≡ true
+    → after_closing output sets unit what closed ≡ followed_by closed (after_next output sets unit waiting what.next)
+fault_first output sets unit what closed waits even =
+    ap (λ p. elim (is_waiting p && not what.even_after_fault) [ true ↦ closed | false ↦ followed_by closed (after_next output sets unit p what.next) ]) waits
+    ∙ ap (λ b. elim (true && not b) [ true ↦ closed | false ↦ followed_by closed (after_next output sets unit waiting what.next) ]) even
+
+closing_first : (output : Output) (sets : Sets) (unit : ℕ) (what : Step) (next : Next) (h : History) (o : OpenPicture) → what.closes ≡ true
+    → (closed_picture output o).phase ≡ waiting → what.even_after_fault ≡ true → what.next ≡ next
+    → in_phase output sets unit what (running h (Some o)) ≡ followed_by (closed_picture output o) (after_next output sets unit waiting next)
+closing_first output sets unit what next h o closes waits even same =
+    let closed = closed_picture output o in
+    ap (λ b. elim b [ true ↦ after_closing output sets unit what closed | false ↦ after_next output sets unit (running h (Some o)) what.next ]) closes
+    ∙ fault_first output sets unit what closed waits even
+    ∙ ap (λ n. followed_by closed (after_next output sets unit waiting n)) same
+
+-- The events of the closing come first, and then those that come where decoding waits.
+starts_in : (output : Output) (units : List SetUnit) (u : Piece) (us : List Piece) (ended : Bool) (p : Phase) → is_start u ≡ true
+    → CanStart output (step (sets_after units) (is_running p) (open_facts_in p) u) p
+    → events_from (record { output = output; sets = units; phase = p }) (u ∷ us) ended
+    ≡ closing_events output p ++ events_from (waiting_with output units) (u ∷ us) ended
+starts_in output units u us ended waiting e can = refl
+starts_in output units u us ended (running h None) e can = absurd can
+starts_in output units u us ended (running h (Some o)) e can =
+    let sets = sets_after units in
+    let what = step sets true (Some (open_picture_facts o)) u in
+    let here = step sets false None u in
+    let closed = closed_picture output o in
+    let y = after_next output sets u.index waiting here.next in
+    let rest : Outcome → List Event = λ x. events_from (record { output = output; sets = units ++ set_units (u ∷ []); phase = x.phase }) us ended in
+    ap (λ (x : Outcome). x.events ++ rest x)
+    (closing_first output sets u.index what here.next h o can.0 can.1 can.2 (next_alike sets (open_picture_facts o) u e can.0 can.2))
+    ∙ append_assoc closed.events y.events (rest y)
+
+drop-there : {A : Type 0} (xs : List A) (k : ℕ) (x : A) → slice_get xs k ≡ Some x → drop k xs ≡ x ∷ drop (suc k) xs
+drop-there [] k x e = cc
+drop-there (y ∷ xs) zero x e = cc
+drop-there (y ∷ xs) (suc k) x e = drop-there xs k x e
+
+pub starts_anew : UnitsStay → WrittenUnitsStand → UnitsAreNumbered → SetsAreInForceAgain → SetsInForceAreUnits → SetsComeAlike → StartsAnew
+starts_anew stay stand numbered again are come output max bytes ended k resumed_own own starts placed =
     let s = stands_too stay max bytes ended k starts.unit starts.is_there in
     let all = units max bytes ended in
     let before = take k all in
-    let resumed_short : length (resumed max bytes k) < 2 ^ 64 - 1 = omega (arith, short) in
-    let bytes_short : length bytes < 2 ^ 64 - 1 = omega (arith, short) in
+    let state = state_through (first_state output) before in
+    let later = drop (suc k) all in
+    let from_there = drop-there all k starts.unit starts.is_there in
     let sets : All (IsUnitOf max bytes) (sets_in_force before) =
     All-weaker (IsSetOf before) (IsUnitOf max bytes) (λ v i. set_of_stream max bytes ended k starts.unit v s i) (sets_in_force before) (are before) in
     let same : map contents (units max (resumed max bytes k) ended) ≡ map contents (sets_in_force before) ++ map contents (drop k all) =
     ap (λ b. map contents (units max b ended)) (resumed_is max bytes ended k starts.unit s)
-    ∙ stand max bytes ended (sets_in_force before) k starts.unit bytes_short sets starts.is_there in
-    resumes again are come output before (drop k all) (units max (resumed max bytes k) ended) k ended
-    (numbers_are numbered few max (resumed max bytes k) ended resumed_short 0)
-    (numbers_are numbered few max bytes ended bytes_short k)
-    same starts.waits
+    ∙ stand max bytes ended (sets_in_force before) k starts.unit sets starts.is_there placed in
+    let anew = resumes again are come output before (drop k all) (units max (resumed max bytes k) ended) k ended
+    (numbers_are numbered max (resumed max bytes k) ended resumed_own 0)
+    (numbers_are numbered max bytes ended own k)
+    same in
+    ap (λ us. events_from state us ended) from_there
+    ∙ starts_in state.output state.sets starts.unit later ended state.phase starts.starts starts.waits
+    ∙ ap (λ us. closing_events state.output state.phase ++ events_from (waiting_after output before) us ended) (sym from_there)
+    ∙ ap (λ es. closing_events state.output state.phase ++ es) anew

@@ -1,5 +1,5 @@
 -- Worked examples of whole streams.
-use Rattle.std.specs.Prelude.{◌≡◌, ℕ, zero, suc, Bool, true, false, All, List, [], ◌∷◌, ◌++◌, map, length, replicate, slice_index, refl}
+use Rattle.std.specs.Prelude.{◌≡◌, ℕ, zero, suc, Bool, true, false, All, List, [], ◌∷◌, ◌++◌, map, length, replicate, slice_index, take, refl}
 use Rattle.std.specs.List.{range_with_len}
 use Rattle.std.proofs.Common.{arith}
 use Rattle.avc_types.specs.declared.fault.Fault.{Fault}
@@ -8,7 +8,10 @@ use Rattle.avc_dpb.specs.declared.output.Output.{Output}
 use Rattle.avc_dpb.specs.declared.output.Output.TheVariants.{Full, Early}
 use Rattle.avc_decoder_core.specs.SequenceOrder.{RespectsReorderNumbers}
 use Rattle.avc_decoder.specs.EarlyOutput.{histories}
+use Rattle.avc_annexb.specs.Units.{units}
+use Rattle.avc_units.specs.Resuming.{resumed, sets_in_force}
 use Rattle.avc_decoder.specs.Events.{events, turns}
+use Rattle.avc_decoder.specs.Laws.{renumbered}
 use Rattle.avc_decoder.specs.declared.event.Event.{Event}
 use Rattle.avc_decoder.specs.declared.event.Event.TheVariants.{Picture, Refused}
 
@@ -200,3 +203,41 @@ two_pictures_of_one = refl
 -- a slice that is refused for its address adds none
 none_out_of_order : turns Full max (sps_wide ++ pps_plain ++ pcm first_mb (of_one 80) ++ pcm second_mb (of_one 80) ++ pcm second_mb (of_one 80)) true ≡ 2
 none_out_of_order = refl
+
+-- ---- where decoding starts again
+
+-- as events of the whole stream, which begins with k units that have m parameter sets in force
+abbrev seen_from : (m k : ℕ) → List ℕ → List Seen
+seen_from m k bytes = map (λ e. seen (renumbered m k e)) (events Full max bytes true)
+
+-- after a gap that is refused, with unit 4; unit 5 has first_mb_in_slice 1, where the picture has one macroblock
+abbrev behind_gap : List ℕ
+behind_gap = pcm next_picture (of_one 64) ++ pcm second_mb (of_one 64)
+
+abbrev with_gap : List ℕ
+with_gap = sets ++ pcm first_mb (of_one 80) ++ skipping_later ++ behind_gap
+
+gap_and_resumed : seen_all with_gap true ≡ shown 80 256 ∷ refusal 3 faults.FrameNumGap ∷ shown 64 256 ∷ refusal 5 faults.OutOfRange ∷ []
+gap_and_resumed = refl
+
+resumed_behind_gap : resumed max with_gap 4 ≡ sets ++ 0 ∷ behind_gap
+resumed_behind_gap = refl
+
+seen_behind_gap : seen_all (sets ++ 0 ∷ behind_gap) true ≡ shown 64 256 ∷ refusal 3 faults.OutOfRange ∷ []
+seen_behind_gap = refl
+
+numbered_behind_gap : seen_from 2 4 (sets ++ 0 ∷ behind_gap) ≡ shown 64 256 ∷ refusal 5 faults.OutOfRange ∷ []
+numbered_behind_gap = refl
+
+sets_behind_gap : length (sets_in_force (take 4 (units max with_gap true))) ≡ 2
+sets_behind_gap = refl
+
+-- unit 3 closes a picture without its second macroblock, and begins one that lacks it too
+abbrev two_short : List ℕ
+two_short = sps_wide ++ pps_plain ++ pcm first_mb (of_one 80) ++ pcm next_picture (of_one 64)
+
+short_and_resumed : seen_all two_short true ≡ refusal 2 faults.MissingMacroblocks ∷ refusal 3 faults.MissingMacroblocks ∷ []
+short_and_resumed = refl
+
+numbered_behind_short : seen_from 2 3 (resumed max two_short 3) ≡ refusal 3 faults.MissingMacroblocks ∷ []
+numbered_behind_short = refl

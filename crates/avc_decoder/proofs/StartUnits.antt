@@ -170,11 +170,11 @@ open_gives output rules names older (u ∷ us) units o first shown =
 -- ---- the unit itself
 
 -- what it says, while no picture is open or none is known of
-record Says (sets : Sets) (u : Piece) : Type 0 where
-  runs : (o : Option OpenPictureFacts) → step sets true o u ≡ slice_step o true (slice_in sets u)
-  waits : step sets false None u ≡ slice_step None true (slice_in sets u)
+pub record Says (sets : Sets) (u : Piece) : Type 0 where
+  pub runs : (o : Option OpenPictureFacts) → step sets true o u ≡ slice_step o true (slice_in sets u)
+  pub waits : step sets false None u ≡ slice_step None true (slice_in sets u)
 
-says : (sets : Sets) (u : Piece) → is_start u ≡ true → Says sets u
+pub says : (sets : Sets) (u : Piece) → is_start u ≡ true → Says sets u
 says sets u e =
     let s = starts u e in
     let kind_is : kind u ≡ slice true = ap kind_of s.of_idr in

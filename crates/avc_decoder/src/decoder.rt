@@ -59,7 +59,7 @@ impl<const MAX: usize> Decoder<MAX> {
         }
     }
 
-    /// Takes the next bytes of the stream.
+    /// Takes the next bytes of the stream. For no bytes no memory is wanted.
     pub fn feed(&mut self, piece: &[u8]) -> Result<(), DecodeError>
         ensures { IsFeedAnswer self.old (after_feed piece.now self.old) result self.new }
     {
@@ -68,6 +68,9 @@ impl<const MAX: usize> Decoder<MAX> {
         }
         if self.ended {
             return Err(DecodeError::Ended);
+        }
+        if piece.is_empty() {
+            return Ok(());
         }
         // until all of it is done
         self.failed = true;

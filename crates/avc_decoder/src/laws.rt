@@ -5,7 +5,7 @@ ghost use Rattle.avc_decoder.specs.Headline.{TakesAll, TakesThem};
 ghost use Rattle.avc_decoder.specs.Laws.{EventsOnlyGrow, PicturesAreWhole, PicturesNameNoUnits};
 ghost use Rattle.avc_decoder.specs.Laws.{StartsAnew, StartUnitsBeginAnew};
 
-use avc_annexb::laws::{units_are_few, units_are_numbered, units_stay, written_units_stand};
+use avc_annexb::laws::{units_are_numbered, units_stay, written_units_stand};
 use avc_decoder_core::laws::{early_output_keeps_histories, idr_pictures_begin_anew};
 use avc_params::laws::sps_in_force_keeps_limits;
 use avc_picture::laws::{pictures_are_sized, pictures_name_no_places};
@@ -36,9 +36,10 @@ pub fn pictures_are_whole()
     sps_in_force_keeps_limits();
 }
 
-/// From a unit with which decoding starts after waiting, the events are those of a new decoder that is given the units whose
-/// parameter sets are in force there and then the bytes from that unit on, but for the unit numbers, which are shifted. The two
-/// streams together are shorter than 2^64 - 1 bytes, so that no number of a unit is cut off.
+/// From a unit with which decoding starts, the events are those of a new decoder that is given the units whose parameter sets are
+/// in force there and then the bytes from that unit on, but for the unit numbers, which are shifted. Decoding waits before such a
+/// unit; or the unit closes the open picture, and that is a fault, of which the events come first. The numbers of the units of
+/// both streams and the offset of that unit are below the greatest u64, so that none is cut off.
 ///
 /// It says nothing of the events before that unit, nor of an IDR picture that comes while decoding runs: pictures from before
 /// it may still be held there, and a picture may be open.
@@ -48,7 +49,6 @@ pub fn resumed_streams_decode_alike()
     units_stay();
     written_units_stand();
     units_are_numbered();
-    units_are_few();
     sets_are_in_force_again();
     sets_in_force_are_units();
     sets_come_alike();

@@ -181,6 +181,16 @@ fn answer_if_open(
     }
 }
 
+/// Drops the open picture. What is written in its place takes as much room as a picture: apart from the slices that are decoded, these
+/// pay nothing for it.
+#[cold]
+#[inline(never)]
+fn forget(picture: &mut Option<PictureDecoder<PADDING>>)
+    ensures { picture.new ≡ None }
+{
+    *picture = None;
+}
+
 /// Decodes one slice more of the open picture, if there is one. At a fault the picture is gone, all held pictures go out, and then
 /// the refusal.
 fn decode_slice(
@@ -200,7 +210,7 @@ fn decode_slice(
             read: answered.read,
         }),
         Err(PictureError::Fault(fault)) => {
-            *picture = None;
+            forget(picture);
             fail(sequence, queue, slice.unit, fault)?;
             Ok(AfterSlice {
                 fault: true,

@@ -13,7 +13,6 @@ use Rattle.avc_types.specs.declared.fault.Fault.{Fault}
 use Rattle.avc_types.specs.Pictures.{Coded}
 use Rattle.avc_types.specs.References.{Reference, reference_at}
 use Rattle.avc_types.specs.declared.weight.Weights.{Weights}
-use Rattle.avc_params.specs.Limits.{height_in_mbs, width_in_mbs}
 use Rattle.avc_params.specs.declared.sps.Sps.{Sps}
 use Rattle.avc_params.specs.declared.pps.Pps.{Pps}
 use Rattle.avc_slice.specs.Header.{is_p}
@@ -26,15 +25,14 @@ use Rattle.avc_slice.specs.declared.weights.EntryWeights.{EntryWeights}
 use Rattle.avc_slice.specs.declared.weights.PredWeightTable.{PredWeightTable}
 use Rattle.avc_reflist.specs.Lists.{reference_list}
 use Rattle.avc_motion.specs.Motion.{frame_named, slice_facts}
-use Rattle.avc_plane.specs.Frames.{marked_frame, padded_planes_of, AreSized}
+use Rattle.avc_plane.specs.Frames.{marked_frame, padded_planes_of, AreFrames, AreSized}
 use Rattle.avc_plane.specs.declared.frame.Frame.{Frame}
 use Rattle.avc_plane.specs.declared.frame.PaddedPlanes.{PaddedPlanes}
 use Rattle.avc_deblock.specs.Facts.{Names}
 use Rattle.avc_picture_core.specs.Faults.{is_picture}
 use Rattle.avc_picture_core.specs.References.{AreUsable, AreWeights, IsUsable, IsWeight, ShowsReference}
 use Rattle.avc_picture_core.specs.declared.references.ReferencePicture.{ReferencePicture}
-use Rattle.avc_picture.specs.Context.{AreNames, ArePicturesAt, ArePlacesIn, FramesStandAt, HasPlaces, IsPictureAt, picture_start, planes_at}
-use Rattle.avc_picture.specs.Decoding.{AreFramesOf}
+use Rattle.avc_picture.specs.Context.{AreNames, AreNumbersAt, ArePicturesAt, ArePlacesIn, FramesStandAt, HasPlaces, IsContextAt, IsContextOf, IsPictureAt, picture_start, planes_at}
 use Rattle.avc_picture.specs.FirstMbs.{HasNumber, IsSlice}
 use Rattle.avc_picture.specs.Slices.{PictureStart, current_of, deblocking_of, facts_of, frame_of, list_of, or_empty, references_in}
 use Rattle.avc_picture.specs.declared.slice_context.SliceContext.{SliceContext}
@@ -94,20 +92,20 @@ all-weights h is = all-weights-by h h.pred_weight_table is
 
 -- ---- pictures that can be predicted from
 
-module _ {PAD : ℕ} (sps : Sps) (fs : List (Frame PAD)) (h : Header) (frames : AreFramesOf sps fs) (table : IfSome h.pred_weight_table (IsPredWeightTable h.active_count)) where
-  sized-at : (place : Option ℕ) (planes : PaddedPlanes PAD) → planes_at fs place ≡ Some planes → AreSized (width_in_mbs sps) (height_in_mbs sps) (padded_planes_of planes)
+module _ {PAD : ℕ} (width height : ℕ) (fs : List (Frame PAD)) (h : Header) (frames : AreFrames width height fs) (table : IfSome h.pred_weight_table (IsPredWeightTable h.active_count)) where
+  sized-at : (place : Option ℕ) (planes : PaddedPlanes PAD) → planes_at fs place ≡ Some planes → AreSized width height (padded_planes_of planes)
   sized-at None planes e = cc
   sized-at (Some k) planes e = by_frame (slice_get fs k) refl e
     where
-      by_frame : (o : Option (Frame PAD)) → slice_get fs k ≡ o → planes_at fs (Some k) ≡ Some planes → AreSized (width_in_mbs sps) (height_in_mbs sps) (padded_planes_of planes)
+      by_frame : (o : Option (Frame PAD)) → slice_get fs k ≡ o → planes_at fs (Some k) ≡ Some planes → AreSized width height (padded_planes_of planes)
       by_frame None at e = let wrong : None ≡ Some planes = rw at at e in cc
       by_frame (Some f) at e =
           let has : f.planes ≡ Some planes = rw at at e in
           let here = frames.sized k f (slice_get_within fs k f at) in
           let same : slice_index_or fs k f ≡ f = get_or_from_slice_get fs k f f at in
-          subst (λ o. IfSome o (λ q. AreSized (width_in_mbs sps) (height_in_mbs sps) (padded_planes_of q))) (ap (λ x. x.planes) same ∙ has) here
+          subst (λ o. IfSome o (λ q. AreSized width height (padded_planes_of q))) (ap (λ x. x.planes) same ∙ has) here
 
-  usable-at : (r : ℕ) (place : Option ℕ) (o : Option (ReferencePicture PAD)) → IsPictureAt fs h r place o → IfSome o (IsUsable (width_in_mbs sps) (height_in_mbs sps))
+  usable-at : (r : ℕ) (place : Option ℕ) (o : Option (ReferencePicture PAD)) → IsPictureAt fs h r place o → IfSome o (IsUsable width height)
   usable-at r place None is = tt
   usable-at r place (Some q) is = record { sized = sized-at place q.planes.now is.0; weights = by_weights (slice_get (weights h) r) q.weights refl is.1 }
     where
@@ -116,10 +114,10 @@ module _ {PAD : ℕ} (sps : Sps) (fs : List (Frame PAD)) (h : Header) (frames : 
       by_weights o (Some w) e e' = subst AreWeights (get_or_from_slice_get (weights h) r w w e') (all-weights h table r w (slice_get_within (weights h) r w e'))
 
   pub usable-pictures : (places : List (Option ℕ)) (pictures : List (Option (ReferencePicture PAD))) → length pictures ≡ 16 → ArePicturesAt fs h 16 places pictures
-      → AreUsable (width_in_mbs sps) (height_in_mbs sps) pictures
+      → AreUsable width height pictures
   usable-pictures places pictures long at = λ k d inside.
       let within : k < 16 = omega (arith, long, inside) in
-      subst (λ o. IfSome o (IsUsable (width_in_mbs sps) (height_in_mbs sps))) (get_or_default pictures k None d inside)
+      subst (λ o. IfSome o (IsUsable width height)) (get_or_default pictures k None d inside)
       (usable-at k (slice_index_or places k None) (slice_index_or pictures k None) (at k within))
 
 -- ---- a list's frames are marked
@@ -158,7 +156,7 @@ module _ {PAD : ℕ} (sps : Sps) (pps : Pps) (es : List ℕ) (fs : List (Frame P
 
   module _ (places : List (Option ℕ)) (s : SliceContext PAD) (long : length places ≡ 16) (within : ArePlacesIn fs places)
       (full : length s.references ≡ 16) (pictures : ArePicturesAt fs h 16 places s.references)
-      (numbers : (r : ℕ) → r < 16 → slice_index_or s.frame_numbers r 0 ≡ unwrap_or (slice_index_or places r None) 0)
+      (numbers : AreNumbersAt 16 places s.frame_numbers)
       (edges : s.filtered_edges ≡ (deblocking_of h.deblocking).disable_deblocking_filter_idc)
       (offset_a : s.offset_a ≡ (deblocking_of h.deblocking).slice_alpha_c0_offset_div2 +ℤ (deblocking_of h.deblocking).slice_alpha_c0_offset_div2)
       (offset_b : s.offset_b ≡ (deblocking_of h.deblocking).slice_beta_offset_div2 +ℤ (deblocking_of h.deblocking).slice_beta_offset_div2)
@@ -231,7 +229,7 @@ module _ {PAD : ℕ} (sps : Sps) (pps : Pps) (es : List ℕ) (fs : List (Frame P
           within = omega (arith, number, there);
         }
 
-    pub is-slice : IsSlice c names s
+    is-slice : IsSlice c names s
     is-slice = record {
       references = record { each = shows };
       numbers = λ r shown. by_length r shown (nat_lt r 16) refl;
@@ -245,3 +243,8 @@ module _ {PAD : ℕ} (sps : Sps) (pps : Pps) (es : List ℕ) (fs : List (Frame P
           let past : 16 ≤ r = grind (arith, nat_tests) in
           let wrong : false ≡ true = sym (unnamed r past) ∙ shown in
           cc
+
+  pub is-context : (number : ℕ) (places : List (Option ℕ)) (s : SliceContext PAD) → length places ≡ 16 → ArePlacesIn fs places → IsContextAt number fs h places s
+      → (list : List (Option Reference)) → list_of p h ≡ Ok list → HasPlaces es fs list places → IsContextOf p es h list s
+  is-context number places s long within at list is has = λ c names are facts.
+      is-slice places s long within at.full at.pictures at.numbers at.edges at.offset_a at.offset_b list is has c names are facts

@@ -1,6 +1,6 @@
 -- What decoding a slice's data answers.
 use Rattle.std.proofs.lemmas.Int.{ints}
-use Rattle.std.proofs.Common.{◌≡◌, ℕ, ℤ, pos, nat_abs, ◌≤ℤ◌, suc, ◌+◌, ◌-◌, ◌*◌, ◌<◌, ◌≤◌, Option, Some, None, Ok, Err, List, refl, ap, sym, subst, ◌∙◌, arith}
+use Rattle.std.proofs.Common.{◌≡◌, ℕ, ℤ, pos, nat_abs, ◌≤ℤ◌, suc, ◌+◌, ◌-◌, ◌*◌, ◌<◌, ◌≤◌, Option, Some, None, Result, Ok, Err, List, refl, ap, sym, subst, ◌∙◌, arith}
 use Rattle.avc_types.specs.declared.fault.Fault.{Fault}
 use Rattle.avc_types.specs.Pictures.{Coded}
 use Rattle.avc_mbsyntax.specs.SliceData.{SliceStart}
@@ -8,7 +8,7 @@ use Rattle.avc_mbsyntax.specs.declared.slice_data.SliceData.{SliceData}
 use Rattle.avc_deblock.specs.Facts.{Names}
 use Rattle.avc_picture_core.specs.References.{AreUsable}
 use Rattle.avc_picture_core.specs.declared.references.ReferencePicture.{ReferencePicture}
-use Rattle.avc_picture.specs.DecoderState.{GoesOnFrom, IsDataAnswer, outcome_from}
+use Rattle.avc_picture.specs.DecoderState.{GoesOn, GoesOnFrom, IsDataAnswer, outcome_from}
 use Rattle.avc_picture.specs.FirstMbs.{HasSameSize, MbsState}
 use Rattle.avc_picture.specs.declared.slice_context.SliceContext.{SliceContext}
 
@@ -44,6 +44,16 @@ module _ {PAD : ℕ} (c : Coded) (names : Names) (s : SliceStart) (context : Sli
 
   pub goes-further : (m'' : MbsState) (d'' : SliceData) → GoesOnFrom c names s context m' d' m'' d'' → GoesOnFrom c names s context m d m'' d''
   goes-further m'' d'' more = record { goes_on = more.goes_on; count = far.count ∙ more.count; fault = far.fault ∙ more.fault }
+
+-- what the data answers from a later macroblock on
+module _ {PAD : ℕ} (c : Coded) (names : Names) (s : SliceStart) (context : SliceContext PAD) (m : MbsState) (d : SliceData) (m' : MbsState) (d' : SliceData) (far : GoesOnFrom c names s context m d m' d') where
+  pub answers-further : (r : Result (Unit {0}) Fault) (read : ℕ) (new : MbsState) → IsDataAnswer c names m'.next (outcome_from c s m' d') r read new
+      → IsDataAnswer c names m.next (outcome_from c s m d) r read new
+  answers-further (Ok done) read new a = (far.fault ∙ a.0, far.count ∙ a.1, a.2, a.3)
+  answers-further (Err f) read new a = (far.fault ∙ a.0, far.count ∙ a.1)
+
+pub from-here : {PAD : ℕ} (c : Coded) (names : Names) (s : SliceStart) (context : SliceContext PAD) (m : MbsState) (d : SliceData) → GoesOn c names s m d context → GoesOnFrom c names s context m d m d
+from-here c names s context m d g = record { goes_on = g; count = refl; fault = refl }
 
 pub abs-within : (n : ℕ) (z : ℤ) → pos 0 ≤ℤ z → z ≤ℤ pos n → nat_abs z ≤ n
 abs-within n z low high = omega (arith, ints, low, high)

@@ -14,15 +14,15 @@ use Rattle.avc_params.specs.Limits.{width_in_mbs}
 use Rattle.avc_params.specs.declared.sps.Sps.{Sps}
 use Rattle.avc_params.specs.declared.pps.Pps.{Pps}
 use Rattle.avc_slice.specs.declared.slice.Slice.{Slice}
-use Rattle.avc_mbsyntax.specs.Rest.{Follows, rest_of}
+use Rattle.avc_mbsyntax.specs.Rest.{Follows, IsHandedOut, rest_of}
 use Rattle.avc_mbsyntax.specs.SliceData.{SliceMbs, SliceStart, placed, slice_data}
 use Rattle.avc_mbsyntax.specs.declared.slice_data.SliceData.{SliceData}
 use Rattle.avc_motion.specs.Motion.{slice_facts}
 use Rattle.avc_plane.specs.declared.frame.Frame.{Frame}
 use Rattle.avc_deblock.specs.Facts.{Names}
 use Rattle.avc_picture.specs.Context.{AreNames, IsContextOf, picture_start}
-use Rattle.avc_picture.specs.DecoderState.{CanGoOn, GoesOn, IsDataAnswer, IsDataOf, IsStateOrFault, IsWellSoFar, address_fault, first_of, number_after, outcome, outcome_from}
-use Rattle.avc_picture.specs.FirstMbs.{BeginsWith, MbsState}
+use Rattle.avc_picture.specs.DecoderState.{CanHaveFirst, GoesOn, HasFirst, IsDataAnswer, IsDataOf, IsStateOrFault, IsWellSoFar, address_fault, first_of, number_after, outcome, outcome_from}
+use Rattle.avc_picture.specs.FirstMbs.{BeginsWith, HoldsFirst, MbsState}
 use Rattle.avc_picture.specs.Slices.{PictureStart, Progress, coded_of, data_of, facts_of, first_mb_fault, list_of, read_whole, refused, start_of, with_facts, with_first_fault, with_reference_list, with_slice, with_unit}
 use Rattle.avc_picture.specs.declared.slice_context.SliceContext.{SliceContext}
 
@@ -139,7 +139,7 @@ is-refused p es g g' unit count read f m e r = (ap (λ x. x.fault) e, ap (λ x. 
 
 -- ---- a slice whose data is read
 
-module _ {PAD : ℕ} (sps : Sps) (pps : Pps) (es : List ℕ) (fs : List (Frame PAD)) (s : Slice) (g : Progress) (number read : ℕ) (m : MbsState) (context : SliceContext PAD) (unread : SliceData)
+module _ {PAD : ℕ} (sps : Sps) (pps : Pps) (es : List ℕ) (fs : List (Frame PAD)) (s : Slice) (g : Progress) (number read : ℕ) (m : MbsState) (unread : SliceData)
     (list : List (Option Reference)) (rising : IsStrictlyIncreasing es) where
   abbrev p : PictureStart
   p = picture_start sps pps es fs
@@ -156,7 +156,7 @@ module _ {PAD : ℕ} (sps : Sps) (pps : Pps) (es : List ℕ) (fs : List (Frame P
   abbrev whole : Progress
   whole = read_whole s g facts ms
 
-  module _ (well : IsWellSoFar p es g number read m) (num : context.number ≡ number) (made : IsContextOf p es s.header list context) (dat : IsDataOf start g.mbs (data_of s) unread) (qp : start.qp ≤ 51) where
+  module _ (well : IsWellSoFar p es g number read m) (dat : IsDataOf start g.mbs (data_of s) unread) where
     abbrev begins-before : (c : Coded) → BeginsWith c (coded_of p whole) → BeginsWith c (coded_of p g)
     begins-before c b = record {
       width = b.width;
@@ -169,38 +169,78 @@ module _ {PAD : ℕ} (sps : Sps) (pps : Pps) (es : List ℕ) (fs : List (Frame P
       slices = b.slices ∙ ap (λ xs. xs ++ b.later_slices) (with-facts-is g.slices facts ms.mbs) ∙ append_assoc g.slices (facts-in facts ms.mbs) b.later_slices;
     }
 
-    facts-are : (c : Coded) (mb : Mb) (mbs : List Mb) → BeginsWith c (coded_of p whole) → ms.mbs ≡ mb ∷ mbs → slice_facts c context.number ≡ facts
-    facts-are c mb mbs b some =
-        ap (λ n. slice_facts c n) (num ∙ sym well.decoded.count)
-        ∙ ap (λ xs. slice_facts (record c { slices = xs }) (length g.slices))
-        ((begins-before c b).slices ∙ ap (λ xs. g.slices ++ (facts-in facts xs ++ b.later_slices)) some)
-        ∙ get-here g.slices b.later_slices facts _
-
     taken : (c : Coded) → BeginsWith c (coded_of p whole) → take m.next c.mbs ≡ g.mbs
     taken c b = ap (take m.next) (begins-before c b).mbs ∙ take_at g.mbs (map (placed start) ms.mbs ++ b.later_mbs) m.next well.decoded.next
 
-    pub slice-goes-on : (c : Coded) (names : Names) → BeginsWith c (coded_of p whole) → AreNames es names → GoesOn c names start m unread context
-    slice-goes-on c names b are = record {
-      holds = well.decoded.holds c names (begins-before c b) are;
-      is_slice = λ mb mbs e. made c names are (facts-are c mb mbs b (sym (ap (λ r. r.mbs) (ap (λ xs. rest_of start xs unread) (taken c b) ∙ dat.1)) ∙ e));
-      width = sym b.width;
-      size = sym (ap (λ w. w * c.height) b.width ∙ ap (λ h. width_in_mbs sps * h) b.height);
-      number = well.decoded.count ∙ sym num;
-      quantiser = qp;
-      follows = subst (λ xs. Follows start xs unread) (sym (taken c b)) dat.0;
-      later = b.later_mbs;
-      mbs =
-          (begins-before c b).mbs
-          ∙ sym (ap (λ xs. xs ++ (map (placed start) (rest_of start xs unread).mbs ++ b.later_mbs)) (taken c b) ∙ ap (λ r. g.mbs ++ (map (placed start) r.mbs ++ b.later_mbs)) dat.1);
-    }
+    holds-before : (c : Coded) (names : Names) → BeginsWith c (coded_of p whole) → AreNames es names → HoldsFirst c names m
+    holds-before c names b are = well.decoded.holds c names (begins-before c b) are
 
-    pub can-go-on : CanGoOn m unread context
-    can-go-on = record {
-      coded = coded_of p whole;
-      names = names-of es rising;
-      start = start;
-      goes_on = slice-goes-on (coded_of p whole) (names-of es rising) (begins-itself (coded_of p whole)) (are-names es rising);
-    }
+    -- what the first call for a macroblock says of any such picture
+    pub first-out : (c : Coded) (names : Names) → BeginsWith c (coded_of p whole) → AreNames es names → (out : Result (Option Mb) Fault) (d' : SliceData)
+        → ((c : Coded) (names : Names) (s : SliceStart) → HoldsFirst c names m → s.width ≡ c.width → s.slice ≡ number → Follows s (take m.next c.mbs) unread
+        → IsHandedOut s (take m.next c.mbs) out unread d')
+        → IsHandedOut start (take m.next c.mbs) out unread d'
+    first-out c names b are out d' next =
+        next c names start (holds-before c names b are) (sym b.width) well.decoded.count (subst (λ xs. Follows start xs unread) (sym (taken c b)) dat.0)
+
+    -- where the data has no macroblock
+    pub none-first : (c : Coded) (names : Names) → BeginsWith c (coded_of p whole) → AreNames es names → (d' : SliceData) → IsHandedOut start (take m.next c.mbs) (Ok None) unread d'
+        → IsDataAnswer c names m.next (outcome_from c start m unread) (Ok tt) read m
+    none-first c names b are d' out =
+        let e : outcome_from c start m unread ≡ (0, None) = ap (λ ms. outcome c m.next ms) out.0 in
+        let none : (outcome_from c start m unread).0 ≡ 0 = ap (λ o. o.0) e in
+        (ap (λ o. o.1) e, omega (arith, none, well.reached), well.reached, holds-before c names b are)
+
+    -- where its first macroblock is refused
+    pub fault-first : (c : Coded) (names : Names) → BeginsWith c (coded_of p whole) → AreNames es names → (f : Fault) (d' : SliceData)
+        → IsHandedOut start (take m.next c.mbs) (Err f) unread d' → IsDataAnswer c names m.next (outcome_from c start m unread) (Err f) read m
+    fault-first c names b are f d' out =
+        let e : outcome_from c start m unread ≡ (0, Some f) = ap (λ ms. outcome c m.next ms) out.0 in
+        let none : (outcome_from c start m unread).0 ≡ 0 = ap (λ o. o.0) e in
+        (ap (λ o. o.1) e, omega (arith, none, well.reached))
+
+    module _ (context : SliceContext PAD) (num : context.number ≡ number) (made : IsContextOf p es s.header list context) (qp : start.qp ≤ 51) where
+      facts-are : (c : Coded) (mb : Mb) (mbs : List Mb) → BeginsWith c (coded_of p whole) → ms.mbs ≡ mb ∷ mbs → slice_facts c context.number ≡ facts
+      facts-are c mb mbs b some =
+          ap (λ n. slice_facts c n) (num ∙ sym well.decoded.count)
+          ∙ ap (λ xs. slice_facts (record c { slices = xs }) (length g.slices))
+          ((begins-before c b).slices ∙ ap (λ xs. g.slices ++ (facts-in facts xs ++ b.later_slices)) some)
+          ∙ get-here g.slices b.later_slices facts _
+
+      pub slice-goes-on : (c : Coded) (names : Names) → BeginsWith c (coded_of p whole) → AreNames es names → GoesOn c names start m unread context
+      slice-goes-on c names b are = record {
+        holds = holds-before c names b are;
+        is_slice = λ mb mbs e. made c names are (facts-are c mb mbs b (sym (ap (λ r. r.mbs) (ap (λ xs. rest_of start xs unread) (taken c b) ∙ dat.1)) ∙ e));
+        width = sym b.width;
+        size = sym (ap (λ w. w * c.height) b.width ∙ ap (λ h. width_in_mbs sps * h) b.height);
+        number = well.decoded.count ∙ sym num;
+        quantiser = qp;
+        follows = subst (λ xs. Follows start xs unread) (sym (taken c b)) dat.0;
+        later = b.later_mbs;
+        mbs =
+            (begins-before c b).mbs
+            ∙ sym (ap (λ xs. xs ++ (map (placed start) (rest_of start xs unread).mbs ++ b.later_mbs)) (taken c b) ∙ ap (λ r. g.mbs ++ (map (placed start) r.mbs ++ b.later_mbs)) dat.1);
+      }
+
+    -- the first macroblock has been read
+    module _ (Knows : SliceContext PAD → Type 0) (knows : (context : SliceContext PAD) → Knows context → (context.number ≡ number) × IsContextOf p es s.header list context) (qp : start.qp ≤ 51)
+        (mb : Mb) (d' : SliceData)
+        (next : (c : Coded) (names : Names) (s : SliceStart) → HoldsFirst c names m → s.width ≡ c.width → s.slice ≡ number → Follows s (take m.next c.mbs) unread
+        → IsHandedOut s (take m.next c.mbs) (Ok (Some mb)) unread d') where
+      pub has-first : (c : Coded) (names : Names) → BeginsWith c (coded_of p whole) → AreNames es names → HasFirst Knows c names start unread m mb d'
+      has-first c names b are = record {
+        goes_on = λ context k. slice-goes-on context (knows context k).0 (knows context k).1 qp c names b are;
+        first = first-out c names b are (Ok (Some mb)) d' next;
+      }
+
+      pub can-have-first : CanHaveFirst Knows m mb d'
+      can-have-first = record {
+        coded = coded_of p whole;
+        names = names-of es rising;
+        start = start;
+        unread = unread;
+        has_first = has-first (coded_of p whole) (names-of es rising) (begins-itself (coded_of p whole)) (are-names es rising);
+      }
 
     abbrev found : Option (ℕ × Fault)
     found = first_mb_fault (coded_of p whole) (length g.mbs) (length ms.mbs)
@@ -231,12 +271,12 @@ module _ {PAD : ℕ} (sps : Sps) (pps : Pps) (es : List ℕ) (fs : List (Frame P
 
     module _ (address : address_fault (length g.mbs) (s.header).first_mb_in_slice ≡ None) (is : list_of p s.header ≡ Ok list)
         (result : Result (Unit {0}) Fault) (read' : ℕ) (m' : MbsState)
-        (answer : (c : Coded) (names : Names) → GoesOn c names start m unread context → IsDataAnswer c names m.next (outcome_from c start m unread) result read' m') where
+        (answer : (c : Coded) (names : Names) → BeginsWith c (coded_of p whole) → AreNames es names → IsDataAnswer c names m.next (outcome_from c start m unread) result read' m') where
       sliced : with_slice p s g ≡ with_first_fault s g whole found
       sliced = listed p s g well.none address ∙ ap (with_reference_list p s g) is
 
       own : IsDataAnswer (coded_of p whole) (names-of es rising) m.next (outcome_from (coded_of p whole) start m unread) result read' m'
-      own = answer (coded_of p whole) (names-of es rising) (slice-goes-on (coded_of p whole) (names-of es rising) (begins-itself (coded_of p whole)) (are-names es rising))
+      own = answer (coded_of p whole) (names-of es rising) (begins-itself (coded_of p whole)) (are-names es rising)
 
       pub all-decoded : result ≡ Ok tt → IsWellSoFar p es (with_slice p s g) (number_after number read read') read' m'
       all-decoded ok =
@@ -261,7 +301,7 @@ module _ {PAD : ℕ} (sps : Sps) (pps : Pps) (es : List ℕ) (fs : List (Frame P
               count = slices-length ∙ sym number-is;
               holds = λ c names b are.
                   (subst (λ r. IsDataAnswer c names m.next (outcome_from c start m unread) r read' m') ok
-                  (answer c names (slice-goes-on c names (subst (BeginsWith c) coded b) are))).3;
+                  (answer c names (subst (BeginsWith c) coded b) are)).3;
             };
           }
 

@@ -1,5 +1,5 @@
 -- What the macroblocks of a slice are decoded with, as the code takes it from the slice's header and the frames of the buffer.
-use Rattle.std.specs.Prelude.{◌≡◌, ℕ, ◌<◌, List, length, map, Option, Some, None, Result, Ok, Err, IfSome, All, slice_get, slice_index, slice_index_or}
+use Rattle.std.specs.Prelude.{◌≡◌, ℕ, ◌+ℤ◌, ◌<◌, List, length, map, Option, Some, None, Result, Ok, Err, IfSome, All, slice_get, slice_index, slice_index_or, unwrap_or}
 use Rattle.std.specs.Option.{option_map}
 use Rattle.avc_types.specs.declared.fault.Fault.{Fault}
 use Rattle.avc_types.specs.Pictures.{Coded}
@@ -15,7 +15,7 @@ use Rattle.avc_plane.specs.declared.frame.PaddedPlanes.{PaddedPlanes}
 use Rattle.avc_deblock.specs.Facts.{Names}
 use Rattle.avc_picture_core.specs.declared.references.ReferencePicture.{ReferencePicture}
 use Rattle.avc_picture.specs.FirstMbs.{IsSlice}
-use Rattle.avc_picture.specs.Slices.{PictureStart, facts_of, list_of}
+use Rattle.avc_picture.specs.Slices.{PictureStart, deblocking_of, facts_of, list_of}
 use Rattle.avc_picture.specs.declared.slice_context.SliceContext.{SliceContext}
 
 -- what a picture is decoded with, where its frames are those of these places in the history
@@ -81,7 +81,16 @@ abbrev pub IsContextOf : {PAD : ℕ} → PictureStart → (entries : List ℕ) �
 IsContextOf p entries h list s =
     (c : Coded) (names : Names) → AreNames entries names → slice_facts c s.number ≡ facts_of p h list → IsSlice c names s
 
--- The context is that of some RefPicList0 of the header, or there is no list, for this fault.
-abbrev pub IsMade : {PAD : ℕ} → PictureStart → (entries : List ℕ) → Header → Result (SliceContext PAD) Fault → Type 0
-IsMade p entries h (Ok s) = (list : List (Option Reference)) × (list_of p h ≡ Ok list) × IsContextOf p entries h list s
-IsMade p entries h (Err f) = list_of p h ≡ Err f
+-- each of the first `count` reference indices has the place of its frame as its number; 0 without a place
+abbrev pub AreNumbersAt : (count : ℕ) → List (Option ℕ) → (numbers : List ℕ) → Type 0
+AreNumbersAt count places numbers = (r : ℕ) → r < count → slice_index_or numbers r 0 ≡ unwrap_or (slice_index_or places r None) 0
+
+-- What the code knows of the slice with this number: of its header, and of the frames at the places of its RefPicList0.
+pub record IsContextAt {PAD : ℕ} (number : ℕ) (frames : List (Frame PAD)) (h : Header) (places : List (Option ℕ)) (s : SliceContext PAD) : Type 0 where
+  pub number_is : s.number ≡ number
+  pub full : length s.references ≡ 16
+  pub pictures : ArePicturesAt frames h 16 places s.references
+  pub numbers : AreNumbersAt 16 places s.frame_numbers
+  pub edges : s.filtered_edges ≡ (deblocking_of h.deblocking).disable_deblocking_filter_idc
+  pub offset_a : s.offset_a ≡ (deblocking_of h.deblocking).slice_alpha_c0_offset_div2 +ℤ (deblocking_of h.deblocking).slice_alpha_c0_offset_div2
+  pub offset_b : s.offset_b ≡ (deblocking_of h.deblocking).slice_beta_offset_div2 +ℤ (deblocking_of h.deblocking).slice_beta_offset_div2

@@ -10,7 +10,7 @@ use Rattle.avc_params.specs.declared.pps.Pps.{Pps}
 use Rattle.avc_params.specs.Limits.{width_in_mbs, height_in_mbs, size_in_mbs}
 use Rattle.avc_params.specs.Within.{IsPps, IsSps}
 use Rattle.avc_slice.specs.declared.slice.Slice.{Slice}
-use Rattle.avc_mbsyntax.specs.Rest.{Follows, rest_of}
+use Rattle.avc_mbsyntax.specs.Rest.{Follows, IsHandedOut, rest_of}
 use Rattle.avc_bits.specs.Bits.{Bits}
 use Rattle.avc_mbsyntax.specs.SliceData.{SliceMbs, SliceStart, placed, slice_data}
 use Rattle.avc_mbsyntax.specs.declared.slice_data.SliceData.{SliceData}
@@ -19,7 +19,7 @@ use Rattle.avc_deblock.specs.Facts.{Names}
 use Rattle.avc_picture.specs.Context.{AreNames, FramesStandAt, picture_start}
 use Rattle.avc_picture.specs.Decoding.{AreFramesOf}
 use Rattle.avc_picture.specs.FirstMbs.{BeginsWith, HoldsFirst, IsSlice, MbsState}
-use Rattle.avc_picture.specs.Slices.{PictureStart, Progress, coded_of, first_mb_fault, progress}
+use Rattle.avc_picture.specs.Slices.{PictureStart, Progress, coded_of, first_mb_fault, progress, with_slice}
 use Rattle.avc_picture.specs.declared.slice_context.SliceContext.{SliceContext}
 
 -- ---- a slice's data
@@ -52,6 +52,20 @@ pub record CanGoOn {PAD : ℕ} (m : MbsState) (d : SliceData) (context : SliceCo
   pub names : Names
   pub start : SliceStart
   pub goes_on : GoesOn coded names start m d context
+
+-- The first macroblock of the data has been read, and the picture goes on with the data as it was before, under whatever the code then
+-- knows of the slice.
+pub record HasFirst {PAD : ℕ} (Knows : SliceContext PAD → Type 0) (c : Coded) (names : Names) (s : SliceStart) (d : SliceData) (m : MbsState) (mb : Mb) (d' : SliceData) : Type 0 where
+  pub goes_on : (context : SliceContext PAD) → Knows context → GoesOn c names s m d context
+  pub first : IsHandedOut s (take m.next c.mbs) (Ok (Some mb)) d d'
+
+-- there is such a picture, and such data
+pub record CanHaveFirst {PAD : ℕ} (Knows : SliceContext PAD → Type 0) (m : MbsState) (mb : Mb) (d' : SliceData) : Type 0 where
+  pub coded : Coded
+  pub names : Names
+  pub start : SliceStart
+  pub unread : SliceData
+  pub has_first : HasFirst Knows coded names start unread m mb d'
 
 -- the same from what is left of the data
 abbrev pub outcome_from : Coded → SliceStart → MbsState → SliceData → ℕ × Option Fault
@@ -108,6 +122,14 @@ pub record IsWellSomewhere {PAD : ℕ} (sps : Sps) (pps : Pps) (frames : List (F
   pub stand : FramesStandAt entries frames
   pub so_far : Progress
   pub well : IsWellSoFar (picture_start sps pps entries frames) entries so_far slice_count read m
+
+-- After the slice the macroblocks so far are decoded, or it is refused, wherever the frames stand.
+abbrev pub IsDecodedSlice : {PAD : ℕ} → Sps → Pps → List (Frame PAD) → Slice → (number before : ℕ) → MbsState → Result (Unit {0}) Fault → (read : ℕ) → MbsState → Type 0
+IsDecodedSlice sps pps frames slice number before m result read m' =
+    (entries : List ℕ) (g : Progress) → FramesStandAt entries frames
+    → IsWellSoFar (picture_start sps pps entries frames) entries g number before m
+    → IsStateOrFault (picture_start sps pps entries frames) entries (with_slice (picture_start sps pps entries frames) slice g) slice.unit
+    (number_after number before read) result read m'
 
 -- ---- the picture
 

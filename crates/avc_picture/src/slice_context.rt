@@ -1,21 +1,15 @@
 //! What is the same for all macroblocks of a slice.
 
-ghost use Rattle.std.specs.Prelude.{◌≡◌, ℕ, ◌<◌, ◌≤◌, pos, negsuc, ◌≤ℤ◌, ◌+ℤ◌, List, None, All, IfSome, IfOk, length, slice_get, slice_index_or, unwrap_or};
-ghost use Rattle.avc_params.specs.Limits.{height_in_mbs, width_in_mbs};
-ghost use Rattle.avc_params.specs.Within.{IsSps};
-ghost use Rattle.avc_params.specs.declared.pps.Pps.{Pps as Parameters};
+ghost use Rattle.std.specs.Prelude.{◌≡◌, ℕ, ◌<◌, ◌≤◌, pos, negsuc, ◌≤ℤ◌, ◌+ℤ◌, None, All, IfSome, length, slice_get, slice_index_or, unwrap_or};
 ghost use Rattle.avc_slice.specs.Within.{IsDeblocking, IsPredWeightTable};
-ghost use Rattle.avc_picture_core.specs.References.{AreUsable, IsUsable};
-ghost use Rattle.avc_picture.specs.Context.{ArePicturesAt, ArePlacesIn, FramesStandAt, IsMade, IsPictureAt, picture_start};
-ghost use Rattle.avc_picture.specs.Decoding.{AreFramesOf};
+ghost use Rattle.avc_picture.specs.Context.{ArePicturesAt, ArePlacesIn, IsContextAt, IsPictureAt};
 ghost use Rattle.avc_picture.specs.Slices.{deblocking_of};
 
-use crate::reference_places::{Places, reference_places};
-use avc_params::Sps;
+use crate::reference_places::Places;
 use avc_picture_core::ReferencePicture;
 use avc_plane::Frame;
 use avc_slice::{Deblocking, Header};
-use avc_types::{Fault, FilteredEdges};
+use avc_types::FilteredEdges;
 
 /// What the macroblocks of one slice are decoded with (7.4.3).
 #[derive(Clone, Copy)]
@@ -130,32 +124,27 @@ fn doubled(offset_div2: i32) -> i8
 }
 
 impl<'a, const PAD: usize> SliceContext<'a, PAD> {
-    /// Of slice `number` of a picture. BadRefList where its header names a frame that there is not.
+    /// Of slice `number` of a picture, whose RefPicList0 has the frames at these places.
     pub(crate) fn new(
         number: u32,
-        sps: &Sps,
         header: &Header,
         frames: &'a [Frame<PAD>],
-    ) -> Result<Self, Fault>
-        requires sps { IsSps sps.now }
-        requires count { header.now.active_count ≤ 16 }
+        places: &Places,
+    ) -> Self
+        requires few { length frames.now ≤ 16 }
+        requires within { ArePlacesIn frames.now places.now }
         requires deblocking { IfSome header.now.deblocking IsDeblocking }
         requires weights { IfSome header.now.pred_weight_table (IsPredWeightTable header.now.active_count) }
-        requires frames { AreFramesOf sps.now frames.now }
-        ensures number { IfOk result (λ s. s.number ≡ number) }
-        ensures usable { IfOk result (λ s. AreUsable (width_in_mbs sps.now) (height_in_mbs sps.now) s.references) }
-        ensures made { (pps : Parameters) (entries : List ℕ) → FramesStandAt entries frames.now
-            → IsMade (picture_start sps.now pps entries frames.now) entries header.now result }
+        ensures { IsContextAt number frames.now header.now places.now result }
     {
-        let places = reference_places(sps, header, frames)?;
         let deblocking = deblocking(header);
-        Ok(SliceContext {
+        SliceContext {
             number,
-            references: pictures(header, frames, &places),
-            frame_numbers: numbers(&places),
+            references: pictures(header, frames, places),
+            frame_numbers: numbers(places),
             filtered_edges: deblocking.disable_deblocking_filter_idc,
             offset_a: doubled(deblocking.slice_alpha_c0_offset_div2),
             offset_b: doubled(deblocking.slice_beta_offset_div2),
-        })
+        }
     }
 }

@@ -1,30 +1,33 @@
 //! The macroblocks of one slice (7.3.4).
 
-ghost use Rattle.std.specs.Prelude.{◌≡◌, ℕ, ◌-◌, ◌*◌, ◌≤◌, suc, pos, ◌≤ℤ◌, nat_abs, List, length, take};
+ghost use Rattle.std.specs.Prelude.{◌≡◌, ℕ, ◌-◌, ◌*◌, ◌≤◌, suc, pos, ◌≤ℤ◌, nat_abs, IfSome, List, length, take};
 ghost use Rattle.avc_types.specs.Pictures.{Coded, PicMb};
 ghost use Rattle.avc_params.specs.Limits.{height_in_mbs, max_macroblocks, size_in_mbs, width_in_mbs};
 ghost use Rattle.avc_params.specs.Within.{IsPps, IsSps};
 ghost use Rattle.avc_slice.specs.Header.{slice_qp};
-ghost use Rattle.avc_slice.specs.Within.{IsHeader};
+ghost use Rattle.avc_slice.specs.Within.{IsDeblocking, IsHeader, IsPredWeightTable};
 ghost use Rattle.avc_mbsyntax.specs.Rest.{Follows, IsHandedOut, handed_out};
 ghost use Rattle.avc_mbsyntax.specs.SliceData.{SliceStart};
+ghost use Rattle.avc_mbsyntax.specs.declared.slice_data.SliceData.{SliceData as SliceFrom};
+ghost use Rattle.avc_plane.specs.Frames.{AreFrames};
 ghost use Rattle.avc_plane.specs.Planes.{StoredFrame};
 ghost use Rattle.avc_deblock.specs.Facts.{Names};
 ghost use Rattle.avc_picture_core.specs.References.{AreUsable};
-ghost use Rattle.avc_picture.specs.Context.{FramesStandAt, picture_start};
+ghost use Rattle.avc_picture.specs.Context.{ArePlacesIn, IsContextAt};
 ghost use Rattle.avc_picture.specs.Decoding.{AreFramesOf};
-ghost use Rattle.avc_picture.specs.DecoderState.{CanGoOn, GoesOn, IsDataAnswer, IsDataOf, IsStateOrFault, IsWellSoFar, IsWellSomewhere, number_after, outcome_from};
+ghost use Rattle.avc_picture.specs.DecoderState.{CanGoOn, CanHaveFirst, GoesOn, HasFirst, IsDataAnswer, IsDataOf, IsDecodedSlice, IsWellSomewhere, outcome_from};
 ghost use Rattle.avc_picture.specs.FirstMbs.{HasSameSize, HoldsFirst};
-ghost use Rattle.avc_picture.specs.Slices.{Progress, data_of, start_of, with_slice};
+ghost use Rattle.avc_picture.specs.Slices.{data_of, start_of};
 
 use crate::header_checks::check_address;
 use crate::macroblocks::Macroblocks;
+use crate::reference_places::{Places, reference_places};
 use crate::slice_context::SliceContext;
 use avc_bits::BitReader;
 use avc_mbsyntax::SliceData;
 use avc_params::{Pps, Sps};
 use avc_plane::Frame;
-use avc_slice::Slice;
+use avc_slice::{Header, Slice};
 use avc_types::{Fault, Mb, Syntax};
 
 /// Pic_init_qp without its offset (7.4.2.2).
@@ -74,11 +77,13 @@ fn next_macroblock<const PAD: usize>(
 }
 
 /// Decodes the macroblocks of a slice, and counts in `read` those that are read, a faulty one included. Answers the first fault.
+/// Anything may stand in `mb`, which is where they are read.
 fn decode_data<const PAD: usize>(
     unread: &mut SliceData<'_>,
     context: &SliceContext<'_, PAD>,
     macroblocks: &mut Macroblocks<PAD>,
     read: &mut u32,
+    mb: &mut Mb,
 ) -> Result<(), Fault>
     requires some { CanGoOn macroblocks.old unread.old context.now }
     requires usable { AreUsable macroblocks.old.canvas.width macroblocks.old.canvas.height context.now.references }
@@ -90,15 +95,43 @@ fn decode_data<const PAD: usize>(
     ensures answer { (c : Coded) (names : Names) (s : SliceStart) → GoesOn c names s macroblocks.old unread.old context.now
         → IsDataAnswer c names macroblocks.old.next (outcome_from c s macroblocks.old unread.old) result read.new macroblocks.new }
 {
-    let mut mb = Mb {
-        syntax: Syntax::PSkip,
-        qp: 0,
-    };
-    'macroblocks: while next_macroblock(unread, macroblocks, context.number, &mut mb)? {
+    'macroblocks: while next_macroblock(unread, macroblocks, context.number, mb)? {
         *read += 1;
-        macroblocks.decode(&mb, context)?;
+        macroblocks.decode(mb, context)?;
     }
     Ok(())
+}
+
+/// Likewise from the first macroblock on, which stands in `mb`. What all macroblocks of a slice are decoded with is large: it is made
+/// here, so that a slice without any pays nothing for it.
+#[inline(never)]
+fn decode_macroblocks<const PAD: usize>(
+    unread: &mut SliceData<'_>,
+    number: u32,
+    header: &Header,
+    frames: &[Frame<PAD>],
+    places: &Places,
+    macroblocks: &mut Macroblocks<PAD>,
+    read: &mut u32,
+    mb: &mut Mb,
+) -> Result<(), Fault>
+    requires frames { AreFrames macroblocks.old.canvas.width macroblocks.old.canvas.height frames.now }
+    requires places { ArePlacesIn frames.now places.now }
+    requires deblocking { IfSome header.now.deblocking IsDeblocking }
+    requires weights { IfSome header.now.pred_weight_table (IsPredWeightTable header.now.active_count) }
+    requires some { CanHaveFirst (IsContextAt number frames.now header.now places.now) macroblocks.old mb.old unread.old }
+    requires read { macroblocks.old.next ≡ read.old }
+    requires small { macroblocks.old.canvas.width * macroblocks.old.canvas.height ≤ max_macroblocks }
+    ensures size { HasSameSize macroblocks.old macroblocks.new }
+    ensures within { read.new ≤ macroblocks.old.canvas.width * macroblocks.old.canvas.height }
+    ensures answer { (c : Coded) (names : Names) (s : SliceStart) (d : SliceFrom)
+        → HasFirst (IsContextAt number frames.now header.now places.now) c names s d macroblocks.old mb.old unread.old
+        → IsDataAnswer c names macroblocks.old.next (outcome_from c s macroblocks.old d) result read.new macroblocks.new }
+{
+    let context = SliceContext::new(number, header, frames, places);
+    *read += 1;
+    macroblocks.decode(mb, &context)?;
+    decode_data(unread, &context, macroblocks, read, mb)
 }
 
 /// Decodes slice `number` of a picture, of which `read` macroblocks have been read. Answers the first fault.
@@ -121,13 +154,27 @@ pub(crate) fn decode_slice<const PAD: usize>(
     requires some { IsWellSomewhere sps.now pps.now frames.now number read.old macroblocks.old }
     ensures size { HasSameSize macroblocks.old macroblocks.new }
     ensures within { read.new ≤ size_in_mbs sps.now }
-    ensures state { (entries : List ℕ) (g : Progress) → FramesStandAt entries frames.now
-        → IsWellSoFar (picture_start sps.now pps.now entries frames.now) entries g number read.old macroblocks.old
-        → IsStateOrFault (picture_start sps.now pps.now entries frames.now) entries (with_slice (picture_start sps.now pps.now entries frames.now) slice.now g)
-        slice.now.unit (number_after number read.old read.new) result read.new macroblocks.new }
+    ensures state { IsDecodedSlice sps.now pps.now frames.now slice.now number read.old macroblocks.old result read.new macroblocks.new }
 {
     check_address(*read, &slice.header)?;
-    let context = SliceContext::new(number, sps, &slice.header, frames)?;
+    let places = reference_places(sps, &slice.header, frames)?;
     let mut unread = slice_data(sps, pps, slice, *read);
-    decode_data(&mut unread, &context, macroblocks, read)
+    let mut mb = Mb {
+        syntax: Syntax::PSkip,
+        qp: 0,
+    };
+    let more = next_macroblock(&mut unread, macroblocks, number, &mut mb)?;
+    if !more {
+        return Ok(());
+    }
+    decode_macroblocks(
+        &mut unread,
+        number,
+        &slice.header,
+        frames,
+        &places,
+        macroblocks,
+        read,
+        &mut mb,
+    )
 }

@@ -7,7 +7,6 @@ returns c =
     c.units_stay.ensures
     c.written_units_stand.ensures
     c.units_are_numbered.ensures
-    c.units_are_few.ensures
     c.sets_are_in_force_again.ensures
     c.sets_in_force_are_units.ensures
     c.sets_come_alike.ensures

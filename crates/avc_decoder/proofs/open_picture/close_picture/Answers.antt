@@ -1,3 +1,5 @@
+use Rattle.std.specs.Prelude.{is_some}
+use Rattle.std.proofs.Common.{ap}
 use Rattle.avc_plane.specs.Frames.{padded_planes_of}
 use Rattle.avc_decoder.proofs.PictureFrames.{has_planes}
 use Rattle.avc_decoder.proofs.Closing.{closes_done, closes_short, closes_unmarked, ends_full, sized_as}
@@ -11,7 +13,7 @@ returns-in-Err-Fault c =
     record { fault = k.fault; state = k.state }
 
 pub close-requires : goal.close-requires
-close-requires c = record { sized = sized_as c.args.sequence.now c.args.last_unit c.args.picture (padded_planes_of c.in-Ok.planes) c.requires.picture c.in-Ok.ensures.sized }
+close-requires c = record { picture = λ going. ap is_some c.requires.picture.open_picture; sized = sized_as c.args.sequence.now c.args.last_unit c.args.picture (padded_planes_of c.in-Ok.planes) c.requires.picture c.in-Ok.ensures.sized }
 
 pub returns-in_ok-show-in-Ok-close : goal.returns-in_ok-show-in-Ok-close
 returns-in_ok-show-in-Ok-close c =

@@ -1,16 +1,58 @@
-use Rattle.std.proofs.Common.{◌≡◌, ◌*◌, length, ap, ◌∙◌, arith}
-use Rattle.avc_params.specs.Limits.{height_in_mbs, size_in_mbs, width_in_mbs}
-use Rattle.avc_plane.specs.Frames.{stored_at}
+use Rattle.std.proofs.Common.{◌≡◌, ◌*◌, ◌∙◌, Ok, Err, None, length, take, ap, sym, subst, arith, rules}
+use Rattle.avc_params.specs.Limits.{size_in_mbs, width_in_mbs}
 use Rattle.avc_slice.specs.Header.{slice_qp}
-use Rattle.avc_picture.specs.Context.{picture_start}
-use Rattle.avc_picture.specs.DecoderState.{address_fault}
-use Rattle.avc_picture.specs.Slices.{start_of}
-use Rattle.avc_picture.proofs.DataAnswers.{abs-within, usable-at}
-use Rattle.avc_picture.proofs.SliceGoesOn.{can-go-on, slice-decoded}
+use Rattle.avc_mbsyntax.specs.Rest.{IsHandedOut, handed_out}
+use Rattle.avc_plane.specs.Frames.{AreFrames, stored_at}
+use Rattle.avc_picture.specs.Context.{IsContextAt, picture_start}
+use Rattle.avc_picture.specs.DecoderState.{IsStateOrFault, address_fault, number_after}
+use Rattle.avc_picture.specs.Slices.{start_of, with_slice}
+use Rattle.avc_picture.proofs.Contexts.{is-context}
+use Rattle.avc_picture.proofs.DataAnswers.{abs-within}
+use Rattle.avc_picture.proofs.SliceGoesOn.{can-have-first, fault-first, first-out, has-first, none-first, slice-decoded}
 use Rattle.avc_picture.proofs.slice_decoding.decode_slice.Goals as goal
 
-pub decode_data-requires : goal.decode_data-requires
-decode_data-requires g c =
+pub returns-in_err-more-clause-state : goal.returns-in_err-more-clause-state
+returns-in_err-more-clause-state g c = λ entries so_far stand well.
+    let sps = c.args.sps.now in
+    let pps = c.args.pps.now in
+    let fs = c.args.frames.now in
+    let slice = c.args.slice.now in
+    let m = c.args.macroblocks.now in
+    let unread = c.slice_data-unread.result in
+    let d' = c.next_macroblock.new.unread in
+    let made = c.in_ok-places.ensures.list pps entries stand in
+    let long = well.decoded.next ∙ well.reached in
+    let dat = c.slice_data-unread.ensures (stored_at entries fs) (length so_far.slices) so_far.mbs long in
+    let f = c.in_err-more.field-0.0 in
+    let e : c.from_residual-in_err-more.result ≡ Err f = search rules in
+    let p = picture_start sps pps entries fs in
+    subst (λ r. IsStateOrFault p entries (with_slice p slice so_far) slice.unit (number_after c.args.number c.args.read.now c.args.read.now) r c.args.read.now m) (sym e)
+    (slice-decoded sps pps entries fs slice so_far c.args.number c.args.read.now m unread made.0 stand.rising well dat
+    (ap (λ n. address_fault n slice.header.first_mb_in_slice) long ∙ c.in_ok-check_address.ensures) made.1 (Err f) c.args.read.now m
+    (λ coded names b are. fault-first sps pps entries fs slice so_far c.args.number c.args.read.now m unread made.0 stand.rising well dat coded names b are f d'
+    (first-out sps pps entries fs slice so_far c.args.number c.args.read.now m unread made.0 stand.rising well dat coded names b are (Err f) d' c.in_err-more.ensures)))
+
+pub returns-then-not-more-clause-state : goal.returns-then-not-more-clause-state
+returns-then-not-more-clause-state g c = λ entries so_far stand well.
+    let sps = c.args.sps.now in
+    let pps = c.args.pps.now in
+    let fs = c.args.frames.now in
+    let slice = c.args.slice.now in
+    let m = c.args.macroblocks.now in
+    let unread = c.slice_data-unread.result in
+    let d' = c.next_macroblock.new.unread in
+    let mb = c.next_macroblock.new.mb in
+    let made = c.in_ok-places.ensures.list pps entries stand in
+    let long = well.decoded.next ∙ well.reached in
+    let dat = c.slice_data-unread.ensures (stored_at entries fs) (length so_far.slices) so_far.mbs long in
+    slice-decoded sps pps entries fs slice so_far c.args.number c.args.read.now m unread made.0 stand.rising well dat
+    (ap (λ n. address_fault n slice.header.first_mb_in_slice) long ∙ c.in_ok-check_address.ensures) made.1 (Ok tt) c.args.read.now m
+    (λ coded names b are. none-first sps pps entries fs slice so_far c.args.number c.args.read.now m unread made.0 stand.rising well dat coded names b are d'
+    (first-out sps pps entries fs slice so_far c.args.number c.args.read.now m unread made.0 stand.rising well dat coded names b are (Ok None) d'
+    (λ coded names s holds width number follows. subst (λ o. IsHandedOut s (take m.next coded.mbs) (handed_out (Ok o) mb) unread d') c.if-not-more.true (c.in_ok-more.ensures coded names s holds width number follows))))
+
+pub decode_macroblocks-requires : goal.decode_macroblocks-requires
+decode_macroblocks-requires g c =
     let w = c.requires.some in
     let well = w.well in
     let sps = c.args.sps.now in
@@ -18,22 +60,36 @@ decode_data-requires g c =
     let fs = c.args.frames.now in
     let slice = c.args.slice.now in
     let m = c.args.macroblocks.now in
-    let made = c.in_ok-context.ensures.made pps w.entries w.stand in
-    let dat = c.slice_data-unread.ensures (stored_at w.entries fs) (length w.so_far.slices) w.so_far.mbs (well.decoded.next ∙ well.reached) in
+    let unread = c.slice_data-unread.result in
+    let d' = c.next_macroblock.new.unread in
+    let mb = c.next_macroblock.new.mb in
+    let places = c.in_ok-places.places in
+    let made = c.in_ok-places.ensures.list pps w.entries w.stand in
+    let long = well.decoded.next ∙ well.reached in
+    let dat = c.slice_data-unread.ensures (stored_at w.entries fs) (length w.so_far.slices) w.so_far.mbs long in
     let qp = abs-within 51 (slice_qp pps slice.header.slice_qp_delta) c.requires.header.qp_low c.requires.header.qp_high in
     let area : m.canvas.width * m.canvas.height ≡ size_in_mbs sps = ap (λ x. x * m.canvas.height) c.requires.width ∙ ap (λ y. width_in_mbs sps * y) c.requires.height in (
       omega arith,
       (
         omega arith,
         (
-          can-go-on sps pps w.entries fs slice w.so_far c.args.number c.args.read.now m c.in_ok-context.context c.slice_data-unread.result made.0 w.stand.rising well c.in_ok-context.ensures.number made.2 dat qp,
+          subst (λ x. AreFrames x m.canvas.height fs) (sym c.requires.width) (subst (λ y. AreFrames (width_in_mbs sps) y fs) (sym c.requires.height) c.requires.frames),
           (
-            usable-at _ (width_in_mbs sps) m.canvas.width (height_in_mbs sps) m.canvas.height c.requires.width c.requires.height c.in_ok-context.ensures.usable,
+            c.in_ok-places.ensures.within,
             (
-              well.reached,
+              c.requires.header.deblocking,
               (
-                omega (arith, area, c.requires.within),
-                omega (arith, area, c.requires.sps.size),
+                c.requires.header.weights,
+                (
+                  can-have-first sps pps w.entries fs slice w.so_far c.args.number c.args.read.now m unread made.0 w.stand.rising well dat (IsContextAt c.args.number fs slice.header places)
+                      (λ context at. (at.number_is, is-context sps pps w.entries fs slice.header w.stand c.args.number places context c.in_ok-places.ensures.long c.in_ok-places.ensures.within at made.0 made.1 made.2))
+                      qp mb d'
+                      (λ coded names s holds width number follows. subst (λ o. IsHandedOut s (take m.next coded.mbs) (handed_out (Ok o) mb) unread d') c.if-not-more.false (c.in_ok-more.ensures coded names s holds width number follows)),
+                  (
+                    well.reached,
+                    omega (arith, area, c.requires.sps.size),
+                  ),
+                ),
               ),
             ),
           ),
@@ -48,11 +104,20 @@ returns-clause-state g c = λ entries so_far stand well.
     let fs = c.args.frames.now in
     let slice = c.args.slice.now in
     let m = c.args.macroblocks.now in
-    let made = c.in_ok-context.ensures.made pps entries stand in
+    let unread = c.slice_data-unread.result in
+    let d' = c.next_macroblock.new.unread in
+    let mb = c.next_macroblock.new.mb in
+    let places = c.in_ok-places.places in
+    let made = c.in_ok-places.ensures.list pps entries stand in
     let long = well.decoded.next ∙ well.reached in
     let dat = c.slice_data-unread.ensures (stored_at entries fs) (length so_far.slices) so_far.mbs long in
     let qp = abs-within 51 (slice_qp pps slice.header.slice_qp_delta) c.requires.header.qp_low c.requires.header.qp_high in
-    slice-decoded sps pps entries fs slice so_far c.args.number c.args.read.now m c.in_ok-context.context c.slice_data-unread.result made.0 stand.rising well c.in_ok-context.ensures.number made.2 dat qp
+    slice-decoded sps pps entries fs slice so_far c.args.number c.args.read.now m unread made.0 stand.rising well dat
     (ap (λ n. address_fault n slice.header.first_mb_in_slice) long ∙ c.in_ok-check_address.ensures) made.1
-    c.decode_data.result c.decode_data.new.read c.decode_data.new.macroblocks
-    (λ coded names go. c.decode_data.ensures.answer coded names (start_of (picture_start sps pps entries fs) slice.header (length so_far.slices)) go)
+    c.decode_macroblocks.result c.decode_macroblocks.new.read c.decode_macroblocks.new.macroblocks
+    (λ coded names b are. c.decode_macroblocks.ensures.answer coded names (start_of (picture_start sps pps entries fs) slice.header (length so_far.slices)) unread
+    (has-first sps pps entries fs slice so_far c.args.number c.args.read.now m unread made.0 stand.rising well dat (IsContextAt c.args.number fs slice.header places)
+    (λ context at. (at.number_is, is-context sps pps entries fs slice.header stand c.args.number places context c.in_ok-places.ensures.long c.in_ok-places.ensures.within at made.0 made.1 made.2))
+    qp mb d'
+    (λ coded names s holds width number follows. subst (λ o. IsHandedOut s (take m.next coded.mbs) (handed_out (Ok o) mb) unread d') c.if-not-more.false (c.in_ok-more.ensures coded names s holds width number follows))
+    coded names b are))

@@ -1,0 +1,90 @@
+use Rattle.std.proofs.Common.{◌≡◌, ◌+◌, Err, sym, subst, arith, rules}
+use Rattle.avc_picture.specs.DecoderState.{IsDataAnswer, outcome_from}
+use Rattle.avc_picture.proofs.Contexts.{usable-pictures}
+use Rattle.avc_picture.proofs.DataAnswers.{answers-further, ends-badly, from-here, same-area, usable-still}
+use Rattle.avc_picture.proofs.DataGoesOn.{faulty, goes-on-from, is-read, next-mb, room, slice-is}
+use Rattle.avc_picture.proofs.slice_decoding.decode_macroblocks.Goals as goal
+
+pub decode-requires : goal.decode-requires
+decode-requires g c =
+    let w = c.requires.some in
+    let h = w.has_first in
+    let m = c.args.macroblocks.now in
+    let context = c.new-context.result in
+    let knows = c.new-context.ensures in
+    let go = h.goes_on context knows in (
+      omega arith,
+      (
+        omega arith,
+        (
+          room w.coded w.names w.start m w.unread c.args.unread.now context c.args.mb.now go h.first,
+          (
+            is-read w.coded w.names w.start m w.unread c.args.unread.now context c.args.mb.now go h.first,
+            usable-pictures m.canvas.width m.canvas.height c.args.frames.now c.args.header.now c.requires.frames c.requires.weights c.args.places.now context.references knows.full knows.pictures,
+          ),
+        ),
+      ),
+    )
+
+pub returns-in_err-decode-clause-answer : goal.returns-in_err-decode-clause-answer
+returns-in_err-decode-clause-answer g c = λ coded names s d h.
+    let m = c.args.macroblocks.now in
+    let d' = c.args.unread.now in
+    let mb = c.args.mb.now in
+    let context = c.new-context.result in
+    let go = h.goes_on context c.new-context.ensures in
+    let f = c.in_err-decode.field-0.0 in
+    let wrong = c.in_err-decode.ensures.decoded coded names go.holds (next-mb coded names s m d d' context mb go h.first) (slice-is coded names s m d d' context mb go h.first) in
+    let e : c.from_residual.result ≡ Err f = search rules in
+    subst (λ r. IsDataAnswer coded names m.next (outcome_from coded s m d) r (c.args.read.now + 1) c.decode.new.self) (sym e)
+    (ends-badly coded names s context m d m d (from-here coded names s context m d go) c.args.read.now c.requires.read 1 f c.decode.new.self (faulty coded names s m d d' context mb go h.first f wrong))
+
+pub decode_data-requires : goal.decode_data-requires
+decode_data-requires g c =
+    let w = c.requires.some in
+    let h = w.has_first in
+    let m = c.args.macroblocks.now in
+    let m' = c.decode.new.self in
+    let d' = c.args.unread.now in
+    let mb = c.args.mb.now in
+    let context = c.new-context.result in
+    let knows = c.new-context.ensures in
+    let go = h.goes_on context knows in
+    let kept = c.in_ok-decode.ensures.size in
+    let next = c.in_ok-decode.ensures.next in
+    let inside = room w.coded w.names w.start m w.unread d' context mb go h.first in
+    let area = same-area m m' kept in
+    let decoded =
+    c.in_ok-decode.ensures.decoded w.coded w.names go.holds (next-mb w.coded w.names w.start m w.unread d' context mb go h.first) (slice-is w.coded w.names w.start m w.unread d' context mb go h.first) in
+    let far = goes-on-from w.coded w.names w.start m w.unread d' context mb go h.first m' next decoded.0 decoded.1 in (
+      omega arith,
+      (
+        omega arith,
+        (
+          record { coded = w.coded; names = w.names; start = w.start; goes_on = far.goes_on },
+          (
+            usable-still context.references m m' kept
+                (usable-pictures m.canvas.width m.canvas.height c.args.frames.now c.args.header.now c.requires.frames c.requires.weights c.args.places.now context.references knows.full knows.pictures),
+            (
+              omega (arith, next, c.requires.read),
+              (
+                omega (arith, inside, area, c.requires.read),
+                omega (arith, area, c.requires.small),
+              ),
+            ),
+          ),
+        ),
+      ),
+    )
+
+pub returns-clause-answer : goal.returns-clause-answer
+returns-clause-answer g c = λ coded names s d h.
+    let m = c.args.macroblocks.now in
+    let m' = c.decode.new.self in
+    let d' = c.args.unread.now in
+    let mb = c.args.mb.now in
+    let context = c.new-context.result in
+    let go = h.goes_on context c.new-context.ensures in
+    let decoded = c.in_ok-decode.ensures.decoded coded names go.holds (next-mb coded names s m d d' context mb go h.first) (slice-is coded names s m d d' context mb go h.first) in
+    let far = goes-on-from coded names s m d d' context mb go h.first m' c.in_ok-decode.ensures.next decoded.0 decoded.1 in
+    answers-further coded names s context m d m' d' far c.decode_data.result c.decode_data.new.read c.decode_data.new.macroblocks (c.decode_data.ensures.answer coded names s far.goes_on)
