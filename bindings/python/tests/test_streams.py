@@ -15,6 +15,27 @@ SETS = bytes.fromhex("0000000167 42C00ADA71 0000000168CE3880")
 GREY = SETS + bytes.fromhex("00000165888493C0")
 
 
+# the RBSP of an I slice of two macroblocks, 58 bits and the stop bit
+TWO_MACROBLOCKS = bytes.fromhex("8884939314000960")
+
+
+def cut(rbsp: bytes, count: int) -> bytes:
+    """The first bits, and a stop bit behind them (7.3.2.11)."""
+    bits = "".join(f"{byte:08b}" for byte in rbsp)[:count] + "1"
+    bits += "0" * (-len(bits) % 8)
+    return bytes(int(bits[at : at + 8], 2) for at in range(0, len(bits), 8))
+
+
+def escaped(rbsp: bytes) -> bytes:
+    """With emulation_prevention_three_byte (7.4.1)."""
+    out = bytearray()
+    for byte in rbsp:
+        if byte <= 3 and out[-2:] == b"\0\0":
+            out.append(3)
+        out.append(byte)
+    return bytes(out)
+
+
 def expected(stream: pathlib.Path, kind: str) -> str:
     path = stream.with_suffix(kind)
     return path.read_text() if path.exists() else ""
@@ -101,6 +122,21 @@ class Calls(unittest.TestCase):
             self.assertEqual(str(decoder.take()), "refused unit 4: 21 ArbitrarySliceOrder")
             self.assertIsNone(decoder.take())
             self.assertEqual(decoder.turns, 2)
+
+    def test_a_slice_cut_to_each_number_of_its_bits(self) -> None:
+        sets = bytes.fromhex("000000016742C00ADA2C40 0000000168CE3880")
+        filtered = bytes([128] * 15 + [130, 134] + [136] * 15) * 16
+        for count in range(59):
+            with self.subTest(count):
+                events = list(avcdec.decode(sets + bytes.fromhex("00000165") + escaped(cut(TWO_MACROBLOCKS, count))))
+                if count == 0:
+                    self.assertEqual(events, [])
+                elif count == 58:
+                    (picture,) = events
+                    self.assertEqual(picture.i420, filtered + bytes([128] * 256))
+                else:
+                    told = "22 MissingMacroblocks" if count == 25 else "1 Truncated"
+                    self.assertEqual([str(event) for event in events], [f"refused unit 2: {told}"])
 
     def test_the_version_is_that_of_the_header(self) -> None:
         self.assertEqual(avcdec.version(), (0, 1, 0))

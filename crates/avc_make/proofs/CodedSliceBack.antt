@@ -32,9 +32,9 @@ coded_slice_back c unit is written =
     record {
       header_read = λ sets force. header_unit_is_read sets c.sps c.pps c.header others unit force is.header written;
       macroblocks_read =
-          λ s before like count none room.
+          λ s before like count none any room.
           let long : length earlier ≡ length before = length-replicate c.header.first_mb_in_slice _ ∙ sym count in
           let alone = data_alone own s earlier before (length header) c.macroblocks like long (none_is_own c.header.first_mb_in_slice) none in
           ap (λ t. slice_data s before (record { position = length header; ahead = t })) (left ∙ alone.0)
-          ∙ all_data_is_read s before (length header) c.macroblocks is.some (omega (arith, is.few)) room (alone.1 is.follow);
+          ∙ all_data_is_read s before (length header) c.macroblocks (λ other. is.some (like.is_p ∙ other)) (omega (arith, is.few)) any room (alone.1 is.follow);
     }

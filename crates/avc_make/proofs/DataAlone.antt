@@ -137,8 +137,10 @@ where_same true s s' before before' qp position ms same = p_same s s' before bef
 where_same false s s' before before' qp position ms same = i_same s s' before before' qp position ms same
 
 pub data_alone : DataStandsAlone
-data_alone s s' before before' position ms like long others others' =
+data_alone s s' before before' position [] like long others others' =
+    (ap (λ p. elim p [ true ↦ ue_word 0 | false ↦ [] ]) like.is_p, λ all. tt)
+data_alone s s' before before' position (m ∷ ms) like long others others' =
     let same : SeeSame s s' before before' = record { like = like; long = long; seen = λ a. others a ∙ sym (others' a) } in (
-      ap (λ p. bits_where p s before s.qp position ms) like.is_p ∙ ap (λ q. bits_where s'.is_p s before q position ms) like.qp ∙ where_same s'.is_p s s' before before' s'.qp position ms same,
-      λ all. subst (λ q. CanFollow s' before' q ms) like.qp (follows s s' before before' s.qp ms same all),
+      ap (λ p. bits_where p s before s.qp position (m ∷ ms)) like.is_p ∙ ap (λ q. bits_where s'.is_p s before q position (m ∷ ms)) like.qp ∙ where_same s'.is_p s s' before before' s'.qp position (m ∷ ms) same,
+      λ all. subst (λ q. CanFollow s' before' q (m ∷ ms)) like.qp (follows s s' before before' s.qp (m ∷ ms) same all),
     )

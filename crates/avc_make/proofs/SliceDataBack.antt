@@ -277,8 +277,26 @@ read_where true s before position (m ∷ ms) same some small room all =
     p_read s (m ∷ ms) (s.size - length before) before before s.qp position 0 all (sym (append-nil before)) (omega arith) (omega (arith, room)) (omega (arith, small)) room
 read_where false s before position (m ∷ ms) same some small room all = i_read s m ms (s.size - length before) before s.qp position same all (omega (arith, room))
 
+-- a run of 0, and no more data
+none_read : (s : SliceStart) (turns : ℕ) (before : List PicMb) (qp position : ℕ) → 0 < turns → length before < s.size →
+    p_data s turns before qp (record { position = position; ahead = ue_word 0 }) ≡ all_of []
+none_read s zero before qp position some any = absurd (omega (arith, some))
+none_read s (suc turns) before qp position some any =
+    let below : (length before == s.size) ≡ false = ne_eqb (length before) s.size (λ e. omega (arith, any, e)) in
+    let fits : nat_lt (s.size - length before) 0 ≡ false = le-ltb (s.size - length before) 0 (omega arith) in
+    let b : Bits = record { position = position; ahead = ue_word 0 } in
+    let b' : Bits = record { position = position + length (ue_word 0); ahead = [] } in
+    let read : ue b ≡ Ok (0, b') = ap (λ t. ue (record { position = position; ahead = t })) (sym (append-nil (ue_word 0))) ∙ run_read position 0 [] (omega arith) in
+    p_turn s turns before qp 0 b b' below fits read
+
+none_where : (p : Bool) (s : SliceStart) (before : List PicMb) (position : ℕ) → (p ≡ false → 1 ≤ 0) → length before < s.size →
+    data_where p s before (record { position = position; ahead = elim p [ true ↦ ue_word 0 | false ↦ [] ] }) ≡ all_of []
+none_where true s before position some any = none_read s (s.size - length before) before s.qp position (omega (arith, any)) any
+none_where false s before position some any = absurd (omega (arith, some refl))
+
 pub all_data_is_read : DataIsRead
-all_data_is_read s before position ms some small room all = by_type s.is_p refl
+all_data_is_read s before position [] some small any room all = none_where s.is_p s before position some any
+all_data_is_read s before position (m ∷ ms) some small any room all = by_type s.is_p refl
   where
-    by_type : (p : Bool) → s.is_p ≡ p → slice_data s before (record { position = position; ahead = data_bits s before position ms }) ≡ all_of ms
-    by_type p same = subst (λ q. data_where q s before (record { position = position; ahead = bits_where q s before position ms }) ≡ all_of ms) (sym same) (read_where p s before position ms same some small room all)
+    by_type : (p : Bool) → s.is_p ≡ p → slice_data s before (record { position = position; ahead = data_bits s before position (m ∷ ms) }) ≡ all_of (m ∷ ms)
+    by_type p same = subst (λ q. data_where q s before (record { position = position; ahead = bits_where q s before position (m ∷ ms) }) ≡ all_of (m ∷ ms)) (sym same) (read_where p s before position (m ∷ ms) same (omega arith) small room all)

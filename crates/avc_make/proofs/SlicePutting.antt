@@ -18,7 +18,7 @@ use Rattle.avc_make.specs.DataWriting.{CanFollow, CanStand, data_bits, i_data_bi
 use Rattle.avc_make.specs.HeaderWriting.{header_bits, slice_unit_header}
 use Rattle.avc_make.specs.Made.{Made, nothing, with_bits}
 use Rattle.avc_make.specs.MbWriting.{mb_bits, qp_of}
-use Rattle.avc_make.specs.SliceSteps.{IsOf, AreFactsOf, coded_bits, last_run_bits_where, own_bits, rest_bits, run_after, run_bits}
+use Rattle.avc_make.specs.SliceSteps.{IsOf, AreFactsOf, coded_bits, last_run_bits_where, own_bits, rest_bits, run_after, run_bits, some_bits}
 use Rattle.avc_make.specs.SliceMbs.{IsCodedSlice, coded_slice_bits, earlier_mbs, own_start}
 use Rattle.avc_make.specs.Units.{IsUnit}
 use Rattle.avc_make.specs.Words.{ue_word}
@@ -175,7 +175,7 @@ pub record IsPut (c : CodedSlice) (old : Made) (i : ℕ) (row : PictureFacts) (q
   pub few : run ≤ i
   pub follow : CanFollow (own_start c) (before_of c i) qp (drop i c.macroblocks)
   pub sum : now.bits ++ rest_bits (own_start c).is_p (own_start c) (before_of c i) qp (length now.bits) run (drop i c.macroblocks)
-      ≡ old.bits ++ data_bits (own_start c) (earlier_mbs c) (length old.bits) c.macroblocks
+      ≡ old.bits ++ some_bits (own_start c) (earlier_mbs c) (length old.bits) c.macroblocks
 
 pub put_none : (c : CodedSlice) (old : Made) (row : PictureFacts) (qp : ℕ) → IsCodedSlice c → old.failed ≡ false → AreFactsOf (own_start c).width (earlier_mbs c) row → qp ≡ (own_start c).qp → IsPut c old 0 row qp 0 old
 put_none c old row qp is going told is_qp =
@@ -225,7 +225,7 @@ put_next c old now new i row row' qp qp' run run' m k syntax is here is_k is_syn
     let before = before_of c i in
     let before' = before ++ placed s m ∷ [] in
     let ms = drop (i + 1) c.macroblocks in
-    let all = old.bits ++ data_bits s (earlier_mbs c) (length old.bits) c.macroblocks in
+    let all = old.bits ++ some_bits s (earlier_mbs c) (length old.bits) c.macroblocks in
     let follow : CanFollow s before qp (m ∷ ms) = subst (λ l. CanFollow s before qp l) here.first is.follow in
     let grown = before_more c i m here in
     let put : new ≡ with_bits now (own_bits (context s before qp) (length now.bits) run m.syntax) =
@@ -245,9 +245,9 @@ put_next c old now new i row row' qp qp' run run' m k syntax is here is_k is_syn
     }
 
 pub put_end : (c : CodedSlice) (old now new : Made) (i : ℕ) (row : PictureFacts) (qp run : ℕ) (p : Bool) → IsPut c old i row qp run now → drop i c.macroblocks ≡ [] → (own_start c).is_p ≡ p
-    → new ≡ with_bits now (last_run_bits_where p run) → new ≡ with_bits old (data_bits (own_start c) (earlier_mbs c) (length old.bits) c.macroblocks)
+    → new ≡ with_bits now (last_run_bits_where p run) → new ≡ with_bits old (some_bits (own_start c) (earlier_mbs c) (length old.bits) c.macroblocks)
 put_end c old now new i row qp run p is none same is_new =
-    all_put (own_start c) (before_of c i) qp run p (drop i c.macroblocks) old now new (data_bits (own_start c) (earlier_mbs c) (length old.bits) c.macroblocks) none same is_new is.sum
+    all_put (own_start c) (before_of c i) qp run p (drop i c.macroblocks) old now new (some_bits (own_start c) (earlier_mbs c) (length old.bits) c.macroblocks) none same is_new is.sum
 
 -- ---- the unit
 

@@ -40,10 +40,15 @@ p_data_bits s before qp position run (m ∷ ms) =
           w ++ (w' ++ p_data_bits s (before ++ placed s m ∷ []) m.qp (position + length w + length w') 0 ms)
     ]
 
--- slice_data of these macroblocks, from a position of the unit on (7.3.4)
+-- slice_data of these macroblocks, from a position of the unit on (7.3.4). In a P slice mb_skip_run stands first, so it
+-- stands where there is no macroblock too.
 abbrev pub data_bits : SliceStart → (before : List PicMb) → (position : ℕ) → List Mb → List Bool
-data_bits s before position ms =
-    elim s.is_p [ true ↦ p_data_bits s before s.qp position 0 ms | false ↦ i_data_bits s before s.qp position ms ]
+data_bits s before position [] = elim s.is_p [ true ↦ ue_word 0 | false ↦ [] ]
+data_bits s before position (m ∷ ms) =
+    elim s.is_p [
+      | true ↦ p_data_bits s before s.qp position 0 (m ∷ ms)
+      | false ↦ i_data_bits s before s.qp position (m ∷ ms)
+    ]
 
 -- A macroblock that can stand in this context: one that is skipped in a P slice alone, each other with its elements in
 -- their ranges.
@@ -60,11 +65,12 @@ CanFollow s before qp [] = Unit {0}
 CanFollow s before qp (m ∷ ms) =
     CanStand (context s before qp) m.syntax × (m.qp ≡ qp_of qp m.syntax) × CanFollow s (before ++ placed s m ∷ []) m.qp ms
 
--- The data of macroblocks that can follow one another is read as they are, with no fault, in a picture that has room for them.
+-- The data of macroblocks that can follow one another, in an I slice at least one, is read as they are, with no fault, in a
+-- picture that has room for one and for all of them.
 abbrev pub DataIsRead : Type 0
 DataIsRead =
-    (s : SliceStart) (before : List PicMb) (position : ℕ) (ms : List Mb) → 1 ≤ length ms → length ms < 4294967295 → length before + length ms ≤ s.size →
-    CanFollow s before s.qp ms →
+    (s : SliceStart) (before : List PicMb) (position : ℕ) (ms : List Mb) → (s.is_p ≡ false → 1 ≤ length ms) → length ms < 4294967295 → length before < s.size
+    → length before + length ms ≤ s.size → CanFollow s before s.qp ms →
     slice_data s before (record { position = position; ahead = data_bits s before position ms }) ≡ record { mbs = ms; fault = None }
 
 -- ---- what the bits depend on

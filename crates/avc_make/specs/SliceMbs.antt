@@ -1,5 +1,5 @@
 -- Units of slices of any macroblocks (7.3.2.8), and how they are read.
-use Rattle.std.specs.Prelude.{◌≡◌, ℕ, ◌+◌, ◌≤◌, nat_abs, List, Bool, ◌++◌, drop, length, replicate, None, Ok}
+use Rattle.std.specs.Prelude.{◌≡◌, ℕ, ◌+◌, ◌<◌, ◌≤◌, nat_abs, List, Bool, false, ◌++◌, drop, length, replicate, None, Ok}
 use Rattle.avc_types.specs.Pictures.{PicMb}
 use Rattle.avc_annexb.specs.Escapes.{rbsp}
 use Rattle.avc_bits.specs.Bits.{at}
@@ -35,20 +35,22 @@ coded_slice_bits c =
     let header = header_bits c.sps c.pps c.header in
     header ++ data_bits (own_start c) (earlier_mbs c) (length header) c.macroblocks
 
--- A slice that can be written: its header is in its ranges, and its macroblocks can follow one another.
+-- A slice that can be written: its header is in its ranges, and its macroblocks can follow one another. The data of an I slice
+-- has one at least (7.3.4); that of a P slice may be mb_skip_run alone.
 pub record IsCodedSlice (c : CodedSlice) : Type 0 where
   pub header : IsHeader c.sps c.pps c.header
-  pub some : 1 ≤ length c.macroblocks
+  pub some : is_p c.header ≡ false → 1 ≤ length c.macroblocks
   pub few : length c.macroblocks ≤ max_macroblocks
   pub follow : CanFollow (own_start c) (earlier_mbs c) (own_start c).qp c.macroblocks
 
 -- The unit is read as the slice: its header at its place, under any sets of which its own are in force, and the bits after the
--- header as its macroblocks, with no fault. The picture has room for them, and none of its macroblocks before is of the slice.
+-- header as its macroblocks, with no fault. The picture has room for one and for all of them, and none of its macroblocks before
+-- is of the slice.
 pub record IsReadBack (c : CodedSlice) (unit : List ℕ) : Type 0 where
   pub header_read : (sets : Sets) → AreInForce sets c.sps c.pps →
       header_in_rbsp (slice_unit_header c.header) sets (rbsp (drop 1 unit)) ≡ Ok (placed_header c.sps c.pps c.header)
   pub macroblocks_read : (s : SliceStart) (before : List PicMb) → IsLike (own_start c) s → length before ≡ c.header.first_mb_in_slice →
-      AreOthers s before → length before + length c.macroblocks ≤ s.size →
+      AreOthers s before → length before < s.size → length before + length c.macroblocks ≤ s.size →
       slice_data s before (at (rbsp (drop 1 unit)) (placed_header c.sps c.pps c.header).position) ≡ record { mbs = c.macroblocks; fault = None }
 
 -- Each slice that can be written is read back from its unit.

@@ -49,3 +49,7 @@ run_after run syntax = elim (is_skip syntax) [ true ↦ run + 1 | false ↦ 0 ]
 abbrev pub rest_bits : (p : Bool) → SliceStart → (before : List PicMb) → (qp position run : ℕ) → List Mb → List Bool
 rest_bits p s before qp position run ms =
     elim p [ true ↦ p_data_bits s before qp position run ms | false ↦ i_data_bits s before qp position ms ]
+
+-- the data of a slice with a macroblock
+abbrev pub some_bits : SliceStart → (before : List PicMb) → (position : ℕ) → List Mb → List Bool
+some_bits s before position ms = rest_bits s.is_p s before s.qp position 0 ms

@@ -5,7 +5,7 @@ ghost use Rattle.avc_make.specs.DataWriting.{CanStand, data_bits, is_skip};
 ghost use Rattle.avc_make.specs.HeaderWriting.{slice_unit_header};
 ghost use Rattle.avc_make.specs.Made.{Puts};
 ghost use Rattle.avc_make.specs.SliceMbs.{IsCodedSlice, IsReadBack, coded_slice_bits, earlier_mbs, own_start};
-ghost use Rattle.avc_make.specs.SliceSteps.{AreFactsOf, coded_bits, last_run_bits_where, own_bits, run_after, run_bits};
+ghost use Rattle.avc_make.specs.SliceSteps.{AreFactsOf, coded_bits, last_run_bits_where, own_bits, run_after, run_bits, some_bits};
 ghost use Rattle.avc_make.specs.Units.{IsUnit};
 
 use crate::header_writing::{header_byte, put_header};
@@ -40,6 +40,24 @@ fn put_data(maker: &mut BitMaker, row: &mut Row, slice: &CodedSlice) -> Result<(
     requires slice { IsCodedSlice slice.now }
     requires row { AreFactsOf (own_start slice.now).width (earlier_mbs slice.now) row.old }
     ensures { Puts result (data_bits (own_start slice.now) (earlier_mbs slice.now) (length maker.old.bits) slice.now.macroblocks) maker.old maker.new }
+{
+    if slice.macroblocks.as_slice().is_empty() {
+        put_run(maker, slice.header.is_p(), 0)
+    } else {
+        put_macroblocks(maker, row, slice)
+    }
+}
+
+// the data of a slice with a macroblock
+fn put_macroblocks(
+    maker: &mut BitMaker,
+    row: &mut Row,
+    slice: &CodedSlice,
+) -> Result<(), OutOfMemory>
+    requires going { maker.old.failed ≡ false }
+    requires slice { IsCodedSlice slice.now }
+    requires row { AreFactsOf (own_start slice.now).width (earlier_mbs slice.now) row.old }
+    ensures { Puts result (some_bits (own_start slice.now) (earlier_mbs slice.now) (length maker.old.bits) slice.now.macroblocks) maker.old maker.new }
 {
     let first = first_context(slice);
     let mut qp = first.qp;

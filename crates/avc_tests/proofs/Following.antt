@@ -28,11 +28,11 @@ unfolding FollowOn
 follow_none p n first = refl
 
 -- a slice of QP_Y 26 can be written
-pub coded : (c : CodedSlice) (p : Bool) (n last : ℕ) → IsHeader c.sps c.pps c.header → 1 ≤ length c.macroblocks → length c.macroblocks ≤ 38 → is_p c.header ≡ p → c.header.active_count ≡ n
+pub coded : (c : CodedSlice) (p : Bool) (n last : ℕ) → IsHeader c.sps c.pps c.header → (p ≡ false → 1 ≤ length c.macroblocks) → length c.macroblocks ≤ 38 → is_p c.header ≡ p → c.header.active_count ≡ n
     → nat_abs (slice_qp c.pps c.header.slice_qp_delta) ≡ 26 → FollowOn p n 26 last c.macroblocks → IsCodedSlice c
 coded c p n last header some few is_type is_count is_qp all = record {
   header = header;
-  some = some;
+  some = λ e. some (sym is_type ∙ e);
   few = omega (arith, few);
   follow =
       let all' = subst (λ q. FollowOn p n q last c.macroblocks) (sym is_qp) all in

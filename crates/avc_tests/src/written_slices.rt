@@ -68,7 +68,6 @@ fn i_slice(macroblocks: Macroblocks) -> CodedSlice
 
 // A P slice with two entries in RefPicList0.
 fn p_slice(macroblocks: Macroblocks) -> CodedSlice
-    requires some { 1 ≤ length macroblocks }
     requires few { length macroblocks ≤ 38 }
     requires follow { (last : ℕ) × FollowOn true 2 26 last macroblocks }
     ensures { IsCodedSlice result }
@@ -208,5 +207,13 @@ fn each_type_of_p_slices(rt: HostRuntime) -> Result<(), Fail> {
     let slice = p_slice(Macroblocks::from_vec(list));
     let unit = write_slice(rt.alloc(), &slice)?;
     assert!(rt; is_read_back(rt.alloc(), &unit, slice.macroblocks.as_slice())?);
+    Ok(())
+}
+
+#[test]
+fn no_macroblock_of_a_p_slice(rt: HostRuntime) -> Result<(), Fail> {
+    let slice = p_slice(Macroblocks::from_vec(Vec::new(rt.alloc())));
+    let unit = write_slice(rt.alloc(), &slice)?;
+    assert!(rt; is_read_back(rt.alloc(), &unit, &[])?);
     Ok(())
 }

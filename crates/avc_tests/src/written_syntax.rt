@@ -1,6 +1,6 @@
 // No clause says that memory is found. Where an allocation is refused (`rt try --test --fail-alloc N`), the test ends in that
 // error, and not at an assertion.
-ghost use Rattle.std.specs.Prelude.{◌≤◌, ℕ, length, false};
+ghost use Rattle.std.specs.Prelude.{true, ◌≤◌, ℕ, length, false};
 ghost use Rattle.avc_make.specs.SliceMbs.{IsCodedSlice};
 ghost use Rattle.avc_tests.specs.Following.{FollowOn};
 
@@ -8,7 +8,7 @@ use crate::macroblock_types::{add, i_pcm};
 use avc_make::{BitMaker, CodedSlice, Macroblocks, write_block, write_pps, write_slice, write_sps};
 use avc_params::{ConstraintFlags, OrderCount, Pps, Sps, read_sps};
 use avc_slice::{CodedOrder, Header, SliceType};
-use avc_types::{Fault, Levels, Marking, MbAddr};
+use avc_types::{Fault, Levels, Marking, MbAddr, Syntax};
 use std::alloc::Global;
 use std::test::Fail;
 
@@ -144,6 +144,56 @@ fn writes_a_slice(rt: HostRuntime) -> Result<(), Fail> {
     assert_eq!(rt; &unit[261..325], [0x40; 64].as_slice());
     assert_eq!(rt; &unit[325..389], [0xC0; 64].as_slice());
     assert_eq!(rt; unit[389], 0x80);
+    Ok(())
+}
+
+// The only slice of a P picture behind it.
+fn only_p_slice(macroblocks: Macroblocks) -> CodedSlice
+    requires few { length macroblocks ≤ 38 }
+    requires follow { (last : ℕ) × FollowOn true 1 26 last macroblocks }
+    ensures { IsCodedSlice result }
+{
+    CodedSlice {
+        sps: SPS,
+        pps: PPS,
+        header: Header {
+            nal_ref_idc: 2,
+            first_mb_in_slice: MbAddr::new(0),
+            slice_type: SliceType::AllP,
+            pic_parameter_set_id: 0,
+            frame_num: 1,
+            idr_pic_id: None,
+            order: CodedOrder::Type2,
+            redundant_pic_cnt: None,
+            active_override: None,
+            active_count: 1,
+            modifications: None,
+            pred_weight_table: None,
+            marking: Some(Marking::SlidingWindow),
+            slice_qp_delta: 0,
+            deblocking: None,
+            position: 0,
+        },
+        macroblocks,
+    }
+}
+
+#[test]
+fn writes_a_run_of_one(rt: HostRuntime) -> Result<(), Fail> {
+    let mut list = Vec::new(rt.alloc());
+    add(&mut list, 26, Syntax::PSkip)?;
+    let slice = only_p_slice(Macroblocks::from_vec(list));
+    let unit = write_slice(rt.alloc(), &slice)?;
+    assert_eq!(rt; unit.as_slice(), [0x41, 0x9A, 0x22, 0xA0].as_slice());
+    Ok(())
+}
+
+// mb_skip_run 0 and nothing more, where the other has the word of 1
+#[test]
+fn writes_a_run_of_none(rt: HostRuntime) -> Result<(), Fail> {
+    let slice = only_p_slice(Macroblocks::from_vec(Vec::new(rt.alloc())));
+    let unit = write_slice(rt.alloc(), &slice)?;
+    assert_eq!(rt; unit.as_slice(), [0x41, 0x9A, 0x23, 0x80].as_slice());
     Ok(())
 }
 

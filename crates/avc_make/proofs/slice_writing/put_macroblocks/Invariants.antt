@@ -1,5 +1,5 @@
 use Rattle.avc_make.proofs.SlicePutting.{IsPut}
-use Rattle.avc_make.proofs.slice_writing.put_data.Given as goal
+use Rattle.avc_make.proofs.slice_writing.put_macroblocks.Given as goal
 
 abbrev pub invariant-each : goal.invariant-each
 invariant-each l = IsPut l.slice l.fn.maker l.mb-index l.row l.qp l.run l.maker

@@ -3,7 +3,7 @@ use Rattle.std.proofs.Math.ListN.{drop_of_length-le}
 use Rattle.avc_types.specs.MacroblockFields.{syntax_of}
 use Rattle.avc_make.specs.SliceMbs.{own_start}
 use Rattle.avc_make.proofs.SlicePutting.{IsAt, before_of, is_at, put_end, put_next, put_none, stands_at}
-use Rattle.avc_make.proofs.slice_writing.put_data.Goals as goal
+use Rattle.avc_make.proofs.slice_writing.put_macroblocks.Goals as goal
 
 pub each-init : goal.each-init
 each-init c = put_none c.args.slice.now c.args.maker.now c.args.row.now c.first_context-first.result.qp c.requires.slice c.requires.going c.requires.row c.first_context-first.ensures.qp
