@@ -1,9 +1,9 @@
 #!/bin/sh
 # Runs the built program and compares what it writes, its standard error and its status with what must come. NAME.264 is a stream,
 # NAME.md5 the md5 of its pictures as I420, NAME.early, where there is one, the other md5 that `decode --early` gives, NAME.refused,
-# where there is one, the standard error with status 1 (else nothing is written there, and the status is 0), and NAME.units, where
-# there is one, what `units` writes. Words and faults of reading and writing are tried after that. The last line is
-# 'N passed, M failed'.
+# where there is one, the standard error with status 1 (else nothing is written there, and the status is 0), NAME.units,
+# NAME.headers and NAME.info, where there are such, what these commands write, and NAME.piece_0 and so on all pieces that `cut`
+# writes. Words and faults of reading and writing are tried after that. The last line is 'N passed, M failed'.
 set -u
 here=$(cd "$(dirname "$0")" && pwd)
 program=$here/../avcdec
@@ -124,10 +124,28 @@ for stream in "$here"/*/*.264; do
         "$program" decode --early <"$stream" >"$work/pictures" 2>"$work/told"
         holds "early: ${name#"$here"/}" is_decoded "$early" $? "$wanted" "$refused"
     fi
-    if [ -f "$name.units" ]; then
-        "$program" units <"$stream" >"$work/lines" 2>"$work/told"
-        judge "units of ${name#"$here"/}" $? 0 ''
-        holds "lines of ${name#"$here"/}" cmp -s "$work/lines" "$name.units"
+    for command in units headers info; do
+        if [ -f "$name.$command" ]; then
+            "$program" "$command" <"$stream" >"$work/lines" 2>"$work/told"
+            judge "$command of ${name#"$here"/}" $? 0 ''
+            holds "lines of ${name#"$here"/}" cmp -s "$work/lines" "$name.$command"
+        fi
+    done
+    number=0
+    while [ -f "$name.piece_$number" ]; do
+        "$program" cut "$number" <"$stream" >"$work/piece" 2>"$work/told"
+        judge "piece $number of ${name#"$here"/}" $? 0 ''
+        holds "its bytes" cmp -s "$work/piece" "$name.piece_$number"
+        "$program" decode <"$work/piece" >"$work/pictures" 2>"$work/told"
+        judge "its pictures" $? 0 ''
+        holds "its picture, which is 16x16" [ "$(wc -c <"$work/pictures")" = 384 ]
+        number=$((number + 1))
+    done
+    if [ "$number" -gt 0 ]; then
+        "$program" cut "$number" <"$stream" >"$work/piece" 2>"$work/told"
+        judge "no further piece of ${name#"$here"/}" $? 1 "avcdec: no piece $number
+"
+        holds "nothing is written" [ ! -s "$work/piece" ]
     fi
 done
 
@@ -150,6 +168,11 @@ for stream in "$here"/encoder/*.264; do
     dd bs=1 if="$stream" 2>/dev/null | "$program" decode >"$work/pictures" 2>"$work/told"
     holds "byte by byte: ${stream#"$here"/}" is_decoded "${stream%.264}.md5" 0 0 /dev/null
 done
+
+# more reads of one byte than a read may have bytes
+grey=$here/listing/two_pieces
+{ head -c 65537 /dev/zero && cat "$grey.264"; } | dd bs=1 2>/dev/null | "$program" decode >"$work/pictures" 2>"$work/told"
+holds "many reads" is_decoded "$grey.md5" 0 0 /dev/null
 
 for name in \
     encoder/pub_c_sizes encoder/pub_o_idr_idstrat encoder/pub_o_idr_listing encoder/pub_o_ltr_rec encoder/pub_o_screen_ltr \
@@ -198,6 +221,33 @@ for command in units headers; do
     holds "$command of a stream that goes on" [ -s "$work/lines" ]
     exec 9>&-
     wait
+done
+
+# a piece ends where the next begins, though the stream goes on
+pieces=$here/encoder/pub_x_keyint3.264
+"$program" cut 0 "$pieces" >"$work/piece"
+timeout 20 "$program" cut 0 <"$work/live" >"$work/written" 2>"$work/told" &
+cutting=$!
+exec 9>"$work/live"
+cat "$pieces" >&9
+wait "$cutting"
+judge 'cut 0 of a stream that goes on' $? 0 ''
+holds 'the whole piece' cmp -s "$work/written" "$work/piece"
+exec 9>&-
+
+# a stream without an end, whose first picture is the only one of type 5
+endless() {
+    cat "$picture"
+    while printf '\000\000\001\101\232\042\240'; do :; done
+}
+
+# whoever reads the first of it ends a command with a write fault, though the stream goes on
+for command in units headers 'cut 0'; do
+    # shellcheck disable=SC2086
+    endless 2>/dev/null | { timeout 20 "$program" $command 2>"$work/told"; echo $? >"$work/status"; } | head -c 100 >"$work/written"
+    judge "$command for a reader that ends" "$(cat "$work/status")" 3 'avcdec: write fault
+'
+    holds "100 bytes by $command" [ "$(wc -c <"$work/written")" = 100 ]
 done
 
 some_md5=d41d8cd98f00b204e9800998ecf8427e

@@ -3,13 +3,14 @@ use Rattle.std.specs.Prelude.{◌≡◌, ℕ, Bool, true, false, List, Option, S
 use Rattle.avc_run.specs.Output.{Output}
 use Rattle.avc_run.specs.Output.TheVariants.{Early, Full}
 use Rattle.avc_cli.specs.declared.request.Command.{Command}
-use Rattle.avc_cli.specs.declared.request.Command.TheVariants.{Cut, Decode, Headers, Units}
+use Rattle.avc_cli.specs.declared.request.Command.TheVariants.{Cut, Decode, Headers, Info, Units}
 
 -- the word that names a command
 abbrev pub word_of : Command → List ℕ
 word_of Decode = codes "decode"
 word_of Units = codes "units"
 word_of Headers = codes "headers"
+word_of Info = codes "info"
 word_of Cut = codes "cut"
 
 -- The word names this command, or none.

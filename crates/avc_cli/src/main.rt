@@ -6,6 +6,7 @@ mod request;
 mod tests;
 
 use avc_formats::{Selected, decode_as, decode_md5, verify};
+use avc_info::info;
 use avc_run::{
     Answer, Ending, I420, RunFault, answer_status, cut, decode, fault_line, fault_status, headers,
     units,
@@ -66,6 +67,7 @@ fn carry_out_between<R: Read, W: Write>(
         Task::Show(showing) => show(alloc, showing, reader, writer, &mut errors),
         Task::Units => units(alloc, reader, writer, &mut errors),
         Task::Headers => headers(alloc, reader, writer, &mut errors),
+        Task::Info => info(alloc, reader, writer, &mut errors),
         Task::Cut(number) => cut(alloc, number, reader, writer, &mut errors),
     };
     ending.status

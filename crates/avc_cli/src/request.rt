@@ -38,6 +38,9 @@ pub enum Task {
     /// A line for each parameter set and slice.
     Headers,
 
+    /// What the headers say of the stream.
+    Info,
+
     /// The piece of this number.
     Cut(u32),
 }
@@ -78,6 +81,7 @@ enum Command {
     Decode,
     Units,
     Headers,
+    Info,
     Cut,
 }
 
@@ -86,6 +90,8 @@ const DECODE: &str = "decode";
 const UNITS: &str = "units";
 
 const HEADERS: &str = "headers";
+
+const INFO: &str = "info";
 
 const CUT: &str = "cut";
 
@@ -131,6 +137,11 @@ fn grammar<'a>(alloc: Global) -> Result<Grammar<'a>, Error> {
     let headers = Grammar::new(alloc, HEADERS)
         .about("Prints a line for each parameter set and slice")
         .after_help("Example: avcdec headers in.264 | grep sps");
+    let info = Grammar::new(alloc, INFO)
+        .about(
+            "Prints the size, profile, level and frame rate, and counts of pictures and slices, without decoding",
+        )
+        .after_help("Example: avcdec info in.264");
     Ok(
         Grammar::new(alloc, "avcdec")
             .bin_name("avcdec")?
@@ -141,6 +152,7 @@ fn grammar<'a>(alloc: Global) -> Result<Grammar<'a>, Error> {
             .subcommand(decode_grammar(alloc)?)?
             .subcommand(units.arg(input(alloc))?)?
             .subcommand(headers.arg(input(alloc))?)?
+            .subcommand(info.arg(input(alloc))?)?
             .subcommand(cut_grammar(alloc)?)?,
     )
 }
@@ -236,6 +248,7 @@ fn command_named(name: &str) -> Option<Command>
         DECODE => Some(Command::Decode),
         UNITS => Some(Command::Units),
         HEADERS => Some(Command::Headers),
+        INFO => Some(Command::Info),
         CUT => Some(Command::Cut),
         _ => None,
     }
@@ -254,6 +267,7 @@ fn task_of(command: Command, matches: &ArgMatches<'_>) -> Option<Task> {
         Command::Decode => showing_of(matches).map(task_of_showing),
         Command::Units => Some(Task::Units),
         Command::Headers => Some(Task::Headers),
+        Command::Info => Some(Task::Info),
         Command::Cut => {
             let number = matches.get_one::<u32>(NUMBER)?;
             Some(Task::Cut(number))
@@ -320,7 +334,7 @@ fn request_of<'a>(name: &str, matches: &ArgMatches<'a>) -> Option<Request<'a>> {
     let task = task_of(command, matches)?;
     let output = match command {
         Command::Decode | Command::Cut => word(matches, OUTPUT),
-        Command::Units | Command::Headers => None,
+        Command::Units | Command::Headers | Command::Info => None,
     };
     Some(Request {
         task,

@@ -112,6 +112,7 @@ fn takes_words(rt: HostRuntime) -> Result<(), Fail> {
         ),
         ("avcdec units --early", Err((ErrorKind::UnknownArgument, 2))),
         ("avcdec units", plain(Task::Units)),
+        ("avcdec info", plain(Task::Info)),
         (
             "avcdec headers in.264",
             Ok(Request {

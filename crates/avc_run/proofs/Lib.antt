@@ -1,4 +1,4 @@
-pub mod Reading
+pub mod OnePiece
 pub mod Draining
 pub mod Feeding
 pub mod Running
@@ -6,4 +6,4 @@ pub mod Plain
 pub mod Lines
 pub mod StreamWriting
 pub mod Telling
-mod Untold
+pub mod Untold

@@ -1,5 +1,5 @@
 -- Writing a text of a stream, piece after piece.
-use Rattle.std.specs.Prelude.{◌≡◌, ℕ, suc, ◌+◌, ◌^◌, ◌<◌, ◌≤◌, Bool, true, false, if◌then◌else◌, List, [], ◌∷◌, ◌++◌, length, take, Option, Err}
+use Rattle.std.specs.Prelude.{◌≡◌, ℕ, suc, ◌+◌, ◌^◌, ◌<◌, ◌≤◌, Bool, true, false, if◌then◌else◌, List, [], ◌∷◌, ◌++◌, length, take, Option, Ok, Err, refl}
 use Rattle.std.proofs.Common.{ap, sym, subst, ◌∙◌, arith, append-nil, length-append}
 use Rattle.std.specs.Io.KnownBytes.{Appends, Consumes, IsAtEnd}
 use Rattle.std.proofs.KnownBytes.{Appends-nil, Appends-trans, Consumes-nil, Consumes-trans}
@@ -7,7 +7,7 @@ use Rattle.std.proofs.lemmas.List.{take-append-le, take-take}
 use Rattle.avc_tools.specs.Streams.{OnlyGrows, StreamSoFar, after_end, after_piece}
 use Rattle.avc_run.specs.Listing.{Lists}
 use Rattle.avc_run.specs.Reading.{HasRead}
-use Rattle.avc_run.specs.StreamWriting.{IsStopped, IsWriting, StopsWriting}
+use Rattle.avc_run.specs.StreamWriting.{IsStopped, IsWhole, IsWriting, IsWrittenOn, StopsWriting}
 use Rattle.avc_run.specs.declared.fault.RunFault.{RunFault}
 use Rattle.avc_run.specs.declared.fault.RunFault.TheVariants.{Write, Memory}
 
@@ -120,3 +120,44 @@ stopped_at_end text now_text fault n s unread left left' w0 w w' len piece i sam
 pub same_front : (len full : ℕ) (new rest now : List ℕ) → now ≡ take full (new ++ rest) → len ≤ length new → len ≤ full → take len now ≡ take len new
 same_front len full new rest now is within room =
     ap (λ l. take len l) is ∙ take-take len full (new ++ rest) room ∙ take-append-le len new rest within
+
+-- ---- where a run ends well
+
+-- nothing more is written
+pub whole_by_over : (text : Text) (over now_over : List ℕ → (ended : Bool) → Bool) (n : ℕ) (s : StreamSoFar) (unread left w0 w : Option (List ℕ)) (is_over : Bool) → IsWriting text n s unread left w0 w → n < 2 ^ 32
+    → now_over ≡ over → (s.failed ≡ false → length s.bytes < 2 ^ 64 → is_over ≡ now_over s.bytes s.ended) → is_over ≡ true → IsWhole text over s unread left w0 w
+whole_by_over text over now_over n s unread left w0 w is_over i low same tells it_is =
+    let short : length s.bytes < 2 ^ 64 = omega (arith, i.short, low) in
+    record {
+      has_read = record { consumed = i.consumed; whole = λ all. cc (all, i.open_end) };
+      is_over = λ open_end. ap (λ e. over s.bytes e) (sym open_end) ∙ ap (λ (f : List ℕ → Bool → Bool). f s.bytes s.ended) (sym same) ∙ sym (tells i.going short) ∙ it_is;
+      going = i.going;
+      short = short;
+      written = subst (λ e. Appends w0 w (text s.bytes e)) (sym i.open_end) i.written;
+    }
+
+-- at the end
+pub whole_at_end : (text now_text : Text) (over : List ℕ → (ended : Bool) → Bool) (n : ℕ) (s now : StreamSoFar) (unread left left' w0 w w' : Option (List ℕ)) (len : ℕ) (piece : List ℕ)
+    → IsWriting text n s unread left w0 w → n < 2 ^ 32 → now_text ≡ text → len ≡ 0 → Consumes left left' (take len piece) → IsAtEnd left' → now ≡ after_end s
+    → IsWrittenOn now_text s (after_end s) w w' → IsWhole text over now unread left' w0 w'
+whole_at_end text now_text over n s now unread left left' w0 w w' len piece i low same none more at_end is on =
+    let defined : text s.bytes true ≡ text s.bytes false ++ on.added =
+    ap (λ (f : Text). f s.bytes true) (sym same) ∙ on.defined ∙ ap (λ (f : Text). f s.bytes s.ended ++ on.added) same
+    ∙ ap (λ x. text s.bytes x ++ on.added) i.open_end in
+    subst (λ t. IsWhole text over t unread left' w0 w') (sym is) (record {
+      has_read = record { consumed = nothing_more unread left left' s.bytes piece len i.consumed none more; whole = λ all. at_end };
+      is_over = λ open_end. cc open_end;
+      going = i.going;
+      short = omega (arith, i.short, low);
+      written = subst (Appends w0 w') (sym defined) (Appends-trans w0 w w' (text s.bytes false) on.added i.written on.written);
+    })
+
+-- a text that is never over has been written to the end of the stream
+to_end : (ended : Bool) → (ended ≡ false → false ≡ true) → ended ≡ true
+to_end true never = refl
+to_end false never = cc (never refl)
+
+pub listed : (text : Text) (s : StreamSoFar) (unread left held holds : Option (List ℕ)) → IsWhole text (λ bytes ended. false) s unread left held holds → Lists text unread left held holds (Ok tt)
+listed text s unread left held holds all =
+    let ended = to_end s.ended all.is_over in
+    (s.bytes, subst (HasRead unread left s.bytes) ended all.has_read, subst (λ e. Appends held holds (text s.bytes e)) ended all.written)

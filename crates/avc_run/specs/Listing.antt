@@ -1,7 +1,8 @@
 -- What `units`, `headers` and `cut` write.
-use Rattle.std.specs.Prelude.{◌≡◌, ℕ, ◌≤◌, ◌^◌, Bool, true, false, List, [], length, slice_index_or, Option, Result, Ok, Err}
-use Rattle.std.specs.Io.KnownBytes.{Appends, Keeps}
+use Rattle.std.specs.Prelude.{◌≡◌, ℕ, ◌≤◌, ◌^◌, Bool, true, false, List, [], ◌++◌, length, slice_get, Option, is_some, Result, Ok, Err}
+use Rattle.std.specs.Io.KnownBytes.{Appends}
 use Rattle.avc_tools.specs.Pieces.{pieces}
+use Rattle.avc_tools.specs.PieceSoFar.{bytes_of, piece_text}
 use Rattle.avc_run.specs.Reading.{HasRead, WritesFirst, WritesSome}
 use Rattle.avc_run.specs.declared.fault.RunFault.{RunFault}
 use Rattle.avc_run.specs.declared.fault.RunFault.TheVariants.{Read, Endless, Write, Memory, Size}
@@ -22,17 +23,16 @@ Lists text unread left held holds (Err Size) = ⊥
 Lists text unread left held holds (Err Read) =
     (bytes : List ℕ) × HasRead unread left bytes false × Appends held holds (text bytes false)
 
--- the piece of a number, counted from 0; where there is none, no bytes
-abbrev pub numbered : List (List ℕ) → (number : ℕ) → List ℕ
-numbered pieces number = slice_index_or pieces number []
+-- This is the piece of a number of the stream that these bytes are, where they are all, or that begins with them, whatever follows.
+abbrev pub IsPieceOf : (number : ℕ) (bytes : List ℕ) (all : Bool) → Option (List ℕ) → Type 0
+IsPieceOf number bytes all piece =
+    (more : List ℕ) → (all ≡ true → more ≡ []) → slice_get (pieces (bytes ++ more)) number ≡ piece
 
--- The piece of this number of all bytes that the reader had is written, and how many there are is answered; after a write fault
--- fewer than all of its bytes, and where reading failed or no memory was found, none.
-abbrev pub Cuts : (number : ℕ) (unread left held holds : Option (List ℕ)) → Result ℕ RunFault → Type 0
-Cuts number unread left held holds (Ok count) =
-    (bytes : List ℕ) × HasRead unread left bytes true × Appends held holds (numbered (pieces bytes) number) × (count ≡ length (pieces bytes))
-Cuts number unread left held holds (Err Write) = (bytes : List ℕ) × HasRead unread left bytes true × WritesFirst held holds (numbered (pieces bytes) number)
-Cuts number unread left held holds (Err Read) = (bytes : List ℕ) × HasRead unread left bytes false × Keeps held holds
-Cuts number unread left held holds (Err Endless) = (bytes : List ℕ) × HasRead unread left bytes false × Keeps held holds × (2 ^ 32 ≤ length bytes)
-Cuts number unread left held holds (Err Memory) = (bytes : List ℕ) × HasRead unread left bytes false × Keeps held holds
-Cuts number unread left held holds (Err Size) = ⊥
+-- The piece of this number, counted from 0, of all bytes that the reader had is written, if there is one, and whether there is one is
+-- answered. Where the bytes that were read decide it, whatever follows them, the others may be left. After a fault the same is
+-- written as in `units`, of what belongs to the piece whatever follows.
+abbrev pub Cuts : (number : ℕ) (unread left held holds : Option (List ℕ)) → Result Bool RunFault → Type 0
+Cuts number unread left held holds (Ok found) =
+    (bytes : List ℕ) × (all : Bool) × (piece : Option (List ℕ)) × HasRead unread left bytes all × IsPieceOf number bytes all piece
+    × Appends held holds (bytes_of piece) × (found ≡ is_some piece)
+Cuts number unread left held holds (Err fault) = Lists (piece_text number) unread left held holds (Err fault)

@@ -1,5 +1,5 @@
 -- What the program tells on the standard error.
-use Rattle.std.specs.Prelude.{ℕ, nat_lt, if◌then◌else◌, List, ◌∷◌, ◌++◌, [], Result, Ok, Err, codes}
+use Rattle.std.specs.Prelude.{ℕ, Bool, if◌then◌else◌, List, ◌∷◌, ◌++◌, [], Result, Ok, Err, codes}
 use Rattle.std.specs.List.{flat_map}
 use Rattle.std.specs.Fmt.{decimal}
 use Rattle.avc_types.specs.declared.fault.Fault.{Fault}
@@ -38,6 +38,6 @@ text_of (Err fault) = fault_line fault
 abbrev pub no_piece_line : (number : ℕ) → List ℕ
 no_piece_line number = codes "avcdec: no piece " ++ decimal number ++ newline
 
--- where there are so many pieces
-abbrev pub piece_text : (number count : ℕ) → List ℕ
-piece_text number count = if nat_lt number count then [] else no_piece_line number
+-- where one has it or not
+abbrev pub cut_text : (number : ℕ) → (found : Bool) → List ℕ
+cut_text number found = if found then [] else no_piece_line number

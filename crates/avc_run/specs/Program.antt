@@ -6,7 +6,7 @@ use Rattle.avc_run.specs.Decoding.{Decodes}
 use Rattle.avc_run.specs.Listing.{Cuts, Lists}
 use Rattle.avc_run.specs.Reading.{WritesFirst}
 use Rattle.avc_run.specs.Status.{cut_status_of, status_of, units_status}
-use Rattle.avc_run.specs.Messages.{fault_line, piece_text, text_of}
+use Rattle.avc_run.specs.Messages.{cut_text, fault_line, text_of}
 use Rattle.avc_run.specs.declared.exit.Ending.{Ending}
 use Rattle.avc_run.specs.declared.fault.RunFault.{RunFault}
 use Rattle.avc_run.specs.declared.fault.RunFault.TheVariants.{Memory}
@@ -53,13 +53,13 @@ pub record EndsListing (text : List ℕ → (ended : Bool) → List ℕ) (unread
   pub tells : TellsListing run before now ending
 
 -- what `cut` tells on the standard error
-abbrev pub cut_text : (number : ℕ) → Result ℕ RunFault → List ℕ
-cut_text number (Ok count) = piece_text number count
-cut_text number (Err fault) = fault_line fault
+abbrev pub cut_text_of : (number : ℕ) → Result Bool RunFault → List ℕ
+cut_text_of number (Ok found) = cut_text number found
+cut_text_of number (Err fault) = fault_line fault
 
 -- the same of `cut`
 pub record EndsCutting (number : ℕ) (unread left held holds before now : Option (List ℕ)) (ending : Ending) : Type 0 where
-  pub run : Result ℕ RunFault
+  pub run : Result Bool RunFault
   pub cuts : Cuts number unread left held holds run
-  pub status_is : ending.status ≡ cut_status_of number run
-  pub told : Tells before now (cut_text number run) ending.told
+  pub status_is : ending.status ≡ cut_status_of run
+  pub told : Tells before now (cut_text_of number run) ending.told

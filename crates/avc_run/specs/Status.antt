@@ -1,5 +1,5 @@
 -- What the program tells by its exit status.
-use Rattle.std.specs.Prelude.{ℕ, nat_lt, if◌then◌else◌, List, [], ◌∷◌, Result, Ok, Err}
+use Rattle.std.specs.Prelude.{ℕ, Bool, if◌then◌else◌, List, [], ◌∷◌, Result, Ok, Err}
 use Rattle.avc_types.specs.declared.fault.Fault.{Fault}
 use Rattle.avc_run.specs.declared.fault.RunFault.{RunFault}
 use Rattle.avc_run.specs.declared.fault.RunFault.TheVariants.{Read, Endless, Write, Memory, Size}
@@ -30,14 +30,14 @@ abbrev pub units_status : Result (Unit {0}) RunFault → ℕ
 units_status (Ok _) = 0
 units_status (Err fault) = fault_status fault
 
--- 1 where no piece has this number
-abbrev pub cut_status : (pieces number : ℕ) → ℕ
-cut_status pieces number = if nat_lt number pieces then 0 else 1
+-- 1 where no piece has the number
+abbrev pub cut_status : (found : Bool) → ℕ
+cut_status found = if found then 0 else 1
 
 -- after cutting out a piece
-abbrev pub cut_status_of : (number : ℕ) → Result ℕ RunFault → ℕ
-cut_status_of number (Ok count) = cut_status count number
-cut_status_of number (Err fault) = fault_status fault
+abbrev pub cut_status_of : Result Bool RunFault → ℕ
+cut_status_of (Ok found) = cut_status found
+cut_status_of (Err fault) = fault_status fault
 
 -- after words that name nothing to do
 abbrev pub answer_status : Result Answer RunFault → ℕ

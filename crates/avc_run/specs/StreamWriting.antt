@@ -33,10 +33,10 @@ pub record IsWriting (text : List ℕ → (ended : Bool) → List ℕ) (reads : 
   pub short : length s.bytes ≤ 65536 * reads
   pub written : Appends held holds (text s.bytes false)
 
--- All bytes were read, and the text of the stream is written.
-pub record IsWhole (text : List ℕ → (ended : Bool) → List ℕ) (s : StreamSoFar) (unread left held holds : Option (List ℕ)) : Type 0 where
-  pub has_read : HasRead unread left s.bytes true
-  pub ended : s.ended ≡ true
+-- All bytes were read, or so many that the text is over, and the text that they have is written.
+pub record IsWhole (text : List ℕ → (ended : Bool) → List ℕ) (over : List ℕ → (ended : Bool) → Bool) (s : StreamSoFar) (unread left held holds : Option (List ℕ)) : Type 0 where
+  pub has_read : HasRead unread left s.bytes s.ended
+  pub is_over : s.ended ≡ false → over s.bytes false ≡ true
   pub going : s.failed ≡ false
   pub short : length s.bytes < 2 ^ 64
-  pub written : Appends held holds (text s.bytes true)
+  pub written : Appends held holds (text s.bytes s.ended)

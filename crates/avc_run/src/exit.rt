@@ -51,11 +51,11 @@ pub fn status(run: &Result<Report, RunFault>) -> u8
     }
 }
 
-/// The exit status after `cut`: 0 where there are so many pieces that one has this number, counted from 0, and else 1.
-pub fn cut_status(pieces: usize, number: u64) -> u8
-    ensures { result ≡ cut_status pieces number }
+/// The exit status after `cut`: 0 where a piece has the number, and else 1.
+pub fn cut_status(found: bool) -> u8
+    ensures { result ≡ cut_status found }
 {
-    if number < pieces as u64 { 0 } else { 1 }
+    if found { 0 } else { 1 }
 }
 
 /// The exit status after words that name nothing to do: 0 after help, 2 where they are not taken, and that of the fault where

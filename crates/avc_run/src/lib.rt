@@ -1,6 +1,7 @@
 //! What the program does with a byte stream, what it tells of it, and how it ends.
 #![tactic(auto)]
 
+mod cutting;
 mod decoding;
 mod exit;
 mod fault;
@@ -16,11 +17,13 @@ mod streaming;
 mod tests;
 
 pub use avc_decoder::Output;
+pub use cutting::run_cut;
 pub use decoding::{run, run_as};
 pub use exit::{Answer, Ending, answer_status, cut_status, fault_status, status};
 pub use fault::RunFault;
 pub use format::{I420, PictureFormat};
-pub use listing::{run_cut, run_headers, run_units};
+pub use listing::{run_headers, run_units};
 pub use messages::{fault_line, refusal_lines};
 pub use program::{cut, decode, end_listing, headers, tell, units};
 pub use report::{Refusals, Report};
+pub use streaming::write_stream;

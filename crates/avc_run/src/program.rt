@@ -1,15 +1,16 @@
-ghost use Rattle.std.specs.Prelude.{◌≡◌, IfErr, IfOk, OnErr, is_ok, true};
+ghost use Rattle.std.specs.Prelude.{◌≡◌, IfErr, IfOk, OnErr, false, is_ok, true};
 ghost use Rattle.std.specs.Io.KnownBytes.{Keeps};
 ghost use Rattle.avc_tools.specs.Lines.{header_lines_so_far, unit_lines_so_far};
 ghost use Rattle.avc_run.specs.Program.{EndsCutting, EndsDecoding, EndsListing, Tells, TellsListing, TellsRun};
-ghost use Rattle.avc_run.specs.Status.{cut_status, fault_status};
-ghost use Rattle.avc_run.specs.Messages.{fault_line, piece_text, text_of};
+ghost use Rattle.avc_run.specs.Status.{fault_status};
+ghost use Rattle.avc_run.specs.Messages.{cut_text, fault_line, text_of};
 ghost use Rattle.avc_run.specs.declared.fault.RunFault.TheVariants as faults;
 
+use crate::cutting::run_cut;
 use crate::decoding::run;
 use crate::exit::{Ending, cut_status, fault_status, status};
 use crate::fault::RunFault;
-use crate::listing::{run_cut, run_headers, run_units};
+use crate::listing::{run_headers, run_units};
 use crate::messages::{fault_line, no_piece_line, refusal_lines, write_text};
 use crate::report::Report;
 use avc_decoder::Output;
@@ -140,9 +141,9 @@ pub fn cut<R: Read, W: Write, E: Write>(
         (E.contents errors.old) (E.contents errors.new) result }
 {
     match run_cut(alloc, number, reader, writer) {
-        Ok(count) => match write_no_piece(alloc, count, number, errors) {
+        Ok(found) => match write_no_piece(alloc, found, number, errors) {
             Ok(told) => Ending {
-                status: cut_status(count, u64::from(number)),
+                status: cut_status(found),
                 told,
             },
             Err(fault) => fail(fault, errors),
@@ -154,15 +155,15 @@ pub fn cut<R: Read, W: Write, E: Write>(
 // Tells that there is no piece of this number, where there is none. An error is want of memory for the text.
 fn write_no_piece<E: Write>(
     alloc: Global,
-    count: usize,
+    found: bool,
     number: u32,
     errors: &mut E,
 ) -> Result<bool, RunFault>
-    ensures ok { IfOk result (λ told. Tells (E.contents errors.old) (E.contents errors.new) (piece_text number count) told) }
+    ensures ok { IfOk result (λ told. Tells (E.contents errors.old) (E.contents errors.new) (cut_text number found) told) }
     ensures err { IfErr result (λ fault. (fault ≡ faults.Memory) × Keeps (E.contents errors.old) (E.contents errors.new)) }
-    ensures none { OnErr result (cut_status count number ≡ 1) }
+    ensures none { OnErr result (found ≡ false) }
 {
-    if cut_status(count, u64::from(number)) == 0 {
+    if found {
         return Ok(write_what_is_taken("", errors));
     }
     let text = no_piece_line(alloc, number)?;

@@ -10,22 +10,27 @@ use avc_tools::StreamText;
 use std::alloc::Global;
 use std::io::{Read, Write};
 
-/// Reads a byte stream (Annex B) to its end and writes a text of it, each part as soon as the bytes that were read decide it.
-pub(crate) fn write_stream<T: StreamText, R: Read, W: Write>(
+/// Reads a byte stream (Annex B) to its end, or until a text of it is over, and writes the text, each part as soon as the bytes that
+/// were read decide it. Of the stream nothing has come to the text yet.
+pub fn write_stream<T: StreamText, R: Read, W: Write>(
     alloc: Global,
     text: &mut T,
     reader: &mut R,
     writer: &mut W,
 ) -> Result<(), RunFault>
     requires fresh { T.so_far text.old ≡ new_stream }
-    requires nothing { T.text text.old [] false ≡ [] }
-    ensures ok { OnOk result (IsWhole (T.text text.old) (T.so_far text.new) (R.remaining reader.old) (R.remaining reader.new)
-        (W.contents writer.old) (W.contents writer.new)) }
-    ensures err { IfErr result (λ fault. Lists (T.text text.old) (R.remaining reader.old) (R.remaining reader.new)
+    requires nothing { T.text (T.number text.old) [] false ≡ [] }
+    ensures number { OnOk result (T.number text.new ≡ T.number text.old) }
+    ensures ok { OnOk result (IsWhole (T.text (T.number text.old)) (T.over (T.number text.old)) (T.so_far text.new)
+        (R.remaining reader.old) (R.remaining reader.new) (W.contents writer.old) (W.contents writer.new)) }
+    ensures err { IfErr result (λ fault. Lists (T.text (T.number text.old)) (R.remaining reader.old) (R.remaining reader.new)
         (W.contents writer.old) (W.contents writer.new) (Err fault)) }
 {
     let mut piece = zeros(alloc, PIECE)?;
     'pieces: for reads in 0..READS {
+        if text.is_over() {
+            return Ok(());
+        }
         let len = read_once(reader, &mut piece)?;
         if len == 0 {
             finish(text, writer)?;
@@ -45,10 +50,10 @@ fn take_in<T: StreamText, W: Write>(
     requires open_end { (T.so_far text.old).ended ≡ false }
     requires short { length ((T.so_far text.old).bytes ++ piece.now) < 2 ^ 64 }
     ensures so_far { OnOk result (T.so_far text.new ≡ after_piece (T.so_far text.old) piece.now) }
-    ensures text { OnOk result (T.text text.new ≡ T.text text.old) }
-    ensures ok { OnOk result (IsWrittenOn (T.text text.old) (T.so_far text.old) (after_piece (T.so_far text.old) piece.now)
+    ensures number { OnOk result (T.number text.new ≡ T.number text.old) }
+    ensures ok { OnOk result (IsWrittenOn (T.text (T.number text.old)) (T.so_far text.old) (after_piece (T.so_far text.old) piece.now)
         (W.contents writer.old) (W.contents writer.new)) }
-    ensures err { IfErr result (λ fault. IsStopped fault (T.text text.old) (T.so_far text.old) (after_piece (T.so_far text.old) piece.now)
+    ensures err { IfErr result (λ fault. IsStopped fault (T.text (T.number text.old)) (T.so_far text.old) (after_piece (T.so_far text.old) piece.now)
         (W.contents writer.old) (W.contents writer.new)) }
 {
     text.text_only_grows();
@@ -62,9 +67,10 @@ fn finish<T: StreamText, W: Write>(text: &mut T, writer: &mut W) -> Result<(), R
     requires open_end { (T.so_far text.old).ended ≡ false }
     requires short { length (T.so_far text.old).bytes < 2 ^ 64 }
     ensures so_far { OnOk result (T.so_far text.new ≡ after_end (T.so_far text.old)) }
-    ensures ok { OnOk result (IsWrittenOn (T.text text.old) (T.so_far text.old) (after_end (T.so_far text.old))
+    ensures number { OnOk result (T.number text.new ≡ T.number text.old) }
+    ensures ok { OnOk result (IsWrittenOn (T.text (T.number text.old)) (T.so_far text.old) (after_end (T.so_far text.old))
         (W.contents writer.old) (W.contents writer.new)) }
-    ensures err { IfErr result (λ fault. IsStopped fault (T.text text.old) (T.so_far text.old) (after_end (T.so_far text.old))
+    ensures err { IfErr result (λ fault. IsStopped fault (T.text (T.number text.old)) (T.so_far text.old) (after_end (T.so_far text.old))
         (W.contents writer.old) (W.contents writer.new)) }
 {
     text.text_only_grows();

@@ -83,7 +83,12 @@ impl StreamText for HeaderLines {
 
     ghost so_far = { λ l. l };
 
+    ghost number = { λ _. 0 };
+
     ghost text = { λ _. header_lines_so_far };
+
+    // a further unit may have a line
+    ghost over = { λ _ _ _. false };
 
     fn feed(&mut self, piece: &[u8]) -> Result<Vec<u8>, OutOfMemory> {
         units_stay();
@@ -108,6 +113,10 @@ impl StreamText for HeaderLines {
         let lines = lines_of_headers_left(self.alloc, &mut self.splitter, &mut self.table)?;
         self.failed = false;
         Ok(lines.into_bytes())
+    }
+
+    fn is_over(&self) -> bool {
+        false
     }
 
     fn text_only_grows(&self) {

@@ -42,7 +42,7 @@ impl Model for PieceText {
 
 impl PieceText {
     ghost use Rattle.std.specs.Prelude.{◌^◌, ◌<◌, is_some, length};
-    ghost use Rattle.avc_tools.specs.PieceSoFar.{is_over, numbered_piece};
+    ghost use Rattle.avc_tools.specs.PieceSoFar.{numbered_piece};
     ghost use Rattle.avc_tools.specs.Streams.{new_stream};
 
     /// At the start of a stream, for the piece of this number, counted from 0.
@@ -69,25 +69,18 @@ impl PieceText {
             CutPhase::Writing | CutPhase::Over => true,
         }
     }
-
-    /// Whether the next piece has begun too, so that nothing more is written.
-    pub fn is_over(&self) -> bool
-        ensures { self.now.stream.failed ≡ false → length self.now.stream.bytes < 2 ^ 64
-            → result ≡ is_over self.now.number self.now.stream.bytes self.now.stream.ended }
-    {
-        match self.cutter.phase {
-            CutPhase::Waiting | CutPhase::Writing => false,
-            CutPhase::Over => true,
-        }
-    }
 }
 
 impl StreamText for PieceText {
-    ghost use Rattle.avc_tools.specs.PieceSoFar.{piece_text};
+    ghost use Rattle.avc_tools.specs.PieceSoFar.{is_over, piece_text};
 
     ghost so_far = { λ p. p.stream };
 
-    ghost text = { λ p. piece_text p.number };
+    ghost number = { λ p. p.number };
+
+    ghost text = { piece_text };
+
+    ghost over = { is_over };
 
     fn feed(&mut self, piece: &[u8]) -> Result<Vec<u8>, OutOfMemory> {
         units_stay();
@@ -120,6 +113,14 @@ impl StreamText for PieceText {
         self.ended = true;
         self.failed = false;
         Ok(added)
+    }
+
+    /// The next piece has begun.
+    fn is_over(&self) -> bool {
+        match self.cutter.phase {
+            CutPhase::Waiting | CutPhase::Writing => false,
+            CutPhase::Over => true,
+        }
     }
 
     fn text_only_grows(&self) {

@@ -66,7 +66,12 @@ impl StreamText for UnitLines {
 
     ghost so_far = { λ l. l };
 
+    ghost number = { λ _. 0 };
+
     ghost text = { λ _. unit_lines_so_far };
+
+    // a further unit may have a line
+    ghost over = { λ _ _ _. false };
 
     fn feed(&mut self, piece: &[u8]) -> Result<Vec<u8>, OutOfMemory> {
         units_stay();
@@ -91,6 +96,10 @@ impl StreamText for UnitLines {
         let lines = lines_of_units_left(self.alloc, &mut self.splitter)?;
         self.failed = false;
         Ok(lines.into_bytes())
+    }
+
+    fn is_over(&self) -> bool {
+        false
     }
 
     fn text_only_grows(&self) {

@@ -12,7 +12,7 @@ returns-in-Err-write_no_piece g c =
     let memory : c.in-Err-write_no_piece.fault ≡ Memory = c.in-Err-write_no_piece.ensures.err.0 in
     record {
       run = Err Memory;
-      cuts = untold_piece c.args.number c.in-Ok.count _ _ _ _ c.in-Ok.ensures c.in-Err-write_no_piece.ensures.none;
+      cuts = untold_piece c.args.number c.in-Ok.found _ _ _ _ c.in-Ok.ensures c.in-Err-write_no_piece.ensures.none;
       status_is = c.fail.ensures.status ∙ ap fault_status memory;
       told =
           subst (λ fault. Tells (g.E.Write.contents c.args.errors.now) (g.E.Write.contents c.fail.new.errors) (fault_line fault) c.fail.result.told) memory

@@ -2,7 +2,7 @@ use Rattle.std.proofs.Common.{◌≡◌, true, false, is_some, length, ap, sym, 
 use Rattle.avc_tools.specs.Streams.{max_unit}
 use Rattle.avc_tools.specs.PieceSoFar.{PieceSoFar, is_over}
 use Rattle.avc_tools.proofs.PieceTexts.{either_not_over, over_in, tells_over}
-use Rattle.avc_tools.proofs.piece_text.PieceText.is_over.Goals as goal
+use Rattle.avc_tools.proofs.piece_text.PieceTextStreamText.is_over.Goals as goal
 
 pub returns-in-Waiting : goal.returns-in-Waiting
 returns-in-Waiting c =
