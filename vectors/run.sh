@@ -235,14 +235,14 @@ judge 'cut 0 of a stream that goes on' $? 0 ''
 holds 'the whole piece' cmp -s "$work/written" "$work/piece"
 exec 9>&-
 
-# a stream without an end, whose first picture is the only one of type 5
+# a stream without an end, whose second picture is its last of type 5
 endless() {
     cat "$picture"
     while printf '\000\000\001\101\232\042\240'; do :; done
 }
 
 # whoever reads the first of it ends a command with a write fault, though the stream goes on
-for command in units headers 'cut 0'; do
+for command in units headers 'cut 1'; do
     # shellcheck disable=SC2086
     endless 2>/dev/null | { timeout 20 "$program" $command 2>"$work/told"; echo $? >"$work/status"; } | head -c 100 >"$work/written"
     judge "$command for a reader that ends" "$(cat "$work/status")" 3 'avcdec: write fault
