@@ -1,5 +1,5 @@
 -- What the state of a frame buffer says of its frames, and the state once an entry's frame is stored.
-use Rattle.std.proofs.Common.{◌≡◌, ℕ, ◌+◌, ◌<◌, ◌≤◌, true, false, not, ◌||◌, List, [], ◌∷◌, ◌++◌, length, map, Option, Some, None, is_some, Result}
+use Rattle.std.proofs.Common.{◌≡◌, ◌≢◌, ℕ, ◌+◌, ◌<◌, ◌≤◌, true, false, not, ◌||◌, List, [], ◌∷◌, ◌++◌, length, map, Option, Some, None, is_some, Result}
 use Rattle.std.proofs.Common.{Ok, Err, IfErr, refl, ap, ap₂, sym, ◌∙◌, subst, arith}
 use Rattle.std.proofs.lemmas.List.{length-map}
 use Rattle.std.proofs.lemmas.Simd.{map-map}
@@ -24,7 +24,7 @@ use Rattle.avc_marking.specs.Marks.{Marks, marks_after, no_marks, prev_ref_frame
 use Rattle.avc_dpb.specs.declared.arriving_frame.ArrivingFrame.{ArrivingFrame}
 use Rattle.avc_dpb.specs.declared.output.Output.{Output}
 use Rattle.avc_dpb.specs.Bumping.{empty_buffer, remain}
-use Rattle.avc_dpb.specs.Contents.{Contents, IsBuffer, OutputsAll, Stores}
+use Rattle.avc_dpb.specs.Contents.{Contents, IsBuffer, OutputsAll, OutputsSome, Stores}
 use Rattle.avc_dpb.specs.declared.slot.Slot.{Slot}
 use Rattle.avc_dpb.specs.StoredFrame.{shown_frame}
 use Rattle.avc_dpb.proofs.Conserved.{all_held_go_out, holds_at_most}
@@ -221,6 +221,14 @@ emptied_all h c idx previous s out new outputs kept =
           ∙ ap₂ (λ output failed. record { slots = []; frames = []; output = output; failed = failed }) kept (has.buffer).works;
       pictures = has.pictures ∙ ap (filter_map (λ p. shown_frame (frame_at h rs p))) (all_held_go_out b) ∙ pictures_are h rs (all_held c.output h);
     }
+
+-- where none is held, nothing goes out
+pub holds_some : (h : History) (c : Contents (Frame 32)) (idx : Option ℕ) (previous : ℕ) → IsStateAfter h c idx previous → OutputsSome shown_frame c → held_pictures c.output h ≢ []
+holds_some h c idx previous s some =
+    let rs = (s.marks).references in
+    let b = buffer_of c.output h in
+    λ none. some b (length h) (frame_at h rs) s.buffer
+    (ap (filter_map (λ p. shown_frame (frame_at h rs p))) (all_held_go_out b) ∙ pictures_are h rs (all_held c.output h) ∙ none)
 
 pub no_buffer : (output : Output) (c : Contents (Frame 32)) → c ≡ record { slots = []; frames = []; output = output; failed = false } → (frame_of : ℕ → Frame 32) → IsBuffer c empty_buffer 0 frame_of
 no_buffer output c is frame_of = subst (λ c. IsBuffer c empty_buffer 0 frame_of) (sym is) (record { works = refl; orders = refl; holds = refl; frames = refl; rising = tt })

@@ -1,5 +1,5 @@
 -- What a sequence stands for, and how it answers.
-use Rattle.std.specs.Prelude.{◌≡◌, ℕ, Bool, true, false, List, [], map, IfSome, Option, Some, None, Result, Ok, Err}
+use Rattle.std.specs.Prelude.{◌≡◌, ◌≢◌, ℕ, Bool, true, false, List, [], map, IfSome, Option, Some, None, Result, Ok, Err}
 use Rattle.avc_types.specs.declared.fault.Fault.{Fault}
 use Rattle.avc_types.specs.declared.picture.Picture.{Picture}
 use Rattle.avc_types.specs.declared.picture_error.PictureError.{PictureError}
@@ -70,6 +70,10 @@ pub record IsCleared (old : SequenceState) (out : List Picture) (new : SequenceS
   pub going : old.failed ≡ false
   pub state : new ≡ empty_sequence old.output
   pub pictures : out ≡ held_pictures old.output (current_history old)
+
+-- Some picture is held.
+abbrev pub HoldsPictures : SequenceState → Type 0
+HoldsPictures s = held_pictures s.output (current_history s) ≢ []
 
 -- The frames of the buffer are those of some places of the history, and those that are used for reference are the history's.
 pub record AreStoredIn {PAD : ℕ} (history : History) (frames : List (Frame PAD)) : Type 0 where

@@ -1,4 +1,4 @@
-ghost use Rattle.std.specs.Prelude.{◌≡◌, ◌∷◌, ◌++◌, ◌≤◌, false, true, if◌then◌else◌, is_some, length, map, Some};
+ghost use Rattle.std.specs.Prelude.{◌≡◌, ◌≢◌, [], ◌∷◌, ◌++◌, ◌≤◌, false, true, if◌then◌else◌, is_some, length, map, Some};
 ghost use Rattle.std.specs.Prelude.{IfErr, IfOk, OnErr, OnOk};
 ghost use Rattle.avc_types.specs.References.{result_map};
 ghost use Rattle.avc_decoder_core.specs.FrameBufferFields.{entry_of, frame_num_of, history_of, is_dropping, is_output, with_all_marks, OutputsPrior};
@@ -7,6 +7,7 @@ ghost use Rattle.avc_decoder_core.specs.Frames.{coded_frame, frame_of};
 ghost use Rattle.avc_decoder_core.specs.History.{current_in, decoded_picture, is_same_sps, marking_entries};
 ghost use Rattle.avc_decoder_core.specs.History.{marks_of, missing_frame, order_or_0, pasts, picture_entry};
 ghost use Rattle.avc_decoder_core.specs.History.{prior_pictures_of, reorder_limit, sequence_sps};
+ghost use Rattle.avc_decoder_core.specs.Pictures.{held_pictures};
 ghost use Rattle.avc_decoder_core.specs.SequenceState.{AreFramesIn, AreStoredIn};
 ghost use Rattle.avc_marking.specs.Marks.{missing_frame_nums, prev_ref_frame_num};
 ghost use Rattle.avc_decoder_core.specs.Gaps.{IsLongGap, KeepsTheSame, with_history};
@@ -412,10 +413,11 @@ impl FrameBuffer {
         Ok(out)
     }
 
-    /// Hands out all held pictures, and forgets the history.
+    /// Hands out all held pictures, and forgets the history. Where none is held no memory is wanted.
     pub fn empty(&mut self) -> Result<Vec<Picture>, OutOfMemory>
         ensures ok { IfOk result (λ out. IsEmptied self.old out.items self.new) }
         ensures err { OnErr result (self.new.failed ≡ true) }
+        ensures memory { self.old.failed ≡ false → OnErr result (held_pictures self.old.output self.old.history ≢ []) }
     {
         if self.failed {
             return Err(OutOfMemory);

@@ -5,7 +5,7 @@ ghost use Rattle.avc_types.specs.declared.picture_error.PictureError.TheVariants
 ghost use Rattle.avc_decoder_core.specs.History.{history_after_closing, history_at_opening, is_same_sps, pasts, sequence_sps, with_missing};
 ghost use Rattle.avc_decoder_core.specs.Opening.{count_on, counts_over, missing_before, set_with, CountsMissing, CountsPicture, StoresAll};
 ghost use Rattle.avc_decoder_core.specs.SequenceState.{empty_sequence, current_history, Fails, AreFramesIn};
-ghost use Rattle.avc_decoder_core.specs.SequenceState.{AreSizedAs, AreStoredIn, IsCleared, IsClosed};
+ghost use Rattle.avc_decoder_core.specs.SequenceState.{AreSizedAs, AreStoredIn, HoldsPictures, IsCleared, IsClosed};
 ghost use Rattle.avc_decoder_core.specs.SequenceState.{IsOpened, OpenPictureStart};
 ghost use Rattle.avc_params.specs.Within.{IsSps};
 ghost use Rattle.avc_plane.specs.Frames.{padded_planes_of};
@@ -257,10 +257,11 @@ impl Sequence {
     }
 
     /// Hands out all held pictures and forgets the history, with the open picture, if there is one. When pictures go out stays
-    /// as it was.
+    /// as it was. Where no picture is held no memory is wanted.
     pub fn clear(&mut self) -> Result<Vec<Picture>, OutOfMemory>
         ensures ok { IfOk result (λ out. IsCleared self.old out.items self.new) }
         ensures err { OnErr result (self.new.failed ≡ true) }
+        ensures memory { self.old.failed ≡ false → OnErr result (HoldsPictures self.old) }
     {
         if self.failed {
             return Err(OutOfMemory);

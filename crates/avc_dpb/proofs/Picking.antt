@@ -1,6 +1,6 @@
 -- The elements at places, one place after another.
-use Rattle.std.proofs.Common.{◌≡◌, ℕ, ◌+◌, ◌<◌, List, [], ◌∷◌, ◌++◌, length, take, get_or, Option, Some, None, slice_get, ap, ◌∙◌, sym, refl, append-nil}
-use Rattle.std.proofs.lemmas.List.{take_more}
+use Rattle.std.proofs.Common.{arith, ◌≡◌, ◌≢◌, drop, append_assoc, ℕ, ◌+◌, ◌<◌, List, [], ◌∷◌, ◌++◌, length, take, get_or, Option, Some, None, slice_get, Result, Ok, Err, OnErr, ap, ◌∙◌, sym, refl, append-nil}
+use Rattle.std.proofs.lemmas.List.{take_more, take-append-drop}
 use Rattle.std.proofs.lemmas.List.Elements.{filter_map-append}
 use Rattle.std.specs.List.{filter_map, cons_option}
 use Rattle.avc_dpb.specs.Places.{items_at}
@@ -41,3 +41,40 @@ picture_added shown x y out out' is pushed = pushed ∙ ap (λ o. out ++ cons_op
 
 pub nothing_added : {A P : Type 0} (shown : A → Option P) (x : A) (out : List P) → None ≡ shown x → out ≡ out ++ filter_map shown (x ∷ [])
 nothing_added shown x out is = sym (append-nil out) ∙ ap (λ o. out ++ cons_option o []) is
+
+-- ---- some picture
+
+-- it holds after every answer, and so after an error
+pub on_err : {T E P : Type 0} (r : Result T E) → P → OnErr r P
+on_err (Ok x) p = tt
+on_err (Err e) p = p
+
+nil_middle : {P : Type 0} (a b c : List P) → a ++ (b ++ c) ≡ [] → b ≡ []
+nil_middle [] [] c e = refl
+nil_middle [] (x ∷ b) c e = absurd (omega (arith, ap length e))
+nil_middle (x ∷ a) b c e = absurd (omega (arith, ap length e))
+
+-- the picture of one of these places is among their pictures
+pub shows_among : {A P : Type 0} (shown : A → Option P) (places : List ℕ) (i place : ℕ) (xs : List A) → i < length places → place ≡ get_or places i 0
+    → filter_map shown (items_at (place ∷ []) xs) ≢ [] → filter_map shown (items_at places xs) ≢ []
+shows_among {A} {P} shown places i place xs low read some = λ nil. some (nil_middle (shows before) (shows (place ∷ [])) (shows after) (sym all ∙ nil))
+  where
+    before : List ℕ
+    before = take i places
+
+    after : List ℕ
+    after = drop (i + 1) places
+
+    shows : List ℕ → List P
+    shows l = filter_map shown (items_at l xs)
+
+    parts : (l m : List ℕ) → shows (l ++ m) ≡ shows l ++ shows m
+    parts l m = ap (filter_map shown) (items_at-append l m xs) ∙ filter_map-append shown (items_at l xs) (items_at m xs)
+
+    split : places ≡ before ++ ((place ∷ []) ++ after)
+    split =
+        sym (take-append-drop (i + 1) places) ∙ ap (λ l. l ++ after) (take_more places i 0 low ∙ ap (λ p. before ++ p ∷ []) (sym read))
+        ∙ append_assoc before (place ∷ []) after
+
+    all : shows places ≡ shows before ++ (shows (place ∷ []) ++ shows after)
+    all = ap shows split ∙ parts before ((place ∷ []) ++ after) ∙ ap (λ l. shows before ++ l) (parts (place ∷ []) after)

@@ -1,5 +1,5 @@
 -- What the buffer's type holds, and the buffer that it stands for.
-use Rattle.std.specs.Prelude.{◌≡◌, ◌==◌, ℕ, zero, suc, ◌<◌, Bool, false, List, [], ◌∷◌, map, Option, None, Some, slice_get, ◌+◌}
+use Rattle.std.specs.Prelude.{◌≡◌, ◌≢◌, ◌==◌, ℕ, zero, suc, ◌<◌, Bool, false, List, [], ◌∷◌, map, Option, None, Some, slice_get, ◌+◌}
 use Rattle.std.specs.List.{filter_map, list_any}
 use Rattle.avc_types.specs.declared.references.Mark.{Mark}
 use Rattle.avc_dpb.specs.declared.slot.Slot.{Slot}
@@ -73,6 +73,12 @@ abbrev pub OutputsAll : {T P : Type 0} → (shown : T → Option P) (old : Conte
 OutputsAll {T} {P} shown old out new =
     (b : Buffer) (next : ℕ) (frame_of : ℕ → T) → IsBuffer old b next frame_of →
     HasBuffer shown new out b (with_all_output b) next frame_of
+
+-- Some picture goes out with them.
+abbrev pub OutputsSome : {T P : Type 0} → (shown : T → Option P) (old : Contents T) → Type 0
+OutputsSome {T} {P} shown old =
+    (b : Buffer) (next : ℕ) (frame_of : ℕ → T) → IsBuffer old b next frame_of →
+    filter_map (λ entry. shown (frame_of entry)) (new_output b (with_all_output b)) ≢ []
 
 -- All frames are dropped, and no picture goes out (C.4.4, no_output_of_prior_pics_flag 1).
 abbrev pub DropsAll : {T : Type 0} → (old new : Contents T) → Type 0

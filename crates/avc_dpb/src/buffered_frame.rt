@@ -1,4 +1,4 @@
-ghost use Rattle.std.specs.Prelude.{◌≡◌, Bool, IfOk, Option};
+ghost use Rattle.std.specs.Prelude.{◌≡◌, Bool, true, is_some, IfOk, OnErr, Option};
 ghost use Rattle.avc_types.specs.declared.references.Mark.{Mark as FrameMark};
 
 use avc_types::{Mark, OutOfMemory};
@@ -19,9 +19,10 @@ pub trait BufferedFrame {
     ghost marked: { Self → Option FrameMark → Self };
 
     /// Its picture, with samples of its own: the frame may be needed for reference. One that stands for a missing frame number
-    /// shows nothing.
+    /// shows nothing, and wants no memory.
     fn show(&self, alloc: Global) -> Result<Option<Self::Picture>, OutOfMemory>
-        ensures { IfOk result (λ picture. picture ≡ shown self.now) };
+        ensures picture { IfOk result (λ picture. picture ≡ shown self.now) }
+        ensures memory { OnErr result (is_some (shown self.now) ≡ true) };
 
     /// Whether it is marked as used for reference.
     fn is_reference(&self) -> bool

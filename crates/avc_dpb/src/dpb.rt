@@ -1,9 +1,9 @@
-ghost use Rattle.std.specs.Prelude.{◌≡◌, ◌+◌, ◌<◌, ◌≤◌, ℕ, List, [], ◌∷◌, ◌++◌, true, false, is_some};
+ghost use Rattle.std.specs.Prelude.{◌≡◌, ◌≢◌, ◌+◌, ◌<◌, ◌≤◌, ℕ, List, [], ◌∷◌, ◌++◌, true, false, is_some};
 ghost use Rattle.std.specs.Prelude.{if◌then◌else◌, length, map, slice_get, slice_set, IfOk, OnErr, OnOk};
 ghost use Rattle.std.specs.Prelude.{IsErr, IfSome, Some};
 ghost use Rattle.std.specs.List.{filter, filter_map};
 ghost use Rattle.avc_dpb.specs.Bumping.{empty_buffer};
-ghost use Rattle.avc_dpb.specs.Contents.{DropsAll, IsBuffer, OutputsAll, Stores, is_held_at, with_mark};
+ghost use Rattle.avc_dpb.specs.Contents.{DropsAll, IsBuffer, OutputsAll, OutputsSome, Stores, is_held_at, with_mark};
 ghost use Rattle.avc_dpb.specs.Steps.{IsPlaced, IsReordered};
 ghost use Rattle.avc_dpb.specs.Places.{is_needed, needed_items, items_at, with_references};
 
@@ -116,11 +116,12 @@ impl<T: BufferedFrame + Drop> Dpb<T> {
         Ok(out)
     }
 
-    /// Hands out all held pictures, by bumping, and is then empty (C.4.4).
+    /// Hands out all held pictures, by bumping, and is then empty (C.4.4). Where none is held no memory is wanted.
     pub fn empty(&mut self) -> Result<Vec<T::Picture>, OutOfMemory>
         ensures ok { IfOk result (λ out. OutputsAll T.shown self.old out.items self.new) }
         ensures err { OnErr result (self.new.failed ≡ true) }
         ensures failed { self.old.failed ≡ true → IsErr result }
+        ensures memory { self.old.failed ≡ false → OnErr result (OutputsSome T.shown self.old) }
         ensures kept { self.new.output ≡ self.old.output }
     {
         if self.failed {
@@ -222,7 +223,8 @@ fn pictures<T: BufferedFrame>(
     frames: &[T],
     places: &[usize],
 ) -> Result<Vec<T::Picture>, OutOfMemory>
-    ensures { IfOk result (λ out. out.items ≡ filter_map T.shown (items_at places.now frames.now)) }
+    ensures pictures { IfOk result (λ out. out.items ≡ filter_map T.shown (items_at places.now frames.now)) }
+    ensures memory { OnErr result (filter_map T.shown (items_at places.now frames.now) ≢ []) }
 {
     let mut out = Vec::new(alloc);
     for place in places {
@@ -237,7 +239,8 @@ fn push_picture_at<T: BufferedFrame>(
     place: usize,
     out: &mut Vec<T::Picture>,
 ) -> Result<(), OutOfMemory>
-    ensures { OnOk result (out.new.items ≡ out.old.items ++ filter_map T.shown (items_at (place ∷ []) frames.now)) }
+    ensures pictures { OnOk result (out.new.items ≡ out.old.items ++ filter_map T.shown (items_at (place ∷ []) frames.now)) }
+    ensures memory { OnErr result (filter_map T.shown (items_at (place ∷ []) frames.now) ≢ []) }
 {
     match frames.get(place) {
         Some(frame) => {
@@ -254,7 +257,8 @@ fn push_picture<T: BufferedFrame>(
     frame: &T,
     out: &mut Vec<T::Picture>,
 ) -> Result<(), OutOfMemory>
-    ensures { OnOk result (out.new.items ≡ out.old.items ++ filter_map T.shown (frame.now ∷ [])) }
+    ensures pictures { OnOk result (out.new.items ≡ out.old.items ++ filter_map T.shown (frame.now ∷ [])) }
+    ensures memory { OnErr result (filter_map T.shown (frame.now ∷ []) ≢ []) }
 {
     match frame.show(alloc)? {
         Some(picture) => {

@@ -23,7 +23,7 @@ returns-clause-ok g c =
     goes_early g.T.BufferedFrame.shown g.T.BufferedFrame.referenced c.args.output a slots _ frames _ c.in_ok-out.out.items c.requires.beside many
     (c.remove_needless.ensures.slots ∙ ap (filter is_needed) turned)
     (c.remove_needless.ensures.frames ∙ ap (λ s. needed_items s frames) turned)
-    (c.in_ok-out.ensures ∙ ap₂ (λ p f. filter_map g.T.BufferedFrame.shown (items_at p f))
+    (c.in_ok-out.ensures.pictures ∙ ap₂ (λ p f. filter_map g.T.BufferedFrame.shown (items_at p f))
     (c.as_slice-4.ensures.value ∙ c.hold_few-places.ensures.out ∙ ap (λ s. (outputs (holds_too_many c.args.output a) s).out) set_references) c.as_slice-3.ensures.value)
 
 pub returns-clause-beside : goal.returns-clause-beside

@@ -41,7 +41,7 @@ returns-then-full-clause-ok g c = λ output b next frame_of references h marks i
     c.requires.beside h marks is
     (ap (is_full a.capacity) (sym turned ∙ sym c.as_slice-4.ensures.value) ∙ sym c.is_full-full.ensures ∙ c.if-full.true)
     (ap₂ (contents output) (c.remove_needless.ensures.slots ∙ ap (filter is_needed) turned) (c.remove_needless.ensures.frames ∙ ap (λ s. needed_items s frames) turned))
-    (c.in_ok-out.ensures ∙ ap₂ (λ p f. filter_map g.T.BufferedFrame.shown (items_at p f)) (c.as_slice-3.ensures.value ∙ c.make_room-places.ensures.out ∙ ap (λ s. (outputs (must_bump a) s).out) set_references) c.as_slice-2.ensures.value)
+    (c.in_ok-out.ensures.pictures ∙ ap₂ (λ p f. filter_map g.T.BufferedFrame.shown (items_at p f)) (c.as_slice-3.ensures.value ∙ c.make_room-places.ensures.out ∙ ap (λ s. (outputs (must_bump a) s).out) set_references) c.as_slice-2.ensures.value)
     c.in_ok-at_once.ensures
 
 pub returns-clause-ok : goal.returns-clause-ok
@@ -60,4 +60,4 @@ returns-clause-ok g c = λ output b next frame_of references h marks is.
     (c.push-2.ensures.items ∙ ap (λ o. c.remove_needless.new.slots.items ++ record { order = o; held = a.existing; reference = false } ∷ []) back
     ∙ ap (λ l. l ++ record { order = a.order; held = a.existing; reference = false } ∷ []) (c.remove_needless.ensures.slots ∙ ap (filter is_needed) turned))
     (c.in_ok-push.ensures.items ∙ ap (λ l. l ++ c.args.frame ∷ []) (c.remove_needless.ensures.frames ∙ ap (λ s. needed_items s frames) turned)))
-    (c.in_ok-out.ensures ∙ ap₂ (λ p f. filter_map g.T.BufferedFrame.shown (items_at p f)) (c.as_slice-3.ensures.value ∙ c.make_room-places.ensures.out ∙ ap (λ s. (outputs (must_bump a) s).out) set_references) c.as_slice-2.ensures.value)
+    (c.in_ok-out.ensures.pictures ∙ ap₂ (λ p f. filter_map g.T.BufferedFrame.shown (items_at p f)) (c.as_slice-3.ensures.value ∙ c.make_room-places.ensures.out ∙ ap (λ s. (outputs (must_bump a) s).out) set_references) c.as_slice-2.ensures.value)

@@ -1,8 +1,9 @@
-use Rattle.std.proofs.Common.{◌≡◌, ◌∙◌, ap, ap₂, sym, false}
+use Rattle.std.proofs.Common.{◌≡◌, ◌≢◌, [], ◌∙◌, subst, ap, ap₂, sym, false}
 use Rattle.avc_decoder_core.specs.FrameBufferFields.{history_of}
 use Rattle.avc_decoder_core.specs.FrameBufferState.{empty_frame_buffer}
 use Rattle.avc_decoder_core.specs.Pictures.{held_pictures}
-use Rattle.avc_decoder_core.proofs.State.{emptied_all, empty_state, no_buffer}
+use Rattle.avc_dpb.proofs.Picking.{on_err}
+use Rattle.avc_decoder_core.proofs.State.{emptied_all, empty_state, holds_some, no_buffer}
 use Rattle.avc_decoder_core.proofs.frame_buffer.FrameBuffer.empty.Goals as goal
 
 pub invariant_of-self-2 : goal.invariant_of-self-2
@@ -25,3 +26,12 @@ returns-clause-ok c =
           ∙ ap (λ v. empty_frame_buffer v.output) c.self.view_is;
       pictures = forgotten.pictures ∙ ap (λ v. held_pictures v.output v.history) c.self.view_is;
     }
+
+pub returns-in_err-out-clause-memory : goal.returns-in_err-out-clause-memory
+returns-in_err-out-clause-memory c = λ going.
+    let i = c.self.inside in
+    let h = history_of i.history.items in
+    let state = c.self.invariant c.if-self.false in
+    on_err c.from_residual.result
+    (subst (λ v. held_pictures v.output v.history ≢ []) c.self.view_is
+    (holds_some h i.dpb i.max_long_term_frame_idx i.prev_ref_frame_num state (c.in_err-out.ensures.memory (state.buffer).works)))
