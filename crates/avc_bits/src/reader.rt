@@ -236,8 +236,13 @@ impl<'a> BitReader<'a> {
         ensures below { IfOk result (λ value. value < 2 ^ 32 - 1) }
         ensures stays { OnErr result (self.new ≡ self.old) }
     {
-        let zeros = self.front().zeros;
-        self.ue_after(zeros)
+        let front = self.front();
+        let length = 2 * front.zeros + 1;
+        if length <= front.count {
+            *self = self.after(length);
+            return Ok((front.bits >> (front.count - length)) - 1);
+        }
+        self.ue_after(front.zeros)
     }
 
     // the same, where so many zeros stand in front
