@@ -1,4 +1,4 @@
-ghost use Rattle.std.specs.Prelude.{◌≡◌, ◌+◌, ◌*◌, ◌^◌, ◌<◌, ◌≤◌, IfOk, length, slice_index, slice_range};
+ghost use Rattle.std.specs.Prelude.{◌≡◌, ◌+◌, ◌*◌, ◌^◌, ◌<◌, ◌≤◌, IfOk, length, replicate, slice_index, slice_range};
 ghost use Rattle.avc_plane.specs.Plane.{sample, HasSamples, with_block, with_sample, plane_of};
 ghost use Rattle.avc_plane.specs.Padded.{inner_plane, IsStored};
 
@@ -10,6 +10,21 @@ use crate::padded::PaddedPlane;
 use avc_types::{Bytes, OutOfMemory};
 use std::alloc::Global;
 use std::marker::Model;
+
+/// How many samples are cleared at once: where they are many, the C library takes an instruction that goes from byte to byte.
+const PIECE: usize = 1024;
+
+/// This many zeros.
+fn zeros(alloc: Global, count: usize) -> Result<Vec<u8>, OutOfMemory>
+    ensures { IfOk result (λ zeros. zeros.items ≡ replicate count 0) }
+{
+    let mut zeros = Vec::with_capacity(alloc, count)?;
+    for piece in 0..count / PIECE {
+        zeros.resize(PIECE * piece + PIECE, 0)?;
+    }
+    zeros.resize(count, 0)?;
+    Ok(zeros)
+}
 
 /// A plane of samples, in memory with PAD more on each side. A contract sees it as its size and its samples row by row,
 /// without the padding.
@@ -40,7 +55,7 @@ impl<const PAD: usize> Plane<PAD> {
         requires low { height + 2 * PAD < 2 ^ 31 }
         ensures { IfOk result (λ plane. plane ≡ plane_of width height (λ _ _. 0)) }
     {
-        let stored = vec![in alloc; 0; (height + 2 * PAD) * (width + 2 * PAD)]?;
+        let stored = zeros(alloc, (height + 2 * PAD) * (width + 2 * PAD))?;
         Ok(Plane {
             width,
             height,

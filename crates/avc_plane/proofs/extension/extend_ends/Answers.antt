@@ -2,7 +2,6 @@ use Rattle.std.proofs.Common.{◌≡◌, ℕ, ◌+◌, ◌-◌, ◌*◌, ◌<◌
 use Rattle.std.proofs.lemmas.Nat.{row_fits, mul-le}
 use Rattle.std.proofs.lemmas.Bool.{cases_lt}
 use borrow.Author.Count.{below_more}
-use Rattle.avc_plane.specs.Padded.{nearest}
 use Rattle.avc_plane.proofs.Nearest.{nearest_before, nearest_inside, nearest_after}
 use Rattle.avc_plane.proofs.extension.extend_ends.Goals as goal
 

@@ -1,4 +1,4 @@
-use Rattle.std.proofs.Common.{◌≡◌, ℕ, ◌+◌, ◌*◌, ◌<◌, slice_index, arith, ◌∙◌}
+use Rattle.std.proofs.Common.{◌≡◌, ℕ, ◌+◌, ◌*◌, slice_index, arith, ◌∙◌}
 use Rattle.std.proofs.lemmas.Nat.{row_fits}
 use borrow.Author.Count.{below_more}
 use Rattle.avc_plane.specs.Padded.{nearest}

@@ -1,4 +1,4 @@
-use Rattle.std.proofs.Common.{ℕ, ◌≡◌, ◌+◌, ◌-◌, ◌*◌, ◌∙◌, ◌++◌, List, length, take, drop, slice_range, arith, ap, sym, subst, mul_comm}
+use Rattle.std.proofs.Common.{ℕ, ◌≡◌, ◌+◌, ◌*◌, ◌∙◌, ◌++◌, List, length, take, drop, slice_range, arith, ap, sym, subst, mul_comm}
 use Rattle.std.proofs.Math.Seq.{take-add, take-length}
 use Rattle.avc_plane.specs.Plane.{Plane}
 use Rattle.avc_plane.specs.Padded.{stored_place}

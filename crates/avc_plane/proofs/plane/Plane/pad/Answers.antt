@@ -1,7 +1,7 @@
-use Rattle.std.proofs.Common.{ℕ, ◌≡◌, ◌+◌, ◌*◌, ◌<◌, ◌∙◌, List, length, slice_index, arith, ap, sym, subst}
+use Rattle.std.proofs.Common.{◌≡◌, ◌+◌, ◌*◌, ◌<◌, ◌∙◌, length, arith, ap, sym, subst}
 use Rattle.std.proofs.lemmas.List.{with_items_is}
 use Rattle.avc_plane.specs.Plane.{Plane}
-use Rattle.avc_plane.specs.Padded.{inner_plane, nearest, IsPadded}
+use Rattle.avc_plane.specs.Padded.{inner_plane, IsPadded}
 use Rattle.avc_plane.proofs.Surrounded.{same_plane, surrounded}
 use Rattle.avc_plane.proofs.plane.Plane.pad.Goals as goal
 

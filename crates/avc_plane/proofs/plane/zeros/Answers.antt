@@ -1,0 +1,25 @@
+use Rattle.std.proofs.Common.{ℕ, ◌≡◌, ◌+◌, ◌-◌, ◌*◌, ◌≤◌, ◌++◌, ◌∙◌, List, replicate, take, length, arith, ap}
+use Rattle.std.proofs.lemmas.List.{take_all, length-replicate, replicate-append-replicate}
+use Rattle.avc_plane.proofs.plane.zeros.Goals as goal
+
+-- zeros that are made longer
+lengthened : (zeros : List ℕ) (len m n : ℕ) → zeros ≡ replicate m 0 → len ≡ length zeros → m ≤ n → take n zeros ++ replicate (n - len) 0 ≡ replicate n 0
+lengthened zeros len m n so_far counted longer =
+    let long : length zeros ≡ m = ap length so_far ∙ length-replicate m 0 in
+    ap (λ xs. xs ++ replicate (n - len) 0) (take_all n zeros (omega (arith, long)) ∙ so_far)
+    ∙ replicate-append-replicate m (n - len) 0
+    ∙ ap (λ k. replicate k 0) (omega (arith, long, counted))
+
+pub loop-piece-init : goal.loop-piece-init
+loop-piece-init c = c.in_ok-zeros.ensures.items
+
+pub loop-piece-preserved : goal.loop-piece-preserved
+loop-piece-preserved c =
+    c.in_ok-resize.ensures.items
+    ∙ lengthened c.loop-piece.zeros.items c.loop-piece.zeros.len (1024 * c.loop-piece.piece) (1024 * c.loop-piece.piece + 1024) c.loop-piece.invariant c.loop-piece.zeros.ok.0 (omega arith)
+    ∙ ap (λ n. replicate n 0) (omega arith)
+
+pub returns : goal.returns
+returns c =
+    c.in_ok-resize-2.ensures.items
+    ∙ lengthened c.loop-piece.zeros.items c.loop-piece.zeros.len (1024 * c.loop-piece.piece) c.args.count c.loop-piece.invariant c.loop-piece.zeros.ok.0 (omega (arith, c.loop-piece.auto.piece-end))
