@@ -95,6 +95,32 @@ fn load<const W: usize, const H: usize, const N: usize>(
     samples
 }
 
+// a row by itself
+#[inline(always)]
+fn row_at<const W: usize>(samples: &[u8], from: usize) -> [u8; W]
+    requires { from + W ≤ length samples.now }
+    ensures { (x : ℕ) → x < W → slice_index result x ≡ slice_index samples.now (from + x) }
+{
+    let mut row = [0; W];
+    for x in 0..W {
+        row[x] = samples[from + x];
+    }
+    row
+}
+
+// of a row by itself it is known that it does not overlap the plane, so that it is stored at once
+#[inline(always)]
+fn put_row<const W: usize>(stored: &mut [u8], start: usize, row: &[u8; W])
+    requires { start + W ≤ length stored.old }
+    ensures inside { (x : ℕ) → x < W → slice_index stored.new (start + x) ≡ slice_index row.now x }
+    ensures before { (j : ℕ) → j < start → slice_index stored.new j ≡ slice_index stored.old j }
+    ensures behind { (j : ℕ) → start + W ≤ j → slice_index stored.new j ≡ slice_index stored.old j }
+{
+    for x in 0..W {
+        stored[start + x] = row[x];
+    }
+}
+
 #[inline(always)]
 fn store_row<const W: usize, const COPIES: bool>(
     stored: &mut [u8],
@@ -109,8 +135,7 @@ fn store_row<const W: usize, const COPIES: bool>(
     ensures behind { (j : ℕ) → start + W ≤ j → slice_index stored.new j ≡ slice_index stored.old j }
 {
     if COPIES {
-        // of a known length: a loop over bytes is not made one of vectors, since the two might overlap
-        stored[start..start + W].copy_from_slice(&samples[from..from + W]);
+        put_row::<W>(stored, start, &row_at::<W>(samples, from));
         return;
     }
     for x in 0..W {
