@@ -44,6 +44,7 @@ fn inter(
 
 /// The reference index and the vector of each luma block of a macroblock (8.4.1), in block order. `neighbours` are those of
 /// the macroblock. `VectorRange` where a component of a vector is no 16-bit number.
+#[inline(never)]
 pub fn motion(mb: &Mb, neighbours: &Neighbours<'_>) -> Result<[Motion; 16], Fault>
     ensures { HasMotion (facts_of neighbours.now) mb.now.syntax result }
 {

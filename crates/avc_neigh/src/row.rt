@@ -1,4 +1,4 @@
-ghost use Rattle.std.specs.Prelude.{◌≡◌, ◌+◌, ◌<◌, nat_lt, if◌then◌else◌, IfOk};
+ghost use Rattle.std.specs.Prelude.{◌≡◌, ◌+◌, ◌<◌, nat_lt, if◌then◌else◌, IfOk, Some};
 ghost use Rattle.std.specs.Option.{option_copied};
 ghost use Rattle.avc_neigh.specs.Around.{mb_a, mb_b, mb_c, mb_d, no_facts, of_slice, with_facts};
 
@@ -53,6 +53,23 @@ fn column_after(column: usize, width: usize) -> usize
     ensures { result ≡ (if nat_lt (column + 1) width then column + 1 else 0) }
 {
     if column + 1 < width { column + 1 } else { 0 }
+}
+
+/// Keeps an entry that is about to be written. A call takes it from memory to memory at once.
+fn keep(kept: &mut Option<NeighbourFacts>, entry: &Option<NeighbourFacts>)
+    ensures { kept.new ≡ entry.now }
+{
+    *kept = *entry;
+}
+
+/// Writes facts into an entry: over those that are there, which makes no entry first.
+fn write(entry: &mut Option<NeighbourFacts>, facts: &NeighbourFacts)
+    ensures { entry.new ≡ Some facts.now }
+{
+    match entry {
+        Some(known) => *known = *facts,
+        None => *entry = Some(*facts),
+    }
 }
 
 impl Row {
@@ -124,8 +141,9 @@ impl Row {
     pub fn put(&mut self, facts: &NeighbourFacts)
         ensures { self.new ≡ with_facts self.old facts.now }
     {
-        self.corner = self.entries[self.column];
-        self.entries[self.column] = Some(*facts);
+        let entry = &mut self.entries[self.column];
+        keep(&mut self.corner, entry);
+        write(entry, facts);
         self.column = column_after(self.column, self.entries.len());
         self.facts = self.facts.with(facts);
     }

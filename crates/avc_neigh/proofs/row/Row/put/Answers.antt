@@ -5,5 +5,6 @@ use Rattle.avc_neigh.proofs.row.Row.put.Goals as goal
 
 pub invariant_of-self : goal.invariant_of-self
 invariant_of-self c =
-    keeps_more _ _ _ _ _ c.self.invariant _ _ c.len.result _ c.with-self-inside.ensures (omega (arith, c.len.ensures)) c.column_after-self-inside.ensures
-    (c.index.ensures ∙ get_or_default _ _ _ _ c.self.invariant.inside)
+    rw (c.write.ensures)
+    (keeps_more _ _ _ _ _ c.self.invariant _ _ c.len.result _ c.with-self-inside.ensures (omega (arith, c.len.ensures)) c.column_after-self-inside.ensures
+    (c.keep.ensures ∙ c.index_mut-entry.ensures.value ∙ get_or_default _ _ _ _ c.self.invariant.inside))
