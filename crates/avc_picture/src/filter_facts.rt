@@ -96,6 +96,8 @@ fn vector(motion: Motion) -> Mv
     }
 }
 
+// apart from its callers, so that it is a loop over memory
+#[inline(never)]
 fn vectors(motion: &[Motion; 16]) -> [Mv; 16]
     ensures { result ≡ map motions.vector_of motion.now }
 {
@@ -107,6 +109,7 @@ fn vectors(motion: &[Motion; 16]) -> [Mv; 16]
 }
 
 /// What the filter asks of a macroblock with this motion.
+#[inline(never)]
 pub(crate) fn filter_facts<const PAD: usize>(
     mb: &Mb,
     motion: &[Motion; 16],
