@@ -1,11 +1,10 @@
-ghost use Rattle.std.specs.Prelude.{◌≡◌, ℕ, ◌+◌, ◌*◌, ◌/◌, ◌%◌, ◌<◌, ◌≤◌, slice_index, true};
+ghost use Rattle.std.specs.Prelude.{◌≡◌, ℕ, ◌+◌, ◌*◌, ◌/◌, ◌%◌, ◌<◌, ◌≤◌, slice_index};
 ghost use Rattle.avc_deblock.specs.Line.{threshold_index, alpha_of, beta_of};
 ghost use Rattle.avc_deblock.specs.OneEdge.{tc1_of, AreLimits};
 
 use crate::block::spread;
 use crate::bytes::less;
-use crate::line::{all_three, both, is_zero};
-use crate::lines::repeated;
+use crate::line::{both, is_zero};
 use crate::pair::spread_twice;
 
 // Table 8-16 by index.
@@ -98,13 +97,6 @@ pub(crate) fn tc1(strength: u8, index: u8) -> u8
 }
 
 #[inline(always)]
-fn are_equal(v: &[u8; 4]) -> bool
-    ensures { result ≡ true → (k : ℕ) → k < 4 → slice_index v.now k ≡ slice_index v.now 0 }
-{
-    all_three(v[1] == v[0], v[2] == v[0], v[3] == v[0])
-}
-
-#[inline(always)]
 fn each_tc1(strengths: &[u8; 4], index: u8) -> [u8; 4]
     requires strengths { (k : ℕ) → k < 4 → slice_index strengths.now k < 4 }
     requires index { index < 52 }
@@ -126,11 +118,7 @@ pub(crate) fn luma_tc1s(strengths: &[u8; 4], index: u8) -> [u8; 16]
     ensures value { (k : ℕ) → k < 16 → slice_index result k ≡ tc1_of (slice_index strengths.now (k / 4)) index }
     ensures small { (k : ℕ) → k < 16 → slice_index result k ≤ 26 }
 {
-    if are_equal(strengths) {
-        repeated(tc1(strengths[0], index))
-    } else {
-        spread(&each_tc1(strengths, index))
-    }
+    spread(&each_tc1(strengths, index))
 }
 
 /// That of each of eight lines of chroma, twice.
@@ -141,11 +129,7 @@ pub(crate) fn chroma_tc1s(strengths: &[u8; 4], index: u8) -> [u8; 16]
     ensures value { (k : ℕ) → k < 16 → slice_index result k ≡ tc1_of (slice_index strengths.now (k % 8 / 2)) index }
     ensures small { (k : ℕ) → k < 16 → slice_index result k ≤ 26 }
 {
-    if are_equal(strengths) {
-        repeated(tc1(strengths[0], index))
-    } else {
-        spread_twice(&each_tc1(strengths, index))
-    }
+    spread_twice(&each_tc1(strengths, index))
 }
 
 /// What all lines between macroblocks of two QPs are filtered with (8.7.2.2).
