@@ -1,7 +1,7 @@
 -- The lines of a block of eight rows of sixteen samples, from the rows that are put into it.
 use Rattle.std.proofs.Common.{◌≡◌, ℕ, ◌+◌, ◌*◌, ◌<◌, ◌≤◌, List, slice_index, arith, ap, ◌∙◌, sym, refl}
 use Rattle.avc_deblock.specs.Line.{Setting, filtered}
-use Rattle.avc_deblock.specs.Rows.{line, line_of_rows, line_within, line_inside, line_of, line_across, line_down, IsTransposed, IsRowSet}
+use Rattle.avc_deblock.specs.Rows.{line, line_of_rows, line_within, line_inside, line_of, line_across, line_down, line_near, IsTransposed, IsRowSet, IsNearSet}
 
 pub same_line : (a b c d e f g h a' b' c' d' e' f' g' h' : ℕ) → a ≡ a' → b ≡ b' → c ≡ c' → d ≡ d' → e ≡ e' → f ≡ f' → g ≡ g' → h ≡ h' → line a b c d e f g h ≡ line a' b' c' d' e' f' g' h'
 same_line a b c d e f g h a' b' c' d' e' f' g' h' pa pb pc pd pe pf pg ph = rw (pa, pb, pc, pd, pe, pf, pg, ph) refl
@@ -99,19 +99,31 @@ strong_down s i t p3 p2 p1 p0 q0 q1 q2 q3 n2 n1 n0 m0 m1 m2 a b c d e u low k0 k
     ∙ is
     ∙ sym (same_line _ _ _ _ _ _ _ _ _ _ _ _ _ _ _ _ (c0 ∙ sym (k0 i low)) c1 c2 c3 c4 c5 c6 (c7 ∙ sym (k7 i low)))
 
--- two rows anew, the nearest
-pub chroma_down : (s : Setting) (i : ℕ) (t p1 p0 q0 q1 n0 m0 a u : List ℕ) → i < 16 →
-    IsColumn 2 t p1 → IsColumn 3 t p0 → IsColumn 4 t q0 → IsColumn 5 t q1 →
-    IsRowSet 48 n0 t a → IsRowSet 64 m0 a u →
-    ((p3 p2 q2 q3 : ℕ) → filtered s (line_inside p3 p2 q2 q3 p1 p0 q0 q1 i) ≡ line_inside p3 p2 q2 q3 p1 n0 m0 q1 i) →
-    filtered s (line_down t i) ≡ line_down u i
-chroma_down s i t p1 p0 q0 q1 n0 m0 a u low k2 k3 k4 k5 h1 h2 is =
-    let kept_before : (c : ℕ) → c < 3 → at_column u c i ≡ at_column t c i = λ c h. before c i 64 m0 a u h2 (omega arith) low ∙ before c i 48 n0 t a h1 (omega arith) low in
-    let kept_behind : (c : ℕ) → 4 < c → at_column u c i ≡ at_column t c i = λ c h. behind c i 64 m0 a u h2 (omega arith) ∙ behind c i 48 n0 t a h1 (omega arith) in
-    let c3 = before 3 i 64 m0 a u h2 (omega arith) low ∙ inside 3 i 48 n0 t a h1 (omega arith) low in
-    let c4 = inside 4 i 64 m0 a u h2 (omega arith) low in
-    ap (filtered s)
-    (same_line _ _ _ _ _ _ _ _ (at_column t 0 i) (at_column t 1 i) _ _ _ _ (at_column t 6 i) (at_column t 7 i) refl refl (sym (k2 i low)) (sym (k3 i low)) (sym (k4 i low)) (sym (k5 i low)) refl refl)
-    ∙ is (at_column t 0 i) (at_column t 1 i) (at_column t 6 i) (at_column t 7 i)
+-- two rows anew between two that stay
+pub near_set : (from : ℕ) (n0 m0 t a u : List ℕ) → IsRowSet (from + 16) n0 t a → IsRowSet (from + 32) m0 a u → IsNearSet from t u
+near_set from n0 m0 t a u h1 h2 = record {
+  before = λ k low. h2.before k (omega arith) ∙ h1.before k (omega arith);
+  behind = λ k low. h2.behind k (omega arith) ∙ h1.behind k (omega arith);
+}
+
+pub near_lines : (s : Setting) (from i : ℕ) (t p1 p0 q0 q1 n0 m0 a u : List ℕ) → i < 16 →
+    ((k : ℕ) → k < 16 → slice_index p1 k ≡ slice_index t (from + k)) → ((k : ℕ) → k < 16 → slice_index p0 k ≡ slice_index t (from + 16 + k)) →
+    ((k : ℕ) → k < 16 → slice_index q0 k ≡ slice_index t (from + 32 + k)) → ((k : ℕ) → k < 16 → slice_index q1 k ≡ slice_index t (from + 48 + k)) →
+    IsRowSet (from + 16) n0 t a → IsRowSet (from + 32) m0 a u →
+    (p3 p2 q2 q3 : ℕ) → filtered s (line_inside p3 p2 q2 q3 p1 p0 q0 q1 i) ≡ line_inside p3 p2 q2 q3 p1 n0 m0 q1 i →
+    filtered s (line_near p3 p2 q2 q3 t from i) ≡ line_near p3 p2 q2 q3 u from i
+near_lines s from i t p1 p0 q0 q1 n0 m0 a u low k1 k2 k3 k4 h1 h2 p3 p2 q2 q3 is =
+    let first = h2.before (from + i) (omega arith) ∙ h1.before (from + i) (omega arith) in
+    let second = h2.before (from + 16 + i) (omega arith) ∙ h1.inside i low in
+    let fourth = h2.behind (from + 48 + i) (omega arith) ∙ h1.behind (from + 48 + i) (omega arith) in
+    ap (filtered s) (same_line _ _ _ _ _ _ _ _ p3 p2 _ _ _ _ q2 q3 refl refl (sym (k1 i low)) (sym (k2 i low)) (sym (k3 i low)) (sym (k4 i low)) refl refl)
+    ∙ is
+    ∙ sym (same_line _ _ _ _ _ _ _ _ p3 p2 _ _ _ _ q2 q3 refl refl (first ∙ sym (k1 i low)) second (h2.inside i low) (fourth ∙ sym (k4 i low)) refl refl)
+
+-- the four in the middle of eight rows
+pub down_near : (s : Setting) (i : ℕ) (t u : List ℕ) → i < 16 → IsNearSet 32 t u →
+    ((p3 p2 q2 q3 : ℕ) → filtered s (line_near p3 p2 q2 q3 t 32 i) ≡ line_near p3 p2 q2 q3 u 32 i) → filtered s (line_down t i) ≡ line_down u i
+down_near s i t u low h is =
+    is (at_column t 0 i) (at_column t 1 i) (at_column t 6 i) (at_column t 7 i)
     ∙ sym (same_line _ _ _ _ _ _ _ _ (at_column t 0 i) (at_column t 1 i) _ _ _ _ (at_column t 6 i) (at_column t 7 i)
-    (kept_before 0 (omega arith)) (kept_before 1 (omega arith)) (kept_before 2 (omega arith) ∙ sym (k2 i low)) c3 c4 (kept_behind 5 (omega arith) ∙ sym (k5 i low)) (kept_behind 6 (omega arith)) (kept_behind 7 (omega arith)))
+    (h.before (16 * 0 + i) (omega arith)) (h.before (16 * 1 + i) (omega arith)) refl refl refl refl (h.behind (16 * 6 + i) (omega arith)) (h.behind (16 * 7 + i) (omega arith)))

@@ -117,7 +117,7 @@ module _ (c : Coded) (motion : List (List Motion)) (column row a n : ℕ) (at : 
       ∙ ap (λ x. edge_filtered g false x (8 * row + 2 * n) 8 s) (let e : (8 * column) ≡ (8 * (a % c.width)) = omega (arith, columns) in e)
       ∙ ap (λ y. edge_filtered g false (8 * (a % c.width)) y 8 s) (let e : (8 * row + 2 * n) ≡ (8 * (a / c.width) + 2 * n) = omega (arith, rows) in e)
 
-three : (l l' b b' r r' : Plane) → l ≡ l' → b ≡ b' → r ≡ r' → (let s : Planes = record { luma = l; cb = b; cr = r } in s) ≡ record { luma = l'; cb = b'; cr = r' }
+pub three : (l l' b b' r r' : Plane) → l ≡ l' → b ≡ b' → r ≡ r' → (let s : Planes = record { luma = l; cb = b; cr = r } in s) ≡ record { luma = l'; cb = b'; cr = r' }
 three l l' b b' r r' e f g = rw (e, f, g) refl
 
 -- equal strengths give equal lines
@@ -187,7 +187,7 @@ pub record SameSize (s t : Planes) : Type 0 where
   pub cb : (s.cb.width ≡ t.cb.width) × (s.cb.height ≡ t.cb.height)
   pub cr : (s.cr.width ≡ t.cr.width) × (s.cr.height ≡ t.cr.height)
 
-edge_same_size : (v : Bool) (column row n : ℕ) (st : ℕ → ℕ) (luma chroma : EdgeQp) (s : Planes) → SameSize (lines_of_edge v column row n st luma chroma s) s
+pub edge_same_size : (v : Bool) (column row n : ℕ) (st : ℕ → ℕ) (luma chroma : EdgeQp) (s : Planes) → SameSize (lines_of_edge v column row n st luma chroma s) s
 edge_same_size true column row n st luma chroma s = record {
   luma = edge_size (luma_setting st luma) true (16 * column + 4 * n) (16 * row) 16 s.luma;
   cb = size_if (n % 2 == 0) _ s.cb (edge_size (chroma_setting st chroma) true (8 * column + 2 * n) (8 * row) 8 s.cb);

@@ -95,3 +95,13 @@ pub record IsStrongChroma (s : Setting) (alpha beta : ℕ) : Type 0 where
 -- line i of four rows, between samples that stand further off
 abbrev pub line_inside : (p3 p2 q2 q3 : ℕ) → (p1 p0 q0 q1 : List ℕ) → ℕ → Line
 line_inside p3 p2 q2 q3 p1 p0 q0 q1 i = line p3 p2 (slice_index p1 i) (slice_index p0 i) (slice_index q0 i) (slice_index q1 i) q2 q3
+
+-- line i of four rows of sixteen samples that stand from a place of a table on, between samples that stand further off
+abbrev pub line_near : (p3 p2 q2 q3 : ℕ) → (t : List ℕ) → (from i : ℕ) → Line
+line_near p3 p2 q2 q3 t from i =
+    line p3 p2 (slice_index t (from + i)) (slice_index t (from + 16 + i)) (slice_index t (from + 32 + i)) (slice_index t (from + 48 + i)) q2 q3
+
+-- of four such rows the two in the middle may change, and nothing else
+pub record IsNearSet (from : ℕ) (t u : List ℕ) : Type 0 where
+  pub before : (k : ℕ) → k < from + 16 → slice_index u k ≡ slice_index t k
+  pub behind : (k : ℕ) → from + 48 ≤ k → slice_index u k ≡ slice_index t k

@@ -1,6 +1,6 @@
 ghost use Rattle.std.specs.Prelude.{◌≡◌, ℕ, ◌+◌, ◌/◌, ◌<◌, ◌≤◌, ◌==◌, if◌then◌else◌, slice_index};
 ghost use Rattle.avc_deblock.specs.Line.{Setting, filtered};
-ghost use Rattle.avc_deblock.specs.Rows.{IsRiffled, IsTransposed, IsRowSet, IsWeak, IsStrong, IsWeakChroma, IsStrongChroma, line_down};
+ghost use Rattle.avc_deblock.specs.Rows.{IsRiffled, IsTransposed, IsRowSet, IsWeak, IsStrong, IsWeakChroma, IsStrongChroma, IsNearSet, line_down, line_near};
 
 use crate::lines::{
     Limits, StrongLimits, strong_chroma_lines, strong_lines, weak_chroma_lines, weak_lines,
@@ -124,35 +124,40 @@ pub(crate) fn strong_luma(t: &mut [u8; 128], limits: &StrongLimits)
     set_row(t, 96, &q2);
 }
 
-/// Filters the sixteen lines of chroma down a block of eight rows of sixteen samples, at strengths of 0 to 3.
+/// Filters the sixteen lines of chroma down four rows of sixteen samples, which stand from a place of a table on, at strengths of 0 to 3.
 #[inline(always)]
-pub(crate) fn weak_chroma(t: &mut [u8; 128], limits: &Limits)
-    requires { (i : ℕ) → i < 16 → slice_index limits.now.tc0 i ≤ 92 }
-    ensures { (s : Setting) (i : ℕ) → i < 16 →
+pub(crate) fn weak_chroma(t: &mut [u8; 128], from: usize, limits: &Limits)
+    requires tc0 { (i : ℕ) → i < 16 → slice_index limits.now.tc0 i ≤ 92 }
+    requires room { from + 64 ≤ 128 }
+    ensures lines { (p3 p2 q2 q3 : ℕ) (s : Setting) (i : ℕ) → i < 16 →
         IsWeakChroma s (if slice_index limits.now.dead i == 0 then slice_index limits.now.alpha1 i + 1 else 0)
         (slice_index limits.now.beta1 i + 1) (slice_index limits.now.tc0 i) →
-        filtered s (line_down t.old i) ≡ line_down t.new i }
+        filtered s (line_near p3 p2 q2 q3 t.old from i) ≡ line_near p3 p2 q2 q3 t.new from i }
+    ensures others { IsNearSet from t.old t.new }
 {
-    let p1 = row(t, 32);
-    let mut p0 = row(t, 48);
-    let mut q0 = row(t, 64);
-    let q1 = row(t, 80);
+    let p1 = row(t, from);
+    let mut p0 = row(t, from + 16);
+    let mut q0 = row(t, from + 32);
+    let q1 = row(t, from + 48);
     weak_chroma_lines(&p1, &mut p0, &mut q0, &q1, limits);
-    set_row(t, 48, &p0);
-    set_row(t, 64, &q0);
+    set_row(t, from + 16, &p0);
+    set_row(t, from + 32, &q0);
 }
 
 /// The same at strength 4.
 #[inline(always)]
-pub(crate) fn strong_chroma(t: &mut [u8; 128], limits: &StrongLimits)
-    ensures { (s : Setting) (i : ℕ) → i < 16 → IsStrongChroma s (slice_index limits.now.alpha1 i + 1) (slice_index limits.now.beta1 i + 1) →
-        filtered s (line_down t.old i) ≡ line_down t.new i }
+pub(crate) fn strong_chroma(t: &mut [u8; 128], from: usize, limits: &StrongLimits)
+    requires room { from + 64 ≤ 128 }
+    ensures lines { (p3 p2 q2 q3 : ℕ) (s : Setting) (i : ℕ) → i < 16 →
+        IsStrongChroma s (slice_index limits.now.alpha1 i + 1) (slice_index limits.now.beta1 i + 1) →
+        filtered s (line_near p3 p2 q2 q3 t.old from i) ≡ line_near p3 p2 q2 q3 t.new from i }
+    ensures others { IsNearSet from t.old t.new }
 {
-    let p1 = row(t, 32);
-    let mut p0 = row(t, 48);
-    let mut q0 = row(t, 64);
-    let q1 = row(t, 80);
+    let p1 = row(t, from);
+    let mut p0 = row(t, from + 16);
+    let mut q0 = row(t, from + 32);
+    let q1 = row(t, from + 48);
     strong_chroma_lines(&p1, &mut p0, &mut q0, &q1, limits);
-    set_row(t, 48, &p0);
-    set_row(t, 64, &q0);
+    set_row(t, from + 16, &p0);
+    set_row(t, from + 32, &q0);
 }

@@ -1,6 +1,6 @@
 ghost use Rattle.std.specs.Prelude.{◌≡◌, ℕ, ◌+◌, ◌*◌, ◌<◌, ◌≤◌, true, false};
 ghost use Rattle.avc_deblock.specs.Line.{filtered};
-ghost use Rattle.avc_deblock.specs.Rows.{line_down};
+ghost use Rattle.avc_deblock.specs.Rows.{line_near, IsNearSet};
 ghost use Rattle.avc_deblock.specs.OneEdge.{edge_filtered, chroma_setting, strength_along, AreStrengths, AreLimits};
 ghost use Rattle.avc_deblock.specs.declared.thresholds.EdgeQp.{EdgeQp as Qps};
 
@@ -10,20 +10,24 @@ use crate::strengths::Strengths;
 use crate::thresholds::{QpLimits, chroma_tc1s};
 use avc_plane::Plane;
 
-/// Filters the lines of chroma down a block of eight rows of sixteen samples: eight lines of Cb, and then eight of Cr.
+/// Filters the lines of chroma down four rows of sixteen samples, which stand from a place of a table on: eight lines of Cb, and then
+/// eight of Cr.
 #[inline(always)]
-fn filter_chroma(t: &mut [u8; 128], strengths: &Strengths, limits: &QpLimits)
+fn filter_chroma(t: &mut [u8; 128], from: usize, strengths: &Strengths, limits: &QpLimits)
+    requires room { from + 64 ≤ 128 }
     requires on { limits.now.is_on ≡ true }
     requires index { limits.now.index_a < 52 }
     requires strengths { AreStrengths strengths.now }
-    ensures { (qp : Qps) → AreLimits limits.now qp → (b i : ℕ) → b < 2 → i < 8 →
-        filtered (chroma_setting (strength_along strengths.now) qp i) (line_down t.old (8 * b + i)) ≡ line_down t.new (8 * b + i) }
+    ensures lines { (qp : Qps) → AreLimits limits.now qp → (p3 p2 q2 q3 b i : ℕ) → b < 2 → i < 8 →
+        filtered (chroma_setting (strength_along strengths.now) qp i) (line_near p3 p2 q2 q3 t.old from (8 * b + i))
+        ≡ line_near p3 p2 q2 q3 t.new from (8 * b + i) }
+    ensures others { IsNearSet from t.old t.new }
 {
     match strengths {
-        Strengths::Four => strong_chroma(t, &limits.strong()),
+        Strengths::Four => strong_chroma(t, from, &limits.strong()),
         Strengths::BelowFour(s) => {
             let tc1 = chroma_tc1s(s, limits.index_a);
-            weak_chroma(t, &limits.weak(&tc1))
+            weak_chroma(t, from, &limits.weak(&tc1))
         }
     }
 }
@@ -55,12 +59,55 @@ pub(crate) fn vertical_chroma<const PAD: usize>(
     let of_cr = cr.rectangle::<8, 8, 64>(left, top);
     let block = joined(&of_cb, &of_cr);
     let mut lines = columns(&block);
-    filter_chroma(&mut lines, strengths, limits);
+    filter_chroma(&mut lines, 32, strengths, limits);
     let after = rows_of(&lines);
     let new_cb = half(&after, 0);
     let new_cr = half(&after, 64);
     cb.set_rectangle::<8, 8, 64>(left, top, &new_cb);
     cr.set_rectangle::<8, 8, 64>(left, top, &new_cr);
+}
+
+/// Filters those across two vertical edges, the second four columns right of the first. The first has `left + 4` columns left of it.
+#[inline(never)]
+pub(crate) fn two_vertical_chroma<const PAD: usize>(
+    cb: &mut Plane<PAD>,
+    cr: &mut Plane<PAD>,
+    left: usize,
+    top: usize,
+    first: &Strengths,
+    first_limits: &QpLimits,
+    second: &Strengths,
+    second_limits: &QpLimits,
+)
+    requires cb_columns { left + 12 ≤ cb.old.width }
+    requires cb_rows { top + 8 ≤ cb.old.height }
+    requires cr_columns { left + 12 ≤ cr.old.width }
+    requires cr_rows { top + 8 ≤ cr.old.height }
+    requires first_on { first_limits.now.is_on ≡ true }
+    requires first_index { first_limits.now.index_a < 52 }
+    requires first_strengths { AreStrengths first.now }
+    requires second_on { second_limits.now.is_on ≡ true }
+    requires second_index { second_limits.now.index_a < 52 }
+    requires second_strengths { AreStrengths second.now }
+    ensures cb { (qp next : Qps) → AreLimits first_limits.now qp → AreLimits second_limits.now next → cb.new
+        ≡ edge_filtered (chroma_setting (strength_along second.now) next) true (left + 8) top 8
+        (edge_filtered (chroma_setting (strength_along first.now) qp) true (left + 4) top 8 cb.old) }
+    ensures cr { (qp next : Qps) → AreLimits first_limits.now qp → AreLimits second_limits.now next → cr.new
+        ≡ edge_filtered (chroma_setting (strength_along second.now) next) true (left + 8) top 8
+        (edge_filtered (chroma_setting (strength_along first.now) qp) true (left + 4) top 8 cr.old) }
+{
+    let _columns = cb.width();
+    let of_cb = cb.rectangle::<8, 8, 64>(left + 2, top);
+    let of_cr = cr.rectangle::<8, 8, 64>(left + 2, top);
+    let block = joined(&of_cb, &of_cr);
+    let mut lines = columns(&block);
+    filter_chroma(&mut lines, 0, first, first_limits);
+    filter_chroma(&mut lines, 64, second, second_limits);
+    let after = rows_of(&lines);
+    let new_cb = half(&after, 0);
+    let new_cr = half(&after, 64);
+    cb.set_rectangle::<8, 8, 64>(left + 2, top, &new_cb);
+    cr.set_rectangle::<8, 8, 64>(left + 2, top, &new_cr);
 }
 
 /// Filters the eight lines of Cb and the eight of Cr across a horizontal edge. The edge has `top + 4` rows above it, and `left`
@@ -92,7 +139,7 @@ pub(crate) fn horizontal_chroma<const PAD: usize>(
     let of_cb = cb.rectangle::<8, 8, 64>(left, top);
     let of_cr = cr.rectangle::<8, 8, 64>(left, top);
     let mut lines = beside(&of_cb, &of_cr);
-    filter_chroma(&mut lines, strengths, limits);
+    filter_chroma(&mut lines, 32, strengths, limits);
     let new_cb = nearest(&lines, 0);
     let new_cr = nearest(&lines, 8);
     cb.set_rectangle::<8, 2, 16>(left, top + 3, &new_cb);

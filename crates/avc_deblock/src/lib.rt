@@ -19,6 +19,7 @@ mod planes_edge;
 mod still;
 mod strengths;
 mod thresholds;
+mod vertical_edges;
 
 pub use block_strength::strength;
 pub use facts::MbFacts;

@@ -8,6 +8,7 @@ ghost use Rattle.avc_deblock.specs.ByFacts.{edges_by_facts, mb_by_facts, strengt
 use crate::facts::MbFacts;
 use crate::line::{all_three, both};
 use crate::planes_edge::{PairLimits, Place, edge_between, limits_beside, pair_limits};
+use crate::vertical_edges::vertical_edges;
 use avc_plane::Planes;
 use avc_types::FilteredEdges;
 
@@ -91,6 +92,36 @@ fn inner_edges<const PAD: usize>(
     }
 }
 
+/// Filters the vertical edges of macroblock `q`; `p` lies left of it.
+#[inline(always)]
+fn all_vertical<const PAD: usize>(
+    planes: &mut Planes<PAD>,
+    p: &MbFacts,
+    q: &MbFacts,
+    outer: bool,
+    inner: bool,
+    outer_limits: &PairLimits,
+    inner_limits: &PairLimits,
+    place: Place,
+)
+    requires some { outer ≡ true → 1 ≤ place.column }
+    requires columns_fit { 16 * place.column + 16 < 2 ^ 64 }
+    requires rows_fit { 16 * place.row + 16 < 2 ^ 64 }
+    requires room { HasRoom place.column place.row (planes_of planes.old) }
+    requires outer_limits { ArePairLimits outer_limits.now place.chroma_qp_index_offset p.now q.now }
+    requires inner_limits { ArePairLimits inner_limits.now place.chroma_qp_index_offset q.now q.now }
+    ensures room { (column row : ℕ) → HasRoom column row (planes_of planes.old) → HasRoom column row (planes_of planes.new) }
+    ensures lines { planes_of planes.new ≡ edges_by_facts true place.column place.row place.chroma_qp_index_offset false inner q.now q.now
+        (edges_by_facts true place.column place.row place.chroma_qp_index_offset outer false p.now q.now (planes_of planes.old)) }
+{
+    if outer && inner {
+        vertical_edges(planes, p, q, outer_limits, inner_limits, place);
+    } else {
+        outer_edge(planes, p, q, true, outer, outer_limits, place);
+        inner_edges(planes, q, true, inner, inner_limits, place);
+    }
+}
+
 /// Filters all edges of macroblock `mb`. `left` and `above` are the macroblocks there, and any where there is none.
 pub(crate) fn macroblock<const PAD: usize>(
     planes: &mut Planes<PAD>,
@@ -116,8 +147,16 @@ pub(crate) fn macroblock<const PAD: usize>(
     let own = pair_limits(mb, mb, place);
     let left_limits = limits_beside(left, mb, own, place);
     let above_limits = limits_beside(above, mb, own, place);
-    outer_edge(planes, left, mb, true, from_left, &left_limits, place);
-    inner_edges(planes, mb, true, inner, &own, place);
+    all_vertical(
+        planes,
+        left,
+        mb,
+        from_left,
+        inner,
+        &left_limits,
+        &own,
+        place,
+    );
     outer_edge(planes, above, mb, false, from_above, &above_limits, place);
     inner_edges(planes, mb, false, inner, &own, place);
 }

@@ -95,7 +95,7 @@ pub(crate) fn limits_beside(p: &MbFacts, q: &MbFacts, own: PairLimits, place: Pl
 }
 
 #[inline(always)]
-fn vertical_chroma_of<const PAD: usize>(
+pub(crate) fn vertical_chroma_of<const PAD: usize>(
     cb: &mut Plane<PAD>,
     cr: &mut Plane<PAD>,
     place: Place,

@@ -1,6 +1,7 @@
-use Rattle.std.proofs.Common.{◌+◌, false, arith, refl, sym, ap, ◌∙◌}
+use Rattle.std.proofs.Common.{◌+◌, ◌*◌, false, arith, refl, sym, ap, ◌∙◌}
 use Rattle.std.specs.Prelude.{slice_index}
 use Rattle.avc_deblock.specs.OneEdge.{strength_along, chroma_setting}
+use Rattle.avc_deblock.proofs.Blocks.{down_near}
 use Rattle.avc_deblock.proofs.Settings.{edge_off}
 use Rattle.avc_deblock.proofs.Pairs.{horizontal_part}
 use Rattle.avc_deblock.proofs.chroma_edge.horizontal_chroma.Goals as goal
@@ -14,7 +15,9 @@ returns-clause-cb g c qp are =
     (λ row column r_low c_low. ap (slice_index c.beside-lines.result) (omega arith) ∙ c.beside-lines.ensures.left row column r_low c_low)
     (λ row column r_low c_low. c.nearest-new_cb.ensures row column r_low c_low ∙ ap (slice_index c.filter_chroma.new.t) (omega arith))
     (λ i low. refl)
-    (λ i low. c.filter_chroma.ensures qp are 0 i (omega arith) low)
+    (λ i low.
+    down_near (chroma_setting (strength_along c.args.strengths.now) qp i) (8 * 0 + i) c.beside-lines.result c.filter_chroma.new.t (omega arith) c.filter_chroma.ensures.others
+    (λ p3 p2 q2 q3. c.filter_chroma.ensures.lines qp are p3 p2 q2 q3 0 i (omega arith) low))
 
 pub returns-clause-cr : goal.returns-clause-cr
 returns-clause-cr g c qp are =
@@ -25,7 +28,9 @@ returns-clause-cr g c qp are =
     (λ row column r_low c_low. ap (slice_index c.beside-lines.result) (omega arith) ∙ c.beside-lines.ensures.right row column r_low c_low)
     (λ row column r_low c_low. c.nearest-new_cr.ensures row column r_low c_low ∙ ap (slice_index c.filter_chroma.new.t) (omega arith))
     (λ i low. refl)
-    (λ i low. c.filter_chroma.ensures qp are 1 i (omega arith) low)
+    (λ i low.
+    down_near (chroma_setting (strength_along c.args.strengths.now) qp i) (8 * 1 + i) c.beside-lines.result c.filter_chroma.new.t (omega arith) c.filter_chroma.ensures.others
+    (λ p3 p2 q2 q3. c.filter_chroma.ensures.lines qp are p3 p2 q2 q3 1 i (omega arith) low))
 
 pub returns-then-not-limits-clause-cb : goal.returns-then-not-limits-clause-cb
 returns-then-not-limits-clause-cb g c qp are =

@@ -1,6 +1,7 @@
-use Rattle.std.proofs.Common.{◌+◌, true, arith, sym, ap, ◌∙◌}
+use Rattle.std.proofs.Common.{◌+◌, ◌*◌, true, arith, sym, ap, ◌∙◌}
 use Rattle.std.specs.Prelude.{slice_index}
 use Rattle.avc_deblock.specs.OneEdge.{strength_along, chroma_setting}
+use Rattle.avc_deblock.proofs.Blocks.{down_near}
 use Rattle.avc_deblock.proofs.Settings.{edge_off}
 use Rattle.avc_deblock.proofs.Pairs.{vertical_part}
 use Rattle.avc_deblock.proofs.chroma_edge.vertical_chroma.Goals as goal
@@ -13,7 +14,9 @@ returns-clause-cb g c qp are =
     c.requires.cb_columns c.requires.cb_rows e.samples c.joined-block.result c.columns-lines.result c.filter_chroma.new.t c.rows_of-after.result
     (λ k low. ap (slice_index c.joined-block.result) (omega arith) ∙ c.joined-block.ensures.first k low) c.columns-lines.ensures c.rows_of-after.ensures
     (λ k low. c.half-new_cb.ensures k low ∙ ap (slice_index c.rows_of-after.result) (omega arith))
-    (λ i low. c.filter_chroma.ensures qp are 0 i (omega arith) low)
+    (λ i low.
+    down_near (chroma_setting (strength_along c.args.strengths.now) qp i) (8 * 0 + i) c.columns-lines.result c.filter_chroma.new.t (omega arith) c.filter_chroma.ensures.others
+    (λ p3 p2 q2 q3. c.filter_chroma.ensures.lines qp are p3 p2 q2 q3 0 i (omega arith) low))
 
 pub returns-clause-cr : goal.returns-clause-cr
 returns-clause-cr g c qp are =
@@ -23,7 +26,9 @@ returns-clause-cr g c qp are =
     c.requires.cr_columns c.requires.cr_rows e.samples c.joined-block.result c.columns-lines.result c.filter_chroma.new.t c.rows_of-after.result
     (λ k low. ap (slice_index c.joined-block.result) (omega arith) ∙ c.joined-block.ensures.second k low) c.columns-lines.ensures c.rows_of-after.ensures
     (λ k low. c.half-new_cr.ensures k low ∙ ap (slice_index c.rows_of-after.result) (omega arith))
-    (λ i low. c.filter_chroma.ensures qp are 1 i (omega arith) low)
+    (λ i low.
+    down_near (chroma_setting (strength_along c.args.strengths.now) qp i) (8 * 1 + i) c.columns-lines.result c.filter_chroma.new.t (omega arith) c.filter_chroma.ensures.others
+    (λ p3 p2 q2 q3. c.filter_chroma.ensures.lines qp are p3 p2 q2 q3 1 i (omega arith) low))
 
 pub returns-then-not-limits-clause-cb : goal.returns-then-not-limits-clause-cb
 returns-then-not-limits-clause-cb g c qp are =

@@ -33,26 +33,21 @@ returns-then-idle-clause-lines g c =
     (c.both-inner.ensures ∙ ap (λ (b : Bool). b && not c.is_still.result) c.filters_edge_to.ensures)
     c.reaches-from_left.ensures.on c.reaches-from_left.ensures.off c.reaches-from_above.ensures.on c.reaches-from_above.ensures.off s
 
-pub inner_edges-requires : goal.inner_edges-requires
-inner_edges-requires g c =
-    let room = c.outer_edge.ensures.room c.args.place.column c.args.place.row c.requires.room in
-    (omega arith, (c.requires.columns_fit, (c.requires.rows_fit, (room, c.pair_limits-own.ensures))))
-
-pub outer_edge-requires-2 : goal.outer_edge-requires-2
-outer_edge-requires-2 g c =
-    let room = c.inner_edges.ensures.room c.args.place.column c.args.place.row (c.outer_edge.ensures.room c.args.place.column c.args.place.row c.requires.room) in
+pub outer_edge-requires : goal.outer_edge-requires
+outer_edge-requires g c =
+    let room = c.all_vertical.ensures.room c.args.place.column c.args.place.row c.requires.room in
     let some_row : c.reaches-from_above.result ≡ true → 1 ≤ c.args.place.row = λ e. some (filters_between c.args.mb.now c.args.above.now) c.args.place.row (c.reaches-from_above.ensures.on e) in
     (omega arith, ((λ e f. absurd (cc)), ((λ e f. some_row e), (c.requires.columns_fit, (c.requires.rows_fit, (room, c.limits_beside-above_limits.ensures))))))
 
-pub inner_edges-requires-2 : goal.inner_edges-requires-2
-inner_edges-requires-2 g c =
-    let before = c.inner_edges.ensures.room c.args.place.column c.args.place.row (c.outer_edge.ensures.room c.args.place.column c.args.place.row c.requires.room) in
-    let room = c.outer_edge-2.ensures.room c.args.place.column c.args.place.row before in
+pub inner_edges-requires : goal.inner_edges-requires
+inner_edges-requires g c =
+    let before = c.all_vertical.ensures.room c.args.place.column c.args.place.row c.requires.room in
+    let room = c.outer_edge.ensures.room c.args.place.column c.args.place.row before in
     (omega arith, (c.requires.columns_fit, (c.requires.rows_fit, (room, c.pair_limits-own.ensures))))
 
 pub returns-clause-room : goal.returns-clause-room
 returns-clause-room g c column row h =
-    c.inner_edges-2.ensures.room column row (c.outer_edge-2.ensures.room column row (c.inner_edges.ensures.room column row (c.outer_edge.ensures.room column row h)))
+    c.inner_edges.ensures.room column row (c.outer_edge.ensures.room column row (c.all_vertical.ensures.room column row h))
 
 pub returns-clause-lines : goal.returns-clause-lines
 returns-clause-lines g c =
@@ -66,11 +61,9 @@ returns-clause-lines g c =
     let i = c.both-inner.result in
     let l = c.reaches-from_left.result in
     let u = c.reaches-from_above.result in
-    c.inner_edges-2.ensures.lines
+    c.inner_edges.ensures.lines
     ∙ ap (edges_by_facts false column row e false i mb mb)
-    (c.outer_edge-2.ensures.lines
-    ∙ ap (edges_by_facts false column row e u false above mb)
-    (c.inner_edges.ensures.lines ∙ ap (edges_by_facts true column row e false i mb mb) c.outer_edge.ensures.lines))
+    (c.outer_edge.ensures.lines ∙ ap (edges_by_facts false column row e u false above mb) c.all_vertical.ensures.lines)
     ∙ mb_kept column row e left above mb c.is_still.result i l u
     c.is_still.ensures.inter c.is_still.ensures.strengths
     (c.both-inner.ensures ∙ ap (λ (b : Bool). b && not c.is_still.result) c.filters_edge_to.ensures)
