@@ -34,7 +34,8 @@ impl Strengths {
     {
         match self {
             Strengths::Four => false,
-            Strengths::BelowFour(s) => s[0] == 0 && s[1] == 0 && s[2] == 0 && s[3] == 0,
+            // all four at once
+            Strengths::BelowFour(s) => u32::from_le_bytes(*s) == 0,
         }
     }
 }
