@@ -156,8 +156,24 @@ pub(crate) fn vertical_edges<const PAD: usize>(
     let middle = edge_strengths(q, q, true, 2);
     luma_between(&mut planes.luma, p, q, 0, &outer, &outer_limits.luma, place);
     let second = edge_strengths(q, q, true, 1);
-    luma_between(&mut planes.luma, q, q, 1, &second, &inner_limits.luma, place);
-    luma_between(&mut planes.luma, q, q, 2, &middle, &inner_limits.luma, place);
+    luma_between(
+        &mut planes.luma,
+        q,
+        q,
+        1,
+        &second,
+        &inner_limits.luma,
+        place,
+    );
+    luma_between(
+        &mut planes.luma,
+        q,
+        q,
+        2,
+        &middle,
+        &inner_limits.luma,
+        place,
+    );
     let last = edge_strengths(q, q, true, 3);
     luma_between(&mut planes.luma, q, q, 3, &last, &inner_limits.luma, place);
     chroma_edges(

@@ -1,4 +1,4 @@
-use Rattle.std.proofs.Common.{◌+◌, arith, sym, ap, ◌∙◌}
+use Rattle.std.proofs.Common.{arith, ap, ◌∙◌}
 use Rattle.std.specs.Prelude.{slice_index}
 use Rattle.avc_deblock.specs.OneEdge.{strength_along, chroma_setting}
 use Rattle.avc_deblock.proofs.TwoEdges.{two_edges}

@@ -1,5 +1,5 @@
-use Rattle.std.proofs.Common.{◌≡◌, ◌∙◌, ◌+◌, ◌*◌, true, sym}
-use Rattle.avc_deblock.specs.OneEdge.{edge_filtered, luma_setting, strength_along}
+use Rattle.std.proofs.Common.{◌∙◌, true, sym}
+use Rattle.avc_deblock.specs.OneEdge.{strength_along}
 use Rattle.avc_deblock.specs.ByFacts.{strength_of, luma_qp_of}
 use Rattle.avc_deblock.proofs.VerticalEdges.{luma_lines, luma_size, luma_zero}
 use Rattle.avc_deblock.proofs.vertical_edges.luma_between.Goals as goal
