@@ -57,6 +57,16 @@ impl<const MAXN: usize> Levels<MAXN> {
         Levels { levels, count }
     }
 
+    /// All of them become 0, as those of a block that is not coded. Where none is another number nothing is written.
+    #[inline(always)]
+    pub fn clear(&mut self)
+        ensures { self.new ≡ replicate MAXN (pos 0) }
+    {
+        if self.count != 0 {
+            *self = Levels::zero();
+        }
+    }
+
     /// The levels one by one.
     pub fn as_array(&self) -> &[i16; MAXN]
         ensures { result.now ≡ self.now }
