@@ -1,9 +1,10 @@
 -- One block more.
-use Rattle.std.proofs.Common.{◌≡◌, ◌≢◌, ℕ, zero, suc, ◌+◌, ◌/◌, ◌^◌, append-nil, append_assoc, ◌<◌, ◌≤◌, min, ℤ, pos, Bool, true, false, List, [], ◌∷◌, ◌++◌, length, take, get_or, set, map, refl, ap, ◌∙◌, sym, arith, inl, inr}
+use Rattle.std.proofs.Common.{◌≡◌, ◌≢◌, ℕ, zero, suc, ◌+◌, ◌/◌, ◌^◌, append-nil, append_assoc, ◌<◌, ◌≤◌, min, ℤ, pos, Bool, true, false, List, [], ◌∷◌, ◌++◌, length, take, get_or, set, map, refl, ap, subst, ◌∙◌, sym, arith, inl, inr}
 use Rattle.std.specs.Prelude.{Ok, Err, Option, replicate, ◌==◌, ◌||◌, nat_le, nat_lt, if◌then◌else◌}
-use Rattle.std.specs.List.{range_with_len}
+use Rattle.std.specs.List.{All, range_with_len}
+use Rattle.std.proofs.lemmas.List.Elements.{All-append}
 use Rattle.std.proofs.lemmas.Bool.{cases_lt, le-ltb, ne_eqb}
-use Rattle.std.proofs.lemmas.List.{get_or-replicate, get_or-set_other, get_or_past, length-replicate, map-append, take_more, take_more_set}
+use Rattle.std.proofs.lemmas.List.{get_or-replicate, get_or-set_other, get_or_past, length-replicate, map-append, replicate_more, take_more, take_more_set}
 use Rattle.avc_types.specs.Macroblock.{total_coeff}
 use Rattle.avc_types.specs.declared.fault.Fault.{Fault}
 use Rattle.avc_types.specs.declared.fault.Fault.TheVariants as faults
@@ -109,24 +110,23 @@ counts_more counts bs k b within inside so_far =
     ∙ sym (map-append total_coeff (take k bs) (b ∷ []))
     ∙ sym (ap (map total_coeff) (take_more_set bs k b inside))
 
--- ---- a block that is not coded, whose place has its levels already
+-- ---- a block that is not coded
 
 pub total_none : (max : ℕ) → total_coeff (no_levels max) ≡ 0
 total_none zero = refl
 total_none (suc n) = total_none n
 
-pub block_passed : (max size : ℕ) (coded : ℕ → Bool) (left up : Option (List ℕ)) (k n more : ℕ) (levels : List (List ℤ)) (b : Bits) → more ≡ suc n → k < length levels →
-    get_or levels k (no_levels max) ≡ no_levels max → coded k ≡ false →
-    blocks max size coded left up (range_with_len k more) (take k levels) b ≡ blocks max size coded left up (range_with_len (k + 1) n) (take (k + 1) levels) b
-block_passed max size coded left up k n more levels b is_more within is_zero none =
-    let one : take (k + 1) levels ≡ take k levels ++ no_levels max ∷ [] = take_more levels k (no_levels max) within ∙ ap (λ z. take k levels ++ z ∷ []) is_zero in
+pub block_passed : (max size : ℕ) (coded : ℕ → Bool) (left up : Option (List ℕ)) (k n more : ℕ) (levels : List (List ℤ)) (b : Bits) → more ≡ suc n → k < length levels → coded k ≡ false →
+    blocks max size coded left up (range_with_len k more) (take k levels) b ≡ blocks max size coded left up (range_with_len (k + 1) n) (take (k + 1) (set levels k (no_levels max))) b
+block_passed max size coded left up k n more levels b is_more within none =
+    let one : take (k + 1) (set levels k (no_levels max)) ≡ take k levels ++ no_levels max ∷ [] = take_more_set levels k (no_levels max) within in
     rw is_more (next_block max size coded left up k (range_with_len (k + 1) n) (take k levels) (no_levels max) b b (rw none refl))
     ∙ ap (λ l. blocks max size coded left up (range_with_len (k + 1) n) l b) (sym one)
 
-pub counts_passed : (counts : List ℕ) (bs : List (List ℤ)) (max k : ℕ) → k < length counts → k < length bs → get_or counts k 0 ≡ 0 → get_or bs k (no_levels max) ≡ no_levels max →
-    take k counts ≡ map total_coeff (take k bs) → take (k + 1) counts ≡ map total_coeff (take (k + 1) bs)
-counts_passed counts bs max k within inside none is_zero so_far =
-    let one : take (k + 1) bs ≡ take k bs ++ no_levels max ∷ [] = take_more bs k (no_levels max) inside ∙ ap (λ z. take k bs ++ z ∷ []) is_zero in
+pub counts_passed : (counts : List ℕ) (bs : List (List ℤ)) (max k : ℕ) → k < length counts → k < length bs → get_or counts k 0 ≡ 0 →
+    take k counts ≡ map total_coeff (take k bs) → take (k + 1) counts ≡ map total_coeff (take (k + 1) (set bs k (no_levels max)))
+counts_passed counts bs max k within inside none so_far =
+    let one : take (k + 1) (set bs k (no_levels max)) ≡ take k bs ++ no_levels max ∷ [] = take_more_set bs k (no_levels max) inside in
     take_more counts k 0 within
     ∙ ap (λ n. take k counts ++ n ∷ []) (none ∙ sym (total_none max))
     ∙ ap (λ l. l ++ total_coeff (no_levels max) ∷ []) so_far
@@ -144,3 +144,16 @@ pub still_zero : {A : Type 0} (xs : List A) (k : ℕ) (x a : A) → ((j : ℕ) �
 still_zero xs k x a zeros j later =
     let other : j ≢ k = λ e. absurd (omega (arith, e, later)) in
     get_or-set_other xs k j x a other ∙ zeros j (omega (arith, later))
+
+-- ---- what holds of the blocks that are done
+
+one_block : (P : List ℤ → Type 0) (x : List ℤ) → P x → All P (x ∷ [])
+one_block P x here zero d within = here
+one_block P x here (suc k) d within = absurd (omega arith)
+
+pub all_more : (P : List ℤ → Type 0) (xs : List (List ℤ)) (k : ℕ) (x : List ℤ) → k < length xs → All P (take k xs) → P x → All P (take (k + 1) (set xs k x))
+all_more P xs k x within all here = subst (All P) (sym (take_more_set xs k x within)) (All-append P (take k xs) (x ∷ []) all (one_block P x here))
+
+-- one block more that is cleared
+pub cleared_more : (xs : List (List ℤ)) (k n : ℕ) (x : List ℤ) → k < length xs → take k xs ≡ replicate k x → take (k + 1) (set xs k x) ≡ replicate (k + 1) x
+cleared_more xs k n x within so_far = take_more_set xs k x within ∙ ap (λ l. l ++ x ∷ []) so_far ∙ replicate_more k x

@@ -1,9 +1,12 @@
 -- What is read of a macroblock into its place.
-use Rattle.std.specs.Prelude.{◌≡◌, ℕ, pos, Bool, true, false, replicate, Result, Ok, Err, MatchResult}
+use Rattle.std.specs.Prelude.{◌≡◌, ℕ, pos, Bool, true, false, List, replicate, Result, Ok, Err, MatchResult}
 use Rattle.std.specs.Option.{option_copied}
 use Rattle.avc_types.specs.declared.fault.Fault.{Fault}
 use Rattle.avc_types.specs.declared.macroblock.PMbType.{PMbType}
+use Rattle.avc_types.specs.declared.macroblock.Mvd.{Mvd}
 use Rattle.avc_types.specs.declared.mb.BlockLevels.{BlockLevels}
+use Rattle.avc_types.specs.declared.mb.Syntax.{Syntax}
+use Rattle.avc_types.specs.declared.mb.Syntax.TheVariants.{PSkip, IPcm, INxN, I16x16, PInter}
 use Rattle.avc_types.specs.declared.macroblock.PMbType.TheVariants.{P16x16, P16x8, P8x16, P8x8, P8x8Ref0}
 use Rattle.avc_bits.specs.declared.reader.BitReader.{BitReader}
 use Rattle.avc_bits.specs.Bits.{Read}
@@ -29,6 +32,51 @@ pub record HasNoLevels {max : ℕ} (levels : BlockLevels max) : Type 0 where
   pub no_cr_dc : levels.cr_dc ≡ no_levels 4
   pub no_cb_ac : levels.cb_ac ≡ replicate 4 (no_levels 15)
   pub no_cr_ac : levels.cr_ac ≡ replicate 4 (no_levels 15)
+
+-- no levels, where none have been read
+abbrev pub no_block_levels : {max : ℕ} → BlockLevels max
+no_block_levels {max} = record {
+  luma_pattern = 0;
+  chroma_pattern = 0;
+  mb_qp_delta = pos 0;
+  luma = replicate 16 (no_levels max);
+  cb_dc = no_levels 4;
+  cr_dc = no_levels 4;
+  cb_ac = replicate 4 (no_levels 15);
+  cr_ac = replicate 4 (no_levels 15);
+}
+
+-- the levels that stand in the place of an inter macroblock
+abbrev pub inter_levels_in : Syntax → BlockLevels 16
+inter_levels_in (PInter mb_type ref_idx mvd levels) = levels
+inter_levels_in PSkip = no_block_levels
+inter_levels_in (IPcm luma cb cr) = no_block_levels
+inter_levels_in (INxN modes chroma_mode levels) = no_block_levels
+inter_levels_in (I16x16 mode chroma_mode luma_dc levels) = no_block_levels
+
+-- the differences of vectors that stand there
+abbrev pub mvd_in : Syntax → List Mvd
+mvd_in (PInter mb_type ref_idx mvd levels) = mvd
+mvd_in PSkip = replicate 16 (record { x = pos 0; y = pos 0 })
+mvd_in (IPcm luma cb cr) = replicate 16 (record { x = pos 0; y = pos 0 })
+mvd_in (INxN modes chroma_mode levels) = replicate 16 (record { x = pos 0; y = pos 0 })
+mvd_in (I16x16 mode chroma_mode luma_dc levels) = replicate 16 (record { x = pos 0; y = pos 0 })
+
+-- the levels that stand in the place of an I_NxN macroblock
+abbrev pub nxn_levels_in : Syntax → BlockLevels 16
+nxn_levels_in (INxN modes chroma_mode levels) = levels
+nxn_levels_in PSkip = no_block_levels
+nxn_levels_in (IPcm luma cb cr) = no_block_levels
+nxn_levels_in (I16x16 mode chroma_mode luma_dc levels) = no_block_levels
+nxn_levels_in (PInter mb_type ref_idx mvd levels) = no_block_levels
+
+-- the levels that stand in the place of an Intra 16x16 macroblock
+abbrev pub levels_in_16x16 : Syntax → BlockLevels 15
+levels_in_16x16 (I16x16 mode chroma_mode luma_dc levels) = levels
+levels_in_16x16 PSkip = no_block_levels
+levels_in_16x16 (IPcm luma cb cr) = no_block_levels
+levels_in_16x16 (INxN modes chroma_mode levels) = no_block_levels
+levels_in_16x16 (PInter mb_type ref_idx mvd levels) = no_block_levels
 
 -- mb_type is P_8x8ref0 (Table 7-13)
 abbrev pub is_ref0 : PMbType → Bool

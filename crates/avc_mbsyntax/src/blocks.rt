@@ -35,7 +35,8 @@ pub(crate) fn read_luma_dc(
     read_coded(reader, nc_luma(left, up, &[0; 16], 0))
 }
 
-/// Reads the luma blocks, of which those are coded whose quarter has its bit in the pattern; their levels are all 0 before.
+/// Reads the luma blocks, of which those are coded whose quarter has its bit in the pattern; the levels of the others
+/// become 0.
 pub(crate) fn read_luma_blocks<const MAXN: usize>(
     reader: &mut BitReader,
     luma_pattern: u8,
@@ -44,17 +45,18 @@ pub(crate) fn read_luma_blocks<const MAXN: usize>(
     levels: &mut [Levels<MAXN>; 16],
 ) -> Result<(), Fault>
     requires max { MAXN ≤ 16 }
-    requires zero { levels.old ≡ replicate 16 (no_levels MAXN) }
     ensures small { IfOk result (λ _. All AreSmall levels.new) }
     ensures read { ReadsInto result levels.new
         (blocks MAXN 16 (is_coded luma_pattern) (option_copied left.entry) (option_copied up.entry) (range_with_len 0 16) []) reader.old reader.new }
 {
     if luma_pattern == 0 {
+        clear(levels);
         return Ok(());
     }
     let mut total_coeffs = [0; 16];
     'each: for k in 0..16 {
         if !is_coded(luma_pattern, k) {
+            levels[k].clear();
             continue;
         }
         let nc = nc_luma(left, up, &total_coeffs, k);
@@ -65,7 +67,7 @@ pub(crate) fn read_luma_blocks<const MAXN: usize>(
     Ok(())
 }
 
-/// Reads the AC blocks of a chroma component; their levels are all 0 before.
+/// Reads the AC blocks of a chroma component; where they are not coded their levels become 0.
 pub(crate) fn read_chroma_blocks(
     reader: &mut BitReader,
     chroma_pattern: u8,
@@ -73,12 +75,12 @@ pub(crate) fn read_chroma_blocks(
     up: Option<&[u8; 4]>,
     levels: &mut [Levels<15>; 4],
 ) -> Result<(), Fault>
-    requires zero { levels.old ≡ replicate 4 (no_levels 15) }
     ensures small { IfOk result (λ _. All AreSmall levels.new) }
     ensures read { ReadsInto result levels.new
         (blocks 15 8 (λ k. chroma_pattern == 2) (option_copied left.entry) (option_copied up.entry) (range_with_len 0 4) []) reader.old reader.new }
 {
     if chroma_pattern != 2 {
+        clear(levels);
         return Ok(());
     }
     let mut total_coeffs = [0; 4];
@@ -91,21 +93,30 @@ pub(crate) fn read_chroma_blocks(
     Ok(())
 }
 
-/// Reads the DC levels of a chroma component, which are all 0 before.
+/// Reads the DC levels of a chroma component, or they become 0.
 pub(crate) fn read_chroma_dc(
     reader: &mut BitReader,
     chroma_pattern: u8,
     levels: &mut Levels<4>,
 ) -> Result<(), Fault>
-    requires zero { levels.old ≡ no_levels 4 }
     ensures read { ReadsInto result levels.new (chroma_dc chroma_pattern) reader.old reader.new }
     ensures small { IfOk result (λ _. AreSmall levels.new) }
 {
     if chroma_pattern == 0 {
+        levels.clear();
         return Ok(());
     }
     *levels = read_block(reader, -1)?;
     Ok(())
+}
+
+/// No block is coded: all levels become 0.
+pub(crate) fn clear<const MAXN: usize, const N: usize>(levels: &mut [Levels<MAXN>; N])
+    ensures { levels.new ≡ replicate N (no_levels MAXN) }
+{
+    'each: for k in 0..N {
+        levels[k].clear();
+    }
 }
 
 // whether the quarter of luma block k has its bit in the pattern

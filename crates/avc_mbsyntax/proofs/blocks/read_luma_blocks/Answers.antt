@@ -1,7 +1,7 @@
-use Rattle.std.proofs.Common.{◌≡◌, ℕ, ◌<◌, ◌≤◌, ◌+◌, ◌-◌, ◌++◌, ◌∷◌, [], suc, true, false, Ok, Err, arith, rules, ap, refl, subst, ◌∙◌, sym, length, take, length-set}
+use Rattle.std.proofs.Common.{◌≡◌, ℕ, ◌<◌, ◌≤◌, ◌+◌, ◌-◌, ◌++◌, ◌∷◌, [], suc, true, false, Ok, Err, arith, rules, ap, refl, subst, ◌∙◌, sym, length, take, set, length-set}
 use Rattle.std.specs.List.{All, range_with_len}
 use Rattle.std.specs.Option.{option_copied}
-use Rattle.std.proofs.lemmas.List.Elements.{All-replicate, All-set}
+use Rattle.std.proofs.lemmas.List.Elements.{All-replicate}
 use Rattle.std.proofs.lemmas.List.{length-replicate, take_all, take_more_set}
 use Rattle.avc_types.specs.Macroblock.{total_coeff}
 use Rattle.avc_bits.specs.Reader.{reader_bits}
@@ -9,25 +9,24 @@ use Rattle.avc_cavlc.proofs.Placing.{small_none}
 use Rattle.avc_neigh.specs.TotalCoeffs.{nc}
 use Rattle.avc_mbsyntax.specs.Ranges.{AreSmall}
 use Rattle.avc_mbsyntax.specs.Reading.{block_where, blocks, is_coded, no_levels}
-use Rattle.avc_mbsyntax.proofs.BlockSteps.{all_blocks, all_zero, block_passed, blocks_fault, blocks_more, counts_more, counts_passed, no_luma, still_zero}
+use Rattle.avc_mbsyntax.proofs.BlockSteps.{all_blocks, all_more, all_zero, block_passed, blocks_fault, blocks_more, counts_more, counts_passed, no_luma, still_zero}
 use Rattle.avc_mbsyntax.proofs.blocks.read_luma_blocks.Goals as goal
 
 pub returns-then-luma_pattern-eq0-clause-small : goal.returns-then-luma_pattern-eq0-clause-small
-returns-then-luma_pattern-eq0-clause-small g c = subst (All AreSmall) (sym c.requires.zero) (All-replicate AreSmall 16 (no_levels g.row.MAXN) (λ i. small_none g.row.MAXN i))
+returns-then-luma_pattern-eq0-clause-small g c = subst (All AreSmall) (sym c.clear.ensures) (All-replicate AreSmall 16 (no_levels g.row.MAXN) (λ i. small_none g.row.MAXN i))
 
 pub returns-then-luma_pattern-eq0-clause-read : goal.returns-then-luma_pattern-eq0-clause-read
 returns-then-luma_pattern-eq0-clause-read g c =
-    (no_luma g.row.MAXN c.args.luma_pattern (option_copied c.args.left) (option_copied c.args.up) (reader_bits c.args.reader.now) (omega arith) ∙ ap (λ l. Ok (l, reader_bits c.args.reader.now)) (sym c.requires.zero), refl)
+    (no_luma g.row.MAXN c.args.luma_pattern (option_copied c.args.left) (option_copied c.args.up) (reader_bits c.args.reader.now) (omega arith) ∙ ap (λ l. Ok (l, reader_bits c.args.reader.now)) (sym c.clear.ensures), refl)
 
 pub each-init : goal.each-init
 each-init g c = record {
-  long = ap length c.requires.zero ∙ length-replicate 16 (no_levels g.row.MAXN);
+  long = omega (arith, c.told-levels);
   counts_long = length-replicate {A = ℕ} 16 0;
   counts = refl;
   read = refl;
-  small = subst (All AreSmall) (sym c.requires.zero) (All-replicate AreSmall 16 (no_levels g.row.MAXN) (λ i. small_none g.row.MAXN i));
+  small = λ k d within. absurd (omega arith);
   bytes = refl;
-  zero = λ j later. rw c.requires.zero (all_zero 16 (no_levels g.row.MAXN) j);
   none = λ j later. all_zero 16 0 j;
 }
 
@@ -68,9 +67,8 @@ each-preserved g c =
           ∙ blocks_more g.row.MAXN 16 (is_coded c.args.luma_pattern) (option_copied c.args.left) (option_copied c.args.up) c.each.k (15 - c.each.k) (16 - c.each.k) (take c.each.k c.each.levels) (take c.each.k c.each.total_coeffs) c.in_ok-block.block (reader_bits c.each.reader) (reader_bits c.read_coded.new.reader) more c.each.invariant.counts here
           ∙ ap (λ n. blocks g.row.MAXN 16 (is_coded c.args.luma_pattern) (option_copied c.args.left) (option_copied c.args.up) (range_with_len (c.each.k + 1) n) (take c.each.k c.each.levels ++ c.in_ok-block.block ∷ []) (reader_bits c.read_coded.new.reader)) fewer
           ∙ ap (λ l. blocks g.row.MAXN 16 (is_coded c.args.luma_pattern) (option_copied c.args.left) (option_copied c.args.up) (range_with_len (c.each.k + 1) (16 - (c.each.k + 1))) l (reader_bits c.read_coded.new.reader)) (sym (take_more_set c.each.levels c.each.k c.in_ok-block.block within));
-      small = All-set AreSmall c.each.levels c.each.k c.in_ok-block.block c.in_ok-block.ensures.small c.each.invariant.small;
+      small = all_more AreSmall c.each.levels c.each.k c.in_ok-block.block within c.each.invariant.small c.in_ok-block.ensures.small;
       bytes = c.in_ok-block.ensures.read.1 ∙ c.each.invariant.bytes;
-      zero = still_zero c.each.levels c.each.k c.in_ok-block.block (no_levels g.row.MAXN) c.each.invariant.zero;
       none = still_zero c.each.total_coeffs c.each.k (total_coeff c.in_ok-block.block) 0 c.each.invariant.none;
     })
 
@@ -81,17 +79,18 @@ each-preserved-then-not-is_coded g c =
     let within : c.each.k < length c.each.levels = omega (arith, c.each.invariant.long) in
     let inside : c.each.k < length c.each.total_coeffs = omega (arith, c.each.invariant.counts_long) in
     let coded : is_coded c.args.luma_pattern c.each.k ≡ false = search rules in
-    let is_zero = c.each.invariant.zero c.each.k (omega arith) in
     let none = c.each.invariant.none c.each.k (omega arith) in
-    record {
-      long = c.each.invariant.long;
+    rw c.clear-then-not-is_coded.ensures (record {
+      long = length-set c.each.levels c.each.k (no_levels g.row.MAXN) ∙ c.each.invariant.long;
       counts_long = c.each.invariant.counts_long;
-      counts = counts_passed c.each.total_coeffs c.each.levels g.row.MAXN c.each.k inside within none is_zero c.each.invariant.counts;
+      counts = counts_passed c.each.total_coeffs c.each.levels g.row.MAXN c.each.k inside within none c.each.invariant.counts;
       read = c.each.invariant.read
-          ∙ block_passed g.row.MAXN 16 (is_coded c.args.luma_pattern) (option_copied c.args.left) (option_copied c.args.up) c.each.k (15 - c.each.k) (16 - c.each.k) c.each.levels (reader_bits c.each.reader) more within is_zero coded
-          ∙ ap (λ n. blocks g.row.MAXN 16 (is_coded c.args.luma_pattern) (option_copied c.args.left) (option_copied c.args.up) (range_with_len (c.each.k + 1) n) (take (c.each.k + 1) c.each.levels) (reader_bits c.each.reader)) fewer;
-      small = c.each.invariant.small;
+          ∙ block_passed g.row.MAXN 16 (is_coded c.args.luma_pattern) (option_copied c.args.left) (option_copied c.args.up) c.each.k (15 - c.each.k) (16 - c.each.k) c.each.levels (reader_bits c.each.reader) more within coded
+          ∙ ap (λ n. blocks g.row.MAXN 16 (is_coded c.args.luma_pattern) (option_copied c.args.left) (option_copied c.args.up) (range_with_len (c.each.k + 1) n) (take (c.each.k + 1) (set c.each.levels c.each.k (no_levels g.row.MAXN))) (reader_bits c.each.reader)) fewer;
+      small = all_more AreSmall c.each.levels c.each.k (no_levels g.row.MAXN) within c.each.invariant.small (λ i. small_none g.row.MAXN i);
       bytes = c.each.invariant.bytes;
-      zero = λ j later. c.each.invariant.zero j (omega (arith, later));
       none = λ j later. c.each.invariant.none j (omega (arith, later));
-    }
+    })
+
+pub returns-clause-small : goal.returns-clause-small
+returns-clause-small g c = subst (All AreSmall) (take_all c.each.k c.each.levels (omega (arith, c.each.invariant.long))) c.each.invariant.small

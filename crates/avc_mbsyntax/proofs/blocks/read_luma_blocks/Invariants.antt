@@ -14,8 +14,7 @@ invariant-each g l = record {
   counts : take l.k l.total_coeffs ≡ map total_coeff (take l.k l.levels);
   read : blocks g.row.MAXN 16 (is_coded l.luma_pattern) (option_copied l.left) (option_copied l.up) (range_with_len 0 16) [] (reader_bits l.fn.reader)
       ≡ blocks g.row.MAXN 16 (is_coded l.luma_pattern) (option_copied l.left) (option_copied l.up) (range_with_len l.k (16 - l.k)) (take l.k l.levels) (reader_bits l.reader);
-  small : All AreSmall l.levels;
+  small : All AreSmall (take l.k l.levels);
   bytes : reader_bytes l.reader ≡ reader_bytes l.fn.reader;
-  zero : (j : ℕ) → l.k ≤ j → get_or l.levels j (no_levels g.row.MAXN) ≡ no_levels g.row.MAXN;
   none : (j : ℕ) → l.k ≤ j → get_or l.total_coeffs j 0 ≡ 0;
 }

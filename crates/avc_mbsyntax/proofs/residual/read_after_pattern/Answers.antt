@@ -27,10 +27,10 @@ pub returns-clause-range : goal.returns-clause-range
 returns-clause-range c = c.in_ok-read_levels.ensures.range [] (λ i. small_none 0 i)
 
 pub returns-then-pattern-eq0-clause-read : goal.returns-then-pattern-eq0-clause-read
-returns-then-pattern-eq0-clause-read c = (nothing_after (context_of c.args.context.now) c.args.pattern c.args.levels.now (reader_bits c.args.reader.now) c.if-pattern-eq0.true c.requires.zero, refl)
+returns-then-pattern-eq0-clause-read c = (nothing_after (context_of c.args.context.now) c.args.pattern c.clear_levels.new.levels (reader_bits c.args.reader.now) c.if-pattern-eq0.true c.clear_levels.ensures, refl)
 
 pub returns-then-pattern-eq0-clause-range : goal.returns-then-pattern-eq0-clause-range
-returns-then-pattern-eq0-clause-range c = nothing_in_range c.args.levels.now c.requires.zero
+returns-then-pattern-eq0-clause-range c = nothing_in_range c.clear_levels.new.levels c.clear_levels.ensures
 
 pub returns-then-pattern-eq0-clause-delta : goal.returns-then-pattern-eq0-clause-delta
-returns-then-pattern-eq0-clause-delta c = rw c.requires.zero.no_delta (omega (arith, ints))
+returns-then-pattern-eq0-clause-delta c = rw c.clear_levels.ensures.no_delta (omega (arith, ints))
