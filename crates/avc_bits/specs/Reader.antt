@@ -1,9 +1,10 @@
 -- What a reader stands for.
-use Rattle.std.specs.Prelude.{◌≡◌, ℕ, suc, ◌+◌, ◌-◌, ◌*◌, ◌^◌, ◌<◌, ◌≤◌, List, [], ◌∷◌, Bool, true, false, Result, Ok, Err, MatchResult, refl}
+use Rattle.std.specs.Prelude.{◌≡◌, ℕ, suc, ◌+◌, ◌-◌, ◌*◌, ◌^◌, ◌<◌, ◌≤◌, List, [], ◌∷◌, length, Bool, true, false, Result, Ok, Err, MatchResult, refl}
 use Rattle.avc_types.specs.declared.fault.Fault.{Fault}
 use Rattle.avc_bits.specs.Bits.{Bits, Read, at, passed}
-use Rattle.avc_bits.specs.Codes.{u, zeros_before_one}
+use Rattle.avc_bits.specs.Codes.{u, ue, zeros_before_one}
 use Rattle.avc_bits.specs.declared.reader.BitReader.{BitReader}
+use Rattle.avc_bits.specs.declared.reader.UeWord.{UeWord}
 
 -- the RBSP that it reads
 unfoldable pub reader_bytes : BitReader → List ℕ
@@ -45,3 +46,9 @@ pub record IsZerosAndBits (most count zeros value : ℕ) (old new : BitReader) :
   pub zeros_read : (limit : ℕ) → (fault : Fault) → most ≤ limit → zeros_before_one limit fault (reader_bits old) ≡ Ok (zeros, passed (reader_bits old) (zeros + 1))
   pub value_read : u count (passed (reader_bits old) (zeros + 1)) ≡ Ok (value, reader_bits new)
   pub bytes : reader_bytes new ≡ reader_bytes old
+
+-- The codeword of ue(v) that stands ahead (9.1).
+pub record IsUeWord (word : UeWord) (b : Bits) : Type 0 where
+  pub within : word.length ≤ length b.ahead
+  pub below : word.number < 2 ^ 32 - 1
+  pub read : ue b ≡ Ok (word.number, passed b word.length)

@@ -1,5 +1,5 @@
 ghost use Rattle.std.specs.Prelude.{◌≡◌, ◌+◌, ◌-◌, ◌*◌, ◌%◌, ◌^◌, ◌<◌, ◌≤◌, ◌≤ℤ◌, ◌<ℤ◌, pos, neg_ℤ, length};
-ghost use Rattle.std.specs.Prelude.{IsTrue, drop, min, take, replicate, ◌++◌, false, IfOk, Err, MatchOption, MatchResult, Ok, OnErr};
+ghost use Rattle.std.specs.Prelude.{IsTrue, drop, min, take, replicate, ◌++◌, false, IfOk, Err, IfSome, MatchOption, MatchResult, Ok, OnErr};
 ghost use Rattle.avc_bits.specs.Bits.{at, bits_before_stop, bits_of, byte_bits, more_data, number_of, passed, start, times};
 ghost use Rattle.avc_bits.specs.Codes.{align, flag, se, se_within, signed_value, skip, te, te_to, u, u_to, ue, ue_to, zeros_before_one};
 
@@ -35,8 +35,15 @@ struct Front {
     zeros: u32,
 }
 
+// a codeword of ue(v): its number and how many bits it has
+#[derive(Clone, Copy)]
+struct UeWord {
+    number: u32,
+    length: u32,
+}
+
 impl<'a> BitReader<'a> {
-    ghost use Rattle.avc_bits.specs.Reader.{IsZerosAndBits, Reads, leading, left_of, position_of, reader_bits, reader_bytes};
+    ghost use Rattle.avc_bits.specs.Reader.{IsUeWord, IsZerosAndBits, Reads, leading, left_of, position_of, reader_bits, reader_bytes};
 
     /// A reader at the first bit of an RBSP.
     pub fn new(bytes: &'a [u8]) -> Self
@@ -89,6 +96,15 @@ impl<'a> BitReader<'a> {
         self.is_far()
     }
 
+    /// Whether surely so many bytes stand ahead. A caller that asks once for several elements has them without a test of
+    /// each.
+    #[inline(always)]
+    pub fn has_bytes(&self, count: usize) -> bool
+        ensures { IsTrue result → 8 * count ≤ length (reader_bits self.now).ahead }
+    {
+        self.has_more(count)
+    }
+
     /// The next bits, at most 32, as a number, the most significant first; zeros from the stop bit on. Nothing is passed.
     #[inline(always)]
     pub fn peek(&self, count: u32) -> u32
@@ -101,6 +117,17 @@ impl<'a> BitReader<'a> {
         } else {
             self.peek_near_end(count)
         }
+    }
+
+    /// The same where 64 bits stand ahead, which is not tested.
+    #[inline(always)]
+    pub fn peek_ahead(&self, count: u32) -> u32
+        requires few { count ≤ 32 }
+        requires ahead { 64 ≤ length (reader_bits self.now).ahead }
+        ensures bits { bits_of count result ≡ take count ((reader_bits self.now).ahead ++ replicate count false) }
+        ensures below { result < 2 ^ count }
+    {
+        self.bits_of_eight(count)
     }
 
     // the same, where the stop bit may be near
@@ -127,6 +154,16 @@ impl<'a> BitReader<'a> {
         }
         *self = self.after(count);
         Ok(())
+    }
+
+    /// Passes this many bits where they stand ahead, which is not tested.
+    #[inline(always)]
+    pub fn skip_ahead(&mut self, count: u32)
+        requires { count ≤ length (reader_bits self.old).ahead }
+        ensures bits { reader_bits self.new ≡ passed (reader_bits self.old) count }
+        ensures bytes { reader_bytes self.new ≡ reader_bytes self.old }
+    {
+        *self = self.after(count);
     }
 
     /// u(n): the next `count` bits, at most 32, as a number, or `Truncated`.
@@ -200,7 +237,18 @@ impl<'a> BitReader<'a> {
         if !self.is_far() {
             return None;
         }
-        let bits = self.next_bits(32);
+        self.zeros_and_bits_ahead(most, count)
+    }
+
+    /// The same where 64 bits stand ahead, which is not tested: `None` where the zeros are more.
+    #[inline(always)]
+    pub fn zeros_and_bits_ahead(&mut self, most: u32, count: u32) -> Option<(u32, u32)>
+        requires few { most ≤ 15 }
+        requires narrow { count ≤ 16 }
+        requires ahead { 64 ≤ length (reader_bits self.old).ahead }
+        ensures read { MatchOption result (self.new ≡ self.old) (λ p. IsZerosAndBits most count p.0 p.1 self.old self.new) }
+    {
+        let bits = self.bits_of_eight(32);
         let zeros = bits.leading_zeros();
         if zeros > most {
             return None;
@@ -217,15 +265,32 @@ impl<'a> BitReader<'a> {
         ensures below { IfOk result (λ value. value < 2 ^ 32 - 1) }
         ensures stays { OnErr result (self.new ≡ self.old) }
     {
-        if self.is_far() {
-            let front = self.front();
-            let length = 2 * front.zeros + 1;
-            if length <= front.count {
-                *self = self.after(length);
-                return Ok((front.bits >> (front.count - length)) - 1);
+        match self.short_ue() {
+            Some(word) => {
+                self.skip_ahead(word.length);
+                Ok(word.number)
             }
+            None => self.any_ue(),
         }
-        self.any_ue()
+    }
+
+    // the codeword of ue(v) ahead, where it is short and the stop bit is not near
+    #[inline(always)]
+    fn short_ue(&self) -> Option<UeWord>
+        ensures read { IfSome result (λ word. IsUeWord word (reader_bits self.now)) }
+    {
+        if !self.is_far() {
+            return None;
+        }
+        let front = self.front();
+        let length = 2 * front.zeros + 1;
+        if length > front.count {
+            return None;
+        }
+        Some(UeWord {
+            number: (front.bits >> (front.count - length)) - 1,
+            length,
+        })
     }
 
     // the same, of any length and anywhere
@@ -270,8 +335,28 @@ impl<'a> BitReader<'a> {
         ensures most { IfOk result (λ value. value ≤ top) }
         ensures stays { OnErr result (self.new ≡ self.old) }
     {
+        match self.short_ue() {
+            Some(word) => {
+                if word.number > top {
+                    return Err(Fault::OutOfRange);
+                }
+                self.skip_ahead(word.length);
+                Ok(word.number)
+            }
+            None => self.any_ue_to(top),
+        }
+    }
+
+    // the same, of any length and anywhere
+    #[cold]
+    #[inline(never)]
+    fn any_ue_to(&mut self, top: u32) -> Result<u32, Fault>
+        ensures read { Reads result (ue_to top) self.old self.new }
+        ensures most { IfOk result (λ value. value ≤ top) }
+        ensures stays { OnErr result (self.new ≡ self.old) }
+    {
         let before = *self;
-        let value = self.ue()?;
+        let value = self.any_ue()?;
         if value > top {
             *self = before;
             return Err(Fault::OutOfRange);
@@ -296,13 +381,25 @@ impl<'a> BitReader<'a> {
         ensures high { IfOk result (λ value. value ≤ℤ high) }
         ensures stays { OnErr result (self.new ≡ self.old) }
     {
-        let before = *self;
-        let value = self.se()?;
-        if value < low || value > high {
-            *self = before;
-            return Err(Fault::OutOfRange);
+        match self.short_ue() {
+            Some(word) => {
+                let value = signed_value(word.number);
+                if value < low || value > high {
+                    return Err(Fault::OutOfRange);
+                }
+                self.skip_ahead(word.length);
+                Ok(value)
+            }
+            None => {
+                let before = *self;
+                let value = self.se()?;
+                if value < low || value > high {
+                    *self = before;
+                    return Err(Fault::OutOfRange);
+                }
+                Ok(value)
+            }
         }
-        Ok(value)
     }
 
     /// te(v) (9.1): ue(v), but where the range is 1 one bit, inverted.
@@ -412,6 +509,14 @@ impl<'a> BitReader<'a> {
         self.stop_byte - self.byte > 32
     }
 
+    // whether the byte with the stop bit is more than so many bytes ahead
+    #[inline(always)]
+    fn has_more(&self, count: usize) -> bool
+        ensures { IsTrue result → self.now.byte + count + 1 ≤ self.now.stop_byte }
+    {
+        self.stop_byte - self.byte > count
+    }
+
     // how many bits were passed
     #[inline]
     fn place(&self) -> u128
@@ -479,10 +584,21 @@ impl<'a> BitReader<'a> {
         ensures bound { result < 2 ^ count }
     {
         if self.is_far() {
-            field_of_eight(eight_bytes(self.bytes, self.byte), self.bit as u32, count)
+            self.bits_of_eight(count)
         } else {
             bits_at(self.bytes, self.place(), count)
         }
+    }
+
+    // the same, of eight bytes that stand ahead
+    #[inline(always)]
+    fn bits_of_eight(&self, count: u32) -> u32
+        requires few { count ≤ 32 }
+        requires there { 64 ≤ left_of self.now }
+        ensures value { result ≡ number_of (take count (drop (position_of self.now) (byte_bits self.now.bytes.now))) }
+        ensures bound { result < 2 ^ count }
+    {
+        field_of_eight(eight_bytes(self.bytes, self.byte), self.bit as u32, count)
     }
 
     // the next 32 bits, or as many as there are

@@ -91,3 +91,13 @@ skipped_is n b after within is = ap (λ r. elim r [ Ok q ↦ q.1 | Err f ↦ aft
 
 pub never_cut : {P : Type 0} (n : ℕ) (b : Bits) (f : Fault) → n ≤ length b.ahead → skip n b ≡ Err f → P
 never_cut n b f within is = let whole = skip_long n b within in cc
+
+-- ---- how many bits are left
+
+pub few_passed : (b after : Bits) (first n value : ℕ) → u n (passed b first) ≡ Ok (value, after) → length b.ahead ≤ length after.ahead + (first + n)
+few_passed b after first n value is =
+    let p = suffix_passed (passed b first) after n value is in
+    omega (arith, p.within, ap (λ x. length x.ahead) p.same, length-drop n (drop first b.ahead), length-drop first b.ahead)
+
+pub few_skipped : (n : ℕ) (b after : Bits) → n ≤ length b.ahead → skip n b ≡ Ok (tt, after) → length b.ahead ≤ length after.ahead + n
+few_skipped n b after within is = omega (arith, ap (λ x. length x.ahead) (skipped_is n b after within is), length-drop n b.ahead)

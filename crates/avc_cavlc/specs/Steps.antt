@@ -13,6 +13,12 @@ ReadsInto result value read old new = MatchResult result
     (λ _. (read (reader_bits old) ≡ Ok (value, reader_bits new)) × (reader_bytes new ≡ reader_bytes old))
     (λ fault. read (reader_bits old) ≡ Err fault)
 
+-- The same, where what goes on after it is the result.
+abbrev pub ReadsOn : {A : Type 0} → Result BitReader Fault → A → Read A → BitReader → Type 0
+ReadsOn result value read old = MatchResult result
+    (λ new. (read (reader_bits old) ≡ Ok (value, reader_bits new)) × (reader_bytes new ≡ reader_bytes old))
+    (λ fault. read (reader_bits old) ≡ Err fault)
+
 -- The levelCode that was read is that of the level that this part of the syntax reads.
 abbrev pub ReadsCode : Result ℕ Fault → Read ℤ → BitReader → BitReader → Type 0
 ReadsCode result read old new = MatchResult result

@@ -1,10 +1,10 @@
 //! Levels that are not 0 (9.2.2).
-ghost use Rattle.std.specs.Prelude.{◌≡◌, ◌+◌, ◌-◌, ◌/◌, ◌%◌, ◌==◌, ◌^◌, ◌≤◌, ◌<◌, ℤ, pos, take, nat_abs, IfOk, IsTrue, All};
+ghost use Rattle.std.specs.Prelude.{◌≡◌, ◌+◌, ◌-◌, ◌*◌, ◌/◌, ◌%◌, ◌==◌, ◌^◌, ◌≤◌, ◌<◌, ℤ, pos, length, take, nat_abs, IfOk, IsTrue, MatchOption, All};
 ghost use Rattle.avc_bits.specs.Bits.{times};
-ghost use Rattle.avc_bits.specs.Reader.{reader_bits};
+ghost use Rattle.avc_bits.specs.Reader.{IsZerosAndBits, reader_bits};
 ghost use Rattle.avc_vlc.specs.Reading.{IsToken};
 ghost use Rattle.avc_cavlc.specs.Block.{IsLevel, level, level_code, level_of_code, next_suffix_length, suffix_size, token_levels, trailing_one};
-ghost use Rattle.avc_cavlc.specs.Steps.{IsLongCode, ReadsCode, ReadsInto, levels_after, one_of_sign, raised};
+ghost use Rattle.avc_cavlc.specs.Steps.{IsLongCode, ReadsCode, ReadsInto, ReadsOn, levels_after, one_of_sign, raised};
 
 use avc_bits::BitReader;
 use avc_types::Fault;
@@ -12,6 +12,9 @@ use avc_vlc::Token;
 
 /// The greatest suffixLength.
 const MOST_SUFFIX_BITS: u32 = 6;
+
+/// Surely more than the levels of a block take, which have at most 28 bits each, and the eight bytes of a look.
+const BYTES_OF_LEVELS: usize = 72;
 
 /// Reads the levels of a block that are not 0, the highest frequency first, into the first of the values.
 #[inline(always)]
@@ -93,32 +96,109 @@ fn read_others(
         (levels_after (take ones values.old) (total - ones) suffix_length above_one) reader.old reader.new }
     ensures size { IfOk result (λ _. All IsLevel (take total values.new)) }
 {
-    let code = read_level_code(reader, suffix_length, above_one)?;
+    if reader.has_bytes(BYTES_OF_LEVELS) {
+        return read_others_by(reader, values, ones, total, suffix_length, above_one, true);
+    }
+    *reader = others_near_end(*reader, values, ones, total, suffix_length, above_one)?;
+    Ok(())
+}
+
+// The same where the stop bit may be near. The reader is a copy, so that the caller's may stay in registers.
+#[cold]
+#[inline(never)]
+fn others_near_end<'a>(
+    reader: BitReader<'a>,
+    values: &mut [i16; 16],
+    ones: usize,
+    total: usize,
+    suffix_length: u32,
+    above_one: bool,
+) -> Result<BitReader<'a>, Fault>
+    requires some { ones < total }
+    requires few { total ≤ 16 }
+    requires ones { All IsLevel (take ones values.old) }
+    requires length { suffix_length ≤ 1 }
+    ensures read { ReadsOn result (take total values.new)
+        (levels_after (take ones values.old) (total - ones) suffix_length above_one) reader.entry }
+    ensures size { IfOk result (λ _. All IsLevel (take total values.new)) }
+{
+    let mut after = reader;
+    read_others_by(
+        &mut after,
+        values,
+        ones,
+        total,
+        suffix_length,
+        above_one,
+        false,
+    )?;
+    Ok(after)
+}
+
+// The same; `far` says that 32 bits a level and 64 more stand ahead.
+#[inline(always)]
+fn read_others_by(
+    reader: &mut BitReader,
+    values: &mut [i16; 16],
+    ones: usize,
+    total: usize,
+    suffix_length: u32,
+    above_one: bool,
+    far: bool,
+) -> Result<(), Fault>
+    requires some { ones < total }
+    requires few { total ≤ 16 }
+    requires ones { All IsLevel (take ones values.old) }
+    requires length { suffix_length ≤ 1 }
+    requires room { IsTrue far → 32 * (total - ones) + 64 ≤ length (reader_bits reader.old).ahead }
+    ensures read { ReadsInto result (take total values.new)
+        (levels_after (take ones values.old) (total - ones) suffix_length above_one) reader.old reader.new }
+    ensures size { IfOk result (λ _. All IsLevel (take total values.new)) }
+{
+    let code = read_level_code(reader, suffix_length, above_one, far)?;
     values[ones] = level_of_code(code);
     let mut bits = raised(suffix_length.max(1), size_of_code(code));
     'levels: for k in ones + 1..total {
-        let code = read_level_code(reader, bits, false)?;
+        let code = read_level_code(reader, bits, false, far)?;
         values[k] = level_of_code(code);
         bits = raised(bits, size_of_code(code));
     }
     Ok(())
 }
 
-// levelCode of one level that is no trailing one; above_one says that its size is known to be above 1.
+// levelCode of one level that is no trailing one; above_one says that its size is known to be above 1, and `far` that
+// 64 bits stand ahead.
 #[inline(always)]
 fn read_level_code(
     reader: &mut BitReader,
     suffix_length: u32,
     above_one: bool,
+    far: bool,
 ) -> Result<u32, Fault>
     requires length { suffix_length ≤ 6 }
     requires first { IsTrue above_one → suffix_length ≤ 1 }
+    requires ahead { IsTrue far → 64 ≤ length (reader_bits reader.old).ahead }
     ensures read { ReadsCode result (level suffix_length above_one) reader.old reader.new }
     ensures most { IfOk result (λ code. code ≤ 5055) }
+    ensures short { IfOk result (λ _. length (reader_bits reader.old).ahead ≤ length (reader_bits reader.new).ahead + 32) }
 {
-    match reader.zeros_and_bits(13, suffix_length) {
+    match prefix_and_suffix(reader, suffix_length, far) {
         Some((prefix, suffix)) => Ok(level_code(prefix, suffix_length, suffix, above_one)),
         None => read_long_code(reader, suffix_length, above_one),
+    }
+}
+
+// level_prefix up to 13 and level_suffix by one look.
+#[inline(always)]
+fn prefix_and_suffix(reader: &mut BitReader, suffix_length: u32, far: bool) -> Option<(u32, u32)>
+    requires length { suffix_length ≤ 6 }
+    requires ahead { IsTrue far → 64 ≤ length (reader_bits reader.old).ahead }
+    ensures { MatchOption result (reader.new ≡ reader.old) (λ p. IsZerosAndBits 13 suffix_length p.0 p.1 reader.old reader.new) }
+{
+    if far {
+        reader.zeros_and_bits_ahead(13, suffix_length)
+    } else {
+        reader.zeros_and_bits(13, suffix_length)
     }
 }
 
@@ -129,6 +209,7 @@ fn read_long_code(reader: &mut BitReader, suffix_length: u32, above_one: bool) -
     requires first { IsTrue above_one → suffix_length ≤ 1 }
     ensures read { ReadsCode result (level suffix_length above_one) reader.old reader.new }
     ensures most { IfOk result (λ code. code ≤ 5055) }
+    ensures short { IfOk result (λ _. length (reader_bits reader.old).ahead ≤ length (reader_bits reader.new).ahead + 32) }
 {
     let code = long_code(*reader, suffix_length, above_one)?;
     reader.skip(code.length)?;
@@ -150,6 +231,7 @@ fn long_code(reader: BitReader, suffix_length: u32, above_one: bool) -> Result<L
     requires first { IsTrue above_one → suffix_length ≤ 1 }
     ensures read { IsLongCode result (level suffix_length above_one) (reader_bits reader.entry) }
     ensures most { IfOk result (λ code. code.number ≤ 5055) }
+    ensures short { IfOk result (λ code. code.length ≤ 28) }
 {
     let mut after = reader;
     let prefix = after.zeros_before_one(15, Fault::BadCode)?;

@@ -1,11 +1,12 @@
 //! Inter macroblocks whose vectors are coded (7.3.5, 7.3.5.1, 7.3.5.2).
 ghost use Rattle.std.specs.Prelude.{◌≡◌, ◌≤◌, length, replicate, take, IfOk, All, ◌-◌};
 ghost use Rattle.avc_types.specs.Macroblock.{parts_of, parts_of_quarter, parts_of_quarters, partitions};
+ghost use Rattle.avc_types.specs.declared.mb.Syntax.TheVariants.{PInter};
 ghost use Rattle.avc_bits.specs.Bits.{times};
 ghost use Rattle.avc_bits.specs.Reader.{Reads};
 ghost use Rattle.avc_mbsyntax.specs.Ranges.{IsSyntax};
 ghost use Rattle.avc_mbsyntax.specs.Reading.{mvd_l0, p_mb, p_mb_type, ref_idx_l0, sub_mb_types};
-ghost use Rattle.avc_mbsyntax.specs.Steps.{ReadsInto, context_of, is_ref0};
+ghost use Rattle.avc_mbsyntax.specs.Steps.{ReadsInto, context_of, inter_levels_in, is_ref0, mvd_in};
 
 use crate::context::LentContext;
 use crate::elements::read_elements;
@@ -31,12 +32,7 @@ pub(crate) fn read_p_mb(
     let mb_type = read_p_mb_type(reader, mb_type)?;
     let mut ref_idx = [0; 4];
     read_ref_idx(reader, context.active_count, &mb_type, &mut ref_idx)?;
-    mb.syntax = Syntax::PInter {
-        mb_type,
-        ref_idx,
-        mvd: [NO_MVD; 16],
-        levels: zero_levels(),
-    };
+    set_inter(&mut mb.syntax, mb_type, ref_idx);
     let Syntax::PInter { mvd, .. } = &mut mb.syntax else {
         unreachable!()
     };
@@ -48,6 +44,28 @@ pub(crate) fn read_p_mb(
     read_after_pattern(reader, context, pattern, levels)?;
     mb.qp = qp_after(context.qp, levels.mb_qp_delta);
     Ok(())
+}
+
+// An inter macroblock of this type with these reference indices; the rest is what stands there from one before, or nothing.
+fn set_inter(syntax: &mut Syntax, mb_type: PMbType, ref_idx: [u8; 4])
+    ensures { syntax.new ≡ PInter mb_type ref_idx (mvd_in syntax.old) (inter_levels_in syntax.old) }
+{
+    match syntax {
+        Syntax::PInter { mb_type: place, .. } => *place = mb_type,
+        _ => {
+            *syntax = Syntax::PInter {
+                mb_type,
+                ref_idx,
+                mvd: [NO_MVD; 16],
+                levels: zero_levels(),
+            };
+            return;
+        }
+    }
+    let Syntax::PInter { ref_idx: place, .. } = syntax else {
+        unreachable!()
+    };
+    *place = ref_idx;
 }
 
 fn read_sub_mb_types(reader: &mut BitReader) -> Result<[SubMbType; 4], Fault>

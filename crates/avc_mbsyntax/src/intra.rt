@@ -1,9 +1,10 @@
 //! Intra macroblocks (7.3.5).
 ghost use Rattle.std.specs.Prelude.{◌≡◌, ◌≤◌, true, IfOk, All, IfSome};
+ghost use Rattle.avc_types.specs.declared.mb.Syntax.TheVariants.{I16x16, INxN};
 ghost use Rattle.avc_bits.specs.Bits.{times};
 ghost use Rattle.avc_mbsyntax.specs.Ranges.{IsSyntax};
 ghost use Rattle.avc_mbsyntax.specs.Reading.{block_mode, i_16x16_mb, i_mb, i_nxn_mb, i_pcm_mb, luma_pattern_of};
-ghost use Rattle.avc_mbsyntax.specs.Steps.{ReadsInto, context_of};
+ghost use Rattle.avc_mbsyntax.specs.Steps.{ReadsInto, context_of, levels_in_16x16, nxn_levels_in};
 
 use crate::context::LentContext;
 use crate::elements::read_elements;
@@ -12,7 +13,7 @@ use crate::residual::{
 };
 use crate::samples::read_samples;
 use avc_bits::BitReader;
-use avc_types::{Fault, Mb, Syntax};
+use avc_types::{Fault, Levels, Mb, Syntax};
 use avc_vlc::read_cbp;
 
 /// Reads a macroblock with this mb_type of an I slice (Table 7-11).
@@ -50,17 +51,37 @@ fn read_i_nxn(reader: &mut BitReader, context: &LentContext<'_>, mb: &mut Mb) ->
     read_modes(reader, &mut modes)?;
     let chroma_mode = reader.ue_to(3)? as u8;
     let pattern = read_cbp(reader, true)?;
-    mb.syntax = Syntax::INxN {
-        modes,
-        chroma_mode,
-        levels: zero_levels(),
-    };
+    set_nxn(&mut mb.syntax, modes, chroma_mode);
     let Syntax::INxN { levels, .. } = &mut mb.syntax else {
         unreachable!()
     };
     read_after_pattern(reader, context, pattern, levels)?;
     mb.qp = qp_after(context.qp, levels.mb_qp_delta);
     Ok(())
+}
+
+// An I_NxN macroblock with these modes; its levels are those that stand there from one before, or none.
+fn set_nxn(syntax: &mut Syntax, modes: [Option<u8>; 16], chroma_mode: u8)
+    ensures { syntax.new ≡ INxN modes chroma_mode (nxn_levels_in syntax.old) }
+{
+    match syntax {
+        Syntax::INxN {
+            chroma_mode: place,
+            ..
+        } => *place = chroma_mode,
+        _ => {
+            *syntax = Syntax::INxN {
+                modes,
+                chroma_mode,
+                levels: zero_levels(),
+            };
+            return;
+        }
+    }
+    let Syntax::INxN { modes: place, .. } = syntax else {
+        unreachable!()
+    };
+    *place = modes;
 }
 
 fn read_i_16x16(
@@ -82,18 +103,39 @@ fn read_i_16x16(
         mb_qp_delta,
     };
     let luma_dc = read_intra_dc(reader, context)?;
-    mb.syntax = Syntax::I16x16 {
-        mode: n % 4,
-        chroma_mode,
-        luma_dc,
-        levels: zero_levels(),
-    };
+    set_16x16(&mut mb.syntax, n % 4, chroma_mode, luma_dc);
     let Syntax::I16x16 { levels, .. } = &mut mb.syntax else {
         unreachable!()
     };
     read_levels(reader, context, patterns, levels)?;
     mb.qp = qp_after(context.qp, mb_qp_delta);
     Ok(())
+}
+
+// An Intra 16x16 macroblock with these modes and DC levels, likewise.
+fn set_16x16(syntax: &mut Syntax, mode: u8, chroma_mode: u8, luma_dc: Levels<16>)
+    ensures { syntax.new ≡ I16x16 mode chroma_mode luma_dc (levels_in_16x16 syntax.old) }
+{
+    match syntax {
+        Syntax::I16x16 {
+            mode: mode_place,
+            chroma_mode: chroma_place,
+            luma_dc: dc_place,
+            ..
+        } => {
+            *mode_place = mode;
+            *chroma_place = chroma_mode;
+            *dc_place = luma_dc;
+        }
+        _ => {
+            *syntax = Syntax::I16x16 {
+                mode,
+                chroma_mode,
+                luma_dc,
+                levels: zero_levels(),
+            };
+        }
+    }
 }
 
 // CodedBlockPatternLuma, by mb_type - 1 (Table 7-11)

@@ -8,7 +8,7 @@ ghost use Rattle.avc_mbsyntax.specs.Ranges.{AreSmall, IsResidual};
 ghost use Rattle.avc_mbsyntax.specs.Reading.{after_pattern, blocks, cb_side, cr_side, is_coded};
 ghost use Rattle.avc_mbsyntax.specs.Reading.{luma_dc_levels, luma_side, no_levels, qp_after, qp_delta, qp_delta_where};
 ghost use Rattle.avc_mbsyntax.specs.Reading.{residual_blocks};
-ghost use Rattle.avc_mbsyntax.specs.Steps.{HasNoLevels, ReadsInto, context_of};
+ghost use Rattle.avc_mbsyntax.specs.Steps.{ReadsInto, context_of, no_block_levels};
 
 use crate::blocks::{read_chroma_blocks, read_chroma_dc, read_luma_blocks, read_luma_dc};
 use crate::context::LentContext;
@@ -26,7 +26,7 @@ pub(crate) struct Patterns {
 
 /// Levels that are all 0, and nothing else coded.
 pub(crate) fn zero_levels<const MAXN: usize>() -> BlockLevels<MAXN>
-    ensures { HasNoLevels result }
+    ensures { result ≡ no_block_levels }
 {
     BlockLevels {
         luma_pattern: 0,
@@ -40,22 +40,18 @@ pub(crate) fn zero_levels<const MAXN: usize>() -> BlockLevels<MAXN>
     }
 }
 
-/// Reads what follows coded_block_pattern into levels that are all 0.
+/// Reads what follows coded_block_pattern.
 pub(crate) fn read_after_pattern(
     reader: &mut BitReader,
     context: &LentContext<'_>,
     pattern: u8,
     levels: &mut BlockLevels<16>,
 ) -> Result<(), Fault>
-    requires pattern { pattern < 48 }
-    requires zero { HasNoLevels levels.old }
+    requires { pattern < 48 }
     ensures delta { IfOk result (λ _. negsuc 25 ≤ℤ levels.new.mb_qp_delta) }
     ensures range { IfOk result (λ _. IsResidual (residual_of [] levels.new)) }
     ensures read { ReadsInto result (residual_of [] levels.new) (after_pattern (context_of context.now) pattern) reader.old reader.new }
 {
-    if pattern == 0 {
-        return Ok(());
-    }
     let mb_qp_delta = read_qp_delta_where(reader, pattern != 0)?;
     let patterns = Patterns {
         luma_pattern: pattern % 16,
@@ -102,8 +98,7 @@ fn read_luma<const MAXN: usize>(
     luma_pattern: u8,
     levels: &mut [Levels<MAXN>; 16],
 ) -> Result<(), Fault>
-    requires max { MAXN ≤ 16 }
-    requires zero { levels.old ≡ replicate 16 (no_levels MAXN) }
+    requires { MAXN ≤ 16 }
     ensures small { IfOk result (λ _. All AreSmall levels.new) }
     ensures read { ReadsInto result levels.new (blocks MAXN 16 (is_coded luma_pattern) (luma_side (option_copied context.now.left))
         (luma_side (option_copied context.now.up)) (range_with_len 0 16) []) reader.old reader.new }
@@ -120,7 +115,6 @@ fn read_cb_ac(
     chroma_pattern: u8,
     levels: &mut [Levels<15>; 4],
 ) -> Result<(), Fault>
-    requires zero { levels.old ≡ replicate 4 (no_levels 15) }
     ensures small { IfOk result (λ _. All AreSmall levels.new) }
     ensures read { ReadsInto result levels.new
         (blocks 15 8 (λ k. chroma_pattern == 2) (cb_side (option_copied context.now.left))
@@ -138,7 +132,6 @@ fn read_cr_ac(
     chroma_pattern: u8,
     levels: &mut [Levels<15>; 4],
 ) -> Result<(), Fault>
-    requires zero { levels.old ≡ replicate 4 (no_levels 15) }
     ensures small { IfOk result (λ _. All AreSmall levels.new) }
     ensures read { ReadsInto result levels.new
         (blocks 15 8 (λ k. chroma_pattern == 2) (cr_side (option_copied context.now.left))
@@ -149,7 +142,7 @@ fn read_cr_ac(
     read_chroma_blocks(reader, chroma_pattern, left, up, levels)
 }
 
-/// Reads the blocks, behind Intra16x16DCLevel, into levels that are all 0.
+/// Reads the blocks, behind Intra16x16DCLevel; the levels of those that are not coded become 0.
 pub(crate) fn read_levels<const MAXN: usize>(
     reader: &mut BitReader,
     context: &LentContext<'_>,
@@ -159,7 +152,6 @@ pub(crate) fn read_levels<const MAXN: usize>(
     requires max { MAXN ≤ 16 }
     requires luma { patterns.luma_pattern ≤ 15 }
     requires chroma { patterns.chroma_pattern ≤ 2 }
-    requires zero { HasNoLevels levels.old }
     ensures read { (luma_dc : List ℤ) → ReadsInto result (residual_of luma_dc levels.new)
         (residual_blocks (context_of context.now) MAXN luma_dc patterns.luma_pattern patterns.chroma_pattern patterns.mb_qp_delta) reader.old reader.new }
     ensures delta { IfOk result (λ _. levels.new.mb_qp_delta ≡ patterns.mb_qp_delta) }

@@ -6,7 +6,7 @@ use Rattle.std.proofs.lemmas.List.{get_or-map, get_or-replicate}
 use Rattle.std.proofs.lemmas.List.FromFn.{get_or-map-range_with_len}
 use Rattle.avc_vlc.specs.declared.entry.Entry.{Entry}
 use Rattle.avc_vlc.specs.Reading.{Table, tokens_8}
-use Rattle.avc_vlc.specs.Indexing.{AreIndexed, IsIndexed, index, entry_of, place_bits, six_bit_entry}
+use Rattle.avc_vlc.specs.Indexing.{AreFronts, AreIndexed, IsIndexed, index, entry_of, place_bits, six_bit_entry}
 use Rattle.avc_bits.specs.Bits.{bits_of}
 
 -- the entry at a place
@@ -33,6 +33,19 @@ indexed_table {A} each tail rows tables k none is there =
           ∙ ap (λ l. get_or l k []) is.same
           ∙ get_or-map (map (map Some)) tables k none [] there;
     }
+
+-- the entry of three bits in one of several tables
+pub front_entry : {A : Type 0} (each : ℕ → Table A) (tables : List (List (Entry A))) (k n : ℕ) (none : List (Entry A)) (e : Entry A) → AreFronts each tables → k < length tables → n < 8 → n < length (get_or tables k none) →
+    entry_of (each k) (bits_of 3 n) ≡ Some (get_or (get_or tables k none) n e)
+front_entry {A} each tables k n none e are within narrow there =
+    let cell : ℕ → ℕ → Option (Entry A) = λ t f. entry_of (each t) (bits_of 3 f) in
+    let here : get_or (map (λ t. map (cell t) (range_with_len 0 8)) (range_with_len 0 (length tables))) k [] ≡ map (cell k) (range_with_len 0 8) =
+    get_or-map-range_with_len (λ t. map (cell t) (range_with_len 0 8)) 0 (length tables) k k [] within (omega arith) in
+    let given : get_or (map (λ t. map (cell t) (range_with_len 0 8)) (range_with_len 0 (length tables))) k [] ≡ map Some (get_or tables k none) =
+    ap (λ l. get_or l k []) are.same ∙ get_or-map (map Some) tables k none [] within in
+    sym (get_or-map-range_with_len (cell k) 0 8 n n None narrow (omega arith))
+    ∙ ap (λ l. get_or l n None) (sym here ∙ given)
+    ∙ get_or-map Some (get_or tables k none) n e None there
 
 six_computed : map (λ n. entry_of tokens_8 (bits_of 6 n)) (range_with_len 0 64) ≡ map (λ n. Some (six_bit_entry n)) (range_with_len 0 64)
 six_computed = refl

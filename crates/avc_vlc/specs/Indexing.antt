@@ -77,6 +77,10 @@ pub record AreIndexed {A : Type 0} (each : ℕ → Table A) (tail rows : ℕ) (t
   pub long : map length tables ≡ replicate (length tables) rows
   pub same : map (λ k. index (each k) tail rows) (range_with_len 0 (length tables)) ≡ map (map (map Some)) tables
 
+-- each of the tables in the list is what the values of three bits decide by its table
+pub record AreFronts {A : Type 0} (each : ℕ → Table A) (tables : List (List (Entry A))) : Type 0 where
+  pub same : map (λ k. map (λ n. entry_of (each k) (bits_of 3 n)) (range_with_len 0 8)) (range_with_len 0 (length tables)) ≡ map (map Some) tables
+
 -- the place is that of the bits ahead
 pub record IsPlaceOf (ahead : List Bool) (last tail row column : ℕ) : Type 0 where
   pub agrees : Agree (place_bits last tail row column) ahead

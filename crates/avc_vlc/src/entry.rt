@@ -2,7 +2,7 @@ ghost use Rattle.std.specs.Prelude.{◌≡◌, ◌≤◌, ℕ, List, Bool, true,
 ghost use Rattle.std.specs.List.{list_any};
 ghost use Rattle.avc_bits.specs.Reader.{Reads, reader_bits};
 ghost use Rattle.avc_vlc.specs.Reading.{Table, table_code};
-ghost use Rattle.avc_vlc.specs.Indexing.{AreIndexed, Decides, IsIndexed, Shows, holds};
+ghost use Rattle.avc_vlc.specs.Indexing.{AreFronts, AreIndexed, Decides, IsIndexed, Shows, holds};
 
 use crate::code::Code;
 use crate::token::Token;
@@ -154,7 +154,8 @@ fn entry_near_end(reader: BitReader, rows: &[[Entry<u8>; 4]]) -> Entry<u8>
 pub(crate) fn number_at(code: Code<16>, rows: &[[Entry<u8>; 4]]) -> Entry<u8>
     requires some { 1 ≤ length rows.now }
     requires few { length rows.now ≤ 16 }
-    ensures { (table : Table ℕ) (ahead : List Bool) → IsIndexed table 2 rows.now → Shows code ahead → Decides table ahead result }
+    ensures decides { (table : Table ℕ) (ahead : List Bool) → IsIndexed table 2 rows.now → Shows code ahead → Decides table ahead result }
+    ensures short { (table : Table ℕ) → IsIndexed table 2 rows.now → result.length ≤ 18 }
 {
     let (row, column) = code.place(rows.len() - 1, 2);
     rows[row][column]
@@ -173,6 +174,17 @@ pub(crate) fn number_in<const ROWS: usize, const TABLES: usize>(
     ensures { (each : ℕ → Table ℕ) (ahead : List Bool) → AreIndexed each 2 ROWS tables.now → Shows code ahead → Decides (each table) ahead result }
 {
     number_at(code, &tables[table])
+}
+
+// What the first three bits decide by one of several tables of numbers, which have an entry for each value of them.
+#[inline(always)]
+pub(crate) fn number_of_three(code: Code<16>, tables: &[[Entry<u8>; 8]], table: usize) -> Entry<u8>
+    requires { table < length tables.now }
+    ensures decides { (each : ℕ → Table ℕ) (ahead : List Bool) → AreFronts each tables.now → Shows code ahead → Decides (each table) ahead result }
+    ensures short { (each : ℕ → Table ℕ) → AreFronts each tables.now → result.length ≤ 3 }
+{
+    let front = code.front(3) as usize;
+    tables[table][front]
 }
 
 // An entry: (length) of a front with which no codeword begins, (length, value) of a codeword, (length, TotalCoeff,

@@ -1,6 +1,7 @@
-//! run_before (9.2.3, Table 9-10). A table has a row for each number of zeros in front of the first 1, the last for all
-//! that are more, and a column for each value of the two bits behind that 1.
-ghost use Rattle.std.specs.Prelude.{◌≡◌, ◌≤◌, ◌<◌, List, Bool, Err, IfOk, IfSome, OnErr};
+//! run_before (9.2.3, Table 9-10). Where six zeros are left at most, the next three bits decide. Else a table has a row for
+//! each number of zeros in front of the first 1, the last for all that are more, and a column for each value of the two
+//! bits behind that 1.
+ghost use Rattle.std.specs.Prelude.{◌≡◌, ◌≤◌, ◌<◌, ◌+◌, List, Bool, length, Err, IfOk, IfSome, OnErr};
 ghost use Rattle.avc_bits.specs.Reader.{Reads, reader_bits};
 ghost use Rattle.avc_vlc.specs.Reading.{run_before, run_table};
 ghost use Rattle.avc_vlc.specs.Indexing.{Decides, Shows};
@@ -9,7 +10,7 @@ ghost use Rattle.std.specs.Option.{option_map};
 
 use crate::code::Code;
 use crate::codeword::Codeword;
-use crate::entry::{Entry, entry, number_in, row4};
+use crate::entry::{Entry, entry, number_at, number_of_three, row4, row8};
 use avc_bits::BitReader;
 use avc_types::Fault;
 
@@ -26,6 +27,25 @@ pub fn read_run_before(reader: &mut BitReader, zeros_left: u8) -> Result<u8, Fau
         read_coded(reader, run_entry(code, zeros_left), zeros_left)
     } else {
         read_near_end(reader, zeros_left)
+    }
+}
+
+/// The same where 64 bits stand ahead, which is not tested. A codeword has at most 18 bits.
+#[inline(always)]
+pub fn read_run_before_ahead(reader: &mut BitReader, zeros_left: u8) -> Result<u8, Fault>
+    requires { 64 ≤ length (reader_bits reader.old).ahead }
+    ensures read { Reads result (run_before zeros_left) reader.old reader.new }
+    ensures most { IfOk result (λ run. run ≤ zeros_left) }
+    ensures short { IfOk result (λ _. length (reader_bits reader.old).ahead ≤ length (reader_bits reader.new).ahead + 18) }
+{
+    let code = Code::<16>::look_ahead(reader);
+    let entry = run_entry(code, zeros_left);
+    match entry.value {
+        Some(run) if run <= zeros_left => {
+            reader.skip_ahead(u32::from(entry.length));
+            Ok(run)
+        }
+        _ => Err(refused(*reader, entry, zeros_left)),
     }
 }
 
@@ -83,10 +103,38 @@ fn refused(reader: BitReader, entry: Entry<u8>, zeros_left: u8) -> Fault
 // what the bits decide
 #[inline(always)]
 fn run_entry(code: Code<16>, zeros_left: u8) -> Entry<u8>
-    ensures { (ahead : List Bool) → Shows code ahead → Decides (run_table zeros_left) ahead result }
+    ensures decides { (ahead : List Bool) → Shows code ahead → Decides (run_table zeros_left) ahead result }
+    ensures short { result.length ≤ 18 }
 {
-    let table = zeros_left.saturating_sub(1).min(6);
-    number_in(code, &RUN_BEFORE, table as usize)
+    if zeros_left > 6 {
+        many_entry(code, zeros_left)
+    } else {
+        few_entry(code, zeros_left)
+    }
+}
+
+// the same where more than six zeros are left
+#[inline(always)]
+fn many_entry(code: Code<16>, zeros_left: u8) -> Entry<u8>
+    requires { 6 < zeros_left }
+    ensures decides { (ahead : List Bool) → Shows code ahead → Decides (run_table zeros_left) ahead result }
+    ensures short { result.length ≤ 18 }
+{
+    number_at(code, &RUNS_OF_MANY)
+}
+
+// the same where six zeros are left at most
+#[inline(always)]
+fn few_entry(code: Code<16>, zeros_left: u8) -> Entry<u8>
+    requires { zeros_left ≤ 6 }
+    ensures decides { (ahead : List Bool) → Shows code ahead → Decides (run_table zeros_left) ahead result }
+    ensures short { result.length ≤ 18 }
+{
+    number_of_three(
+        code,
+        &RUNS_BY_FRONT,
+        usize::from(zeros_left.saturating_sub(1)),
+    )
 }
 
 /// The codeword of so many zeros right before a level, where `zeros_left` zeros are left for it and those before it;
@@ -105,66 +153,59 @@ fn word_of_run(zeros_left: u8, run: u8) -> Option<Codeword>
     ensures { option_map word_bits result ≡ word_of (is_number_same run) (run_table zeros_left) }
 {
     match zeros_left {
-        0..=1 => Codeword::of(&RUN_BEFORE[0], 2, run),
-        2 => Codeword::of(&RUN_BEFORE[1], 2, run),
-        3 => Codeword::of(&RUN_BEFORE[2], 2, run),
-        4 => Codeword::of(&RUN_BEFORE[3], 2, run),
-        5 => Codeword::of(&RUN_BEFORE[4], 2, run),
-        6 => Codeword::of(&RUN_BEFORE[5], 2, run),
-        _ => Codeword::of(&RUN_BEFORE[6], 2, run),
+        0..=1 => Codeword::of(&RUNS_OF_FEW[0], 2, run),
+        2 => Codeword::of(&RUNS_OF_FEW[1], 2, run),
+        3 => Codeword::of(&RUNS_OF_FEW[2], 2, run),
+        4 => Codeword::of(&RUNS_OF_FEW[3], 2, run),
+        5 => Codeword::of(&RUNS_OF_FEW[4], 2, run),
+        6 => Codeword::of(&RUNS_OF_FEW[5], 2, run),
+        _ => Codeword::of(&RUNS_OF_MANY, 2, run),
     }
 }
 
-// Twelve rows, of which those behind the given ones are the last of them again.
-macro_rules! rows12 {
-    ($a:expr, $last:expr) => {
-        rows12!($a, $last, $last)
-    };
-    ($a:expr, $b:expr, $last:expr) => {
-        rows12!($a, $b, $last, $last)
-    };
-    ($a:expr, $b:expr, $c:expr, $last:expr) => {
+// For each value of the next three bits the codeword that they begin with, for zerosLeft 1 to 6; no codeword is longer.
+macro_rules! few_runs {
+    ($table:ident) => {
         [
-            $a, $b, $c, $last, $last, $last, $last, $last, $last, $last, $last, $last,
+            $table!((1, 1), (1, 1), (1, 1), (1, 1), (1, 0), (1, 0), (1, 0), (1, 0)),
+            $table!((2, 2), (2, 2), (2, 1), (2, 1), (1, 0), (1, 0), (1, 0), (1, 0)),
+            $table!((2, 3), (2, 3), (2, 2), (2, 2), (2, 1), (2, 1), (2, 0), (2, 0)),
+            $table!((3, 4), (3, 3), (2, 2), (2, 2), (2, 1), (2, 1), (2, 0), (2, 0)),
+            $table!((3, 5), (3, 4), (3, 3), (3, 2), (2, 1), (2, 1), (2, 0), (2, 0)),
+            $table!((3, 1), (3, 2), (3, 4), (3, 3), (3, 6), (3, 5), (2, 0), (2, 0)),
         ]
     };
 }
 
-// By zerosLeft: 1 to 6, and above 6.
-static RUN_BEFORE: [[[Entry<u8>; 4]; 12]; 7] = [
-    rows12!(row4!((1, 0)), row4!((1, 1))),
-    rows12!(row4!((1, 0)), row4!((2, 1)), row4!((2, 2))),
-    rows12!(row4!((2, 1), (2, 0)), row4!((2, 2)), row4!((2, 3))),
-    rows12!(
-        row4!((2, 1), (2, 0)),
-        row4!((2, 2)),
-        row4!((3, 3)),
-        row4!((3, 4))
-    ),
-    rows12!(
-        row4!((2, 1), (2, 0)),
-        row4!((3, 3), (3, 2)),
-        row4!((3, 4)),
-        row4!((3, 5))
-    ),
-    rows12!(
-        row4!((3, 6), (3, 5), (2, 0), (2, 0)),
-        row4!((3, 4), (3, 3)),
-        row4!((3, 2)),
-        row4!((3, 1))
-    ),
-    [
-        row4!((3, 3), (3, 2), (3, 1), (3, 0)),
-        row4!((3, 5), (3, 4)),
-        row4!((3, 6)),
-        row4!((4, 7)),
-        row4!((5, 8)),
-        row4!((6, 9)),
-        row4!((7, 10)),
-        row4!((8, 11)),
-        row4!((9, 12)),
-        row4!((10, 13)),
-        row4!((11, 14)),
-        row4!((11)),
-    ],
+// The same by the zeros in front: four rows.
+macro_rules! by_zeros {
+    ($a:tt, $b:tt, $c:tt, $d:tt, $e:tt, $f:tt, $g:tt, $h:tt) => {
+        [
+            row4!($e, $f, $g, $h),
+            row4!($c, $d),
+            row4!($b),
+            row4!($a),
+        ]
+    };
+}
+
+// By zerosLeft, 1 to 6.
+static RUNS_BY_FRONT: [[Entry<u8>; 8]; 6] = few_runs!(row8);
+
+static RUNS_OF_FEW: [[[Entry<u8>; 4]; 4]; 6] = few_runs!(by_zeros);
+
+// Of a greater zerosLeft.
+static RUNS_OF_MANY: [[Entry<u8>; 4]; 12] = [
+    row4!((3, 3), (3, 2), (3, 1), (3, 0)),
+    row4!((3, 5), (3, 4)),
+    row4!((3, 6)),
+    row4!((4, 7)),
+    row4!((5, 8)),
+    row4!((6, 9)),
+    row4!((7, 10)),
+    row4!((8, 11)),
+    row4!((9, 12)),
+    row4!((10, 13)),
+    row4!((11, 14)),
+    row4!((11)),
 ];

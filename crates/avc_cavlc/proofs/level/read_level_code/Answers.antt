@@ -1,10 +1,17 @@
-use Rattle.std.proofs.Common.{◌<◌, ◌^◌, ℕ, subst, arith, sym}
+use Rattle.std.proofs.Common.{◌<◌, ◌+◌, ◌^◌, ℕ, subst, arith, sym}
 use Rattle.avc_cavlc.proofs.LevelCodes.{level_code_most}
+use Rattle.avc_bits.specs.Reader.{reader_bits}
+use Rattle.avc_cavlc.proofs.LongCodes.{few_passed}
 use Rattle.avc_cavlc.proofs.LevelSteps.{short_suffix}
 use Rattle.avc_cavlc.proofs.level.read_level_code.Goals as goal
 
 pub returns-in-Some-clause-most : goal.returns-in-Some-clause-most
 returns-in-Some-clause-most c =
-    let s = c.in-Some.ensures.read in
+    let s = c.in-Some.ensures in
     let P : ℕ → Type 0 = λ n. c.in-Some.suffix < 2 ^ n in
     rw c.level_code.ensures (level_code_most c.in-Some.prefix c.args.suffix_length c.in-Some.suffix c.args.above_one (omega (arith, s.few)) c.requires.length (subst P (sym (short_suffix c.in-Some.prefix c.args.suffix_length s.few)) s.below) c.requires.first)
+
+pub returns-in-Some-clause-short : goal.returns-in-Some-clause-short
+returns-in-Some-clause-short c =
+    let s = c.in-Some.ensures in
+    omega (arith, s.few, few_passed (reader_bits c.args.reader.now) (reader_bits c.prefix_and_suffix.new.reader) (c.in-Some.prefix + 1) c.args.suffix_length c.in-Some.suffix s.value_read)

@@ -1,7 +1,7 @@
-use Rattle.std.proofs.Common.{Ok, ap, ◌∙◌}
+use Rattle.std.proofs.Common.{Ok, ap, arith, ◌∙◌}
 use Rattle.avc_bits.specs.Reader.{reader_bits}
 use Rattle.avc_cavlc.specs.Block.{level_of_code}
-use Rattle.avc_cavlc.proofs.LongCodes.{skipped_is, never_cut}
+use Rattle.avc_cavlc.proofs.LongCodes.{few_skipped, skipped_is, never_cut}
 use Rattle.avc_cavlc.proofs.level.read_long_code.Goals as goal
 
 pub returns-in_err-skip-clause-read : goal.returns-in_err-skip-clause-read
@@ -12,3 +12,7 @@ pub returns-clause-read : goal.returns-clause-read
 returns-clause-read c =
     let left = skipped_is c.in_ok-code.code.length (reader_bits c.args.reader.now) (reader_bits c.skip.new.self) c.in_ok-code.ensures.read.1 c.in_ok-skip.ensures.read.0 in
     (c.in_ok-code.ensures.read.0 ∙ ap (λ b. Ok (level_of_code c.in_ok-code.code.number, b)) left, c.in_ok-skip.ensures.read.1)
+
+pub returns-clause-short : goal.returns-clause-short
+returns-clause-short c =
+    omega (arith, c.in_ok-code.ensures.short, few_skipped c.in_ok-code.code.length (reader_bits c.args.reader.now) (reader_bits c.skip.new.self) c.in_ok-code.ensures.read.1 c.in_ok-skip.ensures.read.0)

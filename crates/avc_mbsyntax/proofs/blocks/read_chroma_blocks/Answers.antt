@@ -1,8 +1,8 @@
-use Rattle.std.proofs.Common.{◌≡◌, ℕ, ◌<◌, ◌≤◌, ◌+◌, ◌-◌, ◌++◌, ◌∷◌, [], suc, true, Ok, Err, arith, rules, ap, refl, subst, ◌∙◌, sym, length, take, length-set}
-use Rattle.std.specs.Prelude.{◌==◌}
+use Rattle.std.proofs.Common.{◌≡◌, ℕ, ℤ, List, ◌<◌, ◌≤◌, ◌+◌, ◌-◌, ◌++◌, ◌∷◌, [], suc, true, Ok, Err, arith, rules, ap, refl, subst, ◌∙◌, sym, length, take, length-set}
+use Rattle.std.specs.Prelude.{◌==◌, replicate}
 use Rattle.std.specs.List.{All, range_with_len}
 use Rattle.std.specs.Option.{option_copied}
-use Rattle.std.proofs.lemmas.List.Elements.{All-replicate, All-set}
+use Rattle.std.proofs.lemmas.List.Elements.{All-replicate}
 use Rattle.std.proofs.lemmas.List.{length-replicate, take_all, take_more_set}
 use Rattle.avc_types.specs.Macroblock.{total_coeff}
 use Rattle.avc_bits.specs.Reader.{reader_bits}
@@ -10,23 +10,29 @@ use Rattle.avc_cavlc.proofs.Placing.{small_none}
 use Rattle.avc_neigh.specs.TotalCoeffs.{nc}
 use Rattle.avc_mbsyntax.specs.Ranges.{AreSmall}
 use Rattle.avc_mbsyntax.specs.Reading.{block_where, blocks, no_levels}
-use Rattle.avc_mbsyntax.proofs.BlockSteps.{all_blocks, blocks_fault, blocks_more, counts_more, no_chroma}
+use Rattle.avc_mbsyntax.proofs.BlockSteps.{all_blocks, all_more, blocks_fault, blocks_more, counts_more, no_chroma}
 use Rattle.avc_mbsyntax.proofs.blocks.read_chroma_blocks.Goals as goal
+
+cleared : (old new : List (List ℤ)) → length new ≡ 4 → take 4 new ≡ take 0 old ++ replicate 4 (no_levels 15) → new ≡ replicate 4 (no_levels 15)
+cleared old new long is = sym (take_all 4 new (omega (arith, long))) ∙ is
 
 pub returns-then-chroma_pattern-ne2-clause-read : goal.returns-then-chroma_pattern-ne2-clause-read
 returns-then-chroma_pattern-ne2-clause-read c =
-    (no_chroma c.args.chroma_pattern (option_copied c.args.left) (option_copied c.args.up) (reader_bits c.args.reader.now) (λ e. absurd (omega arith)) ∙ ap (λ l. Ok (l, reader_bits c.args.reader.now)) (sym c.requires.zero), refl)
+    let is = cleared c.args.levels.now c.clear_four.new.levels c.clear_four.ensures.long c.clear_four.ensures.cleared in
+    (no_chroma c.args.chroma_pattern (option_copied c.args.left) (option_copied c.args.up) (reader_bits c.args.reader.now) (λ e. absurd (omega arith)) ∙ ap (λ l. Ok (l, reader_bits c.args.reader.now)) (sym is), refl)
 
 pub returns-then-chroma_pattern-ne2-clause-small : goal.returns-then-chroma_pattern-ne2-clause-small
-returns-then-chroma_pattern-ne2-clause-small c = subst (All AreSmall) (sym c.requires.zero) (All-replicate AreSmall 4 (no_levels 15) (λ i. small_none 15 i))
+returns-then-chroma_pattern-ne2-clause-small c =
+    let is = cleared c.args.levels.now c.clear_four.new.levels c.clear_four.ensures.long c.clear_four.ensures.cleared in
+    subst (All AreSmall) (sym is) (All-replicate AreSmall 4 (no_levels 15) (λ i. small_none 15 i))
 
 pub each-init : goal.each-init
 each-init c = record {
-  long = ap length c.requires.zero ∙ length-replicate 4 (no_levels 15);
+  long = omega (arith, c.told-levels);
   counts_long = length-replicate {A = ℕ} 4 0;
   counts = refl;
   read = refl;
-  small = subst (All AreSmall) (sym c.requires.zero) (All-replicate AreSmall 4 (no_levels 15) (λ i. small_none 15 i));
+  small = λ k d within. absurd (omega arith);
   bytes = refl;
 }
 
@@ -67,6 +73,9 @@ each-preserved c =
           ∙ blocks_more 15 8 (λ k. c.args.chroma_pattern == 2) (option_copied c.args.left) (option_copied c.args.up) c.each.k (3 - c.each.k) (4 - c.each.k) (take c.each.k c.each.levels) (take c.each.k c.each.total_coeffs) c.in_ok-block.block (reader_bits c.each.reader) (reader_bits c.read_coded.new.reader) more c.each.invariant.counts here
           ∙ ap (λ n. blocks 15 8 (λ k. c.args.chroma_pattern == 2) (option_copied c.args.left) (option_copied c.args.up) (range_with_len (c.each.k + 1) n) (take c.each.k c.each.levels ++ c.in_ok-block.block ∷ []) (reader_bits c.read_coded.new.reader)) fewer
           ∙ ap (λ l. blocks 15 8 (λ k. c.args.chroma_pattern == 2) (option_copied c.args.left) (option_copied c.args.up) (range_with_len (c.each.k + 1) (4 - (c.each.k + 1))) l (reader_bits c.read_coded.new.reader)) (sym (take_more_set c.each.levels c.each.k c.in_ok-block.block within));
-      small = All-set AreSmall c.each.levels c.each.k c.in_ok-block.block c.in_ok-block.ensures.small c.each.invariant.small;
+      small = all_more AreSmall c.each.levels c.each.k c.in_ok-block.block within c.each.invariant.small c.in_ok-block.ensures.small;
       bytes = c.in_ok-block.ensures.read.1 ∙ c.each.invariant.bytes;
     })
+
+pub returns-clause-small : goal.returns-clause-small
+returns-clause-small c = subst (All AreSmall) (take_all c.each.k c.each.levels (omega (arith, c.each.invariant.long))) c.each.invariant.small

@@ -15,6 +15,6 @@ invariant-each l = record {
   counts : take l.k l.total_coeffs ≡ map total_coeff (take l.k l.levels);
   read : blocks 15 8 (λ k. l.chroma_pattern == 2) (option_copied l.left) (option_copied l.up) (range_with_len 0 4) [] (reader_bits l.fn.reader)
       ≡ blocks 15 8 (λ k. l.chroma_pattern == 2) (option_copied l.left) (option_copied l.up) (range_with_len l.k (4 - l.k)) (take l.k l.levels) (reader_bits l.reader);
-  small : All AreSmall l.levels;
+  small : All AreSmall (take l.k l.levels);
   bytes : reader_bytes l.reader ≡ reader_bytes l.fn.reader;
 }

@@ -5,7 +5,7 @@ use Rattle.avc_bits.specs.Reader.{reader_bits}
 use Rattle.avc_cavlc.specs.Block.{IsLevel, level_of_code, next_suffix_length}
 use Rattle.avc_cavlc.specs.Steps.{levels_after}
 use Rattle.avc_cavlc.proofs.LevelSteps.{all_more, level_more, level_fault, raised_first, raised_next}
-use Rattle.avc_cavlc.proofs.level.read_others.Goals as goal
+use Rattle.avc_cavlc.proofs.level.read_others_by.Goals as goal
 
 pub levels-init : goal.levels-init
 levels-init c =
@@ -29,6 +29,7 @@ levels-init c =
       size = all_more IsLevel c.args.values.now c.args.ones l within c.requires.ones is;
       some = c.raised-bits.ensures.some;
       few = c.raised-bits.ensures.few;
+      room = λ is_far. omega (arith, c.requires.room is_far, c.in_ok-code.ensures.short);
     })
 
 pub levels-preserved : goal.levels-preserved
@@ -54,6 +55,7 @@ levels-preserved c =
       size = all_more IsLevel c.levels.values c.levels.k l within c.levels.invariant.size is;
       some = c.raised-bits-in-levels.ensures.some;
       few = c.raised-bits-in-levels.ensures.few;
+      room = λ is_far. omega (arith, c.levels.invariant.room is_far, c.in_ok-code-2.ensures.short);
     })
 
 pub returns-in_err-code-clause-read : goal.returns-in_err-code-clause-read

@@ -1,9 +1,10 @@
-use Rattle.std.proofs.Common.{◌≡◌, ◌-◌, ◌≤◌, false, length, take}
+use Rattle.std.proofs.Common.{◌≡◌, ◌+◌, ◌-◌, ◌*◌, ◌≤◌, false, length, take}
+use Rattle.std.specs.Prelude.{IsTrue}
 use Rattle.std.specs.List.{All}
 use Rattle.avc_bits.specs.Reader.{reader_bits, reader_bytes}
 use Rattle.avc_cavlc.specs.Block.{IsLevel}
 use Rattle.avc_cavlc.specs.Steps.{levels_after}
-use Rattle.avc_cavlc.proofs.level.read_others.Given as goal
+use Rattle.avc_cavlc.proofs.level.read_others_by.Given as goal
 
 abbrev pub invariant-levels : goal.invariant-levels
 invariant-levels l = record {
@@ -13,4 +14,5 @@ invariant-levels l = record {
   size : All IsLevel (take l.k l.values);
   some : 1 ≤ l.bits;
   few : l.bits ≤ 6;
+  room : IsTrue l.far → 32 * (l.total - l.k) + 64 ≤ length (reader_bits l.reader).ahead;
 }

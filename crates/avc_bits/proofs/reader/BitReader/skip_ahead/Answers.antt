@@ -1,0 +1,6 @@
+use Rattle.std.proofs.Common.{arith}
+use Rattle.avc_bits.proofs.Reading.{length-ahead}
+use Rattle.avc_bits.proofs.reader.BitReader.skip_ahead.Goals as goal
+
+pub after-requires : goal.after-requires
+after-requires c = omega (arith, length-ahead c.args.self.now)
