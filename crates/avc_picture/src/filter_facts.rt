@@ -95,6 +95,8 @@ fn vector(motion: Motion) -> Mv
 }
 
 /// Writes the vector of each block.
+// apart from its callers, so that it is a loop over memory
+#[inline(never)]
 fn set_vectors(vectors: &mut [Mv; 16], motion: &[Motion; 16])
     ensures { vectors.new ≡ map motions.vector_of motion.now }
 {
