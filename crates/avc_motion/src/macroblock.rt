@@ -1,6 +1,7 @@
-ghost use Rattle.std.specs.Prelude.{◌≡◌, true, map};
+ghost use Rattle.std.specs.Prelude.{◌≡◌, true, map, replicate};
 ghost use Rattle.std.specs.List.{list_all};
 ghost use Rattle.avc_types.specs.Macroblock.{p_skip};
+ghost use Rattle.avc_types.specs.References.{result_map};
 ghost use Rattle.avc_neigh.specs.Around.{facts_of};
 ghost use Rattle.avc_neigh.specs.BlockNear.{motion_near};
 ghost use Rattle.avc_motion.specs.Motion.{HasMotion, HasVectors, is_in_range, motion_by, vector_of as motion_vector};
@@ -12,24 +13,33 @@ use crate::prediction::vector_of;
 use avc_neigh::{Motion, Neighbours};
 use avc_types::{Fault, Mb, Mv, Mvd, PMbType, Syntax};
 
+/// Gives all blocks one motion.
+fn set_all(blocks: &mut [Motion; 16], motion: Motion)
+    ensures { blocks.new ≡ replicate 16 motion }
+{
+    *blocks = [motion; 16];
+}
+
 /// The blocks of a skipped macroblock (8.4.1.1).
-fn skipped(neighbours: &Neighbours<'_>) -> [Motion; 16]
-    ensures motion { result ≡ motion_by (motion_near (facts_of neighbours.now)) p_skip }
-    ensures within { list_all is_in_range result ≡ true }
+fn set_skipped(neighbours: &Neighbours<'_>, blocks: &mut [Motion; 16])
+    ensures motion { blocks.new ≡ motion_by (motion_near (facts_of neighbours.now)) p_skip }
+    ensures within { list_all is_in_range blocks.new ≡ true }
 {
     let around = NeighbouringPartitions::of(neighbours, &[Motion::Absent; 16], 0, 0, 16);
     let mv = around.skip_vector();
-    [Motion::Inter { ref_idx: 0, mv }; 16]
+    set_all(blocks, Motion::Inter { ref_idx: 0, mv });
 }
 
 /// The blocks of an inter macroblock whose vectors are coded.
-fn inter(
+fn set_inter(
     mb_type: &PMbType,
     ref_idx: &[u8; 4],
     mvd: &[Mvd; 16],
     neighbours: &Neighbours<'_>,
-) -> Result<[Motion; 16], Fault>
-    ensures motion { let near = motion_near (facts_of neighbours.now) in result ≡ blocks_or_fault (decoded_whole near mb_type.now ref_idx.now mvd.now) }
+    blocks: &mut [Motion; 16],
+) -> Result<(), Fault>
+    ensures motion { let near = motion_near (facts_of neighbours.now) in
+        result_map (λ _. blocks.new) result ≡ blocks_or_fault (decoded_whole near mb_type.now ref_idx.now mvd.now) }
     ensures quarters { HasFourQuarters mb_type.now }
 {
     let inter = Inter {
@@ -37,28 +47,31 @@ fn inter(
         ref_idx,
         neighbours,
     };
-    let mut mine = [Motion::Absent; 16];
-    inter.decode(&mut mine, mvd)?;
-    Ok(mine)
+    set_all(blocks, Motion::Absent);
+    inter.decode(blocks, mvd)?;
+    Ok(())
 }
 
-/// The reference index and the vector of each luma block of a macroblock (8.4.1), in block order. `neighbours` are those of
-/// the macroblock. `VectorRange` where a component of a vector is no 16-bit number.
-#[inline(never)]
-pub fn motion(mb: &Mb, neighbours: &Neighbours<'_>) -> Result<[Motion; 16], Fault>
-    ensures { HasMotion (facts_of neighbours.now) mb.now.syntax result }
+/// Writes into `blocks` the reference index and the vector of each luma block of a macroblock (8.4.1), in block order. `neighbours`
+/// are those of the macroblock. `VectorRange` where a component of a vector is no 16-bit number; the blocks are then any.
+pub fn motion(mb: &Mb, neighbours: &Neighbours<'_>, blocks: &mut [Motion; 16]) -> Result<(), Fault>
+    ensures { HasMotion (facts_of neighbours.now) mb.now.syntax (result_map (λ _. blocks.new) result) }
 {
     match &mb.syntax {
-        Syntax::PSkip => Ok(skipped(neighbours)),
+        Syntax::PSkip => {
+            set_skipped(neighbours, blocks);
+            Ok(())
+        }
         Syntax::PInter {
             mb_type,
             ref_idx,
             mvd,
             ..
-        } => inter(mb_type, ref_idx, mvd, neighbours),
-        Syntax::IPcm { .. } | Syntax::INxN { .. } | Syntax::I16x16 { .. } => Ok(
-            [Motion::Intra; 16],
-        ),
+        } => set_inter(mb_type, ref_idx, mvd, neighbours, blocks),
+        Syntax::IPcm { .. } | Syntax::INxN { .. } | Syntax::I16x16 { .. } => {
+            set_all(blocks, Motion::Intra);
+            Ok(())
+        }
     }
 }
 
@@ -78,8 +91,9 @@ fn vectors_of(motion: &[Motion; 16]) -> [Mv; 16]
 pub fn vectors(mb: &Mb, neighbours: &Neighbours<'_>) -> Result<[Mv; 16], Fault>
     ensures { HasVectors (facts_of neighbours.now) mb.now.syntax result }
 {
-    match motion(mb, neighbours) {
-        Ok(motion) => Ok(vectors_of(&motion)),
+    let mut blocks = [Motion::Absent; 16];
+    match motion(mb, neighbours, &mut blocks) {
+        Ok(()) => Ok(vectors_of(&blocks)),
         Err(fault) => Err(fault),
     }
 }

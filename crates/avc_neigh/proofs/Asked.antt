@@ -4,35 +4,55 @@ use Rattle.std.proofs.Math.Nat.{suc-mod, mod-eq_of_lt}
 use Rattle.std.proofs.lemmas.Bool.{ne_eqb}
 use Rattle.std.proofs.lemmas.List.{get_or_default}
 use Rattle.avc_neigh.specs.declared.facts.NeighbourFacts.{NeighbourFacts}
-use Rattle.avc_neigh.specs.Around.{PictureFacts, back, of_slice, mb_a, mb_c}
+use Rattle.avc_neigh.specs.declared.row.Place.{Place}
+use Rattle.avc_neigh.specs.Around.{PictureFacts, back, of_slice, mb_a, mb_b, mb_c, mb_d}
 use Rattle.avc_neigh.specs.RowEntries.{AreRowEntries}
 
-module _ (facts : List NeighbourFacts) (column : ℕ) (entries : List (Option NeighbourFacts)) (corner : Option NeighbourFacts)
-    (keeps : AreRowEntries facts column entries corner) (slice : ℕ) where
+module _ (facts : List NeighbourFacts) (width : ℕ) (p : Place) (entries : List (Option NeighbourFacts))
+    (keeps : AreRowEntries facts width p entries) (slice : ℕ) where
   abbrev picture : PictureFacts
-  picture = record { width = length entries; facts = facts }
+  picture = record { width = width; facts = facts }
 
-  pub left_is : (entry : Option NeighbourFacts) → column ≢ 0 → entry ≡ get_or entries (column - 1) entry
+  not_first : p.column ≢ 0 → (length facts % width == 0) ≡ false
+  not_first some = ne_eqb _ _ (λ e. some (keeps.address ∙ e))
+
+  pub left_is : (entry : Option NeighbourFacts) → p.column ≢ 0 → entry ≡ get_or entries (p.first + (p.column - 1)) entry
       → of_slice slice entry ≡ mb_a picture slice
   left_is entry some read =
-      let t : (length facts % length entries == 0) ≡ false = ne_eqb _ _ (λ e. some (keeps.place ∙ e)) in
       let found : entry ≡ back facts 1 =
-      read ∙ get_or_default entries (column - 1) entry None (omega (arith, keeps.inside))
-      ∙ keeps.left (column - 1) (omega arith)
+      read ∙ get_or_default entries (p.first + (p.column - 1)) entry None (omega (arith, keeps.inside, keeps.room))
+      ∙ keeps.left (p.column - 1) (omega arith)
       ∙ ap (back facts) (omega arith) in
-      rw t (ap (of_slice slice) found)
+      rw (not_first some) (ap (of_slice slice) found)
 
-  pub above_right_is : (entry : Option NeighbourFacts) → column + 1 ≢ length entries → entry ≡ get_or entries (column + 1) entry
+  pub above_is : (entry : Option NeighbourFacts) → entry ≡ get_or entries (p.first_above + p.column) entry
+      → of_slice slice entry ≡ mb_b picture slice
+  above_is entry read =
+      ap (of_slice slice)
+      (read ∙ get_or_default entries (p.first_above + p.column) entry None (omega (arith, keeps.inside, keeps.room_above))
+      ∙ keeps.above p.column keeps.inside
+      ∙ ap (back facts) (omega arith))
+
+  pub above_left_is : (entry : Option NeighbourFacts) → p.column ≢ 0 → entry ≡ get_or entries (p.first_above + (p.column - 1)) entry
+      → of_slice slice entry ≡ mb_d picture slice
+  above_left_is entry some read =
+      let found : entry ≡ back facts (width + 1) =
+      read ∙ get_or_default entries (p.first_above + (p.column - 1)) entry None (omega (arith, keeps.inside, keeps.room_above))
+      ∙ keeps.above (p.column - 1) (omega (arith, keeps.inside))
+      ∙ ap (back facts) (omega arith) in
+      rw (not_first some) (ap (of_slice slice) found)
+
+  pub above_right_is : (entry : Option NeighbourFacts) → p.column + 1 ≢ width → entry ≡ get_or entries (p.first_above + (p.column + 1)) entry
       → of_slice slice entry ≡ mb_c picture slice
   above_right_is entry more read =
-      let inside : column + 1 < length entries = omega (arith, keeps.inside) in
-      let place : (length facts + 1) % length entries ≡ column + 1 =
-      ap (λ n. n % length entries) (add-one (length facts)) ∙ suc-mod (length facts) (length entries)
-      ∙ ap (λ n. suc n % length entries) (sym keeps.place)
-      ∙ ap (λ n. n % length entries) (sym (add-one column)) ∙ mod-eq_of_lt inside in
-      let t : ((length facts + 1) % length entries == 0) ≡ false = ne_eqb _ _ (λ e. absurd (omega (arith, place, e))) in
-      let found : entry ≡ back facts (length entries - 1) =
-      read ∙ get_or_default entries (column + 1) entry None inside
-      ∙ keeps.above (column + 1) (omega arith) inside
+      let inside : p.column + 1 < width = omega (arith, keeps.inside) in
+      let place : (length facts + 1) % width ≡ p.column + 1 =
+      ap (λ n. n % width) (add-one (length facts)) ∙ suc-mod (length facts) width
+      ∙ ap (λ n. suc n % width) (sym keeps.address)
+      ∙ ap (λ n. n % width) (sym (add-one p.column)) ∙ mod-eq_of_lt inside in
+      let t : ((length facts + 1) % width == 0) ≡ false = ne_eqb _ _ (λ e. absurd (omega (arith, place, e))) in
+      let found : entry ≡ back facts (width - 1) =
+      read ∙ get_or_default entries (p.first_above + (p.column + 1)) entry None (omega (arith, keeps.room_above))
+      ∙ keeps.above (p.column + 1) inside
       ∙ ap (back facts) (omega arith) in
       rw t (ap (of_slice slice) found)

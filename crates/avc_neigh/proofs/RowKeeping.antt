@@ -1,4 +1,4 @@
--- One row of facts, over one macroblock more.
+-- Two rows of facts, over one macroblock more.
 use Rattle.std.proofs.Common.{ℕ, ◌≡◌, ◌+◌, ◌-◌, ◌%◌, ◌<◌, ◌≤◌, zero, suc, arith, true, false, nat_lt, if◌then◌else◌, inl, inr, List, [], ◌∷◌, ◌++◌, Option, Some, None, length, get_or, set, refl, sym, ap, ◌∙◌, length-append, length-set, get_or-set_same, get_or-set_other, add-one}
 use Rattle.std.specs.List.{slice_get}
 use Rattle.std.proofs.Math.Nat.{suc-mod, mod-eq_of_lt, mod_self}
@@ -6,7 +6,8 @@ use Rattle.std.proofs.lemmas.Bool.Decides.{nat_tests}
 use Rattle.std.proofs.lemmas.Bool.{cases_lt}
 use Rattle.avc_neigh.specs.declared.facts.NeighbourFacts.{NeighbourFacts}
 use Rattle.avc_neigh.specs.Around.{back}
-use Rattle.avc_neigh.specs.RowEntries.{AreRowEntries}
+use Rattle.avc_neigh.specs.declared.row.Place.{Place}
+use Rattle.avc_neigh.specs.RowEntries.{AreRowEntries, place_after}
 
 pub slice_get-append : {X : Type 0} (xs ys : List X) (i : ℕ) → i < length xs → slice_get (xs ++ ys) i ≡ slice_get xs i
 slice_get-append [] ys i h = absurd (omega arith)
@@ -47,79 +48,77 @@ back_more facts f n m some more = elim (cases_lt (length facts) n) [
   | inr h ↦ back_more_there facts f n m some more h
 ]
 
-module _ (facts : List NeighbourFacts) (f : NeighbourFacts) (column : ℕ) (entries : List (Option NeighbourFacts))
-    (corner : Option NeighbourFacts) (keeps : AreRowEntries facts column entries corner) where
-  abbrev width : ℕ
-  width = length entries
-
+module _ (facts : List NeighbourFacts) (f : NeighbourFacts) (width : ℕ) (p : Place) (entries : List (Option NeighbourFacts))
+    (keeps : AreRowEntries facts width p entries) where
   abbrev entries' : List (Option NeighbourFacts)
-  entries' = set entries column (Some f)
+  entries' = set entries (p.first + p.column) (Some f)
 
-  wide : length entries' ≡ width
-  wide = length-set entries column (Some f)
+  long : length entries' ≡ length entries
+  long = length-set entries (p.first + p.column) (Some f)
 
-  -- the entries left of the column and that of the column, with one macroblock more
-  left' : (next : ℕ) → next ≡ column + 1 → (k : ℕ) → k < next → get_or entries' k None ≡ back (facts ++ f ∷ []) (next - k)
-  left' next more k h = elim (cases_lt k column) [
+  -- the row with one macroblock more
+  left' : (next : ℕ) → next ≡ p.column + 1 → (k : ℕ) → k < next → get_or entries' (p.first + k) None ≡ back (facts ++ f ∷ []) (next - k)
+  left' next more k h = elim (cases_lt k p.column) [
     | inl before ↦
-        get_or-set_other entries column k (Some f) None (omega arith)
+        get_or-set_other entries (p.first + p.column) (p.first + k) (Some f) None (omega arith)
         ∙ keeps.left k before
-        ∙ back_more facts f (column - k) (next - k) (omega arith) (omega arith)
+        ∙ back_more facts f (p.column - k) (next - k) (omega arith) (omega arith)
     | inr here ↦
-        let same : k ≡ column = omega arith in
+        let same : p.first + k ≡ p.first + p.column = omega arith in
         ap (λ i. get_or entries' i None) same
-        ∙ get_or-set_same entries column (Some f) None keeps.inside
+        ∙ get_or-set_same entries (p.first + p.column) (Some f) None (omega (arith, keeps.inside, keeps.room))
         ∙ sym (back_first facts f (next - k) (omega arith))
   ]
 
+  -- the row above, which stays as it was
+  above' : (k : ℕ) → k < width → get_or entries' (p.first_above + k) None ≡ back (facts ++ f ∷ []) (width + (p.column + 1) - k)
+  above' k h =
+      get_or-set_other entries (p.first + p.column) (p.first_above + k) (Some f) None (λ e. keeps.apart p.column k keeps.inside h (sym e))
+      ∙ keeps.above k h
+      ∙ back_more facts f (width + p.column - k) (width + (p.column + 1) - k) (omega arith) (omega arith)
+
+  more_mod : (next : ℕ) → next ≡ suc p.column % width → next ≡ length (facts ++ f ∷ []) % width
+  more_mod next is =
+      is
+      ∙ ap (λ c. suc c % width) keeps.address
+      ∙ sym (suc-mod (length facts) width)
+      ∙ ap (λ n. n % width) (sym (add-one (length facts)) ∙ sym (long_by_one facts f))
+
   -- in the row
-  within : (next : ℕ) → next ≡ column + 1 → next < width → AreRowEntries (facts ++ f ∷ []) next entries' (get_or entries column None)
-  within next more h = record {
-    inside = omega (arith, wide);
-    place =
-        more ∙ add-one column ∙ sym (mod-eq_of_lt (omega arith))
-        ∙ ap (λ c. suc c % width) keeps.place
-        ∙ sym (suc-mod (length facts) width)
-        ∙ ap (λ n. n % width) (sym (add-one (length facts)) ∙ sym (long_by_one facts f))
-        ∙ ap (λ w. length (facts ++ f ∷ []) % w) (sym wide);
-    left = left' next more;
-    above = λ k from to.
-        get_or-set_other entries column k (Some f) None (omega arith)
-        ∙ keeps.above k (omega arith) (omega (arith, wide))
-        ∙ back_more facts f (width + column - k) (length entries' + next - k) (omega (arith, wide)) (omega (arith, wide));
-    above_left = λ _.
-        keeps.above column (omega arith) keeps.inside
-        ∙ back_more facts f (width + column - column) (length entries' + 1) (omega (arith, keeps.inside)) (omega (arith, wide));
+  within : p.column + 1 < width
+      → AreRowEntries (facts ++ f ∷ []) width (record { column = p.column + 1; first = p.first; first_above = p.first_above }) entries'
+  within h = record {
+    inside = h;
+    address = more_mod (p.column + 1) (add-one p.column ∙ sym (mod-eq_of_lt (omega arith)));
+    room = omega (arith, long, keeps.room);
+    room_above = omega (arith, long, keeps.room_above);
+    apart = keeps.apart;
+    left = left' (p.column + 1) refl;
+    above = above';
   }
 
   -- at its end
-  at_end : column + 1 ≡ width → AreRowEntries (facts ++ f ∷ []) 0 entries' (get_or entries column None)
+  at_end : p.column + 1 ≡ width
+      → AreRowEntries (facts ++ f ∷ []) width (record { column = 0; first = p.first_above; first_above = p.first }) entries'
   at_end last = record {
-    inside = omega (arith, wide);
-    place =
-        sym (mod_self width)
-        ∙ ap (λ n. n % width) (sym last ∙ add-one column)
-        ∙ ap (λ c. suc c % width) keeps.place
-        ∙ sym (suc-mod (length facts) width)
-        ∙ ap (λ n. n % width) (sym (add-one (length facts)) ∙ sym (long_by_one facts f))
-        ∙ ap (λ w. length (facts ++ f ∷ []) % w) (sym wide);
+    inside = omega arith;
+    address = more_mod 0 (sym (mod_self width) ∙ ap (λ n. n % width) (sym last ∙ add-one p.column));
+    room = omega (arith, long, keeps.room_above);
+    room_above = omega (arith, long, keeps.room);
+    apart = λ j k in_row in_row_above e. keeps.apart k j in_row_above in_row (sym e);
     left = λ k none. absurd (omega arith);
-    above = λ k from to.
-        left' (column + 1) refl k (omega (arith, wide)) ∙ ap (λ n. back (facts ++ f ∷ []) n) (omega (arith, wide));
-    above_left = λ none. absurd (omega arith);
+    above = λ k h. left' (p.column + 1) refl k (omega arith) ∙ ap (λ n. back (facts ++ f ∷ []) n) (omega arith);
   }
 
-  pub keeps_more : (facts' : List NeighbourFacts) (next broad : ℕ) (corner' : Option NeighbourFacts)
-      → facts' ≡ facts ++ f ∷ [] → broad ≡ width → next ≡ (if nat_lt (column + 1) broad then column + 1 else 0)
-      → corner' ≡ get_or entries column None
-      → AreRowEntries facts' next entries' corner'
-  keeps_more facts' next broad corner' facts_is broad_is next_is corner_is = elim (cases_lt (column + 1) width) [
+  pub keeps_more : (facts' : List NeighbourFacts) (next : Place) → facts' ≡ facts ++ f ∷ [] → next ≡ place_after p width
+      → AreRowEntries facts' width next entries'
+  keeps_more facts' next facts_is next_is = elim (cases_lt (p.column + 1) width) [
     | inl h ↦
-        let t : nat_lt (column + 1) width ≡ true = grind (arith, nat_tests) in
-        let e : next ≡ column + 1 = rw (broad_is, t) at next_is in
-        rw (facts_is, corner_is) (within next e (omega arith))
+        let t : nat_lt (p.column + 1) width ≡ true = grind (arith, nat_tests) in
+        let e : next ≡ record { column = p.column + 1; first = p.first; first_above = p.first_above } = rw t at next_is in
+        rw (facts_is, e) (within h)
     | inr h ↦
-        let t : nat_lt (column + 1) width ≡ false = grind (arith, nat_tests) in
-        let e : next ≡ 0 = rw (broad_is, t) at next_is in
-        rw (facts_is, corner_is, e) (at_end (omega (arith, keeps.inside)))
+        let t : nat_lt (p.column + 1) width ≡ false = grind (arith, nat_tests) in
+        let e : next ≡ record { column = 0; first = p.first_above; first_above = p.first } = rw t at next_is in
+        rw (facts_is, e) (at_end (omega (arith, keeps.inside)))
   ]

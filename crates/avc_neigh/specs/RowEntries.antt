@@ -1,13 +1,22 @@
--- How one row of facts stands for the facts of the whole picture.
-use Rattle.std.specs.Prelude.{◌≡◌, ℕ, ◌+◌, ◌-◌, ◌%◌, ◌<◌, ◌≤◌, Option, None, slice_index_or, length, List}
+-- How two rows of facts stand for the facts of the whole picture.
+use Rattle.std.specs.Prelude.{◌≡◌, ◌≢◌, ℕ, ◌+◌, ◌-◌, ◌%◌, ◌<◌, ◌≤◌, nat_lt, if◌then◌else◌, Option, None, slice_index_or, length, List}
 use Rattle.avc_neigh.specs.declared.facts.NeighbourFacts.{NeighbourFacts}
+use Rattle.avc_neigh.specs.declared.row.Place.{Place}
 use Rattle.avc_neigh.specs.Around.{back}
 
--- The entry of a column has the last macroblock in it: left of the next one's column those of its row, from there on those of the
--- row above. `corner` has the macroblock above left.
-pub record AreRowEntries (facts : List NeighbourFacts) (column : ℕ) (entries : List (Option NeighbourFacts)) (corner : Option NeighbourFacts) : Type 0 where
-  pub inside : column < length entries
-  pub place : column ≡ length facts % length entries
-  pub left : (k : ℕ) → k < column → slice_index_or entries k None ≡ back facts (column - k)
-  pub above : (k : ℕ) → column ≤ k → k < length entries → slice_index_or entries k None ≡ back facts (length entries + column - k)
-  pub above_left : 0 < column → corner ≡ back facts (length entries + 1)
+-- the place after one, in rows of this width: where a row ends it becomes the row above
+abbrev pub place_after : Place → (width : ℕ) → Place
+place_after p width =
+    if nat_lt (p.column + 1) width
+    then record { column = p.column + 1; first = p.first; first_above = p.first_above }
+    else record { column = 0; first = p.first_above; first_above = p.first }
+
+-- From `first` on stand the macroblocks left of the next one in its row, from `first_above` on those of the row above.
+pub record AreRowEntries (facts : List NeighbourFacts) (width : ℕ) (p : Place) (entries : List (Option NeighbourFacts)) : Type 0 where
+  pub inside : p.column < width
+  pub address : p.column ≡ length facts % width
+  pub room : p.first + width ≤ length entries
+  pub room_above : p.first_above + width ≤ length entries
+  pub apart : (j k : ℕ) → j < width → k < width → p.first + j ≢ p.first_above + k
+  pub left : (k : ℕ) → k < p.column → slice_index_or entries (p.first + k) None ≡ back facts (p.column - k)
+  pub above : (k : ℕ) → k < width → slice_index_or entries (p.first_above + k) None ≡ back facts (width + p.column - k)

@@ -1,6 +1,7 @@
-ghost use Rattle.std.specs.Prelude.{◌≡◌, ◌+◌, ◌<◌, nat_lt, if◌then◌else◌, IfOk, Some};
+ghost use Rattle.std.specs.Prelude.{◌≡◌, ◌<◌, IfOk, Some};
 ghost use Rattle.std.specs.Option.{option_copied};
 ghost use Rattle.avc_neigh.specs.Around.{mb_a, mb_b, mb_c, mb_d, no_facts, of_slice, with_facts};
+ghost use Rattle.avc_neigh.specs.RowEntries.{place_after};
 
 use crate::facts::NeighbourFacts;
 use crate::neighbours::Neighbours;
@@ -8,33 +9,43 @@ use avc_types::{History, OutOfMemory};
 use std::alloc::Global;
 use std::marker::Model;
 
+/// Where the macroblock stands that comes next.
+#[derive(Clone, Copy)]
+struct Place {
+    column: usize,
+
+    /// Where the entries of its row begin.
+    first: usize,
+
+    /// Where those of the row above begin.
+    first_above: usize,
+}
+
 /// What is known of a picture's macroblocks so far, for the neighbours of the one that comes next. A contract sees the facts
-/// of all of them, in decoding order; the row itself keeps those that can still be asked for: for each column the last
-/// macroblock in it, and the one above left.
+/// of all of them, in decoding order; the row itself keeps those that can still be asked for: those of the row of the macroblock
+/// that comes next, and those of the row above.
 #[derive(Drop)]
 pub struct Row {
-    /// One for each column; nothing where no macroblock was yet.
+    /// One for each column and each of two rows; nothing where no macroblock was yet.
     entries: Vec<Option<NeighbourFacts>>,
 
-    /// The macroblock above left, whose entry that to the left has taken; of no meaning in the first column.
-    corner: Option<NeighbourFacts>,
+    /// In macroblocks.
+    width: usize,
 
-    /// Of the macroblock that comes next.
-    column: usize,
+    next: Place,
 
     facts: History<NeighbourFacts>,
 }
 
 impl Model for Row {
-    ghost use Rattle.std.specs.Prelude.{length};
     ghost use Rattle.avc_neigh.specs.Around.{PictureFacts};
     ghost use Rattle.avc_neigh.specs.RowEntries.{AreRowEntries};
 
     ghost Value = { PictureFacts };
 
-    ghost view = { λ r. record { width = length r.entries.items; facts = r.facts.items } };
+    ghost view = { λ r. record { width = r.width; facts = r.facts.items } };
 
-    ghost invariant = { λ r. AreRowEntries r.facts.items r.column r.entries.items r.corner };
+    ghost invariant = { λ r. AreRowEntries r.facts.items r.width r.next r.entries.items };
 }
 
 /// What is known of a macroblock, where it is of this slice (6.4.8).
@@ -47,19 +58,23 @@ fn in_slice<'a>(facts: Option<&'a NeighbourFacts>, slice: u32) -> Option<&'a Nei
     }
 }
 
-/// The column of the macroblock after one in this column, in rows of this width.
-fn column_after(column: usize, width: usize) -> usize
-    requires { column < width }
-    ensures { result ≡ (if nat_lt (column + 1) width then column + 1 else 0) }
+/// The place after one, in rows of this width: behind the end of a row its entries are those of the row above.
+fn place_after(place: Place, width: usize) -> Place
+    requires { place.column < width }
+    ensures { result ≡ place_after place width }
 {
-    if column + 1 < width { column + 1 } else { 0 }
-}
-
-/// Keeps an entry that is about to be written. A call takes it from memory to memory at once.
-fn keep(kept: &mut Option<NeighbourFacts>, entry: &Option<NeighbourFacts>)
-    ensures { kept.new ≡ entry.now }
-{
-    *kept = *entry;
+    if place.column + 1 < width {
+        Place {
+            column: place.column + 1,
+            ..place
+        }
+    } else {
+        Place {
+            column: 0,
+            first: place.first_above,
+            first_above: place.first,
+        }
+    }
 }
 
 /// Writes facts into an entry: over those that are there, which makes no entry first.
@@ -80,10 +95,17 @@ impl Row {
         requires { 0 < width }
         ensures { IfOk result (λ row. row ≡ no_facts width) }
     {
+        let Some(count) = width.checked_add(width) else {
+            return Err(OutOfMemory);
+        };
         Ok(Row {
-            entries: vec![in alloc; None; width]?,
-            corner: None,
-            column: 0,
+            entries: vec![in alloc; None; count]?,
+            width,
+            next: Place {
+                column: 0,
+                first: 0,
+                first_above: width,
+            },
             facts: History::new(),
         })
     }
@@ -92,37 +114,49 @@ impl Row {
     fn left(&self, slice: u32) -> Option<&NeighbourFacts>
         ensures { option_copied result ≡ mb_a self.now slice }
     {
-        if self.column == 0 {
+        if self.next.column == 0 {
             return None;
         }
-        in_slice(self.entries[self.column - 1].as_ref(), slice)
+        in_slice(
+            self.entries[self.next.first + (self.next.column - 1)].as_ref(),
+            slice,
+        )
     }
 
     /// mbAddrB of the macroblock that comes next.
     fn above(&self, slice: u32) -> Option<&NeighbourFacts>
         ensures { option_copied result ≡ mb_b self.now slice }
     {
-        in_slice(self.entries[self.column].as_ref(), slice)
+        in_slice(
+            self.entries[self.next.first_above + self.next.column].as_ref(),
+            slice,
+        )
     }
 
     /// mbAddrC of the macroblock that comes next.
     fn above_right(&self, slice: u32) -> Option<&NeighbourFacts>
         ensures { option_copied result ≡ mb_c self.now slice }
     {
-        if self.column + 1 == self.entries.len() {
+        if self.next.column + 1 == self.width {
             return None;
         }
-        in_slice(self.entries[self.column + 1].as_ref(), slice)
+        in_slice(
+            self.entries[self.next.first_above + (self.next.column + 1)].as_ref(),
+            slice,
+        )
     }
 
     /// mbAddrD of the macroblock that comes next.
     fn above_left(&self, slice: u32) -> Option<&NeighbourFacts>
         ensures { option_copied result ≡ mb_d self.now slice }
     {
-        if self.column == 0 {
+        if self.next.column == 0 {
             return None;
         }
-        in_slice(self.corner.as_ref(), slice)
+        in_slice(
+            self.entries[self.next.first_above + (self.next.column - 1)].as_ref(),
+            slice,
+        )
     }
 
     /// The neighbours of the macroblock that comes next, which is of this slice of the picture.
@@ -141,10 +175,8 @@ impl Row {
     pub fn put(&mut self, facts: &NeighbourFacts)
         ensures { self.new ≡ with_facts self.old facts.now }
     {
-        let entry = &mut self.entries[self.column];
-        keep(&mut self.corner, entry);
-        write(entry, facts);
-        self.column = column_after(self.column, self.entries.len());
+        write(&mut self.entries[self.next.first + self.next.column], facts);
         self.facts = self.facts.with(facts);
+        self.next = place_after(self.next, self.width);
     }
 }

@@ -1,6 +1,5 @@
 -- What is told of one macroblock: to later macroblocks, and to the deblocking filter.
-use Rattle.std.specs.Prelude.{◌≡◌, ◌≤◌, ◌<◌, ◌*◌, ℕ, Bool, List, map, Result, Ok, Err, All, slice_index, slice_index_or}
-use Rattle.avc_types.specs.declared.fault.Fault.{Fault}
+use Rattle.std.specs.Prelude.{◌≡◌, ◌≤◌, ◌<◌, ◌*◌, ℕ, Bool, List, map, All, slice_index, slice_index_or}
 use Rattle.avc_types.specs.Macroblock.{Mb, MbSyntax, p_skip, i_pcm, i_nxn, i_16x16, p_inter}
 use Rattle.avc_types.specs.Pictures.{Coded}
 use Rattle.avc_neigh.specs.Around.{Around}
@@ -45,11 +44,6 @@ pub record IsNeighbourFacts (slice : ℕ) (n : Around) (constrained_intra_pred :
   pub total_coeffs_is : f.total_coeffs ≡ total_coeffs_of mb.syntax
   pub modes_are : AreModes n constrained_intra_pred mb.syntax f.modes
   pub in_range : HasModes n.a → HasModes n.b → All IsMode f.modes
-
--- the motion of the macroblock among what is told of it, or the fault
-abbrev pub motion_result : Result NeighbourFacts Fault → Result (List Motion) Fault
-motion_result (Ok f) = Ok f.motion
-motion_result (Err f) = Err f
 
 -- the number of the frame that a block is predicted from, by the slice's numbers; 0 of a block that is not
 abbrev pub number_of : (frame_numbers : List ℕ) → Motion → ℕ

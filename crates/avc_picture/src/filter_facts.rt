@@ -1,6 +1,6 @@
 //! What the deblocking filter asks of one macroblock (8.7).
 
-ghost use Rattle.std.specs.Prelude.{◌≡◌, ℕ, ◌*◌, ◌<◌, not, ◌==◌, [], List, map, slice_index, slice_index_or};
+ghost use Rattle.std.specs.Prelude.{◌≡◌, ℕ, ◌*◌, ◌<◌, not, ◌==◌, [], List, length, map, slice_index, slice_index_or};
 ghost use Rattle.avc_types.specs.Macroblock.{total_coeff};
 ghost use Rattle.avc_neigh.specs.declared.facts.Motion.TheVariants.{Absent as absent};
 ghost use Rattle.avc_motion.specs.Motion as motions;
@@ -76,15 +76,13 @@ fn frame_number(motion: Motion, frame_numbers: &[u8; 16]) -> u8
     }
 }
 
-/// Likewise for each quarter of a macroblock.
-fn pictures(motion: &[Motion; 16], frame_numbers: &[u8; 16]) -> [u8; 4]
-    ensures { (q : ℕ) → q < 4 → slice_index result q ≡ number_of frame_numbers.now (slice_index_or motion.now (4 * q) absent) }
+/// Writes it for each quarter of a macroblock.
+fn set_pictures(pictures: &mut [u8; 4], motion: &[Motion; 16], frame_numbers: &[u8; 16])
+    ensures { (q : ℕ) → q < 4 → slice_index pictures.new q ≡ number_of frame_numbers.now (slice_index_or motion.now (4 * q) absent) }
 {
-    let mut pictures = [0; 4];
     for q in 0..4 {
         pictures[q] = frame_number(motion[4 * q], frame_numbers);
     }
-    pictures
 }
 
 fn vector(motion: Motion) -> Mv
@@ -96,36 +94,34 @@ fn vector(motion: Motion) -> Mv
     }
 }
 
+/// Writes the vector of each block.
 // apart from its callers, so that it is a loop over memory
 #[inline(never)]
-fn vectors(motion: &[Motion; 16]) -> [Mv; 16]
-    ensures { result ≡ map motions.vector_of motion.now }
+fn set_vectors(vectors: &mut [Mv; 16], motion: &[Motion; 16])
+    ensures { vectors.new ≡ map motions.vector_of motion.now }
 {
-    let mut vectors = [Mv { x: 0, y: 0 }; BLOCKS];
     for k in 0..BLOCKS {
         vectors[k] = vector(motion[k]);
     }
-    vectors
 }
 
-/// What the filter asks of a macroblock with this motion.
-#[inline(never)]
-pub(crate) fn filter_facts<const PAD: usize>(
+/// Writes into `facts` what the filter asks of a macroblock with this motion.
+pub(crate) fn set_filter_facts<const PAD: usize>(
+    facts: &mut MbFacts,
     mb: &Mb,
     motion: &[Motion; 16],
     slice: &SliceContext<'_, PAD>,
-) -> MbFacts
-    ensures { IsFilterFacts mb.now motion.now slice.now result }
+)
+    ensures facts { IsFilterFacts mb.now motion.now slice.now facts.new }
+    ensures blocks { length motion.now ≡ 16 }
 {
-    MbFacts {
-        is_intra: is_intra(mb),
-        coefficients: coefficients(mb),
-        pictures: pictures(motion, &slice.frame_numbers),
-        vectors: vectors(motion),
-        qp: filter_qp(mb),
-        slice: slice.number,
-        filtered_edges: slice.filtered_edges,
-        offset_a: slice.offset_a,
-        offset_b: slice.offset_b,
-    }
+    facts.is_intra = is_intra(mb);
+    facts.coefficients = coefficients(mb);
+    set_pictures(&mut facts.pictures, motion, &slice.frame_numbers);
+    set_vectors(&mut facts.vectors, motion);
+    facts.qp = filter_qp(mb);
+    facts.slice = slice.number;
+    facts.filtered_edges = slice.filtered_edges;
+    facts.offset_a = slice.offset_a;
+    facts.offset_b = slice.offset_b;
 }

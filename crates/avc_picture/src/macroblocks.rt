@@ -15,11 +15,11 @@ ghost use Rattle.avc_picture.specs.Decoded.{deblocked};
 ghost use Rattle.avc_picture.specs.FirstMbs.{HasSameSize, HasSets, HoldsFirst, IsDecoded, IsSlice};
 ghost use Rattle.avc_picture.specs.MacroblockFacts.{IsRead};
 
-use crate::filter_facts::filter_facts;
-use crate::neighbour_facts::neighbour_facts;
+use crate::filter_facts::set_filter_facts;
+use crate::neighbour_facts::set_neighbour_facts;
 use crate::slice_context::SliceContext;
 use avc_deblock::{MbFacts, picture};
-use avc_neigh::{NeighbourFacts, Neighbours, Row, TotalCoeffs};
+use avc_neigh::{Motion, NearMode, NeighbourFacts, Neighbours, Row, TotalCoeffs};
 use avc_params::{Pps, Sps};
 use avc_picture_core::{Canvas, ReferencePicture, Sources};
 use avc_plane::Planes;
@@ -38,6 +38,18 @@ const NO_FACTS: MbFacts = MbFacts {
     filtered_edges: FilteredEdges::NoEdges,
     offset_a: 0,
     offset_b: 0,
+};
+
+/// What stands for what neighbours are told of a macroblock, until it is known.
+const NOTHING_TOLD: NeighbourFacts = NeighbourFacts {
+    slice: 0,
+    total_coeffs: TotalCoeffs {
+        luma: [0; 16],
+        cb: [0; 4],
+        cr: [0; 4],
+    },
+    modes: [NearMode::Absent; 16],
+    motion: [Motion::Absent; 16],
 };
 
 /// The macroblocks of a picture so far, with all that later ones and the deblocking filter ask of them.
@@ -155,14 +167,16 @@ impl<const PAD: usize> Macroblocks<PAD> {
             → IsSlice c names slice.now → IsDecoded c names self.old.next result self.new }
     {
         let sources = sources(self.row.around(slice.number), &slice.references);
-        let facts = neighbour_facts(
+        let mut facts = NOTHING_TOLD;
+        set_neighbour_facts(
+            &mut facts,
             mb,
             slice.number,
             &sources.neighbours,
             self.constrained_intra_pred,
         )?;
         self.canvas.build(self.next, mb, &facts, &sources)?;
-        self.filter_facts[self.next] = filter_facts(mb, &facts.motion, slice);
+        set_filter_facts(&mut self.filter_facts[self.next], mb, &facts.motion, slice);
         self.row.put(&facts);
         self.next += 1;
         Ok(())

@@ -2,6 +2,7 @@ use Rattle.std.specs.Prelude.{Ok, take}
 use Rattle.std.proofs.Common.{◌≡◌, ◌∙◌, sym, ap, rules, [], length, subst, List}
 use Rattle.avc_types.specs.Macroblock.{MbSyntax, p_skip, p_inter, parts_of, partitions}
 use Rattle.avc_types.specs.MacroblockFields.{syntax_of, residual_of}
+use Rattle.avc_types.specs.References.{result_map}
 use Rattle.avc_neigh.specs.Around.{facts_of}
 use Rattle.avc_neigh.specs.BlockNear.{motion_near}
 use Rattle.avc_motion.specs.Motion.{motion_of, motion_or_fault, near_in}
@@ -11,8 +12,9 @@ use Rattle.avc_motion.proofs.macroblock.motion.Goals as goal
 pub returns-in-PSkip : goal.returns-in-PSkip
 returns-in-PSkip c = λ p known a around.
     let syntax : c.args.mb.now.syntax ≡ p_skip = ap (λ m. m.syntax) (sym c.mb.view_is) ∙ ap syntax_of c.in-PSkip.is in
-    subst (λ (s : MbSyntax). Ok c.skipped.result ≡ motion_or_fault (motion_of p known a s)) (sym syntax)
-    (skipped_is (near_in p known a) (motion_near (facts_of c.args.neighbours.now)) around.block c.skipped.result c.skipped.ensures.motion c.skipped.ensures.within)
+    subst (λ (s : MbSyntax). Ok c.set_skipped.new.blocks ≡ motion_or_fault (motion_of p known a s)) (sym syntax)
+    (skipped_is (near_in p known a) (motion_near (facts_of c.args.neighbours.now)) around.block c.set_skipped.new.blocks c.set_skipped.ensures.motion
+    c.set_skipped.ensures.within)
 
 pub returns-in-PInter : goal.returns-in-PInter
 returns-in-PInter c = λ p known a around.
@@ -20,6 +22,7 @@ returns-in-PInter c = λ p known a around.
     let syntax : c.args.mb.now.syntax
     ≡ p_inter i.mb_type (take (partitions i.mb_type) i.ref_idx) (take (length (parts_of i.mb_type)) i.mvd) (residual_of [] i.levels)
     = ap (λ m. m.syntax) (sym c.mb.view_is) ∙ ap syntax_of i.is in
-    subst (λ (s : MbSyntax). c.inter.result ≡ motion_or_fault (motion_of p known a s)) (sym syntax)
-    (inter_is (near_in p known a) (motion_near (facts_of c.args.neighbours.now)) around.block i.mb_type c.inter.ensures.quarters i.ref_idx i.mvd
-    (residual_of [] i.levels) c.inter.result c.inter.ensures.motion)
+    let blocks = result_map (λ _. c.set_inter.new.blocks) c.set_inter.result in
+    subst (λ (s : MbSyntax). blocks ≡ motion_or_fault (motion_of p known a s)) (sym syntax)
+    (inter_is (near_in p known a) (motion_near (facts_of c.args.neighbours.now)) around.block i.mb_type c.set_inter.ensures.quarters i.ref_idx i.mvd
+    (residual_of [] i.levels) blocks c.set_inter.ensures.motion)

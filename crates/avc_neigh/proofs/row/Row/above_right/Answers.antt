@@ -1,4 +1,4 @@
-use Rattle.std.proofs.Common.{◌∙◌, ap, arith}
+use Rattle.std.proofs.Common.{◌∙◌, ap}
 use Rattle.avc_neigh.specs.Around.{of_slice}
 use Rattle.avc_neigh.proofs.Asked.{above_right_is}
 use Rattle.avc_neigh.proofs.row.Row.above_right.Goals as goal
@@ -6,6 +6,4 @@ use Rattle.avc_neigh.proofs.row.Row.above_right.Goals as goal
 pub returns : goal.returns
 returns c =
     rw (← c.self.view_is)
-    (c.in_slice.ensures
-    ∙ ap (of_slice c.args.slice) c.as_ref.ensures.value
-    ∙ above_right_is _ _ _ _ c.self.invariant c.args.slice _ (λ e. c.if-self-len.false (omega (arith, c.len.ensures, e))) c.index.ensures)
+    (c.in_slice.ensures ∙ ap (of_slice c.args.slice) c.as_ref.ensures.value ∙ above_right_is _ _ _ _ c.self.invariant c.args.slice _ c.if-self.false c.index.ensures)

@@ -11,14 +11,14 @@ use Rattle.avc_picture.proofs.Ranges.{in_range_of, modes_above, modes_left}
 use Rattle.avc_picture.proofs.Step.{build_fault, holds_more, no_fault, vector_fault}
 use Rattle.avc_picture.proofs.macroblocks.Macroblocks.decode.Goals as goal
 
-pub returns-in_err-facts-clause-decoded : goal.returns-in_err-facts-clause-decoded
-returns-in_err-facts-clause-decoded g c = λ coded names holds is slice.
+pub returns-in_err-set_neighbour_facts-clause-decoded : goal.returns-in_err-set_neighbour_facts-clause-decoded
+returns-in_err-set_neighbour_facts-clause-decoded g c = λ coded names holds is slice.
     let back = sym c.self.view_is in
-    let e : c.from_residual.result ≡ Err c.in_err-facts.field-0.0 = search rules in
+    let e : c.from_residual.result ≡ Err c.in_err-set_neighbour_facts.field-0.0 = search rules in
     let fault =
     vector_fault coded names (state_of c.self.inside) (subst (HoldsFirst coded names) back holds) c.self.invariant.kept c.args.slice.now slice c.args.mb.now
     (ap (λ (o : MbsState). slice_get coded.mbs o.next) c.self.view_is ∙ is) (facts_of c.sources-sources.result.neighbours)
-    (c.sources-sources.ensures.neighbours ∙ c.around.ensures) c.in_err-facts.field-0.0 c.in_err-facts.ensures.motion in
+    (c.sources-sources.ensures.neighbours ∙ c.around.ensures) c.in_err-set_neighbour_facts.field-0.0 c.in_err-set_neighbour_facts.ensures.motion in
     rw e (ap (λ (o : MbsState). macroblock_fault coded o.next) back ∙ fault)
 
 pub build-requires : goal.build-requires
@@ -36,7 +36,7 @@ build-requires g c =
             (
               c.requires.mb.quantiser,
               (
-                c.in_ok-facts.ensures.told.in_range
+                c.in_ok-set_neighbour_facts.ensures.told.in_range
                     (subst (λ (n : Around). HasModes n.a) n_is (modes_left c.self.inside.row c.args.slice.now.number kept.modes))
                     (subst (λ (n : Around). HasModes n.b) n_is (modes_above c.self.inside.row c.args.slice.now.number kept.modes)),
                 subst (AreUsable c.self.inside.canvas.width c.self.inside.canvas.height) (sym c.sources-sources.ensures.references)
@@ -55,8 +55,8 @@ returns-in_err-build-clause-decoded g c = λ coded names holds is slice.
     let fault =
     build_fault coded names (state_of c.self.inside) (subst (HoldsFirst coded names) back holds) c.self.invariant.kept c.args.slice.now slice c.args.mb.now
     (ap (λ (o : MbsState). slice_get coded.mbs o.next) c.self.view_is ∙ is) (facts_of c.sources-sources.result.neighbours)
-    (c.sources-sources.ensures.neighbours ∙ c.around.ensures) c.in_ok-facts.facts c.in_ok-facts.ensures.motion c.self.inside.constrained_intra_pred
-    c.self.invariant.constrained c.in_ok-facts.ensures.told c.sources-sources.result.references.now c.sources-sources.ensures.references
+    (c.sources-sources.ensures.neighbours ∙ c.around.ensures) c.set_neighbour_facts.new.facts c.in_ok-set_neighbour_facts.ensures.motion c.self.inside.constrained_intra_pred
+    c.self.invariant.constrained c.in_ok-set_neighbour_facts.ensures.told c.sources-sources.result.references.now c.sources-sources.ensures.references
     c.in_err-build.field-0.0 c.build.new.self c.in_err-build.ensures.built in
     rw e (ap (λ (o : MbsState). macroblock_fault coded o.next) back ∙ fault)
 
@@ -70,11 +70,11 @@ invariant_of-self-2 g c =
       height = w.height ∙ sym c.build.ensures.size.1;
       offset = w.offset ∙ sym c.build.ensures.parameters.0;
       constrained = w.constrained ∙ sym c.build.ensures.parameters.1;
-      kept = kept_more (state_of c.self.inside) w.kept c.build.new.self c.build.ensures.size.0 c.build.ensures.size.1 c.in_ok-facts.facts
-          (c.in_ok-facts.ensures.told.in_range
+      kept = kept_more (state_of c.self.inside) w.kept c.build.new.self c.build.ensures.size.0 c.build.ensures.size.1 c.set_neighbour_facts.new.facts
+          (c.in_ok-set_neighbour_facts.ensures.told.in_range
           (subst (λ (n : Around). HasModes n.a) n_is (modes_left c.self.inside.row c.args.slice.now.number w.kept.modes))
           (subst (λ (n : Around). HasModes n.b) n_is (modes_above c.self.inside.row c.args.slice.now.number w.kept.modes)))
-          c.filter_facts.result (subst (λ (o : MbsState). o.next < o.canvas.width * o.canvas.height) back c.requires.room) c.put.new.self c.put.ensures;
+          c.set_filter_facts.new.facts (subst (λ (o : MbsState). o.next < o.canvas.width * o.canvas.height) back c.requires.room) c.put.new.self c.put.ensures;
     }
 
 pub returns-clause-decoded : goal.returns-clause-decoded
@@ -86,17 +86,17 @@ returns-clause-decoded g c = λ coded names holds is slice.
     let there = ap (λ (o : MbsState). slice_get coded.mbs o.next) c.self.view_is ∙ is in
     let n = facts_of c.sources-sources.result.neighbours in
     let n_is = c.sources-sources.ensures.neighbours ∙ c.around.ensures in
-    let facts = c.in_ok-facts.facts in
-    let told = c.in_ok-facts.ensures in
+    let facts = c.set_neighbour_facts.new.facts in
+    let told = c.in_ok-set_neighbour_facts.ensures in
     let room = has_entry old kept (subst (λ (o : MbsState). o.next < o.canvas.width * o.canvas.height) back c.requires.room) in
-    let long : length facts.motion ≡ 16 = search rules in
+    let long : length facts.motion ≡ 16 = c.set_filter_facts.ensures.blocks in
     let none = no_fault coded names old held kept c.args.slice.now slice c.args.mb.now there n n_is facts told.motion c.self.inside.constrained_intra_pred
     c.self.invariant.constrained told.told c.sources-sources.result.references.now c.sources-sources.ensures.references c.build.new.self
-    c.in_ok-build.field-0 c.in_ok-build.ensures.built long c.filter_facts.result c.filter_facts.ensures in
+    c.in_ok-build.field-0 c.in_ok-build.ensures.built long c.set_filter_facts.new.facts c.set_filter_facts.ensures.facts in
     let more = holds_more coded names old held kept c.args.slice.now slice c.args.mb.now there n n_is facts told.motion c.self.inside.constrained_intra_pred
     c.self.invariant.constrained told.told c.sources-sources.result.references.now c.sources-sources.ensures.references c.build.new.self
-    c.in_ok-build.field-0 c.in_ok-build.ensures.built long c.filter_facts.result c.filter_facts.ensures room in
-    let entries = slice_set old.filter_facts old.next c.filter_facts.result in (
+    c.in_ok-build.field-0 c.in_ok-build.ensures.built long c.set_filter_facts.new.facts c.set_filter_facts.ensures.facts room in
+    let entries = slice_set old.filter_facts old.next c.set_filter_facts.new.facts in (
       ap (λ (o : MbsState). macroblock_fault coded o.next) back ∙ none,
       subst (λ (r : PictureFacts). HoldsFirst coded names (record { canvas = c.build.new.self; row = r; filter_facts = entries; next = old.next + 1 })) (sym c.put.ensures)
           (subst (λ (k : ℕ). HoldsFirst coded names (record { canvas = c.build.new.self; row = with_facts c.self.inside.row facts; filter_facts = entries; next = k }))

@@ -1,0 +1,9 @@
+use Rattle.std.proofs.Common.{◌∙◌, ap}
+use Rattle.avc_neigh.specs.Around.{of_slice}
+use Rattle.avc_neigh.proofs.Asked.{above_is}
+use Rattle.avc_neigh.proofs.row.Row.above.Goals as goal
+
+pub returns : goal.returns
+returns c =
+    rw (← c.self.view_is)
+    (c.in_slice.ensures ∙ ap (of_slice c.args.slice) c.as_ref.ensures.value ∙ above_is _ _ _ _ c.self.invariant c.args.slice _ c.index.ensures)
