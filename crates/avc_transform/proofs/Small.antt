@@ -1,11 +1,10 @@
 -- Numbers that are small enough for their 32 bits.
-use Rattle.std.proofs.Common.{ℕ, ℤ, pos, negsuc, zero, suc, neg_ℤ, ◌≡◌, ◌<◌, ◌≤◌, ◌^◌, ◌*◌, ◌/◌, ◌%◌, ◌*ℤ◌, arith, to_z, of_z, w16, w32, List, slice_index_or, ap, ◌∙◌, refl, zero-mul, mul_assoc, false, ◌+◌, ◌-◌, ◌==◌, if◌then◌else◌}
+use Rattle.std.proofs.Common.{ℕ, ℤ, pos, negsuc, zero, suc, neg_ℤ, ◌≡◌, ◌<◌, ◌≤◌, ◌^◌, ◌*◌, ◌/◌, ◌%◌, ◌*ℤ◌, arith, to_z, of_z, w16, w32, List, slice_index_or, ap, ◌∙◌, sym, subst, refl, zero-mul, mul_assoc}
 use Rattle.std.specs.Int.RustNames.{unsigned_abs}
 use Rattle.std.proofs.lemmas.Int.{ints, unsigned_abs-mul}
-use Rattle.std.proofs.lemmas.Bool.Decides.{nat_tests}
 use Rattle.std.proofs.lemmas.Nat.{mul-lt}
 use Rattle.avc_transform.specs.Bounds.{IsBelow}
-use Rattle.avc_transform.specs.Residual.{level, level_scale, scaled, scaled_block_with_dc, zigzag}
+use Rattle.avc_transform.specs.Residual.{level, level_scale, scaled}
 
 -- a small number is what its 32 bits say
 pub cast_back : (z : ℤ) → IsBelow (2 ^ 31) z → to_z w32 (of_z w32 z) ≡ z
@@ -42,12 +41,17 @@ level_read levels p q r small e told =
     let read = told ∙ narrow in
     ap (λ z. to_z w32 (of_z w32 z)) read ∙ cast_back _ (IsBelow-more (2 ^ 12) (2 ^ 31) _ (omega arith) small) ∙ ap (level levels) e
 
-pub scaled_is : (qp : ℕ) (c l r : ℤ) (s p x y : ℕ) → l ≡ c → s ≡ level_scale (qp % 6) x y → p ≡ 2 ^ (qp / 6) → r ≡ l *ℤ pos s *ℤ pos p → r ≡ scaled qp c x y
-scaled_is qp c l r s p x y el es ep told =
-    told ∙ ap (λ (z : ℤ). z *ℤ pos s *ℤ pos p) el ∙ ap (λ n. c *ℤ pos n *ℤ pos p) es ∙ ap (λ n. c *ℤ pos (level_scale (qp % 6) x y) *ℤ pos n) ep
+-- a level times its scale, which was raised before
+pub raised_is : (qp : ℕ) (c l r : ℤ) (s x y : ℕ) → r ≡ l *ℤ pos s → l ≡ c → s ≡ level_scale (qp % 6) x y * 2 ^ (qp / 6) → r ≡ scaled qp c x y
+raised_is qp c l r s x y told el es =
+    told ∙ ap (λ (z : ℤ). z *ℤ pos s) el ∙ ap (λ n. c *ℤ pos n) es ∙ sym (times_times c (level_scale (qp % 6) x y) (2 ^ (qp / 6)))
 
--- behind the DC value the levels are one place nearer
-pub scaled_after_dc : (qp : ℕ) (dc : ℤ) (levels : List ℤ) (x y : ℕ) → 0 < x + y → scaled_block_with_dc qp dc levels x y ≡ scaled qp (level levels (zigzag x y - 1)) x y
-scaled_after_dc qp dc levels x y later =
-    let test : ((x + y) == 0) ≡ false = grind (arith, nat_tests) in
-    ap (λ t. if t then dc else scaled qp (level levels (zigzag x y - 1)) x y) test
+pub scaled_of : (qp : ℕ) (c : ℤ) (x y : ℕ) {l r : ℤ} {s : ℕ} → r ≡ l *ℤ pos s → l ≡ c → s ≡ level_scale (qp % 6) x y * 2 ^ (qp / 6) → r ≡ scaled qp c x y
+scaled_of qp c x y {l} {r} {s} told el es = raised_is qp c l r s x y told el es
+
+-- a level is what its sixteen bits say
+pub level_back : (z : ℤ) → IsBelow (2 ^ 12) z → to_z w16 (of_z w16 z) ≡ z
+level_back z small = omega (arith, ints)
+
+pub level_small : (z : ℤ) → IsBelow (2 ^ 12) z → IsBelow (2 ^ 12) (to_z w16 (of_z w16 z))
+level_small z small = subst (IsBelow (2 ^ 12)) (sym (level_back z small)) small

@@ -8,6 +8,8 @@ mod block;
 mod construction;
 mod dc;
 mod inverse;
+mod lanes;
+mod lines;
 mod quantiser;
 mod scaling;
 

@@ -1,30 +1,31 @@
-ghost use Rattle.std.specs.Prelude.{◌≡◌, ℕ, ◌+◌, ◌*◌, ◌-◌, ◌/◌, ◌%◌, ◌^◌, ◌<◌, ◌≤◌, ◌*ℤ◌, pos, slice_index_or};
+ghost use Rattle.std.specs.Prelude.{◌≡◌, ℕ, ◌+◌, ◌*◌, ◌-◌, ◌/◌, ◌%◌, ◌^◌, ◌<◌, ◌≤◌, ◌*ℤ◌, pos, slice_index, slice_index_or};
 ghost use Rattle.avc_transform.specs.Bounds.{IsBelow, AllBelow, HasRows};
-ghost use Rattle.avc_transform.specs.Residual.{scaled_block, scaled_block_with_dc, level, zigzag, even_scale};
+ghost use Rattle.avc_transform.specs.Lines.{AreBelow, AreLines, IsLine};
+ghost use Rattle.avc_transform.specs.Residual.{scaled_block, scaled_block_with_dc, level, level_scale, zigzag, even_scale};
+
+use crate::lines::Lines;
 
 /// The place in the zig-zag scan of each place of a 4x4 block, row by row (8.5.6).
 const ZIGZAG: [usize; 16] = [0, 1, 5, 6, 2, 4, 7, 12, 3, 8, 11, 13, 9, 10, 14, 15];
 
-/// normAdjust4x4 by QP modulo 6 (8.5.9), at each place of a 4x4 block, row by row.
-const LEVEL_SCALE: [[u8; 16]; 6] = [
-    [
-        10, 13, 10, 13, 13, 16, 13, 16, 10, 13, 10, 13, 13, 16, 13, 16,
-    ],
-    [
-        11, 14, 11, 14, 14, 18, 14, 18, 11, 14, 11, 14, 14, 18, 14, 18,
-    ],
-    [
-        13, 16, 13, 16, 16, 20, 16, 20, 13, 16, 13, 16, 16, 20, 16, 20,
-    ],
-    [
-        14, 18, 14, 18, 18, 23, 18, 23, 14, 18, 14, 18, 18, 23, 18, 23,
-    ],
-    [
-        16, 20, 16, 20, 20, 25, 20, 25, 16, 20, 16, 20, 20, 25, 20, 25,
-    ],
-    [
-        18, 23, 18, 23, 23, 29, 23, 29, 18, 23, 18, 23, 23, 29, 23, 29,
-    ],
+/// normAdjust4x4 by QP modulo 6 (8.5.9), in an even column of a 4x4 block from above down.
+const EVEN_SCALES: [[u32; 4]; 6] = [
+    [10, 13, 10, 13],
+    [11, 14, 11, 14],
+    [13, 16, 13, 16],
+    [14, 18, 14, 18],
+    [16, 20, 16, 20],
+    [18, 23, 18, 23],
+];
+
+/// The same in an odd column.
+const ODD_SCALES: [[u32; 4]; 6] = [
+    [13, 16, 13, 16],
+    [14, 18, 14, 18],
+    [16, 20, 16, 20],
+    [18, 23, 18, 23],
+    [20, 25, 20, 25],
+    [23, 29, 23, 29],
 ];
 
 /// A power of two, by which a number is shifted left.
@@ -51,28 +52,7 @@ pub fn dc_scale(qp: u8) -> u32
     ensures value { result ≡ 16 * even_scale (qp % 6) }
     ensures small { result ≤ 288 }
 {
-    16 * u32::from(LEVEL_SCALE[usize::from(qp % 6)][0])
-}
-
-/// A product times a power of two.
-fn raised(product: i32, power: u32) -> i32
-    requires product { IsBelow (2 ^ 17) product }
-    requires power { power ≤ 2 ^ 8 }
-    ensures value { result ≡ product *ℤ pos power }
-    ensures small { (m : ℕ) → IsBelow m product → IsBelow (m * 257) result }
-{
-    product * power as i32
-}
-
-/// A level times its scale and a power of two (8.5.12.1). The power comes last: so the compiler takes several levels at once.
-fn scaled(level: i16, scale: u8, power: u32) -> i32
-    requires level { IsBelow (2 ^ 12) level }
-    requires scale { scale < 30 }
-    requires power { power ≤ 2 ^ 8 }
-    ensures value { result ≡ level *ℤ pos scale *ℤ pos power }
-    ensures small { IsBelow (2 ^ 25) result }
-{
-    raised(times(i32::from(level), u32::from(scale)), power)
+    16 * EVEN_SCALES[usize::from(qp % 6)][0]
 }
 
 /// The levels at their places in the block (8.5.6).
@@ -88,35 +68,95 @@ pub fn in_rows(levels: &[i16; 16]) -> [i32; 16]
     out
 }
 
-/// A block of sixteen levels, scaled (8.5.12.1).
-pub fn scaled_levels(levels: &[i16; 16], qp: u8) -> [i32; 16]
-    requires quantiser { qp ≤ 51 }
-    requires small { AllBelow 16 (2 ^ 12) levels.now }
-    ensures values { HasRows (scaled_block qp levels.now) result }
-    ensures small { AllBelow 16 (2 ^ 25) result }
+/// Four levels times a scale each (8.5.12.1).
+#[inline(always)]
+fn scaled(levels: [i16; 4], scales: [u32; 4]) -> [i32; 4]
+    requires levels { AllBelow 4 (2 ^ 12) levels }
+    requires scales { (k : ℕ) → k < 4 → slice_index scales k < 2 ^ 13 }
+    ensures values { IsLine (λ k. slice_index_or levels k (pos 0) *ℤ pos (slice_index scales k)) result }
+    ensures small { AllBelow 4 (2 ^ 25) result }
 {
-    let scales = &LEVEL_SCALE[usize::from(qp % 6)];
-    let power = power_of_two(qp / 6);
-    let mut out = [0; 16];
-    for i in 0..16 {
-        out[i] = scaled(levels[ZIGZAG[i]], scales[i], power);
-    }
-    out
+    [
+        times(i32::from(levels[0]), scales[0]),
+        times(i32::from(levels[1]), scales[1]),
+        times(i32::from(levels[2]), scales[2]),
+        times(i32::from(levels[3]), scales[3]),
+    ]
 }
 
-/// A block of fifteen levels, scaled, behind a value for its first place that is not to be scaled again (8.5.12.1).
-pub fn scaled_levels_with_dc(dc: i32, levels: &[i16; 15], qp: u8) -> [i32; 16]
+/// What the levels of a column are multiplied by (8.5.12.1).
+#[derive(Clone, Copy)]
+struct ColumnScales {
+    even: [u32; 4],
+    odd: [u32; 4],
+}
+
+/// Four scales times a power of two.
+#[inline(always)]
+fn raised(scales: [u32; 4], power: u32) -> [u32; 4]
+    requires scales { (k : ℕ) → k < 4 → slice_index scales k < 30 }
+    requires power { power ≤ 2 ^ 8 }
+    ensures values { (k : ℕ) → k < 4 → slice_index result k ≡ slice_index scales k * power }
+    ensures small { (k : ℕ) → k < 4 → slice_index result k < 2 ^ 13 }
+{
+    [
+        scales[0] * power,
+        scales[1] * power,
+        scales[2] * power,
+        scales[3] * power,
+    ]
+}
+
+/// The scales of a quantiser.
+#[inline(always)]
+fn column_scales(qp: u8) -> ColumnScales
+    requires { qp ≤ 51 }
+    ensures even { (y : ℕ) → y < 4 → slice_index result.even y ≡ level_scale (qp % 6) 0 y * 2 ^ (qp / 6) }
+    ensures odd { (y : ℕ) → y < 4 → slice_index result.odd y ≡ level_scale (qp % 6) 1 y * 2 ^ (qp / 6) }
+    ensures even_small { (y : ℕ) → y < 4 → slice_index result.even y < 2 ^ 13 }
+    ensures odd_small { (y : ℕ) → y < 4 → slice_index result.odd y < 2 ^ 13 }
+{
+    let power = power_of_two(qp / 6);
+    ColumnScales {
+        even: raised(EVEN_SCALES[usize::from(qp % 6)], power),
+        odd: raised(ODD_SCALES[usize::from(qp % 6)], power),
+    }
+}
+
+/// The columns of a block of sixteen levels, scaled (8.5.12.1).
+#[inline(always)]
+pub fn scaled_levels(levels: &[i16; 16], qp: u8) -> Lines
+    requires quantiser { qp ≤ 51 }
+    requires small { AllBelow 16 (2 ^ 12) levels.now }
+    ensures values { AreLines (scaled_block qp levels.now) result }
+    ensures small { AreBelow (2 ^ 25) result }
+{
+    let scales = column_scales(qp);
+    let l = levels;
+    Lines {
+        d0: scaled([l[0], l[2], l[3], l[9]], scales.even),
+        d1: scaled([l[1], l[4], l[8], l[10]], scales.odd),
+        d2: scaled([l[5], l[7], l[11], l[14]], scales.even),
+        d3: scaled([l[6], l[12], l[13], l[15]], scales.odd),
+    }
+}
+
+/// The columns of a block of fifteen levels, scaled, behind a value for its first place that is not to be scaled again (8.5.12.1).
+#[inline(always)]
+pub fn scaled_levels_with_dc(dc: i32, levels: &[i16; 15], qp: u8) -> Lines
     requires quantiser { qp ≤ 51 }
     requires dc { IsBelow (2 ^ 27) dc }
     requires small { AllBelow 15 (2 ^ 12) levels.now }
-    ensures values { HasRows (scaled_block_with_dc qp dc levels.now) result }
-    ensures small { AllBelow 16 (2 ^ 27) result }
+    ensures values { AreLines (scaled_block_with_dc qp dc levels.now) result }
+    ensures small { AreBelow (2 ^ 27) result }
 {
-    let scales = &LEVEL_SCALE[usize::from(qp % 6)];
-    let power = power_of_two(qp / 6);
-    let mut out = [dc; 16];
-    for i in 1..16 {
-        out[i] = scaled(levels[ZIGZAG[i] - 1], scales[i], power);
+    let scales = column_scales(qp);
+    let l = levels;
+    let ac = scaled([0, l[1], l[2], l[8]], scales.even);
+    Lines {
+        d0: [dc, ac[1], ac[2], ac[3]],
+        d1: scaled([l[0], l[3], l[7], l[9]], scales.odd),
+        d2: scaled([l[4], l[6], l[10], l[13]], scales.even),
+        d3: scaled([l[5], l[11], l[12], l[14]], scales.odd),
     }
-    out
 }

@@ -1,14 +1,100 @@
-use Rattle.std.proofs.Common.{◌*◌, ◌^◌, pos, slice_index_or, arith}
-use Rattle.avc_transform.specs.Bounds.{IsBelow}
-use Rattle.avc_transform.proofs.Small.{cast_back, IsBelow-more}
+use Rattle.std.proofs.Common.{ℕ, ℤ, ◌≡◌, ◌+◌, ◌*◌, ◌/◌, ◌%◌, ◌^◌, ◌<◌, ◌≤◌, ◌+ℤ◌, arith, ap, ◌∙◌, sym, subst, to_z, of_z, w32, List, [], ◌∷◌, pos, slice_index_or}
+use Rattle.avc_types.specs.Arithmetic.{◌>>ℤ◌}
+use Rattle.avc_transform.specs.Bounds.{AllBelow, IsBelow}
+use Rattle.avc_transform.specs.Lines.{AreBelow}
+use Rattle.avc_transform.specs.Residual.{transformed_row, transformed}
+use Rattle.avc_transform.specs.declared.lines.Lines.{Lines}
+use Rattle.avc_transform.proofs.BelowFour.{below_four}
+use Rattle.avc_transform.proofs.Matrices.{place_of_four}
+use Rattle.avc_transform.proofs.Small.{IsBelow-more, cast_back}
 use Rattle.avc_transform.proofs.inverse.transformed.Goals as goal
 
-pub rows_to_columns-out-requires : goal.rows_to_columns-out-requires
-rows_to_columns-out-requires c i h =
-    IsBelow-more (7 * 2 ^ 26) (2 ^ 29) _ (omega arith) (c.rows_to_columns-columns.ensures.small (2 ^ 26) c.requires i h)
+more : (m n : ℕ) (l : List ℤ) → m ≤ n → AllBelow 4 m l → AllBelow 4 n l
+more m n l le all = λ i h. IsBelow-more m n (slice_index_or l i (pos 0)) le (all i h)
 
-pub rounded-requires : goal.rounded-requires
-rounded-requires c =
-    let before : IsBelow (49 * 2 ^ 25) (slice_index_or c.loop-i.out c.loop-i.i (pos 0)) =
-    rw (c.loop-i.invariant.left c.loop-i.i (omega arith)) (c.rows_to_columns-out.ensures.small (7 * 2 ^ 25) (c.rows_to_columns-columns.ensures.small (2 ^ 26) c.requires) c.loop-i.i (omega arith)) in
-    rw (cast_back _ (IsBelow-more (49 * 2 ^ 25) (2 ^ 31) _ (omega arith) before)) before
+more_lines : (m n : ℕ) (l : Lines) → m ≤ n → AreBelow m l → AreBelow n l
+more_lines m n l le all = record {
+  zeroth = more m n l.d0 le all.zeroth;
+  first = more m n l.d1 le all.first;
+  second = more m n l.d2 le all.second;
+  third = more m n l.d3 le all.third;
+}
+
+pub exchanged-requires : goal.exchanged-requires
+exchanged-requires c = more_lines (7 * 2 ^ 26 + 1) (2 ^ 31) c.inverse4.result (omega arith) (c.inverse4.ensures.small (2 ^ 26) c.requires)
+
+pub inverse4-rows-requires : goal.inverse4-rows-requires
+inverse4-rows-requires c =
+    more_lines (7 * 2 ^ 26 + 1) (2 ^ 29) c.exchanged.result (omega arith) (c.exchanged.ensures.small (7 * 2 ^ 26 + 1) (c.inverse4.ensures.small (2 ^ 26) c.requires))
+
+pub all_rounded-a-requires : goal.all_rounded-a-requires
+all_rounded-a-requires c =
+    more (49 * 2 ^ 25 + 8) (49 * 2 ^ 25 + 9) c.inverse4-rows.result.d0 (omega arith)
+    (c.inverse4-rows.ensures.small (7 * 2 ^ 25 + 1)
+    (more_lines (7 * 2 ^ 26 + 1) (7 * 2 ^ 26 + 2) c.exchanged.result (omega arith) (c.exchanged.ensures.small (7 * 2 ^ 26 + 1) (c.inverse4.ensures.small (2 ^ 26) c.requires)))).zeroth
+
+pub all_rounded-b-requires : goal.all_rounded-b-requires
+all_rounded-b-requires c =
+    more (49 * 2 ^ 25 + 8) (49 * 2 ^ 25 + 9) c.inverse4-rows.result.d1 (omega arith)
+    (c.inverse4-rows.ensures.small (7 * 2 ^ 25 + 1)
+    (more_lines (7 * 2 ^ 26 + 1) (7 * 2 ^ 26 + 2) c.exchanged.result (omega arith) (c.exchanged.ensures.small (7 * 2 ^ 26 + 1) (c.inverse4.ensures.small (2 ^ 26) c.requires)))).first
+
+pub all_rounded-c-requires : goal.all_rounded-c-requires
+all_rounded-c-requires c =
+    more (49 * 2 ^ 25 + 8) (49 * 2 ^ 25 + 9) c.inverse4-rows.result.d2 (omega arith)
+    (c.inverse4-rows.ensures.small (7 * 2 ^ 25 + 1)
+    (more_lines (7 * 2 ^ 26 + 1) (7 * 2 ^ 26 + 2) c.exchanged.result (omega arith) (c.exchanged.ensures.small (7 * 2 ^ 26 + 1) (c.inverse4.ensures.small (2 ^ 26) c.requires)))).second
+
+pub all_rounded-d-requires : goal.all_rounded-d-requires
+all_rounded-d-requires c =
+    more (49 * 2 ^ 25 + 8) (49 * 2 ^ 25 + 9) c.inverse4-rows.result.d3 (omega arith)
+    (c.inverse4-rows.ensures.small (7 * 2 ^ 25 + 1)
+    (more_lines (7 * 2 ^ 26 + 1) (7 * 2 ^ 26 + 2) c.exchanged.result (omega arith) (c.exchanged.ensures.small (7 * 2 ^ 26 + 1) (c.inverse4.ensures.small (2 ^ 26) c.requires)))).third
+
+-- a number of a list, as it is put into another
+abbrev at : List ℤ → ℕ → ℤ
+at l k = to_z w32 (of_z w32 (slice_index_or l k (pos 0)))
+
+same : (l : List ℤ) (k : ℕ) → AllBelow 4 (2 ^ 25) l → k < 4 → at l k ≡ slice_index_or l k (pos 0)
+same l k all h = cast_back (slice_index_or l k (pos 0)) (IsBelow-more (2 ^ 25) (2 ^ 31) (slice_index_or l k (pos 0)) (omega arith) (all k h))
+
+below : (l : List ℤ) → AllBelow 4 (2 ^ 25) l → (k : ℕ) → k < 4 → IsBelow (2 ^ 25) (at l k)
+below l all k h = subst (IsBelow (2 ^ 25)) (sym (same l k all h)) (all k h)
+
+-- four lists of four one after another
+abbrev joined : (a b c d : List ℤ) → List ℤ
+joined a b c d =
+    at a 0 ∷ at a 1 ∷ at a 2 ∷ at a 3 ∷ at b 0 ∷ at b 1 ∷ at b 2 ∷ at b 3 ∷ at c 0 ∷ at c 1 ∷ at c 2 ∷ at c 3 ∷ at d 0 ∷ at d 1 ∷ at d 2 ∷ at d 3 ∷ []
+
+-- what holds of each number of the four holds by column and row
+by_rows : (P : ℕ → ℕ → ℤ → Type 0) (a b c d : List ℤ)
+    → ((x : ℕ) → x < 4 → P x 0 (at a x)) → ((x : ℕ) → x < 4 → P x 1 (at b x)) → ((x : ℕ) → x < 4 → P x 2 (at c x)) → ((x : ℕ) → x < 4 → P x 3 (at d x))
+    → (x y : ℕ) → x < 4 → y < 4 → P x y (slice_index_or (joined a b c d) (4 * y + x) (pos 0))
+by_rows P a b c d pa pb pc pd x y column row =
+    below_four (λ y. P x y (slice_index_or (joined a b c d) (4 * y + x) (pos 0)))
+    (below_four (λ x. P x 0 (slice_index_or (joined a b c d) (4 * 0 + x) (pos 0))) (pa 0 (omega arith)) (pa 1 (omega arith)) (pa 2 (omega arith)) (pa 3 (omega arith)) x column)
+    (below_four (λ x. P x 1 (slice_index_or (joined a b c d) (4 * 1 + x) (pos 0))) (pb 0 (omega arith)) (pb 1 (omega arith)) (pb 2 (omega arith)) (pb 3 (omega arith)) x column)
+    (below_four (λ x. P x 2 (slice_index_or (joined a b c d) (4 * 2 + x) (pos 0))) (pc 0 (omega arith)) (pc 1 (omega arith)) (pc 2 (omega arith)) (pc 3 (omega arith)) x column)
+    (below_four (λ x. P x 3 (slice_index_or (joined a b c d) (4 * 3 + x) (pos 0))) (pd 0 (omega arith)) (pd 1 (omega arith)) (pd 2 (omega arith)) (pd 3 (omega arith)) x column)
+    y row
+
+pub returns : goal.returns
+returns c =
+    let a = c.all_rounded-a in
+    let b = c.all_rounded-b in
+    let d = c.all_rounded-c in
+    let e = c.all_rounded-d in
+    let shift = λ (z : ℤ). z +ℤ pos 32 >>ℤ 6 in
+    record {
+      values = λ f l.
+          let rows = c.inverse4-rows.ensures.values (λ x y. transformed_row f y x) (c.exchanged.ensures.values (transformed_row f) (c.inverse4.ensures.values f l)) in
+          by_rows (λ x y v. v ≡ transformed f x y) a.result b.result d.result e.result
+          (λ x h. same a.result x a.ensures.small h ∙ a.ensures.values x h ∙ ap shift (rows.zeroth x h))
+          (λ x h. same b.result x b.ensures.small h ∙ b.ensures.values x h ∙ ap shift (rows.first x h))
+          (λ x h. same d.result x d.ensures.small h ∙ d.ensures.values x h ∙ ap shift (rows.second x h))
+          (λ x h. same e.result x e.ensures.small h ∙ e.ensures.values x h ∙ ap shift (rows.third x h));
+      small = λ i h.
+          rw (place_of_four i)
+          (by_rows (λ x y v. IsBelow (2 ^ 25) v) a.result b.result d.result e.result (below a.result a.ensures.small) (below b.result b.ensures.small) (below d.result d.ensures.small) (below e.result e.ensures.small)
+          (i % 4) (i / 4) (omega arith) (omega arith));
+    }

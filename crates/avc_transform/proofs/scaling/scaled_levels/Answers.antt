@@ -1,46 +1,39 @@
-use Rattle.std.proofs.Common.{◌≡◌, ◌<◌, ◌/◌, ◌%◌, ◌^◌, arith, rules, of_z, to_z, w16, slice_index, slice_index_or, pos, [], sym, subst, ◌∙◌, ap}
-use Rattle.std.proofs.lemmas.Int.{ints}
-use Rattle.avc_transform.specs.Bounds.{IsBelow}
-use Rattle.avc_transform.specs.Residual.{level, level_scale, zigzag, scaled_block}
-use Rattle.avc_transform.specs.declared.scaling.TheConstants.{ZIGZAG, LEVEL_SCALE}
-use Rattle.avc_transform.proofs.Matrices.{place_more}
-use Rattle.avc_transform.proofs.Small.{cast_back, IsBelow-more, scaled_is}
-use Rattle.avc_transform.proofs.Tables.{scale_table, scale_small, zigzag_table, zigzag_inside}
+use Rattle.std.proofs.Common.{ℕ, ◌<◌, arith}
+use Rattle.avc_transform.specs.Residual.{level}
+use Rattle.avc_transform.proofs.BelowFour.{below_four}
+use Rattle.avc_transform.proofs.Small.{level_back, scaled_of}
 use Rattle.avc_transform.proofs.scaling.scaled_levels.Goals as goal
 
-pub loop-i-preserved : goal.loop-i-preserved
-loop-i-preserved c =
-    let i = c.loop-i.i in
-    let x = i % 4 in
-    let y = i / 4 in
-    let levels = c.args.levels.now in
-    let small = c.requires.small (slice_index ZIGZAG i) (zigzag_inside i (omega arith)) in
-    let old = slice_index_or levels (slice_index ZIGZAG i) (pos 0) in
-    let narrow : to_z w16 (of_z w16 old) ≡ old = omega (arith, ints, small.low, small.high) in
-    let read : to_z w16 (of_z w16 old) ≡ level levels (zigzag x y) = narrow ∙ ap (level levels) (zigzag_table i (omega arith)) in
-    let m = c.args.qp % 6 in
-    let row : c.from.result ≡ m = c.from.ensures in
-    let scale : slice_index (slice_index_or LEVEL_SCALE c.from.result []) i ≡ level_scale m x y =
-    ap (λ u. slice_index (slice_index_or LEVEL_SCALE u []) i) row ∙ scale_table m i (omega arith) (omega arith) in
-    let times : c.scaled.result ≡ scaled_block c.args.qp levels x y =
-    scaled_is c.args.qp (level levels (zigzag x y)) (to_z w16 (of_z w16 old)) c.scaled.result _ c.power_of_two-power.result x y read scale c.power_of_two-power.ensures.value c.scaled.ensures.value in
-    let below = c.scaled.ensures.small in
-    let back = cast_back c.scaled.result (IsBelow-more (2 ^ 25) (2 ^ 31) c.scaled.result (omega arith) below) in
+pub returns-clause-values : goal.returns-clause-values
+returns-clause-values c =
+    let qp = c.args.qp in
+    let l = c.args.levels.now in
+    let even = c.column_scales-scales.ensures.even in
+    let odd = c.column_scales-scales.ensures.odd in
+    let a = c.scaled.ensures.values in
+    let b = c.scaled-2.ensures.values in
+    let d = c.scaled-3.ensures.values in
+    let e = c.scaled-4.ensures.values in
+    let back = λ (n : ℕ) (h : n < 16). level_back (level l n) (c.requires.small n h) in
     record {
-      long = search rules;
-      values = place_more (λ k v. v ≡ scaled_block c.args.qp levels (k % 4) (k / 4)) c.loop-i.out i _ (omega arith) c.loop-i.invariant.values (back ∙ times);
-      small = place_more (λ k v. IsBelow (2 ^ 25) v) c.loop-i.out i _ (omega arith) c.loop-i.invariant.small (rw back below);
+      zeroth = below_four _
+          (scaled_of qp (level l 0) 0 0 (a 0 (omega arith)) (back 0 (omega arith)) (even 0 (omega arith)))
+          (scaled_of qp (level l 2) 0 1 (a 1 (omega arith)) (back 2 (omega arith)) (even 1 (omega arith)))
+          (scaled_of qp (level l 3) 0 2 (a 2 (omega arith)) (back 3 (omega arith)) (even 2 (omega arith)))
+          (scaled_of qp (level l 9) 0 3 (a 3 (omega arith)) (back 9 (omega arith)) (even 3 (omega arith)));
+      first = below_four _
+          (scaled_of qp (level l 1) 1 0 (b 0 (omega arith)) (back 1 (omega arith)) (odd 0 (omega arith)))
+          (scaled_of qp (level l 4) 1 1 (b 1 (omega arith)) (back 4 (omega arith)) (odd 1 (omega arith)))
+          (scaled_of qp (level l 8) 1 2 (b 2 (omega arith)) (back 8 (omega arith)) (odd 2 (omega arith)))
+          (scaled_of qp (level l 10) 1 3 (b 3 (omega arith)) (back 10 (omega arith)) (odd 3 (omega arith)));
+      second = below_four _
+          (scaled_of qp (level l 5) 2 0 (d 0 (omega arith)) (back 5 (omega arith)) (even 0 (omega arith)))
+          (scaled_of qp (level l 7) 2 1 (d 1 (omega arith)) (back 7 (omega arith)) (even 1 (omega arith)))
+          (scaled_of qp (level l 11) 2 2 (d 2 (omega arith)) (back 11 (omega arith)) (even 2 (omega arith)))
+          (scaled_of qp (level l 14) 2 3 (d 3 (omega arith)) (back 14 (omega arith)) (even 3 (omega arith)));
+      third = below_four _
+          (scaled_of qp (level l 6) 3 0 (e 0 (omega arith)) (back 6 (omega arith)) (odd 0 (omega arith)))
+          (scaled_of qp (level l 12) 3 1 (e 1 (omega arith)) (back 12 (omega arith)) (odd 1 (omega arith)))
+          (scaled_of qp (level l 13) 3 2 (e 2 (omega arith)) (back 13 (omega arith)) (odd 2 (omega arith)))
+          (scaled_of qp (level l 15) 3 3 (e 3 (omega arith)) (back 15 (omega arith)) (odd 3 (omega arith)));
     }
-
-pub scaled-requires-clause-level : goal.scaled-requires-clause-level
-scaled-requires-clause-level c =
-    let i = c.loop-i.i in
-    let old = slice_index_or c.args.levels.now (slice_index ZIGZAG i) (pos 0) in
-    let small = c.requires.small (slice_index ZIGZAG i) (zigzag_inside i (omega arith)) in
-    let narrow : to_z w16 (of_z w16 old) ≡ old = omega (arith, ints, small.low, small.high) in
-    subst (IsBelow (2 ^ 12)) (sym narrow) small
-
-pub scaled-requires-clause-scale : goal.scaled-requires-clause-scale
-scaled-requires-clause-scale c =
-    let i = c.loop-i.i in
-    subst (λ u. slice_index (slice_index_or LEVEL_SCALE u []) i < 30) (sym c.from.ensures) (scale_small (c.args.qp % 6) i (omega arith) (omega arith))

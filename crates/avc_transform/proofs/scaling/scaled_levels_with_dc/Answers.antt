@@ -1,50 +1,96 @@
-use Rattle.std.proofs.Common.{◌≡◌, ◌<◌, ◌-◌, ◌/◌, ◌%◌, ◌^◌, arith, rules, of_z, to_z, w16, w32, slice_index, slice_index_or, pos, [], sym, subst, ◌∙◌, ap}
-use Rattle.std.proofs.lemmas.Int.{ints}
-use Rattle.avc_transform.specs.Bounds.{IsBelow}
-use Rattle.avc_transform.specs.Residual.{level, level_scale, zigzag, scaled_block_with_dc}
-use Rattle.avc_transform.specs.declared.scaling.TheConstants.{ZIGZAG, LEVEL_SCALE}
-use Rattle.avc_transform.proofs.Matrices.{place_more}
-use Rattle.avc_transform.proofs.Small.{cast_back, IsBelow-more, scaled_is, scaled_after_dc}
-use Rattle.avc_transform.proofs.Tables.{scale_table, scale_small, zigzag_table, zigzag_inside}
+use Rattle.std.proofs.Common.{ℕ, ℤ, ◌≡◌, ◌<◌, ◌^◌, ◌∙◌, arith, sym, subst, to_z, of_z, w32, List, pos, slice_index_or}
+use Rattle.std.proofs.lemmas.Int.{ints, to_z-of_z}
+use Rattle.avc_transform.specs.Bounds.{AllBelow, IsBelow}
+use Rattle.avc_transform.specs.Residual.{level}
+use Rattle.avc_transform.proofs.BelowFour.{below_four, each_of_four}
+use Rattle.avc_transform.proofs.Small.{cast_back, level_back, level_small, scaled_of, IsBelow-more}
 use Rattle.avc_transform.proofs.scaling.scaled_levels_with_dc.Goals as goal
 
-pub loop-i-preserved : goal.loop-i-preserved
-loop-i-preserved c =
-    let i = c.loop-i.i in
-    let x = i % 4 in
-    let y = i / 4 in
-    let dc = to_z w32 (of_z w32 c.args.dc) in
-    let levels = c.args.levels.now in
-    let inside = zigzag_inside i (omega arith) in
-    let place = ap (λ n. n - 1) (zigzag_table i (omega arith)) in
-    let small = c.requires.small (slice_index ZIGZAG i - 1) (omega (arith, inside)) in
-    let old = slice_index_or levels (slice_index ZIGZAG i - 1) (pos 0) in
-    let narrow : to_z w16 (of_z w16 old) ≡ old = omega (arith, ints, small.low, small.high) in
-    let read : to_z w16 (of_z w16 old) ≡ level levels (zigzag x y - 1) = narrow ∙ ap (level levels) place in
-    let m = c.args.qp % 6 in
-    let row : c.from.result ≡ m = c.from.ensures in
-    let scale : slice_index (slice_index_or LEVEL_SCALE c.from.result []) i ≡ level_scale m x y =
-    ap (λ u. slice_index (slice_index_or LEVEL_SCALE u []) i) row ∙ scale_table m i (omega arith) (omega arith) in
-    let times : c.scaled.result ≡ scaled_block_with_dc c.args.qp dc levels x y =
-    scaled_is c.args.qp (level levels (zigzag x y - 1)) (to_z w16 (of_z w16 old)) c.scaled.result _ c.power_of_two-power.result x y read scale c.power_of_two-power.ensures.value c.scaled.ensures.value
-    ∙ sym (scaled_after_dc c.args.qp dc levels x y (omega arith)) in
-    let below = c.scaled.ensures.small in
-    let back = cast_back c.scaled.result (IsBelow-more (2 ^ 25) (2 ^ 31) c.scaled.result (omega arith) below) in
+pub scaled-ac-requires-clause-levels : goal.scaled-ac-requires-clause-levels
+scaled-ac-requires-clause-levels c =
+    each_of_four (IsBelow (2 ^ 12)) _ _ _ _
+    (record { low = omega (arith, ints); high = omega (arith, ints) })
+    (level_small (level c.args.levels.now 1) (c.requires.small 1 (omega arith)))
+    (level_small (level c.args.levels.now 2) (c.requires.small 2 (omega arith)))
+    (level_small (level c.args.levels.now 8) (c.requires.small 8 (omega arith)))
+
+pub scaled-requires-clause-levels : goal.scaled-requires-clause-levels
+scaled-requires-clause-levels c =
+    each_of_four (IsBelow (2 ^ 12)) _ _ _ _
+    (level_small (level c.args.levels.now 0) (c.requires.small 0 (omega arith)))
+    (level_small (level c.args.levels.now 3) (c.requires.small 3 (omega arith)))
+    (level_small (level c.args.levels.now 7) (c.requires.small 7 (omega arith)))
+    (level_small (level c.args.levels.now 9) (c.requires.small 9 (omega arith)))
+
+pub scaled-requires-2-clause-levels : goal.scaled-requires-2-clause-levels
+scaled-requires-2-clause-levels c =
+    each_of_four (IsBelow (2 ^ 12)) _ _ _ _
+    (level_small (level c.args.levels.now 4) (c.requires.small 4 (omega arith)))
+    (level_small (level c.args.levels.now 6) (c.requires.small 6 (omega arith)))
+    (level_small (level c.args.levels.now 10) (c.requires.small 10 (omega arith)))
+    (level_small (level c.args.levels.now 13) (c.requires.small 13 (omega arith)))
+
+pub scaled-requires-3-clause-levels : goal.scaled-requires-3-clause-levels
+scaled-requires-3-clause-levels c =
+    each_of_four (IsBelow (2 ^ 12)) _ _ _ _
+    (level_small (level c.args.levels.now 5) (c.requires.small 5 (omega arith)))
+    (level_small (level c.args.levels.now 11) (c.requires.small 11 (omega arith)))
+    (level_small (level c.args.levels.now 12) (c.requires.small 12 (omega arith)))
+    (level_small (level c.args.levels.now 14) (c.requires.small 14 (omega arith)))
+
+stored : (z : ℤ) → IsBelow (2 ^ 25) z → to_z w32 (of_z w32 z) ≡ z
+stored z p = cast_back z (IsBelow-more (2 ^ 25) (2 ^ 31) z (omega arith) p)
+
+stored_small : (z : ℤ) → IsBelow (2 ^ 25) z → IsBelow (2 ^ 27) (to_z w32 (of_z w32 z))
+stored_small z p = subst (IsBelow (2 ^ 27)) (sym (stored z p)) (IsBelow-more (2 ^ 25) (2 ^ 27) z (omega arith) p)
+
+more : (l : List ℤ) → AllBelow 4 (2 ^ 25) l → AllBelow 4 (2 ^ 27) l
+more l all = λ i h. IsBelow-more (2 ^ 25) (2 ^ 27) (slice_index_or l i (pos 0)) (omega arith) (all i h)
+
+pub returns-clause-values : goal.returns-clause-values
+returns-clause-values c =
+    let qp = c.args.qp in
+    let l = c.args.levels.now in
+    let even = c.column_scales-scales.ensures.even in
+    let odd = c.column_scales-scales.ensures.odd in
+    let a = c.scaled-ac.ensures.values in
+    let b = c.scaled.ensures.values in
+    let d = c.scaled-2.ensures.values in
+    let e = c.scaled-3.ensures.values in
+    let back = λ (n : ℕ) (h : n < 15). level_back (level l n) (c.requires.small n h) in
+    let cast = λ (k : ℕ) (h : k < 4). stored (slice_index_or c.scaled-ac.result k (pos 0)) (c.scaled-ac.ensures.small k h) in
     record {
-      long = search rules;
-      values = place_more (λ k v. v ≡ scaled_block_with_dc c.args.qp dc levels (k % 4) (k / 4)) c.loop-i.out i _ (omega arith) c.loop-i.invariant.values (back ∙ times);
-      small = place_more (λ k v. IsBelow (2 ^ 27) v) c.loop-i.out i _ (omega arith) c.loop-i.invariant.small (rw back (IsBelow-more (2 ^ 25) (2 ^ 27) c.scaled.result (omega arith) below));
+      zeroth = below_four _
+          (to_z-of_z w32 c.args.dc c.ranges.dc)
+          (cast 1 (omega arith) ∙ scaled_of qp (level l 1) 0 1 (a 1 (omega arith)) (back 1 (omega arith)) (even 1 (omega arith)))
+          (cast 2 (omega arith) ∙ scaled_of qp (level l 2) 0 2 (a 2 (omega arith)) (back 2 (omega arith)) (even 2 (omega arith)))
+          (cast 3 (omega arith) ∙ scaled_of qp (level l 8) 0 3 (a 3 (omega arith)) (back 8 (omega arith)) (even 3 (omega arith)));
+      first = below_four _
+          (scaled_of qp (level l 0) 1 0 (b 0 (omega arith)) (back 0 (omega arith)) (odd 0 (omega arith)))
+          (scaled_of qp (level l 3) 1 1 (b 1 (omega arith)) (back 3 (omega arith)) (odd 1 (omega arith)))
+          (scaled_of qp (level l 7) 1 2 (b 2 (omega arith)) (back 7 (omega arith)) (odd 2 (omega arith)))
+          (scaled_of qp (level l 9) 1 3 (b 3 (omega arith)) (back 9 (omega arith)) (odd 3 (omega arith)));
+      second = below_four _
+          (scaled_of qp (level l 4) 2 0 (d 0 (omega arith)) (back 4 (omega arith)) (even 0 (omega arith)))
+          (scaled_of qp (level l 6) 2 1 (d 1 (omega arith)) (back 6 (omega arith)) (even 1 (omega arith)))
+          (scaled_of qp (level l 10) 2 2 (d 2 (omega arith)) (back 10 (omega arith)) (even 2 (omega arith)))
+          (scaled_of qp (level l 13) 2 3 (d 3 (omega arith)) (back 13 (omega arith)) (even 3 (omega arith)));
+      third = below_four _
+          (scaled_of qp (level l 5) 3 0 (e 0 (omega arith)) (back 5 (omega arith)) (odd 0 (omega arith)))
+          (scaled_of qp (level l 11) 3 1 (e 1 (omega arith)) (back 11 (omega arith)) (odd 1 (omega arith)))
+          (scaled_of qp (level l 12) 3 2 (e 2 (omega arith)) (back 12 (omega arith)) (odd 2 (omega arith)))
+          (scaled_of qp (level l 14) 3 3 (e 3 (omega arith)) (back 14 (omega arith)) (odd 3 (omega arith)));
     }
 
-pub scaled-requires-clause-level : goal.scaled-requires-clause-level
-scaled-requires-clause-level c =
-    let i = c.loop-i.i in
-    let old = slice_index_or c.args.levels.now (slice_index ZIGZAG i - 1) (pos 0) in
-    let small = c.requires.small (slice_index ZIGZAG i - 1) (omega (arith, zigzag_inside i (omega arith))) in
-    let narrow : to_z w16 (of_z w16 old) ≡ old = omega (arith, ints, small.low, small.high) in
-    subst (IsBelow (2 ^ 12)) (sym narrow) small
-
-pub scaled-requires-clause-scale : goal.scaled-requires-clause-scale
-scaled-requires-clause-scale c =
-    let i = c.loop-i.i in
-    subst (λ u. slice_index (slice_index_or LEVEL_SCALE u []) i < 30) (sym c.from.ensures) (scale_small (c.args.qp % 6) i (omega arith) (omega arith))
+pub returns-clause-small : goal.returns-clause-small
+returns-clause-small c =
+    let ac = c.scaled-ac.result in
+    let small = λ (k : ℕ) (h : k < 4). stored_small (slice_index_or ac k (pos 0)) (c.scaled-ac.ensures.small k h) in
+    record {
+      zeroth = each_of_four (IsBelow (2 ^ 27)) _ _ _ _
+          (subst (IsBelow (2 ^ 27)) (sym (to_z-of_z w32 c.args.dc c.ranges.dc)) c.requires.dc)
+          (small 1 (omega arith)) (small 2 (omega arith)) (small 3 (omega arith));
+      first = more _ c.scaled.ensures.small;
+      second = more _ c.scaled-2.ensures.small;
+      third = more _ c.scaled-3.ensures.small;
+    }
