@@ -2,12 +2,14 @@ ghost use Rattle.std.specs.Prelude.{◌≡◌, ◌+◌, ◌*◌, ◌^◌, ◌<�
 ghost use Rattle.avc_plane.specs.Plane.{sample, HasSamples, with_block, with_sample, plane_of};
 ghost use Rattle.avc_plane.specs.Padded.{inner_plane, IsStored};
 
+mod lending;
 mod rectangle;
 
 use crate::block::BlockMut;
 use crate::extension::extend;
 use crate::padded::PaddedPlane;
 use avc_types::{Bytes, OutOfMemory};
+pub use lending::RowsPlace;
 use std::alloc::Global;
 use std::marker::Model;
 
