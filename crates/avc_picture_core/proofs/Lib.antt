@@ -5,6 +5,7 @@ pub mod Adding
 pub mod Coefficients
 mod Weighted
 mod SquareRows
+pub mod InPlace
 mod PartSamples
 mod Shapes
 mod Predicting

@@ -18,13 +18,13 @@ ghost use Rattle.avc_picture_core.specs.Inter.{CoverMacroblock};
 ghost use Rattle.avc_picture_core.specs.Places.{ArePlanesBuilt, AreSameSize, IsSameSize, IsAt, MayRead};
 ghost use Rattle.avc_picture_core.specs.Sides.{AreInside, readable_sides};
 
-use crate::chroma::chroma_samples;
-use crate::corner::{first_column, first_row};
+use crate::chroma::predict_component;
 use crate::luma4x4::{build_luma4x4, has_sides4x4};
-use crate::luma16x16::luma_samples;
+use crate::luma16x16::predict_luma16x16;
 use crate::modes::{mode_chroma, mode16x16};
 use crate::places::MbPlace;
 use crate::quantisers::Quantisers;
+use crate::residual::{add_chroma_residual, add_luma_residual_16x16};
 use crate::sides::ReadableNeighbours;
 use avc_intra::{Mode16x16, ModeChroma, Sides};
 use avc_neigh::NearMode;
@@ -52,10 +52,8 @@ fn build_luma16x16<const PAD: usize>(
         (λ x y. sum_of (unwrap_or (intra16x16 sides (seen_from plane.old (16 * place.column) (16 * place.row)) mode x y) 0)
         (luma_residual_16x16 qp (residual_of dc.now levels.now) x y)) }
 {
-    let left = first_column(plane, 16, place.column);
-    let top = first_row(plane, 16, place.row);
-    let samples = luma_samples(plane, left, top, sides, mode, dc, levels, qp);
-    plane.set_rectangle::<16, 16, 256>(left, top, &samples);
+    predict_luma16x16(plane, place, sides, mode);
+    add_luma_residual_16x16(plane, place, dc, levels, qp);
 }
 
 /// Builds one chroma component of an intra macroblock, by the quantiser of chroma.
@@ -80,10 +78,8 @@ fn build_component<const PAD: usize>(
         (λ x y. sum_of (unwrap_or (intra_chroma sides (seen_from plane.old (8 * place.column) (8 * place.row)) mode x y) 0)
         (chroma_residual qp dc.now ac.now x y)) }
 {
-    let left = first_column(plane, 8, place.column);
-    let top = first_row(plane, 8, place.row);
-    let samples = chroma_samples(plane, left, top, sides, mode, dc, ac, qp);
-    plane.set_rectangle::<8, 8, 64>(left, top, &samples);
+    predict_component(plane, place, sides, mode);
+    add_chroma_residual(plane, place, dc, ac, qp);
 }
 
 /// Each prediction of an I_NxN macroblock has the sides that it needs.

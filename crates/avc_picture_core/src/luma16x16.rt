@@ -1,41 +1,36 @@
-//! The luma of an Intra 16x16 macroblock (8.3.3).
-ghost use Rattle.std.specs.Prelude.{◌≡◌, ℕ, ◌+◌, ◌*◌, ◌<◌, ◌≤◌, true, slice_index};
+//! The prediction of the luma of an Intra 16x16 macroblock (8.3.3).
+ghost use Rattle.std.specs.Prelude.{◌≡◌, ℕ, ◌+◌, ◌*◌, ◌≤◌, true};
 ghost use Rattle.std.specs.Option.{unwrap_or};
-ghost use Rattle.avc_types.specs.MacroblockFields.{residual_of};
-ghost use Rattle.avc_mbsyntax.specs.Ranges.{IsResidual};
-ghost use Rattle.avc_transform.specs.MacroblockResidual.{luma_residual_16x16};
+ghost use Rattle.avc_plane.specs.Plane.{with_block};
 ghost use Rattle.avc_intra.specs.Luma16x16.{can_predict16x16, intra16x16};
-ghost use Rattle.avc_picture_core.specs.Built.{seen_from, sum_of};
+ghost use Rattle.avc_picture_core.specs.Built.{seen_from};
+ghost use Rattle.avc_picture_core.specs.Places.{IsSameSize};
 ghost use Rattle.avc_picture_core.specs.Sides.{AreInside};
 
 use crate::around::around16x16;
-use crate::residual::add_luma_16x16;
+use crate::corner::{first_column, first_row};
+use crate::places::MbPlace;
 use avc_intra::{Mode16x16, Sides};
 use avc_plane::Plane;
-use avc_types::{BlockLevels, Levels};
 
-/// The luma samples of a macroblock whose upper left one stands at (left, top) of the plane.
-pub(crate) fn luma_samples<const PAD: usize>(
-    plane: &Plane<PAD>,
-    left: usize,
-    top: usize,
+/// Gives the luma of a macroblock its prediction.
+pub(crate) fn predict_luma16x16<const PAD: usize>(
+    plane: &mut Plane<PAD>,
+    place: MbPlace,
     sides: Sides,
     mode: Mode16x16,
-    dc: &Levels<16>,
-    levels: &BlockLevels<15>,
-    qp: u8,
-) -> [u8; 256]
-    requires columns { left + 16 ≤ plane.now.width }
-    requires rows { top + 16 ≤ plane.now.height }
+)
+    requires columns { 16 * place.column + 16 ≤ plane.old.width }
+    requires rows { 16 * place.row + 16 ≤ plane.old.height }
     requires mode { can_predict16x16 sides mode ≡ true }
-    requires quantiser { qp ≤ 51 }
-    requires levels { IsResidual (residual_of dc.now levels.now) }
-    ensures { AreInside left top plane.now.width sides → (x y : ℕ) → x < 16 → y < 16 →
-        slice_index result (16 * y + x) ≡ sum_of (unwrap_or (intra16x16 sides (seen_from plane.now left top) mode x y) 0)
-        (luma_residual_16x16 qp (residual_of dc.now levels.now) x y) }
+    ensures size { IsSameSize plane.old plane.new }
+    ensures samples { AreInside (16 * place.column) (16 * place.row) plane.old.width sides →
+        plane.new ≡ with_block plane.old (16 * place.column) (16 * place.row) 16 16
+        (λ x y. unwrap_or (intra16x16 sides (seen_from plane.old (16 * place.column) (16 * place.row)) mode x y) 0) }
 {
+    let left = first_column(plane, 16, place.column);
+    let top = first_row(plane, 16, place.row);
     let around = around16x16(plane, left, top, sides);
-    let mut samples = around.predicted(mode);
-    add_luma_16x16(&mut samples, dc, levels, qp);
-    samples
+    let samples = around.predicted(mode);
+    plane.copy_rectangle::<16, 16, 256>(left, top, &samples);
 }

@@ -1,5 +1,5 @@
 //! The luma of an I_NxN macroblock: each 4x4 block from those before it (8.3.1.2).
-ghost use Rattle.std.specs.Prelude.{◌≡◌, ℕ, ◌+◌, ◌*◌, ◌<◌, ◌≤◌, true, [], All, slice_index, slice_index_or};
+ghost use Rattle.std.specs.Prelude.{◌≡◌, ℕ, ◌+◌, ◌*◌, ◌<◌, ◌≤◌, true, [], All, slice_index_or};
 ghost use Rattle.std.specs.List.{list_all, range_with_len};
 ghost use Rattle.std.specs.Option.{unwrap_or};
 ghost use Rattle.avc_types.specs.MacroblockFields.{residual_of};
@@ -18,7 +18,7 @@ use crate::around::around4x4;
 use crate::corner::{first_column, first_row};
 use crate::modes::mode4x4;
 use crate::places::MbPlace;
-use crate::residual::{add_block, left_of_block, top_of_block};
+use crate::residual::{add_block4x4, left_of_block, top_of_block};
 use crate::sides::ReadableNeighbours;
 use avc_intra::{Mode4x4, Sides};
 use avc_neigh::NearMode;
@@ -39,29 +39,24 @@ pub(crate) fn has_sides4x4(readable: ReadableNeighbours, modes: &[NearMode; 16])
     true
 }
 
-/// The samples of one block, whose upper left one stands at (left, top) of the plane.
-fn block_samples<const PAD: usize>(
-    plane: &Plane<PAD>,
+/// Gives one block, whose upper left sample stands at (left, top) of the plane, its prediction.
+fn predict_block<const PAD: usize>(
+    plane: &mut Plane<PAD>,
     left: usize,
     top: usize,
     sides: Sides,
     mode: Mode4x4,
-    levels: &Levels<16>,
-    qp: u8,
-) -> [u8; 16]
-    requires columns { left + 4 ≤ plane.now.width }
-    requires rows { top + 4 ≤ plane.now.height }
+)
+    requires columns { left + 4 ≤ plane.old.width }
+    requires rows { top + 4 ≤ plane.old.height }
     requires mode { can_predict4x4 sides mode ≡ true }
-    requires quantiser { qp ≤ 51 }
-    requires levels { AreSmall levels.now }
-    ensures { AreInside left top plane.now.width sides → (x y : ℕ) → x < 4 → y < 4 →
-        slice_index result (4 * y + x)
-        ≡ sum_of (unwrap_or (intra4x4 sides (seen_from plane.now left top) mode x y) 0) (residual4x4 qp levels.now x y) }
+    ensures size { (plane.new.width ≡ plane.old.width) × (plane.new.height ≡ plane.old.height) }
+    ensures samples { AreInside left top plane.old.width sides →
+        plane.new ≡ with_block plane.old left top 4 4 (λ x y. unwrap_or (intra4x4 sides (seen_from plane.old left top) mode x y) 0) }
 {
     let around = around4x4(plane, left, top, sides);
-    let mut samples = around.predicted(mode);
-    add_block::<4, 16>(&mut samples, 0, 0, levels, qp);
-    samples
+    let samples = around.predicted(mode);
+    plane.set_rectangle::<4, 4, 16>(left, top, &samples);
 }
 
 /// Builds one block.
@@ -84,8 +79,8 @@ fn build_block<const PAD: usize>(
         plane.new ≡ with_block plane.old left top 4 4
         (λ x y. sum_of (unwrap_or (intra4x4 sides (seen_from plane.old left top) mode x y) 0) (residual4x4 qp levels.now x y)) }
 {
-    let samples = block_samples(plane, left, top, sides, mode, levels, qp);
-    plane.set_rectangle::<4, 4, 16>(left, top, &samples);
+    predict_block(plane, left, top, sides, mode);
+    add_block4x4(plane, left, top, levels, qp);
 }
 
 /// Builds all blocks.

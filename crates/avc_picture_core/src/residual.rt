@@ -1,5 +1,5 @@
 //! Predicted samples and their residual (8.5.14), 4x4 block by block.
-ghost use Rattle.std.specs.Prelude.{◌≡◌, ℕ, ◌+◌, ◌-◌, ◌*◌, ◌^◌, ◌<◌, ◌≤◌, ◌≢◌, false, [], All, if◌then◌else◌, slice_index, slice_index_or};
+ghost use Rattle.std.specs.Prelude.{◌≡◌, ℕ, ℤ, ◌+◌, ◌-◌, ◌*◌, ◌^◌, ◌<◌, ◌≤◌, ◌≢◌, false, [], All, if◌then◌else◌, slice_index, slice_index_or};
 ghost use Rattle.avc_types.specs.Macroblock.{total_coeff};
 ghost use Rattle.avc_types.specs.MacroblockFields.{residual_of};
 ghost use Rattle.avc_neigh.specs.Blocks.{block_x, block_y};
@@ -9,11 +9,195 @@ ghost use Rattle.avc_transform.specs.Residual.{residual4x4, residual4x4_with_dc}
 ghost use Rattle.avc_transform.specs.MacroblockResidual.{luma_residual, luma_residual_16x16, chroma_residual};
 ghost use Rattle.avc_plane.specs.Plane.{is_inside};
 ghost use Rattle.avc_picture_core.specs.Built.{sum_of};
+ghost use Rattle.avc_picture_core.specs.Residuals.{with_residual};
 
+use crate::corner::{first_column, first_row};
+use crate::places::MbPlace;
+use avc_plane::Plane;
 use avc_transform::{
-    chroma_dc, clipped_sum, luma_dc, residual_of_dc, residual4x4, residual4x4_with_dc,
+    add_clip, chroma_dc, clipped_sum, luma_dc, residual_of_dc, residual4x4, residual4x4_with_dc,
 };
 use avc_types::{BlockLevels, Levels};
+
+/// Adds a residual to a 4x4 block.
+fn add_residual4x4<const PAD: usize>(
+    plane: &mut Plane<PAD>,
+    left: usize,
+    top: usize,
+    values: &[i32; 16],
+)
+    requires columns { left + 4 ≤ plane.old.width }
+    requires rows { top + 4 ≤ plane.old.height }
+    requires small { AllBelow 16 (2 ^ 25) values.now }
+    ensures { plane.new ≡ with_residual plane.old left top 4 4 (matrix values.now) }
+{
+    let samples = plane.rectangle::<4, 4, 16>(left, top);
+    let sums = add_clip(&samples, values);
+    plane.set_rectangle::<4, 4, 16>(left, top, &sums);
+}
+
+/// Adds the same residual to each sample of a 4x4 block.
+fn add_level4x4<const PAD: usize>(plane: &mut Plane<PAD>, left: usize, top: usize, value: i32)
+    requires columns { left + 4 ≤ plane.old.width }
+    requires rows { top + 4 ≤ plane.old.height }
+    requires small { IsBelow (2 ^ 25) value }
+    ensures { plane.new ≡ with_residual plane.old left top 4 4 (λ x y. value) }
+{
+    let mut samples = plane.rectangle::<4, 4, 16>(left, top);
+    for i in 0..16 {
+        samples[i] = clipped_sum(samples[i], value);
+    }
+    plane.set_rectangle::<4, 4, 16>(left, top, &samples);
+}
+
+/// Adds the residual of sixteen levels to a 4x4 block (8.5.1). Nothing is done where they are all 0.
+pub(crate) fn add_block4x4<const PAD: usize>(
+    plane: &mut Plane<PAD>,
+    left: usize,
+    top: usize,
+    levels: &Levels<16>,
+    qp: u8,
+)
+    requires columns { left + 4 ≤ plane.old.width }
+    requires rows { top + 4 ≤ plane.old.height }
+    requires quantiser { qp ≤ 51 }
+    requires levels { AreSmall levels.now }
+    ensures { plane.new ≡ with_residual plane.old left top 4 4 (residual4x4 qp levels.now) }
+{
+    if levels.total_coeff() == 0 {
+        plane.holds_bytes();
+    } else {
+        let values = residual4x4(levels.as_array(), qp);
+        add_residual4x4(plane, left, top, &values);
+    }
+}
+
+/// Adds the residual of a DC value and fifteen levels to a 4x4 block (8.5.2, 8.5.4). It is one value everywhere where the levels are
+/// all 0, and nothing is done where the DC value is 0 too.
+fn add_block4x4_with_dc<const PAD: usize>(
+    plane: &mut Plane<PAD>,
+    left: usize,
+    top: usize,
+    dc: i32,
+    levels: &Levels<15>,
+    qp: u8,
+)
+    requires columns { left + 4 ≤ plane.old.width }
+    requires rows { top + 4 ≤ plane.old.height }
+    requires quantiser { qp ≤ 51 }
+    requires dc { IsBelow (2 ^ 27) dc }
+    requires levels { AreSmall levels.now }
+    ensures { plane.new ≡ with_residual plane.old left top 4 4 (residual4x4_with_dc qp dc levels.now) }
+{
+    if levels.total_coeff() != 0 {
+        let values = residual4x4_with_dc(dc, levels.as_array(), qp);
+        add_residual4x4(plane, left, top, &values);
+    } else if dc != 0 {
+        add_level4x4(plane, left, top, residual_of_dc(dc));
+    } else {
+        plane.holds_bytes();
+    }
+}
+
+/// Adds the luma residual to a macroblock whose blocks have all their levels (8.5.1).
+pub(crate) fn add_luma_residual<const PAD: usize>(
+    plane: &mut Plane<PAD>,
+    place: MbPlace,
+    levels: &BlockLevels<16>,
+    qp: u8,
+)
+    requires columns { 16 * place.column + 16 ≤ plane.old.width }
+    requires rows { 16 * place.row + 16 ≤ plane.old.height }
+    requires quantiser { qp ≤ 51 }
+    requires levels { IsResidual (residual_of [] levels.now) }
+    ensures { plane.new ≡ with_residual plane.old (16 * place.column) (16 * place.row) 16 16 (luma_residual qp (residual_of [] levels.now)) }
+{
+    plane.holds_bytes();
+    let column = first_column(plane, 16, place.column);
+    let row = first_row(plane, 16, place.row);
+    for k in 0..16 {
+        let left = column + left_of_block(k);
+        let top = row + top_of_block(k);
+        add_block4x4(plane, left, top, &levels.luma[k], qp);
+    }
+}
+
+/// Adds the luma residual to an Intra 16x16 macroblock (8.5.2).
+pub(crate) fn add_luma_residual_16x16<const PAD: usize>(
+    plane: &mut Plane<PAD>,
+    place: MbPlace,
+    dc: &Levels<16>,
+    levels: &BlockLevels<15>,
+    qp: u8,
+)
+    requires columns { 16 * place.column + 16 ≤ plane.old.width }
+    requires rows { 16 * place.row + 16 ≤ plane.old.height }
+    requires quantiser { qp ≤ 51 }
+    requires levels { IsResidual (residual_of dc.now levels.now) }
+    ensures { plane.new ≡ with_residual plane.old (16 * place.column) (16 * place.row) 16 16 (luma_residual_16x16 qp (residual_of dc.now levels.now)) }
+{
+    plane.holds_bytes();
+    let values = luma_dc(dc.as_array(), qp);
+    let column = first_column(plane, 16, place.column);
+    let row = first_row(plane, 16, place.row);
+    for k in 0..16 {
+        let left = left_of_block(k);
+        let top = top_of_block(k);
+        let dc = values[top + left / 4];
+        add_block4x4_with_dc(plane, column + left, row + top, dc, &levels.luma[k], qp);
+    }
+}
+
+/// Adds the residual of a chroma component block by block.
+fn add_chroma_blocks4x4<const PAD: usize>(
+    plane: &mut Plane<PAD>,
+    place: MbPlace,
+    dc: &Levels<4>,
+    ac: &[Levels<15>; 4],
+    qp: u8,
+)
+    requires columns { 8 * place.column + 8 ≤ plane.old.width }
+    requires rows { 8 * place.row + 8 ≤ plane.old.height }
+    requires quantiser { qp ≤ 39 }
+    requires dc { AreSmall dc.now }
+    requires ac { All AreSmall ac.now }
+    ensures { plane.new ≡ with_residual plane.old (8 * place.column) (8 * place.row) 8 8 (chroma_residual qp dc.now ac.now) }
+{
+    plane.holds_bytes();
+    let values = chroma_dc(dc.as_array(), qp);
+    let column = first_column(plane, 8, place.column);
+    let row = first_row(plane, 8, place.row);
+    for k in 0..4 {
+        let left = column + 4 * (k % 2);
+        let top = row + 4 * (k / 2);
+        add_block4x4_with_dc(plane, left, top, values[k], &ac[k], qp);
+    }
+}
+
+/// Adds its residual to a chroma component of a macroblock (8.5.4), by the quantiser of chroma. Nothing is done where it has no level
+/// but 0.
+pub(crate) fn add_chroma_residual<const PAD: usize>(
+    plane: &mut Plane<PAD>,
+    place: MbPlace,
+    dc: &Levels<4>,
+    ac: &[Levels<15>; 4],
+    qp: u8,
+)
+    requires columns { 8 * place.column + 8 ≤ plane.old.width }
+    requires rows { 8 * place.row + 8 ≤ plane.old.height }
+    requires quantiser { qp ≤ 39 }
+    requires dc { AreSmall dc.now }
+    requires ac { All AreSmall ac.now }
+    ensures { plane.new ≡ with_residual plane.old (8 * place.column) (8 * place.row) 8 8 (chroma_residual qp dc.now ac.now) }
+{
+    if has_chroma_levels(dc, ac) {
+        add_chroma_blocks4x4(plane, place, dc, ac, qp);
+    } else {
+        plane.holds_bytes();
+    }
+}
+
+// ---- the same in samples beside a plane
 
 /// Adds a residual to a 4x4 block of rows of W samples.
 fn add_values<const W: usize, const N: usize>(
@@ -157,27 +341,6 @@ pub(crate) fn add_luma(samples: &mut [u8; 256], levels: &BlockLevels<16>, qp: u8
             &levels.luma[k],
             qp,
         );
-    }
-}
-
-/// Adds the luma residual of an Intra 16x16 macroblock (8.5.2).
-pub(crate) fn add_luma_16x16(
-    samples: &mut [u8; 256],
-    dc: &Levels<16>,
-    levels: &BlockLevels<15>,
-    qp: u8,
-)
-    requires quantiser { qp ≤ 51 }
-    requires levels { IsResidual (residual_of dc.now levels.now) }
-    ensures { (x y : ℕ) → x < 16 → y < 16 →
-        slice_index samples.new (16 * y + x) ≡ sum_of (slice_index samples.old (16 * y + x)) (luma_residual_16x16 qp (residual_of dc.now levels.now) x y) }
-{
-    let values = luma_dc(dc.as_array(), qp);
-    for k in 0..16 {
-        let left = left_of_block(k);
-        let top = top_of_block(k);
-        let dc = values[top + left / 4];
-        add_block_with_dc::<16, 256>(samples, left, top, dc, &levels.luma[k], qp);
     }
 }
 

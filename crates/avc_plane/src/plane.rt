@@ -2,6 +2,7 @@ ghost use Rattle.std.specs.Prelude.{◌≡◌, ◌+◌, ◌*◌, ◌^◌, ◌<�
 ghost use Rattle.avc_plane.specs.Plane.{sample, HasSamples, with_block, with_sample, plane_of};
 ghost use Rattle.avc_plane.specs.Padded.{inner_plane, IsStored};
 
+mod bytes;
 mod lending;
 mod rectangle;
 

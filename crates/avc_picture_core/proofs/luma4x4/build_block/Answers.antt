@@ -1,17 +1,23 @@
-use Rattle.std.proofs.Common.{◌+◌, ◌*◌, ◌∙◌, slice_index}
+use Rattle.std.proofs.Common.{ap, ◌∙◌}
 use Rattle.std.specs.Option.{unwrap_or}
 use Rattle.avc_transform.specs.Residual.{residual4x4}
 use Rattle.avc_intra.specs.Luma4x4.{intra4x4}
-use Rattle.avc_picture_core.specs.Built.{seen_from, sum_of}
-use Rattle.avc_picture_core.proofs.Blocks.{with_block_same}
+use Rattle.avc_plane.specs.Plane.{Plane}
+use Rattle.avc_picture_core.specs.Built.{seen_from}
+use Rattle.avc_picture_core.specs.Residuals.{with_residual}
+use Rattle.avc_picture_core.proofs.InPlace.{residual_over}
 use Rattle.avc_picture_core.proofs.luma4x4.build_block.Goals as goal
+
+pub returns-clause-size : goal.returns-clause-size
+returns-clause-size g c =
+    (ap (λ (p : Plane). p.width) c.add_block4x4.ensures ∙ c.predict_block.ensures.size.0, ap (λ (p : Plane). p.height) c.add_block4x4.ensures ∙ c.predict_block.ensures.size.1)
 
 pub returns-clause-block : goal.returns-clause-block
 returns-clause-block g c = λ inside.
     let s = c.args.plane.now in
     let left = c.args.left in
     let top = c.args.top in
-    c.set_rectangle.ensures
-    ∙ with_block_same s left top 4 4 (λ x y. slice_index c.block_samples-samples.result (4 * y + x))
-    (λ x y. sum_of (unwrap_or (intra4x4 c.args.sides (seen_from s left top) c.args.mode x y) 0) (residual4x4 c.args.qp c.args.levels.now x y))
-    (λ x y column row. c.block_samples-samples.ensures inside x y column row)
+    let f = residual4x4 c.args.qp c.args.levels.now in
+    c.add_block4x4.ensures
+    ∙ ap (λ (p : Plane). with_residual p left top 4 4 f) (c.predict_block.ensures.samples inside)
+    ∙ residual_over s left top 4 4 (λ x y. unwrap_or (intra4x4 c.args.sides (seen_from s left top) c.args.mode x y) 0) f c.requires.columns c.requires.rows

@@ -1,0 +1,154 @@
+-- Residuals added to a plane in place, 4x4 block by block.
+use Rattle.std.proofs.Common.{◌≡◌, ◌≢◌, ℕ, ◌+◌, ◌-◌, ◌*◌, ◌<◌, ◌≤◌, nat_lt, ℤ, pos, Bool, true, false, length, if◌then◌else◌, arith, refl, sym, ap, ◌∙◌, inl, inr}
+use Rattle.std.proofs.lemmas.Bool.{cases_lt}
+use Rattle.std.proofs.lemmas.Bool.Decides.{nat_tests}
+use Rattle.avc_plane.specs.Plane.{Plane, sample, with_block, is_inside}
+use Rattle.avc_plane.proofs.Blocks.{plane_of_same, inside, no_line}
+use Rattle.avc_plane.proofs.PlaneMaps.{sample-with_block}
+use Rattle.avc_plane.proofs.Rectangles.{by_place}
+use Rattle.avc_picture_core.specs.Built.{sum_of}
+use Rattle.avc_picture_core.specs.Residuals.{with_residual}
+use Rattle.avc_picture_core.proofs.Adding.{unchanged}
+use Rattle.avc_picture_core.proofs.Blocks.{with_block_same}
+use Rattle.avc_picture_core.proofs.SquareRows.{outside}
+
+-- a block set to the samples that it has
+pub block_of_its_own : (s : Plane) (left top w h : ℕ) (f : ℕ → ℕ → ℕ) → length s.samples ≡ s.width * s.height
+    → ((x y : ℕ) → x < w → y < h → left + x < s.width → top + y < s.height → f x y ≡ sample s (left + x) (top + y))
+    → s ≡ with_block s left top w h f
+block_of_its_own s left top w h f long same =
+    no_line s left top w f long
+    ∙ plane_of_same s.width s.height (λ x y. if is_inside left top w 0 x y then f (x - left) (y - top) else sample s x y)
+    (λ x y. if is_inside left top w h x y then f (x - left) (y - top) else sample s x y)
+    (λ x y column row.
+    ap (λ t. if t then f (x - left) (y - top) else sample s x y) (outside left top w 0 x y (λ a b c d. omega arith))
+    ∙ by_place (λ t. sample s x y ≡ (if t then f (x - left) (y - top) else sample s x y)) left top w h x y
+    (λ a b c d.
+    sym (same (x - left) (y - top) (omega arith) (omega arith) (omega arith) (omega arith)
+    ∙ ap (λ u. sample s u (top + (y - top))) (omega arith)
+    ∙ ap (λ v. sample s x v) (omega arith)))
+    (λ none. refl))
+
+-- a residual of 0 changes nothing
+pub no_residual_added : (s : Plane) (left top w h : ℕ) (f : ℕ → ℕ → ℤ) → length s.samples ≡ s.width * s.height
+    → ((x y : ℕ) → x < s.width → y < s.height → sample s x y ≤ 255) → ((x y : ℕ) → x < w → y < h → f x y ≡ pos 0)
+    → s ≡ with_residual s left top w h f
+no_residual_added s left top w h f long small none =
+    block_of_its_own s left top w h (λ x y. sum_of (sample s (left + x) (top + y)) (f x y)) long
+    (λ x y column row within below. unchanged (sample s (left + x) (top + y)) (f x y) (small (left + x) (top + y) within below) (none x y column row))
+
+-- the same residual under other words
+pub residual_same : (s : Plane) (left top w h : ℕ) (f g : ℕ → ℕ → ℤ) → ((x y : ℕ) → x < w → y < h → f x y ≡ g x y)
+    → with_residual s left top w h f ≡ with_residual s left top w h g
+residual_same s left top w h f g same =
+    with_block_same s left top w h (λ x y. sum_of (sample s (left + x) (top + y)) (f x y)) (λ x y. sum_of (sample s (left + x) (top + y)) (g x y))
+    (λ x y column row. ap (sum_of (sample s (left + x) (top + y))) (same x y column row))
+
+-- a residual added to a block that was predicted
+module _ (s : Plane) (left top w h : ℕ) (p : ℕ → ℕ → ℕ) (f : ℕ → ℕ → ℤ) (columns : left + w ≤ s.width) (rows : top + h ≤ s.height) where
+  abbrev predicted : Plane
+  predicted = with_block s left top w h p
+
+  abbrev given : ℕ → ℕ → Bool → ℕ
+  given u v t = if t then p (u - left) (v - top) else sample s u v
+
+  abbrev is_sum : ℕ → ℕ → Bool → Type 0
+  is_sum u v t =
+      (if t then sum_of (sample predicted (left + (u - left)) (top + (v - top))) (f (u - left) (v - top)) else sample predicted u v)
+      ≡ (if t then sum_of (p (u - left) (v - top)) (f (u - left) (v - top)) else sample s u v)
+
+  each_sum : (u v : ℕ) → u < s.width → v < s.height → is_sum u v (is_inside left top w h u v)
+  each_sum u v column row =
+      by_place (is_sum u v) left top w h u v
+      (λ a b c d.
+      ap (λ i. sum_of (sample predicted i (top + (v - top))) (f (u - left) (v - top))) (omega arith)
+      ∙ ap (λ j. sum_of (sample predicted u j) (f (u - left) (v - top))) (omega arith)
+      ∙ ap (λ n. sum_of n (f (u - left) (v - top))) (sample-with_block s left top w h p u v column row ∙ ap (given u v) (inside left top w h u v a b c d)))
+      (λ none. sample-with_block s left top w h p u v column row ∙ ap (given u v) (outside left top w h u v none))
+
+  pub residual_over : with_residual predicted left top w h f ≡ with_block s left top w h (λ x y. sum_of (p x y) (f x y))
+  residual_over =
+      plane_of_same s.width s.height
+      (λ u v. if is_inside left top w h u v then sum_of (sample predicted (left + (u - left)) (top + (v - top))) (f (u - left) (v - top)) else sample predicted u v)
+      (λ u v. if is_inside left top w h u v then sum_of (p (u - left) (v - top)) (f (u - left) (v - top)) else sample s u v)
+      each_sum
+
+-- ---- blocks that tile a square
+
+module _ (s : Plane) (left top size : ℕ) (b : ℕ → ℕ → ℕ) (f : ℕ → ℕ → ℤ) where
+  abbrev pub chosen : ℕ → ℕ → Bool → ℕ
+  chosen x y t = if t then sum_of (sample s (left + x) (top + y)) (f x y) else sample s (left + x) (top + y)
+
+  -- the blocks before the one that b numbers k have their residual f, and the others are as they were
+  abbrev pub with_blocks_before : ℕ → Plane
+  with_blocks_before k = with_block s left top size size (λ x y. chosen x y (nat_lt (b x y) k))
+
+  pub none_before : length s.samples ≡ s.width * s.height → s ≡ with_blocks_before 0
+  none_before long =
+      block_of_its_own s left top size size (λ x y. chosen x y (nat_lt (b x y) 0)) long
+      (λ x y column row within below. let no : nat_lt (b x y) 0 ≡ false = grind (arith, nat_tests) in ap (chosen x y) no)
+
+  pub all_before : (k : ℕ) → ((x y : ℕ) → x < size → y < size → b x y < k) → with_blocks_before k ≡ with_residual s left top size size f
+  all_before k few =
+      with_block_same s left top size size (λ x y. chosen x y (nat_lt (b x y) k)) (λ x y. chosen x y true)
+      (λ x y column row. let less = few x y column row in let yes : nat_lt (b x y) k ≡ true = grind (arith, nat_tests) in ap (chosen x y) yes)
+
+  module _ (k l t : ℕ) (g : ℕ → ℕ → ℤ) (columns : left + size ≤ s.width) (rows : top + size ≤ s.height) (across : l + 4 ≤ size) (down : t + 4 ≤ size)
+      (here : (x y : ℕ) → x < size → y < size → l ≤ x → x < l + 4 → t ≤ y → y < t + 4 → (b x y ≡ k) × (g (x - l) (y - t) ≡ f x y))
+      (only : (x y : ℕ) → x < size → y < size → b x y ≡ k → (l ≤ x) × (x < l + 4) × (t ≤ y) × (y < t + 4)) where
+    abbrev cur : Plane
+    cur = with_blocks_before k
+
+    abbrev put : ℕ → ℕ → ℕ → Bool → ℕ
+    put n u v q = if q then chosen (u - left) (v - top) (nat_lt (b (u - left) (v - top)) n) else sample s u v
+
+    abbrev added : ℕ → ℕ → Bool → ℕ
+    added u v q =
+        if q then sum_of (sample cur (left + l + (u - (left + l))) (top + t + (v - (top + t)))) (g (u - (left + l)) (v - (top + t))) else sample cur u v
+
+    within : (u v : ℕ) → u < s.width → v < s.height → left + l ≤ u → u < left + l + 4 → top + t ≤ v → v < top + t + 4
+        → added u v true ≡ put (k + 1) u v (is_inside left top size size u v)
+    within u v column row p q r w =
+        let x = u - left in
+        let y = v - top in
+        let h = here x y (omega arith) (omega arith) (omega arith) (omega arith) (omega arith) (omega arith) in
+        let number = h.0 in
+        let no : nat_lt (b x y) k ≡ false = grind (arith, nat_tests) in
+        let yes : nat_lt (b x y) (k + 1) ≡ true = grind (arith, nat_tests) in
+        let it = inside left top size size u v (omega arith) (omega arith) (omega arith) (omega arith) in
+        let before : sample cur u v ≡ sample s (left + x) (top + y) =
+        sample-with_block s left top size size (λ i j. chosen i j (nat_lt (b i j) k)) u v column row ∙ ap (put k u v) it ∙ ap (chosen x y) no in
+        let value = sample s (left + x) (top + y) in
+        ap (λ i. sum_of (sample cur i (top + t + (v - (top + t)))) (g (u - (left + l)) (v - (top + t)))) (omega arith)
+        ∙ ap (λ j. sum_of (sample cur u j) (g (u - (left + l)) (v - (top + t)))) (omega arith)
+        ∙ ap (λ n. sum_of n (g (u - (left + l)) (v - (top + t)))) before
+        ∙ ap (λ i. sum_of value (g i (v - (top + t)))) (omega arith)
+        ∙ ap (λ j. sum_of value (g (x - l) j)) (omega arith)
+        ∙ ap (sum_of value) h.1
+        ∙ sym (ap (put (k + 1) u v) it ∙ ap (chosen x y) yes)
+
+    -- a sample that is not of block k is of a block before it, or behind it
+    same_test : (x y : ℕ) → b x y ≢ k → nat_lt (b x y) k ≡ nat_lt (b x y) (k + 1)
+    same_test x y other = elim (cases_lt (b x y) k) [
+      | inl less ↦ let a : nat_lt (b x y) k ≡ true = grind (arith, nat_tests) in let c : nat_lt (b x y) (k + 1) ≡ true = grind (arith, nat_tests) in a ∙ sym c
+      | inr from ↦
+          let past : k < b x y = omega (arith, other, from) in
+          let a : nat_lt (b x y) k ≡ false = grind (arith, nat_tests) in let c : nat_lt (b x y) (k + 1) ≡ false = grind (arith, nat_tests) in a ∙ sym c
+    ]
+
+    without : (u v : ℕ) → u < s.width → v < s.height → (left + l ≤ u → u < left + l + 4 → top + t ≤ v → v < top + t + 4 → ⊥)
+        → added u v false ≡ put (k + 1) u v (is_inside left top size size u v)
+    without u v column row none =
+        sample-with_block s left top size size (λ i j. chosen i j (nat_lt (b i j) k)) u v column row
+        ∙ by_place (λ q. put k u v q ≡ put (k + 1) u v q) left top size size u v
+        (λ p q r w.
+        ap (chosen (u - left) (v - top))
+        (same_test (u - left) (v - top)
+        (λ is. let o = only (u - left) (v - top) (omega arith) (omega arith) is in none (omega (arith, o.0)) (omega (arith, o.1)) (omega (arith, o.2)) (omega (arith, o.3)))))
+        (λ _. refl)
+
+    pub one_more : with_residual cur (left + l) (top + t) 4 4 g ≡ with_blocks_before (k + 1)
+    one_more =
+        plane_of_same s.width s.height (λ u v. added u v (is_inside (left + l) (top + t) 4 4 u v)) (λ u v. put (k + 1) u v (is_inside left top size size u v))
+        (λ u v column row. by_place (λ q. added u v q ≡ put (k + 1) u v (is_inside left top size size u v)) (left + l) (top + t) 4 4 u v
+        (within u v column row) (without u v column row))
