@@ -1,7 +1,6 @@
 -- Blocks that the calls predict, as blocks of the definition's samples.
-use Rattle.std.proofs.Common.{ℕ, ℤ, ◌≡◌, ◌+◌, ◌*◌, ◌<◌, ◌≤◌, arith, ap, ◌∙◌, pos, ◌+ℤ◌, ◌-ℤ◌, to_z, of_z, w64, slice_index, List, mul_comm}
+use Rattle.std.proofs.Common.{ℕ, ℤ, ◌≡◌, ◌+◌, ◌*◌, ◌<◌, ◌≤◌, arith, ap, ◌∙◌, pos, ◌+ℤ◌, ◌-ℤ◌, to_z, of_z, w64, slice_index, List}
 use Rattle.std.proofs.lemmas.Int.{ints}
-use Rattle.std.proofs.lemmas.Nat.{row_fits}
 use Rattle.avc_types.specs.Arithmetic.{◌>>ℤ◌, low_bits}
 use Rattle.avc_types.specs.Blocks.{block_of}
 use Rattle.avc_types.specs.declared.vector.Mv.{Mv}
@@ -10,9 +9,7 @@ use Rattle.avc_plane.specs.Plane.{clamped}
 use Rattle.avc_inter.specs.Bounds.{IsMoved}
 use Rattle.avc_inter.specs.Luma.{Wide, quarter, inter_luma}
 use Rattle.avc_inter.specs.Patch.{IsPatch, IsThere, quarter_of}
-use Rattle.avc_inter.specs.SixRows.{place_of, AreLanes}
 use Rattle.avc_inter.proofs.Shown.{Shows, quarter_shown}
-use Rattle.avc_inter.proofs.SixRows.{place_at}
 
 pub back_moved : (z : ℤ) → IsMoved z → to_z w64 (of_z w64 z) ≡ z
 back_moved z p = omega (arith, ints, p.low, p.high)
@@ -37,8 +34,11 @@ module _ (width height : ℕ) (f : ℕ → ℕ → ℕ) (mv : Mv) (x y fx fy : �
   is_row : top ≡ pos y +ℤ (mv.y >>ℤ 2)
   is_row = is_top ∙ ap (λ z. pos y +ℤ (z >>ℤ 2)) down
 
+  pub luma_at : (i j : ℕ) → quarter (clamped width height f) (left' +ℤ pos i) (top' +ℤ pos j) fx fy ≡ inter_luma width height f mv (x + i) (y + j)
+  luma_at i j = same_quarter (clamped width height f) (left' +ℤ pos i) (pos (x + i) +ℤ (mv.x >>ℤ 2)) (top' +ℤ pos j) (pos (y + j) +ℤ (mv.y >>ℤ 2)) fx (low_bits mv.x 2) fy (low_bits mv.y 2) (omega (arith, ints, is_column)) (omega (arith, ints, is_row)) (is_fx ∙ ap (λ z. low_bits z 2) across) (is_fy ∙ ap (λ z. low_bits z 2) down)
+
   pub luma_is : block_of w h (λ i j. quarter (clamped width height f) (left' +ℤ pos i) (top' +ℤ pos j) fx fy) ≡ block_of w h (λ i j. inter_luma width height f mv (x + i) (y + j))
-  luma_is = block_of_same w h _ _ (λ i j column row. same_quarter (clamped width height f) (left' +ℤ pos i) (pos (x + i) +ℤ (mv.x >>ℤ 2)) (top' +ℤ pos j) (pos (y + j) +ℤ (mv.y >>ℤ 2)) fx (low_bits mv.x 2) fy (low_bits mv.y 2) (omega (arith, ints, is_column)) (omega (arith, ints, is_row)) (is_fx ∙ ap (λ z. low_bits z 2) across) (is_fy ∙ ap (λ z. low_bits z 2) down))
+  luma_is = block_of_same w h _ _ (λ i j column row. luma_at i j)
 
 -- a block of whole samples
 pub whole_is : (s : Wide) (left left' top top' : ℤ) (w h : ℕ) (p : List ℕ) → IsPatch s left' top' w h p → left' ≡ left → top' ≡ top →
@@ -70,17 +70,13 @@ module _ (s : Wide) (left left' top top' : ℤ) (is_left : left' ≡ left -ℤ p
         shown i j (omega (arith, wide)) (omega (arith, low)) ∙ ap (λ z. s z (top' +ℤ pos j)) across ∙ ap (λ z. s (left +ℤ pos i -ℤ pos 2) z) down;
   }
 
-  pub between_is : block_of w h (λ x y. quarter_of p stride (first + (y * stride + x)) fx fy) ≡ block_of w h (λ i j. quarter s (left +ℤ pos i) (top +ℤ pos j) fx fy)
-  between_is = block_of_same w h _ _ (λ i j column row. quarter_shown s left top w h first stride p shows i j column row fx fy)
+  pub between_at : (i j : ℕ) → i < w → j < h → quarter_of p stride (first + (j * stride + i)) fx fy ≡ quarter s (left +ℤ pos i) (top +ℤ pos j) fx fy
+  between_at i j column row = quarter_shown s left top w h first stride p shows i j column row fx fy
 
--- the samples of a block in rows of sixteen are those of its rows and columns
-pub in_rows : (columns stride : ℕ) → AreLanes columns → (p out : List ℕ) (at n fx fy w h : ℕ) → w ≤ columns → h * columns ≤ n →
-    ((k : ℕ) → k < n → slice_index out k ≡ quarter_of p stride (at + place_of columns stride k) fx fy) →
-    block_of w h (λ x y. slice_index out (0 + y * columns + x)) ≡ block_of w h (λ x y. quarter_of p stride (at + (y * stride + x)) fx fy)
-in_rows columns stride lanes p out at n fx fy w h narrow enough all =
-    block_of_same w h _ _ (λ x y column row.
-    let low : x < columns = omega (arith, narrow) in
-    let here : 0 + y * columns + x ≡ columns * y + x = omega (arith, mul_comm columns y) in
-    ap (slice_index out) here
-    ∙ all (columns * y + x) (omega (arith, row_fits y columns h columns row (omega arith), mul_comm columns y))
-    ∙ ap (λ k. quarter_of p stride (at + k) fx fy) (place_at columns stride lanes y x low))
+-- the same place by other words
+pub moved_at : (s : Wide) (left left' top top' : ℤ) (i j : ℕ) → left' ≡ left → top' ≡ top → s (left' +ℤ pos i) (top' +ℤ pos j) ≡ s (left +ℤ pos i) (top +ℤ pos j)
+moved_at s left left' top top' i j is_left is_top = ap (λ z. s (z +ℤ pos i) (top' +ℤ pos j)) is_left ∙ ap (λ z. s (left +ℤ pos i) (z +ℤ pos j)) is_top
+
+pub moved_quarter : (s : Wide) (left left' top top' : ℤ) (i j fx fy : ℕ) → left' ≡ left → top' ≡ top →
+    quarter s (left' +ℤ pos i) (top' +ℤ pos j) fx fy ≡ quarter s (left +ℤ pos i) (top +ℤ pos j) fx fy
+moved_quarter s left left' top top' i j fx fy is_left is_top = moved_at (λ u v. quarter s u v fx fy) left left' top top' i j is_left is_top

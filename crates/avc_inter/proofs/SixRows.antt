@@ -1,17 +1,23 @@
 -- Blocks in rows of sixteen samples, as they lie in a list.
-use Rattle.std.proofs.Common.{◌≡◌, ℕ, ◌+◌, ◌-◌, ◌*◌, ◌/◌, ◌%◌, ◌<◌, ◌≤◌, List, length, slice_index, slice_index_or, arith, refl, ap, ◌∙◌, subst, pos, ◌+ℤ◌, ℤ, mul_comm, ⊎_elim}
+use Rattle.std.proofs.Common.{◌≡◌, ℕ, ◌+◌, ◌-◌, ◌*◌, ◌/◌, ◌%◌, ◌<◌, ◌≤◌, List, length, slice_index, slice_index_or, arith, refl, ap, ◌∙◌, subst, pos, ◌+ℤ◌, ℤ, mul_comm, mul-le-mul_left, inl, inr, ⊎_elim}
 use Rattle.std.proofs.Math.Nat.{add-mul, mul-le-mul_right, le_of_mul-le-mul_right, mul_right_comm, div-lt_iff_lt-mul, mul-add-div_right, mul-add-mod_self_right}
 use Rattle.std.proofs.lemmas.Nat.{div-mul-add, mod-mul-add, mod_below}
 use Rattle.std.proofs.lemmas.Bool.{cases_lt}
 use Rattle.avc_types.specs.Arithmetic.{◌>>ℤ◌, clip1, mean_of_two}
+use Rattle.avc_plane.specs.Strided.{IsRoom, IsStridedSet}
+use Rattle.avc_plane.proofs.Strided.{strided_more}
 use Rattle.avc_inter.specs.Luma.{six_taps}
-use Rattle.avc_inter.specs.Patch.{half_along, taps_along, centre_along, j_of, rounded_sum}
+use Rattle.avc_inter.specs.Patch.{blend_of, half_along, taps_along, centre_along, j_of, rounded_sum}
+use Rattle.avc_inter.specs.declared.bilinear.BilinearWeights.{BilinearWeights}
 use Rattle.avc_inter.specs.SixRows.{place_of, HasPlaces, HasRoom, AreLanes, half_of, taps_of}
 
 -- ---- places
 
 pub times_three : (a b c : ℕ) → a * b * c ≡ a * (b * c)
 times_three a b c = search arith
+
+times_turned : (y n s : ℕ) → y * (n * s) ≡ n * y * s
+times_turned y n s = search arith
 
 module _ (columns stride : ℕ) (lanes : AreLanes columns) where
   abbrev lines : ℕ
@@ -68,6 +74,48 @@ by_row P y earlier here k low = ⊎_elim (earlier k) (λ above.
     let e : 16 * y + (k - 16 * y) ≡ k = omega arith in
     subst P e (here (k - 16 * y) (omega arith))) (cases_lt k (16 * y))
 
+-- ---- rows that are written
+
+some_lines : (columns : ℕ) → AreLanes columns → 0 < 16 / columns
+some_lines columns lanes = elim (cases_lt 0 (16 / columns)) [
+  | inl less ↦ less
+  | inr none ↦ let e : 16 / columns ≡ 0 = omega arith in absurd (omega (arith, lanes.all, ap (λ n. n * columns) e))
+]
+
+module _ (columns : ℕ) (lanes : AreLanes columns) (w first stride y : ℕ) (narrow : w ≤ columns) (apart : w ≤ stride) where
+  flat : (r x : ℕ) → 16 * y + (columns * r + x) ≡ columns * (16 / columns * y + r) + x
+  flat r x =
+      let whole : columns * (16 / columns * y) ≡ 16 * y = search (arith, times_three columns (16 / columns) y, mul_comm columns (16 / columns), lanes.all) in
+      omega (arith, whole, mul_comm columns (16 / columns * y + r), mul_comm columns (16 / columns * y), mul_comm columns r, add-mul (16 / columns * y) r columns)
+
+  -- sixteen samples more, which are the next of a block
+  pub sixteen_more : (F : ℕ → ℕ) (f : ℕ → ℕ → ℕ) (row old mid new : List ℕ) →
+      IsStridedSet w (16 / columns * y) first stride f old mid →
+      IsStridedSet w (16 / columns) (first + y * (16 / columns * stride)) stride (λ x r. slice_index row (columns * r + x)) mid new →
+      ((k : ℕ) → k < 16 → slice_index row k ≡ F (16 * y + k)) →
+      ((x v : ℕ) → x < columns → F (columns * v + x) ≡ f x v) →
+      IsStridedSet w (16 / columns * (y + 1)) first stride f old new
+  sixteen_more F f row old mid new so_far put is at =
+      strided_more w (16 / columns) y first stride f (λ x r. slice_index row (columns * r + x)) old mid new apart so_far put
+      (λ r x low column.
+      is (columns * r + x) (omega (arith, line_ends columns stride lanes r low, narrow))
+      ∙ ap F (flat r x)
+      ∙ at x (16 / columns * y + r) (omega (arith, narrow)))
+
+  -- there is room for them
+  pub room_more : (count long : ℕ) → y < count → IsRoom w (16 / columns * count) first stride long → IsRoom w (16 / columns) (first + y * (16 / columns * stride)) stride long
+  room_more count long less room r low =
+      let below : 16 / columns * (y + 1) ≤ 16 / columns * count = mul-le-mul_left (16 / columns) (omega arith) in
+      omega (
+        arith,
+        room (16 / columns * y + r) (omega (arith, below, mul_comm (16 / columns) (y + 1), mul_comm (16 / columns) y)),
+        add-mul (16 / columns * y) r stride,
+        times_turned y (16 / columns) stride,
+      )
+
+  pub begins_more : (count long : ℕ) → y < count → IsRoom w (16 / columns * count) first stride long → first + y * (16 / columns * stride) + w ≤ long
+  begins_more count long less room = omega (arith, room_more count long less room 0 (some_lines columns lanes))
+
 -- ---- six rows
 
 abbrev half_of_six : (a b c d e f : ℕ) → ℕ
@@ -115,6 +163,10 @@ half_in_row columns stride lanes p at by step y i = ap (λ k. half_along p k ste
 pub whole_in_row : (columns stride : ℕ) → AreLanes columns → (p : List ℕ) (at by y i : ℕ) →
     slice_index p (at + by + y * (16 / columns * stride) + place_of columns stride i) ≡ slice_index p (by + (at + place_of columns stride (16 * y + i)))
 whole_in_row columns stride lanes p at by y i = ap (λ k. slice_index p k) (omega (arith, place_row columns stride lanes y i))
+
+pub blend_in_row : (columns stride : ℕ) → AreLanes columns → (w : BilinearWeights) (p : List ℕ) (at y i : ℕ) →
+    blend_of w p stride (at + y * (16 / columns * stride) + place_of columns stride i) ≡ blend_of w p stride (at + place_of columns stride (16 * y + i))
+blend_in_row columns stride lanes w p at y i = ap (λ k. blend_of w p stride k) (omega (arith, place_row columns stride lanes y i))
 
 pub sum_in_row : (columns stride : ℕ) → AreLanes columns → (p : List ℕ) (at y i : ℕ) →
     taps_along p (at + y * (16 / columns * stride) + place_of columns stride i) 1 ≡ taps_along p (at + place_of columns stride (16 * y + i)) 1
@@ -170,10 +222,28 @@ module _ (columns stride : ℕ) (lanes : AreLanes columns) (count at : ℕ) (p :
   all_of_them : rows_around * columns ≡ 16 * (count + (5 * columns + 15) / 16)
   all_of_them = mul_right_comm (16 / columns) (count + (5 * columns + 15) / 16) columns ∙ ap (λ n. n * (count + (5 * columns + 15) / 16)) lanes.all
 
+  -- the rows that are computed
+  pub rows_are : 16 / columns * count * columns ≡ 16 * count
+  rows_are = mul_right_comm (16 / columns) count columns ∙ ap (λ n. n * count) lanes.all
+
+  -- a row and a column more than the block are there
+  pub places_for : ((j : ℕ) → j < 16 / columns * count + 1 → at + j * stride + (columns + 1) ≤ length p) → HasPlaces columns stride (16 * count) (at + stride + 1) p
+  places_for there k low =
+      let below : k / columns < 16 / columns * count = (div-lt_iff_lt-mul lanes.some).1 (omega (arith, rows_are)) in
+      omega (arith, there (k / columns + 1) (omega arith), add-mul (k / columns) 1 stride, mod_below k columns lanes.some)
+
   pub room_is : ((j : ℕ) → j < rows_around → at + j * stride + (columns + 5) ≤ length p) → HasRoom columns stride count at p
   room_is there k low =
       let below : k / columns < rows_around = (div-lt_iff_lt-mul lanes.some).1 (omega (arith, all_of_them)) in
       omega (arith, there (k / columns) below, mod_below k columns lanes.some)
+
+  pub rows_cover : (h : ℕ) → h * columns ≤ 16 * count → h ≤ 16 / columns * count
+  rows_cover h few = le_of_mul-le-mul_right (omega (arith, rows_are, few)) lanes.some
+
+  pub rows_room : (long : ℕ) → 16 * count ≤ long → IsRoom columns (16 / columns * count) 0 columns long
+  rows_room long few y low =
+      let below : (y + 1) * columns ≤ 16 / columns * count * columns = mul-le-mul_right columns (omega arith) in
+      omega (arith, below, rows_are, few)
 
   pub rows_suffice : (h : ℕ) → h * columns ≤ 16 * count → h + 5 ≤ rows_around
   rows_suffice h few = le_of_mul-le-mul_right (omega (arith, all_of_them, few, add-mul h 5 columns)) lanes.some
@@ -184,3 +254,24 @@ pub rounded_is : (columns stride : ℕ) → AreLanes columns → (p : List ℕ) 
     rounded_sum (slice_index_or m (n * columns + k) (pos 0)) ≡ half_along p (n * stride + (at + place_of columns stride k)) 1
 rounded_is columns stride lanes p m at n k all low sums =
     ap rounded_sum (sums (n * columns + k) low) ∙ ap (λ i. half_along p i 1) (omega (arith, place_further columns stride lanes n k))
+
+-- ---- the same by column and row
+
+module _ (columns stride : ℕ) (lanes : AreLanes columns) (p : List ℕ) (m : List ℤ) (at count : ℕ)
+    (sums : (k : ℕ) → k < 16 * count + 5 * columns → slice_index_or m k (pos 0) ≡ taps_along p (at + place_of columns stride k) 1) where
+  flat_low : (x y : ℕ) → x < columns → y < 16 / columns * count → columns * y + x < 16 * count
+  flat_low x y column low =
+      let below : (y + 1) * columns ≤ 16 / columns * count * columns = mul-le-mul_right columns (omega arith) in
+      omega (arith, below, rows_are columns stride lanes count at p, mul_comm columns y)
+
+  pub middle_at : (x y : ℕ) → x < columns → y < 16 / columns * count → centre_along m (columns * y + x) columns ≡ j_of p stride (at + (y * stride + x))
+  middle_at x y column low =
+      middle_is columns stride lanes p m at (16 * count + 5 * columns) (columns * y + x) (omega (arith, flat_low x y column low)) sums
+      ∙ ap (λ q. j_of p stride (at + q)) (place_at columns stride lanes y x column)
+
+  pub rounded_at : (n x y : ℕ) → n ≤ 5 → x < columns → y < 16 / columns * count →
+      rounded_sum (slice_index_or m (n * columns + (columns * y + x)) (pos 0)) ≡ half_along p (n * stride + (at + (y * stride + x))) 1
+  rounded_at n x y few column low =
+      let below : n * columns ≤ 5 * columns = mul-le-mul_right columns few in
+      rounded_is columns stride lanes p m at n (columns * y + x) (16 * count + 5 * columns) (omega (arith, below, flat_low x y column low)) sums
+      ∙ ap (λ q. half_along p (n * stride + (at + q)) 1) (place_at columns stride lanes y x column)

@@ -1,7 +1,12 @@
 //! Weighted means of four neighbouring samples (8.4.2.2.2).
 
-ghost use Rattle.std.specs.Prelude.{◌≡◌, ℕ, ◌+◌, ◌-◌, ◌*◌, ◌/◌, ◌<◌, ◌≤◌, length, slice_index};
+ghost use Rattle.std.specs.Prelude.{◌≡◌, ℕ, ◌+◌, ◌-◌, ◌*◌, ◌/◌, ◌^◌, ◌<◌, ◌≤◌, length, slice_index};
+ghost use Rattle.avc_plane.specs.Strided.{IsRoom, IsStridedSet};
 ghost use Rattle.avc_inter.specs.Patch.{blend_of, IsWhole};
+ghost use Rattle.avc_inter.specs.SixRows.{place_of, AreLanes, HasPlaces};
+
+use crate::rows::{put_rows, sixteen};
+use avc_plane::RowsPlace;
 
 /// The weights in 64ths of a sample, that right of it, that below it and that across, which are 64 together.
 #[derive(Clone, Copy, Debug)]
@@ -53,23 +58,66 @@ fn blend(w: BilinearWeights, here: u8, right: u8, below: u8, across: u8) -> u8
     ((sum + 32) / 64) as u8
 }
 
-/// The next multiple of sixteen.
-pub fn rounded_up(n: usize) -> usize
-    requires { n < 65536 }
-    ensures { result ≡ (n + 15) / 16 * 16 }
+/// The means at sixteen places.
+#[inline(always)]
+fn blends_of(
+    w: BilinearWeights,
+    here: &[u8; 16],
+    right: &[u8; 16],
+    below: &[u8; 16],
+    across: &[u8; 16],
+) -> [u8; 16]
+    requires { IsWhole w }
+    ensures { (k : ℕ) → k < 16 → slice_index result k ≡
+        (w.here * slice_index here.now k + w.right * slice_index right.now k + w.below * slice_index below.now k + w.across * slice_index across.now k + 32) / 64 }
 {
-    (n + 15) / 16 * 16
+    let (here, right, below, across) = (*here, *right, *below, *across);
+    let mut out = [0; 16];
+    for k in 0..16 {
+        out[k] = blend(w, here[k], right[k], below[k], across[k]);
+    }
+    out
 }
 
-/// The means of each sample and its three neighbours, in a list with `stride` samples in a row.
+/// The means of each of sixteen samples and its three neighbours.
 #[inline(always)]
-pub fn blends(p: &[u8], stride: usize, n: usize, w: BilinearWeights, out: &mut [u8])
+fn blend_row<const L: usize>(p: &[u8], at: usize, stride: usize, w: BilinearWeights) -> [u8; 16]
     requires weights { IsWhole w }
-    requires room { n ≤ length out.old }
-    requires samples { n + stride + 1 ≤ length p.now }
-    ensures { (k : ℕ) → k < n → slice_index out.new k ≡ blend_of w p.now stride k }
+    requires lanes { AreLanes L }
+    requires samples { HasPlaces L stride 16 (at + stride + 1) p.now }
+    ensures { (k : ℕ) → k < 16 → slice_index result k ≡ blend_of w p.now stride (at + place_of L stride k) }
 {
-    for k in 0..n {
-        out[k] = blend(w, p[k], p[k + 1], p[k + stride], p[k + stride + 1]);
+    let here = sixteen::<L>(p, at, stride);
+    let right = sixteen::<L>(p, at + 1, stride);
+    let below = sixteen::<L>(p, at + stride, stride);
+    let across = sixteen::<L>(p, at + stride + 1, stride);
+    blends_of(w, &here, &right, &below, &across)
+}
+
+/// The means of each sample of a block and its three neighbours.
+#[inline(always)]
+pub fn blend_rows<const L: usize, const W: usize>(
+    p: &[u8],
+    at: usize,
+    stride: usize,
+    count: usize,
+    w: BilinearWeights,
+    out: &mut [u8],
+    to: RowsPlace,
+)
+    requires weights { IsWhole w }
+    requires lanes { AreLanes L }
+    requires narrow { stride < 2 ^ 32 }
+    requires columns { W ≤ L }
+    requires apart { W ≤ to.stride }
+    requires room { IsRoom W (16 / L * count) to.first to.stride (length out.old) }
+    requires samples { HasPlaces L stride (16 * count) (at + stride + 1) p.now }
+    ensures { IsStridedSet W (16 / L * count) to.first to.stride (λ x y. blend_of w p.now stride (at + (y * stride + x))) out.old out.new }
+{
+    let lines = 16 / L * stride;
+    let rows = 16 / L * to.stride;
+    for y in 0..count {
+        let row = blend_row::<L>(p, at + y * lines, stride, w);
+        put_rows::<L, W>(out, to.first + y * rows, to.stride, &row);
     }
 }

@@ -1,15 +1,17 @@
 //! Chroma sample interpolation (8.4.2.2.2).
 
-ghost use Rattle.std.specs.Prelude.{◌≡◌, ℕ, ◌+◌, ◌<◌, ◌≤◌, pos, ◌+ℤ◌};
+ghost use Rattle.std.specs.Prelude.{◌≡◌, ℕ, ◌+◌, ◌%◌, ◌<◌, ◌≤◌, pos, ◌+ℤ◌, length};
 ghost use Rattle.avc_types.specs.Blocks.{block_of};
-ghost use Rattle.avc_plane.specs.Plane.{sample, clamped};
+ghost use Rattle.avc_plane.specs.Plane.{sample, clamped, with_block};
+ghost use Rattle.avc_plane.specs.Strided.{IsRoom, IsStridedSet};
 ghost use Rattle.avc_inter.specs.Chroma.{bilinear, inter_chroma};
 ghost use Rattle.avc_inter.specs.Bounds.{IsMoved};
 
-use crate::bilinear::{BilinearWeights, blends, rounded_up};
-use crate::patch::{fetch, set_whole};
+use crate::chroma_between::lay_eighths;
+use crate::patch::set_whole;
 use crate::vector::{chroma_fraction, chroma_place};
-use avc_plane::PaddedPlane;
+use crate::whole::lay_whole;
+use avc_plane::{PaddedPlane, Plane, RowsPlace};
 use avc_types::{Block, Mv};
 
 /// Gives a block the samples between whole ones.
@@ -30,18 +32,14 @@ fn set_between<const W: usize, const H: usize, const PAD: usize>(
     ensures { block.new ≡ block_of W H
         (λ i j. bilinear (clamped reference.now.width reference.now.height (sample reference.now)) (left +ℤ pos i) (top +ℤ pos j) right down) }
 {
-    let stride = W + 1;
-    let mut patch = [0; 112];
-    fetch(reference, left, top, stride, H + 1, &mut patch);
-    let mut samples = [0; 96];
-    blends(
-        &patch,
-        stride,
-        rounded_up(H * stride),
-        BilinearWeights::new(right, down),
-        &mut samples,
-    );
-    block.set_rows(&samples, 0, stride);
+    let mut samples = [0; 72];
+    let to = RowsPlace {
+        first: 0,
+        stride: 8,
+    };
+    let count = (H + 1) / 2;
+    lay_eighths::<8, 8, PAD>(reference, left, top, count, right, down, &mut samples, to);
+    block.set_rows(&samples, 0, 8);
 }
 
 /// Predicts the chroma block of W columns and H rows (each 1 to 8) whose upper left sample stands in column `x` and row `y` of a
@@ -72,4 +70,62 @@ pub fn chroma<const W: usize, const H: usize, const PAD: usize>(
     } else {
         set_between(reference, left, top, right, down, block)
     }
+}
+
+/// Lays the prediction of a chroma block into rows.
+#[inline(always)]
+fn lay_chroma<const W: usize, const H: usize, const PAD: usize>(
+    reference: &PaddedPlane<PAD>,
+    x: usize,
+    y: usize,
+    mv: Mv,
+    out: &mut [u8],
+    to: RowsPlace,
+)
+    requires columns { (1 ≤ W) × (W ≤ 8) }
+    requires rows { (1 ≤ H) × (H ≤ 8) }
+    requires even { H % 2 ≡ 0 }
+    requires column { x < reference.now.width }
+    requires row { y < reference.now.height }
+    requires apart { W ≤ to.stride }
+    requires room { IsRoom W H to.first to.stride (length out.old) }
+    ensures { IsStridedSet W H to.first to.stride
+        (λ i j. inter_chroma reference.now.width reference.now.height (sample reference.now) mv (x + i) (y + j)) out.old out.new }
+{
+    let width = reference.width();
+    let height = reference.height();
+    prove!(x < width);
+    prove!(y < height);
+    let left = chroma_place(x, mv.x);
+    let top = chroma_place(y, mv.y);
+    let right = chroma_fraction(mv.x);
+    let down = chroma_fraction(mv.y);
+    if right == 0 && down == 0 {
+        lay_whole::<W, H, PAD>(reference, left, top, out, to);
+    } else if W <= 4 && H % 4 == 0 {
+        lay_eighths::<4, W, PAD>(reference, left, top, H / 4, right, down, out, to);
+    } else {
+        lay_eighths::<8, W, PAD>(reference, left, top, H / 2, right, down, out, to);
+    }
+}
+
+/// The same prediction of an even number of rows, laid into its place in the chroma plane of the picture.
+pub fn predict_chroma<const W: usize, const H: usize, const PAD: usize>(
+    reference: &PaddedPlane<PAD>,
+    x: usize,
+    y: usize,
+    mv: Mv,
+    plane: &mut Plane<PAD>,
+)
+    requires columns { (1 ≤ W) × (W ≤ 8) × (x + W ≤ plane.old.width) }
+    requires rows { (1 ≤ H) × (H ≤ 8) × (y + H ≤ plane.old.height) }
+    requires even { H % 2 ≡ 0 }
+    requires column { x < reference.now.width }
+    requires row { y < reference.now.height }
+    ensures { plane.new ≡ with_block plane.old x y W H
+        (λ i j. inter_chroma reference.now.width reference.now.height (sample reference.now) mv (x + i) (y + j)) }
+{
+    let to = plane.padded_place(x, y);
+    let rows = plane.padded_rows_mut();
+    lay_chroma::<W, H, PAD>(reference, x, y, mv, rows, to);
 }

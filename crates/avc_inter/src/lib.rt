@@ -1,8 +1,11 @@
 //! Inter prediction (8.4.2).
 #![tactic(auto)]
 
+mod between;
 mod bilinear;
+mod chroma_between;
 mod chroma_prediction;
+mod lines;
 mod luma_prediction;
 mod patch;
 mod positions;
@@ -11,8 +14,9 @@ mod rows;
 mod taps;
 mod vector;
 mod weighting;
+mod whole;
 
-pub use chroma_prediction::chroma;
-pub use luma_prediction::luma;
+pub use chroma_prediction::{chroma, predict_chroma};
+pub use luma_prediction::{luma, predict_luma};
 pub use row::six_tap_row;
 pub use weighting::weight;

@@ -8,8 +8,8 @@ ghost use Rattle.avc_inter.specs.Bounds.{IsMoved, IsPlace};
 ghost use Rattle.avc_plane.specs.Padded.{IsSurrounded};
 ghost use Rattle.avc_inter.specs.Patch.{IsPatch, IsThere};
 
-use avc_plane::PaddedPlane;
-use avc_types::{Block, copy_rows};
+use avc_plane::{PaddedPlane, RowsPlace};
+use avc_types::Block;
 
 /// Where in a padded size `count` samples from this place of the plane on begin, if they are all there.
 #[inline(always)]
@@ -101,17 +101,6 @@ pub fn fetch_held<const PAD: usize>(
     }
 }
 
-/// Where a patch lies in the padded rows of its plane.
-#[derive(Clone, Copy)]
-pub struct Within {
-    /// The place of its first sample.
-    pub first: usize,
-    /// From a row to the next.
-    pub stride: usize,
-
-    ghost narrow: { stride < 2 ^ 32 },
-}
-
 /// Where the padded rows of a plane have the samples in `columns` columns from `left` on, or sixteen, and `count` rows from `top` on; None
 /// where they don't have them all.
 #[inline(always)]
@@ -121,7 +110,7 @@ pub fn find_within<const PAD: usize>(
     top: i64,
     columns: usize,
     count: usize,
-) -> Option<Within>
+) -> Option<RowsPlace>
     requires left { IsPlace left }
     requires top { IsPlace top }
     requires narrow { columns < 2 ^ 16 }
@@ -137,43 +126,12 @@ pub fn find_within<const PAD: usize>(
     match (first_column, first_row) {
         (Some(column), Some(row)) => {
             let stride = width + 2 * PAD;
-            Some(Within {
+            Some(RowsPlace {
                 first: row * stride + column,
                 stride,
             })
         }
         _ => None,
-    }
-}
-
-/// Fetches the samples in `columns` columns from `left` on and `count` rows from `top` on. Where they lie inside the padding, whole
-/// rows are copied.
-#[inline(always)]
-pub fn fetch<const PAD: usize>(
-    plane: &PaddedPlane<PAD>,
-    left: i64,
-    top: i64,
-    columns: usize,
-    count: usize,
-    patch: &mut [u8],
-)
-    requires left { IsPlace left }
-    requires top { IsPlace top }
-    requires narrow { columns ≤ 32 }
-    requires low { count < 2 ^ 16 }
-    requires target { count * columns + 16 ≤ length patch.old }
-    ensures { IsPatch (clamped plane.now.width plane.now.height (sample plane.now)) left top columns count patch.new }
-{
-    match find_within(plane, left, top, columns, count) {
-        Some(at) => copy_rows(
-            plane.padded_rows(),
-            at.first,
-            at.stride,
-            columns,
-            count,
-            patch,
-        ),
-        None => fetch_held(plane, left, top, columns, count, patch),
     }
 }
 

@@ -1,15 +1,18 @@
 //! The six-tap filter over rows of sixteen samples, read where they lie (8.4.2.2.1).
 //!
-//! Sixteen samples are one row of a block of 16 columns or two rows of a block of 8. L is how many columns the block has. Its rows begin `stride` apart in the list that they are read from, and one behind another in what is written. `count`
-//! is how many times sixteen samples the block has.
+//! Sixteen samples are one row of a block of 16 columns or two rows of a block of 8. L is how many columns the block has, of which W are
+//! wanted. Its rows begin `stride` apart in the list that they are read from, and at the place `to` in the rows that they are written into.
+//! `count` is how many times sixteen samples the block has.
 
 ghost use Rattle.std.specs.Prelude.{◌≡◌, ℕ, ◌+◌, ◌*◌, ◌/◌, ◌<◌, ◌≤◌, ◌^◌, pos, length, slice_index, slice_index_or};
 ghost use Rattle.avc_types.specs.Arithmetic.{mean_of_two};
+ghost use Rattle.avc_plane.specs.Strided.{IsRoom, IsStridedSet};
 ghost use Rattle.avc_inter.specs.Bounds.{IsSum};
 ghost use Rattle.avc_inter.specs.Patch.{taps_along, half_along, centre_along, rounded_sum};
-ghost use Rattle.avc_inter.specs.SixRows.{place_of, HasPlaces, AreLanes, half_of, taps_of, centre_of, AreSums, IsRowPut, AreSumsPut};
+ghost use Rattle.avc_inter.specs.SixRows.{place_of, HasPlaces, AreLanes, half_of, taps_of, centre_of, AreSums, AreSumsPut};
 
 use crate::taps::{centre, half, mean, rounded_half, taps};
+use avc_plane::RowsPlace;
 
 /// Reads L samples of a row.
 #[inline(always)]
@@ -74,44 +77,69 @@ fn half_row<const L: usize>(p: &[u8], at: usize, stride: usize, step: usize) -> 
     halves_of(&e, &f, &g, &h, &i, &j)
 }
 
-/// Puts sixteen samples into their place.
+/// Puts W of sixteen samples into a row.
 #[inline(always)]
-pub fn put_row(out: &mut [u8], row: usize, r: &[u8; 16])
-    requires { 16 * row + 16 ≤ length out.old }
-    ensures { IsRowPut row r.now out.old out.new }
+fn put_row<const W: usize>(out: &mut [u8], first: usize, r: &[u8; 16], from: usize)
+    requires target { first + W ≤ length out.old }
+    requires source { from + W ≤ 16 }
+    ensures here { (x : ℕ) → x < W → slice_index out.new (first + x) ≡ slice_index r.now (from + x) }
+    ensures before { (j : ℕ) → j < first → slice_index out.new j ≡ slice_index out.old j }
+    ensures behind { (j : ℕ) → first + W ≤ j → slice_index out.new j ≡ slice_index out.old j }
 {
-    let from = 16 * row;
-    for k in 0..16 {
-        out[from + k] = r[k];
+    for x in 0..W {
+        out[first + x] = r[from + x];
+    }
+}
+
+/// Puts sixteen samples into their rows.
+#[inline(always)]
+pub fn put_rows<const L: usize, const W: usize>(
+    out: &mut [u8],
+    first: usize,
+    stride: usize,
+    r: &[u8; 16],
+)
+    requires lanes { AreLanes L }
+    requires columns { W ≤ L }
+    requires apart { W ≤ stride }
+    requires room { IsRoom W (16 / L) first stride (length out.old) }
+    ensures { IsStridedSet W (16 / L) first stride (λ x y. slice_index r.now (L * y + x)) out.old out.new }
+{
+    for y in 0..16 / L {
+        put_row::<W>(out, first + y * stride, r, L * y);
     }
 }
 
 /// Whole samples, from `by` behind place `at` on.
 #[inline(always)]
-pub fn whole_rows<const L: usize>(
+pub fn whole_rows<const L: usize, const W: usize>(
     p: &[u8],
     at: usize,
     by: usize,
     stride: usize,
     count: usize,
     out: &mut [u8],
+    to: RowsPlace,
 )
     requires lanes { AreLanes L }
     requires narrow { stride < 2 ^ 32 }
-    requires room { 16 * count ≤ length out.old }
+    requires columns { W ≤ L }
+    requires apart { W ≤ to.stride }
+    requires room { IsRoom W (16 / L * count) to.first to.stride (length out.old) }
     requires samples { HasPlaces L stride (16 * count) (at + by) p.now }
-    ensures { (k : ℕ) → k < 16 * count → slice_index out.new k ≡ slice_index p.now (by + (at + place_of L stride k)) }
+    ensures { IsStridedSet W (16 / L * count) to.first to.stride (λ x y. slice_index p.now (by + (at + (y * stride + x)))) out.old out.new }
 {
     let lines = 16 / L * stride;
+    let rows = 16 / L * to.stride;
     for y in 0..count {
         let row = sixteen::<L>(p, at + by + y * lines, stride);
-        put_row(out, y, &row);
+        put_rows::<L, W>(out, to.first + y * rows, to.stride, &row);
     }
 }
 
 /// Half samples: b or s with step 1, h or m with the stride. The first of the six samples is `by` behind place `at`.
 #[inline(always)]
-pub fn half_rows<const L: usize>(
+pub fn half_rows<const L: usize, const W: usize>(
     p: &[u8],
     at: usize,
     by: usize,
@@ -119,17 +147,21 @@ pub fn half_rows<const L: usize>(
     step: usize,
     count: usize,
     out: &mut [u8],
+    to: RowsPlace,
 )
     requires lanes { AreLanes L }
     requires narrow { stride < 2 ^ 32 }
-    requires room { 16 * count ≤ length out.old }
+    requires columns { W ≤ L }
+    requires apart { W ≤ to.stride }
+    requires room { IsRoom W (16 / L * count) to.first to.stride (length out.old) }
     requires samples { HasPlaces L stride (16 * count) (at + by + 5 * step) p.now }
-    ensures { (k : ℕ) → k < 16 * count → slice_index out.new k ≡ half_along p.now (by + (at + place_of L stride k)) step }
+    ensures { IsStridedSet W (16 / L * count) to.first to.stride (λ x y. half_along p.now (by + (at + (y * stride + x))) step) out.old out.new }
 {
     let lines = 16 / L * stride;
+    let rows = 16 / L * to.stride;
     for y in 0..count {
         let row = half_row::<L>(p, at + by + y * lines, stride, step);
-        put_row(out, y, &row);
+        put_rows::<L, W>(out, to.first + y * rows, to.stride, &row);
     }
 }
 
@@ -147,7 +179,7 @@ fn means_of(a: &[u8; 16], b: &[u8; 16]) -> [u8; 16]
 
 /// Half samples, each with its mean with a whole sample, which is `whole` behind place `at`.
 #[inline(always)]
-pub fn quarter_rows<const L: usize>(
+pub fn quarter_rows<const L: usize, const W: usize>(
     p: &[u8],
     at: usize,
     by: usize,
@@ -156,27 +188,30 @@ pub fn quarter_rows<const L: usize>(
     step: usize,
     count: usize,
     out: &mut [u8],
+    to: RowsPlace,
 )
     requires lanes { AreLanes L }
     requires narrow { stride < 2 ^ 32 }
-    requires room { 16 * count ≤ length out.old }
+    requires columns { W ≤ L }
+    requires apart { W ≤ to.stride }
+    requires room { IsRoom W (16 / L * count) to.first to.stride (length out.old) }
     requires samples { HasPlaces L stride (16 * count) (at + by + 5 * step) p.now }
     requires whole { HasPlaces L stride (16 * count) (at + whole) p.now }
-    ensures { (k : ℕ) → k < 16 * count → slice_index out.new k ≡
-        mean_of_two (slice_index p.now (whole + (at + place_of L stride k))) (half_along p.now (by + (at + place_of L stride k)) step) }
+    ensures { IsStridedSet W (16 / L * count) to.first to.stride (λ x y. mean_of_two (slice_index p.now (whole + (at + (y * stride + x)))) (half_along p.now (by + (at + (y * stride + x))) step)) out.old out.new }
 {
     let lines = 16 / L * stride;
+    let rows = 16 / L * to.stride;
     for y in 0..count {
         let half = half_row::<L>(p, at + by + y * lines, stride, step);
         let whole = sixteen::<L>(p, at + whole + y * lines, stride);
         let row = means_of(&whole, &half);
-        put_row(out, y, &row);
+        put_rows::<L, W>(out, to.first + y * rows, to.stride, &row);
     }
 }
 
 /// The means of two half samples: b or s, whose six samples begin `across` behind place `at`, and h or m, `down` behind it.
 #[inline(always)]
-pub fn diagonal_rows<const L: usize>(
+pub fn diagonal_rows<const L: usize, const W: usize>(
     p: &[u8],
     at: usize,
     across: usize,
@@ -184,21 +219,24 @@ pub fn diagonal_rows<const L: usize>(
     stride: usize,
     count: usize,
     out: &mut [u8],
+    to: RowsPlace,
 )
     requires lanes { AreLanes L }
     requires narrow { stride < 2 ^ 32 }
-    requires room { 16 * count ≤ length out.old }
+    requires columns { W ≤ L }
+    requires apart { W ≤ to.stride }
+    requires room { IsRoom W (16 / L * count) to.first to.stride (length out.old) }
     requires across { HasPlaces L stride (16 * count) (at + across + 5 * 1) p.now }
     requires down { HasPlaces L stride (16 * count) (at + down + 5 * stride) p.now }
-    ensures { (k : ℕ) → k < 16 * count → slice_index out.new k ≡
-        mean_of_two (half_along p.now (across + (at + place_of L stride k)) 1) (half_along p.now (down + (at + place_of L stride k)) stride) }
+    ensures { IsStridedSet W (16 / L * count) to.first to.stride (λ x y. mean_of_two (half_along p.now (across + (at + (y * stride + x))) 1) (half_along p.now (down + (at + (y * stride + x))) stride)) out.old out.new }
 {
     let lines = 16 / L * stride;
+    let rows = 16 / L * to.stride;
     for y in 0..count {
         let b = half_row::<L>(p, at + across + y * lines, stride, 1);
         let h = half_row::<L>(p, at + down + y * lines, stride, stride);
         let row = means_of(&b, &h);
-        put_row(out, y, &row);
+        put_rows::<L, W>(out, to.first + y * rows, to.stride, &row);
     }
 }
 
@@ -334,15 +372,24 @@ fn centre_row(m: &[i16; 336], at: usize, step: usize) -> [u8; 16]
 
 /// The half samples j.
 #[inline(always)]
-pub fn centre_rows<const L: usize>(m: &[i16; 336], count: usize, out: &mut [u8])
-    requires room { 16 * count ≤ length out.old }
+pub fn centre_rows<const L: usize, const W: usize>(
+    m: &[i16; 336],
+    count: usize,
+    out: &mut [u8],
+    to: RowsPlace,
+)
+    requires lanes { AreLanes L }
+    requires columns { W ≤ L }
+    requires apart { W ≤ to.stride }
+    requires room { IsRoom W (16 / L * count) to.first to.stride (length out.old) }
     requires few { 16 * count + 5 * L ≤ 336 }
     requires small { AreSums (16 * count + 5 * L) m.now }
-    ensures { (k : ℕ) → k < 16 * count → slice_index out.new k ≡ centre_along m.now k L }
+    ensures { IsStridedSet W (16 / L * count) to.first to.stride (λ x y. centre_along m.now (L * y + x) L) out.old out.new }
 {
+    let rows = 16 / L * to.stride;
     for y in 0..count {
         let row = centre_row(m, 16 * y, L);
-        put_row(out, y, &row);
+        put_rows::<L, W>(out, to.first + y * rows, to.stride, &row);
     }
 }
 
@@ -363,25 +410,34 @@ fn rounded_row(m: &[i16; 336], at: usize) -> [u8; 16]
 
 /// The means of j and of b or s, whose sums begin at `from`.
 #[inline(always)]
-pub fn centre_rows_across<const L: usize>(m: &[i16; 336], from: usize, count: usize, out: &mut [u8])
-    requires room { 16 * count ≤ length out.old }
+pub fn centre_rows_across<const L: usize, const W: usize>(
+    m: &[i16; 336],
+    from: usize,
+    count: usize,
+    out: &mut [u8],
+    to: RowsPlace,
+)
+    requires lanes { AreLanes L }
+    requires columns { W ≤ L }
+    requires apart { W ≤ to.stride }
+    requires room { IsRoom W (16 / L * count) to.first to.stride (length out.old) }
     requires from { from ≤ 5 * L }
     requires few { 16 * count + 5 * L ≤ 336 }
     requires small { AreSums (16 * count + 5 * L) m.now }
-    ensures { (k : ℕ) → k < 16 * count → slice_index out.new k ≡
-        mean_of_two (centre_along m.now k L) (rounded_sum (slice_index_or m.now (from + k) (pos 0))) }
+    ensures { IsStridedSet W (16 / L * count) to.first to.stride (λ x y. mean_of_two (centre_along m.now (L * y + x) L) (rounded_sum (slice_index_or m.now (from + (L * y + x)) (pos 0)))) out.old out.new }
 {
+    let rows = 16 / L * to.stride;
     for y in 0..count {
         let middle = centre_row(m, 16 * y, L);
         let half = rounded_row(m, from + 16 * y);
         let row = means_of(&middle, &half);
-        put_row(out, y, &row);
+        put_rows::<L, W>(out, to.first + y * rows, to.stride, &row);
     }
 }
 
 /// The means of j and of h or m, whose six samples begin `by` behind place `at`.
 #[inline(always)]
-pub fn centre_rows_down<const L: usize>(
+pub fn centre_rows_down<const L: usize, const W: usize>(
     m: &[i16; 336],
     p: &[u8],
     at: usize,
@@ -389,21 +445,24 @@ pub fn centre_rows_down<const L: usize>(
     stride: usize,
     count: usize,
     out: &mut [u8],
+    to: RowsPlace,
 )
     requires lanes { AreLanes L }
     requires narrow { stride < 2 ^ 32 }
-    requires room { 16 * count ≤ length out.old }
+    requires columns { W ≤ L }
+    requires apart { W ≤ to.stride }
+    requires room { IsRoom W (16 / L * count) to.first to.stride (length out.old) }
     requires samples { HasPlaces L stride (16 * count) (at + by + 5 * stride) p.now }
     requires few { 16 * count + 5 * L ≤ 336 }
     requires small { AreSums (16 * count + 5 * L) m.now }
-    ensures { (k : ℕ) → k < 16 * count → slice_index out.new k ≡
-        mean_of_two (centre_along m.now k L) (half_along p.now (by + (at + place_of L stride k)) stride) }
+    ensures { IsStridedSet W (16 / L * count) to.first to.stride (λ x y. mean_of_two (centre_along m.now (L * y + x) L) (half_along p.now (by + (at + (y * stride + x))) stride)) out.old out.new }
 {
     let lines = 16 / L * stride;
+    let rows = 16 / L * to.stride;
     for y in 0..count {
         let middle = centre_row(m, 16 * y, L);
         let half = half_row::<L>(p, at + by + y * lines, stride, stride);
         let row = means_of(&middle, &half);
-        put_row(out, y, &row);
+        put_rows::<L, W>(out, to.first + y * rows, to.stride, &row);
     }
 }

@@ -3,10 +3,11 @@ pub mod Sixteens
 pub mod Blocks
 pub mod Adding
 pub mod Coefficients
+pub mod InPlace
 mod Weighted
 mod SquareRows
-pub mod InPlace
-mod PartSamples
+mod Laid
+mod Tiles
 mod Shapes
 mod Predicting
 mod Inters

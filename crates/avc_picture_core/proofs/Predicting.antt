@@ -1,9 +1,9 @@
 -- Samples that are predicted by the list of reference pictures are the predictions of every coded picture with these pictures.
-use Rattle.std.proofs.Common.{ℕ, zero, suc, ◌≡◌, ◌+◌, ◌*◌, ◌<◌, arith, Bool, true, false, ◌&&◌, List, [], ◌∷◌, length, refl, sym, ap, subst, ◌∙◌, inl, inr}
+use Rattle.std.proofs.Common.{ℕ, zero, suc, ◌≡◌, ◌+◌, ◌*◌, ◌%◌, ◌<◌, arith, Bool, true, false, ◌&&◌, List, [], ◌∷◌, length, refl, sym, ap, subst, ◌∙◌, inl, inr}
 use Rattle.std.specs.Prelude.{Option, Some, None, IfSome, is_some, slice_index_or}
 use Rattle.std.specs.Option.{option_map}
 use Rattle.std.specs.List.{list_all}
-use Rattle.std.proofs.lemmas.Bool.{cases_lt, true≢false, false≢true}
+use Rattle.std.proofs.lemmas.Bool.{cases_lt, false≢true}
 use Rattle.std.proofs.lemmas.List.{get_or_past}
 use Rattle.std.proofs.lemmas.List.Elements.{All-get_or}
 use Rattle.std.proofs.lemmas.List.Folds.{list_all_at}
@@ -16,18 +16,16 @@ use Rattle.avc_motion.specs.Motion.{frame_named}
 use Rattle.avc_plane.specs.Plane.{sample}
 use Rattle.avc_plane.specs.Planes.{Planes}
 use Rattle.avc_plane.specs.Frames.{padded_planes_of}
-use Rattle.avc_plane.proofs.Blocks.{inside}
 use Rattle.avc_inter.specs.Luma.{inter_luma}
 use Rattle.avc_inter.specs.Chroma.{inter_chroma}
 use Rattle.avc_picture_core.specs.Built.{size_of, luma_place, component_weight, fetched, frame_sample, inter_predicted, reference_of, weighted_by}
 use Rattle.avc_picture_core.specs.Faults.{is_picture}
 use Rattle.avc_picture_core.specs.References.{AreReferences, AreUsable, IsReference, IsUsable, ShowsReference}
-use Rattle.avc_picture_core.specs.Inter.{AreInterPredicted, AreUsableAt, HaveOneMotion, IsMacroblockShape, IsPartFilled, IsPartSet, IsUsableAt, block_motion, fetched_from, have_pictures, motion_at, picture_in, predicted_from, predicted_in, wanted}
+use Rattle.avc_picture_core.specs.Inter.{AreUsableAt, HaveOneMotion, IsMacroblockShape, IsUsableAt, block_motion, fetched_from, have_pictures, motion_at, picture_in, predicted_at, predicted_from, predicted_in, wanted, with_part}
 use Rattle.avc_picture_core.specs.declared.references.ReferencePicture.{ReferencePicture}
-use Rattle.avc_picture_core.specs.declared.samples.MbSamples.{MbSamples}
 use Rattle.avc_picture_core.specs.declared.shape.Shape.TheVariants.{Whole}
-use Rattle.avc_picture_core.proofs.PartSamples.{part_filled}
-use Rattle.avc_picture_core.proofs.Shapes.{whole_blocks}
+use Rattle.avc_picture_core.proofs.Tiles.{part_same}
+use Rattle.avc_picture_core.proofs.Shapes.{bounds, whole_blocks}
 
 -- ---- which reference pictures there are
 
@@ -132,30 +130,28 @@ pub there : {PAD : ℕ} (references : List (Option (ReferencePicture PAD))) (mot
     → is_some (picture_in references (block_motion motion i)) ≡ true
 there references motion i long few all = has_picture references motion i (omega (arith, long)) all (is_some (picture_in references (block_motion motion i))) refl
 
-in_square : (k x y : ℕ) → x < size_of k → y < size_of k → (luma_place k x < 16) × (luma_place k y < 16)
-in_square zero x y column row = (column, row)
-in_square (suc k) x y column row = (omega (arith, column), omega (arith, row))
-
-pub all_predicted : {PAD : ℕ} (references : List (Option (ReferencePicture PAD))) (w h column row : ℕ) (motion : List Motion) (old new : MbSamples) (c : Coded) (slice : ℕ)
-    → length motion ≡ 16 → AreUsable w h references → have_pictures references motion ≡ true → IsPartFilled 0 0 16 16 (wanted references column row motion) old new
-    → c.width ≡ w → c.height ≡ h → AreReferences c slice references → AreInterPredicted c slice column row motion new
-all_predicted references w h column row motion old new c slice long all pictures filled wide high are = record {
-  each = λ k x y few across down.
-      let square = in_square k x y across down in
-      filled.at k x y few across down (λ out. absurd (true≢false (sym (inside 0 0 16 16 (luma_place k x) (luma_place k y) (omega arith) square.0 (omega arith) square.1) ∙ out)))
-      ∙ predicted_is c slice w h references k (size_of k * column + x) (size_of k * row + y) wide high are all (motion_at motion k x y)
-      (there references motion (block_at (luma_place k x) (luma_place k y)) long (omega (arith, square.0, square.1)) pictures);
-}
+pub all_predicted : {PAD : ℕ} (references : List (Option (ReferencePicture PAD))) (w h column row : ℕ) (motion : List Motion) (old new : Planes) (c : Coded) (slice : ℕ)
+    → length motion ≡ 16 → AreUsable w h references → have_pictures references motion ≡ true → new ≡ with_part column row 0 0 16 16 (wanted references column row motion) old
+    → c.width ≡ w → c.height ≡ h → AreReferences c slice references → new ≡ with_part column row 0 0 16 16 (predicted_at c slice column row motion) old
+all_predicted references w h column row motion old new c slice long all pictures filled wide high are =
+    filled
+    ∙ part_same column row 0 0 16 16 (wanted references column row motion) (predicted_at c slice column row motion) old refl refl
+    (λ k x y few e.
+    let b = bounds 0 0 16 16 (luma_place k x) (luma_place k y) e in
+    predicted_is c slice w h references k (size_of k * column + x) (size_of k * row + y) wide high are all (motion_at motion k x y)
+    (there references motion (block_at (luma_place k x) (luma_place k y)) long (omega (arith, b.1, b.3)) pictures))
 
 -- ---- one rectangle
 
-pub part_is : {PAD : ℕ} (references : List (Option (ReferencePicture PAD))) (column row : ℕ) (motion : List Motion) (left top w h r : ℕ) (v : Mv) (p : ReferencePicture PAD) (old new : MbSamples)
+pub part_is : {PAD : ℕ} (references : List (Option (ReferencePicture PAD))) (column row : ℕ) (motion : List Motion) (left top w h r : ℕ) (v : Mv) (p : ReferencePicture PAD) (old new : Planes)
+    → left % 2 ≡ 0 → top % 2 ≡ 0
     → HaveOneMotion motion left top w h → block_motion motion (block_at left top) ≡ motions.Inter r v → picture_in references (motions.Inter r v) ≡ Some p
-    → IsPartSet left top w h (λ k x y. predicted_from p v k (size_of k * column + x) (size_of k * row + y)) old new
-    → IsPartFilled left top w h (wanted references column row motion) old new
-part_is references column row motion left top w h r v p old new one is named set =
-    part_filled left top w h (λ k x y. predicted_from p v k (size_of k * column + x) (size_of k * row + y)) (wanted references column row motion) old new set
-    (λ k x y few across down e. rw (one.same (luma_place k x) (luma_place k y) e ∙ is, named) refl)
+    → new ≡ with_part column row left top w h (λ k x y. predicted_from p v k (size_of k * column + x) (size_of k * row + y)) old
+    → new ≡ with_part column row left top w h (wanted references column row motion) old
+part_is references column row motion left top w h r v p old new left_even top_even one is named set =
+    set
+    ∙ part_same column row left top w h (λ k x y. predicted_from p v k (size_of k * column + x) (size_of k * row + y)) (wanted references column row motion) old left_even top_even
+    (λ k x y few e. rw (one.same (luma_place k x) (luma_place k y) e ∙ is, named) refl)
 
 -- ---- blocks that all have one motion
 

@@ -1,5 +1,5 @@
 -- The samples of an inter macroblock from its reference pictures, ITU-T H.264 clause 8.4.2.
-use Rattle.std.specs.Prelude.{◌≡◌, ℕ, zero, suc, ◌+◌, ◌*◌, ◌<◌, ◌≤◌, Bool, true, false, if◌then◌else◌, List, Option, Some, None, IfSome, Result, Ok, Err, is_some, slice_index, slice_index_or}
+use Rattle.std.specs.Prelude.{◌≡◌, ℕ, zero, suc, ◌+◌, ◌*◌, ◌/◌, ◌<◌, ◌≤◌, Bool, true, false, List, Option, Some, None, IfSome, Result, Ok, Err, is_some, slice_index_or}
 use Rattle.std.specs.Option.{option_map}
 use Rattle.std.specs.List.{list_all}
 use Rattle.avc_types.specs.Pictures.{Coded}
@@ -10,7 +10,7 @@ use Rattle.avc_neigh.specs.Blocks.{block_at}
 use Rattle.avc_neigh.specs.declared.facts.Motion.{Motion}
 use Rattle.avc_neigh.specs.declared.facts.Motion.TheVariants as motions
 use Rattle.avc_motion.specs.Motion.{vector_of}
-use Rattle.avc_plane.specs.Plane.{sample, is_inside}
+use Rattle.avc_plane.specs.Plane.{sample, is_inside, with_block}
 use Rattle.avc_plane.specs.Planes.{Planes}
 use Rattle.avc_plane.specs.Frames.{padded_planes_of}
 use Rattle.avc_inter.specs.Luma.{inter_luma}
@@ -19,37 +19,36 @@ use Rattle.avc_picture_core.specs.Built.{size_of, luma_place, inter_predicted, r
 use Rattle.avc_picture_core.specs.Faults.{is_picture}
 use Rattle.avc_picture_core.specs.References.{AreWeights}
 use Rattle.avc_picture_core.specs.declared.references.ReferencePicture.{ReferencePicture}
-use Rattle.avc_picture_core.specs.declared.samples.MbSamples.{MbSamples}
 use Rattle.avc_picture_core.specs.declared.shape.Shape.{Shape}
 use Rattle.avc_picture_core.specs.declared.shape.Shape.TheVariants.{Whole, WideHalves, TallHalves, Quarters}
 
 -- ---- the samples of a macroblock
 
--- those of a component, row by row
-abbrev pub rows_of : MbSamples → (k : ℕ) → List ℕ
-rows_of s zero = s.luma
-rows_of s (suc zero) = s.cb
-rows_of s (suc (suc k)) = s.cr
-
--- the sample (x, y) of component k
-abbrev pub sample_in : MbSamples → (k x y : ℕ) → ℕ
-sample_in s k x y = slice_index (rows_of s k) (size_of k * y + x)
+-- Planes with the samples f of each component in a rectangle of luma samples of the macroblock in this column and row, and in its half of
+-- chroma: f(k, x, y) is that of component k, x and y counted inside the macroblock (6.2, 6.4.1).
+abbrev pub with_part : (column row left top width height : ℕ) → (ℕ → ℕ → ℕ → ℕ) → Planes → Planes
+with_part column row left top width height f s = record {
+  luma = with_block s.luma (16 * column + left) (16 * row + top) width height (λ x y. f 0 (left + x) (top + y));
+  cb = with_block s.cb (8 * column + left / 2) (8 * row + top / 2) (width / 2) (height / 2) (λ x y. f 1 (left / 2 + x) (top / 2 + y));
+  cr = with_block s.cr (8 * column + left / 2) (8 * row + top / 2) (width / 2) (height / 2) (λ x y. f 2 (left / 2 + x) (top / 2 + y));
+}
 
 -- what the luma block has that covers the sample (x, y) of component k (8.4.2.2)
 abbrev pub motion_at : List Motion → (k x y : ℕ) → Motion
 motion_at motion k x y = slice_index_or motion (block_at (luma_place k x) (luma_place k y)) motions.Absent
 
--- Each sample of the macroblock in this column and row is the inter prediction of its place in the picture.
-pub record AreInterPredicted (c : Coded) (slice column row : ℕ) (motion : List Motion) (s : MbSamples) : Type 0 where
-  pub each : (k x y : ℕ) → k < 3 → x < size_of k → y < size_of k →
-      sample_in s k x y ≡ inter_predicted c slice (motion_at motion k x y) k (size_of k * column + x) (size_of k * row + y)
+-- the inter prediction of the sample (x, y) of component k of the macroblock in this column and row (8.4.2)
+abbrev pub predicted_at : Coded → (slice column row : ℕ) → List Motion → (k x y : ℕ) → ℕ
+predicted_at c slice column row motion k x y =
+    inter_predicted c slice (motion_at motion k x y) k (size_of k * column + x) (size_of k * row + y)
 
--- Each block has a picture, and the samples are predicted from them; or one has none.
-abbrev pub IsInterPredicted : Coded → (slice column row : ℕ) → List Motion → Result (Unit {0}) Fault → MbSamples → Type 0
-IsInterPredicted c slice column row motion (Ok done) s =
-    (list_all (λ m. is_picture (reference_of c slice m)) motion ≡ true) × AreInterPredicted c slice column row motion s
-IsInterPredicted c slice column row motion (Err f) s =
-    (f ≡ RefMissing) × (list_all (λ m. is_picture (reference_of c slice m)) motion ≡ false)
+-- Each block has a picture, and the macroblock's samples are predicted from them; or one has none, and nothing is changed.
+abbrev pub IsInterPredicted : Coded → (slice column row : ℕ) → List Motion → Result (Unit {0}) Fault → (old new : Planes) → Type 0
+IsInterPredicted c slice column row motion (Ok done) old new =
+    (list_all (λ m. is_picture (reference_of c slice m)) motion ≡ true)
+    × (new ≡ with_part column row 0 0 16 16 (predicted_at c slice column row motion) old)
+IsInterPredicted c slice column row motion (Err f) old new =
+    (f ≡ RefMissing) × (list_all (λ m. is_picture (reference_of c slice m)) motion ≡ false) × (new ≡ old)
 
 -- ---- the same by the list of reference pictures alone
 
@@ -100,23 +99,6 @@ pub record IsUsableAt {PAD : ℕ} (column row : ℕ) (p : ReferencePicture PAD) 
 -- and from each of the list
 pub record AreUsableAt {PAD : ℕ} (column row : ℕ) (references : List (Option (ReferencePicture PAD))) : Type 0 where
   pub each : (r : ℕ) → IfSome (slice_index_or references r None) (IsUsableAt column row)
-
--- ---- rectangles
-
--- The rows of a square of this side have the samples f in a rectangle, and else those that they had.
-pub record IsRectangleSet (side left top width height : ℕ) (f : ℕ → ℕ → ℕ) (old new : List ℕ) : Type 0 where
-  pub at : (x y : ℕ) → x < side → y < side →
-      slice_index new (side * y + x) ≡ (if is_inside left top width height x y then f x y else slice_index old (side * y + x))
-
--- All components have the samples f in a rectangle of luma samples, and else those that they had.
-pub record IsPartSet (left top width height : ℕ) (f : (k x y : ℕ) → ℕ) (old new : MbSamples) : Type 0 where
-  pub at : (k x y : ℕ) → k < 3 → x < size_of k → y < size_of k →
-      sample_in new k x y ≡ (if is_inside left top width height (luma_place k x) (luma_place k y) then f k x y else sample_in old k x y)
-
--- Samples that are f in a rectangle of luma samples, and wherever they were before.
-pub record IsPartFilled (left top width height : ℕ) (f : (k x y : ℕ) → ℕ) (old new : MbSamples) : Type 0 where
-  pub at : (k x y : ℕ) → k < 3 → x < size_of k → y < size_of k →
-      (is_inside left top width height (luma_place k x) (luma_place k y) ≡ false → sample_in old k x y ≡ f k x y) → sample_in new k x y ≡ f k x y
 
 -- what the samples of the macroblock in this column and row are to be
 abbrev pub wanted : {PAD : ℕ} → List (Option (ReferencePicture PAD)) → (column row : ℕ) → List Motion → (k x y : ℕ) → ℕ

@@ -3,17 +3,18 @@
 ghost use Rattle.std.specs.Prelude.{◌≡◌, ℕ, ◌+◌, ◌*◌, ◌/◌, ◌%◌, ◌<◌, ◌≤◌, true, is_some};
 ghost use Rattle.avc_types.specs.Pictures.{Coded};
 ghost use Rattle.avc_neigh.specs.Blocks.{block_at};
+ghost use Rattle.avc_picture_core.specs.Places.{AreSameSize};
 ghost use Rattle.avc_picture_core.specs.References.{AreReferences, AreUsable};
-ghost use Rattle.avc_picture_core.specs.Inter.{AreUsableAt, HaveOneMotion, IsInterPredicted};
-ghost use Rattle.avc_picture_core.specs.Inter.{IsMacroblockShape, IsPartFilled, have_pictures, picture_in};
-ghost use Rattle.avc_picture_core.specs.Inter.{wanted};
+ghost use Rattle.avc_plane.specs.Frames.{planes_of};
+ghost use Rattle.avc_picture_core.specs.Inter.{AreUsableAt, CoverMacroblock, HaveOneMotion, IsInterPredicted};
+ghost use Rattle.avc_picture_core.specs.Inter.{IsMacroblockShape, have_pictures, picture_in, wanted, with_part};
 
 use crate::parts::set_part;
 use crate::places::{Corner, MbPlace, PictureSize};
 use crate::references::ReferencePicture;
-use crate::samples::MbSamples;
 use crate::shape::{Shape, macroblock_shape, quarter_shape};
 use avc_neigh::Motion;
+use avc_plane::Planes;
 use avc_types::Fault;
 
 /// The picture that a block is predicted from.
@@ -65,19 +66,20 @@ fn predict_part<const W: usize, const H: usize, const CW: usize, const CH: usize
     place: MbPlace,
     motion: &[Motion; 16],
     corner: Corner,
-    samples: &mut MbSamples,
+    planes: &mut Planes<PAD>,
 )
     requires columns { (1 ≤ CW) × (W ≡ 2 * CW) × (corner.x + W ≤ 16) }
-    requires rows { (1 ≤ CH) × (H ≡ 2 * CH) × (corner.y + H ≤ 16) }
+    requires rows { (1 ≤ CH) × (H ≡ 2 * CH) × (CH % 2 ≡ 0) × (corner.y + H ≤ 16) }
     requires even { (corner.x % 2 ≡ 0) × (corner.y % 2 ≡ 0) }
+    requires macroblock { CoverMacroblock place.column place.row (planes_of planes.old) }
     requires usable { AreUsableAt place.column place.row references.now }
     requires pictures { have_pictures references.now motion.now ≡ true }
     requires one { HaveOneMotion motion.now corner.x corner.y W H }
-    ensures { IsPartFilled corner.x corner.y W H (wanted references.now place.column place.row motion.now) samples.old samples.new }
+    ensures { planes_of planes.new ≡ with_part place.column place.row corner.x corner.y W H (wanted references.now place.column place.row motion.now) (planes_of planes.old) }
 {
     let block = motion[block_at(corner.x, corner.y)];
     if let (Motion::Inter { mv, .. }, Some(picture)) = (block, picture_of(references, block)) {
-        set_part::<W, H, CW, CH, PAD>(picture, mv, place, corner, samples);
+        set_part::<W, H, CW, CH, PAD>(picture, mv, place, corner, planes);
     }
 }
 
@@ -93,23 +95,25 @@ fn predict_wide_halves<
     place: MbPlace,
     motion: &[Motion; 16],
     corner: Corner,
-    samples: &mut MbSamples,
+    planes: &mut Planes<PAD>,
 )
     requires side { (1 ≤ CH) × (CS ≡ 2 * CH) × (H ≡ 2 * CH) × (S ≡ 2 * CS) }
+    requires even_half { CH % 2 ≡ 0 }
     requires room { (corner.x + S ≤ 16) × (corner.y + S ≤ 16) }
     requires even { (corner.x % 2 ≡ 0) × (corner.y % 2 ≡ 0) }
+    requires macroblock { CoverMacroblock place.column place.row (planes_of planes.old) }
     requires usable { AreUsableAt place.column place.row references.now }
     requires pictures { have_pictures references.now motion.now ≡ true }
     requires upper { HaveOneMotion motion.now corner.x corner.y S H }
     requires lower { HaveOneMotion motion.now corner.x (corner.y + H) S H }
-    ensures { IsPartFilled corner.x corner.y S S (wanted references.now place.column place.row motion.now) samples.old samples.new }
+    ensures { planes_of planes.new ≡ with_part place.column place.row corner.x corner.y S S (wanted references.now place.column place.row motion.now) (planes_of planes.old) }
 {
     let lower = Corner {
         x: corner.x,
         y: corner.y + H,
     };
-    predict_part::<S, H, CS, CH, PAD>(references, place, motion, corner, samples);
-    predict_part::<S, H, CS, CH, PAD>(references, place, motion, lower, samples);
+    predict_part::<S, H, CS, CH, PAD>(references, place, motion, corner, planes);
+    predict_part::<S, H, CS, CH, PAD>(references, place, motion, lower, planes);
 }
 
 /// Predicts a square of luma, and half as wide a square of each chroma component, in a left and a right half.
@@ -124,23 +128,24 @@ fn predict_tall_halves<
     place: MbPlace,
     motion: &[Motion; 16],
     corner: Corner,
-    samples: &mut MbSamples,
+    planes: &mut Planes<PAD>,
 )
     requires side { (1 ≤ CW) × (CS ≡ 2 * CW) × (W ≡ 2 * CW) × (S ≡ 2 * CS) }
     requires room { (corner.x + S ≤ 16) × (corner.y + S ≤ 16) }
     requires even { (corner.x % 2 ≡ 0) × (corner.y % 2 ≡ 0) }
+    requires macroblock { CoverMacroblock place.column place.row (planes_of planes.old) }
     requires usable { AreUsableAt place.column place.row references.now }
     requires pictures { have_pictures references.now motion.now ≡ true }
     requires left { HaveOneMotion motion.now corner.x corner.y W S }
     requires right { HaveOneMotion motion.now (corner.x + W) corner.y W S }
-    ensures { IsPartFilled corner.x corner.y S S (wanted references.now place.column place.row motion.now) samples.old samples.new }
+    ensures { planes_of planes.new ≡ with_part place.column place.row corner.x corner.y S S (wanted references.now place.column place.row motion.now) (planes_of planes.old) }
 {
     let right = Corner {
         x: corner.x + W,
         y: corner.y,
     };
-    predict_part::<W, S, CW, CS, PAD>(references, place, motion, corner, samples);
-    predict_part::<W, S, CW, CS, PAD>(references, place, motion, right, samples);
+    predict_part::<W, S, CW, CS, PAD>(references, place, motion, corner, planes);
+    predict_part::<W, S, CW, CS, PAD>(references, place, motion, right, planes);
 }
 
 /// Predicts a quarter of a macroblock, whose upper left sample is this one, block by block.
@@ -149,24 +154,25 @@ fn predict_blocks<const PAD: usize>(
     place: MbPlace,
     motion: &[Motion; 16],
     corner: Corner,
-    samples: &mut MbSamples,
+    planes: &mut Planes<PAD>,
 )
     requires room { (corner.x + 8 ≤ 16) × (corner.y + 8 ≤ 16) }
     requires whole { (corner.x % 8 ≡ 0) × (corner.y % 8 ≡ 0) }
+    requires macroblock { CoverMacroblock place.column place.row (planes_of planes.old) }
     requires usable { AreUsableAt place.column place.row references.now }
     requires pictures { have_pictures references.now motion.now ≡ true }
-    ensures { IsPartFilled corner.x corner.y 8 8 (wanted references.now place.column place.row motion.now) samples.old samples.new }
+    ensures { planes_of planes.new ≡ with_part place.column place.row corner.x corner.y 8 8 (wanted references.now place.column place.row motion.now) (planes_of planes.old) }
 {
     let (x, y) = (corner.x, corner.y);
-    predict_part::<4, 4, 2, 2, PAD>(references, place, motion, corner, samples);
-    predict_part::<4, 4, 2, 2, PAD>(references, place, motion, Corner { x: x + 4, y }, samples);
-    predict_part::<4, 4, 2, 2, PAD>(references, place, motion, Corner { x, y: y + 4 }, samples);
+    predict_part::<4, 4, 2, 2, PAD>(references, place, motion, corner, planes);
+    predict_part::<4, 4, 2, 2, PAD>(references, place, motion, Corner { x: x + 4, y }, planes);
+    predict_part::<4, 4, 2, 2, PAD>(references, place, motion, Corner { x, y: y + 4 }, planes);
     predict_part::<4, 4, 2, 2, PAD>(
         references,
         place,
         motion,
         Corner { x: x + 4, y: y + 4 },
-        samples,
+        planes,
     );
 }
 
@@ -177,12 +183,13 @@ fn predict_quarter<const PAD: usize>(
     place: MbPlace,
     motion: &[Motion; 16],
     quarter: usize,
-    samples: &mut MbSamples,
+    planes: &mut Planes<PAD>,
 )
     requires quarter { quarter < 4 }
+    requires macroblock { CoverMacroblock place.column place.row (planes_of planes.old) }
     requires usable { AreUsableAt place.column place.row references.now }
     requires pictures { have_pictures references.now motion.now ≡ true }
-    ensures { IsPartFilled (8 * (quarter % 2)) (8 * (quarter / 2)) 8 8 (wanted references.now place.column place.row motion.now) samples.old samples.new }
+    ensures { planes_of planes.new ≡ with_part place.column place.row (8 * (quarter % 2)) (8 * (quarter / 2)) 8 8 (wanted references.now place.column place.row motion.now) (planes_of planes.old) }
 {
     let corner = Corner {
         x: 8 * (quarter % 2),
@@ -190,15 +197,15 @@ fn predict_quarter<const PAD: usize>(
     };
     match quarter_shape(motion, quarter) {
         Shape::Whole => {
-            predict_part::<8, 8, 4, 4, PAD>(references, place, motion, corner, samples)
+            predict_part::<8, 8, 4, 4, PAD>(references, place, motion, corner, planes)
         }
         Shape::WideHalves => {
-            predict_wide_halves::<8, 4, 4, 2, PAD>(references, place, motion, corner, samples)
+            predict_wide_halves::<8, 4, 4, 2, PAD>(references, place, motion, corner, planes)
         }
         Shape::TallHalves => {
-            predict_tall_halves::<8, 4, 4, 2, PAD>(references, place, motion, corner, samples)
+            predict_tall_halves::<8, 4, 4, 2, PAD>(references, place, motion, corner, planes)
         }
-        Shape::Quarters => predict_blocks(references, place, motion, corner, samples),
+        Shape::Quarters => predict_blocks(references, place, motion, corner, planes),
     }
 }
 
@@ -207,16 +214,17 @@ fn predict_quarters<const PAD: usize>(
     references: &[Option<ReferencePicture<'_, PAD>>],
     place: MbPlace,
     motion: &[Motion; 16],
-    samples: &mut MbSamples,
+    planes: &mut Planes<PAD>,
 )
+    requires macroblock { CoverMacroblock place.column place.row (planes_of planes.old) }
     requires usable { AreUsableAt place.column place.row references.now }
     requires pictures { have_pictures references.now motion.now ≡ true }
-    ensures { IsPartFilled 0 0 16 16 (wanted references.now place.column place.row motion.now) samples.old samples.new }
+    ensures { planes_of planes.new ≡ with_part place.column place.row 0 0 16 16 (wanted references.now place.column place.row motion.now) (planes_of planes.old) }
 {
-    predict_quarter(references, place, motion, 0, samples);
-    predict_quarter(references, place, motion, 1, samples);
-    predict_quarter(references, place, motion, 2, samples);
-    predict_quarter(references, place, motion, 3, samples);
+    predict_quarter(references, place, motion, 0, planes);
+    predict_quarter(references, place, motion, 1, planes);
+    predict_quarter(references, place, motion, 2, planes);
+    predict_quarter(references, place, motion, 3, planes);
 }
 
 /// Predicts a macroblock of this shape.
@@ -226,47 +234,50 @@ fn predict_macroblock<const PAD: usize>(
     place: MbPlace,
     motion: &[Motion; 16],
     shape: Shape,
-    samples: &mut MbSamples,
+    planes: &mut Planes<PAD>,
 )
+    requires macroblock { CoverMacroblock place.column place.row (planes_of planes.old) }
     requires usable { AreUsableAt place.column place.row references.now }
     requires pictures { have_pictures references.now motion.now ≡ true }
     requires shape { IsMacroblockShape motion.now shape }
-    ensures { IsPartFilled 0 0 16 16 (wanted references.now place.column place.row motion.now) samples.old samples.new }
+    ensures { planes_of planes.new ≡ with_part place.column place.row 0 0 16 16 (wanted references.now place.column place.row motion.now) (planes_of planes.old) }
 {
     let corner = Corner { x: 0, y: 0 };
     match shape {
         Shape::Whole => {
-            predict_part::<16, 16, 8, 8, PAD>(references, place, motion, corner, samples)
+            predict_part::<16, 16, 8, 8, PAD>(references, place, motion, corner, planes)
         }
         Shape::WideHalves => {
-            predict_wide_halves::<16, 8, 8, 4, PAD>(references, place, motion, corner, samples)
+            predict_wide_halves::<16, 8, 8, 4, PAD>(references, place, motion, corner, planes)
         }
         Shape::TallHalves => {
-            predict_tall_halves::<16, 8, 8, 4, PAD>(references, place, motion, corner, samples)
+            predict_tall_halves::<16, 8, 8, 4, PAD>(references, place, motion, corner, planes)
         }
-        Shape::Quarters => predict_quarters(references, place, motion, samples),
+        Shape::Quarters => predict_quarters(references, place, motion, planes),
     }
 }
 
-/// Predicts the samples of an inter macroblock in this column and row of macroblocks (8.4.2). RefMissing where a block has no reference
-/// picture; the samples are then any.
+/// Predicts the samples of an inter macroblock in this column and row of macroblocks into the planes (8.4.2). RefMissing where a block
+/// has no reference picture; nothing is changed then.
 pub(crate) fn predict_inter<const PAD: usize>(
     references: &[Option<ReferencePicture<'_, PAD>>],
     size: PictureSize,
     place: MbPlace,
     motion: &[Motion; 16],
-    samples: &mut MbSamples,
+    planes: &mut Planes<PAD>,
 ) -> Result<(), Fault>
+    requires macroblock { CoverMacroblock place.column place.row (planes_of planes.old) }
     requires usable { AreUsable size.width size.height references.now }
     requires column { place.column < size.width }
     requires row { place.row < size.height }
-    ensures { (c : Coded) (slice : ℕ) → c.width ≡ size.width → c.height ≡ size.height → AreReferences c slice references.now →
-        IsInterPredicted c slice place.column place.row motion.now result samples.new }
+    ensures size { AreSameSize (planes_of planes.old) (planes_of planes.new) }
+    ensures built { (c : Coded) (slice : ℕ) → c.width ≡ size.width → c.height ≡ size.height → AreReferences c slice references.now →
+        IsInterPredicted c slice place.column place.row motion.now result (planes_of planes.old) (planes_of planes.new) }
 {
     let shape = macroblock_shape(motion);
     if !have_pictures(references, motion, shape) {
         return Err(Fault::RefMissing);
     }
-    predict_macroblock(references, place, motion, shape, samples);
+    predict_macroblock(references, place, motion, shape, planes);
     Ok(())
 }

@@ -14,10 +14,8 @@ mod modes;
 mod parts;
 mod places;
 mod quantisers;
-mod rectangles;
 mod references;
 mod residual;
-mod samples;
 mod shape;
 mod sides;
 

@@ -9,11 +9,12 @@ ghost use Rattle.avc_mbsyntax.specs.Ranges.{IsResidual};
 ghost use Rattle.avc_plane.specs.Frames.{planes_of, AreSized};
 ghost use Rattle.avc_plane.specs.Plane.{with_block};
 ghost use Rattle.avc_transform.specs.MacroblockResidual.{luma_residual, chroma_residual};
-ghost use Rattle.avc_picture_core.specs.Built.{Place, sum_of};
+ghost use Rattle.avc_picture_core.specs.Built.{Place};
 ghost use Rattle.avc_picture_core.specs.Canvas.{IsInRange};
 ghost use Rattle.avc_picture_core.specs.Inter.{CoverMacroblock};
 ghost use Rattle.avc_picture_core.specs.Places.{ArePlanesBuilt, AreSameSize, IsAt, IsPlaceIn};
 ghost use Rattle.avc_picture_core.specs.References.{AreReferences, AreUsable};
+ghost use Rattle.avc_picture_core.specs.Residuals.{with_residual};
 
 use crate::corner::{first_column, first_row};
 use crate::inter::predict_inter;
@@ -21,8 +22,7 @@ use crate::intra::{build_i_16x16, build_i_nxn};
 use crate::places::{MbPlace, PictureSize};
 use crate::quantisers::Quantisers;
 use crate::references::ReferencePicture;
-use crate::residual::{add_chroma, add_luma, add_nothing};
-use crate::samples::MbSamples;
+use crate::residual::{add_chroma_residual, add_luma_residual};
 use crate::sides::ReadableNeighbours;
 use avc_neigh::{Motion, NeighbourFacts};
 use avc_plane::{Plane, Planes};
@@ -77,22 +77,35 @@ fn build_i_pcm<const PAD: usize>(
 }
 
 /// Adds the residual of an inter macroblock to its prediction.
-fn add_residual(samples: &mut MbSamples, levels: &BlockLevels<16>, qp: Quantisers)
+fn add_residual<const PAD: usize>(
+    planes: &mut Planes<PAD>,
+    place: MbPlace,
+    levels: &BlockLevels<16>,
+    qp: Quantisers,
+)
+    requires room { CoverMacroblock place.column place.row (planes_of planes.old) }
     requires luma { qp.luma ≤ 51 }
     requires chroma { qp.chroma ≤ 39 }
     requires levels { IsResidual (residual_of [] levels.now) }
-    ensures luma { (x y : ℕ) → x < 16 → y < 16 →
-        slice_index samples.new.luma (16 * y + x) ≡ sum_of (slice_index samples.old.luma (16 * y + x)) (luma_residual qp.luma (residual_of [] levels.now) x y) }
-    ensures cb { (x y : ℕ) → x < 8 → y < 8 →
-        slice_index samples.new.cb (8 * y + x)
-        ≡ sum_of (slice_index samples.old.cb (8 * y + x)) (chroma_residual qp.chroma levels.now.cb_dc levels.now.cb_ac x y) }
-    ensures cr { (x y : ℕ) → x < 8 → y < 8 →
-        slice_index samples.new.cr (8 * y + x)
-        ≡ sum_of (slice_index samples.old.cr (8 * y + x)) (chroma_residual qp.chroma levels.now.cr_dc levels.now.cr_ac x y) }
+    ensures luma { planes.new.luma ≡ with_residual planes.old.luma (16 * place.column) (16 * place.row) 16 16 (luma_residual qp.luma (residual_of [] levels.now)) }
+    ensures cb { planes.new.cb ≡ with_residual planes.old.cb (8 * place.column) (8 * place.row) 8 8 (chroma_residual qp.chroma levels.now.cb_dc levels.now.cb_ac) }
+    ensures cr { planes.new.cr ≡ with_residual planes.old.cr (8 * place.column) (8 * place.row) 8 8 (chroma_residual qp.chroma levels.now.cr_dc levels.now.cr_ac) }
 {
-    add_luma(&mut samples.luma, levels, qp.luma);
-    add_chroma(&mut samples.cb, &levels.cb_dc, &levels.cb_ac, qp.chroma);
-    add_chroma(&mut samples.cr, &levels.cr_dc, &levels.cr_ac, qp.chroma);
+    add_luma_residual(&mut planes.luma, place, levels, qp.luma);
+    add_chroma_residual(
+        &mut planes.cb,
+        place,
+        &levels.cb_dc,
+        &levels.cb_ac,
+        qp.chroma,
+    );
+    add_chroma_residual(
+        &mut planes.cr,
+        place,
+        &levels.cr_dc,
+        &levels.cr_ac,
+        qp.chroma,
+    );
 }
 
 /// Builds an inter macroblock without a residual. RefMissing where a block has no reference picture; nothing is built then.
@@ -112,16 +125,10 @@ fn build_p_skip<const PAD: usize>(
         p.coded.width ≡ size.width → p.coded.height ≡ size.height →
         p.motion ≡ motion.now → AreReferences p.coded p.slice references.now → ArePlanesBuilt p result (planes_of planes.old) (planes_of planes.new) }
 {
-    let mut samples = MbSamples {
-        luma: [0; 256],
-        cb: [0; 64],
-        cr: [0; 64],
-    };
-    predict_inter(references, size, place, motion, &mut samples)?;
-    add_nothing(&samples.luma);
-    add_nothing(&samples.cb);
-    add_nothing(&samples.cr);
-    set_samples(planes, place, &samples.luma, &samples.cb, &samples.cr);
+    predict_inter(references, size, place, motion, planes)?;
+    planes.luma.holds_bytes();
+    planes.cb.holds_bytes();
+    planes.cr.holds_bytes();
     Ok(())
 }
 
@@ -148,14 +155,8 @@ fn build_p_inter<const PAD: usize>(
         p.coded.width ≡ size.width → p.coded.height ≡ size.height →
         p.motion ≡ motion.now → AreReferences p.coded p.slice references.now → ArePlanesBuilt p result (planes_of planes.old) (planes_of planes.new) }
 {
-    let mut samples = MbSamples {
-        luma: [0; 256],
-        cb: [0; 64],
-        cr: [0; 64],
-    };
-    predict_inter(references, size, place, motion, &mut samples)?;
-    add_residual(&mut samples, levels, qp);
-    set_samples(planes, place, &samples.luma, &samples.cb, &samples.cr);
+    predict_inter(references, size, place, motion, planes)?;
+    add_residual(planes, place, levels, qp);
     Ok(())
 }
 

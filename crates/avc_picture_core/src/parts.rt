@@ -1,20 +1,19 @@
 //! The inter prediction of one rectangle of a macroblock (8.4.2).
 
-ghost use Rattle.std.specs.Prelude.{◌≡◌, ◌+◌, ◌-◌, ◌*◌, ◌%◌, ◌<◌, ◌≤◌, Some, IfSome, length, map, slice_index};
+ghost use Rattle.std.specs.Prelude.{◌≡◌, ◌+◌, ◌*◌, ◌/◌, ◌%◌, ◌<◌, ◌≤◌, Some, IfSome, length, map, slice_index};
 ghost use Rattle.std.specs.Option.{option_map};
-ghost use Rattle.avc_plane.specs.Plane.{sample};
+ghost use Rattle.avc_plane.specs.Frames.{planes_of};
+ghost use Rattle.avc_plane.specs.Plane.{sample, with_block};
 ghost use Rattle.avc_inter.specs.Luma.{inter_luma};
 ghost use Rattle.avc_inter.specs.Chroma.{inter_chroma};
 ghost use Rattle.avc_picture_core.specs.Built.{component_weight, size_of, weighted_by};
 ghost use Rattle.avc_picture_core.specs.References.{AreWeights, IsWeight};
-ghost use Rattle.avc_picture_core.specs.Inter.{IsRectangleSet, IsPartSet, IsUsableAt, predicted_from};
+ghost use Rattle.avc_picture_core.specs.Inter.{CoverMacroblock, IsUsableAt, predicted_from, with_part};
 
 use crate::places::{Corner, MbPlace};
-use crate::rectangles::set_rectangle;
 use crate::references::ReferencePicture;
-use crate::samples::MbSamples;
-use avc_inter::{chroma, luma, weight};
-use avc_plane::PaddedPlane;
+use avc_inter::{chroma, luma, predict_chroma, predict_luma, weight};
+use avc_plane::{PaddedPlane, Plane, Planes};
 use avc_types::{Block, Mv, Weight, Weights};
 
 /// By what component 0, 1 or 2 is weighted.
@@ -45,85 +44,96 @@ fn weighted<const W: usize, const H: usize>(block: &Block<W, H>, by: Weight) -> 
     weight(block, by.log2_denom, by.weight, by.offset)
 }
 
-/// Lays a predicted block into a square, weighted where there is a weight.
-#[inline(always)]
-fn set_weighted<const W: usize, const H: usize, const SIDE: usize, const N: usize>(
-    square: &mut [u8; N],
-    corner: Corner,
+/// Lays a weighted prediction into the plane.
+fn set_weighted<const W: usize, const H: usize, const PAD: usize>(
+    plane: &mut Plane<PAD>,
+    x: usize,
+    y: usize,
     block: &Block<W, H>,
-    by: Option<Weight>,
+    by: Weight,
 )
-    requires columns { (1 ≤ W) × (corner.x + W ≤ SIDE) }
-    requires rows { (1 ≤ H) × (corner.y + H ≤ SIDE) }
-    requires side { SIDE ≤ 16 }
-    requires all { SIDE * SIDE ≡ N }
-    requires weight { IfSome by IsWeight }
+    requires columns { (1 ≤ W) × (W ≤ 16) × (x + W ≤ plane.old.width) }
+    requires rows { (1 ≤ H) × (H ≤ 16) × (y + H ≤ plane.old.height) }
+    requires weight { IsWeight by }
     requires long { length block.now ≡ W * H }
-    ensures { IsRectangleSet SIDE corner.x corner.y W H
-        (λ x y. weighted_by by (slice_index block.now ((y - corner.y) * W + (x - corner.x)))) square.old square.new }
+    ensures { plane.new ≡ with_block plane.old x y W H (λ i j. weighted_by (Some by) (slice_index block.now (W * j + i))) }
 {
-    match by {
-        None => set_rectangle::<W, H, SIDE, N>(square, corner, block),
-        Some(by) => set_rectangle::<W, H, SIDE, N>(square, corner, &weighted(block, by)),
-    }
+    let samples = weighted(block, by);
+    plane.set_block(x, y, W, H, samples.as_slice());
 }
 
 /// Predicts a rectangle of luma.
 #[inline(always)]
 fn set_luma<const W: usize, const H: usize, const PAD: usize>(
-    plane: &PaddedPlane<PAD>,
+    reference: &PaddedPlane<PAD>,
     by: Option<Weight>,
     mv: Mv,
     place: MbPlace,
     corner: Corner,
-    samples: &mut [u8; 256],
+    plane: &mut Plane<PAD>,
 )
     requires columns { (1 ≤ W) × (corner.x + W ≤ 16) }
     requires rows { (1 ≤ H) × (corner.y + H ≤ 16) }
-    requires column { 16 * place.column + 16 ≤ plane.now.width }
-    requires row { 16 * place.row + 16 ≤ plane.now.height }
+    requires even { H % 2 ≡ 0 }
+    requires reference_columns { 16 * place.column + 16 ≤ reference.now.width }
+    requires reference_rows { 16 * place.row + 16 ≤ reference.now.height }
+    requires plane_columns { 16 * place.column + 16 ≤ plane.old.width }
+    requires plane_rows { 16 * place.row + 16 ≤ plane.old.height }
     requires weight { IfSome by IsWeight }
-    ensures { IsRectangleSet 16 corner.x corner.y W H (λ x y. weighted_by by
-        (inter_luma plane.now.width plane.now.height (sample plane.now) mv (16 * place.column + x) (16 * place.row + y))) samples.old samples.new }
+    ensures { plane.new ≡ with_block plane.old (16 * place.column + corner.x) (16 * place.row + corner.y) W H (λ x y. weighted_by by
+        (inter_luma reference.now.width reference.now.height (sample reference.now) mv (16 * place.column + (corner.x + x)) (16 * place.row + (corner.y + y)))) }
 {
-    let width = plane.width();
-    let height = plane.height();
+    let width = reference.width();
+    let height = reference.height();
     prove!(16 * place.column + 16 <= width);
     prove!(16 * place.row + 16 <= height);
     let x = 16 * place.column + corner.x;
     let y = 16 * place.row + corner.y;
-    let mut block = Block::<W, H>::new(0);
-    luma(plane, x, y, mv, &mut block);
-    set_weighted::<W, H, 16, 256>(samples, corner, &block, by);
+    match by {
+        None => predict_luma::<W, H, PAD>(reference, x, y, mv, plane),
+        Some(by) => {
+            let mut block = Block::<W, H>::new(0);
+            luma(reference, x, y, mv, &mut block);
+            set_weighted(plane, x, y, &block, by);
+        }
+    }
 }
 
 /// Predicts a rectangle of Cb or Cr.
 #[inline(always)]
 fn set_chroma<const W: usize, const H: usize, const PAD: usize>(
-    plane: &PaddedPlane<PAD>,
+    reference: &PaddedPlane<PAD>,
     by: Option<Weight>,
     mv: Mv,
     place: MbPlace,
     corner: Corner,
-    samples: &mut [u8; 64],
+    plane: &mut Plane<PAD>,
 )
     requires columns { (1 ≤ W) × (corner.x + W ≤ 8) }
     requires rows { (1 ≤ H) × (corner.y + H ≤ 8) }
-    requires column { 8 * place.column + 8 ≤ plane.now.width }
-    requires row { 8 * place.row + 8 ≤ plane.now.height }
+    requires even { H % 2 ≡ 0 }
+    requires reference_columns { 8 * place.column + 8 ≤ reference.now.width }
+    requires reference_rows { 8 * place.row + 8 ≤ reference.now.height }
+    requires plane_columns { 8 * place.column + 8 ≤ plane.old.width }
+    requires plane_rows { 8 * place.row + 8 ≤ plane.old.height }
     requires weight { IfSome by IsWeight }
-    ensures { IsRectangleSet 8 corner.x corner.y W H (λ x y. weighted_by by
-        (inter_chroma plane.now.width plane.now.height (sample plane.now) mv (8 * place.column + x) (8 * place.row + y))) samples.old samples.new }
+    ensures { plane.new ≡ with_block plane.old (8 * place.column + corner.x) (8 * place.row + corner.y) W H (λ x y. weighted_by by
+        (inter_chroma reference.now.width reference.now.height (sample reference.now) mv (8 * place.column + (corner.x + x)) (8 * place.row + (corner.y + y)))) }
 {
-    let width = plane.width();
-    let height = plane.height();
+    let width = reference.width();
+    let height = reference.height();
     prove!(8 * place.column + 8 <= width);
     prove!(8 * place.row + 8 <= height);
     let x = 8 * place.column + corner.x;
     let y = 8 * place.row + corner.y;
-    let mut block = Block::<W, H>::new(0);
-    chroma(plane, x, y, mv, &mut block);
-    set_weighted::<W, H, 8, 64>(samples, corner, &block, by);
+    match by {
+        None => predict_chroma::<W, H, PAD>(reference, x, y, mv, plane),
+        Some(by) => {
+            let mut block = Block::<W, H>::new(0);
+            chroma(reference, x, y, mv, &mut block);
+            set_weighted(plane, x, y, &block, by);
+        }
+    }
 }
 
 /// Predicts a rectangle of W columns and H rows of luma, and of CW and CH of each chroma component, from one picture by one vector.
@@ -138,42 +148,43 @@ pub(crate) fn set_part<
     mv: Mv,
     place: MbPlace,
     corner: Corner,
-    samples: &mut MbSamples,
+    planes: &mut Planes<PAD>,
 )
     requires columns { (1 ≤ CW) × (W ≡ 2 * CW) × (corner.x + W ≤ 16) }
-    requires rows { (1 ≤ CH) × (H ≡ 2 * CH) × (corner.y + H ≤ 16) }
+    requires rows { (1 ≤ CH) × (H ≡ 2 * CH) × (CH % 2 ≡ 0) × (corner.y + H ≤ 16) }
     requires even { (corner.x % 2 ≡ 0) × (corner.y % 2 ≡ 0) }
+    requires macroblock { CoverMacroblock place.column place.row (planes_of planes.old) }
     requires usable { IsUsableAt place.column place.row picture }
-    ensures { IsPartSet corner.x corner.y W H
-        (λ k x y. predicted_from picture.entry mv k (size_of k * place.column + x) (size_of k * place.row + y)) samples.old samples.new }
+    ensures { planes_of planes.new ≡ with_part place.column place.row corner.x corner.y W H
+        (λ k x y. predicted_from picture.entry mv k (size_of k * place.column + x) (size_of k * place.row + y)) (planes_of planes.old) }
 {
-    let planes = picture.planes;
+    let reference = picture.planes;
     let half = Corner {
         x: corner.x / 2,
         y: corner.y / 2,
     };
     set_luma::<W, H, PAD>(
-        &planes.luma,
+        &reference.luma,
         component_weight(picture.weights, 0),
         mv,
         place,
         corner,
-        &mut samples.luma,
+        &mut planes.luma,
     );
     set_chroma::<CW, CH, PAD>(
-        &planes.cb,
+        &reference.cb,
         component_weight(picture.weights, 1),
         mv,
         place,
         half,
-        &mut samples.cb,
+        &mut planes.cb,
     );
     set_chroma::<CW, CH, PAD>(
-        &planes.cr,
+        &reference.cr,
         component_weight(picture.weights, 2),
         mv,
         place,
         half,
-        &mut samples.cr,
+        &mut planes.cr,
     );
 }

@@ -1,5 +1,5 @@
 //! Predicted samples and their residual (8.5.14), 4x4 block by block.
-ghost use Rattle.std.specs.Prelude.{◌≡◌, ℕ, ℤ, ◌+◌, ◌-◌, ◌*◌, ◌^◌, ◌<◌, ◌≤◌, ◌≢◌, false, [], All, if◌then◌else◌, slice_index, slice_index_or};
+ghost use Rattle.std.specs.Prelude.{◌≡◌, ℕ, ◌+◌, ◌*◌, ◌^◌, ◌<◌, ◌≤◌, false, [], All, slice_index_or};
 ghost use Rattle.avc_types.specs.Macroblock.{total_coeff};
 ghost use Rattle.avc_types.specs.MacroblockFields.{residual_of};
 ghost use Rattle.avc_neigh.specs.Blocks.{block_x, block_y};
@@ -7,8 +7,6 @@ ghost use Rattle.avc_mbsyntax.specs.Ranges.{AreSmall, IsResidual};
 ghost use Rattle.avc_transform.specs.Bounds.{IsBelow, AllBelow, matrix};
 ghost use Rattle.avc_transform.specs.Residual.{residual4x4, residual4x4_with_dc};
 ghost use Rattle.avc_transform.specs.MacroblockResidual.{luma_residual, luma_residual_16x16, chroma_residual};
-ghost use Rattle.avc_plane.specs.Plane.{is_inside};
-ghost use Rattle.avc_picture_core.specs.Built.{sum_of};
 ghost use Rattle.avc_picture_core.specs.Residuals.{with_residual};
 
 use crate::corner::{first_column, first_row};
@@ -197,117 +195,6 @@ pub(crate) fn add_chroma_residual<const PAD: usize>(
     }
 }
 
-// ---- the same in samples beside a plane
-
-/// Adds a residual to a 4x4 block of rows of W samples.
-fn add_values<const W: usize, const N: usize>(
-    samples: &mut [u8; N],
-    left: usize,
-    top: usize,
-    values: &[i32; 16],
-)
-    requires columns { left + 4 ≤ W }
-    requires rows { top + 4 ≤ W }
-    requires all { W * W ≡ N }
-    requires small { AllBelow 16 (2 ^ 25) values.now }
-    ensures inside { (x y : ℕ) → x < 4 → y < 4 → slice_index samples.new (W * (top + y) + (left + x))
-        ≡ sum_of (slice_index samples.old (W * (top + y) + (left + x))) (matrix values.now x y) }
-    ensures outside { (q : ℕ) → ((x y : ℕ) → x < 4 → y < 4 → q ≢ W * (top + y) + (left + x)) → slice_index samples.new q ≡ slice_index samples.old q }
-{
-    for i in 0..16 {
-        let place = W * (top + i / 4) + (left + i % 4);
-        samples[place] = clipped_sum(samples[place], values[i]);
-    }
-}
-
-/// Nothing is done to these samples; each is one.
-pub(crate) fn add_nothing<const N: usize>(samples: &[u8; N])
-    ensures { (k : ℕ) → k < N → slice_index samples.now k ≤ 255 }
-{
-    for k in 0..N {
-        let _sample = samples[k];
-    }
-}
-
-/// Adds one value to each sample of a 4x4 block of rows of W samples.
-fn add_value<const W: usize, const N: usize>(
-    samples: &mut [u8; N],
-    left: usize,
-    top: usize,
-    value: i32,
-)
-    requires columns { left + 4 ≤ W }
-    requires rows { top + 4 ≤ W }
-    requires all { W * W ≡ N }
-    requires small { IsBelow (2 ^ 25) value }
-    ensures inside { (x y : ℕ) → x < 4 → y < 4 → slice_index samples.new (W * (top + y) + (left + x))
-        ≡ sum_of (slice_index samples.old (W * (top + y) + (left + x))) value }
-    ensures outside { (q : ℕ) → ((x y : ℕ) → x < 4 → y < 4 → q ≢ W * (top + y) + (left + x)) → slice_index samples.new q ≡ slice_index samples.old q }
-{
-    for i in 0..16 {
-        let place = W * (top + i / 4) + (left + i % 4);
-        samples[place] = clipped_sum(samples[place], value);
-    }
-}
-
-/// Adds to a 4x4 block of rows of W samples the residual of its sixteen levels (8.5.1). Nothing is done where they are all 0.
-pub(crate) fn add_block<const W: usize, const N: usize>(
-    samples: &mut [u8; N],
-    left: usize,
-    top: usize,
-    levels: &Levels<16>,
-    qp: u8,
-)
-    requires columns { left + 4 ≤ W }
-    requires rows { top + 4 ≤ W }
-    requires all { W * W ≡ N }
-    requires quantiser { qp ≤ 51 }
-    requires levels { AreSmall levels.now }
-    ensures { (x y : ℕ) → x < W → y < W →
-        slice_index samples.new (W * y + x)
-        ≡ (if is_inside left top 4 4 x y then sum_of (slice_index samples.old (W * y + x)) (residual4x4 qp levels.now (x - left) (y - top))
-        else slice_index samples.old (W * y + x)) }
-{
-    if levels.total_coeff() == 0 {
-        add_nothing(samples);
-    } else {
-        let values = residual4x4(levels.as_array(), qp);
-        add_values::<W, N>(samples, left, top, &values);
-    }
-}
-
-/// Adds to a 4x4 block of rows of W samples the residual of a DC value and fifteen levels (8.5.2, 8.5.4). It is one value everywhere
-/// where the levels are all 0, and nothing is done where the DC value is 0 too.
-fn add_block_with_dc<const W: usize, const N: usize>(
-    samples: &mut [u8; N],
-    left: usize,
-    top: usize,
-    dc: i32,
-    levels: &Levels<15>,
-    qp: u8,
-)
-    requires columns { left + 4 ≤ W }
-    requires rows { top + 4 ≤ W }
-    requires all { W * W ≡ N }
-    requires quantiser { qp ≤ 51 }
-    requires dc { IsBelow (2 ^ 27) dc }
-    requires levels { AreSmall levels.now }
-    ensures { (x y : ℕ) → x < W → y < W →
-        slice_index samples.new (W * y + x)
-        ≡ (if is_inside left top 4 4 x y
-        then sum_of (slice_index samples.old (W * y + x)) (residual4x4_with_dc qp dc levels.now (x - left) (y - top))
-        else slice_index samples.old (W * y + x)) }
-{
-    if levels.total_coeff() != 0 {
-        let values = residual4x4_with_dc(dc, levels.as_array(), qp);
-        add_values::<W, N>(samples, left, top, &values);
-    } else if dc != 0 {
-        add_value::<W, N>(samples, left, top, residual_of_dc(dc));
-    } else {
-        add_nothing(samples);
-    }
-}
-
 /// The upper left sample of luma block `k` in its macroblock (6.4.3), from the left.
 pub(crate) fn left_of_block(k: usize) -> usize
     requires { k < 16 }
@@ -326,40 +213,6 @@ pub(crate) fn top_of_block(k: usize) -> usize
     8 * (k / 8) + 4 * (k / 2 % 2)
 }
 
-/// Adds the luma residual of a macroblock whose blocks have all their levels (8.5.1).
-pub(crate) fn add_luma(samples: &mut [u8; 256], levels: &BlockLevels<16>, qp: u8)
-    requires quantiser { qp ≤ 51 }
-    requires levels { IsResidual (residual_of [] levels.now) }
-    ensures { (x y : ℕ) → x < 16 → y < 16 →
-        slice_index samples.new (16 * y + x) ≡ sum_of (slice_index samples.old (16 * y + x)) (luma_residual qp (residual_of [] levels.now) x y) }
-{
-    for k in 0..16 {
-        add_block::<16, 256>(
-            samples,
-            left_of_block(k),
-            top_of_block(k),
-            &levels.luma[k],
-            qp,
-        );
-    }
-}
-
-/// Adds the residual of a chroma component block by block.
-fn add_chroma_blocks(samples: &mut [u8; 64], dc: &Levels<4>, ac: &[Levels<15>; 4], qp: u8)
-    requires quantiser { qp ≤ 39 }
-    requires dc { AreSmall dc.now }
-    requires ac { All AreSmall ac.now }
-    ensures { (x y : ℕ) → x < 8 → y < 8 →
-        slice_index samples.new (8 * y + x) ≡ sum_of (slice_index samples.old (8 * y + x)) (chroma_residual qp dc.now ac.now x y) }
-{
-    let values = chroma_dc(dc.as_array(), qp);
-    for k in 0..4 {
-        let left = 4 * (k % 2);
-        let top = 4 * (k / 2);
-        add_block_with_dc::<8, 64>(samples, left, top, values[k], &ac[k], qp);
-    }
-}
-
 /// Whether a chroma component has a level that is not 0.
 fn has_chroma_levels(dc: &Levels<4>, ac: &[Levels<15>; 4]) -> bool
     ensures dc { result ≡ false → total_coeff dc.now ≡ 0 }
@@ -370,19 +223,4 @@ fn has_chroma_levels(dc: &Levels<4>, ac: &[Levels<15>; 4]) -> bool
         || ac[1].total_coeff() != 0
         || ac[2].total_coeff() != 0
         || ac[3].total_coeff() != 0
-}
-
-/// Adds the residual of a chroma component (8.5.4), by the quantiser of chroma. Nothing is done where it has no level but 0.
-pub(crate) fn add_chroma(samples: &mut [u8; 64], dc: &Levels<4>, ac: &[Levels<15>; 4], qp: u8)
-    requires quantiser { qp ≤ 39 }
-    requires dc { AreSmall dc.now }
-    requires ac { All AreSmall ac.now }
-    ensures { (x y : ℕ) → x < 8 → y < 8 →
-        slice_index samples.new (8 * y + x) ≡ sum_of (slice_index samples.old (8 * y + x)) (chroma_residual qp dc.now ac.now x y) }
-{
-    if has_chroma_levels(dc, ac) {
-        add_chroma_blocks(samples, dc, ac, qp);
-    } else {
-        add_nothing(samples);
-    }
 }

@@ -16,6 +16,11 @@ pub record IsStored (pad width height : ℕ) (stored : List ℕ) : Type 0 where
   pub narrow : width + 2 * pad < 2 ^ 31
   pub low : height + 2 * pad < 2 ^ 31
 
+-- padded rows that have the samples of p
+pub record HaveSamples (pad : ℕ) (p : Plane) (rows : List ℕ) : Type 0 where
+  pub long : length rows ≡ (p.height + 2 * pad) * (p.width + 2 * pad)
+  pub at : (x y : ℕ) → x < p.width → y < p.height → slice_index rows (stored_place pad p.width x y) ≡ sample p x y
+
 -- the coordinate inside a size that is nearest to place x of the padded size
 abbrev pub nearest : (pad size x : ℕ) → ℕ
 nearest pad size x = min (x - pad) (size - 1)

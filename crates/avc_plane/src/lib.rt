@@ -10,7 +10,7 @@ mod plane;
 pub use block::BlockMut;
 pub use frame::{Frame, PaddedPlanes, Planes};
 pub use padded::PaddedPlane;
-pub use plane::Plane;
+pub use plane::{Plane, RowsPlace};
 
 /// How many samples a stored frame has on each side of each plane, copies of the nearest ones: a prediction that leads no further is
 /// read without a look at the edges.

@@ -3,12 +3,14 @@ ghost use Rattle.avc_plane.specs.Plane.{sample, HasSamples, with_block, with_sam
 ghost use Rattle.avc_plane.specs.Padded.{inner_plane, IsStored};
 
 mod bytes;
+mod lending;
 mod rectangle;
 
 use crate::block::BlockMut;
 use crate::extension::extend;
 use crate::padded::PaddedPlane;
 use avc_types::{Bytes, OutOfMemory};
+pub use lending::RowsPlace;
 use std::alloc::Global;
 use std::marker::Model;
 

@@ -1,40 +1,67 @@
-use Rattle.std.proofs.Common.{ℕ, List, ◌≡◌, ◌+◌, ◌*◌, ◌/◌, ◌<◌, ◌≤◌, ◌-ℤ◌, pos, to_z, of_z, w64, arith, subst, sym, ◌∙◌}
+use Rattle.std.proofs.Common.{ℕ, [], ◌+◌, ◌*◌, ◌/◌, ◌≤◌, arith, subst, sym, ◌∙◌}
+use Rattle.std.proofs.Math.Nat.{mul-le-mul_right}
+use Rattle.std.proofs.lemmas.List.{length-replicate}
+use Rattle.avc_types.proofs.Blocks.{block_of_same}
 use Rattle.avc_plane.specs.Plane.{sample, clamped}
-use Rattle.avc_plane.specs.Padded.{IsSurrounded}
-use Rattle.avc_inter.specs.Patch.{IsThere}
-use Rattle.avc_inter.proofs.Places.{at_some}
-use Rattle.avc_inter.proofs.Predicted.{back_before, between_is}
-use Rattle.avc_inter.proofs.SixRows.{room_is, rows_suffice}
+use Rattle.avc_inter.specs.Bounds.{IsMoved}
+use Rattle.avc_inter.proofs.Predicted.{back_moved, moved_quarter}
+use Rattle.avc_inter.proofs.SixRows.{rows_cover, rows_room}
 use Rattle.avc_inter.proofs.luma_prediction.set_between.Goals as goal
 
-pub set_quarters-requires : goal.set_quarters-requires
-set_quarters-requires g c =
-    let pad = g.row.PAD in
-    let p = c.args.reference.now in
+pub lay_between-requires : goal.lay_between-requires
+lay_between-requires g c =
     let r = c.requires in
-    let at = c.in-Some.at in
-    let count = (g.row.H * g.row.L + 15) / 16 in
-    let around : c.count_around.result ≡ count + (5 * g.row.L + 15) / 16 = omega (arith, c.count_around.ensures.value, c.count_of.ensures.value) in
-    let there = at_some _ (λ at. (rows : List ℕ) → IsSurrounded pad p rows → IsThere (clamped p.width p.height (sample p))
-    (to_z w64 (of_z w64 (to_z w64 (of_z w64 c.args.left) -ℤ pos 2))) (to_z w64 (of_z w64 (to_z w64 (of_z w64 c.args.top) -ℤ pos 2)))
-    (g.row.L + 5) (16 / g.row.L * c.count_around.result) at.first at.stride rows)
-    at c.in-Some.is c.find_within.ensures c.padded_rows.result.now c.padded_rows.ensures in
-    let room = room_is g.row.L at.stride r.lanes count at.first c.padded_rows.result.now (λ j low. there.row j (subst (λ (n : ℕ). j < 16 / g.row.L * n) (sym around) low)) in
-    (omega arith, (r.columns, (r.rows, (r.lanes, (r.samples, (r.last, (r.small, (at.narrow, (room, (r.fx, r.fy))))))))))
+    let l = g.row.L in
+    let count = c.count_of.ensures.value in
+    let left = subst IsMoved (sym (back_moved c.args.left r.left)) r.left in
+    let top = subst IsMoved (sym (back_moved c.args.top r.top)) r.top in
+    let patch = subst (λ (n : ℕ). 16 / l * (n + (5 * l + 15) / 16) * (l + 5) ≤ g.row.P) (sym count) r.patch.0 in
+    let room = rows_room l l r.lanes c.count_of.result 0 [] g.row.N (omega (arith, count)) in (
+      omega arith,
+      (
+        r.lanes,
+        (
+          omega arith,
+          (
+            c.count_of.ensures.few,
+            (
+              left,
+              (
+                top,
+                (
+                  (patch, r.patch.1),
+                  (
+                    r.fx,
+                    (
+                      r.fy,
+                      (
+                        omega arith,
+                        λ y low. omega (arith, room y low, length-replicate {A = ℕ} g.row.N 0),
+                      ),
+                    ),
+                  ),
+                ),
+              ),
+            ),
+          ),
+        ),
+      ),
+    )
 
-pub returns-in-Some : goal.returns-in-Some
-returns-in-Some g c =
-    let pad = g.row.PAD in
+pub set_rows-requires : goal.set_rows-requires
+set_rows-requires g c = (
+  omega arith,
+  λ y low.
+      let last : (y + 1) * g.row.L ≤ g.row.H * g.row.L = mul-le-mul_right g.row.L (omega arith) in
+      omega (arith, last, c.requires.last),
+)
+
+pub returns : goal.returns
+returns g c =
     let p = c.args.reference.now in
     let r = c.requires in
-    let at = c.in-Some.at in
-    let count = (g.row.H * g.row.L + 15) / 16 in
-    let around : c.count_around.result ≡ count + (5 * g.row.L + 15) / 16 = omega (arith, c.count_around.ensures.value, c.count_of.ensures.value) in
-    let there = at_some _ (λ at. (rows : List ℕ) → IsSurrounded pad p rows → IsThere (clamped p.width p.height (sample p))
-    (to_z w64 (of_z w64 (to_z w64 (of_z w64 c.args.left) -ℤ pos 2))) (to_z w64 (of_z w64 (to_z w64 (of_z w64 c.args.top) -ℤ pos 2)))
-    (g.row.L + 5) (16 / g.row.L * c.count_around.result) at.first at.stride rows)
-    at c.in-Some.is c.find_within.ensures c.padded_rows.result.now c.padded_rows.ensures in
-    c.set_quarters.ensures
-    ∙ between_is (clamped p.width p.height (sample p)) c.args.left _ c.args.top _ (back_before c.args.left r.left) (back_before c.args.top r.top)
-    g.row.W g.row.H (g.row.L + 5) (16 / g.row.L * c.count_around.result) at.first at.stride c.args.fx c.args.fy c.padded_rows.result.now there.at (omega (arith, r.columns.1))
-    (subst (λ (n : ℕ). g.row.H + 5 ≤ 16 / g.row.L * n) (sym around) (rows_suffice g.row.L at.stride r.lanes count at.first c.padded_rows.result.now g.row.H (omega arith)))
+    let l = g.row.L in
+    c.set_rows.ensures
+    ∙ block_of_same g.row.W g.row.H _ _ (λ i j column row.
+    c.lay_between.ensures.inside j (omega (arith, row, rows_cover l l r.lanes c.count_of.result 0 c.lay_between.new.out g.row.H (omega (arith, c.count_of.ensures.value)))) i (omega (arith, column, r.columns.1))
+    ∙ moved_quarter (clamped p.width p.height (sample p)) c.args.left _ c.args.top _ i j c.args.fx c.args.fy (back_moved c.args.left r.left) (back_moved c.args.top r.top))

@@ -1,5 +1,6 @@
-use Rattle.std.proofs.Common.{◌+◌, ◌*◌, arith, ◌∙◌}
-use Rattle.avc_inter.proofs.SixRows.{room_for, middle_is, rounded_is, same_mean, mean_turned}
+use Rattle.std.proofs.Common.{◌+◌, ◌*◌, ◌/◌, arith, ◌∙◌}
+use Rattle.avc_plane.proofs.Strided.{strided_same}
+use Rattle.avc_inter.proofs.SixRows.{room_for, middle_at, rounded_at, same_mean, mean_turned}
 use Rattle.avc_inter.proofs.positions.row_1.Goals as goal
 
 pub quarter_rows-requires-clause-samples : goal.quarter_rows-requires-clause-samples
@@ -27,5 +28,6 @@ diagonal_rows-requires-in_default-clause-down g c =
     room_for g.row.L c.args.stride c.requires.lanes c.args.count c.args.at c.args.p.now c.requires.room (c.args.at + 3 + 5 * c.args.stride) 5 (omega arith) (omega arith)
 
 pub returns-in-2 : goal.returns-in-2
-returns-in-2 g c k low =
-    rw (c.in-2.is) (c.centre_rows_across.ensures k low ∙ mean_turned _ _ ∙ same_mean _ _ _ _ (rounded_is g.row.L c.args.stride c.requires.lanes c.args.p.now c.sums_around.new.sums c.args.at 2 k (16 * c.args.count + 5 * g.row.L) (omega arith) c.sums_around.ensures.value) (middle_is g.row.L c.args.stride c.requires.lanes c.args.p.now c.sums_around.new.sums c.args.at (16 * c.args.count + 5 * g.row.L) k (omega arith) c.sums_around.ensures.value))
+returns-in-2 g c =
+    rw (c.in-2.is) (strided_same g.row.W (16 / g.row.L * c.args.count) c.args.to.first c.args.to.stride _ _ c.args.out.now c.centre_rows_across.new.out c.centre_rows_across.ensures
+    (λ x y column low. mean_turned _ _ ∙ same_mean _ _ _ _ (rounded_at g.row.L c.args.stride c.requires.lanes c.args.p.now c.sums_around.new.sums c.args.at c.args.count c.sums_around.ensures.value 2 x y (omega arith) (omega (arith, column, c.requires.columns)) low) (middle_at g.row.L c.args.stride c.requires.lanes c.args.p.now c.sums_around.new.sums c.args.at c.args.count c.sums_around.ensures.value x y (omega (arith, column, c.requires.columns)) low)))

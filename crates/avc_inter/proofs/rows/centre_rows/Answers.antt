@@ -1,12 +1,27 @@
-use Rattle.std.proofs.Common.{rules, ◌∙◌}
-use Rattle.avc_inter.proofs.SixRows.{by_row}
+use Rattle.std.proofs.Common.{◌+◌, ◌*◌, ◌/◌, length, arith, refl, ap}
+use Rattle.avc_plane.proofs.Strided.{strided_rows}
+use Rattle.avc_inter.specs.Patch.{centre_along}
+use Rattle.avc_inter.proofs.SixRows.{sixteen_more, room_more, begins_more}
 use Rattle.avc_inter.proofs.rows.centre_rows.Goals as goal
+
+pub overflow_add-to : goal.overflow_add-to
+overflow_add-to g c =
+    omega (arith, c.loop-y.invariant.long, begins_more g.row.L c.requires.lanes g.row.W c.args.to.first c.args.to.stride c.loop-y.y c.requires.columns c.requires.apart c.args.count (length c.args.out.now) c.loop-y-test.true c.requires.room)
+
+pub put_rows-requires-clause-room : goal.put_rows-requires-clause-room
+put_rows-requires-clause-room g c r low =
+    omega (arith, c.loop-y.invariant.long, room_more g.row.L c.requires.lanes g.row.W c.args.to.first c.args.to.stride c.loop-y.y c.requires.columns c.requires.apart c.args.count (length c.args.out.now) c.loop-y-test.true c.requires.room r low)
 
 pub loop-y-preserved : goal.loop-y-preserved
 loop-y-preserved g c =
-    record {
-      long = search rules;
-      done = by_row _ c.loop-y.y
-          (λ k low. c.put_row.ensures.before k low ∙ c.loop-y.invariant.done k low)
-          (λ i low. c.put_row.ensures.inside i low ∙ c.centre_row-row.ensures i low);
-    }
+    sixteen_more g.row.L c.requires.lanes g.row.W c.args.to.first c.args.to.stride c.loop-y.y c.requires.columns c.requires.apart
+    (λ k. centre_along c.args.m.now k g.row.L)
+    (λ x y. centre_along c.args.m.now (g.row.L * y + x) g.row.L)
+    c.centre_row-row.result c.args.out.now c.loop-y.out c.put_rows.new.out c.loop-y.invariant c.put_rows.ensures
+    (λ k low. c.centre_row-row.ensures k low)
+    (λ x v column. refl)
+
+pub returns : goal.returns
+returns g c =
+    strided_rows g.row.W (16 / g.row.L * c.loop-y.y) (16 / g.row.L * c.args.count) c.args.to.first c.args.to.stride
+    (λ x y. centre_along c.args.m.now (g.row.L * y + x) g.row.L) c.args.out.now c.loop-y.out (ap (λ n. 16 / g.row.L * n) (omega (arith, c.loop-y-test.false, c.loop-y.auto.y-end))) c.loop-y.invariant

@@ -1,10 +1,10 @@
-use Rattle.std.proofs.Common.{◌≡◌, ◌<◌, ◌+◌, ◌*◌, ℕ, length, slice_index, slice_index_or, pos}
+use Rattle.std.proofs.Common.{◌+◌, ◌*◌, ◌/◌, pos, slice_index_or}
+use Rattle.avc_plane.specs.Strided.{IsStridedSet}
 use Rattle.avc_types.specs.Arithmetic.{mean_of_two}
 use Rattle.avc_inter.specs.Patch.{centre_along, rounded_sum}
 use Rattle.avc_inter.proofs.rows.centre_rows_across.Given as goal
 
 abbrev pub invariant-loop-y : goal.invariant-loop-y
-invariant-loop-y g l = record {
-  long : length l.out ≡ length l.fn.out;
-  done : (k : ℕ) → k < 16 * l.y → slice_index l.out k ≡ mean_of_two (centre_along l.m k g.row.L) (rounded_sum (slice_index_or l.m (l.from + k) (pos 0)));
-}
+invariant-loop-y g l =
+    IsStridedSet g.row.W (16 / g.row.L * l.y) l.to.first l.to.stride
+    (λ x y. mean_of_two (centre_along l.m (g.row.L * y + x) g.row.L) (rounded_sum (slice_index_or l.m (l.from + (g.row.L * y + x)) (pos 0)))) l.fn.out l.out

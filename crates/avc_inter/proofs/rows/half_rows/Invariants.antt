@@ -1,10 +1,9 @@
-use Rattle.std.proofs.Common.{◌≡◌, ◌<◌, ◌+◌, ◌*◌, ℕ, length, slice_index}
+use Rattle.std.proofs.Common.{◌+◌, ◌*◌, ◌/◌}
+use Rattle.avc_plane.specs.Strided.{IsStridedSet}
 use Rattle.avc_inter.specs.Patch.{half_along}
-use Rattle.avc_inter.specs.SixRows.{place_of}
 use Rattle.avc_inter.proofs.rows.half_rows.Given as goal
 
 abbrev pub invariant-loop-y : goal.invariant-loop-y
-invariant-loop-y g l = record {
-  long : length l.out ≡ length l.fn.out;
-  done : (k : ℕ) → k < 16 * l.y → slice_index l.out k ≡ half_along l.p (l.by + (l.at + place_of g.row.L l.stride k)) l.step;
-}
+invariant-loop-y g l =
+    IsStridedSet g.row.W (16 / g.row.L * l.y) l.to.first l.to.stride
+    (λ x y. half_along l.p (l.by + (l.at + (y * l.stride + x))) l.step) l.fn.out l.out

@@ -1,10 +1,10 @@
-use Rattle.std.proofs.Common.{◌≡◌, ◌<◌, ◌+◌, ◌*◌, ℕ, length, slice_index}
+use Rattle.std.proofs.Common.{◌≡◌, ◌<◌, ◌≤◌, ◌+◌, ℕ, length, slice_index}
 use Rattle.avc_inter.proofs.rows.put_row.Given as goal
 
-abbrev pub invariant-loop-k : goal.invariant-loop-k
-invariant-loop-k l = record {
+abbrev pub invariant-loop-x : goal.invariant-loop-x
+invariant-loop-x g l = record {
   long : length l.out ≡ length l.fn.out;
-  place : l.from ≡ 16 * l.row;
-  inside : (k : ℕ) → k < l.k → slice_index l.out (l.from + k) ≡ slice_index l.r k;
-  before : (k : ℕ) → k < l.from → slice_index l.out k ≡ slice_index l.fn.out k;
+  here : (x : ℕ) → x < l.x → slice_index l.out (l.first + x) ≡ slice_index l.r (l.from + x);
+  before : (j : ℕ) → j < l.first → slice_index l.out j ≡ slice_index l.fn.out j;
+  behind : (j : ℕ) → l.first + g.row.W ≤ j → slice_index l.out j ≡ slice_index l.fn.out j;
 }

@@ -1,5 +1,9 @@
-use Rattle.std.proofs.Common.{◌+◌, ◌*◌, arith, rules, ◌∙◌}
-use Rattle.avc_inter.proofs.SixRows.{row_begins, row_there, row_within, by_row, half_in_row, whole_in_row, same_mean}
+use Rattle.std.proofs.Common.{◌+◌, ◌*◌, ◌/◌, length, arith, ap, slice_index, ◌∙◌}
+use Rattle.avc_types.specs.Arithmetic.{mean_of_two}
+use Rattle.avc_plane.proofs.Strided.{strided_rows}
+use Rattle.avc_inter.specs.Patch.{half_along}
+use Rattle.avc_inter.specs.SixRows.{place_of}
+use Rattle.avc_inter.proofs.SixRows.{row_begins, row_there, row_within, half_in_row, whole_in_row, same_mean, place_at, sixteen_more, room_more, begins_more}
 use Rattle.avc_inter.proofs.rows.quarter_rows.Goals as goal
 
 pub overflow_mul-y : goal.overflow_mul-y
@@ -26,11 +30,28 @@ pub sixteen-whole-requires-clause-samples : goal.sixteen-whole-requires-clause-s
 sixteen-whole-requires-clause-samples g c =
     row_there g.row.L c.args.stride c.requires.lanes (16 * c.args.count) (c.args.at + c.args.whole) c.loop-y.y c.args.p.now c.requires.whole (omega (arith, c.loop-y-test.true))
 
+pub overflow_mul-y-in-loop-y-2 : goal.overflow_mul-y-in-loop-y-2
+overflow_mul-y-in-loop-y-2 g c =
+    omega (arith, c.loop-y.invariant.long, begins_more g.row.L c.requires.lanes g.row.W c.args.to.first c.args.to.stride c.loop-y.y c.requires.columns c.requires.apart c.args.count (length c.args.out.now) c.loop-y-test.true c.requires.room)
+
+pub overflow_add-to : goal.overflow_add-to
+overflow_add-to g c =
+    omega (arith, c.loop-y.invariant.long, begins_more g.row.L c.requires.lanes g.row.W c.args.to.first c.args.to.stride c.loop-y.y c.requires.columns c.requires.apart c.args.count (length c.args.out.now) c.loop-y-test.true c.requires.room)
+
+pub put_rows-requires-clause-room : goal.put_rows-requires-clause-room
+put_rows-requires-clause-room g c r low =
+    omega (arith, c.loop-y.invariant.long, room_more g.row.L c.requires.lanes g.row.W c.args.to.first c.args.to.stride c.loop-y.y c.requires.columns c.requires.apart c.args.count (length c.args.out.now) c.loop-y-test.true c.requires.room r low)
+
 pub loop-y-preserved : goal.loop-y-preserved
 loop-y-preserved g c =
-    record {
-      long = search rules;
-      done = by_row _ c.loop-y.y
-          (λ k low. c.put_row.ensures.before k low ∙ c.loop-y.invariant.done k low)
-          (λ i low. c.put_row.ensures.inside i low ∙ c.means_of-row.ensures i low ∙ same_mean _ _ _ _ (c.sixteen-whole.ensures i low ∙ whole_in_row g.row.L c.args.stride c.requires.lanes c.args.p.now c.args.at c.args.whole c.loop-y.y i) (c.half_row-half.ensures i low ∙ half_in_row g.row.L c.args.stride c.requires.lanes c.args.p.now c.args.at c.args.by c.args.step c.loop-y.y i));
-    }
+    sixteen_more g.row.L c.requires.lanes g.row.W c.args.to.first c.args.to.stride c.loop-y.y c.requires.columns c.requires.apart
+    (λ k. mean_of_two (slice_index c.args.p.now (c.args.whole + (c.args.at + place_of g.row.L c.args.stride k))) (half_along c.args.p.now (c.args.by + (c.args.at + place_of g.row.L c.args.stride k)) c.args.step))
+    (λ x y. mean_of_two (slice_index c.args.p.now (c.args.whole + (c.args.at + (y * c.args.stride + x)))) (half_along c.args.p.now (c.args.by + (c.args.at + (y * c.args.stride + x))) c.args.step))
+    c.means_of-row.result c.args.out.now c.loop-y.out c.put_rows.new.out c.loop-y.invariant c.put_rows.ensures
+    (λ k low. c.means_of-row.ensures k low ∙ same_mean _ _ _ _ (c.sixteen-whole.ensures k low ∙ whole_in_row g.row.L c.args.stride c.requires.lanes c.args.p.now c.args.at c.args.whole c.loop-y.y k) (c.half_row-half.ensures k low ∙ half_in_row g.row.L c.args.stride c.requires.lanes c.args.p.now c.args.at c.args.by c.args.step c.loop-y.y k))
+    (λ x v column. ap (λ q. mean_of_two (slice_index c.args.p.now (c.args.whole + (c.args.at + q))) (half_along c.args.p.now (c.args.by + (c.args.at + q)) c.args.step)) (place_at g.row.L c.args.stride c.requires.lanes v x column))
+
+pub returns : goal.returns
+returns g c =
+    strided_rows g.row.W (16 / g.row.L * c.loop-y.y) (16 / g.row.L * c.args.count) c.args.to.first c.args.to.stride
+    (λ x y. mean_of_two (slice_index c.args.p.now (c.args.whole + (c.args.at + (y * c.args.stride + x)))) (half_along c.args.p.now (c.args.by + (c.args.at + (y * c.args.stride + x))) c.args.step)) c.args.out.now c.loop-y.out (ap (λ n. 16 / g.row.L * n) (omega (arith, c.loop-y-test.false, c.loop-y.auto.y-end))) c.loop-y.invariant

@@ -1,11 +1,10 @@
-use Rattle.std.proofs.Common.{◌≡◌, ◌<◌, ◌+◌, ◌*◌, ℕ, length, slice_index}
+use Rattle.std.proofs.Common.{◌+◌, ◌*◌, ◌/◌, slice_index}
+use Rattle.avc_plane.specs.Strided.{IsStridedSet}
 use Rattle.avc_types.specs.Arithmetic.{mean_of_two}
 use Rattle.avc_inter.specs.Patch.{half_along}
-use Rattle.avc_inter.specs.SixRows.{place_of}
 use Rattle.avc_inter.proofs.rows.quarter_rows.Given as goal
 
 abbrev pub invariant-loop-y : goal.invariant-loop-y
-invariant-loop-y g l = record {
-  long : length l.out ≡ length l.fn.out;
-  done : (k : ℕ) → k < 16 * l.y → slice_index l.out k ≡ mean_of_two (slice_index l.p (l.whole + (l.at + place_of g.row.L l.stride k))) (half_along l.p (l.by + (l.at + place_of g.row.L l.stride k)) l.step);
-}
+invariant-loop-y g l =
+    IsStridedSet g.row.W (16 / g.row.L * l.y) l.to.first l.to.stride
+    (λ x y. mean_of_two (slice_index l.p (l.whole + (l.at + (y * l.stride + x)))) (half_along l.p (l.by + (l.at + (y * l.stride + x))) l.step)) l.fn.out l.out

@@ -1,12 +1,13 @@
 use Rattle.std.proofs.Common.{sym, ◌∙◌}
+use Rattle.avc_plane.specs.Frames.{planes_of}
 use Rattle.avc_picture_core.proofs.Predicting.{all_predicted, pictures_shown}
 use Rattle.avc_picture_core.proofs.inter.predict_inter.Goals as goal
 
-pub returns : goal.returns
-returns g c c' slice wide high are =
+pub returns-clause-built : goal.returns-clause-built
+returns-clause-built g c c' slice wide high are =
     let a = c.args in
     let pictures = sym c.have_pictures.ensures ∙ c.if-not-have_pictures.false in (
       pictures_shown c' slice a.references.now a.motion.now are ∙ pictures,
-      all_predicted a.references.now a.size.width a.size.height a.place.column a.place.row a.motion.now a.samples.now c.predict_macroblock.new.samples c' slice
+      all_predicted a.references.now a.size.width a.size.height a.place.column a.place.row a.motion.now (planes_of a.planes.now) (planes_of c.predict_macroblock.new.planes) c' slice
           c.told-motion c.requires.usable pictures c.predict_macroblock.ensures wide high are,
     )

@@ -8,11 +8,10 @@ pub returns-in_err-predict_inter-clause-built : goal.returns-in_err-predict_inte
 returns-in_err-predict_inter-clause-built g c = λ p qp qp_of_chroma at width height motion are.
     let fault = c.in_err-predict_inter.field-0.0 in
     let errs : c.from_residual.result ≡ Err fault = search rules in
-    refused_inter p p_skip c.args.motion.now c.from_residual.result fault (planes_of c.args.planes.now) at.syntax_is refl refl motion errs
-    (c.in_err-predict_inter.ensures p.coded p.slice width height are)
+    refused_inter p p_skip c.args.motion.now c.from_residual.result fault (planes_of c.args.planes.now) (planes_of c.predict_inter.new.planes) at.syntax_is refl refl motion errs
+    (c.in_err-predict_inter.ensures.built p.coded p.slice width height are)
 
 pub returns-clause-built : goal.returns-clause-built
 returns-clause-built g c = λ p qp qp_of_chroma at width height motion are.
-    planes_skip p c.args.place.column c.args.place.row qp qp_of_chroma c.args.motion.now c.predict_inter.new.samples (planes_of c.args.planes.now) (planes_of c.set_samples.new.planes) at motion
-    (c.in_ok-predict_inter.ensures p.coded p.slice width height are) c.add_nothing.ensures c.add_nothing-2.ensures c.add_nothing-3.ensures
-    c.set_samples.ensures.luma c.set_samples.ensures.cb c.set_samples.ensures.cr
+    planes_skip p c.args.place.column c.args.place.row qp qp_of_chroma c.args.motion.now (planes_of c.args.planes.now) (planes_of c.predict_inter.new.planes) at motion c.requires.room
+    (c.in_ok-predict_inter.ensures.built p.coded p.slice width height are) c.holds_bytes.ensures.small c.holds_bytes-2.ensures.small c.holds_bytes-3.ensures.small

@@ -1,21 +1,32 @@
-use Rattle.std.proofs.Common.{◌≡◌, ◌*◌, ◌+◌, ◌∙◌, ap, arith, length, refl}
+use Rattle.std.proofs.Common.{◌*◌, ◌+◌, ◌∙◌, ap, arith, length, subst}
+use Rattle.std.specs.Prelude.{Option, IfSome}
+use Rattle.avc_types.specs.declared.weight.Weight.{Weight}
 use Rattle.avc_plane.specs.Plane.{sample}
 use Rattle.avc_inter.specs.Chroma.{inter_chroma}
-use Rattle.avc_picture_core.specs.Built.{weighted_by}
-use Rattle.avc_picture_core.proofs.SquareRows.{length-block, predicted_laid}
+use Rattle.avc_picture_core.specs.References.{IsWeight}
+use Rattle.avc_picture_core.proofs.Laid.{laid_by, laid_weighted, length-block}
 use Rattle.avc_picture_core.proofs.parts.set_chroma.Goals as goal
-
-pub returns : goal.returns
-returns g c =
-    let p = c.args.plane.now in
-    predicted_laid 8 c.args.corner.x c.args.corner.y g.row.W g.row.H (8 * c.args.place.column) (8 * c.args.place.row) (inter_chroma p.width p.height (sample p) c.args.mv) (weighted_by c.args.by)
-    c.chroma.new.block c.args.samples.now c.set_weighted.new.square c.chroma.ensures c.set_weighted.ensures
 
 pub set_weighted-requires : goal.set_weighted-requires
 set_weighted-requires g c =
-    let p = c.args.plane.now in
+    let p = c.args.reference.now in
     let a = c.args in
-    let long : length c.chroma.new.block ≡ g.row.W * g.row.H =
-    ap length c.chroma.ensures
+    let r = c.requires in
+    let by = subst (λ (o : Option Weight). IfSome o IsWeight) c.in-Some.is r.weight in
+    let long = ap length c.chroma.ensures
     ∙ length-block g.row.W g.row.H (λ i j. inter_chroma p.width p.height (sample p) a.mv (8 * a.place.column + a.corner.x + i) (8 * a.place.row + a.corner.y + j)) in
-    (omega arith, (omega arith, (c.requires.columns, (c.requires.rows, (omega arith, (refl, (c.requires.weight, long)))))))
+    (omega arith, (omega arith, ((r.columns.0, omega (arith, r.columns.1), omega (arith, r.columns.1, r.plane_columns)), ((r.rows.0, omega (arith, r.rows.1), omega (arith, r.rows.1, r.plane_rows)), (by, long)))))
+
+pub returns-in-None : goal.returns-in-None
+returns-in-None g c =
+    let p = c.args.reference.now in
+    let a = c.args in
+    c.predict_chroma.ensures
+    ∙ laid_by a.plane.now (8 * a.place.column) (8 * a.place.row) a.corner.x a.corner.y g.row.W g.row.H (inter_chroma p.width p.height (sample p) a.mv) a.by c.in-None.is
+
+pub returns-in-Some : goal.returns-in-Some
+returns-in-Some g c =
+    let p = c.args.reference.now in
+    let a = c.args in
+    c.set_weighted.ensures
+    ∙ laid_weighted a.plane.now (8 * a.place.column) (8 * a.place.row) a.corner.x a.corner.y g.row.W g.row.H (inter_chroma p.width p.height (sample p) a.mv) a.by c.in-Some.by c.in-Some.is c.chroma.new.block c.chroma.ensures

@@ -1,4 +1,5 @@
-use Rattle.avc_picture_core.proofs.PartSamples.{part_predicted}
+use Rattle.avc_plane.specs.Frames.{planes_of}
+use Rattle.avc_picture_core.proofs.Tiles.{part_predicted}
 use Rattle.avc_picture_core.proofs.parts.set_part.Goals as goal
 
 pub returns : goal.returns
@@ -6,7 +7,7 @@ returns g c =
     let a = c.args in
     part_predicted a.picture a.mv a.place.column a.place.row a.corner.x a.corner.y g.row.W g.row.H g.row.CW g.row.CH
     c.component_weight.result c.component_weight-2.result c.component_weight-3.result
-    a.samples.now (record { luma = c.set_luma.new.samples; cb = c.set_chroma.new.samples; cr = c.set_chroma-2.new.samples })
-    c.requires.columns.1 c.requires.rows.1 c.requires.even.0 c.requires.even.1
+    (planes_of a.planes.now) (record { luma = c.set_luma.new.plane; cb = c.set_chroma.new.plane; cr = c.set_chroma-2.new.plane })
+    c.requires.columns.1 c.requires.rows.1
     c.component_weight.ensures.value c.component_weight-2.ensures.value c.component_weight-3.ensures.value
     c.set_luma.ensures c.set_chroma.ensures c.set_chroma-2.ensures

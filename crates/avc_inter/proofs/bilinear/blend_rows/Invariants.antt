@@ -1,0 +1,8 @@
+use Rattle.std.proofs.Common.{◌+◌, ◌*◌, ◌/◌}
+use Rattle.avc_plane.specs.Strided.{IsStridedSet}
+use Rattle.avc_inter.specs.Patch.{blend_of}
+use Rattle.avc_inter.proofs.bilinear.blend_rows.Given as goal
+
+abbrev pub invariant-loop-y : goal.invariant-loop-y
+invariant-loop-y g l =
+    IsStridedSet g.row.W (16 / g.row.L * l.y) l.to.first l.to.stride (λ x y. blend_of l.w l.p l.stride (l.at + (y * l.stride + x))) l.fn.out l.out

@@ -1,0 +1,50 @@
+//! Lines of samples, copied from rows to rows.
+
+ghost use Rattle.std.specs.Prelude.{◌≡◌, ℕ, ◌+◌, ◌*◌, ◌<◌, ◌≤◌, length, slice_index};
+ghost use Rattle.avc_plane.specs.Strided.{IsRoom, IsStridedSet};
+
+use avc_plane::RowsPlace;
+
+// a line by itself: of it is known that it overlaps neither of the rows, so that it is loaded and stored at once
+#[inline(always)]
+fn line_at<const W: usize>(p: &[u8], first: usize) -> [u8; W]
+    requires { first + W ≤ length p.now }
+    ensures { (x : ℕ) → x < W → slice_index result x ≡ slice_index p.now (first + x) }
+{
+    let mut line = [0; W];
+    for x in 0..W {
+        line[x] = p[first + x];
+    }
+    line
+}
+
+#[inline(always)]
+fn put_line<const W: usize>(out: &mut [u8], first: usize, line: &[u8; W])
+    requires { first + W ≤ length out.old }
+    ensures here { (x : ℕ) → x < W → slice_index out.new (first + x) ≡ slice_index line.now x }
+    ensures before { (j : ℕ) → j < first → slice_index out.new j ≡ slice_index out.old j }
+    ensures behind { (j : ℕ) → first + W ≤ j → slice_index out.new j ≡ slice_index out.old j }
+{
+    for x in 0..W {
+        out[first + x] = line[x];
+    }
+}
+
+/// Copies W columns and H rows.
+#[inline(always)]
+pub fn copy_lines<const W: usize, const H: usize>(
+    p: &[u8],
+    from: RowsPlace,
+    out: &mut [u8],
+    to: RowsPlace,
+)
+    requires source { IsRoom W H from.first from.stride (length p.now) }
+    requires apart { W ≤ to.stride }
+    requires room { IsRoom W H to.first to.stride (length out.old) }
+    ensures { IsStridedSet W H to.first to.stride (λ x y. slice_index p.now (from.first + y * from.stride + x)) out.old out.new }
+{
+    for y in 0..H {
+        let line = line_at::<W>(p, from.first + y * from.stride);
+        put_line::<W>(out, to.first + y * to.stride, &line);
+    }
+}

@@ -1,0 +1,62 @@
+//! Whole samples, laid into rows.
+
+ghost use Rattle.std.specs.Prelude.{◌≡◌, ℕ, ◌+◌, ◌*◌, ◌<◌, ◌≤◌, pos, ◌+ℤ◌, length};
+ghost use Rattle.avc_plane.specs.Plane.{sample, clamped};
+ghost use Rattle.avc_plane.specs.Strided.{IsRoom, IsStridedSet};
+ghost use Rattle.avc_inter.specs.Bounds.{IsMoved};
+
+use crate::lines::copy_lines;
+use crate::patch::{fetch_held, find_within};
+use avc_plane::{PaddedPlane, RowsPlace};
+
+/// Lays whole samples, each coordinate held inside the plane.
+#[cold]
+#[inline(never)]
+fn lay_held<const W: usize, const H: usize, const PAD: usize>(
+    plane: &PaddedPlane<PAD>,
+    left: i64,
+    top: i64,
+    out: &mut [u8],
+    to: RowsPlace,
+)
+    requires columns { W ≤ 16 }
+    requires rows { H ≤ 16 }
+    requires left { IsMoved left }
+    requires top { IsMoved top }
+    requires apart { W ≤ to.stride }
+    requires room { IsRoom W H to.first to.stride (length out.old) }
+    ensures { IsStridedSet W H to.first to.stride
+        (λ i j. clamped plane.now.width plane.now.height (sample plane.now) (left +ℤ pos i) (top +ℤ pos j)) out.old out.new }
+{
+    let mut patch = [0; 256];
+    fetch_held(plane, left, top, W, H, &mut patch);
+    let from = RowsPlace {
+        first: 0,
+        stride: W,
+    };
+    copy_lines::<W, H>(&patch, from, out, to);
+}
+
+/// Lays whole samples from `left` and `top` on.
+#[inline(always)]
+pub fn lay_whole<const W: usize, const H: usize, const PAD: usize>(
+    plane: &PaddedPlane<PAD>,
+    left: i64,
+    top: i64,
+    out: &mut [u8],
+    to: RowsPlace,
+)
+    requires columns { W ≤ 16 }
+    requires rows { H ≤ 16 }
+    requires left { IsMoved left }
+    requires top { IsMoved top }
+    requires apart { W ≤ to.stride }
+    requires room { IsRoom W H to.first to.stride (length out.old) }
+    ensures { IsStridedSet W H to.first to.stride
+        (λ i j. clamped plane.now.width plane.now.height (sample plane.now) (left +ℤ pos i) (top +ℤ pos j)) out.old out.new }
+{
+    match find_within(plane, left, top, W, H) {
+        Some(at) => copy_lines::<W, H>(plane.padded_rows(), at, out, to),
+        None => lay_held::<W, H, PAD>(plane, left, top, out, to),
+    }
+}

@@ -1,0 +1,11 @@
+use Rattle.std.proofs.Common.{refl, arith}
+use Rattle.avc_plane.specs.Frames.{planes_of}
+use Rattle.avc_picture_core.specs.Inter.{wanted}
+use Rattle.avc_picture_core.proofs.Tiles.{four_parts}
+use Rattle.avc_picture_core.proofs.inter.predict_blocks.Goals as goal
+
+pub returns : goal.returns
+returns g c =
+    let a = c.args in
+    four_parts a.place.column a.place.row a.corner.x a.corner.y 4 8 (wanted a.references.now a.place.column a.place.row a.motion.now) (planes_of a.planes.now) (planes_of c.predict_part.new.planes) (planes_of c.predict_part-2.new.planes) (planes_of c.predict_part-3.new.planes) (planes_of c.predict_part-4.new.planes)
+    (omega (arith, c.requires.whole.0)) (omega (arith, c.requires.whole.1)) refl refl c.predict_part.ensures c.predict_part-2.ensures c.predict_part-3.ensures c.predict_part-4.ensures

@@ -1,0 +1,11 @@
+use Rattle.std.proofs.Common.{arith}
+use Rattle.avc_plane.specs.Frames.{planes_of}
+use Rattle.avc_picture_core.specs.Inter.{wanted}
+use Rattle.avc_picture_core.proofs.Tiles.{two_beside}
+use Rattle.avc_picture_core.proofs.inter.predict_tall_halves.Goals as goal
+
+pub returns : goal.returns
+returns g c =
+    let a = c.args in
+    two_beside a.place.column a.place.row a.corner.x a.corner.y g.row.W g.row.S g.row.S (wanted a.references.now a.place.column a.place.row a.motion.now) (planes_of a.planes.now) (planes_of c.predict_part.new.planes) (planes_of c.predict_part-2.new.planes)
+    c.requires.even.0 (omega (arith, c.requires.side)) (omega (arith, c.requires.side)) c.predict_part.ensures c.predict_part-2.ensures

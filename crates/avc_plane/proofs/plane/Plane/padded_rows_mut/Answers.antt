@@ -1,0 +1,20 @@
+use Rattle.std.proofs.Common.{ℕ, List, refl, sym, ap, subst, ◌∙◌}
+use Rattle.avc_plane.specs.Plane.{Plane}
+use Rattle.avc_plane.specs.Padded.{HaveSamples}
+use Rattle.avc_plane.specs.Lending.{with_rows}
+use Rattle.avc_plane.proofs.Lending.{rows_written, have_samples}
+use Rattle.avc_plane.proofs.plane.Plane.padded_rows_mut.Goals as goal
+
+pub returns : goal.returns
+returns g c =
+    let a = c.self.inside in
+    let pad = g.row.PAD in
+    let items = a.stored.items in
+    let long = c.self.invariant.long in (
+      (refl, λ w. rows_written pad a.width a.height a.stored.len items w a.stored.ok.0 long ∙ ap (λ (p : Plane). with_rows pad p w) c.self.view_is),
+      record {
+        writes_back = tt;
+        rows = subst (λ (xs : List ℕ). HaveSamples pad c.args.self.now xs) (sym c.as_mut_slice.ensures.value)
+            (subst (λ (p : Plane). HaveSamples pad p items) c.self.view_is (have_samples pad a.width a.height items long));
+      },
+    )
