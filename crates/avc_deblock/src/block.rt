@@ -1,10 +1,11 @@
-ghost use Rattle.std.specs.Prelude.{◌≡◌, ℕ, ◌+◌, ◌/◌, ◌<◌, ◌≤◌, ◌==◌, if◌then◌else◌, slice_index};
+ghost use Rattle.std.specs.Prelude.{◌≡◌, ℕ, ◌+◌, ◌*◌, ◌/◌, ◌%◌, ◌<◌, ◌≤◌, ◌==◌, if◌then◌else◌, slice_index};
 ghost use Rattle.avc_deblock.specs.Line.{Setting, filtered};
 ghost use Rattle.avc_deblock.specs.Rows.{IsRiffled, IsTransposed, IsRowSet, IsWeak, IsStrong, IsWeakChroma, IsStrongChroma, IsNearSet, line_down, line_near};
 
 use crate::lines::{
     Limits, StrongLimits, strong_chroma_lines, strong_lines, weak_chroma_lines, weak_lines,
 };
+use std::simd::prelude::*;
 
 /// The halves of a table, one sample of each in turn.
 #[inline(always)]
@@ -38,6 +39,59 @@ pub(crate) fn rows_of(t: &[u8; 128]) -> [u8; 128]
     let once = riffled(t);
     let twice = riffled(&once);
     riffled(&twice)
+}
+
+/// The halves of a table of four rows of sixteen samples, one sample of each in turn.
+#[inline(always)]
+fn riffled_four(t: &[u8; 64]) -> [u8; 64]
+    ensures even { (k : ℕ) → k < 32 → slice_index result (2 * k) ≡ slice_index t.now k }
+    ensures odd { (k : ℕ) → k < 32 → slice_index result (2 * k + 1) ≡ slice_index t.now (32 + k) }
+{
+    let mut out = *t;
+    for k in 0..32 {
+        out[2 * k] = t[k];
+        out[2 * k + 1] = t[32 + k];
+    }
+    out
+}
+
+/// Each four samples as one word, the first of them lowest.
+#[inline(always)]
+fn words_of(t: &[u8; 64]) -> [u32; 16]
+    requires { (k : ℕ) → k < 64 → slice_index t.now k < 256 }
+    ensures first { (k : ℕ) → k < 16 → slice_index result k % 256 ≡ slice_index t.now (4 * k) }
+    ensures second { (k : ℕ) → k < 16 → slice_index result k / 256 % 256 ≡ slice_index t.now (4 * k + 1) }
+    ensures third { (k : ℕ) → k < 16 → slice_index result k / 65536 % 256 ≡ slice_index t.now (4 * k + 2) }
+    ensures fourth { (k : ℕ) → k < 16 → slice_index result k / 16777216 % 256 ≡ slice_index t.now (4 * k + 3) }
+{
+    u32x16::from_le_bytes(u8x64::from_array(*t)).to_array()
+}
+
+/// The same samples by way of words, so that each four are stored at once.
+#[inline(always)]
+fn by_words(t: &[u8; 64]) -> [u8; 64]
+    ensures { (k : ℕ) → k < 64 → slice_index result k ≡ slice_index t.now k }
+{
+    let words = words_of(t);
+    let mut out = [0; 64];
+    for k in 0..16 {
+        let word = words[k];
+        out[4 * k] = (word % 256) as u8;
+        out[4 * k + 1] = (word / 256 % 256) as u8;
+        out[4 * k + 2] = (word / 65536 % 256) as u8;
+        out[4 * k + 3] = (word / 16777216 % 256) as u8;
+    }
+    out
+}
+
+/// Four rows of sixteen samples as sixteen rows of four.
+#[inline(always)]
+pub(crate) fn rows_of_four(t: &[u8; 64]) -> [u8; 64]
+    ensures { (r c : ℕ) → r < 16 → c < 4 → slice_index result (4 * r + c) ≡ slice_index t.now (16 * c + r) }
+{
+    let once = riffled_four(t);
+    let twice = riffled_four(&once);
+    by_words(&twice)
 }
 
 /// Sixteen samples of a table.

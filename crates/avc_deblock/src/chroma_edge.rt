@@ -1,7 +1,8 @@
-ghost use Rattle.std.specs.Prelude.{◌≡◌, ℕ, ◌+◌, ◌*◌, ◌<◌, ◌≤◌, true, false};
+ghost use Rattle.std.specs.Prelude.{◌≡◌, ℕ, ◌+◌, ◌*◌, ◌<◌, ◌≤◌, true, false, slice_index};
 ghost use Rattle.avc_deblock.specs.Line.{filtered};
 ghost use Rattle.avc_deblock.specs.Rows.{line_near, IsNearSet};
 ghost use Rattle.avc_deblock.specs.OneEdge.{edge_filtered, chroma_setting, strength_along, AreStrengths, AreLimits};
+ghost use Rattle.avc_deblock.specs.declared.strengths.Strengths.TheVariants.{Four, BelowFour};
 ghost use Rattle.avc_deblock.specs.declared.thresholds.EdgeQp.{EdgeQp as Qps};
 
 use crate::block::{columns, rows_of, strong_chroma, weak_chroma};
@@ -112,7 +113,89 @@ pub(crate) fn two_vertical_chroma<const PAD: usize>(
 
 /// Filters the eight lines of Cb and the eight of Cr across a horizontal edge. The edge has `top + 4` rows above it, and `left`
 /// columns left of its first line.
+#[inline(always)]
+fn horizontal_lines<const PAD: usize>(
+    cb: &mut Plane<PAD>,
+    cr: &mut Plane<PAD>,
+    left: usize,
+    top: usize,
+    strengths: &Strengths,
+    limits: &QpLimits,
+)
+    requires cb_columns { left + 8 ≤ cb.old.width }
+    requires cb_rows { top + 8 ≤ cb.old.height }
+    requires cr_columns { left + 8 ≤ cr.old.width }
+    requires cr_rows { top + 8 ≤ cr.old.height }
+    requires on { limits.now.is_on ≡ true }
+    requires index { limits.now.index_a < 52 }
+    requires strengths { AreStrengths strengths.now }
+    ensures cb { (qp : Qps) → AreLimits limits.now qp →
+        cb.new ≡ edge_filtered (chroma_setting (strength_along strengths.now) qp) false left (top + 4) 8 cb.old }
+    ensures cr { (qp : Qps) → AreLimits limits.now qp →
+        cr.new ≡ edge_filtered (chroma_setting (strength_along strengths.now) qp) false left (top + 4) 8 cr.old }
+{
+    let _rows = cb.height();
+    let of_cb = cb.rectangle::<8, 8, 64>(left, top);
+    let of_cr = cr.rectangle::<8, 8, 64>(left, top);
+    let mut lines = beside(&of_cb, &of_cr);
+    filter_chroma(&mut lines, 32, strengths, limits);
+    let new_cb = nearest(&lines, 0);
+    let new_cr = nearest(&lines, 8);
+    cb.set_rectangle::<8, 2, 16>(left, top + 3, &new_cb);
+    cr.set_rectangle::<8, 2, 16>(left, top + 3, &new_cr);
+}
+
+/// The same at strengths of 0 to 3.
 #[inline(never)]
+fn weak_horizontal<const PAD: usize>(
+    cb: &mut Plane<PAD>,
+    cr: &mut Plane<PAD>,
+    left: usize,
+    top: usize,
+    strengths: &[u8; 4],
+    limits: &QpLimits,
+)
+    requires cb_columns { left + 8 ≤ cb.old.width }
+    requires cb_rows { top + 8 ≤ cb.old.height }
+    requires cr_columns { left + 8 ≤ cr.old.width }
+    requires cr_rows { top + 8 ≤ cr.old.height }
+    requires on { limits.now.is_on ≡ true }
+    requires index { limits.now.index_a < 52 }
+    requires strengths { (k : ℕ) → k < 4 → slice_index strengths.now k < 4 }
+    ensures cb { (qp : Qps) → AreLimits limits.now qp →
+        cb.new ≡ edge_filtered (chroma_setting (strength_along (BelowFour strengths.now)) qp) false left (top + 4) 8 cb.old }
+    ensures cr { (qp : Qps) → AreLimits limits.now qp →
+        cr.new ≡ edge_filtered (chroma_setting (strength_along (BelowFour strengths.now)) qp) false left (top + 4) 8 cr.old }
+{
+    let strengths = Strengths::BelowFour(*strengths);
+    horizontal_lines(cb, cr, left, top, &strengths, limits);
+}
+
+/// The same at strength 4.
+#[inline(never)]
+fn strong_horizontal<const PAD: usize>(
+    cb: &mut Plane<PAD>,
+    cr: &mut Plane<PAD>,
+    left: usize,
+    top: usize,
+    limits: &QpLimits,
+)
+    requires cb_columns { left + 8 ≤ cb.old.width }
+    requires cb_rows { top + 8 ≤ cb.old.height }
+    requires cr_columns { left + 8 ≤ cr.old.width }
+    requires cr_rows { top + 8 ≤ cr.old.height }
+    requires on { limits.now.is_on ≡ true }
+    requires index { limits.now.index_a < 52 }
+    ensures cb { (qp : Qps) → AreLimits limits.now qp →
+        cb.new ≡ edge_filtered (chroma_setting (strength_along Four) qp) false left (top + 4) 8 cb.old }
+    ensures cr { (qp : Qps) → AreLimits limits.now qp →
+        cr.new ≡ edge_filtered (chroma_setting (strength_along Four) qp) false left (top + 4) 8 cr.old }
+{
+    horizontal_lines(cb, cr, left, top, &Strengths::Four, limits);
+}
+
+/// The same at any strengths.
+#[inline(always)]
 pub(crate) fn horizontal_chroma<const PAD: usize>(
     cb: &mut Plane<PAD>,
     cr: &mut Plane<PAD>,
@@ -135,13 +218,8 @@ pub(crate) fn horizontal_chroma<const PAD: usize>(
     if !limits.is_on {
         return;
     }
-    let _rows = cb.height();
-    let of_cb = cb.rectangle::<8, 8, 64>(left, top);
-    let of_cr = cr.rectangle::<8, 8, 64>(left, top);
-    let mut lines = beside(&of_cb, &of_cr);
-    filter_chroma(&mut lines, 32, strengths, limits);
-    let new_cb = nearest(&lines, 0);
-    let new_cr = nearest(&lines, 8);
-    cb.set_rectangle::<8, 2, 16>(left, top + 3, &new_cb);
-    cr.set_rectangle::<8, 2, 16>(left, top + 3, &new_cr);
+    match strengths {
+        Strengths::Four => strong_horizontal(cb, cr, left, top, limits),
+        Strengths::BelowFour(s) => weak_horizontal(cb, cr, left, top, s, limits),
+    }
 }
