@@ -5,6 +5,7 @@ ghost use Rattle.avc_deblock.specs.Rows.{IsRiffled, IsTransposed, IsRowSet, IsWe
 use crate::lines::{
     Limits, StrongLimits, strong_chroma_lines, strong_lines, weak_chroma_lines, weak_lines,
 };
+use crate::pair::half;
 use std::simd::prelude::*;
 
 /// The halves of a table, one sample of each in turn.
@@ -41,20 +42,6 @@ pub(crate) fn rows_of(t: &[u8; 128]) -> [u8; 128]
     riffled(&twice)
 }
 
-/// The halves of a table of four rows of sixteen samples, one sample of each in turn.
-#[inline(always)]
-fn riffled_four(t: &[u8; 64]) -> [u8; 64]
-    ensures even { (k : ℕ) → k < 32 → slice_index result (2 * k) ≡ slice_index t.now k }
-    ensures odd { (k : ℕ) → k < 32 → slice_index result (2 * k + 1) ≡ slice_index t.now (32 + k) }
-{
-    let mut out = *t;
-    for k in 0..32 {
-        out[2 * k] = t[k];
-        out[2 * k + 1] = t[32 + k];
-    }
-    out
-}
-
 /// Each four samples as one word, the first of them lowest.
 #[inline(always)]
 fn words_of(t: &[u8; 64]) -> [u32; 16]
@@ -84,14 +71,33 @@ fn by_words(t: &[u8; 64]) -> [u8; 64]
     out
 }
 
-/// Four rows of sixteen samples as sixteen rows of four.
+/// The four rows in the middle of a block of eight rows of sixteen samples, each with a row of zeros below it.
 #[inline(always)]
-pub(crate) fn rows_of_four(t: &[u8; 64]) -> [u8; 64]
-    ensures { (r c : ℕ) → r < 16 → c < 4 → slice_index result (4 * r + c) ≡ slice_index t.now (16 * c + r) }
+fn middle_apart(t: &[u8; 128]) -> [u8; 128]
+    ensures first { (k : ℕ) → k < 16 → slice_index result k ≡ slice_index t.now (32 + k) }
+    ensures second { (k : ℕ) → k < 16 → slice_index result (32 + k) ≡ slice_index t.now (48 + k) }
+    ensures third { (k : ℕ) → k < 16 → slice_index result (64 + k) ≡ slice_index t.now (64 + k) }
+    ensures fourth { (k : ℕ) → k < 16 → slice_index result (96 + k) ≡ slice_index t.now (80 + k) }
 {
-    let once = riffled_four(t);
-    let twice = riffled_four(&once);
-    by_words(&twice)
+    let mut out = [0; 128];
+    for k in 0..16 {
+        out[k] = t[32 + k];
+        out[32 + k] = t[48 + k];
+        out[64 + k] = t[64 + k];
+        out[96 + k] = t[80 + k];
+    }
+    out
+}
+
+/// Those four rows as sixteen rows of four samples.
+#[inline(always)]
+pub(crate) fn rows_of_middle(t: &[u8; 128]) -> [u8; 64]
+    ensures { (r c : ℕ) → r < 16 → c < 4 → slice_index result (4 * r + c) ≡ slice_index t.now (32 + 16 * c + r) }
+{
+    let apart = middle_apart(t);
+    let once = riffled(&apart);
+    let twice = riffled(&once);
+    by_words(&half(&twice, 0))
 }
 
 /// Sixteen samples of a table.

@@ -3,7 +3,7 @@ ghost use Rattle.avc_deblock.specs.Line.{Setting};
 ghost use Rattle.avc_deblock.specs.Rows.{IsStrong};
 ghost use Rattle.avc_deblock.specs.OneEdge.{edge_filtered, FitsWeak};
 
-use crate::block::{columns, rows_of, rows_of_four, strong_luma, weak_luma};
+use crate::block::{columns, rows_of, rows_of_middle, strong_luma, weak_luma};
 use crate::pair::half;
 use crate::thresholds::{QpLimits, luma_tc1s};
 use avc_plane::Plane;
@@ -54,8 +54,7 @@ pub(crate) fn weak_vertical<const PAD: usize>(
     let mut lines = columns(&block);
     let tc1 = luma_tc1s(strengths, limits.index_a);
     weak_luma(&mut lines, &limits.weak(&tc1));
-    let inner = half(&lines, 32);
-    let after = rows_of_four(&inner);
+    let after = rows_of_middle(&lines);
     plane.set_rectangle::<4, 16, 64>(left + 2, top, &after);
 }
 

@@ -26,8 +26,8 @@ returns g c setting fits =
     weak_row (setting i) _ _ _ _ (slice_index c.luma_tc1s-tc1.result i) c.args.limits.now.alpha1 c.args.limits.now.beta1 (c.weak.ensures.alpha i low) (c.weak.ensures.beta i low) (c.weak.ensures.dead i low) (c.weak.ensures.tc0 i low)
     (weak_by_tc1 c.args.limits.now (setting i) (slice_index c.args.strengths.now (i / 4)) (slice_index c.luma_tc1s-tc1.result i) c.requires.index (c.luma_tc1s-tc1.ensures.value i low) (fits i low))) in
     c.set_rectangle.ensures
-    ∙ within_block s left top 8 16 2 0 4 16 (left + 2) top (λ x y. slice_index after (16 * x + y)) (λ x y. slice_index c.rows_of_four-after.result (4 * y + x)) refl (omega arith) (omega arith) (omega arith)
-    (λ x y x_low y_low. c.rows_of_four-after.ensures y x y_low x_low ∙ c.half-inner.ensures (16 * x + y) (omega arith) ∙ ap (slice_index after) (omega arith))
+    ∙ within_block s left top 8 16 2 0 4 16 (left + 2) top (λ x y. slice_index after (16 * x + y)) (λ x y. slice_index c.rows_of_middle-after.result (4 * y + x)) refl (omega arith) (omega arith) (omega arith)
+    (λ x y x_low y_low. c.rows_of_middle-after.ensures y x y_low x_low ∙ ap (slice_index after) (omega arith))
     (λ x y x_low y_low out.
     weak_keeps (setting y) (λ k. sample s (left + k) (top + y)) (λ k. slice_index after (16 * k + y)) (fits y y_low).weak (lines y y_low) x x_low (λ p q. out p (omega arith) (omega arith) (omega arith)))
     ∙ sym (vertical_block setting left top 16 s c.rectangle-block.ensures.all (λ x y. slice_index after (16 * x + y)) c.requires.columns c.requires.rows lines)
