@@ -1,14 +1,14 @@
 -- The limits of an edge and the settings of its lines.
-use Rattle.std.proofs.Common.{◌≡◌, ℕ, zero, suc, ◌+◌, ◌-◌, ◌/◌, ◌%◌, ◌<◌, Bool, true, false, List, slice_index, arith, refl, sym, ap, subst, ◌∙◌}
+use Rattle.std.proofs.Common.{◌≡◌, ℕ, zero, suc, ◌+◌, ◌-◌, ◌/◌, ◌<◌, Bool, true, false, List, slice_index, arith, refl, sym, ap, subst, ◌∙◌}
 use Rattle.std.specs.Prelude.{if◌then◌else◌, ◌==◌}
 use Rattle.std.proofs.lemmas.Bool.Decides.{nat_tests}
 use Rattle.avc_deblock.specs.declared.thresholds.EdgeQp.{EdgeQp}
 use Rattle.avc_deblock.specs.declared.thresholds.QpLimits.{QpLimits}
 use Rattle.avc_deblock.specs.declared.strengths.Strengths.{Strengths}
 use Rattle.avc_deblock.specs.declared.strengths.Strengths.TheVariants.{Four, BelowFour}
-use Rattle.avc_deblock.specs.Line.{Setting, alpha_of, tc0_of}
+use Rattle.avc_deblock.specs.Line.{Setting, tc0_of}
 use Rattle.avc_deblock.specs.Rows.{IsWeak, IsWeakChroma, IsStrong, IsStrongChroma}
-use Rattle.avc_deblock.specs.OneEdge.{luma_setting, chroma_setting, strength_along, AreLimits, FitsWeak, FitsWeakChroma, tc1_of, index_a_of}
+use Rattle.avc_deblock.specs.OneEdge.{luma_setting, chroma_setting, strength_along, AreLimits, FitsWeak, FitsWeakChroma, tc1_of}
 use Rattle.avc_deblock.proofs.Tables.{no_tc0}
 
 some : (n : ℕ) → (suc n == 0) ≡ false
@@ -71,37 +71,49 @@ tc0_case (suc st) t n low e =
     let more : t ≡ tc0_of (suc st) n + 1 = e ∙ ap (λ (b : Bool). if b then 0 else tc0_of (suc st) n + 1) (some st) in
     omega arith
 
+-- one more than tC0 says both tC0 and that the strength is not 0
+pub weak_by_tc1 : (l : QpLimits) (s : Setting) (strength t : ℕ) → l.index_a < 52 → t ≡ tc1_of strength l.index_a → FitsWeak l strength s →
+    IsWeak s (if t == 0 then 0 else l.alpha1 + 1) (l.beta1 + 1) (t - 1)
+weak_by_tc1 l s strength t low e h = record {
+  luma = h.luma;
+  weak = h.weak;
+  alpha_is = alpha_case strength t l.index_a (l.alpha1 + 1) (l.alpha1 + 1) e refl ∙ h.alpha_is;
+  beta_is = h.beta_is;
+  tc0_is = tc0_case strength t l.index_a low e ∙ h.tc0_is;
+}
+
+pub weak_chroma_by_tc1 : (l : QpLimits) (s : Setting) (strength t : ℕ) → l.index_a < 52 → t ≡ tc1_of strength l.index_a → FitsWeakChroma l strength s →
+    IsWeakChroma s (if t == 0 then 0 else l.alpha1 + 1) (l.beta1 + 1) (t - 1)
+weak_chroma_by_tc1 l s strength t low e h = record {
+  chroma = h.chroma;
+  weak = h.weak;
+  alpha_is = alpha_case strength t l.index_a (l.alpha1 + 1) (l.alpha1 + 1) e refl ∙ h.alpha_is;
+  beta_is = h.beta_is;
+  tc0_is = tc0_case strength t l.index_a low e ∙ h.tc0_is;
+}
+
 module _ (l : QpLimits) (qp : EdgeQp) (are : AreLimits l qp) (on : l.is_on ≡ true) where
-  module _ (st : Strengths) (s tc1 : List ℕ) (below : st ≡ BelowFour s) (low : (k : ℕ) → k < 4 → slice_index s k < 4) where
-    index_low : index_a_of qp < 52
-    index_low = subst (λ (n : ℕ). n < 52) are.index are.low
-
-    tc1_at : (i k : ℕ) → slice_index tc1 i ≡ tc1_of (slice_index s k) l.index_a → slice_index tc1 i ≡ tc1_of (slice_index s k) (index_a_of qp)
-    tc1_at i k e = e ∙ ap (tc1_of (slice_index s k)) are.index
-
-    pub fits_weak : ((k : ℕ) → k < 16 → slice_index tc1 k ≡ tc1_of (slice_index s (k / 4)) l.index_a) → (i : ℕ) → i < 16 → FitsWeak l tc1 (luma_setting (strength_along st) qp i) i
-    fits_weak tc1_is i less =
-        subst (λ (t : Strengths). FitsWeak l tc1 (luma_setting (strength_along t) qp i) i) (sym below)
+  module _ (st : Strengths) (s : List ℕ) (below : st ≡ BelowFour s) (low : (k : ℕ) → k < 4 → slice_index s k < 4) where
+    pub fits_weak : (i : ℕ) → i < 16 → FitsWeak l (slice_index s (i / 4)) (luma_setting (strength_along st) qp i)
+    fits_weak i less =
+        subst (λ (t : Strengths). FitsWeak l (slice_index s (i / 4)) (luma_setting (strength_along t) qp i)) (sym below)
         (record {
           luma = refl;
           weak = low (i / 4) (omega arith);
-          alpha_is = alpha_case (slice_index s (i / 4)) (slice_index tc1 i) (index_a_of qp) (l.alpha1 + 1) (alpha_of (index_a_of qp)) (tc1_at i (i / 4) (tc1_is i less)) (are.alpha on);
+          alpha_is = ap (λ (a : ℕ). if slice_index s (i / 4) == 0 then 0 else a) (are.alpha on);
           beta_is = are.beta on;
-          tc0_is = tc0_case (slice_index s (i / 4)) (slice_index tc1 i) (index_a_of qp) index_low (tc1_at i (i / 4) (tc1_is i less));
+          tc0_is = ap (tc0_of (slice_index s (i / 4))) are.index;
         })
 
-    -- line i of eight, which is line n of sixteen
-    pub fits_weak_chroma : ((k : ℕ) → k < 16 → slice_index tc1 k ≡ tc1_of (slice_index s (k % 8 / 2)) l.index_a) → (i n : ℕ) → n < 16 → n % 8 ≡ i →
-        FitsWeakChroma l tc1 (chroma_setting (strength_along st) qp i) n
-    fits_weak_chroma tc1_is i n less same =
-        let e : slice_index tc1 n ≡ tc1_of (slice_index s (i / 2)) l.index_a = tc1_is n less ∙ ap (λ (m : ℕ). tc1_of (slice_index s (m / 2)) l.index_a) same in
-        subst (λ (t : Strengths). FitsWeakChroma l tc1 (chroma_setting (strength_along t) qp i) n) (sym below)
+    pub fits_weak_chroma : (i : ℕ) → i < 8 → FitsWeakChroma l (slice_index s (i / 2)) (chroma_setting (strength_along st) qp i)
+    fits_weak_chroma i less =
+        subst (λ (t : Strengths). FitsWeakChroma l (slice_index s (i / 2)) (chroma_setting (strength_along t) qp i)) (sym below)
         (record {
           chroma = refl;
           weak = low (i / 2) (omega arith);
-          alpha_is = alpha_case (slice_index s (i / 2)) (slice_index tc1 n) (index_a_of qp) (l.alpha1 + 1) (alpha_of (index_a_of qp)) (tc1_at n (i / 2) e) (are.alpha on);
+          alpha_is = ap (λ (a : ℕ). if slice_index s (i / 2) == 0 then 0 else a) (are.alpha on);
           beta_is = are.beta on;
-          tc0_is = tc0_case (slice_index s (i / 2)) (slice_index tc1 n) (index_a_of qp) index_low (tc1_at n (i / 2) e);
+          tc0_is = ap (tc0_of (slice_index s (i / 2))) are.index;
         })
 
   pub fits_strong : (st : Strengths) → st ≡ Four → (i : ℕ) → IsStrong (luma_setting (strength_along st) qp i) (l.alpha1 + 1) (l.beta1 + 1)

@@ -23,3 +23,19 @@ three_riffles t a b u h1 h2 h3 row column r_low c_low = sym
     (back b u (8 * row + column) (4 * row + column / 2) (column % 2) (64 * (column % 2) + (4 * row + column / 2)) h3 (omega arith) (omega arith) (omega arith) (omega arith)
     ∙ back a b (64 * (column % 2) + (4 * row + column / 2)) (32 * (column % 2) + 2 * row + column / 4) (column / 2 % 2) (64 * (column / 2 % 2) + (32 * (column % 2) + 2 * row + column / 4)) h2 (omega arith) (omega arith) (omega arith) (omega arith)
     ∙ back t a (64 * (column / 2 % 2) + (32 * (column % 2) + 2 * row + column / 4)) (32 * (column / 2 % 2) + 16 * (column % 2) + row) (column / 4) (16 * column + row) h1 (omega arith) (omega arith) (omega arith) (omega arith))
+
+-- two riffles of rows that stand two apart make sixteen rows of four
+pub two_riffles : (t a u : List ℕ) → IsRiffled t a → IsRiffled a u → (row column : ℕ) → row < 16 → column < 4 → slice_index u (4 * row + column) ≡ slice_index t (32 * column + row)
+two_riffles t a u h1 h2 row column r_low c_low =
+    back a u (4 * row + column) (2 * row + column / 2) (column % 2) (64 * (column % 2) + (2 * row + column / 2)) h2 (omega arith) (omega arith) (omega arith) (omega arith)
+    ∙ back t a (64 * (column % 2) + (2 * row + column / 2)) (32 * (column % 2) + row) (column / 2) (32 * column + row) h1 (omega arith) (omega arith) (omega arith) (omega arith)
+
+-- rows two apart, from the four in the middle of eight
+pub middle_row : (t a : List ℕ) (k column : ℕ) → k < 16 → column < 4 → ((k : ℕ) → k < 16 → slice_index a k ≡ slice_index t (32 + k)) → ((k : ℕ) → k < 16 → slice_index a (32 + k) ≡ slice_index t (48 + k)) →
+    ((k : ℕ) → k < 16 → slice_index a (64 + k) ≡ slice_index t (64 + k)) → ((k : ℕ) → k < 16 → slice_index a (96 + k) ≡ slice_index t (80 + k)) →
+    slice_index a (32 * column + k) ≡ slice_index t (32 + 16 * column + k)
+middle_row t a k zero low less first second third fourth = ap (slice_index a) (omega arith) ∙ first k low ∙ ap (slice_index t) (omega arith)
+middle_row t a k (suc zero) low less first second third fourth = ap (slice_index a) (omega arith) ∙ second k low ∙ ap (slice_index t) (omega arith)
+middle_row t a k (suc (suc zero)) low less first second third fourth = ap (slice_index a) (omega arith) ∙ third k low ∙ ap (slice_index t) (omega arith)
+middle_row t a k (suc (suc (suc zero))) low less first second third fourth = ap (slice_index a) (omega arith) ∙ fourth k low ∙ ap (slice_index t) (omega arith)
+middle_row t a k (suc (suc (suc (suc column)))) low less first second third fourth = absurd (omega arith)

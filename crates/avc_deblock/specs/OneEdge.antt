@@ -1,5 +1,5 @@
 -- The samples of one component after the lines of one edge, ITU-T H.264 clause 8.7.1.
-use Rattle.std.specs.Prelude.{◌≡◌, ℕ, ◌+◌, ◌-◌, ◌*◌, ◌/◌, ◌%◌, ◌==◌, ◌<◌, ◌≤◌, Bool, ◌||◌, true, false, if◌then◌else◌, List, [], ◌∷◌, slice_index}
+use Rattle.std.specs.Prelude.{◌≡◌, ℕ, ◌+◌, ◌*◌, ◌/◌, ◌%◌, ◌==◌, ◌<◌, ◌≤◌, Bool, ◌||◌, true, false, if◌then◌else◌, List, [], ◌∷◌, slice_index}
 use Rattle.std.specs.List.{range_with_len}
 use Rattle.avc_plane.specs.Plane.{Plane}
 use Rattle.avc_deblock.specs.Line.{Setting, setting_of, threshold_index, alpha_of, beta_of, tc0_of}
@@ -66,12 +66,12 @@ pub record AreLimits (l : QpLimits) (qp : EdgeQp) : Type 0 where
   pub beta : l.is_on ≡ true → l.beta1 + 1 ≡ beta_of (index_b_of qp)
   pub off : l.is_on ≡ false → (alpha_of (index_a_of qp) == 0 || beta_of (index_b_of qp) == 0) ≡ true
 
--- Line i of sixteen is one of luma, or of chroma, below strength 4 with these limits; tc1 is that of each line.
-abbrev pub FitsWeak : QpLimits → (tc1 : List ℕ) → Setting → (i : ℕ) → Type 0
-FitsWeak l tc1 s i = IsWeak s (if slice_index tc1 i == 0 then 0 else l.alpha1 + 1) (l.beta1 + 1) (slice_index tc1 i - 1)
+-- a line of luma, or of chroma, at this strength below 4 with these limits
+abbrev pub FitsWeak : QpLimits → (strength : ℕ) → Setting → Type 0
+FitsWeak l strength s = IsWeak s (if strength == 0 then 0 else l.alpha1 + 1) (l.beta1 + 1) (tc0_of strength l.index_a)
 
-abbrev pub FitsWeakChroma : QpLimits → (tc1 : List ℕ) → Setting → (i : ℕ) → Type 0
-FitsWeakChroma l tc1 s i = IsWeakChroma s (if slice_index tc1 i == 0 then 0 else l.alpha1 + 1) (l.beta1 + 1) (slice_index tc1 i - 1)
+abbrev pub FitsWeakChroma : QpLimits → (strength : ℕ) → Setting → Type 0
+FitsWeakChroma l strength s = IsWeakChroma s (if strength == 0 then 0 else l.alpha1 + 1) (l.beta1 + 1) (tc0_of strength l.index_a)
 
 -- ---- the edges of a macroblock
 

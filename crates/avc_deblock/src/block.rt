@@ -1,10 +1,12 @@
-ghost use Rattle.std.specs.Prelude.{◌≡◌, ℕ, ◌+◌, ◌/◌, ◌<◌, ◌≤◌, ◌==◌, if◌then◌else◌, slice_index};
+ghost use Rattle.std.specs.Prelude.{◌≡◌, ℕ, ◌+◌, ◌*◌, ◌/◌, ◌%◌, ◌<◌, ◌≤◌, ◌==◌, if◌then◌else◌, slice_index};
 ghost use Rattle.avc_deblock.specs.Line.{Setting, filtered};
 ghost use Rattle.avc_deblock.specs.Rows.{IsRiffled, IsTransposed, IsRowSet, IsWeak, IsStrong, IsWeakChroma, IsStrongChroma, IsNearSet, line_down, line_near};
 
 use crate::lines::{
     Limits, StrongLimits, strong_chroma_lines, strong_lines, weak_chroma_lines, weak_lines,
 };
+use crate::pair::half;
+use std::simd::prelude::*;
 
 /// The halves of a table, one sample of each in turn.
 #[inline(always)]
@@ -38,6 +40,64 @@ pub(crate) fn rows_of(t: &[u8; 128]) -> [u8; 128]
     let once = riffled(t);
     let twice = riffled(&once);
     riffled(&twice)
+}
+
+/// Each four samples as one word, the first of them lowest.
+#[inline(always)]
+fn words_of(t: &[u8; 64]) -> [u32; 16]
+    requires { (k : ℕ) → k < 64 → slice_index t.now k < 256 }
+    ensures first { (k : ℕ) → k < 16 → slice_index result k % 256 ≡ slice_index t.now (4 * k) }
+    ensures second { (k : ℕ) → k < 16 → slice_index result k / 256 % 256 ≡ slice_index t.now (4 * k + 1) }
+    ensures third { (k : ℕ) → k < 16 → slice_index result k / 65536 % 256 ≡ slice_index t.now (4 * k + 2) }
+    ensures fourth { (k : ℕ) → k < 16 → slice_index result k / 16777216 % 256 ≡ slice_index t.now (4 * k + 3) }
+{
+    u32x16::from_le_bytes(u8x64::from_array(*t)).to_array()
+}
+
+/// The same samples by way of words, so that each four are stored at once.
+#[inline(always)]
+fn by_words(t: &[u8; 64]) -> [u8; 64]
+    ensures { (k : ℕ) → k < 64 → slice_index result k ≡ slice_index t.now k }
+{
+    let words = words_of(t);
+    let mut out = [0; 64];
+    for k in 0..16 {
+        let word = words[k];
+        out[4 * k] = (word % 256) as u8;
+        out[4 * k + 1] = (word / 256 % 256) as u8;
+        out[4 * k + 2] = (word / 65536 % 256) as u8;
+        out[4 * k + 3] = (word / 16777216 % 256) as u8;
+    }
+    out
+}
+
+/// The four rows in the middle of a block of eight rows of sixteen samples, each with a row of zeros below it.
+#[inline(always)]
+fn middle_apart(t: &[u8; 128]) -> [u8; 128]
+    ensures first { (k : ℕ) → k < 16 → slice_index result k ≡ slice_index t.now (32 + k) }
+    ensures second { (k : ℕ) → k < 16 → slice_index result (32 + k) ≡ slice_index t.now (48 + k) }
+    ensures third { (k : ℕ) → k < 16 → slice_index result (64 + k) ≡ slice_index t.now (64 + k) }
+    ensures fourth { (k : ℕ) → k < 16 → slice_index result (96 + k) ≡ slice_index t.now (80 + k) }
+{
+    let mut out = [0; 128];
+    for k in 0..16 {
+        out[k] = t[32 + k];
+        out[32 + k] = t[48 + k];
+        out[64 + k] = t[64 + k];
+        out[96 + k] = t[80 + k];
+    }
+    out
+}
+
+/// Those four rows as sixteen rows of four samples.
+#[inline(always)]
+pub(crate) fn rows_of_middle(t: &[u8; 128]) -> [u8; 64]
+    ensures { (r c : ℕ) → r < 16 → c < 4 → slice_index result (4 * r + c) ≡ slice_index t.now (32 + 16 * c + r) }
+{
+    let apart = middle_apart(t);
+    let once = riffled(&apart);
+    let twice = riffled(&once);
+    by_words(&half(&twice, 0))
 }
 
 /// Sixteen samples of a table.

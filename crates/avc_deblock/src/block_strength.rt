@@ -8,11 +8,20 @@ ghost use Rattle.avc_deblock.specs.Facts.{Names, HasFacts, has_bit, are_far, int
 use crate::facts::MbFacts;
 use avc_types::Mv;
 
+/// The two differ by a whole sample or more.
+#[inline(always)]
+fn is_far(a: i16, b: i16) -> bool
+    ensures { result ≡ nat_le 4 (nat_abs (a -ℤ b)) }
+{
+    let more = i32::from(a) - i32::from(b);
+    more < -3 || more > 3
+}
+
 #[inline(always)]
 fn are_far(u: Mv, v: Mv) -> bool
     ensures { result ≡ are_far u v }
 {
-    u.x.abs_diff(v.x) >= 4 || u.y.abs_diff(v.y) >= 4
+    is_far(u.x, v.x) || is_far(u.y, v.y)
 }
 
 impl MbFacts {

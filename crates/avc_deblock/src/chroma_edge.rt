@@ -1,7 +1,8 @@
-ghost use Rattle.std.specs.Prelude.{◌≡◌, ℕ, ◌+◌, ◌*◌, ◌<◌, ◌≤◌, true, false};
+ghost use Rattle.std.specs.Prelude.{◌≡◌, ℕ, ◌+◌, ◌*◌, ◌<◌, ◌≤◌, true, false, slice_index};
 ghost use Rattle.avc_deblock.specs.Line.{filtered};
 ghost use Rattle.avc_deblock.specs.Rows.{line_near, IsNearSet};
 ghost use Rattle.avc_deblock.specs.OneEdge.{edge_filtered, chroma_setting, strength_along, AreStrengths, AreLimits};
+ghost use Rattle.avc_deblock.specs.declared.strengths.Strengths.TheVariants.{Four, BelowFour};
 ghost use Rattle.avc_deblock.specs.declared.thresholds.EdgeQp.{EdgeQp as Qps};
 
 use crate::block::{columns, rows_of, strong_chroma, weak_chroma};
@@ -10,8 +11,37 @@ use crate::strengths::Strengths;
 use crate::thresholds::{QpLimits, chroma_tc1s};
 use avc_plane::Plane;
 
-/// Filters the lines of chroma down four rows of sixteen samples, which stand from a place of a table on: eight lines of Cb, and then
-/// eight of Cr.
+/// Filters the lines of chroma down four rows of sixteen samples, which stand from a place of a table on, at strengths of 0 to 3: eight
+/// lines of Cb, and then eight of Cr.
+#[inline(always)]
+fn filter_below_four(t: &mut [u8; 128], from: usize, strengths: &[u8; 4], limits: &QpLimits)
+    requires room { from + 64 ≤ 128 }
+    requires on { limits.now.is_on ≡ true }
+    requires index { limits.now.index_a < 52 }
+    requires strengths { (k : ℕ) → k < 4 → slice_index strengths.now k < 4 }
+    ensures lines { (qp : Qps) → AreLimits limits.now qp → (p3 p2 q2 q3 b i : ℕ) → b < 2 → i < 8 →
+        filtered (chroma_setting (strength_along (BelowFour strengths.now)) qp i) (line_near p3 p2 q2 q3 t.old from (8 * b + i))
+        ≡ line_near p3 p2 q2 q3 t.new from (8 * b + i) }
+    ensures others { IsNearSet from t.old t.new }
+{
+    let tc1 = chroma_tc1s(strengths, limits.index_a);
+    weak_chroma(t, from, &limits.weak(&tc1));
+}
+
+/// The same at strength 4.
+#[inline(always)]
+fn filter_at_four(t: &mut [u8; 128], from: usize, limits: &QpLimits)
+    requires room { from + 64 ≤ 128 }
+    requires on { limits.now.is_on ≡ true }
+    ensures lines { (qp : Qps) → AreLimits limits.now qp → (p3 p2 q2 q3 b i : ℕ) → b < 2 → i < 8 →
+        filtered (chroma_setting (strength_along Four) qp i) (line_near p3 p2 q2 q3 t.old from (8 * b + i))
+        ≡ line_near p3 p2 q2 q3 t.new from (8 * b + i) }
+    ensures others { IsNearSet from t.old t.new }
+{
+    strong_chroma(t, from, &limits.strong());
+}
+
+/// The same at any strengths.
 #[inline(always)]
 fn filter_chroma(t: &mut [u8; 128], from: usize, strengths: &Strengths, limits: &QpLimits)
     requires room { from + 64 ≤ 128 }
@@ -24,11 +54,8 @@ fn filter_chroma(t: &mut [u8; 128], from: usize, strengths: &Strengths, limits: 
     ensures others { IsNearSet from t.old t.new }
 {
     match strengths {
-        Strengths::Four => strong_chroma(t, from, &limits.strong()),
-        Strengths::BelowFour(s) => {
-            let tc1 = chroma_tc1s(s, limits.index_a);
-            weak_chroma(t, from, &limits.weak(&tc1))
-        }
+        Strengths::Four => filter_at_four(t, from, limits),
+        Strengths::BelowFour(s) => filter_below_four(t, from, s, limits),
     }
 }
 
@@ -110,9 +137,73 @@ pub(crate) fn two_vertical_chroma<const PAD: usize>(
     cr.set_rectangle::<8, 8, 64>(left + 2, top, &new_cr);
 }
 
-/// Filters the eight lines of Cb and the eight of Cr across a horizontal edge. The edge has `top + 4` rows above it, and `left`
-/// columns left of its first line.
+/// Filters the eight lines of Cb and the eight of Cr across a horizontal edge at strengths of 0 to 3. The edge has `top + 4` rows above
+/// it, and `left` columns left of its first line.
 #[inline(never)]
+fn weak_horizontal<const PAD: usize>(
+    cb: &mut Plane<PAD>,
+    cr: &mut Plane<PAD>,
+    left: usize,
+    top: usize,
+    strengths: &[u8; 4],
+    limits: &QpLimits,
+)
+    requires cb_columns { left + 8 ≤ cb.old.width }
+    requires cb_rows { top + 8 ≤ cb.old.height }
+    requires cr_columns { left + 8 ≤ cr.old.width }
+    requires cr_rows { top + 8 ≤ cr.old.height }
+    requires on { limits.now.is_on ≡ true }
+    requires index { limits.now.index_a < 52 }
+    requires strengths { (k : ℕ) → k < 4 → slice_index strengths.now k < 4 }
+    ensures cb { (qp : Qps) → AreLimits limits.now qp →
+        cb.new ≡ edge_filtered (chroma_setting (strength_along (BelowFour strengths.now)) qp) false left (top + 4) 8 cb.old }
+    ensures cr { (qp : Qps) → AreLimits limits.now qp →
+        cr.new ≡ edge_filtered (chroma_setting (strength_along (BelowFour strengths.now)) qp) false left (top + 4) 8 cr.old }
+{
+    let _rows = cb.height();
+    let of_cb = cb.rectangle::<8, 8, 64>(left, top);
+    let of_cr = cr.rectangle::<8, 8, 64>(left, top);
+    let mut lines = beside(&of_cb, &of_cr);
+    filter_below_four(&mut lines, 32, strengths, limits);
+    let new_cb = nearest(&lines, 0);
+    let new_cr = nearest(&lines, 8);
+    cb.set_rectangle::<8, 2, 16>(left, top + 3, &new_cb);
+    cr.set_rectangle::<8, 2, 16>(left, top + 3, &new_cr);
+}
+
+/// The same at strength 4.
+#[inline(never)]
+fn strong_horizontal<const PAD: usize>(
+    cb: &mut Plane<PAD>,
+    cr: &mut Plane<PAD>,
+    left: usize,
+    top: usize,
+    limits: &QpLimits,
+)
+    requires cb_columns { left + 8 ≤ cb.old.width }
+    requires cb_rows { top + 8 ≤ cb.old.height }
+    requires cr_columns { left + 8 ≤ cr.old.width }
+    requires cr_rows { top + 8 ≤ cr.old.height }
+    requires on { limits.now.is_on ≡ true }
+    requires index { limits.now.index_a < 52 }
+    ensures cb { (qp : Qps) → AreLimits limits.now qp →
+        cb.new ≡ edge_filtered (chroma_setting (strength_along Four) qp) false left (top + 4) 8 cb.old }
+    ensures cr { (qp : Qps) → AreLimits limits.now qp →
+        cr.new ≡ edge_filtered (chroma_setting (strength_along Four) qp) false left (top + 4) 8 cr.old }
+{
+    let _rows = cb.height();
+    let of_cb = cb.rectangle::<8, 8, 64>(left, top);
+    let of_cr = cr.rectangle::<8, 8, 64>(left, top);
+    let mut lines = beside(&of_cb, &of_cr);
+    filter_at_four(&mut lines, 32, limits);
+    let new_cb = nearest(&lines, 0);
+    let new_cr = nearest(&lines, 8);
+    cb.set_rectangle::<8, 2, 16>(left, top + 3, &new_cb);
+    cr.set_rectangle::<8, 2, 16>(left, top + 3, &new_cr);
+}
+
+/// The same at any strengths.
+#[inline(always)]
 pub(crate) fn horizontal_chroma<const PAD: usize>(
     cb: &mut Plane<PAD>,
     cr: &mut Plane<PAD>,
@@ -135,13 +226,8 @@ pub(crate) fn horizontal_chroma<const PAD: usize>(
     if !limits.is_on {
         return;
     }
-    let _rows = cb.height();
-    let of_cb = cb.rectangle::<8, 8, 64>(left, top);
-    let of_cr = cr.rectangle::<8, 8, 64>(left, top);
-    let mut lines = beside(&of_cb, &of_cr);
-    filter_chroma(&mut lines, 32, strengths, limits);
-    let new_cb = nearest(&lines, 0);
-    let new_cr = nearest(&lines, 8);
-    cb.set_rectangle::<8, 2, 16>(left, top + 3, &new_cb);
-    cr.set_rectangle::<8, 2, 16>(left, top + 3, &new_cr);
+    match strengths {
+        Strengths::Four => strong_horizontal(cb, cr, left, top, limits),
+        Strengths::BelowFour(s) => weak_horizontal(cb, cr, left, top, s, limits),
+    }
 }

@@ -49,6 +49,8 @@ pub(crate) fn edge_strengths(p: &MbFacts, q: &MbFacts, is_vertical: bool, n: usi
         } else {
             Strengths::BelowFour([3; 4])
         }
+    } else if !p.has_coefficients_beside(q, is_vertical, n) && p.is_quiet(q, is_vertical, n) {
+        Strengths::BelowFour([0; 4])
     } else {
         Strengths::BelowFour(inter_strengths(p, q, is_vertical, n))
     }

@@ -1,11 +1,11 @@
-ghost use Rattle.std.specs.Prelude.{◌≡◌, ℕ, ◌+◌, ◌<◌, ◌≤◌, slice_index, true, false};
+ghost use Rattle.std.specs.Prelude.{◌≡◌, ℕ, ◌+◌, ◌/◌, ◌<◌, ◌≤◌, slice_index, true, false};
 ghost use Rattle.avc_deblock.specs.Line.{Setting};
 ghost use Rattle.avc_deblock.specs.Rows.{IsStrong};
 ghost use Rattle.avc_deblock.specs.OneEdge.{edge_filtered, FitsWeak};
 
-use crate::block::{columns, rows_of, strong_luma, weak_luma};
+use crate::block::{columns, rows_of, rows_of_middle, strong_luma, weak_luma};
 use crate::pair::half;
-use crate::thresholds::QpLimits;
+use crate::thresholds::{QpLimits, luma_tc1s};
 use avc_plane::Plane;
 
 /// Filters the sixteen lines of luma across a horizontal edge at strengths of 0 to 3. The edge has `top + 4` rows above it, and `left`
@@ -16,17 +16,19 @@ pub(crate) fn weak_horizontal<const PAD: usize>(
     left: usize,
     top: usize,
     limits: &QpLimits,
-    tc1: &[u8; 16],
+    strengths: &[u8; 4],
 )
     requires columns { left + 16 ≤ plane.old.width }
     requires rows { top + 8 ≤ plane.old.height }
-    requires small { (k : ℕ) → k < 16 → slice_index tc1.now k ≤ 93 }
-    ensures { (setting : ℕ → Setting) → ((i : ℕ) → i < 16 → FitsWeak limits.now tc1.now (setting i) i) →
+    requires strengths { (k : ℕ) → k < 4 → slice_index strengths.now k < 4 }
+    requires index { limits.now.index_a < 52 }
+    ensures { (setting : ℕ → Setting) → ((i : ℕ) → i < 16 → FitsWeak limits.now (slice_index strengths.now (i / 4)) (setting i)) →
         plane.new ≡ edge_filtered setting false left (top + 4) 16 plane.old }
 {
     let _rows = plane.height();
     let mut lines = plane.rectangle::<16, 8, 128>(left, top);
-    weak_luma(&mut lines, &limits.weak(tc1));
+    let tc1 = luma_tc1s(strengths, limits.index_a);
+    weak_luma(&mut lines, &limits.weak(&tc1));
     let inner = half(&lines, 32);
     plane.set_rectangle::<16, 4, 64>(left, top + 2, &inner);
 }
@@ -38,19 +40,22 @@ pub(crate) fn weak_vertical<const PAD: usize>(
     left: usize,
     top: usize,
     limits: &QpLimits,
-    tc1: &[u8; 16],
+    strengths: &[u8; 4],
 )
     requires columns { left + 8 ≤ plane.old.width }
     requires rows { top + 16 ≤ plane.old.height }
-    requires small { (k : ℕ) → k < 16 → slice_index tc1.now k ≤ 93 }
-    ensures { (setting : ℕ → Setting) → ((i : ℕ) → i < 16 → FitsWeak limits.now tc1.now (setting i) i) →
+    requires strengths { (k : ℕ) → k < 4 → slice_index strengths.now k < 4 }
+    requires index { limits.now.index_a < 52 }
+    ensures { (setting : ℕ → Setting) → ((i : ℕ) → i < 16 → FitsWeak limits.now (slice_index strengths.now (i / 4)) (setting i)) →
         plane.new ≡ edge_filtered setting true (left + 4) top 16 plane.old }
 {
+    let _columns = plane.width();
     let block = plane.rectangle::<8, 16, 128>(left, top);
     let mut lines = columns(&block);
-    weak_luma(&mut lines, &limits.weak(tc1));
-    let after = rows_of(&lines);
-    plane.set_rectangle::<8, 16, 128>(left, top, &after);
+    let tc1 = luma_tc1s(strengths, limits.index_a);
+    weak_luma(&mut lines, &limits.weak(&tc1));
+    let after = rows_of_middle(&lines);
+    plane.set_rectangle::<4, 16, 64>(left + 2, top, &after);
 }
 
 /// Filters the sixteen lines of luma across a horizontal edge at strength 4.

@@ -123,35 +123,27 @@ pub(crate) fn weak_line(
 
 // ---- strength 4
 
+/// p0 of a side: whether the line is filtered, and whether by the wide means.
+#[inline(always)]
+fn strong_nearest(on: bool, smooth: bool, p2: u8, p1: u8, p0: u8, q0: u8, q1: u8) -> u8
+    ensures { result ≡ (if smooth then (p2 + 2 * p1 + 2 * p0 + 2 * q0 + q1 + 4) / 8 else (if on then (2 * p1 + p0 + q1 + 2) / 4 else p0)) }
+{
+    pick(
+        smooth,
+        near_mean(p2, p1, p0, q0, q1),
+        pick(on, rough_mean(p1, p0, q1), p0),
+    )
+}
+
+/// The samples of a line that may change at strength 4.
 #[derive(Clone, Copy)]
-pub(crate) struct Side {
+pub(crate) struct Sides {
     pub(crate) p2: u8,
     pub(crate) p1: u8,
     pub(crate) p0: u8,
-}
-
-/// One side of a line: whether it is filtered, and whether by the wide means.
-#[inline(always)]
-fn strong_side(on: bool, smooth: bool, p3: u8, p2: u8, p1: u8, p0: u8, q0: u8, q1: u8) -> Side
-    ensures nearest { result.p0 ≡ (if smooth then (p2 + 2 * p1 + 2 * p0 + 2 * q0 + q1 + 4) / 8 else (if on then (2 * p1 + p0 + q1 + 2) / 4 else p0)) }
-    ensures second { result.p1 ≡ (if smooth then (p2 + p1 + p0 + q0 + 2) / 4 else p1) }
-    ensures third { result.p2 ≡ (if smooth then (2 * p3 + 3 * p2 + p1 + p0 + q0 + 4) / 8 else p2) }
-{
-    Side {
-        p2: pick(smooth, far_mean(p3, p2, p1, p0, q0), p2),
-        p1: pick(smooth, mean_of_four(p2, p1, p0, q0), p1),
-        p0: pick(
-            smooth,
-            near_mean(p2, p1, p0, q0, q1),
-            pick(on, rough_mean(p1, p0, q1), p0),
-        ),
-    }
-}
-
-#[derive(Clone, Copy)]
-pub(crate) struct Sides {
-    pub(crate) p: Side,
-    pub(crate) q: Side,
+    pub(crate) q0: u8,
+    pub(crate) q1: u8,
+    pub(crate) q2: u8,
 }
 
 /// The excess where the step at the edge is small enough for the wide means.
@@ -178,7 +170,7 @@ pub(crate) fn strong_line(
 ) -> Sides
     requires { c1 ≡ (a1 + 1) / 4 + 1 }
     ensures { (s : Setting) → IsStrong s (a1 + 1) (b1 + 1) →
-        filtered s (line p3 p2 p1 p0 q0 q1 q2 q3) ≡ line p3 result.p.p2 result.p.p1 result.p.p0 result.q.p0 result.q.p1 result.q.p2 q3 }
+        filtered s (line p3 p2 p1 p0 q0 q1 q2 q3) ≡ line p3 result.p2 result.p1 result.p0 result.q0 result.q1 result.q2 q3 }
 {
     let beyond = excess(p1, p0, q0, q1, a1, b1, 0);
     let on = is_zero(beyond);
@@ -186,8 +178,12 @@ pub(crate) fn strong_line(
     let smooth_p = is_smooth(small, p2, p0, b1);
     let smooth_q = is_smooth(small, q2, q0, b1);
     Sides {
-        p: strong_side(on, smooth_p, p3, p2, p1, p0, q0, q1),
-        q: strong_side(on, smooth_q, q3, q2, q1, q0, p0, p1),
+        p2: pick(smooth_p, far_mean(p3, p2, p1, p0, q0), p2),
+        p1: pick(smooth_p, mean_of_four(p2, p1, p0, q0), p1),
+        p0: strong_nearest(on, smooth_p, p2, p1, p0, q0, q1),
+        q0: strong_nearest(on, smooth_q, q2, q1, q0, p0, p1),
+        q1: pick(smooth_q, mean_of_four(q2, q1, q0, p0), q1),
+        q2: pick(smooth_q, far_mean(q3, q2, q1, q0, p0), q2),
     }
 }
 

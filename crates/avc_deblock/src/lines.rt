@@ -172,12 +172,12 @@ pub(crate) fn strong_lines(
         let sides = strong_line(
             p3[i], a2[i], a1[i], a0[i], b0[i], b1[i], b2[i], q3[i], alpha1[i], beta1[i], small1[i],
         );
-        o2[i] = sides.p.p2;
-        o1[i] = sides.p.p1;
-        o0[i] = sides.p.p0;
-        r0[i] = sides.q.p0;
-        r1[i] = sides.q.p1;
-        r2[i] = sides.q.p2;
+        o2[i] = sides.p2;
+        o1[i] = sides.p1;
+        o0[i] = sides.p0;
+        r0[i] = sides.q0;
+        r1[i] = sides.q1;
+        r2[i] = sides.q2;
     }
     *p2 = o2;
     *p1 = o1;

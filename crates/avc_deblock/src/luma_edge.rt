@@ -4,7 +4,7 @@ ghost use Rattle.avc_deblock.specs.declared.thresholds.EdgeQp.{EdgeQp as Qps};
 
 use crate::kernels::{strong_horizontal, strong_vertical, weak_horizontal, weak_vertical};
 use crate::strengths::Strengths;
-use crate::thresholds::{QpLimits, luma_tc1s};
+use crate::thresholds::QpLimits;
 use avc_plane::Plane;
 
 /// Filters the sixteen lines of luma across a vertical edge. The edge has `left + 4` columns left of it, and `top` rows above its
@@ -29,10 +29,7 @@ pub(crate) fn vertical_luma<const PAD: usize>(
     }
     match strengths {
         Strengths::Four => strong_vertical(plane, left, top, limits),
-        Strengths::BelowFour(s) => {
-            let tc1 = luma_tc1s(s, limits.index_a);
-            weak_vertical(plane, left, top, limits, &tc1)
-        }
+        Strengths::BelowFour(s) => weak_vertical(plane, left, top, limits, s),
     }
 }
 
@@ -58,9 +55,6 @@ pub(crate) fn horizontal_luma<const PAD: usize>(
     }
     match strengths {
         Strengths::Four => strong_horizontal(plane, left, top, limits),
-        Strengths::BelowFour(s) => {
-            let tc1 = luma_tc1s(s, limits.index_a);
-            weak_horizontal(plane, left, top, limits, &tc1)
-        }
+        Strengths::BelowFour(s) => weak_horizontal(plane, left, top, limits, s),
     }
 }

@@ -7,7 +7,7 @@ ghost use Rattle.avc_deblock.specs.ByFacts.{edges_by_facts, mb_by_facts, strengt
 
 use crate::facts::MbFacts;
 use crate::line::{all_three, both};
-use crate::planes_edge::{PairLimits, Place, edge_between, limits_beside, pair_limits};
+use crate::planes_edge::{PairLimits, Place, edge_between, inner_limits, limits_beside};
 use crate::vertical_edges::vertical_edges;
 use avc_plane::Planes;
 use avc_types::FilteredEdges;
@@ -144,7 +144,7 @@ pub(crate) fn macroblock<const PAD: usize>(
     if idle {
         return;
     }
-    let own = pair_limits(mb, mb, place);
+    let own = inner_limits(mb, place);
     let left_limits = limits_beside(left, mb, own, place);
     let above_limits = limits_beside(above, mb, own, place);
     all_vertical(

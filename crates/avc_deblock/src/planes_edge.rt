@@ -82,6 +82,31 @@ pub(crate) fn pair_limits(p: &MbFacts, q: &MbFacts, place: Place) -> PairLimits
     }
 }
 
+/// The same of the lines inside `q`: both sides have one QP.
+#[inline(always)]
+fn inner_chroma_qps(q: &MbFacts, place: Place) -> EdgeQp
+    ensures { result ≡ chroma_qp_of place.chroma_qp_index_offset q.now q.now }
+{
+    let qp = chroma_qp(place.chroma_qp_index_offset, q.qp);
+    EdgeQp {
+        p: qp,
+        q: qp,
+        offset_a: q.offset_a,
+        offset_b: q.offset_b,
+    }
+}
+
+/// Those inside `q`.
+#[inline(always)]
+pub(crate) fn inner_limits(q: &MbFacts, place: Place) -> PairLimits
+    ensures { ArePairLimits result place.chroma_qp_index_offset q.now q.now }
+{
+    PairLimits {
+        luma: luma_qps(q, q).limits(),
+        chroma: inner_chroma_qps(q, place).limits(),
+    }
+}
+
 /// The same where those inside `q` are known.
 #[inline(always)]
 pub(crate) fn limits_beside(p: &MbFacts, q: &MbFacts, own: PairLimits, place: Place) -> PairLimits

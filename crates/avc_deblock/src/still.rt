@@ -1,6 +1,6 @@
-ghost use Rattle.std.specs.Prelude.{◌≡◌, ℕ, ◌<◌, slice_index, slice_index_or, true, false};
+ghost use Rattle.std.specs.Prelude.{◌≡◌, ℕ, ◌+◌, ◌%◌, ◌<◌, slice_index, slice_index_or, true, false};
 ghost use Rattle.avc_motion.specs.Motion.{zero_vector};
-ghost use Rattle.avc_deblock.specs.Facts.{inter_strength};
+ghost use Rattle.avc_deblock.specs.Facts.{edge_block, inter_strength};
 ghost use Rattle.avc_deblock.specs.ByFacts.{strength_of};
 
 use crate::edge_strengths::edge_block;
@@ -63,6 +63,40 @@ impl MbFacts {
         all_three(same_vector, same_picture, !any)
     }
 
+    /// The strengths along edge `n` of `q`, of which `self` is the other side, are 0, as one look tells: no coefficients, and each two blocks
+    /// have one picture and one vector.
+    #[inline(always)]
+    pub(crate) fn is_quiet(&self, q: &MbFacts, is_vertical: bool, n: usize) -> bool
+        requires { n < 4 }
+        ensures { result ≡ true → (k : ℕ) → k < 4 →
+            inter_strength self.now (edge_block is_vertical ((n + 3) % 4) k) q.now (edge_block is_vertical n k) ≡ 0 }
+    {
+        let mut quiet = true;
+        for k in 0..4 {
+            let here = self.moves_as(
+                edge_block(is_vertical, (n + 3) % 4, k),
+                q,
+                edge_block(is_vertical, n, k),
+            );
+            quiet = both(quiet, here);
+        }
+        quiet
+    }
+
+    /// A block beside edge `n` of `q` has coefficients.
+    #[inline(always)]
+    pub(crate) fn has_coefficients_beside(&self, q: &MbFacts, is_vertical: bool, n: usize) -> bool
+        requires { n < 4 }
+    {
+        let mut any = false;
+        for k in 0..4 {
+            let on_p = self.has_coefficients(edge_block(is_vertical, (n + 3) % 4, k));
+            let on_q = q.has_coefficients(edge_block(is_vertical, n, k));
+            any = either(any, either(on_p, on_q));
+        }
+        any
+    }
+
     /// The strengths along the edge from `self` to `q`, which is another macroblock without coefficients, are 0, as one look tells.
     #[inline(always)]
     pub(crate) fn meets_quietly(&self, q: &MbFacts, is_vertical: bool) -> bool
@@ -71,15 +105,6 @@ impl MbFacts {
         if self.is_intra | q.is_intra | (q.coefficients != 0) {
             return false;
         }
-        let mut quiet = true;
-        for k in 0..4 {
-            let here = self.moves_as(
-                edge_block(is_vertical, 3, k),
-                q,
-                edge_block(is_vertical, 0, k),
-            );
-            quiet = both(quiet, here);
-        }
-        quiet
+        self.is_quiet(q, is_vertical, 0)
     }
 }

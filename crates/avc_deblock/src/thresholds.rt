@@ -6,6 +6,7 @@ use crate::block::spread;
 use crate::bytes::less;
 use crate::line::{both, is_zero};
 use crate::pair::spread_twice;
+use std::simd::prelude::*;
 
 // Table 8-16 by index.
 const ALPHA: [u8; 52] = [
@@ -19,15 +20,17 @@ const BETA: [u8; 52] = [
     9, 9, 10, 10, 11, 11, 12, 12, 13, 13, 14, 14, 15, 15, 16, 16, 17, 17, 18, 18,
 ];
 
-// Table 8-17: for each index one more than tC0 at the strengths 1 to 3; at strength 0, where nothing is filtered, 0.
-const TC1: [u8; 208] = [
+// Table 8-17: for each index one more than tC0 at the strengths 1 to 3; at strength 0, where nothing is filtered, 0. Twelve zeros let each
+// row be read as the first four of sixteen.
+const TC1: [u8; 220] = [
     0, 1, 1, 1, 0, 1, 1, 1, 0, 1, 1, 1, 0, 1, 1, 1, 0, 1, 1, 1, 0, 1, 1, 1, 0, 1, 1, 1, 0, 1, 1, 1,
     0, 1, 1, 1, 0, 1, 1, 1, 0, 1, 1, 1, 0, 1, 1, 1, 0, 1, 1, 1, 0, 1, 1, 1, 0, 1, 1, 1, 0, 1, 1, 1,
     0, 1, 1, 1, 0, 1, 1, 2, 0, 1, 1, 2, 0, 1, 1, 2, 0, 1, 1, 2, 0, 1, 2, 2, 0, 1, 2, 2, 0, 2, 2, 2,
     0, 2, 2, 2, 0, 2, 2, 2, 0, 2, 2, 2, 0, 2, 2, 3, 0, 2, 2, 3, 0, 2, 2, 3, 0, 2, 2, 3, 0, 2, 3, 4,
     0, 2, 3, 4, 0, 3, 3, 4, 0, 3, 3, 5, 0, 3, 4, 5, 0, 3, 4, 5, 0, 4, 4, 6, 0, 4, 5, 7, 0, 4, 5, 7,
     0, 5, 6, 8, 0, 5, 6, 9, 0, 5, 7, 10, 0, 6, 8, 11, 0, 7, 9, 12, 0, 7, 9, 14, 0, 8, 11, 15, 0, 9,
-    12, 17, 0, 10, 13, 19, 0, 11, 14, 21, 0, 12, 16, 24, 0, 14, 18, 26,
+    12, 17, 0, 10, 13, 19, 0, 11, 14, 21, 0, 12, 16, 24, 0, 14, 18, 26, 0, 0, 0, 0, 0, 0, 0, 0, 0,
+    0, 0, 0,
 ];
 
 /// What the lines of one edge have in common, beside their strengths (8.7.2.2).
@@ -85,29 +88,51 @@ fn beta(index: u8) -> u8
     BETA[usize::from(index)]
 }
 
-/// One more than tC0 at a strength of 1 to 3, and 0 at strength 0.
+/// The number at a place of the table: one more than tC0 at a strength of 1 to 3, and 0 at strength 0.
 #[inline(always)]
-pub(crate) fn tc1(strength: u8, index: u8) -> u8
-    requires strength { strength < 4 }
-    requires index { index < 52 }
-    ensures value { result ≡ tc1_of strength index }
+fn tc1(place: usize) -> u8
+    requires { place < 220 }
+    ensures value { (strength index : ℕ) → strength < 4 → index < 52 → place ≡ 4 * index + strength → result ≡ tc1_of strength index }
     ensures small { result ≤ 26 }
 {
-    TC1[4 * usize::from(index) + usize::from(strength)]
+    TC1[place]
 }
 
+/// Those at all strengths, in the first four of sixteen.
 #[inline(always)]
-fn each_tc1(strengths: &[u8; 4], index: u8) -> [u8; 4]
-    requires strengths { (k : ℕ) → k < 4 → slice_index strengths.now k < 4 }
-    requires index { index < 52 }
-    ensures value { (k : ℕ) → k < 4 → slice_index result k ≡ tc1_of (slice_index strengths.now k) index }
-    ensures small { (k : ℕ) → k < 4 → slice_index result k ≤ 26 }
+fn each_tc1(index: u8) -> [u8; 16]
+    requires { index < 52 }
+    ensures value { (k : ℕ) → k < 4 → slice_index result k ≡ tc1_of k index }
+    ensures small { (k : ℕ) → k < 16 → slice_index result k ≤ 26 }
 {
-    let mut out = [0; 4];
-    for k in 0..4 {
-        out[k] = tc1(strengths[k], index);
+    let first = 4 * usize::from(index);
+    let mut out = [0; 16];
+    for k in 0..16 {
+        out[k] = tc1(first + k);
     }
     out
+}
+
+/// The numbers of a table at these places: one instruction.
+#[inline(always)]
+fn looked_up(table: &[u8; 16], places: &[u8; 16]) -> [u8; 16]
+    requires { (k : ℕ) → k < 16 → slice_index places.now k < 16 }
+    ensures { (k : ℕ) → k < 16 → slice_index result k ≡ slice_index table.now (slice_index places.now k) }
+{
+    u8x16::from_array(*table)
+        .swizzle_dyn(u8x16::from_array(*places))
+        .to_array()
+}
+
+/// One more than tC0 at each of sixteen strengths of 1 to 3, and 0 at strength 0.
+#[inline(always)]
+fn tc1s(strengths: &[u8; 16], index: u8) -> [u8; 16]
+    requires strengths { (k : ℕ) → k < 16 → slice_index strengths.now k < 4 }
+    requires index { index < 52 }
+    ensures value { (k : ℕ) → k < 16 → slice_index result k ≡ tc1_of (slice_index strengths.now k) index }
+    ensures small { (k : ℕ) → k < 16 → slice_index result k ≤ 26 }
+{
+    looked_up(&each_tc1(index), strengths)
 }
 
 /// That of each of sixteen lines of luma.
@@ -118,7 +143,7 @@ pub(crate) fn luma_tc1s(strengths: &[u8; 4], index: u8) -> [u8; 16]
     ensures value { (k : ℕ) → k < 16 → slice_index result k ≡ tc1_of (slice_index strengths.now (k / 4)) index }
     ensures small { (k : ℕ) → k < 16 → slice_index result k ≤ 26 }
 {
-    spread(&each_tc1(strengths, index))
+    tc1s(&spread(strengths), index)
 }
 
 /// That of each of eight lines of chroma, twice.
@@ -129,7 +154,7 @@ pub(crate) fn chroma_tc1s(strengths: &[u8; 4], index: u8) -> [u8; 16]
     ensures value { (k : ℕ) → k < 16 → slice_index result k ≡ tc1_of (slice_index strengths.now (k % 8 / 2)) index }
     ensures small { (k : ℕ) → k < 16 → slice_index result k ≤ 26 }
 {
-    spread_twice(&each_tc1(strengths, index))
+    tc1s(&spread_twice(strengths), index)
 }
 
 /// What all lines between macroblocks of two QPs are filtered with (8.7.2.2).

@@ -1,22 +1,16 @@
-use Rattle.std.proofs.Common.{ℕ, ◌+◌, ◌*◌, slice_index, arith, subst}
-use Rattle.avc_deblock.specs.OneEdge.{chroma_setting, strength_along, AreStrengths}
-use Rattle.avc_deblock.proofs.Limits.{weak_chroma_row, strong_chroma_row, fits_weak_chroma, fits_strong_chroma}
+use Rattle.std.proofs.Common.{◌≡◌, ◌+◌, ◌*◌, sym, subst}
+use Rattle.avc_deblock.specs.declared.strengths.Strengths.{Strengths}
+use Rattle.avc_deblock.specs.Line.{filtered}
+use Rattle.avc_deblock.specs.Rows.{line_near}
+use Rattle.avc_deblock.specs.OneEdge.{chroma_setting, strength_along}
 use Rattle.avc_deblock.proofs.chroma_edge.filter_chroma.Goals as goal
 
 pub returns-in-Four-clause-lines : goal.returns-in-Four-clause-lines
 returns-in-Four-clause-lines c qp are p3 p2 q2 q3 b i bit low =
-    let l = c.args.limits.now in
-    let s = chroma_setting (strength_along c.args.strengths.now) qp i in
-    let e = c.strong.ensures in
-    c.strong_chroma.ensures.lines p3 p2 q2 q3 s (8 * b + i) (omega arith)
-    (strong_chroma_row s _ _ l.alpha1 l.beta1 (e.alpha (8 * b + i) (omega arith)) (e.beta (8 * b + i) (omega arith)) (fits_strong_chroma l qp are c.requires.on c.args.strengths.now c.in-Four.is i))
+    subst (λ (t : Strengths). filtered (chroma_setting (strength_along t) qp i) (line_near p3 p2 q2 q3 c.args.t.now c.args.from (8 * b + i)) ≡ line_near p3 p2 q2 q3 c.filter_at_four.new.t c.args.from (8 * b + i))
+    (sym c.in-Four.is) (c.filter_at_four.ensures.lines qp are p3 p2 q2 q3 b i bit low)
 
 pub returns-in-BelowFour-clause-lines : goal.returns-in-BelowFour-clause-lines
 returns-in-BelowFour-clause-lines c qp are p3 p2 q2 q3 b i bit low =
-    let l = c.args.limits.now in
-    let s = chroma_setting (strength_along c.args.strengths.now) qp i in
-    let e = c.weak.ensures in
-    let n : ℕ = 8 * b + i in
-    c.weak_chroma.ensures.lines p3 p2 q2 q3 s n (omega arith)
-    (weak_chroma_row s _ _ _ _ (slice_index c.chroma_tc1s-tc1.result n) l.alpha1 l.beta1 (e.alpha n (omega arith)) (e.beta n (omega arith)) (e.dead n (omega arith)) (e.tc0 n (omega arith))
-    (fits_weak_chroma l qp are c.requires.on c.args.strengths.now c.in-BelowFour.s c.chroma_tc1s-tc1.result c.in-BelowFour.is (subst AreStrengths c.in-BelowFour.is c.requires.strengths) c.chroma_tc1s-tc1.ensures.value i n (omega arith) (omega arith)))
+    subst (λ (t : Strengths). filtered (chroma_setting (strength_along t) qp i) (line_near p3 p2 q2 q3 c.args.t.now c.args.from (8 * b + i)) ≡ line_near p3 p2 q2 q3 c.filter_below_four.new.t c.args.from (8 * b + i))
+    (sym c.in-BelowFour.is) (c.filter_below_four.ensures.lines qp are p3 p2 q2 q3 b i bit low)

@@ -1,36 +1,8 @@
-use Rattle.std.proofs.Common.{◌+◌, ◌*◌, false, arith, refl, sym, ap, ◌∙◌}
-use Rattle.std.specs.Prelude.{slice_index}
-use Rattle.avc_deblock.specs.OneEdge.{strength_along, chroma_setting}
-use Rattle.avc_deblock.proofs.Blocks.{down_near}
+use Rattle.std.proofs.Common.{◌≡◌, ◌+◌, false, arith, sym, subst}
+use Rattle.avc_deblock.specs.declared.strengths.Strengths.{Strengths}
+use Rattle.avc_deblock.specs.OneEdge.{edge_filtered, strength_along, chroma_setting}
 use Rattle.avc_deblock.proofs.Settings.{edge_off}
-use Rattle.avc_deblock.proofs.Pairs.{horizontal_part}
 use Rattle.avc_deblock.proofs.chroma_edge.horizontal_chroma.Goals as goal
-
-pub returns-clause-cb : goal.returns-clause-cb
-returns-clause-cb g c qp are =
-    let e = c.rectangle-of_cb.ensures in
-    c.set_rectangle.ensures
-    ∙ horizontal_part (chroma_setting (strength_along c.args.strengths.now) qp) c.args.left c.args.top 0 c.args.cb.now c.rectangle-of_cb.result c.nearest-new_cb.result (omega arith) e.all
-    c.requires.cb_columns c.requires.cb_rows e.samples c.beside-lines.result c.filter_chroma.new.t
-    (λ row column r_low c_low. ap (slice_index c.beside-lines.result) (omega arith) ∙ c.beside-lines.ensures.left row column r_low c_low)
-    (λ row column r_low c_low. c.nearest-new_cb.ensures row column r_low c_low ∙ ap (slice_index c.filter_chroma.new.t) (omega arith))
-    (λ i low. refl)
-    (λ i low.
-    down_near (chroma_setting (strength_along c.args.strengths.now) qp i) (8 * 0 + i) c.beside-lines.result c.filter_chroma.new.t (omega arith) c.filter_chroma.ensures.others
-    (λ p3 p2 q2 q3. c.filter_chroma.ensures.lines qp are p3 p2 q2 q3 0 i (omega arith) low))
-
-pub returns-clause-cr : goal.returns-clause-cr
-returns-clause-cr g c qp are =
-    let e = c.rectangle-of_cr.ensures in
-    c.set_rectangle-2.ensures
-    ∙ horizontal_part (chroma_setting (strength_along c.args.strengths.now) qp) c.args.left c.args.top 1 c.args.cr.now c.rectangle-of_cr.result c.nearest-new_cr.result (omega arith) e.all
-    c.requires.cr_columns c.requires.cr_rows e.samples c.beside-lines.result c.filter_chroma.new.t
-    (λ row column r_low c_low. ap (slice_index c.beside-lines.result) (omega arith) ∙ c.beside-lines.ensures.right row column r_low c_low)
-    (λ row column r_low c_low. c.nearest-new_cr.ensures row column r_low c_low ∙ ap (slice_index c.filter_chroma.new.t) (omega arith))
-    (λ i low. refl)
-    (λ i low.
-    down_near (chroma_setting (strength_along c.args.strengths.now) qp i) (8 * 1 + i) c.beside-lines.result c.filter_chroma.new.t (omega arith) c.filter_chroma.ensures.others
-    (λ p3 p2 q2 q3. c.filter_chroma.ensures.lines qp are p3 p2 q2 q3 1 i (omega arith) low))
 
 pub returns-then-not-limits-clause-cb : goal.returns-then-not-limits-clause-cb
 returns-then-not-limits-clause-cb g c qp are =
@@ -39,3 +11,19 @@ returns-then-not-limits-clause-cb g c qp are =
 pub returns-then-not-limits-clause-cr : goal.returns-then-not-limits-clause-cr
 returns-then-not-limits-clause-cr g c qp are =
     sym (edge_off (chroma_setting (strength_along c.args.strengths.now) qp) false c.args.left (c.args.top + 4) 8 c.args.cr.now (λ e. absurd (cc)) (λ e. omega arith) (λ i low. are.off c.if-not-limits.true))
+
+pub returns-in-Four-clause-cb : goal.returns-in-Four-clause-cb
+returns-in-Four-clause-cb g c qp are =
+    subst (λ (t : Strengths). c.strong_horizontal.new.cb ≡ edge_filtered (chroma_setting (strength_along t) qp) false c.args.left (c.args.top + 4) 8 c.args.cb.now) (sym c.in-Four.is) (c.strong_horizontal.ensures.cb qp are)
+
+pub returns-in-Four-clause-cr : goal.returns-in-Four-clause-cr
+returns-in-Four-clause-cr g c qp are =
+    subst (λ (t : Strengths). c.strong_horizontal.new.cr ≡ edge_filtered (chroma_setting (strength_along t) qp) false c.args.left (c.args.top + 4) 8 c.args.cr.now) (sym c.in-Four.is) (c.strong_horizontal.ensures.cr qp are)
+
+pub returns-in-BelowFour-clause-cb : goal.returns-in-BelowFour-clause-cb
+returns-in-BelowFour-clause-cb g c qp are =
+    subst (λ (t : Strengths). c.weak_horizontal.new.cb ≡ edge_filtered (chroma_setting (strength_along t) qp) false c.args.left (c.args.top + 4) 8 c.args.cb.now) (sym c.in-BelowFour.is) (c.weak_horizontal.ensures.cb qp are)
+
+pub returns-in-BelowFour-clause-cr : goal.returns-in-BelowFour-clause-cr
+returns-in-BelowFour-clause-cr g c qp are =
+    subst (λ (t : Strengths). c.weak_horizontal.new.cr ≡ edge_filtered (chroma_setting (strength_along t) qp) false c.args.left (c.args.top + 4) 8 c.args.cr.now) (sym c.in-BelowFour.is) (c.weak_horizontal.ensures.cr qp are)

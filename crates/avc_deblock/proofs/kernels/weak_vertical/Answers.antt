@@ -1,20 +1,33 @@
-use Rattle.std.proofs.Common.{◌+◌, ◌*◌, sym, ap, ◌∙◌}
+use Rattle.std.proofs.Common.{ℕ, ◌+◌, ◌*◌, ◌/◌, ◌≡◌, ◌<◌, arith, refl, sym, ap, ◌∙◌}
 use Rattle.std.specs.Prelude.{slice_index}
 use Rattle.avc_plane.specs.Plane.{sample}
 use Rattle.avc_deblock.specs.Line.{filtered}
-use Rattle.avc_deblock.proofs.Blocks.{same_samples, filtered_across}
+use Rattle.avc_deblock.specs.Rows.{line_of}
+use Rattle.avc_deblock.proofs.Blocks.{same_samples}
 use Rattle.avc_deblock.proofs.OnPlane.{vertical_block}
-use Rattle.avc_deblock.proofs.Limits.{weak_row}
+use Rattle.avc_deblock.proofs.Keeps.{weak_keeps}
+use Rattle.avc_deblock.proofs.Within.{within_block}
+use Rattle.avc_deblock.proofs.Limits.{weak_row, weak_by_tc1}
 use Rattle.avc_deblock.proofs.kernels.weak_vertical.Goals as goal
 
 pub returns : goal.returns
 returns g c setting fits =
     let s = c.args.plane.now in
-    let after = c.rows_of-after.result in
-    c.set_rectangle.ensures
-    ∙ sym (vertical_block setting c.args.left c.args.top 16 s c.rectangle-block.ensures.all (λ x y. slice_index after (8 * y + x)) c.requires.columns c.requires.rows
-    (λ i low.
+    let left = c.args.left in
+    let top = c.args.top in
+    let before = c.columns-lines.result in
+    let after = c.weak_luma.new.t in
+    let lines : (i : ℕ) → i < 16 → filtered (setting i) (line_of (λ k. sample s (left + k) (top + i))) ≡ line_of (λ k. slice_index after (16 * k + i)) =
+    λ i low.
     ap (filtered (setting i))
-    (same_samples (λ k. sample s (c.args.left + k) (c.args.top + i)) (λ k. slice_index c.rectangle-block.result (8 * i + k)) (λ k less. sym (c.rectangle-block.ensures.samples k i less low)))
-    ∙ filtered_across (setting i) i c.rectangle-block.result c.columns-lines.result c.weak_luma.new.t after low c.columns-lines.ensures c.rows_of-after.ensures (c.weak_luma.ensures (setting i) i low (
-    weak_row (setting i) _ _ _ _ (slice_index c.args.tc1.now i) c.args.limits.now.alpha1 c.args.limits.now.beta1 (c.weak.ensures.alpha i low) (c.weak.ensures.beta i low) (c.weak.ensures.dead i low) (c.weak.ensures.tc0 i low) (fits i low)))))
+    (same_samples (λ k. sample s (left + k) (top + i)) (λ k. slice_index before (16 * k + i))
+    (λ k less. sym (c.rectangle-block.ensures.samples k i less low) ∙ sym (c.columns-lines.ensures i k low less)))
+    ∙ c.weak_luma.ensures (setting i) i low (
+    weak_row (setting i) _ _ _ _ (slice_index c.luma_tc1s-tc1.result i) c.args.limits.now.alpha1 c.args.limits.now.beta1 (c.weak.ensures.alpha i low) (c.weak.ensures.beta i low) (c.weak.ensures.dead i low) (c.weak.ensures.tc0 i low)
+    (weak_by_tc1 c.args.limits.now (setting i) (slice_index c.args.strengths.now (i / 4)) (slice_index c.luma_tc1s-tc1.result i) c.requires.index (c.luma_tc1s-tc1.ensures.value i low) (fits i low))) in
+    c.set_rectangle.ensures
+    ∙ within_block s left top 8 16 2 0 4 16 (left + 2) top (λ x y. slice_index after (16 * x + y)) (λ x y. slice_index c.rows_of_middle-after.result (4 * y + x)) refl (omega arith) (omega arith) (omega arith)
+    (λ x y x_low y_low. c.rows_of_middle-after.ensures y x y_low x_low ∙ ap (slice_index after) (omega arith))
+    (λ x y x_low y_low out.
+    weak_keeps (setting y) (λ k. sample s (left + k) (top + y)) (λ k. slice_index after (16 * k + y)) (fits y y_low).weak (lines y y_low) x x_low (λ p q. out p (omega arith) (omega arith) (omega arith)))
+    ∙ sym (vertical_block setting left top 16 s c.rectangle-block.ensures.all (λ x y. slice_index after (16 * x + y)) c.requires.columns c.requires.rows lines)

@@ -23,14 +23,12 @@ returns c s w =
     let sq : c.is_smooth-smooth_q.result ≡ (on && near && uq) = c.is_smooth-smooth_q.ensures ∙ ap (λ (b : Bool). b && uq) small in
     let far : Bool = nat_lt (distance a.q0 a.p0) (alpha / 4 + 2) in
     let tq : c.is_smooth-smooth_q.result ≡ (on && far && uq) = sq ∙ ap (λ (n : ℕ). on && nat_lt n (alpha / 4 + 2) && uq) (turned a.p0 a.q0) in
-    let p = c.strong_side.ensures in
-    let q = c.strong_side-2.ensures in
     strong_is s alpha beta l on _ _ _ _ _ _ w (zero_on ∙ c.excess-beyond.ensures)
     (record {
-      p0_is = p.nearest ∙ either_nearest on near up _ _ _ _ sp;
-      p1_is = p.second ∙ either_other on near up _ _ _ sp;
-      p2_is = p.third ∙ either_other on near up _ _ _ sp;
-      q0_is = q.nearest ∙ either_nearest on far uq _ _ _ _ tq;
-      q1_is = q.second ∙ either_other on far uq _ _ _ tq;
-      q2_is = q.third ∙ either_other on far uq _ _ _ tq;
+      p0_is = c.strong_nearest.ensures ∙ either_nearest on near up _ _ _ _ sp;
+      p1_is = c.pick-2.ensures ∙ rw (c.mean_of_four.ensures) (either_other on near up _ _ _ sp);
+      p2_is = c.pick.ensures ∙ rw (c.far_mean.ensures) (either_other on near up _ _ _ sp);
+      q0_is = c.strong_nearest-2.ensures ∙ either_nearest on far uq _ _ _ _ tq;
+      q1_is = c.pick-3.ensures ∙ rw (c.mean_of_four-2.ensures) (either_other on far uq _ _ _ tq);
+      q2_is = c.pick-4.ensures ∙ rw (c.far_mean-2.ensures) (either_other on far uq _ _ _ tq);
     })

@@ -15,4 +15,4 @@ returns-in-Four g c qp are =
 pub returns-in-BelowFour : goal.returns-in-BelowFour
 returns-in-BelowFour g c qp are =
     c.weak_horizontal.ensures (luma_setting (strength_along c.args.strengths.now) qp)
-    (fits_weak c.args.limits.now qp are c.if-not-limits.false c.args.strengths.now c.in-BelowFour.s c.luma_tc1s-tc1.result c.in-BelowFour.is (subst AreStrengths c.in-BelowFour.is c.requires.strengths) c.luma_tc1s-tc1.ensures.value)
+    (fits_weak c.args.limits.now qp are c.if-not-limits.false c.args.strengths.now c.in-BelowFour.s c.in-BelowFour.is (subst AreStrengths c.in-BelowFour.is c.requires.strengths))

@@ -1,8 +1,9 @@
-use Rattle.std.proofs.Common.{◌≤◌, ◌/◌, ◌%◌, ℕ, arith, sym, subst, ◌∙◌}
+use Rattle.std.proofs.Common.{ℕ, ◌/◌, ◌%◌, ◌<◌, arith, sym, subst, ap, ◌∙◌}
+use Rattle.avc_deblock.specs.OneEdge.{tc1_of}
 use Rattle.avc_deblock.proofs.thresholds.chroma_tc1s.Goals as goal
 
-pub returns-clause-value : goal.returns-clause-value
-returns-clause-value c k low = c.spread_twice.ensures k low ∙ c.each_tc1.ensures.value (k % 8 / 2) (omega arith)
+pub tc1s-requires-clause-strengths : goal.tc1s-requires-clause-strengths
+tc1s-requires-clause-strengths c k low = subst (λ (n : ℕ). n < 4) (sym (c.spread_twice.ensures k low)) (c.requires.strengths (k % 8 / 2) (omega arith))
 
-pub returns-clause-small : goal.returns-clause-small
-returns-clause-small c k low = subst (λ (n : ℕ). n ≤ 26) (sym (c.spread_twice.ensures k low)) (c.each_tc1.ensures.small (k % 8 / 2) (omega arith))
+pub returns-clause-value : goal.returns-clause-value
+returns-clause-value c k low = c.tc1s.ensures.value k low ∙ ap (λ (n : ℕ). tc1_of n c.args.index) (c.spread_twice.ensures k low)

@@ -1,0 +1,15 @@
+use Rattle.std.proofs.Common.{ℕ, ◌<◌, w8, get_or, arith, refl, ap, ◌∙◌}
+use Rattle.std.proofs.lemmas.Simd.{SwzOk-from_below, Each1-from_get_or, get_or-swz_l_below}
+use Rattle.avc_deblock.proofs.thresholds.looked_up.Goals as goal
+
+pub swizzle : goal.swizzle
+swizzle c =
+    SwzOk-from_below w8 16 1 16 0 c.args.places.now refl (omega arith)
+    (Each1-from_get_or (λ (j : ℕ). j < 16) c.args.places.now 0 (λ i low. c.requires i (omega arith)))
+
+pub returns : goal.returns
+returns c k low =
+    let table = c.args.table.now in
+    let places = c.args.places.now in
+    get_or-swz_l_below w8 16 table 0 places k (omega arith) (c.requires k low)
+    ∙ ap (λ (n : ℕ). get_or table n 0) (omega arith)
