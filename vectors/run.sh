@@ -180,13 +180,20 @@ for name in \
     holds "pieces of $name" pieces_decode_alike "$here/$name"
 done
 
-# a unit of more than 134,217,728 bytes, behind a picture
-{
-    cat "$here/pcm/pcm_1.264"
-    printf '\000\000\001\145'
-    head -c 134217728 /dev/zero | tr '\000' 'U'
-} | "$program" decode >/dev/null 2>"$work/told"
-holds "a unit that is too long" grep -q '^refused unit [0-9]*: 5 NalTooLong$' "$work/told"
+# Between two pictures of 16x16 a unit of more than 134,217,728 bytes, a slice or a parameter set: it is refused, and takes no set out
+# of force.
+head -c 768 /dev/zero | tr '\000' '\200' >"$work/two_grey"
+for header in 145 147 150; do
+    {
+        printf '\000\000\000\001\147\102\300\012\332\161\000\000\000\001\150\316\070\200\000\000\001\145\210\204\223\300'
+        printf "\\000\\000\\001\\$header"
+        head -c 134217728 /dev/zero | tr '\000' 'U'
+        printf '\000\000\001\145\210\202\044\360'
+    } | "$program" decode >"$work/pictures" 2>"$work/told"
+    judge "a unit that is too long, of first byte $header" $? 1 'refused unit 3: 5 NalTooLong
+'
+    holds 'the pictures around it' cmp -s "$work/pictures" "$work/two_grey"
+done
 
 picture=$here/pcm/pcm_1.264
 for command in decode units; do

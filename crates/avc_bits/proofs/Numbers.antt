@@ -1,12 +1,12 @@
 -- Bits and the numbers that they spell.
 use Rattle.std.proofs.Common.{◌≡◌, ℕ, zero, suc, ◌+◌, ◌-◌, ◌*◌, ◌/◌, ◌%◌, ◌^◌, ◌<◌, ◌≤◌, List, [], ◌∷◌, ◌++◌, length, Bool, true, false, eqb, refl, ap, lit<, inl, inr, ◌∙◌, sym, arith, take, drop, get_or, length-append, length-drop}
-use Rattle.std.proofs.lemmas.List.{drop-drop, drop-take, take-take, take-append-drop, take-append-le, drop-append-le, length-take-le, get_or-take, get_or-drop}
+use Rattle.std.proofs.lemmas.List.{drop-drop, drop-take, take-take, take-append-drop, length-take-le, get_or-take, get_or-drop}
 use Rattle.std.proofs.lemmas.Bool.{cases_order}
 use Rattle.std.proofs.lemmas.Grind.{common_steps}
-use Rattle.std.proofs.lemmas.Nat.{pow-add, mod-pow-add, shr-shr, shl-shr, field_of, div-mul-add, mod-mul-add, shl_whole, or_shifted, pow_pos, pow_below, one_shl, and_mask}
-use Rattle.std.specs.Prelude.{bit_or, bit_and, slice_index}
+use Rattle.std.proofs.lemmas.Nat.{pow-add, mod-pow-add, shr-shr, shl-shr, field_of, div-mul-add, mod-mul-add, pow_pos, pow_below}
+use Rattle.std.specs.Prelude.{slice_index}
 use Rattle.std.proofs.Math.Nat.{pow-succ', mod-eq_of_lt, mod-lt}
-use Rattle.std.proofs.Math.Seq.{drop-append-add, drop-cons, take-append-add}
+use Rattle.std.proofs.Math.Seq.{drop-append-add, drop-cons, take-append-add, take-append_seam}
 use Rattle.avc_bits.specs.Bits.{bits_of, byte_bits, number_of}
 
 pub length-bits_of : (width n : ℕ) → length (bits_of width n) ≡ width
@@ -63,13 +63,6 @@ drop-bits_of zero width total n sum = ap (λ k. bits_of k n) (omega arith)
 drop-bits_of (suc first) width zero n sum = absurd (omega arith)
 drop-bits_of (suc first) width (suc total) n sum = drop-bits_of first width total n (omega arith)
 
-pub take-bits_of : (count low total n : ℕ) → total ≡ count + low → take count (bits_of total n) ≡ bits_of count (n / 2 ^ low)
-take-bits_of zero low total n sum = refl
-take-bits_of (suc count) low zero n sum = absurd (omega arith)
-take-bits_of (suc count) low (suc total) n sum =
-    rw (take-bits_of count low total n (omega arith), shr-shr n low count)
-    (ap (λ k. eqb (n / 2 ^ k % 2) 1 ∷ bits_of count (n / 2 ^ low)) (omega arith))
-
 -- the bits of a byte, in the bits of bytes
 pub drop-byte_bits : (bytes : List ℕ) (place : ℕ) → place < length bytes → drop (8 * place) (byte_bits bytes) ≡ bits_of 8 (get_or bytes place 0) ++ byte_bits (drop (place + 1) bytes)
 drop-byte_bits [] place within = absurd (omega arith)
@@ -83,51 +76,12 @@ pub length-byte_bits : (bytes : List ℕ) → length (byte_bits bytes) ≡ 8 * l
 length-byte_bits [] = refl
 length-byte_bits (b ∷ bytes) = omega (arith, length-byte_bits bytes, length-append (bits_of 8 b) (byte_bits bytes), length-bits_of 8 b)
 
--- some bits of one byte, in the bits of bytes
-pub bits_within : (bytes : List ℕ) (place first count : ℕ) → place < length bytes → first + count ≤ 8 →
-    take count (drop (8 * place + first) (byte_bits bytes)) ≡ take count (drop first (bits_of 8 (get_or bytes place 0)))
-bits_within bytes place first count within fits =
-    let all = bits_of 8 (get_or bytes place 0) in
-    let len : length all ≡ 8 = length-bits_of 8 (get_or bytes place 0) in
-    ap (take count) (sym (drop-drop first (8 * place) (byte_bits bytes)) ∙ ap (drop first) (drop-byte_bits bytes place within) ∙ drop-append-le first all _ (omega (arith, len)))
-    ∙ take-append-le count (drop first all) _ (omega (arith, len, length-drop first all))
-
--- bits after a number
-pub number-joined : (value field count done : ℕ) (a b : List Bool) → value ≡ number_of a → field ≡ number_of b → length b ≡ count → length a ≡ done → done + count ≤ 32 →
-    bit_or (value * 2 ^ count % 2 ^ 32) field ≡ number_of (a ++ b)
-number-joined value field count done a b va fb lb la fits =
-    let small : value < 2 ^ done = rw (va, ← la) (number_lt a) in
-    let low : field < 2 ^ count = rw (fb, ← lb) (number_lt b) in
-    rw (shl_whole value done count 32 small fits, or_shifted value count field low) (rw (va, fb, ← lb) (sym (number-append a b)))
-
--- a field of a byte, by a shift and a mask
-pub field_is : (byte first count : ℕ) → first + count ≤ 8 → bit_and (byte / 2 ^ (8 - first - count)) (1 * 2 ^ count % 4294967296 - 1) ≡ number_of (take count (drop first (bits_of 8 byte)))
-field_is byte first count fits =
-    let low = 8 - first - count in
-    rw (one_shl count 32 (omega arith), and_mask (byte / 2 ^ low) count, drop-bits_of first (8 - first) 8 byte (omega arith), take-bits_of count low (8 - first) byte (omega arith))
-    (sym (number-bits_of count (byte / 2 ^ low)))
-
 take-sum : {X : Type 0} (xs : List X) (m n : ℕ) → take (m + n) xs ≡ take m xs ++ take n (drop m xs)
 take-sum xs zero n = ap (λ k. take k xs) (omega arith)
 take-sum [] (suc m) n = grind (arith, common_steps)
 take-sum (x ∷ xs) (suc m) n =
     let sum : suc m + n ≡ suc (m + n) = omega arith in
     rw sum (ap (λ t. x ∷ t) (take-sum xs m n))
-
--- the loop's step: some bits of one byte more
-pub more_bits : (bytes : List ℕ) (position count left place taken value field : ℕ) → count ≤ 32 → position + count ≤ 8 * length bytes → left ≤ count → place + left ≡ position + count → taken ≤ left → place % 8 + taken ≤ 8 → 0 < left →
-    value ≡ number_of (take (count - left) (drop position (byte_bits bytes))) → field ≡ number_of (take taken (drop (place % 8) (bits_of 8 (get_or bytes (place / 8) 0)))) →
-    bit_or (value * 2 ^ taken % 2 ^ 32) field ≡ number_of (take (count - (left - taken)) (drop position (byte_bits bytes)))
-more_bits bytes position count left place taken value field few inside some sum part fits going is_value is_field =
-    let all = drop position (byte_bits bytes) in
-    let done = count - left in
-    let long : length all ≡ 8 * length bytes - position = length-drop position (byte_bits bytes) ∙ ap (λ n. n - position) (length-byte_bits bytes) in
-    let front : length (take done all) ≡ done = length-take-le done all (omega (arith, long)) in
-    let rest : length (take taken (drop done all)) ≡ taken = length-take-le taken (drop done all) (omega (arith, long, length-drop done all)) in
-    let here : take taken (drop done all) ≡ take taken (drop (place % 8) (bits_of 8 (get_or bytes (place / 8) 0))) =
-    ap (take taken) (drop-drop done position (byte_bits bytes) ∙ ap (λ k. drop k (byte_bits bytes)) (omega arith)) ∙ bits_within bytes (place / 8) (place % 8) taken (omega arith) fits in
-    number-joined value field taken done (take done all) (take taken (drop done all)) is_value (is_field ∙ ap number_of (sym here)) rest front (omega arith)
-    ∙ ap number_of (sym (take-sum all done taken) ∙ ap (λ k. take k all) (omega arith))
 
 pub take_front : {X : Type 0} (xs : List X) (place count total : ℕ) → place + count ≤ total → take count (drop place (take total xs)) ≡ take count (drop place xs)
 take_front xs place count total fits =
@@ -278,3 +232,45 @@ window_from bytes byte bit position count eight at narrow inside few is =
 pub window_bits : (bytes : List ℕ) (position count eight : ℕ) → position / 8 + 8 ≤ length bytes → count ≤ 32 → eight ≡ number_of (take 64 (drop (8 * (position / 8)) (byte_bits bytes))) →
     eight / 2 ^ (64 - position % 8 - count) % 2 ^ count ≡ number_of (take count (drop position (byte_bits bytes)))
 window_bits bytes position count eight inside few is = window_from bytes (position / 8) (position % 8) position count eight (omega arith) (omega arith) inside few is
+
+-- ---- fewer bytes
+
+-- one byte more
+pub next_byte : (bytes : List ℕ) (k : ℕ) → k < length bytes → get_or bytes k 0 < 256 →
+    number_of (byte_bits (take k bytes)) * 256 + get_or bytes k 0 ≡ number_of (byte_bits (take (k + 1) bytes))
+next_byte bytes k within small =
+    let all = byte_bits bytes in
+    let b = get_or bytes k 0 in
+    let byte = bits_of 8 b in
+    let rest = byte_bits (drop (k + 1) bytes) in
+    let sum : 8 * (k + 1) ≡ 8 * k + 8 = omega arith in
+    let eight : 8 ≡ length byte = sym (length-bits_of 8 b) in
+    let here : take 8 (drop (8 * k) all) ≡ byte =
+    ap (take 8) (drop-byte_bits bytes k within) ∙ ap (λ n. take n (byte ++ rest)) eight ∙ take-append_seam byte rest in
+    let parts : byte_bits (take (k + 1) bytes) ≡ byte_bits (take k bytes) ++ byte =
+    sym (take_bytes (k + 1) bytes) ∙ ap (λ n. take n all) sum ∙ take-sum all (8 * k) 8 ∙ ap (λ t. t ++ take 8 (drop (8 * k) all)) (take_bytes k bytes)
+    ∙ ap (λ t. byte_bits (take k bytes) ++ t) here in
+    let whole = ap number_of parts ∙ number-append (byte_bits (take k bytes)) byte in
+    let scaled : number_of (byte_bits (take k bytes)) * 2 ^ length byte ≡ number_of (byte_bits (take k bytes)) * 256 =
+    ap (λ n. number_of (byte_bits (take k bytes)) * 2 ^ n) (sym eight) in
+    let last : number_of byte ≡ b = number-bits_of 8 b ∙ mod-eq_of_lt small in
+    omega (arith, whole, scaled, last)
+
+-- a number of few bytes
+pub few_below : (bytes : List ℕ) (k most : ℕ) → 8 * k ≤ most → k ≤ length bytes → number_of (byte_bits (take k bytes)) < 2 ^ most
+few_below bytes k most fits within =
+    let long : length (byte_bits (take k bytes)) ≡ 8 * k = length-byte_bits (take k bytes) ∙ ap (λ n. 8 * n) (length-take-le k bytes within) in
+    pow_lt_trans (number_of (byte_bits (take k bytes))) (8 * k) most (below_width (8 * k) (byte_bits (take k bytes)) long) fits
+
+-- the bits at a place in a byte, by so many bytes from there on
+pub few_from : (bytes : List ℕ) (byte bit position count held value : ℕ) → position ≡ 8 * byte + bit → bit + count ≤ 8 * held → byte + held ≤ length bytes →
+    value ≡ number_of (byte_bits (take held (drop byte bytes))) →
+    value / 2 ^ (8 * held - bit - count) % 2 ^ count ≡ number_of (take count (drop position (byte_bits bytes)))
+few_from bytes byte bit position count held value at fits inside is =
+    let all = drop (8 * byte) (byte_bits bytes) in
+    let long : 8 * held ≤ length all = omega (arith, length-drop (8 * byte) (byte_bits bytes), length-byte_bits bytes) in
+    let same : byte_bits (take held (drop byte bytes)) ≡ take (8 * held) all = sym (take_bytes held (drop byte bytes)) ∙ ap (take (8 * held)) (sym (drop_bytes byte bytes)) in
+    ap (λ v. v / 2 ^ (8 * held - bit - count) % 2 ^ count) (is ∙ ap number_of same)
+    ∙ number-part bit count (8 * held) (take (8 * held) all) (length-take-le (8 * held) all long) fits
+    ∙ ap number_of (take_front all bit count (8 * held) fits)
+    ∙ ap (λ t. number_of (take count t)) (drop-drop bit (8 * byte) (byte_bits bytes) ∙ ap (λ k. drop k (byte_bits bytes)) (omega arith))

@@ -62,7 +62,7 @@ pub(crate) fn field_of_eight(eight: u64, first: u32, count: u32) -> u32
     ((eight << first) >> 1 >> (63 - count)) as u32
 }
 
-// the bits at a place, byte by byte
+// the bits at a place, of the bytes that have them
 #[cold]
 fn bits_near_end(bytes: &[u8], position: u128, count: u32) -> u32
     requires few { count ≤ 32 }
@@ -70,26 +70,28 @@ fn bits_near_end(bytes: &[u8], position: u128, count: u32) -> u32
     ensures value { result ≡ number_of (take count (drop position (byte_bits bytes.now))) }
     ensures bound { result < 2 ^ count }
 {
-    let mut value = 0u32;
-    let mut place = position;
-    let mut left = count;
-    while left > 0 {
-        let byte = bytes[(place / 8) as usize];
-        let first = (place % 8) as u32;
-        let taken = left.min(8 - first);
-        value = value << taken | field(byte, first, taken);
-        place += taken as u128;
-        left -= taken;
+    if count == 0 {
+        return 0;
     }
-    value
+    let first = (position / 8) as usize;
+    let passed = (position % 8) as u32;
+    let held = (passed + count).div_ceil(8);
+    let value = number_of_few(&bytes[first..first + held as usize]);
+    ((value >> (8 * held - passed - count)) % (1 << count)) as u32
 }
 
-// these bits of a byte, counted from the most significant one
-fn field(byte: u8, first: u32, count: u32) -> u32
-    requires { first + count ≤ 8 }
-    ensures { result ≡ number_of (take count (drop first (bits_of 8 byte))) }
+// at most seven bytes as a number, the first one the most significant
+#[inline(always)]
+fn number_of_few(bytes: &[u8]) -> u64
+    requires { length bytes.now ≤ 7 }
+    ensures value { result ≡ number_of (byte_bits bytes.now) }
+    ensures bound { result < 2 ^ 56 }
 {
-    (byte as u32 >> (8 - first - count)) & ((1 << count) - 1)
+    let mut value = 0u64;
+    'bytes: for byte in bytes {
+        value = value * 256 + u64::from(*byte);
+    }
+    value
 }
 
 // how many bits stand before the last 1 bit, 0 where there is none

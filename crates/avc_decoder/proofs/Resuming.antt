@@ -1,9 +1,9 @@
 -- A stream that begins at one of its units decodes as it did there.
-use Rattle.std.specs.Prelude.{◌≡◌, ℕ, zero, suc, ◌+◌, ◌-◌, ◌^◌, ◌<◌, Bool, true, false, List, [], ◌∷◌, ◌++◌, length, map, take, drop, not, ◌&&◌}
+use Rattle.std.specs.Prelude.{◌≡◌, ℕ, zero, suc, ◌+◌, ◌-◌, ◌^◌, ◌<◌, ◌≤◌, Bool, true, false, List, [], ◌∷◌, ◌++◌, length, map, take, drop, not, ◌&&◌}
 use Rattle.std.specs.Prelude.{Option, Some, None, Result, Ok, Err, All, slice_get, refl}
 use Rattle.std.proofs.Common.{ap, sym, ◌∙◌, arith, append_assoc, append-nil}
 use Rattle.std.proofs.Math.Seq.{drop-append_seam, take-append_seam}
-use Rattle.std.proofs.lemmas.List.{drop-map, length-map, map-append, take-append-drop, take-map}
+use Rattle.std.proofs.lemmas.List.{drop-map, length-append, length-map, map-append, take-append-drop, take-map}
 use Rattle.std.proofs.lemmas.List.Elements.{All-cons, All-head, All-nil, All-tail, All-weaker}
 use Rattle.std.specs.List.{flat_map}
 use Rattle.avc_types.specs.declared.fault.Fault.{Fault}
@@ -21,7 +21,7 @@ use Rattle.avc_slice.specs.declared.slice.Slice.{Slice}
 use Rattle.avc_units.specs.Grouping.{Kind, slice, partition, sps, pps, boundary, other, OpenPictureFacts, ends_picture, is_start, kind}
 use Rattle.avc_units.specs.Grouping.{rbsp_of, readable, refusal_of, running_step, set_fault, set_unit, set_units, slice_in}
 use Rattle.avc_units.specs.Grouping.{slice_step, step, unreadable, waiting_step, with_header}
-use Rattle.avc_units.specs.Laws.{IsSetOf, SetsAreInForceAgain, SetsComeAlike, SetsInForceAreUnits}
+use Rattle.avc_units.specs.Laws.{IsSetOf, SetsAreInForceAgain, SetsComeAlike, SetsInForceAreFew, SetsInForceAreUnits}
 use Rattle.avc_units.specs.Resuming.{resumed, sets_in_force}
 use Rattle.avc_units.specs.declared.step.Next.{Next}
 use Rattle.avc_units.specs.declared.step.Next.TheVariants.{Nothing, FaultOfOpen, FaultOfOwn, Begins, Continues}
@@ -367,6 +367,50 @@ numbers_are numbered max bytes ended own n j u e =
     let there : slice_get (units max bytes ended) (n + j) ≡ Some u = sym (get-drop n (units max bytes ended) j) ∙ e in
     unsaturated u.index (n + j) (numbered max bytes ended (n + j) u there) (own (n + j) u there)
 
+-- ---- a stream of no more units
+
+get-within : {A : Type 0} (xs : List A) (n : ℕ) (x : A) → slice_get xs n ≡ Some x → n < length xs
+get-within [] n x e = cc
+get-within (y ∷ xs) zero x e = omega arith
+get-within (y ∷ xs) (suc n) x e = omega (arith, get-within xs n x e)
+
+record IsThere {A : Type 0} (xs : List A) (n : ℕ) : Type 0 where
+  item : A
+  is_there : slice_get xs n ≡ Some item
+
+within-get : {A : Type 0} (xs : List A) (n : ℕ) → n < length xs → IsThere xs n
+within-get [] n low = absurd (omega (arith, low))
+within-get (y ∷ xs) zero low = record { item = y; is_there = refl }
+within-get (y ∷ xs) (suc n) low = let later = within-get xs n (omega (arith, low)) in record { item = later.item; is_there = later.is_there }
+
+-- No number is cut off where the stream has no more units than one in which none is.
+fewer_own : UnitsAreNumbered → (max : ℕ) (bytes fewer : List ℕ) (ended : Bool)
+    → length (units max fewer ended) ≤ length (units max bytes ended) → HaveOwnNumbers (units max bytes ended) → HaveOwnNumbers (units max fewer ended)
+fewer_own numbered max bytes fewer ended few own n u e =
+    let within = get-within (units max fewer ended) n u e in
+    let there = within-get (units max bytes ended) n (omega (arith, within, few)) in
+    let same : u.index ≡ (there.item).index = numbered max fewer ended n u e ∙ sym (numbered max bytes ended n there.item there.is_there) in
+    omega (arith, same, own n there.item there.is_there)
+
+-- There are so many from a unit on, behind those that brought the sets in force.
+resumed_few : SetsInForceAreFew → (all us : List Piece) (k : ℕ)
+    → map contents us ≡ map contents (sets_in_force (take k all)) ++ map contents (drop k all) → length us ≤ length all
+resumed_few few all us k same =
+    let sets = sets_in_force (take k all) in
+    let later = drop k all in
+    let parts = ap length same in
+    omega (
+      arith,
+      parts,
+      length-map us contents,
+      length-map sets contents,
+      length-map later contents,
+      length-append (map contents sets) (map contents later),
+      few (take k all),
+      ap length (take-append-drop k all),
+      length-append (take k all) later,
+    )
+
 -- ---- the unit that closes a faulty picture
 
 -- what a slice that can be read does where a picture is open, by whether it begins another; and one that cannot, by whether that is full
@@ -444,8 +488,9 @@ drop-there [] k x e = cc
 drop-there (y ∷ xs) zero x e = cc
 drop-there (y ∷ xs) (suc k) x e = drop-there xs k x e
 
-pub starts_anew : UnitsStay → WrittenUnitsStand → UnitsAreNumbered → SetsAreInForceAgain → SetsInForceAreUnits → SetsComeAlike → StartsAnew
-starts_anew stay stand numbered again are come output max bytes ended k resumed_own own starts placed =
+pub starts_anew : UnitsStay → WrittenUnitsStand → UnitsAreNumbered → SetsAreInForceAgain → SetsInForceAreUnits → SetsInForceAreFew → SetsComeAlike
+    → StartsAnew
+starts_anew stay stand numbered again are few come output max bytes ended k own starts placed =
     let s = stands_too stay max bytes ended k starts.unit starts.is_there in
     let all = units max bytes ended in
     let before = take k all in
@@ -457,6 +502,7 @@ starts_anew stay stand numbered again are come output max bytes ended k resumed_
     let same : map contents (units max (resumed max bytes k) ended) ≡ map contents (sets_in_force before) ++ map contents (drop k all) =
     ap (λ b. map contents (units max b ended)) (resumed_is max bytes ended k starts.unit s)
     ∙ stand max bytes ended (sets_in_force before) k starts.unit sets starts.is_there placed in
+    let resumed_own = fewer_own numbered max bytes (resumed max bytes k) ended (resumed_few few all (units max (resumed max bytes k) ended) k same) own in
     let anew = resumes again are come output before (drop k all) (units max (resumed max bytes k) ended) k ended
     (numbers_are numbered max (resumed max bytes k) ended resumed_own 0)
     (numbers_are numbered max bytes ended own k)

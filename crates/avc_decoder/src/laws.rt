@@ -10,7 +10,9 @@ use avc_decoder_core::laws::{early_output_keeps_histories, idr_pictures_begin_an
 use avc_params::laws::sps_in_force_keeps_limits;
 use avc_picture::laws::{pictures_are_sized, pictures_name_no_places};
 use avc_slice::laws::headers_keep_idr_rules;
-use avc_units::laws::{sets_are_in_force_again, sets_come_alike, sets_in_force_are_units};
+use avc_units::laws::{
+    sets_are_in_force_again, sets_come_alike, sets_in_force_are_few, sets_in_force_are_units,
+};
 
 /// What has been handed out stays, whatever bytes follow, and whether the stream ends or not.
 pub fn events_only_grow()
@@ -38,8 +40,8 @@ pub fn pictures_are_whole()
 
 /// From a unit with which decoding starts, the events are those of a new decoder that is given the units whose parameter sets are
 /// in force there and then the bytes from that unit on, but for the unit numbers, which are shifted. Decoding waits before such a
-/// unit; or the unit closes the open picture, and that is a fault, of which the events come first. The numbers of the units of
-/// both streams and the offset of that unit are below the greatest u64, so that none is cut off.
+/// unit; or the unit closes the open picture, and that is a fault, of which the events come first. The numbers of the stream's units
+/// and the offset of that unit are below the greatest u64, so that none is cut off; then those of the new decoder's units are too.
 ///
 /// It says nothing of the events before that unit, nor of an IDR picture that comes while decoding runs: pictures from before
 /// it may still be held there, and a picture may be open.
@@ -51,6 +53,7 @@ pub fn resumed_streams_decode_alike()
     units_are_numbered();
     sets_are_in_force_again();
     sets_in_force_are_units();
+    sets_in_force_are_few();
     sets_come_alike();
 }
 

@@ -13,8 +13,8 @@ use crate::queue::Queue;
 use avc_decoder_core::{Output, Sequence};
 use avc_picture::PictureDecoder;
 use avc_plane::PADDING;
+use avc_slice::Slice;
 use avc_types::{Fault, OutOfMemory};
-use avc_units::HeapSlice;
 use std::alloc::Global;
 use std::marker::Model;
 
@@ -98,18 +98,17 @@ impl Pictures {
     }
 
     /// Opens a picture with its first slice. Says whether that was a fault.
-    pub fn begin(&mut self, slice: HeapSlice, sets: ActiveSets) -> Result<bool, OutOfMemory>
+    pub fn begin(&mut self, first: &Slice, sets: ActiveSets) -> Result<bool, OutOfMemory>
         requires going { self.old.failed ≡ false }
         requires rest { self.old.open_picture ≡ None }
         requires sps { IsSps sets.sps.now }
         requires pps { IsPps sets.pps.now }
-        requires within { IsHeader sets.sps.now sets.pps.now slice.rbsp slice.header }
+        requires within { IsHeader sets.sps.now sets.pps.now first.now.rbsp first.now.header }
         ensures fault { IfOk result (λ fault. fault
-            ≡ is_waiting (after_first_slice self.old.output (Some (sets.entry.pps.now, sets.entry.sps.now)) self.old.history slice).phase) }
+            ≡ is_waiting (after_first_slice self.old.output (Some (sets.entry.pps.now, sets.entry.sps.now)) self.old.history first.now).phase) }
         ensures state { OnOk result (self.new
-            ≡ after_outcome (after_first_slice self.old.output (Some (sets.entry.pps.now, sets.entry.sps.now)) self.old.history slice) self.old) }
+            ≡ after_outcome (after_first_slice self.old.output (Some (sets.entry.pps.now, sets.entry.sps.now)) self.old.history first.now) self.old) }
     {
-        let first = slice.get();
         self.failed = true;
         self.last_unit = first.unit;
         let after = begin_picture(
@@ -126,15 +125,14 @@ impl Pictures {
     }
 
     /// Decodes one slice more of the open picture, if there is one. Says whether that was a fault.
-    pub fn next_slice(&mut self, slice: HeapSlice) -> Result<bool, OutOfMemory>
+    pub fn next_slice(&mut self, further: &Slice) -> Result<bool, OutOfMemory>
         requires going { self.old.failed ≡ false }
-        requires continues { (o : OpenPicture) → self.old.open_picture ≡ Some o → CanContinue o slice }
+        requires continues { (o : OpenPicture) → self.old.open_picture ≡ Some o → CanContinue o further.now }
         ensures fault { IfOk result (λ fault. fault
-            ≡ is_waiting (after_next_slice self.old.output (running self.old.history self.old.open_picture) slice).phase) }
+            ≡ is_waiting (after_next_slice self.old.output (running self.old.history self.old.open_picture) further.now).phase) }
         ensures state { OnOk result (self.new
-            ≡ after_outcome (after_next_slice self.old.output (running self.old.history self.old.open_picture) slice) self.old) }
+            ≡ after_outcome (after_next_slice self.old.output (running self.old.history self.old.open_picture) further.now) self.old) }
     {
-        let further = slice.get();
         self.failed = true;
         let after = continue_picture(
             &mut self.sequence,

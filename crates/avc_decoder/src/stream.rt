@@ -1,8 +1,9 @@
 ghost use Rattle.std.specs.Prelude.{◌≡◌, None, Some, false, IfOk, OnOk, slice_get};
-ghost use Rattle.avc_decoder.specs.Events.{after_first_slice, is_waiting, sets_named};
+ghost use Rattle.avc_decoder.specs.Events.{after_first_slice, after_next_slice, is_waiting, running, sets_named};
+ghost use Rattle.avc_decoder.specs.FirstFault.{OpenPicture};
 ghost use Rattle.avc_decoder.specs.States.{closed_if, after_stream_end, after_stream_take};
 ghost use Rattle.avc_decoder.specs.States.{after_unit_in_stream, after_outcome, next_in, new_stream};
-ghost use Rattle.avc_decoder.specs.States.{after_fault_if, Agrees, Fits, Handles};
+ghost use Rattle.avc_decoder.specs.States.{after_fault_if, Agrees, CanContinue, Fits, Handles};
 ghost use Rattle.avc_params.specs.Tables.{sets_after};
 ghost use Rattle.avc_units.specs.GrouperState.{IsSliceUnder};
 
@@ -11,6 +12,8 @@ use crate::event::Event;
 use crate::pictures::Pictures;
 use avc_annexb::Unit;
 use avc_decoder_core::Output;
+use avc_params::ParamTable;
+use avc_slice::Slice;
 use avc_types::OutOfMemory;
 use avc_units::{Grouper, HeapSlice, Next};
 use std::alloc::Global;
@@ -155,7 +158,7 @@ fn perform(
             true
         }
         Next::Begins(slice) => begin(grouper, pictures, slice)?,
-        Next::Continues(slice) => pictures.next_slice(slice)?,
+        Next::Continues(slice) => go_on(grouper, pictures, slice)?,
     };
     if fault {
         grouper.fault(false);
@@ -164,23 +167,64 @@ fn perform(
 }
 
 /// Opens a picture under the parameter sets that its first slice names. Says whether that was a fault.
-fn begin(grouper: &Grouper, pictures: &mut Pictures, slice: HeapSlice) -> Result<bool, OutOfMemory>
+fn begin(
+    grouper: &mut Grouper,
+    pictures: &mut Pictures,
+    slice: HeapSlice,
+) -> Result<bool, OutOfMemory>
     requires going { pictures.old.failed ≡ false }
     requires rest { pictures.old.open_picture ≡ None }
-    requires within { IsSliceUnder (sets_after grouper.now.sets) slice }
+    requires within { IsSliceUnder (sets_after grouper.old.sets) slice }
     ensures fault { IfOk result (λ fault. fault ≡ is_waiting
-        (after_first_slice pictures.old.output (sets_named (sets_after grouper.now.sets) slice.header) pictures.old.history slice).phase) }
+        (after_first_slice pictures.old.output (sets_named (sets_after grouper.old.sets) slice.header) pictures.old.history slice).phase) }
     ensures state { OnOk result (pictures.new ≡ after_outcome
-        (after_first_slice pictures.old.output (sets_named (sets_after grouper.now.sets) slice.header) pictures.old.history slice) pictures.old) }
+        (after_first_slice pictures.old.output (sets_named (sets_after grouper.old.sets) slice.header) pictures.old.history slice) pictures.old) }
+    ensures grouper { OnOk result (grouper.new ≡ grouper.old) }
 {
-    let first = slice.get();
-    let table = grouper.table();
-    let Some(pps) = table.pps(first.header.pic_parameter_set_id) else {
+    let fault = begin_under(grouper.table(), pictures, slice.get())?;
+    grouper.take_back(slice);
+    Ok(fault)
+}
+
+/// The same under the sets in force.
+fn begin_under(
+    table: &ParamTable,
+    pictures: &mut Pictures,
+    slice: &Slice,
+) -> Result<bool, OutOfMemory>
+    requires going { pictures.old.failed ≡ false }
+    requires rest { pictures.old.open_picture ≡ None }
+    requires within { IsSliceUnder (sets_after table.now) slice.now }
+    ensures fault { IfOk result (λ fault. fault ≡ is_waiting
+        (after_first_slice pictures.old.output (sets_named (sets_after table.now) slice.now.header) pictures.old.history slice.now).phase) }
+    ensures state { OnOk result (pictures.new ≡ after_outcome
+        (after_first_slice pictures.old.output (sets_named (sets_after table.now) slice.now.header) pictures.old.history slice.now) pictures.old) }
+{
+    let Some(pps) = table.pps(slice.header.pic_parameter_set_id) else {
         return Ok(false);
     };
     let Some(sps) = table.sps(pps.seq_parameter_set_id) else {
         return Ok(false);
     };
     let fault = pictures.begin(slice, ActiveSets { sps, pps })?;
+    Ok(fault)
+}
+
+/// Decodes one slice more of the open picture. Says whether that was a fault.
+fn go_on(
+    grouper: &mut Grouper,
+    pictures: &mut Pictures,
+    slice: HeapSlice,
+) -> Result<bool, OutOfMemory>
+    requires going { pictures.old.failed ≡ false }
+    requires continues { (o : OpenPicture) → pictures.old.open_picture ≡ Some o → CanContinue o slice }
+    ensures fault { IfOk result (λ fault. fault
+        ≡ is_waiting (after_next_slice pictures.old.output (running pictures.old.history pictures.old.open_picture) slice).phase) }
+    ensures state { OnOk result (pictures.new
+        ≡ after_outcome (after_next_slice pictures.old.output (running pictures.old.history pictures.old.open_picture) slice) pictures.old) }
+    ensures grouper { OnOk result (grouper.new ≡ grouper.old) }
+{
+    let fault = pictures.next_slice(slice.get())?;
+    grouper.take_back(slice);
     Ok(fault)
 }

@@ -1,5 +1,6 @@
 ghost use Rattle.std.specs.Prelude.{◌≡◌};
-ghost use Rattle.std.specs.Prelude.{true};
+ghost use Rattle.std.specs.Prelude.{true, Some};
+ghost use Rattle.avc_types.specs.declared.references.Marking.TheVariants.{SlidingWindow};
 ghost use Rattle.avc_bits.specs.Bits.{where_set};
 ghost use Rattle.avc_bits.specs.Reader.{Reads};
 ghost use Rattle.avc_slice.specs.Filling.{Fills, adaptive};
@@ -53,6 +54,16 @@ fn put_operations(reader: &mut BitReader, place: &mut Option<Marking>) -> Result
     Ok(())
 }
 
+/// The sliding window, in a place that is large: nothing is written where that stands there already.
+fn set_sliding_window(place: &mut Option<Marking>)
+    ensures { place.new ≡ Some SlidingWindow }
+{
+    match place {
+        Some(Marking::SlidingWindow) => {}
+        _ => *place = Some(Marking::SlidingWindow),
+    }
+}
+
 /// dec_ref_pic_marking (7.3.3.3), of an IDR picture or of another, put into the header.
 pub(crate) fn put_marking(
     reader: &mut BitReader,
@@ -74,7 +85,7 @@ pub(crate) fn put_marking(
     if adaptive_ref_pic_marking_mode_flag {
         put_operations(reader, place)
     } else {
-        *place = Some(Marking::SlidingWindow);
+        set_sliding_window(place);
         Ok(())
     }
 }

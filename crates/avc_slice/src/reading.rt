@@ -4,7 +4,7 @@ ghost use Rattle.avc_bits.specs.Reader.{Reads};
 ghost use Rattle.avc_params.specs.Limits.{max_frame_num};
 ghost use Rattle.avc_params.specs.Tables.{sets_after};
 ghost use Rattle.avc_params.specs.Within.{IsPps, IsSps};
-ghost use Rattle.avc_slice.specs.Filling.{Fills, FillsList, empty_header, filled};
+ghost use Rattle.avc_slice.specs.Filling.{Fills, FillsList, filled};
 ghost use Rattle.avc_slice.specs.Header.{is_idr, slice_qp};
 ghost use Rattle.avc_slice.specs.Reading.{active_count, active_override, back, deblocking, idr_pic_id, is_qp};
 ghost use Rattle.avc_slice.specs.Reading.{marking, redundant_pic_cnt, filtering, front, header_in_rbsp};
@@ -138,6 +138,15 @@ fn put_modifications(
     Ok(())
 }
 
+/// Nothing, in a place that is large: where nothing stands there already, nothing is written.
+fn clear<T: Drop>(place: &mut Option<T>)
+    ensures { place.new ≡ None }
+{
+    if place.is_some() {
+        *place = None;
+    }
+}
+
 /// The entries of the list modification, where its flag is 1.
 fn put_modification_list(
     reader: &mut BitReader,
@@ -147,13 +156,13 @@ fn put_modification_list(
 ) -> Result<(), Fault>
     requires numbers { 1 ≤ max_frame_num }
     requires room { active_count ≤ 16 }
-    requires none { place.old ≡ None }
     ensures { Fills result place.new (modification_list max_frame_num active_count) reader.old reader.new }
 {
     let ref_pic_list_modification_flag_l0 = reader.flag()?;
     if ref_pic_list_modification_flag_l0 {
         put_modifications(reader, max_frame_num, active_count, place)
     } else {
+        clear(place);
         Ok(())
     }
 }
@@ -191,12 +200,12 @@ fn put_optional_weights(
     place: &mut Option<PredWeightTable>,
 ) -> Result<(), Fault>
     requires room { active_count ≤ 16 }
-    requires none { place.old ≡ None }
     ensures { Fills result place.new (where_set present (pred_weight_table active_count)) reader.old reader.new }
 {
     if present {
         put_pred_weight_table(reader, active_count, place)
     } else {
+        clear(place);
         Ok(())
     }
 }
@@ -209,9 +218,7 @@ fn put_p_list(
     modifications: &mut Option<UpTo<Modification, 16>>,
     table: &mut Option<PredWeightTable>,
 ) -> Result<ActiveCount, Fault>
-    requires sps { IsSps sps.now }
-    requires none { modifications.old ≡ None }
-    requires no_table { table.old ≡ None }
+    requires { IsSps sps.now }
     ensures { FillsList result modifications.new table.new (p_list pps.now sps.now) reader.old reader.new }
 {
     let active_override = read_active_override(reader, pps)?;
@@ -233,14 +240,14 @@ fn put_list_part(
     modifications: &mut Option<UpTo<Modification, 16>>,
     table: &mut Option<PredWeightTable>,
 ) -> Result<ActiveCount, Fault>
-    requires sps { IsSps sps.now }
-    requires none { modifications.old ≡ None }
-    requires no_table { table.old ≡ None }
+    requires { IsSps sps.now }
     ensures { FillsList result modifications.new table.new (list_part p pps.now sps.now) reader.old reader.new }
 {
     if p {
         put_p_list(reader, pps, sps, modifications, table)
     } else {
+        clear(modifications);
+        clear(table);
         Ok(ActiveCount {
             active_override: None,
             active_count: 0,
@@ -300,17 +307,17 @@ fn put_reference_marking(
     idr: bool,
     place: &mut Option<Marking>,
 ) -> Result<(), Fault>
-    requires { place.old ≡ None }
     ensures { Fills result place.new (where_set (not (nal_ref_idc == 0)) (marking idr)) reader.old reader.new }
 {
     if nal_ref_idc == 0 {
+        clear(place);
         Ok(())
     } else {
         put_marking(reader, idr, place)
     }
 }
 
-/// What stands after the front, under its parameter sets, put into a header in which nothing stands yet.
+/// What stands after the front, under its parameter sets, put into a header.
 fn put_back(
     reader: &mut BitReader,
     nal_ref_idc: u8,
@@ -322,7 +329,6 @@ fn put_back(
 ) -> Result<(), Fault>
     requires sps { IsSps sps.now }
     requires pps { IsPps pps.now }
-    requires empty { place.old ≡ empty_header }
     ensures { Fills result place.new (back nal_ref_idc idr front pps.now sps.now) reader.old reader.new }
 {
     if front.first_mb_in_slice >= sps.size_in_mbs() {
@@ -357,7 +363,6 @@ fn put_back(
 
 // The header, or the first fault in it.
 fn put_fields(header: u8, rbsp: &[u8], table: &ParamTable, place: &mut Header) -> Result<(), Fault>
-    requires { place.old ≡ empty_header }
     ensures { filled result place.new ≡ header_in_rbsp header (sets_after table.now) rbsp.now }
 {
     let nal_ref_idc = header / 32 % 4;
@@ -386,14 +391,13 @@ pub fn read_header(header: u8, rbsp: &[u8], table: &ParamTable) -> Result<Header
     Ok(read)
 }
 
-/// The same, put into a header in which nothing stands yet: a header is large, and so it is not handed on.
+/// The same, put into a header in which anything may stand: a header is large, and so it is not handed on.
 pub fn put_header(
     header: u8,
     rbsp: &[u8],
     table: &ParamTable,
     place: &mut Header,
 ) -> Result<(), Fault>
-    requires { place.old ≡ empty_header }
     ensures header { filled result place.new ≡ header_in_rbsp header (sets_after table.now) rbsp.now }
     ensures kept { IfOk result (λ _. IsReadUnder (sets_after table.now) rbsp.now place.new) }
     ensures idr { IfOk result (λ _. is_idr place.new ≡ (header % 32 == 5)) }

@@ -55,10 +55,10 @@ come_alike these those more same =
 -- ---- sets are in force again
 
 -- the units whose records are in force, of one kind, by id and all
-abbrev units_by : {A : Type 0} → (Option SetUnit → Option A) → (ℕ → SetUnit → Bool) → List Unit → ℕ → List Unit
+abbrev pub units_by : {A : Type 0} → (Option SetUnit → Option A) → (ℕ → SetUnit → Bool) → List Unit → ℕ → List Unit
 units_by record_of test before id = deciding_unit (is_some (record_of (decides (test id) before))) (test id) before
 
-abbrev all_by : {A : Type 0} → (Option SetUnit → Option A) → (ℕ → SetUnit → Bool) → List Unit → (count : ℕ) → List Unit
+abbrev pub all_by : {A : Type 0} → (Option SetUnit → Option A) → (ℕ → SetUnit → Bool) → List Unit → (count : ℕ) → List Unit
 all_by record_of test before count = flat_map (units_by record_of test before) (range_with_len 0 count)
 
 only_accepted : {A : Type 0} (record_of : Option SetUnit → Option A) (o : Option SetUnit) (r : Option A) → record_of None ≡ None → record_of o ≡ r
@@ -67,7 +67,7 @@ only_accepted record_of o None none is = none
 only_accepted record_of o (Some set) none is = is
 
 -- a set has one id
-abbrev HasOneId : (ℕ → SetUnit → Bool) → Type 0
+abbrev pub HasOneId : (ℕ → SetUnit → Bool) → Type 0
 HasOneId test = (i j : ℕ) (s : SetUnit) → test i s ≡ true → test j s ≡ true → i ≡ j
 
 apart_by : (test : ℕ → SetUnit → Bool) → HasOneId test → (id j : ℕ) → (j == id) ≡ false → (s : SetUnit) → test j s ≡ true
@@ -110,11 +110,11 @@ is_id-one : (i j : ℕ) (read : Option ℕ) → is_id i read ≡ true → is_id 
 is_id-one i j None first second = cc
 is_id-one i j (Some id) first second = sym (eqb-true id i first) ∙ eqb-true id j second
 
-sps_one_id : (i j : ℕ) (s : SetUnit) → is_sps i s ≡ true → is_sps j s ≡ true → i ≡ j
+pub sps_one_id : (i j : ℕ) (s : SetUnit) → is_sps i s ≡ true → is_sps j s ≡ true → i ≡ j
 sps_one_id i j (OfSps rbsp) first second = is_id-one i j (sps_id rbsp) first second
 sps_one_id i j (OfPps rbsp) first second = cc
 
-pps_one_id : (i j : ℕ) (s : SetUnit) → is_pps i s ≡ true → is_pps j s ≡ true → i ≡ j
+pub pps_one_id : (i j : ℕ) (s : SetUnit) → is_pps i s ≡ true → is_pps j s ≡ true → i ≡ j
 pps_one_id i j (OfSps rbsp) first second = cc
 pps_one_id i j (OfPps rbsp) first second = is_id-one i j (pps_id rbsp) first second
 
@@ -134,7 +134,7 @@ none_of record_of test other_test before count apart =
     (λ j. decides-other other_test (test j) (apart j) (is_some (record_of (decides (test j) before))) before)
 
 -- the units of both kinds, of so many ids
-abbrev units_of_both : List Unit → (sps_count pps_count : ℕ) → List Unit
+abbrev pub units_of_both : List Unit → (sps_count pps_count : ℕ) → List Unit
 units_of_both before sps_count pps_count = all_by sps_record is_sps before sps_count ++ all_by pps_record is_pps before pps_count
 
 sps_again : (before : List Unit) (id sps_count pps_count : ℕ) → ((set : Sps) → sps_in_force (set_units before) id ≡ Some set → id < sps_count)

@@ -2,3 +2,4 @@ mod Coming
 mod Refusals
 mod Again
 mod Deciding
+mod Few

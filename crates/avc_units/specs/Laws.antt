@@ -1,5 +1,5 @@
 -- Parameter sets that are sent again (7.4.1.2.1).
-use Rattle.std.specs.Prelude.{◌≡◌, ℕ, false, List, ◌++◌, Some, None, is_some, slice_get, IsTrue}
+use Rattle.std.specs.Prelude.{◌≡◌, ◌≤◌, ℕ, false, List, ◌++◌, length, Some, None, is_some, slice_get, IsTrue}
 use Rattle.std.specs.List.{All}
 use Rattle.avc_annexb.specs.declared.unit.Unit.{Unit}
 use Rattle.avc_params.specs.Tables.{Sets, sets_after}
@@ -22,6 +22,10 @@ pub record IsSetOf (before : List Unit) (u : Unit) : Type 0 where
 -- The units that brought the parameter sets in force are such units.
 abbrev pub SetsInForceAreUnits : Type 0
 SetsInForceAreUnits = (before : List Unit) → All (IsSetOf before) (sets_in_force before)
+
+-- They are no more than the units of the stream.
+abbrev pub SetsInForceAreFew : Type 0
+SetsInForceAreFew = (before : List Unit) → length (sets_in_force before) ≤ length before
 
 -- What more units bring into force does not depend on how the sets before came into force.
 abbrev pub SetsComeAlike : Type 0

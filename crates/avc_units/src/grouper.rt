@@ -4,6 +4,7 @@ ghost use Rattle.avc_units.specs.GrouperState.{after_fault, begins_a_picture, af
 ghost use Rattle.avc_units.specs.GrouperState.{open_picture_of, new_grouper, IfSlice, IsSliceUnder};
 ghost use Rattle.avc_units.specs.Grouping.{step, MayWantMemory};
 
+use crate::heap_slice::HeapSlice;
 use crate::last_header::LastHeader;
 use crate::step::{Next, Step};
 use crate::step_cases::UnitContext;
@@ -25,6 +26,8 @@ pub struct Grouper {
     // whether the last unit begins a picture also where closing was a fault
     restarts: bool,
     failed: bool,
+    // a slice that is over, in whose place the next one is read
+    over: Option<HeapSlice>,
 }
 
 impl Model for Grouper {
@@ -69,6 +72,7 @@ impl Grouper {
             last: None,
             restarts: false,
             failed: false,
+            over: None,
         }
     }
 
@@ -93,7 +97,7 @@ impl Grouper {
             last: &self.last,
             full,
         };
-        let step = step_of(self.alloc, &mut self.table, context, unit)?;
+        let step = step_of(self.alloc, &mut self.table, &mut self.over, context, unit)?;
         keep_last_header(&mut self.last, step.closes, &step.next);
         self.running = self.running | begins_a_picture(&step.next);
         self.restarts = step.even_after_fault & begins_a_picture(&step.next);
@@ -111,6 +115,13 @@ impl Grouper {
         self.running = false;
         self.last = None;
         self.restarts = false;
+    }
+
+    /// A slice that a step handed out is over: the next one is read in its place, so that for most slices no memory is taken.
+    pub fn take_back(&mut self, slice: HeapSlice)
+        ensures { self.new ≡ self.old }
+    {
+        self.over = Some(slice);
     }
 
     /// The parameter sets in force.

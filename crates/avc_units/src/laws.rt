@@ -1,6 +1,6 @@
 //! Laws of parameter sets that are sent again, over the definitions alone.
 
-ghost use Rattle.avc_units.specs.Laws.{SetsAreInForceAgain, SetsComeAlike, SetsInForceAreUnits};
+ghost use Rattle.avc_units.specs.Laws.{SetsAreInForceAgain, SetsComeAlike, SetsInForceAreFew, SetsInForceAreUnits};
 
 use avc_params::laws::{pps_in_force_keeps_limits, sps_in_force_keeps_limits};
 
@@ -15,6 +15,11 @@ pub fn sets_are_in_force_again()
 /// They are units of the stream, none is too long, and each is taken without a fault where decoding waits.
 pub fn sets_in_force_are_units()
     ensures { SetsInForceAreUnits }
+{}
+
+/// They are no more than the units of the stream.
+pub fn sets_in_force_are_few()
+    ensures { SetsInForceAreFew }
 {}
 
 /// What more units bring into force does not depend on how the sets before came into force.

@@ -15,7 +15,6 @@ use crate::step_cases::{UnitContext, no_effect, slice_or_start};
 use avc_annexb::Unit;
 use avc_bits::BitReader;
 use avc_params::ParamTable;
-use avc_slice::{Header, Slice, put_header};
 use avc_types::{Bytes, Fault, OutOfMemory};
 use std::alloc::Global;
 
@@ -37,34 +36,32 @@ fn can_start(rbsp: &[u8], idr: bool) -> bool
     idr && is_first(rbsp)
 }
 
-/// The slice with this RBSP, or the fault in its header.
+/// The slice with this RBSP, or the fault in its header. It is read in the place of one that is over, where there is such a one.
 fn read_slice(
     alloc: Global,
     table: &ParamTable,
+    over: &mut Option<HeapSlice>,
     unit: &Unit,
     rbsp: Bytes,
 ) -> Result<Result<HeapSlice, Fault>, OutOfMemory>
     ensures slice { IfOk result (λ read. read ≡ with_header unit.now rbsp (header_in_rbsp unit.now.header (sets_after table.now) rbsp)) }
     ensures kept { IfOk result (λ read. IfOk read (IsSliceUnder (sets_after table.now))) }
 {
-    let mut slice = Slice {
-        unit: unit.index,
-        header: Header::empty(),
-        rbsp,
-    };
-    match put_header(unit.header, slice.rbsp.as_slice(), table, &mut slice.header) {
-        Ok(()) => {
-            let slice = HeapSlice::new(alloc, slice)?;
-            Ok(Ok(slice))
+    let mut slice = HeapSlice::new(alloc, over.take(), unit.index, rbsp)?;
+    match slice.read_header(unit.header, table) {
+        Ok(()) => Ok(Ok(slice)),
+        Err(fault) => {
+            *over = Some(slice);
+            Ok(Err(fault))
         }
-        Err(fault) => Ok(Err(fault)),
     }
 }
 
-/// A slice's unit; `idr` says that its type is 5.
+/// A slice's unit; `idr` says that its type is 5. The slice is put in the place of one that is over, where there is such a one.
 pub(crate) fn slice_unit(
     alloc: Global,
     table: &ParamTable,
+    over: &mut Option<HeapSlice>,
     context: UnitContext,
     unit: &Unit,
     idr: bool,
@@ -80,7 +77,7 @@ pub(crate) fn slice_unit(
             let starts = can_start(rbsp.as_slice(), idr);
             // else nothing comes of it, whatever its header says
             if context.running | starts {
-                let read = read_slice(alloc, table, unit, rbsp)?;
+                let read = read_slice(alloc, table, over, unit, rbsp)?;
                 return Ok(slice_or_start(context, starts, read));
             }
             Ok(no_effect())

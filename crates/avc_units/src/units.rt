@@ -5,6 +5,7 @@ ghost use Rattle.avc_units.specs.GrouperState.{IfSlice, IsSliceUnder};
 ghost use Rattle.avc_units.specs.Grouping.{is_read, kind, list_of, rbsp_of, set_of, set_units, step, MayWantMemory};
 ghost use Rattle.avc_units.specs.Kinds.{meant, open_picture_in, step_by};
 
+use crate::heap_slice::HeapSlice;
 use crate::kinds::{UnitKind, kind_of};
 use crate::sets::{put_pps, put_sps};
 use crate::slices::slice_unit;
@@ -19,6 +20,7 @@ use std::alloc::Global;
 fn step_by(
     alloc: Global,
     table: &mut ParamTable,
+    over: &mut Option<HeapSlice>,
     context: UnitContext,
     unit: &Unit,
     unit_kind: UnitKind,
@@ -33,7 +35,7 @@ fn step_by(
     ensures read { OnErr result (is_read (meant unit_kind) ≡ true) }
 {
     match unit_kind {
-        UnitKind::Slice { idr } => slice_unit(alloc, table, context, unit, idr),
+        UnitKind::Slice { idr } => slice_unit(alloc, table, over, context, unit, idr),
         UnitKind::Partition => Ok(slice_or_start(context, false, Err(Fault::DataPartition))),
         UnitKind::Sps => put_sps(alloc, table, unit),
         UnitKind::Pps => put_pps(alloc, table, unit),
@@ -46,6 +48,7 @@ fn step_by(
 pub(crate) fn step_of(
     alloc: Global,
     table: &mut ParamTable,
+    over: &mut Option<HeapSlice>,
     context: UnitContext,
     unit: &Unit,
 ) -> Result<Step, OutOfMemory>
@@ -62,5 +65,5 @@ pub(crate) fn step_of(
             even_after_fault: true,
         });
     }
-    step_by(alloc, table, context, unit, kind_of(unit.header))
+    step_by(alloc, table, over, context, unit, kind_of(unit.header))
 }

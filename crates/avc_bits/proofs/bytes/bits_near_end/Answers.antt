@@ -1,27 +1,17 @@
-use Rattle.std.proofs.Common.{arith, refl, ◌≡◌, ◌-◌, ap, take, drop}
-use Rattle.avc_bits.specs.Bits.{number_of, byte_bits}
-use Rattle.avc_bits.proofs.Reading.{number-take_lt}
-use Rattle.avc_bits.proofs.Numbers.{more_bits}
+use Rattle.std.proofs.Common.{◌≡◌, ◌+◌, ◌-◌, ◌*◌, ◌/◌, ◌%◌, ◌^◌, take, drop, ap, arith, ◌∙◌}
+use Rattle.std.proofs.lemmas.Nat.{one_shl}
+use Rattle.avc_bits.specs.Bits.{byte_bits, number_of}
+use Rattle.avc_bits.proofs.Numbers.{few_from}
 use Rattle.avc_bits.proofs.bytes.bits_near_end.Goals as goal
 
-pub loop-left-init : goal.loop-left-init
-unfolding number_of
-loop-left-init c =
-    let none : c.args.count - c.args.count ≡ 0 = omega arith in
-    record { some = omega arith; place = refl; value = rw none refl }
-
-pub loop-left-preserved : goal.loop-left-preserved
-loop-left-preserved c =
-    let i = c.loop-left.invariant in
-    record {
-      some = omega arith;
-      place = omega arith;
-      value = more_bits c.args.bytes.now c.args.position c.args.count c.loop-left.left c.loop-left.place c.min-taken.result c.loop-left.value c.field.result
-          c.requires.few (c.requires.inside (omega arith)) i.some i.place (omega arith) (omega arith) (omega arith) i.value c.field.ensures;
-    }
-
-pub returns-clause-bound : goal.returns-clause-bound
-returns-clause-bound c =
-    let i = c.loop-left.invariant in
-    let all : c.args.count - c.loop-left.left ≡ c.args.count = omega arith in
-    omega (arith, i.value, ap (λ k. number_of (take k (drop c.args.position (byte_bits c.args.bytes.now)))) all, number-take_lt c.args.count (drop c.args.position (byte_bits c.args.bytes.now)))
+pub returns-clause-value : goal.returns-clause-value
+returns-clause-value c =
+    let bytes = c.args.bytes.now in
+    let first = c.args.position / 8 in
+    let passed = c.args.position % 8 in
+    let held = c.div_ceil-held.result in
+    let value = c.number_of_few-value in
+    let count : first + held - first ≡ held = omega arith in
+    let whole = value.ensures.value ∙ ap (λ n. number_of (byte_bits (take n (drop first bytes)))) count in
+    ap (λ m. value.result / 2 ^ (8 * held - passed - c.args.count) % m) (one_shl c.args.count 64 (omega arith))
+    ∙ few_from bytes first passed c.args.position c.args.count held value.result (omega arith) (omega (arith, c.div_ceil-held.ensures)) (omega arith) whole

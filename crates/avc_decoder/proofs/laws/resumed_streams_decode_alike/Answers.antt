@@ -9,4 +9,5 @@ returns c =
     c.units_are_numbered.ensures
     c.sets_are_in_force_again.ensures
     c.sets_in_force_are_units.ensures
+    c.sets_in_force_are_few.ensures
     c.sets_come_alike.ensures

@@ -1,0 +1,6 @@
+use Rattle.std.proofs.Common.{◌≡◌, take}
+use Rattle.avc_bits.specs.Bits.{byte_bits, number_of}
+use Rattle.avc_bits.proofs.bytes.number_of_few.Given as goal
+
+abbrev pub invariant-bytes : goal.invariant-bytes
+invariant-bytes l = l.value ≡ number_of (byte_bits (take l.byte-index l.bytes))

@@ -1,0 +1,5 @@
+use Rattle.avc_units.proofs.Few.{in_force_are_few}
+use Rattle.avc_units.proofs.laws.sets_in_force_are_few.Goals as goal
+
+pub returns : goal.returns
+returns c = in_force_are_few
