@@ -1,5 +1,6 @@
 //! The places of the levels (9.2.3).
-ghost use Rattle.std.specs.Prelude.{◌≡◌, ◌+◌, ◌-◌, ◌*◌, ◌≤◌, ◌<◌, ◌++◌, ℕ, ℤ, pos, List, drop, length, replicate, reverse, slice_index_or, take, IfOk, IsTrue, All};
+ghost use Rattle.std.specs.Prelude.{◌≡◌, ◌+◌, ◌-◌, ◌*◌, ◌≤◌, ◌<◌, ◌++◌, ℕ, ℤ, pos};
+ghost use Rattle.std.specs.Prelude.{List, drop, length, replicate, reverse, slice_index_or, take, IfOk, IsTrue, All};
 ghost use Rattle.avc_types.specs.Macroblock.{total_coeff};
 ghost use Rattle.avc_bits.specs.Reader.{Reads, reader_bits};
 ghost use Rattle.avc_vlc.specs.Reading.{run_before};

@@ -1,7 +1,8 @@
 ghost use Rattle.std.specs.Prelude.{◌≡◌, false, None, IfOk, IfSome, OnOk};
 ghost use Rattle.avc_decoder.specs.Events.{failed_at, is_waiting, pictures};
 ghost use Rattle.avc_decoder.specs.PictureFrames.{frames_for, CanHave};
-ghost use Rattle.avc_decoder.specs.States.{begun_in, closed_of, continued_in, with_events, HasOutcome, HasSliceOutcome, DecodesIn, HasReadMore, IsAnswerIn, IsOpen, IsOpenIn};
+ghost use Rattle.avc_decoder.specs.States.{begun_in, closed_of, continued_in, with_events};
+ghost use Rattle.avc_decoder.specs.States.{HasOutcome, HasSliceOutcome, DecodesIn, HasReadMore, IsAnswerIn, IsOpen, IsOpenIn};
 ghost use Rattle.avc_decoder_core.specs.Pictures.{held_pictures};
 ghost use Rattle.avc_decoder_core.specs.SequenceState.{empty_sequence, current_history, AreFramesIn, AreStoredIn};
 ghost use Rattle.avc_params.specs.Within.{IsPps, IsSps};

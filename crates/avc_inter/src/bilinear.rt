@@ -69,7 +69,8 @@ fn blends_of(
 ) -> [u8; 16]
     requires { IsWhole w }
     ensures { (k : ℕ) → k < 16 → slice_index result k ≡
-        (w.here * slice_index here.now k + w.right * slice_index right.now k + w.below * slice_index below.now k + w.across * slice_index across.now k + 32) / 64 }
+        (w.here * slice_index here.now k + w.right * slice_index right.now k
+        + w.below * slice_index below.now k + w.across * slice_index across.now k + 32) / 64 }
 {
     let (here, right, below, across) = (*here, *right, *below, *across);
     let mut out = [0; 16];

@@ -197,7 +197,8 @@ pub fn quarter_rows<const L: usize, const W: usize>(
     requires room { IsRoom W (16 / L * count) to.first to.stride (length out.old) }
     requires samples { HasPlaces L stride (16 * count) (at + by + 5 * step) p.now }
     requires whole { HasPlaces L stride (16 * count) (at + whole) p.now }
-    ensures { IsStridedSet W (16 / L * count) to.first to.stride (λ x y. mean_of_two (slice_index p.now (whole + (at + (y * stride + x)))) (half_along p.now (by + (at + (y * stride + x))) step)) out.old out.new }
+    ensures { IsStridedSet W (16 / L * count) to.first to.stride
+        (λ x y. mean_of_two (slice_index p.now (whole + (at + (y * stride + x)))) (half_along p.now (by + (at + (y * stride + x))) step)) out.old out.new }
 {
     let lines = 16 / L * stride;
     let rows = 16 / L * to.stride;
@@ -228,7 +229,9 @@ pub fn diagonal_rows<const L: usize, const W: usize>(
     requires room { IsRoom W (16 / L * count) to.first to.stride (length out.old) }
     requires across { HasPlaces L stride (16 * count) (at + across + 5 * 1) p.now }
     requires down { HasPlaces L stride (16 * count) (at + down + 5 * stride) p.now }
-    ensures { IsStridedSet W (16 / L * count) to.first to.stride (λ x y. mean_of_two (half_along p.now (across + (at + (y * stride + x))) 1) (half_along p.now (down + (at + (y * stride + x))) stride)) out.old out.new }
+    ensures { IsStridedSet W (16 / L * count) to.first to.stride
+        (λ x y. mean_of_two (half_along p.now (across + (at + (y * stride + x))) 1)
+        (half_along p.now (down + (at + (y * stride + x))) stride)) out.old out.new }
 {
     let lines = 16 / L * stride;
     let rows = 16 / L * to.stride;
@@ -424,7 +427,8 @@ pub fn centre_rows_across<const L: usize, const W: usize>(
     requires from { from ≤ 5 * L }
     requires few { 16 * count + 5 * L ≤ 336 }
     requires small { AreSums (16 * count + 5 * L) m.now }
-    ensures { IsStridedSet W (16 / L * count) to.first to.stride (λ x y. mean_of_two (centre_along m.now (L * y + x) L) (rounded_sum (slice_index_or m.now (from + (L * y + x)) (pos 0)))) out.old out.new }
+    ensures { IsStridedSet W (16 / L * count) to.first to.stride
+        (λ x y. mean_of_two (centre_along m.now (L * y + x) L) (rounded_sum (slice_index_or m.now (from + (L * y + x)) (pos 0)))) out.old out.new }
 {
     let rows = 16 / L * to.stride;
     for y in 0..count {
@@ -455,7 +459,8 @@ pub fn centre_rows_down<const L: usize, const W: usize>(
     requires samples { HasPlaces L stride (16 * count) (at + by + 5 * stride) p.now }
     requires few { 16 * count + 5 * L ≤ 336 }
     requires small { AreSums (16 * count + 5 * L) m.now }
-    ensures { IsStridedSet W (16 / L * count) to.first to.stride (λ x y. mean_of_two (centre_along m.now (L * y + x) L) (half_along p.now (by + (at + (y * stride + x))) stride)) out.old out.new }
+    ensures { IsStridedSet W (16 / L * count) to.first to.stride
+        (λ x y. mean_of_two (centre_along m.now (L * y + x) L) (half_along p.now (by + (at + (y * stride + x))) stride)) out.old out.new }
 {
     let lines = 16 / L * stride;
     let rows = 16 / L * to.stride;

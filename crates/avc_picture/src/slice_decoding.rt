@@ -15,7 +15,8 @@ ghost use Rattle.avc_deblock.specs.Facts.{Names};
 ghost use Rattle.avc_picture_core.specs.References.{AreUsable};
 ghost use Rattle.avc_picture.specs.Context.{ArePlacesIn, IsContextAt};
 ghost use Rattle.avc_picture.specs.Decoding.{AreFramesOf};
-ghost use Rattle.avc_picture.specs.DecoderState.{CanGoOn, CanHaveFirst, GoesOn, HasFirst, IsDataAnswer, IsDataOf, IsDecodedSlice, IsWellSomewhere, outcome_from};
+ghost use Rattle.avc_picture.specs.DecoderState.{CanGoOn, CanHaveFirst, GoesOn, HasFirst};
+ghost use Rattle.avc_picture.specs.DecoderState.{IsDataAnswer, IsDataOf, IsDecodedSlice, IsWellSomewhere, outcome_from};
 ghost use Rattle.avc_picture.specs.FirstMbs.{HasSameSize, HoldsFirst};
 ghost use Rattle.avc_picture.specs.Slices.{data_of, start_of};
 

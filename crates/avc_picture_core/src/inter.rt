@@ -75,7 +75,8 @@ fn predict_part<const W: usize, const H: usize, const CW: usize, const CH: usize
     requires usable { AreUsableAt place.column place.row references.now }
     requires pictures { have_pictures references.now motion.now ≡ true }
     requires one { HaveOneMotion motion.now corner.x corner.y W H }
-    ensures { planes_of planes.new ≡ with_part place.column place.row corner.x corner.y W H (wanted references.now place.column place.row motion.now) (planes_of planes.old) }
+    ensures { planes_of planes.new
+        ≡ with_part place.column place.row corner.x corner.y W H (wanted references.now place.column place.row motion.now) (planes_of planes.old) }
 {
     let block = motion[block_at(corner.x, corner.y)];
     if let (Motion::Inter { mv, .. }, Some(picture)) = (block, picture_of(references, block)) {
@@ -106,7 +107,8 @@ fn predict_wide_halves<
     requires pictures { have_pictures references.now motion.now ≡ true }
     requires upper { HaveOneMotion motion.now corner.x corner.y S H }
     requires lower { HaveOneMotion motion.now corner.x (corner.y + H) S H }
-    ensures { planes_of planes.new ≡ with_part place.column place.row corner.x corner.y S S (wanted references.now place.column place.row motion.now) (planes_of planes.old) }
+    ensures { planes_of planes.new
+        ≡ with_part place.column place.row corner.x corner.y S S (wanted references.now place.column place.row motion.now) (planes_of planes.old) }
 {
     let lower = Corner {
         x: corner.x,
@@ -138,7 +140,8 @@ fn predict_tall_halves<
     requires pictures { have_pictures references.now motion.now ≡ true }
     requires left { HaveOneMotion motion.now corner.x corner.y W S }
     requires right { HaveOneMotion motion.now (corner.x + W) corner.y W S }
-    ensures { planes_of planes.new ≡ with_part place.column place.row corner.x corner.y S S (wanted references.now place.column place.row motion.now) (planes_of planes.old) }
+    ensures { planes_of planes.new
+        ≡ with_part place.column place.row corner.x corner.y S S (wanted references.now place.column place.row motion.now) (planes_of planes.old) }
 {
     let right = Corner {
         x: corner.x + W,
@@ -161,7 +164,8 @@ fn predict_blocks<const PAD: usize>(
     requires macroblock { CoverMacroblock place.column place.row (planes_of planes.old) }
     requires usable { AreUsableAt place.column place.row references.now }
     requires pictures { have_pictures references.now motion.now ≡ true }
-    ensures { planes_of planes.new ≡ with_part place.column place.row corner.x corner.y 8 8 (wanted references.now place.column place.row motion.now) (planes_of planes.old) }
+    ensures { planes_of planes.new
+        ≡ with_part place.column place.row corner.x corner.y 8 8 (wanted references.now place.column place.row motion.now) (planes_of planes.old) }
 {
     let (x, y) = (corner.x, corner.y);
     predict_part::<4, 4, 2, 2, PAD>(references, place, motion, corner, planes);
@@ -189,7 +193,9 @@ fn predict_quarter<const PAD: usize>(
     requires macroblock { CoverMacroblock place.column place.row (planes_of planes.old) }
     requires usable { AreUsableAt place.column place.row references.now }
     requires pictures { have_pictures references.now motion.now ≡ true }
-    ensures { planes_of planes.new ≡ with_part place.column place.row (8 * (quarter % 2)) (8 * (quarter / 2)) 8 8 (wanted references.now place.column place.row motion.now) (planes_of planes.old) }
+    ensures { planes_of planes.new
+        ≡ with_part place.column place.row (8 * (quarter % 2)) (8 * (quarter / 2)) 8 8
+        (wanted references.now place.column place.row motion.now) (planes_of planes.old) }
 {
     let corner = Corner {
         x: 8 * (quarter % 2),
@@ -219,7 +225,8 @@ fn predict_quarters<const PAD: usize>(
     requires macroblock { CoverMacroblock place.column place.row (planes_of planes.old) }
     requires usable { AreUsableAt place.column place.row references.now }
     requires pictures { have_pictures references.now motion.now ≡ true }
-    ensures { planes_of planes.new ≡ with_part place.column place.row 0 0 16 16 (wanted references.now place.column place.row motion.now) (planes_of planes.old) }
+    ensures { planes_of planes.new
+        ≡ with_part place.column place.row 0 0 16 16 (wanted references.now place.column place.row motion.now) (planes_of planes.old) }
 {
     predict_quarter(references, place, motion, 0, planes);
     predict_quarter(references, place, motion, 1, planes);
@@ -240,7 +247,8 @@ fn predict_macroblock<const PAD: usize>(
     requires usable { AreUsableAt place.column place.row references.now }
     requires pictures { have_pictures references.now motion.now ≡ true }
     requires shape { IsMacroblockShape motion.now shape }
-    ensures { planes_of planes.new ≡ with_part place.column place.row 0 0 16 16 (wanted references.now place.column place.row motion.now) (planes_of planes.old) }
+    ensures { planes_of planes.new
+        ≡ with_part place.column place.row 0 0 16 16 (wanted references.now place.column place.row motion.now) (planes_of planes.old) }
 {
     let corner = Corner { x: 0, y: 0 };
     match shape {

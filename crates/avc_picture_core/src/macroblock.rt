@@ -87,9 +87,12 @@ fn add_residual<const PAD: usize>(
     requires luma { qp.luma ≤ 51 }
     requires chroma { qp.chroma ≤ 39 }
     requires levels { IsResidual (residual_of [] levels.now) }
-    ensures luma { planes.new.luma ≡ with_residual planes.old.luma (16 * place.column) (16 * place.row) 16 16 (luma_residual qp.luma (residual_of [] levels.now)) }
-    ensures cb { planes.new.cb ≡ with_residual planes.old.cb (8 * place.column) (8 * place.row) 8 8 (chroma_residual qp.chroma levels.now.cb_dc levels.now.cb_ac) }
-    ensures cr { planes.new.cr ≡ with_residual planes.old.cr (8 * place.column) (8 * place.row) 8 8 (chroma_residual qp.chroma levels.now.cr_dc levels.now.cr_ac) }
+    ensures luma { planes.new.luma
+        ≡ with_residual planes.old.luma (16 * place.column) (16 * place.row) 16 16 (luma_residual qp.luma (residual_of [] levels.now)) }
+    ensures cb { planes.new.cb
+        ≡ with_residual planes.old.cb (8 * place.column) (8 * place.row) 8 8 (chroma_residual qp.chroma levels.now.cb_dc levels.now.cb_ac) }
+    ensures cr { planes.new.cr
+        ≡ with_residual planes.old.cr (8 * place.column) (8 * place.row) 8 8 (chroma_residual qp.chroma levels.now.cr_dc levels.now.cr_ac) }
 {
     add_luma_residual(&mut planes.luma, place, levels, qp.luma);
     add_chroma_residual(

@@ -81,7 +81,8 @@ fn set_luma<const W: usize, const H: usize, const PAD: usize>(
     requires plane_rows { 16 * place.row + 16 ≤ plane.old.height }
     requires weight { IfSome by IsWeight }
     ensures { plane.new ≡ with_block plane.old (16 * place.column + corner.x) (16 * place.row + corner.y) W H (λ x y. weighted_by by
-        (inter_luma reference.now.width reference.now.height (sample reference.now) mv (16 * place.column + (corner.x + x)) (16 * place.row + (corner.y + y)))) }
+        (inter_luma reference.now.width reference.now.height (sample reference.now) mv
+        (16 * place.column + (corner.x + x)) (16 * place.row + (corner.y + y)))) }
 {
     let width = reference.width();
     let height = reference.height();
@@ -118,7 +119,8 @@ fn set_chroma<const W: usize, const H: usize, const PAD: usize>(
     requires plane_rows { 8 * place.row + 8 ≤ plane.old.height }
     requires weight { IfSome by IsWeight }
     ensures { plane.new ≡ with_block plane.old (8 * place.column + corner.x) (8 * place.row + corner.y) W H (λ x y. weighted_by by
-        (inter_chroma reference.now.width reference.now.height (sample reference.now) mv (8 * place.column + (corner.x + x)) (8 * place.row + (corner.y + y)))) }
+        (inter_chroma reference.now.width reference.now.height (sample reference.now) mv
+        (8 * place.column + (corner.x + x)) (8 * place.row + (corner.y + y)))) }
 {
     let width = reference.width();
     let height = reference.height();
