@@ -1,8 +1,8 @@
 -- One block more.
-use Rattle.std.proofs.Common.{◌≡◌, ◌≢◌, ℕ, zero, suc, ◌+◌, ◌*◌, ◌/◌, ◌%◌, ◌^◌, append-nil, append_assoc, ◌<◌, ◌≤◌, min, ℤ, pos, Bool, true, false, List, [], ◌∷◌, ◌++◌, length, length-set, take, get_or, set, map, refl, ap, subst, ◌∙◌, sym, arith, inl, inr}
+use Rattle.std.proofs.Common.{◌≡◌, ◌≢◌, ℕ, zero, suc, ◌+◌, ◌/◌, ◌^◌, append-nil, append_assoc, ◌<◌, ◌≤◌, min, ℤ, pos, Bool, true, false, List, [], ◌∷◌, ◌++◌, length, take, get_or, set, map, refl, ap, subst, ◌∙◌, sym, arith, inl, inr}
 use Rattle.std.specs.Prelude.{Ok, Err, Option, replicate, ◌==◌, ◌||◌, nat_le, nat_lt, if◌then◌else◌}
 use Rattle.std.specs.List.{All, range_with_len}
-use Rattle.std.proofs.lemmas.List.Elements.{All-append, All-replicate}
+use Rattle.std.proofs.lemmas.List.Elements.{All-append}
 use Rattle.std.proofs.lemmas.Bool.{cases_lt, le-ltb, ne_eqb}
 use Rattle.std.proofs.lemmas.List.{get_or-replicate, get_or-set_other, get_or_past, length-replicate, map-append, replicate_more, take_more, take_more_set}
 use Rattle.avc_types.specs.Macroblock.{total_coeff}
@@ -110,90 +110,28 @@ counts_more counts bs k b within inside so_far =
     ∙ sym (map-append total_coeff (take k bs) (b ∷ []))
     ∙ sym (ap (map total_coeff) (take_more_set bs k b inside))
 
--- ---- four blocks that are not coded
+-- ---- a block that is not coded
 
 pub total_none : (max : ℕ) → total_coeff (no_levels max) ≡ 0
 total_none zero = refl
 total_none (suc n) = total_none n
 
-one_passed : (max size : ℕ) (coded : ℕ → Bool) (left up : Option (List ℕ)) (k n more : ℕ) (done : List (List ℤ)) (b : Bits) → more ≡ suc n → coded k ≡ false →
-    blocks max size coded left up (range_with_len k more) done b ≡ blocks max size coded left up (range_with_len (k + 1) n) (done ++ no_levels max ∷ []) b
-one_passed max size coded left up k n more done b is_more none =
-    rw is_more (next_block max size coded left up k (range_with_len (k + 1) n) done (no_levels max) b b (rw none refl))
+pub block_passed : (max size : ℕ) (coded : ℕ → Bool) (left up : Option (List ℕ)) (k n more : ℕ) (levels : List (List ℤ)) (b : Bits) → more ≡ suc n → k < length levels → coded k ≡ false →
+    blocks max size coded left up (range_with_len k more) (take k levels) b ≡ blocks max size coded left up (range_with_len (k + 1) n) (take (k + 1) (set levels k (no_levels max))) b
+block_passed max size coded left up k n more levels b is_more within none =
+    let one : take (k + 1) (set levels k (no_levels max)) ≡ take k levels ++ no_levels max ∷ [] = take_more_set levels k (no_levels max) within in
+    rw is_more (next_block max size coded left up k (range_with_len (k + 1) n) (take k levels) (no_levels max) b b (rw none refl))
+    ∙ ap (λ l. blocks max size coded left up (range_with_len (k + 1) n) l b) (sym one)
 
-four_more : {A : Type 0} (done : List A) (x : A) → (((done ++ x ∷ []) ++ x ∷ []) ++ x ∷ []) ++ x ∷ [] ≡ done ++ replicate 4 x
-four_more done x =
-    ap (λ l. (l ++ x ∷ []) ++ x ∷ []) (append_assoc done (x ∷ []) (x ∷ []))
-    ∙ ap (λ l. l ++ x ∷ []) (append_assoc done (x ∷ x ∷ []) (x ∷ []))
-    ∙ append_assoc done (x ∷ x ∷ x ∷ []) (x ∷ [])
-
-pub four_passed : (max size : ℕ) (coded : ℕ → Bool) (left up : Option (List ℕ)) (k n more : ℕ) (done : List (List ℤ)) (b : Bits) → more ≡ n + 4 → ((i : ℕ) → k ≤ i → i < k + 4 → coded i ≡ false) →
-    blocks max size coded left up (range_with_len k more) done b ≡ blocks max size coded left up (range_with_len (k + 4) n) (done ++ replicate 4 (no_levels max)) b
-four_passed max size coded left up k n more done b is_more none =
-    let z = no_levels max in
-    let fourth : k + 1 + 1 + 1 + 1 ≡ k + 4 = omega arith in
-    one_passed max size coded left up k (n + 3) more done b (omega (arith, is_more)) (none k (omega arith) (omega arith))
-    ∙ one_passed max size coded left up (k + 1) (n + 2) (n + 3) (done ++ z ∷ []) b (omega arith) (none (k + 1) (omega arith) (omega arith))
-    ∙ one_passed max size coded left up (k + 1 + 1) (n + 1) (n + 2) ((done ++ z ∷ []) ++ z ∷ []) b (omega arith) (none (k + 1 + 1) (omega arith) (omega arith))
-    ∙ one_passed max size coded left up (k + 1 + 1 + 1) n (n + 1) (((done ++ z ∷ []) ++ z ∷ []) ++ z ∷ []) b (omega arith) (none (k + 1 + 1 + 1) (omega arith) (omega arith))
-    ∙ ap (λ i. blocks max size coded left up (range_with_len i n) ((((done ++ z ∷ []) ++ z ∷ []) ++ z ∷ []) ++ z ∷ []) b) fourth
-    ∙ ap (λ l. blocks max size coded left up (range_with_len (k + 4) n) l b) (four_more done z)
-
--- four elements more that are the same
-same_more : {A : Type 0} (xs front : List A) (k i : ℕ) (x : A) → k < length xs → take k xs ≡ front ++ replicate i x → get_or xs k x ≡ x → take (k + 1) xs ≡ front ++ replicate (i + 1) x
-same_more xs front k i x within so_far is =
-    take_more xs k x within
-    ∙ ap (λ y. take k xs ++ y ∷ []) is
-    ∙ ap (λ l. l ++ x ∷ []) so_far
-    ∙ append_assoc front (replicate i x) (x ∷ [])
-    ∙ ap (λ l. front ++ l) (replicate_more i x)
-
-pub four_same : {A : Type 0} (xs : List A) (k : ℕ) (x : A) → k + 4 ≤ length xs → get_or xs k x ≡ x → get_or xs (k + 1) x ≡ x → get_or xs (k + 2) x ≡ x → get_or xs (k + 3) x ≡ x →
-    take (k + 4) xs ≡ take k xs ++ replicate 4 x
-four_same xs k x long e0 e1 e2 e3 =
-    let front = take k xs in
-    let second : k + 2 ≡ k + 1 + 1 = omega arith in
-    let third : k + 3 ≡ k + 2 + 1 = omega arith in
-    let fourth : k + 4 ≡ k + 3 + 1 = omega arith in
-    let t1 : take (k + 1) xs ≡ front ++ replicate 1 x = same_more xs front k 0 x (omega (arith, long)) (sym (append-nil front)) e0 in
-    let t2 : take (k + 2) xs ≡ front ++ replicate 2 x = ap (λ n. take n xs) second ∙ same_more xs front (k + 1) 1 x (omega (arith, long)) t1 e1 in
-    let t3 : take (k + 3) xs ≡ front ++ replicate 3 x = ap (λ n. take n xs) third ∙ same_more xs front (k + 2) 2 x (omega (arith, long)) t2 e2 in
-    ap (λ n. take n xs) fourth ∙ same_more xs front (k + 3) 3 x (omega (arith, long)) t3 e3
-
-set_more : {A : Type 0} (xs front : List A) (k i : ℕ) (x : A) → k < length xs → take k xs ≡ front ++ replicate i x → take (k + 1) (set xs k x) ≡ front ++ replicate (i + 1) x
-set_more xs front k i x within so_far =
-    take_more_set xs k x within
-    ∙ ap (λ l. l ++ x ∷ []) so_far
-    ∙ append_assoc front (replicate i x) (x ∷ [])
-    ∙ ap (λ l. front ++ l) (replicate_more i x)
-
-pub four_set : {A : Type 0} (xs : List A) (k : ℕ) (x : A) → k + 4 ≤ length xs → take (k + 4) (set (set (set (set xs k x) (k + 1) x) (k + 2) x) (k + 3) x) ≡ take k xs ++ replicate 4 x
-four_set xs k x long =
-    let front = take k xs in
-    let a = set xs k x in
-    let b = set a (k + 1) x in
-    let c = set b (k + 2) x in
-    let second : k + 2 ≡ k + 1 + 1 = omega arith in
-    let third : k + 3 ≡ k + 2 + 1 = omega arith in
-    let fourth : k + 4 ≡ k + 3 + 1 = omega arith in
-    let la : length a ≡ length xs = length-set xs k x in
-    let lb : length b ≡ length xs = length-set a (k + 1) x ∙ la in
-    let lc : length c ≡ length xs = length-set b (k + 2) x ∙ lb in
-    let t1 : take (k + 1) a ≡ front ++ replicate 1 x = set_more xs front k 0 x (omega (arith, long)) (sym (append-nil front)) in
-    let t2 : take (k + 2) b ≡ front ++ replicate 2 x = ap (λ n. take n b) second ∙ set_more a front (k + 1) 1 x (omega (arith, long, la)) t1 in
-    let t3 : take (k + 3) c ≡ front ++ replicate 3 x = ap (λ n. take n c) third ∙ set_more b front (k + 2) 2 x (omega (arith, long, lb)) t2 in
-    ap (λ n. take n (set c (k + 3) x)) fourth ∙ set_more c front (k + 3) 3 x (omega (arith, long, lc)) t3
-
-pub counts_four : (counts : List ℕ) (bs new : List (List ℤ)) (max k : ℕ) → k + 4 ≤ length counts → ((j : ℕ) → k ≤ j → get_or counts j 0 ≡ 0) → take k counts ≡ map total_coeff (take k bs) →
-    take (k + 4) new ≡ take k bs ++ replicate 4 (no_levels max) → take (k + 4) counts ≡ map total_coeff (take (k + 4) new)
-counts_four counts bs new max k long none so_far cleared =
-    let z = no_levels max in
-    let zeros : replicate 4 0 ≡ map total_coeff (replicate 4 z) = rw (total_none max) refl in
-    four_same counts k 0 long (none k (omega arith)) (none (k + 1) (omega arith)) (none (k + 2) (omega arith)) (none (k + 3) (omega arith))
-    ∙ ap (λ l. l ++ replicate 4 0) so_far
-    ∙ ap (λ l. map total_coeff (take k bs) ++ l) zeros
-    ∙ sym (map-append total_coeff (take k bs) (replicate 4 z))
-    ∙ ap (map total_coeff) (sym cleared)
+pub counts_passed : (counts : List ℕ) (bs : List (List ℤ)) (max k : ℕ) → k < length counts → k < length bs → get_or counts k 0 ≡ 0 →
+    take k counts ≡ map total_coeff (take k bs) → take (k + 1) counts ≡ map total_coeff (take (k + 1) (set bs k (no_levels max)))
+counts_passed counts bs max k within inside none so_far =
+    let one : take (k + 1) (set bs k (no_levels max)) ≡ take k bs ++ no_levels max ∷ [] = take_more_set bs k (no_levels max) inside in
+    take_more counts k 0 within
+    ∙ ap (λ n. take k counts ++ n ∷ []) (none ∙ sym (total_none max))
+    ∙ ap (λ l. l ++ total_coeff (no_levels max) ∷ []) so_far
+    ∙ sym (map-append total_coeff (take k bs) (no_levels max ∷ []))
+    ∙ ap (map total_coeff) (sym one)
 
 -- those that come later are all 0 still
 pub all_zero : {A : Type 0} (n : ℕ) (a : A) (j : ℕ) → get_or (replicate n a) j a ≡ a
@@ -216,11 +154,6 @@ one_block P x here (suc k) d within = absurd (omega arith)
 pub all_more : (P : List ℤ → Type 0) (xs : List (List ℤ)) (k : ℕ) (x : List ℤ) → k < length xs → All P (take k xs) → P x → All P (take (k + 1) (set xs k x))
 all_more P xs k x within all here = subst (All P) (sym (take_more_set xs k x within)) (All-append P (take k xs) (x ∷ []) all (one_block P x here))
 
-pub four_small : (P : List ℤ → Type 0) (done all : List (List ℤ)) (x : List ℤ) → All P done → P x → all ≡ done ++ replicate 4 x → All P all
-four_small P done all x before here is = subst (All P) (sym is) (All-append P done (replicate 4 x) before (All-replicate P 4 x here))
-
--- a quarter's blocks have one bit
-pub same_quarter : (pattern q k : ℕ) (value : Bool) → is_coded pattern (4 * q) ≡ value → 4 * q ≤ k → k < 4 * q + 4 → is_coded pattern k ≡ value
-same_quarter pattern q k value is low high =
-    let same : k / 4 ≡ (4 * q) / 4 = omega (arith, low, high) in
-    ap (λ d. (pattern / 2 ^ d) % 2 == 1) same ∙ is
+-- one block more that is cleared
+pub cleared_more : (xs : List (List ℤ)) (k n : ℕ) (x : List ℤ) → k < length xs → take k xs ≡ replicate k x → take (k + 1) (set xs k x) ≡ replicate (k + 1) x
+cleared_more xs k n x within so_far = take_more_set xs k x within ∙ ap (λ l. l ++ x ∷ []) so_far ∙ replicate_more k x

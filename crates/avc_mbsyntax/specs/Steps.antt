@@ -1,5 +1,5 @@
 -- What is read of a macroblock into its place.
-use Rattle.std.specs.Prelude.{◌≡◌, ℕ, ◌+◌, ◌<◌, ◌≤◌, pos, Bool, true, false, List, replicate, Result, Ok, Err, MatchResult}
+use Rattle.std.specs.Prelude.{◌≡◌, ℕ, pos, Bool, true, false, List, replicate, Result, Ok, Err, MatchResult}
 use Rattle.std.specs.Option.{option_copied}
 use Rattle.avc_types.specs.declared.fault.Fault.{Fault}
 use Rattle.avc_types.specs.declared.macroblock.PMbType.{PMbType}
@@ -22,15 +22,16 @@ ReadsInto result value read old new = MatchResult result
     (λ _. (read (reader_bits old) ≡ Ok (value, reader_bits new)) × (reader_bytes new ≡ reader_bytes old))
     (λ fault. read (reader_bits old) ≡ Err fault)
 
--- What was read is what stands between these two parts of the syntax, of which the second is the rest of the first.
-abbrev pub GoesOn : {V : Type 0} → Result (Unit {0}) Fault → (part rest : Read V) → BitReader → BitReader → Type 0
-GoesOn result part rest old new = MatchResult result
-    (λ _. (part (reader_bits old) ≡ rest (reader_bits new)) × (reader_bytes new ≡ reader_bytes old))
-    (λ fault. part (reader_bits old) ≡ Err fault)
-
--- the four blocks from the first one on are coded
-abbrev pub AreCoded : (coded : ℕ → Bool) → (first : ℕ) → Type 0
-AreCoded coded first = (k : ℕ) → first ≤ k → k < first + 4 → coded k ≡ true
+-- Nothing is coded yet: all is 0.
+pub record HasNoLevels {max : ℕ} (levels : BlockLevels max) : Type 0 where
+  pub no_luma_pattern : levels.luma_pattern ≡ 0
+  pub no_chroma_pattern : levels.chroma_pattern ≡ 0
+  pub no_delta : levels.mb_qp_delta ≡ pos 0
+  pub no_luma : levels.luma ≡ replicate 16 (no_levels max)
+  pub no_cb_dc : levels.cb_dc ≡ no_levels 4
+  pub no_cr_dc : levels.cr_dc ≡ no_levels 4
+  pub no_cb_ac : levels.cb_ac ≡ replicate 4 (no_levels 15)
+  pub no_cr_ac : levels.cr_ac ≡ replicate 4 (no_levels 15)
 
 -- no levels, where none have been read
 abbrev pub no_block_levels : {max : ℕ} → BlockLevels max

@@ -8,9 +8,9 @@ ghost use Rattle.avc_mbsyntax.specs.Ranges.{AreSmall, IsResidual};
 ghost use Rattle.avc_mbsyntax.specs.Reading.{after_pattern, blocks, cb_side, cr_side, is_coded};
 ghost use Rattle.avc_mbsyntax.specs.Reading.{luma_dc_levels, luma_side, no_levels, qp_after, qp_delta, qp_delta_where};
 ghost use Rattle.avc_mbsyntax.specs.Reading.{residual_blocks};
-ghost use Rattle.avc_mbsyntax.specs.Steps.{ReadsInto, context_of, no_block_levels};
+ghost use Rattle.avc_mbsyntax.specs.Steps.{HasNoLevels, ReadsInto, context_of, no_block_levels};
 
-use crate::blocks::{read_chroma_blocks, read_chroma_dc, read_luma_blocks, read_luma_dc};
+use crate::blocks::{clear, read_chroma_blocks, read_chroma_dc, read_luma_blocks, read_luma_dc};
 use crate::context::LentContext;
 use crate::near::{cb_counts, cr_counts, luma_counts};
 use avc_bits::BitReader;
@@ -40,6 +40,20 @@ pub(crate) fn zero_levels<const MAXN: usize>() -> BlockLevels<MAXN>
     }
 }
 
+/// Nothing is coded: all levels become 0.
+fn clear_levels<const MAXN: usize>(levels: &mut BlockLevels<MAXN>)
+    ensures { HasNoLevels levels.new }
+{
+    levels.luma_pattern = 0;
+    levels.chroma_pattern = 0;
+    levels.mb_qp_delta = 0;
+    clear(&mut levels.luma);
+    levels.cb_dc.clear();
+    levels.cr_dc.clear();
+    clear(&mut levels.cb_ac);
+    clear(&mut levels.cr_ac);
+}
+
 /// Reads what follows coded_block_pattern.
 pub(crate) fn read_after_pattern(
     reader: &mut BitReader,
@@ -52,6 +66,10 @@ pub(crate) fn read_after_pattern(
     ensures range { IfOk result (λ _. IsResidual (residual_of [] levels.new)) }
     ensures read { ReadsInto result (residual_of [] levels.new) (after_pattern (context_of context.now) pattern) reader.old reader.new }
 {
+    if pattern == 0 {
+        clear_levels(levels);
+        return Ok(());
+    }
     let mb_qp_delta = read_qp_delta_where(reader, pattern != 0)?;
     let patterns = Patterns {
         luma_pattern: pattern % 16,

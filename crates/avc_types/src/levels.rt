@@ -1,4 +1,4 @@
-ghost use Rattle.std.specs.Prelude.{◌≡◌, ◌==◌, ◌≤◌, ℤ, pos, IsTrue, List, replicate};
+ghost use Rattle.std.specs.Prelude.{◌≡◌, ◌≤◌, ℤ, pos, List, replicate};
 ghost use Rattle.avc_types.specs.Macroblock.{total_coeff};
 ghost use Rattle.std.proofs.Common.{ap, sym};
 
@@ -55,15 +55,6 @@ impl<const MAXN: usize> Levels<MAXN> {
         ensures { result ≡ levels.entry }
     {
         Levels { levels, count }
-    }
-
-    /// Whether all of them are 0, as those of a block that is not coded.
-    #[inline(always)]
-    pub fn is_zero(&self) -> bool
-        ensures value { result ≡ (total_coeff self.now == 0) }
-        ensures zero { IsTrue result → self.now ≡ replicate MAXN (pos 0) }
-    {
-        self.count == 0
     }
 
     /// All of them become 0, as those of a block that is not coded. Where none is another number nothing is written.

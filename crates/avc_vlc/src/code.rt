@@ -47,19 +47,6 @@ impl<const N: usize> Code<N> {
         }
     }
 
-    // The same where 64 bits stand ahead, which is not tested.
-    #[inline(always)]
-    pub(crate) fn look_ahead(reader: &BitReader) -> Self
-        requires narrow { N ≤ 16 }
-        requires ahead { 64 ≤ length (reader_bits reader.now).ahead }
-        ensures { Shows result (reader_bits reader.now).ahead }
-    {
-        Code {
-            word: reader.peek_ahead(32),
-            count: 0,
-        }
-    }
-
     /// How many bits there are.
     pub fn count(self) -> u32
         ensures { result ≡ length (code_bits self.entry) }

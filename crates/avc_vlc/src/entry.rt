@@ -154,8 +154,7 @@ fn entry_near_end(reader: BitReader, rows: &[[Entry<u8>; 4]]) -> Entry<u8>
 pub(crate) fn number_at(code: Code<16>, rows: &[[Entry<u8>; 4]]) -> Entry<u8>
     requires some { 1 ≤ length rows.now }
     requires few { length rows.now ≤ 16 }
-    ensures decides { (table : Table ℕ) (ahead : List Bool) → IsIndexed table 2 rows.now → Shows code ahead → Decides table ahead result }
-    ensures short { (table : Table ℕ) → IsIndexed table 2 rows.now → result.length ≤ 18 }
+    ensures { (table : Table ℕ) (ahead : List Bool) → IsIndexed table 2 rows.now → Shows code ahead → Decides table ahead result }
 {
     let (row, column) = code.place(rows.len() - 1, 2);
     rows[row][column]
@@ -180,8 +179,7 @@ pub(crate) fn number_in<const ROWS: usize, const TABLES: usize>(
 #[inline(always)]
 pub(crate) fn number_of_three(code: Code<16>, tables: &[[Entry<u8>; 8]], table: usize) -> Entry<u8>
     requires { table < length tables.now }
-    ensures decides { (each : ℕ → Table ℕ) (ahead : List Bool) → AreFronts each tables.now → Shows code ahead → Decides (each table) ahead result }
-    ensures short { (each : ℕ → Table ℕ) → AreFronts each tables.now → result.length ≤ 3 }
+    ensures { (each : ℕ → Table ℕ) (ahead : List Bool) → AreFronts each tables.now → Shows code ahead → Decides (each table) ahead result }
 {
     let front = code.front(3) as usize;
     tables[table][front]

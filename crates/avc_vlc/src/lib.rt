@@ -15,6 +15,6 @@ pub use code::Code;
 pub use coded_block_pattern::{cbp_of, read_cbp};
 pub use codeword::Codeword;
 pub use coeff_token::{coeff_token_word, read_coeff_token};
-pub use run_before::{read_run_before, read_run_before_ahead, run_before_word};
+pub use run_before::{read_run_before, run_before_word};
 pub use token::Token;
 pub use total_zeros::{read_total_zeros, total_zeros_word};

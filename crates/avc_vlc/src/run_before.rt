@@ -1,7 +1,7 @@
 //! run_before (9.2.3, Table 9-10). Where six zeros are left at most, the next three bits decide. Else a table has a row for
 //! each number of zeros in front of the first 1, the last for all that are more, and a column for each value of the two
 //! bits behind that 1.
-ghost use Rattle.std.specs.Prelude.{◌≡◌, ◌≤◌, ◌<◌, ◌+◌, List, Bool, length, Err, IfOk, IfSome, OnErr};
+ghost use Rattle.std.specs.Prelude.{◌≡◌, ◌≤◌, ◌<◌, List, Bool, Err, IfOk, IfSome, OnErr};
 ghost use Rattle.avc_bits.specs.Reader.{Reads, reader_bits};
 ghost use Rattle.avc_vlc.specs.Reading.{run_before, run_table};
 ghost use Rattle.avc_vlc.specs.Indexing.{Decides, Shows};
@@ -27,25 +27,6 @@ pub fn read_run_before(reader: &mut BitReader, zeros_left: u8) -> Result<u8, Fau
         read_coded(reader, run_entry(code, zeros_left), zeros_left)
     } else {
         read_near_end(reader, zeros_left)
-    }
-}
-
-/// The same where 64 bits stand ahead, which is not tested. A codeword has at most 18 bits.
-#[inline(always)]
-pub fn read_run_before_ahead(reader: &mut BitReader, zeros_left: u8) -> Result<u8, Fault>
-    requires { 64 ≤ length (reader_bits reader.old).ahead }
-    ensures read { Reads result (run_before zeros_left) reader.old reader.new }
-    ensures most { IfOk result (λ run. run ≤ zeros_left) }
-    ensures short { IfOk result (λ _. length (reader_bits reader.old).ahead ≤ length (reader_bits reader.new).ahead + 18) }
-{
-    let code = Code::<16>::look_ahead(reader);
-    let entry = run_entry(code, zeros_left);
-    match entry.value {
-        Some(run) if run <= zeros_left => {
-            reader.skip_ahead(u32::from(entry.length));
-            Ok(run)
-        }
-        _ => Err(refused(*reader, entry, zeros_left)),
     }
 }
 
@@ -103,8 +84,7 @@ fn refused(reader: BitReader, entry: Entry<u8>, zeros_left: u8) -> Fault
 // what the bits decide
 #[inline(always)]
 fn run_entry(code: Code<16>, zeros_left: u8) -> Entry<u8>
-    ensures decides { (ahead : List Bool) → Shows code ahead → Decides (run_table zeros_left) ahead result }
-    ensures short { result.length ≤ 18 }
+    ensures { (ahead : List Bool) → Shows code ahead → Decides (run_table zeros_left) ahead result }
 {
     if zeros_left > 6 {
         many_entry(code, zeros_left)
@@ -117,8 +97,7 @@ fn run_entry(code: Code<16>, zeros_left: u8) -> Entry<u8>
 #[inline(always)]
 fn many_entry(code: Code<16>, zeros_left: u8) -> Entry<u8>
     requires { 6 < zeros_left }
-    ensures decides { (ahead : List Bool) → Shows code ahead → Decides (run_table zeros_left) ahead result }
-    ensures short { result.length ≤ 18 }
+    ensures { (ahead : List Bool) → Shows code ahead → Decides (run_table zeros_left) ahead result }
 {
     number_at(code, &RUNS_OF_MANY)
 }
@@ -127,8 +106,7 @@ fn many_entry(code: Code<16>, zeros_left: u8) -> Entry<u8>
 #[inline(always)]
 fn few_entry(code: Code<16>, zeros_left: u8) -> Entry<u8>
     requires { zeros_left ≤ 6 }
-    ensures decides { (ahead : List Bool) → Shows code ahead → Decides (run_table zeros_left) ahead result }
-    ensures short { result.length ≤ 18 }
+    ensures { (ahead : List Bool) → Shows code ahead → Decides (run_table zeros_left) ahead result }
 {
     number_of_three(
         code,

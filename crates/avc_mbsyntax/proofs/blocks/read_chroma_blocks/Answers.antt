@@ -1,5 +1,5 @@
-use Rattle.std.proofs.Common.{◌≡◌, ℕ, ℤ, List, ◌<◌, ◌≤◌, ◌+◌, ◌-◌, ◌++◌, ◌∷◌, [], suc, true, Ok, Err, arith, rules, ap, refl, subst, ◌∙◌, sym, length, take, length-set}
-use Rattle.std.specs.Prelude.{◌==◌, replicate}
+use Rattle.std.proofs.Common.{◌≡◌, ℕ, ◌<◌, ◌≤◌, ◌+◌, ◌-◌, ◌++◌, ◌∷◌, [], suc, true, Ok, Err, arith, rules, ap, refl, subst, ◌∙◌, sym, length, take, length-set}
+use Rattle.std.specs.Prelude.{◌==◌}
 use Rattle.std.specs.List.{All, range_with_len}
 use Rattle.std.specs.Option.{option_copied}
 use Rattle.std.proofs.lemmas.List.Elements.{All-replicate}
@@ -13,18 +13,12 @@ use Rattle.avc_mbsyntax.specs.Reading.{block_where, blocks, no_levels}
 use Rattle.avc_mbsyntax.proofs.BlockSteps.{all_blocks, all_more, blocks_fault, blocks_more, counts_more, no_chroma}
 use Rattle.avc_mbsyntax.proofs.blocks.read_chroma_blocks.Goals as goal
 
-cleared : (old new : List (List ℤ)) → length new ≡ 4 → take 4 new ≡ take 0 old ++ replicate 4 (no_levels 15) → new ≡ replicate 4 (no_levels 15)
-cleared old new long is = sym (take_all 4 new (omega (arith, long))) ∙ is
-
 pub returns-then-chroma_pattern-ne2-clause-read : goal.returns-then-chroma_pattern-ne2-clause-read
 returns-then-chroma_pattern-ne2-clause-read c =
-    let is = cleared c.args.levels.now c.clear_four.new.levels c.clear_four.ensures.long c.clear_four.ensures.cleared in
-    (no_chroma c.args.chroma_pattern (option_copied c.args.left) (option_copied c.args.up) (reader_bits c.args.reader.now) (λ e. absurd (omega arith)) ∙ ap (λ l. Ok (l, reader_bits c.args.reader.now)) (sym is), refl)
+    (no_chroma c.args.chroma_pattern (option_copied c.args.left) (option_copied c.args.up) (reader_bits c.args.reader.now) (λ e. absurd (omega arith)) ∙ ap (λ l. Ok (l, reader_bits c.args.reader.now)) (sym c.clear.ensures), refl)
 
 pub returns-then-chroma_pattern-ne2-clause-small : goal.returns-then-chroma_pattern-ne2-clause-small
-returns-then-chroma_pattern-ne2-clause-small c =
-    let is = cleared c.args.levels.now c.clear_four.new.levels c.clear_four.ensures.long c.clear_four.ensures.cleared in
-    subst (All AreSmall) (sym is) (All-replicate AreSmall 4 (no_levels 15) (λ i. small_none 15 i))
+returns-then-chroma_pattern-ne2-clause-small c = subst (All AreSmall) (sym c.clear.ensures) (All-replicate AreSmall 4 (no_levels 15) (λ i. small_none 15 i))
 
 pub each-init : goal.each-init
 each-init c = record {

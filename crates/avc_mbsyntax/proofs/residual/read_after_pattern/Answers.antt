@@ -4,7 +4,7 @@ use Rattle.avc_bits.specs.Reader.{reader_bits}
 use Rattle.avc_cavlc.proofs.Placing.{small_none}
 use Rattle.avc_mbsyntax.specs.Steps.{context_of}
 use Rattle.avc_mbsyntax.specs.Reading.{after_pattern}
-use Rattle.avc_mbsyntax.proofs.AfterPatterns.{after_delta}
+use Rattle.avc_mbsyntax.proofs.AfterPatterns.{after_delta, nothing_after, nothing_in_range}
 use Rattle.avc_mbsyntax.proofs.residual.read_after_pattern.Goals as goal
 
 pub returns-in_err-read_levels-clause-read : goal.returns-in_err-read_levels-clause-read
@@ -25,3 +25,12 @@ returns-clause-read c =
 
 pub returns-clause-range : goal.returns-clause-range
 returns-clause-range c = c.in_ok-read_levels.ensures.range [] (λ i. small_none 0 i)
+
+pub returns-then-pattern-eq0-clause-read : goal.returns-then-pattern-eq0-clause-read
+returns-then-pattern-eq0-clause-read c = (nothing_after (context_of c.args.context.now) c.args.pattern c.clear_levels.new.levels (reader_bits c.args.reader.now) c.if-pattern-eq0.true c.clear_levels.ensures, refl)
+
+pub returns-then-pattern-eq0-clause-range : goal.returns-then-pattern-eq0-clause-range
+returns-then-pattern-eq0-clause-range c = nothing_in_range c.clear_levels.new.levels c.clear_levels.ensures
+
+pub returns-then-pattern-eq0-clause-delta : goal.returns-then-pattern-eq0-clause-delta
+returns-then-pattern-eq0-clause-delta c = rw c.clear_levels.ensures.no_delta (omega (arith, ints))

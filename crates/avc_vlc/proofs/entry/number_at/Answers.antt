@@ -1,11 +1,10 @@
 use Rattle.std.proofs.Common.{◌≡◌, ◌<◌, ◌-◌, length, get_or, [], arith}
 use Rattle.avc_vlc.specs.Indexing.{place_bits}
 use Rattle.avc_vlc.proofs.Indexes.{indexed_place}
-use Rattle.avc_vlc.proofs.Shortness.{indexed_short}
 use Rattle.avc_vlc.proofs.entry.number_at.Goals as goal
 
-pub returns-clause-decides : goal.returns-clause-decides
-returns-clause-decides c = λ table ahead is there.
+pub returns : goal.returns
+returns c = λ table ahead is there.
     let within : c.place-row.result.0 < length c.args.rows.now = omega arith in
     record {
       bits = place_bits (length c.args.rows.now - 1) 2 c.place-row.result.0 c.place-row.result.1;
@@ -13,9 +12,3 @@ returns-clause-decides c = λ table ahead is there.
           (let long : length (get_or c.args.rows.now c.place-row.result.0 []) ≡ 4 = c.told-rows c.place-row.result.0 within in omega arith);
       agrees = (c.place-row.ensures.agrees ahead there).agrees;
     }
-
-pub returns-clause-short : goal.returns-clause-short
-returns-clause-short c = λ table is.
-    let within : c.place-row.result.0 < length c.args.rows.now = omega arith in
-    let wide : length (get_or c.args.rows.now c.place-row.result.0 []) ≡ 4 = c.told-rows c.place-row.result.0 within in
-    indexed_short table 2 c.args.rows.now c.place-row.result.0 c.place-row.result.1 [] _ 18 is within c.place-row.ensures.column (omega (arith, wide, c.place-row.ensures.column)) (omega (arith, c.requires.few))

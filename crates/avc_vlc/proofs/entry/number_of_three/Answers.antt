@@ -1,19 +1,12 @@
 use Rattle.std.proofs.Common.{◌≡◌, ◌<◌, length, get_or, [], arith}
 use Rattle.avc_bits.specs.Bits.{bits_of}
 use Rattle.avc_vlc.proofs.Indexes.{front_entry}
-use Rattle.avc_vlc.proofs.Shortness.{three_short}
 use Rattle.avc_vlc.proofs.entry.number_of_three.Goals as goal
 
-pub returns-clause-decides : goal.returns-clause-decides
-returns-clause-decides c = λ each ahead are there. record {
+pub returns : goal.returns
+returns c = λ each ahead are there. record {
   bits = bits_of 3 c.front-front.result;
   is_entry = front_entry each c.args.tables.now c.args.table c.front-front.result [] _ are c.requires (omega (arith, c.front-front.ensures.below))
       (let long : length (get_or c.args.tables.now c.args.table []) ≡ 8 = c.told-tables c.args.table c.requires in omega (arith, c.front-front.ensures.below));
   agrees = (c.front-front.ensures.agrees ahead there).agrees;
 }
-
-pub returns-clause-short : goal.returns-clause-short
-returns-clause-short c = λ each are.
-    let wide : length (get_or c.args.tables.now c.args.table []) ≡ 8 = c.told-tables c.args.table c.requires in
-    three_short (each c.args.table) c.front-front.result _
-    (front_entry each c.args.tables.now c.args.table c.front-front.result [] _ are c.requires (omega (arith, c.front-front.ensures.below)) (omega (arith, wide, c.front-front.ensures.below)))

@@ -1,11 +1,10 @@
-use Rattle.std.proofs.Common.{◌≡◌, ◌+◌, ◌-◌, ◌*◌, ◌<◌, ◌≤◌, ℕ, pos, drop, get_or, length, take}
-use Rattle.std.specs.Prelude.{IsTrue}
+use Rattle.std.proofs.Common.{◌≡◌, ◌+◌, ◌-◌, ◌<◌, ℕ, pos, drop, get_or, length, take}
 use Rattle.avc_bits.specs.Reader.{reader_bits, reader_bytes}
 use Rattle.avc_cavlc.specs.Block.{IsSmall}
 use Rattle.avc_types.specs.Macroblock.{total_coeff}
 use Rattle.avc_cavlc.specs.Steps.{placed_before, placed_by_runs}
 use Rattle.avc_cavlc.proofs.Placing.{IsOpen}
-use Rattle.avc_cavlc.proofs.runs.read_placed_by.Given as goal
+use Rattle.avc_cavlc.proofs.runs.read_placed.Given as goal
 
 abbrev pub invariant-values : goal.invariant-values
 invariant-values l = record {
@@ -18,7 +17,6 @@ invariant-values l = record {
   bytes : reader_bytes l.reader ≡ reader_bytes l.fn.reader;
   count : total_coeff (drop l.place l.block) ≡ l.k;
   small : (i : ℕ) → IsSmall (get_or l.block i (pos 0));
-  ahead : IsTrue l.far → 18 * (l.total - l.k) + 64 ≤ length (reader_bits l.reader).ahead;
 }
 
 abbrev pub decreases-values : goal.decreases-values

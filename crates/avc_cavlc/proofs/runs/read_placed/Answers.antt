@@ -9,8 +9,8 @@ use Rattle.avc_types.specs.Macroblock.{total_coeff}
 use Rattle.avc_cavlc.specs.Steps.{placed_before, placed_by_runs}
 use Rattle.avc_cavlc.proofs.RunSteps.{run_coded}
 use Rattle.avc_cavlc.proofs.Placing.{run_more, run_fault, first_runs, no_runs, open_first, open_more, done_more, no_coefficients, coefficient_more, front_none, small_none, small_more}
-use Rattle.avc_cavlc.proofs.runs.read_placed_by.Goals.{then-values-test+else-k-total, else-values-test}
-use Rattle.avc_cavlc.proofs.runs.read_placed_by.Goals as goal
+use Rattle.avc_cavlc.proofs.runs.read_placed.Goals.{then-values-test+else-k-total, else-values-test}
+use Rattle.avc_cavlc.proofs.runs.read_placed.Goals as goal
 
 pub values-init : goal.values-init
 values-init c =
@@ -32,7 +32,6 @@ values-init c =
       bytes = refl;
       count = ap total_coeff behind ∙ no_coefficients (16 - first);
       small = λ i. small_none 16 i;
-      ahead = λ far. omega (arith, c.requires.ahead far);
     })
 
 pub returns-in_err-zeros-clause-read : goal.returns-in_err-zeros-clause-read
@@ -70,7 +69,7 @@ values-preserved c =
     drop-cons values c.values.k (pos 0) within ∙ ap (λ x. x ∷ drop (suc c.values.k) values) same ∙ ap (λ k. v ∷ drop k values) more in
     let behind : drop next (set c.values.block at v) ≡ replicate zeros (pos 0) ++ v ∷ done = done_more c.values.place at zeros next c.values.block v c.values.invariant.is_open place gap in
     let fewer : n ≡ c.args.total - (c.values.k + 1) = omega arith in
-    let coded : run n c.values.zeros_left b ≡ Ok (zeros, reader_bits c.read_run.new.reader) =
+    let coded : run n c.values.zeros_left b ≡ Ok (zeros, reader_bits c.read_run_before.new.reader) =
     ap (λ r. r b) (run_coded n c.values.zeros_left (omega arith) (omega arith)) ∙ c.in_ok-zeros.ensures.read.0 in
     rw back (record {
       long = omega (arith, length-set {A = ℤ}, c.values.invariant.long);
@@ -78,13 +77,12 @@ values-preserved c =
       place = omega (arith, c.in_ok-zeros.ensures.most, c.values.invariant.place);
       is_open = open_more c.values.place at zeros next c.values.block v c.values.invariant.is_open place gap;
       read = c.values.invariant.read
-          ∙ run_more done (drop c.values.k values) (drop (c.values.k + 1) values) v n (c.args.total - c.values.k) c.values.zeros_left zeros b (reader_bits c.read_run.new.reader) left here coded
-          ∙ ap (λ l. placed_before l (drop (c.values.k + 1) values) n (c.values.zeros_left - zeros) (reader_bits c.read_run.new.reader)) (sym behind)
-          ∙ ap (λ k. placed_before (drop next (set c.values.block at v)) (drop (c.values.k + 1) values) k (c.values.zeros_left - zeros) (reader_bits c.read_run.new.reader)) fewer;
+          ∙ run_more done (drop c.values.k values) (drop (c.values.k + 1) values) v n (c.args.total - c.values.k) c.values.zeros_left zeros b (reader_bits c.read_run_before.new.reader) left here coded
+          ∙ ap (λ l. placed_before l (drop (c.values.k + 1) values) n (c.values.zeros_left - zeros) (reader_bits c.read_run_before.new.reader)) (sym behind)
+          ∙ ap (λ k. placed_before (drop next (set c.values.block at v)) (drop (c.values.k + 1) values) k (c.values.zeros_left - zeros) (reader_bits c.read_run_before.new.reader)) fewer;
       bytes = c.in_ok-zeros.ensures.read.1 ∙ c.values.invariant.bytes;
       count = ap total_coeff behind ∙ coefficient_more zeros v done is ∙ ap (λ k. k + 1) c.values.invariant.count;
       small = small_more c.values.block at v c.values.invariant.small is (omega (arith, c.values.invariant.is_open.within));
-      ahead = λ far. omega (arith, c.values.invariant.ahead far, c.in_ok-zeros.ensures.short far);
     })
 
 -- all zeros that are left stand before the last value, or none are left

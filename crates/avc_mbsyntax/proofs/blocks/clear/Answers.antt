@@ -1,0 +1,14 @@
+use Rattle.std.proofs.Common.{◌≤◌, ◌<◌, ◌∙◌, arith, ap, sym, length, length-set}
+use Rattle.std.specs.Prelude.{replicate}
+use Rattle.std.proofs.lemmas.List.{take_all}
+use Rattle.avc_mbsyntax.specs.Reading.{no_levels}
+use Rattle.avc_mbsyntax.proofs.BlockSteps.{cleared_more}
+use Rattle.avc_mbsyntax.proofs.blocks.clear.Goals as goal
+
+pub each-preserved : goal.each-preserved
+each-preserved g c =
+    let within : c.each.k < length c.each.levels = omega (arith, c.each.invariant.long) in
+    rw c.clear.ensures (record {
+      long = length-set c.each.levels c.each.k (no_levels g.row.MAXN) ∙ c.each.invariant.long;
+      done = cleared_more c.each.levels c.each.k 0 (no_levels g.row.MAXN) within c.each.invariant.done;
+    })

@@ -1,0 +1,10 @@
+use Rattle.std.proofs.Common.{◌≡◌, length, take}
+use Rattle.std.specs.Prelude.{replicate}
+use Rattle.avc_mbsyntax.specs.Reading.{no_levels}
+use Rattle.avc_mbsyntax.proofs.blocks.clear.Given as goal
+
+abbrev pub invariant-each : goal.invariant-each
+invariant-each g l = record {
+  long : length l.levels ≡ g.row.N;
+  done : take l.k l.levels ≡ replicate l.k (no_levels g.row.MAXN);
+}
