@@ -1,8 +1,8 @@
 -- A run, piece after piece.
-use Rattle.std.specs.Prelude.{◌≡◌, ℕ, ◌+◌, ◌<◌, ◌≤◌, ◌^◌, Bool, true, false, List, [], ◌++◌, length, take, drop, Option, Result, Ok, Err, IsErrAnd, refl}
+use Rattle.std.specs.Prelude.{◌≡◌, ℕ, ◌+◌, ◌<◌, ◌≤◌, ◌^◌, Bool, true, false, List, [], ◌++◌, length, take, drop, Option, None, Some, Result, Ok, Err, IsErrAnd, refl}
 use Rattle.std.proofs.Common.{ap, sym, subst, ◌∙◌, arith, append-nil, length-append}
-use Rattle.std.specs.Io.KnownBytes.{Appends, Consumes, IsAtEnd, Keeps}
-use Rattle.std.proofs.KnownBytes.{Appends-nil, Consumes-kept, Consumes-nil, Consumes-trans}
+use Rattle.std.specs.Io.KnownBytes.{prepend_known, Appends, Consumes, IsAtEnd, Keeps}
+use Rattle.std.proofs.KnownBytes.{prepend_known-nil, Appends-nil, Consumes-kept, Consumes-nil, Consumes-trans}
 use Rattle.std.proofs.Math.Seq.{drop-append_seam}
 use Rattle.avc_decoder.specs.Output.{Output}
 use Rattle.avc_decoder.specs.Events.{events, pictures_in, refusals_in}
@@ -10,7 +10,7 @@ use Rattle.avc_decoder.specs.Laws.{EventsOnlyGrow}
 use Rattle.avc_decoder.specs.Machine.{Machine, after_feed, after_flush, new_machine}
 use Rattle.avc_decoder.specs.declared.event.Event.{Event}
 use Rattle.avc_run.specs.Decoding.{max_unit, defined, report_of}
-use Rattle.avc_run.specs.Formats.{pictures_after, written_from, DecodesAs, Format}
+use Rattle.avc_run.specs.Formats.{pictures_after, plain, written_from, DecodesAs, Format}
 use Rattle.avc_run.specs.Draining.{events_defined, events_left, after_draining, report_with, BreaksOff, IsDrained, IsHandled, IsRunning}
 use Rattle.avc_run.specs.Reading.{HasRead}
 use Rattle.avc_run.specs.declared.report.Report.{Report}
@@ -140,6 +140,21 @@ reading_begins f output unread holds m refused new none = record {
   many = let low : 0 ≤ 0 = omega arith in low;
 }
 
+-- the front of a stream, which was read before
+pub front_is : (left : Option (List ℕ)) (front : List ℕ) → Consumes (prepend_known front left) left front
+front_is None front = tt
+front_is (Some xs) front = refl
+
+pub front_taken : (f : Format) → EventsOnlyGrow → (output : Output) (left w0 w : Option (List ℕ)) (d d' : Machine) (refused : List (ℕ × Fault)) (r : Report) (front : List ℕ) → d ≡ new_machine output → refused ≡ []
+    → IsHandled f (after_feed front d) d' (record { pictures = 0; refused = refused }) r w0 w → IsReading f 0 output (prepend_known front left) left w0 w d' r
+front_taken f grow output left w0 w d d' refused r front new none h =
+    let all = prepend_known front left in
+    let start = reading_begins f output all w0 d refused new none in
+    record {
+      runs = one_piece f grow output all all left w0 w0 w d d' (record { pictures = 0; refused = refused }) r front start.runs (front_is left front) h;
+      many = omega arith;
+    }
+
 pub one_read : (f : Format) → EventsOnlyGrow → (reads : ℕ) (output : Output) (unread left left' w0 w w' : Option (List ℕ)) (d d' : Machine) (r r' : Report) (piece : List ℕ) → 0 < length piece →
     IsReading f reads output unread left w0 w d r → Consumes left left' piece → IsHandled f (after_feed piece d) d' r r' w w' → IsReading f (reads + 1) output unread left' w0 w' d' r'
 unfolding one_piece
@@ -206,3 +221,18 @@ drained f output unread left w0 w d r i = record {
   goes_on = ap (λ n. n.ended) i.machine;
   taken = ap (λ n. n.taken) i.machine ∙ ap (λ n. length (events_defined n)) (sym i.machine);
 }
+
+-- at the events of the front
+pub broken_in_front : (f : Format) → EventsOnlyGrow → (output : Output) (left w0 w : Option (List ℕ)) (d : Machine) (refused : List (ℕ × Fault)) (front : List ℕ) (fault : RunFault) → d ≡ new_machine output → refused ≡ []
+    → BreaksOff f 0 fault w0 w (events_left (after_feed front d)) → DecodesAs f output (prepend_known front left) left w0 w (Err fault)
+broken_in_front f grow output left w0 w d refused front fault new none off =
+    let all = prepend_known front left in
+    let start = reading_begins f output all w0 d refused new none in
+    broken_in f grow output all all left w0 w0 w d (record { pictures = 0; refused = refused }) front fault start.runs (front_is left front) off
+
+pub new_is_drained : (d : Machine) (output : Output) → d ≡ new_machine output → IsDrained d
+new_is_drained d output new = drained plain output None None None None d (report_of_none []) (reading_begins plain output None None d [] new refl).runs
+
+-- nothing was read before
+pub without_front : (f : Format) (output : Output) (unread left w0 w : Option (List ℕ)) (r : Result Report RunFault) → DecodesAs f output (prepend_known [] unread) left w0 w r → DecodesAs f output unread left w0 w r
+without_front f output unread left w0 w r d = subst (λ u. DecodesAs f output u left w0 w r) (prepend_known-nil unread) d

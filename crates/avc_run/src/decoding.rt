@@ -1,5 +1,5 @@
 ghost use Rattle.std.specs.Prelude.{◌≡◌, ◌∷◌, [], IfErr, OnOk};
-ghost use Rattle.std.specs.Io.KnownBytes.{Appends};
+ghost use Rattle.std.specs.Io.KnownBytes.{prepend_known, Appends};
 ghost use Rattle.avc_types.specs.Whole.{IsWhole};
 ghost use Rattle.avc_run.specs.Decoding.{Decodes};
 ghost use Rattle.avc_run.specs.Formats.{written_from, DecodesAs};
@@ -45,8 +45,23 @@ pub fn run_as<F: PictureFormat, R: Read, W: Write>(
     ensures { DecodesAs (F.format format.now) output (R.remaining reader.old) (R.remaining reader.new) (W.contents writer.old)
         (W.contents writer.new) result }
 {
+    run_behind(alloc, output, format, &[], reader, writer)
+}
+
+/// The same of a stream of which the front was read before.
+pub fn run_behind<F: PictureFormat, R: Read, W: Write>(
+    alloc: Global,
+    output: Output,
+    format: &F,
+    front: &[u8],
+    reader: &mut R,
+    writer: &mut W,
+) -> Result<Report, RunFault>
+    ensures { DecodesAs (F.format format.now) output (prepend_known front.now (R.remaining reader.old)) (R.remaining reader.new)
+        (W.contents writer.old) (W.contents writer.new) result }
+{
     let mut decoder = Decoder::<MAX_UNIT>::new(alloc, output);
-    decode_by(&mut decoder, alloc, format, reader, writer)
+    decode_by(&mut decoder, alloc, format, front, reader, writer)
 }
 
 // The same by a new decoder.
@@ -54,12 +69,13 @@ fn decode_by<F: PictureFormat, R: Read, W: Write>(
     decoder: &mut Decoder<MAX_UNIT>,
     alloc: Global,
     format: &F,
+    front: &[u8],
     reader: &mut R,
     writer: &mut W,
 ) -> Result<Report, RunFault>
     requires { decoder.old ≡ new_machine decoder.old.output }
-    ensures { DecodesAs (F.format format.now) decoder.old.output (R.remaining reader.old) (R.remaining reader.new) (W.contents writer.old)
-        (W.contents writer.new) result }
+    ensures { DecodesAs (F.format format.now) decoder.old.output (prepend_known front.now (R.remaining reader.old)) (R.remaining reader.new)
+        (W.contents writer.old) (W.contents writer.new) result }
 {
     events_only_grow();
     let finder = Finder::new(&START_CODE);
@@ -67,6 +83,7 @@ fn decode_by<F: PictureFormat, R: Read, W: Write>(
         pictures: 0,
         refused: Refusals::new(alloc),
     };
+    take_in(decoder, &finder, front, format, writer, &mut report)?;
     let mut piece = [0; PIECE];
     'pieces: for _read in 0..READS {
         let len = read_once(reader, &mut piece)?;

@@ -18,12 +18,13 @@ mod tests;
 
 pub use avc_decoder::Output;
 pub use cutting::run_cut;
-pub use decoding::{run, run_as};
+pub use decoding::{run, run_as, run_behind};
 pub use exit::{Answer, Ending, answer_status, cut_status, fault_status, status};
 pub use fault::RunFault;
 pub use format::{I420, PictureFormat};
 pub use listing::{run_headers, run_units};
 pub use messages::{fault_line, refusal_lines};
 pub use program::{cut, decode, end_listing, headers, tell, units};
+pub use read::{PIECE, read_once};
 pub use report::{Refusals, Report};
 pub use streaming::write_stream;

@@ -307,7 +307,7 @@ fn add_sps_frames(text: &mut String, sps: &Sps) -> Result<(), OutOfMemory>
 }
 
 /// The width of what is shown, in luma samples.
-fn shown_width(sps: &Sps) -> u64
+pub fn shown_width(sps: &Sps) -> u64
     ensures { result ≡ shown_width sps.now }
 {
     let width = 16 * u64::from(sps.width_in_mbs());
@@ -318,7 +318,7 @@ fn shown_width(sps: &Sps) -> u64
 }
 
 /// The height of what is shown, in luma samples.
-fn shown_height(sps: &Sps) -> u64
+pub fn shown_height(sps: &Sps) -> u64
     ensures { result ≡ shown_height sps.now }
 {
     let height = 16 * u64::from(sps.height_in_mbs());

@@ -13,7 +13,7 @@ mod units;
 mod writing;
 
 pub use cutting::cut;
-pub use headers::{HeaderLines, show_headers};
+pub use headers::{HeaderLines, show_headers, shown_height, shown_width};
 pub use piece_text::PieceText;
 pub use stream_text::StreamText;
 pub use units::{UnitLines, list_units};

@@ -1,5 +1,6 @@
+use Rattle.std.specs.Io.KnownBytes.{prepend_known}
 use Rattle.avc_run.proofs.Running.{IsReading}
 use Rattle.avc_run.proofs.decoding.decode_by.Given as goal
 
 abbrev pub invariant-pieces : goal.invariant-pieces
-invariant-pieces g l = IsReading (g.F.PictureFormat.format l.format) l._read l.initial.decoder.output (g.R.Read.remaining l.initial.reader) (g.R.Read.remaining l.reader) (g.W.Write.contents l.initial.writer) (g.W.Write.contents l.writer) l.decoder l.report
+invariant-pieces g l = IsReading (g.F.PictureFormat.format l.format) l._read l.fn.decoder.output (prepend_known l.front (g.R.Read.remaining l.fn.reader)) (g.R.Read.remaining l.reader) (g.W.Write.contents l.fn.writer) (g.W.Write.contents l.writer) l.decoder l.report
