@@ -7,6 +7,7 @@ ghost use Rattle.avc_run.specs.Draining.{events_left, report_with, BreaksOff, If
 ghost use Rattle.avc_run.specs.Parts.{start_code};
 ghost use Rattle.avc_decoder.specs.Machine.{after_feed, after_flush, new_machine};
 
+use crate::console::{Unwatched, Watch};
 use crate::fault::RunFault;
 use crate::format::{I420, PictureFormat};
 use crate::parts::{START_CODE, part_length};
@@ -31,10 +32,23 @@ pub fn run<R: Read, W: Write>(
 ) -> Result<Report, RunFault>
     ensures { Decodes output (R.remaining reader.old) (R.remaining reader.new) (W.contents writer.old) (W.contents writer.new) result }
 {
-    run_as(alloc, output, &I420, reader, writer)
+    run_plain(alloc, output, &mut Unwatched, reader, writer)
 }
 
-/// The same in this format. Where it wants no more pictures, the bytes are not read to their end.
+/// The same, where `watch` is told how far the run is.
+pub(crate) fn run_plain<V: Watch, R: Read, W: Write>(
+    alloc: Global,
+    output: Output,
+    watch: &mut V,
+    reader: &mut R,
+    writer: &mut W,
+) -> Result<Report, RunFault>
+    ensures { Decodes output (R.remaining reader.old) (R.remaining reader.new) (W.contents writer.old) (W.contents writer.new) result }
+{
+    run_watched(alloc, output, &I420, watch, reader, writer)
+}
+
+/// Decodes a byte stream (Annex B) in this format. Where it wants no more pictures, the bytes are not read to their end.
 pub fn run_as<F: PictureFormat, R: Read, W: Write>(
     alloc: Global,
     output: Output,
@@ -45,15 +59,33 @@ pub fn run_as<F: PictureFormat, R: Read, W: Write>(
     ensures { DecodesAs (F.format format.now) output (R.remaining reader.old) (R.remaining reader.new) (W.contents writer.old)
         (W.contents writer.new) result }
 {
-    let mut decoder = Decoder::<MAX_UNIT>::new(alloc, output);
-    decode_by(&mut decoder, alloc, format, reader, writer)
+    run_watched(alloc, output, format, &mut Unwatched, reader, writer)
 }
 
-// The same by a new decoder.
-fn decode_by<F: PictureFormat, R: Read, W: Write>(
+/// The same, where `watch` is told how far the run is, after each read and at the end.
+pub fn run_watched<F: PictureFormat, V: Watch, R: Read, W: Write>(
+    alloc: Global,
+    output: Output,
+    format: &F,
+    watch: &mut V,
+    reader: &mut R,
+    writer: &mut W,
+) -> Result<Report, RunFault>
+    ensures { DecodesAs (F.format format.now) output (R.remaining reader.old) (R.remaining reader.new) (W.contents writer.old)
+        (W.contents writer.new) result }
+{
+    let mut decoder = Decoder::<MAX_UNIT>::new(alloc, output);
+    let run = decode_by(&mut decoder, alloc, format, watch, reader, writer);
+    watch.end(&run);
+    run
+}
+
+// The same by a new decoder, and without its end.
+fn decode_by<F: PictureFormat, V: Watch, R: Read, W: Write>(
     decoder: &mut Decoder<MAX_UNIT>,
     alloc: Global,
     format: &F,
+    watch: &mut V,
     reader: &mut R,
     writer: &mut W,
 ) -> Result<Report, RunFault>
@@ -75,6 +107,7 @@ fn decode_by<F: PictureFormat, R: Read, W: Write>(
             return Ok(report);
         }
         take_in(decoder, &finder, &piece[..len], format, writer, &mut report)?;
+        watch.look(&piece[..len], &report);
         if format.is_enough(report.pictures) {
             return Ok(report);
         }
