@@ -1,6 +1,7 @@
 #!/bin/sh
 # install.sh PREFIX: installs the program and the library below PREFIX: bin/avcdec, lib/libavcdec.a, lib/libavcdec.so,
-# include/avcdec.h, lib/pkgconfig/avcdec.pc, share/man/man1/avcdec.1. What is not built yet is proved and built first.
+# include/avcdec.h, lib/pkgconfig/avcdec.pc, share/man/man1/avcdec.1, share/bash-completion/completions/avcdec. What is not built
+# yet is proved and built first.
 #
 # DESTDIR, where it is set, stands before PREFIX, as packages want it. LIBRARY_ONLY=1 leaves the program out. CC is the C compiler.
 set -eu
@@ -64,4 +65,6 @@ if [ -z "${LIBRARY_ONLY:-}" ]; then
         mkdir -p "$to/share/man/man1"
         install -m 644 "$top/docs/avcdec.1" "$to/share/man/man1/avcdec.1"
     fi
+    mkdir -p "$to/share/bash-completion/completions"
+    install -m 644 "$top/docs/avcdec.bash" "$to/share/bash-completion/completions/avcdec"
 fi

@@ -2,8 +2,8 @@
 # Runs the built program and compares what it writes, its standard error and its status with what must come. NAME.264 is a stream,
 # NAME.md5 the md5 of its pictures as I420, NAME.early, where there is one, the other md5 that `decode --early` gives, NAME.refused,
 # where there is one, the standard error with status 1 (else nothing is written there, and the status is 0), NAME.units,
-# NAME.headers and NAME.info, where there are such, what these commands write, and NAME.piece_0 and so on all pieces that `cut`
-# writes. Words and faults of reading and writing are tried after that. The last line is 'N passed, M failed'.
+# NAME.headers, NAME.info and NAME.json, where there are such, what these commands (and `info --json`) write, and NAME.piece_0 and
+# so on all pieces that `cut` writes. Words and faults of reading and writing are tried after that. The last line is 'N passed, M failed'.
 set -u
 here=$(cd "$(dirname "$0")" && pwd)
 program=$here/../avcdec
@@ -131,6 +131,11 @@ for stream in "$here"/*/*.264; do
             holds "lines of ${name#"$here"/}" cmp -s "$work/lines" "$name.$command"
         fi
     done
+    if [ -f "$name.json" ]; then
+        "$program" info --json <"$stream" >"$work/lines" 2>"$work/told"
+        judge "info --json of ${name#"$here"/}" $? 0 ''
+        holds "JSON of ${name#"$here"/}" cmp -s "$work/lines" "$name.json"
+    fi
     number=0
     while [ -f "$name.piece_$number" ]; do
         "$program" cut "$number" <"$stream" >"$work/piece" 2>"$work/told"
@@ -267,7 +272,7 @@ for words in '' unit 'units in more' 'decode --fast' 'decode --format png' 'deco
     holds "text of '$words'" [ -s "$work/told" ]
     holds "nothing is written after '$words'" [ ! -s "$work/written" ]
 done
-for words in --help --version 'help units' 'decode --help'; do
+for words in --help --version -V 'help units' 'decode --help' 'info --help'; do
     # shellcheck disable=SC2086
     "$program" $words <"$picture" >"$work/written" 2>"$work/told"
     judge "$words" $? 0 ''
@@ -276,6 +281,14 @@ done
 "$program" --help </dev/null >/dev/full 2>"$work/told"
 judge 'help to a full device' $? 3 'avcdec: write fault
 '
+"$program" --version >"$work/written"
+holds 'version as Cargo has it' grep -qx 'avcdec [0-9]*\.[0-9]*\.[0-9]*' "$work/written"
+"$program" --help >"$work/written"
+holds 'exit statuses in the help' grep -q '^Exit status: 0 ' "$work/written"
+for command in decode units headers info cut; do
+    "$program" "$command" --help >"$work/written"
+    holds "an example in the help of $command" grep -q "^Example: avcdec $command " "$work/written"
+done
 
 # files: the same bytes as by the standard streams, and - is one of these. An output that exists is emptied first.
 "$program" decode <"$picture" >"$work/pictures"
@@ -341,6 +354,122 @@ judge 'a file that is not there' $? 3 "avcdec: read fault: $work/none
 "$program" decode "$picture" -o "$work" >"$work/written" 2>"$work/told"
 judge 'a directory to be written' $? 3 "avcdec: write fault: $work
 "
+
+# the line of a fault has the name of the file, also where that could be opened
+for command in decode 'decode --format md5' 'decode --limit 1' "decode --verify $some_md5" units headers info 'info --json' 'cut 0'; do
+    # shellcheck disable=SC2086
+    "$program" $command "$here" >"$work/written" 2>"$work/told"
+    judge "$command of a directory" $? 3 "avcdec: read fault: $here
+"
+    # shellcheck disable=SC2086
+    "$program" $command "$work/none" >"$work/written" 2>"$work/told"
+    judge "$command of a file that is not there" $? 3 "avcdec: read fault: $work/none
+"
+done
+for command in decode 'decode --format md5' 'decode --limit 1' 'cut 0'; do
+    # shellcheck disable=SC2086
+    "$program" $command "$picture" -o /dev/full >"$work/written" 2>"$work/told"
+    judge "$command to a full device by name" $? 3 'avcdec: write fault: /dev/full
+'
+done
+"$program" decode "$here" -o "$work/out" 2>"$work/told"
+judge 'decode of a directory to a file' $? 3 "avcdec: read fault: $here
+"
+
+# words that do not go together: the text says which
+while IFS=: read -r wrong words; do
+    # shellcheck disable=SC2086
+    "$program" $words <"$picture" >"$work/written" 2>"$work/told"
+    holds "status of '$words'" [ $? = 2 ]
+    holds "'$words' says $wrong" grep -q -e "$wrong" "$work/told"
+    holds "nothing is written after '$words'" [ ! -s "$work/written" ]
+done <<END
+--verify:decode --verify $some_md5 --format null
+--format:decode --format null --verify $some_md5
+--output:decode --verify $some_md5 --output $work/out
+--quiet:decode --progress --quiet
+--skip:units --skip 1
+--limit:info --limit 1
+--early:headers --early
+--json:decode --json
+--progress:info --json --progress
+--output:units --output $work/out
+--quiet:cut 0 --quiet
+END
+
+# how far decoding is: the last line stays, and nothing else changes
+rate_known=$here/encoder/pub_x_keyint3
+"$program" decode --progress "$rate_known.264" >"$work/pictures" 2>"$work/told"
+holds 'decode --progress' is_decoded "$rate_known.md5" $? 0 "$work/told"
+tr '\r' '\n' <"$work/told" | tail -n 1 >"$work/last"
+holds 'the last line of progress' grep -q '^pictures 13, refused 0, [0-9]*\.[0-9] a second, [0-9]*\.[0-9] times the frame rate.\[K$' "$work/last"
+holds 'it is ended' [ "$(tail -c 1 "$work/told" | od -An -tx1 | tr -d ' ')" = 0a ]
+"$program" decode --progress "$moving" >"$work/written" 2>"$work/told"
+tr '\r' '\n' <"$work/told" | tail -n 1 >"$work/last"
+holds 'progress without a frame rate' grep -q '^pictures 10, refused 0, [0-9]*\.[0-9] a second.\[K$' "$work/last"
+refusing=$here/foreign/for_cabac_main
+"$program" decode --progress "$refusing.264" >"$work/pictures" 2>"$work/all"
+status=$?
+tail -n +2 "$work/all" >"$work/told"
+holds 'refusals follow the line of progress' is_decoded "$refusing.md5" "$status" 1 "$refusing.refused"
+head -n 1 "$work/all" | tr '\r' '\n' | tail -n 1 >"$work/last"
+holds 'they are counted' grep -q "^pictures [0-9]*, refused $(wc -l <"$refusing.refused" | tr -d ' ')," "$work/last"
+before=$(date +%s)
+dd bs=1 if="$moving" 2>/dev/null | "$program" decode --progress 2>"$work/told" >"$work/written"
+holds 'at most four lines a second' [ "$(tr -dc '\r' <"$work/told" | wc -c)" -le $((4 * ($(date +%s) - before + 1) + 1)) ]
+"$program" decode --quiet "$refusing.264" >"$work/pictures" 2>"$work/told"
+holds 'refusals with --quiet' is_decoded "$refusing.md5" $? 1 "$refusing.refused"
+if command -v script >/dev/null; then
+    # standard error is a terminal
+    on_terminal() {
+        script -qec "'$program' decode $1 '$rate_known.264' >'$work/pictures'" /dev/null </dev/null >"$work/told" 2>&1
+    }
+    on_terminal ''
+    holds 'progress on a terminal' grep -q 'pictures 13, refused 0' "$work/told"
+    holds 'the same pictures' [ "$(md5sum <"$work/pictures" | cut -d ' ' -f 1)" = "$(cut -d ' ' -f 1 <"$rate_known.md5")" ]
+    on_terminal --quiet
+    holds 'none with --quiet' [ ! -s "$work/told" ]
+fi
+
+# each option in the help of a command, and each form, stands in the completion for bash
+if command -v bash >/dev/null; then
+    cat >"$work/complete" <<'END'
+. "$1"
+shift
+COMP_WORDS=("$@")
+COMP_CWORD=$(($# - 1))
+_avcdec
+printf '%s\n' "${COMPREPLY[@]}"
+END
+    completes() {
+        bash "$work/complete" "$here/../docs/avcdec.bash" "$@"
+    }
+    for command in decode units headers info cut; do
+        completes avcdec '' | grep -qx "$command"
+        holds "$command is completed" [ $? = 0 ]
+        "$program" "$command" --help >"$work/help"
+        for option in $(grep -o -e '^ *\(-[a-zA-Z], \)\{0,1\}--[a-z0-9-]*' "$work/help" | grep -o -e '--.*'); do
+            completes avcdec "$command" - | grep -qx -e "$option"
+            holds "$option of $command is completed" [ $? = 0 ]
+        done
+    done
+    for form in $("$program" decode --help | sed -n 's/.*--format.*possible values: \([^]]*\)\].*/\1/p' | tr -d ,); do
+        completes avcdec decode --format '' | grep -qx "$form"
+        holds "--format $form is completed" [ $? = 0 ]
+    done
+fi
+
+# the most frequent uses: to decode to a file, to watch (as ffplay reads it), and to compare with another decoder, whose MD5 is expected
+other=$(cut -d ' ' -f 1 <"${moving%.264}.md5")
+"$program" decode "$moving" -o "$work/pictures" 2>"$work/told"
+holds 'decoding to a file' is_decoded "${moving%.264}.md5" $? 0 /dev/null
+if command -v ffmpeg >/dev/null; then
+    size=$("$program" info "$moving" | sed -n 's/^size \([0-9]*x[0-9]*\),.*/\1/p')
+    "$program" decode "$moving" | ffmpeg -v error -f rawvideo -pixel_format yuv420p -video_size "$size" -i - -f md5 - >"$work/sum"
+    holds 'watching' grep -qx "MD5=$other" "$work/sum"
+fi
+"$program" decode --verify "$other" "$moving" >"$work/written" 2>"$work/told"
+judge 'comparing with another decoder' $? 0 ''
 
 # pictures of 12 bytes of stream each do not wait for one another: memory stays below what 40 of them take (1920x1080)
 many=$here/hostile/many_pictures_in_one_piece.264

@@ -4,6 +4,8 @@ use Rattle.avc_run.specs.Output.{Output}
 use Rattle.avc_run.specs.Output.TheVariants.{Early, Full}
 use Rattle.avc_cli.specs.declared.request.Command.{Command}
 use Rattle.avc_cli.specs.declared.request.Command.TheVariants.{Cut, Decode, Headers, Info, Units}
+use Rattle.avc_cli.specs.declared.request.Telling.{Telling}
+use Rattle.avc_cli.specs.declared.request.Telling.TheVariants.{Always, Never, ToTerminals}
 
 -- the word that names a command
 abbrev pub word_of : Command → List ℕ
@@ -14,11 +16,17 @@ word_of Info = codes "info"
 word_of Cut = codes "cut"
 
 -- The word names this command, or none.
-abbrev pub Names : (word : List ℕ) → Option Command → Type 0
-Names word (Some command) = word ≡ word_of command
-Names word None = (command : Command) → word ≡ word_of command → ⊥
+abbrev pub IsNamed : (word : List ℕ) → Option Command → Type 0
+IsNamed word (Some command) = word ≡ word_of command
+IsNamed word None = (command : Command) → word ≡ word_of command → ⊥
 
 -- the mode of output, by whether `--early` is among the words
 abbrev pub mode_of : (early : Bool) → Output
 mode_of true = Early
 mode_of false = Full
+
+-- when progress is told, by whether `--progress` or `--quiet` is among the words
+abbrev pub progress_of : (is_wanted is_quiet : Bool) → Telling
+progress_of is_wanted true = Never
+progress_of true false = Always
+progress_of false false = ToTerminals

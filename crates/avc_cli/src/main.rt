@@ -1,22 +1,25 @@
 //! `avcdec`: decodes a byte stream of H.264 (Annex B), shows what is in it, and cuts it, on the command line.
 #![tactic(auto)]
 
+mod progress;
+mod rate;
 mod request;
 #[cfg(test)]
 mod tests;
 
 use avc_formats::{Selected, decode_as, decode_md5, verify};
-use avc_info::info;
+use avc_info::{ForPeople, ForPrograms, info};
 use avc_run::{
-    Answer, Ending, I420, RunFault, answer_status, cut, decode, fault_line, fault_status, headers,
-    units,
+    Answer, Console, Ending, I420, Names, RunFault, Watch, answer_status, cut, decode, fail,
+    headers, units,
 };
 use clap::error::ErrorKind;
-use request::{Form, Request, Showing, Task, requested, words_of};
+use progress::Progress;
+use request::{Form, Request, Showing, Task, Telling, requested, words_of};
 use std::alloc::Global;
 use std::fs::File;
 use std::io;
-use std::io::{Read, Write};
+use std::io::{IsTerminal, Read, Write};
 use std::process::ExitCode;
 
 fn main(rt: HostRuntime) -> ExitCode {
@@ -32,54 +35,74 @@ fn main(rt: HostRuntime) -> ExitCode {
 
 // Does what was asked for, and answers the exit status.
 fn carry_out(rt: &HostRuntime, request: Request<'_>) -> u8 {
-    match request.input {
+    let mut console = Console {
+        names: request.names,
+        errors: rt.stderr(),
+        watch: Progress::new(rt, is_progress_told(rt, request.progress)),
+    };
+    match request.names.input {
         Some(name) => match File::open(rt, name) {
-            Ok(mut file) => carry_out_on(rt, request, &mut file),
-            Err(_) => unopened(rt, RunFault::Read, name),
+            Ok(mut file) => carry_out_on(rt, request, &mut file, &mut console),
+            Err(_) => fail(RunFault::Read, &request.names, &mut console.errors).status,
         },
-        None => carry_out_on(rt, request, &mut rt.stdin()),
+        None => carry_out_on(rt, request, &mut rt.stdin(), &mut console),
+    }
+}
+
+// Whether a line says how far decoding is.
+fn is_progress_told(rt: &HostRuntime, progress: Telling) -> bool {
+    match progress {
+        Telling::Always => true,
+        Telling::ToTerminals => rt.stderr().is_terminal(),
+        Telling::Never => false,
     }
 }
 
 // The same on this input.
-fn carry_out_on<R: Read>(rt: &HostRuntime, request: Request<'_>, reader: &mut R) -> u8 {
-    match request.output {
+fn carry_out_on<R: Read, E: Write, V: Watch>(
+    rt: &HostRuntime,
+    request: Request<'_>,
+    reader: &mut R,
+    console: &mut Console<'_, E, V>,
+) -> u8 {
+    let alloc = rt.alloc();
+    match request.names.output {
         Some(name) => match File::create(rt, name) {
-            Ok(mut file) => carry_out_between(rt, request.task, reader, &mut file),
-            Err(_) => unopened(rt, RunFault::Write, name),
+            Ok(mut file) => carry_out_between(alloc, request.task, reader, &mut file, console),
+            Err(_) => fail(RunFault::Write, &request.names, &mut console.errors).status,
         },
-        None => carry_out_between(rt, request.task, reader, &mut io::writer(rt)),
+        None => carry_out_between(alloc, request.task, reader, &mut io::writer(rt), console),
     }
 }
 
 // The same from this input to this output.
-fn carry_out_between<R: Read, W: Write>(
-    rt: &HostRuntime,
+fn carry_out_between<R: Read, W: Write, E: Write, V: Watch>(
+    alloc: Global,
     task: Task,
     reader: &mut R,
     writer: &mut W,
+    console: &mut Console<'_, E, V>,
 ) -> u8 {
-    let alloc = rt.alloc();
-    let mut errors = rt.stderr();
     let ending = match task {
-        Task::Decode(output) => decode(alloc, output, reader, writer, &mut errors),
-        Task::Check(output) => decode(alloc, output, reader, &mut io::sink(), &mut errors),
-        Task::Show(showing) => show(alloc, showing, reader, writer, &mut errors),
-        Task::Units => units(alloc, reader, writer, &mut errors),
-        Task::Headers => headers(alloc, reader, writer, &mut errors),
-        Task::Info => info(alloc, reader, writer, &mut errors),
-        Task::Cut(number) => cut(alloc, number, reader, writer, &mut errors),
+        Task::Decode(output) => decode(alloc, output, reader, writer, console),
+        Task::Check(output) => decode(alloc, output, reader, &mut io::sink(), console),
+        Task::Show(showing) => show(alloc, showing, reader, writer, console),
+        Task::Units => units(alloc, reader, writer, console),
+        Task::Headers => headers(alloc, reader, writer, console),
+        Task::Info => info(alloc, ForPeople, reader, writer, console),
+        Task::InfoJson => info(alloc, ForPrograms, reader, writer, console),
+        Task::Cut(number) => cut(alloc, number, reader, writer, console),
     };
     ending.status
 }
 
 // Shows some of the pictures, or their MD5.
-fn show<R: Read, W: Write, E: Write>(
+fn show<R: Read, W: Write, E: Write, V: Watch>(
     alloc: Global,
     showing: Showing,
     reader: &mut R,
     writer: &mut W,
-    errors: &mut E,
+    console: &mut Console<'_, E, V>,
 ) -> Ending {
     let mode = showing.mode;
     let format = Selected {
@@ -88,25 +111,22 @@ fn show<R: Read, W: Write, E: Write>(
         limit: showing.limit,
     };
     match showing.form {
-        Form::I420 => decode_as(alloc, mode, &format, reader, writer, errors),
-        Form::Null => decode_as(alloc, mode, &format, reader, &mut io::sink(), errors),
-        Form::Md5 => decode_md5(alloc, mode, &format, reader, writer, errors),
-        Form::Verify(expected) => verify(alloc, mode, &format, expected, reader, errors),
+        Form::I420 => decode_as(alloc, mode, &format, reader, writer, console),
+        Form::Null => decode_as(alloc, mode, &format, reader, &mut io::sink(), console),
+        Form::Md5 => decode_md5(alloc, mode, &format, reader, writer, console),
+        Form::Verify(expected) => verify(alloc, mode, &format, expected, reader, console),
     }
 }
 
-// Tells of a file that can't be opened, and answers the exit status.
-fn unopened<R: Eprint>(rt: &R, fault: RunFault, name: &str) -> u8 {
-    let _ = eprintln!(rt; "avcdec: {fault}: {name}");
-    fault_status(fault)
-}
-
 // The exit status after words that name nothing to do. A fault is told on the standard error.
-fn refuse<R: Print + Eprint>(rt: &R, error: &clap::Error) -> u8 {
+fn refuse(rt: &HostRuntime, error: &clap::Error) -> u8 {
     let answer = answer(rt, error);
     if let Err(fault) = answer {
-        let line = fault_line(fault);
-        let _ = eprint!(rt; "{line}");
+        let names = Names {
+            input: None,
+            output: None,
+        };
+        let _ = fail(fault, &names, &mut rt.stderr());
     }
     answer_status(answer)
 }

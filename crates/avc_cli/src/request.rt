@@ -1,7 +1,7 @@
 ghost use Rattle.std.specs.Prelude.{◌≡◌};
-ghost use Rattle.avc_cli.specs.Commands.{mode_of, Names};
+ghost use Rattle.avc_cli.specs.Commands.{mode_of, progress_of, IsNamed};
 
-use avc_run::Output;
+use avc_run::{Names, Output};
 use clap::error::ErrorKind;
 use clap::{Arg, ArgAction, ArgMatches, Command as Grammar, Error};
 use hex::FromHex;
@@ -13,11 +13,21 @@ use std::{env, io};
 pub struct Request<'a> {
     pub task: Task,
 
-    /// The file that is read, where it is not the standard input.
-    pub input: Option<&'a str>,
+    /// The files, where they are not the standard input and output.
+    pub names: Names<'a>,
 
-    /// The file that is written, where it is not the standard output.
-    pub output: Option<&'a str>,
+    pub progress: Telling,
+}
+
+/// When a line says how far decoding is.
+#[derive(Clone, Copy, Debug, PartialEq, Eq)]
+pub enum Telling {
+    Always,
+
+    /// Where the standard error is a terminal.
+    ToTerminals,
+
+    Never,
 }
 
 /// What is done with a stream.
@@ -40,6 +50,9 @@ pub enum Task {
 
     /// What the headers say of the stream.
     Info,
+
+    /// The same for programs.
+    InfoJson,
 
     /// The piece of this number.
     Cut(u32),
@@ -119,6 +132,12 @@ const SKIP: &str = "skip";
 
 const LIMIT: &str = "limit";
 
+const PROGRESS: &str = "progress";
+
+const QUIET: &str = "quiet";
+
+const JSON: &str = "json";
+
 /// The limit where all pictures are wanted.
 const NO_LIMIT: u64 = u64::MAX;
 
@@ -137,11 +156,6 @@ fn grammar<'a>(alloc: Global) -> Result<Grammar<'a>, Error> {
     let headers = Grammar::new(alloc, HEADERS)
         .about("Prints a line for each parameter set and slice")
         .after_help("Example: avcdec headers in.264 | grep sps");
-    let info = Grammar::new(alloc, INFO)
-        .about(
-            "Prints the size, profile, level and frame rate, and counts of pictures and slices, without decoding",
-        )
-        .after_help("Example: avcdec info in.264");
     Ok(
         Grammar::new(alloc, "avcdec")
             .bin_name("avcdec")?
@@ -152,9 +166,27 @@ fn grammar<'a>(alloc: Global) -> Result<Grammar<'a>, Error> {
             .subcommand(decode_grammar(alloc)?)?
             .subcommand(units.arg(input(alloc))?)?
             .subcommand(headers.arg(input(alloc))?)?
-            .subcommand(info.arg(input(alloc))?)?
+            .subcommand(info_grammar(alloc)?)?
             .subcommand(cut_grammar(alloc)?)?,
     )
+}
+
+fn info_grammar<'a>(alloc: Global) -> Result<Grammar<'a>, Error> {
+    let info = Grammar::new(alloc, INFO)
+        .about(
+            "Prints the size, profile, level and frame rate, and counts of pictures and slices, without decoding",
+        )
+        .after_help("Example: avcdec info in.264");
+    let json = flag(alloc, JSON, "Prints one line of JSON, for programs");
+    Ok(info.arg(json)?.arg(input(alloc))?)
+}
+
+// An option without a value.
+fn flag<'a>(alloc: Global, name: &'a str, help: &'a str) -> Arg<'a> {
+    Arg::new(alloc, name)
+        .long(name)
+        .help(help)
+        .action(ArgAction::SetTrue)
 }
 
 fn input<'a>(alloc: Global) -> Arg<'a> {
@@ -164,10 +196,11 @@ fn input<'a>(alloc: Global) -> Arg<'a> {
 }
 
 fn decode_grammar<'a>(alloc: Global) -> Result<Grammar<'a>, Error> {
-    let early = Arg::new(alloc, EARLY)
-        .long(EARLY)
-        .help("Writes a picture as soon as the stream's reorder number lets it go out")
-        .action(ArgAction::SetTrue);
+    let early = flag(
+        alloc,
+        EARLY,
+        "Writes a picture as soon as the stream's reorder number lets it go out",
+    );
     let decode = Grammar::new(alloc, DECODE)
         .about("Writes the decoded pictures as I420, cropped, in output order")
         .after_help("Example: avcdec decode in.264 -o out.yuv");
@@ -182,9 +215,24 @@ fn decode_grammar<'a>(alloc: Global) -> Result<Grammar<'a>, Error> {
                 LIMIT,
                 "Decodes until N pictures are out, those left out not counted",
             ))?
+            .arg(progress(alloc)?)?
+            .arg(flag(
+                alloc,
+                QUIET,
+                "Shows no progress; refusals and faults are told",
+            ))?
             .arg(output(alloc))?
             .arg(input(alloc))?,
     )
+}
+
+fn progress<'a>(alloc: Global) -> Result<Arg<'a>, Error> {
+    let progress = flag(
+        alloc,
+        PROGRESS,
+        "Shows on standard error how far decoding is, also where that is no terminal",
+    );
+    Ok(progress.conflicts_with(QUIET)?)
 }
 
 fn verify<'a>(alloc: Global) -> Result<Arg<'a>, Error> {
@@ -242,7 +290,7 @@ fn cut_grammar<'a>(alloc: Global) -> Result<Grammar<'a>, Error> {
 
 // The command of this name, if there is one.
 fn command_named(name: &str) -> Option<Command>
-    ensures { Names name.now result }
+    ensures { IsNamed name.now result }
 {
     match name {
         DECODE => Some(Command::Decode),
@@ -267,7 +315,11 @@ fn task_of(command: Command, matches: &ArgMatches<'_>) -> Option<Task> {
         Command::Decode => showing_of(matches).map(task_of_showing),
         Command::Units => Some(Task::Units),
         Command::Headers => Some(Task::Headers),
-        Command::Info => Some(Task::Info),
+        Command::Info => Some(if matches.get_flag(JSON) {
+            Task::InfoJson
+        } else {
+            Task::Info
+        }),
         Command::Cut => {
             let number = matches.get_one::<u32>(NUMBER)?;
             Some(Task::Cut(number))
@@ -336,11 +388,29 @@ fn request_of<'a>(name: &str, matches: &ArgMatches<'a>) -> Option<Request<'a>> {
         Command::Decode | Command::Cut => word(matches, OUTPUT),
         Command::Units | Command::Headers | Command::Info => None,
     };
+    let progress = match command {
+        Command::Decode => progress_of(matches.get_flag(PROGRESS), matches.get_flag(QUIET)),
+        Command::Units | Command::Headers | Command::Info | Command::Cut => Telling::Never,
+    };
     Some(Request {
         task,
-        input: file_named(word(matches, INPUT)),
-        output: file_named(output),
+        names: Names {
+            input: file_named(word(matches, INPUT)),
+            output: file_named(output),
+        },
+        progress,
     })
+}
+
+// When progress is told, by whether `--progress` or `--quiet` is among the words.
+fn progress_of(is_wanted: bool, is_quiet: bool) -> Telling
+    ensures { result ≡ progress_of is_wanted is_quiet }
+{
+    match (is_wanted, is_quiet) {
+        (_, true) => Telling::Never,
+        (true, false) => Telling::Always,
+        (false, false) => Telling::ToTerminals,
+    }
 }
 
 /// Reads the words of the command line, of which the first is the program's name. What it does not take, and a request for help,

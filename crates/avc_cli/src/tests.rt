@@ -1,7 +1,7 @@
 // What no contract says: what the words of the command line mean. Where an allocation is refused
 // (`rt try --test --fail-alloc N`), a test ends in that error, and not at an assertion.
-use crate::request::{Form, Request, Showing, Task, requested};
-use avc_run::Output;
+use crate::request::{Form, Request, Showing, Task, Telling, requested};
+use avc_run::{Names, Output};
 use clap::error::ErrorKind;
 use std::alloc::Global;
 use std::test::Fail;
@@ -23,12 +23,41 @@ fn taken(
     }
 }
 
-// From standard input to standard output.
-fn plain(task: Task) -> Result<Request<'static>, (ErrorKind, i32)> {
+// When progress is told where no word says so.
+fn usual_progress(task: Task) -> Telling {
+    match task {
+        Task::Decode(_) | Task::Check(_) | Task::Show(_) => Telling::ToTerminals,
+        _ => Telling::Never,
+    }
+}
+
+// With these files.
+fn named(
+    task: Task,
+    input: Option<&'static str>,
+    output: Option<&'static str>,
+) -> Result<Request<'static>, (ErrorKind, i32)> {
     Ok(Request {
         task,
-        input: None,
-        output: None,
+        names: Names { input, output },
+        progress: usual_progress(task),
+    })
+}
+
+// From standard input to standard output.
+fn plain(task: Task) -> Result<Request<'static>, (ErrorKind, i32)> {
+    named(task, None, None)
+}
+
+// The same where progress is told so.
+fn telling(task: Task, progress: Telling) -> Result<Request<'static>, (ErrorKind, i32)> {
+    Ok(Request {
+        task,
+        names: Names {
+            input: None,
+            output: None,
+        },
+        progress,
     })
 }
 
@@ -50,11 +79,7 @@ fn takes_words(rt: HostRuntime) -> Result<(), Fail> {
         ("avcdec decode - -o -", plain(full)),
         (
             "avcdec decode in.264 -o out.yuv",
-            Ok(Request {
-                task: full,
-                input: Some("in.264"),
-                output: Some("out.yuv"),
-            }),
+            named(full, Some("in.264"), Some("out.yuv")),
         ),
         ("avcdec decode --early", plain(Task::Decode(Output::Early))),
         ("avcdec decode --format i420", plain(full)),
@@ -113,21 +138,22 @@ fn takes_words(rt: HostRuntime) -> Result<(), Fail> {
         ("avcdec units --early", Err((ErrorKind::UnknownArgument, 2))),
         ("avcdec units", plain(Task::Units)),
         ("avcdec info", plain(Task::Info)),
+        ("avcdec info --json", plain(Task::InfoJson)),
+        ("avcdec decode --json", Err((ErrorKind::UnknownArgument, 2))),
+        ("avcdec decode --progress", telling(full, Telling::Always)),
+        ("avcdec decode --quiet", telling(full, Telling::Never)),
+        (
+            "avcdec decode --quiet --progress",
+            Err((ErrorKind::ArgumentConflict, 2)),
+        ),
+        ("avcdec cut 0 --quiet", Err((ErrorKind::UnknownArgument, 2))),
         (
             "avcdec headers in.264",
-            Ok(Request {
-                task: Task::Headers,
-                input: Some("in.264"),
-                output: None,
-            }),
+            named(Task::Headers, Some("in.264"), None),
         ),
         (
             "avcdec cut 0 --output piece.264 in.264",
-            Ok(Request {
-                task: Task::Cut(0),
-                input: Some("in.264"),
-                output: Some("piece.264"),
-            }),
+            named(Task::Cut(0), Some("in.264"), Some("piece.264")),
         ),
         ("avcdec cut 4294967295", plain(Task::Cut(4_294_967_295))),
         (

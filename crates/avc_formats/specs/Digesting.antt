@@ -6,6 +6,7 @@ use Rattle.hex.specs.Hex.{encode_lower}
 use Rattle.avc_run.specs.Output.{Output}
 use Rattle.avc_run.specs.Formats.{DecodesAs, Format, StopsPicture}
 use Rattle.avc_run.specs.Program.{TellsRun}
+use Rattle.avc_run.specs.declared.console.Names.{Names}
 use Rattle.avc_run.specs.declared.exit.Ending.{Ending}
 use Rattle.avc_run.specs.declared.fault.RunFault.{RunFault}
 use Rattle.avc_run.specs.declared.report.Report.{Report}
@@ -36,18 +37,18 @@ pub record WritesDigest (format : Format) (output : Output) (unread left held ho
   pub prints : Prints run result held holds (digest_line digest)
 
 -- `--format md5` was such a run, and its exit status and what it told are those of this run.
-pub record EndsDigesting (format : Format) (output : Output) (unread left held holds before now : Option (List ℕ)) (ending : Ending) : Type 0 where
+pub record EndsDigesting (names : Names) (format : Format) (output : Output) (unread left held holds before now : Option (List ℕ)) (ending : Ending) : Type 0 where
   pub run : Result Report RunFault
   pub writes : WritesDigest format output unread left held holds run
-  pub tells : TellsRun run before now ending
+  pub tells : TellsRun names run before now ending
 
 -- The digest of what would be written is compared: where it is another one and the status would be 0, it is 1.
-pub record EndsVerifying (format : Format) (output : Output) (expected : List ℕ) (unread left before now : Option (List ℕ)) (ending : Ending) : Type 0 where
+pub record EndsVerifying (names : Names) (format : Format) (output : Output) (expected : List ℕ) (unread left before now : Option (List ℕ)) (ending : Ending) : Type 0 where
   pub run : Result Report RunFault
   pub digest : List ℕ
   pub decoded : Ending
   pub sums : Sums format output unread left run digest
-  pub tells : TellsRun run before now decoded
+  pub tells : TellsRun names run before now decoded
   pub told : ending.told ≡ decoded.told
   pub same : digest ≡ expected → ending.status ≡ decoded.status
   pub other : (digest ≡ expected → ⊥) → ending.status ≡ (if decoded.status == 0 then 1 else decoded.status)

@@ -4,6 +4,7 @@ use Rattle.avc_types.specs.declared.picture.Picture.{Picture}
 use Rattle.avc_run.specs.Output.{Output}
 use Rattle.avc_run.specs.Formats.{DecodesAs, Format}
 use Rattle.avc_run.specs.Program.{TellsRun}
+use Rattle.avc_run.specs.declared.console.Names.{Names}
 use Rattle.avc_run.specs.declared.exit.Ending.{Ending}
 use Rattle.avc_run.specs.declared.fault.RunFault.{RunFault}
 use Rattle.avc_run.specs.declared.report.Report.{Report}
@@ -21,7 +22,7 @@ selected format skip limit = record {
 }
 
 -- `decode` in a format was a run, and its exit status and what it told are those of this run.
-pub record EndsDecodingAs (format : Format) (output : Output) (unread left held holds before now : Option (List ℕ)) (ending : Ending) : Type 0 where
+pub record EndsDecodingAs (names : Names) (format : Format) (output : Output) (unread left held holds before now : Option (List ℕ)) (ending : Ending) : Type 0 where
   pub run : Result Report RunFault
   pub decodes : DecodesAs format output unread left held holds run
-  pub tells : TellsRun run before now ending
+  pub tells : TellsRun names run before now ending

@@ -6,42 +6,42 @@ ghost use Rattle.avc_formats.specs.Digesting.{digest_line, EndsDigesting, EndsVe
 
 use crate::md5_writer::Md5Writer;
 use crate::text::write_text;
-use avc_run::{Ending, Output, PictureFormat, Report, RunFault, run_as, tell};
+use avc_run::{Console, Ending, Output, PictureFormat, Report, RunFault, Watch, run_watched, tell};
 use std::alloc::Global;
 use std::io::{Read, Write};
 
 /// The command `decode --format md5`: decodes a byte stream (Annex B), writes the MD5 of all that `decode` would write in this
-/// format, as `md5sum` does, and tells of refusals, or of the fault that ended the run, on `errors`. After a fault there is no MD5.
-pub fn decode_md5<F: PictureFormat, R: Read, W: Write, E: Write>(
+/// format, as `md5sum` does, and tells of refusals, or of the fault that ended the run, on the console. After a fault there is no MD5.
+pub fn decode_md5<F: PictureFormat, R: Read, W: Write, E: Write, V: Watch>(
     alloc: Global,
     output: Output,
     format: &F,
     reader: &mut R,
     writer: &mut W,
-    errors: &mut E,
+    console: &mut Console<'_, E, V>,
 ) -> Ending
-    ensures { EndsDigesting (F.format format.now) output (R.remaining reader.old) (R.remaining reader.new) (W.contents writer.old)
-        (W.contents writer.new) (E.contents errors.old) (E.contents errors.new) result }
+    ensures { EndsDigesting console.old.names (F.format format.now) output (R.remaining reader.old) (R.remaining reader.new)
+        (W.contents writer.old) (W.contents writer.new) (E.contents console.old.errors) (E.contents console.new.errors) result }
 {
-    let run = run_md5(alloc, output, format, reader, writer);
-    tell(alloc, &run, errors)
+    let run = run_md5(alloc, output, format, &mut console.watch, reader, writer);
+    tell(alloc, &run, &console.names, &mut console.errors)
 }
 
 /// The command `decode --verify`: decodes a byte stream (Annex B), compares the MD5 of all that `decode` would write in this format,
-/// and tells of refusals, or of the fault that ended the run, on `errors`. The status is 1 where it is another one.
-pub fn verify<F: PictureFormat, R: Read, E: Write>(
+/// and tells of refusals, or of the fault that ended the run, on the console. The status is 1 where it is another one.
+pub fn verify<F: PictureFormat, R: Read, E: Write, V: Watch>(
     alloc: Global,
     output: Output,
     format: &F,
     expected: [u8; 16],
     reader: &mut R,
-    errors: &mut E,
+    console: &mut Console<'_, E, V>,
 ) -> Ending
-    ensures { EndsVerifying (F.format format.now) output expected (R.remaining reader.old) (R.remaining reader.new)
-        (E.contents errors.old) (E.contents errors.new) result }
+    ensures { EndsVerifying console.old.names (F.format format.now) output expected (R.remaining reader.old) (R.remaining reader.new)
+        (E.contents console.old.errors) (E.contents console.new.errors) result }
 {
-    let (run, digest) = sum(alloc, output, format, reader);
-    let decoded = tell(alloc, &run, errors);
+    let (run, digest) = sum(alloc, output, format, &mut console.watch, reader);
+    let decoded = tell(alloc, &run, &console.names, &mut console.errors);
     if digest == expected {
         return decoded;
     }
@@ -59,33 +59,35 @@ fn mismatch_status(status: u8) -> u8
 }
 
 // Decodes, and writes the digest.
-fn run_md5<F: PictureFormat, R: Read, W: Write>(
+fn run_md5<F: PictureFormat, V: Watch, R: Read, W: Write>(
     alloc: Global,
     output: Output,
     format: &F,
+    watch: &mut V,
     reader: &mut R,
     writer: &mut W,
 ) -> Result<Report, RunFault>
     ensures { WritesDigest (F.format format.now) output (R.remaining reader.old) (R.remaining reader.new) (W.contents writer.old)
         (W.contents writer.new) result }
 {
-    let (run, digest) = sum(alloc, output, format, reader);
+    let (run, digest) = sum(alloc, output, format, watch, reader);
     let report = run?;
     write_digest(alloc, digest, writer)?;
     Ok(report)
 }
 
 // The run, and the digest of what it would have written.
-fn sum<F: PictureFormat, R: Read>(
+fn sum<F: PictureFormat, V: Watch, R: Read>(
     alloc: Global,
     output: Output,
     format: &F,
+    watch: &mut V,
     reader: &mut R,
 ) -> (Result<Report, RunFault>, [u8; 16])
     ensures { Sums (F.format format.now) output (R.remaining reader.old) (R.remaining reader.new) result.0 result.1 }
 {
     let mut writer = Md5Writer::new();
-    let run = run_as(alloc, output, format, reader, &mut writer);
+    let run = run_watched(alloc, output, format, watch, reader, &mut writer);
     (run, writer.digest())
 }
 

@@ -1,1 +1,2 @@
 mod Noted
+mod Members

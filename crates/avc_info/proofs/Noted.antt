@@ -13,7 +13,6 @@ use Rattle.avc_tools.specs.Streams.{StreamSoFar, after_end, after_piece, after_u
 use Rattle.avc_info.specs.Facts.{no_facts}
 use Rattle.avc_info.specs.Info.{AreNoted, info_so_far}
 use Rattle.avc_info.specs.Noting.{after_unit, facts_after}
-use Rattle.avc_info.specs.Text.{info_text}
 use Rattle.avc_info.specs.declared.stream_facts.StreamFacts.{StreamFacts}
 
 -- one unit's sets in front
@@ -69,25 +68,25 @@ noted_again max old mid new ended ended' sets now f more h left is put added e =
 }
 
 -- at the end
-pub told_at_end : (max : ℕ) (s : SplitterState) (ended : Bool) (sets : List SetUnit) (f : StreamFacts) (before : StreamSoFar) (added : List ℕ) → AreNoted max s ended sets f
-    → ended ≡ true → before.ended ≡ false → added ≡ info_text f → length s.bytes ≤ max
-    → info_so_far s.bytes s.ended ≡ info_so_far before.bytes before.ended ++ added
-told_at_end max s ended sets f before added h is_ended open_before text short =
+pub told_at_end : (form : StreamFacts → List ℕ) (max : ℕ) (s : SplitterState) (ended : Bool) (sets : List SetUnit) (f : StreamFacts) (before : StreamSoFar) (added : List ℕ)
+    → AreNoted max s ended sets f → ended ≡ true → before.ended ≡ false → added ≡ form f → length s.bytes ≤ max
+    → info_so_far form s.bytes s.ended ≡ info_so_far form before.bytes before.ended ++ added
+told_at_end form max s ended sets f before added h is_ended open_before text short =
     let all : s.ended ≡ true = sym h.end_is ∙ is_ended in
-    ap (λ e. info_so_far s.bytes e) all
-    ∙ ap (λ us. info_text (facts_after [] us no_facts)) (sym (whole_units max s.bytes true short))
-    ∙ ap (λ e. info_text (facts_after [] (units max s.bytes e) no_facts)) (sym all)
-    ∙ ap info_text (sym h.facts_are)
+    ap (λ e. info_so_far form s.bytes e) all
+    ∙ ap (λ us. form (facts_after [] us no_facts)) (sym (whole_units max s.bytes true short))
+    ∙ ap (λ e. form (facts_after [] (units max s.bytes e) no_facts)) (sym all)
+    ∙ ap form (sym h.facts_are)
     ∙ sym text
-    ∙ ap (λ e. info_so_far before.bytes e ++ added) (sym open_before)
+    ∙ ap (λ e. info_so_far form before.bytes e ++ added) (sym open_before)
 
 -- before it
-pub nothing_yet : (s : SplitterState) (before : StreamSoFar) (added : List ℕ) → s.ended ≡ false → before.ended ≡ false → added ≡ []
-    → info_so_far s.bytes s.ended ≡ info_so_far before.bytes before.ended ++ added
-nothing_yet s before added now_open open_before none =
-    ap (λ e. info_so_far s.bytes e) now_open
+pub nothing_yet : (form : StreamFacts → List ℕ) (s : SplitterState) (before : StreamSoFar) (added : List ℕ) → s.ended ≡ false → before.ended ≡ false → added ≡ []
+    → info_so_far form s.bytes s.ended ≡ info_so_far form before.bytes before.ended ++ added
+nothing_yet form s before added now_open open_before none =
+    ap (λ e. info_so_far form s.bytes e) now_open
     ∙ sym none
-    ∙ ap (λ e. info_so_far before.bytes e ++ added) (sym open_before)
+    ∙ ap (λ e. info_so_far form before.bytes e ++ added) (sym open_before)
 
 -- ---- the end of what came
 

@@ -4,15 +4,18 @@ use Rattle.avc_annexb.specs.SplitterState.{SplitterState}
 use Rattle.avc_annexb.specs.Units.{units}
 use Rattle.avc_params.specs.declared.set_unit.SetUnit.{SetUnit}
 use Rattle.avc_units.specs.Grouping.{set_units}
-use Rattle.avc_tools.specs.Streams.{IsDrained}
+use Rattle.avc_tools.specs.Streams.{IsDrained, max_unit}
 use Rattle.avc_info.specs.Facts.{no_facts}
 use Rattle.avc_info.specs.Noting.{facts_after, facts_of}
-use Rattle.avc_info.specs.Text.{info_text}
 use Rattle.avc_info.specs.declared.stream_facts.StreamFacts.{StreamFacts}
 
--- the facts of the whole stream, once it has ended
-abbrev pub info_so_far : List ℕ → (ended : Bool) → List ℕ
-info_so_far bytes ended = if ended then info_text (facts_of bytes) else []
+-- the facts of the units whose end has been seen, where no unit is longer than memory
+abbrev pub facts_so_far : List ℕ → (ended : Bool) → StreamFacts
+facts_so_far bytes ended = facts_after [] (units max_unit bytes ended) no_facts
+
+-- the facts of the whole stream in a form, once it has ended
+abbrev pub info_so_far : (form : StreamFacts → List ℕ) → List ℕ → (ended : Bool) → List ℕ
+info_so_far form bytes ended = if ended then form (facts_of bytes) else []
 
 -- ---- for private clauses
 

@@ -1,4 +1,5 @@
 pub mod Facts
 pub mod Text
+pub mod Json
 pub mod Noting
 pub mod Info

@@ -23,10 +23,12 @@ abbrev pub is_level_1b : SequenceFacts → Bool
 is_level_1b s = s.level_idc == 9 || (s.level_idc == 11 && s.constraint_set3_flag)
 
 -- the level's number (A.3.1)
+abbrev pub level_name : SequenceFacts → List ℕ
+level_name s = if is_level_1b s then codes "1b" else decimal (s.level_idc / 10) ++ codes "." ++ decimal (s.level_idc % 10)
+
+-- the level
 abbrev pub level_text : SequenceFacts → List ℕ
-level_text s =
-    if is_level_1b s then codes ", level 1b"
-    else codes ", level " ++ decimal (s.level_idc / 10) ++ codes "." ++ decimal (s.level_idc % 10)
+level_text s = codes ", level " ++ level_name s
 
 -- frames in a thousand seconds, rounded down: a frame takes two ticks (E.2.1)
 abbrev pub rate_of : Timing → Option ℕ

@@ -3,9 +3,10 @@ ghost use Rattle.avc_units.specs.Grouping.{set_units};
 ghost use Rattle.avc_tools.specs.Streams.{after_units_left, max_unit, units_left};
 ghost use Rattle.avc_info.specs.Noting.{facts_after};
 
+use crate::form::InfoForm;
 use crate::noting::note_unit;
+use crate::sequence_facts::SequenceFacts;
 use crate::stream_facts::StreamFacts;
-use crate::text::info_text;
 use avc_annexb::Splitter;
 use avc_annexb::laws::units_stay;
 use avc_params::ParamTable;
@@ -17,11 +18,12 @@ use std::marker::Model;
 // No unit in memory has more bytes.
 const MAX_UNIT: usize = usize::MAX;
 
-/// The facts of a stream (Annex B) that comes in pieces, told for people at its end. It keeps the unit that is not over and the
+/// The facts of a stream (Annex B) that comes in pieces, told in a form at its end. It keeps the unit that is not over and the
 /// parameter sets in force. A contract sees what came of the stream.
 #[derive(Drop)]
-pub struct InfoLines {
+pub struct InfoLines<F> {
     alloc: Global,
+    form: F,
     splitter: Splitter<MAX_UNIT>,
     table: ParamTable,
     facts: StreamFacts,
@@ -29,7 +31,7 @@ pub struct InfoLines {
     failed: bool,
 }
 
-impl Model for InfoLines {
+impl<F> Model for InfoLines<F> {
     ghost use Rattle.std.specs.Prelude.{◌≡◌, false};
     ghost use Rattle.avc_tools.specs.Streams.{StreamSoFar, max_unit};
     ghost use Rattle.avc_info.specs.Info.{AreNoted};
@@ -41,15 +43,17 @@ impl Model for InfoLines {
     ghost invariant = { λ l. l.failed ≡ false → AreNoted max_unit l.splitter l.ended l.table l.facts };
 }
 
-impl InfoLines {
+impl<F> InfoLines<F> {
     ghost use Rattle.avc_tools.specs.Streams.{new_stream};
+    ghost use Rattle.avc_info.specs.Info.{facts_so_far};
 
     /// At the start of a stream.
-    pub fn new(alloc: Global) -> InfoLines
+    pub fn new(alloc: Global, form: F) -> InfoLines<F>
         ensures { result ≡ new_stream }
     {
         InfoLines {
             alloc,
+            form,
             splitter: Splitter::new(alloc),
             table: ParamTable::new(alloc),
             facts: StreamFacts::new(),
@@ -57,16 +61,23 @@ impl InfoLines {
             failed: false,
         }
     }
+
+    /// What the sequence parameter set of the first slice says, once the end of that slice has come.
+    pub fn sequence(&self) -> &Option<SequenceFacts>
+        ensures { self.now.failed ≡ false → result.now ≡ (facts_so_far self.now.bytes self.now.ended).sequence }
+    {
+        &self.facts.sequence
+    }
 }
 
-impl StreamText for InfoLines {
+impl<F: InfoForm> StreamText for InfoLines<F> {
     ghost use Rattle.avc_info.specs.Info.{info_so_far};
 
     ghost so_far = { λ l. l };
 
     ghost number = { λ _. 0 };
 
-    ghost text = { λ _. info_so_far };
+    ghost text = { λ _. info_so_far F.text };
 
     // it is written at the end
     ghost over = { λ _ _ _. false };
@@ -108,7 +119,7 @@ impl StreamText for InfoLines {
             &mut self.table,
             &mut self.facts,
         )?;
-        let text = info_text(self.alloc, &self.facts)?;
+        let text = self.form.tell(self.alloc, &self.facts)?;
         self.ended = true;
         self.failed = false;
         Ok(text.into_bytes())

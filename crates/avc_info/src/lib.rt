@@ -1,7 +1,9 @@
-//! What a byte stream is, told to people.
+//! What a byte stream is, told to people and to programs.
 #![tactic(auto)]
 
+mod form;
 mod info_lines;
+mod json;
 mod noting;
 mod program;
 mod sequence_facts;
@@ -9,9 +11,11 @@ mod slice_counts;
 mod stream_facts;
 mod text;
 
+pub use form::{ForPeople, ForPrograms, InfoForm};
 pub use info_lines::InfoLines;
+pub use json::info_json;
 pub use program::{info, run_info};
 pub use sequence_facts::SequenceFacts;
 pub use slice_counts::SliceCounts;
 pub use stream_facts::{Refusal, StreamFacts};
-pub use text::{info_text, profile_name};
+pub use text::{frame_rate, info_text, profile_name};

@@ -2,35 +2,38 @@ ghost use Rattle.avc_run.specs.Listing.{Lists};
 ghost use Rattle.avc_run.specs.Program.{EndsListing};
 ghost use Rattle.avc_info.specs.Info.{info_so_far};
 
+use crate::form::InfoForm;
 use crate::info_lines::InfoLines;
-use avc_run::{Ending, RunFault, end_listing, write_stream};
+use avc_run::{Console, Ending, RunFault, end_listing, write_stream};
 use std::alloc::Global;
 use std::io::{Read, Write};
 
-/// The command `info`: reads a byte stream (Annex B) to its end, writes what its parameter sets and slice headers say of it, for
-/// people, and tells of a fault on `errors`. No picture is decoded.
-pub fn info<R: Read, W: Write, E: Write>(
+/// The command `info`: reads a byte stream (Annex B) to its end, writes what its parameter sets and slice headers say of it, in
+/// this form, and tells of a fault on the console. No picture is decoded.
+pub fn info<F: InfoForm + Drop, R: Read, W: Write, E: Write, V>(
     alloc: Global,
+    form: F,
     reader: &mut R,
     writer: &mut W,
-    errors: &mut E,
+    console: &mut Console<'_, E, V>,
 ) -> Ending
-    ensures { EndsListing info_so_far (R.remaining reader.old) (R.remaining reader.new) (W.contents writer.old) (W.contents writer.new)
-        (E.contents errors.old) (E.contents errors.new) result }
+    ensures { EndsListing console.old.names (info_so_far F.text) (R.remaining reader.old) (R.remaining reader.new) (W.contents writer.old)
+        (W.contents writer.new) (E.contents console.old.errors) (E.contents console.new.errors) result }
 {
-    let run = run_info(alloc, reader, writer);
-    end_listing(run, errors)
+    let run = run_info(alloc, form, reader, writer);
+    end_listing(run, &console.names, &mut console.errors)
 }
 
-/// Reads a byte stream (Annex B) to its end and writes what its parameter sets and slice headers say of it.
-pub fn run_info<R: Read, W: Write>(
+/// Reads a byte stream (Annex B) to its end and writes what its parameter sets and slice headers say of it, in this form.
+pub fn run_info<F: InfoForm + Drop, R: Read, W: Write>(
     alloc: Global,
+    form: F,
     reader: &mut R,
     writer: &mut W,
 ) -> Result<(), RunFault>
-    ensures { Lists info_so_far (R.remaining reader.old) (R.remaining reader.new) (W.contents writer.old) (W.contents writer.new) result }
+    ensures { Lists (info_so_far F.text) (R.remaining reader.old) (R.remaining reader.new) (W.contents writer.old) (W.contents writer.new) result }
 {
-    let mut lines = InfoLines::new(alloc);
+    let mut lines = InfoLines::new(alloc, form);
     write_stream(alloc, &mut lines, reader, writer)?;
     Ok(())
 }

@@ -1,6 +1,6 @@
 ghost use Rattle.std.specs.Prelude.{◌≡◌, ◌++◌, IfOk, OnOk, string_bytes};
 ghost use Rattle.avc_info.specs.Text.{clock_text, counts_line, frame_rate, frames_line, info_text, is_level_1b};
-ghost use Rattle.avc_info.specs.Text.{level_text, profile_name, profile_text, rate_of, rate_text};
+ghost use Rattle.avc_info.specs.Text.{level_name, level_text, profile_name, profile_text, rate_of, rate_text};
 ghost use Rattle.avc_info.specs.Text.{newline, references_text, reordering_text, refusal_text, refused_line, refused_text, sequence_text, shape_line, size_text};
 
 use crate::sequence_facts::SequenceFacts;
@@ -82,13 +82,21 @@ pub fn profile_name(sequence: &SequenceFacts) -> &'static str
 fn add_level(text: &mut String, sequence: &SequenceFacts) -> Result<(), OutOfMemory>
     ensures { OnOk result (string_bytes text.new ≡ string_bytes text.old ++ level_text sequence.now) }
 {
+    text.push_str(", level ")?;
+    add_level_name(text, sequence)
+}
+
+/// Adds the level's number (A.3.1).
+pub(crate) fn add_level_name(text: &mut String, sequence: &SequenceFacts) -> Result<(), OutOfMemory>
+    ensures { OnOk result (string_bytes text.new ≡ string_bytes text.old ++ level_name sequence.now) }
+{
     if is_level_1b(sequence) {
-        text.push_str(", level 1b")?;
+        text.push_str("1b")?;
         return Ok(());
     }
     let whole = sequence.level_idc / 10;
     let tenth = sequence.level_idc % 10;
-    write!(text, ", level {whole}.{tenth}")?;
+    write!(text, "{whole}.{tenth}")?;
     Ok(())
 }
 
@@ -123,7 +131,7 @@ fn add_rate(text: &mut String, rate: u64) -> Result<(), OutOfMemory>
 }
 
 /// Frames in a thousand seconds, where it is given, rounded down.
-fn frame_rate(timing: Option<Timing>) -> Option<u64>
+pub fn frame_rate(timing: Option<Timing>) -> Option<u64>
     ensures { result ≡ frame_rate timing }
 {
     match timing {

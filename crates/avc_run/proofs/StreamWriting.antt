@@ -69,7 +69,7 @@ stopped text Memory unread left w0 w' bytes all read off = (bytes, all, read, of
 stopped text _ unread left w0 w' bytes all read off = absurd off
 
 -- all of a, and then n bytes of b
-front_of_both : (a b : List ℕ) (n : ℕ) → take (length a + n) (a ++ b) ≡ a ++ take n b
+pub front_of_both : (a b : List ℕ) (n : ℕ) → take (length a + n) (a ++ b) ≡ a ++ take n b
 front_of_both [] b n = ap (λ k. take k b) (let same : 0 + n ≡ n = omega arith in same)
 front_of_both (x ∷ a) b n =
     let same : length (x ∷ a) + n ≡ suc (length a + n) = omega arith in

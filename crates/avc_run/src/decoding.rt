@@ -7,6 +7,7 @@ ghost use Rattle.avc_run.specs.Draining.{events_left, report_with, BreaksOff, If
 ghost use Rattle.avc_run.specs.Parts.{start_code};
 ghost use Rattle.avc_decoder.specs.Machine.{after_feed, after_flush, new_machine};
 
+use crate::console::{Unwatched, Watch};
 use crate::fault::RunFault;
 use crate::format::{I420, PictureFormat};
 use crate::parts::{START_CODE, part_length};
@@ -31,10 +32,23 @@ pub fn run<R: Read, W: Write>(
 ) -> Result<Report, RunFault>
     ensures { Decodes output (R.remaining reader.old) (R.remaining reader.new) (W.contents writer.old) (W.contents writer.new) result }
 {
-    run_as(alloc, output, &I420, reader, writer)
+    run_plain(alloc, output, &mut Unwatched, reader, writer)
 }
 
-/// The same in this format. Where it wants no more pictures, the bytes are not read to their end.
+/// The same, where `watch` is told how far the run is.
+pub(crate) fn run_plain<V: Watch, R: Read, W: Write>(
+    alloc: Global,
+    output: Output,
+    watch: &mut V,
+    reader: &mut R,
+    writer: &mut W,
+) -> Result<Report, RunFault>
+    ensures { Decodes output (R.remaining reader.old) (R.remaining reader.new) (W.contents writer.old) (W.contents writer.new) result }
+{
+    run_watched(alloc, output, &I420, watch, reader, writer)
+}
+
+/// Decodes a byte stream (Annex B) in this format. Where it wants no more pictures, the bytes are not read to their end.
 pub fn run_as<F: PictureFormat, R: Read, W: Write>(
     alloc: Global,
     output: Output,
@@ -45,14 +59,30 @@ pub fn run_as<F: PictureFormat, R: Read, W: Write>(
     ensures { DecodesAs (F.format format.now) output (R.remaining reader.old) (R.remaining reader.new) (W.contents writer.old)
         (W.contents writer.new) result }
 {
-    run_behind(alloc, output, format, &[], reader, writer)
+    run_watched(alloc, output, format, &mut Unwatched, reader, writer)
 }
 
-/// The same of a stream of which the front was read before.
-pub fn run_behind<F: PictureFormat, R: Read, W: Write>(
+/// The same, where `watch` is told how far the run is, after each read and at the end.
+pub fn run_watched<F: PictureFormat, V: Watch, R: Read, W: Write>(
     alloc: Global,
     output: Output,
     format: &F,
+    watch: &mut V,
+    reader: &mut R,
+    writer: &mut W,
+) -> Result<Report, RunFault>
+    ensures { DecodesAs (F.format format.now) output (R.remaining reader.old) (R.remaining reader.new) (W.contents writer.old)
+        (W.contents writer.new) result }
+{
+    run_behind(alloc, output, format, watch, &[], reader, writer)
+}
+
+/// The same of a stream of which the front was read before.
+pub fn run_behind<F: PictureFormat, V: Watch, R: Read, W: Write>(
+    alloc: Global,
+    output: Output,
+    format: &F,
+    watch: &mut V,
     front: &[u8],
     reader: &mut R,
     writer: &mut W,
@@ -61,14 +91,17 @@ pub fn run_behind<F: PictureFormat, R: Read, W: Write>(
         (W.contents writer.old) (W.contents writer.new) result }
 {
     let mut decoder = Decoder::<MAX_UNIT>::new(alloc, output);
-    decode_by(&mut decoder, alloc, format, front, reader, writer)
+    let run = decode_by(&mut decoder, alloc, format, watch, front, reader, writer);
+    watch.end(&run);
+    run
 }
 
-// The same by a new decoder.
-fn decode_by<F: PictureFormat, R: Read, W: Write>(
+// The same by a new decoder, and without its end.
+fn decode_by<F: PictureFormat, V: Watch, R: Read, W: Write>(
     decoder: &mut Decoder<MAX_UNIT>,
     alloc: Global,
     format: &F,
+    watch: &mut V,
     front: &[u8],
     reader: &mut R,
     writer: &mut W,
@@ -84,6 +117,7 @@ fn decode_by<F: PictureFormat, R: Read, W: Write>(
         refused: Refusals::new(alloc),
     };
     take_in(decoder, &finder, front, format, writer, &mut report)?;
+    watch.look(front, &report);
     let mut piece = [0; PIECE];
     'pieces: for _read in 0..READS {
         let len = read_once(reader, &mut piece)?;
@@ -92,6 +126,7 @@ fn decode_by<F: PictureFormat, R: Read, W: Write>(
             return Ok(report);
         }
         take_in(decoder, &finder, &piece[..len], format, writer, &mut report)?;
+        watch.look(&piece[..len], &report);
         if format.is_enough(report.pictures) {
             return Ok(report);
         }

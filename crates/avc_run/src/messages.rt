@@ -1,9 +1,10 @@
-ghost use Rattle.std.specs.Prelude.{◌≡◌, ◌++◌, IfErr, IfOk, OnOk, string_bytes};
+ghost use Rattle.std.specs.Prelude.{◌≡◌, ◌++◌, IfErr, IfOk, OnErr, OnOk, string_bytes};
 ghost use Rattle.std.specs.Io.KnownBytes.{Appends};
 ghost use Rattle.avc_run.specs.Reading.{WritesFirst};
-ghost use Rattle.avc_run.specs.Messages.{fault_line, no_piece_line, refusal_line, refusal_lines};
+ghost use Rattle.avc_run.specs.Messages.{fault_line, fault_text, file_of, name_text, no_piece_line, refusal_line, refusal_lines};
 ghost use Rattle.avc_run.specs.declared.fault.RunFault.TheVariants as faults;
 
+use crate::console::Names;
 use crate::fault::RunFault;
 use crate::report::Report;
 use avc_types::{Fault, OutOfMemory};
@@ -11,15 +12,53 @@ use avc_yuv::write_bytes;
 use std::alloc::Global;
 use std::io::Write;
 
-/// The line of the standard error that tells of a fault.
-pub fn fault_line(fault: RunFault) -> &'static str
-    ensures { result.now ≡ fault_line fault }
+/// Writes the line of the standard error that tells of a fault, and of the file that it is about. It asks for no memory.
+pub(crate) fn write_fault<E: Write>(
+    fault: RunFault,
+    names: &Names<'_>,
+    errors: &mut E,
+) -> Result<(), RunFault>
+    ensures ok { OnOk result (Appends (E.contents errors.old) (E.contents errors.new) (fault_line names.now fault)) }
+    ensures err { OnErr result (WritesFirst (E.contents errors.old) (E.contents errors.new) (fault_line names.now fault)) }
+{
+    write_text(fault_text(fault), errors)?;
+    write_name(file_of(names, fault), errors)?;
+    write_text("\n", errors)
+}
+
+// What happened.
+fn fault_text(fault: RunFault) -> &'static str
+    ensures { result.now ≡ fault_text fault }
 {
     match fault {
-        RunFault::Read | RunFault::Endless => "avcdec: read fault\n",
-        RunFault::Write => "avcdec: write fault\n",
-        RunFault::Memory => "avcdec: out of memory\n",
-        RunFault::Size => "avcdec: a picture of another size\n",
+        RunFault::Read | RunFault::Endless => "avcdec: read fault",
+        RunFault::Write => "avcdec: write fault",
+        RunFault::Memory => "avcdec: out of memory",
+        RunFault::Size => "avcdec: a picture of another size",
+    }
+}
+
+// The name of the file to which it happened.
+fn file_of<'a>(names: &Names<'a>, fault: RunFault) -> Option<&'a str>
+    ensures { result ≡ file_of names.now fault }
+{
+    match fault {
+        RunFault::Read | RunFault::Endless => names.input,
+        RunFault::Write => names.output,
+        RunFault::Memory | RunFault::Size => None,
+    }
+}
+
+fn write_name<E: Write>(name: Option<&str>, errors: &mut E) -> Result<(), RunFault>
+    ensures ok { OnOk result (Appends (E.contents errors.old) (E.contents errors.new) (name_text name.entry)) }
+    ensures err { OnErr result (WritesFirst (E.contents errors.old) (E.contents errors.new) (name_text name.entry)) }
+{
+    match name {
+        Some(name) => {
+            write_text(": ", errors)?;
+            write_text(name, errors)
+        }
+        None => Ok(()),
     }
 }
 

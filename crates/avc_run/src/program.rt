@@ -6,43 +6,49 @@ ghost use Rattle.avc_run.specs.Status.{fault_status};
 ghost use Rattle.avc_run.specs.Messages.{cut_text, fault_line, text_of};
 ghost use Rattle.avc_run.specs.declared.fault.RunFault.TheVariants as faults;
 
+use crate::console::{Console, Names, Watch};
 use crate::cutting::run_cut;
-use crate::decoding::run;
+use crate::decoding::run_plain;
 use crate::exit::{Ending, cut_status, fault_status, status};
 use crate::fault::RunFault;
 use crate::listing::{run_headers, run_units};
-use crate::messages::{fault_line, no_piece_line, refusal_lines, write_text};
+use crate::messages::{no_piece_line, refusal_lines, write_fault, write_text};
 use crate::report::Report;
 use avc_decoder::Output;
 use std::alloc::Global;
 use std::io::{Read, Write};
 
 /// The command `decode`: writes the pictures of a byte stream (Annex B) as I420, and tells of its refusals, or of the fault that
-/// ended the run, on `errors`. Where `errors` takes nothing, the status alone tells.
-pub fn decode<R: Read, W: Write, E: Write>(
+/// ended the run, on the console. Where that takes nothing, the status alone tells.
+pub fn decode<R: Read, W: Write, E: Write, V: Watch>(
     alloc: Global,
     output: Output,
     reader: &mut R,
     writer: &mut W,
-    errors: &mut E,
+    console: &mut Console<'_, E, V>,
 ) -> Ending
-    ensures { EndsDecoding output (R.remaining reader.old) (R.remaining reader.new) (W.contents writer.old) (W.contents writer.new)
-        (E.contents errors.old) (E.contents errors.new) result }
+    ensures { EndsDecoding console.old.names output (R.remaining reader.old) (R.remaining reader.new) (W.contents writer.old)
+        (W.contents writer.new) (E.contents console.old.errors) (E.contents console.new.errors) result }
 {
-    let run = run(alloc, output, reader, writer);
-    tell(alloc, &run, errors)
+    let run = run_plain(alloc, output, &mut console.watch, reader, writer);
+    tell(alloc, &run, &console.names, &mut console.errors)
 }
 
-/// Tells of a run's refusals, or of the fault that ended it.
-pub fn tell<E: Write>(alloc: Global, run: &Result<Report, RunFault>, errors: &mut E) -> Ending
-    ensures { TellsRun run.now (E.contents errors.old) (E.contents errors.new) result }
+/// Tells of a run's refusals, or of the fault that ended it, with the name of the file that it is about.
+pub fn tell<E: Write>(
+    alloc: Global,
+    run: &Result<Report, RunFault>,
+    names: &Names<'_>,
+    errors: &mut E,
+) -> Ending
+    ensures { TellsRun names.now run.now (E.contents errors.old) (E.contents errors.new) result }
 {
-    match write_messages(alloc, run, errors) {
+    match write_messages(alloc, run, names, errors) {
         Ok(told) => Ending {
             status: status(run),
             told,
         },
-        Err(fault) => fail(fault, errors),
+        Err(fault) => fail(fault, names, errors),
     }
 }
 
@@ -50,9 +56,10 @@ pub fn tell<E: Write>(alloc: Global, run: &Result<Report, RunFault>, errors: &mu
 fn write_messages<E: Write>(
     alloc: Global,
     run: &Result<Report, RunFault>,
+    names: &Names<'_>,
     errors: &mut E,
 ) -> Result<bool, RunFault>
-    ensures ok { IfOk result (λ told. Tells (E.contents errors.old) (E.contents errors.new) (text_of run.now) told) }
+    ensures ok { IfOk result (λ told. Tells (E.contents errors.old) (E.contents errors.new) (text_of names.now run.now) told) }
     ensures err { IfErr result (λ fault. (fault ≡ faults.Memory) × Keeps (E.contents errors.old) (E.contents errors.new)) }
     ensures refusals { OnErr result (is_ok run.now ≡ true) }
 {
@@ -61,18 +68,22 @@ fn write_messages<E: Write>(
             let text = refusal_lines(alloc, report)?;
             Ok(write_what_is_taken(&text, errors))
         }
-        Err(fault) => Ok(write_what_is_taken(fault_line(*fault), errors)),
+        Err(fault) => Ok(fail(*fault, names, errors).told),
     }
 }
 
-// Tells of a fault.
-fn fail<E: Write>(fault: RunFault, errors: &mut E) -> Ending
+/// Tells of a fault, with the name of the file that it is about, where it has one.
+pub fn fail<E: Write>(fault: RunFault, names: &Names<'_>, errors: &mut E) -> Ending
     ensures status { result.status ≡ fault_status fault }
-    ensures told { Tells (E.contents errors.old) (E.contents errors.new) (fault_line fault) result.told }
+    ensures told { Tells (E.contents errors.old) (E.contents errors.new) (fault_line names.now fault) result.told }
 {
+    let told = match write_fault(fault, names, errors) {
+        Ok(()) => true,
+        Err(_) => false,
+    };
     Ending {
-        told: write_what_is_taken(fault_line(fault), errors),
         status: fault_status(fault),
+        told,
     }
 }
 
@@ -86,69 +97,69 @@ fn write_what_is_taken<E: Write>(text: &str, errors: &mut E) -> bool
     }
 }
 
-/// The command `units`: writes a line for each unit of a byte stream (Annex B), and tells of a fault on `errors`.
-pub fn units<R: Read, W: Write, E: Write>(
+/// The command `units`: writes a line for each unit of a byte stream (Annex B), and tells of a fault on the console.
+pub fn units<R: Read, W: Write, E: Write, V>(
     alloc: Global,
     reader: &mut R,
     writer: &mut W,
-    errors: &mut E,
+    console: &mut Console<'_, E, V>,
 ) -> Ending
-    ensures { EndsListing unit_lines_so_far (R.remaining reader.old) (R.remaining reader.new) (W.contents writer.old) (W.contents writer.new)
-        (E.contents errors.old) (E.contents errors.new) result }
+    ensures { EndsListing console.old.names unit_lines_so_far (R.remaining reader.old) (R.remaining reader.new) (W.contents writer.old)
+        (W.contents writer.new) (E.contents console.old.errors) (E.contents console.new.errors) result }
 {
     let run = run_units(alloc, reader, writer);
-    end_listing(run, errors)
+    end_listing(run, &console.names, &mut console.errors)
 }
 
 /// The command `headers`: writes a line for each parameter set and slice of a byte stream (Annex B), and tells of a fault on
-/// `errors`.
-pub fn headers<R: Read, W: Write, E: Write>(
+/// the console.
+pub fn headers<R: Read, W: Write, E: Write, V>(
     alloc: Global,
     reader: &mut R,
     writer: &mut W,
-    errors: &mut E,
+    console: &mut Console<'_, E, V>,
 ) -> Ending
-    ensures { EndsListing header_lines_so_far (R.remaining reader.old) (R.remaining reader.new) (W.contents writer.old) (W.contents writer.new)
-        (E.contents errors.old) (E.contents errors.new) result }
+    ensures { EndsListing console.old.names header_lines_so_far (R.remaining reader.old) (R.remaining reader.new) (W.contents writer.old)
+        (W.contents writer.new) (E.contents console.old.errors) (E.contents console.new.errors) result }
 {
     let run = run_headers(alloc, reader, writer);
-    end_listing(run, errors)
+    end_listing(run, &console.names, &mut console.errors)
 }
 
 /// Tells of the fault that ended a run of `units` or `headers`, if one did.
-pub fn end_listing<E: Write>(run: Result<(), RunFault>, errors: &mut E) -> Ending
-    ensures { TellsListing run (E.contents errors.old) (E.contents errors.new) result }
+pub fn end_listing<E: Write>(run: Result<(), RunFault>, names: &Names<'_>, errors: &mut E) -> Ending
+    ensures { TellsListing names.now run (E.contents errors.old) (E.contents errors.new) result }
 {
     match run {
         Ok(()) => Ending {
             status: 0,
             told: write_what_is_taken("", errors),
         },
-        Err(fault) => fail(fault, errors),
+        Err(fault) => fail(fault, names, errors),
     }
 }
 
-/// The command `cut`: writes the piece of this number, counted from 0, of a byte stream (Annex B), and tells of a fault on `errors`,
-/// and where there is no such piece.
-pub fn cut<R: Read, W: Write, E: Write>(
+/// The command `cut`: writes the piece of this number, counted from 0, of a byte stream (Annex B), and tells on the console of a
+/// fault, and where there is no such piece.
+pub fn cut<R: Read, W: Write, E: Write, V>(
     alloc: Global,
     number: u32,
     reader: &mut R,
     writer: &mut W,
-    errors: &mut E,
+    console: &mut Console<'_, E, V>,
 ) -> Ending
-    ensures { EndsCutting number (R.remaining reader.old) (R.remaining reader.new) (W.contents writer.old) (W.contents writer.new)
-        (E.contents errors.old) (E.contents errors.new) result }
+    ensures { EndsCutting console.old.names number (R.remaining reader.old) (R.remaining reader.new) (W.contents writer.old)
+        (W.contents writer.new) (E.contents console.old.errors) (E.contents console.new.errors) result }
 {
     match run_cut(alloc, number, reader, writer) {
-        Ok(found) => match write_no_piece(alloc, found, number, errors) {
+        Ok(found) => match write_no_piece(alloc, found, number, &mut console.errors) {
             Ok(told) => Ending {
                 status: cut_status(found),
                 told,
             },
-            Err(fault) => fail(fault, errors),
+            Err(fault) => fail(fault, &console.names, &mut console.errors),
         },
-        Err(fault) => fail(fault, errors),
+        Err(fault) => fail(fault, &console.names, &mut console.errors),
     }
 }
 

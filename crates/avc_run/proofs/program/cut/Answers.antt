@@ -15,6 +15,6 @@ returns-in-Err-write_no_piece g c =
       cuts = untold_piece c.args.number c.in-Ok.found _ _ _ _ c.in-Ok.ensures c.in-Err-write_no_piece.ensures.none;
       status_is = c.fail.ensures.status ∙ ap fault_status memory;
       told =
-          subst (λ fault. Tells (g.E.Write.contents c.args.errors.now) (g.E.Write.contents c.fail.new.errors) (fault_line fault) c.fail.result.told) memory
+          subst (λ fault. Tells (g.E.Write.contents c.args.console.now.errors) (g.E.Write.contents c.fail.new.errors) (fault_line c.args.console.now.names fault) c.fail.result.told) memory
           (told_after _ _ _ _ _ c.in-Err-write_no_piece.ensures.err.1 c.fail.ensures.told);
     }

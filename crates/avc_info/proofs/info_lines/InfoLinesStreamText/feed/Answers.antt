@@ -6,7 +6,7 @@ use Rattle.avc_info.proofs.Noted.{feed_keeps_end, noted_again, nothing_yet, open
 use Rattle.avc_info.proofs.info_lines.InfoLinesStreamText.feed.Goals as goal
 
 pub invariant_of-self-2 : goal.invariant_of-self-2
-invariant_of-self-2 c =
+invariant_of-self-2 g c =
     let h = c.self.invariant c.if-self.false in
     let fed = c.in_ok-feed.ensures.ok in
     let left = left_by_feed c.units_stay.ensures max_unit _ _ c.args.piece.now h.drained fed in
@@ -15,19 +15,19 @@ invariant_of-self-2 c =
     c.in_ok-note_units_left.ensures.facts (h.end_is ∙ feed_keeps_end _ _ c.args.piece.now fed)
 
 pub returns-clause-added : goal.returns-clause-added
-returns-clause-added c =
+returns-clause-added g c =
     let h = c.self.invariant c.if-self.false in
     let was_open = sym h.end_is ∙ c.if-self-2.false in
     λ short.
-    nothing_yet c.note_units_left.new.splitter c.args.self.now _ (open_still max_unit _ _ _ c.args.piece.now was_open c.in_ok-feed.ensures.ok c.in_ok-note_units_left.ensures.taken)
+    nothing_yet g.F.InfoForm.text c.note_units_left.new.splitter c.args.self.now _ (open_still max_unit _ _ _ c.args.piece.now was_open c.in_ok-feed.ensures.ok c.in_ok-note_units_left.ensures.taken)
     (ap (λ (v : StreamSoFar). v.ended) (sym c.self.view_is) ∙ was_open) c.new-2.ensures.items
 
 pub returns-then-self-2-clause-so_far : goal.returns-then-self-2-clause-so_far
-returns-then-self-2-clause-so_far c =
+returns-then-self-2-clause-so_far g c =
     let h = c.self.invariant c.if-self.false in
     stays_by_piece c.args.self.now c.args.piece.now (ap (λ (v : StreamSoFar). v.ended) (sym c.self.view_is) ∙ sym h.end_is ∙ c.if-self-2.true)
 
 pub returns-then-self-2-clause-added : goal.returns-then-self-2-clause-added
-returns-then-self-2-clause-added c =
-    let text = info_so_far c.args.self.now.bytes c.args.self.now.ended in
+returns-then-self-2-clause-added g c =
+    let text = info_so_far g.F.InfoForm.text c.args.self.now.bytes c.args.self.now.ended in
     λ short. sym (append-nil text) ∙ ap (λ t. text ++ t) (sym c.new.ensures.items)

@@ -1,0 +1,34 @@
+-- The line that says how far decoding is.
+use Rattle.std.specs.Prelude.{ℕ, ◌*◌, ◌/◌, ◌%◌, ◌==◌, ◌||◌, if◌then◌else◌, List, [], ◌∷◌, ◌++◌, Option, Some, None, codes}
+use Rattle.std.specs.Fmt.{decimal}
+use Rattle.avc_cli.specs.declared.progress.Counts.{Counts}
+
+-- tenths, in decimal
+abbrev pub tenths_text : ℕ → List ℕ
+tenths_text n = decimal (n / 10) ++ codes "." ++ decimal (n % 10)
+
+-- how many pictures there are, and how many refusals
+abbrev pub counts_text : Counts → List ℕ
+counts_text c = codes "pictures " ++ decimal c.pictures ++ codes ", refused " ++ decimal c.refused
+
+-- pictures a second, rounded down to tenths, in so many milliseconds
+abbrev pub speed_text : (pictures millis : ℕ) → List ℕ
+speed_text pictures millis =
+    if millis == 0 then []
+    else codes ", " ++ tenths_text (10000 * pictures / millis) ++ codes " a second"
+
+-- how many times as many pictures as the stream's frame rate brings in that time, of which it brings so many millionths
+abbrev pub times_by : (pictures due : ℕ) → List ℕ
+times_by pictures due =
+    if due == 0 then []
+    else codes ", " ++ tenths_text (10000000 * pictures / due) ++ codes " times the frame rate"
+
+-- the rate is in frames in a thousand seconds, where it is known
+abbrev pub times_text : (pictures millis : ℕ) → (rate : Option ℕ) → List ℕ
+times_text pictures millis None = []
+times_text pictures millis (Some rate) = times_by pictures (millis * rate)
+
+-- carriage return, with which a terminal begins the line again, and behind the text what erases the rest of the line (EL of ECMA-48)
+abbrev pub progress_line : Counts → (millis : ℕ) → (rate : Option ℕ) → List ℕ
+progress_line c millis rate =
+    13 ∷ (counts_text c ++ speed_text c.pictures millis ++ times_text c.pictures millis rate ++ 27 ∷ codes "[K")

@@ -1,0 +1,188 @@
+ghost use Rattle.std.specs.Prelude.{◌≡◌, ◌++◌, IfOk, OnOk, string_bytes};
+ghost use Rattle.avc_cli.specs.Progress.{counts_text, progress_line, speed_text, tenths_text, times_by, times_text};
+
+use crate::rate::RateSearch;
+use avc_run::{Report, RunFault, Watch};
+use std::alloc::{AllocError, Global};
+use std::io::Write;
+use std::time::{Duration, Instant};
+
+/// The least time between two lines, in milliseconds: they come at most four times a second.
+const INTERVAL: u64 = 250;
+
+/// How far decoding is.
+#[derive(Clone, Copy, Debug, PartialEq, Eq)]
+pub struct Counts {
+    /// Pictures that went out.
+    pub pictures: u64,
+
+    pub refused: usize,
+}
+
+/// A line on the standard error that says how far decoding is, rewritten as that goes on, where it is wanted.
+#[derive(Drop)]
+pub struct Progress<'a> {
+    meter: Option<Meter<'a>>,
+}
+
+impl Progress<'_> {
+    /// No line where it is not wanted, nor where the system has no clock.
+    pub fn new(rt: &HostRuntime, is_wanted: bool) -> Progress<'_> {
+        let meter = if is_wanted { Meter::new(rt) } else { None };
+        Progress { meter }
+    }
+}
+
+impl Watch for Progress<'_> {
+    fn look(&mut self, piece: &[u8], report: &Report) {
+        if let Some(meter) = &mut self.meter {
+            meter.look(piece, counts_of(report));
+        }
+    }
+
+    fn end(&mut self, run: &Result<Report, RunFault>) {
+        if let Some(meter) = &mut self.meter {
+            if let Ok(report) = run {
+                meter.counts = counts_of(report);
+            }
+            meter.end();
+        }
+    }
+}
+
+fn counts_of(report: &Report) -> Counts {
+    Counts {
+        pictures: report.pictures,
+        refused: report.refused.as_slice().len(),
+    }
+}
+
+// The line, and what is to stand in it.
+#[derive(Drop)]
+struct Meter<'a> {
+    rt: &'a HostRuntime,
+    start: Instant,
+
+    /// Since the start, when the line was written last.
+    written: Duration,
+
+    rate: RateSearch,
+    counts: Counts,
+}
+
+impl Meter<'_> {
+    fn new(rt: &HostRuntime) -> Option<Meter<'_>> {
+        let start = Instant::now(rt).ok()?;
+        Some(Meter {
+            rt,
+            start,
+            written: Duration::ZERO,
+            rate: RateSearch::new(rt.alloc()),
+            counts: Counts {
+                pictures: 0,
+                refused: 0,
+            },
+        })
+    }
+
+    fn look(&mut self, piece: &[u8], counts: Counts) {
+        self.rate.look(piece);
+        self.counts = counts;
+        if let Ok(elapsed) = self.start.elapsed(self.rt) {
+            if elapsed.saturating_sub(self.written) >= Duration::from_millis(INTERVAL) {
+                self.write(elapsed);
+            }
+        }
+    }
+
+    // The last line stays.
+    fn end(&mut self) {
+        if let Ok(elapsed) = self.start.elapsed(self.rt) {
+            self.write(elapsed);
+            let _ = self.rt.stderr().write(b"\n");
+        }
+    }
+
+    // Where memory or the standard error fails, the line is not written.
+    fn write(&mut self, elapsed: Duration) {
+        self.written = elapsed;
+        let millis = u64::try_from(elapsed.as_millis()).unwrap_or(u64::MAX);
+        if let Ok(line) = progress_line(self.rt.alloc(), self.counts, millis, self.rate.found()) {
+            let _ = self.rt.stderr().write(line.as_bytes());
+        }
+    }
+}
+
+/// The line after so many milliseconds, where the stream has so many frames in a thousand seconds.
+pub fn progress_line(
+    alloc: Global,
+    counts: Counts,
+    millis: u64,
+    rate: Option<u64>,
+) -> Result<String, AllocError>
+    ensures { IfOk result (λ line. string_bytes line ≡ progress_line counts millis rate) }
+{
+    let mut line = String::from_str(alloc, "\r")?;
+    add_counts(&mut line, counts)?;
+    add_speed(&mut line, counts.pictures, millis)?;
+    add_times(&mut line, counts.pictures, millis, rate)?;
+    line.push_str("\x1b[K")?;
+    Ok(line)
+}
+
+fn add_counts(line: &mut String, counts: Counts) -> Result<(), AllocError>
+    ensures { OnOk result (string_bytes line.new ≡ string_bytes line.old ++ counts_text counts) }
+{
+    let pictures = counts.pictures;
+    let refused = counts.refused;
+    write!(line, "pictures {pictures}, refused {refused}")?;
+    Ok(())
+}
+
+fn add_speed(line: &mut String, pictures: u64, millis: u64) -> Result<(), AllocError>
+    ensures { OnOk result (string_bytes line.new ≡ string_bytes line.old ++ speed_text pictures millis) }
+{
+    if millis == 0 {
+        return Ok(());
+    }
+    line.push_str(", ")?;
+    add_tenths(line, 10_000 * u128::from(pictures) / u128::from(millis))?;
+    line.push_str(" a second")?;
+    Ok(())
+}
+
+fn add_times(
+    line: &mut String,
+    pictures: u64,
+    millis: u64,
+    rate: Option<u64>,
+) -> Result<(), AllocError>
+    ensures { OnOk result (string_bytes line.new ≡ string_bytes line.old ++ times_text pictures millis rate) }
+{
+    match rate {
+        Some(rate) => add_times_of(line, pictures, u128::from(millis) * u128::from(rate)),
+        None => Ok(()),
+    }
+}
+
+// Where the stream's frame rate brings so many millionths of a picture in the time.
+fn add_times_of(line: &mut String, pictures: u64, due: u128) -> Result<(), AllocError>
+    ensures { OnOk result (string_bytes line.new ≡ string_bytes line.old ++ times_by pictures due) }
+{
+    if due == 0 {
+        return Ok(());
+    }
+    line.push_str(", ")?;
+    add_tenths(line, 10_000_000 * u128::from(pictures) / due)?;
+    line.push_str(" times the frame rate")?;
+    Ok(())
+}
+
+fn add_tenths(line: &mut String, tenths: u128) -> Result<(), AllocError>
+    ensures { OnOk result (string_bytes line.new ≡ string_bytes line.old ++ tenths_text tenths) }
+{
+    let whole = tenths / 10;
+    let tenth = tenths % 10;
+    write!(line, "{whole}.{tenth}")?;
+    Ok(())
+}

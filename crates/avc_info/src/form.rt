@@ -1,0 +1,44 @@
+ghost use Rattle.std.specs.Prelude.{◌≡◌, ℕ, List, IfOk, string_bytes};
+ghost use Rattle.avc_info.specs.Json.{json_line};
+ghost use Rattle.avc_info.specs.Text.{info_text};
+ghost use Rattle.avc_info.specs.declared.stream_facts.StreamFacts.{StreamFacts};
+
+use crate::json::info_json;
+use crate::stream_facts::StreamFacts;
+use crate::text::info_text;
+use avc_types::OutOfMemory;
+use std::alloc::Global;
+
+/// A form in which the facts of a stream are told.
+pub trait InfoForm {
+    /// What is told of them.
+    ghost text: { StreamFacts → List ℕ };
+
+    /// The facts in this form.
+    fn tell(&self, alloc: Global, facts: &StreamFacts) -> Result<String, OutOfMemory>
+        ensures { IfOk result (λ told. string_bytes told ≡ text facts.now) };
+}
+
+/// A few lines of words and numbers.
+#[derive(Clone, Copy, Debug)]
+pub struct ForPeople;
+
+/// A line of JSON (RFC 8259).
+#[derive(Clone, Copy, Debug)]
+pub struct ForPrograms;
+
+impl InfoForm for ForPeople {
+    ghost text = { info_text };
+
+    fn tell(&self, alloc: Global, facts: &StreamFacts) -> Result<String, OutOfMemory> {
+        info_text(alloc, facts)
+    }
+}
+
+impl InfoForm for ForPrograms {
+    ghost text = { json_line };
+
+    fn tell(&self, alloc: Global, facts: &StreamFacts) -> Result<String, OutOfMemory> {
+        info_json(alloc, facts)
+    }
+}

@@ -1,0 +1,39 @@
+-- A text that is written in parts.
+use Rattle.std.specs.Prelude.{◌≡◌, ℕ, ◌+◌, ◌<◌, ◌≤◌, List, ◌++◌, length, take, Option, Result, Ok, Err, IfErr, OnErr}
+use Rattle.std.specs.Io.KnownBytes.{Appends}
+use Rattle.std.proofs.Common.{sym, subst, arith, length-append}
+use Rattle.std.proofs.KnownBytes.{Appends-trans}
+use Rattle.std.proofs.lemmas.List.{take-append-le}
+use Rattle.avc_run.specs.Reading.{WritesFirst}
+use Rattle.avc_run.specs.declared.fault.RunFault.{RunFault}
+use Rattle.avc_run.specs.declared.fault.RunFault.TheVariants.{Write}
+use Rattle.avc_run.proofs.StreamWriting.{front_of_both}
+
+-- the first of the one
+pub stopped_before : (a b : Option (List ℕ)) (xs ys : List ℕ) → WritesFirst a b xs → WritesFirst a b (xs ++ ys)
+stopped_before a b xs ys some = record {
+  count = some.count;
+  fewer = omega (arith, length-append xs ys, some.fewer);
+  written = subst (Appends a b) (sym (take-append-le some.count xs ys (omega (arith, some.fewer)))) some.written;
+}
+
+-- the one, and the first of the other
+pub stopped_after : (a b c : Option (List ℕ)) (xs ys : List ℕ) → Appends a b xs → WritesFirst b c ys → WritesFirst a c (xs ++ ys)
+stopped_after a b c xs ys all some = record {
+  count = length xs + some.count;
+  fewer = omega (arith, length-append xs ys, some.fewer);
+  written = subst (Appends a c) (sym (front_of_both xs ys some.count)) (Appends-trans a b c xs (take some.count ys) all some.written);
+}
+
+-- ---- by results
+
+-- where it holds at all
+pub on_err : {A E : Type 0} (P : Type 0) (r : Result A E) → P → OnErr r P
+on_err P (Ok a) holds = tt
+on_err P (Err e) holds = holds
+
+-- the one was written, and the other is the last part
+pub stopped_last : {A : Type 0} (r : Result A RunFault) (a b c : Option (List ℕ)) (xs ys zs : List ℕ) → zs ≡ xs ++ ys → Appends a b xs → IfErr r (λ f. (f ≡ Write) × WritesFirst b c ys)
+    → OnErr r (WritesFirst a c zs)
+stopped_last (Ok done) a b c xs ys zs is all some = tt
+stopped_last (Err f) a b c xs ys zs is all some = subst (WritesFirst a c) (sym is) (stopped_after a b c xs ys all some.1)

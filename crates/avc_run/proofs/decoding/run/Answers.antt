@@ -1,5 +1,0 @@
-use Rattle.avc_run.proofs.Plain.{plainly}
-use Rattle.avc_run.proofs.decoding.run.Goals as goal
-
-pub returns : goal.returns
-returns g c = plainly c.args.output _ _ _ _ c.run_as.result c.run_as.ensures

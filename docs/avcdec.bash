@@ -1,0 +1,48 @@
+# Completion of avcdec's command line for bash: install.sh puts it where bash-completion looks for it; `. docs/avcdec.bash` does without.
+
+# The words that may stand here, of which some begin like the last word.
+_avcdec_words() {
+    local IFS=$' \t\n'
+    # shellcheck disable=SC2207
+    COMPREPLY=($(compgen -W "$1" -- "${COMP_WORDS[COMP_CWORD]}"))
+}
+
+# The files whose names begin like the last word.
+_avcdec_files() {
+    local IFS=$'\n'
+    # shellcheck disable=SC2207
+    COMPREPLY=($(compgen -f -- "${COMP_WORDS[COMP_CWORD]}"))
+    compopt -o filenames 2>/dev/null
+}
+
+_avcdec_options() {
+    case $1 in
+    decode) echo '--early --format --verify --skip --limit --progress --quiet --output -o --help -h' ;;
+    info) echo '--json --help -h' ;;
+    cut) echo '--output -o --help -h' ;;
+    units | headers) echo '--help -h' ;;
+    esac
+}
+
+_avcdec() {
+    local commands='decode units headers info cut help'
+    COMPREPLY=()
+    if [ "$COMP_CWORD" -eq 1 ]; then
+        _avcdec_words "$commands --help -h --version -V"
+        return
+    fi
+    case ${COMP_WORDS[COMP_CWORD - 1]} in
+    help) _avcdec_words "$commands" ;;
+    --format) _avcdec_words 'i420 null md5' ;;
+    --verify | --skip | --limit) ;;
+    -o | --output) _avcdec_files ;;
+    *)
+        case ${COMP_WORDS[COMP_CWORD]} in
+        -*) _avcdec_words "$(_avcdec_options "${COMP_WORDS[1]}")" ;;
+        *) _avcdec_files ;;
+        esac
+        ;;
+    esac
+}
+
+complete -F _avcdec avcdec
