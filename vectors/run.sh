@@ -399,12 +399,17 @@ END
 
 # how far decoding is: the last line stays, and nothing else changes
 rate_known=$here/encoder/pub_x_keyint3
-"$program" decode --progress "$rate_known.264" >"$work/pictures" 2>"$work/told"
+# by a reader that takes some time
+slowly() {
+    cat "$1"
+    sleep 0.1
+}
+slowly "$rate_known.264" | "$program" decode --progress >"$work/pictures" 2>"$work/told"
 holds 'decode --progress' is_decoded "$rate_known.md5" $? 0 "$work/told"
 tr '\r' '\n' <"$work/told" | tail -n 1 >"$work/last"
 holds 'the last line of progress' grep -q '^pictures 13, refused 0, [0-9]*\.[0-9] a second, [0-9]*\.[0-9] times the frame rate.\[K$' "$work/last"
 holds 'it is ended' [ "$(tail -c 1 "$work/told" | od -An -tx1 | tr -d ' ')" = 0a ]
-"$program" decode --progress "$moving" >"$work/written" 2>"$work/told"
+slowly "$moving" | "$program" decode --progress >"$work/written" 2>"$work/told"
 tr '\r' '\n' <"$work/told" | tail -n 1 >"$work/last"
 holds 'progress without a frame rate' grep -q '^pictures 10, refused 0, [0-9]*\.[0-9] a second.\[K$' "$work/last"
 refusing=$here/foreign/for_cabac_main
@@ -413,7 +418,7 @@ status=$?
 tail -n +2 "$work/all" >"$work/told"
 holds 'refusals follow the line of progress' is_decoded "$refusing.md5" "$status" 1 "$refusing.refused"
 head -n 1 "$work/all" | tr '\r' '\n' | tail -n 1 >"$work/last"
-holds 'they are counted' grep -q "^pictures [0-9]*, refused $(wc -l <"$refusing.refused" | tr -d ' ')," "$work/last"
+holds 'they are counted' grep -q "^pictures [0-9]*, refused $(wc -l <"$refusing.refused" | tr -d ' ')[^0-9]" "$work/last"
 before=$(date +%s)
 dd bs=1 if="$moving" 2>/dev/null | "$program" decode --progress 2>"$work/told" >"$work/written"
 holds 'at most four lines a second' [ "$(tr -dc '\r' <"$work/told" | wc -c)" -le $((4 * ($(date +%s) - before + 1) + 1)) ]
