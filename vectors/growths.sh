@@ -162,7 +162,7 @@ for words in decode 'decode --early' units headers 'cut 0'; do
 done
 
 # The tests' programs are those that the gate has built, or are built now.
-for test in calls_that_begin_anew texts_and_pieces splitters_want_memory_from_then_on tables_stay_as_they_are bit_makers_want_memory_from_then_on; do
+for test in calls_that_begin_anew slices_begin_anew pictures_begin_anew texts_and_pieces splitters_want_memory_from_then_on tables_stay_as_they_are bit_makers_want_memory_from_then_on; do
     refused_in_test avc_tests "want_of_memory::$test"
 done
 refused_in_test avc_run tests::decodes_again_after_want_of_memory

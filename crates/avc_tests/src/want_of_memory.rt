@@ -1,10 +1,12 @@
 // What stands after want of memory. Each call is tried once and, where a growth of it was refused, once more: with one growth refused,
 // whichever it is, the second gives what is wanted. With none refused the first does.
+use crate::written_slices::p_slice;
 use crate::written_syntax::{PPS, SPS};
 use avc_annexb::{Splitter, unescape};
-use avc_make::{BitMaker, cut_bits, write_pps, write_sps};
+use avc_make::{BitMaker, Macroblocks, cut_bits, write_pps, write_slice, write_sps};
 use avc_neigh::Row;
 use avc_params::ParamTable;
+use avc_picture::PictureDecoder;
 use avc_plane::Plane;
 use avc_tools::{cut, list_units, show_headers};
 use avc_types::OutOfMemory;
@@ -52,6 +54,35 @@ fn calls_that_begin_anew(rt: HostRuntime) -> Result<(), Fail> {
     assert!(rt; row.around(0).a.is_none());
     let plane = given!(Plane::<32>::new(alloc, 16, 16));
     assert_eq!(rt; plane.width(), 16);
+    Ok(())
+}
+
+// A P slice of no macroblock behind two of another slice: first_mb_in_slice 2, frame_num 1, two entries in RefPicList0, mb_skip_run 0.
+const NO_MACROBLOCK: [u8; 4] = [0x41, 0x78, 0xD1, 0xC0];
+
+#[test]
+fn slices_begin_anew(rt: HostRuntime) -> Result<(), Fail> {
+    let alloc = rt.alloc();
+    let slice = p_slice(Macroblocks::from_vec(Vec::new(alloc)));
+    let unit = given!(write_slice(alloc, &slice));
+    assert_eq!(rt; unit.as_slice(), NO_MACROBLOCK.as_slice());
+    Ok(())
+}
+
+#[test]
+fn pictures_begin_anew(rt: HostRuntime) -> Result<(), Fail> {
+    let alloc = rt.alloc();
+    let mut table = ParamTable::new(alloc);
+    given!(table.put_sps(&[0x42, 0xC0, 0x0A, 0xDA, 0x71]));
+    given!(table.put_pps(&[0xCE, 0x38, 0x80]));
+    let mut is_begun = false;
+    if let Some(sps) = table.sps(0) {
+        if let Some(pps) = table.pps(0) {
+            let picture = given!(PictureDecoder::<32>::begin(alloc, sps, pps, &[]));
+            is_begun = picture.read() == 0;
+        }
+    }
+    assert!(rt; is_begun);
     Ok(())
 }
 

@@ -67,7 +67,7 @@ fn i_slice(macroblocks: Macroblocks) -> CodedSlice
 }
 
 // A P slice with two entries in RefPicList0.
-fn p_slice(macroblocks: Macroblocks) -> CodedSlice
+pub(crate) fn p_slice(macroblocks: Macroblocks) -> CodedSlice
     requires few { length macroblocks ≤ 38 }
     requires follow { (last : ℕ) × FollowOn true 2 26 last macroblocks }
     ensures { IsCodedSlice result }
