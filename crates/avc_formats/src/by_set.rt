@@ -24,7 +24,15 @@ pub fn decode_y4m<R: Read, W: Write, E: Write, V: Watch>(
     ensures { EndsDecodingBySet console.old.names (λ said. selected (y4m said) skip limit) output (R.remaining reader.old) (R.remaining reader.new)
         (W.contents writer.old) (W.contents writer.new) (E.contents console.old.errors) (E.contents console.new.errors) result }
 {
-    let run = run_y4m(alloc, output, skip, limit, &mut console.watch, reader, writer);
+    let run = run_y4m(
+        alloc,
+        output,
+        skip,
+        limit,
+        &mut console.watch,
+        reader,
+        writer,
+    );
     tell(alloc, &run, &console.names, &mut console.errors)
 }
 
