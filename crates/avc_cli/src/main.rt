@@ -5,7 +5,7 @@ mod request;
 #[cfg(test)]
 mod tests;
 
-use avc_formats::{Selected, decode_as, decode_md5, verify};
+use avc_formats::{Selected, decode_as, decode_md5, decode_y4m, verify};
 use avc_info::info;
 use avc_run::{
     Answer, Ending, I420, RunFault, answer_status, cut, decode, fault_line, fault_status, headers,
@@ -82,15 +82,18 @@ fn show<R: Read, W: Write, E: Write>(
     errors: &mut E,
 ) -> Ending {
     let mode = showing.mode;
+    let skip = showing.skip;
+    let limit = showing.limit;
     let format = Selected {
         format: I420,
-        skip: showing.skip,
-        limit: showing.limit,
+        skip,
+        limit,
     };
     match showing.form {
         Form::I420 => decode_as(alloc, mode, &format, reader, writer, errors),
         Form::Null => decode_as(alloc, mode, &format, reader, &mut io::sink(), errors),
         Form::Md5 => decode_md5(alloc, mode, &format, reader, writer, errors),
+        Form::Y4m => decode_y4m(alloc, mode, skip, limit, reader, writer, errors),
         Form::Verify(expected) => verify(alloc, mode, &format, expected, reader, errors),
     }
 }

@@ -80,6 +80,26 @@ fn takes_words(rt: HostRuntime) -> Result<(), Fail> {
             plain(shown(u64::MAX, Form::Md5)),
         ),
         (
+            "avcdec decode --format y4m",
+            plain(shown(u64::MAX, Form::Y4m)),
+        ),
+        (
+            "avcdec decode -o out.y4m",
+            Ok(Request {
+                task: shown(u64::MAX, Form::Y4m),
+                input: None,
+                output: Some("out.y4m"),
+            }),
+        ),
+        (
+            "avcdec decode --format i420 -o out.y4m",
+            Ok(Request {
+                task: full,
+                input: None,
+                output: Some("out.y4m"),
+            }),
+        ),
+        (
             "avcdec decode --verify 000102030405060708090a0b0c0d0e0F",
             plain(shown(
                 u64::MAX,
