@@ -2,8 +2,9 @@
 # Runs the built program and compares what it writes, its standard error and its status with what must come. NAME.264 is a stream,
 # NAME.md5 the md5 of its pictures as I420, NAME.early, where there is one, the other md5 that `decode --early` gives, NAME.refused,
 # where there is one, the standard error with status 1 (else nothing is written there, and the status is 0), NAME.units,
-# NAME.headers, NAME.info and NAME.json, where there are such, what these commands (and `info --json`) write, and NAME.piece_0 and
-# so on all pieces that `cut` writes. Words and faults of reading and writing are tried after that. The last line is 'N passed, M failed'.
+# NAME.headers, NAME.info and NAME.json, where there are such, what these commands (and `info --json`) write, NAME.y4m the md5 of
+# ffmpeg's YUV4MPEG2 (formats.sh), and NAME.piece_0 and so on all pieces that `cut` writes. Words and faults of reading and writing are
+# tried after that. The last line is 'N passed, M failed'.
 set -u
 here=$(cd "$(dirname "$0")" && pwd)
 program=$here/../avcdec
@@ -135,6 +136,10 @@ for stream in "$here"/*/*.264; do
         "$program" info --json <"$stream" >"$work/lines" 2>"$work/told"
         judge "info --json of ${name#"$here"/}" $? 0 ''
         holds "JSON of ${name#"$here"/}" cmp -s "$work/lines" "$name.json"
+    fi
+    if [ -f "$name.y4m" ]; then
+        "$program" decode --format y4m <"$stream" >"$work/pictures" 2>"$work/told"
+        holds "y4m of ${name#"$here"/}" is_decoded "$name.y4m" $? 0 /dev/null
     fi
     number=0
     while [ -f "$name.piece_$number" ]; do
@@ -320,6 +325,45 @@ judge 'decode --verify of another MD5' $? 1 ''
 "$program" decode --format md5 "$moving" >/dev/full 2>"$work/told"
 judge 'decode --format md5 to a full device' $? 3 'avcdec: write fault
 '
+
+# Y4M: also by the output's name, unless another format is given; some of the pictures with the same first line
+"$program" decode --format y4m "$moving" >"$work/whole" 2>"$work/told"
+judge 'decode --format y4m' $? 0 ''
+"$program" decode "$moving" -o "$work/out.y4m" >"$work/written" 2>"$work/told"
+judge 'decode -o out.y4m' $? 0 ''
+holds 'the same' cmp -s "$work/out.y4m" "$work/whole"
+"$program" decode --format i420 "$moving" -o "$work/out.y4m" >"$work/written" 2>"$work/told"
+judge 'decode --format i420 -o out.y4m' $? 0 ''
+"$program" decode "$moving" >"$work/pictures"
+holds 'I420' cmp -s "$work/out.y4m" "$work/pictures"
+"$program" decode --format y4m --skip 2 --limit 1 "$moving" >"$work/written" 2>"$work/told"
+judge 'decode --format y4m --skip 2 --limit 1' $? 0 ''
+size=$((150 * 90 * 3 / 2))
+{
+    head -n 1 "$work/whole"
+    echo FRAME
+    tail -c +$((2 * size + 1)) "$work/pictures" | head -c "$size"
+} | cmp -s - "$work/written"
+holds 'the third picture' [ $? = 0 ]
+"$program" decode --format y4m "$moving" >/dev/full 2>"$work/told"
+judge "decode --format y4m to a full device" $? 3 'avcdec: write fault
+'
+"$program" decode --format y4m <"$here" >"$work/written" 2>"$work/told"
+judge "decode --format y4m of what cannot be read" $? 3 'avcdec: read fault
+'
+"$program" decode --format y4m </dev/null >"$work/written" 2>"$work/told"
+judge "decode --format y4m of nothing" $? 0 ''
+holds 'nothing is written' [ ! -s "$work/written" ]
+# another size ends it, behind the pictures before
+{ cat "$moving" && cat "$picture"; } | "$program" decode --format y4m >"$work/written" 2>"$work/told"
+judge 'decode --format y4m of two sizes' $? 3 'avcdec: a picture of another size
+'
+holds 'the pictures before' cmp -s "$work/written" "$work/whole"
+# ffmpeg reads it with no further word
+if command -v ffmpeg >/dev/null; then
+    ffmpeg -v error -nostdin -i "$work/whole" -f rawvideo -pix_fmt yuv420p - >"$work/written" 2>"$work/lines"
+    holds 'ffmpeg reads Y4M' cmp -s "$work/written" "$work/pictures"
+fi
 
 # some of the pictures: their bytes are those that head and tail take
 "$program" decode "$moving" >"$work/pictures"

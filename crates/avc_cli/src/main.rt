@@ -7,7 +7,7 @@ mod request;
 #[cfg(test)]
 mod tests;
 
-use avc_formats::{Selected, decode_as, decode_md5, verify};
+use avc_formats::{Selected, decode_as, decode_md5, decode_y4m, verify};
 use avc_info::{ForPeople, ForPrograms, info};
 use avc_run::{
     Answer, Console, Ending, I420, Names, RunFault, Watch, answer_status, cut, decode, fail,
@@ -105,15 +105,18 @@ fn show<R: Read, W: Write, E: Write, V: Watch>(
     console: &mut Console<'_, E, V>,
 ) -> Ending {
     let mode = showing.mode;
+    let skip = showing.skip;
+    let limit = showing.limit;
     let format = Selected {
         format: I420,
-        skip: showing.skip,
-        limit: showing.limit,
+        skip,
+        limit,
     };
     match showing.form {
         Form::I420 => decode_as(alloc, mode, &format, reader, writer, console),
         Form::Null => decode_as(alloc, mode, &format, reader, &mut io::sink(), console),
         Form::Md5 => decode_md5(alloc, mode, &format, reader, writer, console),
+        Form::Y4m => decode_y4m(alloc, mode, skip, limit, reader, writer, console),
         Form::Verify(expected) => verify(alloc, mode, &format, expected, reader, console),
     }
 }

@@ -84,6 +84,9 @@ pub enum Form {
     /// Their MD5 is written.
     Md5,
 
+    /// They are written as YUV4MPEG2.
+    Y4m,
+
     /// Their MD5 is compared with this one.
     Verify([u8; 16]),
 }
@@ -124,7 +127,12 @@ const NULL: &str = "null";
 
 const MD5: &str = "md5";
 
-const FORMATS: &[&str] = &[I420, NULL, MD5];
+const Y4M: &str = "y4m";
+
+const FORMATS: &[&str] = &[I420, Y4M, NULL, MD5];
+
+/// The end of an output's name that asks for Y4M.
+const Y4M_SUFFIX: &str = ".y4m";
 
 const VERIFY: &str = "verify";
 
@@ -257,10 +265,11 @@ fn count<'a>(alloc: Global, name: &'a str, help: &'a str) -> Arg<'a> {
 fn format<'a>(alloc: Global) -> Arg<'a> {
     Arg::new(alloc, FORMAT)
         .long(FORMAT)
-        .help("How the pictures are written: md5 writes their MD5 alone, null nothing")
+        .help(
+            "How the pictures are written: i420 unless FILE ends in .y4m, md5 writes their MD5 alone, null nothing",
+        )
         .action(ArgAction::Set)
         .value_parser(FORMATS)
-        .default_value(I420)
 }
 
 fn output<'a>(alloc: Global) -> Arg<'a> {
@@ -331,7 +340,7 @@ fn task_of(command: Command, matches: &ArgMatches<'_>) -> Option<Task> {
 fn showing_of(matches: &ArgMatches<'_>) -> Option<Showing> {
     let form = match word(matches, VERIFY) {
         Some(digits) => Form::Verify(digest_of(digits)?),
-        None => form_named(word(matches, FORMAT)),
+        None => form_named(word(matches, FORMAT), word(matches, OUTPUT)),
     };
     Some(Showing {
         mode: mode_of(matches.get_flag(EARLY)),
@@ -349,14 +358,24 @@ fn task_of_showing(showing: Showing) -> Task {
     match showing.form {
         Form::I420 => Task::Decode(showing.mode),
         Form::Null => Task::Check(showing.mode),
-        Form::Md5 | Form::Verify(_) => Task::Show(showing),
+        Form::Md5 | Form::Y4m | Form::Verify(_) => Task::Show(showing),
     }
 }
 
-fn form_named(name: Option<&str>) -> Form {
+// The form of this name; where none is given, that which the name of the output asks for.
+fn form_named(name: Option<&str>, output: Option<&str>) -> Form {
     match name {
         Some(NULL) => Form::Null,
         Some(MD5) => Form::Md5,
+        Some(Y4M) => Form::Y4m,
+        Some(_) => Form::I420,
+        None => form_of_file(output),
+    }
+}
+
+fn form_of_file(name: Option<&str>) -> Form {
+    match name {
+        Some(name) if name.ends_with(Y4M_SUFFIX) => Form::Y4m,
         _ => Form::I420,
     }
 }

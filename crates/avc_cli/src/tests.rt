@@ -105,6 +105,18 @@ fn takes_words(rt: HostRuntime) -> Result<(), Fail> {
             plain(shown(u64::MAX, Form::Md5)),
         ),
         (
+            "avcdec decode --format y4m",
+            plain(shown(u64::MAX, Form::Y4m)),
+        ),
+        (
+            "avcdec decode -o out.y4m",
+            named(shown(u64::MAX, Form::Y4m), None, Some("out.y4m")),
+        ),
+        (
+            "avcdec decode --format i420 -o out.y4m",
+            named(full, None, Some("out.y4m")),
+        ),
+        (
             "avcdec decode --verify 000102030405060708090a0b0c0d0e0F",
             plain(shown(
                 u64::MAX,

@@ -1,0 +1,4 @@
+mod Finding
+mod Fronts
+mod Writing
+mod Joining

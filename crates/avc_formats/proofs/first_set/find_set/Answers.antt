@@ -1,0 +1,29 @@
+use Rattle.std.proofs.Common.{rules}
+use Rattle.avc_tools.proofs.Draining.{all_taken, one_more}
+use Rattle.avc_run.specs.Decoding.{max_unit}
+use Rattle.avc_formats.proofs.Finding.{found_first, passed_more}
+use Rattle.avc_formats.proofs.first_set.find_set.Goals as goal
+
+pub returns-then-is_some : goal.returns-then-is_some
+returns-then-is_some c =
+    found_first _ _ _ _ c.in-Some.unit c.args.table.now c.loop-unit.table c.in_ok-said.said c.loop-unit.invariant.draining c.requires c.next_unit.ensures.unit
+    c.next_unit.ensures.taken c.in-Some.is c.in_ok-said.ensures (search rules)
+
+pub loop-unit-preserved-in_ok-put_set : goal.loop-unit-preserved-in_ok-put_set
+loop-unit-preserved-in_ok-put_set c = record {
+  draining =
+      one_more max_unit _ _ _ _ c.in-Some.unit _ _ c.loop-unit.invariant.draining c.requires c.next_unit.ensures.unit c.next_unit.ensures.taken c.in-Some.is
+      (passed_more c.args.table.now _ _ c.in-Some.unit c.in_ok-said.said c.in_ok-said.ensures (search rules) c.in_ok-put_set.ensures);
+}
+
+pub loop-unit-preserved : goal.loop-unit-preserved
+loop-unit-preserved c = record {
+  draining =
+      one_more max_unit _ _ _ _ c.in-Some.unit _ _ c.loop-unit.invariant.draining c.requires c.next_unit.ensures.unit c.next_unit.ensures.taken c.in-Some.is
+      (passed_more c.args.table.now _ _ c.in-Some.unit c.in_ok-said.said c.in_ok-said.ensures (search rules) c.in_ok-put_set.ensures);
+}
+
+pub returns : goal.returns
+returns c =
+    let taken = all_taken max_unit _ _ _ _ _ c.loop-unit.invariant.draining c.requires c.next_unit.ensures.unit c.next_unit.ensures.taken c.in_default.is in
+    (taken.0.none, taken.0.sets, taken.1)

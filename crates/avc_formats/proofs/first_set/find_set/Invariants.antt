@@ -1,0 +1,11 @@
+use Rattle.avc_annexb.specs.SplitterState.{units_waiting}
+use Rattle.avc_tools.proofs.Draining.{IsDraining}
+use Rattle.avc_run.specs.Decoding.{max_unit}
+use Rattle.avc_formats.proofs.Finding.{ArePassed}
+use Rattle.avc_formats.proofs.first_set.find_set.Given as goal
+
+abbrev pub invariant-loop-unit : goal.invariant-loop-unit
+invariant-loop-unit l = record { draining : IsDraining max_unit l.initial.splitter l.splitter (ArePassed l.initial.table l.table) }
+
+abbrev pub decreases-loop-unit : goal.decreases-loop-unit
+decreases-loop-unit l = units_waiting max_unit l.splitter

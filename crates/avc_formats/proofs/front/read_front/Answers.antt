@@ -1,0 +1,43 @@
+use Rattle.std.proofs.Common.{◌∙◌, ap, refl, rules}
+use Rattle.std.specs.Prelude.{unwrap_or}
+use Rattle.avc_run.specs.declared.fault.RunFault.TheVariants as faults
+use Rattle.avc_formats.specs.Front.{NoFront}
+use Rattle.avc_formats.proofs.Fronts.{front_ended, front_found, looking_more, no_memory}
+use Rattle.avc_formats.proofs.Writing.{err_with}
+use Rattle.avc_formats.proofs.front.read_front.Goals as goal
+
+pub returns-in_err-find_set-clause-err : goal.returns-in_err-find_set-clause-err
+returns-in_err-find_set-clause-err g c =
+    err_with c.from_residual-in_err-find_set.result faults.Memory (λ fault. NoFront fault (g.R.Read.remaining c.args.reader.now) (g.R.Read.remaining c.read_once.new.reader))
+    c.from_residual-in_err-find_set.ensures.1 (no_memory _ _ _ _ _ _ _ faults.Memory c.reads.invariant c.in_ok-len.ensures.bytes refl)
+
+pub returns-then-len-eq0-clause-ok : goal.returns-then-len-eq0-clause-ok
+returns-then-len-eq0-clause-ok g c =
+    front_ended c.units_stay.ensures _ _ _ _ _ c.in_ok-len.len c.reads.splitter _ _ c.reads.table _ c.in_ok-find_set.field-0 c.unwrap_or-said.result c.reads.invariant
+    (search rules) c.in_ok-len.ensures.bytes (search rules) c.in_ok-finish.ensures.ok c.in_ok-find_set.ensures
+    (c.unwrap_or-said.ensures ∙ ap (λ p. unwrap_or c.in_ok-find_set.field-0 p) c.none.ensures)
+
+pub returns-in_err-extend_from_slice-clause-err : goal.returns-in_err-extend_from_slice-clause-err
+returns-in_err-extend_from_slice-clause-err g c =
+    err_with c.from_residual-in_err-extend_from_slice.result faults.Memory (λ fault. NoFront fault (g.R.Read.remaining c.args.reader.now) (g.R.Read.remaining c.read_once.new.reader))
+    c.from_residual-in_err-extend_from_slice.ensures.1 (no_memory _ _ _ _ _ _ _ faults.Memory c.reads.invariant c.in_ok-len.ensures.bytes refl)
+
+pub returns-in_err-feed-clause-err : goal.returns-in_err-feed-clause-err
+returns-in_err-feed-clause-err g c =
+    err_with c.from_residual-in_err-feed.result faults.Memory (λ fault. NoFront fault (g.R.Read.remaining c.args.reader.now) (g.R.Read.remaining c.read_once.new.reader))
+    c.from_residual-in_err-feed.ensures.1 (no_memory _ _ _ _ _ _ _ faults.Memory c.reads.invariant c.in_ok-len.ensures.bytes refl)
+
+pub returns-in_err-said-clause-err : goal.returns-in_err-said-clause-err
+returns-in_err-said-clause-err g c =
+    err_with c.from_residual-in_err-said.result faults.Memory (λ fault. NoFront fault (g.R.Read.remaining c.args.reader.now) (g.R.Read.remaining c.read_once.new.reader))
+    c.from_residual-in_err-said.ensures.1 (no_memory _ _ _ _ _ _ _ faults.Memory c.reads.invariant c.in_ok-len.ensures.bytes refl)
+
+pub returns-in-Some-clause-ok : goal.returns-in-Some-clause-ok
+returns-in-Some-clause-ok g c =
+    front_found c.units_stay.ensures _ _ _ _ _ _ c.reads.splitter _ _ c.reads.table _ c.in_ok-said.field-0 c.in-Some.said c.reads.invariant
+    c.in_ok-len.ensures.bytes c.in_ok-extend_from_slice.ensures.items c.in_ok-feed.ensures.ok c.in_ok-said.ensures c.in-Some.is
+
+pub reads-preserved : goal.reads-preserved
+reads-preserved g c =
+    looking_more c.units_stay.ensures _ _ _ _ _ _ c.reads.splitter _ _ c.reads.table _ c.in_ok-said.field-0 c.reads.invariant
+    c.in_ok-len.ensures.bytes c.in_ok-extend_from_slice.ensures.items c.in_ok-feed.ensures.ok c.in_ok-said.ensures c.in_default.is

@@ -1,0 +1,9 @@
+use Rattle.std.proofs.Common.{◌-◌, length}
+use Rattle.avc_formats.specs.Front.{front_length, IsLooking}
+use Rattle.avc_formats.proofs.front.read_front.Given as goal
+
+abbrev pub invariant-reads : goal.invariant-reads
+invariant-reads g l = IsLooking (g.R.Read.remaining l.initial.reader) (g.R.Read.remaining l.reader) l.bytes.items l.splitter l.table
+
+abbrev pub decreases-reads : goal.decreases-reads
+decreases-reads g l = front_length - length l.bytes.items

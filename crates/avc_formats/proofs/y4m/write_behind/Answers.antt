@@ -1,0 +1,16 @@
+use Rattle.std.proofs.Common.{◌≡◌, ◌++◌, refl}
+use Rattle.avc_yuv.specs.I420.{i420}
+use Rattle.avc_run.specs.Reading.{WritesFirst}
+use Rattle.avc_run.specs.declared.fault.RunFault.TheVariants as faults
+use Rattle.avc_formats.proofs.Writing.{err_with, second_broken}
+use Rattle.avc_formats.proofs.y4m.write_behind.Goals as goal
+
+pub returns-in_err-write_i420-clause-err : goal.returns-in_err-write_i420-clause-err
+returns-in_err-write_i420-clause-err g c =
+    err_with c.from_residual-in_err-write_i420.result faults.Write
+    (λ fault. (fault ≡ faults.Write) × WritesFirst (g.W.Write.contents c.args.writer.now) (g.W.Write.contents c.write_i420.new.writer) (c.args.lines.now ++ i420 c.args.picture.now))
+    c.from_residual-in_err-write_i420.ensures.1 (
+      refl,
+      second_broken _ _ _ c.args.lines.now (i420 c.args.picture.now) _ c.in_ok-write_text.ensures.ok (c.in_err-write_i420.ensures.before_all c.requires)
+          (c.in_err-write_i420.ensures.err c.requires),
+    )

@@ -1,0 +1,116 @@
+-- The sequence parameter set of the first slice that is decoded, which is looked for in the front of a stream.
+use Rattle.std.specs.Prelude.{◌≡◌, ℕ, ◌≤◌, Bool, true, false, if◌then◌else◌, List, [], ◌∷◌, ◌++◌, length, Option, Some, None, Result, Ok, Err}
+use Rattle.std.specs.Option.{option_map}
+use Rattle.std.specs.Io.KnownBytes.{Appends, Consumes}
+use Rattle.avc_types.specs.declared.fault.Fault.{Fault}
+use Rattle.avc_annexb.specs.SplitterState.{SplitterState}
+use Rattle.avc_annexb.specs.Units.{units}
+use Rattle.avc_annexb.specs.declared.unit.Unit.{Unit}
+use Rattle.avc_params.specs.Tables.{Sets, sets_after}
+use Rattle.avc_params.specs.declared.set_unit.SetUnit.{SetUnit}
+use Rattle.avc_params.specs.declared.sps.Sps.{Sps}
+use Rattle.avc_slice.specs.declared.header.Header.{Header}
+use Rattle.avc_slice.specs.declared.slice.Slice.{Slice}
+use Rattle.avc_units.specs.Grouping.{is_start, set_units, slice_in}
+use Rattle.avc_decoder.specs.Events.{sets_named}
+use Rattle.avc_tools.specs.Streams.{IsDrained, after_units_left, units_left}
+use Rattle.avc_run.specs.Output.{Output}
+use Rattle.avc_run.specs.Decoding.{max_unit}
+use Rattle.avc_run.specs.Formats.{DecodesAs, Format}
+use Rattle.avc_run.specs.Program.{TellsRun}
+use Rattle.avc_run.specs.Reading.{HasRead}
+use Rattle.avc_run.specs.declared.console.Names.{Names}
+use Rattle.avc_run.specs.declared.exit.Ending.{Ending}
+use Rattle.avc_run.specs.declared.fault.RunFault.{RunFault}
+use Rattle.avc_run.specs.declared.fault.RunFault.TheVariants.{Read, Memory}
+use Rattle.avc_run.specs.declared.report.Report.{Report}
+use Rattle.avc_formats.specs.Presenting.{IsPresented, Says}
+use Rattle.avc_formats.specs.declared.presentation.Presentation.{Presentation}
+
+-- the set that a header refers to (7.4.1.2.1)
+abbrev pub sps_under : Sets → Header → Option Sps
+sps_under sets h = option_map (λ named. named.1) (sets_named sets h)
+
+-- of a slice, where its header can be read
+abbrev pub sps_named : Sets → Result Slice Fault → Option Sps
+sps_named sets (Ok s) = sps_under sets s.header
+sps_named sets (Err f) = None
+
+-- the set of this unit, where decoding can start with it (this decoder's rule)
+abbrev pub starting_sps : Sets → Unit → Option Sps
+starting_sps sets u = if is_start u then sps_named sets (slice_in sets u) else None
+
+-- the first of two that is there
+abbrev pub first_of : {A : Type 0} → Option A → Option A → Option A
+first_of (Some a) b = Some a
+first_of None b = b
+
+-- the set of the first of these units with which decoding can start, where these parameter sets came before
+abbrev pub first_sps : List SetUnit → List Unit → Option Sps
+first_sps sets [] = None
+first_sps sets (u ∷ us) = first_of (starting_sps (sets_after sets) u) (first_sps (sets ++ set_units (u ∷ [])) us)
+
+-- of a stream that begins with these bytes, or has only these
+abbrev pub stream_sps : (bytes : List ℕ) → (ended : Bool) → Option Sps
+stream_sps bytes ended = first_sps [] (units max_unit bytes ended)
+
+-- so many bytes of a stream are looked at: as many as a unit has at most
+abbrev pub front_length : ℕ
+front_length = max_unit
+
+-- These bytes were read, and this is what the set says of the first slice in them that is decoded. They go up to the end of that
+-- slice at least, or are all, or as many as are looked at.
+pub record IsFront (unread left : Option (List ℕ)) (bytes : List ℕ) (said : Presentation) : Type 0 where
+  pub all : Bool
+  pub has_read : HasRead unread left bytes all
+  pub says : Says (stream_sps bytes all) said
+  pub enough : all ≡ false → stream_sps bytes false ≡ None → front_length ≤ length bytes
+
+-- A fault of reading came before such a slice, or memory was refused.
+abbrev pub NoFront : RunFault → (unread left : Option (List ℕ)) → Type 0
+NoFront Read unread left = (bytes : List ℕ) × Consumes unread left bytes × (stream_sps bytes false ≡ None)
+NoFront Memory unread left = (bytes : List ℕ) × Consumes unread left bytes
+NoFront _ unread left = ⊥
+
+-- A stream is decoded in the format that this set decides.
+pub record DecodesBySet (format : Presentation → Format) (output : Output) (unread left held holds : Option (List ℕ)) (run : Result Report RunFault) : Type 0 where
+  pub bytes : List ℕ
+  pub middle : Option (List ℕ)
+  pub said : Presentation
+  pub front : IsFront unread middle bytes said
+  pub decodes : DecodesAs (format said) output unread left held holds run
+
+-- A stream is decoded so, or its front can't be read, and nothing is written.
+pub data Decodes (format : Presentation → Format) (output : Output) (unread left held holds : Option (List ℕ)) (run : Result Report RunFault) : Type 0 where
+  by_set : DecodesBySet format output unread left held holds run → Decodes format output unread left held holds run
+  in_front : (fault : RunFault) → run ≡ Err fault → NoFront fault unread left → Appends held holds [] → Decodes format output unread left held holds run
+
+-- `decode` in such a format was a run, and its exit status and what it told are those of this run.
+pub record EndsDecodingBySet (names : Names) (format : Presentation → Format) (output : Output) (unread left held holds before now : Option (List ℕ)) (ending : Ending) : Type 0 where
+  pub run : Result Report RunFault
+  pub decodes : Decodes format output unread left held holds run
+  pub tells : TellsRun names run before now ending
+
+-- ---- for private clauses
+
+-- said by this set, or nothing, where there is none
+abbrev pub IsSaid : Option Sps → Option Presentation → Type 0
+IsSaid None said = said ≡ None
+IsSaid (Some s) None = ⊥
+IsSaid (Some s) (Some p) = IsPresented s p
+
+-- All units were taken, none of them with which decoding can start, and their sets. Or this is said by the set of the first with
+-- which it can start.
+abbrev pub IsFound : (old new : SplitterState) (before now : List SetUnit) → Option Presentation → Type 0
+IsFound old new before now None =
+    (first_sps before (units_left max_unit old) ≡ None) × (now ≡ before ++ set_units (units_left max_unit old)) × (new ≡ after_units_left max_unit old)
+IsFound old new before now (Some p) = IsSaid (first_sps before (units_left max_unit old)) (Some p)
+
+-- These bytes were read, and all units in them taken, none of them with which decoding can start.
+pub record IsLooking (unread left : Option (List ℕ)) (bytes : List ℕ) (s : SplitterState) (sets : List SetUnit) : Type 0 where
+  pub consumed : Consumes unread left bytes
+  pub drained : IsDrained max_unit s
+  pub open_end : s.ended ≡ false
+  pub bytes_are : s.bytes ≡ bytes
+  pub sets_are : sets ≡ set_units (units max_unit bytes false)
+  pub none : stream_sps bytes false ≡ None

@@ -1,0 +1,69 @@
+ghost use Rattle.avc_formats.specs.Front.{Decodes, EndsDecodingBySet};
+ghost use Rattle.avc_formats.specs.Selecting.{selected};
+ghost use Rattle.avc_formats.specs.Y4m.{y4m};
+
+use crate::front::read_front;
+use crate::selected::Selected;
+use crate::y4m::Y4m;
+use avc_run::{Console, Ending, Output, Report, RunFault, Watch, run_behind, tell};
+use std::alloc::Global;
+use std::io::{Read, Write};
+
+/// The command `decode --format y4m`: decodes a byte stream (Annex B) and writes all but the first pictures, and of these so many at
+/// most, as YUV4MPEG2, and tells of refusals, or of the fault that ended the run, on the console. Its first line says what the sequence
+/// parameter set says of the first slice that is decoded.
+pub fn decode_y4m<R: Read, W: Write, E: Write, V: Watch>(
+    alloc: Global,
+    output: Output,
+    skip: u64,
+    limit: u64,
+    reader: &mut R,
+    writer: &mut W,
+    console: &mut Console<'_, E, V>,
+) -> Ending
+    ensures { EndsDecodingBySet console.old.names (λ said. selected (y4m said) skip limit) output (R.remaining reader.old) (R.remaining reader.new)
+        (W.contents writer.old) (W.contents writer.new) (E.contents console.old.errors) (E.contents console.new.errors) result }
+{
+    let run = run_y4m(
+        alloc,
+        output,
+        skip,
+        limit,
+        &mut console.watch,
+        reader,
+        writer,
+    );
+    tell(alloc, &run, &console.names, &mut console.errors)
+}
+
+fn run_y4m<R: Read, W: Write, V: Watch>(
+    alloc: Global,
+    output: Output,
+    skip: u64,
+    limit: u64,
+    watch: &mut V,
+    reader: &mut R,
+    writer: &mut W,
+) -> Result<Report, RunFault>
+    ensures { Decodes (λ said. selected (y4m said) skip limit) output (R.remaining reader.old) (R.remaining reader.new)
+        (W.contents writer.old) (W.contents writer.new) result }
+{
+    let front = read_front(alloc, reader)?;
+    let format = Selected {
+        format: Y4m {
+            alloc,
+            said: front.said,
+        },
+        skip,
+        limit,
+    };
+    run_behind(
+        alloc,
+        output,
+        &format,
+        watch,
+        front.bytes.as_slice(),
+        reader,
+        writer,
+    )
+}

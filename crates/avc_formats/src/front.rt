@@ -1,0 +1,53 @@
+ghost use Rattle.std.specs.Prelude.{◌≡◌, false, IfErr, IfOk};
+ghost use Rattle.avc_formats.specs.Front.{IsFront, NoFront};
+
+use crate::first_set::find_set;
+use crate::presentation::Presentation;
+use avc_annexb::Splitter;
+use avc_annexb::laws::units_stay;
+use avc_params::ParamTable;
+use avc_run::{PIECE, RunFault, read_once};
+use std::alloc::Global;
+use std::io::Read;
+
+/// The most bytes of a unit.
+pub(crate) const MAX_UNIT: usize = 134_217_728;
+
+/// So many bytes are looked at.
+const FRONT: usize = MAX_UNIT;
+
+/// The front of a stream, up to the end of the first slice that is decoded, and what that slice's set says.
+#[derive(Drop)]
+pub(crate) struct Front {
+    pub bytes: Vec<u8>,
+    pub said: Presentation,
+}
+
+/// Reads the front of a stream.
+pub(crate) fn read_front<R: Read>(alloc: Global, reader: &mut R) -> Result<Front, RunFault>
+    ensures ok { IfOk result (λ front. IsFront (R.remaining reader.old) (R.remaining reader.new) front.bytes.items front.said) }
+    ensures err { IfErr result (λ fault. NoFront fault (R.remaining reader.old) (R.remaining reader.new)) }
+{
+    units_stay();
+    let mut splitter = Splitter::<MAX_UNIT>::new(alloc);
+    let mut table = ParamTable::new(alloc);
+    let mut bytes = Vec::new(alloc);
+    let mut piece = [0; PIECE];
+    'reads: while bytes.len() < FRONT {
+        let len = read_once(reader, &mut piece)?;
+        if len == 0 {
+            splitter.finish()?;
+            let said = find_set(alloc, &mut splitter, &mut table)?.unwrap_or(Presentation::none());
+            return Ok(Front { bytes, said });
+        }
+        bytes.extend_from_slice(&piece[..len])?;
+        splitter.feed(&piece[..len])?;
+        if let Some(said) = find_set(alloc, &mut splitter, &mut table)? {
+            return Ok(Front { bytes, said });
+        }
+    }
+    Ok(Front {
+        bytes,
+        said: Presentation::none(),
+    })
+}
