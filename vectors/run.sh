@@ -354,8 +354,8 @@ judge "decode --format y4m of what cannot be read" $? 3 'avcdec: read fault
 "$program" decode --format y4m </dev/null >"$work/written" 2>"$work/told"
 judge "decode --format y4m of nothing" $? 0 ''
 holds 'nothing is written' [ ! -s "$work/written" ]
-# another size ends it, behind the pictures before
-{ cat "$moving" && cat "$picture"; } | "$program" decode --format y4m >"$work/written" 2>"$work/told"
+# another size ends it, behind the pictures before, which the IDR picture of that size lets go out
+{ cat "$moving" && cat "$here/pcm/pcm_3.264"; } | "$program" decode --format y4m >"$work/written" 2>"$work/told"
 judge 'decode --format y4m of two sizes' $? 3 'avcdec: a picture of another size
 '
 holds 'the pictures before' cmp -s "$work/written" "$work/whole"
