@@ -7,12 +7,10 @@
 set -u
 here=$(cd "$(dirname "$0")" && pwd)
 top=$(dirname "$here")
-work=$(mktemp -d)
-trap 'rm -rf "$work"' EXIT
-passed=0
-failed=0
+room=$(mktemp -d)
+trap 'rm -rf "$room"' EXIT
 
-cat >"$work/refuse.c" <<'C'
+cat >"$room/refuse.c" <<'C'
 #define _GNU_SOURCE
 #include <dlfcn.h>
 #include <errno.h>
@@ -67,10 +65,24 @@ cc=${CC:-}
 for name in cc gcc clang; do
     [ -n "$cc" ] || cc=$(command -v "$name" || true)
 done
-if [ -z "$cc" ] || ! "$cc" -O2 -shared -fPIC -o "$work/refuse.so" "$work/refuse.c" -ldl 2>"$work/told"; then
+if [ -z "$cc" ] || ! "$cc" -O2 -shared -fPIC -o "$room/refuse.so" "$room/refuse.c" -ldl 2>"$room/told"; then
     echo 'want of memory and failing reads are not tried: there is no C compiler'
     exit 0
 fi
+
+# Does these words beside all others, in a folder of their own, which holds afterwards what they told and how many passed and failed.
+jobs=0
+beside() {
+    jobs=$((jobs + 1))
+    work=$room/$jobs
+    mkdir "$work"
+    (
+        passed=0
+        failed=0
+        "$@"
+        echo "$passed $failed" >"$work/counts"
+    ) >"$work/log" 2>&1 &
+}
 
 # counts one growth, or one read
 judge() {
@@ -90,11 +102,11 @@ refused_in_program() {
     shift
     "$program" "$@" <"$stream" >"$work/whole" 2>"$work/told_with_memory"
     ample=$?
-    COUNTED=$work/count LD_PRELOAD=$work/refuse.so "$program" "$@" <"$stream" >/dev/null 2>&1
+    COUNTED=$work/count LD_PRELOAD=$room/refuse.so "$program" "$@" <"$stream" >/dev/null 2>&1
     growths=$(cat "$work/count")
     number=1
     while [ "$number" -le "$growths" ]; do
-        REFUSED=$number LD_PRELOAD=$work/refuse.so "$program" "$@" <"$stream" >"$work/part" 2>"$work/told"
+        REFUSED=$number LD_PRELOAD=$room/refuse.so "$program" "$@" <"$stream" >"$work/part" 2>"$work/told"
         status=$?
         if [ "$status" = 4 ]; then
             echo 'avcdec: out of memory' | cmp -s - "$work/told" && cmp -s -n "$(wc -c <"$work/part")" "$work/part" "$work/whole"
@@ -114,13 +126,13 @@ failing_in_program() {
     "$program" "$@" <"$stream" >"$work/whole" 2>"$work/told_without"
     ample=$?
     number=0
-    FAILING=0 COUNTED=$work/count LD_PRELOAD=$work/refuse.so "$program" "$@" <"$stream" >"$work/part" 2>"$work/told"
+    FAILING=0 COUNTED=$work/count LD_PRELOAD=$room/refuse.so "$program" "$@" <"$stream" >"$work/part" 2>"$work/told"
     [ $? = "$ample" ] && cmp -s "$work/told" "$work/told_without" && cmp -s "$work/part" "$work/whole"
     judge $? "short reads in ${what#"$here"/}"
     reads=$(cat "$work/count")
     while [ "$number" -lt "$reads" ]; do
         number=$((number + 1))
-        FAILING=$number LD_PRELOAD=$work/refuse.so "$program" "$@" <"$stream" >"$work/part" 2>"$work/told"
+        FAILING=$number LD_PRELOAD=$room/refuse.so "$program" "$@" <"$stream" >"$work/part" 2>"$work/told"
         status=$?
         [ "$status" = 3 ] && echo 'avcdec: read fault' | cmp -s - "$work/told" && cmp -s -n "$(wc -c <"$work/part")" "$work/part" "$work/whole"
         judge $? "a read in ${what#"$here"/}: status $status"
@@ -131,41 +143,62 @@ failing_in_program() {
 refused_in_test() {
     tests=$top/crates/$1/out/$1_tests
     test=$2
-    if [ ! -x "$tests" ] && ! (cd "$top/crates/$1" && rt test) >"$work/built" 2>&1; then
-        cat "$work/built"
-        exit 1
-    fi
-    COUNTED=$work/count LD_PRELOAD=$work/refuse.so "$tests" "$test" >/dev/null 2>&1
+    COUNTED=$work/count LD_PRELOAD=$room/refuse.so "$tests" "$test" >/dev/null 2>&1
     growths=$(cat "$work/count")
     number=1
     while [ "$number" -le "$growths" ]; do
-        REFUSED=$number LD_PRELOAD=$work/refuse.so "$tests" "$test" >"$work/told" 2>&1 || grep -q 'AllocError' "$work/told"
+        REFUSED=$number LD_PRELOAD=$room/refuse.so "$tests" "$test" >"$work/told" 2>&1 || grep -q 'AllocError' "$work/told"
         judge $? "a growth in $test"
         number=$((number + 1))
     done
 }
 
+# a test that takes no more growths than these
+growing_at_most() {
+    REFUSED=$(($1 + 1)) LD_PRELOAD=$room/refuse.so "$top/crates/$2/out/$2_tests" "$3" >"$work/told" 2>&1
+    number=$1
+    judge $? "growths in $3"
+}
+
 "$top/avcdec" --help >/dev/null || exit 1
 program=$top/crates/avc_cli/out/avc_cli
+# The tests' programs are those that the gate has built, or are built now.
+for crate in avc_tests avc_run; do
+    if [ ! -x "$top/crates/$crate/out/${crate}_tests" ] && ! (cd "$top/crates/$crate" && rt test) >"$room/built" 2>&1; then
+        cat "$room/built"
+        exit 1
+    fi
+done
 for name in cases/held_before_refusal corners/gap_and_order_g89 corners/operations_k39 corners/five_g121; do
-    refused_in_program "$here/$name.264" decode
-    refused_in_program "$here/$name.264" decode --early
+    beside refused_in_program "$here/$name.264" decode
+    beside refused_in_program "$here/$name.264" decode --early
 done
 for name in cases/held_before_refusal corners/operations_k39; do
-    refused_in_program "$here/$name.264" units
-    refused_in_program "$here/$name.264" headers
-    refused_in_program "$here/$name.264" cut 0
+    beside refused_in_program "$here/$name.264" units
+    beside refused_in_program "$here/$name.264" headers
+    beside refused_in_program "$here/$name.264" cut 0
 done
 for words in decode 'decode --early' units headers 'cut 0'; do
     # shellcheck disable=SC2086
-    failing_in_program "$here/corners/five_g121.264" $words
+    beside failing_in_program "$here/corners/five_g121.264" $words
 done
-
-# The tests' programs are those that the gate has built, or are built now.
 for test in calls_that_begin_anew slices_begin_anew pictures_begin_anew texts_and_pieces splitters_want_memory_from_then_on tables_stay_as_they_are bit_makers_want_memory_from_then_on; do
-    refused_in_test avc_tests "want_of_memory::$test"
+    beside refused_in_test avc_tests "want_of_memory::$test"
 done
-refused_in_test avc_run tests::decodes_again_after_want_of_memory
+beside refused_in_test avc_run tests::decodes_again_after_want_of_memory
+beside growing_at_most 20000 avc_run tests::two_hundred_pictures_byte_by_byte
+wait
 
+passed=0
+failed=0
+job=0
+while [ "$job" -lt "$jobs" ]; do
+    job=$((job + 1))
+    cat "$room/$job/log"
+    [ -e "$room/$job/counts" ] || echo '0 1' >"$room/$job/counts"
+    read -r more_passed more_failed <"$room/$job/counts"
+    passed=$((passed + more_passed))
+    failed=$((failed + more_failed))
+done
 echo "$passed passed, $failed failed"
 [ "$failed" = 0 ] && [ "$passed" -gt 0 ]

@@ -3,7 +3,7 @@
 // not at an assertion.
 use crate::{RunFault, run};
 use avc_decoder::{DecodeError, Decoder, Event, Output};
-use avc_types::OutOfMemory;
+use avc_types::{OutOfMemory, Picture};
 use std::alloc::{AllocError, Global};
 use std::io;
 use std::io::Write;
@@ -236,5 +236,57 @@ fn counts_macroblocks(rt: HostRuntime) -> Result<(), Fail> {
     assert_eq!(rt; decoder.turns(), 1);
     decoder.flush()?;
     assert_eq!(rt; decoder.turns(), 2);
+    Ok(())
+}
+
+// Whether a picture has 384 samples, which are all 128.
+fn is_grey(picture: &Picture) -> bool {
+    let components = [&picture.luma, &picture.cb, &picture.cr];
+    let mut count = 0usize;
+    for component in components {
+        for sample in component.as_slice() {
+            if *sample != 128 {
+                return false;
+            }
+            count = count.saturating_add(1);
+        }
+    }
+    count == 384
+}
+
+// How many such pictures are among the next three events.
+fn grey_pictures_taken(decoder: &mut Decoder<1000>) -> Result<usize, DecodeError> {
+    let mut count = 0usize;
+    for _ in 0..3 {
+        if let Some(Event::Picture(picture)) = decoder.take()? {
+            count = count.saturating_add(usize::from(is_grey(&picture)));
+        }
+    }
+    Ok(count)
+}
+
+// How many are taken while these bytes are fed one at a time.
+fn byte_by_byte(decoder: &mut Decoder<1000>, bytes: &[u8]) -> Result<usize, DecodeError> {
+    let mut count = 0usize;
+    for byte in bytes.chunks(1) {
+        decoder.feed(byte)?;
+        count = count.saturating_add(grey_pictures_taken(decoder)?);
+    }
+    Ok(count)
+}
+
+// Each byte is decoded once: a body that began anew at each byte would take more memory than vectors/growths.sh leaves it.
+#[test]
+fn two_hundred_pictures_byte_by_byte(rt: HostRuntime) -> Result<(), Fail> {
+    let mut decoder = Decoder::<1000>::new(rt.alloc(), Output::Full);
+    let mut count = byte_by_byte(&mut decoder, SMALL)?;
+    count = count.saturating_add(byte_by_byte(&mut decoder, PLAIN)?);
+    for _ in 0..100 {
+        count = count.saturating_add(byte_by_byte(&mut decoder, PLAIN_IDR)?);
+        count = count.saturating_add(byte_by_byte(&mut decoder, NEXT_IDR)?);
+    }
+    decoder.flush()?;
+    count = count.saturating_add(grey_pictures_taken(&mut decoder)?);
+    assert_eq!(rt; (count, decoder.turns()), (200, 200));
     Ok(())
 }

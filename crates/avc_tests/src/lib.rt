@@ -14,6 +14,8 @@ mod same_macroblocks;
 #[cfg(test)]
 mod slice_headers;
 #[cfg(test)]
+mod step_edge;
+#[cfg(test)]
 mod want_of_memory;
 #[cfg(test)]
 mod written_slices;
