@@ -2,6 +2,9 @@
 use Rattle.std.proofs.Common.{◌≡◌, ℕ, zero-add, mul_comm, below_more, ◌+◌, ◌*◌, ◌/◌, ◌%◌, ◌<◌, Bool, true, if◌then◌else◌, List, [], ◌∷◌, Some, None, slice_index, arith, ap, sym, ◌∙◌}
 use Rattle.std.proofs.lemmas.List.FromFn.{get_or-map-range_with_len}
 use Rattle.std.proofs.lemmas.Nat.{mul-add-lt}
+use Rattle.avc_plane.specs.Strided.{IsStridedSet}
+use Rattle.avc_intra.specs.declared.sides.Sides.{Sides}
+use Rattle.avc_plane.proofs.Strided.{strided_same}
 use Rattle.avc_intra.specs.Lines.{block4x4}
 
 slice_index-block4x4 : (f : ℕ → ℕ → ℕ) (x y : ℕ) → x < 4 → y < 4 → slice_index (block4x4 f) (4 * y + x) ≡ f x y
@@ -32,3 +35,10 @@ rows_more w y f old new row done before here value x k column less =
 pub row_of_two : (f : ℕ → ℕ) (a b : ℕ) → a ≡ f 0 → b ≡ f 1 → (x : ℕ) → x < 8 → slice_index (a ∷ a ∷ a ∷ a ∷ b ∷ b ∷ b ∷ b ∷ []) x ≡ f (x / 4)
 row_of_two f a b left right x column =
     rw (left, right) (get_or-map-range_with_len (λ i. f (i / 4)) 0 8 x x 0 column (zero-add x))
+
+-- a block that was laid, by its columns and rows
+pub laid4x4 : (first stride : ℕ) (f : Sides → ℕ → ℕ → ℕ) (found sides : Sides) (samples old new : List ℕ) → found ≡ sides → samples ≡ block4x4 (f found)
+    → IsStridedSet 4 4 first stride (λ x y. slice_index samples (4 * y + x)) old new → IsStridedSet 4 4 first stride (f sides) old new
+laid4x4 first stride f found sides samples old new is same set =
+    strided_same 4 4 first stride (λ x y. slice_index samples (4 * y + x)) (f sides) old new set
+    (λ x y column row. ap (λ l. slice_index l (4 * y + x)) same ∙ slice_index-block4x4 (f found) x y column row ∙ ap (λ t. f t x y) is)

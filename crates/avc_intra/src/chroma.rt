@@ -1,13 +1,18 @@
-ghost use Rattle.std.specs.Prelude.{◌≡◌, ℕ, ◌+◌, ◌*◌, ◌/◌, ◌<◌, pos, ◌+ℤ◌, ◌*ℤ◌, true, slice_index};
+ghost use Rattle.std.specs.Prelude.{◌≡◌, ℕ, ◌+◌, ◌*◌, ◌/◌, ◌<◌, ◌≤◌, pos, ◌+ℤ◌, ◌*ℤ◌, true, length, slice_index};
 ghost use Rattle.avc_types.specs.Arithmetic.{◌>>ℤ◌};
 ghost use Rattle.avc_intra.specs.Neighbourhood.{Around, Predicts};
 ghost use Rattle.avc_intra.specs.Chroma.{ShowsChroma, can_predict_chroma, intra_chroma, predict_chroma, predict_dc_chroma, predict_plane_chroma};
 ghost use Rattle.avc_intra.specs.Slopes.{IsWithin};
+ghost use Rattle.avc_intra.specs.InRows.{IsSeen};
+ghost use Rattle.avc_plane.specs.Strided.{IsRoom, IsStridedSet};
 
+use crate::beside::{above, corner, left};
+use crate::lines::{lay_block, lay_same_columns, lay_same_lines};
 use crate::means::{mean_of_sides4, sum_of_four};
 use crate::plane::{height_between, plane_samples, slope};
 use crate::rows::{same_columns, same_rows, set_row};
 use crate::sides::Sides;
+use avc_plane::RowsPlace;
 use avc_types::Fault;
 
 /// The prediction of the chroma samples of an intra macroblock (Table 8-5).
@@ -93,6 +98,24 @@ impl AroundChroma {
         samples
     }
 
+    /// Intra_Chroma_DC, laid into rows.
+    #[inline(always)]
+    fn lay_dc(&self, rows: &mut [u8], at: RowsPlace)
+        requires apart { 8 ≤ at.stride }
+        requires room { IsRoom 8 8 at.first at.stride (length rows.old) }
+        ensures { (p : Around) → ShowsChroma p self.now →
+            IsStridedSet 8 8 at.first at.stride (λ x y. predict_dc_chroma self.now.sides p (x / 4) (y / 4)) rows.old rows.new }
+    {
+        let upper = self.dc_row(0);
+        let lower = self.dc_row(1);
+        let middle = RowsPlace {
+            first: at.first + 4 * at.stride,
+            stride: at.stride,
+        };
+        lay_same_lines::<8, 4>(&upper, rows, at);
+        lay_same_lines::<8, 4>(&lower, rows, middle);
+    }
+
     /// Intra_Chroma_Plane.
     fn plane(&self) -> [u8; 64]
         requires above { self.now.sides.above ≡ true }
@@ -130,4 +153,47 @@ pub fn predict_chroma(around: &AroundChroma, mode: ModeChroma) -> Result<[u8; 64
         return Err(Fault::IntraUnavailable);
     }
     Ok(around.predicted(mode))
+}
+
+/// The samples around the component of the macroblock at this place in rows.
+#[inline(always)]
+fn read_around(rows: &[u8], at: RowsPlace, sides: Sides) -> AroundChroma
+    requires apart { 8 ≤ at.stride }
+    requires room { IsRoom 8 8 at.first at.stride (length rows.now) }
+    ensures sides { result.sides ≡ sides }
+    ensures shows { (p : Around) → IsSeen p sides 8 at.first at.stride rows.now → ShowsChroma p result }
+{
+    AroundChroma {
+        above: above::<8>(rows, at),
+        left: left::<8, 8>(rows, at),
+        corner: corner(rows, at),
+        sides,
+    }
+}
+
+/// Lays the prediction of one chroma component of a macroblock (clause 8.3.4) into its place in rows, by a mode whose sides are
+/// available, from the samples that stand around it there.
+pub fn lay_chroma(rows: &mut [u8], at: RowsPlace, sides: Sides, mode: ModeChroma)
+    requires apart { 8 ≤ at.stride }
+    requires room { IsRoom 8 8 at.first at.stride (length rows.old) }
+    requires mode { can_predict_chroma sides mode ≡ true }
+    ensures long { length rows.new ≡ length rows.old }
+    ensures samples { (p : Around) → IsSeen p sides 8 at.first at.stride rows.old →
+        IsStridedSet 8 8 at.first at.stride (predict_chroma sides p mode) rows.old rows.new }
+{
+    match mode {
+        ModeChroma::Dc => {
+            let around = read_around(rows, at, sides);
+            around.lay_dc(rows, at);
+        }
+        ModeChroma::Horizontal => lay_same_columns::<8, 8>(rows, at),
+        ModeChroma::Vertical => {
+            let line = above::<8>(rows, at);
+            lay_same_lines::<8, 8>(&line, rows, at);
+        }
+        ModeChroma::Plane => {
+            let samples = read_around(rows, at, sides).plane();
+            lay_block::<8, 8, 64>(&samples, rows, at);
+        }
+    }
 }

@@ -1,13 +1,18 @@
-ghost use Rattle.std.specs.Prelude.{◌≡◌, ℕ, ◌+◌, ◌*◌, ◌<◌, pos, ◌+ℤ◌, ◌*ℤ◌, true, slice_index};
+ghost use Rattle.std.specs.Prelude.{◌≡◌, ℕ, ◌+◌, ◌*◌, ◌<◌, ◌≤◌, pos, ◌+ℤ◌, ◌*ℤ◌, true, length, slice_index};
 ghost use Rattle.avc_types.specs.Arithmetic.{◌>>ℤ◌};
 ghost use Rattle.avc_intra.specs.Neighbourhood.{Around, Predicts};
 ghost use Rattle.avc_intra.specs.Luma16x16.{Shows16x16, can_predict16x16, intra16x16, predict16x16, predict_dc16x16, predict_plane16x16};
 ghost use Rattle.avc_intra.specs.Slopes.{IsWithin};
+ghost use Rattle.avc_intra.specs.InRows.{IsSeen};
+ghost use Rattle.avc_plane.specs.Strided.{IsRoom, IsStridedSet};
 
+use crate::beside::{above, corner, left};
+use crate::lines::{lay_block, lay_same_columns, lay_same_lines};
 use crate::means::{mean_of_sides16, sum_of_sixteen};
 use crate::plane::{height_between, plane_samples, slope};
 use crate::rows::{level, same_columns, same_rows};
 use crate::sides::Sides;
+use avc_plane::RowsPlace;
 use avc_types::Fault;
 
 /// The prediction of the luma samples of an Intra 16x16 macroblock (Table 8-4).
@@ -103,4 +108,47 @@ pub fn predict16(around: &Around16x16, mode: Mode16x16) -> Result<[u8; 256], Fau
         return Err(Fault::IntraUnavailable);
     }
     Ok(around.predicted(mode))
+}
+
+/// The samples around the macroblock at this place in rows.
+#[inline(always)]
+fn read_around(rows: &[u8], at: RowsPlace, sides: Sides) -> Around16x16
+    requires apart { 16 ≤ at.stride }
+    requires room { IsRoom 16 16 at.first at.stride (length rows.now) }
+    ensures sides { result.sides ≡ sides }
+    ensures shows { (p : Around) → IsSeen p sides 16 at.first at.stride rows.now → Shows16x16 p result }
+{
+    Around16x16 {
+        above: above::<16>(rows, at),
+        left: left::<16, 16>(rows, at),
+        corner: corner(rows, at),
+        sides,
+    }
+}
+
+/// Lays the prediction of the luma of a macroblock (clause 8.3.3) into its place in rows, by a mode whose sides are available, from the
+/// samples that stand around it there.
+pub fn lay16x16(rows: &mut [u8], at: RowsPlace, sides: Sides, mode: Mode16x16)
+    requires apart { 16 ≤ at.stride }
+    requires room { IsRoom 16 16 at.first at.stride (length rows.old) }
+    requires mode { can_predict16x16 sides mode ≡ true }
+    ensures long { length rows.new ≡ length rows.old }
+    ensures samples { (p : Around) → IsSeen p sides 16 at.first at.stride rows.old →
+        IsStridedSet 16 16 at.first at.stride (predict16x16 sides p mode) rows.old rows.new }
+{
+    match mode {
+        Mode16x16::Vertical => {
+            let line = above::<16>(rows, at);
+            lay_same_lines::<16, 16>(&line, rows, at);
+        }
+        Mode16x16::Horizontal => lay_same_columns::<16, 16>(rows, at),
+        Mode16x16::Dc => {
+            let sample = read_around(rows, at, sides).dc();
+            lay_same_lines::<16, 16>(&[sample; 16], rows, at);
+        }
+        Mode16x16::Plane => {
+            let samples = read_around(rows, at, sides).plane();
+            lay_block::<16, 16, 256>(&samples, rows, at);
+        }
+    }
 }

@@ -1,11 +1,16 @@
-ghost use Rattle.std.specs.Prelude.{◌≡◌, ℕ, pos, true};
+ghost use Rattle.std.specs.Prelude.{◌≡◌, ℕ, ◌≤◌, length, pos, true};
+ghost use Rattle.avc_plane.specs.Strided.{IsRoom, IsStridedSet};
+ghost use Rattle.avc_intra.specs.InRows.{IsSeen4x4};
 ghost use Rattle.avc_intra.specs.Neighbourhood.{Around, Predicts, top, left_of};
 ghost use Rattle.avc_intra.specs.Luma4x4.{Shows4x4, can_predict4x4, extended, intra4x4, predict4x4, predict_dc4x4};
 ghost use Rattle.avc_intra.specs.Lines.{block4x4, line_above, line_left, line_round};
 
+use crate::beside::{above, corner, left};
 use crate::directional;
+use crate::lines::lay_block;
 use crate::means::{mean_of_sides4, sum_of_four};
 use crate::sides::Sides;
+use avc_plane::RowsPlace;
 use avc_types::Fault;
 
 /// The prediction of a 4x4 luma block (Table 8-2).
@@ -142,4 +147,70 @@ pub fn predict4(around: &Around4x4, mode: Mode4x4) -> Result<[u8; 16], Fault>
         return Err(Fault::IntraUnavailable);
     }
     Ok(around.predicted(mode))
+}
+
+/// The samples around the block at this place in rows.
+#[inline(always)]
+fn read_around(rows: &[u8], at: RowsPlace, sides: Sides) -> Around4x4
+    requires apart { 4 ≤ at.stride }
+    requires room { IsRoom 4 4 at.first at.stride (length rows.now) }
+    ensures sides { result.sides ≡ sides }
+    ensures shows { (p : Around) → IsSeen4x4 p sides at.first at.stride rows.now → Shows4x4 p result }
+{
+    Around4x4 {
+        above: above::<8>(rows, at),
+        left: left::<4, 4>(rows, at),
+        corner: corner(rows, at),
+        sides,
+    }
+}
+
+/// Lays the prediction of a 4x4 luma block (clause 8.3.1.2) into its place in rows, by a mode whose sides are available, from the
+/// samples that stand around it there.
+pub fn lay4x4(rows: &mut [u8], at: RowsPlace, sides: Sides, mode: Mode4x4)
+    requires apart { 4 ≤ at.stride }
+    requires room { IsRoom 4 4 at.first at.stride (length rows.old) }
+    requires mode { can_predict4x4 sides mode ≡ true }
+    ensures long { length rows.new ≡ length rows.old }
+    ensures samples { (p : Around) → IsSeen4x4 p sides at.first at.stride rows.old →
+        IsStridedSet 4 4 at.first at.stride (predict4x4 sides (extended sides p) mode) rows.old rows.new }
+{
+    match mode {
+        Mode4x4::Vertical => {
+            let samples = read_around(rows, at, sides).vertical();
+            lay_block::<4, 4, 16>(&samples, rows, at);
+        }
+        Mode4x4::Horizontal => {
+            let samples = read_around(rows, at, sides).horizontal();
+            lay_block::<4, 4, 16>(&samples, rows, at);
+        }
+        Mode4x4::Dc => {
+            let samples = read_around(rows, at, sides).dc();
+            lay_block::<4, 4, 16>(&samples, rows, at);
+        }
+        Mode4x4::DiagonalDownLeft => {
+            let line = read_around(rows, at, sides).line_above();
+            lay_block::<4, 4, 16>(&directional::diagonal_down_left(&line), rows, at);
+        }
+        Mode4x4::DiagonalDownRight => {
+            let line = read_around(rows, at, sides).line_round();
+            lay_block::<4, 4, 16>(&directional::diagonal_down_right(&line), rows, at);
+        }
+        Mode4x4::VerticalRight => {
+            let line = read_around(rows, at, sides).line_round();
+            lay_block::<4, 4, 16>(&directional::vertical_right(&line), rows, at);
+        }
+        Mode4x4::HorizontalDown => {
+            let line = read_around(rows, at, sides).line_round();
+            lay_block::<4, 4, 16>(&directional::horizontal_down(&line), rows, at);
+        }
+        Mode4x4::VerticalLeft => {
+            let line = read_around(rows, at, sides).line_above();
+            lay_block::<4, 4, 16>(&directional::vertical_left(&line), rows, at);
+        }
+        Mode4x4::HorizontalUp => {
+            let line = read_around(rows, at, sides).line_left();
+            lay_block::<4, 4, 16>(&directional::horizontal_up(&line), rows, at);
+        }
+    }
 }

@@ -1,3 +1,4 @@
+pub mod Surrounded
 pub mod Ties
 pub mod Sixteens
 pub mod Blocks
@@ -12,3 +13,4 @@ mod Shapes
 mod Predicting
 mod Inters
 mod PlaceOn
+mod Seen

@@ -7,10 +7,9 @@ ghost use Rattle.avc_picture_core.specs.Built.{seen_from};
 ghost use Rattle.avc_picture_core.specs.Places.{IsSameSize};
 ghost use Rattle.avc_picture_core.specs.Sides.{AreInside};
 
-use crate::around::around_chroma;
 use crate::corner::{first_column, first_row};
 use crate::places::MbPlace;
-use avc_intra::{ModeChroma, Sides};
+use avc_intra::{ModeChroma, Sides, lay_chroma};
 use avc_plane::Plane;
 
 /// Gives one chroma component of a macroblock its prediction.
@@ -30,7 +29,6 @@ pub(crate) fn predict_component<const PAD: usize>(
 {
     let left = first_column(plane, 8, place.column);
     let top = first_row(plane, 8, place.row);
-    let around = around_chroma(plane, left, top, sides);
-    let samples = around.predicted(mode);
-    plane.copy_rectangle::<8, 8, 64>(left, top, &samples);
+    let at = plane.padded_place(left, top);
+    lay_chroma(plane.padded_rows_mut(), at, sides, mode);
 }

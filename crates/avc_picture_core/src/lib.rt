@@ -1,7 +1,6 @@
 //! The samples of one macroblock (8.3 to 8.5).
 #![tactic(auto)]
 
-mod around;
 mod canvas;
 mod chroma;
 mod corner;

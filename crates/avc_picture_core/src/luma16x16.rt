@@ -7,10 +7,9 @@ ghost use Rattle.avc_picture_core.specs.Built.{seen_from};
 ghost use Rattle.avc_picture_core.specs.Places.{IsSameSize};
 ghost use Rattle.avc_picture_core.specs.Sides.{AreInside};
 
-use crate::around::around16x16;
 use crate::corner::{first_column, first_row};
 use crate::places::MbPlace;
-use avc_intra::{Mode16x16, Sides};
+use avc_intra::{Mode16x16, Sides, lay16x16};
 use avc_plane::Plane;
 
 /// Gives the luma of a macroblock its prediction.
@@ -30,7 +29,6 @@ pub(crate) fn predict_luma16x16<const PAD: usize>(
 {
     let left = first_column(plane, 16, place.column);
     let top = first_row(plane, 16, place.row);
-    let around = around16x16(plane, left, top, sides);
-    let samples = around.predicted(mode);
-    plane.copy_rectangle::<16, 16, 256>(left, top, &samples);
+    let at = plane.padded_place(left, top);
+    lay16x16(plane.padded_rows_mut(), at, sides, mode);
 }

@@ -14,13 +14,12 @@ ghost use Rattle.avc_picture_core.specs.Built.{Place, mode_number, seen_from, su
 ghost use Rattle.avc_picture_core.specs.Nxn.{IsNxnAt};
 ghost use Rattle.avc_picture_core.specs.Sides.{AreInside, readable_sides};
 
-use crate::around::around4x4;
 use crate::corner::{first_column, first_row};
 use crate::modes::mode4x4;
 use crate::places::MbPlace;
 use crate::residual::{add_block4x4, left_of_block, top_of_block};
 use crate::sides::ReadableNeighbours;
-use avc_intra::{Mode4x4, Sides};
+use avc_intra::{Mode4x4, Sides, lay4x4};
 use avc_neigh::NearMode;
 use avc_plane::Plane;
 use avc_types::{BlockLevels, Levels};
@@ -31,6 +30,9 @@ pub(crate) fn has_sides4x4(readable: ReadableNeighbours, modes: &[NearMode; 16])
     ensures { result ≡ list_all (λ k. can_predict4x4 (readable_sides readable k) (mode4x4_of (mode_number (slice_index_or modes.now k absent))))
         (range_with_len 0 16) }
 {
+    if readable.has_corner_neighbours() {
+        return true;
+    }
     for k in 0..16 {
         if !mode4x4(modes[k]).is_available(readable.sides(k)) {
             return false;
@@ -54,9 +56,8 @@ fn predict_block<const PAD: usize>(
     ensures samples { AreInside left top plane.old.width sides →
         plane.new ≡ with_block plane.old left top 4 4 (λ x y. unwrap_or (intra4x4 sides (seen_from plane.old left top) mode x y) 0) }
 {
-    let around = around4x4(plane, left, top, sides);
-    let samples = around.predicted(mode);
-    plane.set_rectangle::<4, 4, 16>(left, top, &samples);
+    let at = plane.padded_place(left, top);
+    lay4x4(plane.padded_rows_mut(), at, sides, mode);
 }
 
 /// Builds one block.

@@ -1,8 +1,10 @@
-ghost use Rattle.std.specs.Prelude.{◌≡◌, ◌<◌, not, ◌||◌, if◌then◌else◌, true};
+ghost use Rattle.std.specs.Prelude.{◌≡◌, ℕ, ◌<◌, not, ◌||◌, if◌then◌else◌, true};
 ghost use Rattle.std.specs.Option.{option_copied};
 ghost use Rattle.avc_neigh.specs.Around.{facts_of, is_intra_facts};
 ghost use Rattle.avc_neigh.specs.Blocks.{block_x, block_y};
 ghost use Rattle.avc_neigh.specs.Laws.{holds_of};
+ghost use Rattle.avc_intra.specs.declared.luma4x4.Mode4x4.{Mode4x4};
+ghost use Rattle.avc_intra.specs.Luma4x4.{can_predict4x4};
 
 use avc_intra::Sides;
 use avc_neigh::{NeighbourFacts, Neighbours, is_leftmost, is_topmost};
@@ -49,6 +51,13 @@ impl ReadableNeighbours {
             c: is_readable(neighbours.c, constrained_intra_pred),
             d: is_readable(neighbours.d, constrained_intra_pred),
         }
+    }
+
+    /// The three neighbours that meet at the upper left corner have samples. Each block then has the sides that any mode needs.
+    pub(crate) fn has_corner_neighbours(self) -> bool
+        ensures { result ≡ true → (mode : Mode4x4) (k : ℕ) → k < 16 → can_predict4x4 (readable_sides self k) mode ≡ true }
+    {
+        self.a & self.b & self.d
     }
 
     /// The corner of a block that stands so in its macroblock.

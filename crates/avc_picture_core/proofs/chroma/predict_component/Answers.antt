@@ -1,14 +1,24 @@
-use Rattle.std.proofs.Common.{ℕ, ◌+◌, ◌*◌, ap, subst, sym, ◌∙◌, slice_index}
+use Rattle.std.proofs.Common.{ℕ, ◌+◌, ◌*◌, ◌≤◌, ap, subst, sym, ◌∙◌, arith}
 use Rattle.std.specs.Option.{unwrap_or}
-use Rattle.avc_intra.specs.Chroma.{can_predict_chroma, intra_chroma, predict_chroma}
 use Rattle.avc_plane.specs.Plane.{with_block}
+use Rattle.avc_plane.proofs.Lending.{block_lent, room_lent}
+use Rattle.avc_intra.specs.Chroma.{can_predict_chroma, intra_chroma, predict_chroma}
 use Rattle.avc_picture_core.specs.Built.{seen_from}
 use Rattle.avc_picture_core.specs.Sides.{AreInside}
 use Rattle.avc_picture_core.proofs.Blocks.{predicted, with_block_same}
+use Rattle.avc_picture_core.proofs.Seen.{seen}
 use Rattle.avc_picture_core.proofs.chroma.predict_component.Goals as goal
 
+pub lay_chroma-requires-clause-room : goal.lay_chroma-requires-clause-room
+lay_chroma-requires-clause-room g c =
+    let at = c.padded_place-at in
+    let rows = c.padded_rows_mut in
+    let columns : c.first_column-left.result + 8 ≤ c.args.plane.now.width = omega (arith, c.requires.columns, c.first_column-left.ensures) in
+    let lines : c.first_row-top.result + 8 ≤ c.args.plane.now.height = omega (arith, c.requires.rows, c.first_row-top.ensures) in
+    room_lent g.row.PAD c.args.plane.now c.first_column-left.result c.first_row-top.result 8 8 at.result.first at.result.stride rows.result.now rows.ensures.rows columns lines at.ensures.first at.ensures.stride
+
 pub returns-clause-samples : goal.returns-clause-samples
-returns-clause-samples g c = λ inside.
+returns-clause-samples g c inside =
     let s = c.args.plane.now in
     let sides = c.args.sides in
     let mode = c.args.mode in
@@ -16,14 +26,17 @@ returns-clause-samples g c = λ inside.
     let top = c.first_row-top.result in
     let across = c.first_column-left.ensures in
     let down = c.first_row-top.ensures in
+    let at = c.padded_place-at in
+    let rows = c.padded_rows_mut in
+    let columns : left + 8 ≤ s.width = omega (arith, c.requires.columns, across) in
+    let lines : top + 8 ≤ s.height = omega (arith, c.requires.rows, down) in
     let f : ℕ → ℕ → ℕ → ℕ → ℕ = λ u v x y. unwrap_or (intra_chroma sides (seen_from s u v) mode x y) 0 in
     let within = subst (λ v. AreInside left v s.width sides) (sym down) (subst (λ u. AreInside u (8 * c.args.place.row) s.width sides) (sym across) inside) in
     let p = seen_from s left top in
-    c.copy_rectangle.ensures
-    ∙ with_block_same s left top 8 8 (λ x y. slice_index c.predicted-samples.result (8 * y + x)) (f left top)
-    (λ x y column row.
-    c.predicted-samples.ensures p (c.around_chroma-around.ensures.shows within) x y column row
-    ∙ ap (λ t. predict_chroma t p mode x y) c.around_chroma-around.ensures.sides
-    ∙ sym (predicted (can_predict_chroma sides mode) (predict_chroma sides p mode x y) c.requires.mode))
+    let of : ℕ → ℕ → ℕ = predict_chroma sides p mode in
+    let there = seen g.row.PAD left top 8 at.result.first at.result.stride s sides rows.result.now rows.ensures.rows columns lines within at.ensures.first at.ensures.stride (omega arith) in
+    block_lent g.row.PAD s left top 8 8 at.result.first at.result.stride rows.result.now rows.ensures.rows columns lines at.ensures.first at.ensures.stride
+    of c.lay_chroma.new.rows (c.lay_chroma.ensures.samples p there)
+    ∙ with_block_same s left top 8 8 of (f left top) (λ x y column row. sym (predicted (can_predict_chroma sides mode) (of x y) c.requires.mode))
     ∙ ap (λ u. with_block s u top 8 8 (f u top)) across
     ∙ ap (λ v. with_block s (8 * c.args.place.column) v 8 8 (f (8 * c.args.place.column) v)) down

@@ -22,5 +22,10 @@ loop-k-preserved c =
     ap (λ n. can_predict4x4 (readable_sides c.args.readable c.loop-k.k) n) (sym c.mode4x4.ensures) ∙ ap (λ t. can_predict4x4 t m) (sym c.sides.ensures) ∙ sym c.is_available.ensures in
     record { done = below_more _ _ c.loop-k.invariant.done (same ∙ c.if-not-is_available.false) }
 
+pub returns-then-has_corner_neighbours : goal.returns-then-has_corner_neighbours
+returns-then-has_corner_neighbours c =
+    sym (all_sixteen (λ k. can_predict4x4 (readable_sides c.args.readable k) (mode4x4_of (mode_number (slice_index_or c.args.modes.now k absent))))
+    (λ k low. c.has_corner_neighbours.ensures c.if-has_corner_neighbours.true (mode4x4_of (mode_number (slice_index_or c.args.modes.now k absent))) k low))
+
 pub returns : goal.returns
 returns c = sym (all_sixteen (λ k. can_predict4x4 (readable_sides c.args.readable k) (mode4x4_of (mode_number (slice_index_or c.args.modes.now k absent)))) (λ k low. c.loop-k.invariant.done k (omega (arith, low, c.loop-k-test.false))))

@@ -1,24 +1,30 @@
-use Rattle.std.proofs.Common.{ℕ, ◌+◌, ◌*◌, ap, sym, ◌∙◌, slice_index}
+use Rattle.std.proofs.Common.{ℕ, ◌∙◌, arith, refl, sym}
 use Rattle.std.specs.Option.{unwrap_or}
-use Rattle.avc_intra.specs.declared.sides.Sides.{Sides}
+use Rattle.avc_plane.proofs.Lending.{block_lent, room_lent}
 use Rattle.avc_intra.specs.Luma4x4.{can_predict4x4, extended, intra4x4, predict4x4}
 use Rattle.avc_picture_core.specs.Built.{seen_from}
-use Rattle.avc_picture_core.proofs.Blocks.{predicted, sample4x4, with_block_same}
+use Rattle.avc_picture_core.proofs.Blocks.{predicted, with_block_same}
+use Rattle.avc_picture_core.proofs.Seen.{seen4x4}
 use Rattle.avc_picture_core.proofs.luma4x4.predict_block.Goals as goal
 
+pub lay4x4-requires-clause-room : goal.lay4x4-requires-clause-room
+lay4x4-requires-clause-room g c =
+    let at = c.padded_place-at in
+    let rows = c.padded_rows_mut in
+    room_lent g.row.PAD c.args.plane.now c.args.left c.args.top 4 4 at.result.first at.result.stride rows.result.now rows.ensures.rows c.requires.columns c.requires.rows at.ensures.first at.ensures.stride
+
 pub returns-clause-samples : goal.returns-clause-samples
-returns-clause-samples g c = λ inside.
+returns-clause-samples g c inside =
     let s = c.args.plane.now in
     let left = c.args.left in
     let top = c.args.top in
+    let sides = c.args.sides in
     let mode = c.args.mode in
+    let at = c.padded_place-at in
+    let rows = c.padded_rows_mut in
     let p = seen_from s left top in
-    let of : Sides → ℕ → ℕ → ℕ = λ t. predict4x4 t (extended t p) mode in
-    let shown = c.predicted-samples.ensures p (c.around4x4-around.ensures.shows inside) in
-    c.set_rectangle.ensures
-    ∙ with_block_same s left top 4 4 (λ x y. slice_index c.predicted-samples.result (4 * y + x)) (λ x y. unwrap_or (intra4x4 c.args.sides p mode x y) 0)
-    (λ x y column row.
-    ap (λ l. slice_index l (4 * y + x)) shown
-    ∙ sample4x4 (of c.around4x4-around.result.sides) x y column row
-    ∙ ap (λ t. of t x y) c.around4x4-around.ensures.sides
-    ∙ sym (predicted (can_predict4x4 c.args.sides mode) (of c.args.sides x y) c.requires.mode))
+    let f : ℕ → ℕ → ℕ = predict4x4 sides (extended sides p) mode in
+    let seen = seen4x4 g.row.PAD left top 4 at.result.first at.result.stride s sides rows.result.now rows.ensures.rows c.requires.columns c.requires.rows inside at.ensures.first at.ensures.stride refl in
+    block_lent g.row.PAD s left top 4 4 at.result.first at.result.stride rows.result.now rows.ensures.rows c.requires.columns c.requires.rows at.ensures.first at.ensures.stride
+    f c.lay4x4.new.rows (c.lay4x4.ensures.samples p seen)
+    ∙ with_block_same s left top 4 4 f (λ x y. unwrap_or (intra4x4 sides p mode x y) 0) (λ x y column row. sym (predicted (can_predict4x4 sides mode) (f x y) c.requires.mode))

@@ -1,0 +1,62 @@
+-- The samples around a block of a plane, in the rows that the plane lends.
+use Rattle.std.proofs.Common.{◌≡◌, ℕ, ◌+◌, ◌-◌, ◌*◌, ◌<◌, ◌≤◌, pos, negsuc, ◌+ℤ◌, List, slice_index, arith, ap, subst, sym, ◌∙◌}
+use Rattle.std.specs.Prelude.{nat_abs}
+use Rattle.std.proofs.Math.Nat.{add-mul}
+use Rattle.std.proofs.lemmas.Int.{ints}
+use Rattle.avc_plane.specs.Plane.{Plane, sample}
+use Rattle.avc_plane.specs.Padded.{HaveSamples, stored_place}
+use Rattle.avc_intra.specs.declared.sides.Sides.{Sides}
+use Rattle.avc_intra.specs.InRows.{IsSeen, IsSeen4x4}
+use Rattle.avc_picture_core.specs.Built.{seen_from}
+use Rattle.avc_picture_core.specs.Sides.{AreInside}
+
+module _ (pad left upper size first stride : ℕ) (s : Plane) (sides : Sides) (rows : List ℕ) (have : HaveSamples pad s rows)
+    (columns : left + size ≤ s.width) (lines : upper + size ≤ s.height) (inside : AreInside left upper s.width sides)
+    (is_first : first ≡ stored_place pad s.width left upper) (is_stride : stride ≡ s.width + 2 * pad) where
+  -- from a row to the one above
+  row_above : 0 < upper → (upper + pad) * (s.width + 2 * pad) ≡ (upper - 1 + pad) * (s.width + 2 * pad) + (s.width + 2 * pad)
+  row_above some = ap (λ n. n * (s.width + 2 * pad)) (omega arith) ∙ add-mul (upper - 1 + pad) 1 (s.width + 2 * pad) ∙ omega arith
+
+  up : 0 < upper → nat_abs (pos upper +ℤ negsuc 0) ≡ upper - 1
+  up some = omega (arith, ints)
+
+  back : 0 < left → nat_abs (pos left +ℤ negsuc 0) ≡ left - 1
+  back some = omega (arith, ints)
+
+  is_below : 0 < upper → stride ≤ first
+  is_below some = omega (arith, is_first, is_stride, row_above some)
+
+  above_at : (i : ℕ) → 0 < upper → left + i < s.width → 0 < s.height → seen_from s left upper (pos i) (negsuc 0) ≡ slice_index rows (first - stride + i)
+  above_at i some column row =
+      ap (λ v. sample s (left + i) v) (up some)
+      ∙ sym (have.at (left + i) (upper - 1) column (omega arith))
+      ∙ ap (slice_index rows) (omega (arith, is_first, is_stride, row_above some))
+
+  left_at : (i : ℕ) → 0 < left → i < size → seen_from s left upper (negsuc 0) (pos i) ≡ slice_index rows (first + i * stride - 1)
+  left_at i some row =
+      let e : i * stride ≡ i * (s.width + 2 * pad) = ap (λ n. i * n) is_stride in
+      ap (λ u. sample s u (upper + i)) (back some)
+      ∙ sym (have.at (left - 1) (upper + i) (omega arith) (omega arith))
+      ∙ ap (slice_index rows) (omega (arith, is_first, e, add-mul (upper + pad) i (s.width + 2 * pad)))
+
+  corner_at : 0 < left → 0 < upper → 0 < size → (stride < first) × (seen_from s left upper (negsuc 0) (negsuc 0) ≡ slice_index rows (first - stride - 1))
+  corner_at some_left some_upper some = (
+    omega (arith, is_first, is_stride, row_above some_upper),
+    ap (λ u. sample s u (nat_abs (pos upper +ℤ negsuc 0))) (back some_left)
+        ∙ ap (λ v. sample s (left - 1) v) (up some_upper)
+        ∙ sym (have.at (left - 1) (upper - 1) (omega arith) (omega arith))
+        ∙ ap (slice_index rows) (omega (arith, is_first, is_stride, row_above some_upper)),
+  )
+
+  pub seen : 0 < size → IsSeen (seen_from s left upper) sides size first stride rows
+  seen some = record {
+    tops = λ there. (is_below (inside.above there), λ i low. above_at i (inside.above there) (omega (arith, columns)) (omega (arith, lines)));
+    lefts = λ there. (omega (arith, is_first, inside.before there), omega (arith, is_stride, columns, inside.before there), λ i low. left_at i (inside.before there) low);
+    at_corner = λ there. corner_at (inside.corner there).0 (inside.corner there).1 some;
+  }
+
+  pub seen4x4 : size ≡ 4 → IsSeen4x4 (seen_from s left upper) sides first stride rows
+  seen4x4 four = record {
+    beside = subst (λ n. IsSeen (seen_from s left upper) sides n first stride rows) four (seen (omega arith));
+    tops_right = λ there. (is_below (inside.above_right there).0, λ i from low. above_at i (inside.above_right there).0 (omega (arith, (inside.above_right there).1)) (omega (arith, lines)));
+  }
