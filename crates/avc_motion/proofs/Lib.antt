@@ -1,5 +1,6 @@
 mod Rows
 pub mod Agreeing
+pub mod Alike
 pub mod Apart
 pub mod Components
 pub mod Filling

@@ -217,6 +217,26 @@ is_intra (i_nxn modes chroma residual) = true
 is_intra (i_16x16 mode chroma residual) = true
 is_intra (p_inter shape ref_idx mvd residual) = false
 
+-- one partition for the whole macroblock (Table 7-13)
+abbrev pub is_one_partition : PMbType → Bool
+is_one_partition P16x16 = true
+is_one_partition P16x8 = false
+is_one_partition P8x16 = false
+is_one_partition (P8x8 subs) = false
+is_one_partition (P8x8Ref0 subs) = false
+
+-- A macroblock whose type alone gives all its blocks one motion, or none (8.4.1, 8.4.1.1).
+abbrev pub has_one_motion : MbSyntax → Bool
+has_one_motion p_skip = true
+has_one_motion (i_pcm luma cb cr) = true
+has_one_motion (i_nxn modes chroma residual) = true
+has_one_motion (i_16x16 mode chroma residual) = true
+has_one_motion (p_inter shape ref_idx mvd residual) = is_one_partition shape
+
+-- Each of the sixteen blocks has what the first has.
+abbrev pub AreOfOneMotion : List Motion → Type 0
+AreOfOneMotion motion = motion ≡ replicate 16 (slice_index_or motion 0 absent)
+
 -- A slice that is not there: part of no picture, but the definitions are total.
 abbrev pub no_slice : SliceFacts
 no_slice = record { is_p = false; references = []; weights = []; disable_deblocking_filter_idc = NoEdges; filter_offset_a = pos 0; filter_offset_b = pos 0 }

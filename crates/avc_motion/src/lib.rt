@@ -6,5 +6,5 @@ mod neighbouring;
 mod parts;
 mod prediction;
 
-pub use macroblock::{motion, vectors};
+pub use macroblock::{has_one_motion, is_one_partition, motion, vectors};
 pub use neighbouring::NeighbouringPartitions;

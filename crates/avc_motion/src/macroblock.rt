@@ -1,10 +1,11 @@
-ghost use Rattle.std.specs.Prelude.{◌≡◌, true, map, replicate};
+ghost use Rattle.std.specs.Prelude.{◌≡◌, true, map, replicate, OnOk};
 ghost use Rattle.std.specs.List.{list_all};
 ghost use Rattle.avc_types.specs.Macroblock.{p_skip};
 ghost use Rattle.avc_types.specs.References.{result_map};
 ghost use Rattle.avc_neigh.specs.Around.{facts_of};
 ghost use Rattle.avc_neigh.specs.BlockNear.{motion_near};
-ghost use Rattle.avc_motion.specs.Motion.{HasMotion, HasVectors, is_in_range, motion_by, vector_of as motion_vector};
+ghost use Rattle.avc_motion.specs.Motion.{AreOfOneMotion, HasMotion, HasVectors, is_in_range, motion_by, vector_of as motion_vector};
+ghost use Rattle.avc_motion.specs.Motion.{has_one_motion as has_one_motion_by, is_one_partition as is_one_partition_by};
 ghost use Rattle.avc_motion.specs.Decoding.{blocks_or_fault, decoded_whole, HasFourQuarters};
 
 use crate::neighbouring::NeighbouringPartitions;
@@ -13,9 +14,32 @@ use crate::prediction::vector_of;
 use avc_neigh::{Motion, Neighbours};
 use avc_types::{Fault, Mb, Mv, Mvd, PMbType, Syntax};
 
+/// Whether a P macroblock has one partition (Table 7-13).
+#[inline]
+pub fn is_one_partition(mb_type: &PMbType) -> bool
+    ensures { result ≡ is_one_partition_by mb_type.now }
+{
+    match mb_type {
+        PMbType::P16x16 => true,
+        PMbType::P16x8 | PMbType::P8x16 | PMbType::P8x8(_) | PMbType::P8x8Ref0(_) => false,
+    }
+}
+
+/// Whether the type of a macroblock alone gives all its blocks one motion, or none (8.4.1).
+#[inline]
+pub fn has_one_motion(mb: &Mb) -> bool
+    ensures { result ≡ has_one_motion_by mb.now.syntax }
+{
+    match &mb.syntax {
+        Syntax::PInter { mb_type, .. } => is_one_partition(mb_type),
+        Syntax::PSkip | Syntax::IPcm { .. } | Syntax::INxN { .. } | Syntax::I16x16 { .. } => true,
+    }
+}
+
 /// Gives all blocks one motion.
 fn set_all(blocks: &mut [Motion; 16], motion: Motion)
-    ensures { blocks.new ≡ replicate 16 motion }
+    ensures all { blocks.new ≡ replicate 16 motion }
+    ensures alike { AreOfOneMotion blocks.new }
 {
     *blocks = [motion; 16];
 }
@@ -24,6 +48,7 @@ fn set_all(blocks: &mut [Motion; 16], motion: Motion)
 fn set_skipped(neighbours: &Neighbours<'_>, blocks: &mut [Motion; 16])
     ensures motion { blocks.new ≡ motion_by (motion_near (facts_of neighbours.now)) p_skip }
     ensures within { list_all is_in_range blocks.new ≡ true }
+    ensures alike { AreOfOneMotion blocks.new }
 {
     let around = NeighbouringPartitions::of(neighbours, &[Motion::Absent; 16], 0, 0, 16);
     let mv = around.skip_vector();
@@ -41,6 +66,7 @@ fn set_inter(
     ensures motion { let near = motion_near (facts_of neighbours.now) in
         result_map (λ _. blocks.new) result ≡ blocks_or_fault (decoded_whole near mb_type.now ref_idx.now mvd.now) }
     ensures quarters { HasFourQuarters mb_type.now }
+    ensures alike { is_one_partition_by mb_type.now ≡ true → OnOk result (AreOfOneMotion blocks.new) }
 {
     let inter = Inter {
         mb_type,
@@ -55,7 +81,8 @@ fn set_inter(
 /// Writes into `blocks` the reference index and the vector of each luma block of a macroblock (8.4.1), in block order. `neighbours`
 /// are those of the macroblock. `VectorRange` where a component of a vector is no 16-bit number; the blocks are then any.
 pub fn motion(mb: &Mb, neighbours: &Neighbours<'_>, blocks: &mut [Motion; 16]) -> Result<(), Fault>
-    ensures { HasMotion (facts_of neighbours.now) mb.now.syntax (result_map (λ _. blocks.new) result) }
+    ensures motion { HasMotion (facts_of neighbours.now) mb.now.syntax (result_map (λ _. blocks.new) result) }
+    ensures alike { has_one_motion_by mb.now.syntax ≡ true → OnOk result (AreOfOneMotion blocks.new) }
 {
     match &mb.syntax {
         Syntax::PSkip => {

@@ -1,6 +1,6 @@
 //! What the deblocking filter asks of one macroblock (8.7).
 
-ghost use Rattle.std.specs.Prelude.{◌≡◌, ℕ, ◌*◌, ◌<◌, not, ◌==◌, [], List, length, map, slice_index, slice_index_or};
+ghost use Rattle.std.specs.Prelude.{◌≡◌, ℕ, ◌*◌, ◌<◌, true, not, ◌==◌, [], List, length, map, slice_index, slice_index_or};
 ghost use Rattle.avc_types.specs.Macroblock.{total_coeff};
 ghost use Rattle.avc_neigh.specs.declared.facts.Motion.TheVariants.{Absent as absent};
 ghost use Rattle.avc_motion.specs.Motion as motions;
@@ -11,6 +11,7 @@ ghost use Rattle.avc_picture.specs.MacroblockFacts.{number_of, IsFilterFacts};
 
 use crate::slice_context::SliceContext;
 use avc_deblock::MbFacts;
+use avc_motion::has_one_motion;
 use avc_neigh::Motion;
 use avc_types::{BlockLevels, Mb, Mv, Syntax};
 
@@ -105,6 +106,28 @@ fn set_vectors(vectors: &mut [Mv; 16], motion: &[Motion; 16])
     }
 }
 
+/// Writes for each quarter the number of its frame and for each block its vector. The blocks are looked at one by one only where they are
+/// not known to have one motion.
+fn set_motion(
+    pictures: &mut [u8; 4],
+    vectors: &mut [Mv; 16],
+    motion: &[Motion; 16],
+    has_one_motion: bool,
+    frame_numbers: &[u8; 16],
+)
+    requires { has_one_motion ≡ true → motions.AreOfOneMotion motion.now }
+    ensures pictures { (q : ℕ) → q < 4 → slice_index pictures.new q ≡ number_of frame_numbers.now (slice_index_or motion.now (4 * q) absent) }
+    ensures vectors { vectors.new ≡ map motions.vector_of motion.now }
+{
+    if has_one_motion {
+        *pictures = [frame_number(motion[0], frame_numbers); 4];
+        *vectors = [vector(motion[0]); 16];
+    } else {
+        set_pictures(pictures, motion, frame_numbers);
+        set_vectors(vectors, motion);
+    }
+}
+
 /// Writes into `facts` what the filter asks of a macroblock with this motion.
 pub(crate) fn set_filter_facts<const PAD: usize>(
     facts: &mut MbFacts,
@@ -112,13 +135,19 @@ pub(crate) fn set_filter_facts<const PAD: usize>(
     motion: &[Motion; 16],
     slice: &SliceContext<'_, PAD>,
 )
+    requires { motions.has_one_motion mb.now.syntax ≡ true → motions.AreOfOneMotion motion.now }
     ensures facts { IsFilterFacts mb.now motion.now slice.now facts.new }
     ensures blocks { length motion.now ≡ 16 }
 {
     facts.is_intra = is_intra(mb);
     facts.coefficients = coefficients(mb);
-    set_pictures(&mut facts.pictures, motion, &slice.frame_numbers);
-    set_vectors(&mut facts.vectors, motion);
+    set_motion(
+        &mut facts.pictures,
+        &mut facts.vectors,
+        motion,
+        has_one_motion(mb),
+        &slice.frame_numbers,
+    );
     facts.qp = filter_qp(mb);
     facts.slice = slice.number;
     facts.filtered_edges = slice.filtered_edges;

@@ -1,6 +1,6 @@
 //! What later macroblocks are told of one (6.4).
 
-ghost use Rattle.std.specs.Prelude.{◌≡◌, map, All, OnOk};
+ghost use Rattle.std.specs.Prelude.{◌≡◌, true, map, All, OnOk};
 ghost use Rattle.std.specs.Option.{option_copied};
 ghost use Rattle.avc_types.specs.Macroblock.{total_coeff};
 ghost use Rattle.avc_types.specs.References.{result_map};
@@ -9,7 +9,7 @@ ghost use Rattle.avc_neigh.specs.BlockNear.{HasModes};
 ghost use Rattle.avc_neigh.specs.Modes.{IsMode};
 ghost use Rattle.avc_neigh.specs.TotalCoeffs as total_coeffs_;
 ghost use Rattle.avc_neigh.specs.TotalCoeffs.{all_total_coeffs as each_total_coeff, total_coeffs_of};
-ghost use Rattle.avc_motion.specs.Motion.{HasMotion};
+ghost use Rattle.avc_motion.specs.Motion.{AreOfOneMotion, HasMotion, has_one_motion};
 ghost use Rattle.avc_picture.specs.MacroblockFacts.{AreModes, HasRems, IsNeighbourFacts};
 
 use avc_motion::motion;
@@ -94,6 +94,7 @@ pub(crate) fn set_neighbour_facts(
 ) -> Result<(), Fault>
     requires { HasRems mb.now.syntax }
     ensures motion { HasMotion (facts_of neighbours.now) mb.now.syntax (result_map (λ _. facts.new.motion) result) }
+    ensures one { has_one_motion mb.now.syntax ≡ true → OnOk result (AreOfOneMotion facts.new.motion) }
     ensures told { OnOk result (IsNeighbourFacts slice (facts_of neighbours.now) constrained_intra_pred mb.now facts.new) }
 {
     motion(mb, neighbours, &mut facts.motion)?;

@@ -1,8 +1,11 @@
 -- Blocks that are predicted together have one motion.
 use Rattle.std.proofs.Common.{ℕ, ◌≡◌, ◌+◌, ◌*◌, ◌/◌, ◌%◌, ◌<◌, ◌≤◌, arith, true, List, refl, sym, ap, subst, ◌∙◌, inl, inr}
 use Rattle.std.proofs.lemmas.Bool.{cases_lt, false≢true}
+use Rattle.std.proofs.lemmas.List.{get_or-replicate}
 use Rattle.avc_neigh.specs.Blocks.{block_at}
 use Rattle.avc_neigh.specs.declared.facts.Motion.{Motion}
+use Rattle.avc_neigh.specs.declared.facts.Motion.TheVariants as motions
+use Rattle.avc_motion.specs.Motion.{AreOfOneMotion}
 use Rattle.avc_plane.specs.Plane.{is_inside}
 use Rattle.avc_plane.proofs.Rectangles.{by_place}
 use Rattle.avc_picture_core.specs.Inter.{HasWholeQuarters, HaveOneMotion, IsMacroblockShape, IsQuarterShape, block_motion}
@@ -144,3 +147,14 @@ pub whole_blocks : (motion : List Motion) → IsMacroblockShape motion Whole →
 whole_blocks motion s k few =
     in_quarter motion s.0 k few
     ∙ one_of_four (λ q. same_as motion 0 (4 * q)) 0 (k / 4) (omega arith) (omega arith) refl (sym s.1.0) (sym s.1.2) (sym s.1.1 ∙ sym s.1.2)
+
+-- blocks that have one motion are predicted at once
+pub one_shape : (motion : List Motion) → AreOfOneMotion motion → IsMacroblockShape motion Whole
+one_shape motion one =
+    let m = block_motion motion 0 in
+    let at : (k : ℕ) → k < 16 → block_motion motion k ≡ m =
+    λ k few. ap (λ l. block_motion l k) one ∙ get_or-replicate 16 k m motions.Absent few in
+    let same : (j k : ℕ) → j < 16 → k < 16 → block_motion motion j ≡ block_motion motion k = λ j k a b. at j a ∙ sym (at k b) in (
+      λ q few. (same _ _ (omega arith) (omega arith), same _ _ (omega arith) (omega arith), same _ _ (omega arith) (omega arith)),
+      (same 0 4 (omega arith) (omega arith), same 8 12 (omega arith) (omega arith), same 0 8 (omega arith) (omega arith)),
+    )

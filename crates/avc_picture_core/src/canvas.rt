@@ -1,6 +1,7 @@
-ghost use Rattle.std.specs.Prelude.{◌≡◌, ℕ, ◌+◌, ◌*◌, ◌^◌, ◌<◌, ◌≤◌, All, IfOk};
+ghost use Rattle.std.specs.Prelude.{◌≡◌, ℕ, ◌+◌, ◌*◌, ◌^◌, ◌<◌, ◌≤◌, true, All, IfOk};
 ghost use Rattle.avc_neigh.specs.Around.{facts_of};
 ghost use Rattle.avc_neigh.specs.Modes.{IsMode};
+ghost use Rattle.avc_motion.specs.Motion.{AreOfOneMotion, has_one_motion};
 ghost use Rattle.avc_plane.specs.Frames.{planes_of, AreSized};
 ghost use Rattle.avc_picture_core.specs.Built.{Place};
 ghost use Rattle.avc_picture_core.specs.Canvas.{blank, IsBuilt, IsInRange, IsPlaceOn};
@@ -86,6 +87,7 @@ impl<const PAD: usize> Canvas<PAD> {
         requires syntax { IsInRange mb.now.syntax }
         requires quantiser { mb.now.qp ≤ 51 }
         requires modes { All IsMode facts.now.modes }
+        requires one { has_one_motion mb.now.syntax ≡ true → AreOfOneMotion facts.now.motion }
         requires references { AreUsable self.old.width self.old.height sources.now.references.now }
         ensures built { (p : Place) → IsPlaceOn self.old address mb.now facts.now (facts_of sources.now.neighbours) sources.now.references.now p →
             IsBuilt p result self.old self.new }

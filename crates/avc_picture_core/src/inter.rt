@@ -3,6 +3,7 @@
 ghost use Rattle.std.specs.Prelude.{◌≡◌, ℕ, ◌+◌, ◌*◌, ◌/◌, ◌%◌, ◌<◌, ◌≤◌, true, is_some};
 ghost use Rattle.avc_types.specs.Pictures.{Coded};
 ghost use Rattle.avc_neigh.specs.Blocks.{block_at};
+ghost use Rattle.avc_motion.specs.Motion.{AreOfOneMotion};
 ghost use Rattle.avc_picture_core.specs.Places.{AreSameSize};
 ghost use Rattle.avc_picture_core.specs.References.{AreReferences, AreUsable};
 ghost use Rattle.avc_plane.specs.Frames.{planes_of};
@@ -266,23 +267,25 @@ fn predict_macroblock<const PAD: usize>(
 }
 
 /// Predicts the samples of an inter macroblock in this column and row of macroblocks into the planes (8.4.2). RefMissing where a block
-/// has no reference picture; nothing is changed then.
+/// has no reference picture; nothing is changed then. `has_one_motion` says that all blocks are known to have one motion.
 pub(crate) fn predict_inter<const PAD: usize>(
     references: &[Option<ReferencePicture<'_, PAD>>],
     size: PictureSize,
     place: MbPlace,
     motion: &[Motion; 16],
+    has_one_motion: bool,
     planes: &mut Planes<PAD>,
 ) -> Result<(), Fault>
     requires macroblock { CoverMacroblock place.column place.row (planes_of planes.old) }
     requires usable { AreUsable size.width size.height references.now }
     requires column { place.column < size.width }
     requires row { place.row < size.height }
+    requires one { has_one_motion ≡ true → AreOfOneMotion motion.now }
     ensures size { AreSameSize (planes_of planes.old) (planes_of planes.new) }
     ensures built { (c : Coded) (slice : ℕ) → c.width ≡ size.width → c.height ≡ size.height → AreReferences c slice references.now →
         IsInterPredicted c slice place.column place.row motion.now result (planes_of planes.old) (planes_of planes.new) }
 {
-    let shape = macroblock_shape(motion);
+    let shape = macroblock_shape(motion, has_one_motion);
     if !have_pictures(references, motion, shape) {
         return Err(Fault::RefMissing);
     }

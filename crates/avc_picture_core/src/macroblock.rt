@@ -1,10 +1,10 @@
 //! The samples of one macroblock, laid into the planes.
-ghost use Rattle.std.specs.Prelude.{◌≡◌, ℕ, ◌+◌, ◌*◌, ◌<◌, ◌≤◌, [], All, List, slice_index};
+ghost use Rattle.std.specs.Prelude.{◌≡◌, ℕ, ◌+◌, ◌*◌, ◌<◌, ◌≤◌, true, [], All, List, slice_index};
 ghost use Rattle.avc_types.specs.Macroblock.{i_pcm, p_inter, p_skip};
 ghost use Rattle.avc_types.specs.MacroblockFields.{residual_of, syntax_of};
 ghost use Rattle.avc_types.specs.declared.macroblock.Mvd.{Mvd};
-ghost use Rattle.avc_types.specs.declared.macroblock.PMbType.{PMbType as PartedType};
 ghost use Rattle.avc_neigh.specs.Modes.{IsMode};
+ghost use Rattle.avc_motion.specs.Motion.{AreOfOneMotion, has_one_motion, is_one_partition as is_one_partition_by};
 ghost use Rattle.avc_mbsyntax.specs.Ranges.{IsResidual};
 ghost use Rattle.avc_plane.specs.Frames.{planes_of, AreSized};
 ghost use Rattle.avc_plane.specs.Plane.{with_block};
@@ -24,9 +24,10 @@ use crate::quantisers::Quantisers;
 use crate::references::ReferencePicture;
 use crate::residual::{add_chroma_residual, add_luma_residual};
 use crate::sides::ReadableNeighbours;
+use avc_motion::is_one_partition;
 use avc_neigh::{Motion, NeighbourFacts};
 use avc_plane::{Plane, Planes};
-use avc_types::{BlockLevels, Fault, Syntax};
+use avc_types::{BlockLevels, Fault, PMbType, Syntax};
 
 /// Lays the samples of a chroma component of a macroblock into its plane.
 fn set_component<const PAD: usize>(plane: &mut Plane<PAD>, place: MbPlace, samples: &[u8; 64])
@@ -111,7 +112,7 @@ fn add_residual<const PAD: usize>(
     );
 }
 
-/// Builds an inter macroblock without a residual. RefMissing where a block has no reference picture; nothing is built then.
+/// Builds a skipped macroblock. RefMissing where a block has no reference picture; nothing is built then.
 fn build_p_skip<const PAD: usize>(
     planes: &mut Planes<PAD>,
     place: MbPlace,
@@ -123,12 +124,13 @@ fn build_p_skip<const PAD: usize>(
     requires column { place.column < size.width }
     requires row { place.row < size.height }
     requires usable { AreUsable size.width size.height references.now }
+    requires one { AreOfOneMotion motion.now }
     ensures size { AreSameSize (planes_of planes.old) (planes_of planes.new) }
     ensures built { (p : Place) (qp qp_of_chroma : ℕ) → IsAt place.column place.row p_skip qp qp_of_chroma p →
         p.coded.width ≡ size.width → p.coded.height ≡ size.height →
         p.motion ≡ motion.now → AreReferences p.coded p.slice references.now → ArePlanesBuilt p result (planes_of planes.old) (planes_of planes.new) }
 {
-    predict_inter(references, size, place, motion, planes)?;
+    predict_inter(references, size, place, motion, true, planes)?;
     planes.luma.holds_bytes();
     planes.cb.holds_bytes();
     planes.cr.holds_bytes();
@@ -141,6 +143,7 @@ fn build_p_inter<const PAD: usize>(
     place: MbPlace,
     size: PictureSize,
     motion: &[Motion; 16],
+    mb_type: &PMbType,
     levels: &BlockLevels<16>,
     qp: Quantisers,
     references: &[Option<ReferencePicture<'_, PAD>>],
@@ -152,13 +155,21 @@ fn build_p_inter<const PAD: usize>(
     requires luma { qp.luma ≤ 51 }
     requires chroma { qp.chroma ≤ 39 }
     requires levels { IsResidual (residual_of [] levels.now) }
+    requires one { is_one_partition_by mb_type.now ≡ true → AreOfOneMotion motion.now }
     ensures size { AreSameSize (planes_of planes.old) (planes_of planes.new) }
-    ensures built { (p : Place) (mb_type : PartedType) (ref_idx : List ℕ) (mvd : List Mvd) →
-        IsAt place.column place.row (p_inter mb_type ref_idx mvd (residual_of [] levels.now)) qp.luma qp.chroma p →
+    ensures built { (p : Place) (ref_idx : List ℕ) (mvd : List Mvd) →
+        IsAt place.column place.row (p_inter mb_type.now ref_idx mvd (residual_of [] levels.now)) qp.luma qp.chroma p →
         p.coded.width ≡ size.width → p.coded.height ≡ size.height →
         p.motion ≡ motion.now → AreReferences p.coded p.slice references.now → ArePlanesBuilt p result (planes_of planes.old) (planes_of planes.new) }
 {
-    predict_inter(references, size, place, motion, planes)?;
+    predict_inter(
+        references,
+        size,
+        place,
+        motion,
+        is_one_partition(mb_type),
+        planes,
+    )?;
     add_residual(planes, place, levels, qp);
     Ok(())
 }
@@ -182,6 +193,7 @@ pub(crate) fn build_macroblock<const PAD: usize>(
     requires chroma { qp.chroma ≤ 39 }
     requires modes { All IsMode facts.now.modes }
     requires usable { AreUsable size.width size.height references.now }
+    requires one { has_one_motion (syntax_of syntax.now) ≡ true → AreOfOneMotion facts.now.motion }
     ensures size { AreSameSize (planes_of planes.old) (planes_of planes.new) }
     ensures built { (p : Place) →
         IsPlaceIn place.column place.row size.width size.height (syntax_of syntax.now) qp.luma qp.chroma facts.now readable references.now p →
@@ -218,8 +230,17 @@ pub(crate) fn build_macroblock<const PAD: usize>(
             levels,
             qp,
         ),
-        Syntax::PInter { levels, .. } => {
-            build_p_inter(planes, place, size, &facts.motion, levels, qp, references)
-        }
+        Syntax::PInter {
+            mb_type, levels, ..
+        } => build_p_inter(
+            planes,
+            place,
+            size,
+            &facts.motion,
+            mb_type,
+            levels,
+            qp,
+            references,
+        ),
     }
 }

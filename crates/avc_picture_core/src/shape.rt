@@ -1,6 +1,7 @@
 //! Into how few rectangles with one motion the blocks of a macroblock fall.
 
 ghost use Rattle.std.specs.Prelude.{◌≡◌, ◌<◌, true};
+ghost use Rattle.avc_motion.specs.Motion.{AreOfOneMotion};
 ghost use Rattle.avc_picture_core.specs.Inter.{HasWholeQuarters, IsMacroblockShape, IsQuarterShape, IsShape};
 
 use avc_neigh::Motion;
@@ -81,13 +82,26 @@ fn are_quarters_whole(motion: &[Motion; 16]) -> bool
     true
 }
 
-/// How a macroblock is predicted.
-pub(crate) fn macroblock_shape(motion: &[Motion; 16]) -> Shape
+/// How a macroblock is predicted, by its blocks.
+fn shape_of_blocks(motion: &[Motion; 16]) -> Shape
     ensures { IsMacroblockShape motion.now result }
 {
     if are_quarters_whole(motion) {
         shape_of(motion[0], motion[4], motion[8], motion[12])
     } else {
         Shape::Quarters
+    }
+}
+
+/// How a macroblock is predicted. Its blocks are looked at only where they are not known to have one motion.
+#[inline]
+pub(crate) fn macroblock_shape(motion: &[Motion; 16], has_one_motion: bool) -> Shape
+    requires { has_one_motion ≡ true → AreOfOneMotion motion.now }
+    ensures { IsMacroblockShape motion.now result }
+{
+    if has_one_motion {
+        Shape::Whole
+    } else {
+        shape_of_blocks(motion)
     }
 }

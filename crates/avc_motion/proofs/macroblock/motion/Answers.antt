@@ -9,15 +9,15 @@ use Rattle.avc_motion.specs.Motion.{motion_of, motion_or_fault, near_in}
 use Rattle.avc_motion.proofs.Whole.{skipped_is, inter_is}
 use Rattle.avc_motion.proofs.macroblock.motion.Goals as goal
 
-pub returns-in-PSkip : goal.returns-in-PSkip
-returns-in-PSkip c = λ p known a around.
+pub returns-in-PSkip-clause-motion : goal.returns-in-PSkip-clause-motion
+returns-in-PSkip-clause-motion c = λ p known a around.
     let syntax : c.args.mb.now.syntax ≡ p_skip = ap (λ m. m.syntax) (sym c.mb.view_is) ∙ ap syntax_of c.in-PSkip.is in
     subst (λ (s : MbSyntax). Ok c.set_skipped.new.blocks ≡ motion_or_fault (motion_of p known a s)) (sym syntax)
     (skipped_is (near_in p known a) (motion_near (facts_of c.args.neighbours.now)) around.block c.set_skipped.new.blocks c.set_skipped.ensures.motion
     c.set_skipped.ensures.within)
 
-pub returns-in-PInter : goal.returns-in-PInter
-returns-in-PInter c = λ p known a around.
+pub returns-in-PInter-clause-motion : goal.returns-in-PInter-clause-motion
+returns-in-PInter-clause-motion c = λ p known a around.
     let i = c.in-PInter in
     let syntax : c.args.mb.now.syntax
     ≡ p_inter i.mb_type (take (partitions i.mb_type) i.ref_idx) (take (length (parts_of i.mb_type)) i.mvd) (residual_of [] i.levels)

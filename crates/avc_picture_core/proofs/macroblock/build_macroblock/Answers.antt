@@ -18,5 +18,5 @@ pub returns-in-PInter-clause-built : goal.returns-in-PInter-clause-built
 returns-in-PInter-clause-built g c = λ p place.
     let mb_type = c.in-PInter.mb_type in
     let at = subst (λ (t : MbSyntax). IsAt c.args.place.column c.args.place.row t c.args.qp.luma c.args.qp.chroma p) (ap syntax_of c.in-PInter.is) place.at in
-    c.build_p_inter.ensures.built p mb_type (take (partitions mb_type) c.in-PInter.ref_idx) (take (length (parts_of mb_type)) c.in-PInter.mvd) at
+    c.build_p_inter.ensures.built p (take (partitions mb_type) c.in-PInter.ref_idx) (take (length (parts_of mb_type)) c.in-PInter.mvd) at
     place.width_is place.height_is place.motion_is place.references_are
