@@ -12,3 +12,4 @@ mod Shapes
 mod Predicting
 mod Inters
 mod PlaceOn
+pub mod IntraRows
