@@ -9,6 +9,8 @@ ghost use Rattle.avc_neigh.specs.Around.{facts_of};
 ghost use Rattle.avc_mbsyntax.specs.SliceData.{SliceStart, left_total_coeffs, up_total_coeffs};
 ghost use Rattle.avc_plane.specs.Frames.{planes_of};
 ghost use Rattle.avc_plane.specs.Plane.{HasSamples};
+ghost use Rattle.avc_plane.specs.Planes.{samples_of};
+ghost use Rattle.avc_picture_core.specs.Built.{size_of};
 ghost use Rattle.avc_deblock.specs.Facts.{Names};
 ghost use Rattle.avc_picture_core.specs.References.{AreUsable};
 ghost use Rattle.avc_picture.specs.Decoded.{deblocked};
@@ -127,9 +129,10 @@ impl<const PAD: usize> Macroblocks<PAD> {
         (total_coeffs_of(around.a), total_coeffs_of(around.b))
     }
 
-    /// Decodes the macroblock that comes next, and filters the row above where it is the last of its row (8.7). `VectorRange` where a component of one of its vectors is no 16-bit number,
-    /// `RefMissing` where a block has no reference picture, `IntraUnavailable` where an intra prediction has not the samples
-    /// that it needs: the first of these. After a fault nothing more is to be asked of the macroblocks.
+    /// Decodes the macroblock that comes next, and filters the row above where it is the last of its own (8.7). `VectorRange` where a
+    /// component of one of its vectors is no 16-bit number, `RefMissing` where a block has no reference picture, `IntraUnavailable` where
+    /// an intra prediction has not the samples that it needs: the first of these. After a fault nothing more is to be asked of the
+    /// macroblocks.
     pub(crate) fn decode(&mut self, mb: &Mb, slice: &SliceContext<'_, PAD>) -> Result<(), Fault>
         requires room { self.old.next < self.old.canvas.width * self.old.canvas.height }
         requires mb { IsRead mb.now }
@@ -157,6 +160,19 @@ impl<const PAD: usize> Macroblocks<PAD> {
         self.row.put(&facts);
         self.next += 1;
         Ok(())
+    }
+
+    /// The sample in column `x` and row `y` of a component: 0 is luma, 1 Cb, 2 Cr.
+    pub(crate) fn sample(&self, component: usize, x: usize, y: usize) -> u8
+        requires column { x < size_of component * self.now.canvas.width }
+        requires row { y < size_of component * self.now.canvas.height }
+        ensures { result ≡ samples_of self.now.canvas.planes component x y }
+    {
+        match component {
+            0 => self.planes.luma.get(x, y),
+            1 => self.planes.cb.get(x, y),
+            _ => self.planes.cr.get(x, y),
+        }
     }
 
     /// The samples of the picture after deblocking (8.7).
