@@ -139,7 +139,7 @@ module _ (wl wb wr row : ℕ) where
         (edges_act true (nat_lt 0 column && filters_between q left) (filters_between q q) (λ o e. some (filters_between q left) column o) (λ o e. absurd (cc)) left q)
         (edges_act false (nat_lt 0 row && filters_between q above) (filters_between q q) (λ o e. absurd (cc)) (λ o e. some (filters_between q above) row o) above q)
 
-  row_acts : (offset : ℤ) (above facts : List MbFacts) (n : ℕ) → ((k : ℕ) → k < n → 16 * k + 16 ≤ wl) → ((k : ℕ) → k < n → 8 * k + 8 ≤ wb) → ((k : ℕ) → k < n → 8 * k + 8 ≤ wr) →
+  pub row_acts : (offset : ℤ) (above facts : List MbFacts) (n : ℕ) → ((k : ℕ) → k < n → 16 * k + 16 ≤ wl) → ((k : ℕ) → k < n → 8 * k + 8 ≤ wb) → ((k : ℕ) → k < n → 8 * k + 8 ≤ wr) →
       ActsApart wl wb wr row (row_by_facts offset row above facts n)
   row_acts offset above facts zero l b r = acts_none
   row_acts offset above facts (suc n) l b r =

@@ -103,7 +103,7 @@ range-append a (suc m) n =
     let f : a + 1 + m ≡ a + suc m = omega arith in
     ap (range_with_len a) e ∙ ap (λ (l : List ℕ). a ∷ l) (range-append (a + 1) m n ∙ ap (λ (b : ℕ). range_with_len (a + 1) m ++ range_with_len b n) f)
 
-row_more : (c : Coded) (n : ℕ) → flat_map (row_lines c) (range_with_len 0 (suc n)) ≡ flat_map (row_lines c) (range_with_len 0 n) ++ row_lines c n
+pub row_more : (c : Coded) (n : ℕ) → flat_map (row_lines c) (range_with_len 0 (suc n)) ≡ flat_map (row_lines c) (range_with_len 0 n) ++ row_lines c n
 row_more c n =
     let e : 0 + n ≡ n = omega arith in
     ap (flat_map (row_lines c)) (range_more 0 n ∙ ap (λ (k : ℕ). range_with_len 0 n ++ k ∷ []) e)

@@ -1,9 +1,8 @@
 -- What the deblocking filter is told of the first macroblocks, over one macroblock more.
-use Rattle.std.specs.Prelude.{ℕ, suc, ◌+◌, ◌*◌, ◌/◌, ◌<◌, List, [], ◌∷◌, ◌++◌, length, take, true, false, Some, slice_get, slice_index, slice_index_or, slice_set, ◌-◌}
+use Rattle.std.specs.Prelude.{ℕ, suc, ◌+◌, ◌*◌, ◌/◌, ◌<◌, List, [], ◌∷◌, ◌++◌, length, true, false, Some, slice_get, slice_index, slice_index_or, ◌-◌}
 use Rattle.std.proofs.Common.{◌≡◌, ◌∙◌, refl, sym, ap, subst, arith, inl, inr}
-use Rattle.std.proofs.Math.Seq.{take-suc-set}
 use Rattle.std.proofs.lemmas.Bool.{cases_lt}
-use Rattle.std.proofs.lemmas.List.{get_or-map, get_or_append_left, get_or-append_right, length-append, length-take-le}
+use Rattle.std.proofs.lemmas.List.{get_or-map, get_or_append_left, get_or-append_right, length-append}
 use Rattle.std.proofs.lemmas.Option.{get_or_from_slice_get}
 use Rattle.avc_types.specs.Macroblock.{Mb}
 use Rattle.avc_types.specs.Pictures.{Coded, PicMb, Frame}
@@ -20,21 +19,18 @@ use Rattle.avc_picture.specs.MacroblockFacts.{IsFilterFacts, number_of}
 use Rattle.avc_picture.specs.declared.slice_context.SliceContext.{SliceContext}
 use Rattle.avc_picture.proofs.Quarters.{IsFrom}
 
-pub facts_more : (c : Coded) (all : List (List Motion)) (names : Names) (a : ℕ) (facts : List MbFacts) (f : MbFacts) → a < length facts
-    → HaveFacts c all names 0 (take a facts) → HasFacts c all names a f → HaveFacts c all names 0 (take (suc a) (slice_set facts a f))
-facts_more c all names a facts f h have has = λ k other below.
-    let more : take (suc a) (slice_set facts a f) ≡ take a facts ++ f ∷ [] = take-suc-set facts a f h in
-    let long : length (take a facts) ≡ a = length-take-le a facts (omega (arith, h)) in
-    let longer : length (take a facts ++ f ∷ []) ≡ length (take a facts) + 1 = length-append (take a facts) (f ∷ []) in
-    let at : slice_index_or (take (suc a) (slice_set facts a f)) k other ≡ slice_index_or (take a facts ++ f ∷ []) k other = ap (λ xs. slice_index_or xs k other) more in
+pub facts_more : (c : Coded) (all : List (List Motion)) (names : Names) (a : ℕ) (facts : List MbFacts) (f : MbFacts) → length facts ≡ a
+    → HaveFacts c all names 0 facts → HasFacts c all names a f → HaveFacts c all names 0 (facts ++ f ∷ [])
+facts_more c all names a facts f long have has = λ k other below.
+    let longer : length (facts ++ f ∷ []) ≡ length facts + 1 = length-append facts (f ∷ []) in
     elim (cases_lt k a) [
       | inl low ↦
-          subst (HasFacts c all names (0 + k)) (sym (at ∙ get_or_append_left (take a facts) (f ∷ []) other k (omega (arith, low, long))))
+          subst (HasFacts c all names (0 + k)) (sym (get_or_append_left facts (f ∷ []) other k (omega (arith, low, long))))
           (have k other (omega (arith, low, long)))
       | inr high ↦
-          let last : k ≡ a = omega (arith, high, below, ap length more, long, longer) in
+          let last : k ≡ a = omega (arith, high, below, long, longer) in
           let none_left : k - a ≡ 0 = omega (arith, last) in
-          subst (HasFacts c all names (0 + k)) (sym (at ∙ get_or-append_right (take a facts) (f ∷ []) a k other long high ∙ ap (λ j. slice_index_or (f ∷ []) j other) none_left))
+          subst (HasFacts c all names (0 + k)) (sym (get_or-append_right facts (f ∷ []) a k other long high ∙ ap (λ j. slice_index_or (f ∷ []) j other) none_left))
           (subst (λ j. HasFacts c all names j f) (omega (arith, last)) has)
     ]
 

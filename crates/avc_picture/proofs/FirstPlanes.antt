@@ -11,7 +11,7 @@ use Rattle.avc_neigh.specs.Modes.{modes_before}
 use Rattle.avc_motion.specs.Motion.{motion_before}
 use Rattle.avc_plane.specs.Planes.{Planes, empty_planes}
 use Rattle.avc_picture_core.specs.Built.{Place, built_on, place_of, planes_after}
-use Rattle.avc_picture.specs.FirstMbs.{first_built}
+use Rattle.avc_picture.specs.RowLate.{first_built}
 use Rattle.avc_picture.proofs.Before.{modes_stay, motion_stays}
 
 -- the place of a macroblock with these modes and this motion

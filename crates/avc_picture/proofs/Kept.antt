@@ -26,7 +26,10 @@ use Rattle.avc_picture.specs.DecoderState.{IsDecoderState, IsStateOrFault, IsWel
 use Rattle.avc_picture.specs.FirstMbs.{HasSets, HoldsFirst, MbsState}
 use Rattle.avc_picture.specs.Sizes.{IsSized}
 use Rattle.avc_picture.specs.Slices.{PictureStart, Progress, coded_of, is_full, planes_after_slices, progress, with_slice}
+use Rattle.avc_picture.specs.OpenPicture.{planes_so_far}
+use Rattle.avc_picture.specs.RowLate.{filtered_rows, row_late, rows_filtered}
 use Rattle.avc_picture.proofs.SizesKept.{pictures_sized}
+use Rattle.avc_picture.proofs.Whole.{all_built}
 use Rattle.avc_picture.proofs.SliceGoesOn.{are-names, begins-itself, names-of}
 
 -- ---- tests
@@ -176,6 +179,13 @@ module _ {PAD : ℕ} (sps : Sps) (pps : Pps) (fs : List (Frame PAD)) (slices : L
   pub none-at-end : (read == size_in_mbs sps) ≡ true → (es : List ℕ) → FramesStandAt es fs → end_fault es d ≡ None
   none-at-end e es stand = at-end es stand true e
 
+  pub planes-now : (es : List ℕ) → FramesStandAt es fs → planes_so_far es d ≡ m.canvas.planes
+  planes-now es stand =
+      let well = kept.keeps es stand in
+      let c = coded_of (begun es) (progress (begun es) slices) in
+      let holds = well.decoded.holds c (names-of es stand.rising) (begins-itself c) (are-names es stand.rising) in
+      sym (holds.built ∙ ap (row_late c) (sym well.decoded.next) ∙ ap (rows_filtered c (filtered_rows c.width (length c.mbs))) (all_built c))
+
   module _ (full : read ≡ size_in_mbs sps) (planes : Planes)
       (answer : (c : Coded) (names : Names) → HoldsFirst c names m → m.next ≡ length c.mbs → length c.mbs ≡ c.width * c.height → planes ≡ deblocked c) where
     pub planes-at-end : (es : List ℕ) → FramesStandAt es fs → planes ≡ planes_after_slices (begun es) slices
@@ -193,6 +203,15 @@ module _ {PAD : ℕ} (sps : Sps) (pps : Pps) (fs : List (Frame PAD)) (slices : L
     are-sized =
         let h = sized-at-end in
         record { luma_width = h.luma.columns; luma_height = h.luma.rows; cb_width = h.cb.columns; cb_height = h.cb.rows; cr_width = h.cr.columns; cr_height = h.cr.rows }
+
+-- where the slices have no fault, none is kept
+pub none-kept : {PAD : ℕ} (sps : Sps) (pps : Pps) (fs : List (Frame PAD)) (slices : List Slice) (count read : ℕ) (fault : Option Fault) (m : MbsState)
+    → IsDecoderState sps pps fs slices count read fault m → HasNoFault (record { sps = sps; pps = pps; frames = fs; slices = slices }) → fault ≡ None
+none-kept sps pps fs slices count read None m kept none = refl
+none-kept sps pps fs slices count read (Some f) m kept none =
+    let es = places-of fs in
+    let e : None ≡ Some f = sym (ap (option_map (λ found. found.1)) (none es (stand-somewhere fs))) ∙ (kept.keeps es (stand-somewhere fs)).0 in
+    absurd (cc)
 
 -- ---- the fault at the end
 

@@ -33,20 +33,20 @@ with_sample_sized w h s x y value size =
 
 -- ---- a macroblock
 
-with_blocks4x4_sized : (w h : ℕ) (p : Place) (n : ℕ) (s : Plane) → HasSize w h s → HasSize w h (with_blocks4x4 p n s)
+pub with_blocks4x4_sized : (w h : ℕ) (p : Place) (n : ℕ) (s : Plane) → HasSize w h s → HasSize w h (with_blocks4x4 p n s)
 with_blocks4x4_sized w h p zero s size = size
 with_blocks4x4_sized w h p (suc n) s size =
     let before : HasSize w h (with_blocks4x4 p n s) = with_blocks4x4_sized w h p n s size in
     search with_block_sized
 
-luma_after_sized : (w h : ℕ) (p : Place) (syntax : MbSyntax) (s : Plane) → HasSize w h s → HasSize w h (luma_after p syntax s)
+pub luma_after_sized : (w h : ℕ) (p : Place) (syntax : MbSyntax) (s : Plane) → HasSize w h s → HasSize w h (luma_after p syntax s)
 luma_after_sized w h p p_skip s size = search with_block_sized
 luma_after_sized w h p (p_inter shape ref_idx mvd r) s size = search with_block_sized
 luma_after_sized w h p (i_pcm luma cb cr) s size = search with_block_sized
 luma_after_sized w h p (i_16x16 m k r) s size = search with_block_sized
 luma_after_sized w h p (i_nxn m k r) s size = with_blocks4x4_sized w h p 16 s size
 
-chroma_after_sized : (w h : ℕ) (p : Place) (k : ℕ) (syntax : MbSyntax) (s : Plane) → HasSize w h s → HasSize w h (chroma_after p k syntax s)
+pub chroma_after_sized : (w h : ℕ) (p : Place) (k : ℕ) (syntax : MbSyntax) (s : Plane) → HasSize w h s → HasSize w h (chroma_after p k syntax s)
 chroma_after_sized w h p k p_skip s size = search with_block_sized
 chroma_after_sized w h p k (p_inter shape ref_idx mvd r) s size = search with_block_sized
 chroma_after_sized w h p k (i_pcm luma cb cr) s size = search with_block_sized
@@ -55,7 +55,7 @@ chroma_after_sized w h p k (i_nxn m n r) s size = search with_block_sized
 
 -- ---- the picture
 
-built_on_sized : (w h : ℕ) (c : Coded) (modes : List (List NearMode)) (motion : List (List Motion)) (a : ℕ) (s : Planes) (ms : List PicMb)
+pub built_on_sized : (w h : ℕ) (c : Coded) (modes : List (List NearMode)) (motion : List (List Motion)) (a : ℕ) (s : Planes) (ms : List PicMb)
     → IsSized w h s → IsSized w h (built_on c modes motion a s ms)
 built_on_sized w h c modes motion a s [] size = size
 built_on_sized w h c modes motion a s (m ∷ ms) size =
@@ -66,7 +66,7 @@ built_on_sized w h c modes motion a s (m ∷ ms) size =
       cr = chroma_after_sized _ _ p 2 p.mb.syntax s.cr size.cr;
     })
 
-empty_sized : (w h : ℕ) → IsSized w h (empty_planes w h)
+pub empty_sized : (w h : ℕ) → IsSized w h (empty_planes w h)
 empty_sized w h = record {
   luma = sized_plane_of (16 * w) (16 * h) (λ _ _. 0);
   cb = sized_plane_of (8 * w) (8 * h) (λ _ _. 0);
@@ -101,7 +101,7 @@ step_sized w h c motion s (suc zero) v x y size =
 step_sized w h c motion s (suc (suc k)) v x y size =
     record { luma = size.luma; cb = size.cb; cr = line_filtered_sized _ _ (setting_at c motion (line_of (suc (suc k)) v x y)) v x y s.cr size.cr }
 
-all_sized : (w h : ℕ) (c : Coded) (motion : List (List Motion)) (s : Planes) (fs : List LineFilter) → IsSized w h s → IsSized w h (all_filtered c motion s fs)
+pub all_sized : (w h : ℕ) (c : Coded) (motion : List (List Motion)) (s : Planes) (fs : List LineFilter) → IsSized w h s → IsSized w h (all_filtered c motion s fs)
 all_sized w h c motion s [] size = size
 all_sized w h c motion s (f ∷ fs) size =
     all_sized w h c motion (step_filtered c motion s f) fs (step_sized w h c motion s f.component f.is_vertical f.x f.y size)

@@ -1,5 +1,5 @@
 -- One macroblock more of a picture.
-use Rattle.std.specs.Prelude.{ℕ, suc, ◌/◌, ◌<◌, List, [], ◌∷◌, ◌++◌, length, Bool, true, false, Option, Some, None, Ok, Err, slice_get, slice_index_or, slice_set, replicate}
+use Rattle.std.specs.Prelude.{ℕ, suc, ◌/◌, ◌<◌, List, [], ◌∷◌, ◌++◌, length, Bool, true, false, Option, Some, None, Ok, Err, slice_get, slice_index_or, replicate, ◌*◌}
 use Rattle.std.proofs.Common.{◌≡◌, ◌∙◌, refl, sym, ap, subst, arith}
 use Rattle.std.proofs.lemmas.List.{length-append, map-append}
 use Rattle.std.proofs.lemmas.Option.{slice_get_within}
@@ -16,12 +16,14 @@ use Rattle.avc_neigh.specs.declared.facts.Motion.TheVariants.{Absent as absent, 
 use Rattle.avc_motion.specs.Motion.{HasMotion, is_intra, motion_before, motion_of, near_in}
 use Rattle.avc_deblock.specs.Facts.{Names}
 use Rattle.avc_deblock.specs.declared.facts.MbFacts.{MbFacts}
-use Rattle.avc_picture_core.specs.Built.{Place, place_of, planes_after, reference_of}
+use Rattle.avc_plane.specs.Planes.{Planes}
+use Rattle.avc_picture_core.specs.Built.{Place, place_of, reference_of}
 use Rattle.avc_picture_core.specs.Canvas.{CanvasState, IsBuilt, IsPlaceOn, sides_near}
 use Rattle.avc_picture_core.specs.Faults.{is_picture, macroblock_fault, refusal}
 use Rattle.avc_picture_core.specs.References.{AreReferences}
 use Rattle.avc_picture_core.specs.declared.references.ReferencePicture.{ReferencePicture}
 use Rattle.avc_picture.specs.FirstMbs.{HasNeighbourFacts, HoldsFirst, IsSlice, MbsState}
+use Rattle.avc_picture.specs.RowLate.{AreFactsOf, FilterFacts, FiltersUpTo, filtered_rows, first_built}
 use Rattle.avc_picture.specs.MacroblocksState.{PartsAgree}
 use Rattle.avc_picture.specs.MacroblockFacts.{IsFilterFacts, IsNeighbourFacts}
 use Rattle.avc_picture.specs.declared.slice_context.SliceContext.{SliceContext}
@@ -29,7 +31,7 @@ use Rattle.avc_picture.proofs.Around.{modes_around, motion_around, sides_are}
 use Rattle.avc_picture.proofs.Before.{modes_last, modes_more, motion_last, motion_more, motion_stays}
 use Rattle.avc_picture.proofs.Faults.{has_pictures, in_range, macroblock_fault_is, motion_found, out_of_range}
 use Rattle.avc_picture.proofs.Filtered.{facts_more, has_facts}
-use Rattle.avc_picture.proofs.FirstPlanes.{first_built_more}
+use Rattle.avc_picture.proofs.LateRows.{late_more}
 use Rattle.avc_picture.proofs.Quarters.{IsFrom, one_reference, quarter_reference}
 use Rattle.avc_picture.proofs.Tells.{tells_more}
 
@@ -170,17 +172,25 @@ module _ {PAD : ℕ} (c : Coded) (names : Names) (old : MbsState) (holds : Holds
       below : a < length c.mbs
       below = slice_get_within c.mbs a m is
 
-      pub holds_more : a < length old.filter_facts
-          → HoldsFirst c names (record { canvas = canvas; row = with_facts old.row facts; filter_facts = slice_set old.filter_facts a f; next = suc a })
-      holds_more room = record {
-        within = omega (arith, below);
-        width = ap (λ x. x.width) here.1 ∙ holds.width;
-        height = ap (λ x. x.height) here.1 ∙ holds.height;
-        offset = ap (λ x. x.chroma_qp_index_offset) here.1 ∙ holds.offset;
-        constrained = ap (λ x. x.constrained_intra_pred) here.1 ∙ holds.constrained;
-        built = ap (λ x. x.planes) here.1 ∙ ap (planes_after place) holds.built ∙ sym (first_built_more c a m is);
-        neighbours = neighbours_more;
-        filter = facts_more c (motion_before c (length c.mbs)) names a old.filter_facts f room holds.filter
-            (has_facts c names s slice a mb is facts.motion long (quarter_reference mb.syntax) f filter_told (motion_before c (length c.mbs))
-            (motion_stays c (suc a) (length c.mbs) a (omega arith) (omega (arith, below)) ∙ motion_is) pictures one);
-      }
+      -- the row above is filtered where the macroblock ends its own
+      pub holds_more : a < old.canvas.width * old.canvas.height → (last : Planes)
+          → FiltersUpTo c (filtered_rows c.width a) (filtered_rows c.width (suc a)) canvas.planes last
+          → HoldsFirst c names (record { canvas = record canvas { planes = last }; row = with_facts old.row facts; filter_facts = old.filter_facts ++ f ∷ []; next = suc a })
+      holds_more room last filters =
+          let told_so_far : FilterFacts = record { width = c.width; facts = old.filter_facts } in
+          let of : AreFactsOf c names c.chroma_qp_index_offset told_so_far = record { width_is = refl; offset_is = refl; facts_are = holds.filter } in
+          let in_picture : a < c.width * c.height = subst (λ h. a < c.width * h) holds.height (subst (λ w. a < w * old.canvas.height) holds.width room) in
+          record {
+            within = omega (arith, below);
+            width = ap (λ x. x.width) here.1 ∙ holds.width;
+            height = ap (λ x. x.height) here.1 ∙ holds.height;
+            offset = ap (λ x. x.chroma_qp_index_offset) here.1 ∙ holds.offset;
+            constrained = ap (λ x. x.constrained_intra_pred) here.1 ∙ holds.constrained;
+            built = filters (first_built c (suc a))
+                (ap (λ x. x.planes) here.1
+                ∙ late_more c names c.chroma_qp_index_offset told_so_far of a m is kept.filter_count wide in_picture old.canvas.planes holds.built);
+            neighbours = neighbours_more;
+            filter = facts_more c (motion_before c (length c.mbs)) names a old.filter_facts f kept.filter_count holds.filter
+                (has_facts c names s slice a mb is facts.motion long (quarter_reference mb.syntax) f filter_told (motion_before c (length c.mbs))
+                (motion_stays c (suc a) (length c.mbs) a (omega arith) (omega (arith, below)) ∙ motion_is) pictures one);
+          }

@@ -1,5 +1,5 @@
 -- The first macroblocks of a picture as they are decoded one after another, whatever macroblocks and slices come behind them.
-use Rattle.std.specs.Prelude.{◌≡◌, ℕ, ◌≤◌, ◌<◌, true, List, ◌++◌, length, take, map, Some, None, Result, Ok, Err, slice_index_or}
+use Rattle.std.specs.Prelude.{◌≡◌, ℕ, ◌≤◌, ◌<◌, true, List, ◌++◌, length, map, Some, None, Result, Ok, Err, slice_index_or}
 use Rattle.avc_types.specs.declared.fault.Fault.{Fault}
 use Rattle.avc_types.specs.Pictures.{Coded, PicMb, SliceFacts, Frame}
 use Rattle.avc_params.specs.declared.sps.Sps.{Sps}
@@ -10,22 +10,21 @@ use Rattle.avc_neigh.specs.Around.{PictureFacts, is_intra_facts}
 use Rattle.avc_neigh.specs.Laws.{FactsTell, TellSlices, TellTotalCoeffs}
 use Rattle.avc_neigh.specs.Modes.{modes_before}
 use Rattle.avc_motion.specs.Motion.{motion_before, is_intra, slice_facts, frame_named}
-use Rattle.avc_plane.specs.Planes.{Planes, empty_planes}
 use Rattle.avc_deblock.specs.Facts.{Names, HaveFacts}
 use Rattle.avc_deblock.specs.declared.facts.MbFacts.{MbFacts}
-use Rattle.avc_picture_core.specs.Built.{built_on}
 use Rattle.avc_picture_core.specs.Canvas.{CanvasState}
 use Rattle.avc_picture_core.specs.Faults.{is_picture, macroblock_fault}
 use Rattle.avc_picture_core.specs.References.{AreReferences}
+use Rattle.avc_picture.specs.RowLate.{row_late}
 use Rattle.avc_picture.specs.declared.slice_context.SliceContext.{SliceContext}
 
 -- What the decoder has of a picture's macroblocks so far.
 pub record MbsState : Type 0 where
-  -- their samples before deblocking
+  -- their samples, filtered one row late
   pub canvas : CanvasState
   -- what their neighbours are told
   pub row : PictureFacts
-  -- what the deblocking filter is told, with an entry for each macroblock of the picture
+  -- what the deblocking filter is told of them
   pub filter_facts : List MbFacts
   -- the address of the macroblock that comes next
   pub next : ℕ
@@ -34,11 +33,6 @@ pub record MbsState : Type 0 where
 pub record HasSameSize (old new : MbsState) : Type 0 where
   pub width : new.canvas.width ≡ old.canvas.width
   pub height : new.canvas.height ≡ old.canvas.height
-
--- the planes with the picture's first n macroblocks in them
-abbrev pub first_built : Coded → ℕ → Planes
-first_built c n =
-    built_on c (modes_before c n) (motion_before c n) 0 (empty_planes c.width c.height) (take n c.mbs)
 
 -- d is a picture that begins with the macroblocks and the slices of c.
 pub record BeginsWith (d c : Coded) : Type 0 where
@@ -71,7 +65,7 @@ pub record HasNeighbourFacts (c : Coded) (n : ℕ) (facts : List NeighbourFacts)
   pub motion : map (λ f. f.motion) facts ≡ motion_before c n
   pub modes : map (λ f. f.modes) facts ≡ modes_before c n
 
--- The first macroblocks of picture c have been decoded: their samples before deblocking, and their facts for neighbours and filter.
+-- The first macroblocks of picture c have been decoded: their samples, filtered one row late, and their facts for neighbours and filter.
 -- `names` has the numbers of the stored frames.
 pub record HoldsFirst (c : Coded) (names : Names) (m : MbsState) : Type 0 where
   pub within : m.next ≤ length c.mbs
@@ -79,9 +73,9 @@ pub record HoldsFirst (c : Coded) (names : Names) (m : MbsState) : Type 0 where
   pub height : m.canvas.height ≡ c.height
   pub offset : m.canvas.chroma_qp_index_offset ≡ c.chroma_qp_index_offset
   pub constrained : m.canvas.constrained_intra_pred ≡ c.constrained_intra_pred
-  pub built : m.canvas.planes ≡ first_built c m.next
+  pub built : m.canvas.planes ≡ row_late c m.next
   pub neighbours : HasNeighbourFacts c m.next m.row.facts
-  pub filter : HaveFacts c (motion_before c (length c.mbs)) names 0 (take m.next m.filter_facts)
+  pub filter : HaveFacts c (motion_before c (length c.mbs)) names 0 m.filter_facts
 
 -- Reference index r of the slice names the frame with this number.
 pub record HasNumber (c : Coded) (names : Names) (slice r number : ℕ) : Type 0 where

@@ -1,10 +1,12 @@
-ghost use Rattle.std.specs.Prelude.{◌≡◌, ◌==◌, ◌^◌, ◌<◌, ◌≤◌, IfOk};
+ghost use Rattle.std.specs.Prelude.{◌≡◌, ◌==◌, ◌^◌, ◌<◌, ◌≤◌, ◌*◌, IfOk};
 ghost use Rattle.avc_params.specs.Limits.{height_in_mbs, size_in_mbs, width_in_mbs};
 ghost use Rattle.avc_params.specs.Within.{IsPps, IsSps};
 ghost use Rattle.avc_slice.specs.Within.{IsHeader};
 ghost use Rattle.avc_plane.specs.Frames.{padded_planes_of, AreSized};
+ghost use Rattle.avc_picture_core.specs.Built.{size_of};
 ghost use Rattle.avc_picture.specs.Decoding.{no_slice_yet, AreFramesOf, HasNoFault, HasRead, IsFinishAnswer, IsFull, IsSliceAnswer};
 ghost use Rattle.avc_picture.specs.DecoderState.{number_after};
+ghost use Rattle.avc_picture.specs.OpenPicture.{HasFiltered, HasSample};
 
 use crate::macroblocks::Macroblocks;
 use crate::slice_decoding::decode_slice;
@@ -132,6 +134,25 @@ impl<const PAD: usize> PictureDecoder<PAD> {
         ensures { IsFull result self.now }
     {
         self.read == self.sps.size_in_mbs()
+    }
+
+    /// How many rows of macroblocks are deblocked so far, from the top: all whole rows but the last (8.7).
+    pub fn filtered(&self) -> u32
+        requires { HasNoFault self.now }
+        ensures { HasFiltered result self.now }
+    {
+        (self.read / self.sps.width_in_mbs()).max(1) - 1
+    }
+
+    /// The sample in column `x` and row `y` of a component of the picture so far: 0 is luma, 1 Cb, 2 Cr. It is deblocked as far as the
+    /// lines of those rows do it; where no macroblock is built yet it is 0.
+    pub fn sample(&self, component: usize, x: usize, y: usize) -> u8
+        requires fault { HasNoFault self.now }
+        requires column { x < size_of component * width_in_mbs self.now.sps }
+        requires row { y < size_of component * height_in_mbs self.now.sps }
+        ensures { HasSample component x y result self.now }
+    {
+        self.macroblocks.sample(component, x, y)
     }
 
     /// The samples of the picture after deblocking. Where the slices have a fault it answers the first, and else

@@ -3,6 +3,7 @@
 
 mod decoder;
 mod filter_facts;
+mod filter_rows;
 mod header_checks;
 pub mod laws;
 mod macroblocks;

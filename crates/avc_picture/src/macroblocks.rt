@@ -9,36 +9,24 @@ ghost use Rattle.avc_neigh.specs.Around.{facts_of};
 ghost use Rattle.avc_mbsyntax.specs.SliceData.{SliceStart, left_total_coeffs, up_total_coeffs};
 ghost use Rattle.avc_plane.specs.Frames.{planes_of};
 ghost use Rattle.avc_plane.specs.Plane.{HasSamples};
+ghost use Rattle.avc_plane.specs.Planes.{samples_of};
+ghost use Rattle.avc_picture_core.specs.Built.{size_of};
 ghost use Rattle.avc_deblock.specs.Facts.{Names};
 ghost use Rattle.avc_picture_core.specs.References.{AreUsable};
 ghost use Rattle.avc_picture.specs.Decoded.{deblocked};
 ghost use Rattle.avc_picture.specs.FirstMbs.{HasSameSize, HasSets, HoldsFirst, IsDecoded, IsSlice};
 ghost use Rattle.avc_picture.specs.MacroblockFacts.{IsRead};
 
-use crate::filter_facts::set_filter_facts;
+use crate::filter_rows::FilterRows;
 use crate::neighbour_facts::set_neighbour_facts;
 use crate::slice_context::SliceContext;
-use avc_deblock::{MbFacts, picture};
 use avc_neigh::{Motion, NearMode, NeighbourFacts, Neighbours, Row, TotalCoeffs};
 use avc_params::{Pps, Sps};
 use avc_picture_core::{Canvas, ReferencePicture, Sources};
 use avc_plane::Planes;
-use avc_types::{Fault, FilteredEdges, Mb, Mv, OutOfMemory};
+use avc_types::{Fault, Mb, OutOfMemory};
 use std::alloc::Global;
 use std::marker::Model;
-
-/// What stands for the facts of a macroblock that is not decoded yet.
-const NO_FACTS: MbFacts = MbFacts {
-    is_intra: true,
-    coefficients: 0,
-    pictures: [0; 4],
-    vectors: [Mv { x: 0, y: 0 }; 16],
-    qp: 0,
-    slice: 0,
-    filtered_edges: FilteredEdges::NoEdges,
-    offset_a: 0,
-    offset_b: 0,
-};
 
 /// What stands for what neighbours are told of a macroblock, until it is known.
 const NOTHING_TOLD: NeighbourFacts = NeighbourFacts {
@@ -55,18 +43,12 @@ const NOTHING_TOLD: NeighbourFacts = NeighbourFacts {
 /// The macroblocks of a picture so far, with all that later ones and the deblocking filter ask of them.
 #[derive(Drop)]
 pub(crate) struct Macroblocks<const PAD: usize> {
-    /// Of the picture, in macroblocks.
-    width: usize,
-    height: usize,
-    chroma_qp_index_offset: i8,
-    constrained_intra_pred: bool,
+    canvas: Canvas,
 
-    /// Their samples before deblocking.
-    canvas: Canvas<PAD>,
+    /// Their samples, filtered one row late.
+    planes: Planes<PAD>,
     row: Row,
-
-    /// By address, with an entry for each macroblock of the picture.
-    filter_facts: Vec<MbFacts>,
+    filter_rows: FilterRows,
 
     /// The address of the macroblock that comes next.
     next: usize,
@@ -121,22 +103,16 @@ impl<const PAD: usize> Macroblocks<PAD> {
     {
         let width = sps.width_in_mbs() as usize;
         let height = sps.height_in_mbs() as usize;
-        let chroma_qp_index_offset = pps.chroma_qp_index_offset as i8;
-        let constrained_intra_pred = pps.constrained_intra_pred_flag;
         Ok(Macroblocks {
-            width,
-            height,
-            chroma_qp_index_offset,
-            constrained_intra_pred,
-            canvas: Canvas::new(
-                alloc,
+            canvas: Canvas {
                 width,
                 height,
-                chroma_qp_index_offset,
-                constrained_intra_pred,
-            )?,
+                chroma_qp_index_offset: pps.chroma_qp_index_offset as i8,
+                constrained_intra_pred: pps.constrained_intra_pred_flag,
+            },
+            planes: Planes::new(alloc, width, height)?,
             row: Row::new(alloc, width)?,
-            filter_facts: vec![in alloc; NO_FACTS; height * width]?,
+            filter_rows: FilterRows::new(alloc, width)?,
             next: 0,
         })
     }
@@ -153,9 +129,10 @@ impl<const PAD: usize> Macroblocks<PAD> {
         (total_coeffs_of(around.a), total_coeffs_of(around.b))
     }
 
-    /// Decodes the macroblock that comes next. `VectorRange` where a component of one of its vectors is no 16-bit number,
-    /// `RefMissing` where a block has no reference picture, `IntraUnavailable` where an intra prediction has not the samples
-    /// that it needs: the first of these. After a fault nothing more is to be asked of the macroblocks.
+    /// Decodes the macroblock that comes next, and filters the row above where it is the last of its own (8.7). `VectorRange` where a
+    /// component of one of its vectors is no 16-bit number, `RefMissing` where a block has no reference picture, `IntraUnavailable` where
+    /// an intra prediction has not the samples that it needs: the first of these. After a fault nothing more is to be asked of the
+    /// macroblocks.
     pub(crate) fn decode(&mut self, mb: &Mb, slice: &SliceContext<'_, PAD>) -> Result<(), Fault>
         requires room { self.old.next < self.old.canvas.width * self.old.canvas.height }
         requires mb { IsRead mb.now }
@@ -173,13 +150,29 @@ impl<const PAD: usize> Macroblocks<PAD> {
             mb,
             slice.number,
             &sources.neighbours,
-            self.constrained_intra_pred,
+            self.canvas.constrained_intra_pred,
         )?;
-        self.canvas.build(self.next, mb, &facts, &sources)?;
-        set_filter_facts(&mut self.filter_facts[self.next], mb, &facts.motion, slice);
+        self.canvas
+            .build(&mut self.planes, self.next, mb, &facts, &sources)?;
+        self.filter_rows
+            .filter_late(&mut self.planes, self.canvas.chroma_qp_index_offset);
+        self.filter_rows.put(mb, &facts.motion, slice);
         self.row.put(&facts);
         self.next += 1;
         Ok(())
+    }
+
+    /// The sample in column `x` and row `y` of a component: 0 is luma, 1 Cb, 2 Cr.
+    pub(crate) fn sample(&self, component: usize, x: usize, y: usize) -> u8
+        requires column { x < size_of component * self.now.canvas.width }
+        requires row { y < size_of component * self.now.canvas.height }
+        ensures { result ≡ samples_of self.now.canvas.planes component x y }
+    {
+        match component {
+            0 => self.planes.luma.get(x, y),
+            1 => self.planes.cb.get(x, y),
+            _ => self.planes.cr.get(x, y),
+        }
     }
 
     /// The samples of the picture after deblocking (8.7).
@@ -190,14 +183,9 @@ impl<const PAD: usize> Macroblocks<PAD> {
         ensures samples { (c : Coded) (names : Names) → HoldsFirst c names self.entry → self.entry.next ≡ length c.mbs
             → length c.mbs ≡ c.width * c.height → planes_of result ≡ deblocked c }
     {
-        let mut planes = self.canvas.into_planes();
-        picture(
-            &mut planes,
-            &self.filter_facts,
-            self.width,
-            self.height,
-            self.chroma_qp_index_offset,
-        );
+        let mut planes = self.planes;
+        self.filter_rows
+            .filter_last_row(&mut planes, self.canvas.chroma_qp_index_offset);
         planes
     }
 }

@@ -14,3 +14,4 @@ mod Predicting
 mod Inters
 mod PlaceOn
 mod Seen
+pub mod IntraRows

@@ -1,40 +1,46 @@
-use Rattle.std.proofs.Common.{◌≡◌, ◌∙◌, ◌*◌, sym, ap, subst, arith, length, rules, w8, to_z, of_z}
-use Rattle.avc_motion.specs.Motion.{motion_before}
-use Rattle.avc_plane.specs.Frames.{planes_of}
-use Rattle.avc_deblock.specs.Facts.{HaveFacts}
+use Rattle.std.proofs.Common.{◌≡◌, ◌∙◌, ◌*◌, ◌/◌, ◌<◌, ◌-◌, ℕ, refl, sym, ap, subst, arith, length, rules, w8, to_z, of_z}
+use Rattle.avc_plane.specs.Frames.{planes_of, AreSized}
 use Rattle.avc_picture.specs.FirstMbs.{HoldsFirst, MbsState}
+use Rattle.avc_picture.specs.RowLate.{AreFactsOf, FiltersUpTo, filtered_rows}
 use Rattle.avc_picture.specs.MacroblocksState.{state_of}
-use Rattle.avc_picture.proofs.Whole.{all_facts, all_rows, filtered_is, sized_room}
+use Rattle.avc_picture.proofs.Whole.{filtered_is, late_room}
 use Rattle.avc_picture.proofs.macroblocks.Macroblocks.deblocked.Goals as goal
 
 pub returns-clause-luma : goal.returns-clause-luma
 returns-clause-luma g c =
     let k = c.self.invariant.kept in
-    let r = c.picture.ensures.room 0 0 (sized_room _ _ 0 0 (planes_of c.into_planes-planes.result) c.into_planes-planes.ensures.sized k.wide k.high) in
-    record { some_column = omega (arith, r.luma_columns); some_row = omega (arith, r.luma_rows) }
+    let s = c.filter_last_row.ensures.sized c.self.inside.canvas.width c.self.inside.canvas.height c.self.invariant.sized in
+    record { some_column = omega (arith, s.luma_width, k.wide); some_row = omega (arith, s.luma_height, k.high) }
 
 pub returns-clause-cb : goal.returns-clause-cb
 returns-clause-cb g c =
     let k = c.self.invariant.kept in
-    let r = c.picture.ensures.room 0 0 (sized_room _ _ 0 0 (planes_of c.into_planes-planes.result) c.into_planes-planes.ensures.sized k.wide k.high) in
-    record { some_column = omega (arith, r.cb_columns); some_row = omega (arith, r.cb_rows) }
+    let s = c.filter_last_row.ensures.sized c.self.inside.canvas.width c.self.inside.canvas.height c.self.invariant.sized in
+    record { some_column = omega (arith, s.cb_width, k.wide); some_row = omega (arith, s.cb_height, k.high) }
 
 pub returns-clause-cr : goal.returns-clause-cr
 returns-clause-cr g c =
     let k = c.self.invariant.kept in
-    let r = c.picture.ensures.room 0 0 (sized_room _ _ 0 0 (planes_of c.into_planes-planes.result) c.into_planes-planes.ensures.sized k.wide k.high) in
-    record { some_column = omega (arith, r.cr_columns); some_row = omega (arith, r.cr_rows) }
+    let s = c.filter_last_row.ensures.sized c.self.inside.canvas.width c.self.inside.canvas.height c.self.invariant.sized in
+    record { some_column = omega (arith, s.cr_width, k.wide); some_row = omega (arith, s.cr_height, k.high) }
 
 pub returns-clause-samples : goal.returns-clause-samples
 returns-clause-samples g c = λ coded names holds whole all.
-    let m = state_of c.self.inside in
+    let i = c.self.inside in
+    let m = state_of i in
     let w = c.self.invariant in
     let h = subst (HoldsFirst coded names) (sym c.self.view_is) holds in
     let last : m.next ≡ length coded.mbs = ap (λ (o : MbsState). o.next) c.self.view_is ∙ whole in
-    let rows : length coded.mbs ≡ c.self.inside.height * c.self.inside.width =
-    all_rows coded names m h w.kept last all ∙ ap (λ n. n * m.canvas.width) (sym w.height) ∙ ap (λ n. c.self.inside.height * n) (sym w.width) in
-    let back : to_z w8 (of_z w8 c.self.inside.chroma_qp_index_offset) ≡ c.self.inside.chroma_qp_index_offset = search rules in
-    let offset = sym h.offset ∙ sym w.offset ∙ sym back in
-    filtered_is coded names m h w.kept last all (planes_of c.into_planes-planes.result) (planes_of c.picture.new.planes) c.into_planes-planes.ensures.planes
-    (c.picture.ensures.lines coded (motion_before coded (length coded.mbs)) names (sym h.width ∙ sym w.width) rows offset
-    (subst (HaveFacts coded (motion_before coded (length coded.mbs)) names 0) (sym c.deref.ensures.value) (all_facts coded names m h w.kept last all)))
+    let back : to_z w8 (of_z w8 i.canvas.chroma_qp_index_offset) ≡ i.canvas.chroma_qp_index_offset = search rules in
+    let width : i.filter_rows.width ≡ coded.width = w.filter_width ∙ h.width in
+    let of : AreFactsOf coded names (to_z w8 (of_z w8 i.canvas.chroma_qp_index_offset)) i.filter_rows = record {
+      width_is = sym width;
+      offset_is = sym h.offset ∙ sym back;
+      facts_are = h.filter;
+    } in
+    let before = planes_of i.planes in
+    let after = planes_of c.filter_last_row.new.planes in
+    filtered_is coded names m h w.kept last all before after refl
+    (subst (λ k. FiltersUpTo coded (filtered_rows k m.next) (m.next / k) before after) width
+    (subst (λ n. FiltersUpTo coded (filtered_rows i.filter_rows.width n) (n / i.filter_rows.width) before after) w.kept.filter_count
+    (c.filter_last_row.ensures.lines coded names of)))

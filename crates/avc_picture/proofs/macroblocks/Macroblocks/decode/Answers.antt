@@ -1,12 +1,16 @@
-use Rattle.std.specs.Prelude.{Err, slice_get, slice_set}
-use Rattle.std.proofs.Common.{◌≡◌, ◌∙◌, ◌<◌, ◌*◌, ◌+◌, ℕ, sym, ap, subst, arith, rules, length, add-one}
+use Rattle.std.specs.Prelude.{Err, slice_get, suc, [], ◌∷◌, ◌++◌}
+use Rattle.std.proofs.Common.{◌≡◌, ◌∙◌, ◌<◌, ◌*◌, ◌+◌, ℕ, refl, sym, ap, subst, arith, rules, length, add-one, w8, to_z, of_z}
 use Rattle.avc_neigh.specs.Around.{Around, PictureFacts, facts_of, with_facts}
 use Rattle.avc_neigh.specs.BlockNear.{HasModes}
 use Rattle.avc_picture_core.specs.Faults.{macroblock_fault}
 use Rattle.avc_picture_core.specs.References.{AreUsable}
 use Rattle.avc_picture.specs.FirstMbs.{HoldsFirst, MbsState}
-use Rattle.avc_picture.specs.MacroblocksState.{state_of}
-use Rattle.avc_picture.proofs.Keeping.{has_entry, kept_more}
+use Rattle.avc_plane.specs.Frames.{planes_of}
+use Rattle.avc_picture_core.specs.CanvasFields.{with_planes}
+use Rattle.avc_picture.specs.RowLate.{AreFactsOf, FilterFacts, FiltersUpTo, filtered_rows}
+use Rattle.avc_picture.specs.MacroblocksState.{PartsAgree, state_of}
+use Rattle.avc_picture.proofs.Keeping.{kept_more}
+use Rattle.avc_picture.proofs.Whole.{late_room}
 use Rattle.avc_picture.proofs.Ranges.{in_range_of, modes_above, modes_left}
 use Rattle.avc_picture.proofs.Step.{build_fault, holds_more, no_fault, vector_fault}
 use Rattle.avc_picture.proofs.macroblocks.Macroblocks.decode.Goals as goal
@@ -32,6 +36,8 @@ build-requires g c =
         (
           subst (λ (o : MbsState). o.next < o.canvas.width * o.canvas.height) back c.requires.room,
           (
+           c.self.invariant.sized,
+           (
             in_range_of c.requires.mb.active_count c.args.mb.now.syntax c.requires.mb.syntax,
             (
               c.requires.mb.quantiser,
@@ -46,6 +52,7 @@ build-requires g c =
                 ),
               ),
             ),
+           ),
           ),
         ),
       ),
@@ -54,54 +61,82 @@ build-requires g c =
 pub returns-in_err-build-clause-decoded : goal.returns-in_err-build-clause-decoded
 returns-in_err-build-clause-decoded g c = λ coded names holds is slice.
     let back = sym c.self.view_is in
+    let built = with_planes c.self.inside.canvas (planes_of c.build.new.planes) in
     let e : c.from_residual-in_err-build.result ≡ Err c.in_err-build.field-0.0 = search rules in
     let fault =
     build_fault coded names (state_of c.self.inside) (subst (HoldsFirst coded names) back holds) c.self.invariant.kept c.args.slice.now slice c.args.mb.now
     (ap (λ (o : MbsState). slice_get coded.mbs o.next) c.self.view_is ∙ is) (facts_of c.sources-sources.result.neighbours)
-    (c.sources-sources.ensures.neighbours ∙ c.around.ensures) c.set_neighbour_facts.new.facts c.in_ok-set_neighbour_facts.ensures.motion c.self.inside.constrained_intra_pred
-    c.self.invariant.constrained c.in_ok-set_neighbour_facts.ensures.told c.sources-sources.result.references.now c.sources-sources.ensures.references
-    c.in_err-build.field-0.0 c.build.new.self c.in_err-build.ensures.built in
+    (c.sources-sources.ensures.neighbours ∙ c.around.ensures) c.set_neighbour_facts.new.facts c.in_ok-set_neighbour_facts.ensures.motion c.self.inside.canvas.constrained_intra_pred refl c.in_ok-set_neighbour_facts.ensures.told c.sources-sources.result.references.now c.sources-sources.ensures.references
+    c.in_err-build.field-0.0 built c.in_err-build.ensures.built in
     rw e (ap (λ (o : MbsState). macroblock_fault coded o.next) back ∙ fault)
+
+pub filter_late-requires : goal.filter_late-requires
+filter_late-requires g c =
+    let i = c.self.inside in
+    let w = c.self.invariant in (
+      omega arith,
+      late_room (state_of i) w.kept i.filter_rows.width w.filter_width (planes_of c.build.new.planes) c.build.ensures.sized,
+    )
 
 pub invariant_of-self-2 : goal.invariant_of-self-2
 invariant_of-self-2 g c =
+    let i = c.self.inside in
     let back = sym c.self.view_is in
     let n_is = sym (c.sources-sources.ensures.neighbours ∙ c.around.ensures) in
     let w = c.self.invariant in
+    let adds = c.put.ensures.facts in
+    let canvas = with_planes i.canvas (planes_of c.filter_late.new.planes) in
     record {
-      width = w.width ∙ sym c.build.ensures.size.0;
-      height = w.height ∙ sym c.build.ensures.size.1;
-      offset = w.offset ∙ sym c.build.ensures.parameters.0;
-      constrained = w.constrained ∙ sym c.build.ensures.parameters.1;
-      kept = kept_more (state_of c.self.inside) w.kept c.build.new.self c.build.ensures.size.0 c.build.ensures.size.1 c.set_neighbour_facts.new.facts
+      sized = c.filter_late.ensures.sized i.canvas.width i.canvas.height c.build.ensures.sized;
+      filter_width = ap (λ (f : FilterFacts). f.width) adds.new_is ∙ w.filter_width;
+      kept = subst (λ (f : FilterFacts). PartsAgree (record { canvas = canvas; row = c.put-2.new.self; filter_facts = f.facts; next = i.next + 1 })) (sym adds.new_is)
+          (kept_more (state_of i) w.kept canvas refl refl c.set_neighbour_facts.new.facts
           (c.in_ok-set_neighbour_facts.ensures.told.in_range
-          (subst (λ (n : Around). HasModes n.a) n_is (modes_left c.self.inside.row c.args.slice.now.number w.kept.modes))
-          (subst (λ (n : Around). HasModes n.b) n_is (modes_above c.self.inside.row c.args.slice.now.number w.kept.modes)))
-          c.set_filter_facts.new.facts (subst (λ (o : MbsState). o.next < o.canvas.width * o.canvas.height) back c.requires.room) c.put.new.self c.put.ensures;
+          (subst (λ (n : Around). HasModes n.a) n_is (modes_left i.row c.args.slice.now.number w.kept.modes))
+          (subst (λ (n : Around). HasModes n.b) n_is (modes_above i.row c.args.slice.now.number w.kept.modes)))
+          adds.facts (subst (λ (o : MbsState). o.next < o.canvas.width * o.canvas.height) back c.requires.room) c.put-2.new.self c.put-2.ensures);
     }
 
 pub returns-clause-decoded : goal.returns-clause-decoded
 returns-clause-decoded g c = λ coded names holds is slice.
     let back = sym c.self.view_is in
-    let old = state_of c.self.inside in
+    let i = c.self.inside in
+    let old = state_of i in
+    let w = c.self.invariant in
     let held = subst (HoldsFirst coded names) back holds in
-    let kept = c.self.invariant.kept in
+    let kept = w.kept in
     let there = ap (λ (o : MbsState). slice_get coded.mbs o.next) c.self.view_is ∙ is in
     let n = facts_of c.sources-sources.result.neighbours in
     let n_is = c.sources-sources.ensures.neighbours ∙ c.around.ensures in
     let facts = c.set_neighbour_facts.new.facts in
     let told = c.in_ok-set_neighbour_facts.ensures in
-    let room = has_entry old kept (subst (λ (o : MbsState). o.next < o.canvas.width * o.canvas.height) back c.requires.room) in
-    let long : length facts.motion ≡ 16 = c.set_filter_facts.ensures.blocks in
-    let none = no_fault coded names old held kept c.args.slice.now slice c.args.mb.now there n n_is facts told.motion c.self.inside.constrained_intra_pred
-    c.self.invariant.constrained told.told c.sources-sources.result.references.now c.sources-sources.ensures.references c.build.new.self
-    c.in_ok-build.field-0 c.in_ok-build.ensures.built long c.set_filter_facts.new.facts c.set_filter_facts.ensures.facts in
-    let more = holds_more coded names old held kept c.args.slice.now slice c.args.mb.now there n n_is facts told.motion c.self.inside.constrained_intra_pred
-    c.self.invariant.constrained told.told c.sources-sources.result.references.now c.sources-sources.ensures.references c.build.new.self
-    c.in_ok-build.field-0 c.in_ok-build.ensures.built long c.set_filter_facts.new.facts c.set_filter_facts.ensures.facts room in
-    let entries = slice_set old.filter_facts old.next c.set_filter_facts.new.facts in (
+    let adds = c.put.ensures.facts in
+    let room = subst (λ (o : MbsState). o.next < o.canvas.width * o.canvas.height) back c.requires.room in
+    let long : length facts.motion ≡ 16 = c.put.ensures.blocks in
+    let built = with_planes i.canvas (planes_of c.build.new.planes) in
+    let before = planes_of c.build.new.planes in
+    let after = planes_of c.filter_late.new.planes in
+    let same : to_z w8 (of_z w8 i.canvas.chroma_qp_index_offset) ≡ i.canvas.chroma_qp_index_offset = search rules in
+    let width : i.filter_rows.width ≡ coded.width = w.filter_width ∙ held.width in
+    let of : AreFactsOf coded names (to_z w8 (of_z w8 i.canvas.chroma_qp_index_offset)) i.filter_rows = record {
+      width_is = sym width;
+      offset_is = sym held.offset ∙ sym same;
+      facts_are = held.filter;
+    } in
+    let filters : FiltersUpTo coded (filtered_rows coded.width old.next) (filtered_rows coded.width (suc old.next)) before after =
+    subst (λ k. FiltersUpTo coded (filtered_rows k old.next) (filtered_rows k (suc old.next)) before after) width
+    (subst (λ k. FiltersUpTo coded (filtered_rows i.filter_rows.width k) (filtered_rows i.filter_rows.width (suc k)) before after) kept.filter_count
+    (c.filter_late.ensures.lines coded names of)) in
+    let none = no_fault coded names old held kept c.args.slice.now slice c.args.mb.now there n n_is facts told.motion i.canvas.constrained_intra_pred refl
+    told.told c.sources-sources.result.references.now c.sources-sources.ensures.references built
+    c.in_ok-build.field-0 c.in_ok-build.ensures.built long adds.facts adds.told in
+    let more = holds_more coded names old held kept c.args.slice.now slice c.args.mb.now there n n_is facts told.motion i.canvas.constrained_intra_pred refl
+    told.told c.sources-sources.result.references.now c.sources-sources.ensures.references built
+    c.in_ok-build.field-0 c.in_ok-build.ensures.built long adds.facts adds.told room after filters in
+    let canvas = with_planes i.canvas after in (
       ap (λ (o : MbsState). macroblock_fault coded o.next) back ∙ none,
-      subst (λ (r : PictureFacts). HoldsFirst coded names (record { canvas = c.build.new.self; row = r; filter_facts = entries; next = old.next + 1 })) (sym c.put.ensures)
-          (subst (λ (k : ℕ). HoldsFirst coded names (record { canvas = c.build.new.self; row = with_facts c.self.inside.row facts; filter_facts = entries; next = k }))
-          (sym (add-one old.next)) more),
+      subst (λ (f : FilterFacts). HoldsFirst coded names (record { canvas = canvas; row = c.put-2.new.self; filter_facts = f.facts; next = old.next + 1 })) (sym adds.new_is)
+          (subst (λ (r : PictureFacts). HoldsFirst coded names (record { canvas = canvas; row = r; filter_facts = old.filter_facts ++ adds.facts ∷ []; next = old.next + 1 })) (sym c.put-2.ensures)
+          (subst (λ (k : ℕ). HoldsFirst coded names (record { canvas = canvas; row = with_facts i.row facts; filter_facts = old.filter_facts ++ adds.facts ∷ []; next = k }))
+          (sym (add-one old.next)) more)),
     )

@@ -1,24 +1,46 @@
-use Rattle.std.proofs.Common.{◌≡◌, ◌∙◌, ◌*◌, sym, ap, arith, length, rules, w8, w32, to_z, of_z}
+use Rattle.std.proofs.Common.{◌≡◌, ◌∙◌, ◌<◌, ◌≤◌, ◌*◌, sym, ap, subst, arith, w8, w32, to_z, of_z}
 use Rattle.std.proofs.lemmas.Int.{ints}
-use Rattle.avc_picture.proofs.Keeping.{holds_none, kept_none}
+use Rattle.avc_params.specs.Limits.{max_macroblocks, height_in_mbs}
+use Rattle.avc_neigh.specs.Around.{no_facts}
+use Rattle.avc_plane.specs.Planes.{Planes}
+use Rattle.avc_plane.specs.Frames.{planes_of, AreSized}
+use Rattle.avc_picture.specs.RowLate.{FilterFacts}
+use Rattle.avc_picture_core.specs.Canvas.{CanvasState}
+use Rattle.avc_picture.specs.FirstMbs.{HoldsFirst}
+use Rattle.avc_picture.specs.MacroblocksState.{PartsAgree}
+use Rattle.avc_picture.proofs.Keeping.{holds_none, kept_none, empty_is_sized}
 use Rattle.avc_picture.proofs.macroblocks.Macroblocks.new.Goals as goal
 
 pub invariant_of-result : goal.invariant_of-result
 invariant_of-result g c =
-    let e = c.in_ok-new.ensures in
-    let long : length c.in_ok-vec.field-0.items ≡ c.height_in_mbs-height.result * c.width_in_mbs-width.result = search rules in
+    let w = c.width_in_mbs-width.result in
+    let h = c.height_in_mbs-height.result in
+    let offset = to_z w8 (of_z w8 (to_z w32 (of_z w32 c.args.pps.now.chroma_qp_index_offset))) in
+    let constrained = c.args.pps.now.constrained_intra_pred_flag in
+    let state : Planes → CanvasState = λ s. record { width = w; height = h; chroma_qp_index_offset = offset; constrained_intra_pred = constrained; planes = s } in
+    let size : w * h ≤ max_macroblocks =
+    subst (λ k. w * k ≤ max_macroblocks) (sym c.height_in_mbs-height.ensures)
+    (subst (λ k. k * height_in_mbs c.args.sps.now ≤ max_macroblocks) (sym c.width_in_mbs-width.ensures) c.requires.sps.size) in
     record {
-      width = sym (ap (λ x. x.width) e);
-      height = sym (ap (λ x. x.height) e);
-      offset = sym (ap (λ x. x.chroma_qp_index_offset) e);
-      constrained = sym (ap (λ x. x.constrained_intra_pred) e);
-      kept = kept_none _ _ _ _ _ _ _ e c.in_ok-new-2.ensures (omega (arith, c.width_in_mbs-width.ensures)) (omega (arith, c.height_in_mbs-height.ensures)) long;
+      sized = subst (AreSized w h) (sym c.in_ok-new.ensures) (empty_is_sized w h);
+      filter_width = ap (λ (f : FilterFacts). f.width) c.in_ok-new-3.ensures;
+      kept = subst (λ (f : FilterFacts). PartsAgree (record { canvas = state (planes_of c.in_ok-new.field-0); row = c.in_ok-new-2.field-0; filter_facts = f.facts; next = 0 }))
+          (sym c.in_ok-new-3.ensures)
+          (kept_none _ _ w h offset constrained (ap state c.in_ok-new.ensures) c.in_ok-new-2.ensures (omega (arith, c.width_in_mbs-width.ensures))
+          (omega (arith, c.height_in_mbs-height.ensures)) size);
     }
 
 pub returns-clause-holds : goal.returns-clause-holds
 returns-clause-holds g c = λ coded names sets.
+    let w = c.width_in_mbs-width.result in
+    let h = c.height_in_mbs-height.result in
+    let offset = to_z w8 (of_z w8 (to_z w32 (of_z w32 c.args.pps.now.chroma_qp_index_offset))) in
+    let constrained = c.args.pps.now.constrained_intra_pred_flag in
+    let state : Planes → CanvasState = λ s. record { width = w; height = h; chroma_qp_index_offset = offset; constrained_intra_pred = constrained; planes = s } in
     let p = c.requires.pps in
     let x = c.args.pps.now.chroma_qp_index_offset in
     let cast : to_z w8 (of_z w8 (to_z w32 (of_z w32 x))) ≡ x = omega (arith, ints, p.chroma_low, p.chroma_high) in
-    holds_none _ _ _ _ _ _ _ c.in_ok-new.ensures c.in_ok-new-2.ensures coded names (sets.width ∙ sym c.width_in_mbs-width.ensures)
-    (sets.height ∙ sym c.height_in_mbs-height.ensures) (sets.offset ∙ sym cast) sets.constrained
+    subst (λ (f : FilterFacts). HoldsFirst coded names (record { canvas = state (planes_of c.in_ok-new.field-0); row = c.in_ok-new-2.field-0; filter_facts = f.facts; next = 0 }))
+    (sym c.in_ok-new-3.ensures)
+    (holds_none _ _ w h offset constrained (ap state c.in_ok-new.ensures) c.in_ok-new-2.ensures coded names (sets.width ∙ sym c.width_in_mbs-width.ensures)
+    (sets.height ∙ sym c.height_in_mbs-height.ensures) (sets.offset ∙ sym cast) sets.constrained)

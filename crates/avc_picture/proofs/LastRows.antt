@@ -1,0 +1,86 @@
+-- The filter of the last whole row of macroblocks, from the facts of the rows that are kept.
+use Rattle.std.specs.Prelude.{ℕ, suc, ◌+◌, ◌-◌, ◌*◌, ◌/◌, ◌<◌, ◌≤◌, ℤ, List, length, slice_index_or}
+use Rattle.std.proofs.Common.{◌≡◌, ◌∙◌, refl, sym, ap, subst, arith}
+use Rattle.std.proofs.lemmas.Nat.{div-mul-add}
+use Rattle.avc_types.specs.Pictures.{Coded}
+use Rattle.avc_neigh.specs.declared.facts.Motion.{Motion}
+use Rattle.avc_motion.specs.Motion.{motion_before}
+use Rattle.avc_plane.specs.Planes.{Planes}
+use Rattle.avc_plane.specs.Frames.{AreSized}
+use Rattle.avc_deblock.specs.Edges.{all_filtered, row_lines}
+use Rattle.avc_deblock.specs.Facts.{Names, HasFacts, HaveFacts}
+use Rattle.avc_deblock.specs.OneEdge.{HasRoom}
+use Rattle.avc_deblock.specs.ByFacts.{row_by_facts, AreOfRow}
+use Rattle.avc_deblock.specs.declared.facts.MbFacts.{MbFacts}
+use Rattle.avc_deblock.proofs.LocalRows.{row_acts}
+use Rattle.avc_deblock.proofs.PictureFacts.{row_is}
+use Rattle.avc_picture.specs.RowLate.{AreFactsOf, FilterFacts, FiltersUpTo, filtered_rows, rows_filtered}
+use Rattle.avc_picture.specs.FilterRows.{AreFrom, AreLastRows}
+
+-- the facts that are kept of a row, from those of all macroblocks
+pub part : (c : Coded) (motion : List (List Motion)) (names : Names) (all kept : List MbFacts) (address first n : ℕ) → AreFrom all address n kept
+    → length kept ≡ n → address + n ≤ length all → first ≡ address → HaveFacts c motion names 0 all → HaveFacts c motion names first kept
+part c motion names all kept address first n from long within same have = λ k other below.
+    subst (HasFacts c motion names (first + k)) (sym (from k other (omega (arith, below, long))))
+    (subst (λ j. HasFacts c motion names j (slice_index_or all (address + k) other)) (omega (arith, same))
+    (have (address + k) other (omega (arith, below, long, within))))
+
+module _ (f : FilterFacts) (column row : ℕ) (current last above : List MbFacts) (kept : AreLastRows f.facts f.width column row current last above) where
+  -- the row of the macroblock that comes next
+  pub row_of : length f.facts / f.width ≡ row
+  row_of = ap (λ n. n / f.width) kept.count ∙ div-mul-add row f.width column kept.narrow
+
+  pub same_row : column + 1 < f.width → suc (length f.facts) / f.width ≡ row
+  same_row more = ap (λ n. n / f.width) (omega (arith, kept.count)) ∙ div-mul-add row f.width (column + 1) more
+
+  pub next_row : column + 1 ≡ f.width → suc (length f.facts) / f.width ≡ suc row
+  next_row end =
+      let some : 0 < f.width = omega (arith, kept.narrow) in
+      let all : suc (length f.facts) ≡ suc row * f.width + 0 = omega (arith, kept.count, end) in
+      ap (λ n. n / f.width) all ∙ div-mul-add (suc row) f.width 0 some
+
+  pub row_filtered : (c : Coded) (names : Names) (offset : ℤ) → AreFactsOf c names offset f → 1 ≤ row → (r : ℕ) → r ≡ row - 1
+      → (above' last' : List MbFacts) → above' ≡ above → last' ≡ last → (old new : Planes) → new ≡ row_by_facts offset r above' last' (length last') old
+      → FiltersUpTo c (filtered_rows f.width (length f.facts)) (length f.facts / f.width) old new
+  row_filtered c names offset of some r r_is above' last' above_is last_is old new new_is s old_is =
+      let motion = motion_before c (length c.mbs) in
+      let above_long : length above' ≡ f.width = ap length above_is ∙ kept.above_long in
+      let last_long : length last' ≡ f.width = ap length last_is ∙ kept.last_long in
+      let whole : row ≡ suc r = omega (arith, some, r_is) in
+      let rows : row * f.width ≡ r * f.width + f.width = ap (λ n. n * f.width) whole ∙ omega arith in
+      let are : AreOfRow c motion names r offset above' last' = record {
+        width_is = of.width_is ∙ sym last_long;
+        same = above_long ∙ sym last_long;
+        offset_is = of.offset_is;
+        facts_are = part c motion names f.facts last' (r * f.width) (r * c.width) f.width
+            (subst (λ xs. AreFrom f.facts (r * f.width) f.width xs) (sym last_is) (subst (λ n. AreFrom f.facts (n * f.width) f.width last) (sym r_is) (kept.last_is some)))
+            last_long (omega (arith, rows, kept.count)) (ap (λ n. r * n) of.width_is) of.facts_are;
+        above_are = λ more.
+            let two : r - 1 ≡ row - 2 = omega (arith, r_is) in
+            let before : r ≡ (r - 1) + 1 = omega (arith, more) in
+            let earlier : r * f.width ≡ (r - 1) * f.width + f.width = ap (λ n. n * f.width) before ∙ omega arith in
+            part c motion names f.facts above' ((r - 1) * f.width) ((r - 1) * c.width) f.width
+            (subst (λ xs. AreFrom f.facts ((r - 1) * f.width) f.width xs) (sym above_is)
+            (subst (λ n. AreFrom f.facts (n * f.width) f.width above) (sym two) (kept.above_is (omega (arith, more, whole)))))
+            above_long (omega (arith, earlier, rows, kept.count)) (ap (λ n. (r - 1) * n) of.width_is) of.facts_are;
+      } in
+      let so_far : filtered_rows f.width (length f.facts) ≡ r = ap (λ n. n - 1) row_of ∙ sym r_is in
+      new_is
+      ∙ row_is c motion names r offset above' last' old are
+      ∙ ap (λ t. all_filtered c motion t (row_lines c r)) (old_is ∙ ap (λ n. rows_filtered c n s) so_far)
+      ∙ ap (λ n. rows_filtered c n s) (sym whole ∙ sym row_of)
+
+-- the filter of a row keeps the size of the planes
+pub row_sized : (offset : ℤ) (row : ℕ) (above facts : List MbFacts) (s : Planes) → ((column : ℕ) → column < length facts → HasRoom column row s)
+    → (w h : ℕ) → AreSized w h s → AreSized w h (row_by_facts offset row above facts (length facts) s)
+row_sized offset row above facts s room w h sized =
+    let a = row_acts s.luma.width s.cb.width s.cr.width row offset above facts (length facts)
+    (λ k low. (room k low).luma_columns) (λ k low. (room k low).cb_columns) (λ k low. (room k low).cr_columns) in
+    record {
+      luma_width = ap (λ (p : Planes). p.luma.width) (a.is s) ∙ a.luma_local.width s.luma ∙ sized.luma_width;
+      luma_height = ap (λ (p : Planes). p.luma.height) (a.is s) ∙ a.luma_local.height s.luma ∙ sized.luma_height;
+      cb_width = ap (λ (p : Planes). p.cb.width) (a.is s) ∙ a.cb_local.width s.cb ∙ sized.cb_width;
+      cb_height = ap (λ (p : Planes). p.cb.height) (a.is s) ∙ a.cb_local.height s.cb ∙ sized.cb_height;
+      cr_width = ap (λ (p : Planes). p.cr.width) (a.is s) ∙ a.cr_local.width s.cr ∙ sized.cr_width;
+      cr_height = ap (λ (p : Planes). p.cr.height) (a.is s) ∙ a.cr_local.height s.cr ∙ sized.cr_height;
+    }

@@ -1,0 +1,116 @@
+-- The planes with a macroblock more, where all whole rows but the last are filtered.
+use Rattle.std.specs.Prelude.{ℕ, zero, suc, ◌+◌, ◌-◌, ◌*◌, ◌/◌, ◌<◌, ◌≤◌, ℤ, List, [], ◌∷◌, Some, length, take, drop, slice_get, slice_index_or}
+use Rattle.std.specs.List.{range_with_len, flat_map}
+use Rattle.std.proofs.Common.{◌≡◌, ◌∙◌, refl, sym, ap, subst, arith, mul_comm}
+use Rattle.std.proofs.lemmas.List.{length-take-le, length-drop}
+use Rattle.std.proofs.Math.Nat.{mul-le-mul_right, div-lt_iff_lt-mul, div-mul-le_self}
+use Rattle.avc_types.specs.Pictures.{Coded, PicMb}
+use Rattle.avc_neigh.specs.Modes.{modes_before}
+use Rattle.avc_neigh.specs.declared.facts.Motion.{Motion}
+use Rattle.avc_motion.specs.Motion.{motion_before}
+use Rattle.avc_plane.specs.Planes.{Planes, empty_planes}
+use Rattle.avc_deblock.specs.Edges.{all_filtered, row_lines}
+use Rattle.avc_deblock.specs.Facts.{Names}
+use Rattle.avc_deblock.specs.ByFacts.{row_by_facts, AreOfRow}
+use Rattle.avc_deblock.specs.declared.facts.MbFacts.{MbFacts}
+use Rattle.avc_deblock.proofs.PictureFacts.{row_is}
+use Rattle.avc_picture_core.specs.Built.{Place, place_of, planes_after}
+use Rattle.avc_picture.specs.RowLate.{AreFactsOf, FilterFacts, filtered_rows, first_built, row_late, rows_filtered}
+use Rattle.avc_picture.specs.FilterRows.{AreFrom}
+use Rattle.avc_picture.specs.Sizes.{IsSized}
+use Rattle.avc_picture.proofs.FirstPlanes.{first_built_more}
+use Rattle.avc_picture.proofs.LastRows.{part}
+use Rattle.avc_picture.proofs.Late.{built_after}
+use Rattle.avc_picture.proofs.SizesKept.{all_sized, built_on_sized, empty_sized}
+
+-- ---- the facts of one row
+
+get_take : (n : ℕ) (xs : List MbFacts) (k : ℕ) (d : MbFacts) → k < n → slice_index_or (take n xs) k d ≡ slice_index_or xs k d
+get_take zero xs k d low = absurd (omega (arith, low))
+get_take (suc n) [] k d low = refl
+get_take (suc n) (x ∷ xs) zero d low = refl
+get_take (suc n) (x ∷ xs) (suc k) d low = get_take n xs k d (omega (arith, low))
+
+get_drop : (a : ℕ) (xs : List MbFacts) (k : ℕ) (d : MbFacts) → slice_index_or (drop a xs) k d ≡ slice_index_or xs (a + k) d
+get_drop zero xs k d = let same : k ≡ zero + k = omega arith in ap (λ j. slice_index_or xs j d) same
+get_drop (suc a) [] k d = refl
+get_drop (suc a) (x ∷ xs) k d = let same : suc (a + k) ≡ suc a + k = omega arith in get_drop a xs k d ∙ ap (λ j. slice_index_or (x ∷ xs) j d) same
+
+abbrev from : List MbFacts → (address n : ℕ) → List MbFacts
+from all address n = take n (drop address all)
+
+are_from : (all : List MbFacts) (address n : ℕ) → AreFrom all address n (from all address n)
+are_from all address n k other low = get_take n (drop address all) k other low ∙ get_drop address all k other
+
+from_long : (all : List MbFacts) (address n : ℕ) → address + n ≤ length all → length (from all address n) ≡ n
+from_long all address n within = length-take-le n (drop address all) (omega (arith, within, length-drop address all))
+
+-- ---- rows that are filtered
+
+module _ (c : Coded) (names : Names) (offset : ℤ) (f : FilterFacts) (of : AreFactsOf c names offset f) where
+  abbrev motion : List (List Motion)
+  motion = motion_before c (length c.mbs)
+
+  abbrev row_facts : ℕ → List MbFacts
+  row_facts row = from f.facts (row * f.width) f.width
+
+  row_facts_are : (row : ℕ) → row * f.width + f.width ≤ length f.facts → AreOfRow c motion names row offset (row_facts (row - 1)) (row_facts row)
+  row_facts_are row within =
+      let earlier : (row - 1) * f.width ≤ row * f.width = mul-le-mul_right f.width (omega arith) in
+      let before : (row - 1) * f.width + f.width ≤ length f.facts = omega (arith, within, earlier) in
+      let long = from_long f.facts (row * f.width) f.width within in
+      let above_long = from_long f.facts ((row - 1) * f.width) f.width before in
+      record {
+        width_is = of.width_is ∙ sym long;
+        same = above_long ∙ sym long;
+        offset_is = of.offset_is;
+        facts_are = part c motion names f.facts (row_facts row) (row * f.width) (row * c.width) f.width (are_from f.facts (row * f.width) f.width) long within
+            (ap (λ n. row * n) of.width_is) of.facts_are;
+        above_are = λ more.
+            part c motion names f.facts (row_facts (row - 1)) ((row - 1) * f.width) ((row - 1) * c.width) f.width (are_from f.facts ((row - 1) * f.width) f.width) above_long before
+            (ap (λ n. (row - 1) * n) of.width_is) of.facts_are;
+      }
+
+  pub rows_sized : (w h rows : ℕ) (s : Planes) → IsSized w h s → IsSized w h (rows_filtered c rows s)
+  rows_sized w h zero s sized = sized
+  rows_sized w h (suc row) s sized = all_sized w h c motion (rows_filtered c row s) (row_lines c row) (rows_sized w h row s sized)
+
+  pub rows_and_macroblock : (p : Place) (h rows : ℕ) → rows ≤ h
+      → ((row : ℕ) → row < rows → row * f.width + f.width ≤ length f.facts)
+      → ((row : ℕ) → row < rows → row + 2 ≤ p.address / p.coded.width)
+      → (s : Planes) → IsSized f.width h s
+      → rows_filtered c rows (planes_after p s) ≡ planes_after p (rows_filtered c rows s)
+  rows_and_macroblock p h zero high within down s sized = refl
+  rows_and_macroblock p h (suc row) high within down s sized =
+      let t : Planes = rows_filtered c row s in
+      let lines = row_lines c row in
+      let there = within row (omega arith) in
+      let are = row_facts_are row there in
+      let long = from_long f.facts (row * f.width) f.width there in
+      let by_row : (u : Planes) → row_by_facts offset row (row_facts (row - 1)) (row_facts row) (length (row_facts row)) u ≡ all_filtered c motion u lines =
+      λ u. row_is c motion names row offset (row_facts (row - 1)) (row_facts row) u are in
+      ap (λ u. all_filtered c motion u lines)
+      (rows_and_macroblock p h row (omega (arith, high)) (λ k low. within k (omega (arith, low))) (λ k low. down k (omega (arith, low))) s sized)
+      ∙ sym (by_row (planes_after p t))
+      ∙ built_after offset row (row_facts (row - 1)) (row_facts row) f.width h long (omega (arith, high)) p (down row (omega arith)) t (rows_sized f.width h row s sized)
+      ∙ ap (planes_after p) (by_row t)
+
+  -- One macroblock more is built.
+  pub late_more : (n : ℕ) (m : PicMb) → slice_get c.mbs n ≡ Some m → length f.facts ≡ n → 0 < c.width → n < c.width * c.height
+      → (planes : Planes) → planes ≡ row_late c n
+      → planes_after (place_of c (modes_before c (suc n)) (motion_before c (suc n)) n m) planes ≡ rows_filtered c (filtered_rows c.width n) (first_built c (suc n))
+  late_more n m is count some room planes e =
+      let p : Place = place_of c (modes_before c (suc n)) (motion_before c (suc n)) n m in
+      let rows : ℕ = filtered_rows c.width n in
+      let s : Planes = first_built c n in
+      let sized : IsSized c.width c.height s = built_on_sized c.width c.height c (modes_before c n) (motion_before c n) 0 (empty_planes c.width c.height) (take n c.mbs) (empty_sized c.width c.height) in
+      let high : n / c.width < c.height = (div-lt_iff_lt-mul some).1 (omega (arith, room, mul_comm c.width c.height)) in
+      let all : n / c.width * c.width ≤ n = div-mul-le_self n c.width in
+      ap (planes_after p) e
+      ∙ sym (rows_and_macroblock p c.height rows (omega (arith, high))
+      (λ row low.
+      let next : (row + 1) * c.width ≤ n / c.width * c.width = mul-le-mul_right c.width (omega (arith, low)) in
+      subst (λ w. row * w + w ≤ length f.facts) of.width_is (omega (arith, next, all, count)))
+      (λ row low. omega (arith, low))
+      s (subst (λ w. IsSized w c.height s) of.width_is sized))
+      ∙ ap (rows_filtered c rows) (sym (first_built_more c n m is))

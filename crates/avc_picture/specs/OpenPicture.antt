@@ -1,0 +1,24 @@
+-- How far an open picture is deblocked, and its samples, ITU-T H.264 clause 8.7.
+use Rattle.std.specs.Prelude.{◌≡◌, ℕ, List, length}
+use Rattle.avc_params.specs.Limits.{width_in_mbs}
+use Rattle.avc_plane.specs.Planes.{Planes, samples_of}
+use Rattle.avc_picture_core.specs.Built.{built}
+use Rattle.avc_picture.specs.Decoding.{CanStandAt, Decoding, progress_at, start_at}
+use Rattle.avc_picture.specs.RowLate.{filtered_rows, rows_filtered}
+use Rattle.avc_picture.specs.Slices.{coded_of}
+
+-- the planes of the slices so far, filtered one row late (8.7)
+abbrev pub planes_so_far : {PAD : ℕ} → List ℕ → Decoding PAD → Planes
+planes_so_far entries d =
+    let c = coded_of (start_at entries d) (progress_at entries d) in
+    rows_filtered c (filtered_rows c.width (length c.mbs)) (built c)
+
+-- so many rows of macroblocks are filtered
+abbrev pub HasFiltered : {PAD : ℕ} → (rows : ℕ) → Decoding PAD → Type 0
+HasFiltered rows d =
+    (entries : List ℕ) → CanStandAt entries d → filtered_rows (width_in_mbs d.sps) (length (progress_at entries d).mbs) ≡ rows
+
+-- the sample (x, y) of a component, after the line filters of those rows and no others
+abbrev pub HasSample : {PAD : ℕ} → (component x y value : ℕ) → Decoding PAD → Type 0
+HasSample component x y value d =
+    (entries : List ℕ) → CanStandAt entries d → samples_of (planes_so_far entries d) component x y ≡ value

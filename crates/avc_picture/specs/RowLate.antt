@@ -1,0 +1,46 @@
+-- A picture's planes while it is decoded: a row of macroblocks is filtered as soon as the row below it is built, ITU-T H.264 clause 8.7.
+-- The filter goes through the macroblocks in the order of their addresses, so through one row after another, and the
+-- macroblocks of a row are predicted from what stands above it before deblocking (8.3).
+use Rattle.std.specs.Prelude.{◌≡◌, ℕ, zero, suc, ◌-◌, ◌/◌, ℤ, List, length, take}
+use Rattle.avc_types.specs.Pictures.{Coded}
+use Rattle.avc_neigh.specs.Modes.{modes_before}
+use Rattle.avc_motion.specs.Motion.{motion_before}
+use Rattle.avc_plane.specs.Planes.{Planes, empty_planes}
+use Rattle.avc_deblock.specs.Edges.{all_filtered, row_lines}
+use Rattle.avc_deblock.specs.Facts.{Names, HaveFacts}
+use Rattle.avc_deblock.specs.declared.facts.MbFacts.{MbFacts}
+use Rattle.avc_picture_core.specs.Built.{built_on}
+
+-- the planes with the picture's first n macroblocks in them
+abbrev pub first_built : Coded → ℕ → Planes
+first_built c n =
+    built_on c (modes_before c n) (motion_before c n) 0 (empty_planes c.width c.height) (take n c.mbs)
+
+-- the planes after the line filters of the picture's first rows of macroblocks, one row after another (8.7)
+abbrev pub rows_filtered : Coded → (rows : ℕ) → Planes → Planes
+rows_filtered c zero s = s
+rows_filtered c (suc row) s = all_filtered c (motion_before c (length c.mbs)) (rows_filtered c row s) (row_lines c row)
+
+-- how many rows are filtered of a picture of this width whose first n macroblocks are decoded: the whole ones but the last
+abbrev pub filtered_rows : (width n : ℕ) → ℕ
+filtered_rows width n = n / width - 1
+
+-- the planes with the picture's first n macroblocks in them, filtered one row late
+abbrev pub row_late : Coded → ℕ → Planes
+row_late c n = rows_filtered c (filtered_rows c.width n) (first_built c n)
+
+-- What the filter is told of a picture's macroblocks so far, in decoding order.
+pub record FilterFacts : Type 0 where
+  -- of the picture, in macroblocks
+  pub width : ℕ
+  pub facts : List MbFacts
+
+-- these are facts of the picture's first macroblocks
+pub record AreFactsOf (c : Coded) (names : Names) (offset : ℤ) (f : FilterFacts) : Type 0 where
+  pub width_is : c.width ≡ f.width
+  pub offset_is : c.chroma_qp_index_offset ≡ offset
+  pub facts_are : HaveFacts c (motion_before c (length c.mbs)) names 0 f.facts
+
+-- Of planes in which so many rows are filtered, so many are filtered then.
+abbrev pub FiltersUpTo : Coded → (before after : ℕ) → (old new : Planes) → Type 0
+FiltersUpTo c before after old new = (s : Planes) → old ≡ rows_filtered c before s → new ≡ rows_filtered c after s

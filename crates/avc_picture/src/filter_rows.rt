@@ -1,0 +1,146 @@
+//! The deblocking filter one row late, and what it asks of the last rows of macroblocks (8.7).
+
+ghost use Rattle.std.specs.Prelude.{◌≡◌, ℕ, suc, ◌+◌, ◌-◌, ◌/◌, ◌^◌, ◌<◌, [], length, IfOk};
+ghost use Rattle.avc_types.specs.Pictures.{Coded};
+ghost use Rattle.avc_plane.specs.Frames.{planes_of, AreSized};
+ghost use Rattle.avc_deblock.specs.Facts.{Names};
+ghost use Rattle.avc_deblock.specs.OneEdge.{HasRoom};
+ghost use Rattle.avc_picture.specs.RowLate.{filtered_rows, AreFactsOf, FiltersUpTo};
+ghost use Rattle.avc_picture.specs.FilterRows.{AddsFacts};
+
+use crate::filter_facts::set_filter_facts;
+use crate::slice_context::SliceContext;
+use avc_deblock::{MbFacts, row};
+use avc_neigh::Motion;
+use avc_plane::Planes;
+use avc_types::{FilteredEdges, History, Mb, Mv, OutOfMemory};
+use std::alloc::Global;
+use std::marker::Model;
+use std::mem::swap;
+
+/// What stands for the facts of a macroblock that is not decoded yet.
+const NO_FACTS: MbFacts = MbFacts {
+    is_intra: true,
+    coefficients: 0,
+    pictures: [0; 4],
+    vectors: [Mv { x: 0, y: 0 }; 16],
+    qp: 0,
+    slice: 0,
+    filtered_edges: FilteredEdges::NoEdges,
+    offset_a: 0,
+    offset_b: 0,
+};
+
+/// What the filter asks of a picture's macroblocks so far. A contract sees the facts of all of them, in decoding order; three rows
+/// keep those that can still be asked for: a row is filtered when the one below it is built, by its own facts and those of the row
+/// above it.
+#[derive(Drop)]
+pub(crate) struct FilterRows {
+    /// In macroblocks.
+    width: usize,
+
+    /// The row of the macroblock that comes next.
+    current: Vec<MbFacts>,
+
+    /// The row above it.
+    last: Vec<MbFacts>,
+
+    /// The row above that.
+    above: Vec<MbFacts>,
+
+    /// Where the macroblock stands that comes next.
+    column: usize,
+    row: usize,
+
+    facts: History<MbFacts>,
+}
+
+impl Model for FilterRows {
+    ghost use Rattle.avc_picture.specs.RowLate.{FilterFacts};
+    ghost use Rattle.avc_picture.specs.FilterRows.{AreLastRows};
+
+    ghost Value = { FilterFacts };
+
+    ghost view = { λ r. record { width = r.width; facts = r.facts.items } };
+
+    ghost invariant = { λ r. AreLastRows r.facts.items r.width r.column r.row r.current.items r.last.items r.above.items };
+}
+
+impl FilterRows {
+    /// For a picture of this width in macroblocks, before its first macroblock. Only this call takes memory.
+    pub(crate) fn new(alloc: Global, width: usize) -> Result<Self, OutOfMemory>
+        requires { 0 < width }
+        ensures { IfOk result (λ rows. rows ≡ record { width = width; facts = [] }) }
+    {
+        Ok(FilterRows {
+            width,
+            current: vec![in alloc; NO_FACTS; width]?,
+            last: vec![in alloc; NO_FACTS; width]?,
+            above: vec![in alloc; NO_FACTS; width]?,
+            column: 0,
+            row: 0,
+            facts: History::new(),
+        })
+    }
+
+    /// Filters the last whole row, where there is one.
+    pub(crate) fn filter_last_row<const PAD: usize>(
+        &self,
+        planes: &mut Planes<PAD>,
+        chroma_qp_index_offset: i8,
+    )
+        requires room { (column : ℕ) → column < self.now.width → HasRoom column (length self.now.facts / self.now.width - 1) (planes_of planes.old) }
+        ensures sized { (width height : ℕ) → AreSized width height (planes_of planes.old) → AreSized width height (planes_of planes.new) }
+        ensures lines { (c : Coded) (names : Names) → AreFactsOf c names chroma_qp_index_offset self.now
+            → FiltersUpTo c (filtered_rows self.now.width (length self.now.facts)) (length self.now.facts / self.now.width) (planes_of planes.old) (planes_of planes.new) }
+    {
+        if self.row > 0 {
+            row(
+                planes,
+                &self.above,
+                &self.last,
+                self.row - 1,
+                chroma_qp_index_offset,
+            );
+        }
+    }
+
+    /// Filters the row above that of the macroblock that comes next, where this is the last of its row and is built.
+    pub(crate) fn filter_late<const PAD: usize>(
+        &self,
+        planes: &mut Planes<PAD>,
+        chroma_qp_index_offset: i8,
+    )
+        requires room { (column : ℕ) → column < self.now.width → HasRoom column (length self.now.facts / self.now.width - 1) (planes_of planes.old) }
+        ensures sized { (width height : ℕ) → AreSized width height (planes_of planes.old) → AreSized width height (planes_of planes.new) }
+        ensures lines { (c : Coded) (names : Names) → AreFactsOf c names chroma_qp_index_offset self.now
+            → FiltersUpTo c (filtered_rows self.now.width (length self.now.facts)) (filtered_rows self.now.width (suc (length self.now.facts))) (planes_of planes.old) (planes_of planes.new) }
+    {
+        if self.column + 1 == self.width {
+            self.filter_last_row(planes, chroma_qp_index_offset);
+        }
+    }
+
+    /// Adds the facts of the macroblock that comes next. It has this motion.
+    pub(crate) fn put<const PAD: usize>(
+        &mut self,
+        mb: &Mb,
+        motion: &[Motion; 16],
+        slice: &SliceContext<'_, PAD>,
+    )
+        requires small { length self.old.facts < 2 ^ 32 }
+        ensures facts { AddsFacts mb.now motion.now slice.now self.old self.new }
+        ensures blocks { length motion.now ≡ 16 }
+    {
+        set_filter_facts(&mut self.current[self.column], mb, motion, slice);
+        self.facts = self.facts.with(&self.current[self.column]);
+        self.column += 1;
+        if self.column == self.width {
+            // the oldest row gives its place to the next
+            swap(&mut self.above, &mut self.last);
+            swap(&mut self.last, &mut self.current);
+            self.column = 0;
+            self.row += 1;
+        }
+    }
+}
