@@ -41,7 +41,7 @@ const NO_FACTS: MbFacts = MbFacts {
 };
 
 /// What stands for what neighbours are told of a macroblock, until it is known.
-const NOTHING_TOLD: NeighbourFacts = NeighbourFacts {
+pub(crate) const NOTHING_TOLD: NeighbourFacts = NeighbourFacts {
     slice: 0,
     total_coeffs: TotalCoeffs {
         luma: [0; 16],
@@ -155,8 +155,14 @@ impl<const PAD: usize> Macroblocks<PAD> {
 
     /// Decodes the macroblock that comes next. `VectorRange` where a component of one of its vectors is no 16-bit number,
     /// `RefMissing` where a block has no reference picture, `IntraUnavailable` where an intra prediction has not the samples
-    /// that it needs: the first of these. After a fault nothing more is to be asked of the macroblocks.
-    pub(crate) fn decode(&mut self, mb: &Mb, slice: &SliceContext<'_, PAD>) -> Result<(), Fault>
+    /// that it needs: the first of these. After a fault nothing more is to be asked of the macroblocks. Anything may stand in `facts`,
+    /// which is where what its neighbours are told is written.
+    pub(crate) fn decode(
+        &mut self,
+        mb: &Mb,
+        slice: &SliceContext<'_, PAD>,
+        facts: &mut NeighbourFacts,
+    ) -> Result<(), Fault>
         requires room { self.old.next < self.old.canvas.width * self.old.canvas.height }
         requires mb { IsRead mb.now }
         requires references { AreUsable self.old.canvas.width self.old.canvas.height slice.now.references }
@@ -167,17 +173,16 @@ impl<const PAD: usize> Macroblocks<PAD> {
             → IsSlice c names slice.now → IsDecoded c names self.old.next result self.new }
     {
         let sources = sources(self.row.around(slice.number), &slice.references);
-        let mut facts = NOTHING_TOLD;
         set_neighbour_facts(
-            &mut facts,
+            facts,
             mb,
             slice.number,
             &sources.neighbours,
             self.constrained_intra_pred,
         )?;
-        self.canvas.build(self.next, mb, &facts, &sources)?;
+        self.canvas.build(self.next, mb, facts, &sources)?;
         set_filter_facts(&mut self.filter_facts[self.next], mb, &facts.motion, slice);
-        self.row.put(&facts);
+        self.row.put(facts);
         self.next += 1;
         Ok(())
     }
