@@ -1,11 +1,13 @@
 ghost use Rattle.std.specs.Prelude.{◌≡◌, ℕ, ◌+◌, ◌*◌, ◌^◌, ◌<◌, ◌≤◌, true, All, IfOk};
+ghost use Rattle.avc_types.specs.MacroblockFields.{syntax_of};
 ghost use Rattle.avc_neigh.specs.Around.{facts_of};
 ghost use Rattle.avc_neigh.specs.Modes.{IsMode};
-ghost use Rattle.avc_motion.specs.Motion.{AreOfOneMotion, has_one_motion};
+ghost use Rattle.avc_motion.specs.Motion.{AreOfOneMotion, has_one_motion, is_intra};
 ghost use Rattle.avc_plane.specs.Frames.{planes_of, AreSized};
 ghost use Rattle.avc_picture_core.specs.Built.{Place};
 ghost use Rattle.avc_picture_core.specs.Canvas.{blank, IsBuilt, IsInRange, IsPlaceOn};
 ghost use Rattle.avc_picture_core.specs.References.{AreUsable};
+ghost use Rattle.avc_picture_core.specs.Sides.{readable_near};
 
 use crate::macroblock::build_macroblock;
 use crate::places::{MbPlace, PictureSize};
@@ -15,7 +17,7 @@ use crate::sides::ReadableNeighbours;
 use avc_neigh::{NeighbourFacts, Neighbours};
 use avc_plane::Planes;
 use avc_transform::chroma_qp;
-use avc_types::{Fault, Mb, OutOfMemory};
+use avc_types::{Fault, Mb, OutOfMemory, Syntax};
 use std::alloc::Global;
 use std::marker::Model;
 
@@ -48,6 +50,27 @@ impl<const PAD: usize> Model for Canvas<PAD> {
     ghost view = { canvas_of };
 
     ghost invariant = { IsCanvas };
+}
+
+/// Which neighbours of an intra macroblock have samples that it may read. An inter one reads none, and these are not sought for it.
+fn readable_neighbours(
+    syntax: &Syntax,
+    neighbours: &Neighbours<'_>,
+    constrained_intra_pred: bool,
+) -> ReadableNeighbours
+    ensures { is_intra (syntax_of syntax.now) ≡ true → result ≡ readable_near constrained_intra_pred (facts_of neighbours.now) }
+{
+    match syntax {
+        Syntax::PSkip | Syntax::PInter { .. } => ReadableNeighbours {
+            a: false,
+            b: false,
+            c: false,
+            d: false,
+        },
+        Syntax::IPcm { .. } | Syntax::INxN { .. } | Syntax::I16x16 { .. } => {
+            ReadableNeighbours::of(neighbours, constrained_intra_pred)
+        }
+    }
 }
 
 impl<const PAD: usize> Canvas<PAD> {
@@ -107,7 +130,11 @@ impl<const PAD: usize> Canvas<PAD> {
             luma: mb.qp,
             chroma: chroma_qp(self.chroma_qp_index_offset, mb.qp),
         };
-        let readable = ReadableNeighbours::of(&sources.neighbours, self.constrained_intra_pred);
+        let readable = readable_neighbours(
+            &mb.syntax,
+            &sources.neighbours,
+            self.constrained_intra_pred,
+        );
         build_macroblock(
             &mut self.planes,
             place,
