@@ -1,5 +1,5 @@
 //! The data of a slice (7.3.4), one macroblock at a time.
-ghost use Rattle.std.specs.Prelude.{◌≡◌, ◌+◌, ◌<◌, List, length, true, IfOk};
+ghost use Rattle.std.specs.Prelude.{◌≡◌, ◌+◌, ◌<◌, List, length, true, false, IfOk, Ok, Some};
 ghost use Rattle.std.specs.Option.{option_copied};
 ghost use Rattle.avc_types.specs.Pictures.{PicMb};
 ghost use Rattle.avc_types.specs.declared.mb.Syntax.TheVariants.{PSkip};
@@ -73,6 +73,23 @@ impl<'a> SliceData<'a> {
             Stage::Next => self.start(left, up, mb),
             Stage::Skipped(count) => self.go_on(count, left, up, mb),
             Stage::Ended => Ok(false),
+        }
+    }
+
+    /// Hands out the next macroblock into `mb` where it is one of a run of skipped ones that was read, for which no neighbour is asked.
+    /// Answers whether it is; if not, nothing was read.
+    #[inline]
+    pub fn next_skipped(&mut self, mb: &mut Mb) -> bool
+        ensures skipped { result ≡ true → (s : SliceStart) (before : List PicMb) → Follows s before self.old
+            → IsHandedOut s before (Ok (Some mb.new)) self.old self.new }
+        ensures other { result ≡ false → self.new ≡ self.old }
+    {
+        match self.stage {
+            Stage::Skipped(count) if count > 0 => {
+                self.skip(count, mb);
+                true
+            }
+            _ => false,
         }
     }
 

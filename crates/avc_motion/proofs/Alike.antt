@@ -1,5 +1,5 @@
 -- A macroblock of one partition: all its blocks have one motion.
-use Rattle.std.specs.Prelude.{if◌then◌else◌, Option, Some, None, slice_index}
+use Rattle.std.specs.Prelude.{if◌then◌else◌, Some, None, slice_index}
 use Rattle.std.proofs.Common.{◌≡◌, ℕ, List, [], ◌∷◌, Bool, true, false, refl, sym, ap, ◌∙◌, subst}
 use Rattle.std.proofs.lemmas.Option.{same_Some}
 use Rattle.avc_types.specs.declared.macroblock.Mvd.{Mvd}

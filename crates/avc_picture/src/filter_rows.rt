@@ -1,11 +1,12 @@
 //! The deblocking filter one row late, and what it asks of the last rows of macroblocks (8.7).
 
-ghost use Rattle.std.specs.Prelude.{◌≡◌, ℕ, suc, ◌+◌, ◌-◌, ◌/◌, ◌^◌, ◌<◌, [], length, IfOk};
+ghost use Rattle.std.specs.Prelude.{◌≡◌, ℕ, suc, ◌+◌, ◌-◌, ◌/◌, ◌^◌, ◌<◌, true, [], length, IfOk};
 ghost use Rattle.avc_types.specs.Pictures.{Coded};
 ghost use Rattle.avc_plane.specs.Frames.{planes_of, AreSized};
 ghost use Rattle.avc_deblock.specs.Facts.{Names};
 ghost use Rattle.avc_deblock.specs.OneEdge.{HasRoom};
 ghost use Rattle.avc_picture.specs.RowLate.{filtered_rows, AreFactsOf, FiltersUpTo};
+ghost use Rattle.avc_motion.specs.Motion.{AreOfOneMotion, has_one_motion};
 ghost use Rattle.avc_picture.specs.FilterRows.{AddsFacts};
 
 use crate::filter_facts::set_filter_facts;
@@ -129,6 +130,7 @@ impl FilterRows {
         slice: &SliceContext<'_, PAD>,
     )
         requires small { length self.old.facts < 2 ^ 32 }
+        requires one { has_one_motion mb.now.syntax ≡ true → AreOfOneMotion motion.now }
         ensures facts { AddsFacts mb.now motion.now slice.now self.old self.new }
         ensures blocks { length motion.now ≡ 16 }
     {

@@ -29,7 +29,7 @@ use std::alloc::Global;
 use std::marker::Model;
 
 /// What stands for what neighbours are told of a macroblock, until it is known.
-const NOTHING_TOLD: NeighbourFacts = NeighbourFacts {
+pub(crate) const NOTHING_TOLD: NeighbourFacts = NeighbourFacts {
     slice: 0,
     total_coeffs: TotalCoeffs {
         luma: [0; 16],
@@ -132,8 +132,13 @@ impl<const PAD: usize> Macroblocks<PAD> {
     /// Decodes the macroblock that comes next, and filters the row above where it is the last of its own (8.7). `VectorRange` where a
     /// component of one of its vectors is no 16-bit number, `RefMissing` where a block has no reference picture, `IntraUnavailable` where
     /// an intra prediction has not the samples that it needs: the first of these. After a fault nothing more is to be asked of the
-    /// macroblocks.
-    pub(crate) fn decode(&mut self, mb: &Mb, slice: &SliceContext<'_, PAD>) -> Result<(), Fault>
+    /// macroblocks. Anything may stand in `facts`, which is where what its neighbours are told is written.
+    pub(crate) fn decode(
+        &mut self,
+        mb: &Mb,
+        slice: &SliceContext<'_, PAD>,
+        facts: &mut NeighbourFacts,
+    ) -> Result<(), Fault>
         requires room { self.old.next < self.old.canvas.width * self.old.canvas.height }
         requires mb { IsRead mb.now }
         requires references { AreUsable self.old.canvas.width self.old.canvas.height slice.now.references }
@@ -144,20 +149,19 @@ impl<const PAD: usize> Macroblocks<PAD> {
             → IsSlice c names slice.now → IsDecoded c names self.old.next result self.new }
     {
         let sources = sources(self.row.around(slice.number), &slice.references);
-        let mut facts = NOTHING_TOLD;
         set_neighbour_facts(
-            &mut facts,
+            facts,
             mb,
             slice.number,
             &sources.neighbours,
             self.canvas.constrained_intra_pred,
         )?;
         self.canvas
-            .build(&mut self.planes, self.next, mb, &facts, &sources)?;
+            .build(&mut self.planes, self.next, mb, facts, &sources)?;
         self.filter_rows
             .filter_late(&mut self.planes, self.canvas.chroma_qp_index_offset);
         self.filter_rows.put(mb, &facts.motion, slice);
-        self.row.put(&facts);
+        self.row.put(facts);
         self.next += 1;
         Ok(())
     }

@@ -21,11 +21,12 @@ ghost use Rattle.avc_picture.specs.FirstMbs.{HasSameSize, HoldsFirst};
 ghost use Rattle.avc_picture.specs.Slices.{data_of, start_of};
 
 use crate::header_checks::check_address;
-use crate::macroblocks::Macroblocks;
+use crate::macroblocks::{Macroblocks, NOTHING_TOLD};
 use crate::reference_places::{Places, reference_places};
 use crate::slice_context::SliceContext;
 use avc_bits::BitReader;
 use avc_mbsyntax::SliceData;
+use avc_neigh::NeighbourFacts;
 use avc_params::{Pps, Sps};
 use avc_plane::Frame;
 use avc_slice::{Header, Slice};
@@ -73,18 +74,22 @@ fn next_macroblock<const PAD: usize>(
         → Follows s (take macroblocks.now.next c.mbs) unread.old
         → IsHandedOut s (take macroblocks.now.next c.mbs) (handed_out result mb.new) unread.old unread.new }
 {
+    if unread.next_skipped(mb) {
+        return Ok(true);
+    }
     let (left, up) = macroblocks.left_and_above(number);
     unread.next(left, up, mb)
 }
 
 /// Decodes the macroblocks of a slice, and counts in `read` those that are read, a faulty one included. Answers the first fault.
-/// Anything may stand in `mb`, which is where they are read.
+/// Anything may stand in `mb`, which is where they are read, and in `facts`, which is where the facts of each are written.
 fn decode_data<const PAD: usize>(
     unread: &mut SliceData<'_>,
     context: &SliceContext<'_, PAD>,
     macroblocks: &mut Macroblocks<PAD>,
     read: &mut u32,
     mb: &mut Mb,
+    facts: &mut NeighbourFacts,
 ) -> Result<(), Fault>
     requires some { CanGoOn macroblocks.old unread.old context.now }
     requires usable { AreUsable macroblocks.old.canvas.width macroblocks.old.canvas.height context.now.references }
@@ -98,7 +103,7 @@ fn decode_data<const PAD: usize>(
 {
     'macroblocks: while next_macroblock(unread, macroblocks, context.number, mb)? {
         *read += 1;
-        macroblocks.decode(mb, context)?;
+        macroblocks.decode(mb, context, facts)?;
     }
     Ok(())
 }
@@ -130,9 +135,10 @@ fn decode_macroblocks<const PAD: usize>(
         → IsDataAnswer c names macroblocks.old.next (outcome_from c s macroblocks.old d) result read.new macroblocks.new }
 {
     let context = SliceContext::new(number, header, frames, places);
+    let mut facts = NOTHING_TOLD;
     *read += 1;
-    macroblocks.decode(mb, &context)?;
-    decode_data(unread, &context, macroblocks, read, mb)
+    macroblocks.decode(mb, &context, &mut facts)?;
+    decode_data(unread, &context, macroblocks, read, mb, &mut facts)
 }
 
 /// Decodes slice `number` of a picture, of which `read` macroblocks have been read. Answers the first fault.

@@ -9,12 +9,13 @@ use Rattle.avc_neigh.specs.Around.{Around, is_intra_facts}
 use Rattle.avc_neigh.specs.Blocks.{Location, block_x, block_y, block_at, location_at, location_in}
 use Rattle.avc_neigh.specs.Laws.{is_there_near}
 use Rattle.avc_neigh.specs.declared.facts.NeighbourFacts.{NeighbourFacts}
+use Rattle.avc_motion.specs.Motion.{is_intra}
 use Rattle.avc_transform.specs.Residual.{chroma_qp}
 use Rattle.avc_intra.specs.declared.sides.Sides.{Sides}
 use Rattle.avc_plane.specs.Planes.{Planes}
 use Rattle.avc_picture_core.specs.Built.{Place, is_there, sides_of}
 use Rattle.avc_picture_core.specs.Canvas.{CanvasState, IsBuilt, IsPlaceOn, sides_near}
-use Rattle.avc_picture_core.specs.Places.{ArePlanesBuilt, IsPlaceIn}
+use Rattle.avc_picture_core.specs.Places.{ArePlanesBuilt, IsPlaceIn, MayRead}
 use Rattle.avc_picture_core.specs.Sides.{AreInside, is_readable, readable_near, readable_sides}
 use Rattle.avc_picture_core.specs.declared.references.ReferencePicture.{ReferencePicture}
 use Rattle.avc_picture_core.specs.declared.sides.ReadableNeighbours.{ReadableNeighbours}
@@ -142,13 +143,21 @@ pub canvas_built : {PAD : ℕ} (width height : ℕ) (offset : ℤ) (constrained 
     (facts : NeighbourFacts) (n : Around) (r : ReadableNeighbours) (references : List (Option (ReferencePicture PAD))) (result : Result (Unit {0}) Fault)
     (canvas : CanvasState) (mb : Mb) (p : Place)
     → state width height offset constrained old ≡ canvas → record { syntax = syntax; qp = qp } ≡ mb
-    → qp_of_chroma ≡ chroma_qp offset qp → r ≡ readable_near constrained n
+    → qp_of_chroma ≡ chroma_qp offset qp → (is_intra syntax ≡ true → r ≡ readable_near constrained n)
     → (IsPlaceIn (address % width) (address / width) width height syntax qp qp_of_chroma facts r references p → ArePlanesBuilt p result old new)
     → IsPlaceOn canvas address mb facts n references p → IsBuilt p result canvas (state width height offset constrained new)
 canvas_built width height offset constrained old new syntax qp qp_of_chroma address facts n r references result canvas mb p view of_mb chroma near built on =
     let same = subst (λ s. IsPlaceOn s address (record { syntax = syntax; qp = qp }) facts n references p) (sym view)
     (subst (λ m. IsPlaceOn canvas address m facts n references p) (sym of_mb) on) in
-    let there = subst (λ t. IsPlaceIn (address % width) (address / width) width height syntax qp qp_of_chroma facts t references p) (sym near)
-    (place_in width height offset constrained old syntax qp address facts n references p qp_of_chroma chroma same) in
+    let all = place_in width height offset constrained old syntax qp address facts n references p qp_of_chroma chroma same in
+    let there : IsPlaceIn (address % width) (address / width) width height syntax qp qp_of_chroma facts r references p = record {
+      at = all.at;
+      may_read = λ intra. subst (λ t. MayRead (address % width) (address / width) (16 * width) t p) (sym (near intra)) (all.may_read intra);
+      width_is = all.width_is;
+      height_is = all.height_is;
+      modes_are = all.modes_are;
+      motion_is = all.motion_is;
+      references_are = all.references_are;
+    } in
     subst (λ s. IsBuilt p result s (state width height offset constrained new)) view
     (planes_built width height offset constrained p result old new (built there))

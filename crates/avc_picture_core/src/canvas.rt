@@ -1,12 +1,14 @@
 ghost use Rattle.std.specs.Prelude.{◌≡◌, ◌*◌, ◌<◌, ◌≤◌, true, All};
+ghost use Rattle.avc_types.specs.MacroblockFields.{syntax_of};
 ghost use Rattle.avc_neigh.specs.Around.{facts_of};
 ghost use Rattle.avc_neigh.specs.Modes.{IsMode};
-ghost use Rattle.avc_motion.specs.Motion.{AreOfOneMotion, has_one_motion};
+ghost use Rattle.avc_motion.specs.Motion.{AreOfOneMotion, has_one_motion, is_intra};
 ghost use Rattle.avc_plane.specs.Frames.{planes_of, AreSized};
 ghost use Rattle.avc_picture_core.specs.Built.{Place};
 ghost use Rattle.avc_picture_core.specs.Canvas.{IsBuilt, IsInRange, IsPlaceOn};
 ghost use Rattle.avc_picture_core.specs.CanvasFields.{with_planes};
 ghost use Rattle.avc_picture_core.specs.References.{AreUsable};
+ghost use Rattle.avc_picture_core.specs.Sides.{readable_near};
 
 use crate::macroblock::build_macroblock;
 use crate::places::{MbPlace, PictureSize};
@@ -16,7 +18,7 @@ use crate::sides::ReadableNeighbours;
 use avc_neigh::{NeighbourFacts, Neighbours};
 use avc_plane::Planes;
 use avc_transform::chroma_qp;
-use avc_types::{Fault, Mb};
+use avc_types::{Fault, Mb, Syntax};
 
 /// What a macroblock is predicted from, beside the samples before it.
 #[derive(Clone, Copy)]
@@ -38,6 +40,27 @@ pub struct Canvas {
     pub chroma_qp_index_offset: i8,
 
     pub constrained_intra_pred: bool,
+}
+
+/// Which neighbours of an intra macroblock have samples that it may read. An inter one reads none, and these are not sought for it.
+fn readable_neighbours(
+    syntax: &Syntax,
+    neighbours: &Neighbours<'_>,
+    constrained_intra_pred: bool,
+) -> ReadableNeighbours
+    ensures { is_intra (syntax_of syntax.now) ≡ true → result ≡ readable_near constrained_intra_pred (facts_of neighbours.now) }
+{
+    match syntax {
+        Syntax::PSkip | Syntax::PInter { .. } => ReadableNeighbours {
+            a: false,
+            b: false,
+            c: false,
+            d: false,
+        },
+        Syntax::IPcm { .. } | Syntax::INxN { .. } | Syntax::I16x16 { .. } => {
+            ReadableNeighbours::of(neighbours, constrained_intra_pred)
+        }
+    }
 }
 
 impl Canvas {
@@ -74,7 +97,11 @@ impl Canvas {
             luma: mb.qp,
             chroma: chroma_qp(self.chroma_qp_index_offset, mb.qp),
         };
-        let readable = ReadableNeighbours::of(&sources.neighbours, self.constrained_intra_pred);
+        let readable = readable_neighbours(
+            &mb.syntax,
+            &sources.neighbours,
+            self.constrained_intra_pred,
+        );
         build_macroblock(
             planes,
             place,

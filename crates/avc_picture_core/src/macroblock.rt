@@ -231,7 +231,9 @@ pub(crate) fn build_macroblock<const PAD: usize>(
             qp,
         ),
         Syntax::PInter {
-            mb_type, levels, ..
+            mb_type,
+            levels,
+            ..
         } => build_p_inter(
             planes,
             place,

@@ -13,6 +13,6 @@ returns-clause-built g c = λ p on.
     let back : to_z w8 (of_z w8 s.chroma_qp_index_offset) ≡ s.chroma_qp_index_offset = search rules in
     canvas_built s.width s.height s.chroma_qp_index_offset s.constrained_intra_pred (planes_of c.args.planes.now) (planes_of c.build_macroblock.new.planes)
     (syntax_of c.mb.inside.syntax) c.mb.inside.qp c.chroma_qp.result c.args.address c.args.facts.now (facts_of c.args.sources.now.neighbours)
-    c.of-readable.result c.args.sources.now.references.now c.build_macroblock.result (with_planes s (planes_of c.args.planes.now)) c.args.mb.now p
+    c.readable_neighbours-readable.result c.args.sources.now.references.now c.build_macroblock.result (with_planes s (planes_of c.args.planes.now)) c.args.mb.now p
     refl c.mb.view_is (c.chroma_qp.ensures.value ∙ ap (λ (z : ℤ). chroma_qp z c.mb.inside.qp) back)
-    c.of-readable.ensures (c.build_macroblock.ensures.built p) on
+    c.readable_neighbours-readable.ensures (c.build_macroblock.ensures.built p) on
