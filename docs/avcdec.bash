@@ -33,7 +33,7 @@ _avcdec() {
     fi
     case ${COMP_WORDS[COMP_CWORD - 1]} in
     help) _avcdec_words "$commands" ;;
-    --format) _avcdec_words 'i420 y4m null md5' ;;
+    --format) _avcdec_words 'i420 y4m null md5 framemd5' ;;
     --verify | --skip | --limit) ;;
     -o | --output) _avcdec_files ;;
     *)

@@ -1,6 +1,10 @@
 #!/bin/sh
-# Makes anew what ffmpeg (5.1) writes of the streams below: NAME.y4m, the md5 of its YUV4MPEG2. Pictures are
-# neither dropped nor repeated (-fps_mode passthrough). Of a stream without a VUI ffmpeg takes chroma samples to lie as in JPEG; it is told type 0 (E.2.1).
+# Makes anew what ffmpeg (5.1) writes of the streams below: NAME.y4m, the md5 of its YUV4MPEG2, and NAME.framemd5, its framemd5. Pictures
+# are neither dropped nor repeated (-fps_mode passthrough). Of a stream without a VUI ffmpeg takes chroma samples to lie as in JPEG; it
+# is told type 0 (E.2.1). At the left it leaves out as many columns as alignment allows; it is told to leave out all (-flags unaligned).
+# What it decodes of a stream in which something is refused is its own matter: of these are here such as have the same pictures. No stream
+# is here whose frame rate has numbers of more than 30 bits, which it rounds, that has several sizes, which it scales to the first, or
+# whose no_output_of_prior_pics_flag drops a picture, which it writes.
 set -eu
 here=$(cd "$(dirname "$0")" && pwd)
 
@@ -15,4 +19,15 @@ for name in \
     fi
     # shellcheck disable=SC2086
     ffmpeg -v error -nostdin -i "$here/$name.264" $site -fps_mode passthrough -f yuv4mpegpipe - | md5sum >"$here/$name.y4m"
+done
+
+for name in \
+    cases/cropped_10x10 cases/data_partition cases/default_count_17 cases/operation_5 cases/output_two_places \
+    cases/redundant_slice cases/resumed_from_idr cases/set_repeated cases/wide_16880x16 encoder/pub_f_cropleft \
+    encoder/pub_o_crop_150x90 encoder/pub_o_ltr_rec encoder/pub_o_tl3_prefix encoder/pub_x_crop_130x98 encoder/pub_x_crop_174x142 \
+    encoder/pub_x_crop_18x34 encoder/pub_x_hrd_vui encoder/pub_x_keyint3 encoder/pub_x_tiny16 generated/pubgen_13 \
+    generated/pubgen_28 grouping/type_2_behind hostile/gaps pcm/pcm_14 pcm/pcm_3 pcm/pcm_4 pcm/pcm_6 pcm/pcm_7 speed/cif \
+    weighted/wgt_fade_in; do
+    ffmpeg -v quiet -nostdin -flags unaligned -i "$here/$name.264" -vf setpts=N/FRAME_RATE/TB -fps_mode passthrough -fflags +bitexact \
+        -f framemd5 - >"$here/$name.framemd5"
 done

@@ -3,8 +3,8 @@
 # NAME.md5 the md5 of its pictures as I420, NAME.early, where there is one, the other md5 that `decode --early` gives, NAME.refused,
 # where there is one, the standard error with status 1 (else nothing is written there, and the status is 0), NAME.units,
 # NAME.headers, NAME.info and NAME.json, where there are such, what these commands (and `info --json`) write, NAME.y4m the md5 of
-# ffmpeg's YUV4MPEG2 (formats.sh), and NAME.piece_0 and so on all pieces that `cut` writes. Words and faults of reading and writing are
-# tried after that. The last line is 'N passed, M failed'.
+# ffmpeg's YUV4MPEG2 and NAME.framemd5 its framemd5 (formats.sh), and NAME.piece_0 and so on all pieces that `cut` writes. Words and
+# faults of reading and writing are tried after that. The last line is 'N passed, M failed'.
 set -u
 here=$(cd "$(dirname "$0")" && pwd)
 program=$here/../avcdec
@@ -109,13 +109,13 @@ pieces_decode_alike() {
 
 for stream in "$here"/*/*.264; do
     name=${stream%.264}
+    wanted=0
+    refused=/dev/null
+    if [ -f "$name.refused" ]; then
+        wanted=1
+        refused=$name.refused
+    fi
     if [ -f "$name.md5" ]; then
-        wanted=0
-        refused=/dev/null
-        if [ -f "$name.refused" ]; then
-            wanted=1
-            refused=$name.refused
-        fi
         early=$name.md5
         if [ -f "$name.early" ]; then
             early=$name.early
@@ -140,6 +140,11 @@ for stream in "$here"/*/*.264; do
     if [ -f "$name.y4m" ]; then
         "$program" decode --format y4m <"$stream" >"$work/pictures" 2>"$work/told"
         holds "y4m of ${name#"$here"/}" is_decoded "$name.y4m" $? 0 /dev/null
+    fi
+    if [ -f "$name.framemd5" ]; then
+        "$program" decode --format framemd5 <"$stream" >"$work/lines" 2>"$work/told"
+        [ $? = "$wanted" ] && cmp -s "$work/told" "$refused" && cmp -s "$work/lines" "$name.framemd5"
+        holds "framemd5 of ${name#"$here"/}" [ $? = 0 ]
     fi
     number=0
     while [ -f "$name.piece_$number" ]; do
@@ -326,6 +331,37 @@ judge 'decode --verify of another MD5' $? 1 ''
 judge 'decode --format md5 to a full device' $? 3 'avcdec: write fault
 '
 
+# the MD5 of each picture: numbered from 0 also where some are left out; of what cannot be read, of nothing, and of two sizes
+"$program" decode --format framemd5 "$moving" >"$work/whole" 2>"$work/told"
+judge 'decode --format framemd5' $? 0 ''
+holds 'a line for each of ten pictures behind nine' [ "$(wc -l <"$work/whole")" = 19 ]
+"$program" decode --format framemd5 --skip 2 --limit 1 "$moving" >"$work/written" 2>"$work/told"
+judge 'decode --format framemd5 --skip 2 --limit 1' $? 0 ''
+{
+    head -n 9 "$work/whole"
+    sed -n 's/^0,          2,          2,/0,          0,          0,/p' "$work/whole"
+} | cmp -s - "$work/written"
+holds 'the third picture is the first' [ $? = 0 ]
+"$program" decode --limit 1 "$moving" | md5sum | cut -d ' ' -f 1 >"$work/sum"
+holds 'the MD5 of the first picture' [ "$(sed -n '10s/.*, //p' "$work/whole")" = "$(cat "$work/sum")" ]
+"$program" decode --format framemd5 "$moving" >/dev/full 2>"$work/told"
+judge 'decode --format framemd5 to a full device' $? 3 'avcdec: write fault
+'
+"$program" decode --format framemd5 <"$here" >"$work/written" 2>"$work/told"
+judge 'decode --format framemd5 of what cannot be read' $? 3 'avcdec: read fault
+'
+"$program" decode --format framemd5 </dev/null >"$work/written" 2>"$work/told"
+judge 'decode --format framemd5 of nothing' $? 0 ''
+holds 'nothing is written' [ ! -s "$work/written" ]
+{ cat "$moving" && cat "$here/pcm/pcm_3.264"; } | "$program" decode --format framemd5 >"$work/written" 2>"$work/told"
+judge 'decode --format framemd5 of two sizes' $? 3 'avcdec: a picture of another size
+'
+holds 'the pictures before' cmp -s "$work/written" "$work/whole"
+if command -v ffmpeg >/dev/null; then
+    ffmpeg -v error -nostdin -flags unaligned -i "$moving" -vf setpts=N/FRAME_RATE/TB -fps_mode passthrough -fflags +bitexact -f framemd5 - >"$work/lines" 2>"$work/told"
+    holds 'framemd5 by ffmpeg' cmp -s "$work/lines" "$work/whole"
+fi
+
 # Y4M: also by the output's name, unless another format is given; some of the pictures with the same first line
 "$program" decode --format y4m "$moving" >"$work/whole" 2>"$work/told"
 judge 'decode --format y4m' $? 0 ''
@@ -400,7 +436,7 @@ judge 'a directory to be written' $? 3 "avcdec: write fault: $work
 "
 
 # the line of a fault has the name of the file, also where that could be opened
-for command in decode 'decode --format md5' 'decode --limit 1' "decode --verify $some_md5" units headers info 'info --json' 'cut 0'; do
+for command in decode 'decode --format md5' 'decode --format framemd5' 'decode --limit 1' "decode --verify $some_md5" units headers info 'info --json' 'cut 0'; do
     # shellcheck disable=SC2086
     "$program" $command "$here" >"$work/written" 2>"$work/told"
     judge "$command of a directory" $? 3 "avcdec: read fault: $here
@@ -410,7 +446,7 @@ for command in decode 'decode --format md5' 'decode --limit 1' "decode --verify 
     judge "$command of a file that is not there" $? 3 "avcdec: read fault: $work/none
 "
 done
-for command in decode 'decode --format md5' 'decode --limit 1' 'cut 0'; do
+for command in decode 'decode --format md5' 'decode --format framemd5' 'decode --limit 1' 'cut 0'; do
     # shellcheck disable=SC2086
     "$program" $command "$picture" -o /dev/full >"$work/written" 2>"$work/told"
     judge "$command to a full device by name" $? 3 'avcdec: write fault: /dev/full
@@ -430,6 +466,9 @@ while IFS=: read -r wrong words; do
 done <<END
 --verify:decode --verify $some_md5 --format null
 --format:decode --format null --verify $some_md5
+--verify:decode --verify $some_md5 --format framemd5
+--format:units --format framemd5
+--format:decode --format framemd5 --format y4m
 --output:decode --verify $some_md5 --output $work/out
 --quiet:decode --progress --quiet
 --skip:units --skip 1

@@ -7,7 +7,7 @@ mod request;
 #[cfg(test)]
 mod tests;
 
-use avc_formats::{Selected, decode_as, decode_md5, decode_y4m, verify};
+use avc_formats::{Selected, decode_as, decode_headed, decode_md5, verify};
 use avc_info::{ForPeople, ForPrograms, info};
 use avc_run::{
     Answer, Console, Ending, I420, Names, RunFault, Watch, answer_status, cut, decode, fail,
@@ -116,7 +116,9 @@ fn show<R: Read, W: Write, E: Write, V: Watch>(
         Form::I420 => decode_as(alloc, mode, &format, reader, writer, console),
         Form::Null => decode_as(alloc, mode, &format, reader, &mut io::sink(), console),
         Form::Md5 => decode_md5(alloc, mode, &format, reader, writer, console),
-        Form::Y4m => decode_y4m(alloc, mode, skip, limit, reader, writer, console),
+        Form::Headed(headed) => {
+            decode_headed(alloc, headed, mode, skip, limit, reader, writer, console)
+        }
         Form::Verify(expected) => verify(alloc, mode, &format, expected, reader, console),
     }
 }

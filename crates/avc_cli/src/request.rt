@@ -1,6 +1,7 @@
 ghost use Rattle.std.specs.Prelude.{◌≡◌};
 ghost use Rattle.avc_cli.specs.Commands.{mode_of, progress_of, IsNamed};
 
+use avc_formats::HeadedFormat;
 use avc_run::{Names, Output};
 use clap::error::ErrorKind;
 use clap::{Arg, ArgAction, ArgMatches, Command as Grammar, Error};
@@ -84,8 +85,8 @@ pub enum Form {
     /// Their MD5 is written.
     Md5,
 
-    /// They are written as YUV4MPEG2.
-    Y4m,
+    /// They are written in a format with a head.
+    Headed(HeadedFormat),
 
     /// Their MD5 is compared with this one.
     Verify([u8; 16]),
@@ -129,7 +130,9 @@ const MD5: &str = "md5";
 
 const Y4M: &str = "y4m";
 
-const FORMATS: &[&str] = &[I420, Y4M, NULL, MD5];
+const FRAME_MD5: &str = "framemd5";
+
+const FORMATS: &[&str] = &[I420, Y4M, NULL, MD5, FRAME_MD5];
 
 /// The end of an output's name that asks for Y4M.
 const Y4M_SUFFIX: &str = ".y4m";
@@ -155,6 +158,11 @@ const STANDARD: &str = "-";
 const STATUSES: &str = concat!(
     "Exit status: 0 all well, 1 decode refused something or found another MD5 or cut has no such piece, 2 wrong words, ",
     "3 reading or writing failed, 4 out of memory"
+);
+
+const DECODE_EXAMPLES: &str = concat!(
+    "Example: avcdec decode in.264 -o out.yuv\n",
+    "         avcdec decode --format framemd5 in.264 | diff - other.framemd5"
 );
 
 fn grammar<'a>(alloc: Global) -> Result<Grammar<'a>, Error> {
@@ -211,7 +219,7 @@ fn decode_grammar<'a>(alloc: Global) -> Result<Grammar<'a>, Error> {
     );
     let decode = Grammar::new(alloc, DECODE)
         .about("Writes the decoded pictures as I420, cropped, in output order")
-        .after_help("Example: avcdec decode in.264 -o out.yuv");
+        .after_help(DECODE_EXAMPLES);
     Ok(
         decode
             .arg(early)?
@@ -266,7 +274,7 @@ fn format<'a>(alloc: Global) -> Arg<'a> {
     Arg::new(alloc, FORMAT)
         .long(FORMAT)
         .help(
-            "How the pictures are written: i420 unless FILE ends in .y4m, md5 writes their MD5 alone, null nothing",
+            "How the pictures are written: i420 unless FILE ends in .y4m, md5 writes their MD5 alone, framemd5 that of each, null nothing",
         )
         .action(ArgAction::Set)
         .value_parser(FORMATS)
@@ -358,7 +366,7 @@ fn task_of_showing(showing: Showing) -> Task {
     match showing.form {
         Form::I420 => Task::Decode(showing.mode),
         Form::Null => Task::Check(showing.mode),
-        Form::Md5 | Form::Y4m | Form::Verify(_) => Task::Show(showing),
+        Form::Md5 | Form::Headed(_) | Form::Verify(_) => Task::Show(showing),
     }
 }
 
@@ -367,7 +375,8 @@ fn form_named(name: Option<&str>, output: Option<&str>) -> Form {
     match name {
         Some(NULL) => Form::Null,
         Some(MD5) => Form::Md5,
-        Some(Y4M) => Form::Y4m,
+        Some(Y4M) => Form::Headed(HeadedFormat::Y4m),
+        Some(FRAME_MD5) => Form::Headed(HeadedFormat::FrameMd5),
         Some(_) => Form::I420,
         None => form_of_file(output),
     }
@@ -375,7 +384,7 @@ fn form_named(name: Option<&str>, output: Option<&str>) -> Form {
 
 fn form_of_file(name: Option<&str>) -> Form {
     match name {
-        Some(name) if name.ends_with(Y4M_SUFFIX) => Form::Y4m,
+        Some(name) if name.ends_with(Y4M_SUFFIX) => Form::Headed(HeadedFormat::Y4m),
         _ => Form::I420,
     }
 }

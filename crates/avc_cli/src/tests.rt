@@ -1,6 +1,7 @@
 // What no contract says: what the words of the command line mean. Where an allocation is refused
 // (`rt try --test --fail-alloc N`), a test ends in that error, and not at an assertion.
 use crate::request::{Form, Request, Showing, Task, Telling, requested};
+use avc_formats::HeadedFormat;
 use avc_run::{Names, Output};
 use clap::error::ErrorKind;
 use std::alloc::Global;
@@ -106,11 +107,19 @@ fn takes_words(rt: HostRuntime) -> Result<(), Fail> {
         ),
         (
             "avcdec decode --format y4m",
-            plain(shown(u64::MAX, Form::Y4m)),
+            plain(shown(u64::MAX, Form::Headed(HeadedFormat::Y4m))),
+        ),
+        (
+            "avcdec decode --format framemd5",
+            plain(shown(u64::MAX, Form::Headed(HeadedFormat::FrameMd5))),
         ),
         (
             "avcdec decode -o out.y4m",
-            named(shown(u64::MAX, Form::Y4m), None, Some("out.y4m")),
+            named(
+                shown(u64::MAX, Form::Headed(HeadedFormat::Y4m)),
+                None,
+                Some("out.y4m"),
+            ),
         ),
         (
             "avcdec decode --format i420 -o out.y4m",

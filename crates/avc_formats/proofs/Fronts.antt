@@ -1,7 +1,7 @@
 -- The front of a stream, piece after piece.
-use Rattle.std.proofs.Common.{◌≡◌, ℕ, ◌≤◌, Bool, true, false, List, [], ◌∷◌, ◌++◌, length, take, Option, Some, None, Result, Ok, Err, refl, ap, sym, subst, ◌∙◌, arith, append-nil}
+use Rattle.std.proofs.Common.{◌≡◌, ℕ, ◌≤◌, Bool, true, false, List, [], ◌++◌, length, take, Option, Some, None, Result, Ok, Err, refl, ap, sym, subst, ◌∙◌, append-nil}
 use Rattle.std.specs.Prelude.{if◌then◌else◌, unwrap_or, IsErrAnd}
-use Rattle.std.specs.Io.KnownBytes.{prepend_known, Appends, Consumes, IsAtEnd, Keeps}
+use Rattle.std.specs.Io.KnownBytes.{prepend_known, Consumes, IsAtEnd, Keeps}
 use Rattle.std.proofs.KnownBytes.{Appends-nil, Consumes-kept, Consumes-nil, Consumes-trans}
 use Rattle.avc_annexb.specs.Laws.{UnitsStay}
 use Rattle.avc_annexb.specs.SplitterState.{SplitterState, after_feed, after_finish, new_splitter}
@@ -11,7 +11,7 @@ use Rattle.avc_params.specs.declared.sps.Sps.{Sps}
 use Rattle.avc_units.specs.Grouping.{set_units}
 use Rattle.avc_tools.proofs.Growing.{AreLeft, drained, left_by_feed, left_by_finish}
 use Rattle.avc_tools.proofs.Shown.{set_units-append}
-use Rattle.avc_tools.specs.Streams.{IsDrained, after_units_left, units_left}
+use Rattle.avc_tools.specs.Streams.{units_left}
 use Rattle.avc_run.specs.Output.{Output}
 use Rattle.avc_run.specs.Decoding.{max_unit}
 use Rattle.avc_run.specs.Formats.{DecodesAs, Format}
@@ -23,7 +23,7 @@ use Rattle.avc_run.proofs.Running.{err_is}
 use Rattle.avc_formats.specs.Front.{first_sps, front_length, in_front, stream_sps, Decodes, IsFound, IsFront, IsLooking, IsSaid, NoFront}
 use Rattle.avc_formats.specs.Presenting.{no_presentation, Says}
 use Rattle.avc_formats.specs.declared.presentation.Presentation.{Presentation}
-use Rattle.avc_formats.proofs.Finding.{first_behind, said_still}
+use Rattle.avc_formats.proofs.Finding.{first_behind}
 
 pub looking_begins : (unread : Option (List ℕ)) (bytes : List ℕ) (s : SplitterState) (sets : List SetUnit) → bytes ≡ [] → s ≡ new_splitter → sets ≡ [] → IsLooking unread unread bytes s sets
 looking_begins unread bytes s sets none new empty = record {

@@ -2,3 +2,4 @@ mod Finding
 mod Fronts
 mod Writing
 mod Joining
+mod Columns

@@ -1,11 +1,14 @@
 -- What is written in two parts.
-use Rattle.std.proofs.Common.{◌≡◌, ℕ, ◌+◌, ◌<◌, ◌≤◌, List, [], ◌∷◌, ◌++◌, length, take, Option, Result, Ok, Err, IfErr, refl, ap, sym, subst, ◌∙◌, arith, length-append, suc}
+use Rattle.std.proofs.Common.{true, ◌≡◌, ℕ, ◌+◌, ◌<◌, ◌≤◌, List, [], ◌∷◌, ◌++◌, length, take, Option, Result, Ok, Err, IfErr, ap, sym, subst, ◌∙◌, arith, length-append, suc}
 use Rattle.std.proofs.lemmas.List.{take-append-le}
 use Rattle.std.specs.Prelude.{IsErrAnd}
 use Rattle.std.specs.Io.KnownBytes.{Appends}
-use Rattle.std.proofs.KnownBytes.{Appends-trans}
+use Rattle.std.proofs.KnownBytes.{Appends-nil, Appends-trans}
+use Rattle.avc_run.specs.Formats.{StopsPicture}
 use Rattle.avc_run.specs.Reading.{WritesFirst}
 use Rattle.avc_run.specs.declared.fault.RunFault.{RunFault}
+use Rattle.avc_run.specs.declared.fault.RunFault.TheVariants.{Write}
+use Rattle.avc_formats.specs.Text.{newline}
 
 take_more : (a b : List ℕ) (n : ℕ) → take (length a + n) (a ++ b) ≡ a ++ take n b
 take_more [] b n = ap (λ k. take k b) (let same : 0 + n ≡ n = omega arith in same)
@@ -35,3 +38,18 @@ second_broken old mid new a b n first fewer second = record {
 pub err_with : {A : Type 0} (r : Result A RunFault) (f : RunFault) (holds : RunFault → Type 0) → IsErrAnd r (λ e. e ≡ f) → holds f → IfErr r holds
 err_with (Ok a) f holds is h = absurd is
 err_with (Err e) f holds is h = subst holds (sym is) h
+
+-- nothing of a text that ends a line
+pub none_of_line : (old : Option (List ℕ)) (a b : List ℕ) → WritesFirst old old (a ++ (b ++ newline))
+none_of_line old a b = record {
+  count = 0;
+  fewer = omega (arith, length-append a (b ++ newline), length-append b newline);
+  written = Appends-nil old;
+}
+
+-- a fault of writing this text
+pub text_stopped : (r : Result (Unit {0}) RunFault) (old new : Option (List ℕ)) (written text : List ℕ) → written ≡ text
+    → IfErr r (λ fault. (fault ≡ Write) × WritesFirst old new written) → IfErr r (λ fault. StopsPicture fault true old new text)
+text_stopped (Ok done) old new written text is h = tt
+text_stopped (Err fault) old new written text is (by_write, first) =
+    subst (λ f. StopsPicture f true old new text) (sym by_write) (subst (WritesFirst old new) is first)

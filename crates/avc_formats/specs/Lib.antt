@@ -3,4 +3,7 @@ pub mod Digesting
 pub mod Ratios
 pub mod Presenting
 pub mod Front
+pub mod Text
 pub mod Y4m
+pub mod FrameMd5
+pub mod Headed

@@ -1,6 +1,5 @@
 -- Some of a stream's pictures.
 use Rattle.std.specs.Prelude.{ℕ, ◌+◌, ◌-◌, nat_le, nat_lt, Bool, true, ◌&&◌, if◌then◌else◌, List, [], Option, Result}
-use Rattle.avc_types.specs.declared.picture.Picture.{Picture}
 use Rattle.avc_run.specs.Output.{Output}
 use Rattle.avc_run.specs.Formats.{DecodesAs, Format}
 use Rattle.avc_run.specs.Program.{TellsRun}

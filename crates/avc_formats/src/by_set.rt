@@ -1,19 +1,21 @@
 ghost use Rattle.avc_formats.specs.Front.{Decodes, EndsDecodingBySet};
+ghost use Rattle.avc_formats.specs.Headed.{headed};
 ghost use Rattle.avc_formats.specs.Selecting.{selected};
-ghost use Rattle.avc_formats.specs.Y4m.{y4m};
 
 use crate::front::read_front;
+use crate::headed::Headed;
+use crate::headed_format::HeadedFormat;
 use crate::selected::Selected;
-use crate::y4m::Y4m;
 use avc_run::{Console, Ending, Output, Report, RunFault, Watch, run_behind, tell};
 use std::alloc::Global;
 use std::io::{Read, Write};
 
-/// The command `decode --format y4m`: decodes a byte stream (Annex B) and writes all but the first pictures, and of these so many at
-/// most, as YUV4MPEG2, and tells of refusals, or of the fault that ended the run, on the console. Its first line says what the sequence
-/// parameter set says of the first slice that is decoded.
-pub fn decode_y4m<R: Read, W: Write, E: Write, V: Watch>(
+/// The command `decode --format y4m`, or `framemd5`: decodes a byte stream (Annex B) and writes all but the first pictures, and of these
+/// so many at most, in a format with a head, and tells of refusals, or of the fault that ended the run, on the console. The head says what
+/// the sequence parameter set says of the first slice that is decoded.
+pub fn decode_headed<R: Read, W: Write, E: Write, V: Watch>(
     alloc: Global,
+    format: HeadedFormat,
     output: Output,
     skip: u64,
     limit: u64,
@@ -21,11 +23,12 @@ pub fn decode_y4m<R: Read, W: Write, E: Write, V: Watch>(
     writer: &mut W,
     console: &mut Console<'_, E, V>,
 ) -> Ending
-    ensures { EndsDecodingBySet console.old.names (λ said. selected (y4m said) skip limit) output (R.remaining reader.old) (R.remaining reader.new)
+    ensures { EndsDecodingBySet console.old.names (λ said. selected (headed format said) skip limit) output (R.remaining reader.old) (R.remaining reader.new)
         (W.contents writer.old) (W.contents writer.new) (E.contents console.old.errors) (E.contents console.new.errors) result }
 {
-    let run = run_y4m(
+    let run = run_headed(
         alloc,
+        format,
         output,
         skip,
         limit,
@@ -36,8 +39,9 @@ pub fn decode_y4m<R: Read, W: Write, E: Write, V: Watch>(
     tell(alloc, &run, &console.names, &mut console.errors)
 }
 
-fn run_y4m<R: Read, W: Write, V: Watch>(
+fn run_headed<R: Read, W: Write, V: Watch>(
     alloc: Global,
+    format: HeadedFormat,
     output: Output,
     skip: u64,
     limit: u64,
@@ -45,13 +49,14 @@ fn run_y4m<R: Read, W: Write, V: Watch>(
     reader: &mut R,
     writer: &mut W,
 ) -> Result<Report, RunFault>
-    ensures { Decodes (λ said. selected (y4m said) skip limit) output (R.remaining reader.old) (R.remaining reader.new)
+    ensures { Decodes (λ said. selected (headed format said) skip limit) output (R.remaining reader.old) (R.remaining reader.new)
         (W.contents writer.old) (W.contents writer.new) result }
 {
     let front = read_front(alloc, reader)?;
-    let format = Selected {
-        format: Y4m {
+    let selected = Selected {
+        format: Headed {
             alloc,
+            format,
             said: front.said,
         },
         skip,
@@ -60,7 +65,7 @@ fn run_y4m<R: Read, W: Write, V: Watch>(
     run_behind(
         alloc,
         output,
-        &format,
+        &selected,
         watch,
         front.bytes.as_slice(),
         reader,

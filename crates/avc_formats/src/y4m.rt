@@ -1,56 +1,34 @@
-ghost use Rattle.std.specs.Prelude.{◌≡◌, ◌++◌, IfOk, IfErr, OnOk, string_bytes};
+ghost use Rattle.std.specs.Prelude.{◌≡◌, ◌++◌, true, IfErr, OnOk, string_bytes};
 ghost use Rattle.std.specs.Io.KnownBytes.{Appends};
 ghost use Rattle.avc_types.specs.Whole.{IsWhole};
-ghost use Rattle.avc_yuv.specs.I420.{i420, shown_height, shown_width};
+ghost use Rattle.avc_yuv.specs.I420.{i420};
+ghost use Rattle.avc_run.specs.Formats.{StopsPicture};
 ghost use Rattle.avc_run.specs.Reading.{WritesFirst};
 ghost use Rattle.avc_run.specs.declared.fault.RunFault.TheVariants as faults;
-ghost use Rattle.avc_formats.specs.Y4m.{before_first, chroma_words, has_size, range_words, ratio_word, shape_words, y4m, y4m_header, y4m_lines};
+ghost use Rattle.avc_formats.specs.Y4m.{chroma_words, range_words, ratio_word, shape_words, y4m_frame, y4m_header};
 
 use crate::presentation::{ChromaSite, Presentation};
 use crate::ratio::Ratio;
 use crate::text::write_text;
-use avc_run::{PictureFormat, RunFault};
+use avc_run::RunFault;
 use avc_types::{OutOfMemory, Picture};
 use avc_yuv::write_i420;
-use std::alloc::Global;
 use std::io::Write;
 
-/// YUV4MPEG2: a line that says how pictures are shown, and each picture as I420 behind a line of its own. A picture of another size
-/// is a fault.
-#[derive(Drop)]
-pub struct Y4m {
-    pub alloc: Global,
-    pub said: Presentation,
-}
-
-impl PictureFormat for Y4m {
-    ghost format = { λ y. y4m y.said };
-
-    fn write<W: Write>(
-        &self,
-        number: u64,
-        picture: &Picture,
-        writer: &mut W,
-    ) -> Result<(), RunFault> {
-        if !has_size(&self.said, picture) {
-            return Err(RunFault::Size);
-        }
-        let lines = lines(self.alloc, &self.said, number)?;
-        write_behind(&lines, picture, writer)
-    }
-
-    fn is_enough(&self, _pictures: u64) -> bool {
-        false
-    }
-}
-
-fn has_size(said: &Presentation, picture: &Picture) -> bool
+/// Writes a picture behind this text and a line of its own.
+pub(crate) fn write_frame<W: Write>(
+    front: String,
+    picture: &Picture,
+    writer: &mut W,
+) -> Result<(), RunFault>
     requires { IsWhole picture.now }
-    ensures { result ≡ has_size said.now picture.now }
+    ensures ok { OnOk result (Appends (W.contents writer.old) (W.contents writer.new) (string_bytes front ++ y4m_frame picture.now)) }
+    ensures err { IfErr result (λ fault. StopsPicture fault true (W.contents writer.old) (W.contents writer.new)
+        (string_bytes front ++ y4m_frame picture.now)) }
 {
-    let crop = picture.crop;
-    u64::from(picture.width - (crop.left + crop.right)) == said.width
-        && u64::from(picture.height - (crop.top + crop.bottom)) == said.height
+    let mut lines = front;
+    lines.push_str("FRAME\n")?;
+    write_behind(&lines, picture, writer)
 }
 
 // Writes a picture behind these lines.
@@ -65,28 +43,7 @@ fn write_behind<W: Write>(lines: &str, picture: &Picture, writer: &mut W) -> Res
     Ok(())
 }
 
-// What stands in front of the picture of a number.
-fn lines(alloc: Global, said: &Presentation, number: u64) -> Result<String, OutOfMemory>
-    ensures { IfOk result (λ text. string_bytes text ≡ y4m_lines said.now number) }
-{
-    let mut text = String::new(alloc);
-    add_first_line(&mut text, said, number)?;
-    text.push_str("FRAME\n")?;
-    Ok(text)
-}
-
-// Before the first picture.
-fn add_first_line(text: &mut String, said: &Presentation, number: u64) -> Result<(), OutOfMemory>
-    ensures { OnOk result (string_bytes text.new ≡ string_bytes text.old ++ before_first number (y4m_header said.now)) }
-{
-    if number != 0 {
-        return Ok(());
-    }
-    add_header(text, said)?;
-    Ok(())
-}
-
-fn add_header(text: &mut String, said: &Presentation) -> Result<(), OutOfMemory>
+pub(crate) fn add_y4m_header(text: &mut String, said: &Presentation) -> Result<(), OutOfMemory>
     ensures { OnOk result (string_bytes text.new ≡ string_bytes text.old ++ y4m_header said.now) }
 {
     add_shape(text, said)?;

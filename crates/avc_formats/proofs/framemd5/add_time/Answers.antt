@@ -1,0 +1,9 @@
+use Rattle.std.proofs.Common.{◌++◌, ◌∙◌, ap, string_bytes}
+use Rattle.std.specs.Fmt.{styled_decimal}
+use Rattle.avc_formats.proofs.Columns.{column_10}
+use Rattle.avc_formats.proofs.framemd5.add_time.Goals as goal
+
+pub returns : goal.returns
+returns c =
+    c.in_ok-write.ensures.bytes
+    ∙ ap (λ l. string_bytes c.args.text.now ++ l) (ap (λ s. styled_decimal s c.args.time) c.laid_out.ensures ∙ column_10 c.args.time)

@@ -1,0 +1,21 @@
+use Rattle.std.proofs.Common.{◌++◌, length, rules, string_bytes, subst, sym, true}
+use Rattle.std.specs.Prelude.{codes}
+use Rattle.hex.specs.Hex.{encode_lower}
+use Rattle.md5.specs.Md5.{md5}
+use Rattle.avc_yuv.specs.I420.{i420}
+use Rattle.avc_run.specs.Formats.{StopsPicture}
+use Rattle.avc_formats.specs.FrameMd5.{framemd5_line, size_text, times_text}
+use Rattle.avc_formats.proofs.Writing.{err_with, none_of_line, text_stopped}
+use Rattle.avc_formats.proofs.framemd5.write_line.Goals as goal
+
+pub returns-in_err-digest-clause-err : goal.returns-in_err-digest-clause-err
+returns-in_err-digest-clause-err g c =
+    let held = g.W.Write.contents c.args.writer.now in
+    let bytes = i420 c.args.picture.now in
+    let text = string_bytes c.args.front ++ framemd5_line c.args.number c.args.picture.now in
+    err_with c.from_residual.result c.in_err-digest.field-0.0 (λ fault. StopsPicture fault true held held text) c.from_residual.ensures.1
+    (subst (λ fault. StopsPicture fault true held held text) (sym c.in_err-digest.ensures.err) (none_of_line held (string_bytes c.args.front) (times_text c.args.number ++ size_text (length bytes) ++ codes ", " ++ encode_lower (md5 bytes))))
+
+pub returns-clause-err : goal.returns-clause-err
+returns-clause-err g c =
+    text_stopped _ _ _ _ _ (search rules) c.write_text.ensures.err

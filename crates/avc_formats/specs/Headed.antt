@@ -1,0 +1,36 @@
+-- Formats with a head in front of the first picture. It says how pictures are shown, as their sequence parameter set says.
+use Rattle.std.specs.Prelude.{ℕ, Bool, false, ◌==◌, ◌&&◌, if◌then◌else◌, List, [], ◌++◌}
+use Rattle.avc_types.specs.declared.picture.Picture.{Picture}
+use Rattle.avc_yuv.specs.I420.{shown_height, shown_width}
+use Rattle.avc_run.specs.Formats.{Format}
+use Rattle.avc_formats.specs.FrameMd5.{framemd5_head, framemd5_line}
+use Rattle.avc_formats.specs.Y4m.{y4m_frame, y4m_header}
+use Rattle.avc_formats.specs.declared.headed_format.HeadedFormat.{HeadedFormat}
+use Rattle.avc_formats.specs.declared.headed_format.HeadedFormat.TheVariants.{FrameMd5, Y4m}
+use Rattle.avc_formats.specs.declared.presentation.Presentation.{Presentation}
+
+-- the head
+abbrev pub head_of : HeadedFormat → Presentation → List ℕ
+head_of Y4m s = y4m_header s
+head_of FrameMd5 s = framemd5_head s
+
+-- in front of the first picture
+abbrev pub before_first : (number : ℕ) → List ℕ → List ℕ
+before_first number text = if number == 0 then text else []
+
+-- a picture
+abbrev pub picture_text : HeadedFormat → (number : ℕ) → Picture → List ℕ
+picture_text Y4m number p = y4m_frame p
+picture_text FrameMd5 number p = framemd5_line number p
+
+-- the picture has this size
+abbrev pub has_size : Presentation → Picture → Bool
+has_size s p = shown_width p == s.width && shown_height p == s.height
+
+-- All pictures have the size that the head says.
+abbrev pub headed : HeadedFormat → Presentation → Format
+headed format s = record {
+  text = λ number p. before_first number (head_of format s) ++ picture_text format number p;
+  fits = λ number p. has_size s p;
+  enough = λ pictures. false;
+}

@@ -1,0 +1,98 @@
+ghost use Rattle.std.specs.Prelude.{◌≡◌, ◌++◌, true, IfOk, IfErr, OnOk, string_bytes};
+ghost use Rattle.std.specs.Io.KnownBytes.{Appends};
+ghost use Rattle.avc_types.specs.Whole.{IsWhole};
+ghost use Rattle.avc_yuv.specs.I420.{shown_height, shown_width};
+ghost use Rattle.avc_run.specs.Formats.{StopsPicture};
+ghost use Rattle.avc_formats.specs.Headed.{before_first, has_size, head_of, headed, picture_text};
+
+use crate::framemd5::{add_framemd5_head, write_line};
+use crate::headed_format::HeadedFormat;
+use crate::presentation::Presentation;
+use crate::y4m::{add_y4m_header, write_frame};
+use avc_run::{PictureFormat, RunFault};
+use avc_types::{OutOfMemory, Picture};
+use std::alloc::Global;
+use std::io::Write;
+
+/// A format with a head that says this. A picture of another size is a fault.
+#[derive(Drop)]
+pub(crate) struct Headed {
+    pub alloc: Global,
+    pub format: HeadedFormat,
+    pub said: Presentation,
+}
+
+impl PictureFormat for Headed {
+    ghost format = { λ h. headed h.format h.said };
+
+    fn write<W: Write>(
+        &self,
+        number: u64,
+        picture: &Picture,
+        writer: &mut W,
+    ) -> Result<(), RunFault> {
+        if !has_size(&self.said, picture) {
+            return Err(RunFault::Size);
+        }
+        let front = front(self.alloc, self.format, &self.said, number)?;
+        write_behind(self.alloc, front, self.format, number, picture, writer)
+    }
+
+    fn is_enough(&self, _pictures: u64) -> bool {
+        false
+    }
+}
+
+fn has_size(said: &Presentation, picture: &Picture) -> bool
+    requires { IsWhole picture.now }
+    ensures { result ≡ has_size said.now picture.now }
+{
+    let crop = picture.crop;
+    u64::from(picture.width - (crop.left + crop.right)) == said.width
+        && u64::from(picture.height - (crop.top + crop.bottom)) == said.height
+}
+
+// What stands in front of the picture of a number.
+fn front(
+    alloc: Global,
+    format: HeadedFormat,
+    said: &Presentation,
+    number: u64,
+) -> Result<String, OutOfMemory>
+    ensures { IfOk result (λ text. string_bytes text ≡ before_first number (head_of format said.now)) }
+{
+    let mut text = String::new(alloc);
+    if number == 0 {
+        add_head(&mut text, format, said)?;
+    }
+    Ok(text)
+}
+
+fn add_head(text: &mut String, format: HeadedFormat, said: &Presentation) -> Result<(), OutOfMemory>
+    ensures { OnOk result (string_bytes text.new ≡ string_bytes text.old ++ head_of format said.now) }
+{
+    match format {
+        HeadedFormat::Y4m => add_y4m_header(text, said),
+        HeadedFormat::FrameMd5 => add_framemd5_head(text, said),
+    }
+}
+
+// Writes a picture behind this text.
+fn write_behind<W: Write>(
+    alloc: Global,
+    front: String,
+    format: HeadedFormat,
+    number: u64,
+    picture: &Picture,
+    writer: &mut W,
+) -> Result<(), RunFault>
+    requires { IsWhole picture.now }
+    ensures ok { OnOk result (Appends (W.contents writer.old) (W.contents writer.new) (string_bytes front ++ picture_text format number picture.now)) }
+    ensures err { IfErr result (λ fault. StopsPicture fault true (W.contents writer.old) (W.contents writer.new)
+        (string_bytes front ++ picture_text format number picture.now)) }
+{
+    match format {
+        HeadedFormat::Y4m => write_frame(front, picture, writer),
+        HeadedFormat::FrameMd5 => write_line(alloc, front, number, picture, writer),
+    }
+}
