@@ -1,5 +1,5 @@
 -- Lanes one by one.
-use Rattle.std.proofs.Common.{ℕ, ℤ, zero, suc, ◌+◌, ◌*◌, ◌≤◌, ◌<◌, ◌-ℤ◌, ◌≡◌, arith, refl, ◌∙◌, FitsSigned, w32, to_z, of_z, pos, List, [], ◌∷◌, map, get_or, length, subst, sym, ⊎_elim, ◌-◌}
+use Rattle.std.proofs.Common.{ℕ, ℤ, zero, suc, ◌+◌, ◌*◌, ◌≤◌, ◌<◌, ◌-ℤ◌, ◌≡◌, arith, refl, ◌∙◌, FitsSigned, w16, w32, to_z, of_z, pos, List, [], ◌∷◌, map, get_or, length, subst, sym, ⊎_elim, ◌-◌}
 use Rattle.std.proofs.lemmas.List.{length-map}
 use Rattle.std.proofs.lemmas.Bool.{cases_lt}
 use Rattle.std.proofs.Math.Nat.{mul-le-mul_right}
@@ -26,6 +26,11 @@ pub get_or-through_bits : (ds : List ℤ) (k : ℕ) → FitsSigned w32 (get_or d
 get_or-through_bits [] k h = refl
 get_or-through_bits (d ∷ ds) zero h = to_z-of_z w32 d h
 get_or-through_bits (d ∷ ds) (suc k) h = get_or-through_bits ds k h
+
+pub get_or-through_narrow_bits : (ds : List ℤ) (k : ℕ) → FitsSigned w16 (get_or ds k (pos 0)) → get_or (map (to_z w16) (map (of_z w16) ds)) k (pos 0) ≡ get_or ds k (pos 0)
+get_or-through_narrow_bits [] k h = refl
+get_or-through_narrow_bits (d ∷ ds) zero h = to_z-of_z w16 d h
+get_or-through_narrow_bits (d ∷ ds) (suc k) h = get_or-through_narrow_bits ds k h
 
 -- the taps, positive ones apart from negative ones
 pub six_taps_apart : (e f g h i j s m : ℕ) → s ≡ e + j + (g + h) * 20 → m ≡ (f + i) * 5 → pos s -ℤ pos m ≡ six_taps (pos e) (pos f) (pos g) (pos h) (pos i) (pos j)

@@ -55,7 +55,8 @@ fn blend(w: BilinearWeights, here: u8, right: u8, below: u8, across: u8) -> u8
         + product(w.right, right)
         + product(w.below, below)
         + product(w.across, across);
-    ((sum + 32) / 64) as u8
+    // the least of both is no other number, but known to be a byte
+    ((sum + 32) / 64).min(255) as u8
 }
 
 /// The means at sixteen places.
