@@ -32,7 +32,7 @@ pub fn sums(a: u16x16, b: u16x16) -> u16x16
 #[inline(always)]
 pub fn multiples(a: u16x16, by: u16) -> u16x16
     requires a_small { Each1 (λ x. x ≤ 510) a }
-    requires by_small { by ≤ 20 }
+    requires by_small { by ≤ 128 }
     ensures long { length result ≡ 16 }
     ensures at { (k : ℕ) → k < 16 → slice_index result k ≡ slice_index a k * by }
     ensures small { (m : ℕ) → Each1 (λ x. x ≤ m) a → Each1 (λ z. z ≤ m * by) result }

@@ -292,8 +292,7 @@ fn put_sums(out: &mut [i16; 336], row: usize, r: &[i16; 16])
 }
 
 /// Puts the unrounded taps over each six neighbours into their place.
-// inlined, the loop over rows would be taken for the one to make wide
-#[inline(never)]
+#[inline(always)]
 fn put_sum_row<const L: usize>(p: &[u8], at: usize, stride: usize, out: &mut [i16; 336], row: usize)
     requires lanes { AreLanes L }
     requires samples { HasPlaces L stride 16 (at + 5 * 1) p.now }

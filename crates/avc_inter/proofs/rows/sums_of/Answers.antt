@@ -1,16 +1,10 @@
 use Rattle.std.proofs.Common.{ℕ, ℤ, ◌≡◌, ◌≤◌, ◌<◌, ◌+◌, ◌-ℤ◌, pos, arith, ap, ◌∙◌, w16, to_z, of_z, map, slice_index, slice_index_or, List, length, subst, sym}
-use Rattle.std.proofs.lemmas.Simd.{get_or-chunk, Each1-get_or}
+use Rattle.std.proofs.lemmas.Simd.{Each1-get_or}
 use Rattle.std.proofs.lemmas.Int.{ints}
-use Rattle.std.specs.Simd.Lanes.{chunk}
 use Rattle.avc_inter.specs.Bounds.{IsSum}
 use Rattle.avc_inter.specs.SixRows.{taps_of}
-use Rattle.avc_inter.proofs.Lanes.{get_or-through_narrow_bits, six_taps_apart}
+use Rattle.avc_inter.proofs.Lanes.{get_or-through_narrow_bits, lane_of_row, six_taps_apart}
 use Rattle.avc_inter.proofs.rows.sums_of.Goals as goal
-
--- lane k of a row
-lane : (r q v : List ℕ) (k : ℕ) → v ≡ chunk 0 16 q → q ≡ r → k < 16 → slice_index v k ≡ slice_index r k
-lane r q v k e same h =
-    ap (λ (w : List ℕ). slice_index w k) e ∙ get_or-chunk 0 16 q k 0 h ∙ ap (λ n. slice_index q n) (omega arith) ∙ ap (λ (w : List ℕ). slice_index w k) same
 
 is_sum : (s m : ℕ) (z : ℤ) → s ≤ 10710 → m ≤ 2550 → z ≡ pos s -ℤ pos m → IsSum z
 is_sum s m z p q e = record { low = omega (arith, ints, e); high = omega (arith, ints, e) }
@@ -28,12 +22,12 @@ returns c =
     let five_small = c.multiples-2.ensures.small 510 middle_small in
     record {
       value = λ k h.
-          let e = lane a.e.now _ _ k c.widened.ensures.value c.as_slice.ensures h in
-          let j = lane a.j.now _ _ k c.widened-2.ensures.value c.as_slice-2.ensures h in
-          let f = lane a.f.now _ _ k c.widened-3.ensures.value c.as_slice-3.ensures h in
-          let i = lane a.i.now _ _ k c.widened-4.ensures.value c.as_slice-4.ensures h in
-          let g = lane a.g.now _ _ k c.widened-5.ensures.value c.as_slice-5.ensures h in
-          let m = lane a.h.now _ _ k c.widened-6.ensures.value c.as_slice-6.ensures h in
+          let e = lane_of_row a.e.now _ _ k c.widened.ensures.value c.as_slice.ensures h in
+          let j = lane_of_row a.j.now _ _ k c.widened-2.ensures.value c.as_slice-2.ensures h in
+          let f = lane_of_row a.f.now _ _ k c.widened-3.ensures.value c.as_slice-3.ensures h in
+          let i = lane_of_row a.i.now _ _ k c.widened-4.ensures.value c.as_slice-4.ensures h in
+          let g = lane_of_row a.g.now _ _ k c.widened-5.ensures.value c.as_slice-5.ensures h in
+          let m = lane_of_row a.h.now _ _ k c.widened-6.ensures.value c.as_slice-6.ensures h in
           let outer = c.sums-outer.ensures.at k h in
           let middle = c.sums-middle.ensures.at k h in
           let inner = c.sums-inner.ensures.at k h in
