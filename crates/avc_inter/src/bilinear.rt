@@ -69,8 +69,7 @@ fn rounded(sum: u16) -> u8
     requires { sum ≤ 16320 }
     ensures { result ≡ (sum + 32) / 64 }
 {
-    // no sum has more than a byte, but so the narrowing is one instruction
-    ((sum + 32) / 64).min(255) as u8
+    ((sum + 32) / 64) as u8
 }
 
 /// The means at sixteen places.

@@ -1,4 +1,4 @@
-use Rattle.std.proofs.Common.{◌≡◌, ◌*◌, ◌/◌, ◌∙◌, sym, arith, to_z, of_z, w16}
+use Rattle.std.proofs.Common.{◌≡◌, ◌*◌, ◌/◌, arith, to_z, of_z, w16}
 use Rattle.std.proofs.lemmas.Int.{ints}
 use Rattle.avc_plane.specs.Plane.{sample}
 use Rattle.avc_plane.proofs.Strided.{strided_rows, strided_same}

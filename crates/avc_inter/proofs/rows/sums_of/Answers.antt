@@ -1,8 +1,7 @@
-use Rattle.std.proofs.Common.{ℕ, ℤ, ◌≡◌, ◌≤◌, ◌<◌, ◌+◌, ◌-ℤ◌, pos, arith, ap, ◌∙◌, w16, to_z, of_z, map, slice_index, slice_index_or, List, length, subst, sym}
+use Rattle.std.proofs.Common.{ℕ, ℤ, ◌≡◌, ◌≤◌, ◌<◌, ◌-ℤ◌, pos, arith, ◌∙◌, w16, to_z, of_z, map, slice_index, slice_index_or}
 use Rattle.std.proofs.lemmas.Simd.{Each1-get_or}
 use Rattle.std.proofs.lemmas.Int.{ints}
 use Rattle.avc_inter.specs.Bounds.{IsSum}
-use Rattle.avc_inter.specs.SixRows.{taps_of}
 use Rattle.avc_inter.proofs.Lanes.{get_or-through_narrow_bits, lane_of_row, six_taps_apart}
 use Rattle.avc_inter.proofs.rows.sums_of.Goals as goal
 
