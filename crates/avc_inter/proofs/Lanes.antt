@@ -1,11 +1,11 @@
 -- Lanes one by one.
-use Rattle.std.proofs.Common.{ℕ, ℤ, zero, suc, ◌+◌, ◌*◌, ◌≤◌, ◌<◌, ◌-ℤ◌, ◌≡◌, arith, refl, ◌∙◌, FitsSigned, w32, to_z, of_z, pos, List, [], ◌∷◌, map, get_or, length, subst, sym, ⊎_elim, ◌-◌}
+use Rattle.std.proofs.Common.{ℕ, ℤ, zero, suc, ◌+◌, ◌*◌, ◌≤◌, ◌<◌, ◌-ℤ◌, ◌≡◌, arith, refl, ap, ◌∙◌, FitsSigned, w16, w32, to_z, of_z, pos, List, [], ◌∷◌, map, get_or, length, subst, sym, ⊎_elim, ◌-◌}
 use Rattle.std.proofs.lemmas.List.{length-map}
 use Rattle.std.proofs.lemmas.Bool.{cases_lt}
 use Rattle.std.proofs.Math.Nat.{mul-le-mul_right}
 use Rattle.std.proofs.lemmas.Int.{ints, to_z-of_z}
-use Rattle.std.proofs.lemmas.Simd.{Each1-zip2, Each2-of, get_or-put_chunk_below, get_or-put_chunk_at}
-use Rattle.std.specs.Simd.Lanes.{zip2, Each1, put_chunk}
+use Rattle.std.proofs.lemmas.Simd.{Each1-weaker, get_or-chunk, Each1-zip2, Each2-of, get_or-put_chunk_below, get_or-put_chunk_at}
+use Rattle.std.specs.Simd.Lanes.{zip2, chunk, Each1, put_chunk}
 use Rattle.avc_inter.specs.Luma.{six_taps}
 
 pub sums_small : (m n : ℕ) (a b : List ℕ) → Each1 (λ x. x ≤ m) a → Each1 (λ y. y ≤ n) b → Each1 (λ z. z ≤ m + n) (zip2 (λ x y. x + y) a b)
@@ -26,6 +26,20 @@ pub get_or-through_bits : (ds : List ℤ) (k : ℕ) → FitsSigned w32 (get_or d
 get_or-through_bits [] k h = refl
 get_or-through_bits (d ∷ ds) zero h = to_z-of_z w32 d h
 get_or-through_bits (d ∷ ds) (suc k) h = get_or-through_bits ds k h
+
+pub get_or-through_narrow_bits : (ds : List ℤ) (k : ℕ) → FitsSigned w16 (get_or ds k (pos 0)) → get_or (map (to_z w16) (map (of_z w16) ds)) k (pos 0) ≡ get_or ds k (pos 0)
+get_or-through_narrow_bits [] k h = refl
+get_or-through_narrow_bits (d ∷ ds) zero h = to_z-of_z w16 d h
+get_or-through_narrow_bits (d ∷ ds) (suc k) h = get_or-through_narrow_bits ds k h
+
+-- lane k of a row that was loaded
+pub lane_of_row : (r q v : List ℕ) (k : ℕ) → v ≡ chunk 0 16 q → q ≡ r → k < 16 → get_or v k 0 ≡ get_or r k 0
+lane_of_row r q v k e same h =
+    ap (λ (w : List ℕ). get_or w k 0) e ∙ get_or-chunk 0 16 q k 0 h ∙ ap (λ n. get_or q n 0) (omega arith) ∙ ap (λ (w : List ℕ). get_or w k 0) same
+
+-- lanes that are small enough to be added
+pub addable : (n : ℕ) (v : List ℕ) → n ≤ 16383 → Each1 (λ x. x ≤ n) v → Each1 (λ x. x ≤ 16383) v
+addable n v low small = Each1-weaker (λ x. x ≤ n) (λ x. x ≤ 16383) (λ x p. omega (arith, p, low)) v small
 
 -- the taps, positive ones apart from negative ones
 pub six_taps_apart : (e f g h i j s m : ℕ) → s ≡ e + j + (g + h) * 20 → m ≡ (f + i) * 5 → pos s -ℤ pos m ≡ six_taps (pos e) (pos f) (pos g) (pos h) (pos i) (pos j)

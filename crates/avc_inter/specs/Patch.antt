@@ -101,11 +101,9 @@ quarter_of p stride k fx (suc (suc (suc f))) = row_3_of p stride k fx
 pub record IsPatch (s : Wide) (left top : ℤ) (columns rows : ℕ) (p : List ℕ) : Type 0 where
   pub at : (i j : ℕ) → i < columns → j < rows → slice_index p (j * columns + i) ≡ s (left +ℤ pos i) (top +ℤ pos j)
 
--- the samples of the map s in so many columns and rows from `left` and `top` on are in rows that lie `stride` apart, from place `first` on;
--- each of them, and sixteen from its first one on, is there
+-- the samples of the map s in so many columns and rows from `left` and `top` on are in rows that lie `stride` apart, from place `first` on
 pub record IsThere (s : Wide) (left top : ℤ) (columns count first stride : ℕ) (rows : List ℕ) : Type 0 where
   pub row : (j : ℕ) → j < count → first + j * stride + columns ≤ length rows
-  pub sixteen : (j : ℕ) → j < count → first + j * stride + 16 ≤ length rows
   pub at : (i j : ℕ) → i < columns → j < count → slice_index rows (first + j * stride + i) ≡ s (left +ℤ pos i) (top +ℤ pos j)
 
 -- by four weights, the mean of a sample, that right of it and the two below them

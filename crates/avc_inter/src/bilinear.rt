@@ -5,6 +5,7 @@ ghost use Rattle.avc_plane.specs.Strided.{IsRoom, IsStridedSet};
 ghost use Rattle.avc_inter.specs.Patch.{blend_of, IsWhole};
 ghost use Rattle.avc_inter.specs.SixRows.{place_of, AreLanes, HasPlaces};
 
+use crate::row::{multiples, sums, widened};
 use crate::rows::{put_rows, sixteen};
 use avc_plane::RowsPlace;
 
@@ -39,22 +40,35 @@ impl BilinearWeights {
     }
 }
 
-fn product(weight: u16, sample: u8) -> u16
-    requires { weight ≤ 64 }
-    ensures value { result ≡ weight * sample }
-    ensures small { result ≤ 255 * weight }
+/// The weighted sums at sixteen places.
+#[inline(always)]
+fn sums_of(
+    w: BilinearWeights,
+    here: &[u8; 16],
+    right: &[u8; 16],
+    below: &[u8; 16],
+    across: &[u8; 16],
+) -> [u16; 16]
+    requires { IsWhole w }
+    ensures value { (k : ℕ) → k < 16 → slice_index result k ≡
+        w.here * slice_index here.now k + w.right * slice_index right.now k
+        + (w.below * slice_index below.now k + w.across * slice_index across.now k) }
+    ensures small { (k : ℕ) → k < 16 → slice_index result k ≤ 16320 }
 {
-    weight * u16::from(sample)
+    let here = multiples(widened(here.as_slice(), 0), w.here);
+    let right = multiples(widened(right.as_slice(), 0), w.right);
+    let below = multiples(widened(below.as_slice(), 0), w.below);
+    let across = multiples(widened(across.as_slice(), 0), w.across);
+    let row = sums(here, right);
+    let next = sums(below, across);
+    sums(row, next).to_array()
 }
 
-fn blend(w: BilinearWeights, here: u8, right: u8, below: u8, across: u8) -> u8
-    requires { IsWhole w }
-    ensures { result ≡ (w.here * here + w.right * right + w.below * below + w.across * across + 32) / 64 }
+/// A weighted sum in whole samples, rounded.
+fn rounded(sum: u16) -> u8
+    requires { sum ≤ 16320 }
+    ensures { result ≡ (sum + 32) / 64 }
 {
-    let sum = product(w.here, here)
-        + product(w.right, right)
-        + product(w.below, below)
-        + product(w.across, across);
     ((sum + 32) / 64) as u8
 }
 
@@ -72,10 +86,10 @@ fn blends_of(
         (w.here * slice_index here.now k + w.right * slice_index right.now k
         + w.below * slice_index below.now k + w.across * slice_index across.now k + 32) / 64 }
 {
-    let (here, right, below, across) = (*here, *right, *below, *across);
+    let sums = sums_of(w, here, right, below, across);
     let mut out = [0; 16];
     for k in 0..16 {
-        out[k] = blend(w, here[k], right[k], below[k], across[k]);
+        out[k] = rounded(sums[k]);
     }
     out
 }

@@ -10,7 +10,7 @@ ghost use Rattle.avc_inter.specs.Bounds.{IsMoved};
 use crate::chroma_between::lay_eighths;
 use crate::patch::set_whole;
 use crate::vector::{chroma_fraction, chroma_place};
-use crate::whole::lay_whole;
+use crate::whole::predict_whole;
 use avc_plane::{PaddedPlane, Plane, RowsPlace};
 use avc_types::{Block, Mv};
 
@@ -72,7 +72,7 @@ pub fn chroma<const W: usize, const H: usize, const PAD: usize>(
     }
 }
 
-/// Lays the prediction of a chroma block into rows.
+/// Lays the prediction of a chroma block into rows, by all samples that one between whole ones needs.
 #[inline(always)]
 fn lay_chroma<const W: usize, const H: usize, const PAD: usize>(
     reference: &PaddedPlane<PAD>,
@@ -100,13 +100,33 @@ fn lay_chroma<const W: usize, const H: usize, const PAD: usize>(
     let top = chroma_place(y, mv.y);
     let right = chroma_fraction(mv.x);
     let down = chroma_fraction(mv.y);
-    if right == 0 && down == 0 {
-        lay_whole::<W, H, PAD>(reference, left, top, out, to);
-    } else if W <= 4 && H % 4 == 0 {
+    if W <= 4 && H % 4 == 0 {
         lay_eighths::<4, W, PAD>(reference, left, top, H / 4, right, down, out, to);
     } else {
         lay_eighths::<8, W, PAD>(reference, left, top, H / 2, right, down, out, to);
     }
+}
+
+/// Lays the prediction of a chroma block into its place in a plane, by all samples that one between whole ones needs.
+#[inline(never)]
+fn predict_between<const W: usize, const H: usize, const PAD: usize>(
+    reference: &PaddedPlane<PAD>,
+    x: usize,
+    y: usize,
+    mv: Mv,
+    plane: &mut Plane<PAD>,
+)
+    requires columns { (1 ≤ W) × (W ≤ 8) × (x + W ≤ plane.old.width) }
+    requires rows { (1 ≤ H) × (H ≤ 8) × (y + H ≤ plane.old.height) }
+    requires even { H % 2 ≡ 0 }
+    requires column { x < reference.now.width }
+    requires row { y < reference.now.height }
+    ensures { plane.new ≡ with_block plane.old x y W H
+        (λ i j. inter_chroma reference.now.width reference.now.height (sample reference.now) mv (x + i) (y + j)) }
+{
+    let to = plane.padded_place(x, y);
+    let rows = plane.padded_rows_mut();
+    lay_chroma::<W, H, PAD>(reference, x, y, mv, rows, to);
 }
 
 /// The same prediction of an even number of rows, laid into its place in the chroma plane of the picture.
@@ -125,7 +145,15 @@ pub fn predict_chroma<const W: usize, const H: usize, const PAD: usize>(
     ensures { plane.new ≡ with_block plane.old x y W H
         (λ i j. inter_chroma reference.now.width reference.now.height (sample reference.now) mv (x + i) (y + j)) }
 {
-    let to = plane.padded_place(x, y);
-    let rows = plane.padded_rows_mut();
-    lay_chroma::<W, H, PAD>(reference, x, y, mv, rows, to);
+    let width = reference.width();
+    let height = reference.height();
+    prove!(x < width);
+    prove!(y < height);
+    if chroma_fraction(mv.x) == 0 && chroma_fraction(mv.y) == 0 {
+        let left = chroma_place(x, mv.x);
+        let top = chroma_place(y, mv.y);
+        predict_whole::<W, H, PAD>(reference, left, top, x, y, plane);
+    } else {
+        predict_between::<W, H, PAD>(reference, x, y, mv, plane);
+    }
 }

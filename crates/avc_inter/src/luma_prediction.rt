@@ -11,7 +11,7 @@ ghost use Rattle.avc_inter.specs.SixRows.{AreLanes};
 use crate::between::lay_between;
 use crate::patch::set_whole;
 use crate::vector::{luma_fraction, luma_place};
-use crate::whole::lay_whole;
+use crate::whole::predict_whole;
 use avc_plane::{PaddedPlane, Plane, RowsPlace};
 use avc_types::{Block, Mv};
 
@@ -101,7 +101,7 @@ pub fn luma<const W: usize, const H: usize, const PAD: usize>(
     }
 }
 
-/// Lays the prediction of a luma block into rows.
+/// Lays the prediction of a luma block into rows, by all samples that one between whole ones needs.
 #[inline(always)]
 fn lay_luma<const W: usize, const H: usize, const PAD: usize>(
     reference: &PaddedPlane<PAD>,
@@ -129,13 +129,35 @@ fn lay_luma<const W: usize, const H: usize, const PAD: usize>(
     let top = luma_place(y, mv.y);
     let fx = luma_fraction(mv.x);
     let fy = luma_fraction(mv.y);
-    if fx == 0 && fy == 0 {
-        lay_whole::<W, H, PAD>(reference, left, top, out, to);
+    if W <= 4 && H % 4 == 0 {
+        lay_between::<4, W, PAD, 216>(reference, left, top, H / 4, fx, fy, out, to);
     } else if W <= 8 {
         lay_between::<8, W, PAD, 286>(reference, left, top, H / 2, fx, fy, out, to);
     } else {
         lay_between::<16, W, PAD, 441>(reference, left, top, H, fx, fy, out, to);
     }
+}
+
+/// Lays the prediction of a luma block into its place in a plane, by all samples that one between whole ones needs.
+#[inline(never)]
+fn predict_between<const W: usize, const H: usize, const PAD: usize>(
+    reference: &PaddedPlane<PAD>,
+    x: usize,
+    y: usize,
+    mv: Mv,
+    plane: &mut Plane<PAD>,
+)
+    requires columns { (1 ≤ W) × (W ≤ 16) × (x + W ≤ plane.old.width) }
+    requires rows { (1 ≤ H) × (H ≤ 16) × (y + H ≤ plane.old.height) }
+    requires even { H % 2 ≡ 0 }
+    requires column { x < reference.now.width }
+    requires row { y < reference.now.height }
+    ensures { plane.new ≡ with_block plane.old x y W H
+        (λ i j. inter_luma reference.now.width reference.now.height (sample reference.now) mv (x + i) (y + j)) }
+{
+    let to = plane.padded_place(x, y);
+    let rows = plane.padded_rows_mut();
+    lay_luma::<W, H, PAD>(reference, x, y, mv, rows, to);
 }
 
 /// The same prediction of an even number of rows, laid into its place in the luma plane of the picture.
@@ -154,7 +176,15 @@ pub fn predict_luma<const W: usize, const H: usize, const PAD: usize>(
     ensures { plane.new ≡ with_block plane.old x y W H
         (λ i j. inter_luma reference.now.width reference.now.height (sample reference.now) mv (x + i) (y + j)) }
 {
-    let to = plane.padded_place(x, y);
-    let rows = plane.padded_rows_mut();
-    lay_luma::<W, H, PAD>(reference, x, y, mv, rows, to);
+    let width = reference.width();
+    let height = reference.height();
+    prove!(x < width);
+    prove!(y < height);
+    if luma_fraction(mv.x) == 0 && luma_fraction(mv.y) == 0 {
+        let left = luma_place(x, mv.x);
+        let top = luma_place(y, mv.y);
+        predict_whole::<W, H, PAD>(reference, left, top, x, y, plane);
+    } else {
+        predict_between::<W, H, PAD>(reference, x, y, mv, plane);
+    }
 }

@@ -11,34 +11,6 @@ ghost use Rattle.avc_inter.specs.Patch.{IsPatch, IsThere};
 use avc_plane::{PaddedPlane, RowsPlace};
 use avc_types::Block;
 
-/// Where in a padded size `count` samples from this place of the plane on begin, if they are all there.
-#[inline(always)]
-fn begin_within(place: i64, count: usize, size: usize, pad: usize) -> Option<usize>
-    requires place { IsPlace place }
-    requires few { count < 2 ^ 16 }
-    requires small { size + 2 * pad < 2 ^ 31 }
-    ensures { IfSome result (λ first. (pos first ≡ place +ℤ pos pad) × (first + count ≤ size + 2 * pad)) }
-{
-    let first = place + pad as i64;
-    if first < 0 {
-        return None;
-    }
-    let first = first as usize;
-    if first + count > size + 2 * pad {
-        return None;
-    }
-    Some(first)
-}
-
-fn at_least_sixteen(count: usize) -> usize
-    requires { count < 2 ^ 16 }
-    ensures more { count ≤ result }
-    ensures sixteen { 16 ≤ result }
-    ensures few { result < 2 ^ 16 }
-{
-    if count < 16 { 16 } else { count }
-}
-
 /// A coordinate held inside a size.
 fn held(place: i64, size: usize) -> usize
     requires some { 0 < size }
@@ -101,8 +73,19 @@ pub fn fetch_held<const PAD: usize>(
     }
 }
 
-/// Where the padded rows of a plane have the samples in `columns` columns from `left` on, or sixteen, and `count` rows from `top` on; None
-/// where they don't have them all.
+/// A place that is not before the padding, counted from there.
+#[inline(always)]
+fn behind_edge(place: i64, pad: usize) -> usize
+    requires place { IsPlace place }
+    requires few { pad < 2 ^ 31 }
+    requires inside { pos 0 ≤ℤ (place +ℤ pos pad) }
+    ensures { pos result ≡ place +ℤ pos pad }
+{
+    (place + pad as i64) as usize
+}
+
+/// Where the padded rows of a plane have the samples in `columns` columns from `left` on and `count` rows from `top` on; None where they
+/// don't have them all.
 #[inline(always)]
 pub fn find_within<const PAD: usize>(
     plane: &PaddedPlane<PAD>,
@@ -118,21 +101,20 @@ pub fn find_within<const PAD: usize>(
     ensures { IfSome result (λ at. (rows : List ℕ) → IsSurrounded PAD plane.now rows →
         IsThere (clamped plane.now.width plane.now.height (sample plane.now)) left top columns count at.first at.stride rows) }
 {
-    let width = plane.width();
-    let height = plane.height();
-    let wide = at_least_sixteen(columns);
-    let first_column = begin_within(left, wide, width, PAD);
-    let first_row = begin_within(top, count, height, PAD);
-    match (first_column, first_row) {
-        (Some(column), Some(row)) => {
-            let stride = width + 2 * PAD;
-            Some(RowsPlace {
-                first: row * stride + column,
-                stride,
-            })
-        }
-        _ => None,
+    let stride = plane.width() + 2 * PAD;
+    let lines = plane.height() + 2 * PAD;
+    if left + (PAD as i64) < 0 || top + (PAD as i64) < 0 {
+        return None;
     }
+    let column = behind_edge(left, PAD);
+    let row = behind_edge(top, PAD);
+    if column + columns > stride || row + count > lines {
+        return None;
+    }
+    Some(RowsPlace {
+        first: row * stride + column,
+        stride,
+    })
 }
 
 /// Gives a block the whole samples from `left` and `top` on, each coordinate held inside the plane.
@@ -167,7 +149,7 @@ pub fn set_whole<const W: usize, const H: usize, const PAD: usize>(
     requires top { IsMoved top }
     ensures { block.new ≡ block_of W H (λ i j. clamped plane.now.width plane.now.height (sample plane.now) (left +ℤ pos i) (top +ℤ pos j)) }
 {
-    match find_within(plane, left, top, W, H) {
+    match find_within(plane, left, top, 16, H) {
         Some(at) => block.set_rows(plane.padded_rows(), at.first, at.stride),
         None => set_held(plane, left, top, block),
     }

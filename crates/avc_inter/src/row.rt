@@ -1,7 +1,7 @@
 //! The six-tap filter over a row of samples, sixteen at a time.
 
 ghost use Rattle.std.specs.Prelude.{◌≡◌, ℕ, ℤ, FitsSigned, ◌+◌, ◌<◌, ◌≤◌, ◌*◌, ◌-ℤ◌, pos, length, slice_index, slice_index_or};
-ghost use Rattle.std.specs.Int.{w32};
+ghost use Rattle.std.specs.Int.{w16, w32};
 ghost use Rattle.std.specs.Simd.Lanes.{chunk, Each1};
 ghost use Rattle.avc_inter.specs.SixTapRow.{taps_at};
 
@@ -9,7 +9,8 @@ use crate::taps::taps;
 use std::simd::prelude::*;
 
 /// Sixteen samples, as wider numbers.
-fn widened(src: &[u8], at: usize) -> u16x16
+#[inline(always)]
+pub fn widened(src: &[u8], at: usize) -> u16x16
     requires { at + 16 ≤ length src.now }
     ensures value { result ≡ chunk at 16 src.now }
     ensures small { Each1 (λ x. x ≤ 255) result }
@@ -17,7 +18,8 @@ fn widened(src: &[u8], at: usize) -> u16x16
     u8x16::from_slice(&src[at..]).cast::<u16>()
 }
 
-fn sums(a: u16x16, b: u16x16) -> u16x16
+#[inline(always)]
+pub fn sums(a: u16x16, b: u16x16) -> u16x16
     requires a_small { Each1 (λ x. x ≤ 16383) a }
     requires b_small { Each1 (λ x. x ≤ 16383) b }
     ensures long { length result ≡ 16 }
@@ -27,9 +29,10 @@ fn sums(a: u16x16, b: u16x16) -> u16x16
     a.strict_add(b)
 }
 
-fn multiples(a: u16x16, by: u16) -> u16x16
+#[inline(always)]
+pub fn multiples(a: u16x16, by: u16) -> u16x16
     requires a_small { Each1 (λ x. x ≤ 510) a }
-    requires by_small { by ≤ 20 }
+    requires by_small { by ≤ 128 }
     ensures long { length result ≡ 16 }
     ensures at { (k : ℕ) → k < 16 → slice_index result k ≡ slice_index a k * by }
     ensures small { (m : ℕ) → Each1 (λ x. x ≤ m) a → Each1 (λ z. z ≤ m * by) result }
@@ -45,6 +48,18 @@ fn differences(a: u16x16, b: u16x16) -> i32x16
     ensures fits { (k : ℕ) → k < 16 → FitsSigned w32 (slice_index_or result k (pos 0)) }
 {
     a.cast::<i32>().strict_sub(b.cast::<i32>())
+}
+
+/// The same in sixteen bits.
+#[inline(always)]
+pub fn narrow_differences(a: u16x16, b: u16x16) -> i16x16
+    requires a_small { Each1 (λ x. x ≤ 16383) a }
+    requires b_small { Each1 (λ x. x ≤ 16383) b }
+    ensures long { length result ≡ 16 }
+    ensures at { (k : ℕ) → k < 16 → slice_index_or result k (pos 0) ≡ pos (slice_index a k) -ℤ pos (slice_index b k) }
+    ensures fits { (k : ℕ) → k < 16 → FitsSigned w16 (slice_index_or result k (pos 0)) }
+{
+    a.cast::<i16>().strict_sub(b.cast::<i16>())
 }
 
 /// The taps at sixteen places.

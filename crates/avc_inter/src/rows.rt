@@ -11,7 +11,8 @@ ghost use Rattle.avc_inter.specs.Bounds.{IsSum};
 ghost use Rattle.avc_inter.specs.Patch.{taps_along, half_along, centre_along, rounded_sum};
 ghost use Rattle.avc_inter.specs.SixRows.{place_of, HasPlaces, AreLanes, half_of, taps_of, centre_of, AreSums, AreSumsPut};
 
-use crate::taps::{centre, half, mean, rounded_half, taps};
+use crate::row::{multiples, narrow_differences, sums, widened};
+use crate::taps::{centre, half, mean, rounded_half};
 use avc_plane::RowsPlace;
 
 /// Reads L samples of a row.
@@ -256,17 +257,14 @@ fn sums_of(
     ensures value { (k : ℕ) → k < 16 → slice_index_or result k (pos 0) ≡ taps_of e.now f.now g.now h.now i.now j.now k }
     ensures small { (k : ℕ) → k < 16 → IsSum (slice_index_or result k (pos 0)) }
 {
-    let (e, f, g, h, i, j) = (*e, *f, *g, *h, *i, *j);
-    let mut out = [0; 16];
-    for k in 0..16 {
-        out[k] = taps(e[k], f[k], g[k], h[k], i[k], j[k]);
-    }
-    out
+    let outer = sums(widened(e.as_slice(), 0), widened(j.as_slice(), 0));
+    let middle = sums(widened(f.as_slice(), 0), widened(i.as_slice(), 0));
+    let inner = sums(widened(g.as_slice(), 0), widened(h.as_slice(), 0));
+    narrow_differences(sums(outer, multiples(inner, 20)), multiples(middle, 5)).to_array()
 }
 
 /// The unrounded taps over each six neighbours.
-// inlined, the loop over rows would be taken for the one to make wide
-#[inline(never)]
+#[inline(always)]
 fn sum_row<const L: usize>(p: &[u8], at: usize, stride: usize) -> [i16; 16]
     requires lanes { AreLanes L }
     requires samples { HasPlaces L stride 16 (at + 5 * 1) p.now }
@@ -293,6 +291,20 @@ fn put_sums(out: &mut [i16; 336], row: usize, r: &[i16; 16])
     }
 }
 
+/// Puts the unrounded taps over each six neighbours into their place.
+#[inline(always)]
+fn put_sum_row<const L: usize>(p: &[u8], at: usize, stride: usize, out: &mut [i16; 336], row: usize)
+    requires lanes { AreLanes L }
+    requires samples { HasPlaces L stride 16 (at + 5 * 1) p.now }
+    requires row { row < 21 }
+    ensures value { (k : ℕ) → k < 16 → slice_index_or out.new (16 * row + k) (pos 0) ≡ taps_along p.now (at + place_of L stride k) 1 }
+    ensures small { (k : ℕ) → k < 16 → IsSum (slice_index_or out.new (16 * row + k) (pos 0)) }
+    ensures before { (k : ℕ) → k < 16 * row → slice_index_or out.new k (pos 0) ≡ slice_index_or out.old k (pos 0) }
+{
+    let sums = sum_row::<L>(p, at, stride);
+    put_sums(out, row, &sums);
+}
+
 /// Unrounded sums.
 #[inline(always)]
 pub fn sum_rows<const L: usize>(
@@ -311,8 +323,7 @@ pub fn sum_rows<const L: usize>(
 {
     let lines = 16 / L * stride;
     for y in 0..count {
-        let row = sum_row::<L>(p, at + y * lines, stride);
-        put_sums(out, y, &row);
+        put_sum_row::<L>(p, at + y * lines, stride, out, y);
     }
 }
 

@@ -1,13 +1,13 @@
 //! Whole samples, laid into rows.
 
 ghost use Rattle.std.specs.Prelude.{◌≡◌, ℕ, ◌+◌, ◌*◌, ◌<◌, ◌≤◌, pos, ◌+ℤ◌, length};
-ghost use Rattle.avc_plane.specs.Plane.{sample, clamped};
+ghost use Rattle.avc_plane.specs.Plane.{sample, clamped, with_block};
 ghost use Rattle.avc_plane.specs.Strided.{IsRoom, IsStridedSet};
 ghost use Rattle.avc_inter.specs.Bounds.{IsMoved};
 
 use crate::lines::copy_lines;
 use crate::patch::{fetch_held, find_within};
-use avc_plane::{PaddedPlane, RowsPlace};
+use avc_plane::{PaddedPlane, Plane, RowsPlace};
 
 /// Lays whole samples, each coordinate held inside the plane.
 #[cold]
@@ -39,7 +39,7 @@ fn lay_held<const W: usize, const H: usize, const PAD: usize>(
 
 /// Lays whole samples from `left` and `top` on.
 #[inline(always)]
-pub fn lay_whole<const W: usize, const H: usize, const PAD: usize>(
+fn lay_whole<const W: usize, const H: usize, const PAD: usize>(
     plane: &PaddedPlane<PAD>,
     left: i64,
     top: i64,
@@ -59,4 +59,28 @@ pub fn lay_whole<const W: usize, const H: usize, const PAD: usize>(
         Some(at) => copy_lines::<W, H>(plane.padded_rows(), at, out, to),
         None => lay_held::<W, H, PAD>(plane, left, top, out, to),
     }
+}
+
+/// Lays whole samples from `left` and `top` on into their place in a plane.
+// by itself: what a block between whole samples needs is not laid by for it
+#[inline(never)]
+pub fn predict_whole<const W: usize, const H: usize, const PAD: usize>(
+    reference: &PaddedPlane<PAD>,
+    left: i64,
+    top: i64,
+    x: usize,
+    y: usize,
+    plane: &mut Plane<PAD>,
+)
+    requires columns { (1 ≤ W) × (W ≤ 16) × (x + W ≤ plane.old.width) }
+    requires rows { (1 ≤ H) × (H ≤ 16) × (y + H ≤ plane.old.height) }
+    requires left { IsMoved left }
+    requires top { IsMoved top }
+    ensures { (f : ℕ → ℕ → ℕ) →
+        ((i j : ℕ) → clamped reference.now.width reference.now.height (sample reference.now) (left +ℤ pos i) (top +ℤ pos j) ≡ f i j) →
+        plane.new ≡ with_block plane.old x y W H f }
+{
+    let to = plane.padded_place(x, y);
+    let rows = plane.padded_rows_mut();
+    lay_whole::<W, H, PAD>(reference, left, top, rows, to);
 }

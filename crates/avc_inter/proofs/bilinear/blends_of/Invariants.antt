@@ -1,9 +1,8 @@
-use Rattle.std.proofs.Common.{◌≡◌, ◌<◌, ◌+◌, ◌*◌, ◌/◌, ℕ, length, slice_index}
+use Rattle.std.proofs.Common.{◌≡◌, ◌<◌, ◌+◌, ◌/◌, ℕ, length, slice_index}
 use Rattle.avc_inter.proofs.bilinear.blends_of.Given as goal
 
 abbrev pub invariant-loop-k : goal.invariant-loop-k
 invariant-loop-k l = record {
   long : length l.out ≡ 16;
-  done : (k : ℕ) → k < l.k → slice_index l.out k ≡
-      (l.w.here * slice_index l.here k + l.w.right * slice_index l.right k + l.w.below * slice_index l.below k + l.w.across * slice_index l.across k + 32) / 64;
+  done : (k : ℕ) → k < l.k → slice_index l.out k ≡ (slice_index l.sums k + 32) / 64;
 }

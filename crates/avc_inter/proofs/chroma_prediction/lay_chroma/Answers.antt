@@ -1,24 +1,10 @@
-use Rattle.std.proofs.Common.{◌≡◌, ◌*◌, ◌/◌, ◌+ℤ◌, pos, ◌∙◌, sym, arith, to_z, of_z, w16, w64}
+use Rattle.std.proofs.Common.{◌≡◌, ◌*◌, ◌/◌, arith, to_z, of_z, w16}
 use Rattle.std.proofs.lemmas.Int.{ints}
-use Rattle.avc_plane.specs.Plane.{sample, clamped}
+use Rattle.avc_plane.specs.Plane.{sample}
 use Rattle.avc_plane.proofs.Strided.{strided_rows, strided_same}
 use Rattle.avc_inter.proofs.Predicted.{back_moved}
-use Rattle.avc_inter.proofs.Eighths.{chroma_at, whole_at}
+use Rattle.avc_inter.proofs.Eighths.{chroma_at}
 use Rattle.avc_inter.proofs.chroma_prediction.lay_chroma.Goals as goal
-
-pub returns-then-down-eq0 : goal.returns-then-down-eq0
-returns-then-down-eq0 g c =
-    let p = c.args.reference.now in
-    let left = c.chroma_place-left in
-    let top = c.chroma_place-top in
-    let across : to_z w16 (of_z w16 c.args.mv.x) ≡ c.args.mv.x = omega (arith, ints) in
-    let down : to_z w16 (of_z w16 c.args.mv.y) ≡ c.args.mv.y = omega (arith, ints) in
-    let not_right : c.chroma_fraction-right.result ≡ 0 = omega arith in
-    let not_down : c.chroma_fraction-down.result ≡ 0 = omega arith in
-    strided_same g.row.W g.row.H c.args.to.first c.args.to.stride _ _ c.args.out.now c.lay_whole.new.out c.lay_whole.ensures
-    (λ i j column row. whole_at (clamped p.width p.height (sample p)) (to_z w64 (of_z w64 left.result) +ℤ pos i) (to_z w64 (of_z w64 top.result) +ℤ pos j)
-    ∙ chroma_at p.width p.height (sample p) c.args.mv c.args.x c.args.y 0 0 left.result _ top.result _ _ _ (back_moved left.result left.ensures.small) (back_moved top.result top.ensures.small) across down
-    left.ensures.value top.ensures.value (sym not_right ∙ c.chroma_fraction-right.ensures.value) (sym not_down ∙ c.chroma_fraction-down.ensures.value) g.row.W g.row.H i j)
 
 pub returns-then-this-eq0 : goal.returns-then-this-eq0
 returns-then-this-eq0 g c =

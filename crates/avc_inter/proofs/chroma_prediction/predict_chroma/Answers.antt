@@ -1,22 +1,21 @@
-use Rattle.std.proofs.Common.{◌+◌, arith}
-use Rattle.avc_plane.specs.Plane.{sample}
-use Rattle.avc_plane.proofs.Lending.{room_lent, block_lent}
+use Rattle.std.proofs.Common.{◌≡◌, ◌+◌, ◌+ℤ◌, pos, sym, arith, to_z, of_z, w16, w64, ◌∙◌}
+use Rattle.std.proofs.lemmas.Int.{ints}
+use Rattle.avc_plane.specs.Plane.{sample, clamped}
 use Rattle.avc_inter.specs.Chroma.{inter_chroma}
+use Rattle.avc_inter.proofs.Predicted.{back_moved}
+use Rattle.avc_inter.proofs.Eighths.{chroma_at, whole_at}
 use Rattle.avc_inter.proofs.chroma_prediction.predict_chroma.Goals as goal
 
-pub lay_chroma-requires : goal.lay_chroma-requires
-lay_chroma-requires g c =
-    let a = c.args in
-    let r = c.requires in
-    let room =
-    room_lent g.row.PAD a.plane.now a.x a.y g.row.W g.row.H c.padded_place-to.result.first c.padded_place-to.result.stride c.padded_rows_mut-rows.result.now c.padded_rows_mut-rows.ensures.rows
-    r.columns.2 r.rows.2 c.padded_place-to.ensures.first c.padded_place-to.ensures.stride in
-    (omega arith, ((r.columns.0, r.columns.1), ((r.rows.0, r.rows.1), (r.even, (r.column, (r.row, (omega (arith, r.columns.2, c.padded_place-to.ensures.stride), room)))))))
-
-pub returns : goal.returns
-returns g c =
-    let a = c.args in
-    let p = a.reference.now in
-    block_lent g.row.PAD a.plane.now a.x a.y g.row.W g.row.H c.padded_place-to.result.first c.padded_place-to.result.stride c.padded_rows_mut-rows.result.now c.padded_rows_mut-rows.ensures.rows
-    c.requires.columns.2 c.requires.rows.2 c.padded_place-to.ensures.first c.padded_place-to.ensures.stride
-    (λ i j. inter_chroma p.width p.height (sample p) a.mv (a.x + i) (a.y + j)) c.lay_chroma.new.out c.lay_chroma.ensures
+pub returns-then-chroma_fraction-eq0-2 : goal.returns-then-chroma_fraction-eq0-2
+returns-then-chroma_fraction-eq0-2 g c =
+    let p = c.args.reference.now in
+    let left = c.chroma_place-left in
+    let top = c.chroma_place-top in
+    let across : to_z w16 (of_z w16 c.args.mv.x) ≡ c.args.mv.x = omega (arith, ints) in
+    let down : to_z w16 (of_z w16 c.args.mv.y) ≡ c.args.mv.y = omega (arith, ints) in
+    let not_right : c.chroma_fraction.result ≡ 0 = omega arith in
+    let not_down : c.chroma_fraction-then-chroma_fraction-eq0.result ≡ 0 = omega arith in
+    c.predict_whole.ensures (λ i j. inter_chroma p.width p.height (sample p) c.args.mv (c.args.x + i) (c.args.y + j))
+    (λ i j. whole_at (clamped p.width p.height (sample p)) (to_z w64 (of_z w64 left.result) +ℤ pos i) (to_z w64 (of_z w64 top.result) +ℤ pos j)
+    ∙ chroma_at p.width p.height (sample p) c.args.mv c.args.x c.args.y 0 0 left.result _ top.result _ _ _ (back_moved left.result left.ensures.small) (back_moved top.result top.ensures.small) across down
+    left.ensures.value top.ensures.value (sym not_right ∙ c.chroma_fraction.ensures.value) (sym not_down ∙ c.chroma_fraction-then-chroma_fraction-eq0.ensures.value) g.row.W g.row.H i j)

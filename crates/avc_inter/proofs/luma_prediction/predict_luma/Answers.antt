@@ -1,22 +1,19 @@
-use Rattle.std.proofs.Common.{◌+◌, arith}
+use Rattle.std.proofs.Common.{◌≡◌, ◌+◌, sym, arith, to_z, of_z, w16, ◌∙◌}
+use Rattle.std.proofs.lemmas.Int.{ints}
 use Rattle.avc_plane.specs.Plane.{sample}
-use Rattle.avc_plane.proofs.Lending.{room_lent, block_lent}
 use Rattle.avc_inter.specs.Luma.{inter_luma}
+use Rattle.avc_inter.proofs.Predicted.{back_moved, luma_at}
 use Rattle.avc_inter.proofs.luma_prediction.predict_luma.Goals as goal
 
-pub lay_luma-requires : goal.lay_luma-requires
-lay_luma-requires g c =
-    let a = c.args in
-    let r = c.requires in
-    let room =
-    room_lent g.row.PAD a.plane.now a.x a.y g.row.W g.row.H c.padded_place-to.result.first c.padded_place-to.result.stride c.padded_rows_mut-rows.result.now c.padded_rows_mut-rows.ensures.rows
-    r.columns.2 r.rows.2 c.padded_place-to.ensures.first c.padded_place-to.ensures.stride in
-    (omega arith, ((r.columns.0, r.columns.1), ((r.rows.0, r.rows.1), (r.even, (r.column, (r.row, (omega (arith, r.columns.2, c.padded_place-to.ensures.stride), room)))))))
-
-pub returns : goal.returns
-returns g c =
-    let a = c.args in
-    let p = a.reference.now in
-    block_lent g.row.PAD a.plane.now a.x a.y g.row.W g.row.H c.padded_place-to.result.first c.padded_place-to.result.stride c.padded_rows_mut-rows.result.now c.padded_rows_mut-rows.ensures.rows
-    c.requires.columns.2 c.requires.rows.2 c.padded_place-to.ensures.first c.padded_place-to.ensures.stride
-    (λ i j. inter_luma p.width p.height (sample p) a.mv (a.x + i) (a.y + j)) c.lay_luma.new.out c.lay_luma.ensures
+pub returns-then-luma_fraction-eq0-2 : goal.returns-then-luma_fraction-eq0-2
+returns-then-luma_fraction-eq0-2 g c =
+    let p = c.args.reference.now in
+    let left = c.luma_place-left in
+    let top = c.luma_place-top in
+    let across : to_z w16 (of_z w16 c.args.mv.x) ≡ c.args.mv.x = omega (arith, ints) in
+    let down : to_z w16 (of_z w16 c.args.mv.y) ≡ c.args.mv.y = omega (arith, ints) in
+    let no_fx : c.luma_fraction.result ≡ 0 = omega arith in
+    let no_fy : c.luma_fraction-then-luma_fraction-eq0.result ≡ 0 = omega arith in
+    c.predict_whole.ensures (λ i j. inter_luma p.width p.height (sample p) c.args.mv (c.args.x + i) (c.args.y + j))
+    (λ i j. luma_at p.width p.height (sample p) c.args.mv c.args.x c.args.y 0 0 left.result _ top.result _ _ _ (back_moved left.result left.ensures.small) (back_moved top.result top.ensures.small) across down
+    left.ensures.value top.ensures.value (sym no_fx ∙ c.luma_fraction.ensures.value) (sym no_fy ∙ c.luma_fraction-then-luma_fraction-eq0.ensures.value) g.row.W g.row.H i j)
