@@ -106,6 +106,7 @@ module _ (n : ℕ) (s t : Plane) (agree : AgreeFrom n s t) (left top : ℕ) (bel
     where
       test : k < 8 → nat_lt k 8 ≡ true
       test low = grind (arith, nat_tests)
+
       none : 8 ≤ k → nat_lt k 8 ≡ false
       none high = grind (arith, nat_tests)
 

@@ -32,4 +32,3 @@ returns-then-self-gt0-clause-lines g c = λ coded names of.
     (subst (λ z. AreFactsOf coded names z f) (sym back) (subst (AreFactsOf coded names c.args.chroma_qp_index_offset) (sym c.self.view_is) of))
     (omega (arith, c.if-self-gt0.true)) _ (omega arith) c.deref.result.now c.deref-then-self-gt0.result.now c.deref.ensures.value c.deref-then-self-gt0.ensures.value
     (planes_of c.args.planes.now) (planes_of c.row.new.planes) c.row.ensures.lines)
-
