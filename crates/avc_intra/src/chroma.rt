@@ -1,15 +1,15 @@
 ghost use Rattle.std.specs.Prelude.{◌≡◌, ℕ, ◌+◌, ◌*◌, ◌/◌, ◌<◌, ◌≤◌, pos, ◌+ℤ◌, ◌*ℤ◌, true, length, slice_index};
 ghost use Rattle.avc_types.specs.Arithmetic.{◌>>ℤ◌};
 ghost use Rattle.avc_intra.specs.Neighbourhood.{Around, Predicts};
-ghost use Rattle.avc_intra.specs.Chroma.{ShowsChroma, can_predict_chroma, intra_chroma, predict_chroma, predict_dc_chroma, predict_plane_chroma};
+ghost use Rattle.avc_intra.specs.Chroma.{ShowsChroma, can_predict_chroma, intra_chroma, predict_chroma, predict_dc_chroma, predict_plane_chroma, sum_above, sum_left};
 ghost use Rattle.avc_intra.specs.Slopes.{IsWithin};
 ghost use Rattle.avc_intra.specs.InRows.{IsSeen};
 ghost use Rattle.avc_plane.specs.Strided.{IsRoom, IsStridedSet};
 
-use crate::beside::{above, corner, left};
-use crate::lines::{lay_block, lay_same_columns, lay_same_lines};
+use crate::beside::{above, corner, left, sum_above4, sum_left4};
+use crate::lines::{lay_same_columns, lay_same_lines};
 use crate::means::{mean_of_sides4, sum_of_four};
-use crate::plane::{height_between, plane_samples, slope};
+use crate::plane::{height_between, lay_plane, slope};
 use crate::rows::{same_columns, same_rows, set_row};
 use crate::sides::Sides;
 use avc_plane::RowsPlace;
@@ -61,8 +61,32 @@ fn gradient(slope: i32) -> i32
     (34 * slope + 32) >> 6
 }
 
+/// The DC of the 4x4 block in this column and row of blocks, from the sums of its sides: off the diagonal one side goes before the
+/// other.
+#[inline(always)]
+fn dc_of_block(sides: Sides, above: u16, left: u16, column: usize, row: usize) -> u8
+    requires column { column < 2 }
+    requires row { row < 2 }
+    requires above { above ≤ 1020 }
+    requires left { left ≤ 1020 }
+    ensures { (p : Around) → (sides.above ≡ true → above ≡ sum_above p column) → (sides.left ≡ true → left ≡ sum_left p row) →
+        result ≡ predict_dc_chroma sides p column row }
+{
+    let counts_above = sides.above && (row <= column || !sides.left);
+    let counts_left = sides.left && (column <= row || !sides.above);
+    mean_of_sides4(counts_above, counts_left, above, left)
+}
+
+/// One row of samples across a row of blocks, each block with its DC.
+#[inline(always)]
+fn row_of_two(left: u8, right: u8) -> [u8; 8]
+    ensures { (f : ℕ → ℕ) → left ≡ f 0 → right ≡ f 1 → (x : ℕ) → x < 8 → slice_index result x ≡ f (x / 4) }
+{
+    [left, left, left, left, right, right, right, right]
+}
+
 impl AroundChroma {
-    /// The DC of the 4x4 block in this column and row of blocks: off the diagonal one side goes before the other.
+    /// The DC of the 4x4 block in this column and row of blocks.
     fn dc(&self, column: usize, row: usize) -> u8
         requires column { column < 2 }
         requires row { row < 2 }
@@ -70,9 +94,7 @@ impl AroundChroma {
     {
         let above = sum_of_four(&self.above, 4 * column);
         let left = sum_of_four(&self.left, 4 * row);
-        let counts_above = self.sides.above && (row <= column || !self.sides.left);
-        let counts_left = self.sides.left && (column <= row || !self.sides.above);
-        mean_of_sides4(counts_above, counts_left, above, left)
+        dc_of_block(self.sides, above, left, column, row)
     }
 
     /// One row of samples across this row of blocks, each block with its DC.
@@ -80,9 +102,7 @@ impl AroundChroma {
         requires { row < 2 }
         ensures { (p : Around) → ShowsChroma p self.now → (x : ℕ) → x < 8 → slice_index result x ≡ predict_dc_chroma self.now.sides p (x / 4) row }
     {
-        let left = self.dc(0, row);
-        let right = self.dc(1, row);
-        [left, left, left, left, right, right, right, right]
+        row_of_two(self.dc(0, row), self.dc(1, row))
     }
 
     /// Intra_Chroma_DC.
@@ -98,22 +118,20 @@ impl AroundChroma {
         samples
     }
 
-    /// Intra_Chroma_DC, laid into rows.
-    #[inline(always)]
-    fn lay_dc(&self, rows: &mut [u8], at: RowsPlace)
+    /// Intra_Chroma_Plane, laid into rows.
+    fn lay_plane(&self, rows: &mut [u8], at: RowsPlace)
+        requires above { self.now.sides.above ≡ true }
+        requires left { self.now.sides.left ≡ true }
+        requires corner { self.now.sides.corner ≡ true }
         requires apart { 8 ≤ at.stride }
         requires room { IsRoom 8 8 at.first at.stride (length rows.old) }
-        ensures { (p : Around) → ShowsChroma p self.now →
-            IsStridedSet 8 8 at.first at.stride (λ x y. predict_dc_chroma self.now.sides p (x / 4) (y / 4)) rows.old rows.new }
+        ensures long { length rows.new ≡ length rows.old }
+        ensures samples { (p : Around) → ShowsChroma p self.now → IsStridedSet 8 8 at.first at.stride (predict_plane_chroma p) rows.old rows.new }
     {
-        let upper = self.dc_row(0);
-        let lower = self.dc_row(1);
-        let middle = RowsPlace {
-            first: at.first + 4 * at.stride,
-            stride: at.stride,
-        };
-        lay_same_lines::<8, 4>(&upper, rows, at);
-        lay_same_lines::<8, 4>(&lower, rows, middle);
+        let height = height_between(self.left[7], self.above[7]);
+        let across = gradient(slope(&self.above, self.corner));
+        let down = gradient(slope(&self.left, self.corner));
+        lay_plane::<8>(height, across, down, rows, at);
     }
 
     /// Intra_Chroma_Plane.
@@ -123,10 +141,13 @@ impl AroundChroma {
         requires corner { self.now.sides.corner ≡ true }
         ensures { (p : Around) → ShowsChroma p self.now → (x y : ℕ) → x < 8 → y < 8 → slice_index result (8 * y + x) ≡ predict_plane_chroma p x y }
     {
-        let height = height_between(self.left[7], self.above[7]);
-        let across = gradient(slope(&self.above, self.corner));
-        let down = gradient(slope(&self.left, self.corner));
-        plane_samples::<8, 64>(height, across, down)
+        let mut samples = [0; 64];
+        let at = RowsPlace {
+            first: 0,
+            stride: 8,
+        };
+        self.lay_plane(&mut samples, at);
+        samples
     }
 
     /// The prediction by a mode whose sides are available.
@@ -171,6 +192,32 @@ fn read_around(rows: &[u8], at: RowsPlace, sides: Sides) -> AroundChroma
     }
 }
 
+/// Lays Intra_Chroma_DC.
+#[inline(always)]
+fn lay_dc(rows: &mut [u8], at: RowsPlace, sides: Sides)
+    requires apart { 8 ≤ at.stride }
+    requires room { IsRoom 8 8 at.first at.stride (length rows.old) }
+    ensures { (p : Around) → IsSeen p sides 8 at.first at.stride rows.old →
+        IsStridedSet 8 8 at.first at.stride (λ x y. predict_dc_chroma sides p (x / 4) (y / 4)) rows.old rows.new }
+{
+    let above = [sum_above4(rows, at, 0), sum_above4(rows, at, 4)];
+    let left = [sum_left4(rows, at, 0), sum_left4(rows, at, 4)];
+    let upper = row_of_two(
+        dc_of_block(sides, above[0], left[0], 0, 0),
+        dc_of_block(sides, above[1], left[0], 1, 0),
+    );
+    let lower = row_of_two(
+        dc_of_block(sides, above[0], left[1], 0, 1),
+        dc_of_block(sides, above[1], left[1], 1, 1),
+    );
+    let middle = RowsPlace {
+        first: at.first + 4 * at.stride,
+        stride: at.stride,
+    };
+    lay_same_lines::<8, 4>(&upper, rows, at);
+    lay_same_lines::<8, 4>(&lower, rows, middle);
+}
+
 /// Lays the prediction of one chroma component of a macroblock (clause 8.3.4) into its place in rows, by a mode whose sides are
 /// available, from the samples that stand around it there.
 pub fn lay_chroma(rows: &mut [u8], at: RowsPlace, sides: Sides, mode: ModeChroma)
@@ -182,18 +229,15 @@ pub fn lay_chroma(rows: &mut [u8], at: RowsPlace, sides: Sides, mode: ModeChroma
         IsStridedSet 8 8 at.first at.stride (predict_chroma sides p mode) rows.old rows.new }
 {
     match mode {
-        ModeChroma::Dc => {
-            let around = read_around(rows, at, sides);
-            around.lay_dc(rows, at);
-        }
+        ModeChroma::Dc => lay_dc(rows, at, sides),
         ModeChroma::Horizontal => lay_same_columns::<8, 8>(rows, at),
         ModeChroma::Vertical => {
             let line = above::<8>(rows, at);
             lay_same_lines::<8, 8>(&line, rows, at);
         }
         ModeChroma::Plane => {
-            let samples = read_around(rows, at, sides).plane();
-            lay_block::<8, 8, 64>(&samples, rows, at);
+            let around = read_around(rows, at, sides);
+            around.lay_plane(rows, at);
         }
     }
 }

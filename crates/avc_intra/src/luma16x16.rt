@@ -6,10 +6,10 @@ ghost use Rattle.avc_intra.specs.Slopes.{IsWithin};
 ghost use Rattle.avc_intra.specs.InRows.{IsSeen};
 ghost use Rattle.avc_plane.specs.Strided.{IsRoom, IsStridedSet};
 
-use crate::beside::{above, corner, left};
-use crate::lines::{lay_block, lay_same_columns, lay_same_lines};
+use crate::beside::{above, corner, left, sum_above16, sum_left16};
+use crate::lines::{lay_same_columns, lay_same_lines};
 use crate::means::{mean_of_sides16, sum_of_sixteen};
-use crate::plane::{height_between, plane_samples, slope};
+use crate::plane::{height_between, lay_plane, slope};
 use crate::rows::{level, same_columns, same_rows};
 use crate::sides::Sides;
 use avc_plane::RowsPlace;
@@ -71,6 +71,22 @@ impl Around16x16 {
         mean_of_sides16(self.sides.above, self.sides.left, above, left)
     }
 
+    /// Intra_16x16_Plane, laid into rows.
+    fn lay_plane(&self, rows: &mut [u8], at: RowsPlace)
+        requires above { self.now.sides.above ≡ true }
+        requires left { self.now.sides.left ≡ true }
+        requires corner { self.now.sides.corner ≡ true }
+        requires apart { 16 ≤ at.stride }
+        requires room { IsRoom 16 16 at.first at.stride (length rows.old) }
+        ensures long { length rows.new ≡ length rows.old }
+        ensures samples { (p : Around) → Shows16x16 p self.now → IsStridedSet 16 16 at.first at.stride (predict_plane16x16 p) rows.old rows.new }
+    {
+        let height = height_between(self.left[15], self.above[15]);
+        let across = gradient(slope(&self.above, self.corner));
+        let down = gradient(slope(&self.left, self.corner));
+        lay_plane::<16>(height, across, down, rows, at);
+    }
+
     /// Intra_16x16_Plane.
     fn plane(&self) -> [u8; 256]
         requires above { self.now.sides.above ≡ true }
@@ -78,10 +94,13 @@ impl Around16x16 {
         requires corner { self.now.sides.corner ≡ true }
         ensures { (p : Around) → Shows16x16 p self.now → (x y : ℕ) → x < 16 → y < 16 → slice_index result (16 * y + x) ≡ predict_plane16x16 p x y }
     {
-        let height = height_between(self.left[15], self.above[15]);
-        let across = gradient(slope(&self.above, self.corner));
-        let down = gradient(slope(&self.left, self.corner));
-        plane_samples::<16, 256>(height, across, down)
+        let mut samples = [0; 256];
+        let at = RowsPlace {
+            first: 0,
+            stride: 16,
+        };
+        self.lay_plane(&mut samples, at);
+        samples
     }
 
     /// The prediction by a mode whose sides are available.
@@ -143,12 +162,14 @@ pub fn lay16x16(rows: &mut [u8], at: RowsPlace, sides: Sides, mode: Mode16x16)
         }
         Mode16x16::Horizontal => lay_same_columns::<16, 16>(rows, at),
         Mode16x16::Dc => {
-            let sample = read_around(rows, at, sides).dc();
+            let above = sum_above16(rows, at);
+            let left = sum_left16(rows, at);
+            let sample = mean_of_sides16(sides.above, sides.left, above, left);
             lay_same_lines::<16, 16>(&[sample; 16], rows, at);
         }
         Mode16x16::Plane => {
-            let samples = read_around(rows, at, sides).plane();
-            lay_block::<16, 16, 256>(&samples, rows, at);
+            let around = read_around(rows, at, sides);
+            around.lay_plane(rows, at);
         }
     }
 }

@@ -5,9 +5,9 @@ ghost use Rattle.avc_intra.specs.Neighbourhood.{Around, Predicts, top, left_of};
 ghost use Rattle.avc_intra.specs.Luma4x4.{Shows4x4, can_predict4x4, extended, intra4x4, predict4x4, predict_dc4x4};
 ghost use Rattle.avc_intra.specs.Lines.{block4x4, line_above, line_left, line_round};
 
-use crate::beside::{above, corner, left};
+use crate::beside::{above, corner, left, sum_above4, sum_left4};
 use crate::directional;
-use crate::lines::lay_block;
+use crate::lines::{lay_block, lay_same_columns, lay_same_lines};
 use crate::means::{mean_of_sides4, sum_of_four};
 use crate::sides::Sides;
 use avc_plane::RowsPlace;
@@ -177,16 +177,15 @@ pub fn lay4x4(rows: &mut [u8], at: RowsPlace, sides: Sides, mode: Mode4x4)
 {
     match mode {
         Mode4x4::Vertical => {
-            let samples = read_around(rows, at, sides).vertical();
-            lay_block::<4, 4, 16>(&samples, rows, at);
+            let line = above::<4>(rows, at);
+            lay_same_lines::<4, 4>(&line, rows, at);
         }
-        Mode4x4::Horizontal => {
-            let samples = read_around(rows, at, sides).horizontal();
-            lay_block::<4, 4, 16>(&samples, rows, at);
-        }
+        Mode4x4::Horizontal => lay_same_columns::<4, 4>(rows, at),
         Mode4x4::Dc => {
-            let samples = read_around(rows, at, sides).dc();
-            lay_block::<4, 4, 16>(&samples, rows, at);
+            let above = sum_above4(rows, at, 0);
+            let left = sum_left4(rows, at, 0);
+            let sample = mean_of_sides4(sides.above, sides.left, above, left);
+            lay_same_lines::<4, 4>(&[sample; 4], rows, at);
         }
         Mode4x4::DiagonalDownLeft => {
             let line = read_around(rows, at, sides).line_above();

@@ -1,11 +1,13 @@
 //! Prediction by a plane (clauses 8.3.3.4 and 8.3.4.4), for a block of W columns and rows.
 
-ghost use Rattle.std.specs.Prelude.{◌≡◌, ℕ, ◌+◌, ◌-◌, ◌*◌, ◌/◌, ◌<◌, ◌≤◌, pos, ◌+ℤ◌, ◌-ℤ◌, ◌*ℤ◌, ◌≤ℤ◌, slice_index};
+ghost use Rattle.std.specs.Prelude.{◌≡◌, ℕ, ◌+◌, ◌-◌, ◌*◌, ◌/◌, ◌<◌, ◌≤◌, pos, ◌+ℤ◌, ◌-ℤ◌, ◌*ℤ◌, ◌≤ℤ◌, length, slice_index, slice_index_or};
 ghost use Rattle.avc_types.specs.Arithmetic.{◌>>ℤ◌, clip1};
 ghost use Rattle.avc_intra.specs.Luma16x16.{slope};
-ghost use Rattle.avc_intra.specs.Slopes.{IsWithin, side_of};
+ghost use Rattle.avc_intra.specs.Slopes.{IsWithin, plane_sample, side_of};
+ghost use Rattle.avc_plane.specs.Strided.{IsRoom, IsStridedSet};
 
-use crate::rows::set_row;
+use crate::lines::put_line;
+use avc_plane::RowsPlace;
 
 /// The number of steps from the middle times the difference of two samples.
 fn weighted(weight: i32, after: u8, before: u8) -> i32
@@ -62,46 +64,65 @@ fn rise(slope: i32, place: usize, middle: usize) -> i32
     slope * (place as i32 - middle as i32)
 }
 
+/// What each column of the plane rises from its middle.
+#[inline(always)]
+fn rises<const W: usize>(across: i32) -> [i32; W]
+    requires narrow { (1 ≤ W / 2) × (W ≤ 16) }
+    requires across { IsWithin 5000 across }
+    ensures value { (x : ℕ) → x < W → slice_index_or result x (pos 0) ≡ across *ℤ (pos x -ℤ pos (W / 2 - 1)) }
+    ensures small { (x : ℕ) → x < W → IsWithin 80000 (slice_index_or result x (pos 0)) }
+{
+    let middle = W / 2 - 1;
+    let mut rises = [0; W];
+    for x in 0..W {
+        rises[x] = rise(across, x, middle);
+    }
+    rises
+}
+
 /// The sample that stands for this height, in 32nds.
 fn sample_at(height: i32) -> u8
     requires { IsWithin 1000000 height }
     ensures { result ≡ clip1 (height >>ℤ 5) }
 {
-    (height >> 5).clamp(0, 255) as u8
+    (height >> 5).max(0).min(255) as u8
 }
 
-/// One row of the plane.
-fn plane_row<const W: usize>(height: i32, across: i32) -> [u8; W]
-    requires narrow { (1 ≤ W / 2) × (W ≤ 16) }
+/// One row of the plane, of which each column rises so much.
+#[inline(always)]
+fn plane_row<const W: usize>(height: i32, rises: &[i32; W]) -> [u8; W]
     requires height { IsWithin 100000 height }
-    requires across { IsWithin 5000 across }
-    ensures { (x : ℕ) → x < W → slice_index result x ≡ clip1 (height +ℤ across *ℤ (pos x -ℤ pos (W / 2 - 1)) >>ℤ 5) }
+    requires rises { (x : ℕ) → x < W → IsWithin 80000 (slice_index_or rises.now x (pos 0)) }
+    ensures { (x : ℕ) → x < W → slice_index result x ≡ clip1 (height +ℤ slice_index_or rises.now x (pos 0) >>ℤ 5) }
 {
-    let middle = W / 2 - 1;
     let mut row = [0; W];
     for x in 0..W {
-        row[x] = sample_at(height + rise(across, x, middle));
+        row[x] = sample_at(height + rises[x]);
     }
     row
 }
 
-/// The plane with this height in the middle, in 32nds, and these slopes a column and a row. Inlined
-/// into its callers it is unrolled whole, which costs more than the call.
+/// Lays the plane with this height in the middle, in 32nds, and these slopes a column and a row.
 #[inline(never)]
-pub fn plane_samples<const W: usize, const N: usize>(height: i32, across: i32, down: i32) -> [u8; N]
+pub fn lay_plane<const W: usize>(
+    height: i32,
+    across: i32,
+    down: i32,
+    rows: &mut [u8],
+    at: RowsPlace,
+)
     requires narrow { (1 ≤ W / 2) × (W ≤ 16) }
-    requires square { W * W ≡ N }
     requires height { IsWithin 10000 height }
     requires across { IsWithin 5000 across }
     requires down { IsWithin 5000 down }
-    ensures { (x y : ℕ) → x < W → y < W → slice_index result (W * y + x)
-        ≡ clip1 (height +ℤ across *ℤ (pos x -ℤ pos (W / 2 - 1)) +ℤ down *ℤ (pos y -ℤ pos (W / 2 - 1)) +ℤ pos 16 >>ℤ 5) }
+    requires apart { W ≤ at.stride }
+    requires room { IsRoom W W at.first at.stride (length rows.old) }
+    ensures { IsStridedSet W W at.first at.stride (λ x y. plane_sample (W / 2 - 1) height across down x y) rows.old rows.new }
 {
     let middle = W / 2 - 1;
-    let mut samples = [0; N];
+    let rises = rises::<W>(across);
     for y in 0..W {
-        let row = plane_row::<W>(height + rise(down, y, middle) + 16, across);
-        set_row(&mut samples, W * y, &row);
+        let row = plane_row::<W>(height + rise(down, y, middle) + 16, &rises);
+        put_line::<W>(rows, at.first + y * at.stride, &row);
     }
-    samples
 }

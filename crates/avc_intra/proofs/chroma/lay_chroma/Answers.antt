@@ -1,16 +1,15 @@
-use Rattle.std.proofs.Common.{◌+◌, ◌*◌, ◌/◌, slice_index, ap}
+use Rattle.std.proofs.Common.{◌/◌, refl}
 use Rattle.avc_plane.proofs.Strided.{strided_same}
 use Rattle.avc_intra.specs.declared.chroma.ModeChroma.TheVariants.{Dc, Plane}
-use Rattle.avc_intra.specs.Chroma.{predict_chroma, predict_dc_chroma}
+use Rattle.avc_intra.specs.Chroma.{predict_chroma, predict_dc_chroma, predict_plane_chroma}
 use Rattle.avc_intra.proofs.chroma.lay_chroma.Goals as goal
 
 pub returns-in-Dc-clause-samples : goal.returns-in-Dc-clause-samples
 returns-in-Dc-clause-samples c p seen =
-    let around = c.read_around-around in
-    rw c.in-Dc.is (strided_same 8 8 c.args.at.first c.args.at.stride (λ x y. predict_dc_chroma around.result.sides p (x / 4) (y / 4)) (predict_chroma c.args.sides p Dc) c.args.rows.now c.lay_dc.new.rows
-    (c.lay_dc.ensures p (around.ensures.shows p seen)) (λ x y column row. ap (λ t. predict_dc_chroma t p (x / 4) (y / 4)) around.ensures.sides))
+    rw c.in-Dc.is (strided_same 8 8 c.args.at.first c.args.at.stride (λ x y. predict_dc_chroma c.args.sides p (x / 4) (y / 4)) (predict_chroma c.args.sides p Dc) c.args.rows.now c.lay_dc.new.rows
+    (c.lay_dc.ensures p seen) (λ x y column row. refl))
 
 pub returns-in-Plane-clause-samples : goal.returns-in-Plane-clause-samples
 returns-in-Plane-clause-samples c p seen =
-    rw c.in-Plane.is (strided_same 8 8 c.args.at.first c.args.at.stride (λ x y. slice_index c.plane-samples.result (8 * y + x)) (predict_chroma c.args.sides p Plane) c.args.rows.now c.lay_block.new.rows c.lay_block.ensures
-    (λ x y column row. c.plane-samples.ensures p (c.read_around.ensures.shows p seen) x y column row))
+    rw c.in-Plane.is (strided_same 8 8 c.args.at.first c.args.at.stride (predict_plane_chroma p) (predict_chroma c.args.sides p Plane) c.args.rows.now c.lay_plane.new.rows
+    (c.lay_plane.ensures.samples p (c.read_around-around.ensures.shows p seen)) (λ x y column row. refl))

@@ -1,28 +1,48 @@
-use Rattle.std.proofs.Common.{ℕ, List}
+use Rattle.std.proofs.Common.{◌≡◌, ◌+◌, ◌-◌, ◌*◌, true, arith, slice_index, sym, ◌∙◌}
+use Rattle.std.specs.Prelude.{replicate}
+use Rattle.std.proofs.lemmas.List.{get_or-replicate}
+use Rattle.avc_plane.proofs.Strided.{strided_same}
+use Rattle.avc_intra.proofs.SeenSums.{above4, left4, mean4, near}
 use Rattle.avc_intra.specs.declared.luma4x4.Mode4x4.TheVariants.{Vertical, Horizontal, Dc, DiagonalDownLeft, DiagonalDownRight, VerticalRight, HorizontalDown, VerticalLeft, HorizontalUp}
+use Rattle.avc_intra.specs.Chroma.{sum_above, sum_left}
 use Rattle.avc_intra.specs.Luma4x4.{extended, predict4x4}
 use Rattle.avc_intra.proofs.Places.{laid4x4}
 use Rattle.avc_intra.proofs.luma4x4.lay4x4.Goals as goal
 
 pub returns-in-Vertical-clause-samples : goal.returns-in-Vertical-clause-samples
 returns-in-Vertical-clause-samples c p seen =
-    rw c.in-Vertical.is (laid4x4 c.args.at.first c.args.at.stride (λ t. predict4x4 t (extended t p) Vertical) c.read_around.result.sides c.args.sides
-    c.vertical-samples.result c.args.rows.now c.lay_block.new.rows c.read_around.ensures.sides (c.vertical-samples.ensures p (c.read_around.ensures.shows p seen)) c.lay_block.ensures)
+    let sides = c.args.sides in
+    let there : sides.above ≡ true = rw c.in-Vertical.is at c.requires.mode in
+    let tops = seen.beside.tops there in
+    rw c.in-Vertical.is (strided_same 4 4 c.args.at.first c.args.at.stride (λ x y. slice_index c.above-line.result x) (predict4x4 sides (extended sides p) Vertical) c.args.rows.now c.lay_same_lines.new.rows c.lay_same_lines.ensures
+    (λ x y column row. c.above-line.ensures tops.0 x column ∙ sym (tops.1 x column) ∙ sym (near sides p x column)))
 
 pub returns-in-Horizontal-clause-samples : goal.returns-in-Horizontal-clause-samples
 returns-in-Horizontal-clause-samples c p seen =
-    rw c.in-Horizontal.is (laid4x4 c.args.at.first c.args.at.stride (λ t. predict4x4 t (extended t p) Horizontal) c.read_around-in-Horizontal.result.sides c.args.sides
-    c.horizontal-samples.result c.args.rows.now c.lay_block-in-Horizontal.new.rows c.read_around-in-Horizontal.ensures.sides (c.horizontal-samples.ensures p (c.read_around-in-Horizontal.ensures.shows p seen)) c.lay_block-in-Horizontal.ensures)
+    let sides = c.args.sides in
+    let first = c.args.at.first in
+    let stride = c.args.at.stride in
+    let there : sides.left ≡ true = rw c.in-Horizontal.is at c.requires.mode in
+    let lefts = seen.beside.lefts there in
+    rw c.in-Horizontal.is (strided_same 4 4 first stride (λ x y. slice_index c.args.rows.now (first + y * stride - 1)) (predict4x4 sides (extended sides p) Horizontal) c.args.rows.now c.lay_same_columns.new.rows
+    (c.lay_same_columns.ensures.lines lefts.0 lefts.1) (λ x y column row. sym (lefts.2 y row)))
 
 pub returns-in-Dc-clause-samples : goal.returns-in-Dc-clause-samples
 returns-in-Dc-clause-samples c p seen =
-    rw c.in-Dc.is (laid4x4 c.args.at.first c.args.at.stride (λ t. predict4x4 t (extended t p) Dc) c.read_around-in-Dc.result.sides c.args.sides
-    c.dc-samples.result c.args.rows.now c.lay_block-in-Dc.new.rows c.read_around-in-Dc.ensures.sides (c.dc-samples.ensures p (c.read_around-in-Dc.ensures.shows p seen)) c.lay_block-in-Dc.ensures)
+    let sides = c.args.sides in
+    let first = c.args.at.first in
+    let stride = c.args.at.stride in
+    let rows = c.args.rows.now in
+    let v = c.mean_of_sides4-sample.result in
+    let above : sides.above ≡ true → c.sum_above4-above.result ≡ sum_above p 0 = λ there. c.sum_above4-above.ensures.sum (seen.beside.tops there).0 ∙ above4 p sides 4 first stride rows seen.beside 0 (omega arith) there in
+    let left : sides.left ≡ true → c.sum_left4-left.result ≡ sum_left p 0 = λ there. c.sum_left4-left.ensures.sum (seen.beside.lefts there).0 ∙ left4 p sides 4 first stride rows seen.beside 0 (omega arith) there in
+    rw c.in-Dc.is (strided_same 4 4 first stride (λ x y. slice_index (replicate 4 v) x) (predict4x4 sides (extended sides p) Dc) rows c.lay_same_lines-in-Dc.new.rows c.lay_same_lines-in-Dc.ensures
+    (λ x y column row. get_or-replicate 4 x v 0 column ∙ c.mean_of_sides4-sample.ensures ∙ mean4 sides.above sides.left c.sum_above4-above.result c.sum_left4-left.result _ _ above left))
 
 pub returns-in-DiagonalDownLeft-clause-samples : goal.returns-in-DiagonalDownLeft-clause-samples
 returns-in-DiagonalDownLeft-clause-samples c p seen =
-    rw c.in-DiagonalDownLeft.is (laid4x4 c.args.at.first c.args.at.stride (λ t. predict4x4 t (extended t p) DiagonalDownLeft) c.read_around-in-DiagonalDownLeft.result.sides c.args.sides
-    c.diagonal_down_left.result c.args.rows.now c.lay_block-in-DiagonalDownLeft.new.rows c.read_around-in-DiagonalDownLeft.ensures.sides (c.diagonal_down_left.ensures (extended c.read_around-in-DiagonalDownLeft.result.sides p) (c.line_above-line.ensures p (c.read_around-in-DiagonalDownLeft.ensures.shows p seen))) c.lay_block-in-DiagonalDownLeft.ensures)
+    rw c.in-DiagonalDownLeft.is (laid4x4 c.args.at.first c.args.at.stride (λ t. predict4x4 t (extended t p) DiagonalDownLeft) c.read_around.result.sides c.args.sides
+    c.diagonal_down_left.result c.args.rows.now c.lay_block.new.rows c.read_around.ensures.sides (c.diagonal_down_left.ensures (extended c.read_around.result.sides p) (c.line_above-line.ensures p (c.read_around.ensures.shows p seen))) c.lay_block.ensures)
 
 pub returns-in-DiagonalDownRight-clause-samples : goal.returns-in-DiagonalDownRight-clause-samples
 returns-in-DiagonalDownRight-clause-samples c p seen =

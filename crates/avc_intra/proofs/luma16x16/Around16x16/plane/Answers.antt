@@ -1,18 +1,5 @@
-use Rattle.std.proofs.Common.{◌≡◌, to_z, of_z, w32, pos, ◌+◌, ◌*◌, ◌∙◌, arith}
-use Rattle.std.proofs.lemmas.Int.{ints}
-use Rattle.avc_intra.specs.Neighbourhood.{top, left_of}
-use Rattle.avc_intra.proofs.PlaneLaws.{gradient_of_side, same_plane}
+use Rattle.std.proofs.Common.{slice_index, ap, ◌∙◌, arith}
 use Rattle.avc_intra.proofs.luma16x16.Around16x16.plane.Goals as goal
 
 pub returns : goal.returns
-returns c p shows x y column row =
-    let around = c.args.self.now in
-    let above = shows.tops c.requires.above in
-    let left = shows.lefts c.requires.left in
-    let corner = shows.at_corner c.requires.corner in
-    let across = gradient_of_side 5 8 (top p) around.above around.corner c.gradient-across.result c.slope.result above corner c.slope.ensures.value c.slope.ensures.small c.gradient-across.ensures.value c.gradient-across.ensures.small in
-    let down = gradient_of_side 5 8 (left_of p) around.left around.corner c.gradient-down.result c.slope-2.result left corner c.slope-2.ensures.value c.slope-2.ensures.small c.gradient-down.ensures.value c.gradient-down.ensures.small in
-    let last_above = above 15 (omega arith) in
-    let last_left = left 15 (omega arith) in
-    let height : to_z w32 (of_z w32 c.height_between-height.result) ≡ pos (16 * (left_of p (pos 15) + top p (pos 15))) = omega (arith, ints) in
-    c.plane_samples.ensures x y column row ∙ same_plane 7 x y _ _ _ _ _ _ height across down
+returns c p shows x y column row = ap (slice_index c.lay_plane.new.rows) (omega arith) ∙ (c.lay_plane.ensures.samples p shows).inside y row x column

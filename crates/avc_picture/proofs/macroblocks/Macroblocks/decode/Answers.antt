@@ -40,21 +40,16 @@ build-requires g c =
             (
               in_range_of c.requires.mb.active_count c.args.mb.now.syntax c.requires.mb.syntax,
               (
-<<<<<<< HEAD
-                c.in_ok-set_neighbour_facts.ensures.told.in_range
-                    (subst (λ (n : Around). HasModes n.a) n_is (modes_left c.self.inside.row c.args.slice.now.number kept.modes))
-                    (subst (λ (n : Around). HasModes n.b) n_is (modes_above c.self.inside.row c.args.slice.now.number kept.modes)),
-                (
-                  c.in_ok-set_neighbour_facts.ensures.one,
-=======
                 c.requires.mb.quantiser,
                 (
                   c.in_ok-set_neighbour_facts.ensures.told.in_range
                       (subst (λ (n : Around). HasModes n.a) n_is (modes_left c.self.inside.row c.args.slice.now.number kept.modes))
                       (subst (λ (n : Around). HasModes n.b) n_is (modes_above c.self.inside.row c.args.slice.now.number kept.modes)),
->>>>>>> 38dc2b7d2e4591f2179c30e58ea404ce86231a3f
-                  subst (AreUsable c.self.inside.canvas.width c.self.inside.canvas.height) (sym c.sources-sources.ensures.references)
-                      (subst (λ (o : MbsState). AreUsable o.canvas.width o.canvas.height c.args.slice.now.references) back c.requires.references),
+                  (
+                    c.in_ok-set_neighbour_facts.ensures.one,
+                    subst (AreUsable c.self.inside.canvas.width c.self.inside.canvas.height) (sym c.sources-sources.ensures.references)
+                        (subst (λ (o : MbsState). AreUsable o.canvas.width o.canvas.height c.args.slice.now.references) back c.requires.references),
+                  ),
                 ),
               ),
             ),

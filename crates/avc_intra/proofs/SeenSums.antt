@@ -1,0 +1,47 @@
+-- Sums of the samples beside a block, read from the rows in which it lies.
+use Rattle.std.proofs.Common.{◌≡◌, ℕ, ◌+◌, ◌-◌, ◌*◌, ◌/◌, ◌<◌, ◌≤◌, pos, Bool, true, false, List, slice_index, refl, ap, sym, arith}
+use Rattle.std.specs.Prelude.{if◌then◌else◌, nat_lt, not, ◌&&◌}
+use Rattle.std.proofs.lemmas.Bool.Decides.{nat_tests}
+use Rattle.avc_types.specs.Arithmetic.{sum_below}
+use Rattle.avc_intra.specs.declared.sides.Sides.{Sides}
+use Rattle.avc_intra.specs.Neighbourhood.{Around, top, left_of}
+use Rattle.avc_intra.specs.Luma4x4.{extended}
+use Rattle.avc_intra.specs.Chroma.{sum_above, sum_left}
+use Rattle.avc_intra.specs.InRows.{IsSeen}
+use Rattle.avc_intra.proofs.Sums.{sum_below-same}
+
+-- the mean of the sides that count, from sums that are known for those
+pub mean16 : (counts_above counts_left : Bool) (a l above left : ℕ) → (counts_above ≡ true → a ≡ above) → (counts_left ≡ true → l ≡ left)
+    → (if counts_above then (if counts_left then (a + l + 16) / 32 else (a + 8) / 16) else (if counts_left then (l + 8) / 16 else 128))
+    ≡ (if counts_above then (if counts_left then (above + left + 16) / 32 else (above + 8) / 16) else (if counts_left then (left + 8) / 16 else 128))
+mean16 true true a l above left e f = rw (e refl, f refl) refl
+mean16 true false a l above left e f = rw (e refl) refl
+mean16 false true a l above left e f = rw (f refl) refl
+mean16 false false a l above left e f = refl
+
+pub mean4 : (counts_above counts_left : Bool) (a l above left : ℕ) → (counts_above ≡ true → a ≡ above) → (counts_left ≡ true → l ≡ left)
+    → (if counts_above then (if counts_left then (a + l + 4) / 8 else (a + 2) / 4) else (if counts_left then (l + 2) / 4 else 128))
+    ≡ (if counts_above then (if counts_left then (above + left + 4) / 8 else (above + 2) / 4) else (if counts_left then (left + 2) / 4 else 128))
+mean4 true true a l above left e f = rw (e refl, f refl) refl
+mean4 true false a l above left e f = rw (e refl) refl
+mean4 false true a l above left e f = rw (f refl) refl
+mean4 false false a l above left e f = refl
+
+-- a sample above the block itself is not extended
+pub near : (sides : Sides) (p : Around) (x : ℕ) → x < 4 → top (extended sides p) (pos x) ≡ top p (pos x)
+near sides p x low =
+    let not_past : nat_lt 3 x ≡ false = grind (arith, nat_tests) in
+    ap (λ t. if t && not sides.above_right then top p (pos 3) else top p (pos x)) not_past
+
+module _ (p : Around) (sides : Sides) (size first stride : ℕ) (rows : List ℕ) (seen : IsSeen p sides size first stride rows) where
+  pub above4 : (u : ℕ) → 4 * u + 4 ≤ size → sides.above ≡ true → sum_below 4 (λ i. slice_index rows (first - stride + (4 * u + i))) ≡ sum_above p u
+  above4 u within there = sum_below-same 4 _ _ (λ i low. sym ((seen.tops there).1 (4 * u + i) (omega arith)))
+
+  pub left4 : (v : ℕ) → 4 * v + 4 ≤ size → sides.left ≡ true → sum_below 4 (λ i. slice_index rows (first + (4 * v + i) * stride - 1)) ≡ sum_left p v
+  left4 v within there = sum_below-same 4 _ _ (λ i low. sym ((seen.lefts there).2 (4 * v + i) (omega arith)))
+
+  pub above16 : size ≡ 16 → sides.above ≡ true → sum_below 16 (λ i. slice_index rows (first - stride + i)) ≡ sum_below 16 (λ i. top p (pos i))
+  above16 is there = sum_below-same 16 _ _ (λ i low. sym ((seen.tops there).1 i (omega arith)))
+
+  pub left16 : size ≡ 16 → sides.left ≡ true → sum_below 16 (λ i. slice_index rows (first + i * stride - 1)) ≡ sum_below 16 (λ i. left_of p (pos i))
+  left16 is there = sum_below-same 16 _ _ (λ i low. sym ((seen.lefts there).2 i (omega arith)))
