@@ -1,6 +1,6 @@
 -- The filter of the last whole row of macroblocks, from the facts of the rows that are kept.
 use Rattle.std.specs.Prelude.{ℕ, suc, ◌+◌, ◌-◌, ◌*◌, ◌/◌, ◌<◌, ◌≤◌, ℤ, List, length, slice_index_or}
-use Rattle.std.proofs.Common.{◌≡◌, ◌∙◌, refl, sym, ap, subst, arith}
+use Rattle.std.proofs.Common.{◌≡◌, ◌∙◌, sym, ap, subst, arith}
 use Rattle.std.proofs.lemmas.Nat.{div-mul-add}
 use Rattle.avc_types.specs.Pictures.{Coded}
 use Rattle.avc_neigh.specs.declared.facts.Motion.{Motion}

@@ -1,6 +1,6 @@
 -- A macroblock can be built before the filter of the rows two and more above it, or after it.
 use Rattle.std.specs.Prelude.{ℕ, zero, suc, ◌+◌, ◌-◌, ◌*◌, ◌/◌, ◌%◌, ◌<◌, ◌≤◌, ℤ, List, length, slice_index}
-use Rattle.std.proofs.Common.{◌≡◌, ◌∙◌, refl, sym, ap, subst, arith, ⊎_elim, mul_comm}
+use Rattle.std.proofs.Common.{◌≡◌, ◌∙◌, refl, sym, ap, arith, ⊎_elim, mul_comm}
 use Rattle.std.proofs.lemmas.Bool.{cases_lt}
 use Rattle.std.proofs.lemmas.List.{get_or_past}
 use Rattle.std.proofs.lemmas.Nat.{mod_below}
@@ -16,7 +16,7 @@ use Rattle.avc_deblock.specs.Locality.{ChangesWithin, ChangesInRow, HasRow}
 use Rattle.avc_deblock.proofs.LocalRows.{row_changes, row_commutes}
 use Rattle.avc_picture_core.specs.Built.{Place, chroma_after, inter_at, left_of_mb, luma_after, planes_after, top_of_mb, with_block4x4, with_blocks4x4}
 use Rattle.avc_picture_core.proofs.Blocks.{with_block_same}
-use Rattle.avc_picture.specs.Sizes.{HasSize, IsSized}
+use Rattle.avc_picture.specs.Sizes.{IsSized}
 use Rattle.avc_picture_core.proofs.IntraRows.{AgreeFrom, block_from, chroma_from, luma_from, block_same, luma_same, chroma_same}
 use Rattle.avc_picture.proofs.SizesKept.{luma_after_sized, chroma_after_sized, with_blocks4x4_sized}
 

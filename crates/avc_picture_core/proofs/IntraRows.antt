@@ -1,5 +1,5 @@
 -- What an intra prediction reads lies at most eight rows above its block.
-use Rattle.std.proofs.Common.{◌≡◌, ◌∙◌, ℕ, ℤ, zero, suc, ◌+◌, ◌<◌, ◌≤◌, pos, negsuc, nat_abs, ◌+ℤ◌, nat_lt, Bool, true, false, if◌then◌else◌, refl, sym, ap, arith, ⊎_elim}
+use Rattle.std.proofs.Common.{◌≡◌, ◌∙◌, ℕ, ℤ, ◌+◌, ◌<◌, ◌≤◌, pos, negsuc, nat_abs, ◌+ℤ◌, nat_lt, true, false, if◌then◌else◌, refl, sym, ap, arith, ⊎_elim}
 use Rattle.std.specs.Prelude.{Some, None, slice_index_or}
 use Rattle.std.specs.Option.{unwrap_or}
 use Rattle.std.proofs.Math.Path.{fun_ext}

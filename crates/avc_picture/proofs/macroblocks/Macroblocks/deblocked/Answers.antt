@@ -1,9 +1,9 @@
-use Rattle.std.proofs.Common.{◌≡◌, ◌∙◌, ◌*◌, ◌/◌, ◌<◌, ◌-◌, ℕ, refl, sym, ap, subst, arith, length, rules, w8, to_z, of_z}
-use Rattle.avc_plane.specs.Frames.{planes_of, AreSized}
+use Rattle.std.proofs.Common.{◌≡◌, ◌∙◌, ◌/◌, ◌-◌, refl, sym, ap, subst, arith, length, rules, w8, to_z, of_z}
+use Rattle.avc_plane.specs.Frames.{planes_of}
 use Rattle.avc_picture.specs.FirstMbs.{HoldsFirst, MbsState}
 use Rattle.avc_picture.specs.RowLate.{AreFactsOf, FiltersUpTo, filtered_rows}
 use Rattle.avc_picture.specs.MacroblocksState.{state_of}
-use Rattle.avc_picture.proofs.Whole.{filtered_is, late_room}
+use Rattle.avc_picture.proofs.Whole.{filtered_is}
 use Rattle.avc_picture.proofs.macroblocks.Macroblocks.deblocked.Goals as goal
 
 pub returns-clause-luma : goal.returns-clause-luma

@@ -1,7 +1,6 @@
-use Rattle.std.proofs.Common.{◌≡◌, ◌∙◌, ◌<◌, ◌≤◌, ◌*◌, sym, ap, subst, arith, w8, w32, to_z, of_z}
+use Rattle.std.proofs.Common.{◌≡◌, ◌∙◌, ◌≤◌, ◌*◌, sym, ap, subst, arith, w8, w32, to_z, of_z}
 use Rattle.std.proofs.lemmas.Int.{ints}
 use Rattle.avc_params.specs.Limits.{max_macroblocks, height_in_mbs}
-use Rattle.avc_neigh.specs.Around.{no_facts}
 use Rattle.avc_plane.specs.Planes.{Planes}
 use Rattle.avc_plane.specs.Frames.{planes_of, AreSized}
 use Rattle.avc_picture.specs.RowLate.{FilterFacts}
