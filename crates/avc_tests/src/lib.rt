@@ -10,6 +10,8 @@ mod inter_prediction;
 #[cfg(test)]
 mod macroblock_types;
 #[cfg(test)]
+mod open_picture;
+#[cfg(test)]
 mod same_macroblocks;
 #[cfg(test)]
 mod slice_headers;

@@ -1,5 +1,5 @@
 // A worked row of the deblocking filter: two edges of a step, of which the second filters what the first left (8.7).
-ghost use Rattle.std.specs.Prelude.{◌≡◌, ◌*◌, true};
+ghost use Rattle.std.specs.Prelude.{◌≡◌, ◌<◌, true};
 
 use avc_deblock::{MbFacts, Place, edge};
 use avc_plane::{Plane, Planes};
@@ -23,9 +23,11 @@ const INTRA: MbFacts = MbFacts {
 const FILTERED: [u8; 12] = [100, 108, 115, 123, 138, 145, 152, 159, 161, 160, 160, 160];
 
 fn set_step(luma: &mut Plane<0>) {
-    for y in 0..luma.height() {
-        for x in 0..luma.width() {
-            luma.set(x, y, if x < 16 { 100 } else { 160 });
+    for y in 0..16 {
+        for x in 0..32 {
+            if x < luma.width() && y < luma.height() {
+                luma.set(x, y, if x < 16 { 100 } else { 160 });
+            }
         }
     }
 }
@@ -36,21 +38,26 @@ fn has_size(plane: &Plane<0>, width: usize, height: usize) -> bool
     plane.width() == width && plane.height() == height
 }
 
-/// Filters the edge between two macroblocks, at strength 4, and the next one, at strength 3. Says whether the planes have room for them.
-fn filter(planes: &mut Planes<0>) -> bool {
-    if !has_size(&planes.luma, 32, 16)
-        || !has_size(&planes.cb, 16, 8)
-        || !has_size(&planes.cr, 16, 8)
-    {
-        return false;
-    }
+/// Filters a vertical edge of the second macroblock: the first, between the two, is of strength 4, and the others are of strength 3.
+/// Says whether the planes have room for it.
+fn filter(planes: &mut Planes<0>, n: usize) -> bool
+    requires { n < 4 }
+{
     const PLACE: Place = Place {
         column: 1,
         row: 0,
         chroma_qp_index_offset: 0,
     };
-    edge::<true, 0>(planes, &INTRA, &INTRA, 0, PLACE);
-    edge::<true, 0>(planes, &INTRA, &INTRA, 1, PLACE);
+    if !has_size(&planes.luma, 32, 16) {
+        return false;
+    }
+    if !has_size(&planes.cb, 16, 8) {
+        return false;
+    }
+    if !has_size(&planes.cr, 16, 8) {
+        return false;
+    }
+    edge::<true, 0>(planes, &INTRA, &INTRA, n, PLACE);
     true
 }
 
@@ -70,7 +77,8 @@ fn is_filtered(luma: &Plane<0>) -> bool {
 fn two_edges_of_a_step(rt: HostRuntime) -> Result<(), Fail> {
     let mut planes = Planes::<0>::new(rt.alloc(), 2, 1)?;
     set_step(&mut planes.luma);
-    assert!(rt; filter(&mut planes));
+    assert!(rt; filter(&mut planes, 0));
+    assert!(rt; filter(&mut planes, 1));
     assert!(rt; is_filtered(&planes.luma));
     Ok(())
 }
