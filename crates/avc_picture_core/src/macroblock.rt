@@ -112,7 +112,7 @@ fn add_residual<const PAD: usize>(
     );
 }
 
-/// Builds a skipped macroblock. RefMissing where a block has no reference picture; nothing is built then.
+/// Builds a skipped macroblock. RefMissing where a block has no reference picture.
 fn build_p_skip<const PAD: usize>(
     planes: &mut Planes<PAD>,
     place: MbPlace,
@@ -137,7 +137,7 @@ fn build_p_skip<const PAD: usize>(
     Ok(())
 }
 
-/// Builds an inter macroblock. RefMissing where a block has no reference picture; nothing is built then.
+/// Builds an inter macroblock. RefMissing where a block has no reference picture.
 fn build_p_inter<const PAD: usize>(
     planes: &mut Planes<PAD>,
     place: MbPlace,
@@ -174,7 +174,7 @@ fn build_p_inter<const PAD: usize>(
     Ok(())
 }
 
-/// Builds a macroblock. Nothing is built where it is refused.
+/// Builds a macroblock. Where it is refused any samples may stand in the planes.
 pub(crate) fn build_macroblock<const PAD: usize>(
     planes: &mut Planes<PAD>,
     place: MbPlace,

@@ -21,7 +21,7 @@ returns-then-not-has_sides16x16-clause-built g c = λ p at may.
     ∙ ap (λ t. can_predict16x16 sides t && can_predict_chroma sides (mode_chroma_of c.args.chroma_mode)) (sym c.mode16x16-luma_mode.ensures)
     ∙ ap (λ t. can_predict16x16 sides c.mode16x16-luma_mode.result && can_predict_chroma sides t) (sym c.mode_chroma-mode.ensures)
     ∙ sym c.has_sides16x16.ensures in
-    (refused_by p syntax true false at.syntax_is refl (test ∙ c.if-not-has_sides16x16.true), refl)
+    refused_by p syntax true false at.syntax_is refl (test ∙ c.if-not-has_sides16x16.true)
 
 pub returns-clause-built : goal.returns-clause-built
 returns-clause-built g c = λ p at may.

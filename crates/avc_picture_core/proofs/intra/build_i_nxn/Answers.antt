@@ -65,11 +65,9 @@ build_component-requires-2 g c = (
 
 pub returns-then-not-has_sides_nxn-clause-built : goal.returns-then-not-has_sides_nxn-clause-built
 returns-then-not-has_sides_nxn-clause-built g c = λ p coded at may modes.
-    let r = residual_of [] c.args.levels.now in (
-      refused_by p (i_nxn coded c.args.chroma_mode r) true false at.syntax_is refl
-          (has_nxn p coded c.args.chroma_mode r c.args.readable c.args.modes.now c.mode_chroma-mode.result may.sides modes c.mode_chroma-mode.ensures ∙ sym c.has_sides_nxn.ensures ∙ c.if-not-has_sides_nxn.true),
-      refl,
-    )
+    let r = residual_of [] c.args.levels.now in
+    refused_by p (i_nxn coded c.args.chroma_mode r) true false at.syntax_is refl
+    (has_nxn p coded c.args.chroma_mode r c.args.readable c.args.modes.now c.mode_chroma-mode.result may.sides modes c.mode_chroma-mode.ensures ∙ sym c.has_sides_nxn.ensures ∙ c.if-not-has_sides_nxn.true)
 
 pub returns-clause-built : goal.returns-clause-built
 returns-clause-built g c = λ p coded at may modes.
