@@ -169,7 +169,10 @@ room_kept v at_column at_row n st luma chroma s t is column row h =
     let r = chroma_size v at_column at_row n st chroma s.cr in
     subst (HasRoom column row) (sym (is ∙ in_parts v at_column at_row n st luma chroma s))
     (record {
-      luma_columns = omega (arith, l.0, h.luma_columns); luma_rows = omega (arith, l.1, h.luma_rows);
-      cb_columns = omega (arith, b.0, h.cb_columns); cb_rows = omega (arith, b.1, h.cb_rows);
-      cr_columns = omega (arith, r.0, h.cr_columns); cr_rows = omega (arith, r.1, h.cr_rows);
+      luma_columns = omega (arith, l.0, h.luma_columns);
+      luma_rows = omega (arith, l.1, h.luma_rows);
+      cb_columns = omega (arith, b.0, h.cb_columns);
+      cb_rows = omega (arith, b.1, h.cb_rows);
+      cr_columns = omega (arith, r.0, h.cr_columns);
+      cr_rows = omega (arith, r.1, h.cr_rows);
     })

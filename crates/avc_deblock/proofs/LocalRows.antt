@@ -41,7 +41,13 @@ even_low n low even = grind (arith, nat_tests)
 module _ (wl wb wr row : ℕ) where
   acts_none : ActsApart wl wb wr row (λ s. s)
   acts_none = record {
-    luma = λ s. s; cb = λ s. s; cr = λ s. s; is = λ s. refl; luma_local = local_none; cb_local = local_none; cr_local = local_none;
+    luma = λ s. s;
+    cb = λ s. s;
+    cr = λ s. s;
+    is = λ s. refl;
+    luma_local = local_none;
+    cb_local = local_none;
+    cr_local = local_none;
   }
 
   acts_then : {g h : Planes → Planes} → ActsApart wl wb wr row g → ActsApart wl wb wr row h → ActsApart wl wb wr row (λ s. h (g s))
@@ -187,7 +193,8 @@ module _ (first end : ℕ) (g : Plane → Plane) (s : Plane) (a : IsLocal s.widt
 
   agrees : AgreesAbove end s built
   agrees = record {
-    width = refl; height = refl;
+    width = refl;
+    height = refl;
     long = built_long ∙ sym full;
     samples = λ x y column row. outside_block s left top width height f x y column (omega arith) (λ p q r u. omega arith);
   }

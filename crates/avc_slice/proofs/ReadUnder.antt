@@ -299,8 +299,15 @@ gives-back nal_ref_idc idr start pps sps =
     gives-bind (HasMarking idr reference) Q (where_set reference (marking idr)) _ (gives-optional_marking idr reference) (λ marked is_marked.
     gives-bind (IsFiltering pps) Q (filtering pps) _ (gives-filtering pps) (λ filtered is_filtered.
     λ b. gives-give Q _ (record {
-      address = ltb-true start.first_mb_in_slice (size_in_mbs sps) address; slice_type = refl; set = refl; idr_is = is_of;
-      reference = is_marked.0; marking = is_marked.1; active = is_list.active; weights = is_list.weights; filters = is_filtered;
+      address = ltb-true start.first_mb_in_slice (size_in_mbs sps) address;
+      slice_type = refl;
+      set = refl;
+      idr_is = is_of;
+      reference = is_marked.0;
+      marking = is_marked.1;
+      active = is_list.active;
+      weights = is_list.weights;
+      filters = is_filtered;
     }) b)))))
 
 -- ---- the position is where the reader is

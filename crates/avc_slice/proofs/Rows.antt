@@ -23,7 +23,12 @@ header_at header rbsp = header_in_rbsp header sets rbsp
 
 abbrev pub of_p : Header
 of_p = record empty_header {
-  nal_ref_idc = 2; slice_type = AllP; frame_num = 1; active_count = 1; marking = Some SlidingWindow; position = 15;
+  nal_ref_idc = 2;
+  slice_type = AllP;
+  frame_num = 1;
+  active_count = 1;
+  marking = Some SlidingWindow;
+  position = 15;
 }
 
 abbrev pub of_i : Header
@@ -54,7 +59,9 @@ coded weight offset = record { weight = weight; offset = offset }
 -- luma by 1 and 2, chroma as it is
 luma_alone : weighted_at 0x41 (0x9A ∷ 0x27 ∷ 0x44 ∷ 0x2A ∷ []) ≡ Ok (record of_p {
   pred_weight_table = Some (record {
-    luma_log2_weight_denom = 0; chroma_log2_weight_denom = 0; entries = record { luma = Some (coded (pos 1) (pos 2)); chroma = None } ∷ [];
+    luma_log2_weight_denom = 0;
+    chroma_log2_weight_denom = 0;
+    entries = record { luma = Some (coded (pos 1) (pos 2)); chroma = None } ∷ [];
   });
   position = 27;
 })
