@@ -7,7 +7,7 @@ use Rattle.avc_types.specs.Pictures.{Coded}
 use Rattle.avc_neigh.specs.declared.facts.Motion.{Motion}
 use Rattle.avc_plane.specs.Plane.{Plane}
 use Rattle.avc_plane.specs.Planes.{Planes}
-use Rattle.avc_deblock.specs.Line.{setting_of}
+use Rattle.avc_deblock.specs.Line.{Setting, setting_of}
 use Rattle.avc_deblock.specs.Edges.{slice_at, strength_between, component_qp, luma_per_sample, setting_at}
 use Rattle.avc_deblock.specs.declared.thresholds.EdgeQp.{EdgeQp}
 use Rattle.avc_deblock.specs.OneEdge.{edge_filtered, luma_setting, chroma_setting, planes_edge, chroma_of_edge, lines_of_edge, HasRoom}
@@ -91,26 +91,31 @@ pub edge_planes : (c : Coded) (motion : List (List Motion)) (v : Bool) (column r
     (v ≡ true → 1 ≤ 4 * column + n) → (v ≡ false → 1 ≤ 4 * row + n) → IsSetting c motion 0 v n a st luma → IsSetting c motion 1 v n a st chroma →
     lines_of_edge v column row n st luma chroma s ≡ planes_edge c motion v a n s
 edge_planes c motion true column row a n at low st luma chroma s across down is_luma is_chroma =
-    let line : (k i j x y : ℕ) (st : ℕ → ℕ) (qp : EdgeQp) → IsSetting c motion k true n a st qp → j < 16 → i ≡ j / 4 →
-    luma_per_sample k * x ≡ 16 * column + 4 * n → luma_per_sample k * y ≡ 16 * row + j →
-    setting_of (k == 0) (st i) qp.p qp.q qp.offset_a qp.offset_b ≡ setting_at c motion (record { component = k; is_vertical = true; x = x; y = y }) =
-    same_setting c motion true column row a n at low across down in
-    rw (column_is c column row a at, row_is c column row a at)
-    (three _ _ _ _ _ _ (edge_same _ _ true _ _ 16 s.luma (λ i less. line 0 (i / 4) i _ _ st luma is_luma less refl (omega arith) (omega arith)))
-    (ap (λ p. if n % 2 == 0 then p else s.cb) (edge_same _ _ true _ _ 8 s.cb (λ i less. line 1 (i / 2) (2 * i) _ _ st chroma is_chroma (omega arith) (omega arith) (omega arith) (omega arith))))
-    (ap (λ p. if n % 2 == 0 then p else s.cr)
-    (edge_same _ _ true _ _ 8 s.cr (λ i less. line 2 (i / 2) (2 * i) _ _ st chroma (for_cr c motion true n a st chroma is_chroma) (omega arith) (omega arith) (omega arith) (omega arith)))))
-edge_planes c motion false column row a n at low st luma chroma s across down is_luma is_chroma =
+    let at_line : (k x y : ℕ) → Setting = λ k x y. setting_at c motion (record { component = k; is_vertical = true; x = x; y = y }) in
+    let same = same_setting c motion true column row a n at low across down in
     rw (column_is c column row a at, row_is c column row a at)
     (three _ _ _ _ _ _
-    (edge_same _ _ false _ _ 16 s.luma (λ i less. same_setting c motion false column row a n at low across down 0 (i / 4) i _ _ st luma is_luma less refl (omega arith) (omega arith)))
+    (edge_same (luma_setting st luma) (λ i. at_line 0 (16 * column + 4 * n) (16 * row + i)) true (16 * column + 4 * n) (16 * row) 16 s.luma
+    (λ i less. same 0 (i / 4) i _ _ st luma is_luma less refl (omega arith) (omega arith)))
     (ap (λ p. if n % 2 == 0 then p else s.cb)
-    (edge_same _ _ false _ _ 8 s.cb
-    (λ i less. same_setting c motion false column row a n at low across down 1 (i / 2) (2 * i) _ _ st chroma is_chroma (omega arith) (omega arith) (omega arith) (omega arith))))
+    (edge_same (chroma_setting st chroma) (λ i. at_line 1 (8 * column + 2 * n) (8 * row + i)) true (8 * column + 2 * n) (8 * row) 8 s.cb
+    (λ i less. same 1 (i / 2) (2 * i) _ _ st chroma is_chroma (omega arith) (omega arith) (omega arith) (omega arith))))
     (ap (λ p. if n % 2 == 0 then p else s.cr)
-    (edge_same _ _ false _ _ 8 s.cr
-    (λ i less. same_setting c motion false column row a n at low across down 2 (i / 2) (2 * i) _ _ st chroma (for_cr c motion false n a st chroma is_chroma)
-    (omega arith) (omega arith) (omega arith) (omega arith)))))
+    (edge_same (chroma_setting st chroma) (λ i. at_line 2 (8 * column + 2 * n) (8 * row + i)) true (8 * column + 2 * n) (8 * row) 8 s.cr
+    (λ i less. same 2 (i / 2) (2 * i) _ _ st chroma (for_cr c motion true n a st chroma is_chroma) (omega arith) (omega arith) (omega arith) (omega arith)))))
+edge_planes c motion false column row a n at low st luma chroma s across down is_luma is_chroma =
+    let at_line : (k x y : ℕ) → Setting = λ k x y. setting_at c motion (record { component = k; is_vertical = false; x = x; y = y }) in
+    let same = same_setting c motion false column row a n at low across down in
+    rw (column_is c column row a at, row_is c column row a at)
+    (three _ _ _ _ _ _
+    (edge_same (luma_setting st luma) (λ i. at_line 0 (16 * column + i) (16 * row + 4 * n)) false (16 * column) (16 * row + 4 * n) 16 s.luma
+    (λ i less. same 0 (i / 4) i _ _ st luma is_luma less refl (omega arith) (omega arith)))
+    (ap (λ p. if n % 2 == 0 then p else s.cb)
+    (edge_same (chroma_setting st chroma) (λ i. at_line 1 (8 * column + i) (8 * row + 2 * n)) false (8 * column) (8 * row + 2 * n) 8 s.cb
+    (λ i less. same 1 (i / 2) (2 * i) _ _ st chroma is_chroma (omega arith) (omega arith) (omega arith) (omega arith))))
+    (ap (λ p. if n % 2 == 0 then p else s.cr)
+    (edge_same (chroma_setting st chroma) (λ i. at_line 2 (8 * column + i) (8 * row + 2 * n)) false (8 * column) (8 * row + 2 * n) 8 s.cr
+    (λ i less. same 2 (i / 2) (2 * i) _ _ st chroma (for_cr c motion false n a st chroma is_chroma) (omega arith) (omega arith) (omega arith) (omega arith)))))
 
 -- ---- strength 0 at all lines
 

@@ -14,7 +14,7 @@ use Rattle.avc_plane.specs.Planes.{Planes}
 use Rattle.avc_deblock.specs.declared.thresholds.EdgeQp.{EdgeQp}
 use Rattle.avc_deblock.specs.declared.facts.MbFacts.{MbFacts}
 use Rattle.avc_deblock.specs.Facts.{filters_between}
-use Rattle.avc_deblock.specs.OneEdge.{edge_filtered, luma_setting, chroma_setting, chroma_of_edge, lines_of_edge}
+use Rattle.avc_deblock.specs.OneEdge.{edge_filtered, luma_setting, chroma_setting, chroma_of_edge}
 use Rattle.avc_deblock.specs.ByFacts.{strength_of, luma_qp_of, chroma_qp_of, edge_by_facts, edges_by_facts, mb_by_facts, row_by_facts, no_facts}
 use Rattle.avc_deblock.specs.Locality.{AgreesAbove, ChangesWithin, AgreesToRow, ChangesInRow, HasRow}
 use Rattle.avc_deblock.proofs.Local.{IsLocal, local_none, local_then, local_if, luma_reach, chroma_reach, local_vertical, local_horizontal}

@@ -12,7 +12,7 @@ use Rattle.avc_deblock.specs.Line.{Line, Setting, filtered}
 use Rattle.avc_deblock.specs.Rows.{line_of}
 use Rattle.avc_deblock.specs.Edges.{line_at, with_line}
 use Rattle.avc_deblock.specs.OneEdge.{lines_filtered, edge_filtered}
-use Rattle.avc_deblock.proofs.Samples.{same_line, same_samples, sample_of, each_sample}
+use Rattle.avc_deblock.proofs.Samples.{same_line, same_samples, each_sample}
 use Rattle.avc_deblock.proofs.Strided.{sets, six_set, strided, all_set, length-all_set, untouched, each_line}
 
 -- ---- one line

@@ -1,8 +1,7 @@
 -- The eight samples of a line, and what a line filter leaves of them.
-use Rattle.std.proofs.Common.{◌≡◌, ℕ, zero, suc, ◌<◌, ◌≤◌, List, [], ◌∷◌, Bool, true, false, slice_index, arith, refl, sym, ap, ◌∙◌}
-use Rattle.std.specs.Prelude.{if◌then◌else◌, ◌==◌, nat_lt, not, ◌&&◌, ◌||◌}
+use Rattle.std.proofs.Common.{◌≡◌, ℕ, zero, suc, ◌<◌, ◌≤◌, [], ◌∷◌, Bool, true, false, slice_index, arith, refl, sym, ap, ◌∙◌}
+use Rattle.std.specs.Prelude.{if◌then◌else◌, ◌==◌, ◌&&◌, ◌||◌}
 use Rattle.std.proofs.lemmas.Bool.Decides.{nat_tests}
-use Rattle.avc_types.specs.Arithmetic.{distance}
 use Rattle.avc_deblock.specs.Line.{Line, Setting, filtered, filtered_weakly, filtered_strongly, is_filtered}
 use Rattle.avc_deblock.specs.Rows.{line, line_of}
 

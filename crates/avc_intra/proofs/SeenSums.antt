@@ -1,5 +1,5 @@
 -- Sums of the samples beside a block, read from the rows in which it lies.
-use Rattle.std.proofs.Common.{◌≡◌, ℕ, ◌+◌, ◌-◌, ◌*◌, ◌/◌, ◌<◌, ◌≤◌, pos, Bool, true, false, List, slice_index, refl, ap, sym, arith}
+use Rattle.std.proofs.Common.{◌≡◌, ℕ, ◌+◌, ◌-◌, ◌*◌, ◌<◌, ◌≤◌, pos, Bool, true, false, List, slice_index, refl, ap, sym, arith}
 use Rattle.std.specs.Prelude.{if◌then◌else◌, nat_lt, not, ◌&&◌}
 use Rattle.std.proofs.lemmas.Bool.Decides.{nat_tests}
 use Rattle.avc_types.specs.Arithmetic.{sum_below}

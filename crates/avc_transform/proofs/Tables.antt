@@ -1,5 +1,5 @@
 -- The tables of the code are those of the standard.
-use Rattle.std.proofs.Common.{ℕ, ◌≡◌, ◌<◌, ◌≤◌, ◌+◌, ◌*◌, ◌/◌, ◌%◌, true, [], nat_eq, nat_lt, if◌then◌else◌, false, ◌-◌, List, slice_index, slice_index_or, refl, ap, ◌∙◌, sym, arith, zero-add}
+use Rattle.std.proofs.Common.{ℕ, ◌≡◌, ◌<◌, ◌≤◌, ◌/◌, ◌%◌, true, nat_eq, nat_lt, if◌then◌else◌, false, ◌-◌, slice_index, refl, ap, ◌∙◌, sym, arith, zero-add}
 use Rattle.std.specs.List.{range_with_len, list_all}
 use Rattle.std.proofs.lemmas.Bool.{eqb-true, ltb-true}
 use Rattle.std.proofs.lemmas.Bool.Decides.{nat_tests}

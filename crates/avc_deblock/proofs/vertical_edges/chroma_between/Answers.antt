@@ -1,4 +1,4 @@
-use Rattle.std.proofs.Common.{◌≡◌, ◌∙◌, true, sym, ap}
+use Rattle.std.proofs.Common.{◌∙◌, true, sym, ap}
 use Rattle.avc_plane.specs.Plane.{Plane}
 use Rattle.avc_deblock.specs.ByFacts.{strength_of, chroma_qp_of}
 use Rattle.avc_deblock.proofs.EdgePlanes.{chroma_same, chroma_size, chroma_zero}

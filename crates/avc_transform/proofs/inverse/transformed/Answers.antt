@@ -1,4 +1,4 @@
-use Rattle.std.proofs.Common.{ℕ, ℤ, ◌≡◌, ◌+◌, ◌*◌, ◌/◌, ◌%◌, ◌^◌, ◌<◌, ◌≤◌, ◌+ℤ◌, arith, ap, ◌∙◌, sym, subst, to_z, of_z, w32, List, [], ◌∷◌, pos, slice_index_or}
+use Rattle.std.proofs.Common.{ℕ, ℤ, ◌≡◌, ◌+◌, ◌*◌, ◌/◌, ◌%◌, ◌^◌, ◌<◌, ◌≤◌, ◌+ℤ◌, arith, ap, ◌∙◌, to_z, of_z, w32, List, [], ◌∷◌, pos, slice_index_or}
 use Rattle.avc_types.specs.Arithmetic.{◌>>ℤ◌}
 use Rattle.avc_transform.specs.Bounds.{AllBelow, IsBelow}
 use Rattle.avc_transform.specs.Lines.{AreBelow}

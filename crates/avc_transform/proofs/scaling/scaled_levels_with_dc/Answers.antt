@@ -1,6 +1,6 @@
-use Rattle.std.proofs.Common.{ℕ, ℤ, ◌≡◌, ◌<◌, ◌^◌, ◌∙◌, arith, sym, subst, to_z, of_z, w32, List, pos, slice_index_or}
+use Rattle.std.proofs.Common.{ℕ, ◌<◌, ◌^◌, ◌∙◌, arith, w32, pos, slice_index_or}
 use Rattle.std.proofs.lemmas.Int.{ints, to_z-of_z}
-use Rattle.avc_transform.specs.Bounds.{AllBelow, IsBelow}
+use Rattle.avc_transform.specs.Bounds.{IsBelow}
 use Rattle.avc_transform.specs.Residual.{level}
 use Rattle.avc_transform.proofs.BelowFour.{below_four, each_of_four}
 use Rattle.avc_transform.proofs.Small.{AllBelow-more, cast_small, small_cast, level_back, level_small, scaled_of, IsBelow-more}
