@@ -1,6 +1,7 @@
 -- The strength of facts is that of the picture.
 use Rattle.std.proofs.Common.{◌≡◌, ℕ, ◌/◌, ◌<◌, Bool, true, false, List, [], arith, refl, sym, ap, ◌∙◌, ⊎_elim}
 use Rattle.std.specs.Prelude.{◌==◌, nat_abs, ◌-ℤ◌, nat_le, not, ◌||◌, if◌then◌else◌, Some, slice_index, slice_index_or}
+use Rattle.std.proofs.Math.Bool.{or_assoc}
 use Rattle.std.proofs.lemmas.Bool.{cases_eq}
 use Rattle.std.proofs.lemmas.Bool.Decides.{nat_tests}
 use Rattle.avc_types.specs.declared.vector.Mv.{Mv}
@@ -12,10 +13,6 @@ use Rattle.avc_deblock.specs.Edges.{mb_at, has_coefficients, picture_named, move
 use Rattle.avc_deblock.specs.Facts.{Names, HasFacts, has_bit, are_far, inter_strength, edge_block}
 use Rattle.avc_deblock.specs.declared.facts.MbFacts.{MbFacts}
 
-or_assoc : (a b c : Bool) → (a || (b || c)) ≡ (a || b || c)
-or_assoc true b c = refl
-or_assoc false b c = refl
-
 -- entries are equal where the numbers are
 same_entry : (names : Names) (m n : ℕ) → m < names.count → n < names.count → (names.entry m == names.entry n) ≡ (m == n)
 same_entry names m n m_low n_low =
@@ -26,7 +23,7 @@ same_entry names m n m_low n_low =
 
 named_both : (c : Coded) (pa qa r s : ℕ) (u v : Mv) (x y : ℕ) → picture_named c pa r ≡ Some x → picture_named c qa s ≡ Some y →
     moves_differently c pa qa (inter r u) (inter s v) ≡ (not (x == y) || are_far u v)
-named_both c pa qa r s u v x y e f = rw (e, f) (sym (or_assoc (not (x == y)) (nat_le 4 (nat_abs (u.x -ℤ v.x))) (nat_le 4 (nat_abs (u.y -ℤ v.y)))))
+named_both c pa qa r s u v x y e f = rw (e, f) (or_assoc (not (x == y)) (nat_le 4 (nat_abs (u.x -ℤ v.x))) (nat_le 4 (nat_abs (u.y -ℤ v.y))))
 
 pub inter_between : (c : Coded) (motion : List (List Motion)) (names : Names) (pa qa : ℕ) (p : MbFacts) (kp : ℕ) (q : MbFacts) (kq : ℕ) → kp < 16 → kq < 16 →
     HasFacts c motion names pa p → HasFacts c motion names qa q → p.is_intra ≡ false → q.is_intra ≡ false → inter_strength p kp q kq ≡ strength_between c motion pa kp qa kq

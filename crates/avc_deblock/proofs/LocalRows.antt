@@ -4,21 +4,21 @@ use Rattle.std.specs.Prelude.{if◌then◌else◌, ◌==◌, nat_lt, ◌&&◌, s
 use Rattle.std.proofs.lemmas.Bool.{cases_lt}
 use Rattle.std.proofs.lemmas.Bool.Decides.{nat_tests}
 use Rattle.std.proofs.lemmas.Nat.{mul-add-lt, mod_below}
-use Rattle.std.proofs.Math.Nat.{mul-le-mul_right, div-lt_iff_lt-mul}
+use Rattle.std.proofs.Math.Nat.{mul-le-mul_right}
 use Rattle.avc_plane.specs.Plane.{Plane, sample, with_block, is_inside}
-use Rattle.avc_plane.proofs.PlaneMaps.{length-plane_of, sample-with_block}
-use Rattle.avc_plane.proofs.Rectangles.{by_place}
-use Rattle.avc_plane.proofs.Blocks.{inside}
+use Rattle.avc_plane.proofs.PlaneMaps.{length-plane_of}
 use Rattle.avc_deblock.specs.Edges.{in_component, luma_per_sample}
-use Rattle.avc_deblock.proofs.OnPlane.{with_samples, block_is}
+use Rattle.avc_deblock.proofs.OnPlane.{with_samples, some_column, row_of, block_is}
+use Rattle.avc_deblock.proofs.Within.{inside_block, outside_block}
 use Rattle.avc_plane.specs.Planes.{Planes}
 use Rattle.avc_deblock.specs.declared.thresholds.EdgeQp.{EdgeQp}
 use Rattle.avc_deblock.specs.declared.facts.MbFacts.{MbFacts}
 use Rattle.avc_deblock.specs.Facts.{filters_between}
-use Rattle.avc_deblock.specs.OneEdge.{edge_filtered, luma_setting, chroma_setting, lines_of_edge}
+use Rattle.avc_deblock.specs.OneEdge.{edge_filtered, luma_setting, chroma_setting, chroma_of_edge}
 use Rattle.avc_deblock.specs.ByFacts.{strength_of, luma_qp_of, chroma_qp_of, edge_by_facts, edges_by_facts, mb_by_facts, row_by_facts, no_facts}
 use Rattle.avc_deblock.specs.Locality.{AgreesAbove, ChangesWithin, AgreesToRow, ChangesInRow, HasRow}
-use Rattle.avc_deblock.proofs.Local.{IsLocal, local_none, local_then, local_if, local_vertical, local_horizontal, local_horizontal_chroma}
+use Rattle.avc_deblock.proofs.Local.{IsLocal, local_none, local_then, local_if, luma_reach, chroma_reach, local_vertical, local_horizontal}
+use Rattle.avc_deblock.proofs.EdgePlanes.{luma_of_edge, in_parts, far_enough}
 use Rattle.avc_deblock.proofs.PictureFacts.{some}
 
 -- ---- changes of the three planes, each by itself
@@ -32,8 +32,8 @@ pub record ActsApart (wl wb wr row : ℕ) (g : Planes → Planes) : Type 0 where
   pub cb_local : IsLocal wb ((8 * row - 1) * wb) ((8 * row + 8) * wb) cb
   pub cr_local : IsLocal wr ((8 * row - 1) * wr) ((8 * row + 8) * wr) cr
 
-far_enough : (column n : ℕ) → 1 ≤ 4 * column + n → (n % 2 == 0) ≡ true → 4 ≤ 8 * column + 2 * n
-far_enough column n more even = grind (arith, nat_tests)
+abbrev three : Plane → Plane → Plane → Planes
+three l b r = record { luma = l; cb = b; cr = r }
 
 even_low : (n : ℕ) → n < 4 → (n % 2 == 0) ≡ true → n ≤ 2
 even_low n low even = grind (arith, nat_tests)
@@ -45,116 +45,97 @@ module _ (wl wb wr row : ℕ) where
     cb = λ s. s;
     cr = λ s. s;
     is = λ s. refl;
-    luma_local = local_none wl ((16 * row - 3) * wl) ((16 * row + 16) * wl);
-    cb_local = local_none wb ((8 * row - 1) * wb) ((8 * row + 8) * wb);
-    cr_local = local_none wr ((8 * row - 1) * wr) ((8 * row + 8) * wr);
+    luma_local = local_none;
+    cb_local = local_none;
+    cr_local = local_none;
   }
 
-  acts_then : (g h : Planes → Planes) → ActsApart wl wb wr row g → ActsApart wl wb wr row h → ActsApart wl wb wr row (λ s. h (g s))
-  acts_then g h a b = record {
+  acts_then : {g h : Planes → Planes} → ActsApart wl wb wr row g → ActsApart wl wb wr row h → ActsApart wl wb wr row (λ s. h (g s))
+  acts_then {g} {h} a b = record {
     luma = λ s. b.luma (a.luma s);
     cb = λ s. b.cb (a.cb s);
     cr = λ s. b.cr (a.cr s);
-    is = λ s. ap h (a.is s) ∙ b.is (record { luma = a.luma s.luma; cb = a.cb s.cb; cr = a.cr s.cr });
-    luma_local = local_then wl ((16 * row - 3) * wl) ((16 * row + 16) * wl) a.luma b.luma a.luma_local b.luma_local;
-    cb_local = local_then wb ((8 * row - 1) * wb) ((8 * row + 8) * wb) a.cb b.cb a.cb_local b.cb_local;
-    cr_local = local_then wr ((8 * row - 1) * wr) ((8 * row + 8) * wr) a.cr b.cr a.cr_local b.cr_local;
+    is = λ s. ap h (a.is s) ∙ b.is (three (a.luma s.luma) (a.cb s.cb) (a.cr s.cr));
+    luma_local = local_then a.luma_local b.luma_local;
+    cb_local = local_then a.cb_local b.cb_local;
+    cr_local = local_then a.cr_local b.cr_local;
   }
 
-  acts_if : (b : Bool) (g : Planes → Planes) → (b ≡ true → ActsApart wl wb wr row g) → ActsApart wl wb wr row (λ s. if b then g s else s)
-  acts_if true g h = h refl
-  acts_if false g h = acts_none
+  acts_if : (b : Bool) {g : Planes → Planes} → (b ≡ true → ActsApart wl wb wr row g) → ActsApart wl wb wr row (λ s. if b then g s else s)
+  acts_if true h = h refl
+  acts_if false h = acts_none
 
   -- ---- one edge
 
   module _ (column : ℕ) (luma_fits : 16 * column + 16 ≤ wl) (cb_fits : 8 * column + 8 ≤ wb) (cr_fits : 8 * column + 8 ≤ wr) (offset : ℤ) where
-    vertical_chroma : (w : ℕ) → 8 * column + 8 ≤ w → (n : ℕ) → n < 4 → 1 ≤ 4 * column + n → (f : ℕ → ℕ) (qp : EdgeQp) →
-        IsLocal w ((8 * row - 1) * w) ((8 * row + 8) * w) (λ s. if n % 2 == 0 then edge_filtered (chroma_setting f qp) true (8 * column + 2 * n) (8 * row) 8 s else s)
-    vertical_chroma w fits n low more f qp =
+    chroma_acts : (v : Bool) (w : ℕ) → 8 * column + 8 ≤ w → (n : ℕ) → n < 4 → (v ≡ true → 1 ≤ 4 * column + n) → (v ≡ false → 1 ≤ 4 * row + n) → (f : ℕ → ℕ) (qp : EdgeQp) →
+        IsLocal w ((8 * row - 1) * w) ((8 * row + 8) * w) (λ s. chroma_of_edge v column row n f qp s)
+    chroma_acts true w fits n low across down f qp =
         local_if w ((8 * row - 1) * w) ((8 * row + 8) * w) (n % 2 == 0) (λ s. edge_filtered (chroma_setting f qp) true (8 * column + 2 * n) (8 * row) 8 s)
         (λ even.
-        let far : 4 ≤ 8 * column + 2 * n = far_enough column n more even in
+        let far : 4 ≤ 8 * column + 2 * n = far_enough column n (across refl) even in
         let two : n ≤ 2 = even_low n low even in
-        local_vertical w (8 * row - 1) (8 * row + 8) (chroma_setting f qp) (8 * column + 2 * n) (8 * column + 2 * n - 4) (8 * row) 8 (omega arith) (omega arith) (omega arith) (omega arith))
-
-    horizontal_chroma : (w : ℕ) → 8 * column + 8 ≤ w → (n : ℕ) → n < 4 → 1 ≤ 4 * row + n → (f : ℕ → ℕ) (qp : EdgeQp) →
-        IsLocal w ((8 * row - 1) * w) ((8 * row + 8) * w) (λ s. if n % 2 == 0 then edge_filtered (chroma_setting f qp) false (8 * column) (8 * row + 2 * n) 8 s else s)
-    horizontal_chroma w fits n low more f qp =
+        local_vertical w (8 * row - 1) (8 * row + 8) (chroma_setting f qp) (8 * column + 2 * n) (8 * row) 8 far (omega arith) (omega arith) (omega arith))
+    chroma_acts false w fits n low across down f qp =
         local_if w ((8 * row - 1) * w) ((8 * row + 8) * w) (n % 2 == 0) (λ s. edge_filtered (chroma_setting f qp) false (8 * column) (8 * row + 2 * n) 8 s)
         (λ even.
-        let far : 4 ≤ 8 * row + 2 * n = far_enough row n more even in
+        let far : 4 ≤ 8 * row + 2 * n = far_enough row n (down refl) even in
         let two : n ≤ 2 = even_low n low even in
-        local_horizontal_chroma w (8 * row - 1) (8 * row + 8) (chroma_setting f qp) (8 * column) (8 * row + 2 * n) (8 * row + 2 * n - 4) 8 (λ i. refl) (omega arith) (omega arith) (omega arith) (omega arith))
+        local_horizontal w (8 * row - 1) (8 * row + 8) (chroma_setting f qp) (8 * column) (8 * row + 2 * n) 8 1 (λ i. chroma_reach (chroma_setting f qp i) refl)
+        (omega arith) far (omega arith) (omega arith) (omega arith))
 
-    lines_act : (v : Bool) (n : ℕ) → n < 4 → (v ≡ true → 1 ≤ 4 * column + n) → (v ≡ false → 1 ≤ 4 * row + n) → (f : ℕ → ℕ) (luma chroma : EdgeQp) →
-        ActsApart wl wb wr row (lines_of_edge v column row n f luma chroma)
-    lines_act true n low across down f luma chroma =
-        let more : 1 ≤ 4 * column + n = across refl in
+    luma_acts : (v : Bool) (n : ℕ) → n < 4 → (v ≡ true → 1 ≤ 4 * column + n) → (v ≡ false → 1 ≤ 4 * row + n) → (f : ℕ → ℕ) (luma : EdgeQp) →
+        IsLocal wl ((16 * row - 3) * wl) ((16 * row + 16) * wl) (λ s. luma_of_edge v column row n f luma s)
+    luma_acts true n low across down f luma =
+        let some = across refl in
+        local_vertical wl (16 * row - 3) (16 * row + 16) (luma_setting f luma) (16 * column + 4 * n) (16 * row) 16 (omega arith) (omega arith) (omega arith) (omega arith)
+    luma_acts false n low across down f luma =
+        let some = down refl in
+        local_horizontal wl (16 * row - 3) (16 * row + 16) (luma_setting f luma) (16 * column) (16 * row + 4 * n) 16 3 (λ i. luma_reach (luma_setting f luma i))
+        (omega arith) (omega arith) (omega arith) (omega arith) (omega arith)
+
+    edge_acts : (v : Bool) (n : ℕ) → n < 4 → (v ≡ true → 1 ≤ 4 * column + n) → (v ≡ false → 1 ≤ 4 * row + n) → (p q : MbFacts) →
+        ActsApart wl wb wr row (edge_by_facts v column row n offset p q)
+    edge_acts v n low across down p q =
+        let st = strength_of p q v n in
+        let luma = luma_qp_of p q in
+        let chroma = chroma_qp_of offset p q in
         record {
-          luma = λ s. edge_filtered (luma_setting f luma) true (16 * column + 4 * n) (16 * row) 16 s;
-          cb = λ s. if n % 2 == 0 then edge_filtered (chroma_setting f chroma) true (8 * column + 2 * n) (8 * row) 8 s else s;
-          cr = λ s. if n % 2 == 0 then edge_filtered (chroma_setting f chroma) true (8 * column + 2 * n) (8 * row) 8 s else s;
-          is = λ s. refl;
-          luma_local = local_vertical wl (16 * row - 3) (16 * row + 16) (luma_setting f luma) (16 * column + 4 * n) (16 * column + 4 * n - 4) (16 * row) 16 (omega arith) (omega arith) (omega arith) (omega arith);
-          cb_local = vertical_chroma wb cb_fits n low more f chroma;
-          cr_local = vertical_chroma wr cr_fits n low more f chroma;
-        }
-    lines_act false n low across down f luma chroma =
-        let more : 1 ≤ 4 * row + n = down refl in
-        record {
-          luma = λ s. edge_filtered (luma_setting f luma) false (16 * column) (16 * row + 4 * n) 16 s;
-          cb = λ s. if n % 2 == 0 then edge_filtered (chroma_setting f chroma) false (8 * column) (8 * row + 2 * n) 8 s else s;
-          cr = λ s. if n % 2 == 0 then edge_filtered (chroma_setting f chroma) false (8 * column) (8 * row + 2 * n) 8 s else s;
-          is = λ s. refl;
-          luma_local = local_horizontal wl (16 * row - 3) (16 * row + 16) (luma_setting f luma) (16 * column) (16 * row + 4 * n) (16 * row + 4 * n - 4) 16 (omega arith) (omega arith) (omega arith) (omega arith);
-          cb_local = horizontal_chroma wb cb_fits n low more f chroma;
-          cr_local = horizontal_chroma wr cr_fits n low more f chroma;
+          luma = luma_of_edge v column row n st luma;
+          cb = chroma_of_edge v column row n st chroma;
+          cr = chroma_of_edge v column row n st chroma;
+          is = in_parts v column row n st luma chroma;
+          luma_local = luma_acts v n low across down st luma;
+          cb_local = chroma_acts v wb cb_fits n low across down st chroma;
+          cr_local = chroma_acts v wr cr_fits n low across down st chroma;
         }
 
     -- ---- the edges of a macroblock
 
-    edge_acts : (v : Bool) (n : ℕ) → n < 4 → (v ≡ true → 1 ≤ 4 * column + n) → (v ≡ false → 1 ≤ 4 * row + n) → (p q : MbFacts) → ActsApart wl wb wr row (edge_by_facts v column row n offset p q)
-    edge_acts v n low across down p q = lines_act v n low across down (strength_of p q v n) (luma_qp_of p q) (chroma_qp_of offset p q)
-
-    inner_act : (v : Bool) (q : MbFacts) →
-        ActsApart wl wb wr row (λ s. edge_by_facts v column row 3 offset q q (edge_by_facts v column row 2 offset q q (edge_by_facts v column row 1 offset q q s)))
-    inner_act v q =
-        acts_then (λ s. edge_by_facts v column row 2 offset q q (edge_by_facts v column row 1 offset q q s)) (edge_by_facts v column row 3 offset q q)
-        (acts_then (edge_by_facts v column row 1 offset q q) (edge_by_facts v column row 2 offset q q)
-        (edge_acts v 1 (omega arith) (λ e. omega arith) (λ e. omega arith) q q) (edge_acts v 2 (omega arith) (λ e. omega arith) (λ e. omega arith) q q))
-        (edge_acts v 3 (omega arith) (λ e. omega arith) (λ e. omega arith) q q)
-
-    edges_act : (v o i : Bool) → (o ≡ true → v ≡ true → 1 ≤ column) → (o ≡ true → v ≡ false → 1 ≤ row) → (p q : MbFacts) → ActsApart wl wb wr row (edges_by_facts v column row offset o i p q)
+    edges_act : (v o i : Bool) → (o ≡ true → v ≡ true → 1 ≤ column) → (o ≡ true → v ≡ false → 1 ≤ row) → (p q : MbFacts) →
+        ActsApart wl wb wr row (edges_by_facts v column row offset o i p q)
     edges_act v o i across down p q =
-        acts_then (λ s. if o then edge_by_facts v column row 0 offset p q s else s)
-        (λ s. if i then edge_by_facts v column row 3 offset q q (edge_by_facts v column row 2 offset q q (edge_by_facts v column row 1 offset q q s)) else s)
-        (acts_if o (edge_by_facts v column row 0 offset p q)
-        (λ on. edge_acts v 0 (omega arith) (λ e. let h : 1 ≤ column = across on e in omega arith) (λ e. let h : 1 ≤ row = down on e in omega arith) p q))
-        (acts_if i (λ s. edge_by_facts v column row 3 offset q q (edge_by_facts v column row 2 offset q q (edge_by_facts v column row 1 offset q q s))) (λ on. inner_act v q))
+        let inner : (n : ℕ) → 1 ≤ n → n < 4 → ActsApart wl wb wr row (edge_by_facts v column row n offset q q) =
+        λ n some low. edge_acts v n low (λ e. omega arith) (λ e. omega arith) q q in
+        acts_then
+        (acts_if o (λ on. edge_acts v 0 (omega arith) (λ e. let h : 1 ≤ column = across on e in omega arith) (λ e. let h : 1 ≤ row = down on e in omega arith) p q))
+        (acts_if i (λ on. acts_then (acts_then (inner 1 (omega arith) (omega arith)) (inner 2 (omega arith) (omega arith))) (inner 3 (omega arith) (omega arith))))
 
     mb_acts : (left above q : MbFacts) → ActsApart wl wb wr row (mb_by_facts offset column row left above q)
     mb_acts left above q =
-        acts_then (edges_by_facts true column row offset (nat_lt 0 column && filters_between q left) (filters_between q q) left q)
-        (edges_by_facts false column row offset (nat_lt 0 row && filters_between q above) (filters_between q q) above q)
+        acts_then
         (edges_act true (nat_lt 0 column && filters_between q left) (filters_between q q) (λ o e. some (filters_between q left) column o) (λ o e. absurd (cc)) left q)
         (edges_act false (nat_lt 0 row && filters_between q above) (filters_between q q) (λ o e. absurd (cc)) (λ o e. some (filters_between q above) row o) above q)
 
-  pub row_acts : (offset : ℤ) (above facts : List MbFacts) (n : ℕ) → ((k : ℕ) → k < n → 16 * k + 16 ≤ wl) → ((k : ℕ) → k < n → 8 * k + 8 ≤ wb) → ((k : ℕ) → k < n → 8 * k + 8 ≤ wr) →
-      ActsApart wl wb wr row (row_by_facts offset row above facts n)
+  pub row_acts : (offset : ℤ) (above facts : List MbFacts) (n : ℕ) → ((k : ℕ) → k < n → 16 * k + 16 ≤ wl) → ((k : ℕ) → k < n → 8 * k + 8 ≤ wb) →
+      ((k : ℕ) → k < n → 8 * k + 8 ≤ wr) → ActsApart wl wb wr row (row_by_facts offset row above facts n)
   row_acts offset above facts zero l b r = acts_none
   row_acts offset above facts (suc n) l b r =
-      acts_then (row_by_facts offset row above facts n)
-      (mb_by_facts offset n row (slice_index_or facts (n - 1) no_facts) (slice_index_or above n no_facts) (slice_index_or facts n no_facts))
-      (row_acts offset above facts n (λ k low. l k (omega arith)) (λ k low. b k (omega arith)) (λ k low. r k (omega arith)))
-      (mb_acts n (l n (omega arith)) (b n (omega arith)) (r n (omega arith)) offset (slice_index_or facts (n - 1) no_facts) (slice_index_or above n no_facts) (slice_index_or facts n no_facts))
+      acts_then (row_acts offset above facts n (λ k low. l k (omega arith)) (λ k low. b k (omega arith)) (λ k low. r k (omega arith)))
+      (mb_acts n (l n (omega arith)) (b n (omega arith)) (r n (omega arith)) offset
+      (slice_index_or facts (n - 1) no_facts) (slice_index_or above n no_facts) (slice_index_or facts n no_facts))
 
 -- ---- from places to rows
-
-some_column : (k width height : ℕ) → k < width * height → 0 < width
-some_column k width height below = ⊎_elim
-    (λ less. less)
-    (λ none. let e : width ≡ 0 = omega arith in absurd (omega (arith, ap (λ w. w * height) e)))
-    (cases_lt 0 width)
 
 module _ (first end : ℕ) (g : Plane → Plane) (s : Plane) (a : IsLocal s.width (first * s.width) (end * s.width) g) (full : length s.samples ≡ s.width * s.height) (rows : end ≤ s.height) where
   high : end * s.width ≤ length s.samples
@@ -178,13 +159,11 @@ module _ (first end : ℕ) (g : Plane → Plane) (s : Plane) (a : IsLocal s.widt
     agree : (j : ℕ) → j < end * s.width → slice_index t.samples j ≡ slice_index s.samples j
     agree j less =
         let below : j < s.width * end = omega (arith, mul_comm s.width end) in
-        let w_some = some_column j s.width end below in
         let x = j % s.width in
         let y = j / s.width in
-        let y_low : y < end = (div-lt_iff_lt-mul w_some).1 (omega (arith, mul_comm end s.width)) in
         let parts : j ≡ y * s.width + x = sym (omega (arith, mul_comm y s.width)) in
         ap (slice_index t.samples) parts ∙ ap (λ v. slice_index t.samples (y * v + x)) (sym agrees.width)
-        ∙ agrees.samples x y (mod_below j s.width w_some) y_low ∙ ap (slice_index s.samples) (sym parts)
+        ∙ agrees.samples x y (mod_below j s.width (some_column j s.width end below)) (row_of j s.width end below) ∙ ap (slice_index s.samples) (sym parts)
 
     pub reads_of : AgreesAbove end (g s) (g t)
     reads_of = record {
@@ -204,9 +183,6 @@ module _ (first end : ℕ) (g : Plane → Plane) (s : Plane) (a : IsLocal s.widt
 sized : (p q : Plane) → p.width ≡ q.width → p.height ≡ q.height → p ≡ with_samples q p.samples
 sized p q e h = rw (sym e, sym h) refl
 
-abbrev three : Plane → Plane → Plane → Planes
-three l b r = record { luma = l; cb = b; cr = r }
-
 module _ (first end : ℕ) (g : Plane → Plane) (s : Plane) (a : IsLocal s.width (first * s.width) (end * s.width) g) (full : length s.samples ≡ s.width * s.height) (rows : end ≤ s.height)
     (left top width height : ℕ) (f : ℕ → ℕ → ℕ) (below : end ≤ top) where
   abbrev built : Plane
@@ -215,22 +191,12 @@ module _ (first end : ℕ) (g : Plane → Plane) (s : Plane) (a : IsLocal s.widt
   built_long : length built.samples ≡ s.width * s.height
   built_long = length-plane_of s.width s.height (λ x y. if is_inside left top width height x y then f (x - left) (y - top) else sample s x y)
 
-  built_above : (x y : ℕ) → x < s.width → y < s.height → (left ≤ x → x < left + width → top ≤ y → y < top + height → ⊥) → sample built x y ≡ sample s x y
-  built_above x y column row out =
-      sample-with_block s left top width height f x y column row
-      ∙ by_place (λ (t : Bool). (if t then f (x - left) (y - top) else sample s x y) ≡ sample s x y) left top width height x y (λ p q r u. absurd (out p q r u)) (λ none. refl)
-
-  built_inside : (x y : ℕ) → x < s.width → y < s.height → left ≤ x → x < left + width → top ≤ y → y < top + height → sample built x y ≡ f (x - left) (y - top)
-  built_inside x y column row p q r u =
-      sample-with_block s left top width height f x y column row
-      ∙ ap (λ (t : Bool). if t then f (x - left) (y - top) else sample s x y) (inside left top width height x y p q r u)
-
   agrees : AgreesAbove end s built
   agrees = record {
     width = refl;
     height = refl;
     long = built_long ∙ sym full;
-    samples = λ x y column row. built_above x y column (omega arith) (λ p q r u. omega arith);
+    samples = λ x y column row. outside_block s left top width height f x y column (omega arith) (λ p q r u. omega arith);
   }
 
   after : ChangesWithin first end built (g built)
@@ -257,14 +223,14 @@ module _ (first end : ℕ) (g : Plane → Plane) (s : Plane) (a : IsLocal s.widt
       let low : y < s.height = subst (λ v. y < v) (a.height s) row in
       sample_of (g built) x y (a.width built)
       ∙ after.samples x y narrow low (λ lo hi. omega arith)
-      ∙ built_inside x y narrow low p q r u)
+      ∙ inside_block s left top width height f x y narrow low p q r u)
       (λ x y column row out.
       let narrow : x < s.width = subst (λ v. x < v) (a.width s) column in
       let low : y < s.height = subst (λ v. y < v) (a.height s) row in
       sample_of (g built) x y (a.width built)
       ∙ ⊎_elim
       (λ less. both_read.samples x y column less)
-      (λ no. after.samples x y narrow low (λ lo hi. omega arith) ∙ built_above x y narrow low out ∙ sym (before.samples x y narrow low (λ lo hi. omega arith)))
+      (λ no. after.samples x y narrow low (λ lo hi. omega arith) ∙ outside_block s left top width height f x y narrow low out ∙ sym (before.samples x y narrow low (λ lo hi. omega arith)))
       (cases_lt y end))
 
 -- ---- the laws
@@ -276,49 +242,48 @@ module _ (offset : ℤ) (row : ℕ) (above facts : List MbFacts) (s : Planes) (h
 pub row_changes : (offset : ℤ) (row : ℕ) (above facts : List MbFacts) (s : Planes) → HasRow row (length facts) s → ChangesInRow row s (row_by_facts offset row above facts (length facts) s)
 row_changes offset row above facts s has =
     let a = acts offset row above facts s has in
-    let t : Planes = row_by_facts offset row above facts (length facts) s in
-    record {
-      luma = subst (λ p. ChangesWithin (16 * row - 3) (16 * row + 16) s.luma p) (sym (ap (λ (p : Planes). p.luma) (a.is s))) (changes_of (16 * row - 3) (16 * row + 16) a.luma s.luma a.luma_local has.full.luma has.luma_rows);
-      cb = subst (λ p. ChangesWithin (8 * row - 1) (8 * row + 8) s.cb p) (sym (ap (λ (p : Planes). p.cb) (a.is s))) (changes_of (8 * row - 1) (8 * row + 8) a.cb s.cb a.cb_local has.full.cb has.cb_rows);
-      cr = subst (λ p. ChangesWithin (8 * row - 1) (8 * row + 8) s.cr p) (sym (ap (λ (p : Planes). p.cr) (a.is s))) (changes_of (8 * row - 1) (8 * row + 8) a.cr s.cr a.cr_local has.full.cr has.cr_rows);
-    }
+    subst (ChangesInRow row s) (sym (a.is s))
+    (record {
+      luma = changes_of (16 * row - 3) (16 * row + 16) a.luma s.luma a.luma_local has.full.luma has.luma_rows;
+      cb = changes_of (8 * row - 1) (8 * row + 8) a.cb s.cb a.cb_local has.full.cb has.cb_rows;
+      cr = changes_of (8 * row - 1) (8 * row + 8) a.cr s.cr a.cr_local has.full.cr has.cr_rows;
+    })
 
 pub row_reads : (offset : ℤ) (row : ℕ) (above facts : List MbFacts) (s t : Planes) → HasRow row (length facts) s → AgreesToRow row s t →
     AgreesToRow row (row_by_facts offset row above facts (length facts) s) (row_by_facts offset row above facts (length facts) t)
 row_reads offset row above facts s t has agrees =
     let a = acts offset row above facts s has in
-    let l = reads_of (16 * row - 3) (16 * row + 16) a.luma s.luma a.luma_local has.full.luma has.luma_rows t.luma agrees.luma in
-    let b = reads_of (8 * row - 1) (8 * row + 8) a.cb s.cb a.cb_local has.full.cb has.cb_rows t.cb agrees.cb in
-    let r = reads_of (8 * row - 1) (8 * row + 8) a.cr s.cr a.cr_local has.full.cr has.cr_rows t.cr agrees.cr in
     let g : Planes → Planes = row_by_facts offset row above facts (length facts) in
-    let luma : (p : Planes) → (g p).luma ≡ a.luma p.luma = λ p. ap (λ (q : Planes). q.luma) (a.is p) in
-    let cb : (p : Planes) → (g p).cb ≡ a.cb p.cb = λ p. ap (λ (q : Planes). q.cb) (a.is p) in
-    let cr : (p : Planes) → (g p).cr ≡ a.cr p.cr = λ p. ap (λ (q : Planes). q.cr) (a.is p) in
-    record {
-      luma = subst (λ p. AgreesAbove (16 * row + 16) p (g t).luma) (sym (luma s)) (subst (λ p. AgreesAbove (16 * row + 16) (a.luma s.luma) p) (sym (luma t)) l);
-      cb = subst (λ p. AgreesAbove (8 * row + 8) p (g t).cb) (sym (cb s)) (subst (λ p. AgreesAbove (8 * row + 8) (a.cb s.cb) p) (sym (cb t)) b);
-      cr = subst (λ p. AgreesAbove (8 * row + 8) p (g t).cr) (sym (cr s)) (subst (λ p. AgreesAbove (8 * row + 8) (a.cr s.cr) p) (sym (cr t)) r);
-    }
+    let built : Planes → Planes = λ p. three (a.luma p.luma) (a.cb p.cb) (a.cr p.cr) in
+    subst (λ p. AgreesToRow row p (g t)) (sym (a.is s))
+    (subst (AgreesToRow row (built s)) (sym (a.is t))
+    (record {
+      luma = reads_of (16 * row - 3) (16 * row + 16) a.luma s.luma a.luma_local has.full.luma has.luma_rows t.luma agrees.luma;
+      cb = reads_of (8 * row - 1) (8 * row + 8) a.cb s.cb a.cb_local has.full.cb has.cb_rows t.cb agrees.cb;
+      cr = reads_of (8 * row - 1) (8 * row + 8) a.cr s.cr a.cr_local has.full.cr has.cr_rows t.cr agrees.cr;
+    }))
+
+module _ (row n : ℕ) (s : Planes) (has : HasRow row n s) (g : Planes → Planes) (a : ActsApart s.luma.width s.cb.width s.cr.width row g) (left top width height : ℕ) (f : ℕ → ℕ → ℕ) where
+  abbrev with_it : Plane → Plane
+  with_it p = with_block p left top width height f
+
+  acts_commute : (k : ℕ) → 16 / luma_per_sample k * (row + 1) ≤ top →
+      three (a.luma (in_component k with_it s).luma) (a.cb (in_component k with_it s).cb) (a.cr (in_component k with_it s).cr)
+      ≡ in_component k with_it (three (a.luma s.luma) (a.cb s.cb) (a.cr s.cr))
+  acts_commute zero below =
+      ap (λ p. three p (a.cb s.cb) (a.cr s.cr)) (commute_of (16 * row - 3) (16 * row + 16) a.luma s.luma a.luma_local has.full.luma has.luma_rows left top width height f (omega arith))
+  acts_commute (suc zero) below =
+      ap (λ p. three (a.luma s.luma) p (a.cr s.cr)) (commute_of (8 * row - 1) (8 * row + 8) a.cb s.cb a.cb_local has.full.cb has.cb_rows left top width height f (omega arith))
+  acts_commute (suc (suc k)) below =
+      ap (λ p. three (a.luma s.luma) (a.cb s.cb) p) (commute_of (8 * row - 1) (8 * row + 8) a.cr s.cr a.cr_local has.full.cr has.cr_rows left top width height f (omega arith))
 
 pub row_commutes : (offset : ℤ) (row : ℕ) (above facts : List MbFacts) (s : Planes) → HasRow row (length facts) s → (k left top width height : ℕ) (f : ℕ → ℕ → ℕ) →
     16 / luma_per_sample k * (row + 1) ≤ top →
     row_by_facts offset row above facts (length facts) (in_component k (λ p. with_block p left top width height f) s)
     ≡ in_component k (λ p. with_block p left top width height f) (row_by_facts offset row above facts (length facts) s)
-row_commutes offset row above facts s has zero left top width height f below =
+row_commutes offset row above facts s has k left top width height f below =
     let a = acts offset row above facts s has in
     let b : Plane → Plane = λ (p : Plane). with_block p left top width height f in
-    a.is (in_component 0 b s)
-    ∙ ap (λ (p : Plane). three p (a.cb s.cb) (a.cr s.cr)) (commute_of (16 * row - 3) (16 * row + 16) a.luma s.luma a.luma_local has.full.luma has.luma_rows left top width height f (omega arith))
-    ∙ sym (ap (in_component 0 b) (a.is s))
-row_commutes offset row above facts s has (suc zero) left top width height f below =
-    let a = acts offset row above facts s has in
-    let b : Plane → Plane = λ (p : Plane). with_block p left top width height f in
-    a.is (in_component 1 b s)
-    ∙ ap (λ (p : Plane). three (a.luma s.luma) p (a.cr s.cr)) (commute_of (8 * row - 1) (8 * row + 8) a.cb s.cb a.cb_local has.full.cb has.cb_rows left top width height f (omega arith))
-    ∙ sym (ap (in_component 1 b) (a.is s))
-row_commutes offset row above facts s has (suc (suc k)) left top width height f below =
-    let a = acts offset row above facts s has in
-    let b : Plane → Plane = λ (p : Plane). with_block p left top width height f in
-    a.is (in_component (suc (suc k)) b s)
-    ∙ ap (λ (p : Plane). three (a.luma s.luma) (a.cb s.cb) p) (commute_of (8 * row - 1) (8 * row + 8) a.cr s.cr a.cr_local has.full.cr has.cr_rows left top width height f (omega arith))
-    ∙ sym (ap (in_component (suc (suc k)) b) (a.is s))
+    a.is (in_component k b s)
+    ∙ acts_commute row (length facts) s has (row_by_facts offset row above facts (length facts)) a left top width height f k below
+    ∙ sym (ap (in_component k b) (a.is s))

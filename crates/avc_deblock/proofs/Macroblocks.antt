@@ -1,9 +1,10 @@
 -- The macroblocks of a row, one after another.
-use Rattle.std.proofs.Common.{◌≡◌, ℕ, zero, suc, ◌+◌, ◌-◌, ◌*◌, ◌%◌, ◌<◌, ◌≤◌, List, [], ◌∷◌, ◌++◌, Bool, true, false, nat_lt, arith, refl, sym, ap, subst, ◌∙◌, append_assoc, length, mul_comm}
+use Rattle.std.proofs.Common.{◌≡◌, ℕ, zero, suc, ◌+◌, ◌-◌, ◌*◌, ◌%◌, ◌<◌, ◌≤◌, List, [], ◌∷◌, ◌++◌, Bool, true, false, nat_lt, arith, refl, sym, ap, subst, ◌∙◌, append-nil, length, mul_comm}
 use Rattle.std.specs.Prelude.{◌==◌, not, ◌&&◌, slice_index_or}
 use Rattle.std.proofs.lemmas.Nat.{mul-add-lt}
 use Rattle.std.specs.List.{range_with_len, flat_map}
 use Rattle.std.proofs.lemmas.Bool.Decides.{nat_tests}
+use Rattle.std.proofs.lemmas.Grind.{flat_map-append}
 use Rattle.avc_types.specs.declared.edges.FilteredEdges.{FilteredEdges}
 use Rattle.avc_types.specs.declared.edges.FilteredEdges.TheVariants.{All, NoEdges, WithinSlice}
 use Rattle.avc_types.specs.Pictures.{Coded}
@@ -67,14 +68,6 @@ range_more : (a n : ℕ) → range_with_len a (suc n) ≡ range_with_len a n ++ 
 range_more a zero = let e : a ≡ a + 0 = omega arith in ap (λ (k : ℕ). k ∷ []) e
 range_more a (suc n) = let e : a + 1 + n ≡ a + suc n = omega arith in ap (λ (l : List ℕ). a ∷ l) (range_more (a + 1) n ∙ ap (λ (k : ℕ). range_with_len (a + 1) n ++ k ∷ []) e)
 
-pub flat_map-append : (f : ℕ → List LineFilter) (xs ys : List ℕ) → flat_map f (xs ++ ys) ≡ flat_map f xs ++ flat_map f ys
-flat_map-append f [] ys = refl
-flat_map-append f (x ∷ xs) ys = ap (λ (l : List LineFilter). f x ++ l) (flat_map-append f xs ys) ∙ sym (append_assoc (f x) (flat_map f xs) (flat_map f ys))
-
-append_none : (xs : List LineFilter) → xs ++ [] ≡ xs
-append_none [] = refl
-append_none (x ∷ xs) = ap (λ (l : List LineFilter). x ∷ l) (append_none xs)
-
 pub one_more : (c : Coded) (motion : List (List Motion)) (first n m : ℕ) (s t u : Planes) → m ≡ n + 1 → t ≡ all_filtered c motion s (flat_map (mb_lines c) (range_with_len first n)) →
     u ≡ planes_mb c motion (first + n) t → u ≡ all_filtered c motion s (flat_map (mb_lines c) (range_with_len first m))
 one_more c motion first n m s t u next before here =
@@ -84,7 +77,7 @@ one_more c motion first n m s t u next before here =
     ∙ sym (mb_in_order c motion (first + n) t)
     ∙ ap (λ (p : Planes). all_filtered c motion p (mb_lines c (first + n))) before
     ∙ sym (all_filtered-append c motion s lines (mb_lines c (first + n)))
-    ∙ ap (λ (l : List LineFilter). all_filtered c motion s (lines ++ l)) (sym (append_none (mb_lines c (first + n))))
+    ∙ ap (λ (l : List LineFilter). all_filtered c motion s (lines ++ l)) (sym (append-nil (mb_lines c (first + n))))
     ∙ ap (all_filtered c motion s) (sym (flat_map-append (mb_lines c) (range_with_len first n) ((first + n) ∷ [])))
     ∙ ap (λ (l : List ℕ). all_filtered c motion s (flat_map (mb_lines c) l)) (sym (range_more first n) ∙ ap (range_with_len first) (sym suc_is))
 
@@ -108,7 +101,7 @@ row_more c n =
     let e : 0 + n ≡ n = omega arith in
     ap (flat_map (row_lines c)) (range_more 0 n ∙ ap (λ (k : ℕ). range_with_len 0 n ++ k ∷ []) e)
     ∙ flat_map-append (row_lines c) (range_with_len 0 n) (n ∷ [])
-    ∙ ap (λ (l : List LineFilter). flat_map (row_lines c) (range_with_len 0 n) ++ l) (append_none (row_lines c n))
+    ∙ ap (λ (l : List LineFilter). flat_map (row_lines c) (range_with_len 0 n) ++ l) (append-nil (row_lines c n))
 
 -- the lines of the first rows are those of their macroblocks
 pub rows_are_all : (c : Coded) (n : ℕ) → flat_map (row_lines c) (range_with_len 0 n) ≡ flat_map (mb_lines c) (range_with_len 0 (n * c.width))

@@ -1,5 +1,5 @@
 -- The lines of one edge, as a block of a plane that is changed.
-use Rattle.std.proofs.Common.{◌≡◌, ◌≢◌, ℕ, ◌+◌, ◌-◌, ◌*◌, ◌/◌, ◌%◌, ◌<◌, ◌≤◌, List, [], ◌∷◌, true, false, length, slice_index, slice_set, arith, refl, sym, ap, ◌∙◌, ⊎_elim, mul_comm}
+use Rattle.std.proofs.Common.{◌≡◌, ◌≢◌, ℕ, ◌+◌, ◌-◌, ◌*◌, ◌/◌, ◌%◌, ◌<◌, ◌≤◌, List, [], ◌∷◌, Bool, true, false, length, slice_index, slice_set, arith, refl, sym, ap, ◌∙◌, ⊎_elim, mul_comm}
 use Rattle.std.specs.Prelude.{if◌then◌else◌}
 use Rattle.std.specs.List.{range_with_len}
 use Rattle.std.proofs.lemmas.Bool.{cases_lt}
@@ -12,8 +12,8 @@ use Rattle.avc_deblock.specs.Line.{Line, Setting, filtered}
 use Rattle.avc_deblock.specs.Rows.{line_of}
 use Rattle.avc_deblock.specs.Edges.{line_at, with_line}
 use Rattle.avc_deblock.specs.OneEdge.{lines_filtered, edge_filtered}
-use Rattle.avc_deblock.proofs.Blocks.{same_line, same_samples}
-use Rattle.avc_deblock.proofs.Strided.{six_set, strided, all_set, length-all_set, untouched, each_line, each_sample}
+use Rattle.avc_deblock.proofs.Samples.{same_line, same_samples, each_sample}
+use Rattle.avc_deblock.proofs.Strided.{sets, six_set, strided, all_set, length-all_set, untouched, each_line}
 
 -- ---- one line
 
@@ -32,6 +32,7 @@ vertical_line s left y =
     (ap (slice_index s.samples) (omega arith)) (ap (slice_index s.samples) (omega arith)) (ap (slice_index s.samples) (omega arith)) (ap (slice_index s.samples) (omega arith))
 
 vertical_set : (s : Plane) (left y : ℕ) (l : Line) → with_line s true (left + 4) y l ≡ with_samples s (six_set s.samples (y * s.width + left) 1 l)
+unfolding sets
 vertical_set s left y l =
     ap (with_samples s) (six_places s.samples l _ _ _ _ _ _ _ _ _ _ _ _ (omega arith) (omega arith) (omega arith) (omega arith) (omega arith) (omega arith))
 
@@ -49,6 +50,7 @@ horizontal_line s x top =
     (ap (slice_index s.samples) (down top s.width x _ 6 (omega arith))) (ap (slice_index s.samples) (down top s.width x _ 7 (omega arith)))
 
 horizontal_set : (s : Plane) (x top : ℕ) (l : Line) → with_line s false x (top + 4) l ≡ with_samples s (six_set s.samples (top * s.width + x) s.width l)
+unfolding sets
 horizontal_set s x top l =
     ap (with_samples s)
     (six_places s.samples l _ _ _ _ _ _ _ _ _ _ _ _ (down top s.width x _ 1 (omega arith)) (down top s.width x _ 2 (omega arith)) (down top s.width x _ 3 (omega arith))
@@ -76,15 +78,30 @@ horizontal_lines setting left top (i ∷ is) s =
     (ap (λ l. with_line s false (left + i) (top + 4) (filtered (setting i) l)) (horizontal_line s (left + i) top) ∙ horizontal_set s (left + i) top (filtered (setting i) (strided s.samples from s.width)))
     ∙ horizontal_lines setting left top is (with_samples s (six_set s.samples from s.width (filtered (setting i) (strided s.samples from s.width))))
 
+-- where line i begins in the list, four samples before the edge
+abbrev pub line_from : Bool → (w x y : ℕ) → ℕ → ℕ
+line_from true w x y i = (y + i) * w + (x - 4)
+line_from false w x y i = (y - 4) * w + (x + i)
+
+pub edge_shown : (setting : ℕ → Setting) (v : Bool) (x y n : ℕ) (s : Plane) → (v ≡ true → 4 ≤ x) → (v ≡ false → 4 ≤ y) →
+    edge_filtered setting v x y n s ≡ with_samples s (all_set setting (line_from v s.width x y) (if v then 1 else s.width) (range_with_len 0 n) s.samples)
+unfolding edge_filtered
+edge_shown setting true x y n s far low =
+    let four = far refl in
+    ap (λ u. lines_filtered setting true u y (range_with_len 0 n) s) (let e : x ≡ (x - 4) + 4 = omega arith in e) ∙ vertical_lines setting (x - 4) y (range_with_len 0 n) s
+edge_shown setting false x y n s far low =
+    let four = low refl in
+    ap (λ u. lines_filtered setting false x u (range_with_len 0 n) s) (let e : y ≡ (y - 4) + 4 = omega arith in e) ∙ horizontal_lines setting x (y - 4) (range_with_len 0 n) s
+
 -- ---- the block that they change
 
-some_column : (k width height : ℕ) → k < width * height → 0 < width
+pub some_column : (k width height : ℕ) → k < width * height → 0 < width
 some_column k width height below = ⊎_elim
     (λ less. less)
     (λ none. let e : width ≡ 0 = omega arith in absurd (omega (arith, ap (λ w. w * height) e)))
     (cases_lt 0 width)
 
-row_of : (k width height : ℕ) → k < width * height → k / width < height
+pub row_of : (k width height : ℕ) → k < width * height → k / width < height
 row_of k width height below = (div-lt_iff_lt-mul (some_column k width height below)).1 (omega (arith, mul_comm width height))
 
 -- A list is the plane with a block changed, if it is so at each place.
@@ -105,94 +122,70 @@ block_is s ys left top width height f long in_it out =
     ∙ by_place (λ t. slice_index ys (b * s.width + a) ≡ (if t then f (a - left) (b - top) else sample s a b)) left top width height a b
     (in_it a b column row) (out a b column row)))
 
--- the sample of a line in the list
-sample_at : (setting : ℕ → Setting) (from : ℕ → ℕ) (step n size : ℕ) → 1 ≤ step → ((i : ℕ) → i < n → from i + 7 * step < size) →
-    ((i j : ℕ) → i < j → j < n → (k m : ℕ) → k < 8 → m < 8 → from i + k * step ≢ from j + m * step) →
-    (xs : List ℕ) → length xs ≡ size → (g : ℕ → ℕ → ℕ) →
-    ((i : ℕ) → i < n → filtered (setting i) (strided xs (from i) step) ≡ line_of (λ k. g i k)) →
-    (i k j : ℕ) → i < n → k < 8 → j ≡ from i + k * step → slice_index (all_set setting from step (range_with_len 0 n) xs) j ≡ g i k
-sample_at setting from step n size positive within apart xs long g lines i k j i_low k_low e =
-    ap (slice_index (all_set setting from step (range_with_len 0 n) xs)) e
-    ∙ each_sample (λ m. slice_index (all_set setting from step (range_with_len 0 n) xs) (from i + m * step)) (λ m. g i m)
-    (each_line setting from step n size positive within apart 0 n i xs (omega arith) long (omega arith) (omega arith) ∙ lines i i_low) k k_low
+-- n lines of eight samples, sample k of line i at (column i k, row i k), that fill a block
+module _ (setting : ℕ → Setting) (from : ℕ → ℕ) (step n left top width height : ℕ) (s : Plane) (f g column row : ℕ → ℕ → ℕ)
+    (long : length s.samples ≡ s.width * s.height) (positive : 1 ≤ step) (columns : left + width ≤ s.width) (rows : top + height ≤ s.height)
+    (place : (i k : ℕ) → from i + k * step ≡ row i k * s.width + column i k)
+    (in_block : (i k : ℕ) → i < n → k < 8 → (left ≤ column i k) × (column i k < left + width) × (top ≤ row i k) × (row i k < top + height))
+    (one_line : (i j k m : ℕ) → column i k ≡ column j m → row i k ≡ row j m → k < 8 → m < 8 → i ≡ j)
+    (covered : (a b : ℕ) → left ≤ a → a < left + width → top ≤ b → b < top + height →
+    (i : ℕ) × (k : ℕ) × (i < n) × (k < 8) × (a ≡ column i k) × (b ≡ row i k) × (f (a - left) (b - top) ≡ g i k))
+    (lines : (i : ℕ) → i < n → filtered (setting i) (line_of (λ k. sample s (column i k) (row i k))) ≡ line_of (λ k. g i k)) where
+  within : (i : ℕ) → i < n → from i + 7 * step < s.width * s.height
+  within i low =
+      let h = in_block i 7 low (omega arith) in
+      omega (arith, place i 7, mul-add-lt (row i 7) s.width (column i 7) s.height (omega (arith, h.3)) (omega (arith, h.1)))
+
+  apart : (i j : ℕ) → i < j → j < n → (k m : ℕ) → k < 8 → m < 8 → from i + k * step ≢ from j + m * step
+  apart i j less low k m k_low m_low e =
+      let h = in_block i k (omega arith) k_low in
+      let u = in_block j m low m_low in
+      let same = same_from_place (row i k) (column i k) (row j m) (column j m) s.width (omega (arith, h.1)) (omega (arith, u.1)) (sym (place i k) ∙ e ∙ place j m) in
+      omega (arith, one_line i j k m same.1 same.0 k_low m_low)
+
+  abbrev changed : List ℕ
+  changed = all_set setting from step (range_with_len 0 n) s.samples
+
+  set_at : (i k : ℕ) → i < n → k < 8 → slice_index changed (row i k * s.width + column i k) ≡ g i k
+  set_at i k i_low k_low =
+      ap (slice_index changed) (sym (place i k))
+      ∙ each_sample (λ m. slice_index changed (from i + m * step)) (g i)
+      (each_line setting from step n (s.width * s.height) positive within apart 0 n i s.samples (omega arith) long (omega arith) (omega arith)
+      ∙ ap (filtered (setting i)) (same_samples (λ m. slice_index s.samples (from i + m * step)) (λ m. sample s (column i m) (row i m)) (λ m low. ap (slice_index s.samples) (place i m)))
+      ∙ lines i i_low) k k_low
+
+  lines_block : with_samples s changed ≡ with_block s left top width height f
+  lines_block =
+      block_is s changed left top width height f (length-all_set setting from step n (s.width * s.height) positive within apart (range_with_len 0 n) s.samples ∙ long)
+      (λ a b a_in b_in a_low a_high b_low b_high.
+      let h = covered a b a_low a_high b_low b_high in
+      ap (λ m. slice_index changed (m * s.width + a)) h.5 ∙ ap (λ m. slice_index changed (row h.0 h.1 * s.width + m)) h.4 ∙ set_at h.0 h.1 h.2 h.3 ∙ sym h.6)
+      (λ a b a_in b_in outside.
+      untouched setting from step n (s.width * s.height) positive within apart 0 n s.samples (b * s.width + a)
+      (λ i k low high k_low e.
+      let h = in_block i k (omega arith) k_low in
+      let same = same_from_place b a (row i k) (column i k) s.width a_in (omega (arith, h.1)) (e ∙ place i k) in
+      outside (omega (arith, h.0, same.1)) (omega (arith, h.1, same.1)) (omega (arith, h.2, same.0)) (omega (arith, h.3, same.0))))
 
 module _ (setting : ℕ → Setting) (left top n : ℕ) (s : Plane) (long : length s.samples ≡ s.width * s.height) (f : ℕ → ℕ → ℕ) where
   -- a block of n rows of eight samples
-  module _ (columns : left + 8 ≤ s.width) (rows : top + n ≤ s.height)
-      (lines : (i : ℕ) → i < n → filtered (setting i) (line_of (λ k. sample s (left + k) (top + i))) ≡ line_of (λ k. f k i)) where
-    v_from : ℕ → ℕ
-    v_from i = (top + i) * s.width + left
-
-    v_within : (i : ℕ) → i < n → v_from i + 7 * 1 < s.width * s.height
-    unfolding v_from
-    v_within i low = omega (arith, mul-add-lt (top + i) s.width (left + 7) s.height (omega arith) (omega arith))
-
-    v_apart : (i j : ℕ) → i < j → j < n → (k m : ℕ) → k < 8 → m < 8 → v_from i + k * 1 ≢ v_from j + m * 1
-    unfolding v_from
-    v_apart i j less low k m k_low m_low e =
-        let same = same_from_place (top + i) (left + k) (top + j) (left + m) s.width (omega arith) (omega arith) (omega (arith, e)) in
-        omega (arith, same.0)
-
-    v_line : (i : ℕ) → line_of (λ k. sample s (left + k) (top + i)) ≡ strided s.samples (v_from i) 1
-    unfolding v_from
-    v_line i = same_samples (λ k. sample s (left + k) (top + i)) (λ k. slice_index s.samples (v_from i + k * 1)) (λ k low. ap (slice_index s.samples) (omega arith))
-
-    pub vertical_block : edge_filtered setting true (left + 4) top n s ≡ with_block s left top 8 n f
-    unfolding v_from edge_filtered
-    vertical_block =
-        let ys = all_set setting v_from 1 (range_with_len 0 n) s.samples in
-        vertical_lines setting left top (range_with_len 0 n) s
-        ∙ block_is s ys left top 8 n f (length-all_set setting v_from 1 n (s.width * s.height) (omega arith) v_within v_apart (range_with_len 0 n) s.samples ∙ long)
-        (λ a b column row a_low a_high b_low b_high.
-        sample_at setting v_from 1 n (s.width * s.height) (omega arith) v_within v_apart s.samples long (λ i k. f k i)
-        (λ i low. ap (filtered (setting i)) (sym (v_line i)) ∙ lines i low)
-        (b - top) (a - left) (b * s.width + a) (omega arith) (omega arith)
-        (ap (λ r. r * s.width + a) (let e : b ≡ top + (b - top) = omega arith in e) ∙ omega arith))
-        (λ a b column row outside.
-        untouched setting v_from 1 n (s.width * s.height) (omega arith) v_within v_apart 0 n s.samples (b * s.width + a)
-        (λ i k low high k_low e.
-        let same = same_from_place b a (top + i) (left + k) s.width column (omega arith) (omega (arith, e)) in
-        let row_is : b ≡ top + i = same.0 in
-        let column_is : a ≡ left + k = same.1 in
-        outside (omega arith) (omega arith) (omega arith) (omega arith)))
+  pub vertical_block : left + 8 ≤ s.width → top + n ≤ s.height →
+      ((i : ℕ) → i < n → filtered (setting i) (line_of (λ k. sample s (left + k) (top + i))) ≡ line_of (λ k. f k i)) →
+      edge_filtered setting true (left + 4) top n s ≡ with_block s left top 8 n f
+  unfolding edge_filtered
+  vertical_block columns rows lines =
+      vertical_lines setting left top (range_with_len 0 n) s
+      ∙ lines_block setting (λ i. (top + i) * s.width + left) 1 n left top 8 n s f (λ i k. f k i) (λ i k. left + k) (λ i k. top + i) long (omega arith) columns rows
+      (λ i k. omega arith) (λ i k low k_low. (omega arith, omega arith, omega arith, omega arith)) (λ i j k m e h k_low m_low. omega arith)
+      (λ a b p q r u. (b - top, a - left, omega arith, omega arith, omega arith, omega arith, refl)) lines
 
   -- a block of eight rows of n samples
-  module _ (columns : left + n ≤ s.width) (rows : top + 8 ≤ s.height) (some : 1 ≤ n)
-      (lines : (i : ℕ) → i < n → filtered (setting i) (line_of (λ k. sample s (left + i) (top + k))) ≡ line_of (λ k. f i k)) where
-    h_from : ℕ → ℕ
-    h_from i = top * s.width + (left + i)
-
-    h_place : (i k : ℕ) → h_from i + k * s.width ≡ (top + k) * s.width + (left + i)
-    unfolding h_from
-    h_place i k = omega arith
-
-    h_within : (i : ℕ) → i < n → h_from i + 7 * s.width < s.width * s.height
-    h_within i low = omega (arith, h_place i 7, mul-add-lt (top + 7) s.width (left + i) s.height (omega arith) (omega arith))
-
-    h_apart : (i j : ℕ) → i < j → j < n → (k m : ℕ) → k < 8 → m < 8 → h_from i + k * s.width ≢ h_from j + m * s.width
-    h_apart i j less low k m k_low m_low e =
-        let same = same_from_place (top + k) (left + i) (top + m) (left + j) s.width (omega arith) (omega arith) (sym (h_place i k) ∙ e ∙ h_place j m) in
-        omega (arith, same.1)
-
-    h_line : (i : ℕ) → line_of (λ k. sample s (left + i) (top + k)) ≡ strided s.samples (h_from i) s.width
-    h_line i =
-        same_samples (λ k. sample s (left + i) (top + k)) (λ k. slice_index s.samples (h_from i + k * s.width)) (λ k low. ap (slice_index s.samples) (sym (h_place i k)))
-
-    pub horizontal_block : edge_filtered setting false left (top + 4) n s ≡ with_block s left top n 8 f
-    unfolding h_from edge_filtered
-    horizontal_block =
-        let ys = all_set setting h_from s.width (range_with_len 0 n) s.samples in
-        horizontal_lines setting left top (range_with_len 0 n) s
-        ∙ block_is s ys left top n 8 f (length-all_set setting h_from s.width n (s.width * s.height) (omega arith) h_within h_apart (range_with_len 0 n) s.samples ∙ long)
-        (λ a b column row a_low a_high b_low b_high.
-        sample_at setting h_from s.width n (s.width * s.height) (omega arith) h_within h_apart s.samples long (λ i k. f i k)
-        (λ i low. ap (filtered (setting i)) (sym (h_line i)) ∙ lines i low)
-        (a - left) (b - top) (b * s.width + a) (omega arith) (omega arith)
-        (ap (λ r. r * s.width + a) (let e : b ≡ top + (b - top) = omega arith in e) ∙ ap (λ c. (top + (b - top)) * s.width + c) (let e : a ≡ left + (a - left) = omega arith in e) ∙ sym (h_place (a - left) (b - top))))
-        (λ a b column row outside.
-        untouched setting h_from s.width n (s.width * s.height) (omega arith) h_within h_apart 0 n s.samples (b * s.width + a)
-        (λ i k low high k_low e.
-        let same = same_from_place b a (top + k) (left + i) s.width column (omega arith) (e ∙ h_place i k) in
-        let row_is : b ≡ top + k = same.0 in
-        let column_is : a ≡ left + i = same.1 in
-        outside (omega arith) (omega arith) (omega arith) (omega arith)))
+  pub horizontal_block : left + n ≤ s.width → top + 8 ≤ s.height → 1 ≤ n →
+      ((i : ℕ) → i < n → filtered (setting i) (line_of (λ k. sample s (left + i) (top + k))) ≡ line_of (λ k. f i k)) →
+      edge_filtered setting false left (top + 4) n s ≡ with_block s left top n 8 f
+  unfolding edge_filtered
+  horizontal_block columns rows some lines =
+      horizontal_lines setting left top (range_with_len 0 n) s
+      ∙ lines_block setting (λ i. top * s.width + (left + i)) s.width n left top n 8 s f f (λ i k. left + i) (λ i k. top + k) long (omega arith) columns rows
+      (λ i k. omega arith) (λ i k low k_low. (omega arith, omega arith, omega arith, omega arith)) (λ i j k m e h k_low m_low. omega arith)
+      (λ a b p q r u. (a - left, b - top, omega arith, omega arith, omega arith, omega arith, refl)) lines

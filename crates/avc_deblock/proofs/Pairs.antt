@@ -4,8 +4,8 @@ use Rattle.avc_plane.specs.Plane.{Plane, sample, with_block}
 use Rattle.avc_deblock.specs.Line.{Setting, filtered}
 use Rattle.avc_deblock.specs.Rows.{line_of, line_down, IsTransposed}
 use Rattle.avc_deblock.specs.OneEdge.{edge_filtered}
-use Rattle.avc_deblock.proofs.Blocks.{same_samples, filtered_across}
-use Rattle.avc_deblock.proofs.Keeps.{chroma_keeps}
+use Rattle.avc_deblock.proofs.Blocks.{filtered_across}
+use Rattle.avc_deblock.proofs.Samples.{same_samples, chroma_keeps}
 use Rattle.avc_deblock.proofs.Within.{within_block}
 use Rattle.avc_deblock.proofs.OnPlane.{vertical_block, horizontal_block}
 

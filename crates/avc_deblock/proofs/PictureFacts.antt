@@ -2,6 +2,7 @@
 use Rattle.std.proofs.Common.{◌≡◌, ◌∙◌, ℕ, ℤ, zero, suc, ◌+◌, ◌-◌, ◌*◌, ◌%◌, ◌<◌, ◌≤◌, List, length, Bool, true, false, nat_lt, arith, refl, sym, ap}
 use Rattle.std.specs.Prelude.{if◌then◌else◌, ◌==◌, ◌&&◌, ◌||◌, not, slice_index_or}
 use Rattle.std.specs.List.{range_with_len, flat_map}
+use Rattle.std.proofs.lemmas.Bool.{and_parts}
 use Rattle.avc_types.specs.Pictures.{Coded}
 use Rattle.avc_neigh.specs.declared.facts.Motion.{Motion}
 use Rattle.avc_plane.specs.Planes.{Planes}
@@ -74,12 +75,8 @@ module _ (c : Coded) (motion : List (List Motion)) (names : Names) (column row a
       inner_is i q hq (if o then edge_by_facts v column row 0 offset p q s else s)
       ∙ ap (λ (t : Planes). if i then planes_edge c motion v a 3 (planes_edge c motion v a 2 (planes_edge c motion v a 1 t)) else t) (outer_is o p q across down hp hq s)
 
-first : (a b : Bool) → (a && b) ≡ true → a ≡ true
-first true b e = refl
-first false b e = e
-
 pub some : (b : Bool) (n : ℕ) → (nat_lt 0 n && b) ≡ true → 1 ≤ n
-some b zero t = let never : nat_lt 0 0 ≡ true = first (nat_lt 0 0) b t in absurd (cc)
+some b zero t = let never : nat_lt 0 0 ≡ true = (and_parts (nat_lt 0 0) b t).0 in absurd (cc)
 some b (suc n) t = omega arith
 
 pub mb_is : (c : Coded) (motion : List (List Motion)) (names : Names) (column row a : ℕ) (at : IsAt c column row a) (offset : ℤ) → c.chroma_qp_index_offset ≡ offset →

@@ -14,41 +14,44 @@ use Rattle.avc_deblock.specs.Facts.{edge_block, p_address, IsAt}
 address_is : (c : Coded) (x y column row : ℕ) → x / 16 ≡ column → y / 16 ≡ row → address_of c x y ≡ row * c.width + column
 address_is c x y column row e f = ap (λ u. (y / 16) * c.width + u) e ∙ ap (λ v. v * c.width + column) f
 
-module _ (c : Coded) (column row a n j : ℕ) (at : IsAt c column row a) (n_low : n < 4) (j_low : j < 16) where
-  pub vertical_q : address_of c (16 * column + 4 * n) (16 * row + j) ≡ a
-  vertical_q = address_is c (16 * column + 4 * n) (16 * row + j) column row (omega arith) (omega arith) ∙ sym at.address
+-- column and row of luma sample j along edge n of a macroblock
+abbrev pub x_along : Bool → (column n j : ℕ) → ℕ
+x_along true column n j = 16 * column + 4 * n
+x_along false column n j = 16 * column + j
 
-  pub horizontal_q : address_of c (16 * column + j) (16 * row + 4 * n) ≡ a
-  horizontal_q = address_is c (16 * column + j) (16 * row + 4 * n) column row (omega arith) (omega arith) ∙ sym at.address
+abbrev pub y_along : Bool → (row n j : ℕ) → ℕ
+y_along true row n j = 16 * row + j
+y_along false row n j = 16 * row + 4 * n
 
-  pub vertical_q_block : block_at ((16 * column + 4 * n) % 16) ((16 * row + j) % 16) ≡ edge_block true n (j / 4)
-  vertical_q_block = omega arith
+-- column and row of the sample on the other side
+abbrev x_before : Bool → ℕ → ℕ
+x_before true x = x - 1
+x_before false x = x
 
-  pub horizontal_q_block : block_at ((16 * column + j) % 16) ((16 * row + 4 * n) % 16) ≡ edge_block false n (j / 4)
-  horizontal_q_block = omega arith
+abbrev y_before : Bool → ℕ → ℕ
+y_before true y = y
+y_before false y = y - 1
 
-  pub vertical_p_block : 1 ≤ 4 * column + n → block_at ((16 * column + 4 * n - 1) % 16) ((16 * row + j) % 16) ≡ edge_block true ((n + 3) % 4) (j / 4)
-  vertical_p_block some = omega arith
+row_back : (row width : ℕ) → 1 ≤ row → row * width ≡ (row - 1) * width + width
+row_back row width some = let back : row ≡ (row - 1) + 1 = omega arith in ap (λ r. r * width) back ∙ omega arith
 
-  pub horizontal_p_block : 1 ≤ 4 * row + n → block_at ((16 * column + j) % 16) ((16 * row + 4 * n - 1) % 16) ≡ edge_block false ((n + 3) % 4) (j / 4)
-  horizontal_p_block some = omega arith
+module _ (c : Coded) (column row a j : ℕ) (at : IsAt c column row a) (j_low : j < 16) where
+  here : (v : Bool) (n : ℕ) → n < 4 → address_of c (x_along v column n j) (y_along v row n j) ≡ a
+  here true n low = address_is c _ _ column row (omega arith) (omega arith) ∙ sym at.address
+  here false n low = address_is c _ _ column row (omega arith) (omega arith) ∙ sym at.address
 
-pub vertical_p : (c : Coded) (column row a n j : ℕ) → IsAt c column row a → n < 4 → j < 16 → 1 ≤ 4 * column + n → address_of c (16 * column + 4 * n - 1) (16 * row + j) ≡ p_address c true n a
-vertical_p c column row a zero j at n_low j_low some =
-    address_is c (16 * column + 4 * 0 - 1) (16 * row + j) (column - 1) row (omega arith) (omega arith)
-    ∙ (let e = at.address in omega arith)
-vertical_p c column row a (suc n) j at n_low j_low some =
-    address_is c (16 * column + 4 * suc n - 1) (16 * row + j) column row (omega arith) (omega arith) ∙ sym at.address
-
-pub horizontal_p : (c : Coded) (column row a n j : ℕ) → IsAt c column row a → n < 4 → j < 16 → 1 ≤ 4 * row + n → address_of c (16 * column + j) (16 * row + 4 * n - 1) ≡ p_address c false n a
-horizontal_p c column row a zero j at n_low j_low some =
-    address_is c (16 * column + j) (16 * row + 4 * 0 - 1) column (row - 1) (omega arith) (omega arith)
-    ∙ (let e = at.address in
-    let back : row ≡ (row - 1) + 1 = omega arith in
-    let rows : row * c.width ≡ ((row - 1) + 1) * c.width = ap (λ r. r * c.width) back in
-    omega (arith, rows))
-horizontal_p c column row a (suc n) j at n_low j_low some =
-    address_is c (16 * column + j) (16 * row + 4 * suc n - 1) column row (omega arith) (omega arith) ∙ sym at.address
+  before : (v : Bool) (n : ℕ) → n < 4 → (v ≡ true → 1 ≤ 4 * column + n) → (v ≡ false → 1 ≤ 4 * row + n) →
+      address_of c (x_before v (x_along v column n j)) (y_before v (y_along v row n j)) ≡ p_address c v n a
+  before true zero low across down =
+      let some = across refl in
+      let e = at.address in
+      address_is c _ _ (column - 1) row (omega arith) (omega arith) ∙ omega arith
+  before false zero low across down =
+      let some = down refl in
+      let e = at.address in
+      address_is c _ _ column (row - 1) (omega arith) (omega arith) ∙ omega (arith, row_back row c.width (omega arith))
+  before true (suc n) low across down = address_is c _ _ column row (omega arith) (omega arith) ∙ sym at.address
+  before false (suc n) low across down = address_is c _ _ column row (omega arith) (omega arith) ∙ sym at.address
 
 -- whether both sides are one macroblock
 pub same_mb : (c : Coded) (v : Bool) (column row a n : ℕ) → IsAt c column row a → (v ≡ true → 1 ≤ 4 * column + n) → (v ≡ false → 1 ≤ 4 * row + n) → (p_address c v n a == a) ≡ not (n == 0)
@@ -61,9 +64,7 @@ same_mb c false column row a zero at across down =
     let some = down refl in
     let e = at.address in
     let w = at.within in
-    let back : row ≡ (row - 1) + 1 = omega arith in
-    let rows : row * c.width ≡ ((row - 1) + 1) * c.width = ap (λ r. r * c.width) back in
-    let ne : a - c.width ≢ a = omega (arith, rows) in
+    let ne : a - c.width ≢ a = omega (arith, row_back row c.width (omega arith)) in
     grind (arith, nat_tests)
 same_mb c v column row a (suc n) at across down =
     let none : (suc n == 0) ≡ false = grind (arith, nat_tests) in
@@ -81,18 +82,18 @@ module _ (c : Coded) (motion : List (List Motion)) (k : ℕ) where
   between pa bp qa bq =
       setting_of (k == 0) (strength_between c motion pa bp qa bq) (component_qp c k pa) (component_qp c k qa) (slice_at c qa).filter_offset_a (slice_at c qa).filter_offset_b
 
-  pub vertical_setting : (u t x y pa bp qa bq : ℕ) → luma_per_sample k * u ≡ x → luma_per_sample k * t ≡ y →
-      address_of c (x - 1) y ≡ pa → block_at ((x - 1) % 16) (y % 16) ≡ bp → address_of c x y ≡ qa → block_at (x % 16) (y % 16) ≡ bq →
-      setting_at c motion (record { component = k; is_vertical = true; x = u; y = t }) ≡ between pa bp qa bq
-  vertical_setting u t x y pa bp qa bq e f p_is pb_is q_is qb_is =
+  -- the setting of the line at luma sample j along edge n
+  pub setting_along : (v : Bool) (column row a n j x y : ℕ) → IsAt c column row a → n < 4 → j < 16 → (v ≡ true → 1 ≤ 4 * column + n) → (v ≡ false → 1 ≤ 4 * row + n) →
+      luma_per_sample k * x ≡ x_along v column n j → luma_per_sample k * y ≡ y_along v row n j →
+      setting_at c motion (record { component = k; is_vertical = v; x = x; y = y })
+      ≡ between (p_address c v n a) (edge_block v ((n + 3) % 4) (j / 4)) a (edge_block v n (j / 4))
+  setting_along true column row a n j x y at low j_low across down e f =
       let G : ℕ → ℕ → Setting = λ X Y. between (address_of c (X - 1) Y) (block_at ((X - 1) % 16) (Y % 16)) (address_of c X Y) (block_at (X % 16) (Y % 16)) in
-      ap (λ X. G X (luma_per_sample k * t)) e ∙ ap (G x) f
-      ∙ four between (address_of c (x - 1) y) (block_at ((x - 1) % 16) (y % 16)) (address_of c x y) (block_at (x % 16) (y % 16)) pa bp qa bq p_is pb_is q_is qb_is
-
-  pub horizontal_setting : (u t x y pa bp qa bq : ℕ) → luma_per_sample k * u ≡ x → luma_per_sample k * t ≡ y →
-      address_of c x (y - 1) ≡ pa → block_at (x % 16) ((y - 1) % 16) ≡ bp → address_of c x y ≡ qa → block_at (x % 16) (y % 16) ≡ bq →
-      setting_at c motion (record { component = k; is_vertical = false; x = u; y = t }) ≡ between pa bp qa bq
-  horizontal_setting u t x y pa bp qa bq e f p_is pb_is q_is qb_is =
+      let some = across refl in
+      ap (λ X. G X (luma_per_sample k * y)) e ∙ ap (G (16 * column + 4 * n)) f
+      ∙ four between _ _ _ _ _ _ _ _ (before c column row a j at j_low true n low across down) (omega arith) (here c column row a j at j_low true n low) (omega arith)
+  setting_along false column row a n j x y at low j_low across down e f =
       let G : ℕ → ℕ → Setting = λ X Y. between (address_of c X (Y - 1)) (block_at (X % 16) ((Y - 1) % 16)) (address_of c X Y) (block_at (X % 16) (Y % 16)) in
-      ap (λ X. G X (luma_per_sample k * t)) e ∙ ap (G x) f
-      ∙ four between (address_of c x (y - 1)) (block_at (x % 16) ((y - 1) % 16)) (address_of c x y) (block_at (x % 16) (y % 16)) pa bp qa bq p_is pb_is q_is qb_is
+      let some = down refl in
+      ap (λ X. G X (luma_per_sample k * y)) e ∙ ap (G (16 * column + j)) f
+      ∙ four between _ _ _ _ _ _ _ _ (before c column row a j at j_low false n low across down) (omega arith) (here c column row a j at j_low false n low) (omega arith)

@@ -1,5 +1,5 @@
 -- Edges whose lines have equal settings, and edges of strength 0.
-use Rattle.std.proofs.Common.{◌≡◌, ℕ, zero, suc, ◌+◌, ◌-◌, ◌*◌, ◌<◌, ◌≤◌, List, [], ◌∷◌, Bool, true, false, slice_index, slice_set, arith, refl, ap, ◌∙◌}
+use Rattle.std.proofs.Common.{◌≡◌, ℕ, zero, suc, ◌+◌, ◌*◌, ◌<◌, ◌≤◌, List, [], ◌∷◌, Bool, true, false, slice_index, slice_set, arith, refl, ap, ◌∙◌}
 use Rattle.std.specs.Prelude.{if◌then◌else◌, ◌==◌, nat_lt, not, ◌&&◌, ◌||◌}
 use Rattle.std.specs.List.{range_with_len}
 use Rattle.std.proofs.lemmas.List.{set-get_or}
@@ -8,9 +8,9 @@ use Rattle.avc_plane.specs.Plane.{Plane}
 use Rattle.avc_deblock.specs.Line.{Line, Setting, filtered, filtered_weakly, filtered_strongly}
 use Rattle.avc_deblock.specs.Edges.{line_filtered}
 use Rattle.avc_deblock.specs.OneEdge.{lines_filtered, edge_filtered}
-use Rattle.avc_deblock.proofs.Strided.{six_set, strided, all_set}
-use Rattle.avc_deblock.proofs.Keeps.{filtered_off}
-use Rattle.avc_deblock.proofs.OnPlane.{with_samples, vertical_lines, horizontal_lines}
+use Rattle.avc_deblock.proofs.Strided.{sets, six_set, strided, all_set}
+use Rattle.avc_deblock.proofs.Samples.{sample_is, filtered_off}
+use Rattle.avc_deblock.proofs.OnPlane.{with_samples, line_from, edge_shown}
 
 -- ---- equal settings
 
@@ -47,33 +47,25 @@ filtered_none s l e =
     ap (λ (n : ℕ). if not (n == 0) && nat_lt (distance l.p0 l.q0) s.alpha && nat_lt (distance l.p1 l.p0) s.beta && nat_lt (distance l.q1 l.q0) s.beta
     then (if s.strength == 4 then filtered_strongly s l else filtered_weakly s l) else l) e
 
-six_kept : (xs : List ℕ) (base step : ℕ) → six_set xs base step (strided xs base step) ≡ xs
-six_kept xs base step =
-    let keep : (ys : List ℕ) (i v : ℕ) → ys ≡ xs → v ≡ slice_index xs i → slice_set ys i v ≡ xs = λ ys i v e h. rw (e, h) (set-get_or xs i 0) in
-    keep _ _ _ (keep _ _ _ (keep _ _ _ (keep _ _ _ (keep _ _ _ (keep xs (base + 1 * step) _ refl refl) refl) refl) refl) refl) refl
+sets_kept : (xs : List ℕ) (base step : ℕ) (f : ℕ → ℕ) (n : ℕ) → ((k : ℕ) → k ≤ n → f k ≡ slice_index xs (base + k * step)) → sets xs base step f n ≡ xs
+unfolding sets
+sets_kept xs base step f zero same = refl
+sets_kept xs base step f (suc n) same =
+    ap (λ ys. slice_set ys (base + suc n * step) (f (suc n))) (sets_kept xs base step f n (λ k low. same k (omega arith)))
+    ∙ ap (slice_set xs (base + suc n * step)) (same (suc n) (omega arith)) ∙ set-get_or xs (base + suc n * step) 0
 
 all_kept : (f : ℕ → Setting) (from : ℕ → ℕ) (step a m : ℕ) (xs : List ℕ) → ((i : ℕ) → i < a + m → (l : Line) → filtered (f i) l ≡ l) → all_set f from step (range_with_len a m) xs ≡ xs
 unfolding all_set
 all_kept f from step a zero xs none = refl
 all_kept f from step a (suc m) xs none =
     ap (λ (l : Line). all_set f from step (range_with_len (a + 1) m) (six_set xs (from a) step l)) (none a (omega arith) (strided xs (from a) step))
-    ∙ ap (all_set f from step (range_with_len (a + 1) m)) (six_kept xs (from a) step)
+    ∙ ap (all_set f from step (range_with_len (a + 1) m)) (sets_kept xs (from a) step _ 6 (λ k low. sample_is (λ j. slice_index xs (from a + j * step)) k (omega arith)))
     ∙ all_kept f from step (a + 1) m xs (λ i low. none i (omega arith))
 
 pub edge_kept : (f : ℕ → Setting) (v : Bool) (x y n : ℕ) (s : Plane) → (v ≡ true → 4 ≤ x) → (v ≡ false → 4 ≤ y) → ((i : ℕ) → i < n → (l : Line) → filtered (f i) l ≡ l) → edge_filtered f v x y n s ≡ s
-unfolding edge_filtered
-edge_kept f true x y n s far low none =
-    let four = far refl in
-    let e : x ≡ (x - 4) + 4 = omega arith in
-    ap (λ (u : ℕ). lines_filtered f true u y (range_with_len 0 n) s) e
-    ∙ vertical_lines f (x - 4) y (range_with_len 0 n) s
-    ∙ ap (with_samples s) (all_kept f (λ i. (y + i) * s.width + (x - 4)) 1 0 n s.samples (λ i less. none i (omega arith)))
-edge_kept f false x y n s far low none =
-    let four = low refl in
-    let e : y ≡ (y - 4) + 4 = omega arith in
-    ap (λ (u : ℕ). lines_filtered f false x u (range_with_len 0 n) s) e
-    ∙ horizontal_lines f x (y - 4) (range_with_len 0 n) s
-    ∙ ap (with_samples s) (all_kept f (λ i. (y - 4) * s.width + (x + i)) s.width 0 n s.samples (λ i less. none i (omega arith)))
+edge_kept f v x y n s far low none =
+    edge_shown f v x y n s far low
+    ∙ ap (with_samples s) (all_kept f (line_from v s.width x y) (if v then 1 else s.width) 0 n s.samples (λ i less. none i (omega arith)))
 
 pub edge_none : (f : ℕ → Setting) (v : Bool) (x y n : ℕ) (s : Plane) → (v ≡ true → 4 ≤ x) → (v ≡ false → 4 ≤ y) → ((i : ℕ) → i < n → (f i).strength ≡ 0) → edge_filtered f v x y n s ≡ s
 edge_none f v x y n s far low none = edge_kept f v x y n s far low (λ i less l. filtered_none (f i) l (none i less))

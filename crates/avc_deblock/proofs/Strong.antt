@@ -4,6 +4,7 @@ use Rattle.std.proofs.lemmas.Int.{ints}
 use Rattle.avc_types.specs.Arithmetic.{distance}
 use Rattle.avc_deblock.specs.Line.{Setting, Line, mirrored, filtered, filtered_strongly, strong_p0, strong_p1, strong_p2}
 use Rattle.avc_deblock.specs.Rows.{line, IsStrong, strong_at}
+use Rattle.avc_deblock.proofs.Weak.{any_at}
 
 -- the new samples, from whether the line is filtered
 pub record IsMoved (s : Setting) (l : Line) (on : Bool) (n2 n1 n0 m0 m1 m2 : ℕ) : Type 0 where
@@ -18,9 +19,6 @@ moved : (s : Setting) (l : Line) (on : Bool) (n2 n1 n0 m0 m1 m2 : ℕ) → IsMov
     (if on then filtered_strongly s l else l) ≡ line l.p3 n2 n1 n0 m0 m1 m2 l.q3
 moved s l true n2 n1 n0 m0 m1 m2 h = rw (h.p0_is, h.p1_is, h.p2_is, h.q0_is, h.q1_is, h.q2_is) refl
 moved s l false n2 n1 n0 m0 m1 m2 h = rw (h.p0_is, h.p1_is, h.p2_is, h.q0_is, h.q1_is, h.q2_is) refl
-
-abbrev any_at : (f : Bool) (n a b t : ℕ) → Setting
-any_at f n a b t = record { is_luma = f; strength = n; alpha = a; beta = b; tc0 = t }
 
 setting_is : (s : Setting) (alpha beta : ℕ) → IsStrong s alpha beta → s ≡ strong_at alpha beta s.tc0
 setting_is s alpha beta w =
@@ -45,10 +43,7 @@ either_nearest false near up f x y v e = rw e refl
 
 pub either_other : (on near up f : Bool) (x v : ℕ) → f ≡ (on && near && up) →
     (if f then x else v) ≡ (if on then (if up && near then x else v) else v)
-either_other true true true f x v e = rw e refl
-either_other true true false f x v e = rw e refl
-either_other true false true f x v e = rw e refl
-either_other true false false f x v e = rw e refl
+either_other true near up f x v e = either_nearest true near up f x v v e
 either_other false near up f x v e = rw e refl
 
 pub turned : (a b : ℕ) → distance a b ≡ distance b a

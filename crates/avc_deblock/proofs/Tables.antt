@@ -1,43 +1,29 @@
 -- The numbers of a table are small.
-use Rattle.std.proofs.Common.{◌≡◌, ℕ, zero, suc, ◌+◌, ◌*◌, ◌/◌, ◌%◌, ◌<◌, ◌≤◌, Bool, true, false, ◌&&◌, List, [], ◌∷◌, arith, refl, ap, ◌∙◌, below_more}
+use Rattle.std.proofs.Common.{◌≡◌, ℕ, zero, suc, ◌+◌, ◌*◌, ◌/◌, ◌%◌, ◌<◌, ◌≤◌, Bool, true, ◌&&◌, List, [], ◌∷◌, arith, refl, ap, ◌∙◌, below_more}
 use Rattle.std.specs.Prelude.{nat_le, slice_index, ◌==◌}
 use Rattle.avc_deblock.specs.Line.{alpha_of, beta_of, tc0_of}
 use Rattle.avc_deblock.specs.OneEdge.{tc1_of}
-use Rattle.std.proofs.lemmas.Bool.Decides.{nat_tests}
+use Rattle.std.proofs.lemmas.Bool.{and_parts, eqb-true, leb-true}
 
 abbrev pub are_at_most : ℕ → List ℕ → Bool
 are_at_most n [] = true
 are_at_most n (x ∷ xs) = nat_le x n && are_at_most n xs
 
-first_of : (a b : Bool) → (a && b) ≡ true → a ≡ true
-first_of true b e = refl
-first_of false b e = e
-
-second_of : (a b : Bool) → (a && b) ≡ true → b ≡ true
-second_of true b e = e
-second_of false true e = refl
-second_of false false e = e
-
-le_of : (x n : ℕ) → nat_le x n ≡ true → x ≤ n
-le_of x n e = grind (arith, nat_tests)
-
 pub at_most : (n : ℕ) (xs : List ℕ) (k : ℕ) → are_at_most n xs ≡ true → slice_index xs k ≤ n
 at_most n [] k e = omega arith
-at_most n (x ∷ xs) zero e = le_of x n (first_of (nat_le x n) (are_at_most n xs) e)
-at_most n (x ∷ xs) (suc k) e = at_most n xs k (second_of (nat_le x n) (are_at_most n xs) e)
+at_most n (x ∷ xs) zero e = leb-true x n (and_parts (nat_le x n) (are_at_most n xs) e).0
+at_most n (x ∷ xs) (suc k) e = at_most n xs k (and_parts (nat_le x n) (are_at_most n xs) e).1
 
 -- Equal lists of numbers, by computing.
 abbrev pub are_same_below : ℕ → (ℕ → ℕ) → (ℕ → ℕ) → Bool
 are_same_below zero f g = true
 are_same_below (suc n) f g = (f n == g n) && are_same_below n f g
 
-same_of : (x y : ℕ) → (x == y) ≡ true → x ≡ y
-same_of x y e = grind (arith, nat_tests)
-
 pub same_below : (n : ℕ) (f g : ℕ → ℕ) → are_same_below n f g ≡ true → (k : ℕ) → k < n → f k ≡ g k
 same_below zero f g e k h = absurd (omega arith)
 same_below (suc n) f g e k h =
-    below_more (λ (k : ℕ). f k ≡ g k) n (same_below n f g (second_of (f n == g n) (are_same_below n f g) e)) (same_of (f n) (g n) (first_of (f n == g n) (are_same_below n f g) e)) k (omega arith)
+    let both = and_parts (f n == g n) (are_same_below n f g) e in
+    below_more (λ (k : ℕ). f k ≡ g k) n (same_below n f g both.1) (eqb-true (f n) (g n) both.0) k (omega arith)
 
 abbrev alphas : List ℕ
 alphas = 0 ∷ 0 ∷ 0 ∷ 0 ∷ 0 ∷ 0 ∷ 0 ∷ 0 ∷ 0 ∷ 0 ∷ 0 ∷ 0 ∷ 0 ∷ 0 ∷ 0 ∷ 0 ∷ 4 ∷ 4 ∷ 5 ∷ 6 ∷ 7 ∷ 8 ∷ 9 ∷ 10 ∷ 12 ∷ 13 ∷ 15 ∷ 17 ∷ 20 ∷ 22 ∷ 25 ∷ 28 ∷ 32 ∷ 36 ∷ 40 ∷ 45 ∷ 50 ∷ 56 ∷ 63 ∷ 71 ∷ 80 ∷ 90 ∷ 101 ∷ 113 ∷ 127 ∷ 144 ∷ 162 ∷ 182 ∷ 203 ∷ 226 ∷ 255 ∷ 255 ∷ []

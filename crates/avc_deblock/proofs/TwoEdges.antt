@@ -4,13 +4,13 @@ use Rattle.std.specs.Prelude.{if◌then◌else◌}
 use Rattle.std.proofs.lemmas.Bool.{cases_lt}
 use Rattle.avc_plane.specs.Plane.{Plane, sample, with_block, is_inside}
 use Rattle.avc_plane.proofs.Rectangles.{by_place}
-use Rattle.avc_plane.proofs.Blocks.{plane_of_same, inside}
-use Rattle.avc_plane.proofs.PlaneMaps.{sample-with_block, length-plane_of}
+use Rattle.avc_plane.proofs.Blocks.{plane_of_same}
+use Rattle.avc_plane.proofs.PlaneMaps.{length-plane_of}
 use Rattle.avc_deblock.specs.Line.{Setting, filtered}
 use Rattle.avc_deblock.specs.Rows.{line, line_near, IsTransposed, IsNearSet}
 use Rattle.avc_deblock.specs.OneEdge.{edge_filtered}
-use Rattle.avc_deblock.proofs.Blocks.{same_line}
-use Rattle.avc_deblock.proofs.Within.{within_block}
+use Rattle.avc_deblock.proofs.Samples.{same_line, each_of_eight, sample_of}
+use Rattle.avc_deblock.proofs.Within.{inside_block, outside_block, within_block}
 use Rattle.avc_deblock.proofs.OnPlane.{vertical_block}
 
 -- a block that covers one that was changed before
@@ -21,22 +21,13 @@ covered s l t w h l' w' f k from to =
     (λ x y. if is_inside l t w h x y then k (x - l) (y - t) else sample s x y)
     (λ x y column row.
     by_place (λ (b : Bool). (if b then k (x - l) (y - t) else sample (with_block s l' t w' h f) x y) ≡ (if b then k (x - l) (y - t) else sample s x y)) l t w h x y
-    (λ p q r u. refl)
-    (λ out.
-    sample-with_block s l' t w' h f x y column row
-    ∙ by_place (λ (b : Bool). (if b then f (x - l') (y - t) else sample s x y) ≡ sample s x y) l' t w' h x y
-    (λ p q r u. absurd (out (omega arith) (omega arith) r u)) (λ none. refl)))
+    (λ p q r u. refl) (λ out. outside_block s l' t w' h f x y column row (λ p q. out (omega arith) (omega arith))))
 
 -- the samples of a line across an edge, of which the four in the middle are anew
 abbrev across_edge : (s : Plane) (left top : ℕ) (g : ℕ → ℕ → ℕ) → ℕ → ℕ → ℕ
-across_edge s left top g zero y = sample s (left + 0) (top + y)
-across_edge s left top g (suc zero) y = sample s (left + 1) (top + y)
-across_edge s left top g (suc (suc zero)) y = g 0 y
-across_edge s left top g (suc (suc (suc zero))) y = g 1 y
-across_edge s left top g (suc (suc (suc (suc zero)))) y = g 2 y
-across_edge s left top g (suc (suc (suc (suc (suc zero))))) y = g 3 y
-across_edge s left top g (suc (suc (suc (suc (suc (suc zero)))))) y = sample s (left + 6) (top + y)
-across_edge s left top g (suc (suc (suc (suc (suc (suc (suc k))))))) y = sample s (left + 7) (top + y)
+across_edge s left top g x y =
+    let old : ℕ → ℕ = λ k. sample s (left + k) (top + y) in
+    sample_of (line (old 0) (old 1) (g 0 y) (g 1 y) (g 2 y) (g 3 y) (old 6) (old 7)) x
 
 module _ (s : Plane) (left top : ℕ) (g : ℕ → ℕ → ℕ) where
   new_samples : (x y : ℕ) → x < 4 → g x y ≡ across_edge s left top g (2 + x) y
@@ -47,15 +38,10 @@ module _ (s : Plane) (left top : ℕ) (g : ℕ → ℕ → ℕ) where
   new_samples (suc (suc (suc (suc k)))) y low = absurd (omega arith)
 
   old_samples : (x y : ℕ) → x < 8 → (2 ≤ x → x < 6 → ⊥) → across_edge s left top g x y ≡ sample s (left + x) (top + y)
-  old_samples zero y low out = refl
-  old_samples (suc zero) y low out = refl
-  old_samples (suc (suc zero)) y low out = absurd (out (omega arith) (omega arith))
-  old_samples (suc (suc (suc zero))) y low out = absurd (out (omega arith) (omega arith))
-  old_samples (suc (suc (suc (suc zero)))) y low out = absurd (out (omega arith) (omega arith))
-  old_samples (suc (suc (suc (suc (suc zero))))) y low out = absurd (out (omega arith) (omega arith))
-  old_samples (suc (suc (suc (suc (suc (suc zero)))))) y low out = refl
-  old_samples (suc (suc (suc (suc (suc (suc (suc zero))))))) y low out = refl
-  old_samples (suc (suc (suc (suc (suc (suc (suc (suc k)))))))) y low out = absurd (omega arith)
+  old_samples x y low out =
+      each_of_eight (λ x. (2 ≤ x → x < 6 → ⊥) → across_edge s left top g x y ≡ sample s (left + x) (top + y)) (λ out. refl) (λ out. refl)
+      (λ out. absurd (out (omega arith) (omega arith))) (λ out. absurd (out (omega arith) (omega arith)))
+      (λ out. absurd (out (omega arith) (omega arith))) (λ out. absurd (out (omega arith) (omega arith))) (λ out. refl) (λ out. refl) x low out
 
 -- the four columns about an edge, where no line reads more
 one_edge : (setting : ℕ → Setting) (left top : ℕ) (s : Plane) (g : ℕ → ℕ → ℕ) → length s.samples ≡ s.width * s.height → left + 8 ≤ s.width → top + 8 ≤ s.height →
@@ -106,18 +92,14 @@ module _ (first second : ℕ → Setting) (left top b : ℕ) (s : Plane) (before
 
   behind_it : (x i : ℕ) → left + 6 ≤ x → x < s.width → i < 8 → sample once x (top + i) ≡ sample s x (top + i)
   behind_it x i far column low =
-      sample-with_block s (left + 2) top 4 8 new x (top + i) column (omega arith)
-      ∙ by_place (λ (d : Bool). (if d then new (x - (left + 2)) (top + i - top) else sample s x (top + i)) ≡ sample s x (top + i)) (left + 2) top 4 8 x (top + i)
-      (λ p q r m. absurd (omega arith)) (λ none. refl)
+      outside_block s (left + 2) top 4 8 new x (top + i) column (omega arith) (λ p q. absurd (omega arith))
 
   inside_it : (x y : ℕ) → x < 4 → y < 8 → new x y ≡ sample once (left + 2 + x) (top + y)
   inside_it x y x_low y_low =
       let x_is : x ≡ left + 2 + x - (left + 2) = omega arith in
       let y_is : y ≡ top + y - top = omega arith in
       ap (λ m. new m y) x_is ∙ ap (λ m. new (left + 2 + x - (left + 2)) m) y_is
-      ∙ ap (λ (d : Bool). if d then new (left + 2 + x - (left + 2)) (top + y - top) else sample s (left + 2 + x) (top + y))
-      (sym (inside (left + 2) top 4 8 (left + 2 + x) (top + y) (omega arith) (omega arith) (omega arith) (omega arith)))
-      ∙ sym (sample-with_block s (left + 2) top 4 8 new (left + 2 + x) (top + y) (omega arith) (omega arith))
+      ∙ sym (inside_block s (left + 2) top 4 8 new (left + 2 + x) (top + y) (omega arith) (omega arith) (omega arith) (omega arith) (omega arith) (omega arith))
 
   next : (c x i : ℕ) → 4 ≤ c → c < 8 → i < 8 → x ≡ left + 2 + c → sample once x (top + i) ≡ slice_index v (16 * c + (8 * b + i))
   next c x i far c_low i_low e =

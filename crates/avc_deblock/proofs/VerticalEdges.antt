@@ -7,11 +7,7 @@ use Rattle.avc_deblock.specs.declared.facts.MbFacts.{MbFacts}
 use Rattle.avc_deblock.specs.declared.thresholds.EdgeQp.{EdgeQp}
 use Rattle.avc_deblock.specs.OneEdge.{edge_filtered, luma_setting, chroma_setting, chroma_of_edge, HasRoom}
 use Rattle.avc_deblock.specs.ByFacts.{strength_of, luma_qp_of, chroma_qp_of, edge_by_facts, edges_by_facts}
-use Rattle.avc_deblock.proofs.EdgePlanes.{edge_zero, same_strengths, edge_same_size, room_kept}
-
--- planes that stand for one
-abbrev alone : Plane → Planes
-alone s = record { luma = s; cb = s; cr = s }
+use Rattle.avc_deblock.proofs.EdgePlanes.{luma_same, chroma_same, room_kept}
 
 module _ (column row n : ℕ) (f g : ℕ → ℕ) (qp : EdgeQp) (s t : Plane) where
   pub luma_lines : 1 ≤ 4 * column + n → ((k : ℕ) → k < 4 → f k ≡ g k) →
@@ -19,27 +15,7 @@ module _ (column row n : ℕ) (f g : ℕ → ℕ) (qp : EdgeQp) (s t : Plane) wh
       t ≡ edge_filtered (luma_setting g qp) true (16 * column + 4 * n) (16 * row) 16 s
   luma_lines some same is =
       is ∙ ap (λ x. edge_filtered (luma_setting f qp) true x (16 * row) 16 s) (let e : 16 * column + 4 * n - 4 + 4 ≡ 16 * column + 4 * n = omega arith in e)
-      ∙ ap (λ (l : Planes). l.luma) (same_strengths column row n f g qp qp (alone s) same true)
-
-  pub luma_size : t ≡ edge_filtered (luma_setting f qp) true (16 * column + 4 * n) (16 * row) 16 s → (t.width ≡ s.width) × (t.height ≡ s.height)
-  luma_size is =
-      let e = (edge_same_size true column row n f qp qp (alone s)).luma in
-      (ap (λ (p : Plane). p.width) is ∙ e.0, ap (λ (p : Plane). p.height) is ∙ e.1)
-
-  pub chroma_lines : ((k : ℕ) → k < 4 → f k ≡ g k) → t ≡ chroma_of_edge true column row n f qp s → t ≡ chroma_of_edge true column row n g qp s
-  chroma_lines same is = is ∙ ap (λ (l : Planes). l.cb) (same_strengths column row n f g qp qp (alone s) same true)
-
-  pub chroma_size : t ≡ chroma_of_edge true column row n f qp s → (t.width ≡ s.width) × (t.height ≡ s.height)
-  chroma_size is =
-      let e = (edge_same_size true column row n f qp qp (alone s)).cb in
-      (ap (λ (p : Plane). p.width) is ∙ e.0, ap (λ (p : Plane). p.height) is ∙ e.1)
-
-module _ (column row n : ℕ) (f : ℕ → ℕ) (qp : EdgeQp) (s : Plane) (some : 1 ≤ 4 * column + n) (none : (k : ℕ) → k < 4 → f k ≡ 0) where
-  pub luma_zero : s ≡ edge_filtered (luma_setting f qp) true (16 * column + 4 * n) (16 * row) 16 s
-  luma_zero = sym (ap (λ (l : Planes). l.luma) (edge_zero true column row n f qp qp (alone s) (λ e. some) (λ e. absurd (cc)) none))
-
-  pub chroma_zero : s ≡ chroma_of_edge true column row n f qp s
-  chroma_zero = sym (ap (λ (l : Planes). l.cb) (edge_zero true column row n f qp qp (alone s) (λ e. some) (λ e. absurd (cc)) none))
+      ∙ luma_same column row n f g qp same true s
 
 -- the left edge of chroma and the one in the middle
 pub both_chroma : (column row : ℕ) (f f' g g' : ℕ → ℕ) (qp next : EdgeQp) (s t : Plane) → 1 ≤ column →
@@ -50,11 +26,11 @@ both_chroma column row f f' g g' qp next s t some first second is =
     let left_is : 8 * column - 4 + 4 ≡ 8 * column + 2 * 0 = omega arith in
     let right_is : 8 * column - 4 + 8 ≡ 8 * column + 2 * 2 = omega arith in
     let outer : edge_filtered (chroma_setting f qp) true (8 * column - 4 + 4) (8 * row) 8 s ≡ chroma_of_edge true column row 0 f' qp s =
-    ap (λ x. edge_filtered (chroma_setting f qp) true x (8 * row) 8 s) left_is ∙ ap (λ (l : Planes). l.cb) (same_strengths column row 0 f f' qp qp (alone s) first true) in
+    ap (λ x. edge_filtered (chroma_setting f qp) true x (8 * row) 8 s) left_is ∙ chroma_same column row 0 f f' qp first true s in
     is
     ∙ ap (edge_filtered (chroma_setting g next) true (8 * column - 4 + 8) (8 * row) 8) outer
     ∙ ap (λ x. edge_filtered (chroma_setting g next) true x (8 * row) 8 (chroma_of_edge true column row 0 f' qp s)) right_is
-    ∙ ap (λ (l : Planes). l.cb) (same_strengths column row 2 g g' next next (alone (chroma_of_edge true column row 0 f' qp s)) second true)
+    ∙ chroma_same column row 2 g g' next second true (chroma_of_edge true column row 0 f' qp s)
 
 -- the size stays
 pub edges_room : (column row : ℕ) (offset : ℤ) (p q : MbFacts) (s t : Planes) →

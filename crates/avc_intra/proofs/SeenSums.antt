@@ -1,5 +1,5 @@
 -- Sums of the samples beside a block, read from the rows in which it lies.
-use Rattle.std.proofs.Common.{◌≡◌, ℕ, ◌+◌, ◌-◌, ◌*◌, ◌/◌, ◌<◌, ◌≤◌, pos, Bool, true, false, List, slice_index, refl, ap, sym, arith}
+use Rattle.std.proofs.Common.{◌≡◌, ℕ, ◌+◌, ◌-◌, ◌*◌, ◌<◌, ◌≤◌, pos, Bool, true, false, List, slice_index, refl, ap, sym, arith}
 use Rattle.std.specs.Prelude.{if◌then◌else◌, nat_lt, not, ◌&&◌}
 use Rattle.std.proofs.lemmas.Bool.Decides.{nat_tests}
 use Rattle.avc_types.specs.Arithmetic.{sum_below}
@@ -11,21 +11,14 @@ use Rattle.avc_intra.specs.InRows.{IsSeen}
 use Rattle.avc_intra.proofs.Sums.{sum_below-same}
 
 -- the mean of the sides that count, from sums that are known for those
-pub mean16 : (counts_above counts_left : Bool) (a l above left : ℕ) → (counts_above ≡ true → a ≡ above) → (counts_left ≡ true → l ≡ left)
-    → (if counts_above then (if counts_left then (a + l + 16) / 32 else (a + 8) / 16) else (if counts_left then (l + 8) / 16 else 128))
-    ≡ (if counts_above then (if counts_left then (above + left + 16) / 32 else (above + 8) / 16) else (if counts_left then (left + 8) / 16 else 128))
-mean16 true true a l above left e f = rw (e refl, f refl) refl
-mean16 true false a l above left e f = rw (e refl) refl
-mean16 false true a l above left e f = rw (f refl) refl
-mean16 false false a l above left e f = refl
-
-pub mean4 : (counts_above counts_left : Bool) (a l above left : ℕ) → (counts_above ≡ true → a ≡ above) → (counts_left ≡ true → l ≡ left)
-    → (if counts_above then (if counts_left then (a + l + 4) / 8 else (a + 2) / 4) else (if counts_left then (l + 2) / 4 else 128))
-    ≡ (if counts_above then (if counts_left then (above + left + 4) / 8 else (above + 2) / 4) else (if counts_left then (left + 2) / 4 else 128))
-mean4 true true a l above left e f = rw (e refl, f refl) refl
-mean4 true false a l above left e f = rw (e refl) refl
-mean4 false true a l above left e f = rw (f refl) refl
-mean4 false false a l above left e f = refl
+pub mean_of_sides : (f : ℕ → ℕ → ℕ) (g h : ℕ → ℕ) (none : ℕ) (counts_above counts_left : Bool) (a l above left : ℕ) →
+    (counts_above ≡ true → a ≡ above) → (counts_left ≡ true → l ≡ left)
+    → (if counts_above then (if counts_left then f a l else g a) else (if counts_left then h l else none))
+    ≡ (if counts_above then (if counts_left then f above left else g above) else (if counts_left then h left else none))
+mean_of_sides f g h none true true a l above left e i = rw (e refl, i refl) refl
+mean_of_sides f g h none true false a l above left e i = ap g (e refl)
+mean_of_sides f g h none false true a l above left e i = ap h (i refl)
+mean_of_sides f g h none false false a l above left e i = refl
 
 -- a sample above the block itself is not extended
 pub near : (sides : Sides) (p : Around) (x : ℕ) → x < 4 → top (extended sides p) (pos x) ≡ top p (pos x)

@@ -1,6 +1,7 @@
 -- Worked examples of parameter sets.
 use Rattle.std.specs.Prelude.{◌≡◌, ℕ, pos, true, false, [], ◌∷◌, Option, Some, None, Result, Ok, Err, refl}
 use Rattle.std.specs.Option.{option_map}
+use Rattle.avc_types.specs.declared.fault.Fault.{Fault}
 use Rattle.avc_types.specs.declared.fault.Fault.TheVariants as faults
 use Rattle.avc_params.specs.Limits.{dpb_size, height_in_mbs, max_dpb_mbs, restriction_of, width_in_mbs}
 use Rattle.avc_params.specs.Reading.{pps_of, sps_of}
@@ -39,53 +40,6 @@ small = record {
   vui = None;
 }
 
-reads_small : sps_of (0x42 ∷ 0xC0 ∷ 0x0A ∷ 0xDA ∷ 0x71 ∷ []) ≡ Ok small
-reads_small = refl
-
-reads_gaps : sps_of (0x42 ∷ 0xC0 ∷ 0x0A ∷ 0xDA ∷ 0xF1 ∷ []) ≡ Ok (record small { gaps_in_frame_num_value_allowed_flag = true })
-reads_gaps = refl
-
-small_dpb : dpb_size small ≡ 16
-small_dpb = refl
-
-same : same_sps small small ≡ true
-same = refl
-
-other_flag : same_sps small (record small { gaps_in_frame_num_value_allowed_flag = true }) ≡ false
-other_flag = refl
-
-abbrev size_of : Result Sps SetFault → ℕ × ℕ
-size_of (Ok s) = (width_in_mbs s, height_in_mbs s)
-size_of (Err _) = (0, 0)
-
-wide : size_of (sps_of (0x42 ∷ 0xC0 ∷ 0x0A ∷ 0xDA ∷ 0x2C ∷ 0x40 ∷ [])) ≡ (2, 1)
-wide = refl
-
-abbrev cropping_of : Result Sps SetFault → Option Cropping
-cropping_of (Ok s) = s.frame_cropping
-cropping_of (Err _) = None
-
--- six columns at the right and six rows at the bottom are cropped
-cropped : cropping_of (sps_of (0x42 ∷ 0xC0 ∷ 0x0A ∷ 0xDA ∷ 0x76 ∷ 0x49 ∷ 0x10 ∷ []))
-    ≡ Some (record { frame_crop_left_offset = 0; frame_crop_right_offset = 3; frame_crop_top_offset = 0; frame_crop_bottom_offset = 3 })
-cropped = refl
-
--- of 16 columns 14 may be cropped and 16 not
-cropped_most : cropping_of (sps_of (0x42 ∷ 0xC0 ∷ 0x0A ∷ 0xDA ∷ 0x76 ∷ 0x23 ∷ 0x40 ∷ []))
-    ≡ Some (record { frame_crop_left_offset = 0; frame_crop_right_offset = 7; frame_crop_top_offset = 0; frame_crop_bottom_offset = 0 })
-cropped_most = refl
-
-cropped_whole : sps_of (0x42 ∷ 0xC0 ∷ 0x0A ∷ 0xDA ∷ 0x76 ∷ 0x27 ∷ 0x40 ∷ []) ≡ Err (record { id = Some 0; fault = faults.OutOfRange })
-cropped_whole = refl
-
-abbrev limits_of : Result Sps SetFault → Option (ℕ × ℕ × ℕ)
-limits_of (Ok s) = option_map (λ r. (r.max_num_reorder_frames, r.max_dec_frame_buffering, dpb_size s)) (restriction_of s)
-limits_of (Err _) = None
-
--- with VUI
-with_restriction : limits_of (sps_of (0x42 ∷ 0xC0 ∷ 0x0A ∷ 0xDA ∷ 0x72 ∷ 0x01 ∷ 0xFD ∷ 0x40 ∷ [])) ≡ Some (0, 1, 1)
-with_restriction = refl
-
 abbrev pub plain : Pps
 plain = record {
   pic_parameter_set_id = 0;
@@ -103,72 +57,86 @@ plain = record {
   redundant_pic_cnt_present_flag = false;
 }
 
-reads_plain : pps_of (0xCE ∷ 0x38 ∷ 0x80 ∷ []) ≡ Ok plain
-reads_plain = refl
+-- a set of the id 0 that is refused
+abbrev refused : {A : Type 0} → Fault → Result A SetFault
+refused fault = Err (record { id = Some 0; fault = fault })
 
-reads_control : pps_of (0xCE ∷ 0x3C ∷ 0x80 ∷ []) ≡ Ok (record plain { deblocking_filter_control_present_flag = true })
-reads_control = refl
+reads_small : (sps_of (0x42 ∷ 0xC0 ∷ 0x0A ∷ 0xDA ∷ 0x71 ∷ []) ≡ Ok small)
+    × (sps_of (0x42 ∷ 0xC0 ∷ 0x0A ∷ 0xDA ∷ 0xF1 ∷ []) ≡ Ok (record small { gaps_in_frame_num_value_allowed_flag = true }))
+reads_small = (refl, refl)
 
-cabac : pps_of (0xEE ∷ 0x38 ∷ 0x80 ∷ []) ≡ Err (record { id = Some 0; fault = faults.Cabac })
-cabac = refl
+dpb_sizes : (dpb_size small ≡ 16) × (max_dpb_mbs 11 false ≡ Some 900) × (max_dpb_mbs 11 true ≡ Some 396)
+dpb_sizes = (refl, refl, refl)
 
-slice_groups : pps_of (0xC5 ∷ 0x80 ∷ []) ≡ Err (record { id = Some 0; fault = faults.SliceGroups })
-slice_groups = refl
+same : (same_sps small small ≡ true) × (same_sps small (record small { gaps_in_frame_num_value_allowed_flag = true }) ≡ false)
+same = (refl, refl)
 
-weighted : pps_of (0xCF ∷ 0x38 ∷ 0x80 ∷ []) ≡ Ok (record plain { weighted_pred_flag = true })
-weighted = refl
+abbrev size_of : Result Sps SetFault → ℕ × ℕ
+size_of (Ok s) = (width_in_mbs s, height_in_mbs s)
+size_of (Err _) = (0, 0)
 
-extension : pps_of (0xCE ∷ 0x38 ∷ 0xC0 ∷ []) ≡ Err (record { id = Some 0; fault = faults.PpsExtension })
-extension = refl
+-- two macroblocks, the most that a picture of its width may have, and the lowest and the narrowest of that level
+sizes :
+    (size_of (sps_of (0x42 ∷ 0xC0 ∷ 0x0A ∷ 0xDA ∷ 0x2C ∷ 0x40 ∷ [])) ≡ (2, 1))
+    × (size_of (sps_of (0x42 ∷ 0xC0 ∷ 0x3E ∷ 0xDA ∷ 0x00 ∷ 0x10 ∷ 0x7C ∷ 0x04 ∷ 0x24 ∷ 0x40 ∷ [])) ≡ (1055, 132))
+    × (size_of (sps_of (0x42 ∷ 0xC0 ∷ 0x3E ∷ 0xDA ∷ 0x00 ∷ 0x22 ∷ 0x0C ∷ 0x40 ∷ [])) ≡ (544, 1))
+    × (size_of (sps_of (0x42 ∷ 0xC0 ∷ 0x3E ∷ 0xDA ∷ 0x40 ∷ 0x08 ∷ 0x3F ∷ 0x10 ∷ [])) ≡ (1, 1055))
+sizes = (refl, refl, refl, refl)
 
-nothing : pps_of [] ≡ Err (record { id = None; fault = faults.Truncated })
-nothing = refl
+-- one row more, one column more, and one row more of one column
+too_large :
+    (sps_of (0x42 ∷ 0xC0 ∷ 0x3E ∷ 0xDA ∷ 0x00 ∷ 0x10 ∷ 0x7C ∷ 0x04 ∷ 0x2C ∷ 0x40 ∷ []) ≡ refused faults.PictureSize)
+    × (sps_of (0x42 ∷ 0xC0 ∷ 0x3E ∷ 0xDA ∷ 0x00 ∷ 0x10 ∷ 0x83 ∷ 0x10 ∷ []) ≡ refused faults.PictureSize)
+    × (sps_of (0x42 ∷ 0xC0 ∷ 0x3E ∷ 0xDA ∷ 0x40 ∷ 0x08 ∷ 0x41 ∷ 0x10 ∷ []) ≡ refused faults.PictureSize)
+too_large = (refl, refl, refl)
 
-profile : sps_of (0x64 ∷ 0x00 ∷ 0x0A ∷ 0xDA ∷ 0x71 ∷ []) ≡ Err (record { id = Some 0; fault = faults.Profile })
-profile = refl
+abbrev cropping_of : Result Sps SetFault → Option Cropping
+cropping_of (Ok s) = s.frame_cropping
+cropping_of (Err _) = None
 
-level : sps_of (0x42 ∷ 0xC0 ∷ 0x08 ∷ 0xDA ∷ 0x71 ∷ []) ≡ Err (record { id = Some 0; fault = faults.Level })
-level = refl
+abbrev cropped_by : (right bottom : ℕ) → Option Cropping
+cropped_by right bottom =
+    Some (record { frame_crop_left_offset = 0; frame_crop_right_offset = right; frame_crop_top_offset = 0; frame_crop_bottom_offset = bottom })
 
--- the id 32 is out of range, so the set has none
-no_id : sps_of (0x42 ∷ 0xC0 ∷ 0x0A ∷ 0x04 ∷ 0x30 ∷ []) ≡ Err (record { id = None; fault = faults.OutOfRange })
-no_id = refl
+-- six columns at the right and six rows at the bottom are cropped; of 16 columns 14 may be and 16 not
+cropped :
+    (cropping_of (sps_of (0x42 ∷ 0xC0 ∷ 0x0A ∷ 0xDA ∷ 0x76 ∷ 0x49 ∷ 0x10 ∷ [])) ≡ cropped_by 3 3)
+    × (cropping_of (sps_of (0x42 ∷ 0xC0 ∷ 0x0A ∷ 0xDA ∷ 0x76 ∷ 0x23 ∷ 0x40 ∷ [])) ≡ cropped_by 7 0)
+    × (sps_of (0x42 ∷ 0xC0 ∷ 0x0A ∷ 0xDA ∷ 0x76 ∷ 0x27 ∷ 0x40 ∷ []) ≡ refused faults.OutOfRange)
+cropped = (refl, refl, refl)
 
-interlaced : sps_of (0x42 ∷ 0xC0 ∷ 0x0A ∷ 0xDA ∷ 0x61 ∷ []) ≡ Err (record { id = Some 0; fault = faults.Interlaced })
-interlaced = refl
+abbrev limits_of : Result Sps SetFault → Option (ℕ × ℕ × ℕ)
+limits_of (Ok s) = option_map (λ r. (r.max_num_reorder_frames, r.max_dec_frame_buffering, dpb_size s)) (restriction_of s)
+limits_of (Err _) = None
 
--- the most macroblocks that a picture of this width may have, and one row more
-widest : size_of (sps_of (0x42 ∷ 0xC0 ∷ 0x3E ∷ 0xDA ∷ 0x00 ∷ 0x10 ∷ 0x7C ∷ 0x04 ∷ 0x24 ∷ 0x40 ∷ [])) ≡ (1055, 132)
-widest = refl
+-- with VUI
+with_restriction : limits_of (sps_of (0x42 ∷ 0xC0 ∷ 0x0A ∷ 0xDA ∷ 0x72 ∷ 0x01 ∷ 0xFD ∷ 0x40 ∷ [])) ≡ Some (0, 1, 1)
+with_restriction = refl
 
-too_large : sps_of (0x42 ∷ 0xC0 ∷ 0x3E ∷ 0xDA ∷ 0x00 ∷ 0x10 ∷ 0x7C ∷ 0x04 ∷ 0x2C ∷ 0x40 ∷ []) ≡ Err (record { id = Some 0; fault = faults.PictureSize })
-too_large = refl
+-- the id 32 is out of range, so the last set has none
+sps_refused :
+    (sps_of (0x64 ∷ 0x00 ∷ 0x0A ∷ 0xDA ∷ 0x71 ∷ []) ≡ refused faults.Profile)
+    × (sps_of (0x42 ∷ 0xC0 ∷ 0x08 ∷ 0xDA ∷ 0x71 ∷ []) ≡ refused faults.Level)
+    × (sps_of (0x42 ∷ 0xC0 ∷ 0x0A ∷ 0xDA ∷ 0x61 ∷ []) ≡ refused faults.Interlaced)
+    × (sps_of (0x42 ∷ 0xC0 ∷ 0x0A ∷ 0x04 ∷ 0x30 ∷ []) ≡ Err (record { id = None; fault = faults.OutOfRange }))
+sps_refused = (refl, refl, refl, refl)
 
-too_wide : sps_of (0x42 ∷ 0xC0 ∷ 0x3E ∷ 0xDA ∷ 0x00 ∷ 0x10 ∷ 0x83 ∷ 0x10 ∷ []) ≡ Err (record { id = Some 0; fault = faults.PictureSize })
-too_wide = refl
+reads_plain :
+    (pps_of (0xCE ∷ 0x38 ∷ 0x80 ∷ []) ≡ Ok plain)
+    × (pps_of (0xCE ∷ 0x3C ∷ 0x80 ∷ []) ≡ Ok (record plain { deblocking_filter_control_present_flag = true }))
+    × (pps_of (0xCF ∷ 0x38 ∷ 0x80 ∷ []) ≡ Ok (record plain { weighted_pred_flag = true }))
+reads_plain = (refl, refl, refl)
 
-one_row : size_of (sps_of (0x42 ∷ 0xC0 ∷ 0x3E ∷ 0xDA ∷ 0x00 ∷ 0x22 ∷ 0x0C ∷ 0x40 ∷ [])) ≡ (544, 1)
-one_row = refl
+pps_refused :
+    (pps_of (0xEE ∷ 0x38 ∷ 0x80 ∷ []) ≡ refused faults.Cabac)
+    × (pps_of (0xC5 ∷ 0x80 ∷ []) ≡ refused faults.SliceGroups)
+    × (pps_of (0xCE ∷ 0x38 ∷ 0xC0 ∷ []) ≡ refused faults.PpsExtension)
+    × (pps_of [] ≡ Err (record { id = None; fault = faults.Truncated }))
+pps_refused = (refl, refl, refl, refl)
 
-one_column : size_of (sps_of (0x42 ∷ 0xC0 ∷ 0x3E ∷ 0xDA ∷ 0x40 ∷ 0x08 ∷ 0x3F ∷ 0x10 ∷ [])) ≡ (1, 1055)
-one_column = refl
-
-too_high : sps_of (0x42 ∷ 0xC0 ∷ 0x3E ∷ 0xDA ∷ 0x40 ∷ 0x08 ∷ 0x41 ∷ 0x10 ∷ []) ≡ Err (record { id = Some 0; fault = faults.PictureSize })
-too_high = refl
-
-level_11 : max_dpb_mbs 11 false ≡ Some 900
-level_11 = refl
-
-level_1b : max_dpb_mbs 11 true ≡ Some 396
-level_1b = refl
-
-in_force : sps_in_force (OfSps (0x42 ∷ 0xC0 ∷ 0x0A ∷ 0xDA ∷ 0x71 ∷ []) ∷ OfPps (0xCE ∷ 0x38 ∷ 0x80 ∷ []) ∷ []) 0 ≡ Some small
-in_force = refl
-
--- a refused set erases the one of its id
-erased : pps_in_force (OfPps (0xCE ∷ 0x38 ∷ 0x80 ∷ []) ∷ OfPps (0xEE ∷ 0x38 ∷ 0x80 ∷ []) ∷ []) 0 ≡ None
-erased = refl
-
--- and nothing where its id was not read
-stays : pps_in_force (OfPps (0xCE ∷ 0x38 ∷ 0x80 ∷ []) ∷ OfPps [] ∷ []) 0 ≡ Some plain
-stays = refl
+-- a refused set erases the one of its id, and nothing where its id was not read
+in_force :
+    (sps_in_force (OfSps (0x42 ∷ 0xC0 ∷ 0x0A ∷ 0xDA ∷ 0x71 ∷ []) ∷ OfPps (0xCE ∷ 0x38 ∷ 0x80 ∷ []) ∷ []) 0 ≡ Some small)
+    × (pps_in_force (OfPps (0xCE ∷ 0x38 ∷ 0x80 ∷ []) ∷ OfPps (0xEE ∷ 0x38 ∷ 0x80 ∷ []) ∷ []) 0 ≡ None)
+    × (pps_in_force (OfPps (0xCE ∷ 0x38 ∷ 0x80 ∷ []) ∷ OfPps [] ∷ []) 0 ≡ Some plain)
+in_force = (refl, refl, refl)

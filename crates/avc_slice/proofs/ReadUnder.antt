@@ -1,12 +1,13 @@
 -- What a slice header that was read keeps to.
 use Rattle.std.proofs.Common.{◌≡◌, ◌<◌, ◌≤◌, ◌+◌, ◌/◌, ◌%◌, ◌==◌, ◌&&◌, ◌||◌, ℕ, ℤ, zero, suc, pos, negsuc, Bool, true, false, not, nat_lt, int_le, List, [], length, Option, Some, None, is_some, IfSome, IfOk, Result, Ok, Err, if◌then◌else◌, refl, ap, sym, ◌∙◌, arith}
-use Rattle.std.proofs.lemmas.Bool.{ltb-true, and_parts}
+use Rattle.std.proofs.lemmas.Bool.{ltb-true, and_parts, false≢true}
 use Rattle.std.proofs.lemmas.Int.{ints}
 use Rattle.avc_types.specs.declared.fault.Fault.{Fault}
 use Rattle.avc_types.specs.declared.fault.Fault.TheVariants.{BadMarking, BadRefList, NoParameterSet}
 use Rattle.avc_types.specs.declared.edges.FilteredEdges.{FilteredEdges}
 use Rattle.avc_types.specs.declared.edges.FilteredEdges.TheVariants.{All, NoEdges, WithinSlice}
-use Rattle.avc_types.specs.declared.references.Marking.TheVariants.{Adaptive}
+use Rattle.avc_types.specs.declared.references.Marking.TheVariants.{Adaptive, Idr}
+use Rattle.avc_types.specs.declared.references.Marking.{Marking}
 use Rattle.avc_bits.specs.Bits.{Bits, Read, start, bits_before_stop, ◌>>=◌, give, check, where_set}
 use Rattle.avc_bits.specs.Codes.{flag, se, se_within, u, ue, ue_to}
 use Rattle.avc_bits.proofs.Giving.{Gives, IsFrom, bind-ok, gives-bind, gives-check, gives-give, gives-se_within, gives-then, gives-ue_to, gives-where_set, left, value}
@@ -17,7 +18,7 @@ use Rattle.avc_params.specs.declared.sps.OrderCount.{OrderCount}
 use Rattle.avc_params.specs.declared.sps.OrderCount.TheVariants as orders
 use Rattle.avc_params.specs.declared.sps.Sps.{Sps}
 use Rattle.avc_slice.specs.Filling.{filled}
-use Rattle.avc_slice.specs.Header.{is_idr, is_p_type, slice_qp}
+use Rattle.avc_slice.specs.Header.{is_idr, is_idr_marking, is_reference, has_idr_marking, is_p_type, slice_qp}
 use Rattle.avc_slice.specs.Reading.{active_count, active_override, back, coded_order, deblocking, filtering, found, front, header_in_rbsp, header_of, idr_pic_id, is_qp, list_part, marking, modification, modification_list, modifications, most_operations, no_edges, numbers, offset_pair, operation, operations, optional_se, overridden_count, p_list, position_here, primary, redundant_pic_cnt, slice_type_of, unless_ended, up_to, value_or_fault}
 use Rattle.avc_slice.specs.WeightsReading.{pred_weight_table}
 use Rattle.avc_slice.specs.Within.{IsDeblocking, IsPredWeightTable, IsReadUnder}
@@ -25,7 +26,7 @@ use Rattle.avc_slice.specs.declared.header.Header.{Header}
 use Rattle.avc_slice.specs.declared.parts.Filtering.{Filtering}
 use Rattle.avc_slice.specs.declared.parts.Front.{Front}
 use Rattle.avc_slice.specs.declared.parts.ListPart.{ListPart}
-use Rattle.avc_slice.proofs.IdrMarking.{is_marked}
+use Rattle.avc_slice.specs.declared.parts.Numbers.{Numbers}
 use Rattle.avc_slice.proofs.WeightsRead.{gives-table, keeps-table}
 use Rattle.avc_slice.proofs.Keeping.{Keeps, total, keeps-bind, keeps-give, keeps-refuse, keeps-check, keeps-where_set, keeps-u, keeps-flag, keeps-ue, keeps-ue_to, keeps-se, keeps-se_within}
 
@@ -158,24 +159,54 @@ gives-deblocked false filtered on =
 gives-deblocking : Gives IsDeblocking deblocking
 gives-deblocking = gives-then IsDeblocking (ue_to 2) _ (λ idc. gives-deblocked (idc == 1) (if idc == 0 then All else WithinSlice) (not_off (idc == 0)))
 
--- A slice_type in a unit of type 5 or not.
-abbrev IsIntra : Bool → Front → Type 0
-IsIntra idr start = idr ≡ true → is_p_type start.slice_type ≡ false
+-- In a unit of type 5 the slice is not of type P, and of a reference picture.
+record IsFront (nal_ref_idc : ℕ) (idr : Bool) (start : Front) : Type 0 where
+  intra : idr ≡ true → is_p_type start.slice_type ≡ false
+  reference : idr ≡ true → not (nal_ref_idc == 0) ≡ true
 
-intra : (idr none p : Bool) → not (idr && (none || p)) ≡ true → idr ≡ true → p ≡ false
-intra true true p e is = cc
-intra true false true e is = cc
-intra true false false e is = refl
-intra false none p e is = cc
+intra_in : (idr none p : Bool) → not (idr && (none || p)) ≡ true → idr ≡ true → p ≡ false
+intra_in true true p e is = cc
+intra_in true false true e is = cc
+intra_in true false false e is = refl
+intra_in false none p e is = cc
 
-gives-front : (nal_ref_idc : ℕ) (idr : Bool) → Gives (IsIntra idr) (front nal_ref_idc idr)
+reference_in : (idr none p : Bool) → not (idr && (none || p)) ≡ true → idr ≡ true → not none ≡ true
+reference_in true true p e is = e
+reference_in true false p e is = refl
+reference_in false none p e is = cc
+
+gives-front : (nal_ref_idc : ℕ) (idr : Bool) → Gives (IsFront nal_ref_idc idr) (front nal_ref_idc idr)
 gives-front nal_ref_idc idr =
-    gives-then (IsIntra idr) ue _ (λ first.
-    gives-then (IsIntra idr) (ue_to 9) _ (λ number.
-    gives-then (IsIntra idr) (found (slice_type_of number) _) _ (λ slice_type.
-    gives-check (IsIntra idr) (not (idr && (nal_ref_idc == 0 || is_p_type slice_type))) _ _ (λ checked.
-    gives-then (IsIntra idr) (ue_to 255) _ (λ id.
-    gives-give (IsIntra idr) _ (intra idr (nal_ref_idc == 0) (is_p_type slice_type) checked))))))
+    let Q = IsFront nal_ref_idc idr in
+    gives-then Q ue _ (λ first.
+    gives-then Q (ue_to 9) _ (λ number.
+    gives-then Q (found (slice_type_of number) _) _ (λ slice_type.
+    gives-check Q (not (idr && (nal_ref_idc == 0 || is_p_type slice_type))) _ _ (λ checked.
+    gives-then Q (ue_to 255) _ (λ id.
+    gives-give Q _ (record {
+      intra = intra_in idr (nal_ref_idc == 0) (is_p_type slice_type) checked;
+      reference = reference_in idr (nal_ref_idc == 0) (is_p_type slice_type) checked;
+    }))))))
+
+-- ---- marking
+
+abbrev HasMarking : (idr reference : Bool) → Option Marking → Type 0
+HasMarking idr reference m = (is_some m ≡ reference) × (idr ≡ true → reference ≡ true → is_idr_marking m ≡ true)
+
+gives-marking : Gives (λ m. is_idr_marking (Some m) ≡ true) (marking true)
+gives-marking =
+    gives-then (λ m. is_idr_marking (Some m) ≡ true) flag _ (λ no_output.
+    gives-then (λ m. is_idr_marking (Some m) ≡ true) flag _ (λ long_term.
+    gives-give (λ m. is_idr_marking (Some m) ≡ true) (Idr no_output long_term) refl))
+
+gives-optional_marking : (idr reference : Bool) → Gives (HasMarking idr reference) (where_set reference (marking idr))
+gives-optional_marking idr false = gives-give (HasMarking idr false) None (refl, λ _ e. absurd (false≢true e))
+gives-optional_marking true true =
+    gives-bind (λ m. is_idr_marking (Some m) ≡ true) (HasMarking true true) (marking true) _ gives-marking (λ m is.
+    gives-give (HasMarking true true) (Some m) (refl, λ _ _. is))
+gives-optional_marking false true =
+    gives-then (HasMarking false true) (marking false) _ (λ m.
+    gives-give (HasMarking false true) (Some m) (refl, λ wrong _. absurd (false≢true wrong)))
 
 abbrev IsOfIdr : Bool → Option ℕ → Type 0
 IsOfIdr idr id = is_some id ≡ idr
@@ -186,12 +217,13 @@ gives-idr_pic_id false = gives-give (IsOfIdr false) None refl
 
 gives-numbers : (idr : Bool) (pps : Pps) (sps : Sps) → Gives (λ n. IsOfIdr idr n.idr_pic_id) (numbers idr pps sps)
 gives-numbers idr pps sps =
-    gives-then (λ n. IsOfIdr idr n.idr_pic_id) (u (sps.log2_max_frame_num_minus4 + 4)) _ (λ frame_num.
-    gives-then (λ n. IsOfIdr idr n.idr_pic_id) (check (not (idr && not (frame_num == 0))) _) _ (λ _.
-    gives-bind (IsOfIdr idr) (λ n. IsOfIdr idr n.idr_pic_id) (idr_pic_id idr) _ (gives-idr_pic_id idr) (λ of_idr is.
-    gives-then (λ n. IsOfIdr idr n.idr_pic_id) (coded_order sps.order_count pps.bottom_field_pic_order_in_frame_present_flag) _ (λ order.
-    gives-then (λ n. IsOfIdr idr n.idr_pic_id) (redundant_pic_cnt pps.redundant_pic_cnt_present_flag) _ (λ redundant.
-    gives-give (λ n. IsOfIdr idr n.idr_pic_id) _ is)))))
+    let Q = λ (n : Numbers). IsOfIdr idr n.idr_pic_id in
+    gives-then Q (u (sps.log2_max_frame_num_minus4 + 4)) _ (λ frame_num.
+    gives-then Q (check (not (idr && not (frame_num == 0))) _) _ (λ _.
+    gives-bind (IsOfIdr idr) Q (idr_pic_id idr) _ (gives-idr_pic_id idr) (λ of_idr is.
+    gives-then Q (coded_order sps.order_count pps.bottom_field_pic_order_in_frame_present_flag) _ (λ order.
+    gives-then Q (redundant_pic_cnt pps.redundant_pic_cnt_present_flag) _ (λ redundant.
+    gives-give Q _ is)))))
 
 quantiser : (qp : ℤ) → is_qp qp ≡ true → IsFrom (pos 0) (pos 51) qp
 quantiser qp e =
@@ -234,9 +266,10 @@ record IsListPart (l : ListPart) : Type 0 where
 gives-p_list : (pps : Pps) (sps : Sps) → Gives IsListPart (p_list pps sps)
 gives-p_list pps sps =
     gives-bind (λ override. active_count pps override ≤ 16) IsListPart (active_override pps) _ (gives-active_override pps) (λ override few.
-    gives-then IsListPart (modification_list (max_frame_num sps) (active_count pps override)) _ (λ given.
-    gives-bind (λ t. IfSome t (IsPredWeightTable (active_count pps override))) IsListPart (where_set pps.weighted_pred_flag (pred_weight_table (active_count pps override))) _
-    (gives-where_set (IsPredWeightTable (active_count pps override)) pps.weighted_pred_flag (pred_weight_table (active_count pps override)) (gives-table (active_count pps override))) (λ weights is.
+    let count = active_count pps override in
+    gives-then IsListPart (modification_list (max_frame_num sps) count) _ (λ given.
+    gives-bind (λ t. IfSome t (IsPredWeightTable count)) IsListPart (where_set pps.weighted_pred_flag (pred_weight_table count)) _
+    (gives-where_set (IsPredWeightTable count) pps.weighted_pred_flag (pred_weight_table count) (gives-table count)) (λ weights is.
     gives-give IsListPart _ (record { active = few; weights = is }))))
 
 gives-list_part : (p : Bool) (pps : Pps) (sps : Sps) → Gives IsListPart (list_part p pps sps)
@@ -244,23 +277,38 @@ gives-list_part true pps sps = gives-p_list pps sps
 gives-list_part false pps sps = gives-give IsListPart _ (record { active = omega arith; weights = tt })
 
 -- What a header has from its parts.
-record IsBack (idr : Bool) (start : Front) (pps : Pps) (sps : Sps) (h : Header) : Type 0 where
+record IsBack (nal_ref_idc : ℕ) (idr : Bool) (start : Front) (pps : Pps) (sps : Sps) (h : Header) : Type 0 where
   address : h.first_mb_in_slice < size_in_mbs sps
   slice_type : h.slice_type ≡ start.slice_type
   set : h.pic_parameter_set_id ≡ start.pic_parameter_set_id
   idr_is : is_idr h ≡ idr
+  reference : is_some h.marking ≡ is_reference h
+  marking : idr ≡ true → not (nal_ref_idc == 0) ≡ true → has_idr_marking h ≡ true
   active : h.active_count ≤ 16
   weights : IfSome h.pred_weight_table (IsPredWeightTable h.active_count)
   filters : IsFiltering pps (record { slice_qp_delta = h.slice_qp_delta; deblocking = h.deblocking })
 
-gives-back : (nal_ref_idc : ℕ) (idr : Bool) (start : Front) (pps : Pps) (sps : Sps) → Gives (IsBack idr start pps sps) (back nal_ref_idc idr start pps sps)
+gives-back : (nal_ref_idc : ℕ) (idr : Bool) (start : Front) (pps : Pps) (sps : Sps) →
+    Gives (IsBack nal_ref_idc idr start pps sps) (back nal_ref_idc idr start pps sps)
 gives-back nal_ref_idc idr start pps sps =
-    gives-check (IsBack idr start pps sps) (nat_lt start.first_mb_in_slice (size_in_mbs sps)) _ _ (λ address.
-    gives-bind (λ n. IsOfIdr idr n.idr_pic_id) (IsBack idr start pps sps) (numbers idr pps sps) _ (gives-numbers idr pps sps) (λ of_picture is_of.
-    gives-bind IsListPart (IsBack idr start pps sps) (list_part (is_p_type start.slice_type) pps sps) _ (gives-list_part (is_p_type start.slice_type) pps sps) (λ list is_list.
-    gives-then (IsBack idr start pps sps) (where_set (not (nal_ref_idc == 0)) (marking idr)) _ (λ marked.
-    gives-bind (IsFiltering pps) (IsBack idr start pps sps) (filtering pps) _ (gives-filtering pps) (λ filtered is_filtered.
-    λ b. gives-give (IsBack idr start pps sps) _ (record { address = ltb-true start.first_mb_in_slice (size_in_mbs sps) address; slice_type = refl; set = refl; idr_is = is_of; active = is_list.active; weights = is_list.weights; filters = is_filtered }) b)))))
+    let Q = IsBack nal_ref_idc idr start pps sps in
+    let reference = not (nal_ref_idc == 0) in
+    gives-check Q (nat_lt start.first_mb_in_slice (size_in_mbs sps)) _ _ (λ address.
+    gives-bind (λ n. IsOfIdr idr n.idr_pic_id) Q (numbers idr pps sps) _ (gives-numbers idr pps sps) (λ of_picture is_of.
+    gives-bind IsListPart Q (list_part (is_p_type start.slice_type) pps sps) _ (gives-list_part (is_p_type start.slice_type) pps sps) (λ list is_list.
+    gives-bind (HasMarking idr reference) Q (where_set reference (marking idr)) _ (gives-optional_marking idr reference) (λ marked is_marked.
+    gives-bind (IsFiltering pps) Q (filtering pps) _ (gives-filtering pps) (λ filtered is_filtered.
+    λ b. gives-give Q _ (record {
+      address = ltb-true start.first_mb_in_slice (size_in_mbs sps) address;
+      slice_type = refl;
+      set = refl;
+      idr_is = is_of;
+      reference = is_marked.0;
+      marking = is_marked.1;
+      active = is_list.active;
+      weights = is_list.weights;
+      filters = is_filtered;
+    }) b)))))
 
 -- ---- the position is where the reader is
 
@@ -309,6 +357,7 @@ header-read header sets rbsp h e =
     let p = bind-ok (found (sets.pps f.0.pic_parameter_set_id) NoParameterSet) _ f.1 all.0 h f.3 in
     let s = bind-ok (found (sets.sps p.0.seq_parameter_set_id) NoParameterSet) _ p.1 all.0 h p.3 in
     let is = gives-back (header / 32 % 4) idr f.0 p.0 s.0 s.1 all.0 h s.3 in
+    let of_front = gives-front (header / 32 % 4) idr (start rbsp) f.1 f.0 f.2 in
     let position : h.position ≡ all.0.position = ends-back (header / 32 % 4) idr f.0 p.0 s.0 s.1 all.0 h s.3 in
     let passed : total all.0 ≡ total (start rbsp) =
     keeps-back (header / 32 % 4) idr f.0 p.0 s.0 s.1 all.0 h s.3
@@ -323,9 +372,9 @@ header-read header sets rbsp h e =
         sps_is = found-some _ NoParameterSet p.1 s.1 s.0 s.2;
         within = record {
           address = is.address;
-          intra = λ of_idr. ap is_p_type is.slice_type ∙ gives-front (header / 32 % 4) idr (start rbsp) f.1 f.0 f.2 (sym is.idr_is ∙ of_idr);
-          reference = (is_marked header sets rbsp h e).0;
-          marking = (is_marked header sets rbsp h e).1;
+          intra = λ of_idr. ap is_p_type is.slice_type ∙ of_front.intra (sym is.idr_is ∙ of_idr);
+          reference = is.reference;
+          marking = λ of_idr. is.marking (sym is.idr_is ∙ of_idr) (of_front.reference (sym is.idr_is ∙ of_idr));
           qp_low = is.filters.qp.least;
           qp_high = is.filters.qp.most;
           deblocking = is.filters.deblocking;

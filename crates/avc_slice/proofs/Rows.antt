@@ -6,7 +6,6 @@ use Rattle.avc_types.specs.declared.weight.Weight.{Weight}
 use Rattle.avc_types.specs.declared.references.Marking.TheVariants.{Idr, SlidingWindow}
 use Rattle.avc_params.specs.Tables.{Sets, sets_after}
 use Rattle.avc_params.specs.declared.set_unit.SetUnit.TheVariants.{OfSps, OfPps}
-use Rattle.avc_slice.specs.declared.header.CodedOrder.TheVariants.{Type2}
 use Rattle.avc_slice.specs.declared.header.Header.{Header}
 use Rattle.avc_slice.specs.declared.header.SliceType.TheVariants.{AllP, AllI}
 use Rattle.avc_slice.specs.declared.weights.CodedWeight.{CodedWeight}
@@ -14,6 +13,7 @@ use Rattle.avc_slice.specs.declared.weights.PredWeightTable.{PredWeightTable}
 use Rattle.avc_slice.specs.Reading.{header_in_rbsp}
 use Rattle.avc_slice.specs.Weights.{weights}
 use Rattle.avc_slice.specs.Begins.{begins}
+use Rattle.avc_slice.specs.Filling.{empty_header}
 
 abbrev sets : Sets
 sets = sets_after (OfSps (0x42 ∷ 0xC0 ∷ 0x0A ∷ 0xDA ∷ 0x71 ∷ []) ∷ OfPps (0xCE ∷ 0x38 ∷ 0x80 ∷ []) ∷ [])
@@ -22,65 +22,28 @@ abbrev header_at : ℕ → List ℕ → Result Header Fault
 header_at header rbsp = header_in_rbsp header sets rbsp
 
 abbrev pub of_p : Header
-of_p = record {
+of_p = record empty_header {
   nal_ref_idc = 2;
-  first_mb_in_slice = 0;
   slice_type = AllP;
-  pic_parameter_set_id = 0;
   frame_num = 1;
-  idr_pic_id = None;
-  order = Type2;
-  redundant_pic_cnt = None;
-  active_override = None;
   active_count = 1;
-  modifications = None;
-  pred_weight_table = None;
   marking = Some SlidingWindow;
-  slice_qp_delta = pos 0;
-  deblocking = None;
   position = 15;
 }
 
-p_slice : header_at 0x41 (0x9A ∷ 0x22 ∷ 0xA0 ∷ []) ≡ Ok of_p
-p_slice = refl
-
-two_pairs : header_at 0x41 (0x9A ∷ 0x2F ∷ 0x91 ∷ 0x80 ∷ []) ≡ Err faults.BadRefList
-two_pairs = refl
-
 abbrev pub of_i : Header
-of_i = record {
-  nal_ref_idc = 3;
-  first_mb_in_slice = 0;
-  slice_type = AllI;
-  pic_parameter_set_id = 0;
-  frame_num = 0;
-  idr_pic_id = Some 1;
-  order = Type2;
-  redundant_pic_cnt = None;
-  active_override = None;
-  active_count = 0;
-  modifications = None;
-  pred_weight_table = None;
-  marking = Some (Idr false false);
-  slice_qp_delta = pos 0;
-  deblocking = None;
-  position = 17;
-}
+of_i = record empty_header { nal_ref_idc = 3; slice_type = AllI; idr_pic_id = Some 1; marking = Some (Idr false false); position = 17 }
 
-i_slice : header_at 0x65 (0x88 ∷ 0x84 ∷ 0x93 ∷ 0xC0 ∷ []) ≡ Ok (record of_i { idr_pic_id = Some 0 })
-i_slice = refl
+read_or_refused :
+    (header_at 0x41 (0x9A ∷ 0x22 ∷ 0xA0 ∷ []) ≡ Ok of_p)
+    × (header_at 0x65 (0x88 ∷ 0x84 ∷ 0x93 ∷ 0xC0 ∷ []) ≡ Ok (record of_i { idr_pic_id = Some 0 }))
+    × (header_at 0x41 (0x9A ∷ 0x2F ∷ 0x91 ∷ 0x80 ∷ []) ≡ Err faults.BadRefList)
+    × (header_at 0x41 (0x9E ∷ 0x22 ∷ 0xA0 ∷ []) ≡ Err faults.SliceType)
+    × (header_at 0x65 (0x42 ∷ 0x21 ∷ 0x24 ∷ 0xF0 ∷ []) ≡ Err faults.OutOfRange)
+read_or_refused = (refl, refl, refl, refl, refl)
 
-b_slice : header_at 0x41 (0x9E ∷ 0x22 ∷ 0xA0 ∷ []) ≡ Err faults.SliceType
-b_slice = refl
-
-past_the_end : header_at 0x65 (0x42 ∷ 0x21 ∷ 0x24 ∷ 0xF0 ∷ []) ≡ Err faults.OutOfRange
-past_the_end = refl
-
-new_picture : begins of_i of_p ≡ true
-new_picture = refl
-
-same_picture : begins of_i (record of_i { first_mb_in_slice = 1 }) ≡ false
-same_picture = refl
+new_picture : (begins of_i of_p ≡ true) × (begins of_i (record of_i { first_mb_in_slice = 1 }) ≡ false)
+new_picture = (refl, refl)
 
 -- ---- explicit weights
 
@@ -127,17 +90,13 @@ weights_of_two : weights (record of_p { pred_weight_table = Some table_of_two })
     ∷ record { luma = by 5 (pos 127) (negsuc 127); cb = by 2 (pos 4) (pos 0); cr = by 2 (pos 4) (pos 0) } ∷ []
 weights_of_two = refl
 
-luma_denominator : weighted_at 0x41 (0x9A ∷ 0x20 ∷ 0x98 ∷ 0xC0 ∷ []) ≡ Err faults.OutOfRange
-luma_denominator = refl
-
-chroma_denominator : weighted_at 0x41 (0x9A ∷ 0x24 ∷ 0x48 ∷ 0xC0 ∷ []) ≡ Err faults.OutOfRange
-chroma_denominator = refl
-
-weight_of_128 : weighted_at 0x41 (0x9A ∷ 0x20 ∷ 0x8C ∷ 0x02 ∷ 0x01 ∷ 0x30 ∷ []) ≡ Err faults.OutOfRange
-weight_of_128 = refl
-
-offset_below : weighted_at 0x41 (0x9A ∷ 0x20 ∷ 0x8C ∷ 0x07 ∷ 0xF0 ∷ 0x04 ∷ 0x0C ∷ 0xC0 ∷ []) ≡ Err faults.OutOfRange
-offset_below = refl
+-- the two denominators, a weight of 128, and an offset below -128
+refused_weights :
+    (weighted_at 0x41 (0x9A ∷ 0x20 ∷ 0x98 ∷ 0xC0 ∷ []) ≡ Err faults.OutOfRange)
+    × (weighted_at 0x41 (0x9A ∷ 0x24 ∷ 0x48 ∷ 0xC0 ∷ []) ≡ Err faults.OutOfRange)
+    × (weighted_at 0x41 (0x9A ∷ 0x20 ∷ 0x8C ∷ 0x02 ∷ 0x01 ∷ 0x30 ∷ []) ≡ Err faults.OutOfRange)
+    × (weighted_at 0x41 (0x9A ∷ 0x20 ∷ 0x8C ∷ 0x07 ∷ 0xF0 ∷ 0x04 ∷ 0x0C ∷ 0xC0 ∷ []) ≡ Err faults.OutOfRange)
+refused_weights = (refl, refl, refl, refl)
 
 -- an I slice has no table
 intra_unweighted : weighted_at 0x65 (0x88 ∷ 0x84 ∷ 0x93 ∷ 0xC0 ∷ []) ≡ header_at 0x65 (0x88 ∷ 0x84 ∷ 0x93 ∷ 0xC0 ∷ [])

@@ -1,9 +1,10 @@
 -- Numbers that are small enough for their 32 bits.
-use Rattle.std.proofs.Common.{ℕ, ℤ, pos, negsuc, zero, suc, neg_ℤ, ◌≡◌, ◌<◌, ◌≤◌, ◌^◌, ◌*◌, ◌/◌, ◌%◌, ◌*ℤ◌, arith, to_z, of_z, w16, w32, List, slice_index_or, ap, ◌∙◌, sym, subst, refl, zero-mul, mul_assoc}
+use Rattle.std.proofs.Common.{ℕ, ℤ, pos, negsuc, zero, suc, neg_ℤ, ◌≡◌, ◌<◌, ◌≤◌, ◌^◌, ◌*◌, ◌/◌, ◌%◌, ◌*ℤ◌, arith, to_z, of_z, w16, w32, List, [], ◌∷◌, slice_index_or, ap, ◌∙◌, sym, subst, refl, zero-mul, mul_assoc}
 use Rattle.std.specs.Int.RustNames.{unsigned_abs}
 use Rattle.std.proofs.lemmas.Int.{ints, unsigned_abs-mul}
 use Rattle.std.proofs.lemmas.Nat.{mul-lt}
-use Rattle.avc_transform.specs.Bounds.{IsBelow}
+use Rattle.avc_transform.specs.Bounds.{IsBelow, AllBelow}
+use Rattle.avc_transform.proofs.BelowFour.{below_four}
 use Rattle.avc_transform.specs.Residual.{level, level_scale, scaled}
 
 -- a small number is what its 32 bits say
@@ -12,6 +13,16 @@ cast_back z small = omega (arith, ints)
 
 pub IsBelow-more : (m n : ℕ) (z : ℤ) → m ≤ n → IsBelow m z → IsBelow n z
 IsBelow-more m n z h small = record { low = omega (arith, ints); high = omega (arith, ints) }
+
+pub AllBelow-more : {c m n : ℕ} (l : List ℤ) → m ≤ n → AllBelow c m l → AllBelow c n l
+AllBelow-more {c} {m} {n} l h all i less = IsBelow-more m n (slice_index_or l i (pos 0)) h (all i less)
+
+-- a number that is small for other bounds
+pub cast_small : {n : ℕ} {z : ℤ} → n ≤ 2 ^ 31 → IsBelow n z → to_z w32 (of_z w32 z) ≡ z
+cast_small {n} {z} h small = cast_back z (IsBelow-more n (2 ^ 31) z h small)
+
+pub small_cast : {n : ℕ} {z : ℤ} → n ≤ 2 ^ 31 → IsBelow n z → IsBelow n (to_z w32 (of_z w32 z))
+small_cast {n} {z} h small = subst (IsBelow n) (sym (cast_small h small)) small
 
 pub IsBelow-abs : (n : ℕ) (z : ℤ) → unsigned_abs z < n → IsBelow n z
 IsBelow-abs n (pos a) h = record { low = omega (arith, ints); high = omega (arith, ints) }
@@ -48,6 +59,11 @@ raised_is qp c l r s x y told el es =
 
 pub scaled_of : (qp : ℕ) (c : ℤ) (x y : ℕ) {l r : ℤ} {s : ℕ} → r ≡ l *ℤ pos s → l ≡ c → s ≡ level_scale (qp % 6) x y * 2 ^ (qp / 6) → r ≡ scaled qp c x y
 scaled_of qp c x y {l} {r} {s} told el es = raised_is qp c l r s x y told el es
+
+-- four levels and what each of them is
+pub four_levels : (l0 l1 l2 l3 : ℤ) (m : ℕ → ℤ) → l0 ≡ m 0 → l1 ≡ m 1 → l2 ≡ m 2 → l3 ≡ m 3 → (k : ℕ) → k < 4 →
+    slice_index_or (l0 ∷ l1 ∷ l2 ∷ l3 ∷ []) k (pos 0) ≡ m k
+four_levels l0 l1 l2 l3 m e0 e1 e2 e3 = below_four (λ k. slice_index_or (l0 ∷ l1 ∷ l2 ∷ l3 ∷ []) k (pos 0) ≡ m k) e0 e1 e2 e3
 
 -- a level is what its sixteen bits say
 pub level_back : (z : ℤ) → IsBelow (2 ^ 12) z → to_z w16 (of_z w16 z) ≡ z

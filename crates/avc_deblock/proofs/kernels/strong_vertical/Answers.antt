@@ -2,7 +2,8 @@ use Rattle.std.proofs.Common.{◌+◌, ◌*◌, sym, ap, ◌∙◌}
 use Rattle.std.specs.Prelude.{slice_index}
 use Rattle.avc_plane.specs.Plane.{sample}
 use Rattle.avc_deblock.specs.Line.{filtered}
-use Rattle.avc_deblock.proofs.Blocks.{same_samples, filtered_across}
+use Rattle.avc_deblock.proofs.Blocks.{filtered_across}
+use Rattle.avc_deblock.proofs.Samples.{same_samples}
 use Rattle.avc_deblock.proofs.OnPlane.{vertical_block}
 use Rattle.avc_deblock.proofs.Limits.{strong_row}
 use Rattle.avc_deblock.proofs.kernels.strong_vertical.Goals as goal

@@ -2,10 +2,9 @@ use Rattle.std.proofs.Common.{ℕ, ◌+◌, ◌*◌, ◌/◌, ◌≡◌, ◌<◌
 use Rattle.std.specs.Prelude.{slice_index}
 use Rattle.avc_plane.specs.Plane.{sample}
 use Rattle.avc_deblock.specs.Line.{filtered}
-use Rattle.avc_deblock.proofs.Blocks.{same_samples}
 use Rattle.avc_deblock.proofs.OnPlane.{horizontal_block}
 use Rattle.avc_deblock.specs.Rows.{line_of}
-use Rattle.avc_deblock.proofs.Keeps.{weak_keeps}
+use Rattle.avc_deblock.proofs.Samples.{same_samples, weak_keeps}
 use Rattle.avc_deblock.proofs.Within.{within_block}
 use Rattle.avc_deblock.proofs.Limits.{weak_row, weak_by_tc1}
 use Rattle.avc_deblock.proofs.kernels.weak_horizontal.Goals as goal

@@ -1,4 +1,4 @@
-use Rattle.std.proofs.Common.{◌≡◌, true, pos, slice_index, refl, ◌∙◌}
+use Rattle.std.proofs.Common.{◌≡◌, ◌+◌, ◌/◌, true, pos, slice_index, refl, ◌∙◌}
 use Rattle.avc_types.specs.Arithmetic.{sum_below}
 use Rattle.avc_intra.specs.Neighbourhood.{top, left_of}
 use Rattle.std.specs.Prelude.{replicate}
@@ -6,7 +6,7 @@ use Rattle.std.proofs.lemmas.List.{get_or-replicate}
 use Rattle.avc_plane.proofs.Strided.{strided_same}
 use Rattle.avc_intra.specs.declared.luma16x16.Mode16x16.TheVariants.{Dc, Plane}
 use Rattle.avc_intra.specs.Luma16x16.{predict16x16, predict_plane16x16}
-use Rattle.avc_intra.proofs.SeenSums.{above16, left16, mean16}
+use Rattle.avc_intra.proofs.SeenSums.{above16, left16, mean_of_sides}
 use Rattle.avc_intra.proofs.luma16x16.lay16x16.Goals as goal
 
 pub returns-in-Dc-clause-samples : goal.returns-in-Dc-clause-samples
@@ -19,7 +19,7 @@ returns-in-Dc-clause-samples c p seen =
     let above : sides.above ≡ true → c.sum_above16-above.result ≡ sum_below 16 (λ i. top p (pos i)) = λ there. c.sum_above16-above.ensures.sum (seen.tops there).0 ∙ above16 p sides 16 first stride rows seen refl there in
     let left : sides.left ≡ true → c.sum_left16-left.result ≡ sum_below 16 (λ i. left_of p (pos i)) = λ there. c.sum_left16-left.ensures.sum (seen.lefts there).0 ∙ left16 p sides 16 first stride rows seen refl there in
     rw c.in-Dc.is (strided_same 16 16 first stride (λ x y. slice_index (replicate 16 v) x) (predict16x16 sides p Dc) rows c.lay_same_lines-in-Dc.new.rows c.lay_same_lines-in-Dc.ensures
-    (λ x y column row. get_or-replicate 16 x v 0 column ∙ c.mean_of_sides16-sample.ensures ∙ mean16 sides.above sides.left c.sum_above16-above.result c.sum_left16-left.result _ _ above left))
+    (λ x y column row. get_or-replicate 16 x v 0 column ∙ c.mean_of_sides16-sample.ensures ∙ mean_of_sides (λ a l. (a + l + 16) / 32) (λ a. (a + 8) / 16) (λ l. (l + 8) / 16) 128 sides.above sides.left c.sum_above16-above.result c.sum_left16-left.result _ _ above left))
 
 pub returns-in-Plane-clause-samples : goal.returns-in-Plane-clause-samples
 returns-in-Plane-clause-samples c p seen =

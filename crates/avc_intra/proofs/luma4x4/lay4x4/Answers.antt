@@ -1,8 +1,8 @@
-use Rattle.std.proofs.Common.{◌≡◌, ◌+◌, ◌-◌, ◌*◌, true, arith, slice_index, sym, ◌∙◌}
+use Rattle.std.proofs.Common.{◌≡◌, ◌+◌, ◌-◌, ◌*◌, ◌/◌, true, arith, slice_index, sym, ◌∙◌}
 use Rattle.std.specs.Prelude.{replicate}
 use Rattle.std.proofs.lemmas.List.{get_or-replicate}
 use Rattle.avc_plane.proofs.Strided.{strided_same}
-use Rattle.avc_intra.proofs.SeenSums.{above4, left4, mean4, near}
+use Rattle.avc_intra.proofs.SeenSums.{above4, left4, mean_of_sides, near}
 use Rattle.avc_intra.specs.declared.luma4x4.Mode4x4.TheVariants.{Vertical, Horizontal, Dc, DiagonalDownLeft, DiagonalDownRight, VerticalRight, HorizontalDown, VerticalLeft, HorizontalUp}
 use Rattle.avc_intra.specs.Chroma.{sum_above, sum_left}
 use Rattle.avc_intra.specs.Luma4x4.{extended, predict4x4}
@@ -37,7 +37,7 @@ returns-in-Dc-clause-samples c p seen =
     let above : sides.above ≡ true → c.sum_above4-above.result ≡ sum_above p 0 = λ there. c.sum_above4-above.ensures.sum (seen.beside.tops there).0 ∙ above4 p sides 4 first stride rows seen.beside 0 (omega arith) there in
     let left : sides.left ≡ true → c.sum_left4-left.result ≡ sum_left p 0 = λ there. c.sum_left4-left.ensures.sum (seen.beside.lefts there).0 ∙ left4 p sides 4 first stride rows seen.beside 0 (omega arith) there in
     rw c.in-Dc.is (strided_same 4 4 first stride (λ x y. slice_index (replicate 4 v) x) (predict4x4 sides (extended sides p) Dc) rows c.lay_same_lines-in-Dc.new.rows c.lay_same_lines-in-Dc.ensures
-    (λ x y column row. get_or-replicate 4 x v 0 column ∙ c.mean_of_sides4-sample.ensures ∙ mean4 sides.above sides.left c.sum_above4-above.result c.sum_left4-left.result _ _ above left))
+    (λ x y column row. get_or-replicate 4 x v 0 column ∙ c.mean_of_sides4-sample.ensures ∙ mean_of_sides (λ a l. (a + l + 4) / 8) (λ a. (a + 2) / 4) (λ l. (l + 2) / 4) 128 sides.above sides.left c.sum_above4-above.result c.sum_left4-left.result _ _ above left))
 
 pub returns-in-DiagonalDownLeft-clause-samples : goal.returns-in-DiagonalDownLeft-clause-samples
 returns-in-DiagonalDownLeft-clause-samples c p seen =

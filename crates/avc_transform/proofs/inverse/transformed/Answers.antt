@@ -1,4 +1,4 @@
-use Rattle.std.proofs.Common.{ℕ, ℤ, ◌≡◌, ◌+◌, ◌*◌, ◌/◌, ◌%◌, ◌^◌, ◌<◌, ◌≤◌, ◌+ℤ◌, arith, ap, ◌∙◌, sym, subst, to_z, of_z, w32, List, [], ◌∷◌, pos, slice_index_or}
+use Rattle.std.proofs.Common.{ℕ, ℤ, ◌≡◌, ◌+◌, ◌*◌, ◌/◌, ◌%◌, ◌^◌, ◌<◌, ◌≤◌, ◌+ℤ◌, arith, ap, ◌∙◌, to_z, of_z, w32, List, [], ◌∷◌, pos, slice_index_or}
 use Rattle.avc_types.specs.Arithmetic.{◌>>ℤ◌}
 use Rattle.avc_transform.specs.Bounds.{AllBelow, IsBelow}
 use Rattle.avc_transform.specs.Lines.{AreBelow}
@@ -6,18 +6,15 @@ use Rattle.avc_transform.specs.Residual.{transformed_row, transformed}
 use Rattle.avc_transform.specs.declared.lines.Lines.{Lines}
 use Rattle.avc_transform.proofs.BelowFour.{below_four}
 use Rattle.avc_transform.proofs.Matrices.{place_of_four}
-use Rattle.avc_transform.proofs.Small.{IsBelow-more, cast_back}
+use Rattle.avc_transform.proofs.Small.{AllBelow-more, cast_small, small_cast}
 use Rattle.avc_transform.proofs.inverse.transformed.Goals as goal
-
-more : (m n : ℕ) (l : List ℤ) → m ≤ n → AllBelow 4 m l → AllBelow 4 n l
-more m n l le all = λ i h. IsBelow-more m n (slice_index_or l i (pos 0)) le (all i h)
 
 more_lines : (m n : ℕ) (l : Lines) → m ≤ n → AreBelow m l → AreBelow n l
 more_lines m n l le all = record {
-  zeroth = more m n l.d0 le all.zeroth;
-  first = more m n l.d1 le all.first;
-  second = more m n l.d2 le all.second;
-  third = more m n l.d3 le all.third;
+  zeroth = AllBelow-more l.d0 le all.zeroth;
+  first = AllBelow-more l.d1 le all.first;
+  second = AllBelow-more l.d2 le all.second;
+  third = AllBelow-more l.d3 le all.third;
 }
 
 pub exchanged-requires : goal.exchanged-requires
@@ -27,39 +24,34 @@ pub inverse4-rows-requires : goal.inverse4-rows-requires
 inverse4-rows-requires c =
     more_lines (7 * 2 ^ 26 + 1) (2 ^ 29) c.exchanged.result (omega arith) (c.exchanged.ensures.small (7 * 2 ^ 26 + 1) (c.inverse4.ensures.small (2 ^ 26) c.requires))
 
+-- the rows after both transforms
+both : (a b d : Lines) → AreBelow (7 * 2 ^ 26 + 1) a → ((n : ℕ) → AreBelow n a → AreBelow n b) → ((n : ℕ) → AreBelow (2 * n) b → AreBelow (7 * n + 1) d) →
+    AreBelow (49 * 2 ^ 25 + 9) d
+both a b d small exchanged rows =
+    more_lines (49 * 2 ^ 25 + 8) (49 * 2 ^ 25 + 9) d (omega arith)
+    (rows (7 * 2 ^ 25 + 1) (more_lines (7 * 2 ^ 26 + 1) (7 * 2 ^ 26 + 2) b (omega arith) (exchanged (7 * 2 ^ 26 + 1) small)))
+
 pub all_rounded-a-requires : goal.all_rounded-a-requires
-all_rounded-a-requires c =
-    more (49 * 2 ^ 25 + 8) (49 * 2 ^ 25 + 9) c.inverse4-rows.result.d0 (omega arith)
-    (c.inverse4-rows.ensures.small (7 * 2 ^ 25 + 1)
-    (more_lines (7 * 2 ^ 26 + 1) (7 * 2 ^ 26 + 2) c.exchanged.result (omega arith) (c.exchanged.ensures.small (7 * 2 ^ 26 + 1) (c.inverse4.ensures.small (2 ^ 26) c.requires)))).zeroth
+all_rounded-a-requires c = (both _ _ _ (c.inverse4.ensures.small (2 ^ 26) c.requires) c.exchanged.ensures.small c.inverse4-rows.ensures.small).zeroth
 
 pub all_rounded-b-requires : goal.all_rounded-b-requires
-all_rounded-b-requires c =
-    more (49 * 2 ^ 25 + 8) (49 * 2 ^ 25 + 9) c.inverse4-rows.result.d1 (omega arith)
-    (c.inverse4-rows.ensures.small (7 * 2 ^ 25 + 1)
-    (more_lines (7 * 2 ^ 26 + 1) (7 * 2 ^ 26 + 2) c.exchanged.result (omega arith) (c.exchanged.ensures.small (7 * 2 ^ 26 + 1) (c.inverse4.ensures.small (2 ^ 26) c.requires)))).first
+all_rounded-b-requires c = (both _ _ _ (c.inverse4.ensures.small (2 ^ 26) c.requires) c.exchanged.ensures.small c.inverse4-rows.ensures.small).first
 
 pub all_rounded-c-requires : goal.all_rounded-c-requires
-all_rounded-c-requires c =
-    more (49 * 2 ^ 25 + 8) (49 * 2 ^ 25 + 9) c.inverse4-rows.result.d2 (omega arith)
-    (c.inverse4-rows.ensures.small (7 * 2 ^ 25 + 1)
-    (more_lines (7 * 2 ^ 26 + 1) (7 * 2 ^ 26 + 2) c.exchanged.result (omega arith) (c.exchanged.ensures.small (7 * 2 ^ 26 + 1) (c.inverse4.ensures.small (2 ^ 26) c.requires)))).second
+all_rounded-c-requires c = (both _ _ _ (c.inverse4.ensures.small (2 ^ 26) c.requires) c.exchanged.ensures.small c.inverse4-rows.ensures.small).second
 
 pub all_rounded-d-requires : goal.all_rounded-d-requires
-all_rounded-d-requires c =
-    more (49 * 2 ^ 25 + 8) (49 * 2 ^ 25 + 9) c.inverse4-rows.result.d3 (omega arith)
-    (c.inverse4-rows.ensures.small (7 * 2 ^ 25 + 1)
-    (more_lines (7 * 2 ^ 26 + 1) (7 * 2 ^ 26 + 2) c.exchanged.result (omega arith) (c.exchanged.ensures.small (7 * 2 ^ 26 + 1) (c.inverse4.ensures.small (2 ^ 26) c.requires)))).third
+all_rounded-d-requires c = (both _ _ _ (c.inverse4.ensures.small (2 ^ 26) c.requires) c.exchanged.ensures.small c.inverse4-rows.ensures.small).third
 
 -- a number of a list, as it is put into another
 abbrev at : List ℤ → ℕ → ℤ
 at l k = to_z w32 (of_z w32 (slice_index_or l k (pos 0)))
 
 same : (l : List ℤ) (k : ℕ) → AllBelow 4 (2 ^ 25) l → k < 4 → at l k ≡ slice_index_or l k (pos 0)
-same l k all h = cast_back (slice_index_or l k (pos 0)) (IsBelow-more (2 ^ 25) (2 ^ 31) (slice_index_or l k (pos 0)) (omega arith) (all k h))
+same l k all h = cast_small (omega arith) (all k h)
 
 below : (l : List ℤ) → AllBelow 4 (2 ^ 25) l → (k : ℕ) → k < 4 → IsBelow (2 ^ 25) (at l k)
-below l all k h = subst (IsBelow (2 ^ 25)) (sym (same l k all h)) (all k h)
+below l all k h = small_cast (omega arith) (all k h)
 
 -- four lists of four one after another
 abbrev joined : (a b c d : List ℤ) → List ℤ
@@ -71,12 +63,12 @@ by_rows : (P : ℕ → ℕ → ℤ → Type 0) (a b c d : List ℤ)
     → ((x : ℕ) → x < 4 → P x 0 (at a x)) → ((x : ℕ) → x < 4 → P x 1 (at b x)) → ((x : ℕ) → x < 4 → P x 2 (at c x)) → ((x : ℕ) → x < 4 → P x 3 (at d x))
     → (x y : ℕ) → x < 4 → y < 4 → P x y (slice_index_or (joined a b c d) (4 * y + x) (pos 0))
 by_rows P a b c d pa pb pc pd x y column row =
-    below_four (λ y. P x y (slice_index_or (joined a b c d) (4 * y + x) (pos 0)))
-    (below_four (λ x. P x 0 (slice_index_or (joined a b c d) (4 * 0 + x) (pos 0))) (pa 0 (omega arith)) (pa 1 (omega arith)) (pa 2 (omega arith)) (pa 3 (omega arith)) x column)
-    (below_four (λ x. P x 1 (slice_index_or (joined a b c d) (4 * 1 + x) (pos 0))) (pb 0 (omega arith)) (pb 1 (omega arith)) (pb 2 (omega arith)) (pb 3 (omega arith)) x column)
-    (below_four (λ x. P x 2 (slice_index_or (joined a b c d) (4 * 2 + x) (pos 0))) (pc 0 (omega arith)) (pc 1 (omega arith)) (pc 2 (omega arith)) (pc 3 (omega arith)) x column)
-    (below_four (λ x. P x 3 (slice_index_or (joined a b c d) (4 * 3 + x) (pos 0))) (pd 0 (omega arith)) (pd 1 (omega arith)) (pd 2 (omega arith)) (pd 3 (omega arith)) x column)
-    y row
+    let Q : ℕ → ℕ → Type 0 = λ x y. P x y (slice_index_or (joined a b c d) (4 * y + x) (pos 0)) in
+    below_four (Q x)
+    (below_four (λ x. Q x 0) (pa 0 (omega arith)) (pa 1 (omega arith)) (pa 2 (omega arith)) (pa 3 (omega arith)) x column)
+    (below_four (λ x. Q x 1) (pb 0 (omega arith)) (pb 1 (omega arith)) (pb 2 (omega arith)) (pb 3 (omega arith)) x column)
+    (below_four (λ x. Q x 2) (pc 0 (omega arith)) (pc 1 (omega arith)) (pc 2 (omega arith)) (pc 3 (omega arith)) x column)
+    (below_four (λ x. Q x 3) (pd 0 (omega arith)) (pd 1 (omega arith)) (pd 2 (omega arith)) (pd 3 (omega arith)) x column) y row
 
 pub returns : goal.returns
 returns c =

@@ -1,18 +1,12 @@
-use Rattle.std.proofs.Common.{ℕ, ℤ, ◌≡◌, ◌+◌, ◌*◌, ◌^◌, ◌+ℤ◌, arith, ap, ◌∙◌, sym, subst, to_z, of_z, w32, pos, slice_index_or}
+use Rattle.std.proofs.Common.{ℕ, ℤ, ◌≡◌, ◌+◌, ◌*◌, ◌^◌, ◌+ℤ◌, arith, ap, ◌∙◌, to_z, of_z, w32, pos, slice_index_or}
 use Rattle.avc_types.specs.Arithmetic.{◌>>ℤ◌}
 use Rattle.avc_transform.specs.Bounds.{IsBelow}
 use Rattle.avc_transform.proofs.BelowFour.{below_four, each_of_four}
-use Rattle.avc_transform.proofs.Small.{cast_back, IsBelow-more}
+use Rattle.avc_transform.proofs.Small.{cast_small, small_cast}
 use Rattle.avc_transform.proofs.lanes.all_rounded.Goals as goal
 
 shifted : (d r : ℤ) → IsBelow (49 * 2 ^ 25 + 9) d → r ≡ (to_z w32 (of_z w32 d) +ℤ pos 32 >>ℤ 6) → r ≡ (d +ℤ pos 32 >>ℤ 6)
-shifted d r p e = e ∙ ap (λ (z : ℤ). z +ℤ pos 32 >>ℤ 6) (cast_back d (IsBelow-more (49 * 2 ^ 25 + 9) (2 ^ 31) d (omega arith) p))
-
-same : (r : ℤ) → IsBelow (2 ^ 25) r → to_z w32 (of_z w32 r) ≡ r
-same r p = cast_back r (IsBelow-more (2 ^ 25) (2 ^ 31) r (omega arith) p)
-
-below : (r : ℤ) → IsBelow (2 ^ 25) r → IsBelow (2 ^ 25) (to_z w32 (of_z w32 r))
-below r p = subst (IsBelow (2 ^ 25)) (sym (same r p)) p
+shifted d r p e = e ∙ ap (λ (z : ℤ). z +ℤ pos 32 >>ℤ 6) (cast_small (omega arith) p)
 
 pub returns : goal.returns
 returns c =
@@ -23,9 +17,10 @@ returns c =
     let r3 = c.rounded-4.ensures in
     record {
       values = below_four _
-          (same _ r0.small ∙ shifted (a 0) _ (c.requires 0 (omega arith)) r0.value)
-          (same _ r1.small ∙ shifted (a 1) _ (c.requires 1 (omega arith)) r1.value)
-          (same _ r2.small ∙ shifted (a 2) _ (c.requires 2 (omega arith)) r2.value)
-          (same _ r3.small ∙ shifted (a 3) _ (c.requires 3 (omega arith)) r3.value);
-      small = each_of_four (IsBelow (2 ^ 25)) _ _ _ _ (below _ r0.small) (below _ r1.small) (below _ r2.small) (below _ r3.small);
+          (cast_small (omega arith) r0.small ∙ shifted (a 0) _ (c.requires 0 (omega arith)) r0.value)
+          (cast_small (omega arith) r1.small ∙ shifted (a 1) _ (c.requires 1 (omega arith)) r1.value)
+          (cast_small (omega arith) r2.small ∙ shifted (a 2) _ (c.requires 2 (omega arith)) r2.value)
+          (cast_small (omega arith) r3.small ∙ shifted (a 3) _ (c.requires 3 (omega arith)) r3.value);
+      small = each_of_four (IsBelow (2 ^ 25)) _ _ _ _
+          (small_cast (omega arith) r0.small) (small_cast (omega arith) r1.small) (small_cast (omega arith) r2.small) (small_cast (omega arith) r3.small);
     }

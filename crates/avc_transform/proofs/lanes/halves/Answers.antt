@@ -1,22 +1,16 @@
-use Rattle.std.proofs.Common.{ℕ, ℤ, ◌≡◌, ◌+◌, ◌*◌, ◌^◌, arith, ap, ◌∙◌, sym, subst, to_z, of_z, w32, pos, slice_index_or}
+use Rattle.std.proofs.Common.{ℕ, ℤ, ◌≡◌, ◌+◌, ◌*◌, ◌^◌, arith, ap, ◌∙◌, to_z, of_z, w32, pos, slice_index_or}
 use Rattle.avc_types.specs.Arithmetic.{◌>>ℤ◌}
 use Rattle.avc_transform.specs.Bounds.{IsBelow}
 use Rattle.avc_transform.proofs.BelowFour.{below_four, each_of_four}
-use Rattle.avc_transform.proofs.Small.{cast_back, IsBelow-more}
+use Rattle.avc_transform.proofs.Small.{cast_small}
 use Rattle.avc_transform.proofs.lanes.halves.Goals as goal
 
-back : (d : ℤ) → IsBelow (2 ^ 29) d → to_z w32 (of_z w32 d) ≡ d
-back d p = cast_back d (IsBelow-more (2 ^ 29) (2 ^ 31) d (omega arith) p)
-
 halved : (d r : ℤ) → IsBelow (2 ^ 29) d → r ≡ (to_z w32 (of_z w32 d) >>ℤ 1) → r ≡ (d >>ℤ 1)
-halved d r p e = e ∙ ap (λ (z : ℤ). z >>ℤ 1) (back d p)
-
-same : (r : ℤ) → IsBelow (2 ^ 28 + 1) r → to_z w32 (of_z w32 r) ≡ r
-same r p = cast_back r (IsBelow-more (2 ^ 28 + 1) (2 ^ 31) r (omega arith) p)
+halved d r p e = e ∙ ap (λ (z : ℤ). z >>ℤ 1) (cast_small (omega arith) p)
 
 below : (n : ℕ) (d r : ℤ) → IsBelow (2 ^ 29) d → IsBelow (2 ^ 28 + 1) r → ((n : ℕ) → IsBelow (2 * n) (to_z w32 (of_z w32 d)) → IsBelow (n + 1) r) → IsBelow (2 * n) d
     → IsBelow (n + 1) (to_z w32 (of_z w32 r))
-below n d r p q half all = subst (IsBelow (n + 1)) (sym (same r q)) (half n (subst (IsBelow (2 * n)) (sym (back d p)) all))
+below n d r p q half all = rw (cast_small (omega arith) q) (half n (rw (cast_small (omega arith) p) all))
 
 pub returns : goal.returns
 returns c =
@@ -27,10 +21,10 @@ returns c =
     let r3 = c.half_of-4.ensures in
     record {
       values = below_four _
-          (same _ r0.small ∙ halved (a 0) _ (c.requires 0 (omega arith)) r0.value)
-          (same _ r1.small ∙ halved (a 1) _ (c.requires 1 (omega arith)) r1.value)
-          (same _ r2.small ∙ halved (a 2) _ (c.requires 2 (omega arith)) r2.value)
-          (same _ r3.small ∙ halved (a 3) _ (c.requires 3 (omega arith)) r3.value);
+          (cast_small (omega arith) r0.small ∙ halved (a 0) _ (c.requires 0 (omega arith)) r0.value)
+          (cast_small (omega arith) r1.small ∙ halved (a 1) _ (c.requires 1 (omega arith)) r1.value)
+          (cast_small (omega arith) r2.small ∙ halved (a 2) _ (c.requires 2 (omega arith)) r2.value)
+          (cast_small (omega arith) r3.small ∙ halved (a 3) _ (c.requires 3 (omega arith)) r3.value);
       small = λ n all. each_of_four (IsBelow (n + 1)) _ _ _ _
           (below n (a 0) _ (c.requires 0 (omega arith)) r0.small r0.half (all 0 (omega arith)))
           (below n (a 1) _ (c.requires 1 (omega arith)) r1.small r1.half (all 1 (omega arith)))

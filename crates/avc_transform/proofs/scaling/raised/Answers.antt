@@ -8,10 +8,5 @@ small s p h k = omega (arith, mul-lt s p 30 257 h (omega arith))
 
 pub returns-clause-small : goal.returns-clause-small
 returns-clause-small c =
-    let s = λ (k : ℕ). slice_index c.args.scales k in
-    let p = c.args.power in
-    below_four _
-    (small (s 0) p (c.requires.scales 0 (omega arith)) c.requires.power)
-    (small (s 1) p (c.requires.scales 1 (omega arith)) c.requires.power)
-    (small (s 2) p (c.requires.scales 2 (omega arith)) c.requires.power)
-    (small (s 3) p (c.requires.scales 3 (omega arith)) c.requires.power)
+    let at = λ (k : ℕ) (h : k < 4). small (slice_index c.args.scales k) c.args.power (c.requires.scales k h) c.requires.power in
+    below_four _ (at 0 (omega arith)) (at 1 (omega arith)) (at 2 (omega arith)) (at 3 (omega arith))

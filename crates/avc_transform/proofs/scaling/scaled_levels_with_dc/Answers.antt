@@ -1,51 +1,30 @@
-use Rattle.std.proofs.Common.{ℕ, ℤ, ◌≡◌, ◌<◌, ◌^◌, ◌∙◌, arith, sym, subst, to_z, of_z, w32, List, pos, slice_index_or}
+use Rattle.std.proofs.Common.{ℕ, ◌<◌, ◌^◌, ◌∙◌, arith, w32, pos, slice_index_or}
 use Rattle.std.proofs.lemmas.Int.{ints, to_z-of_z}
-use Rattle.avc_transform.specs.Bounds.{AllBelow, IsBelow}
+use Rattle.avc_transform.specs.Bounds.{IsBelow}
 use Rattle.avc_transform.specs.Residual.{level}
 use Rattle.avc_transform.proofs.BelowFour.{below_four, each_of_four}
-use Rattle.avc_transform.proofs.Small.{cast_back, level_back, level_small, scaled_of, IsBelow-more}
+use Rattle.avc_transform.proofs.Small.{AllBelow-more, cast_small, small_cast, level_back, level_small, scaled_of, IsBelow-more}
 use Rattle.avc_transform.proofs.scaling.scaled_levels_with_dc.Goals as goal
 
 pub scaled-ac-requires-clause-levels : goal.scaled-ac-requires-clause-levels
 scaled-ac-requires-clause-levels c =
-    each_of_four (IsBelow (2 ^ 12)) _ _ _ _
-    (record { low = omega (arith, ints); high = omega (arith, ints) })
-    (level_small (level c.args.levels.now 1) (c.requires.small 1 (omega arith)))
-    (level_small (level c.args.levels.now 2) (c.requires.small 2 (omega arith)))
-    (level_small (level c.args.levels.now 8) (c.requires.small 8 (omega arith)))
+    let small = λ (n : ℕ) (h : n < 15). level_small (level c.args.levels.now n) (c.requires.small n h) in
+    each_of_four (IsBelow (2 ^ 12)) _ _ _ _ (record { low = omega (arith, ints); high = omega (arith, ints) }) (small 1 (omega arith)) (small 2 (omega arith)) (small 8 (omega arith))
 
 pub scaled-requires-clause-levels : goal.scaled-requires-clause-levels
 scaled-requires-clause-levels c =
-    each_of_four (IsBelow (2 ^ 12)) _ _ _ _
-    (level_small (level c.args.levels.now 0) (c.requires.small 0 (omega arith)))
-    (level_small (level c.args.levels.now 3) (c.requires.small 3 (omega arith)))
-    (level_small (level c.args.levels.now 7) (c.requires.small 7 (omega arith)))
-    (level_small (level c.args.levels.now 9) (c.requires.small 9 (omega arith)))
+    let small = λ (n : ℕ) (h : n < 15). level_small (level c.args.levels.now n) (c.requires.small n h) in
+    each_of_four (IsBelow (2 ^ 12)) _ _ _ _ (small 0 (omega arith)) (small 3 (omega arith)) (small 7 (omega arith)) (small 9 (omega arith))
 
 pub scaled-requires-2-clause-levels : goal.scaled-requires-2-clause-levels
 scaled-requires-2-clause-levels c =
-    each_of_four (IsBelow (2 ^ 12)) _ _ _ _
-    (level_small (level c.args.levels.now 4) (c.requires.small 4 (omega arith)))
-    (level_small (level c.args.levels.now 6) (c.requires.small 6 (omega arith)))
-    (level_small (level c.args.levels.now 10) (c.requires.small 10 (omega arith)))
-    (level_small (level c.args.levels.now 13) (c.requires.small 13 (omega arith)))
+    let small = λ (n : ℕ) (h : n < 15). level_small (level c.args.levels.now n) (c.requires.small n h) in
+    each_of_four (IsBelow (2 ^ 12)) _ _ _ _ (small 4 (omega arith)) (small 6 (omega arith)) (small 10 (omega arith)) (small 13 (omega arith))
 
 pub scaled-requires-3-clause-levels : goal.scaled-requires-3-clause-levels
 scaled-requires-3-clause-levels c =
-    each_of_four (IsBelow (2 ^ 12)) _ _ _ _
-    (level_small (level c.args.levels.now 5) (c.requires.small 5 (omega arith)))
-    (level_small (level c.args.levels.now 11) (c.requires.small 11 (omega arith)))
-    (level_small (level c.args.levels.now 12) (c.requires.small 12 (omega arith)))
-    (level_small (level c.args.levels.now 14) (c.requires.small 14 (omega arith)))
-
-stored : (z : ℤ) → IsBelow (2 ^ 25) z → to_z w32 (of_z w32 z) ≡ z
-stored z p = cast_back z (IsBelow-more (2 ^ 25) (2 ^ 31) z (omega arith) p)
-
-stored_small : (z : ℤ) → IsBelow (2 ^ 25) z → IsBelow (2 ^ 27) (to_z w32 (of_z w32 z))
-stored_small z p = subst (IsBelow (2 ^ 27)) (sym (stored z p)) (IsBelow-more (2 ^ 25) (2 ^ 27) z (omega arith) p)
-
-more : (l : List ℤ) → AllBelow 4 (2 ^ 25) l → AllBelow 4 (2 ^ 27) l
-more l all = λ i h. IsBelow-more (2 ^ 25) (2 ^ 27) (slice_index_or l i (pos 0)) (omega arith) (all i h)
+    let small = λ (n : ℕ) (h : n < 15). level_small (level c.args.levels.now n) (c.requires.small n h) in
+    each_of_four (IsBelow (2 ^ 12)) _ _ _ _ (small 5 (omega arith)) (small 11 (omega arith)) (small 12 (omega arith)) (small 14 (omega arith))
 
 pub returns-clause-values : goal.returns-clause-values
 returns-clause-values c =
@@ -58,7 +37,7 @@ returns-clause-values c =
     let d = c.scaled-2.ensures.values in
     let e = c.scaled-3.ensures.values in
     let back = λ (n : ℕ) (h : n < 15). level_back (level l n) (c.requires.small n h) in
-    let cast = λ (k : ℕ) (h : k < 4). stored (slice_index_or c.scaled-ac.result k (pos 0)) (c.scaled-ac.ensures.small k h) in
+    let cast = λ (k : ℕ) (h : k < 4). cast_small (omega arith) (c.scaled-ac.ensures.small k h) in
     record {
       zeroth = below_four _
           (to_z-of_z w32 c.args.dc c.ranges.dc)
@@ -85,12 +64,11 @@ returns-clause-values c =
 pub returns-clause-small : goal.returns-clause-small
 returns-clause-small c =
     let ac = c.scaled-ac.result in
-    let small = λ (k : ℕ) (h : k < 4). stored_small (slice_index_or ac k (pos 0)) (c.scaled-ac.ensures.small k h) in
+    let small = λ (k : ℕ) (h : k < 4). small_cast (omega arith) (IsBelow-more (2 ^ 25) (2 ^ 27) (slice_index_or ac k (pos 0)) (omega arith) (c.scaled-ac.ensures.small k h)) in
     record {
       zeroth = each_of_four (IsBelow (2 ^ 27)) _ _ _ _
-          (subst (IsBelow (2 ^ 27)) (sym (to_z-of_z w32 c.args.dc c.ranges.dc)) c.requires.dc)
-          (small 1 (omega arith)) (small 2 (omega arith)) (small 3 (omega arith));
-      first = more _ c.scaled.ensures.small;
-      second = more _ c.scaled-2.ensures.small;
-      third = more _ c.scaled-3.ensures.small;
+          (rw (to_z-of_z w32 c.args.dc c.ranges.dc) c.requires.dc) (small 1 (omega arith)) (small 2 (omega arith)) (small 3 (omega arith));
+      first = AllBelow-more _ (omega arith) c.scaled.ensures.small;
+      second = AllBelow-more _ (omega arith) c.scaled-2.ensures.small;
+      third = AllBelow-more _ (omega arith) c.scaled-3.ensures.small;
     }

@@ -1,0 +1,90 @@
+-- The eight samples of a line, and what a line filter leaves of them.
+use Rattle.std.proofs.Common.{◌≡◌, ℕ, zero, suc, ◌<◌, ◌≤◌, [], ◌∷◌, Bool, true, false, slice_index, arith, refl, sym, ap, ◌∙◌}
+use Rattle.std.specs.Prelude.{if◌then◌else◌, ◌==◌, ◌&&◌, ◌||◌}
+use Rattle.std.proofs.lemmas.Bool.Decides.{nat_tests}
+use Rattle.avc_deblock.specs.Line.{Line, Setting, filtered, filtered_weakly, filtered_strongly, is_filtered}
+use Rattle.avc_deblock.specs.Rows.{line, line_of}
+
+pub same_line : (a b c d e f g h a' b' c' d' e' f' g' h' : ℕ) → a ≡ a' → b ≡ b' → c ≡ c' → d ≡ d' → e ≡ e' → f ≡ f' → g ≡ g' → h ≡ h' →
+    line a b c d e f g h ≡ line a' b' c' d' e' f' g' h'
+same_line a b c d e f g h a' b' c' d' e' f' g' h' pa pb pc pd pe pf pg ph = rw (pa, pb, pc, pd, pe, pf, pg, ph) refl
+
+pub same_samples : (f g : ℕ → ℕ) → ((k : ℕ) → k < 8 → f k ≡ g k) → line_of f ≡ line_of g
+same_samples f g same =
+    same_line _ _ _ _ _ _ _ _ _ _ _ _ _ _ _ _ (same 0 (omega arith)) (same 1 (omega arith)) (same 2 (omega arith)) (same 3 (omega arith))
+    (same 4 (omega arith)) (same 5 (omega arith)) (same 6 (omega arith)) (same 7 (omega arith))
+
+pub each_of_eight : (P : ℕ → Type 0) → P 0 → P 1 → P 2 → P 3 → P 4 → P 5 → P 6 → P 7 → (k : ℕ) → k < 8 → P k
+each_of_eight P a b c d e f g h zero low = a
+each_of_eight P a b c d e f g h (suc zero) low = b
+each_of_eight P a b c d e f g h (suc (suc zero)) low = c
+each_of_eight P a b c d e f g h (suc (suc (suc zero))) low = d
+each_of_eight P a b c d e f g h (suc (suc (suc (suc zero)))) low = e
+each_of_eight P a b c d e f g h (suc (suc (suc (suc (suc zero))))) low = f
+each_of_eight P a b c d e f g h (suc (suc (suc (suc (suc (suc zero)))))) low = g
+each_of_eight P a b c d e f g h (suc (suc (suc (suc (suc (suc (suc zero))))))) low = h
+each_of_eight P a b c d e f g h (suc (suc (suc (suc (suc (suc (suc (suc k)))))))) low = absurd (omega arith)
+
+-- sample k of a line, from p3 to q3
+abbrev pub sample_of : Line → ℕ → ℕ
+sample_of l k = slice_index (l.p3 ∷ l.p2 ∷ l.p1 ∷ l.p0 ∷ l.q0 ∷ l.q1 ∷ l.q2 ∷ l.q3 ∷ []) k
+
+pub sample_is : (f : ℕ → ℕ) (k : ℕ) → k < 8 → sample_of (line_of f) k ≡ f k
+sample_is f = each_of_eight (λ k. sample_of (line_of f) k ≡ f k) refl refl refl refl refl refl refl refl
+
+-- equal lines have equal samples
+pub each_sample : (f g : ℕ → ℕ) → line_of f ≡ line_of g → (k : ℕ) → k < 8 → f k ≡ g k
+each_sample f g e k low = sym (sample_is f k low) ∙ ap (λ (l : Line). sample_of l k) e ∙ sample_is g k low
+
+-- ---- samples that stay
+
+either : (F : Line → ℕ) (a b : Bool) (f g l : Line) → (b ≡ true → F f ≡ F l) → F g ≡ F l → F (if a then (if b then f else g) else l) ≡ F l
+either F true true f g l strong weak = strong refl
+either F true false f g l strong weak = weak
+either F false b f g l strong weak = refl
+
+module _ (s : Setting) (l : Line) where
+  stays : (F : Line → ℕ) → (s.strength == 4 ≡ true → F (filtered_strongly s l) ≡ F l) → F (filtered_weakly s l) ≡ F l → F (filtered s l) ≡ F l
+  stays F = either F (is_filtered s l) (s.strength == 4) (filtered_strongly s l) (filtered_weakly s l) l
+
+  pub filtered_p3 : (filtered s l).p3 ≡ l.p3
+  filtered_p3 = stays (λ m. m.p3) (λ e. refl) refl
+
+  pub filtered_q3 : (filtered s l).q3 ≡ l.q3
+  filtered_q3 = stays (λ m. m.q3) (λ e. refl) refl
+
+  -- below strength 4 only p1 to q1 change
+  pub weak_kept : s.strength < 4 → (k : ℕ) → k < 8 → (2 ≤ k → k < 6 → ⊥) → sample_of (filtered s l) k ≡ sample_of l k
+  weak_kept low =
+      let not_four : s.strength == 4 ≡ true → ⊥ = λ e. grind (arith, nat_tests) in
+      each_of_eight (λ k. (2 ≤ k → k < 6 → ⊥) → sample_of (filtered s l) k ≡ sample_of l k)
+      (λ out. filtered_p3) (λ out. stays (λ m. m.p2) (λ e. absurd (not_four e)) refl)
+      (λ out. absurd (out (omega arith) (omega arith))) (λ out. absurd (out (omega arith) (omega arith)))
+      (λ out. absurd (out (omega arith) (omega arith))) (λ out. absurd (out (omega arith) (omega arith)))
+      (λ out. stays (λ m. m.q2) (λ e. absurd (not_four e)) refl) (λ out. filtered_q3)
+
+  -- of chroma only p0 and q0 change
+  pub chroma_kept : s.is_luma ≡ false → (k : ℕ) → k < 8 → (3 ≤ k → k < 5 → ⊥) → sample_of (filtered s l) k ≡ sample_of l k
+  chroma_kept chroma =
+      let strong : (b c : Bool) (x y : ℕ) → (if s.is_luma && b && c then x else y) ≡ y = λ b c x y. ap (λ z. if z && b && c then x else y) chroma in
+      let weak : (b : Bool) (x y : ℕ) → (if s.is_luma && b then x else y) ≡ y = λ b x y. ap (λ z. if z && b then x else y) chroma in
+      each_of_eight (λ k. (3 ≤ k → k < 5 → ⊥) → sample_of (filtered s l) k ≡ sample_of l k)
+      (λ out. filtered_p3) (λ out. stays (λ m. m.p2) (λ e. strong _ _ _ l.p2) refl) (λ out. stays (λ m. m.p1) (λ e. strong _ _ _ l.p1) (weak _ _ l.p1))
+      (λ out. absurd (out (omega arith) (omega arith))) (λ out. absurd (out (omega arith) (omega arith)))
+      (λ out. stays (λ m. m.q1) (λ e. strong _ _ _ l.q1) (weak _ _ l.q1)) (λ out. stays (λ m. m.q2) (λ e. strong _ _ _ l.q2) refl) (λ out. filtered_q3)
+
+still_in : (f g : ℕ → ℕ) (m : Line) → m ≡ line_of g → (k : ℕ) → k < 8 → sample_of m k ≡ sample_of (line_of f) k → g k ≡ f k
+still_in f g m e k low kept = sym (sample_is g k low) ∙ ap (λ (l : Line). sample_of l k) (sym e) ∙ kept ∙ sample_is f k low
+
+pub weak_keeps : (s : Setting) (f g : ℕ → ℕ) → s.strength < 4 → filtered s (line_of f) ≡ line_of g → (k : ℕ) → k < 8 → (2 ≤ k → k < 6 → ⊥) → g k ≡ f k
+weak_keeps s f g low e k less out = still_in f g _ e k less (weak_kept s (line_of f) low k less out)
+
+pub chroma_keeps : (s : Setting) (f g : ℕ → ℕ) → s.is_luma ≡ false → filtered s (line_of f) ≡ line_of g → (k : ℕ) → k < 8 → (3 ≤ k → k < 5 → ⊥) → g k ≡ f k
+chroma_keeps s f g chroma e k less out = still_in f g _ e k less (chroma_kept s (line_of f) chroma k less out)
+
+-- ---- alpha or beta 0
+
+pub filtered_off : (s : Setting) (l : Line) → (s.alpha == 0 || s.beta == 0) ≡ true → filtered s l ≡ l
+filtered_off s l off =
+    let none : is_filtered s l ≡ false = grind (arith, nat_tests) in
+    ap (λ (b : Bool). if b then (if s.strength == 4 then filtered_strongly s l else filtered_weakly s l) else l) none
