@@ -1,59 +1,47 @@
 -- Residual blocks read from their bits.
-use Rattle.std.proofs.Common.{◌≡◌, ◌≢◌, ℕ, zero, suc, ◌+◌, ◌-◌, ◌*◌, ◌/◌, ◌%◌, ◌<◌, ◌≤◌, ℤ, pos, negsuc, neg_ℤ, nat_abs, nat_le, List, [], ◌∷◌, ◌++◌, length, take, drop, reverse, Bool, true, false, refl, ap, subst, ◌∙◌, sym, arith, inl, inr, append_assoc, append-nil, length-append}
+use Rattle.std.proofs.Common.{◌≡◌, ◌≢◌, ℕ, zero, suc, ◌+◌, ◌-◌, ◌*◌, ◌/◌, ◌%◌, ◌<◌, ◌≤◌, ◌<ℤ◌, ℤ, pos, negsuc, neg_ℤ, nat_abs, List, [], ◌∷◌, ◌++◌, length, take, drop, reverse, Bool, true, false, refl, ap, subst, ◌∙◌, sym, arith, inl, inr, append_assoc, append-nil, length-append}
 use Rattle.std.specs.Prelude.{Option, Some, None, ◌==◌, ◌||◌, if◌then◌else◌, int_lt, nat_lt, replicate}
 use Rattle.std.specs.Option.{is_some}
 use Rattle.std.specs.List.{flat_map, sum, zip}
+use Rattle.std.proofs.lemmas.Bool.Decides.{nat_tests}
 use Rattle.std.proofs.lemmas.Bool.{cases_eq, eq-eqb, eqb-true, eqb-false, ne_eqb, le-leb, ltb-true}
 use Rattle.std.proofs.lemmas.List.{length-drop, length-map, length-replicate, reverse-reverse, take-append-drop}
 use Rattle.avc_types.specs.declared.fault.Fault.TheVariants as faults
-use Rattle.avc_bits.specs.Bits.{Read, ◌>>=◌, bits_of, check, give, or_none, times}
-use Rattle.avc_bits.specs.Codes.{flag, u, zeros_before_one}
+use Rattle.avc_bits.specs.Bits.{Read, ◌>>=◌, bits_of, give, or_none, times}
+use Rattle.avc_bits.specs.Codes.{u}
 use Rattle.avc_vlc.specs.Laws.{IsReadBack}
-use Rattle.avc_vlc.specs.Reading.{IsToken, coeff_token, token, total_zeros}
+use Rattle.avc_vlc.specs.Reading.{IsToken, coeff_token, run_before, token, total_zeros}
 use Rattle.avc_vlc.specs.Writing.{run_word, token_word, zeros_word}
 use Rattle.avc_vlc.proofs.ReadingBack.{run_back, run_whole, token_back, token_whole, zeros_back}
 use Rattle.avc_cavlc.specs.Block.{level, level_code, level_of_code, levels, next_suffix_length, placed, residual_block, run, runs, suffix_size, token_levels, trailing_one}
-use Rattle.avc_make.specs.BlockWriting.{AreCodes, BlocksAreRead, HasCodes, IsCode, after_zeros, block_bits, code_of_level, coded, first_length, least_code, level_bits, levels_bits, ones_first, prefix_of, run_bits, runs_bits, runs_of, sign_bits, values_of, zeros_bits}
+use Rattle.avc_make.specs.BlockWriting.{AreCodes, BlocksAreRead, HasCodes, IsCode, IsWritable, after_zeros, block_bits, code_of_level, coded, first_length, least_code, level_bits, levels_bits, ones_first, prefix_of, run_bits, runs_bits, runs_of, sign_bits, values_of, zeros_bits}
 use Rattle.avc_make.specs.VuiWriting.{Each}
-use Rattle.avc_make.specs.Words.{ReadsBack}
 use Rattle.avc_make.proofs.BlockPutting.{IsNonzero, coded_size, coded_some, each_drop, ones_few, ones_within, sum-cons, zeros_there}
 use Rattle.avc_make.proofs.LevelWords.{prefix_is}
-use Rattle.avc_make.proofs.ReadingBack.{back-bind, back-check, back-flag, back-give, back-last, back-u, back-zeros}
+use Rattle.avc_make.proofs.ReadingBack.{GivesBack, with_value, with_word, back-bind, back-check, back-flag, back-give, back-last, back-u, back-zeros, reads_back}
 
 -- a codeword of a table
-word_back : {A : Type 0} (rest : List Bool) (part : Read A) (o : Option (List Bool)) (value : A) → is_some o ≡ true → ((word : List Bool) → o ≡ Some word → IsReadBack part word value) → ReadsBack rest part (or_none o) value
-unfolding ReadsBack
-word_back rest part (Some word) value some back position = back word refl position rest
-word_back rest part None value some back position = cc
+word_back : {A : Type 0} {value : A} (part : Read A) (o : Option (List Bool)) → is_some o ≡ true → ((word : List Bool) → o ≡ Some word → IsReadBack part word value) → GivesBack part (or_none o) value
+word_back part (Some word) some back = record { back = λ position rest. record { read = back word refl position rest } }
+word_back part None some back = cc
 
 -- ---- levels
 
-back-one : (rest : List Bool) (l : ℤ) → nat_abs l ≡ 1 → ReadsBack rest trailing_one (int_lt l (pos 0) ∷ []) l
-back-one rest (pos zero) one = absurd (omega arith)
-back-one rest (pos (suc zero)) one = back-last rest (false ∷ []) flag (λ negative. if negative then neg_ℤ (pos 1) else pos 1) false (back-flag rest false)
-back-one rest (pos (suc (suc n))) one = absurd (omega arith)
-back-one rest (negsuc zero) one = back-last rest (true ∷ []) flag (λ negative. if negative then neg_ℤ (pos 1) else pos 1) true (back-flag rest true)
-back-one rest (negsuc (suc n)) one = absurd (omega arith)
+back-one : (l : ℤ) → nat_abs l ≡ 1 → GivesBack trailing_one (int_lt l (pos 0) ∷ []) l
+back-one (pos zero) one = absurd (omega arith)
+back-one (pos (suc zero)) one = back-last (λ negative. if negative then neg_ℤ (pos 1) else pos 1) (back-flag {b = false})
+back-one (pos (suc (suc n))) one = absurd (omega arith)
+back-one (negsuc zero) one = back-last (λ negative. if negative then neg_ℤ (pos 1) else pos 1) (back-flag {b = true})
+back-one (negsuc (suc n)) one = absurd (omega arith)
 
 -- the trailing ones
-abbrev OnesBack : List Bool → ℕ → List ℤ → Type 0
-OnesBack rest n values = ReadsBack rest (times n trailing_one) (sign_bits n values) (take n values)
-
-back-ones : (rest : List Bool) (most : ℕ) (values : List ℤ) → OnesBack rest (ones_first most values) values
-back-ones rest zero values = back-give rest []
-back-ones rest (suc most) [] = back-give rest []
-back-ones rest (suc most) (l ∷ values) = by_test (nat_abs l == 1) refl (back-ones rest most values)
-  where
-    by_test : (test : Bool) → (nat_abs l == 1) ≡ test → OnesBack rest (ones_first most values) values → OnesBack rest (if test then suc (ones_first most values) else 0) (l ∷ values)
-    by_test false e others = back-give rest []
-    by_test true e others =
-        let n = ones_first most values in
-        back-bind rest (int_lt l (pos 0) ∷ []) (sign_bits n values) trailing_one (λ x. times n trailing_one >>= λ xs. give (x ∷ xs)) l (l ∷ take n values)
-        (back-one (sign_bits n values ++ rest) l (eqb-true (nat_abs l) 1 e))
-        (back-last rest (sign_bits n values) (times n trailing_one) (λ xs. l ∷ xs) (take n values) others)
-
-code_back : (prefix sl code : ℕ) (above_one : Bool) → least_code sl prefix ≤ code → level_code prefix sl (code - least_code sl prefix) above_one ≡ code + (if above_one then 2 else 0)
-code_back prefix sl code above_one least = omega (arith, least)
+back-ones : (most : ℕ) (values : List ℤ) → GivesBack (times (ones_first most values) trailing_one) (sign_bits (ones_first most values) values) (take (ones_first most values) values)
+back-ones zero values = back-give
+back-ones (suc most) [] = back-give
+back-ones (suc most) (l ∷ values) = elim (cases_eq (nat_abs l) 1) [
+  | inl one ↦ let is = eq-eqb (nat_abs l) 1 one in rw is (back-bind _ (back-one l one) (back-last _ (back-ones most values)))
+  | inr other ↦ let is = ne_eqb (nat_abs l) 1 other in rw is back-give
+]
 
 level_back : (above_one : Bool) (l : ℤ) → IsNonzero l → (above_one ≡ true → 2 ≤ nat_abs l) → level_of_code (code_of_level above_one l + (if above_one then 2 else 0)) ≡ l
 level_back true (pos n) some above =
@@ -75,21 +63,15 @@ level_back false (negsuc n) some above =
     let half : (2 * n + 1 - 0 + 0 + 1) / 2 ≡ suc n = omega arith in
     rw (odd, half) refl
 
-back-level : (rest : List Bool) (sl : ℕ) (above_one : Bool) (l : ℤ) → IsCode sl (code_of_level above_one l) → IsNonzero l → (above_one ≡ true → 2 ≤ nat_abs l) →
-    ReadsBack rest (level sl above_one) (level_bits sl (code_of_level above_one l)) l
-back-level rest sl above_one l is some above =
+back-level : (sl : ℕ) (above_one : Bool) (l : ℤ) → IsCode sl (code_of_level above_one l) → IsNonzero l → (above_one ≡ true → 2 ≤ nat_abs l) → GivesBack (level sl above_one) (level_bits sl (code_of_level above_one l)) l
+back-level sl above_one l is some above =
     let code = code_of_level above_one l in
     let prefix = prefix_of sl code in
-    let size = suffix_size prefix sl in
-    let suffix = code - least_code sl prefix in
     let p = prefix_is sl code is in
-    let value : level_of_code (level_code prefix sl suffix above_one) ≡ l = ap level_of_code (code_back prefix sl code above_one p.least) ∙ level_back above_one l some above in
-    let all = back-bind rest (replicate prefix false ++ true ∷ []) (bits_of size suffix) (zeros_before_one 15 faults.BadCode) (λ k. u (suffix_size k sl) >>= λ s. give (level_of_code (level_code k sl s above_one)))
-    prefix (level_of_code (level_code prefix sl suffix above_one))
-    (back-zeros (bits_of size suffix ++ rest) 15 prefix faults.BadCode p.few)
-    (back-last rest (bits_of size suffix) (u size) (λ s. level_of_code (level_code prefix sl s above_one)) suffix (back-u rest size suffix p.fits)) in
-    let first = subst (λ v. ReadsBack rest (level sl above_one) ((replicate prefix false ++ true ∷ []) ++ bits_of size suffix) v) value all in
-    subst (λ w. ReadsBack rest (level sl above_one) w l) (append_assoc (replicate prefix false) (true ∷ []) (bits_of size suffix)) first
+    let same : level_code prefix sl (code - least_code sl prefix) above_one ≡ code + (if above_one then 2 else 0) = omega (arith, p.least) in
+    let value : level_of_code (level_code prefix sl (code - least_code sl prefix) above_one) ≡ l = ap level_of_code same ∙ level_back above_one l some above in
+    let all = back-bind (λ k. u (suffix_size k sl) >>= λ s. give (level_of_code (level_code k sl s above_one))) (back-zeros faults.BadCode p.few) (back-last _ (back-u (suffix_size prefix sl) p.fits)) in
+    with_value value (with_word (append_assoc (replicate prefix false) (true ∷ []) (bits_of (suffix_size prefix sl) (code - least_code sl prefix))) all)
 
 -- the first level is known to be above 1 in size
 abbrev pub IsAboveOne : Bool → List ℤ → Type 0
@@ -100,15 +82,11 @@ not_above : (values : List ℤ) → IsAboveOne false values
 not_above [] = tt
 not_above (l ∷ values) = λ e. cc
 
-back-levels : (rest : List Bool) (sl : ℕ) (above_one : Bool) (values : List ℤ) → AreCodes sl above_one values → Each IsNonzero values → IsAboveOne above_one values →
-    ReadsBack rest (levels (length values) sl above_one) (levels_bits sl above_one values) values
-back-levels rest sl above_one [] codes some above = back-give rest []
-back-levels rest sl above_one (l ∷ values) codes some above =
-    let next = next_suffix_length sl l in
-    let others = levels_bits next false values in
-    back-bind rest (level_bits sl (code_of_level above_one l)) others (level sl above_one) (λ v. levels (length values) (next_suffix_length sl v) false >>= λ vs. give (v ∷ vs)) l (l ∷ values)
-    (back-level (others ++ rest) sl above_one l codes.0 some.0 above)
-    (back-last rest others (levels (length values) next false) (λ vs. l ∷ vs) values (back-levels rest next false values codes.1 some.1 (not_above values)))
+back-levels : (sl : ℕ) (above_one : Bool) (values : List ℤ) → AreCodes sl above_one values → Each IsNonzero values → IsAboveOne above_one values →
+    GivesBack (levels (length values) sl above_one) (levels_bits sl above_one values) values
+back-levels sl above_one [] codes some above = back-give
+back-levels sl above_one (l ∷ values) codes some above =
+    back-bind _ (back-level sl above_one l codes.0 some.0 above) (back-last _ (back-levels (next_suffix_length sl l) false values codes.1 some.1 (not_above values)))
 
 -- what stands after the trailing ones
 stops_above : (most : ℕ) (values : List ℤ) → Each IsNonzero values → ones_first most values < most → IsAboveOne true (drop (ones_first most values) values)
@@ -128,50 +106,39 @@ ones_above values some = by_test (nat_lt (ones_first 3 values) 3) refl
     by_test true e = stops_above 3 values some (ltb-true (ones_first 3 values) 3 e)
     by_test false e = not_above (drop (ones_first 3 values) values)
 
-back-values : (rest : List Bool) (found : List (ℤ × ℕ)) → HasCodes found → Each IsNonzero (values_of found) →
-    ReadsBack rest (token_levels (token (length found) (ones_first 3 (values_of found))))
+back-values : (found : List (ℤ × ℕ)) → HasCodes found → Each IsNonzero (values_of found) →
+    GivesBack (token_levels (token (length found) (ones_first 3 (values_of found))))
     (sign_bits (ones_first 3 (values_of found)) (values_of found)
     ++ levels_bits (first_length (length found) (ones_first 3 (values_of found))) (nat_lt (ones_first 3 (values_of found)) 3) (drop (ones_first 3 (values_of found)) (values_of found)))
     (values_of found)
-back-values rest found codes some =
+back-values found codes some =
     let values = values_of found in
     let ones = ones_first 3 values in
     let sl = first_length (length found) ones in
     let above_one = nat_lt ones 3 in
     let others = drop ones values in
-    let word = levels_bits sl above_one others in
     let count : length others ≡ length found - ones = length-drop ones values ∙ ap (λ n. n - ones) (length-map found (λ c. c.0)) in
-    let read = back-levels rest sl above_one others codes (each_drop IsNonzero ones values some) (ones_above values some) in
-    let counted = subst (λ n. ReadsBack rest (levels n sl above_one) word others) count read in
-    let all = back-bind rest (sign_bits ones values) word (times ones trailing_one) (λ first. levels (length found - ones) sl above_one >>= λ others. give (first ++ others)) (take ones values) (take ones values ++ others)
-    (back-ones (word ++ rest) 3 values)
-    (back-last rest word (levels (length found - ones) sl above_one) (λ vs. take ones values ++ vs) others counted) in
-    subst (λ v. ReadsBack rest (token_levels (token (length found) ones)) (sign_bits ones values ++ word) v) (take-append-drop ones values) all
+    let read = back-levels sl above_one others codes (each_drop IsNonzero ones values some) (ones_above values some) in
+    let counted = subst (λ n. GivesBack (levels n sl above_one) (levels_bits sl above_one others) others) count read in
+    with_value (take-append-drop ones values) (back-bind _ (back-ones 3 values) (back-last (λ vs. take ones values ++ vs) counted))
 
 -- ---- runs
 
-back-run : (rest : List Bool) (others zeros_left n : ℕ) → others + 1 + zeros_left ≤ 16 → n ≤ zeros_left → (others ≡ 0 → zeros_left ≡ n) → ReadsBack rest (run others zeros_left) (run_bits others zeros_left n) n
-back-run rest zero zeros_left n few within last = subst (λ k. ReadsBack rest (give zeros_left) [] k) (last refl) (back-give rest zeros_left)
-back-run rest (suc others) zero n few within last =
-    let none : 0 ≡ n = omega arith in
-    subst (λ k. ReadsBack rest (give 0) [] k) none (back-give rest 0)
-back-run rest (suc others) (suc zeros_left) n few within last =
-    word_back rest (run (suc others) (suc zeros_left)) (run_word (suc zeros_left) n) n (run_whole (suc zeros_left) n (omega arith) (omega arith) within) (λ w is. run_back (suc zeros_left) n w is)
+back-run : (others zeros_left n : ℕ) → others + 1 + zeros_left ≤ 16 → n ≤ zeros_left → (others ≡ 0 → zeros_left ≡ n) → GivesBack (run others zeros_left) (run_bits others zeros_left n) n
+back-run zero zeros_left n few within last = rw (← last refl) back-give
+back-run (suc others) zero n few within last = let none : n ≡ 0 = omega arith in rw none back-give
+back-run (suc others) (suc zeros_left) n few within last = word_back (run_before (suc zeros_left)) (run_word (suc zeros_left) n) (run_whole (suc zeros_left) n (omega arith) (omega arith) within) (λ w is. run_back (suc zeros_left) n w is)
 
 last_run : (n : ℕ) (zero_runs : List ℕ) → length zero_runs ≡ 0 → sum (n ∷ zero_runs) ≡ n
 last_run n [] none = sum-cons n [] ∙ omega arith
 last_run n (r ∷ zero_runs) none = absurd (omega arith)
 
-back-runs : (rest : List Bool) (zero_runs : List ℕ) (zeros_left : ℕ) → sum zero_runs ≡ zeros_left → length zero_runs + zeros_left ≤ 16 → ReadsBack rest (runs (length zero_runs) zeros_left) (runs_bits zeros_left zero_runs) zero_runs
-back-runs rest [] zeros_left is few = back-give rest []
-back-runs rest (n ∷ zero_runs) zeros_left is few =
-    let both : sum (n ∷ zero_runs) ≡ n + sum zero_runs = sum-cons n zero_runs in
-    let left = zeros_left - n in
-    let others = runs_bits left zero_runs in
-    let k = length zero_runs in
-    back-bind rest (run_bits k zeros_left n) others (run k zeros_left) (λ z. runs k (zeros_left - z) >>= λ zs. give (z ∷ zs)) n (n ∷ zero_runs)
-    (back-run (others ++ rest) k zeros_left n (omega arith) (omega (arith, both)) (λ none. sym is ∙ last_run n zero_runs none))
-    (back-last rest others (runs k left) (λ zs. n ∷ zs) zero_runs (back-runs rest zero_runs left (omega (arith, both)) (omega arith)))
+back-runs : (zero_runs : List ℕ) (zeros_left : ℕ) → sum zero_runs ≡ zeros_left → length zero_runs + zeros_left ≤ 16 → GivesBack (runs (length zero_runs) zeros_left) (runs_bits zeros_left zero_runs) zero_runs
+back-runs [] zeros_left is few = back-give
+back-runs (n ∷ zero_runs) zeros_left is few =
+    let both = sum-cons n zero_runs in
+    back-bind _ (back-run (length zero_runs) zeros_left n (omega arith) (omega (arith, both)) (λ none. sym is ∙ last_run n zero_runs none))
+    (back-last _ (back-runs zero_runs (zeros_left - n) (omega (arith, both)) (omega arith)))
 
 -- ---- places
 
@@ -233,60 +200,44 @@ placed_back most levels is =
 -- ---- blocks
 
 -- total_zeros, or none where the block is empty or full
-abbrev ZerosBack : List Bool → (most total zeros : ℕ) → Bool → Type 0
-ZerosBack rest most total zeros none =
-    ReadsBack rest (elim none [ true ↦ give 0 | false ↦ total_zeros total (most == 4) ]) (if none then [] else or_none (zeros_word total (most == 4) zeros)) zeros
+abbrev ZerosBack : (most total zeros : ℕ) → Bool → Type 0
+ZerosBack most total zeros none = GivesBack (elim none [ true ↦ give 0 | false ↦ total_zeros total (most == 4) ]) (if none then [] else or_none (zeros_word total (most == 4) zeros)) zeros
 
-no_zeros : (rest : List Bool) (most total zeros : ℕ) → zeros ≡ 0 → ZerosBack rest most total zeros true
-no_zeros rest most total n none = subst (λ z. ReadsBack rest (give 0) [] z) (sym none) (back-give rest 0)
-
-back-zeros_coded : (rest : List Bool) (most total zeros : ℕ) → most ≤ 16 → total + zeros ≤ most → (total ≡ 0 → zeros ≡ 0) → ZerosBack rest most total zeros (total == 0 || total == most)
-back-zeros_coded rest most total zeros few within none = elim (cases_eq total 0) [
-  | inl empty ↦
-      let test : (total == 0 || total == most) ≡ true = ap (λ t. t || total == most) (eq-eqb total 0 empty) in
-      subst (ZerosBack rest most total zeros) (sym test) (no_zeros rest most total zeros (none empty))
-  | inr some ↦ elim (cases_eq total most) [
-    | inl full ↦
-        let test : (total == 0 || total == most) ≡ true = ap (λ t. t || total == most) (ne_eqb total 0 some) ∙ eq-eqb total most full in
-        subst (ZerosBack rest most total zeros) (sym test) (no_zeros rest most total zeros (omega arith))
-    | inr room ↦
-        let test : (total == 0 || total == most) ≡ false = ap (λ t. t || total == most) (ne_eqb total 0 some) ∙ ne_eqb total most room in
-        subst (ZerosBack rest most total zeros) (sym test)
-        (word_back rest (total_zeros total (most == 4)) (zeros_word total (most == 4) zeros) zeros (zeros_there most total zeros (omega arith) room few within) (λ w is. zeros_back total (most == 4) zeros w is))
-  ]
-]
+back-zeros_coded : (most total zeros : ℕ) → most ≤ 16 → total + zeros ≤ most → (total ≡ 0 → zeros ≡ 0) → ZerosBack most total zeros (total == 0 || total == most)
+back-zeros_coded most total zeros few within none = by_test (total == 0 || total == most) refl
+  where
+    by_test : (test : Bool) → (total == 0 || total == most) ≡ test → ZerosBack most total zeros test
+    by_test true is = let no_zeros : zeros ≡ 0 = grind (arith, nat_tests, none) in rw no_zeros back-give
+    by_test false is =
+        let some : total ≢ 0 = λ e. grind (arith, nat_tests) in
+        let room : total ≢ most = λ e. grind (arith, nat_tests) in
+        word_back (total_zeros total (most == 4)) (zeros_word total (most == 4) zeros) (zeros_there most total zeros (omega arith) room few within) (λ w is. zeros_back total (most == 4) zeros w is)
 
 no_runs : (found : List (ℤ × ℕ)) → length found ≡ 0 → sum (runs_of found) ≡ 0
 no_runs [] none = refl
 no_runs (c ∷ found) none = absurd (omega arith)
 
-pub block_back : BlocksAreRead
-block_back most nc levels rest few chroma is codes =
+pub back-block : (most : ℕ) (nc : ℤ) (levels : List ℤ) → most ≤ 16 → (nc <ℤ pos 0 → most ≤ 4) → length levels ≡ most → IsWritable levels → GivesBack (residual_block most nc) (block_bits most nc levels) levels
+back-block most nc levels few chroma is codes =
     let found = coded levels in
     let values = values_of found in
     let total = length found in
     let ones = ones_first 3 values in
     let zeros = sum (runs_of found) in
     let t = token total ones in
-    let w1 = or_none (token_word nc t) in
-    let w2 = sign_bits ones values in
-    let w3 = levels_bits (first_length total ones) (nat_lt ones 3) (drop ones values) in
-    let w4 = zeros_bits most total zeros in
-    let w5 = runs_bits zeros (runs_of found) in
+    let signs = sign_bits ones values in
+    let others = levels_bits (first_length total ones) (nat_lt ones 3) (drop ones values) in
     let size : total + zeros ≤ most = omega (arith, coded_size levels) in
     let least : total ≤ most = omega arith in
     let is_token : IsToken t = record { total = omega arith; ones = omega (arith, ones_within 3 values, length-map found (λ c. c.0)); few_ones = ones_few 3 values } in
-    let last = placed most values (runs_of found) in
     let long : length (runs_of found) ≡ total = length-map found (λ c. c.1) in
-    let runs_read = subst (λ n. ReadsBack rest (runs n zeros) w5 (runs_of found)) long (back-runs rest (runs_of found) zeros refl (omega (arith, long))) in
-    let all : ReadsBack rest (residual_block most nc) (w1 ++ ((w2 ++ w3) ++ (w4 ++ w5))) last =
-    back-bind rest w1 ((w2 ++ w3) ++ (w4 ++ w5)) (coeff_token nc) _ t last
-    (word_back (((w2 ++ w3) ++ (w4 ++ w5)) ++ rest) (coeff_token nc) (token_word nc t) t (token_whole nc t is_token (λ below. let four : most ≤ 4 = chroma below in omega arith)) (λ w is. token_back nc t w is))
-    (back-bind rest [] ((w2 ++ w3) ++ (w4 ++ w5)) (check (nat_le total most) faults.TooManyCoefficients) _ tt last (back-check (((w2 ++ w3) ++ (w4 ++ w5)) ++ rest) (nat_le total most) faults.TooManyCoefficients (le-leb total most least))
-    (back-bind rest (w2 ++ w3) (w4 ++ w5) (token_levels t) _ values last (back-values ((w4 ++ w5) ++ rest) found codes (coded_some levels))
-    (back-bind rest w4 w5 (elim (total == 0 || total == most) [ true ↦ give 0 | false ↦ total_zeros total (most == 4) ]) _ zeros last (back-zeros_coded (w5 ++ rest) most total zeros few size (no_runs found))
-    (back-bind rest [] w5 (check (nat_le (total + zeros) most) faults.TooManyCoefficients) _ tt last (back-check (w5 ++ rest) (nat_le (total + zeros) most) faults.TooManyCoefficients (le-leb (total + zeros) most size))
-    (back-last rest w5 (runs total zeros) (λ zero_runs. placed most values zero_runs) (runs_of found) runs_read))))) in
-    let word : w1 ++ ((w2 ++ w3) ++ (w4 ++ w5)) ≡ block_bits most nc levels = ap (λ w. w1 ++ w) (append_assoc w2 w3 (w4 ++ w5)) in
-    let read : ReadsBack rest (residual_block most nc) (block_bits most nc levels) last = subst (λ w. ReadsBack rest (residual_block most nc) w last) word all in
-    subst (λ v. ReadsBack rest (residual_block most nc) (block_bits most nc levels) v) (placed_back most levels is) read
+    let runs_read = subst (λ n. GivesBack (runs n zeros) (runs_bits zeros (runs_of found)) (runs_of found)) long (back-runs (runs_of found) zeros refl (omega (arith, long))) in
+    let whole = token_whole nc t is_token (λ below. let four : most ≤ 4 = chroma below in omega arith) in
+    let all : GivesBack (residual_block most nc) (or_none (token_word nc t) ++ ((signs ++ others) ++ (zeros_bits most total zeros ++ runs_bits zeros (runs_of found)))) (placed most values (runs_of found)) =
+    back-bind _ (word_back (coeff_token nc) (token_word nc t) whole (λ w is. token_back nc t w is)) (back-bind _ (back-check _ (le-leb total most least)) (back-bind _ (back-values found codes (coded_some levels))
+    (back-bind _ (back-zeros_coded most total zeros few size (no_runs found)) (back-bind _ (back-check _ (le-leb (total + zeros) most size)) (back-last (λ rs. placed most values rs) runs_read))))) in
+    let word = ap (λ w. or_none (token_word nc t) ++ w) (append_assoc signs others (zeros_bits most total zeros ++ runs_bits zeros (runs_of found))) in
+    with_value (placed_back most levels is) (with_word word all)
+
+pub block_back : BlocksAreRead
+block_back most nc levels rest few chroma is codes = reads_back (back-block most nc levels few chroma is codes) rest

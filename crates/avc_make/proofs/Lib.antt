@@ -5,7 +5,6 @@ pub mod HeaderBack
 pub mod HeaderRanges
 pub mod MbRows
 pub mod PatternNumbers
-pub mod Placing
 pub mod PpsBack
 pub mod Putting
 pub mod PuttingEach
@@ -26,7 +25,6 @@ pub mod BlockForth
 pub mod BlockPutting
 pub mod LevelWords
 pub mod SmallLevels
-pub mod TruncatedWords
 pub mod MbBack
 pub mod SliceDataBack
 pub mod DataAlone

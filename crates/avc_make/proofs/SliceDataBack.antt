@@ -14,7 +14,7 @@ use Rattle.avc_mbsyntax.specs.Reading.{macroblock}
 use Rattle.avc_mbsyntax.specs.SliceData.{SliceMbs, SliceStart, after, after_run, context, ended, from_run, i_data, p_data, placed, skipped, slice_data, stopped, where_room}
 use Rattle.avc_make.specs.DataWriting.{CanFollow, CanStand, DataIsRead, data_bits, i_data_bits, is_skip, p_data_bits}
 use Rattle.avc_make.specs.MbWriting.{HasRanges, i_type, mb_bits, p_mb_number, qp_of, type_16x16}
-use Rattle.avc_make.specs.Words.{ReadsBack, bits_after_one, ue_word}
+use Rattle.avc_make.specs.Words.{bits_after_one, ue_word}
 use Rattle.avc_make.proofs.MbBack.{mb_is_read}
 use Rattle.avc_make.proofs.ReadingBack.{back-ue}
 
@@ -165,8 +165,7 @@ p_mb s turns before qp position (x ∷ ahead) b' m some below read =
 
 -- a run read from its word
 run_read : (position run : ℕ) (rest : List Bool) → run < 4294967295 → ue (record { position = position; ahead = ue_word run ++ rest }) ≡ Ok (run, record { position = position + length (ue_word run); ahead = rest })
-unfolding ReadsBack
-run_read position run rest small = back-ue rest run small position
+run_read position run rest small = ((back-ue small).back position rest).read
 
 -- with more data the rest, else nothing
 rest_read : (s : SliceStart) (turns : ℕ) (before : List PicMb) (qp position : ℕ) (ms : List Mb)

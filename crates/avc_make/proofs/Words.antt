@@ -1,14 +1,15 @@
 -- The codewords.
 use Rattle.std.proofs.Common.{◌≡◌, ℕ, zero, suc, ◌+◌, ◌-◌, ◌*◌, ◌/◌, ◌%◌, ◌^◌, ◌<◌, ◌≤◌, ◌∷◌, ◌++◌, true, false, ℤ, pos, negsuc, neg_ℤ, ◌<ℤ◌, refl, ap, ◌∙◌, sym, arith}
+use Rattle.std.proofs.lemmas.Bool.{ne_eqb}
 use Rattle.std.proofs.lemmas.Int.{ints}
 use Rattle.std.proofs.lemmas.Nat.{leading_length, mod-mul-add}
 use Rattle.std.proofs.Math.Nat.{pow-succ', mod-eq_of_lt}
 use Rattle.std.specs.Int.Count.{count_leading_zeros}
-use Rattle.std.specs.Prelude.{replicate}
+use Rattle.std.specs.Prelude.{◌==◌, replicate}
 use Rattle.avc_bits.specs.Bits.{bits_of}
-use Rattle.avc_bits.specs.Codes.{IsSe, IsUe, signed_value}
-use Rattle.avc_make.specs.Words.{bits_after_one, se_word, signed_index, ue_word}
-use Rattle.avc_make.proofs.Bits.{length-bits_of, number-bits_of, number-inj}
+use Rattle.avc_bits.specs.Codes.{IsSe, IsTe, IsUe, signed_value}
+use Rattle.avc_bits.proofs.Numbers.{length-bits_of, number-bits_of, number-inj}
+use Rattle.avc_make.specs.Words.{bits_after_one, se_word, signed_index, te_word, ue_word}
 
 -- where the first 1 of a number stands
 pub record IsTop (n value : ℕ) : Type 0 where
@@ -63,3 +64,10 @@ index_small (negsuc n) low high = omega (arith, ints)
 pub se_is_word : (v : ℤ) → neg_ℤ (pos 2147483648) <ℤ v → v <ℤ pos 2147483648 → IsSe (se_word v) v
 unfolding se_word
 se_is_word v low high = (signed_index v, ue_is_word (signed_index v) (index_small v low high), signed_back v)
+
+pub te_is_word : (range v : ℕ) → 1 ≤ range → v ≤ range → v < 4294967295 → IsTe range (te_word range v) v
+te_is_word zero v some within small = absurd (omega arith)
+te_is_word (suc zero) v some within small = (within, refl)
+te_is_word (suc (suc range)) v some within small =
+    let other : (suc (suc range) == 1) ≡ false = ne_eqb (suc (suc range)) 1 (omega arith) in
+    rw other (ue_is_word v small)

@@ -1,5 +1,4 @@
-use Rattle.avc_make.proofs.TruncatedWords.{te_is_word}
-use Rattle.avc_make.proofs.Words.{se_is_word, ue_is_word}
+use Rattle.avc_make.proofs.Words.{se_is_word, te_is_word, ue_is_word}
 use Rattle.avc_make.proofs.laws.words_are_codewords.Goals as goal
 
 pub returns : goal.returns
