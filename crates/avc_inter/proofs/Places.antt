@@ -6,7 +6,9 @@ use Rattle.std.proofs.lemmas.Nat.{row_fits}
 use Rattle.std.proofs.Math.Nat.{add-mul}
 use Rattle.avc_types.specs.Arithmetic.{clip3}
 use Rattle.avc_plane.specs.Plane.{Plane, sample, clamped}
-use Rattle.avc_plane.specs.Padded.{IsSurrounded}
+use Rattle.avc_plane.specs.Padded.{stored_place, IsSurrounded}
+use Rattle.avc_plane.specs.Strided.{IsRoom}
+use Rattle.avc_plane.proofs.Rectangles.{room}
 use Rattle.avc_inter.specs.Bounds.{IsPlace}
 use Rattle.avc_inter.specs.Luma.{Wide}
 
@@ -58,3 +60,18 @@ module _ (pad : ℕ) (p : Plane) (rows : List ℕ) (all : IsSurrounded pad p row
       ap (λ k. slice_index rows k) (omega (arith, add-mul row j stride))
       ∙ all.near (column + i) (row + j) (omega arith) (omega arith)
       ∙ same_place (clamped p.width p.height (sample p)) (pos (column + i) -ℤ pos pad) (pos (row + j) -ℤ pos pad) (left +ℤ pos i) (top +ℤ pos j) (omega (arith, ints)) (omega (arith, ints))
+
+-- a rectangle inside the plane, whose upper left sample is in column x and row y
+module _ (pad : ℕ) (p : Plane) (rows : List ℕ) (all : IsSurrounded pad p rows) (x y w h first stride : ℕ) (columns : x + w ≤ p.width) (lines : y + h ≤ p.height)
+    (is_first : first ≡ stored_place pad p.width x y) (is_stride : stride ≡ p.width + 2 * pad) where
+  same_rows : (j : ℕ) → j * stride ≡ j * (p.width + 2 * pad)
+  same_rows j = ap (λ n. j * n) is_stride
+
+  pub room_inside : IsRoom w h first stride (length rows)
+  room_inside j low = omega (arith, room pad p.width p.height x y w h rows all.long columns lines j low, is_first, same_rows j)
+
+  pub sample_inside : (i j : ℕ) → i < w → j < h → slice_index rows (first + j * stride + i) ≡ clamped p.width p.height (sample p) (pos x +ℤ pos i) (pos y +ℤ pos j)
+  sample_inside i j column row =
+      ap (slice_index rows) (omega (arith, is_first, same_rows j, add-mul (y + pad) j (p.width + 2 * pad)))
+      ∙ all.near (x + pad + i) (y + pad + j) (omega arith) (omega arith)
+      ∙ same_place (clamped p.width p.height (sample p)) (pos (x + pad + i) -ℤ pos pad) (pos (y + pad + j) -ℤ pos pad) (pos x +ℤ pos i) (pos y +ℤ pos j) (omega (arith, ints)) (omega (arith, ints))

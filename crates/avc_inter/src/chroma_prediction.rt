@@ -10,7 +10,7 @@ ghost use Rattle.avc_inter.specs.Bounds.{IsMoved};
 use crate::chroma_between::lay_eighths;
 use crate::patch::set_whole;
 use crate::vector::{chroma_fraction, chroma_place};
-use crate::whole::predict_whole;
+use crate::whole::{predict_in_place, predict_whole};
 use avc_plane::{PaddedPlane, Plane, RowsPlace};
 use avc_types::{Block, Mv};
 
@@ -156,4 +156,20 @@ pub fn predict_chroma<const W: usize, const H: usize, const PAD: usize>(
     } else {
         predict_between::<W, H, PAD>(reference, x, y, mv, plane);
     }
+}
+
+/// The same prediction by the vector 0 of a block that lies in the reference picture, whose samples it takes over.
+#[inline(always)]
+pub fn copy_chroma<const W: usize, const H: usize, const PAD: usize>(
+    reference: &PaddedPlane<PAD>,
+    x: usize,
+    y: usize,
+    plane: &mut Plane<PAD>,
+)
+    requires columns { (1 ≤ W) × (x + W ≤ plane.old.width) × (x + W ≤ reference.now.width) }
+    requires rows { (1 ≤ H) × (y + H ≤ plane.old.height) × (y + H ≤ reference.now.height) }
+    ensures { (mv : Mv) → mv.x ≡ pos 0 → mv.y ≡ pos 0 → plane.new ≡ with_block plane.old x y W H
+        (λ i j. inter_chroma reference.now.width reference.now.height (sample reference.now) mv (x + i) (y + j)) }
+{
+    predict_in_place::<W, H, PAD>(reference, x, y, plane);
 }

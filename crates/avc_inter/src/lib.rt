@@ -16,7 +16,7 @@ mod vector;
 mod weighting;
 mod whole;
 
-pub use chroma_prediction::{chroma, predict_chroma};
-pub use luma_prediction::{luma, predict_luma};
+pub use chroma_prediction::{chroma, copy_chroma, predict_chroma};
+pub use luma_prediction::{copy_luma, luma, predict_luma};
 pub use row::six_tap_row;
 pub use weighting::weight;

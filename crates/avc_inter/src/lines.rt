@@ -30,9 +30,9 @@ fn put_line<const W: usize>(out: &mut [u8], first: usize, line: &[u8; W])
     }
 }
 
-/// Copies W columns and H rows.
+/// Copies W columns and H rows, one by one.
 #[inline(always)]
-pub fn copy_lines<const W: usize, const H: usize>(
+fn copy_each<const W: usize, const H: usize>(
     p: &[u8],
     from: RowsPlace,
     out: &mut [u8],
@@ -46,5 +46,60 @@ pub fn copy_lines<const W: usize, const H: usize>(
     for y in 0..H {
         let line = line_at::<W>(p, from.first + y * from.stride);
         put_line::<W>(out, to.first + y * to.stride, &line);
+    }
+}
+
+/// The same, counted from the first sample on: an address near it is no sum of its own.
+#[inline(always)]
+fn copy_near<const W: usize, const H: usize>(
+    p: &[u8],
+    from: RowsPlace,
+    out: &mut [u8],
+    to: RowsPlace,
+)
+    requires some { 0 < H }
+    requires source { IsRoom W H from.first from.stride (length p.now) }
+    requires apart { W ≤ to.stride }
+    requires room { IsRoom W H to.first to.stride (length out.old) }
+    ensures { IsStridedSet W H to.first to.stride (λ x y. slice_index p.now (from.first + y * from.stride + x)) out.old out.new }
+{
+    let source = RowsPlace {
+        first: 0,
+        stride: from.stride,
+    };
+    let target = RowsPlace {
+        first: 0,
+        stride: to.stride,
+    };
+    copy_each::<W, H>(&p[from.first..], source, &mut out[to.first..], target);
+}
+
+/// Copies W columns and H rows, where they can be four at a time.
+#[inline(always)]
+pub fn copy_lines<const W: usize, const H: usize>(
+    p: &[u8],
+    from: RowsPlace,
+    out: &mut [u8],
+    to: RowsPlace,
+)
+    requires source { IsRoom W H from.first from.stride (length p.now) }
+    requires apart { W ≤ to.stride }
+    requires room { IsRoom W H to.first to.stride (length out.old) }
+    ensures { IsStridedSet W H to.first to.stride (λ x y. slice_index p.now (from.first + y * from.stride + x)) out.old out.new }
+{
+    if H % 4 != 0 {
+        copy_each::<W, H>(p, from, out, to);
+        return;
+    }
+    for four in 0..H / 4 {
+        let source = RowsPlace {
+            first: from.first + four * (4 * from.stride),
+            stride: from.stride,
+        };
+        let target = RowsPlace {
+            first: to.first + four * (4 * to.stride),
+            stride: to.stride,
+        };
+        copy_near::<W, 4>(p, source, out, target);
     }
 }

@@ -5,7 +5,7 @@ ghost use Rattle.avc_types.specs.Arithmetic.{clip3};
 ghost use Rattle.avc_plane.specs.Plane.{sample, clamped};
 ghost use Rattle.avc_types.specs.Blocks.{block_of};
 ghost use Rattle.avc_inter.specs.Bounds.{IsMoved, IsPlace};
-ghost use Rattle.avc_plane.specs.Padded.{IsSurrounded};
+ghost use Rattle.avc_plane.specs.Padded.{stored_place, IsSurrounded};
 ghost use Rattle.avc_inter.specs.Patch.{IsPatch, IsThere};
 
 use avc_plane::{PaddedPlane, RowsPlace};
@@ -115,6 +115,22 @@ pub fn find_within<const PAD: usize>(
         first: row * stride + column,
         stride,
     })
+}
+
+/// Where the padded rows of a plane have the rectangle whose upper left sample is in column `x` and row `y`.
+#[inline(always)]
+pub fn place_inside<const PAD: usize>(plane: &PaddedPlane<PAD>, x: usize, y: usize) -> RowsPlace
+    requires column { x < plane.now.width }
+    requires row { y < plane.now.height }
+    ensures first { result.first ≡ stored_place PAD plane.now.width x y }
+    ensures stride { result.stride ≡ plane.now.width + 2 * PAD }
+{
+    let stride = plane.width() + 2 * PAD;
+    let _lines = plane.height();
+    RowsPlace {
+        first: (y + PAD) * stride + (x + PAD),
+        stride,
+    }
 }
 
 /// Gives a block the whole samples from `left` and `top` on, each coordinate held inside the plane.

@@ -6,7 +6,7 @@ ghost use Rattle.avc_plane.specs.Strided.{IsRoom, IsStridedSet};
 ghost use Rattle.avc_inter.specs.Bounds.{IsMoved};
 
 use crate::lines::copy_lines;
-use crate::patch::{fetch_held, find_within};
+use crate::patch::{fetch_held, find_within, place_inside};
 use avc_plane::{PaddedPlane, Plane, RowsPlace};
 
 /// Lays whole samples, each coordinate held inside the plane.
@@ -83,4 +83,24 @@ pub fn predict_whole<const W: usize, const H: usize, const PAD: usize>(
     let to = plane.padded_place(x, y);
     let rows = plane.padded_rows_mut();
     lay_whole::<W, H, PAD>(reference, left, top, rows, to);
+}
+
+/// Lays the samples of a rectangle of a reference plane into the same place in a plane.
+#[inline(always)]
+pub fn predict_in_place<const W: usize, const H: usize, const PAD: usize>(
+    reference: &PaddedPlane<PAD>,
+    x: usize,
+    y: usize,
+    plane: &mut Plane<PAD>,
+)
+    requires columns { (1 ≤ W) × (x + W ≤ plane.old.width) × (x + W ≤ reference.now.width) }
+    requires rows { (1 ≤ H) × (y + H ≤ plane.old.height) × (y + H ≤ reference.now.height) }
+    ensures { (f : ℕ → ℕ → ℕ) →
+        ((i j : ℕ) → clamped reference.now.width reference.now.height (sample reference.now) (pos x +ℤ pos i) (pos y +ℤ pos j) ≡ f i j) →
+        plane.new ≡ with_block plane.old x y W H f }
+{
+    let from = place_inside(reference, x, y);
+    let to = plane.padded_place(x, y);
+    let rows = plane.padded_rows_mut();
+    copy_lines::<W, H>(reference.padded_rows(), from, rows, to);
 }

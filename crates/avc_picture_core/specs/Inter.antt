@@ -1,5 +1,5 @@
 -- The samples of an inter macroblock from its reference pictures, ITU-T H.264 clause 8.4.2.
-use Rattle.std.specs.Prelude.{◌≡◌, ℕ, zero, suc, ◌+◌, ◌*◌, ◌/◌, ◌<◌, ◌≤◌, Bool, true, false, List, Option, Some, None, IfSome, Result, Ok, Err, is_some, slice_index_or}
+use Rattle.std.specs.Prelude.{◌≡◌, ℕ, pos, zero, suc, ◌+◌, ◌*◌, ◌/◌, ◌<◌, ◌≤◌, Bool, true, false, List, Option, Some, None, IfSome, Result, Ok, Err, is_some, slice_index_or}
 use Rattle.std.specs.Option.{option_map}
 use Rattle.std.specs.List.{list_all}
 use Rattle.avc_types.specs.Pictures.{Coded}
@@ -99,6 +99,12 @@ pub record IsUsableAt {PAD : ℕ} (column row : ℕ) (p : ReferencePicture PAD) 
 -- and from each of the list
 pub record AreUsableAt {PAD : ℕ} (column row : ℕ) (references : List (Option (ReferencePicture PAD))) : Type 0 where
   pub each : (r : ℕ) → IfSome (slice_index_or references r None) (IsUsableAt column row)
+
+-- By a vector of 0 the samples of the picture are taken over from their places (8.4.2.2), and they are not weighted.
+pub record IsCopied {PAD : ℕ} (p : ReferencePicture PAD) (v : Mv) : Type 0 where
+  pub across : v.x ≡ pos 0
+  pub down : v.y ≡ pos 0
+  pub weights : p.weights ≡ None
 
 -- what the samples of the macroblock in this column and row are to be
 abbrev pub wanted : {PAD : ℕ} → List (Option (ReferencePicture PAD)) → (column row : ℕ) → List Motion → (k x y : ℕ) → ℕ

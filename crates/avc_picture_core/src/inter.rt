@@ -1,6 +1,7 @@
 //! The samples of inter macroblocks (8.4.2).
 
 ghost use Rattle.std.specs.Prelude.{◌≡◌, ℕ, ◌+◌, ◌*◌, ◌/◌, ◌%◌, ◌<◌, ◌≤◌, true, is_some};
+ghost use Rattle.std.specs.Option.{option_copied};
 ghost use Rattle.avc_types.specs.Pictures.{Coded};
 ghost use Rattle.avc_neigh.specs.Blocks.{block_at};
 ghost use Rattle.avc_motion.specs.Motion.{AreOfOneMotion};
@@ -10,7 +11,7 @@ ghost use Rattle.avc_plane.specs.Frames.{planes_of};
 ghost use Rattle.avc_picture_core.specs.Inter.{AreUsableAt, CoverMacroblock, HaveOneMotion, IsInterPredicted};
 ghost use Rattle.avc_picture_core.specs.Inter.{IsMacroblockShape, have_pictures, picture_in, wanted, with_part};
 
-use crate::parts::set_part;
+use crate::parts::{set_macroblock, set_part};
 use crate::places::{Corner, MbPlace, PictureSize};
 use crate::references::ReferencePicture;
 use crate::shape::{Shape, macroblock_shape, quarter_shape};
@@ -19,16 +20,28 @@ use avc_plane::Planes;
 use avc_types::Fault;
 
 /// The picture that a block is predicted from.
-fn picture_of<'a, const PAD: usize>(
-    references: &[Option<ReferencePicture<'a, PAD>>],
+fn picture_of<'r, 'a, const PAD: usize>(
+    references: &'r [Option<ReferencePicture<'a, PAD>>],
     motion: Motion,
-) -> Option<ReferencePicture<'a, PAD>>
-    ensures { result ≡ picture_in references.now motion }
+) -> Option<&'r ReferencePicture<'a, PAD>>
+    ensures { option_copied result ≡ picture_in references.now motion }
 {
     match motion {
         Motion::Absent | Motion::Intra => None,
-        Motion::Inter { ref_idx, .. } => { references.get(usize::from(ref_idx)).copied().flatten() }
+        Motion::Inter { ref_idx, .. } => match references.get(usize::from(ref_idx)) {
+            Some(Some(picture)) => Some(picture),
+            _ => None,
+        },
     }
+}
+
+fn has_picture<const PAD: usize>(
+    references: &[Option<ReferencePicture<'_, PAD>>],
+    motion: Motion,
+) -> bool
+    ensures { result ≡ is_some (picture_in references.now motion) }
+{
+    picture_of(references, motion).is_some()
 }
 
 /// Whether each block of a macroblock with this shape has a picture to be predicted from.
@@ -42,11 +55,11 @@ fn have_pictures<const PAD: usize>(
     ensures { result ≡ have_pictures references.now motion.now }
 {
     match shape {
-        Shape::Whole => picture_of(references, motion[0]).is_some(),
+        Shape::Whole => has_picture(references, motion[0]),
         _ => motion.iter().all(
             |block| -> bool
                 ensures { result ≡ is_some (picture_in references.entry.now block.now) }
-            { picture_of(references, *block).is_some() },
+            { has_picture(references, *block) },
         ),
     }
 }
@@ -82,6 +95,26 @@ fn predict_part<const W: usize, const H: usize, const CW: usize, const CH: usize
     let block = motion[block_at(corner.x, corner.y)];
     if let (Motion::Inter { mv, .. }, Some(picture)) = (block, picture_of(references, block)) {
         set_part::<W, H, CW, CH, PAD>(picture, mv, place, corner, planes);
+    }
+}
+
+/// Predicts a macroblock whose blocks have one motion.
+fn predict_whole<const PAD: usize>(
+    references: &[Option<ReferencePicture<'_, PAD>>],
+    place: MbPlace,
+    motion: &[Motion; 16],
+    planes: &mut Planes<PAD>,
+)
+    requires macroblock { CoverMacroblock place.column place.row (planes_of planes.old) }
+    requires usable { AreUsableAt place.column place.row references.now }
+    requires pictures { have_pictures references.now motion.now ≡ true }
+    requires one { HaveOneMotion motion.now 0 0 16 16 }
+    ensures { planes_of planes.new
+        ≡ with_part place.column place.row 0 0 16 16 (wanted references.now place.column place.row motion.now) (planes_of planes.old) }
+{
+    let block = motion[0];
+    if let (Motion::Inter { mv, .. }, Some(picture)) = (block, picture_of(references, block)) {
+        set_macroblock(picture, mv, place, planes);
     }
 }
 
@@ -253,9 +286,7 @@ fn predict_macroblock<const PAD: usize>(
 {
     let corner = Corner { x: 0, y: 0 };
     match shape {
-        Shape::Whole => {
-            predict_part::<16, 16, 8, 8, PAD>(references, place, motion, corner, planes)
-        }
+        Shape::Whole => predict_whole(references, place, motion, planes),
         Shape::WideHalves => {
             predict_wide_halves::<16, 8, 8, 4, PAD>(references, place, motion, corner, planes)
         }

@@ -1,6 +1,6 @@
 //! The inter prediction of one rectangle of a macroblock (8.4.2).
 
-ghost use Rattle.std.specs.Prelude.{◌≡◌, ◌+◌, ◌*◌, ◌/◌, ◌%◌, ◌<◌, ◌≤◌, Some, IfSome, length, map, slice_index};
+ghost use Rattle.std.specs.Prelude.{◌≡◌, ◌+◌, ◌*◌, ◌/◌, ◌%◌, ◌<◌, ◌≤◌, true, Some, IfSome, length, map, slice_index};
 ghost use Rattle.std.specs.Option.{option_map};
 ghost use Rattle.avc_plane.specs.Frames.{planes_of};
 ghost use Rattle.avc_plane.specs.Plane.{sample, with_block};
@@ -8,11 +8,11 @@ ghost use Rattle.avc_inter.specs.Luma.{inter_luma};
 ghost use Rattle.avc_inter.specs.Chroma.{inter_chroma};
 ghost use Rattle.avc_picture_core.specs.Built.{component_weight, size_of, weighted_by};
 ghost use Rattle.avc_picture_core.specs.References.{AreWeights, IsWeight};
-ghost use Rattle.avc_picture_core.specs.Inter.{CoverMacroblock, IsUsableAt, predicted_from, with_part};
+ghost use Rattle.avc_picture_core.specs.Inter.{CoverMacroblock, IsCopied, IsUsableAt, predicted_from, with_part};
 
 use crate::places::{Corner, MbPlace};
 use crate::references::ReferencePicture;
-use avc_inter::{chroma, luma, predict_chroma, predict_luma, weight};
+use avc_inter::{chroma, copy_chroma, copy_luma, luma, predict_chroma, predict_luma, weight};
 use avc_plane::{PaddedPlane, Plane, Planes};
 use avc_types::{Block, Mv, Weight, Weights};
 
@@ -138,6 +138,47 @@ fn set_chroma<const W: usize, const H: usize, const PAD: usize>(
     }
 }
 
+/// Whether the samples of a picture are taken over from their places by this vector (8.4.2.2), without a weight (8.4.2.3).
+#[inline(always)]
+fn is_copied<const PAD: usize>(picture: &ReferencePicture<'_, PAD>, mv: Mv) -> bool
+    ensures { result ≡ true → IsCopied picture.now mv }
+{
+    mv.x == 0 && mv.y == 0 && picture.weights.is_none()
+}
+
+/// Predicts a rectangle of W columns and H rows of luma, and of CW and CH of each chroma component, from one picture by a vector of 0,
+/// without weights.
+#[inline(never)]
+fn copy_part<const W: usize, const H: usize, const CW: usize, const CH: usize, const PAD: usize>(
+    picture: &ReferencePicture<'_, PAD>,
+    mv: Mv,
+    place: MbPlace,
+    corner: Corner,
+    planes: &mut Planes<PAD>,
+)
+    requires columns { (1 ≤ CW) × (W ≡ 2 * CW) × (corner.x + W ≤ 16) }
+    requires rows { (1 ≤ CH) × (H ≡ 2 * CH) × (corner.y + H ≤ 16) }
+    requires even { (corner.x % 2 ≡ 0) × (corner.y % 2 ≡ 0) }
+    requires macroblock { CoverMacroblock place.column place.row (planes_of planes.old) }
+    requires usable { IsUsableAt place.column place.row picture.now }
+    requires copied { IsCopied picture.now mv }
+    ensures { planes_of planes.new ≡ with_part place.column place.row corner.x corner.y W H
+        (λ k x y. predicted_from picture.now mv k (size_of k * place.column + x) (size_of k * place.row + y)) (planes_of planes.old) }
+{
+    let reference = picture.planes;
+    let width = reference.luma.width();
+    let height = reference.luma.height();
+    prove!(16 * place.column + 16 <= width);
+    prove!(16 * place.row + 16 <= height);
+    let x = 16 * place.column + corner.x;
+    let y = 16 * place.row + corner.y;
+    copy_luma::<W, H, PAD>(&reference.luma, x, y, &mut planes.luma);
+    let x = 8 * place.column + corner.x / 2;
+    let y = 8 * place.row + corner.y / 2;
+    copy_chroma::<CW, CH, PAD>(&reference.cb, x, y, &mut planes.cb);
+    copy_chroma::<CW, CH, PAD>(&reference.cr, x, y, &mut planes.cr);
+}
+
 /// Predicts a rectangle of W columns and H rows of luma, and of CW and CH of each chroma component, from one picture by one vector.
 pub(crate) fn set_part<
     const W: usize,
@@ -146,7 +187,7 @@ pub(crate) fn set_part<
     const CH: usize,
     const PAD: usize,
 >(
-    picture: ReferencePicture<'_, PAD>,
+    picture: &ReferencePicture<'_, PAD>,
     mv: Mv,
     place: MbPlace,
     corner: Corner,
@@ -156,9 +197,9 @@ pub(crate) fn set_part<
     requires rows { (1 ≤ CH) × (H ≡ 2 * CH) × (CH % 2 ≡ 0) × (corner.y + H ≤ 16) }
     requires even { (corner.x % 2 ≡ 0) × (corner.y % 2 ≡ 0) }
     requires macroblock { CoverMacroblock place.column place.row (planes_of planes.old) }
-    requires usable { IsUsableAt place.column place.row picture }
+    requires usable { IsUsableAt place.column place.row picture.now }
     ensures { planes_of planes.new ≡ with_part place.column place.row corner.x corner.y W H
-        (λ k x y. predicted_from picture.entry mv k (size_of k * place.column + x) (size_of k * place.row + y)) (planes_of planes.old) }
+        (λ k x y. predicted_from picture.now mv k (size_of k * place.column + x) (size_of k * place.row + y)) (planes_of planes.old) }
 {
     let reference = picture.planes;
     let half = Corner {
@@ -189,4 +230,24 @@ pub(crate) fn set_part<
         half,
         &mut planes.cr,
     );
+}
+
+/// Predicts a macroblock from one picture by one vector.
+pub(crate) fn set_macroblock<const PAD: usize>(
+    picture: &ReferencePicture<'_, PAD>,
+    mv: Mv,
+    place: MbPlace,
+    planes: &mut Planes<PAD>,
+)
+    requires macroblock { CoverMacroblock place.column place.row (planes_of planes.old) }
+    requires usable { IsUsableAt place.column place.row picture.now }
+    ensures { planes_of planes.new ≡ with_part place.column place.row 0 0 16 16
+        (λ k x y. predicted_from picture.now mv k (size_of k * place.column + x) (size_of k * place.row + y)) (planes_of planes.old) }
+{
+    let corner = Corner { x: 0, y: 0 };
+    if is_copied(picture, mv) {
+        copy_part::<16, 16, 8, 8, PAD>(picture, mv, place, corner, planes);
+    } else {
+        set_part::<16, 16, 8, 8, PAD>(picture, mv, place, corner, planes);
+    }
 }

@@ -2,6 +2,6 @@ use Rattle.std.proofs.Common.{◌+◌, ◌*◌, slice_index}
 use Rattle.avc_plane.specs.Strided.{IsStridedSet}
 use Rattle.avc_inter.proofs.lines.copy_lines.Given as goal
 
-abbrev pub invariant-loop-y : goal.invariant-loop-y
-invariant-loop-y g l =
-    IsStridedSet g.row.W l.y l.to.first l.to.stride (λ x y. slice_index l.p (l.from.first + y * l.from.stride + x)) l.fn.out l.out
+abbrev pub invariant-loop-four : goal.invariant-loop-four
+invariant-loop-four g l =
+    IsStridedSet g.row.W (4 * l.four) l.to.first l.to.stride (λ x y. slice_index l.p (l.from.first + y * l.from.stride + x)) l.fn.out l.out

@@ -5,7 +5,7 @@ use Rattle.avc_picture_core.proofs.parts.set_part.Goals as goal
 pub returns : goal.returns
 returns g c =
     let a = c.args in
-    part_predicted a.picture a.mv a.place.column a.place.row a.corner.x a.corner.y g.row.W g.row.H g.row.CW g.row.CH
+    part_predicted a.picture.now a.mv a.place.column a.place.row a.corner.x a.corner.y g.row.W g.row.H g.row.CW g.row.CH
     c.component_weight.result c.component_weight-2.result c.component_weight-3.result
     (planes_of a.planes.now) (record { luma = c.set_luma.new.plane; cb = c.set_chroma.new.plane; cr = c.set_chroma-2.new.plane })
     c.requires.columns.1 c.requires.rows.1

@@ -1,0 +1,7 @@
+use Rattle.std.proofs.Common.{◌+◌, ◌*◌, slice_index}
+use Rattle.avc_plane.specs.Strided.{IsStridedSet}
+use Rattle.avc_inter.proofs.lines.copy_each.Given as goal
+
+abbrev pub invariant-loop-y : goal.invariant-loop-y
+invariant-loop-y g l =
+    IsStridedSet g.row.W l.y l.to.first l.to.stride (λ x y. slice_index l.p (l.from.first + y * l.from.stride + x)) l.fn.out l.out

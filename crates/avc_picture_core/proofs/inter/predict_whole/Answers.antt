@@ -1,0 +1,15 @@
+use Rattle.std.proofs.Common.{refl, sym, ap, ◌∙◌}
+use Rattle.std.specs.Option.{option_copied}
+use Rattle.avc_plane.specs.Frames.{planes_of}
+use Rattle.avc_picture_core.specs.Inter.{picture_in}
+use Rattle.avc_picture_core.proofs.Predicting.{part_is}
+use Rattle.avc_picture_core.proofs.inter.predict_whole.Goals as goal
+
+pub returns-in-Inter-Some : goal.returns-in-Inter-Some
+returns-in-Inter-Some g c =
+    let a = c.args in
+    let i = c.in-Inter-Some in
+    part_is a.references.now a.place.column a.place.row a.motion.now 0 0 16 16 i.ref_idx-0 i.mv i.picture.now (planes_of a.planes.now) (planes_of c.set_macroblock.new.planes)
+    refl refl c.requires.one i.is-0
+    (ap (picture_in a.references.now) (sym i.is-0) ∙ sym c.picture_of.ensures ∙ ap option_copied i.is-1)
+    c.set_macroblock.ensures
