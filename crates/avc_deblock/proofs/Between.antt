@@ -9,8 +9,8 @@ use Rattle.avc_types.specs.Pictures.{Coded}
 use Rattle.avc_neigh.specs.declared.facts.Motion.{Motion}
 use Rattle.avc_neigh.specs.declared.facts.Motion.TheVariants.{Absent as absent, Inter as inter}
 use Rattle.avc_motion.specs.Motion.{is_intra, zero_vector}
-use Rattle.avc_deblock.specs.Edges.{mb_at, has_coefficients, picture_named, moves_differently, strength_between}
-use Rattle.avc_deblock.specs.Facts.{Names, HasFacts, has_bit, are_far, inter_strength, edge_block}
+use Rattle.avc_deblock.specs.Edges.{mb_at, picture_named, moves_differently, strength_between}
+use Rattle.avc_deblock.specs.Facts.{Names, HasFacts, are_far, inter_strength, edge_block}
 use Rattle.avc_deblock.specs.declared.facts.MbFacts.{MbFacts}
 
 -- entries are equal where the numbers are
@@ -36,30 +36,21 @@ inter_between c motion names pa qa p kp q kq kp_low kq_low hp hq np nq =
     let y = slice_index q.pictures (kq / 4) in
     let m = slice_index_or (slice_index_or motion pa []) kp absent in
     let n = slice_index_or (slice_index_or motion qa []) kq absent in
-    let form : Bool → Bool → Bool → Bool → Bool → ℕ =
-    λ (a : Bool) (b : Bool) (s : Bool) (t : Bool) (d : Bool). if a || b then (if pa == qa then 3 else 4) else (if s || t then 2 else (if d then 1 else 0)) in
     let sp = (mb_at c pa).mb.syntax in
     let sq = (mb_at c qa).mb.syntax in
     let moves : moves_differently c pa qa m n ≡ (not (x == y) || are_far u v) =
     ap (λ (z : Motion). moves_differently c pa qa z n) mp.is ∙ ap (λ (z : Motion). moves_differently c pa qa (inter mp.reference u) z) mq.is
     ∙ named_both c pa qa mp.reference mq.reference u v (names.entry x) (names.entry y) mp.picture mq.picture
     ∙ ap (λ (z : Bool). not z || are_far u v) (same_entry names x y mp.named mq.named) in
-    sym (ap (λ (z : Bool). form z (is_intra sq) (has_coefficients sp kp) (has_coefficients sq kq) (moves_differently c pa qa m n)) (sym hp.intra_is ∙ np)
-    ∙ ap (λ (z : Bool). form false z (has_coefficients sp kp) (has_coefficients sq kq) (moves_differently c pa qa m n)) (sym hq.intra_is ∙ nq)
-    ∙ ap (λ (z : Bool). form false false z (has_coefficients sq kq) (moves_differently c pa qa m n)) (sym (hp.coefficients_is kp kp_low))
-    ∙ ap (λ (z : Bool). form false false (has_bit p.coefficients kp) z (moves_differently c pa qa m n)) (sym (hq.coefficients_is kq kq_low))
-    ∙ ap (form false false (has_bit p.coefficients kp) (has_bit q.coefficients kq)) moves)
+    rw (sym hp.intra_is ∙ np, sym hq.intra_is ∙ nq, sym (hp.coefficients_is kp kp_low), sym (hq.coefficients_is kq kq_low), moves) refl
 
 pub intra_between : (c : Coded) (motion : List (List Motion)) (names : Names) (pa qa : ℕ) (p : MbFacts) (kp : ℕ) (q : MbFacts) (kq : ℕ) →
     HasFacts c motion names pa p → HasFacts c motion names qa q → (p.is_intra || q.is_intra) ≡ true → strength_between c motion pa kp qa kq ≡ (if pa == qa then 3 else 4)
 intra_between c motion names pa qa p kp q kq hp hq either =
     let sp = (mb_at c pa).mb.syntax in
     let sq = (mb_at c qa).mb.syntax in
-    let is : (is_intra sp || is_intra sq) ≡ true =
-    ap (λ (z : Bool). z || is_intra sq) (sym hp.intra_is) ∙ ap (λ (z : Bool). p.is_intra || z) (sym hq.intra_is) ∙ either in
-    let m = slice_index_or (slice_index_or motion pa []) kp absent in
-    let n = slice_index_or (slice_index_or motion qa []) kq absent in
-    ap (λ (z : Bool). if z then (if pa == qa then 3 else 4) else (if has_coefficients sp kp || has_coefficients sq kq then 2 else (if moves_differently c pa qa m n then 1 else 0))) is
+    let is : (is_intra sp || is_intra sq) ≡ true = rw (sym hp.intra_is, sym hq.intra_is) either in
+    rw is refl
 
 pub both_false : (a b : Bool) → (a || b) ≡ false → (a ≡ false) × (b ≡ false)
 both_false true b e = absurd (cc)

@@ -1,6 +1,6 @@
 -- Where all blocks of a macroblock have one motion and none has coefficients, all strengths inside it are 0.
-use Rattle.std.proofs.Common.{◌≡◌, ◌∙◌, ℕ, ◌/◌, ◌%◌, ◌^◌, ◌<◌, Bool, true, false, slice_index, arith, ap}
-use Rattle.std.specs.Prelude.{◌==◌, nat_le, nat_abs, ◌-ℤ◌, not, ◌||◌, if◌then◌else◌, slice_index_or}
+use Rattle.std.proofs.Common.{◌≡◌, ◌∙◌, ℕ, ◌/◌, ◌%◌, ◌^◌, ◌<◌, true, false, slice_index, arith, refl, ap}
+use Rattle.std.specs.Prelude.{◌==◌, nat_le, nat_abs, ◌-ℤ◌, ◌||◌, slice_index_or}
 use Rattle.std.proofs.Math.Nat.{zero-div}
 use Rattle.std.proofs.lemmas.Bool.Decides.{nat_tests}
 use Rattle.std.proofs.lemmas.Int.{ints}
@@ -27,14 +27,9 @@ pub one_motion : (f : MbFacts) → f.coefficients ≡ 0 → ((k : ℕ) → k < 4
 one_motion f none pictures vectors j k j_low k_low =
     let m = slice_index f.pictures 0 in
     let u = slice_index_or f.vectors 0 zero_vector in
-    let form : Bool → Bool → Bool → Bool → ℕ =
-    λ (a : Bool) (b : Bool) (s : Bool) (d : Bool). if a || b then 2 else (if not s || d then 1 else 0) in
     let bit : (i : ℕ) → has_bit f.coefficients i ≡ false = (λ i. ap (λ n. has_bit n i) none ∙ no_bit i) in
     let same : (slice_index f.pictures (j / 4) == slice_index f.pictures (k / 4)) ≡ true =
     ap (λ n. n == slice_index f.pictures (k / 4)) (pictures (j / 4) (omega (arith, j_low))) ∙ ap (λ n. m == n) (pictures (k / 4) (omega (arith, k_low))) ∙ one_picture m in
     let near : are_far (slice_index_or f.vectors j zero_vector) (slice_index_or f.vectors k zero_vector) ≡ false =
     ap (λ (v : Mv). are_far v (slice_index_or f.vectors k zero_vector)) (vectors j j_low) ∙ ap (λ (v : Mv). are_far u v) (vectors k k_low) ∙ not_far u in
-    ap (λ (b : Bool). form b (has_bit f.coefficients k) (slice_index f.pictures (j / 4) == slice_index f.pictures (k / 4)) (are_far (slice_index_or f.vectors j zero_vector) (slice_index_or f.vectors k zero_vector))) (bit j)
-    ∙ ap (λ (b : Bool). form false b (slice_index f.pictures (j / 4) == slice_index f.pictures (k / 4)) (are_far (slice_index_or f.vectors j zero_vector) (slice_index_or f.vectors k zero_vector))) (bit k)
-    ∙ ap (λ (b : Bool). form false false b (are_far (slice_index_or f.vectors j zero_vector) (slice_index_or f.vectors k zero_vector))) same
-    ∙ ap (form false false true) near
+    rw (bit j, bit k, same, near) refl

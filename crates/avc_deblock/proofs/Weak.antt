@@ -1,9 +1,9 @@
 -- A line at a strength below 4 from its four new samples.
-use Rattle.std.proofs.Common.{◌≡◌, ℕ, ℤ, zero, suc, ◌+◌, ◌<◌, pos, negsuc, ◌+ℤ◌, ◌-ℤ◌, nat_abs, nat_lt, min, ◌==◌, Bool, true, false, not, ◌&&◌, if◌then◌else◌, arith, refl, ap, ◌∙◌, sym}
+use Rattle.std.proofs.Common.{◌≡◌, ℕ, ℤ, zero, suc, ◌+◌, ◌<◌, pos, negsuc, ◌+ℤ◌, ◌-ℤ◌, nat_abs, nat_lt, min, ◌==◌, Bool, true, false, ◌&&◌, if◌then◌else◌, arith, refl, ap, ◌∙◌, sym}
 use Rattle.std.proofs.lemmas.Bool.Decides.{nat_tests}
 use Rattle.std.proofs.lemmas.Int.{ints}
 use Rattle.avc_types.specs.Arithmetic.{clip1, distance}
-use Rattle.avc_deblock.specs.Line.{Setting, Line, filtered, filtered_weakly, filtered_strongly}
+use Rattle.avc_deblock.specs.Line.{Setting, Line, filtered, filtered_weakly}
 use Rattle.avc_deblock.specs.Rows.{line, IsWeak, slope, bend, held}
 
 held_at_none : (z : ℤ) → held 0 z ≡ pos 0
@@ -55,16 +55,13 @@ none_below x = grind (arith, nat_tests)
 pub filtered_at : (f : Bool) (n a alpha b t : ℕ) (l : Line) → n < 4 → alpha ≡ (if n == 0 then 0 else a) →
     filtered (any_at f n a b t) l ≡ (if nat_lt (distance l.p0 l.q0) alpha && nat_lt (distance l.p1 l.p0) b && nat_lt (distance l.q1 l.q0) b then filtered_weakly (any_at f n a b t) l else l)
 filtered_at f zero a alpha b t l h e =
-    let none : nat_lt (distance l.p0 l.q0) alpha ≡ false = ap (λ (n : ℕ). nat_lt (distance l.p0 l.q0) n) e ∙ none_below (distance l.p0 l.q0) in
-    ap (λ (g : Bool). if g && nat_lt (distance l.p1 l.p0) b && nat_lt (distance l.q1 l.q0) b then filtered_weakly (any_at f 0 a b t) l else l) (sym none)
+    let none : nat_lt (distance l.p0 l.q0) alpha ≡ false = rw e (none_below (distance l.p0 l.q0)) in
+    rw none refl
 filtered_at f (suc n) a alpha b t l h e =
     let none : (suc n == 0) ≡ false = grind (arith, nat_tests) in
     let four : (suc n == 4) ≡ false = grind (arith, nat_tests) in
-    let same : alpha ≡ a = e ∙ ap (λ (z : Bool). if z then 0 else a) none in
-    let s : Setting = any_at f (suc n) a b t in
-    let form : Bool → Bool → ℕ → Line = λ (z : Bool) (g : Bool) (k : ℕ).
-    if not z && nat_lt (distance l.p0 l.q0) k && nat_lt (distance l.p1 l.p0) b && nat_lt (distance l.q1 l.q0) b then (if g then filtered_strongly s l else filtered_weakly s l) else l in
-    ap (λ (z : Bool). form z (suc n == 4) a) none ∙ ap (λ (g : Bool). form false g a) four ∙ ap (form false false) (sym same)
+    let same : alpha ≡ a = rw none at e in
+    rw (same, none, four) refl
 
 setting_is : (s : Setting) (alpha beta tc0 : ℕ) → IsWeak s alpha beta tc0 → s ≡ weak_at s.strength s.alpha beta tc0
 setting_is s alpha beta tc0 w = rw (w.beta_is, w.tc0_is) (ap (λ (f : Bool). any_at f s.strength s.alpha s.beta s.tc0) w.luma)
@@ -87,9 +84,8 @@ pub limit_is : (on sp sq up uq : Bool) (t tc : ℕ) → sp ≡ up → sq ≡ uq 
     tc ≡ (if on then min (t + (if sp then 1 else 0) + (if sq then 1 else 0)) 255 else 0) →
     tc ≡ min (if on then t + (if up then 1 else 0) + (if uq then 1 else 0) else 0) 255
 limit_is on sp sq up uq t tc p q h =
-    min_either on (t + (if up then 1 else 0) + (if uq then 1 else 0)) tc
-    (h ∙ ap (λ (b : Bool). if on then min (t + (if b then 1 else 0) + (if sq then 1 else 0)) 255 else 0) p
-    ∙ ap (λ (b : Bool). if on then min (t + (if up then 1 else 0) + (if b then 1 else 0)) 255 else 0) q)
+    let same = rw (p, q) at h in
+    min_either on (t + (if up then 1 else 0) + (if uq then 1 else 0)) tc same
 
 pub second_is : (on sp up : Bool) (t limit r : ℕ) (p : ℕ) (z : ℤ) → sp ≡ up → limit ≡ (if on && sp then t else 0) → r ≡ nat_abs (pos p +ℤ held limit z) →
     r ≡ nat_abs (pos p +ℤ held (if on && up then t else 0) z)

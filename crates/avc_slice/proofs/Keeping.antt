@@ -11,23 +11,26 @@ use Rattle.avc_bits.proofs.Giving.{bind-ok, left}
 abbrev pub total : Bits → ℕ
 total b = b.position + length b.ahead
 
-abbrev pub Keeps : {A : Type 0} → Read A → Type 0
+unfoldable pub Keeps : {A : Type 0} → Read A → Type 0
 Keeps {A} part = (b next : Bits) (x : A) → part b ≡ Ok (x, next) → total next ≡ total b
 
 pub keeps-bind : {A B : Type 0} (part : Read A) (after : A → Read B) → Keeps part → ((x : A) → Keeps (after x)) → Keeps (part >>= after)
+unfolding Keeps
 keeps-bind part after g h b next y f =
     let between = bind-ok part after b next y f in
     h between.0 between.1 next y between.3 ∙ g b between.1 between.0 between.2
 
 pub keeps-give : {A : Type 0} (x : A) → Keeps (give x)
+unfolding Keeps
 keeps-give x b next y e = ap (λ r. total (left b r)) (sym e)
 
-pub keeps-refuse : {A : Type 0} (f : Fault) → Keeps {A = A} (refuse f)
-keeps-refuse f b next x e = cc
+pub keeps-refuse : (A : Type 0) (f : Fault) → Keeps {A = A} (refuse f)
+unfolding Keeps
+keeps-refuse A f b next x e = cc
 
 pub keeps-check : (test : Bool) (fault : Fault) → Keeps (check test fault)
 keeps-check true fault = keeps-give tt
-keeps-check false fault = keeps-refuse fault
+keeps-check false fault = keeps-refuse _ fault
 
 pub keeps-where_set : {A : Type 0} (set : Bool) (part : Read A) → Keeps part → Keeps (where_set set part)
 keeps-where_set true part g = keeps-bind part _ g (λ x. keeps-give (Some x))
@@ -56,6 +59,7 @@ bits-by n b next (Some p) x is e =
 bits-by n b next None x is e = let read = rw (is, bits) at e in cc
 
 pub keeps-u : (n : ℕ) → Keeps (u n)
+unfolding Keeps
 keeps-u n = keeps-bind (bits n) _ (λ b next x e. bits-by n b next (split n b.ahead) x refl e) (λ word. keeps-give (number_of word))
 
 pub keeps-flag : Keeps flag
@@ -82,6 +86,7 @@ zeros-by limit fault b next (Ok p) x is e =
 zeros-by limit fault b next (Err f) x is e = let wrong = rw (is, zeros_before_one) at e in cc
 
 pub keeps-ue : Keeps ue
+unfolding Keeps
 keeps-ue =
     keeps-bind (zeros_before_one 31 CodeTooLong) _ (λ b next x e. zeros-by 31 CodeTooLong b next (zeros 31 CodeTooLong 0 b.ahead) x refl e) (λ n.
     keeps-bind (u n) _ (keeps-u n) (λ m. keeps-give _))
@@ -98,3 +103,6 @@ keeps-se = keeps-bind ue _ keeps-ue (λ k. keeps-give (signed_value k))
 
 pub keeps-se_within : (low high : ℤ) → Keeps (se_within low high)
 keeps-se_within low high = keeps-checked se _ _ keeps-se
+
+-- of which a part is made
+pub ruleset parts_keep = (keeps-bind, keeps-give, keeps-refuse, keeps-check, keeps-where_set, keeps-u, keeps-flag, keeps-ue, keeps-ue_to, keeps-se, keeps-se_within)

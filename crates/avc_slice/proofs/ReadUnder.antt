@@ -3,7 +3,7 @@ use Rattle.std.proofs.Common.{◌≡◌, ◌<◌, ◌≤◌, ◌+◌, ◌/◌, �
 use Rattle.std.proofs.lemmas.Bool.{ltb-true, and_parts, false≢true}
 use Rattle.std.proofs.lemmas.Int.{ints}
 use Rattle.avc_types.specs.declared.fault.Fault.{Fault}
-use Rattle.avc_types.specs.declared.fault.Fault.TheVariants.{BadMarking, BadRefList, NoParameterSet}
+use Rattle.avc_types.specs.declared.fault.Fault.TheVariants.{BadMarking, NoParameterSet}
 use Rattle.avc_types.specs.declared.edges.FilteredEdges.{FilteredEdges}
 use Rattle.avc_types.specs.declared.edges.FilteredEdges.TheVariants.{All, NoEdges, WithinSlice}
 use Rattle.avc_types.specs.declared.references.Marking.TheVariants.{Adaptive, Idr}
@@ -19,7 +19,7 @@ use Rattle.avc_params.specs.declared.sps.OrderCount.TheVariants as orders
 use Rattle.avc_params.specs.declared.sps.Sps.{Sps}
 use Rattle.avc_slice.specs.Filling.{filled}
 use Rattle.avc_slice.specs.Header.{is_idr, is_idr_marking, is_reference, has_idr_marking, is_p_type, slice_qp}
-use Rattle.avc_slice.specs.Reading.{active_count, active_override, back, coded_order, deblocking, filtering, found, front, header_in_rbsp, header_of, idr_pic_id, is_qp, list_part, marking, modification, modification_list, modifications, most_operations, no_edges, numbers, offset_pair, operation, operations, optional_se, overridden_count, p_list, position_here, primary, redundant_pic_cnt, slice_type_of, unless_ended, up_to, value_or_fault}
+use Rattle.avc_slice.specs.Reading.{active_count, active_override, back, coded_order, deblocking, filtering, found, front, header_in_rbsp, header_of, idr_pic_id, is_qp, list_part, marking, modification, modification_list, most_operations, no_edges, numbers, offset_pair, operation, operations, optional_se, overridden_count, p_list, position_here, redundant_pic_cnt, slice_type_of, unless_ended, up_to, value_or_fault}
 use Rattle.avc_slice.specs.WeightsReading.{pred_weight_table}
 use Rattle.avc_slice.specs.Within.{IsDeblocking, IsPredWeightTable, IsReadUnder}
 use Rattle.avc_slice.specs.declared.header.Header.{Header}
@@ -28,7 +28,7 @@ use Rattle.avc_slice.specs.declared.parts.Front.{Front}
 use Rattle.avc_slice.specs.declared.parts.ListPart.{ListPart}
 use Rattle.avc_slice.specs.declared.parts.Numbers.{Numbers}
 use Rattle.avc_slice.proofs.WeightsRead.{gives-table, keeps-table}
-use Rattle.avc_slice.proofs.Keeping.{Keeps, total, keeps-bind, keeps-give, keeps-refuse, keeps-check, keeps-where_set, keeps-u, keeps-flag, keeps-ue, keeps-ue_to, keeps-se, keeps-se_within}
+use Rattle.avc_slice.proofs.Keeping.{Keeps, total, parts_keep, keeps-bind, keeps-give, keeps-refuse, keeps-check, keeps-where_set, keeps-flag, keeps-ue_to, keeps-se}
 
 -- ---- nothing but what stood ahead is passed
 
@@ -37,10 +37,8 @@ keeps-optional_se true = keeps-se
 keeps-optional_se false = keeps-give (pos 0)
 
 keeps-coded_order : (order : OrderCount) (bottom_present : Bool) → Keeps (coded_order order bottom_present)
-keeps-coded_order (orders.Type0 log2_minus4) bottom_present =
-    keeps-bind (u (log2_minus4 + 4)) _ (keeps-u (log2_minus4 + 4)) (λ lsb. keeps-bind (optional_se bottom_present) _ (keeps-optional_se bottom_present) (λ bottom. keeps-give _))
-keeps-coded_order (orders.Type1 always_zero _ _ _) bottom_present =
-    keeps-bind (optional_se (not always_zero)) _ (keeps-optional_se _) (λ first. keeps-bind (optional_se (not always_zero && bottom_present)) _ (keeps-optional_se _) (λ second. keeps-give _))
+keeps-coded_order (orders.Type0 log2_minus4) bottom_present = search (parts_keep, keeps-optional_se)
+keeps-coded_order (orders.Type1 always_zero _ _ _) bottom_present = search (parts_keep, keeps-optional_se)
 keeps-coded_order orders.Type2 bottom_present = keeps-give _
 
 keeps-unless_ended : {A : Type 0} (ended : Bool) (others : Read (List A)) → Keeps others → Keeps (unless_ended ended others)
@@ -48,31 +46,30 @@ keeps-unless_ended true others g = keeps-give []
 keeps-unless_ended false others g = g
 
 keeps-up_to : {A : Type 0} (code : Read ℕ) (stop : ℕ) (item : ℕ → Read A) (fault : Fault) (room : ℕ) → Keeps code → ((n : ℕ) → Keeps (item n)) → Keeps (up_to code stop item fault room)
-keeps-up_to code stop item fault zero g h = keeps-bind code _ g (λ last. keeps-bind (check (last == stop) fault) _ (keeps-check _ _) (λ _. keeps-give []))
+keeps-up_to code stop item fault zero g h = search parts_keep
 keeps-up_to code stop item fault (suc room) g h =
     keeps-bind code _ g (λ next. keeps-unless_ended (next == stop) _
     (keeps-bind (item next) _ (h next) (λ one. keeps-bind (up_to code stop item fault room) _ (keeps-up_to code stop item fault room g h) (λ others. keeps-give _))))
 
 keeps-modification : (most idc : ℕ) → Keeps (modification most idc)
-keeps-modification most zero = keeps-bind (ue_to most) _ (keeps-ue_to most) (λ n. keeps-give _)
-keeps-modification most (suc zero) = keeps-bind (ue_to most) _ (keeps-ue_to most) (λ n. keeps-give _)
-keeps-modification most (suc (suc _)) = keeps-bind ue _ keeps-ue (λ n. keeps-give _)
+keeps-modification most zero = search parts_keep
+keeps-modification most (suc zero) = search parts_keep
+keeps-modification most (suc (suc _)) = search parts_keep
 
 keeps-modification_list : (max room : ℕ) → Keeps (modification_list max room)
-keeps-modification_list max room =
-    keeps-bind flag _ keeps-flag (λ present. keeps-where_set present (modifications max room) (keeps-up_to (ue_to 3) 3 (modification _) BadRefList room (keeps-ue_to 3) (keeps-modification _)))
+keeps-modification_list max room = search (parts_keep, keeps-up_to, keeps-modification)
 
 keeps-operation : (number : ℕ) → Keeps (operation number)
-keeps-operation zero = keeps-bind ue _ keeps-ue (λ n. keeps-give _)
-keeps-operation (suc zero) = keeps-bind ue _ keeps-ue (λ n. keeps-give _)
-keeps-operation (suc (suc zero)) = keeps-bind ue _ keeps-ue (λ n. keeps-give _)
-keeps-operation (suc (suc (suc zero))) = keeps-bind ue _ keeps-ue (λ a. keeps-bind ue _ keeps-ue (λ b. keeps-give _))
-keeps-operation (suc (suc (suc (suc zero)))) = keeps-bind ue _ keeps-ue (λ n. keeps-give _)
+keeps-operation zero = search parts_keep
+keeps-operation (suc zero) = search parts_keep
+keeps-operation (suc (suc zero)) = search parts_keep
+keeps-operation (suc (suc (suc zero))) = search parts_keep
+keeps-operation (suc (suc (suc (suc zero)))) = search parts_keep
 keeps-operation (suc (suc (suc (suc (suc zero))))) = keeps-give _
-keeps-operation (suc (suc (suc (suc (suc (suc n)))))) = keeps-bind ue _ keeps-ue (λ n. keeps-give _)
+keeps-operation (suc (suc (suc (suc (suc (suc n)))))) = search parts_keep
 
 keeps-marking : (idr : Bool) → Keeps (marking idr)
-keeps-marking true = keeps-bind flag _ keeps-flag (λ first. keeps-bind flag _ keeps-flag (λ second. keeps-give _))
+keeps-marking true = search parts_keep
 keeps-marking false = keeps-bind flag _ keeps-flag (elim [
   | true ↦ keeps-bind (operations most_operations) _ (keeps-up_to (ue_to 6) 0 operation BadMarking most_operations (keeps-ue_to 6) keeps-operation) (λ list. keeps-give (Adaptive list))
   | false ↦ keeps-give _
@@ -85,8 +82,7 @@ keeps-active_override pps = keeps-bind flag _ keeps-flag (elim [
 ])
 
 keeps-offset_pair : (filtered : FilteredEdges) → Keeps (offset_pair filtered)
-keeps-offset_pair filtered =
-    keeps-bind (se_within (negsuc 5) (pos 6)) _ (keeps-se_within (negsuc 5) (pos 6)) (λ alpha. keeps-bind (se_within (negsuc 5) (pos 6)) _ (keeps-se_within (negsuc 5) (pos 6)) (λ beta. keeps-give _))
+keeps-offset_pair filtered = search parts_keep
 
 keeps-deblocked : (off : Bool) (filtered : FilteredEdges) → Keeps (elim off [ true ↦ give no_edges | false ↦ offset_pair filtered ])
 keeps-deblocked true filtered = keeps-give no_edges
@@ -97,50 +93,32 @@ keeps-deblocking = keeps-bind (ue_to 2) _ (keeps-ue_to 2) (λ idc. keeps-deblock
 
 keeps-found : {A : Type 0} (o : Option A) (f : Fault) → Keeps (found o f)
 keeps-found (Some a) f = keeps-give a
-keeps-found None f = keeps-refuse f
+keeps-found None f = keeps-refuse _ f
 
 keeps-front : (nal_ref_idc : ℕ) (idr : Bool) → Keeps (front nal_ref_idc idr)
-keeps-front nal_ref_idc idr =
-    keeps-bind ue _ keeps-ue (λ first.
-    keeps-bind (ue_to 9) _ (keeps-ue_to 9) (λ number.
-    keeps-bind (found (slice_type_of number) _) _ (keeps-found (slice_type_of number) _) (λ slice_type.
-    keeps-bind (check (not (idr && (nal_ref_idc == 0 || is_p_type slice_type))) _) _ (keeps-check _ _) (λ _.
-    keeps-bind (ue_to 255) _ (keeps-ue_to 255) (λ id. keeps-give _)))))
+keeps-front nal_ref_idc idr = search (parts_keep, keeps-found) depth 12
 
 keeps-redundant_pic_cnt : (present : Bool) → Keeps (redundant_pic_cnt present)
-keeps-redundant_pic_cnt present =
-    keeps-where_set present primary (keeps-bind (ue_to 127) _ (keeps-ue_to 127) (λ redundant. keeps-bind (check (redundant == 0) _) _ (keeps-check _ _) (λ _. keeps-give redundant)))
+keeps-redundant_pic_cnt present = search parts_keep
 
 keeps-numbers : (idr : Bool) (pps : Pps) (sps : Sps) → Keeps (numbers idr pps sps)
-keeps-numbers idr pps sps =
-    keeps-bind (u (sps.log2_max_frame_num_minus4 + 4)) _ (keeps-u (sps.log2_max_frame_num_minus4 + 4)) (λ frame_num.
-    keeps-bind (check (not (idr && not (frame_num == 0))) _) _ (keeps-check _ _) (λ _.
-    keeps-bind (idr_pic_id idr) _ (keeps-where_set idr _ (keeps-ue_to 65535)) (λ of_idr.
-    keeps-bind (coded_order sps.order_count pps.bottom_field_pic_order_in_frame_present_flag) _ (keeps-coded_order sps.order_count _) (λ order.
-    keeps-bind (redundant_pic_cnt pps.redundant_pic_cnt_present_flag) _ (keeps-redundant_pic_cnt pps.redundant_pic_cnt_present_flag) (λ redundant. keeps-give _)))))
+keeps-numbers idr pps sps = search (parts_keep, keeps-coded_order, keeps-redundant_pic_cnt) depth 12
 
 keeps-list_part : (p : Bool) (pps : Pps) (sps : Sps) → Keeps (list_part p pps sps)
-keeps-list_part true pps sps =
-    keeps-bind (active_override pps) _ (keeps-active_override pps) (λ override.
-    keeps-bind (modification_list (max_frame_num sps) (active_count pps override)) _ (keeps-modification_list _ (active_count pps override)) (λ given.
-    keeps-bind (where_set pps.weighted_pred_flag (pred_weight_table (active_count pps override))) _
-    (keeps-where_set pps.weighted_pred_flag (pred_weight_table (active_count pps override)) (keeps-table (active_count pps override))) (λ weights. keeps-give _)))
+keeps-list_part true pps sps = search (parts_keep, keeps-table, keeps-active_override, keeps-modification_list) depth 12
 keeps-list_part false pps sps = keeps-give _
 
 keeps-filtering : (pps : Pps) → Keeps (filtering pps)
-keeps-filtering pps =
-    keeps-bind se _ keeps-se (λ delta.
-    keeps-bind (check (is_qp (slice_qp pps delta)) _) _ (keeps-check _ _) (λ _.
-    keeps-bind (where_set pps.deblocking_filter_control_present_flag deblocking) _ (keeps-where_set pps.deblocking_filter_control_present_flag deblocking keeps-deblocking) (λ given. keeps-give _)))
+keeps-filtering pps = search (parts_keep, keeps-deblocking) depth 12
 
 keeps-back : (nal_ref_idc : ℕ) (idr : Bool) (start : Front) (pps : Pps) (sps : Sps) → Keeps (back nal_ref_idc idr start pps sps)
+unfolding Keeps
 keeps-back nal_ref_idc idr start pps sps =
     keeps-bind (check (nat_lt start.first_mb_in_slice (size_in_mbs sps)) _) _ (keeps-check _ _) (λ _.
     keeps-bind (numbers idr pps sps) _ (keeps-numbers idr pps sps) (λ of_picture.
     keeps-bind (list_part (is_p_type start.slice_type) pps sps) _ (keeps-list_part (is_p_type start.slice_type) pps sps) (λ list.
     keeps-bind (where_set (not (nal_ref_idc == 0)) (marking idr)) _ (keeps-where_set (not (nal_ref_idc == 0)) (marking idr) (keeps-marking idr)) (λ marked.
-    keeps-bind (filtering pps) _ (keeps-filtering pps) (λ filtered.
-    λ b. keeps-give _ b)))))
+    keeps-bind (filtering pps) _ (keeps-filtering pps) (λ filtered. λ b. keeps-give _ b)))))
 
 -- ---- what the fields keep to
 
@@ -350,6 +328,7 @@ pub record IsRead (sets : Sets) (rbsp : List ℕ) (idr : Bool) (h : Header) : Ty
   pub idr_is : is_idr h ≡ idr
 
 pub header-read : (header : ℕ) (sets : Sets) (rbsp : List ℕ) (h : Header) → header_in_rbsp header sets rbsp ≡ Ok h → IsRead sets rbsp (header % 32 == 5) h
+unfolding Keeps
 header-read header sets rbsp h e =
     let idr = header % 32 == 5 in
     let all = read-by (header_of header sets (start rbsp)) h e in

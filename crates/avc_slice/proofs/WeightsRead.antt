@@ -9,35 +9,25 @@ use Rattle.avc_params.specs.Parsing.{optional}
 use Rattle.avc_slice.specs.WeightsReading.{chroma_weights, coded_weight, entry_weights, pred_weight_table}
 use Rattle.avc_slice.specs.declared.weights.EntryWeights.{EntryWeights}
 use Rattle.avc_slice.specs.Within.{IsChromaWeights, IsCodedWeight, IsEntryWeights, IsPredWeightTable}
-use Rattle.avc_slice.proofs.Keeping.{Keeps, keeps-bind, keeps-flag, keeps-give, keeps-se_within, keeps-ue_to, keeps-where_set}
+use Rattle.avc_slice.proofs.Keeping.{Keeps, parts_keep, keeps-bind, keeps-give}
 
 -- ---- nothing but what stood ahead is passed
 
 keeps-optional : {A : Type 0} (part : Read A) → Keeps part → Keeps (optional part)
-keeps-optional part g = keeps-bind flag _ keeps-flag (λ present. keeps-where_set present part g)
+keeps-optional part g = search parts_keep
 
 keeps-times : {A : Type 0} (n : ℕ) (part : Read A) → Keeps part → Keeps (times n part)
 keeps-times zero part g = keeps-give []
 keeps-times (suc n) part g = keeps-bind part _ g (λ x. keeps-bind (times n part) _ (keeps-times n part g) (λ xs. keeps-give (x ∷ xs)))
 
 keeps-coded_weight : Keeps coded_weight
-keeps-coded_weight =
-    keeps-bind (se_within (negsuc 127) (pos 127)) _ (keeps-se_within (negsuc 127) (pos 127)) (λ weight.
-    keeps-bind (se_within (negsuc 127) (pos 127)) _ (keeps-se_within (negsuc 127) (pos 127)) (λ offset. keeps-give _))
-
-keeps-chroma_weights : Keeps chroma_weights
-keeps-chroma_weights = keeps-bind coded_weight _ keeps-coded_weight (λ cb. keeps-bind coded_weight _ keeps-coded_weight (λ cr. keeps-give _))
+keeps-coded_weight = search parts_keep
 
 keeps-entry_weights : Keeps entry_weights
-keeps-entry_weights =
-    keeps-bind (optional coded_weight) _ (keeps-optional coded_weight keeps-coded_weight) (λ luma.
-    keeps-bind (optional chroma_weights) _ (keeps-optional chroma_weights keeps-chroma_weights) (λ chroma. keeps-give _))
+keeps-entry_weights = search (parts_keep, keeps-optional, keeps-coded_weight) depth 12
 
 pub keeps-table : (n : ℕ) → Keeps (pred_weight_table n)
-keeps-table n =
-    keeps-bind (ue_to 7) _ (keeps-ue_to 7) (λ luma.
-    keeps-bind (ue_to 7) _ (keeps-ue_to 7) (λ chroma.
-    keeps-bind (times n entry_weights) _ (keeps-times n entry_weights keeps-entry_weights) (λ entries. keeps-give _)))
+keeps-table n = search (parts_keep, keeps-times, keeps-entry_weights)
 
 -- ---- the ranges
 

@@ -56,17 +56,6 @@ laid_more stride width (r ∷ rs) row memory narrow wide long inside =
     ∙ sym (laid_behind front back row (length rs * stride))
     ∙ ap (λ n. laid_at n row (front ++ back)) (omega (arith, filled, more))
 
-pub length-laid_at : (place : ℕ) (row memory : List ℕ) → place + length row ≤ length memory → length (laid_at place row memory) ≡ length memory
-length-laid_at place row memory inside =
-    omega (
-      arith,
-      length-append (take place memory ++ row) (drop (place + length row) memory),
-      length-append (take place memory) row,
-      length-take-le place memory (omega (arith, inside)),
-      length-drop (place + length row) memory,
-      inside,
-    )
-
 -- rows without gaps between them are a list
 pub dense : (f : ℕ → List ℕ) (width : ℕ) → ((y : ℕ) → length (f y) ≡ width) → (ys memory : List ℕ) → laid width (map f ys) memory ≡ flat_map f ys ++ drop (length ys * width) memory
 dense f width w [] memory = let none : zero * width ≡ 0 = omega arith in ap (λ n. drop n memory) (sym none)

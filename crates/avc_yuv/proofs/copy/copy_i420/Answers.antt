@@ -4,18 +4,15 @@ use Rattle.avc_yuv.proofs.copy.copy_i420.Goals as goal
 
 pub copy_dense-cb-requires-clause-room : goal.copy_dense-cb-requires-clause-room
 copy_dense-cb-requires-clause-room c =
-    let all = length-i420 c.args.picture.now c.window_of-luma.result c.window_of-chroma.result c.window_of-luma.ensures.window c.window_of-chroma.ensures.window in
-    omega (arith, all, c.requires.room)
+    omega (arith, length-i420 c.args.picture.now _ _ c.window_of-luma.ensures.window c.window_of-chroma.ensures.window, c.requires.room)
 
 pub copy_dense-cr-requires-clause-room : goal.copy_dense-cr-requires-clause-room
 copy_dense-cr-requires-clause-room c =
-    let all = length-i420 c.args.picture.now c.window_of-luma.result c.window_of-chroma.result c.window_of-luma.ensures.window c.window_of-chroma.ensures.window in
-    omega (arith, all, c.requires.room, c.copy_dense-cb.ensures.place, c.copy_dense-cb.ensures.same_length)
+    omega (arith, length-i420 c.args.picture.now _ _ c.window_of-luma.ensures.window c.window_of-chroma.ensures.window, c.requires.room, c.copy_dense-cb.ensures.place, c.copy_dense-cb.ensures.same_length)
 
 pub copy_dense-requires-clause-room : goal.copy_dense-requires-clause-room
 copy_dense-requires-clause-room c =
-    let all = length-i420 c.args.picture.now c.window_of-luma.result c.window_of-chroma.result c.window_of-luma.ensures.window c.window_of-chroma.ensures.window in
-    omega (arith, all, c.requires.room, c.copy_dense-cb.ensures.place, c.copy_dense-cb.ensures.same_length, c.copy_dense-cr.ensures.place, c.copy_dense-cr.ensures.same_length)
+    omega (arith, length-i420 c.args.picture.now _ _ c.window_of-luma.ensures.window c.window_of-chroma.ensures.window, c.requires.room, c.copy_dense-cb.ensures.place, c.copy_dense-cb.ensures.same_length, c.copy_dense-cr.ensures.place, c.copy_dense-cr.ensures.same_length)
 
 pub returns : goal.returns
 returns c =

@@ -1,4 +1,4 @@
-use Rattle.std.proofs.Common.{◌≡◌, ◌+◌, ◌-◌, ◌*◌, ◌≤◌, Err, refl, sym, ap, ◌∙◌, subst, arith, rules, min}
+use Rattle.std.proofs.Common.{◌≡◌, ◌+◌, ◌*◌, ◌≤◌, Err, refl, sym, ap, ◌∙◌, subst, arith, rules}
 use Rattle.std.specs.Io.KnownBytes.{Appends}
 use Rattle.avc_yuv.specs.I420.{window}
 use Rattle.avc_yuv.specs.Writing.{Writes}
