@@ -1,6 +1,6 @@
 -- Units where a unit may have more or fewer bytes.
 use Rattle.std.proofs.Common.{◌≡◌, ◌+◌, ◌<◌, ◌≤◌, ℕ, zero, suc, Bool, true, false, List, [], ◌∷◌, length, map, drop, slice_index, All}
-use Rattle.std.proofs.Common.{Option, Some, None, nat_le, is_some, refl, ap, ◌∙◌, sym, arith}
+use Rattle.std.proofs.Common.{Option, Some, None, nat_le, is_some, refl, ap, ◌∙◌, arith}
 use Rattle.std.specs.Prelude.{IsTrue}
 use Rattle.std.proofs.lemmas.List.Elements.{All-nil, All-cons, All-head, All-tail, All-append}
 use Rattle.std.proofs.lemmas.Bool.Decides.{nat_tests}
@@ -17,51 +17,34 @@ abbrev NoMore : ℕ → Option (List ℕ) → Type 0
 NoMore n None = Unit {0}
 NoMore n (Some bytes) = length bytes ≤ n
 
-mapped : (n b : ℕ) (front : Option (List ℕ)) → NoMore n front → NoMore (suc n) (option_map (λ f. b ∷ f) front)
-mapped n b None h = tt
-mapped n b (Some f) h = omega (arith, h)
-
-chosen : (n : ℕ) (here : Bool) (after : Option (List ℕ)) → NoMore n after → NoMore n (elim here [ true ↦ Some [] | false ↦ after ])
-chosen n true after h = omega arith
-chosen n false after h = h
+longer : (n b : ℕ) (here : Bool) (after : Option (List ℕ)) → NoMore n after → NoMore (suc n) (elim here [ true ↦ Some [] | false ↦ option_map (λ f. b ∷ f) after ])
+longer n b true after h = omega arith
+longer n b false None h = tt
+longer n b false (Some f) h = omega (arith, h)
 
 before_end_no_more : (bytes : List ℕ) → NoMore (length bytes) (before_end bytes)
 before_end_no_more [] = tt
-before_end_no_more (b ∷ bytes) =
-    chosen (suc (length bytes)) (is_end (b ∷ bytes)) _ (mapped (length bytes) b (before_end bytes) (before_end_no_more bytes))
+before_end_no_more (b ∷ bytes) = longer (length bytes) b (is_end (b ∷ bytes)) (before_end bytes) (before_end_no_more bytes)
 
 at_head : (b : ℕ) (bytes rest : List ℕ) → without_last_zeros bytes ≡ rest → length rest ≤ length bytes → length (without_last_zeros (b ∷ bytes)) ≤ suc (length bytes)
-at_head zero bytes [] e h =
-    let s : without_last_zeros (zero ∷ bytes) ≡ [] = rw (e, without_last_zeros) refl in
-    let n : length (without_last_zeros (zero ∷ bytes)) ≡ 0 = ap length s in
-    omega (arith, n)
-at_head zero bytes (c ∷ rest) e h =
-    let s : without_last_zeros (zero ∷ bytes) ≡ zero ∷ c ∷ rest = rw (e, without_last_zeros) refl in
-    let n : length (without_last_zeros (zero ∷ bytes)) ≡ suc (length (c ∷ rest)) = ap length s in
-    omega (arith, n, h)
-at_head (suc b) bytes rest e h =
-    let s : without_last_zeros (suc b ∷ bytes) ≡ suc b ∷ rest = rw (e, without_last_zeros) refl in
-    let n : length (without_last_zeros (suc b ∷ bytes)) ≡ suc (length rest) = ap length s in
-    omega (arith, n, h)
+at_head zero bytes [] e h = rw (e, without_last_zeros) (omega arith)
+at_head zero bytes (c ∷ rest) e h = rw (e, without_last_zeros) (omega (arith, h))
+at_head (suc b) bytes rest e h = rw (e, without_last_zeros) (omega (arith, h))
 
 without_no_more : (bytes : List ℕ) → length (without_last_zeros bytes) ≤ length bytes
 without_no_more [] = omega arith
 without_no_more (b ∷ bytes) = at_head b bytes (without_last_zeros bytes) refl (without_no_more bytes)
 
-bytes_at : (ended : Bool) (bytes : List ℕ) (front : Option (List ℕ)) → NoMore (length bytes) front
-    → NoMore (length bytes) (elim front [ Some f ↦ Some f | None ↦ elim ended [ true ↦ Some (without_last_zeros bytes) | false ↦ None ] ])
-bytes_at ended bytes (Some f) h = h
-bytes_at true bytes None h = without_no_more bytes
-bytes_at false bytes None h = tt
-
-no_more_than : (n m : ℕ) (front : Option (List ℕ)) → n ≤ m → NoMore n front → NoMore m front
-no_more_than n m None le h = tt
-no_more_than n m (Some f) le h = omega (arith, le, h)
+bytes_at : (n : ℕ) (ended : Bool) (bytes : List ℕ) (front : Option (List ℕ)) → length bytes ≤ n → NoMore (length bytes) front
+    → NoMore n (elim front [ Some f ↦ Some f | None ↦ elim ended [ true ↦ Some (without_last_zeros bytes) | false ↦ None ] ])
+bytes_at n ended bytes (Some f) le h = omega (arith, le, h)
+bytes_at n true bytes None le h = omega (arith, le, without_no_more bytes)
+bytes_at n false bytes None le h = tt
 
 -- a unit has bytes, and no more than these
-record IsShort (n : ℕ) (unit : PlacedUnit) : Type 0 where
-  some : 0 < length unit.bytes
-  few : length unit.bytes ≤ n
+pub record IsShort (n : ℕ) (unit : PlacedUnit) : Type 0 where
+  pub some : 0 < length unit.bytes
+  pub few : length unit.bytes ≤ n
 
 short_at : (n offset : ℕ) (o : Option (List ℕ)) → NoMore n o → All (IsShort n) (unit_at offset o)
 short_at n offset None h = All-nil (IsShort n)
@@ -73,12 +56,12 @@ short_if : (n : ℕ) (here : Bool) (us : List PlacedUnit) → All (IsShort n) us
 short_if n true us h = h
 short_if n false us h = All-nil (IsShort n)
 
-are_short : (n place : ℕ) (ended : Bool) (bytes : List ℕ) → length bytes ≤ n → All (IsShort n) (placed_units place ended bytes)
+-- so is each unit of a stream of so many bytes
+pub are_short : (n place : ℕ) (ended : Bool) (bytes : List ℕ) → length bytes ≤ n → All (IsShort n) (placed_units place ended bytes)
 are_short n place ended [] le = All-nil (IsShort n)
 are_short n place ended (b ∷ bytes) le =
     let rest = drop 3 (b ∷ bytes) in
-    let front = bytes_at ended rest (before_end rest) (before_end_no_more rest) in
-    let here = no_more_than (length rest) n (unit_bytes ended rest) (omega (arith, le, length-drop 3 (b ∷ bytes))) front in
+    let here = bytes_at n ended rest (before_end rest) (omega (arith, le, length-drop 3 (b ∷ bytes))) (before_end_no_more rest) in
     All-append (IsShort n) _ (placed_units (place + 1) ended bytes)
     (short_if n (is_start (b ∷ bytes)) _ (short_at n (place + 3) (unit_bytes ended rest) here))
     (are_short n (place + 1) ended bytes (omega (arith, le)))
@@ -93,9 +76,9 @@ body_cut : (limit max : ℕ) (bytes : List ℕ) → 0 < length bytes → length 
     body_if (nat_le (length bytes) max) (drop 1 bytes) ≡ body_within max (body_if (nat_le (length bytes) limit) (drop 1 bytes))
 body_cut limit max [] some le = absurd (omega arith)
 body_cut limit max (b ∷ bytes) some le =
-    let whole : nat_le (length (b ∷ bytes)) limit ≡ true = grind (arith, nat_tests, le) in
-    let count : length (b ∷ bytes) ≡ 1 + length bytes = omega arith in
-    ap (λ n. body_if (nat_le n max) bytes) count ∙ ap (λ t. body_within max (body_if t bytes)) (sym whole)
+    let whole : nat_le (suc (length bytes)) limit ≡ true = grind (arith, nat_tests, le) in
+    let count : suc (length bytes) ≡ 1 + length bytes = omega arith in
+    rw whole (ap (λ n. body_if (nat_le n max) bytes) count)
 
 -- a unit with this body
 abbrev with_body : (index : ℕ) → PlacedUnit → Option (List ℕ) → Piece

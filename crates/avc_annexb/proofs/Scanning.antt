@@ -41,18 +41,12 @@ pub placed_units-more : (place : ℕ) (ended : Bool) (b : ℕ) (bytes : List ℕ
 placed_units-more place ended b bytes no_start = rw (no_start, placed_units) refl
 
 -- one byte that isn't 0
-no_end : (b : ℕ) (more : List ℕ) → eqb 0 b ≡ false → is_end (b ∷ more) ≡ false
-no_end b more other = rw other refl
-
-no_start : (b : ℕ) (more : List ℕ) → eqb 0 b ≡ false → is_start (b ∷ more) ≡ false
-no_start b more other = rw other refl
-
 passes_byte : (b : ℕ) → eqb 0 b ≡ false → HasNoBoundary (b ∷ [])
 passes_byte zero other = (cc)
 passes_byte (suc b) other = record {
-  ends = λ more. before_end-more (suc b) more (no_end (suc b) more other);
+  ends = λ more. before_end-more (suc b) more (rw other refl);
   zeros = λ more. refl;
-  starts = λ place ended more. placed_units-more place ended (suc b) more (no_start (suc b) more other);
+  starts = λ place ended more. placed_units-more place ended (suc b) more (rw other refl);
 }
 
 -- zeros pass with what comes after them, where these bytes are no start code and no three zeros
@@ -136,9 +130,6 @@ pub found_start : (place : ℕ) (ended : Bool) (more : List ℕ) → placed_unit
 found_start place ended more = ap (λ p. unit_at (place + 3) (unit_bytes ended more) ++ placed_units p ended more) (omega arith)
 
 -- a unit's bytes, where the next end after bytes that pass is known
-unit_bytes_some : (ended : Bool) (bytes front : List ℕ) → before_end bytes ≡ Some front → unit_bytes ended bytes ≡ Some front
-unit_bytes_some ended bytes front is = rw (is, unit_bytes) refl
-
 unit_bytes_none : (ended : Bool) (bytes : List ℕ) → before_end bytes ≡ None → unit_bytes ended bytes ≡ (if ended then Some (without_last_zeros bytes) else None)
 unit_bytes_none true bytes is = rw (is, unit_bytes) refl
 unit_bytes_none false bytes is = rw (is, unit_bytes) refl
@@ -148,8 +139,7 @@ pub closes : (offset : ℕ) (bytes rest : List ℕ) (ended : Bool) → HasNoBoun
     unit_at offset (unit_bytes ended (bytes ++ rest)) ++ placed_units offset ended (bytes ++ rest) ≡ unit_at offset (Some bytes) ++ placed_units (offset + length bytes) ended rest
 closes offset bytes rest ended p stop =
     let all : before_end (bytes ++ rest) ≡ Some bytes = p.ends rest ∙ ap (option_map (λ front. bytes ++ front)) stop ∙ ap (λ t. Some t) (append-nil bytes) in
-    ap (λ o. unit_at offset o ++ placed_units offset ended (bytes ++ rest)) (unit_bytes_some ended (bytes ++ rest) bytes all)
-    ∙ ap (λ t. unit_at offset (Some bytes) ++ t) (p.starts offset ended rest)
+    rw (unit_bytes, all) (ap (λ t. unit_at offset (Some bytes) ++ t) (p.starts offset ended rest))
 
 -- and where the stream ends
 pub ends : (offset : ℕ) (bytes : List ℕ) → HasNoBoundary bytes →
@@ -216,23 +206,16 @@ scanned_run bytes done current count run s lone some no_zero no_start =
         ap (λ t. unit_at unit.offset (unit_bytes ended t) ++ placed_units unit.offset ended t)
         (ap (λ t. unit.bytes ++ t) (sym (append_assoc (replicate count 0) run more)) ∙ sym (append_assoc unit.bytes (replicate count 0 ++ run) more))
 
--- what is left at the end
-nothing_found : (place count : ℕ) (ended : Bool) → count ≤ 2 → placed_units place ended (replicate count 0 ++ []) ≡ []
-nothing_found place zero ended few = refl
-nothing_found place (suc zero) ended few = refl
-nothing_found place (suc (suc zero)) ended few = refl
-nothing_found place (suc (suc (suc _))) ended few = absurd (omega arith)
+-- what is left at the end: two zeros at most, in which no unit begins or ends
+record AreNothing (zeros : List ℕ) : Type 0 where
+  found : (place : ℕ) (ended : Bool) → placed_units place ended zeros ≡ []
+  no_end : before_end zeros ≡ None
+  last : without_last_zeros zeros ≡ []
 
-no_end_left : (count : ℕ) → count ≤ 2 → before_end (replicate count 0 ++ []) ≡ None
-no_end_left zero few = refl
-no_end_left (suc zero) few = refl
-no_end_left (suc (suc zero)) few = refl
-no_end_left (suc (suc (suc _))) few = absurd (omega arith)
-
-only_zeros : (count : ℕ) → count ≤ 2 → without_last_zeros (replicate count 0 ++ []) ≡ []
-only_zeros zero few = refl
-only_zeros (suc zero) few = refl
-only_zeros (suc (suc zero)) few = refl
+only_zeros : (count : ℕ) → count ≤ 2 → AreNothing (replicate count 0 ++ [])
+only_zeros zero few = record { found = λ place ended. refl; no_end = refl; last = refl }
+only_zeros (suc zero) few = record { found = λ place ended. refl; no_end = refl; last = refl }
+only_zeros (suc (suc zero)) few = record { found = λ place ended. refl; no_end = refl; last = refl }
 only_zeros (suc (suc (suc _))) few = absurd (omega arith)
 
 -- the end of the stream ends the open unit
@@ -240,22 +223,25 @@ closed_if : Bool → Option PlacedUnit → List PlacedUnit
 closed_if true current = closed_unit current
 closed_if false current = []
 
-last_bytes : (count : ℕ) (bytes : List ℕ) (ended : Bool) → count ≤ 2 → HasNoBoundary bytes → unit_bytes ended (bytes ++ (replicate count 0 ++ [])) ≡ (if ended then Some bytes else None)
-last_bytes count bytes ended few p =
-    unit_bytes_none ended (bytes ++ (replicate count 0 ++ [])) (p.ends (replicate count 0 ++ []) ∙ ap (option_map (λ front. bytes ++ front)) (no_end_left count few))
-    ∙ ap (λ b. if ended then Some b else None) (p.zeros (replicate count 0 ++ []) ∙ ap (λ t. bytes ++ t) (only_zeros count few) ∙ append-nil bytes)
+last_bytes : (bytes zeros : List ℕ) (ended : Bool) → AreNothing zeros → HasNoBoundary bytes → unit_bytes ended (bytes ++ zeros) ≡ (if ended then Some bytes else None)
+last_bytes bytes zeros ended none p =
+    unit_bytes_none ended (bytes ++ zeros) (p.ends zeros ∙ ap (option_map (λ front. bytes ++ front)) none.no_end)
+    ∙ ap (λ b. if ended then Some b else None) (p.zeros zeros ∙ ap (λ t. bytes ++ t) none.last ∙ append-nil bytes)
 
 last_found : (current : Option PlacedUnit) (n count : ℕ) (ended : Bool) → count ≤ 2 → IsAt n current count → placed_units_after n current count ended [] ≡ closed_if ended current
 unfolding closed_if
-last_found None n count true few p = nothing_found (n - count) count true few
-last_found None n count false few p = nothing_found (n - count) count false few
-last_found (Some unit) n count true few p =
-    ap (λ o. unit_at unit.offset o ++ placed_units unit.offset true (unit.bytes ++ (replicate count 0 ++ []))) (last_bytes count unit.bytes true few p.1)
-    ∙ ap (λ t. unit_at unit.offset (Some unit.bytes) ++ t) (p.1.starts unit.offset true (replicate count 0 ++ []) ∙ nothing_found (unit.offset + length unit.bytes) count true few)
-    ∙ append-nil (unit_at unit.offset (Some unit.bytes))
-last_found (Some unit) n count false few p =
-    ap (λ o. unit_at unit.offset o ++ placed_units unit.offset false (unit.bytes ++ (replicate count 0 ++ []))) (last_bytes count unit.bytes false few p.1)
-    ∙ p.1.starts unit.offset false (replicate count 0 ++ []) ∙ nothing_found (unit.offset + length unit.bytes) count false few
+last_found None n count true few p = (only_zeros count few).found (n - count) true
+last_found None n count false few p = (only_zeros count few).found (n - count) false
+last_found (Some unit) n count ended few p =
+    let zeros = replicate count 0 ++ [] in
+    let none = only_zeros count few in
+    ap (λ o. unit_at unit.offset o ++ placed_units unit.offset ended (unit.bytes ++ zeros)) (last_bytes unit.bytes zeros ended none p.1)
+    ∙ ap (λ t. unit_at unit.offset (if ended then Some unit.bytes else None) ++ t) (p.1.starts unit.offset ended zeros ∙ none.found (unit.offset + length unit.bytes) ended)
+    ∙ append-nil (unit_at unit.offset (if ended then Some unit.bytes else None)) ∙ one_left ended unit
+  where
+    one_left : (ended : Bool) (unit : PlacedUnit) → unit_at unit.offset (if ended then Some unit.bytes else None) ≡ closed_if ended (Some unit)
+    one_left true unit = refl
+    one_left false unit = refl
 
 last_of : (bytes : List ℕ) (done : List PlacedUnit) (current : Option PlacedUnit) (count : ℕ) (ended : Bool) → ScannedBytes bytes done current count → placed_units 0 ended bytes ≡ done ++ closed_if ended current
 last_of bytes done current count ended s =

@@ -1,9 +1,9 @@
 -- The blocks of a component put one after another.
-use Rattle.std.proofs.Common.{◌≡◌, ℕ, zero, suc, ◌+◌, ◌<◌, ◌≤◌, min, ℤ, pos, negsuc, nat_lt, List, [], ◌∷◌, ◌++◌, drop, get_or, length, map, set, take, Bool, true, false, Option, ap, ◌∙◌, sym, subst, append_assoc, arith, refl}
+use Rattle.std.proofs.Common.{◌≡◌, ℕ, zero, suc, ◌+◌, ◌-◌, ◌<◌, ◌≤◌, min, ℤ, pos, negsuc, nat_lt, List, [], ◌∷◌, ◌++◌, drop, get_or, length, length-set, map, set, take, Bool, true, false, Option, ap, ◌∙◌, sym, subst, append_assoc, arith, refl}
 use Rattle.std.specs.Prelude.{Result}
 use Rattle.std.specs.List.{range_with_len, sum}
 use Rattle.std.proofs.lemmas.Bool.{false≢true}
-use Rattle.std.proofs.lemmas.List.{map-append, take_more, take_more_set}
+use Rattle.std.proofs.lemmas.List.{drop_more, map-append, take_more, take_more_set}
 use Rattle.avc_types.specs.Macroblock.{total_coeff}
 use Rattle.avc_types.specs.declared.memory.OutOfMemory.{OutOfMemory}
 use Rattle.avc_bits.specs.Bits.{or_none}
@@ -59,37 +59,39 @@ puts_same result v w old new same = subst (λ b. Puts result b old new) same
 
 -- ---- blocks in turn
 
-module _ (max size : ℕ) (coded : ℕ → Bool) (left up : Option (List ℕ)) where
-  pub block_here : (k n more : ℕ) (block : List ℤ) (others remaining : List (List ℤ)) → more ≡ suc n → remaining ≡ block ∷ others →
-      AreBlocks max coded (range_with_len k more) remaining → IsBlock max (coded k) block × AreBlocks max coded (range_with_len (k + 1) n) others
-  block_here k n more block others remaining is_more is all =
-      let all' = subst (λ r. AreBlocks max coded (range_with_len k more) r) is all in
-      subst (λ m. AreBlocks max coded (range_with_len k m) (block ∷ others)) is_more all'
+-- What was put of the first k blocks and what the others will put are all; the counts are those of the first.
+pub record ArePut (max size total : ℕ) (coded : ℕ → Bool) (left up : Option (List ℕ)) (blocks : List (List ℤ)) (start now : Made) (counts : List ℕ) (k : ℕ) : Type 0 where
+  pub going : now.failed ≡ false
+  pub long : length counts ≡ total
+  pub told : take k counts ≡ map total_coeff (take k blocks)
+  pub fits : AreBlocks max coded (range_with_len k (total - k)) (drop k blocks)
+  pub sum : now.bits ++ blocks_bits max size coded left up (range_with_len k (total - k)) (take k blocks) (drop k blocks) ≡ start.bits ++ blocks_bits max size coded left up (range_with_len 0 total) [] blocks
 
-  pub blocks_put : (k n more : ℕ) (done : List (List ℤ)) (mine : List ℕ) (block : List ℤ) (others remaining : List (List ℤ)) (old new : Made) (all : List Bool) →
-      more ≡ suc n → mine ≡ map total_coeff done → remaining ≡ block ∷ others →
-      new ≡ with_bits old (bits_where_coded max (pos (nc size left up mine k)) (coded k) block) →
-      old.bits ++ blocks_bits max size coded left up (range_with_len k more) done remaining ≡ all →
-      new.bits ++ blocks_bits max size coded left up (range_with_len (k + 1) n) (done ++ block ∷ []) others ≡ all
-  blocks_put k n more done mine block others remaining old new all is_more is_mine is is_new sum =
-      let w : List Bool = bits_where_coded max (pos (nc size left up mine k)) (coded k) block in
-      let rest = blocks_bits max size coded left up (range_with_len (k + 1) n) (done ++ block ∷ []) others in
-      let here = ap (λ m. bits_where_coded max (pos (nc size left up m k)) (coded k) block) is_mine in
-      let step = ap (λ r. old.bits ++ blocks_bits max size coded left up (range_with_len k more) done r) is
-      ∙ ap (λ m. old.bits ++ blocks_bits max size coded left up (range_with_len k m) done (block ∷ others)) is_more in
-      ap (λ t. t.bits ++ rest) is_new ∙ append_assoc old.bits w rest ∙ ap (λ v. old.bits ++ (v ++ rest)) here ∙ sym step ∙ sum
+module _ {max size total : ℕ} {coded : ℕ → Bool} {left up : Option (List ℕ)} {blocks : List (List ℤ)} {start now : Made} {counts : List ℕ} {k : ℕ} where
+  pub block_here : ArePut max size total coded left up blocks start now counts k → k < total → length blocks ≡ total → (d : List ℤ) →
+      IsBlock max (coded k) (get_or blocks k d) × AreBlocks max coded (range_with_len (k + 1) (total - (k + 1))) (drop (k + 1) blocks)
+  block_here are below long d =
+      let more : total - k ≡ suc (total - (k + 1)) = omega arith in
+      let next = drop_more blocks k d (omega arith) in
+      rw (more, next) at are.fits
 
-  pub all_blocks_put : (numbers : List ℕ) (done remaining : List (List ℤ)) (start now : Made) (all : List Bool) → numbers ≡ [] → now.failed ≡ false →
-      now.bits ++ blocks_bits max size coded left up numbers done remaining ≡ start.bits ++ all → now ≡ with_bits start all
-  all_blocks_put numbers done remaining start now all none going sum =
-      put_all start now all going (sym (ap (λ l. now.bits ++ blocks_bits max size coded left up l done remaining) none) ∙ sum)
+  pub block_put : {new : Made} → ArePut max size total coded left up blocks start now counts k → k < total → length blocks ≡ total → (d : List ℤ) →
+      new ≡ with_bits now (bits_where_coded max (pos (nc size left up (take k counts) k)) (coded k) (get_or blocks k d)) →
+      ArePut max size total coded left up blocks start new (set counts k (total_coeff (get_or blocks k d))) (k + 1)
+  block_put are below long d is_new =
+      let more : total - k ≡ suc (total - (k + 1)) = omega arith in
+      let next = drop_more blocks k d (omega arith) in
+      let taken = take_more blocks k d (omega arith) in
+      let n = total_coeff (get_or blocks k d) in
+      record {
+        going = ap (λ m. m.failed) is_new;
+        long = length-set counts k n ∙ are.long;
+        told = take_more_set counts k n (omega (arith, are.long)) ∙ ap (λ l. l ++ n ∷ []) are.told ∙ sym (ap (map total_coeff) taken ∙ map-append total_coeff (take k blocks) (get_or blocks k d ∷ []));
+        fits = (block_here are below long d).1;
+        sum = rw (is_new, taken, append_assoc, are.told) (rw (more, next) at are.sum);
+      }
 
--- ---- one block more in the loop
-
-pub counts_put : (counts : List ℕ) (bs : List (List ℤ)) (k : ℕ) (d : List ℤ) → k < length counts → k < length bs → take k counts ≡ map total_coeff (take k bs) →
-    take (k + 1) (set counts k (total_coeff (get_or bs k d))) ≡ map total_coeff (take (k + 1) bs)
-counts_put counts bs k d within inside so_far =
-    take_more_set counts k (total_coeff (get_or bs k d)) within
-    ∙ ap (λ l. l ++ total_coeff (get_or bs k d) ∷ []) so_far
-    ∙ sym (map-append total_coeff (take k bs) (get_or bs k d ∷ []))
-    ∙ sym (ap (map total_coeff) (take_more bs k d inside))
+  pub blocks_put : ArePut max size total coded left up blocks start now counts k → total ≤ k → now ≡ with_bits start (blocks_bits max size coded left up (range_with_len 0 total) [] blocks)
+  blocks_put are past =
+      let none : total - k ≡ 0 = omega arith in
+      put_all start now _ are.going (rw none at are.sum)

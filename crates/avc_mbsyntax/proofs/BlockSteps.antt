@@ -1,10 +1,10 @@
 -- One block more.
-use Rattle.std.proofs.Common.{◌≡◌, ◌≢◌, ℕ, zero, suc, ◌+◌, ◌/◌, ◌^◌, append-nil, append_assoc, ◌<◌, ◌≤◌, min, ℤ, pos, Bool, true, false, List, [], ◌∷◌, ◌++◌, length, take, get_or, set, map, refl, ap, subst, ◌∙◌, sym, arith, inl, inr}
+use Rattle.std.proofs.Common.{◌≡◌, ◌≢◌, ℕ, zero, suc, ◌+◌, ◌-◌, ◌/◌, ◌^◌, append-nil, append_assoc, ◌<◌, ◌≤◌, min, ℤ, pos, Bool, true, false, List, [], ◌∷◌, ◌++◌, length, take, get_or, set, length-set, map, refl, ap, ◌∙◌, sym, arith, inl, inr}
 use Rattle.std.specs.Prelude.{Ok, Err, Option, replicate, ◌==◌, ◌||◌, nat_le, nat_lt, if◌then◌else◌}
 use Rattle.std.specs.List.{All, range_with_len}
 use Rattle.std.proofs.lemmas.List.Elements.{All-append}
 use Rattle.std.proofs.lemmas.Bool.{cases_lt, le-ltb, ne_eqb}
-use Rattle.std.proofs.lemmas.List.{get_or-replicate, get_or-set_other, get_or_past, length-replicate, map-append, replicate_more, take_more, take_more_set}
+use Rattle.std.proofs.lemmas.List.{get_or-replicate, get_or-set_other, get_or_past, length-replicate, map-append, replicate_more, take_all, take_more, take_more_set}
 use Rattle.avc_types.specs.Macroblock.{total_coeff}
 use Rattle.avc_types.specs.declared.fault.Fault.{Fault}
 use Rattle.avc_types.specs.declared.fault.Fault.TheVariants as faults
@@ -14,6 +14,8 @@ use Rattle.avc_vlc.specs.Tables.{coeff_token_0, coeff_token_2, coeff_token_4}
 use Rattle.avc_vlc.specs.Reading.{Table, table_code, token_table, tokens, tokens_8, total_zeros}
 use Rattle.avc_cavlc.specs.Block.{placed, residual_block, runs, token_levels}
 use Rattle.avc_neigh.specs.TotalCoeffs.{nc}
+use Rattle.avc_cavlc.proofs.Placing.{small_none}
+use Rattle.avc_mbsyntax.specs.Ranges.{AreSmall}
 use Rattle.avc_mbsyntax.specs.Reading.{block_where, blocks, is_coded, no_levels}
 use Rattle.std.proofs.Math.Nat.{div-eq_of_lt}
 use Rattle.std.proofs.lemmas.Nat.{pow_pos}
@@ -84,75 +86,88 @@ pub no_chroma : (pattern : ℕ) (left up : Option (List ℕ)) (b : Bits) → pat
     blocks 15 8 (λ k. pattern == 2) left up (range_with_len 0 4) [] b ≡ Ok (replicate 4 (no_levels 15), b)
 no_chroma pattern left up b other = none_coded 15 8 (λ k. pattern == 2) left up (range_with_len 0 4) [] b (λ k. ne_eqb pattern 2 other)
 
-pub all_blocks : (max size : ℕ) (coded : ℕ → Bool) (left up : Option (List ℕ)) (numbers : List ℕ) (done all : List (List ℤ)) (b : Bits) → numbers ≡ [] → done ≡ all →
-    blocks max size coded left up numbers done b ≡ Ok (all, b)
-unfolding blocks
-all_blocks max size coded left up numbers done all b none whole = rw (none, whole) refl
-
-pub blocks_more : (max size : ℕ) (coded : ℕ → Bool) (left up : Option (List ℕ)) (k n more : ℕ) (done : List (List ℤ)) (mine : List ℕ) (block : List ℤ) (b mid : Bits) → more ≡ suc n → mine ≡ map total_coeff done →
-    block_where max (coded k) (nc size left up mine k) b ≡ Ok (block, mid) →
-    blocks max size coded left up (range_with_len k more) done b ≡ blocks max size coded left up (range_with_len (k + 1) n) (done ++ block ∷ []) mid
-blocks_more max size coded left up k n more done mine block b mid is_more is_mine is =
-    let here : block_where max (coded k) (nc size left up (map total_coeff done) k) b ≡ Ok (block, mid) = ap (λ m. block_where max (coded k) (nc size left up m k) b) (sym is_mine) ∙ is in
-    rw is_more (next_block max size coded left up k (range_with_len (k + 1) n) done block b mid here)
-
-pub blocks_fault : (max size : ℕ) (coded : ℕ → Bool) (left up : Option (List ℕ)) (k n more : ℕ) (done : List (List ℤ)) (mine : List ℕ) (f : Fault) (b : Bits) → more ≡ suc n → mine ≡ map total_coeff done →
-    block_where max (coded k) (nc size left up mine k) b ≡ Err f → blocks max size coded left up (range_with_len k more) done b ≡ Err f
-blocks_fault max size coded left up k n more done mine f b is_more is_mine is =
-    let here : block_where max (coded k) (nc size left up (map total_coeff done) k) b ≡ Err f = ap (λ m. block_where max (coded k) (nc size left up m k) b) (sym is_mine) ∙ is in
-    rw is_more (no_block max size coded left up k (range_with_len (k + 1) n) done f b here)
-
-pub counts_more : (counts : List ℕ) (bs : List (List ℤ)) (k : ℕ) (b : List ℤ) → k < length counts → k < length bs → take k counts ≡ map total_coeff (take k bs) →
-    take (k + 1) (set counts k (total_coeff b)) ≡ map total_coeff (take (k + 1) (set bs k b))
-counts_more counts bs k b within inside so_far =
-    take_more_set counts k (total_coeff b) within
-    ∙ ap (λ l. l ++ total_coeff b ∷ []) so_far
-    ∙ sym (map-append total_coeff (take k bs) (b ∷ []))
-    ∙ sym (ap (map total_coeff) (take_more_set bs k b inside))
-
--- ---- a block that is not coded
-
-pub total_none : (max : ℕ) → total_coeff (no_levels max) ≡ 0
-total_none zero = refl
-total_none (suc n) = total_none n
-
-pub block_passed : (max size : ℕ) (coded : ℕ → Bool) (left up : Option (List ℕ)) (k n more : ℕ) (levels : List (List ℤ)) (b : Bits) → more ≡ suc n → k < length levels → coded k ≡ false →
-    blocks max size coded left up (range_with_len k more) (take k levels) b ≡ blocks max size coded left up (range_with_len (k + 1) n) (take (k + 1) (set levels k (no_levels max))) b
-block_passed max size coded left up k n more levels b is_more within none =
-    let one : take (k + 1) (set levels k (no_levels max)) ≡ take k levels ++ no_levels max ∷ [] = take_more_set levels k (no_levels max) within in
-    rw is_more (next_block max size coded left up k (range_with_len (k + 1) n) (take k levels) (no_levels max) b b (rw none refl))
-    ∙ ap (λ l. blocks max size coded left up (range_with_len (k + 1) n) l b) (sym one)
-
-pub counts_passed : (counts : List ℕ) (bs : List (List ℤ)) (max k : ℕ) → k < length counts → k < length bs → get_or counts k 0 ≡ 0 →
-    take k counts ≡ map total_coeff (take k bs) → take (k + 1) counts ≡ map total_coeff (take (k + 1) (set bs k (no_levels max)))
-counts_passed counts bs max k within inside none so_far =
-    let one : take (k + 1) (set bs k (no_levels max)) ≡ take k bs ++ no_levels max ∷ [] = take_more_set bs k (no_levels max) inside in
-    take_more counts k 0 within
-    ∙ ap (λ n. take k counts ++ n ∷ []) (none ∙ sym (total_none max))
-    ∙ ap (λ l. l ++ total_coeff (no_levels max) ∷ []) so_far
-    ∙ sym (map-append total_coeff (take k bs) (no_levels max ∷ []))
-    ∙ ap (map total_coeff) (sym one)
-
--- those that come later are all 0 still
-pub all_zero : {A : Type 0} (n : ℕ) (a : A) (j : ℕ) → get_or (replicate n a) j a ≡ a
-all_zero n a j = elim (cases_lt j n) [
-  | inl within ↦ get_or-replicate n j a a within
-  | inr past ↦ get_or_past (replicate n a) j a (omega (arith, length-replicate n a, past))
-]
-
-pub still_zero : {A : Type 0} (xs : List A) (k : ℕ) (x a : A) → ((j : ℕ) → k ≤ j → get_or xs j a ≡ a) → (j : ℕ) → k + 1 ≤ j → get_or (set xs k x) j a ≡ a
-still_zero xs k x a zeros j later =
-    let other : j ≢ k = λ e. absurd (omega (arith, e, later)) in
-    get_or-set_other xs k j x a other ∙ zeros j (omega (arith, later))
-
--- ---- what holds of the blocks that are done
+-- ---- what was read of the first blocks
 
 one_block : (P : List ℤ → Type 0) (x : List ℤ) → P x → All P (x ∷ [])
 one_block P x here zero d within = here
 one_block P x here (suc k) d within = absurd (omega arith)
 
-pub all_more : (P : List ℤ → Type 0) (xs : List (List ℤ)) (k : ℕ) (x : List ℤ) → k < length xs → All P (take k xs) → P x → All P (take (k + 1) (set xs k x))
-all_more P xs k x within all here = subst (All P) (sym (take_more_set xs k x within)) (All-append P (take k xs) (x ∷ []) all (one_block P x here))
+all_more : (P : List ℤ → Type 0) (xs : List (List ℤ)) (k : ℕ) (x : List ℤ) → k < length xs → All P (take k xs) → P x → All P (take (k + 1) (set xs k x))
+all_more P xs k x within all here = rw (take_more_set xs k x within) (All-append P (take k xs) (x ∷ []) all (one_block P x here))
+
+pub total_none : (max : ℕ) → total_coeff (no_levels max) ≡ 0
+total_none zero = refl
+total_none (suc n) = total_none n
+
+-- those that come later are all 0 still
+all_zero : {A : Type 0} (n : ℕ) (a : A) (j : ℕ) → get_or (replicate n a) j a ≡ a
+all_zero n a j = elim (cases_lt j n) [
+  | inl within ↦ get_or-replicate n j a a within
+  | inr past ↦ get_or_past (replicate n a) j a (omega (arith, length-replicate n a, past))
+]
+
+-- Reading all blocks is reading those from block k on, after the levels of the first; their counts are told, and those of the others are 0.
+pub record AreRead (max size total : ℕ) (coded : ℕ → Bool) (left up : Option (List ℕ)) (start now : Bits) (levels : List (List ℤ)) (counts : List ℕ) (k : ℕ) : Type 0 where
+  pub long : length levels ≡ total
+  pub counts_long : length counts ≡ total
+  pub told : take k counts ≡ map total_coeff (take k levels)
+  pub none : (j : ℕ) → k ≤ j → get_or counts j 0 ≡ 0
+  pub small : All AreSmall (take k levels)
+  pub read : blocks max size coded left up (range_with_len 0 total) [] start ≡ blocks max size coded left up (range_with_len k (total - k)) (take k levels) now
+
+module _ {max size total : ℕ} {coded : ℕ → Bool} {left up : Option (List ℕ)} {start : Bits} {levels : List (List ℤ)} where
+  pub none_read : length levels ≡ total → AreRead max size total coded left up start start levels (replicate total 0) 0
+  none_read long =
+      let whole : total - 0 ≡ total = omega arith in
+      record { long = long; counts_long = length-replicate {A = ℕ} total 0; told = refl; none = λ j later. all_zero total 0 j; small = λ k d within. absurd (omega arith); read = rw whole refl }
+
+module _ {max size total : ℕ} {coded : ℕ → Bool} {left up : Option (List ℕ)} {start now : Bits} {levels : List (List ℤ)} {counts : List ℕ} {k : ℕ} where
+  -- a block is read
+  pub block_read : {block : List ℤ} {mid : Bits} → AreRead max size total coded left up start now levels counts k → k < total → coded k ≡ true →
+      block_where max true (nc size left up (take k counts) k) now ≡ Ok (block, mid) → AreSmall block → AreRead max size total coded left up start mid (set levels k block) (set counts k (total_coeff block)) (k + 1)
+  block_read {block} {mid} are below is_coded is small =
+      let more : total - k ≡ suc (total - (k + 1)) = omega arith in
+      let taken = take_more_set levels k block (omega (arith, are.long)) in
+      let told = are.told in
+      let here : block_where max (coded k) (nc size left up (map total_coeff (take k levels)) k) now ≡ Ok (block, mid) = rw is_coded (rw told at is) in
+      record {
+        long = length-set levels k block ∙ are.long;
+        counts_long = length-set counts k (total_coeff block) ∙ are.counts_long;
+        told = take_more_set counts k (total_coeff block) (omega (arith, are.counts_long)) ∙ rw (told, taken) (sym (map-append total_coeff (take k levels) (block ∷ [])));
+        none = λ j later. get_or-set_other counts k j (total_coeff block) 0 (λ e. absurd (omega (arith, e, later))) ∙ are.none j (omega (arith, later));
+        small = all_more AreSmall levels k block (omega (arith, are.long)) are.small small;
+        read = are.read ∙ rw (more, taken) (next_block max size coded left up k (range_with_len (k + 1) (total - (k + 1))) (take k levels) block now mid here);
+      }
+
+  -- a block that is not coded
+  pub block_passed : AreRead max size total coded left up start now levels counts k → k < total → coded k ≡ false → AreRead max size total coded left up start now (set levels k (no_levels max)) counts (k + 1)
+  block_passed are below is_none =
+      let more : total - k ≡ suc (total - (k + 1)) = omega arith in
+      let taken = take_more_set levels k (no_levels max) (omega (arith, are.long)) in
+      let here : block_where max (coded k) (nc size left up (map total_coeff (take k levels)) k) now ≡ Ok (no_levels max, now) = rw is_none refl in
+      record {
+        long = length-set levels k (no_levels max) ∙ are.long;
+        counts_long = are.counts_long;
+        told = take_more counts k 0 (omega (arith, are.counts_long)) ∙ rw (are.told, are.none k (omega arith), taken) (ap (λ n. map total_coeff (take k levels) ++ n ∷ []) (sym (total_none max)) ∙ sym (map-append total_coeff (take k levels) (no_levels max ∷ [])));
+        none = λ j later. are.none j (omega (arith, later));
+        small = all_more AreSmall levels k (no_levels max) (omega (arith, are.long)) are.small (λ i. small_none max i);
+        read = are.read ∙ rw (more, taken) (next_block max size coded left up k (range_with_len (k + 1) (total - (k + 1))) (take k levels) (no_levels max) now now here);
+      }
+
+  pub block_fault : {f : Fault} → AreRead max size total coded left up start now levels counts k → k < total → coded k ≡ true →
+      block_where max true (nc size left up (take k counts) k) now ≡ Err f → blocks max size coded left up (range_with_len 0 total) [] start ≡ Err f
+  block_fault {f} are below is_coded is =
+      let more : total - k ≡ suc (total - (k + 1)) = omega arith in
+      let told = are.told in
+      let here : block_where max (coded k) (nc size left up (map total_coeff (take k levels)) k) now ≡ Err f = rw is_coded (rw told at is) in
+      are.read ∙ rw more (no_block max size coded left up k (range_with_len (k + 1) (total - (k + 1))) (take k levels) f now here)
+
+  pub all_read : AreRead max size total coded left up start now levels counts k → total ≤ k → (blocks max size coded left up (range_with_len 0 total) [] start ≡ Ok (levels, now)) × All AreSmall levels
+  unfolding blocks
+  all_read are past =
+      let none : total - k ≡ 0 = omega arith in
+      let whole = take_all k levels (omega (arith, are.long)) in
+      (are.read ∙ rw (none, whole) refl, rw whole at are.small)
 
 -- one block more that is cleared
 pub cleared_more : (xs : List (List ℤ)) (k n : ℕ) (x : List ℤ) → k < length xs → take k xs ≡ replicate k x → take (k + 1) (set xs k x) ≡ replicate (k + 1) x

@@ -1,57 +1,18 @@
-use Rattle.std.proofs.Common.{◌≡◌, ◌<◌, ◌+◌, ◌-◌, ◌++◌, ◌∷◌, [], suc, arith, rules, ap, ◌∙◌, sym, length, take, drop, get_or, length-set}
-use Rattle.std.specs.Prelude.{◌==◌}
-use Rattle.std.specs.List.{range_with_len}
-use Rattle.std.specs.Option.{option_copied}
-use Rattle.std.proofs.lemmas.List.{drop_more, take_more}
-use Rattle.avc_types.specs.Macroblock.{total_coeff}
-use Rattle.avc_make.specs.MbWriting.{blocks_bits}
-use Rattle.avc_make.proofs.ResidualPutting.{all_blocks_put, block_here, blocks_put, counts_put}
+use Rattle.std.proofs.Common.{◌≡◌, length, arith, rules}
+use Rattle.avc_make.proofs.ResidualPutting.{block_here, block_put, blocks_put}
 use Rattle.avc_make.proofs.residual_writing.put_ac.Goals as goal
 
 pub put_block_where-requires : goal.put_block_where-requires
 put_block_where-requires c =
-    let k = c.each.k in
-    let blocks = c.args.blocks.now in
-    let block = get_or blocks k c.index-blocks-k.result in
-    let long : length blocks ≡ 4 = search rules in
-    let more : 4 - k ≡ suc (3 - k) = omega arith in
-    let next = drop_more blocks k c.index-blocks-k.result (omega (arith, long)) in
-    let here = block_here 15 8 (λ j. c.args.chroma_pattern == 2) (option_copied c.args.left) (option_copied c.args.up) k (3 - k) (4 - k) block (drop (k + 1) blocks) (drop k blocks) more next c.each.invariant.fits in
+    let long : length c.args.blocks.now ≡ 4 = search rules in
+    let here = block_here c.each.invariant (omega arith) long c.index-blocks-k.result in
     (omega arith, (c.each.invariant.going, (omega arith, here.0)))
 
 pub each-preserved : goal.each-preserved
 each-preserved c =
-    let k = c.each.k in
-    let blocks = c.args.blocks.now in
-    let block = get_or blocks k c.index-blocks-k.result in
-    let long : length blocks ≡ 4 = search rules in
-    let within : k < length blocks = omega (arith, long) in
-    let inside : k < length c.each.total_coeffs = omega (arith, c.each.invariant.counts_long) in
-    let more : 4 - k ≡ suc (3 - k) = omega arith in
-    let fewer : 3 - k ≡ 4 - (k + 1) = omega arith in
-    let next = drop_more blocks k c.index-blocks-k.result within in
-    let here = block_here 15 8 (λ j. c.args.chroma_pattern == 2) (option_copied c.args.left) (option_copied c.args.up) k (3 - k) (4 - k) block (drop (k + 1) blocks) (drop k blocks) more next c.each.invariant.fits in
+    let long : length c.args.blocks.now ≡ 4 = search rules in
     let put = rw c.nc_chroma-nc.ensures at c.in_ok-put_block_where.ensures.1 in
-    let all = c.args.maker.now.bits ++ blocks_bits 15 8 (λ j. c.args.chroma_pattern == 2) (option_copied c.args.left) (option_copied c.args.up) (range_with_len 0 4) [] blocks in
-    let new = c.put_block_where.new.maker in
-    let sum : new.bits ++ blocks_bits 15 8 (λ j. c.args.chroma_pattern == 2) (option_copied c.args.left) (option_copied c.args.up) (range_with_len (k + 1) (3 - k)) (take k blocks ++ block ∷ []) (drop (k + 1) blocks) ≡ all =
-    blocks_put 15 8 (λ j. c.args.chroma_pattern == 2) (option_copied c.args.left) (option_copied c.args.up) k (3 - k) (4 - k) (take k blocks) (take k c.each.total_coeffs) block (drop (k + 1) blocks) (drop k blocks) c.each.maker new all
-    more c.each.invariant.counts next put c.each.invariant.sum in
-    rw c.total_coeff.ensures (record {
-      going = ap (λ m. m.failed) c.in_ok-put_block_where.ensures.1;
-      counts_long = length-set c.each.total_coeffs k (total_coeff block) ∙ c.each.invariant.counts_long;
-      counts = counts_put c.each.total_coeffs blocks k c.index-blocks-k.result inside within c.each.invariant.counts;
-      fits = rw (← fewer) here.1;
-      sum = ap (λ n. new.bits ++ blocks_bits 15 8 (λ j. c.args.chroma_pattern == 2) (option_copied c.args.left) (option_copied c.args.up) (range_with_len (k + 1) n) (take (k + 1) blocks) (drop (k + 1) blocks)) (sym fewer)
-          ∙ ap (λ l. new.bits ++ blocks_bits 15 8 (λ j. c.args.chroma_pattern == 2) (option_copied c.args.left) (option_copied c.args.up) (range_with_len (k + 1) (3 - k)) l (drop (k + 1) blocks)) (take_more blocks k c.index-blocks-k.result within)
-          ∙ sum;
-    })
+    rw c.total_coeff.ensures (block_put c.each.invariant (omega arith) long c.index-blocks-k.result put)
 
 pub returns : goal.returns
-returns c =
-    let none : 4 - c.each.k ≡ 0 = omega arith in (
-      c.requires.going,
-      all_blocks_put 15 8 (λ j. c.args.chroma_pattern == 2) (option_copied c.args.left) (option_copied c.args.up) (range_with_len c.each.k (4 - c.each.k)) (take c.each.k c.args.blocks.now) (drop c.each.k c.args.blocks.now)
-          c.args.maker.now c.each.maker (blocks_bits 15 8 (λ j. c.args.chroma_pattern == 2) (option_copied c.args.left) (option_copied c.args.up) (range_with_len 0 4) [] c.args.blocks.now)
-          (ap (range_with_len c.each.k) none) c.each.invariant.going c.each.invariant.sum,
-    )
+returns c = (c.requires.going, blocks_put c.each.invariant (omega arith))

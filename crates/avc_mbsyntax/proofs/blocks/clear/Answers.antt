@@ -1,6 +1,4 @@
-use Rattle.std.proofs.Common.{◌≤◌, ◌<◌, ◌∙◌, arith, ap, sym, length, length-set}
-use Rattle.std.specs.Prelude.{replicate}
-use Rattle.std.proofs.lemmas.List.{take_all}
+use Rattle.std.proofs.Common.{◌<◌, ◌∙◌, arith, length, length-set}
 use Rattle.avc_mbsyntax.specs.Reading.{no_levels}
 use Rattle.avc_mbsyntax.proofs.BlockSteps.{cleared_more}
 use Rattle.avc_mbsyntax.proofs.blocks.clear.Goals as goal
