@@ -4,13 +4,15 @@ ghost use Rattle.avc_types.specs.Macroblock.{p_skip};
 ghost use Rattle.avc_types.specs.References.{result_map};
 ghost use Rattle.avc_neigh.specs.Around.{facts_of};
 ghost use Rattle.avc_neigh.specs.BlockNear.{motion_near};
+ghost use Rattle.avc_neigh.specs.declared.facts.Motion.TheVariants.{Absent as absent};
 ghost use Rattle.avc_motion.specs.Motion.{AreOfOneMotion, HasMotion, HasVectors, is_in_range, motion_by, vector_of as motion_vector};
 ghost use Rattle.avc_motion.specs.Motion.{has_one_motion as has_one_motion_by, is_one_partition as is_one_partition_by};
+ghost use Rattle.avc_motion.specs.Motion.{neighbours_of, skip_vector, zero_vector};
 ghost use Rattle.avc_motion.specs.Decoding.{blocks_or_fault, decoded_whole, HasFourQuarters};
 
-use crate::neighbouring::NeighbouringPartitions;
+use crate::neighbouring::{NeighbouringPartitions, above, left_of};
 use crate::parts::Inter;
-use crate::prediction::vector_of;
+use crate::prediction::{is_still, vector_of};
 use avc_neigh::{Motion, Neighbours};
 use avc_types::{Fault, Mb, Mv, Mvd, PMbType, Syntax};
 
@@ -44,8 +46,18 @@ fn set_all(blocks: &mut [Motion; 16], motion: Motion)
     *blocks = [motion; 16];
 }
 
-/// The blocks of a skipped macroblock (8.4.1.1).
-fn set_skipped(neighbours: &Neighbours<'_>, blocks: &mut [Motion; 16])
+/// A skipped macroblock does not move by what A and B have alone (8.4.1.1).
+fn is_held(neighbours: &Neighbours<'_>) -> bool
+    ensures { result ≡ true → skip_vector (neighbours_of (motion_near (facts_of neighbours.now)) (replicate 16 absent) 0 0 16) ≡ zero_vector }
+{
+    let mine = [Motion::Absent; 16];
+    is_still(left_of(neighbours, &mine, 0, 0)) || is_still(above(neighbours, &mine, 0, 0))
+}
+
+/// The blocks of a skipped macroblock that may move.
+// apart from those that are held: their motion is written as the constant that it is
+#[inline(never)]
+fn set_moving(neighbours: &Neighbours<'_>, blocks: &mut [Motion; 16])
     ensures motion { blocks.new ≡ motion_by (motion_near (facts_of neighbours.now)) p_skip }
     ensures within { list_all is_in_range blocks.new ≡ true }
     ensures alike { AreOfOneMotion blocks.new }
@@ -53,6 +65,20 @@ fn set_skipped(neighbours: &Neighbours<'_>, blocks: &mut [Motion; 16])
     let around = NeighbouringPartitions::of(neighbours, &[Motion::Absent; 16], 0, 0, 16);
     let mv = around.skip_vector();
     set_all(blocks, Motion::Inter { ref_idx: 0, mv });
+}
+
+/// The blocks of a skipped macroblock (8.4.1.1).
+fn set_skipped(neighbours: &Neighbours<'_>, blocks: &mut [Motion; 16])
+    ensures motion { blocks.new ≡ motion_by (motion_near (facts_of neighbours.now)) p_skip }
+    ensures within { list_all is_in_range blocks.new ≡ true }
+    ensures alike { AreOfOneMotion blocks.new }
+{
+    if is_held(neighbours) {
+        let mv = Mv { x: 0, y: 0 };
+        set_all(blocks, Motion::Inter { ref_idx: 0, mv });
+    } else {
+        set_moving(neighbours, blocks);
+    }
 }
 
 /// The blocks of an inter macroblock whose vectors are coded.

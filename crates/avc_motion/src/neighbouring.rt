@@ -43,7 +43,12 @@ fn block_of(facts: Option<&NeighbourFacts>, block: usize) -> Motion
 }
 
 /// What stands left of the sample (x, y).
-fn left_of(neighbours: &Neighbours<'_>, mine: &[Motion; 16], x: usize, y: usize) -> Motion
+pub(crate) fn left_of(
+    neighbours: &Neighbours<'_>,
+    mine: &[Motion; 16],
+    x: usize,
+    y: usize,
+) -> Motion
     requires column { x < 16 }
     requires row { y < 16 }
     ensures { result ≡ motion_near (facts_of neighbours.now) mine.now (pos x -ℤ pos 1) (pos y) }
@@ -56,7 +61,7 @@ fn left_of(neighbours: &Neighbours<'_>, mine: &[Motion; 16], x: usize, y: usize)
 }
 
 /// What stands above the sample (x, y), which may be the first one right of the macroblock.
-fn above(neighbours: &Neighbours<'_>, mine: &[Motion; 16], x: usize, y: usize) -> Motion
+pub(crate) fn above(neighbours: &Neighbours<'_>, mine: &[Motion; 16], x: usize, y: usize) -> Motion
     requires column { x ≤ 16 }
     requires row { y < 16 }
     ensures { result ≡ motion_near (facts_of neighbours.now) mine.now (pos x) (pos y -ℤ pos 1) }

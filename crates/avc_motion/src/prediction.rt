@@ -119,7 +119,7 @@ impl NeighbouringPartitions {
 }
 
 /// A neighbour that makes a skipped macroblock stand still.
-fn is_still(motion: Motion) -> bool
+pub(crate) fn is_still(motion: Motion) -> bool
     ensures { result ≡ motions.is_still motion }
 {
     match motion {

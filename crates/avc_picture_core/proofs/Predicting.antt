@@ -12,7 +12,7 @@ use Rattle.avc_types.specs.declared.vector.Mv.{Mv}
 use Rattle.avc_neigh.specs.Blocks.{block_at}
 use Rattle.avc_neigh.specs.declared.facts.Motion.{Motion}
 use Rattle.avc_neigh.specs.declared.facts.Motion.TheVariants as motions
-use Rattle.avc_motion.specs.Motion.{frame_named}
+use Rattle.avc_motion.specs.Motion.{frame_named, vector_of}
 use Rattle.avc_plane.specs.Plane.{sample}
 use Rattle.avc_plane.specs.Planes.{Planes}
 use Rattle.avc_plane.specs.Frames.{padded_planes_of}
@@ -25,7 +25,7 @@ use Rattle.avc_picture_core.specs.Inter.{AreUsableAt, HaveOneMotion, IsMacrobloc
 use Rattle.avc_picture_core.specs.declared.references.ReferencePicture.{ReferencePicture}
 use Rattle.avc_picture_core.specs.declared.shape.Shape.TheVariants.{Whole}
 use Rattle.avc_picture_core.proofs.Tiles.{part_same}
-use Rattle.avc_picture_core.proofs.Shapes.{bounds, whole_blocks}
+use Rattle.avc_picture_core.proofs.Shapes.{bounds, whole_blocks, whole_macroblock}
 
 -- ---- which reference pictures there are
 
@@ -168,3 +168,24 @@ pub all_as_first : {PAD : ℕ} (references : List (Option (ReferencePicture PAD)
     → is_some (picture_in references (block_motion motion 0)) ≡ have_pictures references motion
 all_as_first references motion long shape =
     as_first (λ m. is_some (picture_in references m)) motion long shape (is_some (picture_in references (block_motion motion 0))) refl
+
+-- the picture of a block can be predicted from
+usable_named : {PAD : ℕ} (column row : ℕ) (references : List (Option (ReferencePicture PAD))) (p : ReferencePicture PAD) → AreUsableAt column row references
+    → (m : Motion) → picture_in references m ≡ Some p → IsUsableAt column row p
+usable_named column row references p all motions.Absent e = cc
+usable_named column row references p all motions.Intra e = cc
+usable_named column row references p all (motions.Inter r v) e = subst (λ o. IfSome o (IsUsableAt column row)) e (all.each r)
+
+pub usable_in : {PAD : ℕ} (w h column row : ℕ) (references : List (Option (ReferencePicture PAD))) (m : Motion) (p : ReferencePicture PAD) → AreUsable w h references → column < w → row < h
+    → picture_in references m ≡ Some p → IsUsableAt column row p
+usable_in w h column row references m p all a b e = usable_named column row references p (usable_each w h column row references all a b) m e
+
+-- a macroblock that is predicted at once, by the picture and the vector of its first block
+pub whole_is : {PAD : ℕ} (references : List (Option (ReferencePicture PAD))) (column row : ℕ) (motion : List Motion) (p : ReferencePicture PAD) (v : Mv) (old new : Planes)
+    → IsMacroblockShape motion Whole → picture_in references (block_motion motion 0) ≡ Some p → v ≡ vector_of (block_motion motion 0)
+    → new ≡ with_part column row 0 0 16 16 (λ k x y. predicted_from p v k (size_of k * column + x) (size_of k * row + y)) old
+    → new ≡ with_part column row 0 0 16 16 (wanted references column row motion) old
+whole_is references column row motion p v old new shape named moved set =
+    set
+    ∙ part_same column row 0 0 16 16 (λ k x y. predicted_from p v k (size_of k * column + x) (size_of k * row + y)) (wanted references column row motion) old refl refl
+    (λ k x y few e. rw ((whole_macroblock motion shape).same (luma_place k x) (luma_place k y) e, named, moved) refl)

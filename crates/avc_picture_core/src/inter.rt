@@ -4,11 +4,12 @@ ghost use Rattle.std.specs.Prelude.{◌≡◌, ℕ, ◌+◌, ◌*◌, ◌/◌, �
 ghost use Rattle.std.specs.Option.{option_copied};
 ghost use Rattle.avc_types.specs.Pictures.{Coded};
 ghost use Rattle.avc_neigh.specs.Blocks.{block_at};
-ghost use Rattle.avc_motion.specs.Motion.{AreOfOneMotion};
+ghost use Rattle.avc_motion.specs.Motion.{AreOfOneMotion, vector_of};
 ghost use Rattle.avc_picture_core.specs.Places.{AreSameSize};
 ghost use Rattle.avc_picture_core.specs.References.{AreReferences, AreUsable};
 ghost use Rattle.avc_plane.specs.Frames.{planes_of};
 ghost use Rattle.avc_picture_core.specs.Inter.{AreUsableAt, CoverMacroblock, HaveOneMotion, IsInterPredicted};
+ghost use Rattle.avc_picture_core.specs.declared.shape.Shape.TheVariants.{Whole};
 ghost use Rattle.avc_picture_core.specs.Inter.{IsMacroblockShape, have_pictures, picture_in, wanted, with_part};
 
 use crate::parts::{set_macroblock, set_part};
@@ -17,7 +18,7 @@ use crate::references::ReferencePicture;
 use crate::shape::{Shape, macroblock_shape, quarter_shape};
 use avc_neigh::Motion;
 use avc_plane::Planes;
-use avc_types::Fault;
+use avc_types::{Fault, Mv};
 
 /// The picture that a block is predicted from.
 fn picture_of<'r, 'a, const PAD: usize>(
@@ -44,23 +45,27 @@ fn has_picture<const PAD: usize>(
     picture_of(references, motion).is_some()
 }
 
-/// Whether each block of a macroblock with this shape has a picture to be predicted from.
-#[tactic(auto, using(crate::proofs::Predicting::all_as_first))]
+/// Whether each block of a macroblock has a picture to be predicted from.
 fn have_pictures<const PAD: usize>(
     references: &[Option<ReferencePicture<'_, PAD>>],
     motion: &[Motion; 16],
-    shape: Shape,
 ) -> bool
-    requires { IsMacroblockShape motion.now shape }
     ensures { result ≡ have_pictures references.now motion.now }
 {
-    match shape {
-        Shape::Whole => has_picture(references, motion[0]),
-        _ => motion.iter().all(
-            |block| -> bool
-                ensures { result ≡ is_some (picture_in references.entry.now block.now) }
-            { has_picture(references, *block) },
-        ),
+    motion.iter().all(
+        |block| -> bool
+            ensures { result ≡ is_some (picture_in references.entry.now block.now) }
+        { has_picture(references, *block) },
+    )
+}
+
+/// The vector of a block, 0 where it has none.
+fn vector(motion: Motion) -> Mv
+    ensures { result ≡ vector_of motion }
+{
+    match motion {
+        Motion::Inter { mv, .. } => mv,
+        Motion::Absent | Motion::Intra => Mv { x: 0, y: 0 },
     }
 }
 
@@ -95,26 +100,6 @@ fn predict_part<const W: usize, const H: usize, const CW: usize, const CH: usize
     let block = motion[block_at(corner.x, corner.y)];
     if let (Motion::Inter { mv, .. }, Some(picture)) = (block, picture_of(references, block)) {
         set_part::<W, H, CW, CH, PAD>(picture, mv, place, corner, planes);
-    }
-}
-
-/// Predicts a macroblock whose blocks have one motion.
-fn predict_whole<const PAD: usize>(
-    references: &[Option<ReferencePicture<'_, PAD>>],
-    place: MbPlace,
-    motion: &[Motion; 16],
-    planes: &mut Planes<PAD>,
-)
-    requires macroblock { CoverMacroblock place.column place.row (planes_of planes.old) }
-    requires usable { AreUsableAt place.column place.row references.now }
-    requires pictures { have_pictures references.now motion.now ≡ true }
-    requires one { HaveOneMotion motion.now 0 0 16 16 }
-    ensures { planes_of planes.new
-        ≡ with_part place.column place.row 0 0 16 16 (wanted references.now place.column place.row motion.now) (planes_of planes.old) }
-{
-    let block = motion[0];
-    if let (Motion::Inter { mv, .. }, Some(picture)) = (block, picture_of(references, block)) {
-        set_macroblock(picture, mv, place, planes);
     }
 }
 
@@ -268,7 +253,7 @@ fn predict_quarters<const PAD: usize>(
     predict_quarter(references, place, motion, 3, planes);
 }
 
-/// Predicts a macroblock of this shape.
+/// Predicts a macroblock of this shape, which is not predicted at once.
 #[tactic(auto, using(crate::proofs::Shapes::macroblock_parts))]
 fn predict_macroblock<const PAD: usize>(
     references: &[Option<ReferencePicture<'_, PAD>>],
@@ -286,14 +271,66 @@ fn predict_macroblock<const PAD: usize>(
 {
     let corner = Corner { x: 0, y: 0 };
     match shape {
-        Shape::Whole => predict_whole(references, place, motion, planes),
         Shape::WideHalves => {
             predict_wide_halves::<16, 8, 8, 4, PAD>(references, place, motion, corner, planes)
         }
         Shape::TallHalves => {
             predict_tall_halves::<16, 8, 8, 4, PAD>(references, place, motion, corner, planes)
         }
-        Shape::Quarters => predict_quarters(references, place, motion, planes),
+        Shape::Whole | Shape::Quarters => predict_quarters(references, place, motion, planes),
+    }
+}
+
+/// Predicts a macroblock part by part. RefMissing where a block has no reference picture; nothing is changed then.
+// apart from one that is predicted at once: what its parts need is not laid by for that
+#[inline(never)]
+fn predict_parts<const PAD: usize>(
+    references: &[Option<ReferencePicture<'_, PAD>>],
+    size: PictureSize,
+    place: MbPlace,
+    motion: &[Motion; 16],
+    shape: Shape,
+    planes: &mut Planes<PAD>,
+) -> Result<(), Fault>
+    requires macroblock { CoverMacroblock place.column place.row (planes_of planes.old) }
+    requires usable { AreUsable size.width size.height references.now }
+    requires column { place.column < size.width }
+    requires row { place.row < size.height }
+    requires shape { IsMacroblockShape motion.now shape }
+    ensures size { AreSameSize (planes_of planes.old) (planes_of planes.new) }
+    ensures built { (c : Coded) (slice : ℕ) → c.width ≡ size.width → c.height ≡ size.height → AreReferences c slice references.now →
+        IsInterPredicted c slice place.column place.row motion.now result (planes_of planes.old) (planes_of planes.new) }
+{
+    if !have_pictures(references, motion) {
+        return Err(Fault::RefMissing);
+    }
+    predict_macroblock(references, place, motion, shape, planes);
+    Ok(())
+}
+
+/// The same of a macroblock whose blocks have one motion: it is predicted at once.
+fn predict_whole<const PAD: usize>(
+    references: &[Option<ReferencePicture<'_, PAD>>],
+    size: PictureSize,
+    place: MbPlace,
+    motion: &[Motion; 16],
+    planes: &mut Planes<PAD>,
+) -> Result<(), Fault>
+    requires macroblock { CoverMacroblock place.column place.row (planes_of planes.old) }
+    requires usable { AreUsable size.width size.height references.now }
+    requires column { place.column < size.width }
+    requires row { place.row < size.height }
+    requires shape { IsMacroblockShape motion.now Whole }
+    ensures size { AreSameSize (planes_of planes.old) (planes_of planes.new) }
+    ensures built { (c : Coded) (slice : ℕ) → c.width ≡ size.width → c.height ≡ size.height → AreReferences c slice references.now →
+        IsInterPredicted c slice place.column place.row motion.now result (planes_of planes.old) (planes_of planes.new) }
+{
+    match picture_of(references, motion[0]) {
+        Some(picture) => {
+            set_macroblock(picture, vector(motion[0]), place, planes);
+            Ok(())
+        }
+        None => Err(Fault::RefMissing),
     }
 }
 
@@ -316,10 +353,8 @@ pub(crate) fn predict_inter<const PAD: usize>(
     ensures built { (c : Coded) (slice : ℕ) → c.width ≡ size.width → c.height ≡ size.height → AreReferences c slice references.now →
         IsInterPredicted c slice place.column place.row motion.now result (planes_of planes.old) (planes_of planes.new) }
 {
-    let shape = macroblock_shape(motion, has_one_motion);
-    if !have_pictures(references, motion, shape) {
-        return Err(Fault::RefMissing);
+    match macroblock_shape(motion, has_one_motion) {
+        Shape::Whole => predict_whole(references, size, place, motion, planes),
+        shape => predict_parts(references, size, place, motion, shape, planes),
     }
-    predict_macroblock(references, place, motion, shape, planes);
-    Ok(())
 }

@@ -1,15 +1,38 @@
-use Rattle.std.proofs.Common.{refl, sym, ap, ◌∙◌}
+use Rattle.std.proofs.Common.{◌≡◌, arith, refl, sym, ap, ◌∙◌}
+use Rattle.std.specs.Prelude.{Some, is_some}
 use Rattle.std.specs.Option.{option_copied}
 use Rattle.avc_plane.specs.Frames.{planes_of}
-use Rattle.avc_picture_core.specs.Inter.{picture_in}
-use Rattle.avc_picture_core.proofs.Predicting.{part_is}
+use Rattle.avc_picture_core.specs.Inter.{block_motion, picture_in}
+use Rattle.avc_picture_core.proofs.Predicting.{all_as_first, all_predicted, pictures_shown, usable_in, whole_is}
 use Rattle.avc_picture_core.proofs.inter.predict_whole.Goals as goal
 
-pub returns-in-Inter-Some : goal.returns-in-Inter-Some
-returns-in-Inter-Some g c =
+pub set_macroblock-requires : goal.set_macroblock-requires
+set_macroblock-requires g c =
     let a = c.args in
-    let i = c.in-Inter-Some in
-    part_is a.references.now a.place.column a.place.row a.motion.now 0 0 16 16 i.ref_idx-0 i.mv i.picture.now (planes_of a.planes.now) (planes_of c.set_macroblock.new.planes)
-    refl refl c.requires.one i.is-0
-    (ap (picture_in a.references.now) (sym i.is-0) ∙ sym c.picture_of.ensures ∙ ap option_copied i.is-1)
-    c.set_macroblock.ensures
+    let r = c.requires in
+    let usable =
+    usable_in a.size.width a.size.height a.place.column a.place.row a.references.now (block_motion a.motion.now 0) c.in-Some.picture.now r.usable r.column r.row
+    (sym c.picture_of.ensures ∙ ap option_copied c.in-Some.is) in
+    (omega arith, (omega arith, (r.macroblock, usable)))
+
+pub returns-in-Some-clause-built : goal.returns-in-Some-clause-built
+returns-in-Some-clause-built g c c' slice wide high are =
+    let a = c.args in
+    let named : picture_in a.references.now (block_motion a.motion.now 0) ≡ Some c.in-Some.picture.now = sym c.picture_of.ensures ∙ ap option_copied c.in-Some.is in
+    let pictures = sym (all_as_first a.references.now a.motion.now c.told-motion c.requires.shape) ∙ ap is_some named in (
+      pictures_shown c' slice a.references.now a.motion.now are ∙ pictures,
+      all_predicted a.references.now a.size.width a.size.height a.place.column a.place.row a.motion.now (planes_of a.planes.now) (planes_of c.set_macroblock.new.planes) c' slice
+          c.told-motion c.requires.usable pictures
+          (whole_is a.references.now a.place.column a.place.row a.motion.now c.in-Some.picture.now c.vector.result (planes_of a.planes.now) (planes_of c.set_macroblock.new.planes)
+          c.requires.shape named c.vector.ensures c.set_macroblock.ensures)
+          wide high are,
+    )
+
+pub returns-in-None-clause-built : goal.returns-in-None-clause-built
+returns-in-None-clause-built g c c' slice wide high are =
+    let a = c.args in (
+      refl,
+      pictures_shown c' slice a.references.now a.motion.now are ∙ sym (all_as_first a.references.now a.motion.now c.told-motion c.requires.shape)
+      ∙ ap is_some (sym c.picture_of.ensures ∙ ap option_copied c.in-None.is),
+      refl,
+    )

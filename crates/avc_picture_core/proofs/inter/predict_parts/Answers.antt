@@ -1,7 +1,7 @@
 use Rattle.std.proofs.Common.{sym, ◌∙◌}
 use Rattle.avc_plane.specs.Frames.{planes_of}
 use Rattle.avc_picture_core.proofs.Predicting.{all_predicted, pictures_shown}
-use Rattle.avc_picture_core.proofs.inter.predict_inter.Goals as goal
+use Rattle.avc_picture_core.proofs.inter.predict_parts.Goals as goal
 
 pub returns-clause-built : goal.returns-clause-built
 returns-clause-built g c c' slice wide high are =
