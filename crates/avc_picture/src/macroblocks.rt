@@ -17,10 +17,10 @@ ghost use Rattle.avc_picture.specs.Decoded.{deblocked};
 ghost use Rattle.avc_picture.specs.FirstMbs.{HasSameSize, HasSets, HoldsFirst, IsDecoded, IsSlice};
 ghost use Rattle.avc_picture.specs.MacroblockFacts.{IsRead};
 
-use crate::filter_rows::FilterRows;
+use crate::memory::{FactRows, PictureMemory};
 use crate::neighbour_facts::set_neighbour_facts;
 use crate::slice_context::SliceContext;
-use avc_neigh::{Motion, NearMode, NeighbourFacts, Neighbours, Row, TotalCoeffs};
+use avc_neigh::{Motion, NearMode, NeighbourFacts, Neighbours, TotalCoeffs};
 use avc_params::{Pps, Sps};
 use avc_picture_core::{Canvas, ReferencePicture, Sources};
 use avc_plane::Planes;
@@ -47,8 +47,7 @@ pub(crate) struct Macroblocks<const PAD: usize> {
 
     /// Their samples, filtered one row late.
     planes: Planes<PAD>,
-    row: Row,
-    filter_rows: FilterRows,
+    facts: FactRows,
 
     /// The address of the macroblock that comes next.
     next: usize,
@@ -92,7 +91,12 @@ fn sources<'a, const PAD: usize>(
 
 impl<const PAD: usize> Macroblocks<PAD> {
     /// Before the first macroblock of a picture of these sets. Only this call takes memory.
-    pub(crate) fn new(alloc: Global, sps: &Sps, pps: &Pps) -> Result<Self, OutOfMemory>
+    pub(crate) fn new(
+        alloc: Global,
+        sps: &Sps,
+        pps: &Pps,
+        memory: &mut PictureMemory<PAD>,
+    ) -> Result<Self, OutOfMemory>
         requires padding { PAD < 2 ^ 29 }
         requires sps { IsSps sps.now }
         requires pps { IsPps pps.now }
@@ -111,8 +115,7 @@ impl<const PAD: usize> Macroblocks<PAD> {
                 constrained_intra_pred: pps.constrained_intra_pred_flag,
             },
             planes: Planes::new(alloc, width, height)?,
-            row: Row::new(alloc, width)?,
-            filter_rows: FilterRows::new(alloc, width)?,
+            facts: memory.facts(alloc, width)?,
             next: 0,
         })
     }
@@ -125,7 +128,7 @@ impl<const PAD: usize> Macroblocks<PAD> {
         ensures up { (c : Coded) (names : Names) (s : SliceStart) → HoldsFirst c names self.now → s.width ≡ c.width → s.slice ≡ slice
             → option_copied result.1 ≡ up_total_coeffs s (take self.now.next c.mbs) }
     {
-        let around = self.row.around(slice);
+        let around = self.facts.row.around(slice);
         (total_coeffs_of(around.a), total_coeffs_of(around.b))
     }
 
@@ -148,7 +151,7 @@ impl<const PAD: usize> Macroblocks<PAD> {
             → slice_get c.mbs self.old.next ≡ Some (record { slice = slice.now.number; mb = mb.now })
             → IsSlice c names slice.now → IsDecoded c names self.old.next result self.new }
     {
-        let sources = sources(self.row.around(slice.number), &slice.references);
+        let sources = sources(self.facts.row.around(slice.number), &slice.references);
         set_neighbour_facts(
             facts,
             mb,
@@ -158,10 +161,10 @@ impl<const PAD: usize> Macroblocks<PAD> {
         )?;
         self.canvas
             .build(&mut self.planes, self.next, mb, facts, &sources)?;
-        self.filter_rows
+        self.facts.filter_rows
             .filter_late(&mut self.planes, self.canvas.chroma_qp_index_offset);
-        self.filter_rows.put(mb, &facts.motion, slice);
-        self.row.put(facts);
+        self.facts.filter_rows.put(mb, &facts.motion, slice);
+        self.facts.row.put(facts);
         self.next += 1;
         Ok(())
     }
@@ -180,7 +183,7 @@ impl<const PAD: usize> Macroblocks<PAD> {
     }
 
     /// The samples of the picture after deblocking (8.7).
-    pub(crate) fn deblocked(self) -> Planes<PAD>
+    pub(crate) fn deblocked(self, memory: &mut PictureMemory<PAD>) -> Planes<PAD>
         ensures luma { HasSamples result.luma }
         ensures cb { HasSamples result.cb }
         ensures cr { HasSamples result.cr }
@@ -188,8 +191,15 @@ impl<const PAD: usize> Macroblocks<PAD> {
             → length c.mbs ≡ c.width * c.height → planes_of result ≡ deblocked c }
     {
         let mut planes = self.planes;
-        self.filter_rows
+        self.facts.filter_rows
             .filter_last_row(&mut planes, self.canvas.chroma_qp_index_offset);
+        memory.keep_facts(self.facts);
         planes
+    }
+
+    /// Gives the memory of a picture back that is refused.
+    pub(crate) fn discard(self, memory: &mut PictureMemory<PAD>) {
+        memory.keep_open(self.planes);
+        memory.keep_facts(self.facts);
     }
 }
