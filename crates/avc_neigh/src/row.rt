@@ -161,7 +161,10 @@ impl Row {
     fn above_right(&self, slice: u32) -> Option<&NeighbourFacts>
         ensures { option_copied result ≡ mb_c self.now slice }
     {
-        if !self.has_above || self.next.column + 1 == self.width {
+        if !self.has_above {
+            return None;
+        }
+        if self.next.column + 1 == self.width {
             return None;
         }
         in_slice(
@@ -174,7 +177,10 @@ impl Row {
     fn above_left(&self, slice: u32) -> Option<&NeighbourFacts>
         ensures { option_copied result ≡ mb_d self.now slice }
     {
-        if !self.has_above || self.next.column == 0 {
+        if !self.has_above {
+            return None;
+        }
+        if self.next.column == 0 {
             return None;
         }
         in_slice(
@@ -202,8 +208,6 @@ impl Row {
         write(&mut self.entries[self.next.first + self.next.column], facts);
         self.facts = self.facts.with(facts);
         self.next = place_after(self.next, self.width);
-        if self.next.column == 0 {
-            self.has_above = true;
-        }
+        self.has_above = (self.next.column == 0) | self.has_above;
     }
 }
