@@ -159,10 +159,7 @@ impl<const PAD: usize> PictureDecoder<PAD> {
 
     /// The samples of the picture after deblocking. Where the slices have a fault it answers the first, and else
     /// MissingMacroblocks where they do not hold all macroblocks. It takes no memory, and never wants any.
-    pub fn finish(
-        self,
-        memory: &mut PictureMemory<PAD>,
-    ) -> Result<PaddedPlanes<PAD>, PictureError>
+    pub fn finish(self, memory: &mut PictureMemory<PAD>) -> Result<PaddedPlanes<PAD>, PictureError>
         ensures answer { IsFinishAnswer self.entry result }
         ensures sized { IfOk result (λ planes. AreSized (width_in_mbs self.entry.sps) (height_in_mbs self.entry.sps) (padded_planes_of planes)) }
     {

@@ -17,10 +17,11 @@ ghost use Rattle.avc_picture.specs.Decoded.{deblocked};
 ghost use Rattle.avc_picture.specs.FirstMbs.{HasSameSize, HasSets, HoldsFirst, IsDecoded, IsSlice};
 ghost use Rattle.avc_picture.specs.MacroblockFacts.{IsRead};
 
+use crate::filter_rows::FilterRows;
 use crate::memory::{FactRows, PictureMemory};
 use crate::neighbour_facts::set_neighbour_facts;
 use crate::slice_context::SliceContext;
-use avc_neigh::{Motion, NearMode, NeighbourFacts, Neighbours, TotalCoeffs};
+use avc_neigh::{Motion, NearMode, NeighbourFacts, Neighbours, Row, TotalCoeffs};
 use avc_params::{Pps, Sps};
 use avc_picture_core::{Canvas, ReferencePicture, Sources};
 use avc_plane::Planes;
@@ -47,7 +48,8 @@ pub(crate) struct Macroblocks<const PAD: usize> {
 
     /// Their samples, filtered one row late.
     planes: Planes<PAD>,
-    facts: FactRows,
+    row: Row,
+    filter_rows: FilterRows,
 
     /// The address of the macroblock that comes next.
     next: usize,
@@ -107,6 +109,7 @@ impl<const PAD: usize> Macroblocks<PAD> {
     {
         let width = sps.width_in_mbs() as usize;
         let height = sps.height_in_mbs() as usize;
+        let facts = memory.facts(alloc, width)?;
         Ok(Macroblocks {
             canvas: Canvas {
                 width,
@@ -115,7 +118,8 @@ impl<const PAD: usize> Macroblocks<PAD> {
                 constrained_intra_pred: pps.constrained_intra_pred_flag,
             },
             planes: Planes::new(alloc, width, height)?,
-            facts: memory.facts(alloc, width)?,
+            row: facts.row,
+            filter_rows: facts.filter_rows,
             next: 0,
         })
     }
@@ -128,7 +132,7 @@ impl<const PAD: usize> Macroblocks<PAD> {
         ensures up { (c : Coded) (names : Names) (s : SliceStart) → HoldsFirst c names self.now → s.width ≡ c.width → s.slice ≡ slice
             → option_copied result.1 ≡ up_total_coeffs s (take self.now.next c.mbs) }
     {
-        let around = self.facts.row.around(slice);
+        let around = self.row.around(slice);
         (total_coeffs_of(around.a), total_coeffs_of(around.b))
     }
 
@@ -151,7 +155,7 @@ impl<const PAD: usize> Macroblocks<PAD> {
             → slice_get c.mbs self.old.next ≡ Some (record { slice = slice.now.number; mb = mb.now })
             → IsSlice c names slice.now → IsDecoded c names self.old.next result self.new }
     {
-        let sources = sources(self.facts.row.around(slice.number), &slice.references);
+        let sources = sources(self.row.around(slice.number), &slice.references);
         set_neighbour_facts(
             facts,
             mb,
@@ -161,10 +165,10 @@ impl<const PAD: usize> Macroblocks<PAD> {
         )?;
         self.canvas
             .build(&mut self.planes, self.next, mb, facts, &sources)?;
-        self.facts.filter_rows
+        self.filter_rows
             .filter_late(&mut self.planes, self.canvas.chroma_qp_index_offset);
-        self.facts.filter_rows.put(mb, &facts.motion, slice);
-        self.facts.row.put(facts);
+        self.filter_rows.put(mb, &facts.motion, slice);
+        self.row.put(facts);
         self.next += 1;
         Ok(())
     }
@@ -191,15 +195,21 @@ impl<const PAD: usize> Macroblocks<PAD> {
             → length c.mbs ≡ c.width * c.height → planes_of result ≡ deblocked c }
     {
         let mut planes = self.planes;
-        self.facts.filter_rows
+        self.filter_rows
             .filter_last_row(&mut planes, self.canvas.chroma_qp_index_offset);
-        memory.keep_facts(self.facts);
+        memory.keep_facts(FactRows {
+            row: self.row,
+            filter_rows: self.filter_rows,
+        });
         planes
     }
 
     /// Gives the memory of a picture back that is refused.
     pub(crate) fn discard(self, memory: &mut PictureMemory<PAD>) {
         memory.keep_open(self.planes);
-        memory.keep_facts(self.facts);
+        memory.keep_facts(FactRows {
+            row: self.row,
+            filter_rows: self.filter_rows,
+        });
     }
 }
