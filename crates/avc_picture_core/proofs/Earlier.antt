@@ -12,12 +12,13 @@ use Rattle.avc_types.specs.Pictures.{Coded}
 use Rattle.avc_neigh.specs.Blocks.{Location, block_x, block_y, block_at, location_in, same_slice}
 use Rattle.avc_neigh.specs.declared.facts.NearMode.TheVariants.{Absent as absent}
 use Rattle.avc_plane.specs.Plane.{Plane, sample, with_block, is_inside}
+use Rattle.avc_plane.specs.Planes.{Planes}
 use Rattle.avc_plane.proofs.PlaneMaps.{sample-with_block}
 use Rattle.avc_plane.proofs.Rectangles.{by_place}
 use Rattle.avc_intra.specs.Luma4x4.{mode4x4_of}
 use Rattle.avc_intra.specs.Luma16x16.{mode16x16_of}
 use Rattle.avc_intra.specs.Chroma.{mode_chroma_of}
-use Rattle.avc_picture_core.specs.Built.{Place, chroma_after, inter_at, is_intra_place, is_there, left_of_mb, luma_after, mode_number, residual_at, seen_from, sides_of, size_of, sum_of, top_of_mb, with_block4x4, with_blocks4x4}
+use Rattle.avc_picture_core.specs.Built.{Place, chroma_after, inter_at, is_intra_place, is_there, left_of_mb, luma_after, mode_number, planes_after, residual_at, seen_from, sides_of, size_of, sum_of, top_of_mb, with_block4x4, with_blocks4x4}
 use Rattle.avc_picture_core.proofs.IntraRows.{block_from, chroma_from, luma_from}
 use Rattle.avc_picture_core.proofs.IntraSides.{AgreeBeside, agree4x4, agree16x16, agree_chroma, is_beside}
 use Rattle.avc_picture_core.proofs.PlaceOn.{sides_inside}
@@ -315,3 +316,106 @@ module _ (c : Coded) (size h a : ℕ) (big : 8 ≤ size) (some : 0 < c.width) (r
         (λ x y inside low less out. ⊎_elim (λ earlier. earlier)
         (λ no. let in_it = in_square x y inside (omega (arith, less, no)) in absurd (out in_it.0 in_it.1 in_it.2 in_it.3))
         (cases_lt (address_at size c.width x y) a))
+
+-- ---- the luma blocks of a macroblock, one after another
+
+-- the square of the block that covers a sample
+square_of : (u v : ℕ) → u < 16 → v < 16 → (block_x (block_at u v) ≡ 4 * (u / 4)) × (block_y (block_at u v) ≡ 4 * (v / 4))
+square_of u v low high = (omega (arith, low, high), omega (arith, low, high))
+
+module _ (p : Place) (h : ℕ) (some : 0 < p.coded.width) (room : p.address / p.coded.width < h) (s t : Plane)
+    (agree : Agree (16 * p.coded.width) (16 * h) (λ x y. address_at 16 p.coded.width x y < p.address) s t) where
+  abbrev w : ℕ
+  w = p.coded.width
+
+  abbrev a : ℕ
+  a = p.address
+
+  in_block : (n x y : ℕ) → x < 16 * w → address_at 16 w x y ≡ a → block_at (x % 16) (y % 16) ≡ n
+      → (left_of_mb p 0 + block_x n ≤ x) × (x < left_of_mb p 0 + block_x n + 4) × (top_of_mb p 0 + block_y n ≤ y) × (y < top_of_mb p 0 + block_y n + 4)
+  in_block n x y inside at is =
+      let square = in_square p.coded 16 h a (omega arith) some room x y inside at in
+      let places = square_of (x % 16) (y % 16) (omega arith) (omega arith) in
+      let across : block_x n ≡ 4 * ((x % 16) / 4) = ap block_x (sym is) ∙ places.0 in
+      let down : block_y n ≡ 4 * ((y % 16) / 4) = ap block_y (sym is) ∙ places.1 in
+      (omega (arith, across, square.0, square.1), omega (arith, across, square.0, square.1), omega (arith, down, square.2, square.3), omega (arith, down, square.2, square.3))
+
+  blocks_agree : (n : ℕ) → n ≤ 16 → Agree (16 * w) (16 * h) (IsEarlier w a n) (with_blocks4x4 p n s) (with_blocks4x4 p n t)
+  blocks_agree zero few =
+      agree_less (16 * w) (16 * h) (λ x y. address_at 16 w x y < a) (IsEarlier w a 0) s t agree
+      (λ x y column row earlier. ⊎_elim (λ less. less) (λ here. absurd (omega (arith, here.1))) earlier)
+  blocks_agree (suc n) few =
+      let so_far = blocks_agree n (omega (arith, few)) in
+      agree_more (16 * w) (16 * h) (IsEarlier w a n) (IsEarlier w a (suc n)) (with_blocks4x4 p n s) (with_blocks4x4 p n t) so_far
+      (left_of_mb p 0 + block_x n) (top_of_mb p 0 + block_y n) 4 4 (block_from p n (with_blocks4x4 p n s)) (block_from p n (with_blocks4x4 p n t))
+      (block_agrees p h n some room (omega (arith, few)) (with_blocks4x4 p n s) (with_blocks4x4 p n t) so_far)
+      (λ x y column row earlier out. ⊎_elim
+      (λ less. inl less)
+      (λ here. ⊎_elim
+      (λ before. inr (here.0, before))
+      (λ no. let in_it = in_block n x y column here.0 (omega (arith, here.1, no)) in absurd (out in_it.0 in_it.1 in_it.2 in_it.3))
+      (cases_lt (block_at (x % 16) (y % 16)) n))
+      earlier)
+
+  all_blocks_agree : Agree (16 * w) (16 * h) (λ x y. address_at 16 w x y < suc a) (with_blocks4x4 p 16 s) (with_blocks4x4 p 16 t)
+  all_blocks_agree =
+      agree_less (16 * w) (16 * h) (IsEarlier w a 16) (λ x y. address_at 16 w x y < suc a) (with_blocks4x4 p 16 s) (with_blocks4x4 p 16 t) (blocks_agree 16 (omega arith))
+      (λ x y column row less. ⊎_elim
+      (λ earlier. inl earlier)
+      (λ no. inr (omega (arith, less, no), omega arith))
+      (cases_lt (address_at 16 w x y) a))
+
+  -- ---- luma and chroma after the macroblock
+
+  pub luma_agrees : (syntax : MbSyntax) → Agree (16 * w) (16 * h) (λ x y. address_at 16 w x y < suc a) (luma_after p syntax s) (luma_after p syntax t)
+  luma_agrees p_skip = square_more p.coded 16 h a (omega arith) some room s t agree (inter_at p 0) (inter_at p 0) (λ x y column row. refl)
+  luma_agrees (p_inter shape ref_idx mvd r) = square_more p.coded 16 h a (omega arith) some room s t agree (inter_at p 0) (inter_at p 0) (λ x y column row. refl)
+  luma_agrees (i_pcm luma cb cr) =
+      square_more p.coded 16 h a (omega arith) some room s t agree (λ x y. slice_index luma (16 * y + x)) (λ x y. slice_index luma (16 * y + x)) (λ x y column row. refl)
+  luma_agrees (i_16x16 m chroma r) =
+      square_more p.coded 16 h a (omega arith) some room s t agree (luma_from p m s) (luma_from p m t)
+      (λ x y column row.
+      ap (λ o. sum_of (unwrap_or o 0) (residual_at p 0 x y))
+      (agree16x16 (sides_of p.coded p.address 0) (seen_from s (left_of_mb p 0) (top_of_mb p 0)) (seen_from t (left_of_mb p 0) (top_of_mb p 0))
+      (beside_mb p.coded 16 h a (omega arith) some room s t agree) (mode16x16_of m) x y column row))
+  luma_agrees (i_nxn modes chroma r) = all_blocks_agree
+
+module _ (p : Place) (h k : ℕ) (some : 0 < p.coded.width) (room : p.address / p.coded.width < h) (s t : Plane)
+    (agree : Agree (8 * p.coded.width) (8 * h) (λ x y. address_at 8 p.coded.width x y < p.address) s t) where
+  abbrev AgreesThen : Plane → Plane → Type 0
+  AgreesThen = Agree (8 * p.coded.width) (8 * h) (λ x y. address_at 8 p.coded.width x y < suc p.address)
+
+  intra_agrees : (mode : ℕ) → AgreesThen (with_block s (left_of_mb p (suc k)) (top_of_mb p (suc k)) 8 8 (chroma_from p mode (suc k) s))
+      (with_block t (left_of_mb p (suc k)) (top_of_mb p (suc k)) 8 8 (chroma_from p mode (suc k) t))
+  intra_agrees mode =
+      square_more p.coded 8 h p.address (omega arith) some room s t agree (chroma_from p mode (suc k) s) (chroma_from p mode (suc k) t)
+      (λ x y column row.
+      ap (λ o. sum_of (unwrap_or o 0) (residual_at p (suc k) x y))
+      (agree_chroma (sides_of p.coded p.address 0) (seen_from s (left_of_mb p (suc k)) (top_of_mb p (suc k))) (seen_from t (left_of_mb p (suc k)) (top_of_mb p (suc k)))
+      (beside_mb p.coded 8 h p.address (omega arith) some room s t agree) (mode_chroma_of mode) x y column row))
+
+  same_agrees : (f : ℕ → ℕ → ℕ) → AgreesThen (with_block s (left_of_mb p (suc k)) (top_of_mb p (suc k)) 8 8 f) (with_block t (left_of_mb p (suc k)) (top_of_mb p (suc k)) 8 8 f)
+  same_agrees f = square_more p.coded 8 h p.address (omega arith) some room s t agree f f (λ x y column row. refl)
+
+  pub chroma_agrees : (syntax : MbSyntax) → AgreesThen (chroma_after p (suc k) syntax s) (chroma_after p (suc k) syntax t)
+  chroma_agrees p_skip = same_agrees (inter_at p (suc k))
+  chroma_agrees (p_inter shape ref_idx mvd r) = same_agrees (inter_at p (suc k))
+  chroma_agrees (i_pcm luma cb cr) = same_agrees (λ x y. slice_index (if suc k == 1 then cb else cr) (8 * y + x))
+  chroma_agrees (i_16x16 m chroma r) = intra_agrees chroma
+  chroma_agrees (i_nxn modes chroma r) = intra_agrees chroma
+
+-- ---- the three planes
+
+-- Planes of this size in macroblocks that agree on the macroblocks before address a.
+pub record AgreeBefore (width height a : ℕ) (s t : Planes) : Type 0 where
+  pub luma : Agree (16 * width) (16 * height) (λ x y. address_at 16 width x y < a) s.luma t.luma
+  pub cb : Agree (8 * width) (8 * height) (λ x y. address_at 8 width x y < a) s.cb t.cb
+  pub cr : Agree (8 * width) (8 * height) (λ x y. address_at 8 width x y < a) s.cr t.cr
+
+pub planes_agree : (p : Place) (height : ℕ) → 0 < p.coded.width → p.address / p.coded.width < height → (s t : Planes)
+    → AgreeBefore p.coded.width height p.address s t → AgreeBefore p.coded.width height (suc p.address) (planes_after p s) (planes_after p t)
+planes_agree p height some room s t agree = record {
+  luma = luma_agrees p height some room s.luma t.luma agree.luma p.mb.syntax;
+  cb = chroma_agrees p height 0 some room s.cb t.cb agree.cb p.mb.syntax;
+  cr = chroma_agrees p height 1 some room s.cr t.cr agree.cr p.mb.syntax;
+}
