@@ -13,12 +13,13 @@ use Rattle.avc_deblock.specs.declared.facts.MbFacts.{MbFacts}
 use Rattle.avc_picture_core.specs.Canvas.{CanvasState}
 use Rattle.avc_neigh.specs.TotalCoeffs.{total_coeffs_of}
 use Rattle.avc_motion.specs.Motion.{is_intra}
+use Rattle.avc_plane.specs.Plane.{Plane}
 use Rattle.avc_plane.specs.Planes.{Planes}
 use Rattle.avc_picture.specs.FirstMbs.{HasNeighbourFacts, HoldsFirst, MbsState}
 use Rattle.avc_params.specs.Limits.{max_macroblocks}
 use Rattle.avc_picture.specs.RowLate.{filtered_rows, first_built, rows_filtered}
 use Rattle.avc_picture.specs.MacroblocksState.{HaveModes, PartsAgree}
-use Rattle.avc_picture.specs.Sizes.{IsSized}
+use Rattle.avc_picture.specs.Sizes.{HasSize, IsSized}
 
 all_of_one : (f : NeighbourFacts) → All IsMode f.modes → HaveModes (f ∷ [])
 all_of_one f h zero d below = h
@@ -63,7 +64,7 @@ module _ (canvas : CanvasState) (row : PictureFacts) (width height : ℕ) (offse
     filter_count = refl;
   }
 
-  pub holds_none : (c : Coded) (names : Names) → c.width ≡ width → c.height ≡ height → c.chroma_qp_index_offset ≡ offset
+  pub holds_none : (c : Coded) (names : Names) → IsSized width height begun → c.width ≡ width → c.height ≡ height → c.chroma_qp_index_offset ≡ offset
       → c.constrained_intra_pred ≡ constrained → HoldsFirst c names (record { canvas = canvas; row = row; filter_facts = []; next = 0 })
   holds_none c names sized w h o f = record {
     within = omega arith;
@@ -84,3 +85,7 @@ module _ (canvas : CanvasState) (row : PictureFacts) (width height : ℕ) (offse
     });
     filter = λ k other below. absurd (omega (arith, below));
   }
+
+-- a plane of this size, with all its samples
+pub whole_plane : (w h : ℕ) (s : Plane) → s.width ≡ w → s.height ≡ h → length s.samples ≡ s.width * s.height → HasSize w h s
+whole_plane w h s width height all = record { columns = width; rows = height; all = all ∙ ap (λ n. n * s.height) width ∙ ap (λ n. w * n) height }

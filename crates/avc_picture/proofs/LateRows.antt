@@ -41,7 +41,7 @@ from all address n = take n (drop address all)
 are_from : (all : List MbFacts) (address n : ℕ) → AreFrom all address n (from all address n)
 are_from all address n k other low = get_take n (drop address all) k other low ∙ get_drop address all k other
 
-from_long : (all : List MbFacts) (address n : ℕ) → address + n ≤ length all → length (from all address n) ≡ n
+pub from_long : (all : List MbFacts) (address n : ℕ) → address + n ≤ length all → length (from all address n) ≡ n
 from_long all address n within = length-take-le n (drop address all) (omega (arith, within, length-drop address all))
 
 -- ---- rows that are filtered
@@ -50,10 +50,10 @@ module _ (c : Coded) (names : Names) (offset : ℤ) (f : FilterFacts) (of : AreF
   abbrev motion : List (List Motion)
   motion = motion_before c (length c.mbs)
 
-  abbrev row_facts : ℕ → List MbFacts
+  abbrev pub row_facts : ℕ → List MbFacts
   row_facts row = from f.facts (row * f.width) f.width
 
-  row_facts_are : (row : ℕ) → row * f.width + f.width ≤ length f.facts → AreOfRow c motion names row offset (row_facts (row - 1)) (row_facts row)
+  pub row_facts_are : (row : ℕ) → row * f.width + f.width ≤ length f.facts → AreOfRow c motion names row offset (row_facts (row - 1)) (row_facts row)
   row_facts_are row within =
       let earlier : (row - 1) * f.width ≤ row * f.width = mul-le-mul_right f.width (omega arith) in
       let before : (row - 1) * f.width + f.width ≤ length f.facts = omega (arith, within, earlier) in

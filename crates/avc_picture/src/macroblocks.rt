@@ -9,7 +9,7 @@ ghost use Rattle.avc_neigh.specs.Around.{facts_of};
 ghost use Rattle.avc_mbsyntax.specs.SliceData.{SliceStart, left_total_coeffs, up_total_coeffs};
 ghost use Rattle.avc_plane.specs.Frames.{planes_of};
 ghost use Rattle.avc_plane.specs.Plane.{HasSamples};
-ghost use Rattle.avc_plane.specs.Planes.{empty_planes, samples_of};
+ghost use Rattle.avc_plane.specs.Planes.{component as plane_at, empty_planes, samples_of};
 ghost use Rattle.avc_picture_core.specs.Built.{size_of};
 ghost use Rattle.avc_deblock.specs.Facts.{Names};
 ghost use Rattle.avc_picture_core.specs.References.{AreUsable};
@@ -89,6 +89,19 @@ fn sources<'a, const PAD: usize>(
     Sources {
         neighbours,
         references,
+    }
+}
+
+/// The sample in column `x` and row `y` of a component: 0 is luma, 1 Cb, 2 Cr.
+fn sample_of<const PAD: usize>(planes: &Planes<PAD>, component: usize, x: usize, y: usize) -> u8
+    requires column { x < (plane_at (planes_of planes.now) component).width }
+    requires row { y < (plane_at (planes_of planes.now) component).height }
+    ensures { result ≡ samples_of (planes_of planes.now) component x y }
+{
+    match component {
+        0 => planes.luma.get(x, y),
+        1 => planes.cb.get(x, y),
+        _ => planes.cr.get(x, y),
     }
 }
 
@@ -186,11 +199,7 @@ impl<const PAD: usize> Macroblocks<PAD> {
         ensures { (c : Coded) (names : Names) → HoldsFirst c names self.now
             → result ≡ samples_of (row_late c (empty_planes c.width c.height) self.now.next) component x y }
     {
-        match component {
-            0 => self.planes.luma.get(x, y),
-            1 => self.planes.cb.get(x, y),
-            _ => self.planes.cr.get(x, y),
-        }
+        sample_of(&self.planes, component, x, y)
     }
 
     /// The samples of the picture after deblocking (8.7).
