@@ -6,9 +6,10 @@ ghost use Rattle.avc_plane.specs.Frames.{padded_planes_of, AreSized};
 ghost use Rattle.avc_picture_core.specs.Built.{size_of};
 ghost use Rattle.avc_picture.specs.Decoding.{no_slice_yet, AreFramesOf, HasNoFault, HasRead, IsFinishAnswer, IsFull, IsSliceAnswer};
 ghost use Rattle.avc_picture.specs.DecoderState.{number_after};
-ghost use Rattle.avc_picture.specs.OpenPicture.{HasFiltered, HasSample};
+ghost use Rattle.avc_picture.specs.OpenPicture.{HasFiltered, HasSample, IsCovered};
 
 use crate::macroblocks::Macroblocks;
+use crate::memory::PictureMemory;
 use crate::slice_decoding::decode_slice;
 use avc_params::{Pps, Sps};
 use avc_plane::{Frame, PaddedPlanes};
@@ -65,6 +66,7 @@ impl<const PAD: usize> PictureDecoder<PAD> {
         sps: &Sps,
         pps: &Pps,
         frames: &[Frame<PAD>],
+        memory: &mut PictureMemory<PAD>,
     ) -> Result<Self, OutOfMemory>
         requires sps { IsSps sps.now }
         requires pps { IsPps pps.now }
@@ -74,7 +76,7 @@ impl<const PAD: usize> PictureDecoder<PAD> {
         if PAD > MAX_PADDING {
             return Err(OutOfMemory);
         }
-        let macroblocks = Macroblocks::new(alloc, sps, pps)?;
+        let macroblocks = Macroblocks::new(alloc, sps, pps, memory)?;
         Ok(PictureDecoder {
             sps: sps.copied(),
             pps: *pps,
@@ -144,12 +146,13 @@ impl<const PAD: usize> PictureDecoder<PAD> {
         (self.read / self.sps.width_in_mbs()).max(1) - 1
     }
 
-    /// The sample in column `x` and row `y` of a component of the picture so far: 0 is luma, 1 Cb, 2 Cr. It is deblocked as far as the
-    /// lines of those rows do it; where no macroblock is built yet it is 0.
+    /// The sample in column `x` and row `y` of a component of the picture so far: 0 is luma, 1 Cb, 2 Cr. It is of a macroblock that has
+    /// been read, and deblocked as far as the lines of those rows do it.
     pub fn sample(&self, component: usize, x: usize, y: usize) -> u8
         requires fault { HasNoFault self.now }
         requires column { x < size_of component * width_in_mbs self.now.sps }
         requires row { y < size_of component * height_in_mbs self.now.sps }
+        requires read { IsCovered component x y self.now }
         ensures { HasSample component x y result self.now }
     {
         self.macroblocks.sample(component, x, y)
@@ -157,16 +160,23 @@ impl<const PAD: usize> PictureDecoder<PAD> {
 
     /// The samples of the picture after deblocking. Where the slices have a fault it answers the first, and else
     /// MissingMacroblocks where they do not hold all macroblocks. It takes no memory, and never wants any.
-    pub fn finish(self) -> Result<PaddedPlanes<PAD>, PictureError>
+    pub fn finish(self, memory: &mut PictureMemory<PAD>) -> Result<PaddedPlanes<PAD>, PictureError>
         ensures answer { IsFinishAnswer self.entry result }
         ensures sized { IfOk result (λ planes. AreSized (width_in_mbs self.entry.sps) (height_in_mbs self.entry.sps) (padded_planes_of planes)) }
     {
         if let Some(fault) = self.fault {
+            self.macroblocks.discard(memory);
             return Err(PictureError::Fault(fault));
         }
         if self.read != self.sps.size_in_mbs() {
+            self.macroblocks.discard(memory);
             return Err(PictureError::Fault(Fault::MissingMacroblocks));
         }
-        Ok(self.macroblocks.deblocked().pad())
+        Ok(self.macroblocks.deblocked(memory).pad())
+    }
+
+    /// Gives the memory of a picture back that is refused.
+    pub fn discard(self, memory: &mut PictureMemory<PAD>) {
+        self.macroblocks.discard(memory);
     }
 }

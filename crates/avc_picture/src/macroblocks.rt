@@ -9,15 +9,17 @@ ghost use Rattle.avc_neigh.specs.Around.{facts_of};
 ghost use Rattle.avc_mbsyntax.specs.SliceData.{SliceStart, left_total_coeffs, up_total_coeffs};
 ghost use Rattle.avc_plane.specs.Frames.{planes_of};
 ghost use Rattle.avc_plane.specs.Plane.{HasSamples};
-ghost use Rattle.avc_plane.specs.Planes.{samples_of};
+ghost use Rattle.avc_plane.specs.Planes.{component as plane_at, empty_planes, samples_of};
 ghost use Rattle.avc_picture_core.specs.Built.{size_of};
 ghost use Rattle.avc_deblock.specs.Facts.{Names};
 ghost use Rattle.avc_picture_core.specs.References.{AreUsable};
 ghost use Rattle.avc_picture.specs.Decoded.{deblocked};
 ghost use Rattle.avc_picture.specs.FirstMbs.{HasSameSize, HasSets, HoldsFirst, IsDecoded, IsSlice};
 ghost use Rattle.avc_picture.specs.MacroblockFacts.{IsRead};
+ghost use Rattle.avc_picture.specs.RowLate.{covering_address, row_late};
 
 use crate::filter_rows::FilterRows;
+use crate::memory::{FactRows, PictureMemory};
 use crate::neighbour_facts::set_neighbour_facts;
 use crate::slice_context::SliceContext;
 use avc_neigh::{Motion, NearMode, NeighbourFacts, Neighbours, Row, TotalCoeffs};
@@ -90,9 +92,27 @@ fn sources<'a, const PAD: usize>(
     }
 }
 
+/// The sample in column `x` and row `y` of a component: 0 is luma, 1 Cb, 2 Cr.
+fn sample_of<const PAD: usize>(planes: &Planes<PAD>, component: usize, x: usize, y: usize) -> u8
+    requires column { x < (plane_at (planes_of planes.now) component).width }
+    requires row { y < (plane_at (planes_of planes.now) component).height }
+    ensures { result ≡ samples_of (planes_of planes.now) component x y }
+{
+    match component {
+        0 => planes.luma.get(x, y),
+        1 => planes.cb.get(x, y),
+        _ => planes.cr.get(x, y),
+    }
+}
+
 impl<const PAD: usize> Macroblocks<PAD> {
-    /// Before the first macroblock of a picture of these sets. Only this call takes memory.
-    pub(crate) fn new(alloc: Global, sps: &Sps, pps: &Pps) -> Result<Self, OutOfMemory>
+    /// Before the first macroblock of a picture of these sets. Only this call takes memory, where there is none of this size.
+    pub(crate) fn new(
+        alloc: Global,
+        sps: &Sps,
+        pps: &Pps,
+        memory: &mut PictureMemory<PAD>,
+    ) -> Result<Self, OutOfMemory>
         requires padding { PAD < 2 ^ 29 }
         requires sps { IsSps sps.now }
         requires pps { IsPps pps.now }
@@ -103,6 +123,11 @@ impl<const PAD: usize> Macroblocks<PAD> {
     {
         let width = sps.width_in_mbs() as usize;
         let height = sps.height_in_mbs() as usize;
+        let planes = memory.planes(alloc, width, height)?;
+        planes.luma.holds_bytes();
+        planes.cb.holds_bytes();
+        planes.cr.holds_bytes();
+        let facts = memory.facts(alloc, width)?;
         Ok(Macroblocks {
             canvas: Canvas {
                 width,
@@ -110,9 +135,9 @@ impl<const PAD: usize> Macroblocks<PAD> {
                 chroma_qp_index_offset: pps.chroma_qp_index_offset as i8,
                 constrained_intra_pred: pps.constrained_intra_pred_flag,
             },
-            planes: Planes::new(alloc, width, height)?,
-            row: Row::new(alloc, width)?,
-            filter_rows: FilterRows::new(alloc, width)?,
+            planes,
+            row: facts.row,
+            filter_rows: facts.filter_rows,
             next: 0,
         })
     }
@@ -166,21 +191,19 @@ impl<const PAD: usize> Macroblocks<PAD> {
         Ok(())
     }
 
-    /// The sample in column `x` and row `y` of a component: 0 is luma, 1 Cb, 2 Cr.
+    /// The sample in column `x` and row `y` of a component, which is of a macroblock so far: 0 is luma, 1 Cb, 2 Cr.
     pub(crate) fn sample(&self, component: usize, x: usize, y: usize) -> u8
         requires column { x < size_of component * self.now.canvas.width }
         requires row { y < size_of component * self.now.canvas.height }
-        ensures { result ≡ samples_of self.now.canvas.planes component x y }
+        requires built { covering_address self.now.canvas.width component x y < self.now.next }
+        ensures { (c : Coded) (names : Names) → HoldsFirst c names self.now
+            → result ≡ samples_of (row_late c (empty_planes c.width c.height) self.now.next) component x y }
     {
-        match component {
-            0 => self.planes.luma.get(x, y),
-            1 => self.planes.cb.get(x, y),
-            _ => self.planes.cr.get(x, y),
-        }
+        sample_of(&self.planes, component, x, y)
     }
 
     /// The samples of the picture after deblocking (8.7).
-    pub(crate) fn deblocked(self) -> Planes<PAD>
+    pub(crate) fn deblocked(self, memory: &mut PictureMemory<PAD>) -> Planes<PAD>
         ensures luma { HasSamples result.luma }
         ensures cb { HasSamples result.cb }
         ensures cr { HasSamples result.cr }
@@ -190,6 +213,19 @@ impl<const PAD: usize> Macroblocks<PAD> {
         let mut planes = self.planes;
         self.filter_rows
             .filter_last_row(&mut planes, self.canvas.chroma_qp_index_offset);
+        memory.keep_facts(FactRows {
+            row: self.row,
+            filter_rows: self.filter_rows,
+        });
         planes
+    }
+
+    /// Gives the memory of a picture back that is refused.
+    pub(crate) fn discard(self, memory: &mut PictureMemory<PAD>) {
+        memory.keep_open(self.planes);
+        memory.keep_facts(FactRows {
+            row: self.row,
+            filter_rows: self.filter_rows,
+        });
     }
 }
