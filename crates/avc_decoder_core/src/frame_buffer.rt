@@ -430,4 +430,11 @@ impl FrameBuffer {
         self.failed = false;
         Ok(out)
     }
+
+    /// Takes the planes of a frame that has left the buffer, if there is one, so that their memory is used again.
+    pub fn emptied_planes(&mut self) -> Option<PaddedPlanes<PADDING>>
+        ensures { self.new ≡ self.old }
+    {
+        self.dpb.emptied_frame()?.planes
+    }
 }
