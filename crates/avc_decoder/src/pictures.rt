@@ -8,10 +8,10 @@ ghost use Rattle.avc_slice.specs.Within.{IsHeader};
 
 use crate::active_sets::ActiveSets;
 use crate::event::Event;
-use crate::open_picture::{begin_picture, close_picture, continue_picture, empty, fail};
+use crate::open_picture::{begin_picture, close_picture, continue_picture, empty, fail, forget};
 use crate::queue::Queue;
 use avc_decoder_core::{Output, Sequence};
-use avc_picture::PictureDecoder;
+use avc_picture::{PictureDecoder, PictureMemory};
 use avc_plane::PADDING;
 use avc_slice::Slice;
 use avc_types::{Fault, OutOfMemory};
@@ -24,6 +24,8 @@ pub struct Pictures {
     alloc: Global,
     sequence: Sequence,
     picture: Option<PictureDecoder<PADDING>>,
+    // of pictures that are over, for the next one
+    memory: PictureMemory<PADDING>,
     // of the open picture's last slice
     last_unit: u64,
     queue: Queue,
@@ -60,6 +62,7 @@ impl Pictures {
             alloc,
             sequence: Sequence::new(alloc, output),
             picture: None,
+            memory: PictureMemory::new(),
             last_unit: 0,
             queue: Queue::new(alloc),
             read: 0,
@@ -92,7 +95,14 @@ impl Pictures {
             return Ok(false);
         };
         self.failed = true;
-        let fault = close_picture(&mut self.sequence, &mut self.queue, picture, self.last_unit)?;
+        let last_unit = self.last_unit;
+        let fault = close_picture(
+            &mut self.sequence,
+            &mut self.queue,
+            &mut self.memory,
+            picture,
+            last_unit,
+        )?;
         self.failed = false;
         Ok(fault)
     }
@@ -115,6 +125,7 @@ impl Pictures {
             self.alloc,
             &mut self.sequence,
             &mut self.queue,
+            &mut self.memory,
             &mut self.picture,
             first,
             sets,
@@ -137,6 +148,7 @@ impl Pictures {
         let after = continue_picture(
             &mut self.sequence,
             &mut self.queue,
+            &mut self.memory,
             &mut self.picture,
             self.last_unit,
             further,
@@ -153,7 +165,7 @@ impl Pictures {
         ensures { OnOk result (self.new ≡ after_outcome (failed_at self.old.output (history_on self.old) unit fault 0) self.old) }
     {
         self.failed = true;
-        self.picture = None;
+        forget(&mut self.picture, &mut self.memory);
         fail(&mut self.sequence, &mut self.queue, unit, fault)?;
         self.failed = false;
         Ok(())
@@ -173,7 +185,7 @@ impl Pictures {
         ensures { OnOk result (self.new ≡ after_outcome (held_outcome self.old.output (history_on self.old)) self.old) }
     {
         self.failed = true;
-        self.picture = None;
+        forget(&mut self.picture, &mut self.memory);
         empty(&mut self.sequence, &mut self.queue)?;
         self.failed = false;
         Ok(())
