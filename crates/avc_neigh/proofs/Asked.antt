@@ -1,5 +1,5 @@
 -- The entries that are asked for are those of the neighbours.
-use Rattle.std.proofs.Common.{ℕ, ◌≡◌, ◌≢◌, ◌+◌, ◌-◌, ◌%◌, ◌==◌, ◌<◌, suc, arith, false, List, Option, None, length, get_or, sym, ap, ◌∙◌, add-one}
+use Rattle.std.proofs.Common.{ℕ, ◌≡◌, ◌≢◌, ◌+◌, ◌-◌, ◌%◌, ◌==◌, suc, arith, Bool, true, false, List, Option, None, length, get_or, sym, ap, ◌∙◌, add-one}
 use Rattle.std.proofs.Math.Nat.{suc-mod, mod-eq_of_lt}
 use Rattle.std.proofs.lemmas.Bool.{ne_eqb}
 use Rattle.std.proofs.lemmas.List.{get_or_default}
@@ -8,8 +8,8 @@ use Rattle.avc_neigh.specs.declared.row.Place.{Place}
 use Rattle.avc_neigh.specs.Around.{PictureFacts, back, of_slice, mb_a, mb_b, mb_c, mb_d}
 use Rattle.avc_neigh.specs.RowEntries.{AreRowEntries}
 
-module _ (facts : List NeighbourFacts) (width : ℕ) (p : Place) (entries : List (Option NeighbourFacts))
-    (keeps : AreRowEntries facts width p entries) (slice : ℕ) where
+module _ (facts : List NeighbourFacts) (width : ℕ) (p : Place) (has_above : Bool) (entries : List (Option NeighbourFacts))
+    (keeps : AreRowEntries facts width p has_above entries) (slice : ℕ) where
   abbrev picture : PictureFacts
   picture = record { width = width; facts = facts }
 
@@ -25,34 +25,36 @@ module _ (facts : List NeighbourFacts) (width : ℕ) (p : Place) (entries : List
       ∙ ap (back facts) (omega arith) in
       rw (not_first some) (ap (of_slice slice) found)
 
-  pub above_is : (entry : Option NeighbourFacts) → entry ≡ get_or entries (p.first_above + p.column) entry
+  pub above_is : has_above ≡ true → (entry : Option NeighbourFacts) → entry ≡ get_or entries (p.first_above + p.column) entry
       → of_slice slice entry ≡ mb_b picture slice
-  above_is entry read =
+  above_is there entry read =
       ap (of_slice slice)
       (read ∙ get_or_default entries (p.first_above + p.column) entry None (omega (arith, keeps.inside, keeps.room_above))
-      ∙ keeps.above p.column keeps.inside
+      ∙ keeps.above there p.column keeps.inside
       ∙ ap (back facts) (omega arith))
 
-  pub above_left_is : (entry : Option NeighbourFacts) → p.column ≢ 0 → entry ≡ get_or entries (p.first_above + (p.column - 1)) entry
+  pub above_left_is : has_above ≡ true → (entry : Option NeighbourFacts) → p.column ≢ 0 → entry ≡ get_or entries (p.first_above + (p.column - 1)) entry
       → of_slice slice entry ≡ mb_d picture slice
-  above_left_is entry some read =
+  above_left_is there entry some read =
       let found : entry ≡ back facts (width + 1) =
       read ∙ get_or_default entries (p.first_above + (p.column - 1)) entry None (omega (arith, keeps.inside, keeps.room_above))
-      ∙ keeps.above (p.column - 1) (omega (arith, keeps.inside))
+      ∙ keeps.above there (p.column - 1) (omega (arith, keeps.inside))
       ∙ ap (back facts) (omega arith) in
       rw (not_first some) (ap (of_slice slice) found)
 
-  pub above_right_is : (entry : Option NeighbourFacts) → p.column + 1 ≢ width → entry ≡ get_or entries (p.first_above + (p.column + 1)) entry
-      → of_slice slice entry ≡ mb_c picture slice
-  above_right_is entry more read =
-      let inside : p.column + 1 < width = omega (arith, keeps.inside) in
+  not_last : p.column + 1 ≢ width → ((length facts + 1) % width == 0) ≡ false
+  not_last more =
       let place : (length facts + 1) % width ≡ p.column + 1 =
       ap (λ n. n % width) (add-one (length facts)) ∙ suc-mod (length facts) width
       ∙ ap (λ n. suc n % width) (sym keeps.address)
-      ∙ ap (λ n. n % width) (sym (add-one p.column)) ∙ mod-eq_of_lt inside in
-      let t : ((length facts + 1) % width == 0) ≡ false = ne_eqb _ _ (λ e. absurd (omega (arith, place, e))) in
+      ∙ ap (λ n. n % width) (sym (add-one p.column)) ∙ mod-eq_of_lt (omega (arith, keeps.inside)) in
+      ne_eqb _ _ (λ e. absurd (omega (arith, place, e)))
+
+  pub above_right_is : has_above ≡ true → (entry : Option NeighbourFacts) → p.column + 1 ≢ width → entry ≡ get_or entries (p.first_above + (p.column + 1)) entry
+      → of_slice slice entry ≡ mb_c picture slice
+  above_right_is there entry more read =
       let found : entry ≡ back facts (width - 1) =
       read ∙ get_or_default entries (p.first_above + (p.column + 1)) entry None (omega (arith, keeps.room_above))
-      ∙ keeps.above (p.column + 1) inside
+      ∙ keeps.above there (p.column + 1) (omega (arith, keeps.inside))
       ∙ ap (back facts) (omega arith) in
-      rw t (ap (of_slice slice) found)
+      rw (not_last more) (ap (of_slice slice) found)

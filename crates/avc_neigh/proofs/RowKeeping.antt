@@ -1,5 +1,5 @@
 -- Two rows of facts, over one macroblock more.
-use Rattle.std.proofs.Common.{ℕ, ◌≡◌, ◌+◌, ◌-◌, ◌%◌, ◌<◌, ◌≤◌, zero, suc, arith, true, false, nat_lt, if◌then◌else◌, inl, inr, List, [], ◌∷◌, ◌++◌, Option, Some, None, length, get_or, set, refl, sym, ap, ◌∙◌, length-append, length-set, get_or-set_same, get_or-set_other, add-one}
+use Rattle.std.proofs.Common.{ℕ, ◌≡◌, ◌+◌, ◌-◌, ◌%◌, ◌<◌, ◌≤◌, zero, suc, arith, Bool, true, false, ◌==◌, ◌||◌, nat_lt, inl, inr, List, [], ◌∷◌, ◌++◌, Option, Some, None, length, get_or, set, refl, sym, ap, ◌∙◌, length-append, length-set, get_or-set_same, get_or-set_other, add-one}
 use Rattle.std.specs.List.{slice_get}
 use Rattle.std.proofs.Math.Nat.{suc-mod, mod-eq_of_lt, mod_self}
 use Rattle.std.proofs.lemmas.Bool.Decides.{nat_tests}
@@ -48,8 +48,8 @@ back_more facts f n m some more = elim (cases_lt (length facts) n) [
   | inr h ↦ back_more_there facts f n m some more h
 ]
 
-module _ (facts : List NeighbourFacts) (f : NeighbourFacts) (width : ℕ) (p : Place) (entries : List (Option NeighbourFacts))
-    (keeps : AreRowEntries facts width p entries) where
+module _ (facts : List NeighbourFacts) (f : NeighbourFacts) (width : ℕ) (p : Place) (has_above : Bool) (entries : List (Option NeighbourFacts))
+    (keeps : AreRowEntries facts width p has_above entries) where
   abbrev entries' : List (Option NeighbourFacts)
   entries' = set entries (p.first + p.column) (Some f)
 
@@ -71,10 +71,10 @@ module _ (facts : List NeighbourFacts) (f : NeighbourFacts) (width : ℕ) (p : P
   ]
 
   -- the row above, which stays as it was
-  above' : (k : ℕ) → k < width → get_or entries' (p.first_above + k) None ≡ back (facts ++ f ∷ []) (width + (p.column + 1) - k)
-  above' k h =
+  above' : has_above ≡ true → (k : ℕ) → k < width → get_or entries' (p.first_above + k) None ≡ back (facts ++ f ∷ []) (width + (p.column + 1) - k)
+  above' there k h =
       get_or-set_other entries (p.first + p.column) (p.first_above + k) (Some f) None (λ e. keeps.apart p.column k keeps.inside h (sym e))
-      ∙ keeps.above k h
+      ∙ keeps.above there k h
       ∙ back_more facts f (width + p.column - k) (width + (p.column + 1) - k) (omega arith) (omega arith)
 
   more_mod : (next : ℕ) → next ≡ suc p.column % width → next ≡ length (facts ++ f ∷ []) % width
@@ -86,7 +86,7 @@ module _ (facts : List NeighbourFacts) (f : NeighbourFacts) (width : ℕ) (p : P
 
   -- in the row
   within : p.column + 1 < width
-      → AreRowEntries (facts ++ f ∷ []) width (record { column = p.column + 1; first = p.first; first_above = p.first_above }) entries'
+      → AreRowEntries (facts ++ f ∷ []) width (record { column = p.column + 1; first = p.first; first_above = p.first_above }) has_above entries'
   within h = record {
     inside = h;
     address = more_mod (p.column + 1) (add-one p.column ∙ sym (mod-eq_of_lt (omega arith)));
@@ -94,12 +94,13 @@ module _ (facts : List NeighbourFacts) (f : NeighbourFacts) (width : ℕ) (p : P
     room_above = omega (arith, long, keeps.room_above);
     apart = keeps.apart;
     left = left' (p.column + 1) refl;
+    first_row = λ none. omega (arith, long_by_one facts f, keeps.first_row none);
     above = above';
   }
 
   -- at its end
   at_end : p.column + 1 ≡ width
-      → AreRowEntries (facts ++ f ∷ []) width (record { column = 0; first = p.first_above; first_above = p.first }) entries'
+      → AreRowEntries (facts ++ f ∷ []) width (record { column = 0; first = p.first_above; first_above = p.first }) true entries'
   at_end last = record {
     inside = omega arith;
     address = more_mod 0 (sym (mod_self width) ∙ ap (λ n. n % width) (sym last ∙ add-one p.column));
@@ -107,18 +108,22 @@ module _ (facts : List NeighbourFacts) (f : NeighbourFacts) (width : ℕ) (p : P
     room_above = omega (arith, long, keeps.room);
     apart = λ j k in_row in_row_above e. keeps.apart k j in_row_above in_row (sym e);
     left = λ k none. absurd (omega arith);
-    above = λ k h. left' (p.column + 1) refl k (omega arith) ∙ ap (λ n. back (facts ++ f ∷ []) n) (omega arith);
+    first_row = λ none. absurd (cc);
+    above = λ _ k h. left' (p.column + 1) refl k (omega arith) ∙ ap (λ n. back (facts ++ f ∷ []) n) (omega arith);
   }
 
-  pub keeps_more : (facts' : List NeighbourFacts) (next : Place) → facts' ≡ facts ++ f ∷ [] → next ≡ place_after p width
-      → AreRowEntries facts' width next entries'
-  keeps_more facts' next facts_is next_is = elim (cases_lt (p.column + 1) width) [
+  pub keeps_more : (facts' : List NeighbourFacts) (next : Place) (has_above' : Bool) → facts' ≡ facts ++ f ∷ [] → next ≡ place_after p width
+      → has_above' ≡ ((next.column == 0) || has_above) → AreRowEntries facts' width next has_above' entries'
+  keeps_more facts' next has_above' facts_is next_is above_is = elim (cases_lt (p.column + 1) width) [
     | inl h ↦
         let t : nat_lt (p.column + 1) width ≡ true = grind (arith, nat_tests) in
         let e : next ≡ record { column = p.column + 1; first = p.first; first_above = p.first_above } = rw t at next_is in
-        rw (facts_is, e) (within h)
+        let more : (p.column + 1 == 0) ≡ false = grind (arith, nat_tests) in
+        let same : has_above' ≡ has_above = above_is ∙ ap (λ (q : Place). (q.column == 0) || has_above) e ∙ ap (λ b. b || has_above) more in
+        rw (facts_is, e, same) (within h)
     | inr h ↦
         let t : nat_lt (p.column + 1) width ≡ false = grind (arith, nat_tests) in
         let e : next ≡ record { column = 0; first = p.first_above; first_above = p.first } = rw t at next_is in
-        rw (facts_is, e) (at_end (omega (arith, keeps.inside)))
+        let same : has_above' ≡ true = above_is ∙ ap (λ (q : Place). (q.column == 0) || has_above) e in
+        rw (facts_is, e, same) (at_end (omega (arith, keeps.inside)))
   ]

@@ -34,6 +34,9 @@ pub struct Row {
 
     next: Place,
 
+    /// Whether a row of this picture has ended: else what stands in the row above is of none of its macroblocks.
+    has_above: bool,
+
     facts: History<NeighbourFacts>,
 }
 
@@ -45,7 +48,7 @@ impl Model for Row {
 
     ghost view = { λ r. record { width = r.width; facts = r.facts.items } };
 
-    ghost invariant = { λ r. AreRowEntries r.facts.items r.width r.next r.entries.items };
+    ghost invariant = { λ r. AreRowEntries r.facts.items r.width r.next r.has_above r.entries.items };
 }
 
 /// What is known of a macroblock, where it is of this slice (6.4.8).
@@ -106,8 +109,26 @@ impl Row {
                 first: 0,
                 first_above: width,
             },
+            has_above: false,
             facts: History::new(),
         })
+    }
+
+    /// In macroblocks.
+    pub fn width(&self) -> usize
+        ensures { result ≡ self.now.width }
+    {
+        self.width
+    }
+
+    /// Forgets all macroblocks, for a picture of the same width. What is kept of them is not cleared, since it is asked for only where
+    /// this picture has a macroblock.
+    pub fn restart(&mut self)
+        ensures { self.new ≡ no_facts self.old.width }
+    {
+        self.next.column = 0;
+        self.has_above = false;
+        self.facts = History::new();
     }
 
     /// mbAddrA of the macroblock that comes next.
@@ -127,6 +148,9 @@ impl Row {
     fn above(&self, slice: u32) -> Option<&NeighbourFacts>
         ensures { option_copied result ≡ mb_b self.now slice }
     {
+        if !self.has_above {
+            return None;
+        }
         in_slice(
             self.entries[self.next.first_above + self.next.column].as_ref(),
             slice,
@@ -137,6 +161,9 @@ impl Row {
     fn above_right(&self, slice: u32) -> Option<&NeighbourFacts>
         ensures { option_copied result ≡ mb_c self.now slice }
     {
+        if !self.has_above {
+            return None;
+        }
         if self.next.column + 1 == self.width {
             return None;
         }
@@ -150,6 +177,9 @@ impl Row {
     fn above_left(&self, slice: u32) -> Option<&NeighbourFacts>
         ensures { option_copied result ≡ mb_d self.now slice }
     {
+        if !self.has_above {
+            return None;
+        }
         if self.next.column == 0 {
             return None;
         }
@@ -178,5 +208,6 @@ impl Row {
         write(&mut self.entries[self.next.first + self.next.column], facts);
         self.facts = self.facts.with(facts);
         self.next = place_after(self.next, self.width);
+        self.has_above = (self.next.column == 0) | self.has_above;
     }
 }

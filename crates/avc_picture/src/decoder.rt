@@ -9,6 +9,7 @@ ghost use Rattle.avc_picture.specs.DecoderState.{number_after};
 ghost use Rattle.avc_picture.specs.OpenPicture.{HasFiltered, HasSample};
 
 use crate::macroblocks::Macroblocks;
+use crate::memory::PictureMemory;
 use crate::slice_decoding::decode_slice;
 use avc_params::{Pps, Sps};
 use avc_plane::{Frame, PaddedPlanes};
@@ -65,6 +66,7 @@ impl<const PAD: usize> PictureDecoder<PAD> {
         sps: &Sps,
         pps: &Pps,
         frames: &[Frame<PAD>],
+        memory: &mut PictureMemory<PAD>,
     ) -> Result<Self, OutOfMemory>
         requires sps { IsSps sps.now }
         requires pps { IsPps pps.now }
@@ -74,7 +76,7 @@ impl<const PAD: usize> PictureDecoder<PAD> {
         if PAD > MAX_PADDING {
             return Err(OutOfMemory);
         }
-        let macroblocks = Macroblocks::new(alloc, sps, pps)?;
+        let macroblocks = Macroblocks::new(alloc, sps, pps, memory)?;
         Ok(PictureDecoder {
             sps: sps.copied(),
             pps: *pps,
@@ -157,16 +159,23 @@ impl<const PAD: usize> PictureDecoder<PAD> {
 
     /// The samples of the picture after deblocking. Where the slices have a fault it answers the first, and else
     /// MissingMacroblocks where they do not hold all macroblocks. It takes no memory, and never wants any.
-    pub fn finish(self) -> Result<PaddedPlanes<PAD>, PictureError>
+    pub fn finish(self, memory: &mut PictureMemory<PAD>) -> Result<PaddedPlanes<PAD>, PictureError>
         ensures answer { IsFinishAnswer self.entry result }
         ensures sized { IfOk result (λ planes. AreSized (width_in_mbs self.entry.sps) (height_in_mbs self.entry.sps) (padded_planes_of planes)) }
     {
         if let Some(fault) = self.fault {
+            self.macroblocks.discard(memory);
             return Err(PictureError::Fault(fault));
         }
         if self.read != self.sps.size_in_mbs() {
+            self.macroblocks.discard(memory);
             return Err(PictureError::Fault(Fault::MissingMacroblocks));
         }
-        Ok(self.macroblocks.deblocked().pad())
+        Ok(self.macroblocks.deblocked(memory).pad())
+    }
+
+    /// Gives the memory of a picture back that is refused.
+    pub fn discard(self, memory: &mut PictureMemory<PAD>) {
+        self.macroblocks.discard(memory);
     }
 }

@@ -84,6 +84,22 @@ impl FilterRows {
         })
     }
 
+    /// In macroblocks.
+    pub(crate) fn width(&self) -> usize
+        ensures { result ≡ self.now.width }
+    {
+        self.width
+    }
+
+    /// Forgets all macroblocks. What is kept of them is not cleared: a row is asked for only once it is there.
+    pub(crate) fn restart(&mut self)
+        ensures { self.new ≡ record { width = self.old.width; facts = [] } }
+    {
+        self.column = 0;
+        self.row = 0;
+        self.facts = History::new();
+    }
+
     /// Filters the last whole row, where there is one.
     pub(crate) fn filter_last_row<const PAD: usize>(
         &self,

@@ -7,9 +7,11 @@ mod filter_rows;
 mod header_checks;
 pub mod laws;
 mod macroblocks;
+mod memory;
 mod neighbour_facts;
 mod reference_places;
 mod slice_context;
 mod slice_decoding;
 
 pub use decoder::PictureDecoder;
+pub use memory::PictureMemory;

@@ -18,6 +18,7 @@ ghost use Rattle.avc_picture.specs.FirstMbs.{HasSameSize, HasSets, HoldsFirst, I
 ghost use Rattle.avc_picture.specs.MacroblockFacts.{IsRead};
 
 use crate::filter_rows::FilterRows;
+use crate::memory::{FactRows, PictureMemory};
 use crate::neighbour_facts::set_neighbour_facts;
 use crate::slice_context::SliceContext;
 use avc_neigh::{Motion, NearMode, NeighbourFacts, Neighbours, Row, TotalCoeffs};
@@ -92,7 +93,12 @@ fn sources<'a, const PAD: usize>(
 
 impl<const PAD: usize> Macroblocks<PAD> {
     /// Before the first macroblock of a picture of these sets. Only this call takes memory.
-    pub(crate) fn new(alloc: Global, sps: &Sps, pps: &Pps) -> Result<Self, OutOfMemory>
+    pub(crate) fn new(
+        alloc: Global,
+        sps: &Sps,
+        pps: &Pps,
+        memory: &mut PictureMemory<PAD>,
+    ) -> Result<Self, OutOfMemory>
         requires padding { PAD < 2 ^ 29 }
         requires sps { IsSps sps.now }
         requires pps { IsPps pps.now }
@@ -103,6 +109,7 @@ impl<const PAD: usize> Macroblocks<PAD> {
     {
         let width = sps.width_in_mbs() as usize;
         let height = sps.height_in_mbs() as usize;
+        let facts = memory.facts(alloc, width)?;
         Ok(Macroblocks {
             canvas: Canvas {
                 width,
@@ -111,8 +118,8 @@ impl<const PAD: usize> Macroblocks<PAD> {
                 constrained_intra_pred: pps.constrained_intra_pred_flag,
             },
             planes: Planes::new(alloc, width, height)?,
-            row: Row::new(alloc, width)?,
-            filter_rows: FilterRows::new(alloc, width)?,
+            row: facts.row,
+            filter_rows: facts.filter_rows,
             next: 0,
         })
     }
@@ -180,7 +187,7 @@ impl<const PAD: usize> Macroblocks<PAD> {
     }
 
     /// The samples of the picture after deblocking (8.7).
-    pub(crate) fn deblocked(self) -> Planes<PAD>
+    pub(crate) fn deblocked(self, memory: &mut PictureMemory<PAD>) -> Planes<PAD>
         ensures luma { HasSamples result.luma }
         ensures cb { HasSamples result.cb }
         ensures cr { HasSamples result.cr }
@@ -190,6 +197,19 @@ impl<const PAD: usize> Macroblocks<PAD> {
         let mut planes = self.planes;
         self.filter_rows
             .filter_last_row(&mut planes, self.canvas.chroma_qp_index_offset);
+        memory.keep_facts(FactRows {
+            row: self.row,
+            filter_rows: self.filter_rows,
+        });
         planes
+    }
+
+    /// Gives the memory of a picture back that is refused.
+    pub(crate) fn discard(self, memory: &mut PictureMemory<PAD>) {
+        memory.keep_open(self.planes);
+        memory.keep_facts(FactRows {
+            row: self.row,
+            filter_rows: self.filter_rows,
+        });
     }
 }

@@ -15,3 +15,5 @@ mod Inters
 mod PlaceOn
 mod Seen
 pub mod IntraRows
+pub mod IntraSides
+pub mod Earlier

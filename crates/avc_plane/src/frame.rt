@@ -1,7 +1,7 @@
-ghost use Rattle.std.specs.Prelude.{◌≡◌, ◌+◌, ◌*◌, ◌^◌, ◌<◌, IfOk};
+ghost use Rattle.std.specs.Prelude.{◌≡◌, ◌+◌, ◌*◌, ◌^◌, ◌<◌, true, IfOk};
 ghost use Rattle.avc_plane.specs.Plane.{HasSamples};
 ghost use Rattle.avc_plane.specs.Planes.{empty_planes};
-ghost use Rattle.avc_plane.specs.Frames.{marked_frame, planes_of, padded_planes_of};
+ghost use Rattle.avc_plane.specs.Frames.{marked_frame, planes_of, padded_planes_of, AreSized};
 
 use crate::padded::PaddedPlane;
 use crate::plane::Plane;
@@ -30,6 +30,17 @@ impl<const PAD: usize> Planes<PAD> {
             cb: Plane::new(alloc, 8 * width, 8 * height)?,
             cr: Plane::new(alloc, 8 * width, 8 * height)?,
         })
+    }
+
+    /// Whether they are those of a picture of this size in macroblocks.
+    pub(crate) fn has_size(&self, width: usize, height: usize) -> bool
+        requires narrow { 16 * width + 2 * PAD < 2 ^ 31 }
+        requires low { 16 * height + 2 * PAD < 2 ^ 31 }
+        ensures { result ≡ true → AreSized width height (planes_of self.now) }
+    {
+        self.luma.has_size(16 * width, 16 * height)
+            && self.cb.has_size(8 * width, 8 * height)
+            && self.cr.has_size(8 * width, 8 * height)
     }
 
     /// The same planes with their nearest samples around them, to be read alone.

@@ -1,4 +1,4 @@
-ghost use Rattle.std.specs.Prelude.{◌≡◌, ◌+◌, ◌*◌, ◌^◌, ◌<◌, ◌≤◌, IfOk, length, replicate, slice_index, slice_range};
+ghost use Rattle.std.specs.Prelude.{◌≡◌, ◌==◌, ◌&&◌, ◌+◌, ◌*◌, ◌^◌, ◌<◌, ◌≤◌, IfOk, length, replicate, slice_index, slice_range};
 ghost use Rattle.avc_plane.specs.Plane.{sample, HasSamples, with_block, with_sample, plane_of};
 ghost use Rattle.avc_plane.specs.Padded.{inner_plane, IsStored};
 
@@ -90,6 +90,13 @@ impl<const PAD: usize> Plane<PAD> {
         ensures { result ≡ self.now.height }
     {
         self.height
+    }
+
+    /// Whether it has this many columns and rows.
+    pub(crate) fn has_size(&self, width: usize, height: usize) -> bool
+        ensures { result ≡ (self.now.width == width && self.now.height == height) }
+    {
+        self.width == width && self.height == height
     }
 
     /// The sample in column `x` and row `y`.

@@ -4,7 +4,7 @@ ghost use Rattle.avc_params.specs.Tables.{pps_in_force, sps_in_force};
 ghost use Rattle.avc_slice.specs.Within.{IsHeader};
 
 use avc_params::{ParamTable, Pps, Sps};
-use avc_picture::PictureDecoder;
+use avc_picture::{PictureDecoder, PictureMemory};
 use avc_slice::{Slice, read_header};
 use avc_types::Bytes;
 use std::alloc::Global;
@@ -63,7 +63,8 @@ fn a_row_is_filtered_when_the_next_is_built(rt: HostRuntime) -> Result<(), Fail>
     }
     let upper = slice_of(alloc, &table, sps, pps, &UPPER)?;
     let lower = slice_of(alloc, &table, sps, pps, &LOWER)?;
-    let mut picture = PictureDecoder::<32>::begin(alloc, sps, pps, &[])?;
+    let mut memory = PictureMemory::new();
+    let mut picture = PictureDecoder::<32>::begin(alloc, sps, pps, &[], &mut memory)?;
     let Ok(()) = picture.slice(&upper, &[]) else {
         return Err(Fail::new("the upper slice is refused"));
     };

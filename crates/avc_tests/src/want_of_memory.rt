@@ -6,7 +6,7 @@ use avc_annexb::{Splitter, unescape};
 use avc_make::{BitMaker, Macroblocks, cut_bits, write_pps, write_slice, write_sps};
 use avc_neigh::Row;
 use avc_params::ParamTable;
-use avc_picture::PictureDecoder;
+use avc_picture::{PictureDecoder, PictureMemory};
 use avc_plane::Plane;
 use avc_tools::{cut, list_units, show_headers};
 use avc_types::OutOfMemory;
@@ -78,7 +78,8 @@ fn pictures_begin_anew(rt: HostRuntime) -> Result<(), Fail> {
     let mut is_begun = false;
     if let Some(sps) = table.sps(0) {
         if let Some(pps) = table.pps(0) {
-            let picture = given!(PictureDecoder::<32>::begin(alloc, sps, pps, &[]));
+            let mut memory = PictureMemory::new();
+            let picture = given!(PictureDecoder::<32>::begin(alloc, sps, pps, &[], &mut memory));
             is_begun = picture.read() == 0;
         }
     }

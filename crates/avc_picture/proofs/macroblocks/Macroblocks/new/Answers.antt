@@ -22,10 +22,10 @@ invariant_of-result g c =
     (subst (λ k. k * height_in_mbs c.args.sps.now ≤ max_macroblocks) (sym c.width_in_mbs-width.ensures) c.requires.sps.size) in
     record {
       sized = subst (AreSized w h) (sym c.in_ok-new.ensures) (empty_is_sized w h);
-      filter_width = ap (λ (f : FilterFacts). f.width) c.in_ok-new-3.ensures;
-      kept = subst (λ (f : FilterFacts). PartsAgree (record { canvas = state (planes_of c.in_ok-new.field-0); row = c.in_ok-new-2.field-0; filter_facts = f.facts; next = 0 }))
-          (sym c.in_ok-new-3.ensures)
-          (kept_none _ _ w h offset constrained (ap state c.in_ok-new.ensures) c.in_ok-new-2.ensures (omega (arith, c.width_in_mbs-width.ensures))
+      filter_width = ap (λ (f : FilterFacts). f.width) c.in_ok-facts.ensures.filter_rows;
+      kept = subst (λ (f : FilterFacts). PartsAgree (record { canvas = state (planes_of c.in_ok-new.field-0); row = c.in_ok-facts.facts.row; filter_facts = f.facts; next = 0 }))
+          (sym c.in_ok-facts.ensures.filter_rows)
+          (kept_none _ _ w h offset constrained (ap state c.in_ok-new.ensures) c.in_ok-facts.ensures.row (omega (arith, c.width_in_mbs-width.ensures))
           (omega (arith, c.height_in_mbs-height.ensures)) size);
     }
 
@@ -39,7 +39,7 @@ returns-clause-holds g c = λ coded names sets.
     let p = c.requires.pps in
     let x = c.args.pps.now.chroma_qp_index_offset in
     let cast : to_z w8 (of_z w8 (to_z w32 (of_z w32 x))) ≡ x = omega (arith, ints, p.chroma_low, p.chroma_high) in
-    subst (λ (f : FilterFacts). HoldsFirst coded names (record { canvas = state (planes_of c.in_ok-new.field-0); row = c.in_ok-new-2.field-0; filter_facts = f.facts; next = 0 }))
-    (sym c.in_ok-new-3.ensures)
-    (holds_none _ _ w h offset constrained (ap state c.in_ok-new.ensures) c.in_ok-new-2.ensures coded names (sets.width ∙ sym c.width_in_mbs-width.ensures)
+    subst (λ (f : FilterFacts). HoldsFirst coded names (record { canvas = state (planes_of c.in_ok-new.field-0); row = c.in_ok-facts.facts.row; filter_facts = f.facts; next = 0 }))
+    (sym c.in_ok-facts.ensures.filter_rows)
+    (holds_none _ _ w h offset constrained (ap state c.in_ok-new.ensures) c.in_ok-facts.ensures.row coded names (sets.width ∙ sym c.width_in_mbs-width.ensures)
     (sets.height ∙ sym c.height_in_mbs-height.ensures) (sets.offset ∙ sym cast) sets.constrained)

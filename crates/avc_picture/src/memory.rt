@@ -1,0 +1,96 @@
+//! What a picture is decoded in, kept from one picture to the next.
+
+ghost use Rattle.std.specs.Prelude.{◌≡◌, ◌+◌, ◌*◌, ◌^◌, ◌<◌, [], IfOk};
+ghost use Rattle.avc_neigh.specs.Around.{no_facts};
+ghost use Rattle.avc_plane.specs.Frames.{planes_of, AreSized};
+
+use crate::filter_rows::FilterRows;
+use avc_neigh::Row;
+use avc_plane::{PaddedPlanes, Planes, SparePlanes};
+use avc_types::OutOfMemory;
+use std::alloc::Global;
+
+/// What is known of a picture's macroblocks so far: for the neighbours of the next one, and for the deblocking filter.
+#[derive(Drop)]
+pub(crate) struct FactRows {
+    pub(crate) row: Row,
+    pub(crate) filter_rows: FilterRows,
+}
+
+impl FactRows {
+    /// For a picture of this width in macroblocks, before its first macroblock.
+    fn new(alloc: Global, width: usize) -> Result<Self, OutOfMemory>
+        requires { 0 < width }
+        ensures row { IfOk result (λ facts. facts.row ≡ no_facts width) }
+        ensures filter_rows { IfOk result (λ facts. facts.filter_rows ≡ record { width = width; facts = [] }) }
+    {
+        Ok(FactRows {
+            row: Row::new(alloc, width)?,
+            filter_rows: FilterRows::new(alloc, width)?,
+        })
+    }
+}
+
+/// The memory of pictures that are over: planes and facts, in which later pictures are decoded. A picture takes memory only where
+/// there is none of its size. What stands in it counts for nothing: contracts say nothing of it.
+#[derive(Drop)]
+pub struct PictureMemory<const PAD: usize> {
+    planes: SparePlanes<PAD>,
+    facts: Option<FactRows>,
+}
+
+impl<const PAD: usize> PictureMemory<PAD> {
+    /// None yet. This takes no memory.
+    pub fn new() -> Self {
+        PictureMemory {
+            planes: SparePlanes::new(),
+            facts: None,
+        }
+    }
+
+    /// Keeps the planes of a frame that has left the buffer.
+    pub fn keep(&mut self, planes: PaddedPlanes<PAD>) {
+        self.planes.put(planes);
+    }
+
+    /// Keeps the planes of a picture that is refused.
+    pub(crate) fn keep_open(&mut self, planes: Planes<PAD>) {
+        self.planes.put_open(planes);
+    }
+
+    /// Keeps the facts of a picture that is over.
+    pub(crate) fn keep_facts(&mut self, facts: FactRows) {
+        self.facts = Some(facts);
+    }
+
+    /// The planes of a picture of this size in macroblocks, with any samples.
+    pub(crate) fn planes(
+        &mut self,
+        alloc: Global,
+        width: usize,
+        height: usize,
+    ) -> Result<Planes<PAD>, OutOfMemory>
+        requires narrow { 16 * width + 2 * PAD < 2 ^ 31 }
+        requires low { 16 * height + 2 * PAD < 2 ^ 31 }
+        ensures { IfOk result (λ planes. AreSized width height (planes_of planes)) }
+    {
+        Planes::of_size(alloc, width, height, &mut self.planes)
+    }
+
+    /// The facts of a picture of this width in macroblocks, before its first macroblock.
+    pub(crate) fn facts(&mut self, alloc: Global, width: usize) -> Result<FactRows, OutOfMemory>
+        requires { 0 < width }
+        ensures row { IfOk result (λ facts. facts.row ≡ no_facts width) }
+        ensures filter_rows { IfOk result (λ facts. facts.filter_rows ≡ record { width = width; facts = [] }) }
+    {
+        match self.facts.take() {
+            Some(facts) if facts.row.width() == width && facts.filter_rows.width() == width => {
+                let mut facts = facts;
+                facts.row.restart();
+                facts.filter_rows.restart();
+                Ok(facts)
+            }
+            _ => FactRows::new(alloc, width),
+        }
+    }
+}

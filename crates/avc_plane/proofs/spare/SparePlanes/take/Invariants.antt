@@ -1,0 +1,5 @@
+use Rattle.std.proofs.Common.{length}
+use Rattle.avc_plane.proofs.spare.SparePlanes.take.Given as goal
+
+abbrev pub decreases-planes : goal.decreases-planes
+decreases-planes g l = length l.self.planes.items
