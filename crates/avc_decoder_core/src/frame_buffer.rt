@@ -220,6 +220,9 @@ fn output_prior_pictures(
 fn joined(mut pictures: Vec<Picture>, mut more: Vec<Picture>) -> Result<Vec<Picture>, OutOfMemory>
     ensures { IfOk result (λ all. all.items ≡ pictures.items ++ more.items) }
 {
+    if pictures.is_empty() {
+        return Ok(more);
+    }
     pictures.append(&mut more)?;
     Ok(pictures)
 }
