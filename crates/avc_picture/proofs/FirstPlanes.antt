@@ -9,7 +9,7 @@ use Rattle.avc_neigh.specs.declared.facts.NearMode.{NearMode}
 use Rattle.avc_neigh.specs.declared.facts.Motion.{Motion}
 use Rattle.avc_neigh.specs.Modes.{modes_before}
 use Rattle.avc_motion.specs.Motion.{motion_before}
-use Rattle.avc_plane.specs.Planes.{Planes, empty_planes}
+use Rattle.avc_plane.specs.Planes.{Planes}
 use Rattle.avc_picture_core.specs.Built.{Place, built_on, place_of, planes_after}
 use Rattle.avc_picture.specs.RowLate.{first_built}
 use Rattle.avc_picture.proofs.Before.{modes_stay, motion_stays}
@@ -38,7 +38,7 @@ module _ (c : Coded) (modes modes' : List (List NearMode)) (motion motion' : Lis
   built_more a n s [] m at = ap (λ k. planes_after (place_of c modes motion k m) s) (omega (arith, at))
   built_more a n s (x ∷ ms) m at = built_more (a + 1) n (planes_after (place_of c modes motion a x) s) ms m (omega (arith, at))
 
-module _ (c : Coded) (n : ℕ) (m : PicMb) (is : slice_get c.mbs n ≡ Some m) where
+module _ (c : Coded) (s : Planes) (n : ℕ) (m : PicMb) (is : slice_get c.mbs n ≡ Some m) where
   within : n < length c.mbs
   within = slice_get_within c.mbs n m is
 
@@ -48,10 +48,9 @@ module _ (c : Coded) (n : ℕ) (m : PicMb) (is : slice_get c.mbs n ≡ Some m) w
   first_more : take (suc n) c.mbs ≡ take n c.mbs ++ m ∷ []
   first_more = take-suc c.mbs n m within ∙ ap (λ x. take n c.mbs ++ x ∷ []) (get_or_from_slice_get c.mbs n m m is)
 
-  pub first_built_more : first_built c (suc n)
-      ≡ planes_after (place_of c (modes_before c (suc n)) (motion_before c (suc n)) n m) (first_built c n)
+  pub first_built_more : first_built c s (suc n)
+      ≡ planes_after (place_of c (modes_before c (suc n)) (motion_before c (suc n)) n m) (first_built c s n)
   first_built_more =
-      let s = empty_planes c.width c.height in
       let modes = modes_before c (suc n) in
       let motion = motion_before c (suc n) in
       ap (built_on c modes motion 0 s) first_more

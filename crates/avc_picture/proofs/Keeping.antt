@@ -10,15 +10,16 @@ use Rattle.avc_neigh.specs.Modes.{IsMode}
 use Rattle.avc_neigh.specs.declared.facts.NeighbourFacts.{NeighbourFacts}
 use Rattle.avc_deblock.specs.Facts.{Names}
 use Rattle.avc_deblock.specs.declared.facts.MbFacts.{MbFacts}
-use Rattle.avc_picture_core.specs.Canvas.{CanvasState, blank}
+use Rattle.avc_picture_core.specs.Canvas.{CanvasState}
 use Rattle.avc_neigh.specs.TotalCoeffs.{total_coeffs_of}
 use Rattle.avc_motion.specs.Motion.{is_intra}
-use Rattle.avc_plane.specs.Frames.{AreSized}
-use Rattle.avc_plane.specs.Planes.{empty_planes}
+use Rattle.avc_plane.specs.Plane.{Plane}
+use Rattle.avc_plane.specs.Planes.{Planes}
 use Rattle.avc_picture.specs.FirstMbs.{HasNeighbourFacts, HoldsFirst, MbsState}
 use Rattle.avc_params.specs.Limits.{max_macroblocks}
 use Rattle.avc_picture.specs.RowLate.{filtered_rows, first_built, rows_filtered}
 use Rattle.avc_picture.specs.MacroblocksState.{HaveModes, PartsAgree}
+use Rattle.avc_picture.specs.Sizes.{HasSize, IsSized}
 
 all_of_one : (f : NeighbourFacts) → All IsMode f.modes → HaveModes (f ∷ [])
 all_of_one f h zero d below = h
@@ -48,30 +49,32 @@ none_yet : (width : ℕ) → filtered_rows width 0 ≡ 0
 none_yet width = let none : 0 / width ≤ 0 = div-le_self 0 width in omega (arith, none)
 
 module _ (canvas : CanvasState) (row : PictureFacts) (width height : ℕ) (offset : ℤ) (constrained : Bool)
-    (is_blank : canvas ≡ blank width height offset constrained) (none : row ≡ no_facts width) where
+    (begun : Planes) (is_begun : canvas ≡ record { width = width; height = height; chroma_qp_index_offset = offset; constrained_intra_pred = constrained; planes = begun })
+    (none : row ≡ no_facts width) where
   pub kept_none : 0 < width → 0 < height → width * height ≤ max_macroblocks
       → PartsAgree (record { canvas = canvas; row = row; filter_facts = []; next = 0 })
   kept_none wide high small = record {
-    wide = subst (λ x. 0 < x.width) (sym is_blank) wide;
-    high = subst (λ x. 0 < x.height) (sym is_blank) high;
-    row_width = ap (λ r. r.width) none ∙ sym (ap (λ x. x.width) is_blank);
+    wide = subst (λ x. 0 < x.width) (sym is_begun) wide;
+    high = subst (λ x. 0 < x.height) (sym is_begun) high;
+    row_width = ap (λ r. r.width) none ∙ sym (ap (λ x. x.width) is_begun);
     count = ap (λ r. length r.facts) none;
     within = omega arith;
     modes = subst (λ r. HaveModes r.facts) (sym none) (λ k d below. absurd (omega (arith, below)));
-    small = subst (λ x. x.width * x.height ≤ max_macroblocks) (sym is_blank) small;
+    small = subst (λ x. x.width * x.height ≤ max_macroblocks) (sym is_begun) small;
     filter_count = refl;
   }
 
-  pub holds_none : (c : Coded) (names : Names) → c.width ≡ width → c.height ≡ height → c.chroma_qp_index_offset ≡ offset
+  pub holds_none : (c : Coded) (names : Names) → IsSized width height begun → c.width ≡ width → c.height ≡ height → c.chroma_qp_index_offset ≡ offset
       → c.constrained_intra_pred ≡ constrained → HoldsFirst c names (record { canvas = canvas; row = row; filter_facts = []; next = 0 })
-  holds_none c names w h o f = record {
+  holds_none c names sized w h o f = record {
     within = omega arith;
-    width = ap (λ x. x.width) is_blank ∙ sym w;
-    height = ap (λ x. x.height) is_blank ∙ sym h;
-    offset = ap (λ x. x.chroma_qp_index_offset) is_blank ∙ sym o;
-    constrained = ap (λ x. x.constrained_intra_pred) is_blank ∙ sym f;
-    built = ap (λ x. x.planes) is_blank ∙ ap (λ k. empty_planes k height) (sym w) ∙ ap (λ k. empty_planes c.width k) (sym h)
-        ∙ ap (λ k. rows_filtered c k (first_built c 0)) (sym (none_yet c.width));
+    width = ap (λ x. x.width) is_begun ∙ sym w;
+    height = ap (λ x. x.height) is_begun ∙ sym h;
+    offset = ap (λ x. x.chroma_qp_index_offset) is_begun ∙ sym o;
+    constrained = ap (λ x. x.constrained_intra_pred) is_begun ∙ sym f;
+    begun = begun;
+    begun_sized = subst (λ n. IsSized n c.height begun) (sym w) (subst (λ n. IsSized width n begun) (sym h) sized);
+    built = ap (λ x. x.planes) is_begun ∙ ap (λ k. rows_filtered c k (first_built c begun 0)) (sym (none_yet c.width));
     neighbours = subst (λ r. HasNeighbourFacts c 0 r.facts) (sym none) (record {
       count = refl;
       slices = (map (λ m. m.slice) c.mbs, refl);
@@ -83,5 +86,6 @@ module _ (canvas : CanvasState) (row : PictureFacts) (width height : ℕ) (offse
     filter = λ k other below. absurd (omega (arith, below));
   }
 
-pub empty_is_sized : (width height : ℕ) → AreSized width height (empty_planes width height)
-empty_is_sized width height = record { luma_width = refl; luma_height = refl; cb_width = refl; cb_height = refl; cr_width = refl; cr_height = refl }
+-- a plane of this size, with all its samples
+pub whole_plane : (w h : ℕ) (s : Plane) → s.width ≡ w → s.height ≡ h → length s.samples ≡ s.width * s.height → HasSize w h s
+whole_plane w h s width height all = record { columns = width; rows = height; all = all ∙ ap (λ n. n * s.height) width ∙ ap (λ n. w * n) height }

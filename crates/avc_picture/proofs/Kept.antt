@@ -3,7 +3,7 @@ use Rattle.std.specs.List.{range_with_len}
 use Rattle.std.specs.List.Sorted.{IsStrictlyIncreasing}
 use Rattle.std.specs.Option.{option_map}
 use Rattle.std.specs.Prelude.{◌==◌}
-use Rattle.std.proofs.Common.{◌≡◌, ℕ, ◌+◌, ◌*◌, ◌≤◌, Bool, true, false, List, [], ◌∷◌, length, Option, Some, None, Result, Ok, Err, refl, ap, sym, subst, ◌∙◌, arith}
+use Rattle.std.proofs.Common.{◌≡◌, ℕ, ◌+◌, ◌*◌, ◌<◌, ◌≤◌, Bool, true, false, List, [], ◌∷◌, length, Option, Some, None, Result, Ok, Err, refl, ap, sym, subst, ◌∙◌, arith}
 use Rattle.std.proofs.lemmas.Bool.Decides.{nat_tests}
 use Rattle.std.proofs.lemmas.List.{length-map}
 use Rattle.std.proofs.lemmas.List.FromFn.{get_or-range_with_len, length-range_with_len}
@@ -16,7 +16,7 @@ use Rattle.avc_params.specs.declared.sps.Sps.{Sps}
 use Rattle.avc_params.specs.declared.pps.Pps.{Pps}
 use Rattle.avc_slice.specs.declared.slice.Slice.{Slice}
 use Rattle.avc_plane.specs.Frames.{marked_frame, AreSized}
-use Rattle.avc_plane.specs.Planes.{Planes}
+use Rattle.avc_plane.specs.Planes.{Planes, empty_planes, samples_of}
 use Rattle.avc_plane.specs.declared.frame.Frame.{Frame}
 use Rattle.avc_deblock.specs.Facts.{Names}
 use Rattle.avc_picture.specs.Context.{FramesStandAt, picture_start}
@@ -27,7 +27,7 @@ use Rattle.avc_picture.specs.FirstMbs.{HasSets, HoldsFirst, MbsState}
 use Rattle.avc_picture.specs.Sizes.{IsSized}
 use Rattle.avc_picture.specs.Slices.{PictureStart, Progress, coded_of, is_full, planes_after_slices, progress, with_slice}
 use Rattle.avc_picture.specs.OpenPicture.{planes_so_far}
-use Rattle.avc_picture.specs.RowLate.{filtered_rows, row_late, rows_filtered}
+use Rattle.avc_picture.specs.RowLate.{covering_address, filtered_rows, row_late, rows_filtered}
 use Rattle.avc_picture.proofs.SizesKept.{pictures_sized}
 use Rattle.avc_picture.proofs.Whole.{all_built}
 use Rattle.avc_picture.proofs.SliceGoesOn.{are-names, begins-itself, names-of}
@@ -179,12 +179,26 @@ module _ {PAD : ℕ} (sps : Sps) (pps : Pps) (fs : List (Frame PAD)) (slices : L
   pub none-at-end : (read == size_in_mbs sps) ≡ true → (es : List ℕ) → FramesStandAt es fs → end_fault es d ≡ None
   none-at-end e es stand = at-end es stand true e
 
-  pub planes-now : (es : List ℕ) → FramesStandAt es fs → planes_so_far es d ≡ m.canvas.planes
-  planes-now es stand =
+  -- a sample that the macroblocks so far have
+  pub sample-now : (value : ℕ) (k x y : ℕ)
+      → ((c : Coded) (names : Names) → HoldsFirst c names m → value ≡ samples_of (row_late c (empty_planes c.width c.height) m.next) k x y)
+      → (es : List ℕ) → FramesStandAt es fs → samples_of (planes_so_far es d) k x y ≡ value
+  sample-now value k x y answer es stand =
       let well = kept.keeps es stand in
       let c = coded_of (begun es) (progress (begun es) slices) in
       let holds = well.decoded.holds c (names-of es stand.rising) (begins-itself c) (are-names es stand.rising) in
-      sym (holds.built ∙ ap (row_late c) (sym well.decoded.next) ∙ ap (rows_filtered c (filtered_rows c.width (length c.mbs))) (all_built c))
+      let empty = empty_planes c.width c.height in
+      sym (answer c (names-of es stand.rising) holds
+      ∙ ap (λ s. samples_of s k x y) (ap (row_late c empty) (sym well.decoded.next) ∙ ap (rows_filtered c (filtered_rows c.width (length c.mbs))) (all_built c empty)))
+
+  -- and it has those that are read
+  pub covered-now : (k x y : ℕ) → ((es : List ℕ) → FramesStandAt es fs → covering_address (width_in_mbs sps) k x y < (progress (begun es) slices).read)
+      → covering_address m.canvas.width k x y < m.next
+  covered-now k x y covered =
+      let es = places-of fs in
+      let well = kept.keeps es (stand-somewhere fs) in
+      subst (λ w. covering_address w k x y < m.next) (sym kept.width)
+      (omega (arith, covered es (stand-somewhere fs), well.read_is, well.reached))
 
   module _ (full : read ≡ size_in_mbs sps) (planes : Planes)
       (answer : (c : Coded) (names : Names) → HoldsFirst c names m → m.next ≡ length c.mbs → length c.mbs ≡ c.width * c.height → planes ≡ deblocked c) where

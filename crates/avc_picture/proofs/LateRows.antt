@@ -41,7 +41,7 @@ from all address n = take n (drop address all)
 are_from : (all : List MbFacts) (address n : ℕ) → AreFrom all address n (from all address n)
 are_from all address n k other low = get_take n (drop address all) k other low ∙ get_drop address all k other
 
-from_long : (all : List MbFacts) (address n : ℕ) → address + n ≤ length all → length (from all address n) ≡ n
+pub from_long : (all : List MbFacts) (address n : ℕ) → address + n ≤ length all → length (from all address n) ≡ n
 from_long all address n within = length-take-le n (drop address all) (omega (arith, within, length-drop address all))
 
 -- ---- rows that are filtered
@@ -50,10 +50,10 @@ module _ (c : Coded) (names : Names) (offset : ℤ) (f : FilterFacts) (of : AreF
   abbrev motion : List (List Motion)
   motion = motion_before c (length c.mbs)
 
-  abbrev row_facts : ℕ → List MbFacts
+  abbrev pub row_facts : ℕ → List MbFacts
   row_facts row = from f.facts (row * f.width) f.width
 
-  row_facts_are : (row : ℕ) → row * f.width + f.width ≤ length f.facts → AreOfRow c motion names row offset (row_facts (row - 1)) (row_facts row)
+  pub row_facts_are : (row : ℕ) → row * f.width + f.width ≤ length f.facts → AreOfRow c motion names row offset (row_facts (row - 1)) (row_facts row)
   row_facts_are row within =
       let earlier : (row - 1) * f.width ≤ row * f.width = mul-le-mul_right f.width (omega arith) in
       let before : (row - 1) * f.width + f.width ≤ length f.facts = omega (arith, within, earlier) in
@@ -96,13 +96,13 @@ module _ (c : Coded) (names : Names) (offset : ℤ) (f : FilterFacts) (of : AreF
 
   -- One macroblock more is built.
   pub late_more : (n : ℕ) (m : PicMb) → slice_get c.mbs n ≡ Some m → length f.facts ≡ n → 0 < c.width → n < c.width * c.height
-      → (planes : Planes) → planes ≡ row_late c n
-      → planes_after (place_of c (modes_before c (suc n)) (motion_before c (suc n)) n m) planes ≡ rows_filtered c (filtered_rows c.width n) (first_built c (suc n))
-  late_more n m is count some room planes e =
+      → (begun : Planes) → IsSized c.width c.height begun → (planes : Planes) → planes ≡ row_late c begun n
+      → planes_after (place_of c (modes_before c (suc n)) (motion_before c (suc n)) n m) planes ≡ rows_filtered c (filtered_rows c.width n) (first_built c begun (suc n))
+  late_more n m is count some room begun begun_sized planes e =
       let p : Place = place_of c (modes_before c (suc n)) (motion_before c (suc n)) n m in
       let rows : ℕ = filtered_rows c.width n in
-      let s : Planes = first_built c n in
-      let sized : IsSized c.width c.height s = built_on_sized c.width c.height c (modes_before c n) (motion_before c n) 0 (empty_planes c.width c.height) (take n c.mbs) (empty_sized c.width c.height) in
+      let s : Planes = first_built c begun n in
+      let sized : IsSized c.width c.height s = built_on_sized c.width c.height c (modes_before c n) (motion_before c n) 0 begun (take n c.mbs) begun_sized in
       let high : n / c.width < c.height = (div-lt_iff_lt-mul some).1 (omega (arith, room, mul_comm c.width c.height)) in
       let all : n / c.width * c.width ≤ n = div-mul-le_self n c.width in
       ap (planes_after p) e
@@ -112,4 +112,4 @@ module _ (c : Coded) (names : Names) (offset : ℤ) (f : FilterFacts) (of : AreF
       subst (λ w. row * w + w ≤ length f.facts) of.width_is (omega (arith, next, all, count)))
       (λ row low. omega (arith, low))
       s (subst (λ w. IsSized w c.height s) of.width_is sized))
-      ∙ ap (rows_filtered c rows) (sym (first_built_more c n m is))
+      ∙ ap (rows_filtered c rows) (sym (first_built_more c begun n m is))

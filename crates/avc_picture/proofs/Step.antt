@@ -186,9 +186,11 @@ module _ {PAD : ℕ} (c : Coded) (names : Names) (old : MbsState) (holds : Holds
             height = ap (λ x. x.height) here.1 ∙ holds.height;
             offset = ap (λ x. x.chroma_qp_index_offset) here.1 ∙ holds.offset;
             constrained = ap (λ x. x.constrained_intra_pred) here.1 ∙ holds.constrained;
-            built = filters (first_built c (suc a))
+            begun = holds.begun;
+            begun_sized = holds.begun_sized;
+            built = filters (first_built c holds.begun (suc a))
                 (ap (λ x. x.planes) here.1
-                ∙ late_more c names c.chroma_qp_index_offset told_so_far of a m is kept.filter_count wide in_picture old.canvas.planes holds.built);
+                ∙ late_more c names c.chroma_qp_index_offset told_so_far of a m is kept.filter_count wide in_picture holds.begun holds.begun_sized old.canvas.planes holds.built);
             neighbours = neighbours_more;
             filter = facts_more c (motion_before c (length c.mbs)) names a old.filter_facts f kept.filter_count holds.filter
                 (has_facts c names s slice a mb is facts.motion long (quarter_reference mb.syntax) f filter_told (motion_before c (length c.mbs))

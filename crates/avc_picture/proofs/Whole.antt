@@ -8,22 +8,23 @@ use Rattle.std.proofs.lemmas.Nat.{div-mul-add}
 use Rattle.avc_types.specs.Pictures.{Coded}
 use Rattle.avc_neigh.specs.Modes.{modes_before}
 use Rattle.avc_motion.specs.Motion.{motion_before}
-use Rattle.avc_plane.specs.Planes.{Planes, empty_planes}
+use Rattle.avc_plane.specs.Planes.{Planes}
 use Rattle.avc_deblock.specs.Edges.{all_filtered, line_filters, mb_lines, row_lines}
 use Rattle.avc_deblock.specs.Facts.{Names}
 use Rattle.avc_deblock.specs.OneEdge.{HasRoom}
 use Rattle.avc_deblock.proofs.Macroblocks.{row_more, rows_are_all}
 use Rattle.avc_deblock.proofs.Order.{all_filtered-append}
-use Rattle.avc_picture_core.specs.Built.{built, built_on}
+use Rattle.avc_picture_core.specs.Built.{built_on}
 use Rattle.avc_plane.specs.Frames.{AreSized}
 use Rattle.avc_picture.specs.Decoded.{deblocked}
 use Rattle.avc_picture.specs.FirstMbs.{HoldsFirst, MbsState}
 use Rattle.avc_picture.specs.RowLate.{FiltersUpTo, filtered_rows, first_built, rows_filtered}
 use Rattle.avc_picture.specs.MacroblocksState.{PartsAgree}
+use Rattle.avc_picture.proofs.Begun.{built_anyhow}
 
-pub all_built : (c : Coded) → first_built c (length c.mbs) ≡ built c
-all_built c =
-    ap (built_on c (modes_before c (length c.mbs)) (motion_before c (length c.mbs)) 0 (empty_planes c.width c.height)) (take-length c.mbs)
+pub all_built : (c : Coded) (s : Planes)
+    → first_built c s (length c.mbs) ≡ built_on c (modes_before c (length c.mbs)) (motion_before c (length c.mbs)) 0 s c.mbs
+all_built c s = ap (built_on c (modes_before c (length c.mbs)) (motion_before c (length c.mbs)) 0 s) (take-length c.mbs)
 
 -- rows one after another are all their line filters
 rows_are : (c : Coded) (rows : ℕ) (s : Planes)
@@ -55,10 +56,12 @@ module _ (c : Coded) (names : Names) (m : MbsState) (holds : HoldsFirst c names 
   pub filtered_is : (before after : Planes) → before ≡ m.canvas.planes → FiltersUpTo c (filtered_rows c.width m.next) (m.next / c.width) before after
       → after ≡ deblocked c
   filtered_is before after e filters =
-      filters (first_built c m.next) (e ∙ holds.built)
-      ∙ ap (λ n. rows_filtered c n (first_built c m.next)) rows
-      ∙ all_rows_filtered c c.height (all ∙ mul_comm c.width c.height) (first_built c m.next)
-      ∙ ap (λ s. all_filtered c (motion_before c (length c.mbs)) s (line_filters c)) (ap (first_built c) whole ∙ all_built c)
+      let s : Planes = holds.begun in
+      filters (first_built c s m.next) (e ∙ holds.built)
+      ∙ ap (λ n. rows_filtered c n (first_built c s m.next)) rows
+      ∙ all_rows_filtered c c.height (all ∙ mul_comm c.width c.height) (first_built c s m.next)
+      ∙ ap (λ t. all_filtered c (motion_before c (length c.mbs)) t (line_filters c))
+      (ap (first_built c s) whole ∙ all_built c s ∙ built_anyhow c (subst (λ w. 0 < w) holds.width kept.wide) all s holds.begun_sized)
 
 -- room for each macroblock of a picture of this size
 pub sized_room : (width height column row : ℕ) (s : Planes) → AreSized width height s → column < width → row < height → HasRoom column row s

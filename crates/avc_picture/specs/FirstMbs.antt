@@ -10,12 +10,14 @@ use Rattle.avc_neigh.specs.Around.{PictureFacts, is_intra_facts}
 use Rattle.avc_neigh.specs.Laws.{FactsTell, TellSlices, TellTotalCoeffs}
 use Rattle.avc_neigh.specs.Modes.{modes_before}
 use Rattle.avc_motion.specs.Motion.{motion_before, is_intra, slice_facts, frame_named}
+use Rattle.avc_plane.specs.Planes.{Planes}
 use Rattle.avc_deblock.specs.Facts.{Names, HaveFacts}
 use Rattle.avc_deblock.specs.declared.facts.MbFacts.{MbFacts}
 use Rattle.avc_picture_core.specs.Canvas.{CanvasState}
 use Rattle.avc_picture_core.specs.Faults.{is_picture, macroblock_fault}
 use Rattle.avc_picture_core.specs.References.{AreReferences}
 use Rattle.avc_picture.specs.RowLate.{row_late}
+use Rattle.avc_picture.specs.Sizes.{IsSized}
 use Rattle.avc_picture.specs.declared.slice_context.SliceContext.{SliceContext}
 
 -- What the decoder has of a picture's macroblocks so far.
@@ -73,7 +75,10 @@ pub record HoldsFirst (c : Coded) (names : Names) (m : MbsState) : Type 0 where
   pub height : m.canvas.height ≡ c.height
   pub offset : m.canvas.chroma_qp_index_offset ≡ c.chroma_qp_index_offset
   pub constrained : m.canvas.constrained_intra_pred ≡ c.constrained_intra_pred
-  pub built : m.canvas.planes ≡ row_late c m.next
+  -- the planes that they were decoded in, with any samples
+  pub begun : Planes
+  pub begun_sized : IsSized c.width c.height begun
+  pub built : m.canvas.planes ≡ row_late c begun m.next
   pub neighbours : HasNeighbourFacts c m.next m.row.facts
   pub filter : HaveFacts c (motion_before c (length c.mbs)) names 0 m.filter_facts
 

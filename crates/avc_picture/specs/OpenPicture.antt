@@ -1,10 +1,10 @@
 -- How far an open picture is deblocked, and its samples, ITU-T H.264 clause 8.7.
-use Rattle.std.specs.Prelude.{◌≡◌, ℕ, List, length}
+use Rattle.std.specs.Prelude.{◌≡◌, ℕ, ◌<◌, List, length}
 use Rattle.avc_params.specs.Limits.{width_in_mbs}
 use Rattle.avc_plane.specs.Planes.{Planes, samples_of}
 use Rattle.avc_picture_core.specs.Built.{built}
 use Rattle.avc_picture.specs.Decoding.{CanStandAt, Decoding, progress_at, start_at}
-use Rattle.avc_picture.specs.RowLate.{filtered_rows, rows_filtered}
+use Rattle.avc_picture.specs.RowLate.{covering_address, filtered_rows, rows_filtered}
 use Rattle.avc_picture.specs.Slices.{coded_of}
 
 -- the planes of the slices so far, filtered one row late (8.7)
@@ -17,6 +17,11 @@ planes_so_far entries d =
 abbrev pub HasFiltered : {PAD : ℕ} → (rows : ℕ) → Decoding PAD → Type 0
 HasFiltered rows d =
     (entries : List ℕ) → CanStandAt entries d → filtered_rows (width_in_mbs d.sps) (length (progress_at entries d).mbs) ≡ rows
+
+-- the sample (x, y) of a component is of a macroblock that has been read
+abbrev pub IsCovered : {PAD : ℕ} → (component x y : ℕ) → Decoding PAD → Type 0
+IsCovered component x y d =
+    (entries : List ℕ) → CanStandAt entries d → covering_address (width_in_mbs d.sps) component x y < (progress_at entries d).read
 
 -- the sample (x, y) of a component, after the line filters of those rows and no others
 abbrev pub HasSample : {PAD : ℕ} → (component x y value : ℕ) → Decoding PAD → Type 0

@@ -6,7 +6,7 @@ ghost use Rattle.avc_plane.specs.Frames.{padded_planes_of, AreSized};
 ghost use Rattle.avc_picture_core.specs.Built.{size_of};
 ghost use Rattle.avc_picture.specs.Decoding.{no_slice_yet, AreFramesOf, HasNoFault, HasRead, IsFinishAnswer, IsFull, IsSliceAnswer};
 ghost use Rattle.avc_picture.specs.DecoderState.{number_after};
-ghost use Rattle.avc_picture.specs.OpenPicture.{HasFiltered, HasSample};
+ghost use Rattle.avc_picture.specs.OpenPicture.{HasFiltered, HasSample, IsCovered};
 
 use crate::macroblocks::Macroblocks;
 use crate::memory::PictureMemory;
@@ -146,12 +146,13 @@ impl<const PAD: usize> PictureDecoder<PAD> {
         (self.read / self.sps.width_in_mbs()).max(1) - 1
     }
 
-    /// The sample in column `x` and row `y` of a component of the picture so far: 0 is luma, 1 Cb, 2 Cr. It is deblocked as far as the
-    /// lines of those rows do it; where no macroblock is built yet it is 0.
+    /// The sample in column `x` and row `y` of a component of the picture so far: 0 is luma, 1 Cb, 2 Cr. It is of a macroblock that has
+    /// been read, and deblocked as far as the lines of those rows do it.
     pub fn sample(&self, component: usize, x: usize, y: usize) -> u8
         requires fault { HasNoFault self.now }
         requires column { x < size_of component * width_in_mbs self.now.sps }
         requires row { y < size_of component * height_in_mbs self.now.sps }
+        requires read { IsCovered component x y self.now }
         ensures { HasSample component x y result self.now }
     {
         self.macroblocks.sample(component, x, y)

@@ -1,6 +1,6 @@
 //! Laws of pictures: their definitions alone.
 
-ghost use Rattle.avc_picture.specs.Laws.{PicturesNameNoPlaces};
+ghost use Rattle.avc_picture.specs.Laws.{PicturesComeFromTheirMacroblocks, PicturesNameNoPlaces};
 ghost use Rattle.avc_picture.specs.Sizes.{PicturesAreSized};
 
 /// Whatever its slices are, a picture has the size of its sequence parameter set.
@@ -11,4 +11,9 @@ pub fn pictures_are_sized()
 /// The samples and the faults of a picture do not depend on the places that its frames have in the history.
 pub fn pictures_name_no_places()
     ensures { PicturesNameNoPlaces }
+{}
+
+/// The samples of a full picture before deblocking do not depend on the planes that its macroblocks are built on.
+pub fn pictures_come_from_their_macroblocks()
+    ensures { PicturesComeFromTheirMacroblocks }
 {}

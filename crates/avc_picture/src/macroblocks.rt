@@ -9,13 +9,14 @@ ghost use Rattle.avc_neigh.specs.Around.{facts_of};
 ghost use Rattle.avc_mbsyntax.specs.SliceData.{SliceStart, left_total_coeffs, up_total_coeffs};
 ghost use Rattle.avc_plane.specs.Frames.{planes_of};
 ghost use Rattle.avc_plane.specs.Plane.{HasSamples};
-ghost use Rattle.avc_plane.specs.Planes.{samples_of};
+ghost use Rattle.avc_plane.specs.Planes.{component as plane_at, empty_planes, samples_of};
 ghost use Rattle.avc_picture_core.specs.Built.{size_of};
 ghost use Rattle.avc_deblock.specs.Facts.{Names};
 ghost use Rattle.avc_picture_core.specs.References.{AreUsable};
 ghost use Rattle.avc_picture.specs.Decoded.{deblocked};
 ghost use Rattle.avc_picture.specs.FirstMbs.{HasSameSize, HasSets, HoldsFirst, IsDecoded, IsSlice};
 ghost use Rattle.avc_picture.specs.MacroblockFacts.{IsRead};
+ghost use Rattle.avc_picture.specs.RowLate.{covering_address, row_late};
 
 use crate::filter_rows::FilterRows;
 use crate::memory::{FactRows, PictureMemory};
@@ -91,8 +92,21 @@ fn sources<'a, const PAD: usize>(
     }
 }
 
+/// The sample in column `x` and row `y` of a component: 0 is luma, 1 Cb, 2 Cr.
+fn sample_of<const PAD: usize>(planes: &Planes<PAD>, component: usize, x: usize, y: usize) -> u8
+    requires column { x < (plane_at (planes_of planes.now) component).width }
+    requires row { y < (plane_at (planes_of planes.now) component).height }
+    ensures { result ≡ samples_of (planes_of planes.now) component x y }
+{
+    match component {
+        0 => planes.luma.get(x, y),
+        1 => planes.cb.get(x, y),
+        _ => planes.cr.get(x, y),
+    }
+}
+
 impl<const PAD: usize> Macroblocks<PAD> {
-    /// Before the first macroblock of a picture of these sets. Only this call takes memory.
+    /// Before the first macroblock of a picture of these sets. Only this call takes memory, where there is none of this size.
     pub(crate) fn new(
         alloc: Global,
         sps: &Sps,
@@ -109,6 +123,10 @@ impl<const PAD: usize> Macroblocks<PAD> {
     {
         let width = sps.width_in_mbs() as usize;
         let height = sps.height_in_mbs() as usize;
+        let planes = memory.planes(alloc, width, height)?;
+        planes.luma.holds_bytes();
+        planes.cb.holds_bytes();
+        planes.cr.holds_bytes();
         let facts = memory.facts(alloc, width)?;
         Ok(Macroblocks {
             canvas: Canvas {
@@ -117,7 +135,7 @@ impl<const PAD: usize> Macroblocks<PAD> {
                 chroma_qp_index_offset: pps.chroma_qp_index_offset as i8,
                 constrained_intra_pred: pps.constrained_intra_pred_flag,
             },
-            planes: Planes::new(alloc, width, height)?,
+            planes,
             row: facts.row,
             filter_rows: facts.filter_rows,
             next: 0,
@@ -173,17 +191,15 @@ impl<const PAD: usize> Macroblocks<PAD> {
         Ok(())
     }
 
-    /// The sample in column `x` and row `y` of a component: 0 is luma, 1 Cb, 2 Cr.
+    /// The sample in column `x` and row `y` of a component, which is of a macroblock so far: 0 is luma, 1 Cb, 2 Cr.
     pub(crate) fn sample(&self, component: usize, x: usize, y: usize) -> u8
         requires column { x < size_of component * self.now.canvas.width }
         requires row { y < size_of component * self.now.canvas.height }
-        ensures { result ≡ samples_of self.now.canvas.planes component x y }
+        requires built { covering_address self.now.canvas.width component x y < self.now.next }
+        ensures { (c : Coded) (names : Names) → HoldsFirst c names self.now
+            → result ≡ samples_of (row_late c (empty_planes c.width c.height) self.now.next) component x y }
     {
-        match component {
-            0 => self.planes.luma.get(x, y),
-            1 => self.planes.cb.get(x, y),
-            _ => self.planes.cr.get(x, y),
-        }
+        sample_of(&self.planes, component, x, y)
     }
 
     /// The samples of the picture after deblocking (8.7).

@@ -1,4 +1,4 @@
-use Rattle.std.proofs.Common.{◌≡◌, ◌∙◌, ◌≤◌, ◌*◌, sym, ap, subst, arith, w8, w32, to_z, of_z}
+use Rattle.std.proofs.Common.{◌≡◌, ◌∙◌, ◌≤◌, ◌*◌, refl, sym, ap, subst, arith, w8, w32, to_z, of_z}
 use Rattle.std.proofs.lemmas.Int.{ints}
 use Rattle.avc_params.specs.Limits.{max_macroblocks, height_in_mbs}
 use Rattle.avc_plane.specs.Planes.{Planes}
@@ -7,7 +7,8 @@ use Rattle.avc_picture.specs.RowLate.{FilterFacts}
 use Rattle.avc_picture_core.specs.Canvas.{CanvasState}
 use Rattle.avc_picture.specs.FirstMbs.{HoldsFirst}
 use Rattle.avc_picture.specs.MacroblocksState.{PartsAgree}
-use Rattle.avc_picture.proofs.Keeping.{holds_none, kept_none, empty_is_sized}
+use Rattle.avc_picture.specs.Sizes.{IsSized}
+use Rattle.avc_picture.proofs.Keeping.{holds_none, kept_none, whole_plane}
 use Rattle.avc_picture.proofs.macroblocks.Macroblocks.new.Goals as goal
 
 pub invariant_of-result : goal.invariant_of-result
@@ -21,11 +22,11 @@ invariant_of-result g c =
     subst (λ k. w * k ≤ max_macroblocks) (sym c.height_in_mbs-height.ensures)
     (subst (λ k. k * height_in_mbs c.args.sps.now ≤ max_macroblocks) (sym c.width_in_mbs-width.ensures) c.requires.sps.size) in
     record {
-      sized = subst (AreSized w h) (sym c.in_ok-new.ensures) (empty_is_sized w h);
+      sized = c.in_ok-planes.ensures;
       filter_width = ap (λ (f : FilterFacts). f.width) c.in_ok-facts.ensures.filter_rows;
-      kept = subst (λ (f : FilterFacts). PartsAgree (record { canvas = state (planes_of c.in_ok-new.field-0); row = c.in_ok-facts.facts.row; filter_facts = f.facts; next = 0 }))
+      kept = subst (λ (f : FilterFacts). PartsAgree (record { canvas = state (planes_of c.in_ok-planes.planes); row = c.in_ok-facts.facts.row; filter_facts = f.facts; next = 0 }))
           (sym c.in_ok-facts.ensures.filter_rows)
-          (kept_none _ _ w h offset constrained (ap state c.in_ok-new.ensures) c.in_ok-facts.ensures.row (omega (arith, c.width_in_mbs-width.ensures))
+          (kept_none _ _ w h offset constrained (planes_of c.in_ok-planes.planes) refl c.in_ok-facts.ensures.row (omega (arith, c.width_in_mbs-width.ensures))
           (omega (arith, c.height_in_mbs-height.ensures)) size);
     }
 
@@ -39,7 +40,14 @@ returns-clause-holds g c = λ coded names sets.
     let p = c.requires.pps in
     let x = c.args.pps.now.chroma_qp_index_offset in
     let cast : to_z w8 (of_z w8 (to_z w32 (of_z w32 x))) ≡ x = omega (arith, ints, p.chroma_low, p.chroma_high) in
-    subst (λ (f : FilterFacts). HoldsFirst coded names (record { canvas = state (planes_of c.in_ok-new.field-0); row = c.in_ok-facts.facts.row; filter_facts = f.facts; next = 0 }))
+    let planes = planes_of c.in_ok-planes.planes in
+    let size = c.in_ok-planes.ensures in
+    let whole : IsSized w h planes = record {
+      luma = whole_plane (16 * w) (16 * h) planes.luma size.luma_width size.luma_height c.holds_bytes.ensures.all;
+      cb = whole_plane (8 * w) (8 * h) planes.cb size.cb_width size.cb_height c.holds_bytes-2.ensures.all;
+      cr = whole_plane (8 * w) (8 * h) planes.cr size.cr_width size.cr_height c.holds_bytes-3.ensures.all;
+    } in
+    subst (λ (f : FilterFacts). HoldsFirst coded names (record { canvas = state planes; row = c.in_ok-facts.facts.row; filter_facts = f.facts; next = 0 }))
     (sym c.in_ok-facts.ensures.filter_rows)
-    (holds_none _ _ w h offset constrained (ap state c.in_ok-new.ensures) c.in_ok-facts.ensures.row coded names (sets.width ∙ sym c.width_in_mbs-width.ensures)
+    (holds_none _ _ w h offset constrained planes refl c.in_ok-facts.ensures.row coded names whole (sets.width ∙ sym c.width_in_mbs-width.ensures)
     (sets.height ∙ sym c.height_in_mbs-height.ensures) (sets.offset ∙ sym cast) sets.constrained)

@@ -1,0 +1,32 @@
+use Rattle.std.proofs.Common.{◌≡◌, ◌∙◌, ◌<◌, ◌*◌, arith, sym, ap, subst}
+use Rattle.avc_plane.specs.Planes.{empty_planes, samples_of}
+use Rattle.avc_picture_core.specs.Built.{size_of}
+use Rattle.avc_picture.specs.FirstMbs.{HoldsFirst, MbsState}
+use Rattle.avc_picture.specs.MacroblocksState.{state_of}
+use Rattle.avc_picture.specs.RowLate.{covering_address, row_late}
+use Rattle.avc_picture.proofs.LateAgree.{component_columns, component_rows, sample_late}
+use Rattle.avc_picture.proofs.macroblocks.Macroblocks.sample.Goals as goal
+
+pub sample_of-requires : goal.sample_of-requires
+sample_of-requires g c =
+    let i = c.self.inside in
+    let e = c.self.view_is in (
+      omega arith,
+      (
+        component_columns i.canvas.width i.canvas.height c.args.component c.args.x (state_of i).canvas.planes c.self.invariant.sized
+            (subst (λ (m : MbsState). c.args.x < size_of c.args.component * m.canvas.width) (sym e) c.requires.column),
+        component_rows i.canvas.width i.canvas.height c.args.component c.args.y (state_of i).canvas.planes c.self.invariant.sized
+            (subst (λ (m : MbsState). c.args.y < size_of c.args.component * m.canvas.height) (sym e) c.requires.row),
+      ),
+    )
+
+pub returns : goal.returns
+returns g c = λ coded names holds.
+    let m = state_of c.self.inside in
+    let e = c.self.view_is in
+    c.sample_of.ensures
+    ∙ sample_late coded names m (subst (HoldsFirst coded names) (sym e) holds) c.self.invariant.kept c.args.component c.args.x c.args.y
+    (subst (λ (m : MbsState). c.args.x < size_of c.args.component * m.canvas.width) (sym e) c.requires.column)
+    (subst (λ (m : MbsState). c.args.y < size_of c.args.component * m.canvas.height) (sym e) c.requires.row)
+    (subst (λ (m : MbsState). covering_address m.canvas.width c.args.component c.args.x c.args.y < m.next) (sym e) c.requires.built)
+    ∙ ap (λ (m : MbsState). samples_of (row_late coded (empty_planes coded.width coded.height) m.next) c.args.component c.args.x c.args.y) e
