@@ -24,7 +24,8 @@ pub struct Pictures {
     alloc: Global,
     sequence: Sequence,
     picture: Option<PictureDecoder<PADDING>>,
-    // of pictures that are over, for the next one
+    // What pictures that are over have left, for the next one, which takes planes only where none are left over: so the stored frames, the
+    // open picture and what is left over are together never more than the frames that were stored and open at once.
     memory: PictureMemory<PADDING>,
     // of the open picture's last slice
     last_unit: u64,
