@@ -9,7 +9,16 @@ use std::alloc::Global;
 pub fn unescape(alloc: Global, body: &[u8]) -> Result<Vec<u8>, OutOfMemory>
     ensures { IfOk result (λ raw. raw.items ≡ rbsp body.now) }
 {
-    let mut raw = Vec::with_capacity(alloc, body.len())?;
+    unescape_in(Vec::new(alloc), body)
+}
+
+/// The same in the place of bytes that are over, so that memory is taken only where they had less room.
+pub fn unescape_in(over: Vec<u8>, body: &[u8]) -> Result<Vec<u8>, OutOfMemory>
+    ensures { IfOk result (λ raw. raw.items ≡ rbsp body.now) }
+{
+    let mut raw = over;
+    raw.clear();
+    raw.reserve(body.len())?;
     let mut zeros = 0u8;
     let mut place = 0;
     while let Some(len) = memchr(0, &body[place..]) {

@@ -4,7 +4,6 @@ ghost use Rattle.avc_annexb.specs.Units.{PlacedUnit, saturated, unit_of};
 
 use crate::unit::Unit;
 use avc_types::{Bytes, OutOfMemory};
-use std::alloc::Global;
 
 /// A unit whose end has not been seen.
 #[derive(Drop)]
@@ -17,15 +16,17 @@ pub struct OpenUnit<const MAX: usize> {
 }
 
 impl<const MAX: usize> OpenUnit<MAX> {
-    /// A unit without bytes yet.
-    pub fn new(alloc: Global, offset: u64) -> Self
+    /// A unit without bytes yet. They will stand in the place of others that are over.
+    pub fn new(offset: u64, over: Vec<u8>) -> Self
         ensures { (place : ℕ) → offset ≡ saturated place → IsOpenUnit MAX result (record { offset = place; bytes = [] }) }
     {
+        let mut body = over;
+        body.clear();
         OpenUnit {
             offset,
             length: 0,
             header: 0,
-            body: Some(Vec::new(alloc)),
+            body: Some(body),
         }
     }
 

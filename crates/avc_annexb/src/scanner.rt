@@ -5,6 +5,7 @@ use crate::ready::Ready;
 use crate::runs::{run_length, zeros_at_start};
 use avc_types::OutOfMemory;
 use std::alloc::Global;
+use std::mem;
 
 /// Goes once through a stream and looks for where units begin and end.
 #[derive(Drop)]
@@ -15,6 +16,8 @@ pub struct Scanner<const MAX: usize> {
     // the last bytes that are zeros, at most two, which are not yet in the unit
     zeros: u8,
     position: u64,
+    // the bytes of a unit that is over, in whose place those of another will stand; none: no room
+    over: Vec<u8>,
     ghost few: { zeros ≤ 2 },
 }
 
@@ -33,7 +36,16 @@ impl<const MAX: usize> Scanner<MAX> {
             unit: None,
             zeros: 0,
             position: 0,
+            over: Vec::new(alloc),
         }
+    }
+
+    /// Bytes of a unit are over: those of another will stand in their place.
+    pub fn take_back(&mut self, body: Vec<u8>)
+        ensures scans { (bytes : List ℕ) → HasScanned MAX self.old bytes → HasScanned MAX self.new bytes }
+        ensures ready { self.new.ready ≡ self.old.ready }
+    {
+        self.over = body;
     }
 
     /// Takes the next bytes of the stream. After an `Err` the scanner is of no use.
@@ -120,7 +132,8 @@ impl<const MAX: usize> Scanner<MAX> {
     {
         self.position = self.position.saturating_add(1);
         self.zeros = 0;
-        let ended = self.unit.replace(OpenUnit::new(self.alloc, self.position));
+        let over = mem::replace(&mut self.over, Vec::new(self.alloc));
+        let ended = self.unit.replace(OpenUnit::new(self.position, over));
         self.ready.add_any(ended)
     }
 }

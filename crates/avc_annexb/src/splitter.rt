@@ -102,4 +102,13 @@ impl<const MAX: usize> Splitter<MAX> {
             SplitterPhase::Running | SplitterPhase::Ended => self.scanner.ready.next(),
         }
     }
+
+    /// A unit that was handed out is over: the bytes of another will stand in its place, so that for most units no memory is taken.
+    pub fn take_back(&mut self, unit: Unit)
+        ensures { self.new ≡ self.old }
+    {
+        if let Some(body) = unit.body {
+            self.scanner.take_back(body.into_vec());
+        }
+    }
 }

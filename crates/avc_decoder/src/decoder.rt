@@ -152,6 +152,7 @@ fn handle_units<const MAX: usize>(
 {
     while let Some(unit) = splitter.next_unit() {
         stream.unit(&unit)?;
+        splitter.take_back(unit);
     }
     Ok(())
 }

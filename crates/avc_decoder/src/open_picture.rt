@@ -14,11 +14,14 @@ use crate::active_sets::ActiveSets;
 use crate::queue::Queue;
 use avc_decoder_core::Sequence;
 use avc_decoder_core::laws::missing_numbers_keep_the_order;
-use avc_picture::PictureDecoder;
+use avc_picture::{PictureDecoder, PictureMemory};
 use avc_plane::{Frame, PADDING};
 use avc_slice::{Header, Slice};
 use avc_types::{Fault, OutOfMemory, PictureError};
 use std::alloc::Global;
+
+/// So many frames can have left the buffer since a picture began: those that were stored, and the picture itself.
+const MOST_EMPTIED: usize = 17;
 
 /// Whether a slice was a fault, and how many of its macroblocks were read, a faulty one included.
 #[derive(Clone, Copy)]
@@ -38,6 +41,7 @@ pub struct SliceAnswer {
 pub fn close_picture(
     sequence: &mut Sequence,
     queue: &mut Queue,
+    memory: &mut PictureMemory<PADDING>,
     picture: PictureDecoder<PADDING>,
     last_unit: u64,
 ) -> Result<bool, OutOfMemory>
@@ -46,7 +50,7 @@ pub fn close_picture(
     ensures state { OnOk result (HasOutcome sequence.old.output
         (closed_of sequence.old.output sequence.old.history picture) queue.old last_unit None 0 sequence.new queue.new) }
 {
-    let planes = match picture.finish() {
+    let planes = match picture.finish(memory) {
         Ok(planes) => planes,
         Err(PictureError::Fault(fault)) => {
             fail(sequence, queue, last_unit, fault)?;
@@ -72,6 +76,7 @@ pub fn begin_picture(
     alloc: Global,
     sequence: &mut Sequence,
     queue: &mut Queue,
+    memory: &mut PictureMemory<PADDING>,
     picture: &mut Option<PictureDecoder<PADDING>>,
     slice: &Slice,
     sets: ActiveSets,
@@ -98,9 +103,10 @@ pub fn begin_picture(
     match sequence.open(&slice.header, sets.sps) {
         Ok(out) => {
             queue.show(out)?;
+            keep_emptied(sequence, memory);
             let frames = frames_for(sequence, &slice.header);
-            *picture = Some(PictureDecoder::begin(alloc, sets.sps, sets.pps, frames)?);
-            let after = decode_slice(sequence, queue, picture, slice)?;
+            *picture = Some(PictureDecoder::begin(alloc, sets.sps, sets.pps, frames, memory)?);
+            let after = decode_slice(sequence, queue, memory, picture, slice)?;
             // at a fault what the missing numbers let out and what was held then go out in one order
             missing_numbers_keep_the_order();
             Ok(after)
@@ -116,10 +122,23 @@ pub fn begin_picture(
     }
 }
 
+/// The planes of frames that have left the buffer are kept for later pictures.
+fn keep_emptied(sequence: &mut Sequence, memory: &mut PictureMemory<PADDING>)
+    ensures { sequence.new ≡ sequence.old }
+{
+    for frame in 0..MOST_EMPTIED {
+        match sequence.emptied_planes() {
+            Some(planes) => memory.keep(planes),
+            None => return,
+        }
+    }
+}
+
 /// Decodes one slice more of the open picture, if there is one.
 pub fn continue_picture(
     sequence: &mut Sequence,
     queue: &mut Queue,
+    memory: &mut PictureMemory<PADDING>,
     picture: &mut Option<PictureDecoder<PADDING>>,
     last_unit: u64,
     slice: &Slice,
@@ -130,7 +149,7 @@ pub fn continue_picture(
     ensures state { IfOk result (λ after. HasSliceOutcome sequence.old.output
         (continued_in sequence.old.output sequence.old.history picture.old slice.now) queue.old slice.now after picture.new sequence.new queue.new) }
 {
-    let after = decode_slice(sequence, queue, picture, slice)?;
+    let after = decode_slice(sequence, queue, memory, picture, slice)?;
     Ok(after)
 }
 
@@ -182,14 +201,16 @@ fn answer_if_open(
     }
 }
 
-/// Drops the open picture. What is written in its place takes as much room as a picture: apart from the slices that are decoded, these
-/// pay nothing for it.
+/// Drops the open picture, and keeps its memory. What is moved takes as much room as a picture: apart from the slices that are decoded,
+/// these pay nothing for it.
 #[cold]
 #[inline(never)]
-fn forget(picture: &mut Option<PictureDecoder<PADDING>>)
+pub fn forget(picture: &mut Option<PictureDecoder<PADDING>>, memory: &mut PictureMemory<PADDING>)
     ensures { picture.new ≡ None }
 {
-    *picture = None;
+    if let Some(picture) = picture.take() {
+        picture.discard(memory);
+    }
 }
 
 /// Decodes one slice more of the open picture, if there is one. At a fault the picture is gone, all held pictures go out, and then
@@ -197,6 +218,7 @@ fn forget(picture: &mut Option<PictureDecoder<PADDING>>)
 fn decode_slice(
     sequence: &mut Sequence,
     queue: &mut Queue,
+    memory: &mut PictureMemory<PADDING>,
     picture: &mut Option<PictureDecoder<PADDING>>,
     slice: &Slice,
 ) -> Result<AfterSlice, OutOfMemory>
@@ -211,7 +233,7 @@ fn decode_slice(
             read: answered.read,
         }),
         Err(PictureError::Fault(fault)) => {
-            forget(picture);
+            forget(picture, memory);
             fail(sequence, queue, slice.unit, fault)?;
             Ok(AfterSlice {
                 fault: true,

@@ -8,10 +8,10 @@ ghost use Rattle.avc_slice.specs.Within.{IsHeader};
 
 use crate::active_sets::ActiveSets;
 use crate::event::Event;
-use crate::open_picture::{begin_picture, close_picture, continue_picture, empty, fail};
+use crate::open_picture::{begin_picture, close_picture, continue_picture, empty, fail, forget};
 use crate::queue::Queue;
 use avc_decoder_core::{Output, Sequence};
-use avc_picture::PictureDecoder;
+use avc_picture::{PictureDecoder, PictureMemory};
 use avc_plane::PADDING;
 use avc_slice::Slice;
 use avc_types::{Fault, OutOfMemory};
@@ -24,6 +24,9 @@ pub struct Pictures {
     alloc: Global,
     sequence: Sequence,
     picture: Option<PictureDecoder<PADDING>>,
+    // What pictures that are over have left, for the next one, which takes planes only where none are left over: so the stored frames, the
+    // open picture and what is left over are together never more than the frames that were stored and open at once.
+    memory: PictureMemory<PADDING>,
     // of the open picture's last slice
     last_unit: u64,
     queue: Queue,
@@ -60,6 +63,7 @@ impl Pictures {
             alloc,
             sequence: Sequence::new(alloc, output),
             picture: None,
+            memory: PictureMemory::new(),
             last_unit: 0,
             queue: Queue::new(alloc),
             read: 0,
@@ -92,7 +96,14 @@ impl Pictures {
             return Ok(false);
         };
         self.failed = true;
-        let fault = close_picture(&mut self.sequence, &mut self.queue, picture, self.last_unit)?;
+        let last_unit = self.last_unit;
+        let fault = close_picture(
+            &mut self.sequence,
+            &mut self.queue,
+            &mut self.memory,
+            picture,
+            last_unit,
+        )?;
         self.failed = false;
         Ok(fault)
     }
@@ -115,6 +126,7 @@ impl Pictures {
             self.alloc,
             &mut self.sequence,
             &mut self.queue,
+            &mut self.memory,
             &mut self.picture,
             first,
             sets,
@@ -137,6 +149,7 @@ impl Pictures {
         let after = continue_picture(
             &mut self.sequence,
             &mut self.queue,
+            &mut self.memory,
             &mut self.picture,
             self.last_unit,
             further,
@@ -153,7 +166,7 @@ impl Pictures {
         ensures { OnOk result (self.new ≡ after_outcome (failed_at self.old.output (history_on self.old) unit fault 0) self.old) }
     {
         self.failed = true;
-        self.picture = None;
+        forget(&mut self.picture, &mut self.memory);
         fail(&mut self.sequence, &mut self.queue, unit, fault)?;
         self.failed = false;
         Ok(())
@@ -173,7 +186,7 @@ impl Pictures {
         ensures { OnOk result (self.new ≡ after_outcome (held_outcome self.old.output (history_on self.old)) self.old) }
     {
         self.failed = true;
-        self.picture = None;
+        forget(&mut self.picture, &mut self.memory);
         empty(&mut self.sequence, &mut self.queue)?;
         self.failed = false;
         Ok(())

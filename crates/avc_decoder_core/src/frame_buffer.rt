@@ -220,6 +220,9 @@ fn output_prior_pictures(
 fn joined(mut pictures: Vec<Picture>, mut more: Vec<Picture>) -> Result<Vec<Picture>, OutOfMemory>
     ensures { IfOk result (λ all. all.items ≡ pictures.items ++ more.items) }
 {
+    if pictures.is_empty() {
+        return Ok(more);
+    }
     pictures.append(&mut more)?;
     Ok(pictures)
 }
@@ -429,5 +432,12 @@ impl FrameBuffer {
         self.history = History::new();
         self.failed = false;
         Ok(out)
+    }
+
+    /// Takes the planes of a frame that has left the buffer, if there is one, so that their memory is used again.
+    pub fn emptied_planes(&mut self) -> Option<PaddedPlanes<PADDING>>
+        ensures { self.new ≡ self.old }
+    {
+        self.dpb.emptied_frame()?.planes
     }
 }

@@ -284,4 +284,12 @@ impl Sequence {
     {
         self.buffer.frames()
     }
+
+    /// Takes the planes of a frame that has left the buffer, if there is one, so that their memory is used again: until no more come there
+    /// are at most 17.
+    pub fn emptied_planes(&mut self) -> Option<PaddedPlanes<PADDING>>
+        ensures { self.new ≡ self.old }
+    {
+        self.buffer.emptied_planes()
+    }
 }

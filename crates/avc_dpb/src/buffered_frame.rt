@@ -24,6 +24,10 @@ pub trait BufferedFrame {
         ensures picture { IfOk result (λ picture. picture ≡ shown self.now) }
         ensures memory { OnErr result (is_some (shown self.now) ≡ true) };
 
+    /// Whether it has a picture.
+    fn is_existing(&self) -> bool
+        ensures { result ≡ is_some (shown self.now) };
+
     /// Whether it is marked as used for reference.
     fn is_reference(&self) -> bool
         ensures { result ≡ referenced self.now };

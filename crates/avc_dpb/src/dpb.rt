@@ -10,6 +10,7 @@ ghost use Rattle.avc_dpb.specs.Places.{is_needed, needed_items, items_at, with_r
 use crate::arriving_frame::ArrivingFrame;
 use crate::buffered_frame::BufferedFrame;
 use crate::bumping::{hold_few, holds_too_many, is_full, make_room, output_all, replace};
+use crate::emptied_frames::EmptiedFrames;
 use crate::output::Output;
 use crate::slot::Slot;
 use arrayvec::ArrayVec;
@@ -25,6 +26,8 @@ pub struct Dpb<T> {
     frames: Vec<T>,
     output: Output,
     failed: bool,
+    // those that have left it
+    emptied: EmptiedFrames<T>,
 }
 
 impl<T> Model for Dpb<T> {
@@ -51,6 +54,7 @@ impl<T: BufferedFrame + Drop> Dpb<T> {
             frames: Vec::new(alloc),
             output,
             failed: false,
+            emptied: EmptiedFrames::new(),
         }
     }
 
@@ -101,6 +105,7 @@ impl<T: BufferedFrame + Drop> Dpb<T> {
             self.alloc,
             &mut self.slots,
             &mut self.frames,
+            &mut self.emptied,
             frame,
             arriving,
         )?;
@@ -108,6 +113,7 @@ impl<T: BufferedFrame + Drop> Dpb<T> {
             self.alloc,
             &mut self.slots,
             &mut self.frames,
+            &mut self.emptied,
             self.output,
             arriving,
         )?;
@@ -141,7 +147,24 @@ impl<T: BufferedFrame + Drop> Dpb<T> {
         ensures buffer { DropsAll self.old self.new }
     {
         self.slots.clear();
-        self.frames.clear();
+        empty_all(&mut self.frames, &mut self.emptied);
+    }
+
+    /// Takes a frame that has left the buffer, if there is one, so that its memory is used again. At most 17 wait to be taken; what else
+    /// leaves is dropped, and so is what stands for a missing frame number. Contracts say nothing of which these are.
+    pub fn emptied_frame(&mut self) -> Option<T>
+        ensures { self.new ≡ self.old }
+    {
+        self.emptied.take()
+    }
+}
+
+// All frames leave.
+fn empty_all<T: BufferedFrame + Drop>(frames: &mut Vec<T>, emptied: &mut EmptiedFrames<T>)
+    ensures { frames.new.items ≡ [] }
+{
+    while let Some(frame) = frames.pop() {
+        emptied.put(frame);
     }
 }
 
@@ -150,6 +173,7 @@ fn place<T: BufferedFrame + Drop>(
     alloc: Global,
     slots: &mut ArrayVec<Slot, 16>,
     frames: &mut Vec<T>,
+    emptied: &mut EmptiedFrames<T>,
     frame: T,
     arriving: &ArrivingFrame,
 ) -> Result<Vec<T::Picture>, OutOfMemory>
@@ -163,9 +187,10 @@ fn place<T: BufferedFrame + Drop>(
     let places = make_room(slots, arriving);
     let mut out = pictures(alloc, frames.as_slice(), places.as_slice())?;
     let full = is_full(slots.as_slice(), arriving.capacity);
-    remove_needless(slots, frames);
+    remove_needless(slots, frames, emptied);
     if full {
         at_once(alloc, &frame, arriving.existing, &mut out)?;
+        emptied.put(frame);
         return Ok(out);
     }
     frames.push(frame)?;
@@ -183,6 +208,7 @@ fn output_early<T: BufferedFrame + Drop>(
     alloc: Global,
     slots: &mut ArrayVec<Slot, 16>,
     frames: &mut Vec<T>,
+    emptied: &mut EmptiedFrames<T>,
     output: Output,
     arriving: &ArrivingFrame,
 ) -> Result<Vec<T::Picture>, OutOfMemory>
@@ -197,7 +223,7 @@ fn output_early<T: BufferedFrame + Drop>(
     set_references(slots, frames.as_slice());
     let places = hold_few(slots, output, arriving);
     let out = pictures(alloc, frames.as_slice(), places.as_slice())?;
-    remove_needless(slots, frames);
+    remove_needless(slots, frames, emptied);
     Ok(out)
 }
 
@@ -283,7 +309,11 @@ fn set_references<T: BufferedFrame>(slots: &mut ArrayVec<Slot, 16>, frames: &[T]
 }
 
 // Frames that are needed neither for output nor for reference leave.
-fn remove_needless<T: Drop>(slots: &mut ArrayVec<Slot, 16>, frames: &mut Vec<T>)
+fn remove_needless<T: BufferedFrame + Drop>(
+    slots: &mut ArrayVec<Slot, 16>,
+    frames: &mut Vec<T>,
+    emptied: &mut EmptiedFrames<T>,
+)
     requires { length frames.old.items ≡ length slots.old.items }
     ensures slots { slots.new.items ≡ filter is_needed slots.old.items }
     ensures frames { frames.new.items ≡ needed_items slots.old.items frames.old.items }
@@ -291,7 +321,7 @@ fn remove_needless<T: Drop>(slots: &mut ArrayVec<Slot, 16>, frames: &mut Vec<T>)
     for place in (0..slots.len()).rev() {
         if !slots[place].is_needed() {
             slots.remove(place);
-            frames.remove(place);
+            emptied.put(frames.remove(place));
         }
     }
 }

@@ -5,6 +5,7 @@ mod arriving_frame;
 mod buffered_frame;
 mod bumping;
 mod dpb;
+mod emptied_frames;
 pub mod laws;
 mod output;
 mod slot;

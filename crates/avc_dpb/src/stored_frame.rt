@@ -29,6 +29,10 @@ impl<const PAD: usize> BufferedFrame for Frame<PAD> {
         }
     }
 
+    fn is_existing(&self) -> bool {
+        self.planes.is_some()
+    }
+
     fn is_reference(&self) -> bool {
         self.mark.is_some()
     }

@@ -26,6 +26,10 @@ impl BufferedFrame for Numbered {
         Ok(Some(self.number))
     }
 
+    fn is_existing(&self) -> bool {
+        true
+    }
+
     fn is_reference(&self) -> bool {
         self.mark.is_some()
     }
@@ -123,6 +127,30 @@ fn never_goes_out(rt: HostRuntime) -> Result<(), Fail> {
     dpb.store(frame(2, None), &reference(0, 1))?;
     dpb.drop_all();
     assert_eq!(rt; dpb.empty()?.as_slice(), [].as_slice());
+    Ok(())
+}
+
+fn number_of(frame: Option<Numbered>) -> Option<u32> {
+    Some(frame?.number)
+}
+
+// Frames that have left are handed out once each: one that goes out for another, and all where the buffer is emptied.
+#[test]
+fn hands_out_emptied_frames(rt: HostRuntime) -> Result<(), Fail> {
+    let mut dpb = Dpb::new(rt.alloc(), Output::Full);
+    assert_eq!(rt; number_of(dpb.emptied_frame()), None);
+    for (number, order) in [(0, 0), (1, 4), (2, 2)] {
+        dpb.store(frame(number, None), &other(order, 2))?;
+    }
+    assert_eq!(rt; number_of(dpb.emptied_frame()), Some(0));
+    assert_eq!(rt; number_of(dpb.emptied_frame()), None);
+    dpb.drop_all();
+    assert_eq!(rt; number_of(dpb.emptied_frame()), Some(1));
+    assert_eq!(rt; number_of(dpb.emptied_frame()), Some(2));
+    assert_eq!(rt; number_of(dpb.emptied_frame()), None);
+    dpb.store(frame(3, None), &reference(0, 1))?;
+    dpb.empty()?;
+    assert_eq!(rt; number_of(dpb.emptied_frame()), Some(3));
     Ok(())
 }
 

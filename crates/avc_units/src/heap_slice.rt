@@ -10,6 +10,7 @@ use avc_slice::{Header, Slice, put_header};
 use avc_types::{Bytes, Fault, OutOfMemory};
 use std::alloc::Global;
 use std::marker::Model;
+use std::mem;
 
 /// A slice on the heap, so that a step is small. A contract sees the slice.
 #[derive(Drop)]
@@ -51,6 +52,17 @@ impl HeapSlice {
                 Ok(HeapSlice { slice })
             }
         }
+    }
+
+    /// Takes the bytes of its RBSP, which is over.
+    pub(crate) fn take_rbsp(&mut self, alloc: Global) -> Vec<u8> {
+        let slice = self.slice.as_mut();
+        mem::replace(&mut slice.rbsp, Bytes::from_vec(Vec::new(alloc))).into_vec()
+    }
+
+    /// Gives it the bytes of an RBSP that is over, for another one.
+    pub(crate) fn take_back(&mut self, rbsp: Bytes) {
+        self.slice.as_mut().rbsp = rbsp;
     }
 
     // another slice in its place

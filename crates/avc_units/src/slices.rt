@@ -9,7 +9,7 @@ ghost use Rattle.avc_units.specs.Grouping.{kind, reads_zero, slice, with_header}
 ghost use Rattle.avc_units.specs.Kinds.{slice_or_start, open_picture_in, step_by};
 
 use crate::heap_slice::HeapSlice;
-use crate::sets::rbsp_of;
+use crate::sets::{give_back, rbsp_in};
 use crate::step::Step;
 use crate::step_cases::{UnitContext, no_effect, slice_or_start};
 use avc_annexb::Unit;
@@ -72,7 +72,7 @@ pub(crate) fn slice_unit(
     ensures slice { IfOk result (λ s. IfSlice s.next (IsSliceUnder (sets_after table.now))) }
     ensures memory { OnErr result (is_some unit.now.body ≡ true) }
 {
-    match rbsp_of(alloc, unit)? {
+    match rbsp_in(alloc, over, unit)? {
         Some(rbsp) => {
             let starts = can_start(rbsp.as_slice(), idr);
             // else nothing comes of it, whatever its header says
@@ -80,6 +80,7 @@ pub(crate) fn slice_unit(
                 let read = read_slice(alloc, table, over, unit, rbsp)?;
                 return Ok(slice_or_start(context, starts, read));
             }
+            give_back(over, rbsp);
             Ok(no_effect())
         }
         None => Ok(slice_or_start(context, false, Err(Fault::NalTooLong))),

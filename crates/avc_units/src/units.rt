@@ -37,8 +37,8 @@ fn step_by(
     match unit_kind {
         UnitKind::Slice { idr } => slice_unit(alloc, table, over, context, unit, idr),
         UnitKind::Partition => Ok(slice_or_start(context, false, Err(Fault::DataPartition))),
-        UnitKind::Sps => put_sps(alloc, table, unit),
-        UnitKind::Pps => put_pps(alloc, table, unit),
+        UnitKind::Sps => put_sps(alloc, table, over, unit),
+        UnitKind::Pps => put_pps(alloc, table, over, unit),
         UnitKind::Boundary => Ok(ends_picture(Next::Nothing)),
         UnitKind::Other => Ok(no_effect()),
     }

@@ -3,7 +3,7 @@ use Rattle.std.proofs.lemmas.Bool.{eqb-true, eq-eqb}
 use Rattle.std.proofs.lemmas.List.{take_rest, length-drop}
 use Rattle.avc_annexb.specs.Scanning.{HasNoZero}
 use Rattle.avc_annexb.proofs.Resumed.{resumed_more, resumed-last, free_before, few_after}
-use Rattle.avc_annexb.proofs.escapes.unescape.Goals as goal
+use Rattle.avc_annexb.proofs.escapes.unescape_in.Goals as goal
 
 pub loop-len-preserved : goal.loop-len-preserved
 loop-len-preserved c =

@@ -1,7 +1,7 @@
 use Rattle.std.proofs.Common.{◌≡◌, ◌≤◌, ◌++◌, ◌-◌, drop, length}
 use Rattle.avc_annexb.specs.Escapes.{rbsp}
 use Rattle.avc_annexb.proofs.Resumed.{resumed}
-use Rattle.avc_annexb.proofs.escapes.unescape.Given as goal
+use Rattle.avc_annexb.proofs.escapes.unescape_in.Given as goal
 
 -- what was written and what is still to come are the RBSP
 abbrev pub invariant-loop-len : goal.invariant-loop-len
