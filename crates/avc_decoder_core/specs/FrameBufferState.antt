@@ -7,13 +7,12 @@ use Rattle.avc_types.specs.declared.picture_error.PictureError.{PictureError}
 use Rattle.avc_types.specs.declared.picture_error.PictureError.TheVariants.{Fault as Faulty, OutOfMemory}
 use Rattle.avc_dpb.specs.declared.output.Output.{Output}
 use Rattle.avc_plane.specs.declared.frame.Frame.{Frame}
-use Rattle.avc_plane.specs.Planes.{Planes}
 use Rattle.avc_params.specs.declared.sps.Sps.{Sps}
 use Rattle.avc_slice.specs.Header.{is_idr, is_reference, has_idr_marking}
 use Rattle.avc_slice.specs.declared.header.Header.{Header}
 use Rattle.avc_marking.specs.Marks.{Marks}
-use Rattle.avc_decoder_core.specs.History.{Entry, History, is_same_sps, marks_of, sequence_sps, with_picture}
-use Rattle.avc_decoder_core.specs.Pictures.{output_pictures, held_pictures, output_at_closing, prior_output}
+use Rattle.avc_decoder_core.specs.History.{Entry, History, is_same_sps, marks_of, sequence_sps}
+use Rattle.avc_decoder_core.specs.Pictures.{output_pictures, held_pictures, prior_output}
 
 -- The history of decoded pictures and missing numbers, the stored frames with their marks in decoding order, when pictures go out,
 -- and whether memory was refused.
@@ -40,13 +39,6 @@ pub record Stores (old : FrameBufferState) (e : Entry) (out : List Picture) (new
   pub state : new ≡ record { history = e ∷ old.history; frames = new.frames; output = old.output; failed = false }
   pub marked : is_ok (marks_of (e ∷ old.history)) ≡ true
   pub pictures : out ≡ output_pictures old.output old.history (e ∷ old.history)
-
--- The closed picture has come to the history, and these pictures go out.
-pub record StoresPicture (old : FrameBufferState) (sps : Sps) (h : Header) (planes : Planes) (out : List Picture) (new : FrameBufferState) : Type 0 where
-  pub going : old.failed ≡ false
-  pub state : new ≡ record { history = with_picture sps h planes old.history; frames = new.frames; output = old.output; failed = false }
-  pub marked : is_ok (marks_of (with_picture sps h planes old.history)) ≡ true
-  pub pictures : out ≡ output_at_closing old.output h old.history (with_picture sps h planes old.history)
 
 -- what a picture with this header finds: an IDR picture no history
 abbrev pub at_sequence_of : Header → FrameBufferState → FrameBufferState
