@@ -162,8 +162,8 @@ fault_first output before o first unit f = rw (stands_on before o first, stands_
 -- What is held goes out where an IDR picture lets it.
 closed_out : (output : Output) (before full : History) (idr drops : Bool) → idr ≡ true → drops ≡ false
     → let out : History → List Event = λ h.
-      pictures ((elim idr [ true ↦ (if drops then [] else held_pictures output h) | false ↦ [] ])
-      ++ output_pictures output (elim idr [ true ↦ [] | false ↦ h ]) full) in
+    pictures ((elim idr [ true ↦ (if drops then [] else held_pictures output h) | false ↦ [] ])
+    ++ output_pictures output (elim idr [ true ↦ [] | false ↦ h ]) full) in
     out before ≡ due output before ++ out []
 closed_out output before full true false e f = map-append (λ p. Picture p) (held_pictures output before) (output_pictures output [] full)
 closed_out output before full true true e f = cc

@@ -6,7 +6,6 @@ use Rattle.std.proofs.lemmas.Bool.{false≢true}
 use Rattle.std.proofs.lemmas.Grind.{flat_map-append}
 use Rattle.std.proofs.lemmas.List.Elements.{All-cons, All-head, All-nil, All-tail}
 use Rattle.avc_types.specs.declared.fault.Fault.{Fault}
-use Rattle.avc_types.specs.declared.fault.Fault.TheVariants as faults
 use Rattle.avc_types.specs.declared.picture.Picture.{Picture as Decoded}
 use Rattle.avc_types.specs.Results.{◌>>=◌}
 use Rattle.avc_params.specs.declared.sps.Sps.{Sps}
@@ -17,7 +16,7 @@ use Rattle.avc_slice.specs.declared.header.Header.{Header}
 use Rattle.avc_dpb.specs.declared.output.Output.{Output}
 use Rattle.avc_dpb.proofs.Conserved.{out_only_grows}
 use Rattle.avc_decoder_core.specs.History.{Entry, History, all_held, arrival, arrivals, buffer_of, decoded_picture, earlier_in_sequence, entry_at}
-use Rattle.avc_decoder_core.specs.History.{history_after_closing, history_at_opening, is_same_sps, marks_of, missing_frame, new_output, with_missing}
+use Rattle.avc_decoder_core.specs.History.{history_after_closing, is_same_sps, marks_of, missing_frame, new_output, with_missing}
 use Rattle.avc_decoder_core.specs.History.{with_picture}
 use Rattle.avc_decoder_core.specs.Pictures.{entry_pictures, held_pictures, output_pictures, pictures_at}
 use Rattle.avc_decoder_core.specs.SequenceOrder.{CanCome, EachCanCome, output_order}

@@ -1,5 +1,5 @@
 -- A unit with which decoding could start, while it runs: what is held goes out, and then decoding goes on as from a new start.
-use Rattle.std.specs.Prelude.{◌≡◌, ℕ, Bool, true, false, not, ◌==◌, ◌&&◌, ◌-◌, List, [], ◌∷◌, ◌++◌, Option, Some, None, Result, Ok, Err}
+use Rattle.std.specs.Prelude.{◌≡◌, ℕ, Bool, true, false, ◌==◌, List, [], ◌∷◌, ◌++◌, Option, Some, None, Result, Ok, Err}
 use Rattle.std.specs.Prelude.{is_some, IsTrue, refl}
 use Rattle.std.specs.Cmp.{first_so, second_so}
 use Rattle.std.specs.List.{list_all}
@@ -18,19 +18,17 @@ use Rattle.avc_params.specs.declared.set_unit.SetUnit.{SetUnit}
 use Rattle.avc_params.specs.declared.sps.Sps.{Sps}
 use Rattle.avc_slice.specs.Begins.{begins}
 use Rattle.avc_slice.specs.Header.{is_idr, is_p}
-use Rattle.avc_slice.specs.declared.header.Header.{Header}
 use Rattle.avc_slice.specs.declared.slice.Slice.{Slice}
 use Rattle.avc_slice.specs.Laws.{HeadersKeepIdrRules, KeepsIdrRules}
 use Rattle.avc_units.specs.Grouping.{Kind, slice, partition, sps, pps, boundary, other, OpenPictureFacts, is_start, kind, kind_of}
 use Rattle.avc_units.specs.Grouping.{running_step, set_units, slice_in, slice_step, step, unreadable, waiting_step}
-use Rattle.avc_units.specs.declared.step.Next.{Next}
 use Rattle.avc_units.specs.declared.step.Next.TheVariants.{Nothing, Refusal, FaultOfOpen, FaultOfOwn, Begins, Continues}
 use Rattle.avc_units.specs.declared.step.Step.{Step}
 use Rattle.avc_dpb.specs.declared.output.Output.{Output}
 use Rattle.avc_decoder_core.specs.History.{History}
 use Rattle.avc_decoder_core.specs.Pictures.{no_output_of_prior_pics}
 use Rattle.avc_decoder.specs.FirstFault.{OpenPicture, history_of}
-use Rattle.avc_decoder.specs.Events.{Outcome, Phase, State, after_closing, after_first_slice, after_next, after_unit, at_end, closed_outcome}
+use Rattle.avc_decoder.specs.Events.{Outcome, Phase, after_closing, after_first_slice, after_next, after_unit, at_end, closed_outcome}
 use Rattle.avc_decoder.specs.Events.{closing_result, events_and_held, events_from, failed_at, first_state, held_after, in_phase}
 use Rattle.avc_decoder.specs.Events.{is_running, open_picture_facts, running, sets_named, waiting}
 use Rattle.avc_decoder.specs.Laws.{StartUnitsBeginAnew, is_picture, state_through}
