@@ -31,6 +31,7 @@ use Rattle.avc_decoder.specs.FirstFault.{picture_planes, progress_on, read_of, s
 use Rattle.avc_decoder.specs.Events.{Outcome, Phase, after_closing, after_next, at_last_slice, closed_outcome, closed_picture, closing_result}
 use Rattle.avc_decoder.specs.Events.{failed_at, in_phase, is_waiting, open_picture_facts, pictures, running, with_slice}
 use Rattle.avc_decoder.specs.Laws.{is_picture}
+use Rattle.avc_decoder.specs.PictureFrames.{IsISlice}
 use Rattle.avc_decoder.specs.declared.event.Event.{Event}
 use Rattle.avc_decoder.specs.declared.event.Event.TheVariants.{Picture}
 use Rattle.avc_decoder.proofs.Cases.{by_full, chosen, facts_by, fault_by, history_by, slice_outcome, then_closing, unless_found, unless_silent}
@@ -39,13 +40,10 @@ use Rattle.avc_decoder.proofs.Cases.{by_full, chosen, facts_by, fault_by, histor
 abbrev pub picture_on : (before : History) → OpenPicture → OpenPicture
 picture_on before o = record o { before = before }
 
-abbrev IsIntra : Slice → Type 0
-IsIntra s = is_p s.header ≡ false
-
 -- It is an IDR picture, of I slices alone, and lets the pictures before it go out.
 pub record IsFirst (o : OpenPicture) : Type 0 where
   pub idr : is_idr (first_header o) ≡ true
-  pub intra : All IsIntra (slices_of o)
+  pub intra : All IsISlice (slices_of o)
   pub last_idr : is_idr (o.last).header ≡ true
   pub keeps : no_output_of_prior_pics (first_header o).marking ≡ false
 
@@ -235,7 +233,7 @@ with_more : (o : OpenPicture) (s : Slice) → IsFirst o → is_p s.header ≡ fa
     → IsFirst (record o { last = s; earlier = o.last ∷ o.earlier })
 with_more o s first intra idr = record {
   idr = first.idr;
-  intra = All-cons IsIntra s (slices_of o) intra first.intra;
+  intra = All-cons IsISlice s (slices_of o) intra first.intra;
   last_idr = idr;
   keeps = first.keeps;
 }

@@ -200,28 +200,28 @@ pub record IsClosed (o : OpenPicture) (full : History) : Type 0 where
 
 pub closed_sound : (o : OpenPicture) (full : History) → IsSoundOpen o → closing_result o ≡ Ok full → IsClosed o full
 closed_sound o full s e =
-    let base = history_of o in
     let c = has_closed o full e in
-    let closing = closing_is o.sps hd (picture_planes o base) base full c.closed in
+    let closing = closing_is o.sps (first_header o) (picture_planes o (history_of o)) (history_of o) full c.closed in
     record {
-      sound = record { each = subst EachCanCome (sym closing.0) (can_come base c.opened (is_idr hd) refl); marked = closing.1 };
-      follows = record { more = decoded_picture o.sps hd (picture_planes o base) ∷ []; is = closing.0 };
+      sound = record { each = subst EachCanCome (sym closing.0) (can_come c.opened (is_idr (first_header o)) refl); marked = closing.1 };
+      follows = record { more = decoded_picture o.sps (first_header o) (picture_planes o (history_of o)) ∷ []; is = closing.0 };
     }
   where
     hd : Header
     hd = first_header o
 
-    can_come : (base : History) → history_at_opening_of o ≡ Ok base → (b : Bool) → is_idr hd ≡ b
+    base : History
+    base = history_of o
+
+    can_come : history_at_opening_of o ≡ Ok base → (b : Bool) → is_idr hd ≡ b
         → let earlier = elim b as (λ _. History) [ true ↦ [] | false ↦ base ] in CanCome o.sps hd earlier × EachCanCome earlier
-    can_come base opened true is =
-        (record { idr = s.idr; first = λ _. refl; same = λ other. absurd (false≢true (sym other ∙ is)) }, tt)
-    can_come base opened false is = (
-      record {
-        idr = s.idr;
-        first = λ idr. absurd (false≢true (sym is ∙ idr));
-        same = λ other.
-            ap (λ set. is_same_sps set o.sps) (set_at_opening o.sps hd o.before base opened)
-            ∙ (opened_by o.sps hd o.before base opened).same other;
-      },
-      (missing_grows o.sps (opened_by o.sps hd o.before base opened).numbers o.before base s.before (opened_by o.sps hd o.before base opened).missing).sound.each,
-    )
+    can_come opened true is = (record { idr = s.idr; first = λ _. refl; same = λ other. absurd (false≢true (sym other ∙ is)) }, tt)
+    can_come opened false is =
+        let set = ap (λ set. is_same_sps set o.sps) (set_at_opening o.sps hd o.before base opened) in (
+          record {
+            idr = s.idr;
+            first = λ idr. absurd (false≢true (sym is ∙ idr));
+            same = λ other. set ∙ (opened_by o.sps hd o.before base opened).same other;
+          },
+          ((base_grows o s.before).sound).each,
+        )

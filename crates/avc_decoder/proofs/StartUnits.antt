@@ -17,7 +17,7 @@ use Rattle.avc_params.specs.declared.pps.Pps.{Pps}
 use Rattle.avc_params.specs.declared.set_unit.SetUnit.{SetUnit}
 use Rattle.avc_params.specs.declared.sps.Sps.{Sps}
 use Rattle.avc_slice.specs.Begins.{begins}
-use Rattle.avc_slice.specs.Header.{is_idr, is_p}
+use Rattle.avc_slice.specs.Header.{is_idr}
 use Rattle.avc_slice.specs.declared.slice.Slice.{Slice}
 use Rattle.avc_slice.specs.Laws.{HeadersKeepIdrRules, KeepsIdrRules}
 use Rattle.avc_units.specs.Grouping.{Kind, slice, partition, sps, pps, boundary, other, OpenPictureFacts, is_start, kind, kind_of}
@@ -32,6 +32,7 @@ use Rattle.avc_decoder.specs.Events.{Outcome, Phase, after_closing, after_first_
 use Rattle.avc_decoder.specs.Events.{closing_result, events_and_held, events_from, failed_at, first_state, held_after, in_phase}
 use Rattle.avc_decoder.specs.Events.{is_running, open_picture_facts, running, sets_named, waiting}
 use Rattle.avc_decoder.specs.Laws.{StartUnitsBeginAnew, is_picture, state_through}
+use Rattle.avc_decoder.specs.PictureFrames.{IsISlice}
 use Rattle.avc_decoder.specs.declared.event.Event.{Event}
 use Rattle.avc_decoder.specs.declared.event.Event.TheVariants.{Refused}
 use Rattle.avc_decoder.proofs.FirstPicture.{Gives, IsFirst, KeepsPicture, Owed, Paid, Still, closed_first, due, facts_first, failed_first}
@@ -210,9 +211,6 @@ beginning rules sets u e lets s read =
       keeps = lets s read;
     }
 
-abbrev IsIntra : Slice → Type 0
-IsIntra s = is_p s.header ≡ false
-
 first_owed : (output : Output) (h : History) (sets : Sets) (s : Slice) → IsBeginning sets s
     → Owed output h (after_first_slice output (sets_named sets s.header) h s) (after_first_slice output (sets_named sets s.header) [] s)
 first_owed output h sets s is = by_named (sets_named sets s.header) is.named
@@ -224,7 +222,7 @@ first_owed output h sets s is = by_named (sets_named sets s.header) is.named
         slice_first output h (record { before = []; sps = named.1; pps = named.0; last = s; earlier = [] })
         (record {
           idr = is.idr;
-          intra = All-cons IsIntra s [] ((is.intra).intra is.idr) (All-nil IsIntra);
+          intra = All-cons IsISlice s [] ((is.intra).intra is.idr) (All-nil IsISlice);
           last_idr = is.idr;
           keeps = is.keeps;
         })
