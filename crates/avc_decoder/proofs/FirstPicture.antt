@@ -1,85 +1,44 @@
--- An IDR picture that is decoded on an older history: when it is closed, or refused, what that history holds goes out, and what
--- follows does not see it.
-use Rattle.std.specs.Prelude.{◌≡◌, ℕ, zero, suc, ◌-◌, Bool, true, false, nat_lt, List, [], ◌∷◌, ◌++◌, length, map, Option, Some, None}
+-- An IDR picture that is decoded while an older sequence is held: when it is closed, or refused, what is held goes out, and then all is
+-- as where nothing was held.
+use Rattle.std.specs.Prelude.{◌≡◌, ℕ, zero, suc, ◌-◌, ◌==◌, Bool, true, false, not, ◌&&◌, nat_lt, List, [], ◌∷◌, ◌++◌, length, Option, Some, None}
 use Rattle.std.specs.Prelude.{Result, Ok, Err, IsTrue, refl, if◌then◌else◌}
 use Rattle.std.specs.List.{list_all}
-use Rattle.std.proofs.Common.{ap, sym, subst, ◌∙◌, append_assoc, append-nil}
+use Rattle.std.proofs.Common.{ap, ap₂, sym, subst, ◌∙◌, append_assoc}
 use Rattle.std.proofs.lemmas.List.{map-append}
 use Rattle.std.proofs.Math.Seq.{drop-length}
+use Rattle.avc_types.specs.Results.{◌>>=◌}
 use Rattle.avc_types.specs.declared.fault.Fault.{Fault}
 use Rattle.avc_types.specs.declared.fault.Fault.TheVariants as faults
-use Rattle.avc_types.specs.References.{Reference, result_map}
+use Rattle.avc_types.specs.References.{Reference}
+use Rattle.avc_params.specs.Limits.{size_in_mbs}
 use Rattle.avc_params.specs.Tables.{Sets}
 use Rattle.avc_params.specs.declared.pps.Pps.{Pps}
 use Rattle.avc_params.specs.declared.sps.Sps.{Sps}
-use Rattle.avc_plane.specs.Planes.{Planes, StoredFrame, moved_stored}
+use Rattle.avc_plane.specs.Planes.{Planes, StoredFrame}
 use Rattle.avc_reflist.specs.Lists.{reference_list}
 use Rattle.avc_slice.specs.Header.{is_idr, is_p}
 use Rattle.avc_slice.specs.declared.header.Header.{Header}
 use Rattle.avc_slice.specs.declared.slice.Slice.{Slice}
 use Rattle.avc_picture.specs.Decoded.{deblocked}
-use Rattle.avc_picture.specs.Laws.{PicturesNameNoPlaces}
 use Rattle.avc_picture.specs.Slices.{PictureStart, Progress, coded_of, current_of, or_empty, progress, references_in, refused, with_reference_list}
 use Rattle.avc_picture.specs.Slices.{with_slice as with_slice_read}
+use Rattle.avc_units.specs.Grouping.{OpenPictureFacts}
 use Rattle.avc_units.specs.declared.step.Next.{Next}
 use Rattle.avc_units.specs.declared.step.Next.TheVariants.{Nothing, Refusal, FaultOfOpen, FaultOfOwn, Begins, Continues}
 use Rattle.avc_units.specs.declared.step.Step.{Step}
 use Rattle.avc_dpb.specs.declared.output.Output.{Output}
-use Rattle.avc_decoder_core.specs.History.{Entry, History, buffer_of, decoded_picture, history_after_closing, history_at_opening}
-use Rattle.avc_decoder_core.specs.History.{stored_frames}
-use Rattle.avc_decoder_core.specs.Laws.{IsAnew}
-use Rattle.avc_decoder_core.specs.Pictures.{held_pictures, output_pictures, pictures_at}
-use Rattle.avc_decoder.specs.FirstFault.{OpenPicture, closed_history, first_fault, first_header, history_at_opening_of, history_of}
+use Rattle.avc_decoder_core.specs.History.{History, buffer_of, decoded_picture, earlier_in_sequence, history_after_closing, history_at_opening}
+use Rattle.avc_decoder_core.specs.History.{marks_of, stored_frames, with_order_counts, with_picture}
+use Rattle.avc_decoder_core.specs.Pictures.{held_pictures, no_output_of_prior_pics, output_at_closing, output_pictures, pictures_at, prior_output}
+use Rattle.avc_decoder_core.proofs.MissingNumbers.{opened_idr}
+use Rattle.avc_decoder.specs.FirstFault.{OpenPicture, closed_history, first_fault, first_header, first_slice, history_at_opening_of, history_of}
 use Rattle.avc_decoder.specs.FirstFault.{picture_planes, progress_on, read_of, slices_of, start_on}
-use Rattle.avc_decoder.specs.Events.{Outcome, after_next, closed_outcome, closed_picture, closing_result, failed_at, in_phase}
-use Rattle.avc_decoder.specs.Events.{open_picture_facts, pictures, running, with_slice}
+use Rattle.avc_decoder.specs.Events.{Outcome, after_closing, after_next, at_last_slice, closed_outcome, closed_picture, closing_result, failed_at}
+use Rattle.avc_decoder.specs.Events.{followed_by, in_phase, is_waiting, open_picture_facts, pictures, running, with_slice, Phase}
 use Rattle.avc_decoder.specs.Laws.{is_picture}
 use Rattle.avc_decoder.specs.declared.event.Event.{Event}
 use Rattle.avc_decoder.specs.declared.event.Event.TheVariants.{Picture}
-use Rattle.avc_decoder.proofs.Cases.{chosen, history_by, slice_outcome}
-use Rattle.avc_decoder.proofs.LaterPictures.{Follows, Gives, IsAfter, Over, SeesNoOlder, after_closing-same, closed_is, closing_grows}
-use Rattle.avc_decoder.proofs.LaterPictures.{failed-same, idr_opening_same}
-use Rattle.avc_decoder.proofs.OlderHistory.{GoesAlike, OpensAlike, facts-same, first_fault-same, history-same, over, picture_over}
-use Rattle.avc_decoder.proofs.OlderHistory.{result-same, result_over}
-
--- ---- what an entry hides
-
-seen : (older newer h : History) (e : Entry) → h ≡ newer ++ e ∷ [] → h ++ older ≡ newer ++ e ∷ older
-seen older newer h e is = ap (λ l. l ++ older) is ∙ append_assoc newer (e ∷ []) older
-
-longer : (e : Entry) (h full : History) (a : IsAfter e h) (f : Follows h full) → full ≡ (f.more ++ a.newer) ++ e ∷ []
-longer e h full a f = f.is ∙ ap (λ l. f.more ++ l) a.is ∙ sym (append_assoc f.more a.newer (e ∷ []))
-
-pub sees_of : (output : Output) → (sps0 : Sps) (h0 : Header) (older : History) → IsAnew output sps0 h0 older
-    → (planes0 : Planes)
-    → SeesNoOlder output (decoded_picture sps0 h0 planes0) older
-sees_of output sps0 h0 older anew planes0 =
-    let e = decoded_picture sps0 h0 planes0 in
-    record {
-      opening = λ sps hd h a.
-          ap (history_at_opening sps hd) (seen older a.newer h e a.is)
-          ∙ anew.opening planes0 sps hd a.newer
-          ∙ sym (ap (λ l. result_map (over older) (history_at_opening sps hd l)) a.is);
-      closing = λ sps hd planes h a.
-          ap (history_after_closing sps hd planes) (seen older a.newer h e a.is)
-          ∙ anew.closing planes0 sps hd planes a.newer
-          ∙ sym (ap (λ l. result_map (over older) (history_after_closing sps hd planes l)) a.is);
-      frames = λ h a.
-          ap stored_frames (seen older a.newer h e a.is)
-          ∙ anew.frames planes0 a.newer
-          ∙ sym (ap (λ l. map (moved_stored (length older)) (stored_frames l)) a.is);
-      held = λ h a.
-          ap (held_pictures output) (seen older a.newer h e a.is)
-          ∙ anew.held planes0 a.newer
-          ∙ sym (ap (held_pictures output) a.is);
-      going_out = λ h full a b f.
-          let is = longer e h full a f in
-          ap (λ l. output_pictures output l (full ++ older)) (seen older a.newer h e a.is)
-          ∙ ap (output_pictures output (a.newer ++ e ∷ older)) (seen older (f.more ++ a.newer) full e is)
-          ∙ anew.going_out planes0 a.newer f.more
-          ∙ sym (ap (λ l. output_pictures output l ((f.more ++ a.newer) ++ e ∷ [])) a.is)
-          ∙ sym (ap (output_pictures output h) is);
-    }
+use Rattle.avc_decoder.proofs.Cases.{by_full, chosen, facts_by, fault_by, history_by, slice_outcome, then_closing, unless_found}
 
 -- ---- I slices ask for no frames
 
@@ -120,149 +79,203 @@ frames_unseen sps pps fs gs (s ∷ slices) i =
 
 -- ---- the picture
 
--- It is an IDR picture, the first of its history, and does not see the older one.
-pub record IsFirst (output : Output) (older : History) (o : OpenPicture) : Type 0 where
-  pub none : o.before ≡ []
+-- the open picture, come to this history
+abbrev pub picture_on : History → OpenPicture → OpenPicture
+picture_on h o = record o { before = h }
+
+-- It is an IDR picture that lets the pictures before go out.
+pub record IsFirst (o : OpenPicture) : Type 0 where
   pub idr : is_idr (first_header o) ≡ true
-  pub anew : IsAnew output o.sps (first_header o) older
+  pub lets_out : no_output_of_prior_pics (first_header o).marking ≡ false
   pub intra : AllIntra (slices_of o)
   pub last_idr : is_idr (o.last).header ≡ true
 
-goes_first : (output : Output) → (older : History) (o : OpenPicture) → IsFirst output older o → GoesAlike older o []
-goes_first output older o first =
-    let same : progress_on (picture_over older o) older ≡ progress_on o [] =
-    frames_unseen o.sps o.pps (stored_frames older) (stored_frames []) (slices_of o) first.intra in
-    record {
-      fault = ap (λ (g : Progress). g.fault) same;
-      read = ap (λ (g : Progress). g.read) same;
-      mbs = ap (λ (g : Progress). g.mbs) same;
-      closed =
-          ap (λ g. history_after_closing o.sps (first_header o) (deblocked (coded_of (start_on o []) g)) older) same
-          ∙ first.anew.first_closing (picture_planes o []);
-    }
+-- whether it has order counts
+abbrev counts_of : OpenPicture → Result History Fault
+counts_of o = with_order_counts o.sps (first_header o) []
 
-opens_first : (output : Output) → (older : History) (o : OpenPicture) → IsFirst output older o → OpensAlike older o
-opens_first output older o first = record {
-  opening =
-      ap (λ h. history_at_opening o.sps (first_header o) (h ++ older)) first.none
-      ∙ first.anew.first_opening
-      ∙ ap (λ h. result_map (over older) (history_at_opening o.sps (first_header o) h)) (sym first.none);
-  going = λ h opened.
-      subst (GoesAlike older o)
-      (sym first.none ∙ idr_opening_same o.sps (first_header o) o.before h first.idr opened)
-      (goes_first output older o first);
-  staying = subst (GoesAlike older o) (sym first.none) (goes_first output older o first);
-}
+opening_is : (h : History) (o : OpenPicture) → IsFirst o → history_at_opening_of (picture_on h o) ≡ (counts_of o >>= λ none. Ok h)
+opening_is h o first = opened_idr o.sps (first_header o) h first.idr
 
--- it stands on nothing, and there on the older history
-base_none : (output : Output) → (older : History) (o : OpenPicture) → IsFirst output older o → history_of o ≡ []
-base_none output older o first =
-    by_address (first_header o).first_mb_in_slice (history_at_opening_of o)
-    (λ h opened. sym (idr_opening_same o.sps (first_header o) o.before h first.idr opened))
-    ∙ first.none
+-- it stands on that history
+pub base_is : (h : History) (o : OpenPicture) → IsFirst o → history_of (picture_on h o) ≡ h
+base_is h o first = ap (λ r. history_by (first_header o).first_mb_in_slice r h) (opening_is h o first) ∙ by_address (first_header o).first_mb_in_slice (counts_of o)
   where
-    by_address : (address : ℕ) (opened : Result History Fault) → ((h : History) → opened ≡ Ok h → h ≡ o.before)
-        → history_by address opened o.before ≡ o.before
-    by_address zero (Ok h) same = same h refl
-    by_address zero (Err f) same = refl
-    by_address (suc n) opened same = refl
+    by_address : (address : ℕ) (r : Result History Fault) → history_by address (r >>= λ none. Ok h) h ≡ h
+    by_address zero (Ok none) = refl
+    by_address zero (Err f) = refl
+    by_address (suc n) r = refl
 
-base_older : (output : Output) → (older : History) (o : OpenPicture) → IsFirst output older o
-    → history_of (picture_over older o) ≡ older
-base_older output older o first = history-same older o (opens_first output older o first) ∙ ap (λ h. h ++ older) (base_none output older o first)
+-- ---- it does not see the history
+
+progress_same : (h : History) (o : OpenPicture) → IsFirst o → progress_on (picture_on h o) h ≡ progress_on (picture_on [] o) []
+progress_same h o first = frames_unseen o.sps o.pps (stored_frames h) (stored_frames []) (slices_of o) first.intra
+
+alone : (sps : Sps) (hd : Header) (planes : Planes) (h : History) → is_idr hd ≡ true → history_after_closing sps hd planes h ≡ history_after_closing sps hd planes []
+alone sps hd planes h idr =
+    ap (λ l. marks_of (decoded_picture sps hd planes ∷ l) >>= λ m. Ok (decoded_picture sps hd planes ∷ l)) (none_before h ∙ sym (none_before []))
+  where
+    none_before : (before : History) → earlier_in_sequence hd before ≡ []
+    none_before before = ap (λ b. elim b as (λ _. History) [ true ↦ [] | false ↦ before ]) idr
+
+closed_same : (h : History) (o : OpenPicture) → IsFirst o → closed_history (picture_on h o) h ≡ closed_history (picture_on [] o) []
+closed_same h o first =
+    ap (λ g. history_after_closing o.sps (first_header o) (deblocked (coded_of (start_on o []) g)) h) (progress_same h o first)
+    ∙ alone o.sps (first_header o) (picture_planes (picture_on [] o) []) h first.idr
+
+-- its fault by how far it has come, and by what closing leaves
+abbrev later_by : OpenPicture → (closing : Bool) → Progress → Result History Fault → Option (ℕ × Fault)
+later_by o closing g r = then_closing g.fault closing (by_full (length g.mbs == size_in_mbs o.sps) (o.last).unit r)
+
+abbrev later_on : OpenPicture → (closing : Bool) → History → Option (ℕ × Fault)
+later_on o closing h = later_by o closing (progress_on o h) (closed_history o h)
+
+first_fault_same : (h : History) (o : OpenPicture) (closing : Bool) → IsFirst o → first_fault (picture_on h o) closing ≡ first_fault (picture_on [] o) closing
+first_fault_same h o closing first =
+    let address = (first_header o).first_mb_in_slice in
+    let unit = (first_slice o).unit in
+    ap (λ r. fault_by address unit r (later_on (picture_on h o) closing)) (opening_is h o first)
+    ∙ by_address address unit (counts_of o) (later_on (picture_on h o) closing) (later_on (picture_on [] o) closing)
+    (ap₂ (later_by o closing) (progress_same h o first) (closed_same h o first))
+    ∙ sym (ap (λ r. fault_by address unit r (later_on (picture_on [] o) closing)) (opening_is [] o first))
+  where
+    by_address : (address unit : ℕ) (r : Result History Fault) (a b : History → Option (ℕ × Fault)) → a h ≡ b []
+        → fault_by address unit (r >>= λ none. Ok h) a ≡ fault_by address unit (r >>= λ none. Ok []) b
+    by_address zero unit (Ok none) a b e = e
+    by_address zero unit (Err f) a b e = refl
+    by_address (suc n) unit r a b e = refl
+
+result_same : (h : History) (o : OpenPicture) → IsFirst o → closing_result (picture_on h o) ≡ closing_result (picture_on [] o)
+result_same h o first =
+    ap₂ unless_found (first_fault_same h o true first)
+    (ap (λ l. at_last_slice (picture_on h o) (closed_history (picture_on h o) l)) (base_is h o first)
+    ∙ ap (at_last_slice (picture_on h o)) (closed_same h o first)
+    ∙ by_closed (closed_history (picture_on [] o) [])
+    ∙ sym (ap (λ l. at_last_slice (picture_on [] o) (closed_history (picture_on [] o) l)) (base_is [] o first)))
+  where
+    by_closed : (r : Result History Fault) → at_last_slice (picture_on h o) r ≡ at_last_slice (picture_on [] o) r
+    by_closed (Ok full) = refl
+    by_closed (Err f) = refl
+
+pub facts_first : (h : History) (o : OpenPicture) → IsFirst o → open_picture_facts (picture_on h o) ≡ open_picture_facts (picture_on [] o)
+facts_first h o first =
+    let facts : Progress → OpenPictureFacts = λ g. facts_by (o.last).header (length g.mbs == size_in_mbs o.sps) in
+    ap (λ l. facts (progress_on (picture_on h o) l)) (base_is h o first)
+    ∙ ap facts (progress_same h o first)
+    ∙ sym (ap (λ l. facts (progress_on (picture_on [] o) l)) (base_is [] o first))
 
 -- ---- what it gives
 
--- what the older history holds
+-- what the history holds
 abbrev pub due : (output : Output) → History → List Event
-due output older = pictures (held_pictures output older)
+due output h = pictures (held_pictures output h)
 
--- It is still open, or it is not, and what the older history held has gone out.
-pub data Owed (output : Output) (older : History) (x' x : Outcome) : Type 0 where
-  Still : (o : OpenPicture) → IsFirst output older o → x'.events ≡ [] → x.events ≡ []
-      → x'.phase ≡ running older (Some (picture_over older o)) → x.phase ≡ running [] (Some o) → Owed output older x' x
-  Paid : Gives output older (due output older) x' x → Owed output older x' x
+-- This goes out first, and then all is the same.
+pub record Pays (due : List Event) (x' x : Outcome) : Type 0 where
+  pub events : x'.events ≡ due ++ x.events
+  pub phase : x'.phase ≡ x.phase
 
-pub failed_first : (output : Output) → (older : History) (unit : ℕ) (f : Fault) (read' read : ℕ)
-    → Gives output older (due output older) (failed_at output older unit f read') (failed_at output [] unit f read)
-failed_first output older unit f read' read =
-    failed-same output older older [] (due output older) unit f read read' (sym (append-nil (due output older)))
+-- It is still open, or it is not, and what the history held has gone out.
+pub data Owed (output : Output) (h : History) (x' x : Outcome) : Type 0 where
+  Still : (o : OpenPicture) → IsFirst o → x'.events ≡ [] → x.events ≡ []
+      → x'.phase ≡ running h (Some (picture_on h o)) → x.phase ≡ running [] (Some (picture_on [] o)) → Owed output h x' x
+  Paid : Pays (due output h) x' x → Owed output h x' x
 
-pictures-append : (output : Output) → (older : History) (e : Entry)
-    → output_pictures output older (e ∷ older) ≡ held_pictures output older ++ output_pictures output [] (e ∷ [])
-    → pictures (output_pictures output older (e ∷ older)) ≡ due output older ++ pictures (output_pictures output [] (e ∷ []))
-pictures-append output older e same =
-    ap pictures same ∙ map-append (λ p. Picture p) (held_pictures output older) (output_pictures output [] (e ∷ []))
+pub failed_first : (output : Output) → (h : History) (unit : ℕ) (f : Fault) (read' read : ℕ)
+    → Pays (due output h) (failed_at output h unit f read') (failed_at output [] unit f read)
+failed_first output h unit f read' read = record { events = refl; phase = refl }
 
-closed_by : (output : Output) → (older : History) (o : OpenPicture) → IsFirst output older o
-    → (r : Result History (ℕ × Fault))
-    → ((h : History) → r ≡ Ok h → closed_history o (history_of o) ≡ Ok h)
-    → Gives output older (due output older) (closed_outcome output (picture_over older o) (result_over older r)) (closed_outcome output o r)
-closed_by output older o first (Err found) closes =
-    subst (λ h'. Gives output older (due output older) (failed_at output h' found.0 found.1 0) (failed_at output (history_of o) found.0 found.1 0))
-    (sym (base_older output older o first))
-    (subst (λ h. Gives output older (due output older) (failed_at output older found.0 found.1 0) (failed_at output h found.0 found.1 0))
-    (sym (base_none output older o first))
-    (failed_first output older found.0 found.1 0 0))
-closed_by output older o first (Ok h) closes =
-    let planes = picture_planes o [] in
-    let e = decoded_picture o.sps (first_header o) planes in
-    let closed : history_after_closing o.sps (first_header o) planes [] ≡ Ok h =
-    ap (closed_history o) (sym (base_none output older o first)) ∙ closes h refl in
-    let grown = closing_grows o.sps (first_header o) planes [] h closed in
-    let is_after : IsAfter e h = record { newer = []; is = grown.1; marked = grown.0.marked } in
+-- all that is held goes out before an IDR picture
+prior_is : (output : Output) (hd : Header) (h : History) → is_idr hd ≡ true → no_output_of_prior_pics hd.marking ≡ false → prior_output output hd h ≡ held_pictures output h
+prior_is output hd h idr lets_out =
+    ap (λ b. elim b [ true ↦ (if no_output_of_prior_pics hd.marking then [] else held_pictures output h) | false ↦ [] ]) idr
+    ∙ ap (λ b. if b then [] else held_pictures output h) lets_out
+
+goes_out : (output : Output) (hd : Header) (h full : History) → is_idr hd ≡ true → no_output_of_prior_pics hd.marking ≡ false
+    → output_at_closing output hd h full ≡ held_pictures output h ++ output_pictures output [] full
+goes_out output hd h full idr lets_out =
+    ap₂ (λ a b. a ++ output_pictures output b full) (prior_is output hd h idr lets_out)
+    (ap (λ b. elim b as (λ _. History) [ true ↦ [] | false ↦ h ]) idr)
+
+closed_by : (output : Output) → (h : History) (o : OpenPicture) → IsFirst o → (r : Result History (ℕ × Fault))
+    → Pays (due output h) (closed_outcome output (picture_on h o) r) (closed_outcome output (picture_on [] o) r)
+closed_by output h o first (Err found) =
+    subst (λ l. Pays (due output h) (failed_at output l found.0 found.1 0) (failed_at output (history_of (picture_on [] o)) found.0 found.1 0))
+    (sym (base_is h o first))
+    (subst (λ l. Pays (due output h) (failed_at output h found.0 found.1 0) (failed_at output l found.0 found.1 0))
+    (sym (base_is [] o first))
+    (failed_first output h found.0 found.1 0 0))
+closed_by output h o first (Ok full) =
+    let hd = first_header o in
     record {
       events =
-          ap (λ b. pictures (output_pictures output b (h ++ older))) (base_older output older o first)
-          ∙ ap (λ l. pictures (output_pictures output older (l ++ older))) grown.1
-          ∙ pictures-append output older e (first.anew.first_output planes)
-          ∙ ap (λ l. due output older ++ pictures (output_pictures output [] l)) (sym grown.1)
-          ∙ ap (λ b. due output older ++ pictures (output_pictures output b h)) (sym (base_none output older o first));
-      phases = Over e (sees_of output o.sps (first_header o) older first.anew planes) refl is_after;
+          ap (λ l. pictures (output_at_closing output hd l full)) (base_is h o first)
+          ∙ ap pictures (goes_out output hd h full first.idr first.lets_out)
+          ∙ map-append (λ p. Picture p) (held_pictures output h) (output_pictures output [] full)
+          ∙ ap (λ ps. due output h ++ pictures ps) (sym (goes_out output hd [] full first.idr first.lets_out))
+          ∙ ap (λ l. due output h ++ pictures (output_at_closing output hd l full)) (sym (base_is [] o first));
+      phase = refl;
     }
 
-pub closed_first : (output : Output) → (older : History) (o : OpenPicture) → IsFirst output older o
-    → Gives output older (due output older) (closed_picture output (picture_over older o)) (closed_picture output o)
-closed_first output older o first =
-    subst (λ r. Gives output older (due output older) (closed_outcome output (picture_over older o) r) (closed_picture output o))
-    (sym (result-same older o (opens_first output older o first)))
-    (closed_by output older o first (closing_result o) (closed_is o))
+pub closed_first : (output : Output) → (h : History) (o : OpenPicture) → IsFirst o
+    → Pays (due output h) (closed_picture output (picture_on h o)) (closed_picture output (picture_on [] o))
+closed_first output h o first =
+    subst (λ r. Pays (due output h) (closed_outcome output (picture_on h o) r) (closed_picture output (picture_on [] o)))
+    (sym (result_same h o first))
+    (closed_by output h o first (closing_result (picture_on [] o)))
+
+-- what the unit does once it is closed
+pub after_closing_pays : (output : Output) (due : List Event) (sets : Sets) (unit : ℕ) (what : Step) (x' x : Outcome) → Pays due x' x
+    → Pays due (after_closing output sets unit what x') (after_closing output sets unit what x)
+after_closing_pays output due sets unit what x' x paid =
+    subst (λ p. Pays due (after_by (silent p) x' p) (after_by (silent x.phase) x x.phase)) (sym paid.phase) (by_silent (silent x.phase))
+  where
+    silent : Phase → Bool
+    silent p = is_waiting p && not what.even_after_fault
+
+    after_by : Bool → Outcome → Phase → Outcome
+    after_by b y p = elim b [ true ↦ y | false ↦ followed_by y (after_next output sets unit p what.next) ]
+
+    by_silent : (b : Bool) → Pays due (after_by b x' x.phase) (after_by b x x.phase)
+    by_silent true = paid
+    by_silent false = record {
+      events =
+          ap (λ es. es ++ (after_next output sets unit x.phase what.next).events) paid.events
+          ∙ append_assoc due x.events (after_next output sets unit x.phase what.next).events;
+      phase = refl;
+    }
 
 -- ---- a slice more
 
 nothing_out : (output : Output) → (h : History) → output_pictures output h h ≡ []
 nothing_out output h = ap (pictures_at h) (drop-length (buffer_of output h).out)
 
-slice_by : (output : Output) → (older : History) (o : OpenPicture) → IsFirst output older o
-    → (f : Option (ℕ × Fault)) (read' read : ℕ)
-    → Owed output older (slice_outcome output f older (picture_over older o) older read') (slice_outcome output f [] o [] read)
-slice_by output older o first (Some found) read' read = Paid (failed_first output older found.0 found.1 read' read)
-slice_by output older o first None read' read =
-    Still o first (ap pictures (nothing_out output older)) (ap pictures (nothing_out output []))
-    (ap (λ h. running (h ++ older) (Some (picture_over older o))) first.none)
-    (ap (λ h. running h (Some o)) first.none)
+slice_by : (output : Output) → (h : History) (o : OpenPicture) → IsFirst o → (f : Option (ℕ × Fault)) (read' read : ℕ)
+    → Owed output h (slice_outcome output f h (picture_on h o) h read') (slice_outcome output f [] (picture_on [] o) [] read)
+slice_by output h o first (Some found) read' read = Paid (failed_first output h found.0 found.1 read' read)
+slice_by output h o first None read' read = Still o first (ap pictures (nothing_out output h)) (ap pictures (nothing_out output [])) refl refl
 
 -- with a slice, where the histories before it are these
-pub slice_first : (output : Output) → (older : History) (o : OpenPicture) → IsFirst output older o
-    → (before' before : History) (already' already : ℕ)
-    → before' ≡ older → before ≡ []
-    → Owed output older (with_slice output before' already' (picture_over older o)) (with_slice output before already o)
-slice_first output older o first before' before already' already is' is =
-    let o' = picture_over older o in
-    let f = first_fault o false in
+pub slice_first : (output : Output) → (h : History) (o : OpenPicture) → IsFirst o → (before' before : History) (already' already : ℕ)
+    → before' ≡ h → before ≡ []
+    → Owed output h (with_slice output before' already' (picture_on h o)) (with_slice output before already (picture_on [] o))
+slice_first output h o first before' before already' already is' is =
+    let o' = picture_on h o in
+    let alone = picture_on [] o in
+    let f = first_fault alone false in
     let read' = read_of o' - already' in
-    let read = read_of o - already in
-    subst (λ f'. Owed output older (slice_outcome output f' before' o' (history_of o') read') (slice_outcome output f before o (history_of o) read))
-    (sym (first_fault-same older o false (opens_first output older o first)))
-    (subst (λ h'. Owed output older (slice_outcome output f before' o' h' read') (slice_outcome output f before o (history_of o) read))
-    (sym (base_older output older o first))
-    (subst (λ h. Owed output older (slice_outcome output f before' o' older read') (slice_outcome output f before o h read))
-    (sym (base_none output older o first))
-    (subst (λ b'. Owed output older (slice_outcome output f b' o' older read') (slice_outcome output f before o [] read))
+    let read = read_of alone - already in
+    subst (λ f'. Owed output h (slice_outcome output f' before' o' (history_of o') read') (slice_outcome output f before alone (history_of alone) read))
+    (sym (first_fault_same h o false first))
+    (subst (λ l. Owed output h (slice_outcome output f before' o' l read') (slice_outcome output f before alone (history_of alone) read))
+    (sym (base_is h o first))
+    (subst (λ l. Owed output h (slice_outcome output f before' o' h read') (slice_outcome output f before alone l read))
+    (sym (base_is [] o first))
+    (subst (λ b'. Owed output h (slice_outcome output f b' o' h read') (slice_outcome output f before alone [] read))
     (sym is')
-    (subst (λ b. Owed output older (slice_outcome output f older o' older read') (slice_outcome output f b o [] read))
+    (subst (λ b. Owed output h (slice_outcome output f h o' h read') (slice_outcome output f b alone [] read))
     (sym is)
-    (slice_by output older o first f read' read)))))
+    (slice_by output h o first f read' read)))))
 
 -- ---- a unit
 
@@ -279,62 +292,48 @@ abbrev pub KeepsPicture : (closes : Bool) → Next → Type 0
 KeepsPicture true n = Unit {0}
 KeepsPicture false n = StaysInPicture n
 
-with_more : (output : Output) → (older : History) (o : OpenPicture) (s : Slice) → IsFirst output older o
-    → is_p s.header ≡ false → is_idr s.header ≡ true
-    → IsFirst output older (record o { last = s; earlier = o.last ∷ o.earlier })
-with_more output older o s first intra idr = record {
-  none = first.none;
+with_more : (o : OpenPicture) (s : Slice) → IsFirst o → is_p s.header ≡ false → is_idr s.header ≡ true
+    → IsFirst (record o { last = s; earlier = o.last ∷ o.earlier })
+with_more o s first intra idr = record {
   idr = first.idr;
-  anew = first.anew;
+  lets_out = first.lets_out;
   intra = (intra, first.intra);
   last_idr = idr;
 }
 
-fault_first : (output : Output) → (older : History) (o : OpenPicture) → IsFirst output older o → (unit : ℕ) (f : Fault)
-    → Gives output older (due output older) (failed_at output (history_of (picture_over older o)) unit f 0) (failed_at output (history_of o) unit f 0)
-fault_first output older o first unit f =
-    subst (λ h'. Gives output older (due output older) (failed_at output h' unit f 0) (failed_at output (history_of o) unit f 0))
-    (sym (base_older output older o first))
-    (subst (λ h. Gives output older (due output older) (failed_at output older unit f 0) (failed_at output h unit f 0))
-    (sym (base_none output older o first))
-    (failed_first output older unit f 0 0))
+fault_first : (output : Output) → (h : History) (o : OpenPicture) → IsFirst o → (unit : ℕ) (f : Fault)
+    → Pays (due output h) (failed_at output (history_of (picture_on h o)) unit f 0) (failed_at output (history_of (picture_on [] o)) unit f 0)
+fault_first output h o first unit f = closed_by output h o first (Err (unit, f))
 
-next_first : (output : Output) → (older : History) (o : OpenPicture) → IsFirst output older o
-    → (sets : Sets) (unit : ℕ) (n : Next) → StaysInPicture n
-    → IsTrue (list_all is_picture (after_next output sets unit (running older (Some (picture_over older o))) n).events)
-    → Owed output older
-    (after_next output sets unit (running older (Some (picture_over older o))) n) (after_next output sets unit (running [] (Some o)) n)
-next_first output older o first sets unit Nothing stays shown = Still o first refl refl refl refl
-next_first output older o first sets unit (Refusal f) stays shown = cc
-next_first output older o first sets unit (FaultOfOpen f) stays shown = Paid (fault_first output older o first unit f)
-next_first output older o first sets unit (FaultOfOwn f) stays shown = Paid (fault_first output older o first unit f)
-next_first output older o first sets unit (Begins s) stays shown = absurd stays
-next_first output older o first sets unit (Continues s) stays shown =
-    slice_first output older (record o { last = s; earlier = o.last ∷ o.earlier }) (with_more output older o s first stays.0 stays.1)
-    (history_of (picture_over older o)) (history_of o) (read_of (picture_over older o)) (read_of o)
-    (base_older output older o first) (base_none output older o first)
+next_first : (output : Output) → (h : History) (o : OpenPicture) → IsFirst o → (sets : Sets) (unit : ℕ) (n : Next) → StaysInPicture n
+    → IsTrue (list_all is_picture (after_next output sets unit (running h (Some (picture_on h o))) n).events)
+    → Owed output h
+    (after_next output sets unit (running h (Some (picture_on h o))) n) (after_next output sets unit (running [] (Some (picture_on [] o))) n)
+next_first output h o first sets unit Nothing stays shown = Still o first refl refl refl refl
+next_first output h o first sets unit (Refusal f) stays shown = cc
+next_first output h o first sets unit (FaultOfOpen f) stays shown = Paid (fault_first output h o first unit f)
+next_first output h o first sets unit (FaultOfOwn f) stays shown = Paid (fault_first output h o first unit f)
+next_first output h o first sets unit (Begins s) stays shown = absurd stays
+next_first output h o first sets unit (Continues s) stays shown =
+    slice_first output h (record o { last = s; earlier = o.last ∷ o.earlier }) (with_more o s first stays.0 stays.1)
+    (history_of (picture_on h o)) (history_of (picture_on [] o)) (read_of (picture_on h o)) (read_of (picture_on [] o))
+    (base_is h o first) (base_is [] o first)
 
-by_closes : (output : Output) → (older : History) (closes : Bool) (next : Next) (a' a b' b : Outcome)
+by_closes : (output : Output) → (h : History) (closes : Bool) (next : Next) (a' a b' b : Outcome)
     → KeepsPicture closes next
     → IsTrue (list_all is_picture (chosen closes a' b').events)
-    → Gives output older (due output older) a' a
-    → (StaysInPicture next → IsTrue (list_all is_picture b'.events) → Owed output older b' b)
-    → Owed output older (chosen closes a' b') (chosen closes a b)
-by_closes output older true next a' a b' b keeps shown paid stays = Paid paid
-by_closes output older false next a' a b' b keeps shown paid stays = stays keeps shown
+    → Pays (due output h) a' a
+    → (StaysInPicture next → IsTrue (list_all is_picture b'.events) → Owed output h b' b)
+    → Owed output h (chosen closes a' b') (chosen closes a b)
+by_closes output h true next a' a b' b keeps shown paid stays = Paid paid
+by_closes output h false next a' a b' b keeps shown paid stays = stays keeps shown
 
-pub in_first : (output : Output) → PicturesNameNoPlaces → (older : History) (o : OpenPicture) → IsFirst output older o
-    → (sets : Sets) (unit : ℕ) (what : Step)
+pub in_first : (output : Output) → (h : History) (o : OpenPicture) → IsFirst o → (sets : Sets) (unit : ℕ) (what : Step)
     → KeepsPicture what.closes what.next
-    → IsTrue (list_all is_picture (in_phase output sets unit what (running older (Some (picture_over older o)))).events)
-    → Owed output older
-    (in_phase output sets unit what (running older (Some (picture_over older o)))) (in_phase output sets unit what (running [] (Some o)))
-in_first output names older o first sets unit what keeps shown =
-    by_closes output older what.closes what.next _ _ _ _ keeps shown
-    (after_closing-same output names older (due output older) sets unit what _ _ (closed_first output older o first))
-    (λ stays shows. next_first output older o first sets unit what.next stays shows)
-
--- its facts are the same there
-pub facts_first : (output : Output) → (older : History) (o : OpenPicture) → IsFirst output older o
-    → open_picture_facts (picture_over older o) ≡ open_picture_facts o
-facts_first output older o first = facts-same older o (opens_first output older o first)
+    → IsTrue (list_all is_picture (in_phase output sets unit what (running h (Some (picture_on h o)))).events)
+    → Owed output h
+    (in_phase output sets unit what (running h (Some (picture_on h o)))) (in_phase output sets unit what (running [] (Some (picture_on [] o))))
+in_first output h o first sets unit what keeps shown =
+    by_closes output h what.closes what.next _ _ _ _ keeps shown
+    (after_closing_pays output (due output h) sets unit what _ _ (closed_first output h o first))
+    (λ stays shows. next_first output h o first sets unit what.next stays shows)

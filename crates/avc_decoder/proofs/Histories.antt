@@ -1,5 +1,5 @@
 -- What has gone out of a history as it grows, and that each of its pictures could come.
-use Rattle.std.specs.Prelude.{◌≡◌, ℕ, zero, suc, ◌<◌, true, List, [], ◌∷◌, ◌++◌, All, length, Option, Some, None, Result, Ok, Err, refl}
+use Rattle.std.specs.Prelude.{◌≡◌, ℕ, zero, suc, ◌<◌, Bool, true, false, List, [], ◌∷◌, ◌++◌, All, length, Option, Some, None, Result, Ok, Err, refl}
 use Rattle.std.specs.Result.{is_ok}
 use Rattle.std.proofs.Common.{ap, sym, subst, ◌∙◌, append_assoc, append-nil}
 use Rattle.std.proofs.lemmas.Grind.{flat_map-append}
@@ -12,8 +12,8 @@ use Rattle.avc_slice.specs.Header.{has_idr_marking, is_idr}
 use Rattle.avc_slice.specs.declared.header.Header.{Header}
 use Rattle.avc_dpb.specs.declared.output.Output.{Output}
 use Rattle.avc_dpb.proofs.Conserved.{out_only_grows}
-use Rattle.avc_decoder_core.specs.History.{Entry, History, all_held, arrival, arrivals, buffer_of, entry_at}
-use Rattle.avc_decoder_core.specs.History.{history_at_opening, is_same_sps, marks_of, missing_frame, new_output}
+use Rattle.avc_decoder_core.specs.History.{Entry, History, all_held, arrival, arrivals, buffer_of, decoded_picture, earlier_in_sequence, entry_at}
+use Rattle.avc_decoder_core.specs.History.{history_at_opening, is_same_sps, marks_of, missing_frame, new_output, sequence_sps}
 use Rattle.avc_decoder_core.specs.Opening.{with_all_missing}
 use Rattle.avc_decoder_core.specs.Pictures.{entry_pictures, held_pictures, output_pictures, pictures_at}
 use Rattle.avc_decoder_core.specs.SequenceOrder.{CanCome, EachCanCome, output_order}
@@ -24,7 +24,7 @@ use Rattle.avc_decoder.specs.Events.{at_last_slice, closing_result}
 use Rattle.avc_decoder.specs.FirstFault.{OpenPicture, closed_history, first_fault, first_header, first_slice}
 use Rattle.avc_decoder.specs.FirstFault.{history_at_opening_of, history_of, picture_planes}
 use Rattle.avc_decoder.proofs.Cases.{history_by}
-use Rattle.avc_decoder.proofs.LaterPictures.{Follows, base_grows, closed_is, closing_grows}
+use Rattle.avc_decoder.proofs.Grown.{Follows, base_grows, closed_is, closing_leaves}
 
 -- ---- what has gone out
 
@@ -159,28 +159,45 @@ opens (suc n) opened unit before others e = cc
 opened_there : (o : OpenPicture) → first_fault o true ≡ None → history_at_opening_of o ≡ Ok (history_of o)
 opened_there o e = opens (first_header o).first_mb_in_slice (history_at_opening_of o) (first_slice o).unit o.before _ e
 
--- What closing leaves.
+-- What closing leaves: a sequence goes on, or the picture is an IDR picture and begins one.
 pub record IsClosed (o : OpenPicture) (full : History) : Type 0 where
   pub sound : IsSound full
-  pub follows : Follows (history_of o) full
+  pub goes_on : is_idr (first_header o) ≡ false → Follows (history_of o) full
+
+each_earlier : (hd : Header) (before : History) → EachCanCome before → EachCanCome (earlier_in_sequence hd before)
+each_earlier hd before each = by_idr (is_idr hd)
+  where
+    by_idr : (idr : Bool) → EachCanCome (elim idr as (λ _. History) [ true ↦ [] | false ↦ before ])
+    by_idr true = tt
+    by_idr false = each
+
+-- what stands before a picture in its sequence, by whether it is an IDR picture
+earlier_by : (hd : Header) (before : History) (idr : Bool) → is_idr hd ≡ idr
+    → earlier_in_sequence hd before ≡ elim idr as (λ _. History) [ true ↦ [] | false ↦ before ]
+earlier_by hd before idr is = ap (λ b. elim b as (λ _. History) [ true ↦ [] | false ↦ before ]) is
 
 pub closed_sound : (o : OpenPicture) (full : History) → IsSoundOpen o → closing_result o ≡ Ok full → IsClosed o full
 closed_sound o full s e =
     let hd = first_header o in
     let base = history_of o in
     let planes = picture_planes o base in
-    let closed = closing_grows o.sps hd planes base full (closed_is o full e) in
+    let closed = closing_leaves o.sps hd planes base full (closed_is o full e) in
     let opened = opened_there o (no_fault o full e) in
-    let can_come : CanCome o.sps hd base = record {
+    let can_come : CanCome o.sps hd (earlier_in_sequence hd base) = record {
       idr = s.idr;
+      first = earlier_by hd base true;
       same = λ other.
-          ap (λ set. is_same_sps set o.sps) (set_at_opening o.sps hd o.before base opened)
+          ap (λ l. is_same_sps (sequence_sps l) o.sps) (earlier_by hd base false other)
+          ∙ ap (λ set. is_same_sps set o.sps) (set_at_opening o.sps hd o.before base opened)
           ∙ (opened_by o.sps hd o.before base opened).same other;
     } in
     record {
       sound = record {
-        each = subst EachCanCome (sym closed.1) (can_come, (sound_before o s).each);
-        marked = (closed.0).marked;
+        each = subst EachCanCome (sym closed.is) (can_come, each_earlier hd base (sound_before o s).each);
+        marked = closed.marked;
       };
-      follows = (closed.0).follows;
+      goes_on = λ other. record {
+        more = decoded_picture o.sps hd planes ∷ [];
+        is = closed.is ∙ ap (λ l. decoded_picture o.sps hd planes ∷ l) (earlier_by hd base false other);
+      };
     }

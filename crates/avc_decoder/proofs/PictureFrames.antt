@@ -186,7 +186,7 @@ stays_in : (sps : Sps) (hd : Header) (h h' : History) → is_idr hd ≡ false �
 stays_in sps hd h h' other e = by_same (is_same_sps (sequence_sps h) sps) refl (sym opening ∙ e)
   where
     opening : history_at_opening sps hd h ≡ elim (is_same_sps (sequence_sps h) sps) [ false ↦ Err ParameterSetChanged | true ↦ same_set_opened sps hd h ]
-    opening = ap (λ (b : Bool). elim b as (λ _. Result History Fault) [ true ↦ with_order_counts sps hd h | false ↦ elim (is_same_sps (sequence_sps h) sps) [ false ↦ Err ParameterSetChanged | true ↦ same_set_opened sps hd h ] ]) other
+    opening = ap (λ (b : Bool). elim b as (λ _. Result History Fault) [ true ↦ with_order_counts sps hd [] >>= λ none. Ok h | false ↦ elim (is_same_sps (sequence_sps h) sps) [ false ↦ Err ParameterSetChanged | true ↦ same_set_opened sps hd h ] ]) other
 
     by_full : (r : Result History Fault) → ((full : History) → r ≡ Ok full → sequence_sps full ≡ sequence_sps h) → (r >>= λ full. with_order_counts sps hd full) ≡ Ok h' → sequence_sps h' ≡ sequence_sps h
     by_full (Ok full) stays e' = ap sequence_sps (counted_is (order_counts sps hd (pasts full)) full h' e') ∙ stays full refl

@@ -1,4 +1,4 @@
--- What the steps of decoding hand out, in each mode of output: what they stop of histories, and what has gone out then.
+-- What the steps of decoding hand out, in each mode of output: what they end of coded video sequences, and what has gone out then.
 use Rattle.std.specs.Prelude.{◌≡◌, ℕ, ◌-◌, Bool, true, false, ◌&&◌, if◌then◌else◌, List, [], ◌∷◌, ◌++◌, All, Option, Some, None}
 use Rattle.std.specs.Prelude.{Result, Ok, Err, flat_map, refl}
 use Rattle.std.proofs.Common.{ap, ap₂, sym, ◌∙◌, append_assoc, append-nil}
@@ -9,24 +9,25 @@ use Rattle.avc_types.specs.declared.picture.Picture.{Picture as Decoded}
 use Rattle.avc_params.specs.Tables.{Sets}
 use Rattle.avc_params.specs.declared.pps.Pps.{Pps}
 use Rattle.avc_params.specs.declared.sps.Sps.{Sps}
+use Rattle.avc_slice.specs.Header.{is_idr}
 use Rattle.avc_slice.specs.declared.slice.Slice.{Slice}
 use Rattle.avc_units.specs.declared.step.Next.{Next}
 use Rattle.avc_units.specs.declared.step.Next.TheVariants.{Nothing, Refusal, FaultOfOpen, FaultOfOwn, Begins, Continues}
 use Rattle.avc_dpb.specs.declared.output.Output.{Output}
 use Rattle.avc_dpb.specs.declared.output.Output.TheVariants.{Full}
 use Rattle.avc_decoder_core.specs.History.{History}
-use Rattle.avc_decoder_core.specs.Pictures.{held_pictures, output_pictures}
-use Rattle.avc_decoder.specs.EarlyOutput.{stopped}
+use Rattle.avc_decoder_core.specs.Pictures.{held_pictures, no_output_of_prior_pics, output_pictures}
+use Rattle.avc_decoder.specs.EarlyOutput.{EndedSequence, ended_by_closing, ended_sequence, stopped}
 use Rattle.avc_decoder.specs.Events.{Outcome, Phase, after_first_slice, after_next, closed_outcome, failed_at, followed_by, history_in}
 use Rattle.avc_decoder.specs.Events.{is_running, is_waiting, no_change, pictures, pictures_in, refusals_in, running, sets_named, waiting}
 use Rattle.avc_decoder.specs.Events.{with_slice}
-use Rattle.avc_decoder.specs.FirstFault.{OpenPicture, first_fault, history_of, read_of}
+use Rattle.avc_decoder.specs.FirstFault.{OpenPicture, first_fault, first_header, history_of, read_of}
 use Rattle.avc_decoder.specs.declared.event.Event.{Event}
 use Rattle.avc_decoder.specs.declared.event.Event.TheVariants.{Picture, Refused}
 use Rattle.avc_decoder.proofs.BeginningPictures.{Allows}
 use Rattle.avc_decoder.proofs.Histories.{HasItsMarking, IsClosed, IsSound, IsSoundOpen, all_of, gone, gone_and_held, gone_later}
 use Rattle.avc_decoder.proofs.Histories.{none_sound, sound_before}
-use Rattle.avc_decoder.proofs.LaterPictures.{Follows, base_grows}
+use Rattle.avc_decoder.proofs.Grown.{Follows, base_grows}
 
 -- ---- pictures and refusals among events
 
@@ -58,9 +59,27 @@ refusals_in-append (Refused unit f ∷ a) b = ap (λ l. (unit, f) ∷ l) (refusa
 
 -- ---- a step of decoding, in each mode
 
--- the pictures of histories, one history after another
-abbrev pub all_in : Output → List History → List Decoded
-all_in output hs = flat_map (all_of output) hs
+-- what goes out of a sequence that has ended: all its pictures, unless what it held was dropped
+abbrev pub of_sequence : Output → EndedSequence → List Decoded
+of_sequence output s = if s.dropped then gone output s.history else all_of output s.history
+
+-- the pictures of sequences, one after another
+abbrev pub all_in : Output → List EndedSequence → List Decoded
+all_in output hs = flat_map (of_sequence output) hs
+
+of_ended : (output : Output) (h : History) (dropped : Bool)
+    → all_in output (ended_sequence h dropped) ≡ (if dropped then gone output h else all_of output h)
+of_ended output [] true = refl
+of_ended output [] false = refl
+of_ended output (e ∷ older) dropped = append-nil (if dropped then gone output (e ∷ older) else all_of output (e ∷ older))
+
+-- its history is sound
+abbrev pub IsSoundSequence : EndedSequence → Type 0
+IsSoundSequence s = IsSound s.history
+
+ended_sound : (h : History) (dropped : Bool) → IsSound h → All IsSoundSequence (ended_sequence h dropped)
+ended_sound [] dropped s = All-nil IsSoundSequence
+ended_sound (e ∷ older) dropped s = All-cons IsSoundSequence (record { history = e ∷ older; dropped = dropped }) [] s (All-nil IsSoundSequence)
 
 -- Each picture of the phase's histories could come, and each entry was marked.
 abbrev pub Sound : Phase → Type 0
@@ -73,25 +92,25 @@ sound_in waiting s = none_sound
 sound_in (running h None) s = s
 sound_in (running h (Some o)) s = sound_before o s
 
-pub stopped_sound : (p q : Phase) → Sound p → All IsSound (stopped p q)
+pub stopped_sound : (p q : Phase) → Sound p → All IsSoundSequence (stopped p q)
 stopped_sound p q s = by_test (is_running p && is_waiting q)
   where
-    by_test : (b : Bool) → All IsSound (if b then history_in p ∷ [] else [])
-    by_test true = All-cons IsSound (history_in p) [] (sound_in p s) (All-nil IsSound)
-    by_test false = All-nil IsSound
+    by_test : (b : Bool) → All IsSoundSequence (if b then ended_sequence (history_in p) false else [])
+    by_test true = ended_sound (history_in p) false (sound_in p s)
+    by_test false = All-nil IsSoundSequence
 
--- From this phase a step with these outcomes, one in each mode, stops these histories. The phase and the refusals are the same
--- in each mode. What had gone out of the phase's history, and then what goes out with the step, is all of the histories that it
--- stops, and then what has gone out of the history that decoding goes on with.
-pub record Goes (p : Phase) (hs : List History) (x : Output → Outcome) : Type 0 where
+-- From this phase a step with these outcomes, one in each mode, ends these sequences. The phase and the refusals are the same
+-- in each mode. What had gone out of the phase's history, and then what goes out with the step, is what goes out of the sequences
+-- that it ends, and then what has gone out of the history that decoding goes on with.
+pub record Goes (p : Phase) (hs : List EndedSequence) (x : Output → Outcome) : Type 0 where
   pub same_phase : (output : Output) → (x output).phase ≡ (x Full).phase
   pub same_refusals : (output : Output) → refusals_in (x output).events ≡ refusals_in (x Full).events
   pub hands_out : (output : Output) →
       gone output (history_in p) ++ pictures_in (x output).events ≡ all_in output hs ++ gone output (history_in (x Full).phase)
-  pub each_sound : All IsSound hs
+  pub each_sound : All IsSoundSequence hs
   pub sound : Sound (x Full).phase
 
--- a step that stops only the history of this phase, if it stops it
+-- a step that ends only the sequence of this phase, if decoding stops with it
 abbrev pub Turns : (p : Phase) → (Output → Outcome) → Type 0
 Turns p x = Goes p (stopped p (x Full).phase) x
 
@@ -101,7 +120,7 @@ in_turn a b c d e f first second =
     sym (append_assoc a b e) ∙ ap (λ l. l ++ e) first ∙ append_assoc c d e ∙ ap (λ l. c ++ l) second
 
 -- two steps
-pub followed : (p q : Phase) (hs hs' : List History) (x y : Output → Outcome) → (x Full).phase ≡ q → Goes p hs x → Goes q hs' y
+pub followed : (p q : Phase) (hs hs' : List EndedSequence) (x y : Output → Outcome) → (x Full).phase ≡ q → Goes p hs x → Goes q hs' y
     → Goes p (hs ++ hs') (λ output. followed_by (x output) (y output))
 followed p q hs hs' x y is g k = record {
   same_phase = k.same_phase;
@@ -117,8 +136,8 @@ followed p q hs hs' x y is g k = record {
       ∙ in_turn out (pictures_in (x output).events) (all_in output hs) next (pictures_in (y output).events) (all_in output hs' ++ end)
       (g.hands_out output ∙ ap (λ (r : Phase). all_in output hs ++ gone output (history_in r)) is) (k.hands_out output)
       ∙ sym (append_assoc (all_in output hs) (all_in output hs') end)
-      ∙ ap (λ l. l ++ end) (sym (flat_map-append (all_of output) hs hs'));
-  each_sound = All-append IsSound hs hs' g.each_sound k.each_sound;
+      ∙ ap (λ l. l ++ end) (sym (flat_map-append (of_sequence output) hs hs'));
+  each_sound = All-append IsSoundSequence hs hs' g.each_sound k.each_sound;
   sound = k.sound;
 }
 
@@ -169,9 +188,9 @@ held_go_out p es none output =
     ∙ append-nil (held_pictures output (history_in p)))
     ∙ by_phase p
   where
-    by_history : (h : History) → gone output h ++ held_pictures output h ≡ (all_of output h ++ []) ++ []
+    by_history : (h : History) → gone output h ++ held_pictures output h ≡ all_in output (ended_sequence h false) ++ []
     by_history h =
-        gone_and_held output h ∙ sym (append-nil (all_of output h)) ∙ sym (append-nil (all_of output h ++ []))
+        gone_and_held output h ∙ sym (of_ended output h false) ∙ sym (append-nil (all_in output (ended_sequence h false)))
 
     by_phase : (q : Phase)
         → gone output (history_in q) ++ held_pictures output (history_in q) ≡ all_in output (stopped q waiting) ++ gone output []
@@ -259,10 +278,52 @@ next_turns sets unit (running h (Some o)) (Continues t) s a =
     one_slice (running h (Some o)) (read_of o) (record o { last = t; earlier = o.last ∷ o.earlier }) s
     (record { before = s.before; idr = s.idr }) (record { more = []; is = refl })
 
--- where the open picture is closed
+-- ---- where the open picture is closed
+
+-- an IDR picture begins a sequence
+begins_sequence : (h : History) (o : OpenPicture) (full : History) → IsSoundOpen o → IsSound full → (dropped : Bool)
+    → Goes (running h (Some o)) (ended_sequence (history_of o) dropped) (λ output. record {
+      events = pictures ((if dropped then [] else held_pictures output (history_of o)) ++ output_pictures output [] full);
+      phase = running full None;
+      read = 0;
+    })
+begins_sequence h o full s t dropped = record {
+  same_phase = λ output. refl;
+  same_refusals = λ output. no_refusals (prior dropped output ++ output_pictures output [] full) ∙ sym (no_refusals (prior dropped Full ++ output_pictures Full [] full));
+  hands_out = λ output.
+      ap (λ l. gone output old ++ l) (pictures_alone (prior dropped output ++ output_pictures output [] full))
+      ∙ sym (append_assoc (gone output old) (prior dropped output) (gone output full))
+      ∙ ap (λ l. l ++ gone output full) (by_dropped output dropped ∙ sym (of_ended output old dropped));
+  each_sound = ended_sound old dropped (sound_before o s);
+  sound = t;
+}
+  where
+    old : History
+    old = history_of o
+
+    prior : Bool → Output → List Decoded
+    prior b output = if b then [] else held_pictures output old
+
+    by_dropped : (output : Output) (b : Bool) → gone output old ++ prior b output ≡ (if b then gone output old else all_of output old)
+    by_dropped output true = append-nil (gone output old)
+    by_dropped output false = gone_and_held output old
+
+-- a picture is closed, with this header
+closed_by : (h : History) (o : OpenPicture) (full : History) → IsSoundOpen o → IsClosed o full → (idr : Bool) → is_idr (first_header o) ≡ idr
+    → Goes (running h (Some o))
+    (elim idr [ true ↦ ended_sequence (history_of o) (no_output_of_prior_pics (first_header o).marking) | false ↦ [] ])
+    (λ output. record {
+      events = pictures
+          ((elim idr as (λ _. List Decoded) [ true ↦ (if no_output_of_prior_pics (first_header o).marking then [] else held_pictures output (history_of o)) | false ↦ [] ])
+          ++ output_pictures output (elim idr as (λ _. History) [ true ↦ [] | false ↦ history_of o ]) full);
+      phase = running full None;
+      read = 0;
+    })
+closed_by h o full s closed true is = begins_sequence h o full s closed.sound (no_output_of_prior_pics (first_header o).marking)
+closed_by h o full s closed false is = shown (running h (Some o)) full None 0 s closed.sound (closed.goes_on is)
+
 pub closed_turns : (h : History) (o : OpenPicture) (r : Result History (ℕ × Fault)) → IsSoundOpen o
     → ((full : History) → r ≡ Ok full → IsClosed o full)
-    → Turns (running h (Some o)) (λ output. closed_outcome output o r)
-closed_turns h o (Ok full) s closed =
-    shown (running h (Some o)) full None 0 s (closed full refl).sound (closed full refl).follows
+    → Goes (running h (Some o)) (ended_by_closing o r) (λ output. closed_outcome output o r)
+closed_turns h o (Ok full) s closed = closed_by h o full s (closed full refl) (is_idr (first_header o)) refl
 closed_turns h o (Err found) s closed = failed (running h (Some o)) found.0 found.1 0 s

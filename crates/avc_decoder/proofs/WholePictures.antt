@@ -1,6 +1,7 @@
 -- Each picture that is handed out is whole.
-use Rattle.std.specs.Prelude.{◌≡◌, ℕ, zero, suc, ◌+◌, ◌-◌, ◌*◌, ◌/◌, ◌≤◌, Bool, true, false, not, ◌&&◌, List, [], ◌∷◌, ◌++◌, length, Option, Some, None, Result, Ok, Err, IfSome, slice_get, refl}
+use Rattle.std.specs.Prelude.{◌≡◌, ℕ, zero, suc, ◌+◌, ◌-◌, ◌*◌, ◌/◌, ◌≤◌, Bool, true, false, not, ◌&&◌, List, [], ◌∷◌, ◌++◌, length, Option, Some, None, Result, Ok, Err, IfSome, if◌then◌else◌, slice_get, refl}
 use Rattle.std.proofs.Common.{ap, sym, subst, ◌∙◌, arith}
+use Rattle.std.proofs.lemmas.List.{map-append}
 use Rattle.avc_types.specs.Whole.{IsWhole}
 use Rattle.avc_types.specs.declared.fault.Fault.{Fault}
 use Rattle.avc_types.specs.declared.fault.Fault.TheVariants as faults
@@ -27,8 +28,8 @@ use Rattle.avc_units.specs.declared.step.Next.TheVariants.{Nothing, Refusal, Fau
 use Rattle.avc_units.specs.declared.step.Step.{Step}
 use Rattle.avc_dpb.specs.declared.output.Output.{Output}
 use Rattle.avc_types.specs.Results.{◌>>=◌}
-use Rattle.avc_decoder_core.specs.History.{is_same_sps, with_missing, with_order_counts, Entry, decoded_picture, missing_frame, History, new_output, all_held, entry_at, pasts, marking_entries, marks_of, picture_entry, history_at_opening, history_after_closing, sequence_sps}
-use Rattle.avc_decoder_core.specs.Pictures.{crop_of, picture_of, entry_pictures, pictures_at, output_pictures, held_pictures}
+use Rattle.avc_decoder_core.specs.History.{is_same_sps, with_missing, with_order_counts, Entry, decoded_picture, earlier_in_sequence, missing_frame, History, new_output, all_held, entry_at, pasts, marking_entries, marks_of, picture_entry, history_at_opening, history_after_closing, sequence_sps, with_picture}
+use Rattle.avc_decoder_core.specs.Pictures.{crop_of, picture_of, entry_pictures, pictures_at, output_at_closing, output_pictures, held_pictures, no_output_of_prior_pics, prior_output}
 use Rattle.avc_decoder.specs.FirstFault.{OpenPicture, first_header, first_fault, history_at_opening_of, history_of, read_of, picture_planes, closed_history, start_on, slices_of}
 use Rattle.avc_decoder.specs.Events.{pictures, Phase, waiting, running, State, first_state, Outcome, failed_at, at_last_slice, closing_result, closed_outcome, closed_picture, with_slice, sets_named, both, after_first_slice, after_next_slice, base_in, history_in, after_next, is_waiting, followed_by, after_closing, in_phase, after_unit, state_after, held_after, at_end, is_running, open_facts_in, events_from, events}
 use Rattle.avc_decoder.specs.declared.event.Event.{Event}
@@ -83,22 +84,30 @@ good_opened sps hd h h' g e = by_idr (is_idr hd) e
     by_same true e' = by_numbers (missing_frame_nums (prev_ref_frame_num (marking_entries h)) sps.gaps_in_frame_num_value_allowed_flag (picture_entry sps hd)) e'
     by_same false e' = cc
 
+    by_none : (r : Result History Fault) → (r >>= λ none. Ok h) ≡ Ok h' → AllGood h'
+    by_none (Ok none) e' = subst AllGood (ok_is h h' e') g
+    by_none (Err f) e' = cc
+
     by_idr : (b : Bool) → ◌≡◌ {A = Result History Fault} (elim b [
-      | true ↦ with_order_counts sps hd h
+      | true ↦ with_order_counts sps hd [] >>= λ none. Ok h
       | false ↦ elim (is_same_sps (sequence_sps h) sps) [
         | false ↦ Err faults.ParameterSetChanged
         | true ↦ missing_frame_nums (prev_ref_frame_num (marking_entries h)) sps.gaps_in_frame_num_value_allowed_flag (picture_entry sps hd)
             >>= λ numbers. with_missing sps numbers h >>= λ full. with_order_counts sps hd full
       ]
     ]) (Ok h') → AllGood h'
-    by_idr true e' = good_counted sps hd h h' g e'
+    by_idr true e' = by_none (with_order_counts sps hd []) e'
     by_idr false e' = by_same (is_same_sps (sequence_sps h) sps) e'
 
 good_closed_by : (sps : Sps) (hd : Header) (planes : Planes) (h h' : History) → Good (decoded_picture sps hd planes) → AllGood h → history_after_closing sps hd planes h ≡ Ok h' → AllGood h'
-good_closed_by sps hd planes h h' new g e = by_marks (marks_of (decoded_picture sps hd planes ∷ h)) e
+good_closed_by sps hd planes h h' new g e = by_marks (marks_of (with_picture sps hd planes h)) e
   where
-    by_marks : (r : Result Marks Fault) → (r >>= λ m. Ok (decoded_picture sps hd planes ∷ h)) ≡ Ok h' → AllGood h'
-    by_marks (Ok m) e' = subst AllGood (ok_is (decoded_picture sps hd planes ∷ h) h' e') (new, g)
+    earlier : (idr : Bool) → AllGood (elim idr as (λ _. History) [ true ↦ [] | false ↦ h ])
+    earlier true = tt
+    earlier false = g
+
+    by_marks : (r : Result Marks Fault) → (r >>= λ m. Ok (with_picture sps hd planes h)) ≡ Ok h' → AllGood h'
+    by_marks (Ok m) e' = subst AllGood (ok_is (with_picture sps hd planes h) h' e') (new, earlier (is_idr hd))
     by_marks (Err f) e' = cc
 
 -- ---- pictures
@@ -204,11 +213,31 @@ GoodOutcome o = AllWhole o.events × GoodPhase o.phase
 failed_good : (output : Output) (h : History) (unit : ℕ) (f : Fault) (read : ℕ) → AllGood h → GoodOutcome (failed_at output h unit f read)
 failed_good output h unit f read g = (whole-append (pictures (held_pictures output h)) (Refused unit f ∷ []) (pictures_whole h (all_held output h) g) (tt, tt), tt)
 
+prior_whole : (output : Output) (hd : Header) (before : History) → AllGood before → AllWhole (pictures (prior_output output hd before))
+prior_whole output hd before g = by_idr (is_idr hd) (no_output_of_prior_pics hd.marking)
+  where
+    by_idr : (idr dropped : Bool) → AllWhole (pictures (elim idr as (λ _. List Decoded) [
+      | true ↦ (if dropped then [] else held_pictures output before)
+      | false ↦ []
+    ]))
+    by_idr false dropped = tt
+    by_idr true true = tt
+    by_idr true false = pictures_whole before (all_held output before) g
+
+closing_whole : (output : Output) (hd : Header) (before after : History) → AllGood before → AllGood after
+    → AllWhole (pictures (output_at_closing output hd before after))
+closing_whole output hd before after g g' =
+    let prior = prior_output output hd before in
+    let others = output_pictures output (earlier_in_sequence hd before) after in
+    subst AllWhole (sym (map-append (λ p. Picture p) prior others))
+    (whole-append (pictures prior) (pictures others) (prior_whole output hd before g)
+    (pictures_whole after (new_output output (earlier_in_sequence hd before) after) g'))
+
 closed_good : PicturesAreSized → (output : Output) (o : OpenPicture) → GoodOpen o → GoodOutcome (closed_picture output o)
 closed_good sized output o g = by_closing (closing_result o) (good_closing sized o g)
   where
     by_closing : (r : Result History (ℕ × Fault)) → ((h : History) → r ≡ Ok h → AllGood h) → GoodOutcome (closed_outcome output o r)
-    by_closing (Ok h) good = (pictures_whole h (new_output output (history_of o) h) (good h refl), good h refl)
+    by_closing (Ok h) good = (closing_whole output (first_header o) (history_of o) h (good_history_of o g) (good h refl), good h refl)
     by_closing (Err found) good = failed_good output (history_of o) found.0 found.1 0 (good_history_of o g)
 
 with_slice_good : (output : Output) (before : History) (already : ℕ) (o : OpenPicture) → AllGood before → GoodOpen o → GoodOutcome (with_slice output before already o)
