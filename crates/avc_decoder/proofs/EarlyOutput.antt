@@ -1,10 +1,9 @@
 -- Early output and full output hand out the same: what goes out of a stream that has ended are the pictures of its sequences.
 use Rattle.std.specs.Prelude.{◌≡◌, ℕ, Bool, true, false, not, ◌&&◌, List, [], ◌∷◌, ◌++◌, All, Some, None, Result, Ok, Err, refl}
-use Rattle.std.proofs.Common.{ap, ap₂, sym, ◌∙◌, append-nil}
+use Rattle.std.proofs.Common.{ap, ap₂, sym, subst, ◌∙◌, append-nil}
 use Rattle.std.proofs.lemmas.Grind.{flat_map-append}
 use Rattle.std.proofs.lemmas.List.Elements.{All-append, All-head, All-tail}
 use Rattle.avc_types.specs.declared.fault.Fault.{Fault}
-use Rattle.avc_types.specs.declared.picture.Picture.{Picture as Decoded}
 use Rattle.avc_annexb.specs.Units.{units}
 use Rattle.avc_annexb.specs.declared.unit.Unit.{Unit as Piece}
 use Rattle.avc_params.specs.Tables.{Sets, sets_after}
@@ -17,18 +16,18 @@ use Rattle.avc_dpb.specs.declared.output.Output.TheVariants.{Full, Early}
 use Rattle.avc_decoder_core.specs.History.{History}
 use Rattle.avc_decoder_core.specs.Pictures.{held_pictures, pictures_at}
 use Rattle.avc_decoder_core.specs.SequenceOrder.{EarlyOutputKeepsHistories}
-use Rattle.avc_decoder.specs.EarlyOutput.{DropsNothing, EarlyOutputKeepsPictures, EndedSequence, IsReorderedWithin, ended_at_closing}
-use Rattle.avc_decoder.specs.EarlyOutput.{ended_by_closing, ended_by_unit, ended_with_output, phase_after_closing, sequences, sequences_from, stopped}
+use Rattle.avc_decoder.specs.EarlyOutput.{EarlyOutputKeepsPictures, EndedSequence, IsNotDropped, IsReorderedWithin, ended_at_closing}
+use Rattle.avc_decoder.specs.EarlyOutput.{ended_by_closing, ended_by_unit, ended_sequence, phase_after_closing, sequences, sequences_from, stopped}
 use Rattle.avc_decoder.specs.Events.{Outcome, Phase, after_closing, after_next, at_end, closed_outcome, closed_picture}
 use Rattle.avc_decoder.specs.Events.{closing_result, events_and_held, events_from, followed_by, history_in, in_phase, is_running}
 use Rattle.avc_decoder.specs.Events.{open_facts_in, pictures, pictures_in, refusals_in, running, waiting}
 use Rattle.avc_decoder.specs.FirstFault.{OpenPicture}
 use Rattle.avc_decoder.specs.declared.event.Event.{Event}
 use Rattle.avc_decoder.proofs.BeginningPictures.{Allows, Fits, Known, fits}
-use Rattle.avc_decoder.proofs.Histories.{IsClosed, IsSound, IsSoundOpen, all_of, closed_sound, gone}
+use Rattle.avc_decoder.proofs.Histories.{IsClosed, IsSound, IsSoundOpen, closed_sound, gone}
 use Rattle.avc_decoder.proofs.Through.{state_of}
 use Rattle.avc_decoder.proofs.Turning.{Goes, IsSoundSequence, Sound, all_in, closed_goes, followed, held_go_out, in_turn, next_turns, no_refusals}
-use Rattle.avc_decoder.proofs.Turning.{pictures_in-append, refusals_in-append, shown_of, stays, stopped_sound}
+use Rattle.avc_decoder.proofs.Turning.{pictures_in-append, refusals_in-append, shown_by, stays, stopped_sound}
 
 -- ---- a unit
 
@@ -65,7 +64,7 @@ closing_goes sets unit what h o (Err found) s a closed = by_even what.even_after
     by_even true =
         followed (running h (Some o)) waiting ended (stopped waiting (next Full).phase) failed next refl
         (closed_goes h o (Err found) s closed) (next_turns sets unit waiting what.next tt a)
-    by_even false = closed_goes h o (Err found) s closed
+    by_even false = subst (λ ss. Goes (running h (Some o)) ss failed) (sym (append-nil ended)) (closed_goes h o (Err found) s closed)
 
 unit_goes : (sets : Sets) (unit : ℕ) (what : Step) (p : Phase) → Sound p → Fits (open_facts_in p) what
     → Goes p (ended_at_closing what.closes p ++ stopped (phase_after_closing Full what.closes p) (in_phase Full sets unit what p).phase)
@@ -92,7 +91,7 @@ unit_goes sets unit what (running h (Some o)) s fit = by_closes what.closes fit
 abbrev ended : Phase → Output → Outcome
 ended p output = record { events = at_end output p; phase = waiting; read = 0 }
 
-held_at_end : (h : History) → IsSound h → Goes (running h None) (ended_with_output h ∷ []) (ended (running h None))
+held_at_end : (h : History) → IsSound h → Goes (running h None) (ended_sequence h false) (ended (running h None))
 held_at_end h s = record {
   same_phase = λ output. refl;
   same_refusals = λ output. no_refusals (held_pictures output h) ∙ sym (no_refusals (held_pictures Full h));
@@ -129,7 +128,7 @@ end_by h o (Ok full) s closed =
     let q = running full None in
     let x : Output → Outcome = λ output. closed_outcome output o (Ok full) in
     let here = ended_by_closing o (Ok full) in
-    let last = ended_with_output full ∷ [] in
+    let last = ended_sequence full false in
     ends p (here ++ last) (λ output. followed_by (x output) (ended q output)) refl
     (followed p q here last x (ended q) refl (closed_goes h o (Ok full) s closed) (held_at_end full (closed full refl).sound))
 end_by h o (Err found) s closed =
@@ -142,7 +141,7 @@ end_by h o (Err found) s closed =
 at_end_ends : (p : Phase) → Sound p
     → Ends p (ended_at_closing true p ++ stopped (phase_after_closing Full true p) waiting) (λ output. at_end output p)
 at_end_ends waiting s = ends waiting [] (ended waiting) refl (stays waiting tt)
-at_end_ends (running h None) s = ends (running h None) (ended_with_output h ∷ []) (ended (running h None)) refl (held_at_end h s)
+at_end_ends (running h None) s = ends (running h None) (ended_sequence h false) (ended (running h None)) refl (held_at_end h s)
 at_end_ends (running h (Some o)) s = end_by h o (closing_result o) s (λ full e. closed_sound o full s e)
 
 -- ---- all units
@@ -172,7 +171,7 @@ one_more units p us hs hs' x g e = record {
       ∙ ap (λ l. out ++ l) (pictures_in-append (x output).events (others output))
       ∙ in_turn out (pictures_in (x output).events) (all_in output hs) next (pictures_in (others output)) (all_in output hs')
       (g.hands_out output) (e.hands_out output)
-      ∙ sym (flat_map-append (shown_of output) hs hs');
+      ∙ sym (flat_map-append (λ s. shown_by output s.history s.dropped) hs hs');
   each_sound = All-append IsSoundSequence hs hs' g.each_sound e.each_sound;
 }
   where
@@ -200,35 +199,27 @@ all_end rules (u ∷ us) units p s =
 
 -- ---- the law
 
-same_sequence : EarlyOutputKeepsHistories → (s : EndedSequence) → IsSoundSequence s → DropsNothing s → IsReorderedWithin s
-    → shown_of Early s ≡ shown_of Full s
-same_sequence keeps s sound none within = by_dropped s.dropped none
-  where
-    h : History
-    h = s.history
-
-    shown : Bool → Output → List Decoded
-    shown b output = elim b [ true ↦ gone output h | false ↦ all_of output h ]
-
-    by_dropped : (b : Bool) → (b ≡ true → h ≡ []) → shown b Early ≡ shown b Full
-    by_dropped true e = ap (gone Early) (e refl) ∙ sym (ap (gone Full) (e refl))
-    by_dropped false e = ap (pictures_at h) (keeps h sound.each sound.marked within)
+same_sequence : EarlyOutputKeepsHistories → (s : EndedSequence) → IsSoundSequence s → IsNotDropped s → IsReorderedWithin s
+    → shown_by Early s.history s.dropped ≡ shown_by Full s.history s.dropped
+same_sequence keeps s sound all within =
+    let h = s.history in
+    ap (shown_by Early h) all ∙ ap (pictures_at h) (keeps h sound.each sound.marked within) ∙ sym (ap (shown_by Full h) all)
 
 same_sequences : EarlyOutputKeepsHistories → (ss : List EndedSequence)
-    → All IsSoundSequence ss → All DropsNothing ss → All IsReorderedWithin ss → all_in Early ss ≡ all_in Full ss
-same_sequences keeps [] sound drops within = refl
-same_sequences keeps (s ∷ ss) sound drops within =
+    → All IsSoundSequence ss → All IsNotDropped ss → All IsReorderedWithin ss → all_in Early ss ≡ all_in Full ss
+same_sequences keeps [] sound all within = refl
+same_sequences keeps (s ∷ ss) sound all within =
     ap₂ (λ a b. a ++ b)
-    (same_sequence keeps s (All-head IsSoundSequence s ss sound) (All-head DropsNothing s ss drops) (All-head IsReorderedWithin s ss within))
-    (same_sequences keeps ss (All-tail IsSoundSequence s ss sound) (All-tail DropsNothing s ss drops) (All-tail IsReorderedWithin s ss within))
+    (same_sequence keeps s (All-head IsSoundSequence s ss sound) (All-head IsNotDropped s ss all) (All-head IsReorderedWithin s ss within))
+    (same_sequences keeps ss (All-tail IsSoundSequence s ss sound) (All-tail IsNotDropped s ss all) (All-tail IsReorderedWithin s ss within))
 
 pub early_output : HeadersKeepIdrRules → EarlyOutputKeepsHistories → EarlyOutputKeepsPictures
-early_output rules keeps max bytes drops within =
+early_output rules keeps max bytes kept within =
     let all = all_end rules (units max bytes true) [] waiting tt in
     record {
       pictures =
           all.hands_out Early
-          ∙ same_sequences keeps (sequences max bytes) all.each_sound drops within
+          ∙ same_sequences keeps (sequences max bytes) all.each_sound kept within
           ∙ sym (all.hands_out Full);
       refusals = all.same_refusals Early;
     }

@@ -6,7 +6,7 @@ use Rattle.avc_types.specs.declared.fault.Fault.{Fault}
 use Rattle.avc_types.specs.declared.fault.Fault.TheVariants as faults
 use Rattle.avc_dpb.specs.declared.output.Output.{Output}
 use Rattle.avc_dpb.specs.declared.output.Output.TheVariants.{Full, Early}
-use Rattle.avc_decoder.specs.EarlyOutput.{IsReorderedWithin, sequences}
+use Rattle.avc_decoder.specs.EarlyOutput.{EndedSequence, IsNotDropped, IsReorderedWithin, sequences}
 use Rattle.avc_annexb.specs.Units.{units}
 use Rattle.avc_units.specs.Resuming.{resumed, sets_in_force}
 use Rattle.avc_decoder.specs.Events.{events, turns}
@@ -144,29 +144,29 @@ not_early = refl
 at_end : seen_under Full picture_in_order true ≡ shown 64 256 ∷ []
 at_end = refl
 
--- the lengths of the coded video sequences that end: the first IDR picture ends one of no pictures
+-- how many pictures and missing numbers the coded video sequences of a stream have
 abbrev lengths : List ℕ → List ℕ
-lengths bytes = map (λ s. length s.history) (sequences max bytes)
+lengths bytes = map (λ (s : EndedSequence). length s.history) (sequences max bytes)
 
--- two pictures in order are one sequence, in which none is reordered
-one_sequence : lengths (picture_in_order ++ skipping) ≡ 0 ∷ 2 ∷ []
+-- two pictures in order are one sequence, in which none is reordered and none dropped
+one_sequence : lengths (picture_in_order ++ skipping) ≡ 2 ∷ []
 one_sequence = refl
 
 in_order : All IsReorderedWithin (sequences max (picture_in_order ++ skipping))
-in_order zero d lt = tt
-in_order (suc zero) d lt = (omega arith, (omega arith, tt))
-in_order (suc (suc k)) d lt = absurd (omega (arith, lt))
+in_order zero d lt = (omega arith, (omega arith, tt))
+in_order (suc k) d lt = absurd (omega (arith, lt))
 
--- an IDR picture begins another, and drops what is held by no_output_of_prior_pics_flag
-two_sequences : lengths (sets ++ pcm first_mb (of_one 64) ++ pcm next_picture (of_one 80)) ≡ 0 ∷ 1 ∷ 1 ∷ []
+not_dropped : All IsNotDropped (sequences max (picture_in_order ++ skipping))
+not_dropped zero d lt = refl
+not_dropped (suc k) d lt = absurd (omega (arith, lt))
+
+-- a fault ends a sequence, and the next IDR picture begins another
+two_sequences : lengths (sets ++ pcm first_mb (of_one 80) ++ skipping_later ++ pcm next_picture (of_one 64)) ≡ 1 ∷ 1 ∷ []
 two_sequences = refl
 
-one_dropped : map (λ s. s.dropped) (sequences max (sets ++ pcm first_mb (of_one 64) ++ pcm dropping_picture (of_one 80))) ≡ false ∷ true ∷ false ∷ []
-one_dropped = refl
-
--- a fault ends one, and the next IDR picture begins another
-ended_by_fault : lengths (sets ++ pcm first_mb (of_one 80) ++ skipping_later ++ pcm next_picture (of_one 64)) ≡ 0 ∷ 1 ∷ 0 ∷ 1 ∷ []
-ended_by_fault = refl
+-- so does the next IDR picture alone
+next_sequence : lengths (sets ++ pcm first_mb (of_one 80) ++ skipping ++ pcm next_picture (of_one 64)) ≡ 2 ∷ 1 ∷ []
+next_sequence = refl
 
 waits : seen_all (sets ++ skipping ++ pcm first_mb (of_one 80)) true ≡ shown 80 256 ∷ []
 waits = refl

@@ -18,7 +18,7 @@ use Rattle.avc_dpb.specs.declared.output.Output.{Output}
 use Rattle.avc_dpb.specs.declared.output.Output.TheVariants.{Full}
 use Rattle.avc_decoder_core.specs.History.{History}
 use Rattle.avc_decoder_core.specs.Pictures.{held_pictures, no_output_of_prior_pics, output_at_closing, output_pictures}
-use Rattle.avc_decoder.specs.EarlyOutput.{EndedSequence, ended_by_closing, ended_with_output, stopped}
+use Rattle.avc_decoder.specs.EarlyOutput.{EndedSequence, ended_by_closing, ended_sequence, stopped}
 use Rattle.avc_decoder.specs.Events.{Outcome, Phase, after_first_slice, after_next, closed_outcome, failed_at, followed_by, history_in}
 use Rattle.avc_decoder.specs.Events.{is_running, is_waiting, no_change, pictures, pictures_in, refusals_in, running, sets_named, waiting}
 use Rattle.avc_decoder.specs.Events.{with_slice}
@@ -59,16 +59,25 @@ refusals_in-append (Refused unit f ∷ a) b = ap (λ l. (unit, f) ∷ l) (refusa
 
 -- ---- a step of decoding, in each mode
 
--- what a sequence has handed out at its end: all its pictures, or without those that were dropped
-abbrev pub shown_of : Output → EndedSequence → List Decoded
-shown_of output s = elim s.dropped [ true ↦ gone output s.history | false ↦ all_of output s.history ]
+-- what a sequence with this history has handed out at its end: all its pictures, or without those that were dropped
+abbrev pub shown_by : Output → History → (dropped : Bool) → List Decoded
+shown_by output h dropped = elim dropped [ true ↦ gone output h | false ↦ all_of output h ]
 
 -- the same of sequences, one after another
 abbrev pub all_in : Output → List EndedSequence → List Decoded
-all_in output ended = flat_map (shown_of output) ended
+all_in output ended = flat_map (λ s. shown_by output s.history s.dropped) ended
+
+shown_ended : (output : Output) (h : History) (dropped : Bool) → all_in output (ended_sequence h dropped) ≡ shown_by output h dropped
+shown_ended output [] true = refl
+shown_ended output [] false = refl
+shown_ended output (e ∷ older) dropped = append-nil (shown_by output (e ∷ older) dropped)
 
 abbrev pub IsSoundSequence : EndedSequence → Type 0
 IsSoundSequence s = IsSound s.history
+
+ended_sound : (h : History) (dropped : Bool) → IsSound h → All IsSoundSequence (ended_sequence h dropped)
+ended_sound [] dropped s = All-nil IsSoundSequence
+ended_sound (e ∷ older) dropped s = All-cons IsSoundSequence (record { history = e ∷ older; dropped = dropped }) [] s (All-nil IsSoundSequence)
 
 -- Each picture of the phase's histories could come, and each entry was marked.
 abbrev pub Sound : Phase → Type 0
@@ -81,14 +90,11 @@ sound_in waiting s = none_sound
 sound_in (running h None) s = s
 sound_in (running h (Some o)) s = (base_grows o s.before).sound
 
-pub one_sound : (s : EndedSequence) → IsSound s.history → All IsSoundSequence (s ∷ [])
-one_sound s sound = All-cons IsSoundSequence s [] sound (All-nil IsSoundSequence)
-
 pub stopped_sound : (p q : Phase) → Sound p → All IsSoundSequence (stopped p q)
 stopped_sound p q s = by_test (is_running p && is_waiting q)
   where
-    by_test : (b : Bool) → All IsSoundSequence (if b then ended_with_output (history_in p) ∷ [] else [])
-    by_test true = one_sound (ended_with_output (history_in p)) (sound_in p s)
+    by_test : (b : Bool) → All IsSoundSequence (if b then ended_sequence (history_in p) false else [])
+    by_test true = ended_sound (history_in p) false (sound_in p s)
     by_test false = All-nil IsSoundSequence
 
 -- From this phase these sequences end with a step with these outcomes, one in each mode. The phase and the refusals are the same
@@ -128,7 +134,7 @@ followed p q hs hs' x y is g k = record {
       ∙ in_turn out (pictures_in (x output).events) (all_in output hs) next (pictures_in (y output).events) (all_in output hs' ++ end)
       (g.hands_out output ∙ ap (λ (r : Phase). all_in output hs ++ gone output (history_in r)) is) (k.hands_out output)
       ∙ sym (append_assoc (all_in output hs) (all_in output hs') end)
-      ∙ ap (λ l. l ++ end) (sym (flat_map-append (shown_of output) hs hs'));
+      ∙ ap (λ l. l ++ end) (sym (flat_map-append (λ s. shown_by output s.history s.dropped) hs hs'));
   each_sound = All-append IsSoundSequence hs hs' g.each_sound k.each_sound;
   sound = k.sound;
 }
@@ -180,9 +186,8 @@ held_go_out p es none output =
     ∙ append-nil (held_pictures output (history_in p)))
     ∙ by_phase p
   where
-    by_history : (h : History) → gone output h ++ held_pictures output h ≡ (all_of output h ++ []) ++ []
-    by_history h =
-        gone_and_held output h ∙ sym (append-nil (all_of output h)) ∙ sym (append-nil (all_of output h ++ []))
+    by_history : (h : History) → gone output h ++ held_pictures output h ≡ all_in output (ended_sequence h false) ++ []
+    by_history h = gone_and_held output h ∙ sym (shown_ended output h false) ∙ sym (append-nil (all_in output (ended_sequence h false)))
 
     by_phase : (q : Phase)
         → gone output (history_in q) ++ held_pictures output (history_in q) ≡ all_in output (stopped q waiting) ++ gone output []
@@ -296,19 +301,22 @@ closed_goes h o (Ok full) s closed = record {
 
     -- by whether it is an IDR picture, and drops what is held
     ended : (idr drops : Bool) → List EndedSequence
-    ended idr drops = elim idr [ true ↦ record { history = base; dropped = drops } ∷ [] | false ↦ [] ]
+    ended idr drops = elim idr [ true ↦ ended_sequence base drops | false ↦ [] ]
 
     by_idr : (idr : Bool) → All IsSoundSequence (ended idr (no_output_of_prior_pics hd.marking))
-    by_idr true = one_sound _ (base_grows o s.before).sound
+    by_idr true = ended_sound base _ (base_grows o s.before).sound
     by_idr false = All-nil IsSoundSequence
+
+    by_drops : (output : Output) (drops : Bool) → gone output base ++ (if drops then [] else held_pictures output base) ≡ shown_by output base drops
+    by_drops output true = append-nil (gone output base)
+    by_drops output false = gone_and_held output base
 
     goes_out : (output : Output) (idr drops : Bool) → Follows (elim idr as (λ _. History) [ true ↦ [] | false ↦ base ]) full
         → gone output base
         ++ ((elim idr [ true ↦ (if drops then [] else held_pictures output base) | false ↦ [] ])
         ++ output_pictures output (elim idr [ true ↦ [] | false ↦ base ]) full)
         ≡ all_in output (ended idr drops) ++ gone output full
-    goes_out output true true f = ap₂ (λ a b. a ++ b) (sym (append-nil (gone output base))) (gone_later output [] full f)
-    goes_out output true false f =
-        sym (append_assoc (gone output base) (held_pictures output base) (output_pictures output [] full))
-        ∙ ap₂ (λ a b. a ++ b) (gone_and_held output base ∙ sym (append-nil (all_of output base))) (gone_later output [] full f)
+    goes_out output true drops f =
+        sym (append_assoc (gone output base) (if drops then [] else held_pictures output base) (gone output full))
+        ∙ ap (λ l. l ++ gone output full) (by_drops output drops ∙ sym (shown_ended output base drops))
     goes_out output false drops f = gone_later output base full f

@@ -24,18 +24,19 @@ pub record EndedSequence : Type 0 where
   pub history : History
   pub dropped : Bool
 
--- one of which all pictures go out
-abbrev pub ended_with_output : History → EndedSequence
-ended_with_output h = record { history = h; dropped = false }
+-- that with this history, where it has any pictures
+abbrev pub ended_sequence : History → (dropped : Bool) → List EndedSequence
+ended_sequence [] dropped = []
+ended_sequence (e ∷ older) dropped = record { history = e ∷ older; dropped = dropped } ∷ []
 
 -- the sequence that ends where the open picture is closed: with an IDR picture that before it, at a fault its own
 abbrev pub ended_by_closing : OpenPicture → Result History (ℕ × Fault) → List EndedSequence
 ended_by_closing o (Ok h) =
     elim (is_idr (first_header o)) [
-      | true ↦ record { history = history_of o; dropped = no_output_of_prior_pics (first_header o).marking } ∷ []
+      | true ↦ ended_sequence (history_of o) (no_output_of_prior_pics (first_header o).marking)
       | false ↦ []
     ]
-ended_by_closing o (Err found) = ended_with_output (history_of o) ∷ []
+ended_by_closing o (Err found) = ended_sequence (history_of o) false
 
 -- the same, where a picture is open and is to be closed
 abbrev pub ended_at_closing : (closes : Bool) → Phase → List EndedSequence
@@ -52,7 +53,7 @@ phase_after_closing output closes (running h (Some o)) =
 
 -- the sequence in which decoding stopped, where it ran and then waits
 abbrev pub stopped : (before after : Phase) → List EndedSequence
-stopped before after = if is_running before && is_waiting after then ended_with_output (history_in before) ∷ [] else []
+stopped before after = if is_running before && is_waiting after then ended_sequence (history_in before) false else []
 
 -- The sequences that end with one unit: where it closes the open picture, and where decoding stops by what it does then.
 abbrev pub ended_by_unit : State → Unit → List EndedSequence
@@ -70,14 +71,13 @@ sequences_from s [] = ended_at_end s
 sequences_from s (u ∷ units) = ended_by_unit s u ++ sequences_from (state_after s u (after_unit s u)) units
 
 -- The coded video sequences of a whole stream, each with all its pictures and missing frame numbers: one ends where an IDR picture
--- is closed, at a fault, and with the stream. They do not depend on when pictures go out. An IDR picture with which decoding starts
--- ends one of no pictures.
+-- is closed, at a fault, and with the stream. They do not depend on when pictures go out.
 abbrev pub sequences : (max : ℕ) → (bytes : List ℕ) → List EndedSequence
 sequences max bytes = sequences_from (first_state Full) (units max bytes true)
 
--- its pictures were not dropped, if it has any (7.4.3.3)
-abbrev pub DropsNothing : EndedSequence → Type 0
-DropsNothing s = s.dropped ≡ true → s.history ≡ []
+-- none of its pictures was dropped (7.4.3.3)
+abbrev pub IsNotDropped : EndedSequence → Type 0
+IsNotDropped s = s.dropped ≡ false
 
 -- Its pictures are reordered no further than max_num_reorder_frames says (E.2.1).
 abbrev pub IsReorderedWithin : EndedSequence → Type 0
@@ -93,5 +93,5 @@ pub record HandsOutTheSame (early full : List Event) : Type 0 where
 -- Where a stream respects its numbers of reordered pictures (E.2.1) and drops none, both modes hand out the same.
 abbrev pub EarlyOutputKeepsPictures : Type 0
 EarlyOutputKeepsPictures =
-    (max : ℕ) (bytes : List ℕ) → All DropsNothing (sequences max bytes) → All IsReorderedWithin (sequences max bytes) →
+    (max : ℕ) (bytes : List ℕ) → All IsNotDropped (sequences max bytes) → All IsReorderedWithin (sequences max bytes) →
     HandsOutTheSame (events Early max bytes true) (events Full max bytes true)
