@@ -13,9 +13,9 @@ use Rattle.avc_picture.specs.Slices.{is_full, progress, planes_after_slices}
 use Rattle.avc_picture.specs.Decoding.{CanStandAt, Decoding, IsFinishAnswer, end_fault, fault_at_end}
 use Rattle.avc_dpb.specs.declared.output.Output.{Output}
 use Rattle.avc_decoder_core.specs.History.{History, history_after_closing, stored_frames}
-use Rattle.avc_decoder_core.specs.Pictures.{output_pictures}
+use Rattle.avc_decoder_core.specs.Pictures.{output_at_closing}
 use Rattle.avc_decoder_core.specs.SequenceState.{AreSizedAs, Fails, IsClosed, OpenPictureStart, SequenceState, empty_sequence, current_history}
-use Rattle.avc_decoder.specs.FirstFault.{OpenPicture, closed_history, history_of, oldest}
+use Rattle.avc_decoder.specs.FirstFault.{OpenPicture, closed_history, first_header, history_of, oldest}
 use Rattle.avc_decoder.specs.Events.{Outcome, closed_outcome, closing_result, failed_at, is_waiting, pictures}
 use Rattle.avc_decoder.specs.PictureFrames.{progress_on_history, start_with}
 use Rattle.avc_decoder.specs.States.{HasOutcome, IsOpenIn, QueueState, closed_in, open_picture_from, open_picture_of, with_events}
@@ -54,7 +54,7 @@ failed_comes : (output : Output) (x : Result History (ℕ × Fault)) (o : OpenPi
 failed_comes output x o h unit last_unit f q q' s' e is es eq = rw (e, is, es, eq) (record { fault = refl; state = record { works = (refl, refl); mode = refl; history = refl; open_picture = refl; count = refl; queue = refl } })
 
 done_comes : (output : Output) (x : Result History (ℕ × Fault)) (o : OpenPicture) (h h' : History) (last_unit : ℕ) (out : List Decoded) (q q' : QueueState) (s' : SequenceState) → x ≡ Ok h' → history_of o ≡ h
-    → s' ≡ record { history = h'; open_picture = None; frames = s'.frames; output = output; failed = false } → out ≡ output_pictures output h h' → q' ≡ with_events (pictures out) q → Closes output (closed_outcome output o x) false q last_unit s' q'
+    → s' ≡ record { history = h'; open_picture = None; frames = s'.frames; output = output; failed = false } → out ≡ output_at_closing output (first_header o) h h' → q' ≡ with_events (pictures out) q → Closes output (closed_outcome output o x) false q last_unit s' q'
 done_comes output x o h h' last_unit out q q' s' e is es eo eq =
     rw (e, is, eq, eo)
     (record {

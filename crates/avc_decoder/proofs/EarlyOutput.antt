@@ -1,6 +1,6 @@
--- Early output and full output hand out the same: what goes out of a stream that has ended are the pictures of its histories.
+-- Early output and full output hand out the same: what goes out of a stream that has ended are the pictures of its sequences.
 use Rattle.std.specs.Prelude.{◌≡◌, ℕ, Bool, true, false, not, ◌&&◌, List, [], ◌∷◌, ◌++◌, All, Some, None, Result, Ok, Err, refl}
-use Rattle.std.proofs.Common.{ap, ap₂, sym, ◌∙◌, append-nil}
+use Rattle.std.proofs.Common.{ap, ap₂, sym, subst, ◌∙◌, append-nil}
 use Rattle.std.proofs.lemmas.Grind.{flat_map-append}
 use Rattle.std.proofs.lemmas.List.Elements.{All-append, All-head, All-tail}
 use Rattle.avc_types.specs.declared.fault.Fault.{Fault}
@@ -15,19 +15,19 @@ use Rattle.avc_dpb.specs.declared.output.Output.{Output}
 use Rattle.avc_dpb.specs.declared.output.Output.TheVariants.{Full, Early}
 use Rattle.avc_decoder_core.specs.History.{History}
 use Rattle.avc_decoder_core.specs.Pictures.{held_pictures, pictures_at}
-use Rattle.avc_decoder_core.specs.SequenceOrder.{DropsNothing, EarlyOutputKeepsHistories, RespectsReorderNumbers}
-use Rattle.avc_decoder.specs.EarlyOutput.{EarlyOutputKeepsPictures, histories, histories_from, phase_after_closing, stopped}
-use Rattle.avc_decoder.specs.EarlyOutput.{stopped_by_unit}
+use Rattle.avc_decoder_core.specs.SequenceOrder.{EarlyOutputKeepsHistories}
+use Rattle.avc_decoder.specs.EarlyOutput.{EarlyOutputKeepsPictures, EndedSequence, IsNotDropped, IsReorderedWithin, ended_at_closing}
+use Rattle.avc_decoder.specs.EarlyOutput.{ended_by_closing, ended_by_unit, ended_sequence, phase_after_closing, sequences, sequences_from, stopped}
 use Rattle.avc_decoder.specs.Events.{Outcome, Phase, after_closing, after_next, at_end, closed_outcome, closed_picture}
 use Rattle.avc_decoder.specs.Events.{closing_result, events_and_held, events_from, followed_by, history_in, in_phase, is_running}
 use Rattle.avc_decoder.specs.Events.{open_facts_in, pictures, pictures_in, refusals_in, running, waiting}
 use Rattle.avc_decoder.specs.FirstFault.{OpenPicture}
 use Rattle.avc_decoder.specs.declared.event.Event.{Event}
 use Rattle.avc_decoder.proofs.BeginningPictures.{Allows, Fits, Known, fits}
-use Rattle.avc_decoder.proofs.Histories.{IsClosed, IsSound, IsSoundOpen, all_of, closed_sound, gone}
-use Rattle.avc_decoder.proofs.LaterPictures.{state_of}
-use Rattle.avc_decoder.proofs.Turning.{Goes, Sound, all_in, closed_turns, followed, held_go_out, in_turn, next_turns, no_refusals}
-use Rattle.avc_decoder.proofs.Turning.{pictures_in-append, refusals_in-append, stays, stopped_sound}
+use Rattle.avc_decoder.proofs.Histories.{IsClosed, IsSound, IsSoundOpen, closed_sound, gone}
+use Rattle.avc_decoder.proofs.Through.{state_of}
+use Rattle.avc_decoder.proofs.Turning.{Goes, IsSoundSequence, Sound, all_in, closed_goes, followed, held_go_out, in_turn, next_turns, no_refusals}
+use Rattle.avc_decoder.proofs.Turning.{pictures_in-append, refusals_in-append, shown_by, stays, stopped_sound}
 
 -- ---- a unit
 
@@ -35,22 +35,19 @@ use Rattle.avc_decoder.proofs.Turning.{pictures_in-append, refusals_in-append, s
 abbrev after_closed : (sets : Sets) (unit : ℕ) → Step → OpenPicture → Result History (ℕ × Fault) → Output → Outcome
 after_closed sets unit what o r output = after_closing output sets unit what (closed_outcome output o r)
 
-closed_goes : (sets : Sets) (unit : ℕ) (what : Step) (h : History) (o : OpenPicture) (r : Result History (ℕ × Fault))
+closing_goes : (sets : Sets) (unit : ℕ) (what : Step) (h : History) (o : OpenPicture) (r : Result History (ℕ × Fault))
     → IsSoundOpen o → Allows what.next false → ((full : History) → r ≡ Ok full → IsClosed o full)
-    → let closed = (closed_outcome Full o r).phase in
-    Goes (running h (Some o)) (stopped (running h (Some o)) closed ++ stopped closed (after_closed sets unit what o r Full).phase)
+    → Goes (running h (Some o))
+    (ended_by_closing o r ++ stopped (closed_outcome Full o r).phase (after_closed sets unit what o r Full).phase)
     (after_closed sets unit what o r)
-closed_goes sets unit what h o (Ok full) s a closed =
-    let p = running h (Some o) in
+closing_goes sets unit what h o (Ok full) s a closed =
     let q = running full None in
     let next : Output → Outcome = λ output. after_next output sets unit q what.next in
-    followed p q (stopped p q) (stopped q (next Full).phase) (λ output. closed_outcome output o (Ok full)) next refl
-    (closed_turns h o (Ok full) s closed) (next_turns sets unit q what.next (closed full refl).sound a)
-closed_goes sets unit what h o (Err found) s a closed = by_even what.even_after_fault
+    followed (running h (Some o)) q (ended_by_closing o (Ok full)) (stopped q (next Full).phase)
+    (λ output. closed_outcome output o (Ok full)) next refl
+    (closed_goes h o (Ok full) s closed) (next_turns sets unit q what.next (closed full refl).sound a)
+closing_goes sets unit what h o (Err found) s a closed = by_even what.even_after_fault
   where
-    p : Phase
-    p = running h (Some o)
-
     failed : Output → Outcome
     failed output = closed_outcome output o (Err found)
 
@@ -60,15 +57,17 @@ closed_goes sets unit what h o (Err found) s a closed = by_even what.even_after_
     with_even : Bool → Output → Outcome
     with_even b output = elim (true && not b) [ true ↦ failed output | false ↦ followed_by (failed output) (next output) ]
 
-    by_even : (b : Bool) → Goes p (stopped p waiting ++ stopped waiting (with_even b Full).phase) (with_even b)
+    ended : List EndedSequence
+    ended = ended_by_closing o (Err found)
+
+    by_even : (b : Bool) → Goes (running h (Some o)) (ended ++ stopped waiting (with_even b Full).phase) (with_even b)
     by_even true =
-        followed p waiting (stopped p waiting) (stopped waiting (next Full).phase) failed next refl
-        (closed_turns h o (Err found) s closed) (next_turns sets unit waiting what.next tt a)
-    by_even false = closed_turns h o (Err found) s closed
+        followed (running h (Some o)) waiting ended (stopped waiting (next Full).phase) failed next refl
+        (closed_goes h o (Err found) s closed) (next_turns sets unit waiting what.next tt a)
+    by_even false = subst (λ ss. Goes (running h (Some o)) ss failed) (sym (append-nil ended)) (closed_goes h o (Err found) s closed)
 
 unit_goes : (sets : Sets) (unit : ℕ) (what : Step) (p : Phase) → Sound p → Fits (open_facts_in p) what
-    → let closed = phase_after_closing Full what.closes p in
-    Goes p (stopped p closed ++ stopped closed (in_phase Full sets unit what p).phase)
+    → Goes p (ended_at_closing what.closes p ++ stopped (phase_after_closing Full what.closes p) (in_phase Full sets unit what p).phase)
     (λ output. in_phase output sets unit what p)
 unit_goes sets unit what waiting s fit = next_turns sets unit waiting what.next s fit
 unit_goes sets unit what (running h None) s fit = next_turns sets unit (running h None) what.next s fit
@@ -78,13 +77,12 @@ unit_goes sets unit what (running h (Some o)) s fit = by_closes what.closes fit
     p = running h (Some o)
 
     by_closes : (b : Bool) → Allows what.next (not b)
-        → let closed = phase_after_closing Full b p in
-        let x : Output → Outcome = λ output. elim b [
+        → let x : Output → Outcome = λ output. elim b [
           | true ↦ after_closing output sets unit what (closed_picture output o)
           | false ↦ after_next output sets unit p what.next
         ] in
-        Goes p (stopped p closed ++ stopped closed (x Full).phase) x
-    by_closes true a = closed_goes sets unit what h o (closing_result o) s a (λ full e. closed_sound o full s e)
+        Goes p (ended_at_closing b p ++ stopped (phase_after_closing Full b p) (x Full).phase) x
+    by_closes true a = closing_goes sets unit what h o (closing_result o) s a (λ full e. closed_sound o full s e)
     by_closes false a = next_turns sets unit p what.next s a
 
 -- ---- the end
@@ -93,7 +91,7 @@ unit_goes sets unit what (running h (Some o)) s fit = by_closes what.closes fit
 abbrev ended : Phase → Output → Outcome
 ended p output = record { events = at_end output p; phase = waiting; read = 0 }
 
-held_at_end : (h : History) → IsSound h → Goes (running h None) (h ∷ []) (ended (running h None))
+held_at_end : (h : History) → IsSound h → Goes (running h None) (ended_sequence h false) (ended (running h None))
 held_at_end h s = record {
   same_phase = λ output. refl;
   same_refusals = λ output. no_refusals (held_pictures output h) ∙ sym (no_refusals (held_pictures Full h));
@@ -104,13 +102,13 @@ held_at_end h s = record {
   sound = tt;
 }
 
--- What all events up to the end give: in each mode the same refusals, and the pictures of these histories.
-record Ends (p : Phase) (hs : List History) (es : Output → List Event) : Type 0 where
+-- What all events up to the end give: in each mode the same refusals, and the pictures of these sequences.
+record Ends (p : Phase) (hs : List EndedSequence) (es : Output → List Event) : Type 0 where
   same_refusals : (output : Output) → refusals_in (es output) ≡ refusals_in (es Full)
   hands_out : (output : Output) → gone output (history_in p) ++ pictures_in (es output) ≡ all_in output hs
-  each_sound : All IsSound hs
+  each_sound : All IsSoundSequence hs
 
-ends : (p : Phase) (hs : List History) (x : Output → Outcome) → (x Full).phase ≡ waiting → Goes p hs x
+ends : (p : Phase) (hs : List EndedSequence) (x : Output → Outcome) → (x Full).phase ≡ waiting → Goes p hs x
     → Ends p hs (λ output. (x output).events)
 ends p hs x is g = record {
   same_refusals = g.same_refusals;
@@ -123,27 +121,27 @@ ends p hs x is g = record {
 
 end_by : (h : History) (o : OpenPicture) (r : Result History (ℕ × Fault)) → IsSoundOpen o
     → ((full : History) → r ≡ Ok full → IsClosed o full)
-    → let closed = (closed_outcome Full o r).phase in
-    Ends (running h (Some o)) (stopped (running h (Some o)) closed ++ stopped closed waiting)
+    → Ends (running h (Some o)) (ended_by_closing o r ++ stopped (closed_outcome Full o r).phase waiting)
     (λ output. events_and_held output (closed_outcome output o r))
 end_by h o (Ok full) s closed =
     let p = running h (Some o) in
     let q = running full None in
     let x : Output → Outcome = λ output. closed_outcome output o (Ok full) in
-    ends p (stopped p q ++ full ∷ []) (λ output. followed_by (x output) (ended q output)) refl
-    (followed p q (stopped p q) (full ∷ []) x (ended q) refl
-    (closed_turns h o (Ok full) s closed) (held_at_end full (closed full refl).sound))
+    let here = ended_by_closing o (Ok full) in
+    let last = ended_sequence full false in
+    ends p (here ++ last) (λ output. followed_by (x output) (ended q output)) refl
+    (followed p q here last x (ended q) refl (closed_goes h o (Ok full) s closed) (held_at_end full (closed full refl).sound))
 end_by h o (Err found) s closed =
     let p = running h (Some o) in
     let x : Output → Outcome = λ output. closed_outcome output o (Err found) in
-    ends p (stopped p waiting ++ []) (λ output. followed_by (x output) (ended waiting output)) refl
-    (followed p waiting (stopped p waiting) [] x (ended waiting) refl (closed_turns h o (Err found) s closed) (stays waiting tt))
+    let here = ended_by_closing o (Err found) in
+    ends p (here ++ []) (λ output. followed_by (x output) (ended waiting output)) refl
+    (followed p waiting here [] x (ended waiting) refl (closed_goes h o (Err found) s closed) (stays waiting tt))
 
 at_end_ends : (p : Phase) → Sound p
-    → let closed = phase_after_closing Full true p in
-    Ends p (stopped p closed ++ stopped closed waiting) (λ output. at_end output p)
+    → Ends p (ended_at_closing true p ++ stopped (phase_after_closing Full true p) waiting) (λ output. at_end output p)
 at_end_ends waiting s = ends waiting [] (ended waiting) refl (stays waiting tt)
-at_end_ends (running h None) s = ends (running h None) (h ∷ []) (ended (running h None)) refl (held_at_end h s)
+at_end_ends (running h None) s = ends (running h None) (ended_sequence h false) (ended (running h None)) refl (held_at_end h s)
 at_end_ends (running h (Some o)) s = end_by h o (closing_result o) s (λ full e. closed_sound o full s e)
 
 -- ---- all units
@@ -157,7 +155,7 @@ abbrev events_of : (units : List SetUnit) (p : Phase) → List Piece → Output 
 events_of units p us output = events_from (state_of output units p) us true
 
 -- one step, and then the others
-one_more : (units : List SetUnit) (p : Phase) (us : List Piece) (hs hs' : List History) (x : Output → Outcome) → Goes p hs x
+one_more : (units : List SetUnit) (p : Phase) (us : List Piece) (hs hs' : List EndedSequence) (x : Output → Outcome) → Goes p hs x
     → Ends (x Full).phase hs' (events_of units (x Full).phase us)
     → Ends p (hs ++ hs') (λ output. (x output).events ++ events_of units (x output).phase us output)
 one_more units p us hs hs' x g e = record {
@@ -173,8 +171,8 @@ one_more units p us hs hs' x g e = record {
       ∙ ap (λ l. out ++ l) (pictures_in-append (x output).events (others output))
       ∙ in_turn out (pictures_in (x output).events) (all_in output hs) next (pictures_in (others output)) (all_in output hs')
       (g.hands_out output) (e.hands_out output)
-      ∙ sym (flat_map-append (all_of output) hs hs');
-  each_sound = All-append IsSound hs hs' g.each_sound e.each_sound;
+      ∙ sym (flat_map-append (λ s. shown_by output s.history s.dropped) hs hs');
+  each_sound = All-append IsSoundSequence hs hs' g.each_sound e.each_sound;
 }
   where
     others : Output → List Event
@@ -187,7 +185,7 @@ one_more units p us hs hs' x g e = record {
 
 -- the units' events, and those of the end
 all_end : HeadersKeepIdrRules → (us : List Piece) (units : List SetUnit) (p : Phase) → Sound p
-    → Ends p (histories_from (state_of Full units p) us) (events_of units p us)
+    → Ends p (sequences_from (state_of Full units p) us) (events_of units p us)
 all_end rules [] units p s = at_end_ends p s
 all_end rules (u ∷ us) units p s =
     let sets = sets_after units in
@@ -195,31 +193,33 @@ all_end rules (u ∷ us) units p s =
     let x : Output → Outcome = λ output. in_phase output sets u.index what p in
     let after = units ++ set_units (u ∷ []) in
     let goes = unit_goes sets u.index what p s (fits rules sets u (is_running p) (open_facts_in p) (known p)) in
-    let hs = histories_from (state_of Full after (x Full).phase) us in
-    one_more after p us (stopped_by_unit (state_of Full units p) u) hs x goes
+    let hs = sequences_from (state_of Full after (x Full).phase) us in
+    one_more after p us (ended_by_unit (state_of Full units p) u) hs x goes
     (all_end rules us after (x Full).phase goes.sound)
 
 -- ---- the law
 
-same_histories : EarlyOutputKeepsHistories → (hs : List History)
-    → All IsSound hs → All DropsNothing hs → All RespectsReorderNumbers hs → all_in Early hs ≡ all_in Full hs
-same_histories keeps [] sound drops respects = refl
-same_histories keeps (h ∷ hs) sound drops respects =
-    let first = All-head IsSound h hs sound in
-    let drops_first = All-head DropsNothing h hs drops in
-    let respects_first = All-head RespectsReorderNumbers h hs respects in
-    let others =
-    same_histories keeps hs (All-tail IsSound h hs sound) (All-tail DropsNothing h hs drops)
-    (All-tail RespectsReorderNumbers h hs respects) in
-    ap₂ (λ a b. a ++ b) (ap (pictures_at h) (keeps h first.each first.marked drops_first respects_first)) others
+same_sequence : EarlyOutputKeepsHistories → (s : EndedSequence) → IsSoundSequence s → IsNotDropped s → IsReorderedWithin s
+    → shown_by Early s.history s.dropped ≡ shown_by Full s.history s.dropped
+same_sequence keeps s sound all within =
+    let h = s.history in
+    ap (shown_by Early h) all ∙ ap (pictures_at h) (keeps h sound.each sound.marked within) ∙ sym (ap (shown_by Full h) all)
+
+same_sequences : EarlyOutputKeepsHistories → (ss : List EndedSequence)
+    → All IsSoundSequence ss → All IsNotDropped ss → All IsReorderedWithin ss → all_in Early ss ≡ all_in Full ss
+same_sequences keeps [] sound all within = refl
+same_sequences keeps (s ∷ ss) sound all within =
+    ap₂ (λ a b. a ++ b)
+    (same_sequence keeps s (All-head IsSoundSequence s ss sound) (All-head IsNotDropped s ss all) (All-head IsReorderedWithin s ss within))
+    (same_sequences keeps ss (All-tail IsSoundSequence s ss sound) (All-tail IsNotDropped s ss all) (All-tail IsReorderedWithin s ss within))
 
 pub early_output : HeadersKeepIdrRules → EarlyOutputKeepsHistories → EarlyOutputKeepsPictures
-early_output rules keeps max bytes drops respects =
+early_output rules keeps max bytes kept within =
     let all = all_end rules (units max bytes true) [] waiting tt in
     record {
       pictures =
           all.hands_out Early
-          ∙ same_histories keeps (histories max bytes) all.each_sound drops respects
+          ∙ same_sequences keeps (sequences max bytes) all.each_sound kept within
           ∙ sym (all.hands_out Full);
       refusals = all.same_refusals Early;
     }

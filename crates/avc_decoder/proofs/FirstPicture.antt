@@ -1,268 +1,218 @@
--- An IDR picture that is decoded on an older history: when it is closed, or refused, what that history holds goes out, and what
--- follows does not see it.
-use Rattle.std.specs.Prelude.{◌≡◌, ℕ, zero, suc, ◌-◌, Bool, true, false, nat_lt, List, [], ◌∷◌, ◌++◌, length, map, Option, Some, None}
+-- An open IDR picture: it gives what it gives with no sequence before it, and when it is closed, or refused, what that sequence holds
+-- goes out.
+use Rattle.std.specs.Prelude.{◌≡◌, ℕ, zero, suc, ◌-◌, ◌==◌, Bool, true, false, not, ◌&&◌, All, List, [], ◌∷◌, ◌++◌, length, Option, Some, None}
 use Rattle.std.specs.Prelude.{Result, Ok, Err, IsTrue, refl, if◌then◌else◌}
 use Rattle.std.specs.List.{list_all}
-use Rattle.std.proofs.Common.{ap, sym, subst, ◌∙◌, append_assoc, append-nil}
+use Rattle.std.proofs.Common.{ap, ap₂, sym, subst, ◌∙◌, append_assoc}
 use Rattle.std.proofs.lemmas.List.{map-append}
-use Rattle.std.proofs.Math.Seq.{drop-length}
+use Rattle.std.proofs.lemmas.List.Elements.{All-cons}
+use Rattle.avc_types.specs.Results.{◌>>=◌}
 use Rattle.avc_types.specs.declared.fault.Fault.{Fault}
-use Rattle.avc_types.specs.declared.fault.Fault.TheVariants as faults
-use Rattle.avc_types.specs.References.{Reference, result_map}
+use Rattle.avc_params.specs.Limits.{size_in_mbs}
 use Rattle.avc_params.specs.Tables.{Sets}
-use Rattle.avc_params.specs.declared.pps.Pps.{Pps}
 use Rattle.avc_params.specs.declared.sps.Sps.{Sps}
-use Rattle.avc_plane.specs.Planes.{Planes, StoredFrame, moved_stored}
-use Rattle.avc_reflist.specs.Lists.{reference_list}
+use Rattle.avc_plane.specs.Planes.{Planes}
+use Rattle.avc_poc.specs.OrderCounts.{Counts, order_counts}
 use Rattle.avc_slice.specs.Header.{is_idr, is_p}
 use Rattle.avc_slice.specs.declared.header.Header.{Header}
 use Rattle.avc_slice.specs.declared.slice.Slice.{Slice}
-use Rattle.avc_picture.specs.Decoded.{deblocked}
-use Rattle.avc_picture.specs.Laws.{PicturesNameNoPlaces}
-use Rattle.avc_picture.specs.Slices.{PictureStart, Progress, coded_of, current_of, or_empty, progress, references_in, refused, with_reference_list}
-use Rattle.avc_picture.specs.Slices.{with_slice as with_slice_read}
+use Rattle.avc_picture.specs.Slices.{Progress}
+use Rattle.avc_picture.proofs.OtherFrames.{planes-other, progress-other}
 use Rattle.avc_units.specs.declared.step.Next.{Next}
 use Rattle.avc_units.specs.declared.step.Next.TheVariants.{Nothing, Refusal, FaultOfOpen, FaultOfOwn, Begins, Continues}
 use Rattle.avc_units.specs.declared.step.Step.{Step}
 use Rattle.avc_dpb.specs.declared.output.Output.{Output}
-use Rattle.avc_decoder_core.specs.History.{Entry, History, buffer_of, decoded_picture, history_after_closing, history_at_opening}
-use Rattle.avc_decoder_core.specs.History.{stored_frames}
-use Rattle.avc_decoder_core.specs.Laws.{IsAnew}
-use Rattle.avc_decoder_core.specs.Pictures.{held_pictures, output_pictures, pictures_at}
-use Rattle.avc_decoder.specs.FirstFault.{OpenPicture, closed_history, first_fault, first_header, history_at_opening_of, history_of}
+use Rattle.avc_decoder_core.specs.History.{History, decoded_picture, earlier_in_sequence, history_after_closing, marks_of, pasts, stored_frames}
+use Rattle.avc_decoder_core.specs.Pictures.{held_pictures, no_output_of_prior_pics, output_at_closing, output_pictures}
+use Rattle.avc_decoder_core.proofs.MissingNumbers.{opened_idr}
+use Rattle.avc_decoder_core.proofs.Outputs.{nothing_goes_out}
+use Rattle.avc_decoder.specs.FirstFault.{OpenPicture, closed_history, first_fault, first_header, first_slice, history_at_opening_of, history_of}
 use Rattle.avc_decoder.specs.FirstFault.{picture_planes, progress_on, read_of, slices_of, start_on}
-use Rattle.avc_decoder.specs.Events.{Outcome, after_next, closed_outcome, closed_picture, closing_result, failed_at, in_phase}
-use Rattle.avc_decoder.specs.Events.{open_picture_facts, pictures, running, with_slice}
+use Rattle.avc_decoder.specs.Events.{Outcome, Phase, after_closing, after_next, at_last_slice, closed_outcome, closed_picture, closing_result}
+use Rattle.avc_decoder.specs.Events.{failed_at, in_phase, is_waiting, open_picture_facts, pictures, running, with_slice}
 use Rattle.avc_decoder.specs.Laws.{is_picture}
+use Rattle.avc_decoder.specs.PictureFrames.{IsISlice}
 use Rattle.avc_decoder.specs.declared.event.Event.{Event}
 use Rattle.avc_decoder.specs.declared.event.Event.TheVariants.{Picture}
-use Rattle.avc_decoder.proofs.Cases.{chosen, history_by, slice_outcome}
-use Rattle.avc_decoder.proofs.LaterPictures.{Follows, Gives, IsAfter, Over, SeesNoOlder, after_closing-same, closed_is, closing_grows}
-use Rattle.avc_decoder.proofs.LaterPictures.{failed-same, idr_opening_same}
-use Rattle.avc_decoder.proofs.OlderHistory.{GoesAlike, OpensAlike, facts-same, first_fault-same, history-same, over, picture_over}
-use Rattle.avc_decoder.proofs.OlderHistory.{result-same, result_over}
+use Rattle.avc_decoder.proofs.Cases.{by_full, chosen, facts_by, fault_by, history_by, slice_outcome, then_closing, unless_found, unless_silent}
 
--- ---- what an entry hides
+-- the same picture, where it came to this history
+abbrev pub picture_on : (before : History) → OpenPicture → OpenPicture
+picture_on before o = record o { before = before }
 
-seen : (older newer h : History) (e : Entry) → h ≡ newer ++ e ∷ [] → h ++ older ≡ newer ++ e ∷ older
-seen older newer h e is = ap (λ l. l ++ older) is ∙ append_assoc newer (e ∷ []) older
-
-longer : (e : Entry) (h full : History) (a : IsAfter e h) (f : Follows h full) → full ≡ (f.more ++ a.newer) ++ e ∷ []
-longer e h full a f = f.is ∙ ap (λ l. f.more ++ l) a.is ∙ sym (append_assoc f.more a.newer (e ∷ []))
-
-pub sees_of : (output : Output) → (sps0 : Sps) (h0 : Header) (older : History) → IsAnew output sps0 h0 older
-    → (planes0 : Planes)
-    → SeesNoOlder output (decoded_picture sps0 h0 planes0) older
-sees_of output sps0 h0 older anew planes0 =
-    let e = decoded_picture sps0 h0 planes0 in
-    record {
-      opening = λ sps hd h a.
-          ap (history_at_opening sps hd) (seen older a.newer h e a.is)
-          ∙ anew.opening planes0 sps hd a.newer
-          ∙ sym (ap (λ l. result_map (over older) (history_at_opening sps hd l)) a.is);
-      closing = λ sps hd planes h a.
-          ap (history_after_closing sps hd planes) (seen older a.newer h e a.is)
-          ∙ anew.closing planes0 sps hd planes a.newer
-          ∙ sym (ap (λ l. result_map (over older) (history_after_closing sps hd planes l)) a.is);
-      frames = λ h a.
-          ap stored_frames (seen older a.newer h e a.is)
-          ∙ anew.frames planes0 a.newer
-          ∙ sym (ap (λ l. map (moved_stored (length older)) (stored_frames l)) a.is);
-      held = λ h a.
-          ap (held_pictures output) (seen older a.newer h e a.is)
-          ∙ anew.held planes0 a.newer
-          ∙ sym (ap (held_pictures output) a.is);
-      going_out = λ h full a b f.
-          let is = longer e h full a f in
-          ap (λ l. output_pictures output l (full ++ older)) (seen older a.newer h e a.is)
-          ∙ ap (output_pictures output (a.newer ++ e ∷ older)) (seen older (f.more ++ a.newer) full e is)
-          ∙ anew.going_out planes0 a.newer f.more
-          ∙ sym (ap (λ l. output_pictures output l ((f.more ++ a.newer) ++ e ∷ [])) a.is)
-          ∙ sym (ap (output_pictures output h) is);
-    }
-
--- ---- I slices ask for no frames
-
-abbrev pub AllIntra : List Slice → Type 0
-AllIntra [] = Unit {0}
-AllIntra (s ∷ slices) = (is_p s.header ≡ false) × AllIntra slices
-
-abbrev start_with : Sps → Pps → List StoredFrame → PictureStart
-start_with sps pps frames = record { sps = sps; pps = pps; frames = frames }
-
-abbrev list_by : PictureStart → Header → Bool → Result (List (Option Reference)) Fault
-list_by p h b = elim b [ true ↦ reference_list (current_of p h) h.active_count (or_empty h.modifications) (references_in p) | false ↦ Ok [] ]
-
-abbrev with_listed : Slice → (before listed : Progress) → Progress
-with_listed s before listed =
-    elim before.fault [
-      | Some f ↦ before
-      | None ↦
-          if nat_lt (length before.mbs) (s.header).first_mb_in_slice then refused before s.unit faults.MissingMacroblocks
-          else if nat_lt (s.header).first_mb_in_slice (length before.mbs) then refused before s.unit faults.ArbitrarySliceOrder
-          else listed
-    ]
-
-slice-same : (sps : Sps) (pps : Pps) (fs gs : List StoredFrame) (s : Slice) (g : Progress) → is_p s.header ≡ false
-    → with_slice_read (start_with sps pps fs) s g ≡ with_slice_read (start_with sps pps gs) s g
-slice-same sps pps fs gs s g intra =
-    let p = start_with sps pps fs in
-    let q = start_with sps pps gs in
-    ap (λ b. with_listed s g (with_reference_list p s g (list_by p s.header b))) intra
-    ∙ sym (ap (λ b. with_listed s g (with_reference_list q s g (list_by q s.header b))) intra)
-
-frames_unseen : (sps : Sps) (pps : Pps) (fs gs : List StoredFrame) (slices : List Slice) → AllIntra slices
-    → progress (start_with sps pps fs) slices ≡ progress (start_with sps pps gs) slices
-frames_unseen sps pps fs gs [] i = refl
-frames_unseen sps pps fs gs (s ∷ slices) i =
-    ap (with_slice_read (start_with sps pps fs) s) (frames_unseen sps pps fs gs slices i.1)
-    ∙ slice-same sps pps fs gs s (progress (start_with sps pps gs) slices) i.0
-
--- ---- the picture
-
--- It is an IDR picture, the first of its history, and does not see the older one.
-pub record IsFirst (output : Output) (older : History) (o : OpenPicture) : Type 0 where
-  pub none : o.before ≡ []
+-- It is an IDR picture, of I slices alone, and lets the pictures before it go out.
+pub record IsFirst (o : OpenPicture) : Type 0 where
   pub idr : is_idr (first_header o) ≡ true
-  pub anew : IsAnew output o.sps (first_header o) older
-  pub intra : AllIntra (slices_of o)
+  pub intra : All IsISlice (slices_of o)
   pub last_idr : is_idr (o.last).header ≡ true
+  pub keeps : no_output_of_prior_pics (first_header o).marking ≡ false
 
-goes_first : (output : Output) → (older : History) (o : OpenPicture) → IsFirst output older o → GoesAlike older o []
-goes_first output older o first =
-    let same : progress_on (picture_over older o) older ≡ progress_on o [] =
-    frames_unseen o.sps o.pps (stored_frames older) (stored_frames []) (slices_of o) first.intra in
-    record {
-      fault = ap (λ (g : Progress). g.fault) same;
-      read = ap (λ (g : Progress). g.read) same;
-      mbs = ap (λ (g : Progress). g.mbs) same;
-      closed =
-          ap (λ g. history_after_closing o.sps (first_header o) (deblocked (coded_of (start_on o []) g)) older) same
-          ∙ first.anew.first_closing (picture_planes o []);
-    }
+-- ---- it opens alike
 
-opens_first : (output : Output) → (older : History) (o : OpenPicture) → IsFirst output older o → OpensAlike older o
-opens_first output older o first = record {
-  opening =
-      ap (λ h. history_at_opening o.sps (first_header o) (h ++ older)) first.none
-      ∙ first.anew.first_opening
-      ∙ ap (λ h. result_map (over older) (history_at_opening o.sps (first_header o) h)) (sym first.none);
-  going = λ h opened.
-      subst (GoesAlike older o)
-      (sym first.none ∙ idr_opening_same o.sps (first_header o) o.before h first.idr opened)
-      (goes_first output older o first);
-  staying = subst (GoesAlike older o) (sym first.none) (goes_first output older o first);
-}
+abbrev none_counted : Result Counts Fault → Result History Fault
+none_counted counts = counts >>= λ c. Ok []
 
--- it stands on nothing, and there on the older history
-base_none : (output : Output) → (older : History) (o : OpenPicture) → IsFirst output older o → history_of o ≡ []
-base_none output older o first =
-    by_address (first_header o).first_mb_in_slice (history_at_opening_of o)
-    (λ h opened. sym (idr_opening_same o.sps (first_header o) o.before h first.idr opened))
-    ∙ first.none
-  where
-    by_address : (address : ℕ) (opened : Result History Fault) → ((h : History) → opened ≡ Ok h → h ≡ o.before)
-        → history_by address opened o.before ≡ o.before
-    by_address zero (Ok h) same = same h refl
-    by_address zero (Err f) same = refl
-    by_address (suc n) opened same = refl
+abbrev opened_on : Result Counts Fault → History → Result History Fault
+opened_on counts before = none_counted counts >>= λ none. Ok before
 
-base_older : (output : Output) → (older : History) (o : OpenPicture) → IsFirst output older o
-    → history_of (picture_over older o) ≡ older
-base_older output older o first = history-same older o (opens_first output older o first) ∙ ap (λ h. h ++ older) (base_none output older o first)
+abbrev counts_of : OpenPicture → Result Counts Fault
+counts_of o = order_counts o.sps (first_header o) (pasts [])
+
+opens : (before : History) (o : OpenPicture) → IsFirst o → history_at_opening_of (picture_on before o) ≡ opened_on (counts_of o) before
+opens before o first = opened_idr o.sps (first_header o) before first.idr
+
+stands_by : (before : History) (address : ℕ) (counts : Result Counts Fault) → history_by address (opened_on counts before) before ≡ before
+stands_by before zero (Ok c) = refl
+stands_by before zero (Err f) = refl
+stands_by before (suc n) counts = refl
+
+-- it stands on that history
+pub stands_on : (before : History) (o : OpenPicture) → IsFirst o → history_of (picture_on before o) ≡ before
+stands_on before o first =
+    ap (λ r. history_by (first_header o).first_mb_in_slice r before) (opens before o first)
+    ∙ stands_by before (first_header o).first_mb_in_slice (counts_of o)
+
+-- ---- its slices and its end are the same
+
+progress_same : (before : History) (o : OpenPicture) → IsFirst o → progress_on (picture_on before o) before ≡ progress_on (picture_on [] o) []
+progress_same before o first = progress-other (start_on o before) (stored_frames []) (slices_of o) first.intra
+
+earlier_none : (h : Header) (before : History) → is_idr h ≡ true → earlier_in_sequence h before ≡ []
+earlier_none h before idr = ap (λ (b : Bool). elim b as (λ _. History) [ true ↦ [] | false ↦ before ]) idr
+
+abbrev closed_behind : Sps → Header → Planes → (earlier : History) → Result History Fault
+closed_behind sps h planes earlier = marks_of (decoded_picture sps h planes ∷ earlier) >>= λ m. Ok (decoded_picture sps h planes ∷ earlier)
+
+closed_same : (before : History) (o : OpenPicture) → IsFirst o
+    → closed_history (picture_on before o) before ≡ closed_history (picture_on [] o) []
+closed_same before o first =
+    let h = first_header o in
+    ap (λ planes. history_after_closing o.sps h planes before) (planes-other (start_on o before) (stored_frames []) (slices_of o) first.intra)
+    ∙ ap (closed_behind o.sps h (picture_planes o [])) (earlier_none h before first.idr ∙ sym (earlier_none h [] first.idr))
+
+-- ---- its first fault
+
+fault_same : (before : History) (address unit : ℕ) (counts : Result Counts Fault) (a b : History → Option (ℕ × Fault)) → a before ≡ b []
+    → fault_by address unit (opened_on counts before) a ≡ fault_by address unit (opened_on counts []) b
+fault_same before zero unit (Ok c) a b e = e
+fault_same before zero unit (Err f) a b e = refl
+fault_same before (suc n) unit counts a b e = refl
+
+-- by how far it is decoded, and by what closing gives
+abbrev fault_by_parts : OpenPicture → (closing : Bool) → Progress → Result History Fault → Option (ℕ × Fault)
+fault_by_parts o closing g closed = then_closing g.fault closing (by_full (length g.mbs == size_in_mbs o.sps) (o.last).unit closed)
+
+abbrev later_fault : OpenPicture → (closing : Bool) → History → Option (ℕ × Fault)
+later_fault o closing h = fault_by_parts o closing (progress_on o h) (closed_history o h)
+
+first_fault_same : (before : History) (o : OpenPicture) (closing : Bool) → IsFirst o
+    → first_fault (picture_on before o) closing ≡ first_fault (picture_on [] o) closing
+first_fault_same before o closing first =
+    let address = (first_header o).first_mb_in_slice in
+    let unit = (first_slice o).unit in
+    let a = later_fault (picture_on before o) closing in
+    let b = later_fault (picture_on [] o) closing in
+    ap (λ r. fault_by address unit r a) (opens before o first)
+    ∙ fault_same before address unit (counts_of o) a b
+    (ap₂ (fault_by_parts o closing) (progress_same before o first) (closed_same before o first))
+    ∙ sym (ap (λ r. fault_by address unit r b) (opens [] o first))
+
+result_same : (before : History) (o : OpenPicture) → IsFirst o → closing_result (picture_on before o) ≡ closing_result (picture_on [] o)
+result_same before o first =
+    ap₂ (λ f c. unless_found f (at_last_slice o c)) (first_fault_same before o true first)
+    (ap (closed_history (picture_on before o)) (stands_on before o first)
+    ∙ closed_same before o first
+    ∙ sym (ap (closed_history (picture_on [] o)) (stands_on [] o first)))
+
+-- what the next unit asks of it
+pub facts_first : (before : History) (o : OpenPicture) → IsFirst o → open_picture_facts (picture_on before o) ≡ open_picture_facts (picture_on [] o)
+facts_first before o first =
+    let facts : Progress → _ = λ g. facts_by (o.last).header (length g.mbs == size_in_mbs o.sps) in
+    ap (λ h. facts (progress_on (picture_on before o) h)) (stands_on before o first)
+    ∙ ap facts (progress_same before o first)
+    ∙ sym (ap (λ h. facts (progress_on (picture_on [] o) h)) (stands_on [] o first))
 
 -- ---- what it gives
 
--- what the older history holds
-abbrev pub due : (output : Output) → History → List Event
-due output older = pictures (held_pictures output older)
+-- what the sequence before holds
+abbrev pub due : Output → History → List Event
+due output before = pictures (held_pictures output before)
 
--- It is still open, or it is not, and what the older history held has gone out.
-pub data Owed (output : Output) (older : History) (x' x : Outcome) : Type 0 where
-  Still : (o : OpenPicture) → IsFirst output older o → x'.events ≡ [] → x.events ≡ []
-      → x'.phase ≡ running older (Some (picture_over older o)) → x.phase ≡ running [] (Some o) → Owed output older x' x
-  Paid : Gives output older (due output older) x' x → Owed output older x' x
+-- These events go out first, and all else is the same.
+pub record Gives (front : List Event) (x' x : Outcome) : Type 0 where
+  pub events : x'.events ≡ front ++ x.events
+  pub phase : x'.phase ≡ x.phase
 
-pub failed_first : (output : Output) → (older : History) (unit : ℕ) (f : Fault) (read' read : ℕ)
-    → Gives output older (due output older) (failed_at output older unit f read') (failed_at output [] unit f read)
-failed_first output older unit f read' read =
-    failed-same output older older [] (due output older) unit f read read' (sym (append-nil (due output older)))
+-- The picture is still open, or it is not, and what the sequence before held has gone out.
+pub data Owed (output : Output) (before : History) (x' x : Outcome) : Type 0 where
+  Still : (o : OpenPicture) → IsFirst o → x'.events ≡ [] → x.events ≡ []
+      → x'.phase ≡ running before (Some (picture_on before o)) → x.phase ≡ running [] (Some (picture_on [] o)) → Owed output before x' x
+  Paid : Gives (due output before) x' x → Owed output before x' x
 
-pictures-append : (output : Output) → (older : History) (e : Entry)
-    → output_pictures output older (e ∷ older) ≡ held_pictures output older ++ output_pictures output [] (e ∷ [])
-    → pictures (output_pictures output older (e ∷ older)) ≡ due output older ++ pictures (output_pictures output [] (e ∷ []))
-pictures-append output older e same =
-    ap pictures same ∙ map-append (λ p. Picture p) (held_pictures output older) (output_pictures output [] (e ∷ []))
+pub failed_first : (output : Output) (before : History) (unit : ℕ) (f : Fault) (read' read : ℕ)
+    → Gives (due output before) (failed_at output before unit f read') (failed_at output [] unit f read)
+failed_first output before unit f read' read = record { events = refl; phase = refl }
 
-closed_by : (output : Output) → (older : History) (o : OpenPicture) → IsFirst output older o
-    → (r : Result History (ℕ × Fault))
-    → ((h : History) → r ≡ Ok h → closed_history o (history_of o) ≡ Ok h)
-    → Gives output older (due output older) (closed_outcome output (picture_over older o) (result_over older r)) (closed_outcome output o r)
-closed_by output older o first (Err found) closes =
-    subst (λ h'. Gives output older (due output older) (failed_at output h' found.0 found.1 0) (failed_at output (history_of o) found.0 found.1 0))
-    (sym (base_older output older o first))
-    (subst (λ h. Gives output older (due output older) (failed_at output older found.0 found.1 0) (failed_at output h found.0 found.1 0))
-    (sym (base_none output older o first))
-    (failed_first output older found.0 found.1 0 0))
-closed_by output older o first (Ok h) closes =
-    let planes = picture_planes o [] in
-    let e = decoded_picture o.sps (first_header o) planes in
-    let closed : history_after_closing o.sps (first_header o) planes [] ≡ Ok h =
-    ap (closed_history o) (sym (base_none output older o first)) ∙ closes h refl in
-    let grown = closing_grows o.sps (first_header o) planes [] h closed in
-    let is_after : IsAfter e h = record { newer = []; is = grown.1; marked = grown.0.marked } in
+fault_first : (output : Output) (before : History) (o : OpenPicture) → IsFirst o → (unit : ℕ) (f : Fault)
+    → Gives (due output before) (failed_at output (history_of (picture_on before o)) unit f 0) (failed_at output (history_of (picture_on [] o)) unit f 0)
+fault_first output before o first unit f = rw (stands_on before o first, stands_on [] o first) (failed_first output before unit f 0 0)
+
+-- What is held goes out where an IDR picture lets it.
+closed_out : (output : Output) (before full : History) (idr drops : Bool) → idr ≡ true → drops ≡ false
+    → let out : History → List Event = λ h.
+    pictures ((elim idr [ true ↦ (if drops then [] else held_pictures output h) | false ↦ [] ])
+    ++ output_pictures output (elim idr [ true ↦ [] | false ↦ h ]) full) in
+    out before ≡ due output before ++ out []
+closed_out output before full true false e f = map-append (λ p. Picture p) (held_pictures output before) (output_pictures output [] full)
+closed_out output before full true true e f = cc
+closed_out output before full false drops e f = cc
+
+closed_by : (output : Output) (before : History) (o : OpenPicture) → IsFirst o → (r : Result History (ℕ × Fault))
+    → Gives (due output before) (closed_outcome output (picture_on before o) r) (closed_outcome output (picture_on [] o) r)
+closed_by output before o first (Err found) = fault_first output before o first found.0 found.1
+closed_by output before o first (Ok full) =
+    let h = first_header o in
+    let out : History → List Event = λ base. pictures (output_at_closing output h base full) in
     record {
       events =
-          ap (λ b. pictures (output_pictures output b (h ++ older))) (base_older output older o first)
-          ∙ ap (λ l. pictures (output_pictures output older (l ++ older))) grown.1
-          ∙ pictures-append output older e (first.anew.first_output planes)
-          ∙ ap (λ l. due output older ++ pictures (output_pictures output [] l)) (sym grown.1)
-          ∙ ap (λ b. due output older ++ pictures (output_pictures output b h)) (sym (base_none output older o first));
-      phases = Over e (sees_of output o.sps (first_header o) older first.anew planes) refl is_after;
+          ap out (stands_on before o first)
+          ∙ closed_out output before full (is_idr h) (no_output_of_prior_pics h.marking) first.idr first.keeps
+          ∙ ap (λ es. due output before ++ es) (sym (ap out (stands_on [] o first)));
+      phase = refl;
     }
 
-pub closed_first : (output : Output) → (older : History) (o : OpenPicture) → IsFirst output older o
-    → Gives output older (due output older) (closed_picture output (picture_over older o)) (closed_picture output o)
-closed_first output older o first =
-    subst (λ r. Gives output older (due output older) (closed_outcome output (picture_over older o) r) (closed_picture output o))
-    (sym (result-same older o (opens_first output older o first)))
-    (closed_by output older o first (closing_result o) (closed_is o))
+pub closed_first : (output : Output) (before : History) (o : OpenPicture) → IsFirst o
+    → Gives (due output before) (closed_picture output (picture_on before o)) (closed_picture output (picture_on [] o))
+closed_first output before o first =
+    subst (λ r. Gives (due output before) (closed_outcome output (picture_on before o) r) (closed_picture output (picture_on [] o)))
+    (sym (result_same before o first))
+    (closed_by output before o first (closing_result (picture_on [] o)))
 
 -- ---- a slice more
 
-nothing_out : (output : Output) → (h : History) → output_pictures output h h ≡ []
-nothing_out output h = ap (pictures_at h) (drop-length (buffer_of output h).out)
-
-slice_by : (output : Output) → (older : History) (o : OpenPicture) → IsFirst output older o
-    → (f : Option (ℕ × Fault)) (read' read : ℕ)
-    → Owed output older (slice_outcome output f older (picture_over older o) older read') (slice_outcome output f [] o [] read)
-slice_by output older o first (Some found) read' read = Paid (failed_first output older found.0 found.1 read' read)
-slice_by output older o first None read' read =
-    Still o first (ap pictures (nothing_out output older)) (ap pictures (nothing_out output []))
-    (ap (λ h. running (h ++ older) (Some (picture_over older o))) first.none)
-    (ap (λ h. running h (Some o)) first.none)
+slice_by : (output : Output) (before : History) (o : OpenPicture) → IsFirst o → (f : Option (ℕ × Fault)) (read' read : ℕ)
+    → Owed output before
+    (slice_outcome output f before (picture_on before o) before read') (slice_outcome output f [] (picture_on [] o) [] read)
+slice_by output before o first (Some found) read' read = Paid (failed_first output before found.0 found.1 read' read)
+slice_by output before o first None read' read =
+    Still o first (ap pictures (sym (nothing_goes_out output before))) (ap pictures (sym (nothing_goes_out output []))) refl refl
 
 -- with a slice, where the histories before it are these
-pub slice_first : (output : Output) → (older : History) (o : OpenPicture) → IsFirst output older o
-    → (before' before : History) (already' already : ℕ)
-    → before' ≡ older → before ≡ []
-    → Owed output older (with_slice output before' already' (picture_over older o)) (with_slice output before already o)
-slice_first output older o first before' before already' already is' is =
-    let o' = picture_over older o in
-    let f = first_fault o false in
+pub slice_first : (output : Output) (before : History) (o : OpenPicture) → IsFirst o
+    → (base' base : History) (already' already : ℕ) → base' ≡ before → base ≡ []
+    → Owed output before (with_slice output base' already' (picture_on before o)) (with_slice output base already (picture_on [] o))
+slice_first output before o first base' base already' already is' is =
+    let o' = picture_on before o in
+    let alone = picture_on [] o in
+    let fault = first_fault alone false in
     let read' = read_of o' - already' in
-    let read = read_of o - already in
-    subst (λ f'. Owed output older (slice_outcome output f' before' o' (history_of o') read') (slice_outcome output f before o (history_of o) read))
-    (sym (first_fault-same older o false (opens_first output older o first)))
-    (subst (λ h'. Owed output older (slice_outcome output f before' o' h' read') (slice_outcome output f before o (history_of o) read))
-    (sym (base_older output older o first))
-    (subst (λ h. Owed output older (slice_outcome output f before' o' older read') (slice_outcome output f before o h read))
-    (sym (base_none output older o first))
-    (subst (λ b'. Owed output older (slice_outcome output f b' o' older read') (slice_outcome output f before o [] read))
-    (sym is')
-    (subst (λ b. Owed output older (slice_outcome output f older o' older read') (slice_outcome output f b o [] read))
-    (sym is)
-    (slice_by output older o first f read' read)))))
+    let read = read_of alone - already in
+    subst (λ x'. Owed output before x' (with_slice output base already alone))
+    (sym (ap (λ f. slice_outcome output f base' o' (history_of o') read') (first_fault_same before o false first)
+    ∙ ap₂ (λ b now. slice_outcome output fault b o' now read') is' (stands_on before o first)))
+    (subst (λ x. Owed output before (slice_outcome output fault before o' before read') x)
+    (sym (ap₂ (λ b now. slice_outcome output fault b alone now read) is (stands_on [] o first)))
+    (slice_by output before o first fault read' read))
 
 -- ---- a unit
 
@@ -279,62 +229,64 @@ abbrev pub KeepsPicture : (closes : Bool) → Next → Type 0
 KeepsPicture true n = Unit {0}
 KeepsPicture false n = StaysInPicture n
 
-with_more : (output : Output) → (older : History) (o : OpenPicture) (s : Slice) → IsFirst output older o
-    → is_p s.header ≡ false → is_idr s.header ≡ true
-    → IsFirst output older (record o { last = s; earlier = o.last ∷ o.earlier })
-with_more output older o s first intra idr = record {
-  none = first.none;
+with_more : (o : OpenPicture) (s : Slice) → IsFirst o → is_p s.header ≡ false → is_idr s.header ≡ true
+    → IsFirst (record o { last = s; earlier = o.last ∷ o.earlier })
+with_more o s first intra idr = record {
   idr = first.idr;
-  anew = first.anew;
-  intra = (intra, first.intra);
+  intra = All-cons IsISlice s (slices_of o) intra first.intra;
   last_idr = idr;
+  keeps = first.keeps;
 }
 
-fault_first : (output : Output) → (older : History) (o : OpenPicture) → IsFirst output older o → (unit : ℕ) (f : Fault)
-    → Gives output older (due output older) (failed_at output (history_of (picture_over older o)) unit f 0) (failed_at output (history_of o) unit f 0)
-fault_first output older o first unit f =
-    subst (λ h'. Gives output older (due output older) (failed_at output h' unit f 0) (failed_at output (history_of o) unit f 0))
-    (sym (base_older output older o first))
-    (subst (λ h. Gives output older (due output older) (failed_at output older unit f 0) (failed_at output h unit f 0))
-    (sym (base_none output older o first))
-    (failed_first output older unit f 0 0))
+next_first : (output : Output) (before : History) (o : OpenPicture) → IsFirst o → (sets : Sets) (unit : ℕ) (n : Next) → StaysInPicture n
+    → IsTrue (list_all is_picture (after_next output sets unit (running before (Some (picture_on before o))) n).events)
+    → Owed output before
+    (after_next output sets unit (running before (Some (picture_on before o))) n)
+    (after_next output sets unit (running [] (Some (picture_on [] o))) n)
+next_first output before o first sets unit Nothing stays shown = Still o first refl refl refl refl
+next_first output before o first sets unit (Refusal f) stays shown = cc
+next_first output before o first sets unit (FaultOfOpen f) stays shown = Paid (fault_first output before o first unit f)
+next_first output before o first sets unit (FaultOfOwn f) stays shown = Paid (fault_first output before o first unit f)
+next_first output before o first sets unit (Begins s) stays shown = absurd stays
+next_first output before o first sets unit (Continues s) stays shown =
+    slice_first output before (record o { last = s; earlier = o.last ∷ o.earlier }) (with_more o s first stays.0 stays.1)
+    (history_of (picture_on before o)) (history_of (picture_on [] o)) (read_of (picture_on before o)) (read_of (picture_on [] o))
+    (stands_on before o first) (stands_on [] o first)
 
-next_first : (output : Output) → (older : History) (o : OpenPicture) → IsFirst output older o
-    → (sets : Sets) (unit : ℕ) (n : Next) → StaysInPicture n
-    → IsTrue (list_all is_picture (after_next output sets unit (running older (Some (picture_over older o))) n).events)
-    → Owed output older
-    (after_next output sets unit (running older (Some (picture_over older o))) n) (after_next output sets unit (running [] (Some o)) n)
-next_first output older o first sets unit Nothing stays shown = Still o first refl refl refl refl
-next_first output older o first sets unit (Refusal f) stays shown = cc
-next_first output older o first sets unit (FaultOfOpen f) stays shown = Paid (fault_first output older o first unit f)
-next_first output older o first sets unit (FaultOfOwn f) stays shown = Paid (fault_first output older o first unit f)
-next_first output older o first sets unit (Begins s) stays shown = absurd stays
-next_first output older o first sets unit (Continues s) stays shown =
-    slice_first output older (record o { last = s; earlier = o.last ∷ o.earlier }) (with_more output older o s first stays.0 stays.1)
-    (history_of (picture_over older o)) (history_of o) (read_of (picture_over older o)) (read_of o)
-    (base_older output older o first) (base_none output older o first)
+-- what the step says once the picture is closed
+pub after_closing_first : (output : Output) (front : List Event) (sets : Sets) (unit : ℕ) (what : Step) (x' x : Outcome) → Gives front x' x
+    → Gives front (after_closing output sets unit what x') (after_closing output sets unit what x)
+after_closing_first output front sets unit what x' x g =
+    subst (λ q. Gives front (unless_silent (silent q) x' (after_next output sets unit q what.next)) (after_closing output sets unit what x))
+    (sym g.phase) (by_silent (silent x.phase))
+  where
+    silent : Phase → Bool
+    silent q = is_waiting q && not what.even_after_fault
 
-by_closes : (output : Output) → (older : History) (closes : Bool) (next : Next) (a' a b' b : Outcome)
-    → KeepsPicture closes next
+    by_silent : (b : Bool) → let next = after_next output sets unit x.phase what.next in Gives front (unless_silent b x' next) (unless_silent b x next)
+    by_silent true = g
+    by_silent false = record {
+      events =
+          ap (λ es. es ++ (after_next output sets unit x.phase what.next).events) g.events
+          ∙ append_assoc front x.events (after_next output sets unit x.phase what.next).events;
+      phase = refl;
+    }
+
+by_closes : (output : Output) (before : History) (closes : Bool) (next : Next) (a' a b' b : Outcome) → KeepsPicture closes next
     → IsTrue (list_all is_picture (chosen closes a' b').events)
-    → Gives output older (due output older) a' a
-    → (StaysInPicture next → IsTrue (list_all is_picture b'.events) → Owed output older b' b)
-    → Owed output older (chosen closes a' b') (chosen closes a b)
-by_closes output older true next a' a b' b keeps shown paid stays = Paid paid
-by_closes output older false next a' a b' b keeps shown paid stays = stays keeps shown
+    → Gives (due output before) a' a
+    → (StaysInPicture next → IsTrue (list_all is_picture b'.events) → Owed output before b' b)
+    → Owed output before (chosen closes a' b') (chosen closes a b)
+by_closes output before true next a' a b' b keeps shown paid stays = Paid paid
+by_closes output before false next a' a b' b keeps shown paid stays = stays keeps shown
 
-pub in_first : (output : Output) → PicturesNameNoPlaces → (older : History) (o : OpenPicture) → IsFirst output older o
-    → (sets : Sets) (unit : ℕ) (what : Step)
+pub in_first : (output : Output) (before : History) (o : OpenPicture) → IsFirst o → (sets : Sets) (unit : ℕ) (what : Step)
     → KeepsPicture what.closes what.next
-    → IsTrue (list_all is_picture (in_phase output sets unit what (running older (Some (picture_over older o)))).events)
-    → Owed output older
-    (in_phase output sets unit what (running older (Some (picture_over older o)))) (in_phase output sets unit what (running [] (Some o)))
-in_first output names older o first sets unit what keeps shown =
-    by_closes output older what.closes what.next _ _ _ _ keeps shown
-    (after_closing-same output names older (due output older) sets unit what _ _ (closed_first output older o first))
-    (λ stays shows. next_first output older o first sets unit what.next stays shows)
-
--- its facts are the same there
-pub facts_first : (output : Output) → (older : History) (o : OpenPicture) → IsFirst output older o
-    → open_picture_facts (picture_over older o) ≡ open_picture_facts o
-facts_first output older o first = facts-same older o (opens_first output older o first)
+    → IsTrue (list_all is_picture (in_phase output sets unit what (running before (Some (picture_on before o)))).events)
+    → Owed output before
+    (in_phase output sets unit what (running before (Some (picture_on before o))))
+    (in_phase output sets unit what (running [] (Some (picture_on [] o))))
+in_first output before o first sets unit what keeps shown =
+    by_closes output before what.closes what.next _ _ _ _ keeps shown
+    (after_closing_first output (due output before) sets unit what _ _ (closed_first output before o first))
+    (λ stays shows. next_first output before o first sets unit what.next stays shows)

@@ -1,7 +1,7 @@
 -- Units with other numbers: slices, pictures and events are the same but for these.
 use Rattle.std.specs.Prelude.{◌≡◌, ℕ, zero, suc, ◌+◌, ◌-◌, Bool, true, false, not, ◌&&◌, nat_lt, List, [], ◌∷◌, ◌++◌, length, map, Option, Some}
 use Rattle.std.specs.Prelude.{None, Result, Ok, Err, refl, if◌then◌else◌}
-use Rattle.std.proofs.Common.{ap, sym, ◌∙◌}
+use Rattle.std.proofs.Common.{ap, ap₂, sym, ◌∙◌}
 use Rattle.std.proofs.lemmas.List.{map-append}
 use Rattle.std.specs.Option.{option_map}
 use Rattle.avc_types.specs.declared.fault.Fault.{Fault}
@@ -23,7 +23,7 @@ use Rattle.avc_units.specs.declared.step.Next.TheVariants.{Nothing, Refusal, Fau
 use Rattle.avc_units.specs.declared.step.Step.{Step}
 use Rattle.avc_decoder_core.specs.History.{History, history_after_closing, history_at_opening}
 use Rattle.avc_dpb.specs.declared.output.Output.{Output}
-use Rattle.avc_decoder_core.specs.Pictures.{output_pictures, held_pictures}
+use Rattle.avc_decoder_core.specs.Pictures.{held_pictures, output_at_closing, output_pictures}
 use Rattle.avc_decoder.specs.FirstFault.{OpenPicture, closed_history, first_fault, first_header, first_slice, history_at_opening_of}
 use Rattle.avc_decoder.specs.FirstFault.{history_of, oldest, picture_planes, progress_on, read_of, start_on}
 use Rattle.avc_decoder.specs.Events.{Outcome, Phase, after_closing, after_first_slice, after_next, after_next_slice, at_end, at_last_slice}
@@ -256,8 +256,8 @@ result-same r o =
 outcome-same : (output : Output) (r : ℕ → ℕ) (o : OpenPicture) (x : Result History (ℕ × Fault))
     → closed_outcome output (renumbered_picture r o) (renumbered_result r x) ≡ renumbered_outcome r (closed_outcome output o x)
 outcome-same output r o (Ok h) =
-    ap (λ b. outcome_of (pictures (output_pictures output b h)) (running h None) 0) (history-same r o)
-    ∙ ap (λ es. outcome_of es (running h None) 0) (sym (pictures-same r (output_pictures output (history_of o) h)))
+    ap₂ (λ hd b. outcome_of (pictures (output_at_closing output hd b h)) (running h None) 0) (header-same r o) (history-same r o)
+    ∙ ap (λ es. outcome_of es (running h None) 0) (sym (pictures-same r (output_at_closing output (first_header o) (history_of o) h)))
 outcome-same output r o (Err found) =
     ap (λ b. failed_at output b (r found.0) found.1 0) (history-same r o)
     ∙ failed-same output r (history_of o) found.0 found.1 0

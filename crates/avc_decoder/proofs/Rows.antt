@@ -6,8 +6,7 @@ use Rattle.avc_types.specs.declared.fault.Fault.{Fault}
 use Rattle.avc_types.specs.declared.fault.Fault.TheVariants as faults
 use Rattle.avc_dpb.specs.declared.output.Output.{Output}
 use Rattle.avc_dpb.specs.declared.output.Output.TheVariants.{Full, Early}
-use Rattle.avc_decoder_core.specs.SequenceOrder.{RespectsReorderNumbers}
-use Rattle.avc_decoder.specs.EarlyOutput.{histories}
+use Rattle.avc_decoder.specs.EarlyOutput.{EndedSequence, IsNotDropped, IsReorderedWithin, sequences}
 use Rattle.avc_annexb.specs.Units.{units}
 use Rattle.avc_units.specs.Resuming.{resumed, sets_in_force}
 use Rattle.avc_decoder.specs.Events.{events, turns}
@@ -145,17 +144,29 @@ not_early = refl
 at_end : seen_under Full picture_in_order true ≡ shown 64 256 ∷ []
 at_end = refl
 
--- two pictures in order are one history, in which none is reordered and none dropped
-one_history : map length (histories max (picture_in_order ++ skipping)) ≡ 2 ∷ []
-one_history = refl
+-- how many pictures and missing numbers the coded video sequences of a stream have
+abbrev lengths : List ℕ → List ℕ
+lengths bytes = map (λ (s : EndedSequence). length s.history) (sequences max bytes)
 
-in_order : All RespectsReorderNumbers (histories max (picture_in_order ++ skipping))
+-- two pictures in order are one sequence, in which none is reordered and none dropped
+one_sequence : lengths (picture_in_order ++ skipping) ≡ 2 ∷ []
+one_sequence = refl
+
+in_order : All IsReorderedWithin (sequences max (picture_in_order ++ skipping))
 in_order zero d lt = (omega arith, (omega arith, tt))
 in_order (suc k) d lt = absurd (omega (arith, lt))
 
--- a fault stops a history, and the next IDR picture begins another
-two_histories : map length (histories max (sets ++ pcm first_mb (of_one 80) ++ skipping_later ++ pcm next_picture (of_one 64))) ≡ 1 ∷ 1 ∷ []
-two_histories = refl
+not_dropped : All IsNotDropped (sequences max (picture_in_order ++ skipping))
+not_dropped zero d lt = refl
+not_dropped (suc k) d lt = absurd (omega (arith, lt))
+
+-- a fault ends a sequence, and the next IDR picture begins another
+two_sequences : lengths (sets ++ pcm first_mb (of_one 80) ++ skipping_later ++ pcm next_picture (of_one 64)) ≡ 1 ∷ 1 ∷ []
+two_sequences = refl
+
+-- so does the next IDR picture alone
+next_sequence : lengths (sets ++ pcm first_mb (of_one 80) ++ skipping ++ pcm next_picture (of_one 64)) ≡ 2 ∷ 1 ∷ []
+next_sequence = refl
 
 waits : seen_all (sets ++ skipping ++ pcm first_mb (of_one 80)) true ≡ shown 80 256 ∷ []
 waits = refl

@@ -1,4 +1,4 @@
--- What the steps of decoding hand out, in each mode of output: what they stop of histories, and what has gone out then.
+-- What the steps of decoding hand out, in each mode of output: the coded video sequences that end with them, and what has gone out then.
 use Rattle.std.specs.Prelude.{◌≡◌, ℕ, ◌-◌, Bool, true, false, ◌&&◌, if◌then◌else◌, List, [], ◌∷◌, ◌++◌, All, Option, Some, None}
 use Rattle.std.specs.Prelude.{Result, Ok, Err, flat_map, refl}
 use Rattle.std.proofs.Common.{ap, ap₂, sym, ◌∙◌, append_assoc, append-nil}
@@ -9,24 +9,25 @@ use Rattle.avc_types.specs.declared.picture.Picture.{Picture as Decoded}
 use Rattle.avc_params.specs.Tables.{Sets}
 use Rattle.avc_params.specs.declared.pps.Pps.{Pps}
 use Rattle.avc_params.specs.declared.sps.Sps.{Sps}
+use Rattle.avc_slice.specs.Header.{is_idr}
+use Rattle.avc_slice.specs.declared.header.Header.{Header}
 use Rattle.avc_slice.specs.declared.slice.Slice.{Slice}
 use Rattle.avc_units.specs.declared.step.Next.{Next}
 use Rattle.avc_units.specs.declared.step.Next.TheVariants.{Nothing, Refusal, FaultOfOpen, FaultOfOwn, Begins, Continues}
 use Rattle.avc_dpb.specs.declared.output.Output.{Output}
 use Rattle.avc_dpb.specs.declared.output.Output.TheVariants.{Full}
 use Rattle.avc_decoder_core.specs.History.{History}
-use Rattle.avc_decoder_core.specs.Pictures.{held_pictures, output_pictures}
-use Rattle.avc_decoder.specs.EarlyOutput.{stopped}
+use Rattle.avc_decoder_core.specs.Pictures.{held_pictures, no_output_of_prior_pics, output_at_closing, output_pictures}
+use Rattle.avc_decoder.specs.EarlyOutput.{EndedSequence, ended_by_closing, ended_sequence, stopped}
 use Rattle.avc_decoder.specs.Events.{Outcome, Phase, after_first_slice, after_next, closed_outcome, failed_at, followed_by, history_in}
 use Rattle.avc_decoder.specs.Events.{is_running, is_waiting, no_change, pictures, pictures_in, refusals_in, running, sets_named, waiting}
 use Rattle.avc_decoder.specs.Events.{with_slice}
-use Rattle.avc_decoder.specs.FirstFault.{OpenPicture, first_fault, history_of, read_of}
+use Rattle.avc_decoder.specs.FirstFault.{OpenPicture, first_fault, first_header, history_of, read_of}
 use Rattle.avc_decoder.specs.declared.event.Event.{Event}
 use Rattle.avc_decoder.specs.declared.event.Event.TheVariants.{Picture, Refused}
 use Rattle.avc_decoder.proofs.BeginningPictures.{Allows}
-use Rattle.avc_decoder.proofs.Histories.{HasItsMarking, IsClosed, IsSound, IsSoundOpen, all_of, gone, gone_and_held, gone_later}
-use Rattle.avc_decoder.proofs.Histories.{none_sound, sound_before}
-use Rattle.avc_decoder.proofs.LaterPictures.{Follows, base_grows}
+use Rattle.avc_decoder.proofs.Histories.{Follows, HasItsMarking, IsClosed, IsSound, IsSoundOpen, all_of, base_grows, gone}
+use Rattle.avc_decoder.proofs.Histories.{gone_and_held, gone_later, none_sound}
 
 -- ---- pictures and refusals among events
 
@@ -58,9 +59,25 @@ refusals_in-append (Refused unit f ∷ a) b = ap (λ l. (unit, f) ∷ l) (refusa
 
 -- ---- a step of decoding, in each mode
 
--- the pictures of histories, one history after another
-abbrev pub all_in : Output → List History → List Decoded
-all_in output hs = flat_map (all_of output) hs
+-- what a sequence with this history has handed out at its end: all its pictures, or without those that were dropped
+abbrev pub shown_by : Output → History → (dropped : Bool) → List Decoded
+shown_by output h dropped = elim dropped [ true ↦ gone output h | false ↦ all_of output h ]
+
+-- the same of sequences, one after another
+abbrev pub all_in : Output → List EndedSequence → List Decoded
+all_in output ended = flat_map (λ s. shown_by output s.history s.dropped) ended
+
+shown_ended : (output : Output) (h : History) (dropped : Bool) → all_in output (ended_sequence h dropped) ≡ shown_by output h dropped
+shown_ended output [] true = refl
+shown_ended output [] false = refl
+shown_ended output (e ∷ older) dropped = append-nil (shown_by output (e ∷ older) dropped)
+
+abbrev pub IsSoundSequence : EndedSequence → Type 0
+IsSoundSequence s = IsSound s.history
+
+ended_sound : (h : History) (dropped : Bool) → IsSound h → All IsSoundSequence (ended_sequence h dropped)
+ended_sound [] dropped s = All-nil IsSoundSequence
+ended_sound (e ∷ older) dropped s = All-cons IsSoundSequence (record { history = e ∷ older; dropped = dropped }) [] s (All-nil IsSoundSequence)
 
 -- Each picture of the phase's histories could come, and each entry was marked.
 abbrev pub Sound : Phase → Type 0
@@ -71,27 +88,27 @@ Sound (running h (Some o)) = IsSoundOpen o
 sound_in : (p : Phase) → Sound p → IsSound (history_in p)
 sound_in waiting s = none_sound
 sound_in (running h None) s = s
-sound_in (running h (Some o)) s = sound_before o s
+sound_in (running h (Some o)) s = (base_grows o s.before).sound
 
-pub stopped_sound : (p q : Phase) → Sound p → All IsSound (stopped p q)
+pub stopped_sound : (p q : Phase) → Sound p → All IsSoundSequence (stopped p q)
 stopped_sound p q s = by_test (is_running p && is_waiting q)
   where
-    by_test : (b : Bool) → All IsSound (if b then history_in p ∷ [] else [])
-    by_test true = All-cons IsSound (history_in p) [] (sound_in p s) (All-nil IsSound)
-    by_test false = All-nil IsSound
+    by_test : (b : Bool) → All IsSoundSequence (if b then ended_sequence (history_in p) false else [])
+    by_test true = ended_sound (history_in p) false (sound_in p s)
+    by_test false = All-nil IsSoundSequence
 
--- From this phase a step with these outcomes, one in each mode, stops these histories. The phase and the refusals are the same
--- in each mode. What had gone out of the phase's history, and then what goes out with the step, is all of the histories that it
--- stops, and then what has gone out of the history that decoding goes on with.
-pub record Goes (p : Phase) (hs : List History) (x : Output → Outcome) : Type 0 where
+-- From this phase these sequences end with a step with these outcomes, one in each mode. The phase and the refusals are the same
+-- in each mode. What had gone out of the phase's history, and then what goes out with the step, is what the sequences hand out that
+-- end, and then what has gone out of the history that decoding goes on with.
+pub record Goes (p : Phase) (hs : List EndedSequence) (x : Output → Outcome) : Type 0 where
   pub same_phase : (output : Output) → (x output).phase ≡ (x Full).phase
   pub same_refusals : (output : Output) → refusals_in (x output).events ≡ refusals_in (x Full).events
   pub hands_out : (output : Output) →
       gone output (history_in p) ++ pictures_in (x output).events ≡ all_in output hs ++ gone output (history_in (x Full).phase)
-  pub each_sound : All IsSound hs
+  pub each_sound : All IsSoundSequence hs
   pub sound : Sound (x Full).phase
 
--- a step that stops only the history of this phase, if it stops it
+-- a step with which only this phase's sequence ends, if it stops decoding
 abbrev pub Turns : (p : Phase) → (Output → Outcome) → Type 0
 Turns p x = Goes p (stopped p (x Full).phase) x
 
@@ -101,7 +118,7 @@ in_turn a b c d e f first second =
     sym (append_assoc a b e) ∙ ap (λ l. l ++ e) first ∙ append_assoc c d e ∙ ap (λ l. c ++ l) second
 
 -- two steps
-pub followed : (p q : Phase) (hs hs' : List History) (x y : Output → Outcome) → (x Full).phase ≡ q → Goes p hs x → Goes q hs' y
+pub followed : (p q : Phase) (hs hs' : List EndedSequence) (x y : Output → Outcome) → (x Full).phase ≡ q → Goes p hs x → Goes q hs' y
     → Goes p (hs ++ hs') (λ output. followed_by (x output) (y output))
 followed p q hs hs' x y is g k = record {
   same_phase = k.same_phase;
@@ -117,8 +134,8 @@ followed p q hs hs' x y is g k = record {
       ∙ in_turn out (pictures_in (x output).events) (all_in output hs) next (pictures_in (y output).events) (all_in output hs' ++ end)
       (g.hands_out output ∙ ap (λ (r : Phase). all_in output hs ++ gone output (history_in r)) is) (k.hands_out output)
       ∙ sym (append_assoc (all_in output hs) (all_in output hs') end)
-      ∙ ap (λ l. l ++ end) (sym (flat_map-append (all_of output) hs hs'));
-  each_sound = All-append IsSound hs hs' g.each_sound k.each_sound;
+      ∙ ap (λ l. l ++ end) (sym (flat_map-append (λ s. shown_by output s.history s.dropped) hs hs'));
+  each_sound = All-append IsSoundSequence hs hs' g.each_sound k.each_sound;
   sound = k.sound;
 }
 
@@ -169,9 +186,8 @@ held_go_out p es none output =
     ∙ append-nil (held_pictures output (history_in p)))
     ∙ by_phase p
   where
-    by_history : (h : History) → gone output h ++ held_pictures output h ≡ (all_of output h ++ []) ++ []
-    by_history h =
-        gone_and_held output h ∙ sym (append-nil (all_of output h)) ∙ sym (append-nil (all_of output h ++ []))
+    by_history : (h : History) → gone output h ++ held_pictures output h ≡ all_in output (ended_sequence h false) ++ []
+    by_history h = gone_and_held output h ∙ sym (shown_ended output h false) ∙ sym (append-nil (all_in output (ended_sequence h false)))
 
     by_phase : (q : Phase)
         → gone output (history_in q) ++ held_pictures output (history_in q) ≡ all_in output (stopped q waiting) ++ gone output []
@@ -235,7 +251,7 @@ first_of_picture p None s sound marking =
 first_of_picture p (Some named) s sound marking =
     let o : OpenPicture = record { before = history_in p; sps = named.1; pps = named.0; last = s; earlier = [] } in
     let before = sound_in p sound in
-    one_slice p 0 o sound (record { before = before; idr = marking }) (base_grows o before.marked).follows
+    one_slice p 0 o sound (record { before = before; idr = marking }) (base_grows o before).follows
 
 -- ---- the steps
 
@@ -260,9 +276,47 @@ next_turns sets unit (running h (Some o)) (Continues t) s a =
     (record { before = s.before; idr = s.idr }) (record { more = []; is = refl })
 
 -- where the open picture is closed
-pub closed_turns : (h : History) (o : OpenPicture) (r : Result History (ℕ × Fault)) → IsSoundOpen o
+pub closed_goes : (h : History) (o : OpenPicture) (r : Result History (ℕ × Fault)) → IsSoundOpen o
     → ((full : History) → r ≡ Ok full → IsClosed o full)
-    → Turns (running h (Some o)) (λ output. closed_outcome output o r)
-closed_turns h o (Ok full) s closed =
-    shown (running h (Some o)) full None 0 s (closed full refl).sound (closed full refl).follows
-closed_turns h o (Err found) s closed = failed (running h (Some o)) found.0 found.1 0 s
+    → Goes (running h (Some o)) (ended_by_closing o r) (λ output. closed_outcome output o r)
+closed_goes h o (Err found) s closed = failed (running h (Some o)) found.0 found.1 0 s
+closed_goes h o (Ok full) s closed = record {
+  same_phase = λ output. refl;
+  same_refusals = λ output. no_refusals (out output) ∙ sym (no_refusals (out Full));
+  hands_out = λ output.
+      ap (λ l. gone output base ++ l) (pictures_alone (out output))
+      ∙ goes_out output (is_idr hd) (no_output_of_prior_pics hd.marking) (closed full refl).follows;
+  each_sound = by_idr (is_idr hd);
+  sound = (closed full refl).sound;
+}
+  where
+    hd : Header
+    hd = first_header o
+
+    base : History
+    base = history_of o
+
+    out : Output → List Decoded
+    out output = output_at_closing output hd base full
+
+    -- by whether it is an IDR picture, and drops what is held
+    ended : (idr drops : Bool) → List EndedSequence
+    ended idr drops = elim idr [ true ↦ ended_sequence base drops | false ↦ [] ]
+
+    by_idr : (idr : Bool) → All IsSoundSequence (ended idr (no_output_of_prior_pics hd.marking))
+    by_idr true = ended_sound base _ (base_grows o s.before).sound
+    by_idr false = All-nil IsSoundSequence
+
+    by_drops : (output : Output) (drops : Bool) → gone output base ++ (if drops then [] else held_pictures output base) ≡ shown_by output base drops
+    by_drops output true = append-nil (gone output base)
+    by_drops output false = gone_and_held output base
+
+    goes_out : (output : Output) (idr drops : Bool) → Follows (elim idr as (λ _. History) [ true ↦ [] | false ↦ base ]) full
+        → gone output base
+        ++ ((elim idr [ true ↦ (if drops then [] else held_pictures output base) | false ↦ [] ])
+        ++ output_pictures output (elim idr [ true ↦ [] | false ↦ base ]) full)
+        ≡ all_in output (ended idr drops) ++ gone output full
+    goes_out output true drops f =
+        sym (append_assoc (gone output base) (if drops then [] else held_pictures output base) (gone output full))
+        ∙ ap (λ l. l ++ gone output full) (by_drops output drops ∙ sym (shown_ended output base drops))
+    goes_out output false drops f = gone_later output base full f

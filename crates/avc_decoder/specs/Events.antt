@@ -18,8 +18,8 @@ use Rattle.avc_units.specs.declared.step.Step.{Step}
 use Rattle.avc_picture.specs.Slices.{is_full}
 use Rattle.avc_dpb.specs.declared.output.Output.{Output}
 use Rattle.avc_decoder_core.specs.History.{History}
-use Rattle.avc_decoder_core.specs.Pictures.{output_pictures, held_pictures}
-use Rattle.avc_decoder.specs.FirstFault.{OpenPicture, first_fault, history_of, read_of, start_on, progress_on, closed_history}
+use Rattle.avc_decoder_core.specs.Pictures.{output_pictures, held_pictures, output_at_closing}
+use Rattle.avc_decoder.specs.FirstFault.{OpenPicture, first_fault, first_header, history_of, read_of, start_on, progress_on, closed_history}
 use Rattle.avc_decoder.specs.declared.event.Event.{Event}
 use Rattle.avc_decoder.specs.declared.event.Event.TheVariants.{Picture, Refused}
 
@@ -45,7 +45,7 @@ refusals_in (Refused unit f ∷ events) = (unit, f) ∷ refusals_in events
 pub data Phase : Type 0 where
   -- for a unit to start with
   waiting : Phase
-  -- with the history since decoding last started, and the open picture, if there is one
+  -- with the history of the coded video sequence, and the open picture, if there is one
   running : History → Option OpenPicture → Phase
 
 -- when pictures go out, and what the units before leave
@@ -84,9 +84,13 @@ at_last_slice o (Err f) = Err ((o.last).unit, f)
 abbrev pub closing_result : OpenPicture → Result History (ℕ × Fault)
 closing_result o = elim (first_fault o true) [ Some found ↦ Err found | None ↦ at_last_slice o (closed_history o (history_of o)) ]
 
--- what closing gives: the pictures that go out (C.4.5), or the refusal
+-- what closing gives: the pictures that go out (C.4.4, C.4.5), or the refusal
 abbrev pub closed_outcome : Output → OpenPicture → Result History (ℕ × Fault) → Outcome
-closed_outcome output o (Ok h) = record { events = pictures (output_pictures output (history_of o) h); phase = running h None; read = 0 }
+closed_outcome output o (Ok h) = record {
+  events = pictures (output_at_closing output (first_header o) (history_of o) h);
+  phase = running h None;
+  read = 0;
+}
 closed_outcome output o (Err found) = failed_at output (history_of o) found.0 found.1 0
 
 -- the open picture is closed

@@ -6,9 +6,9 @@ ghost use Rattle.avc_decoder.specs.Laws.{EventsOnlyGrow, PicturesAreWhole, Pictu
 ghost use Rattle.avc_decoder.specs.Laws.{StartsAnew, StartUnitsBeginAnew};
 
 use avc_annexb::laws::{units_are_numbered, units_stay, written_units_stand};
-use avc_decoder_core::laws::{early_output_keeps_histories, idr_pictures_begin_anew};
+use avc_decoder_core::laws::early_output_keeps_histories;
 use avc_params::laws::sps_in_force_keeps_limits;
-use avc_picture::laws::{pictures_are_sized, pictures_name_no_places};
+use avc_picture::laws::pictures_are_sized;
 use avc_slice::laws::headers_keep_idr_rules;
 use avc_units::laws::{
     sets_are_in_force_again, sets_come_alike, sets_in_force_are_few, sets_in_force_are_units,
@@ -70,8 +70,6 @@ pub fn start_units_begin_anew()
     ensures { StartUnitsBeginAnew }
 {
     headers_keep_idr_rules();
-    idr_pictures_begin_anew();
-    pictures_name_no_places();
 }
 
 /// Where a stream has ended, early output hands out the pictures of full output in their order, and the refusals in theirs: if no

@@ -13,7 +13,6 @@ pub mod Outputs
 pub mod MissingNumbers
 pub mod Held
 pub mod Sequences
-pub mod Anew
 pub mod OwnReferences
 pub mod SequenceOrder
 pub mod Settled

@@ -14,7 +14,7 @@ use Rattle.avc_slice.specs.declared.header.Header.{Header}
 use Rattle.avc_marking.specs.Marks.{Marks, limit_of, marks_after}
 use Rattle.avc_marking.proofs.Limits.{stays-with_max_long_term_frame_idx}
 use Rattle.avc_dpb.specs.declared.output.Output.{Output}
-use Rattle.avc_dpb.specs.Bumping.{Stored, new_output}
+use Rattle.avc_dpb.specs.Bumping.{PriorPictures, remain, are_output, Stored, after_prior_pictures, empty_buffer, new_output}
 use Rattle.avc_dpb.specs.StoredFrame.{shown_frame}
 use Rattle.avc_dpb.proofs.Conserved.{goes_out_in_turn}
 use Rattle.avc_decoder_core.specs.Frames.{frame_at}
@@ -26,12 +26,13 @@ use Rattle.avc_decoder_core.specs.Pictures.{output_pictures}
 use Rattle.avc_decoder_core.proofs.Places.{each_map}
 use Rattle.avc_decoder_core.proofs.FramesAt.{entry_before, entry_newest, pictures_are}
 use Rattle.avc_decoder_core.proofs.StayingFrames.{each_after_frame, each_prior}
-use Rattle.avc_decoder_core.proofs.SameSequence.{SameSizes, if_some, none_before_idr, one_after_idr, same_from, wrong}
+use Rattle.avc_decoder_core.proofs.SameSequence.{SameSizes, if_some, one_after_idr, same_from, wrong}
 use Rattle.avc_decoder_core.proofs.Storing.{emptied, length-arrivals}
 
 -- The entry may come: it has the parameter set of its sequence, or begins one.
 abbrev pub Follows : Entry → History → Type 0
-Follows (decoded_picture sps header planes) h = CanFollow h sps header × AreSized (width_in_mbs sps) (height_in_mbs sps) planes
+Follows (decoded_picture sps header planes) h =
+    CanFollow h sps header × AreSized (width_in_mbs sps) (height_in_mbs sps) planes × (is_idr header ≡ true → h ≡ [])
 Follows (missing_frame sps frame_num) h = is_same_sps (sequence_sps h) sps ≡ true
 
 abbrev pub sps_of : Entry → Sps
@@ -115,15 +116,24 @@ old_sized output e h sps low sized =
     (each_both (λ p. p < length h) (IsSizedAt h sps) (IsSizedAt (e ∷ h) sps) (places_in (buffer_of output h))
     (λ p l old. subst (λ o. IfSome (planes_in o) (AreSized (width_in_mbs sps) (height_in_mbs sps))) (sym (entry_before e h p l)) old) low sized))
 
+no_frames : (prior : PriorPictures) → (after_prior_pictures prior empty_buffer).frames ≡ []
+no_frames remain = refl
+no_frames are_output = refl
+
+-- nothing is in the buffer before the first entry
+none_emptied : (output : Output) (e : Entry) (h : History) → h ≡ [] → (emptied output e h).frames ≡ []
+none_emptied output e h none = ap (λ l. (emptied output e l).frames) none ∙ no_frames (arrival e []).prior_pictures
+
 sized_by : (output : Output) (sps : Sps) (header : Header) (planes : Planes) (h : History) (idr : Bool) → is_idr header ≡ idr → CanFollow h sps header →
+    (is_idr header ≡ true → h ≡ []) →
     AreSized (width_in_mbs sps) (height_in_mbs sps) planes → Each (λ p. p < length h) (places_in (buffer_of output h)) →
     IfSome (sequence_sps h) (λ sps. Each (IsSizedAt h sps) (places_in (buffer_of output h))) →
     IfSome (elim idr as (λ _. Option Sps) [ true ↦ Some sps | false ↦ sequence_sps h ]) (λ s. Each (IsSizedAt (decoded_picture sps header planes ∷ h) s) (places_in (buffer_of output (decoded_picture sps header planes ∷ h))))
-sized_by output sps header planes h true idr follows own low sized =
+sized_by output sps header planes h true idr follows first own low sized =
     let e = decoded_picture sps header planes in
     sized_after output (IsSizedAt (e ∷ h) sps) e h (own_sized e h (width_in_mbs sps) (height_in_mbs sps) own)
-    (subst (Each (λ s. IsSizedAt (e ∷ h) sps s.entry)) (sym (none_before_idr header (buffer_of output h) (follows.idr idr))) tt)
-sized_by output sps header planes h false idr follows own low sized =
+    (subst (Each (λ s. IsSizedAt (e ∷ h) sps s.entry)) (sym (none_emptied output e h (first idr))) tt)
+sized_by output sps header planes h false idr follows first own low sized =
     let e = decoded_picture sps header planes in
     if_some (λ s. Each (IsSizedAt h s) (places_in (buffer_of output h))) (λ s. Each (IsSizedAt (e ∷ h) s) (places_in (buffer_of output (e ∷ h)))) (sequence_sps h)
     (λ before is old.
@@ -137,7 +147,7 @@ sized_by output sps header planes h false idr follows own low sized =
 pub still_sized : (output : Output) (e : Entry) (h : History) → Follows e h → Each (λ p. p < length h) (places_in (buffer_of output h)) →
     IfSome (sequence_sps h) (λ sps. Each (IsSizedAt h sps) (places_in (buffer_of output h))) →
     IfSome (sequence_sps (e ∷ h)) (λ sps. Each (IsSizedAt (e ∷ h) sps) (places_in (buffer_of output (e ∷ h))))
-still_sized output (decoded_picture sps header planes) h follows low sized = sized_by output sps header planes h (is_idr header) refl follows.0 follows.1 low sized
+still_sized output (decoded_picture sps header planes) h follows low sized = sized_by output sps header planes h (is_idr header) refl follows.0 follows.2 follows.1 low sized
 still_sized output (missing_frame sps frame_num) h follows low sized =
     let e = missing_frame sps frame_num in
     if_some (λ s. Each (IsSizedAt h s) (places_in (buffer_of output h))) (λ s. Each (IsSizedAt (e ∷ h) s) (places_in (buffer_of output (e ∷ h)))) (sequence_sps h)

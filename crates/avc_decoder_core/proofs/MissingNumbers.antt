@@ -20,7 +20,7 @@ use Rattle.avc_types.specs.Results.{◌>>=◌}
 use Rattle.avc_decoder_core.specs.History.{missing_frame, History, history_at_opening, is_same_sps, marking_entries, marking_entry, marks_of}
 use Rattle.avc_decoder_core.specs.History.{order_or_0, picture_entry, pasts, sequence_sps, with_missing, with_order_counts}
 use Rattle.avc_decoder_core.specs.FrameBufferState.{CanFollow}
-use Rattle.avc_decoder_core.specs.Opening.{count_on, counts_over, missing_before, with_all_missing}
+use Rattle.avc_decoder_core.specs.Opening.{count_of, count_on, counts_over, missing_before, with_all_missing}
 
 pub ok_same : {A : Type 0} (x y : A) → ◌≡◌ {A = Result A Fault} (Ok x) (Ok y) → x ≡ y
 ok_same {A = A} x y e = ap (λ (r : Result A Fault). elim r as (λ _. A) [ Ok z ↦ z | Err f ↦ x ]) e
@@ -180,7 +180,7 @@ on_false : {A : Type 0} (b : Bool) (x y : A) → b ≡ false → choose b x y �
 on_false true x y e = absurd (false≢true (sym e))
 on_false false x y e = refl
 
-pub opened_idr : (sps : Sps) (h : Header) (history : History) → is_idr h ≡ true → history_at_opening sps h history ≡ with_order_counts sps h history
+pub opened_idr : (sps : Sps) (h : Header) (history : History) → is_idr h ≡ true → history_at_opening sps h history ≡ (with_order_counts sps h [] >>= λ none. Ok history)
 opened_idr sps h history e = on_true (is_idr h) _ _ e
 
 spread : {A B : Type 0} (b : Bool) (g : Fault) (r : Result A Fault) (f : A → Result B Fault)
@@ -202,7 +202,7 @@ pub record IsOpenedBy (sps : Sps) (h : Header) (history full : History) : Type 0
   pub missing : with_missing sps numbers history ≡ Ok full
   pub same : is_idr h ≡ false → is_same_sps (sequence_sps history) sps ≡ true
 
-with_counts : (r : Result Counts Fault) (x full : History) → (r >>= λ c. Ok x) ≡ Ok full → x ≡ full
+with_counts : {A : Type 0} (r : Result A Fault) (x full : History) → (r >>= λ c. Ok x) ≡ Ok full → x ≡ full
 with_counts (Ok c) x full e = ok_same x full e
 with_counts (Err f) x full e = absurd (ok_err full f (sym e))
 
@@ -229,7 +229,7 @@ opened_by sps h history full e = by (is_idr h) refl
     by : (b : Bool) → is_idr h ≡ b → IsOpenedBy sps h history full
     by true idr = record {
       numbers = [];
-      missing = ap Ok (with_counts (order_counts sps h (pasts history)) history full (sym (opened_idr sps h history idr) ∙ e));
+      missing = ap Ok (with_counts (with_order_counts sps h []) history full (sym (opened_idr sps h history idr) ∙ e));
       same = λ other. absurd (false≢true (sym other ∙ idr));
     }
     by false idr =
@@ -249,6 +249,27 @@ can_follow sps h history full marking reference e = record {
   same = λ other. ap (λ set. is_same_sps set sps) (set_at_opening sps h history full e) ∙ (opened_by sps h history full e).same other;
   reference = reference;
 }
+
+-- ---- the count of the picture
+
+-- an IDR picture is counted alone
+pub counted_alone : (sps : Sps) (h : Header) (history : History) → is_idr h ≡ true
+    → result_map (count_on sps h) (with_order_counts sps h []) ≡ result_map (count_of sps h) (with_order_counts sps h [] >>= λ none. Ok history)
+counted_alone sps h history idr = by (order_counts sps h [])
+  where
+    none : Counts → Result History Fault
+    none c = Ok []
+
+    by : (r : Result Counts Fault)
+        → result_map (count_on sps h) (r >>= none) ≡ result_map (count_of sps h) ((r >>= none) >>= λ none. Ok history)
+    by (Ok c) = ap (λ l. Ok (count_on sps h l)) (sym (on_true (is_idr h) [] history idr))
+    by (Err f) = refl
+
+-- another picture on the whole history
+pub counted_in_sequence : (sps : Sps) (h : Header) (opened : Result History Fault) → is_idr h ≡ false
+    → result_map (count_on sps h) opened ≡ result_map (count_of sps h) opened
+counted_in_sequence sps h (Ok full) other = ap (λ l. Ok (count_on sps h l)) (sym (on_false (is_idr h) [] full other))
+counted_in_sequence sps h (Err f) other = refl
 
 -- ---- how opening ends
 
@@ -287,14 +308,14 @@ pub opened_over : (sps : Sps) (h : Header) (history full : History) (numbers : L
 opened_over sps h history full numbers idr known is =
     other_opened sps h history numbers idr known ∙ ap (λ r. r >>= λ full. with_order_counts sps h full) is
 
-counts_there : (r : Result Counts Fault) (x : History) → is_ok (r >>= λ c. Ok x) ≡ true → (r >>= λ c. Ok x) ≡ Ok x
+counts_there : {A : Type 0} (r : Result A Fault) (x : History) → is_ok (r >>= λ c. Ok x) ≡ true → (r >>= λ c. Ok x) ≡ Ok x
 counts_there (Ok c) x e = refl
 counts_there (Err f) x e = absurd (false≢true e)
 
 pub opens_idr : (sps : Sps) (h : Header) (history : History) → is_idr h ≡ true → is_ok (history_at_opening sps h history) ≡ true → history_at_opening sps h history ≡ Ok history
 opens_idr sps h history idr opens =
     let is = opened_idr sps h history idr in
-    is ∙ counts_there (order_counts sps h (pasts history)) history (ap is_ok (sym is) ∙ opens)
+    is ∙ counts_there (with_order_counts sps h []) history (ap is_ok (sym is) ∙ opens)
 
 pub opens_other : (sps : Sps) (h : Header) (history full : History) (numbers : List ℕ) → is_idr h ≡ false → is_ok (history_at_opening sps h history) ≡ true
     → Ok numbers ≡ missing_before sps h history → with_missing sps numbers history ≡ Ok full → history_at_opening sps h history ≡ Ok full

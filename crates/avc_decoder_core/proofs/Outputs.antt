@@ -58,15 +58,12 @@ none_above [] place low = refl
 none_above (a ∷ older) place low =
     occurrences-append place (pictures older) _ (none_above older place (omega arith)) (other_place place (length older) a.existing (omega arith))
 
-none_out : (a b c : ℕ) → a + b ≡ c → c ≡ 0 → a ≡ 0
-none_out a b c e f = omega (arith, e, f)
-
 -- of the pictures that have gone out and of those that are held
 pub places_below : (output : Output) (history : History) → All (λ p. p < length history) ((buffer_of output history).out ++ all_held output history)
 places_below output history =
     subst (λ n. All (λ p. p < n) ((buffer_of output history).out ++ all_held output history)) (length_arrivals history)
     (all_below (length (arrivals history)) ((buffer_of output history).out ++ all_held output history)
-    (λ place low. none_out (occurrences place (with_all_output (buffer_of output history)).out) _ _ (goes_out_once output (arrivals history) place) (none_above (arrivals history) place low)))
+    (λ place low. goes_out_once output (arrivals history) place ∙ none_above (arrivals history) place low))
 
 all_first : (P : ℕ → Type 0) (xs ys : List ℕ) → All P (xs ++ ys) → All P xs
 all_first P [] ys a = All-nil P

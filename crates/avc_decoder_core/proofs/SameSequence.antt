@@ -2,7 +2,9 @@
 use Rattle.std.proofs.Common.{◌≡◌, ℕ, ◌+◌, Bool, true, false, ◌&&◌, List, [], ◌∷◌, length, Option, Some, None, Ok, refl, ap, sym, ◌∙◌, Err}
 use Rattle.std.specs.Prelude.{IfSome, ◌==◌, if◌then◌else◌}
 use Rattle.std.specs.Option.{option_eq}
-use Rattle.std.proofs.lemmas.Bool.{eqb-true}
+use Rattle.std.proofs.lemmas.Bool.{eqb-true, false≢true}
+use Rattle.std.specs.Result.{is_ok}
+use Rattle.avc_types.specs.declared.fault.Fault.{Fault}
 use Rattle.avc_types.specs.declared.references.Marking.{Marking}
 use Rattle.avc_types.specs.declared.references.Marking.TheVariants.{Idr, SlidingWindow, Adaptive}
 use Rattle.avc_types.specs.declared.references.Operation.{Operation}
@@ -15,7 +17,7 @@ use Rattle.avc_slice.specs.Header.{has_idr_marking, has_operation_5}
 use Rattle.avc_slice.specs.declared.header.Header.{Header}
 use Rattle.avc_marking.specs.Laws.{unmarks_all}
 use Rattle.avc_marking.specs.Marks.{MarkingEntry, Marks, marks_after}
-use Rattle.avc_dpb.specs.Bumping.{Buffer, PriorPictures, are_output, remain, after_prior_pictures}
+use Rattle.avc_dpb.specs.Bumping.{PriorPictures, are_output, remain}
 use Rattle.avc_decoder_core.specs.History.{is_same_sps, prior_pictures_of}
 
 pub wrong : {A : Type 0} → false ≡ true → A
@@ -92,17 +94,6 @@ prior_remains_by h (Some (Adaptive operations)) e = ap prior_by (no_five h opera
 pub prior_remains : (h : Header) → unmarks_all h.marking ≡ false → prior_pictures_of h ≡ remain
 prior_remains h e = prior_remains_by h h.marking e
 
--- no frame stays before an IDR picture
-none_by : (h : Header) (marking : Option Marking) (b : Buffer) → has_idr_marking (with_marking h marking) ≡ true → (after_prior_pictures (prior_pictures_of (with_marking h marking)) b).frames ≡ []
-none_by h None b e = wrong e
-none_by h (Some (Idr true long_term)) b e = refl
-none_by h (Some (Idr false long_term)) b e = refl
-none_by h (Some SlidingWindow) b e = wrong e
-none_by h (Some (Adaptive operations)) b e = wrong e
-
-pub none_before_idr : (h : Header) (b : Buffer) → has_idr_marking h ≡ true → (after_prior_pictures (prior_pictures_of h) b).frames ≡ []
-none_before_idr h b e = none_by h h.marking b e
-
 -- one frame is used for reference after an IDR picture
 one_by : (h : Header) (s : MarkingEntry) (n : ℕ) (marking : Option Marking) (m m' : Marks) → has_idr_marking (with_marking h marking) ≡ true → marks_after s n marking m ≡ Ok m' → length m'.references ≡ 1
 one_by h s n None m m' e is = wrong e
@@ -113,3 +104,14 @@ one_by h s n (Some (Adaptive operations)) m m' e is = wrong e
 
 pub one_after_idr : (h : Header) (s : MarkingEntry) (n : ℕ) (m m' : Marks) → has_idr_marking h ≡ true → marks_after s n h.marking m ≡ Ok m' → length m'.references ≡ 1
 one_after_idr h s n m m' e is = one_by h s n h.marking m m' e is
+
+-- it can be marked after every history
+not_refused_by : (h : Header) (s : MarkingEntry) (n : ℕ) (marking : Option Marking) (m : Marks) (f : Fault) → has_idr_marking (with_marking h marking) ≡ true → marks_after s n marking m ≡ Err f → ⊥
+not_refused_by h s n None m f e is = wrong e
+not_refused_by h s n (Some (Idr no_output true)) m f e is = false≢true (sym (ap is_ok is))
+not_refused_by h s n (Some (Idr no_output false)) m f e is = false≢true (sym (ap is_ok is))
+not_refused_by h s n (Some SlidingWindow) m f e is = wrong e
+not_refused_by h s n (Some (Adaptive operations)) m f e is = wrong e
+
+pub idr_not_refused : (h : Header) (s : MarkingEntry) (n : ℕ) (m : Marks) (f : Fault) → has_idr_marking h ≡ true → marks_after s n h.marking m ≡ Err f → ⊥
+idr_not_refused h s n m f e is = not_refused_by h s n h.marking m f e is

@@ -1,33 +1,30 @@
 -- Where the reordering of pictures stays within its limits, early output hands them out in the order of full output.
 use Rattle.std.proofs.Common.{◌≡◌, ℕ, ◌+◌, ◌≤◌, ◌==◌, nat_le, nat_lt, Bool, true, false, cond, ◌&&◌, List, [], ◌∷◌, length}
-use Rattle.std.proofs.Common.{Option, Some, None, is_ok, refl, ap, sym, ◌∙◌, subst, arith}
+use Rattle.std.proofs.Common.{Option, Some, None, is_ok, ◌⊎◌, inl, inr, refl, ap, sym, ◌∙◌, subst, arith}
 use Rattle.std.specs.Prelude.{count_by, IfSome}
 use Rattle.std.specs.Option.{option_eq, option_map}
 use Rattle.std.proofs.lemmas.Bool.{eqb-true}
 use Rattle.std.proofs.lemmas.Bool.Decides.{nat_tests}
 use Rattle.std.proofs.lemmas.List.Sums.{sum_by-cons}
-use Rattle.avc_types.specs.declared.references.Marking.{Marking}
-use Rattle.avc_types.specs.declared.references.Marking.TheVariants.{Idr, SlidingWindow, Adaptive}
 use Rattle.avc_plane.specs.Planes.{Planes}
 use Rattle.avc_params.specs.Same.{same_aspect, same_constraints, same_cropping, same_flag, same_hrd, same_location, same_order}
 use Rattle.avc_params.specs.Same.{same_restriction, same_signal, same_sps, same_timing, same_vui}
 use Rattle.avc_params.specs.declared.sps.Sps.{Sps}
 use Rattle.avc_params.specs.declared.vui.Restriction.{Restriction}
 use Rattle.avc_params.specs.declared.vui.Vui.{Vui}
-use Rattle.avc_slice.specs.Header.{is_idr, has_idr_marking}
+use Rattle.avc_slice.specs.Header.{is_idr}
 use Rattle.avc_slice.specs.declared.header.Header.{Header}
 use Rattle.avc_marking.specs.Laws.{AddsOwnFrameAlone}
 use Rattle.avc_dpb.specs.declared.output.Output.TheVariants.{Full}
-use Rattle.avc_dpb.specs.Bumping.{PriorPictures, remain, are_output, are_dropped}
 use Rattle.avc_dpb.specs.Reordering.{last_emptying, limit_after, places_after, reordered}
 use Rattle.avc_dpb.specs.Reordering.{AllCanGoOutEarly, CanGoOutEarly, EarlyOutputKeepsTheOrder}
 use Rattle.avc_decoder_core.specs.History.{Entry, decoded_picture, missing_frame, History, arrival, arrivals, is_same_sps, marks_of}
-use Rattle.avc_decoder_core.specs.History.{prior_pictures_of, reorder_limit, sequence_sps}
-use Rattle.avc_decoder_core.specs.SequenceOrder.{output_order, sequence_start, CanCome, DropsNothing, EachCanCome, EachIsWithin, NewestIsWithin}
+use Rattle.avc_decoder_core.specs.History.{reorder_limit, sequence_sps}
+use Rattle.avc_decoder_core.specs.SequenceOrder.{output_order, CanCome, EachCanCome, EachIsWithin, NewestIsWithin}
 use Rattle.avc_decoder_core.specs.SequenceOrder.{EarlyOutputKeepsHistories}
 use Rattle.avc_decoder_core.proofs.OwnReferences.{adds_own_place, marked_before, missing_is_reference}
 use Rattle.avc_decoder_core.proofs.Outputs.{length_arrivals}
-use Rattle.avc_decoder_core.proofs.SameSequence.{if_some, left, right, with_marking, wrong}
+use Rattle.avc_decoder_core.proofs.SameSequence.{if_some, left, right, wrong}
 
 -- ---- the limit of a sequence
 
@@ -98,72 +95,14 @@ limit_in_sequence (decoded_picture before h planes ∷ older) come sps same = by
     by false is same rest = rest sps same ∙ sym (rest before ((come.0).same is))
 limit_in_sequence (missing_frame set frame_num ∷ older) come sps same = limit_in_sequence older come sps same
 
--- ---- where sequences begin
-
-abbrev do_remain : PriorPictures → Bool
-do_remain remain = true
-do_remain are_output = false
-do_remain are_dropped = false
-
-idr_empties_by : (h : Header) (marking : Option Marking) → has_idr_marking (with_marking h marking) ≡ true →
-    do_remain (prior_pictures_of (with_marking h marking)) ≡ false
-idr_empties_by h None e = wrong e
-idr_empties_by h (Some (Idr true long_term)) e = refl
-idr_empties_by h (Some (Idr false long_term)) e = refl
-idr_empties_by h (Some SlidingWindow) e = wrong e
-idr_empties_by h (Some (Adaptive operations)) e = wrong e
-
--- no picture stays held with an IDR picture
-idr_empties : (h : Header) → has_idr_marking h ≡ true → do_remain (prior_pictures_of h) ≡ false
-idr_empties h e = idr_empties_by h h.marking e
-
-not_idr : (sps : Sps) (h : Header) (older : History) → CanCome sps h older → prior_pictures_of h ≡ remain → is_idr h ≡ false
-not_idr sps h older come stays = by (is_idr h) refl
+-- the limit before a picture is its own, where it is not the first
+limit_before : (sps : Sps) (h : Header) (older : History) → EachCanCome older → CanCome sps h older →
+    (arrivals older ≡ []) ⊎ (reorder_limit sps ≡ limit_after (arrivals older))
+limit_before sps h older each come = by (is_idr h) refl
   where
-    by : (idr : Bool) → is_idr h ≡ idr → idr ≡ false
-    by true is = wrong (sym (idr_empties h (come.idr is)) ∙ ap do_remain stays)
-    by false is = refl
-
-start_below : (h : History) → sequence_start h ≤ length h
-start_below [] = omega arith
-start_below (decoded_picture sps h planes ∷ older) = by (is_idr h) (start_below older)
-  where
-    by : (idr : Bool) → sequence_start older ≤ length older →
-        elim idr as (λ _. ℕ) [ true ↦ length older | false ↦ sequence_start older ] ≤ length (decoded_picture sps h planes ∷ older)
-    by true low = omega arith
-    by false low = omega (arith, low)
-start_below (missing_frame sps frame_num ∷ older) = let low = start_below older in omega (arith, low)
-
-abbrev emptying : PriorPictures → (place before : ℕ) → ℕ
-emptying prior place before = elim prior as (λ _. ℕ) [ remain ↦ before | are_output ↦ place | are_dropped ↦ place ]
-
-emptied : (prior : PriorPictures) (place before : ℕ) → do_remain prior ≡ false → emptying prior place before ≡ place
-emptied remain place before e = wrong (sym e)
-emptied are_output place before e = refl
-emptied are_dropped place before e = refl
-
-emptied_late : (prior : PriorPictures) (start place before : ℕ) → start ≤ place → start ≤ before → start ≤ emptying prior place before
-emptied_late remain start place before low lower = lower
-emptied_late are_output start place before low lower = low
-emptied_late are_dropped start place before low lower = low
-
--- a sequence begins no later than with the last entry that empties the buffer
-start_early : (h : History) → EachCanCome h → sequence_start h ≤ last_emptying (arrivals h)
-start_early [] come = omega arith
-start_early (decoded_picture sps h planes ∷ older) come = by (is_idr h) refl (start_early older come.1)
-  where
-    n : ℕ
-    n = length (arrivals older)
-
-    by : (idr : Bool) → is_idr h ≡ idr → sequence_start older ≤ last_emptying (arrivals older) →
-        elim idr as (λ _. ℕ) [ true ↦ length older | false ↦ sequence_start older ] ≤ emptying (prior_pictures_of h) n (last_emptying (arrivals older))
-    by true is low =
-        let at = emptied (prior_pictures_of h) n (last_emptying (arrivals older)) (idr_empties h ((come.0).idr is)) in
-        omega (arith, at, length_arrivals older)
-    by false is low =
-        emptied_late (prior_pictures_of h) (sequence_start older) n (last_emptying (arrivals older))
-        (omega (arith, start_below older, length_arrivals older)) low
-start_early (missing_frame sps frame_num ∷ older) come = start_early older come
+    by : (idr : Bool) → is_idr h ≡ idr → (arrivals older ≡ []) ⊎ (reorder_limit sps ≡ limit_after (arrivals older))
+    by true is = inl (ap arrivals (come.first is))
+    by false is = inr (limit_in_sequence older each sps (come.same is))
 
 -- ---- the pictures that go out late
 
@@ -197,32 +136,28 @@ reordered_less : (first later place : ℕ) (order : List ℕ) → first ≤ late
 reordered_less first later place order low = count_less first later place low (places_after place order)
 
 newest_within : (order : List ℕ) (sps : Sps) (h : Header) (planes : Planes) (older : History) →
-    EachCanCome (decoded_picture sps h planes ∷ older) → NewestIsWithin order (decoded_picture sps h planes ∷ older) →
+    NewestIsWithin order (decoded_picture sps h planes ∷ older) →
     IfSome (reorder_limit sps) (λ most. reordered (last_emptying (arrivals (decoded_picture sps h planes ∷ older))) (length (arrivals older)) order ≤ most)
-newest_within order sps h planes older come within =
-    let e = decoded_picture sps h planes in
-    let first = sequence_start (e ∷ older) in
-    let later = last_emptying (arrivals (e ∷ older)) in
-    let less = reordered_less first later (length older) order (start_early (e ∷ older) come) in
+newest_within order sps h planes older within =
+    let later = last_emptying (arrivals (decoded_picture sps h planes ∷ older)) in
+    let less = reordered_less 0 later (length older) order (omega arith) in
     subst (λ n. IfSome (reorder_limit sps) (λ most. reordered later n order ≤ most)) (sym (length_arrivals older))
-    (if_some (λ most. reordered first (length older) order ≤ most) (λ most. reordered later (length older) order ≤ most) (reorder_limit sps)
+    (if_some (λ most. reordered 0 (length older) order ≤ most) (λ most. reordered later (length older) order ≤ most) (reorder_limit sps)
     (λ most is few. omega (arith, less, few)) within)
 
 -- ---- each entry
 
 can_go_out_early : AddsOwnFrameAlone → (order : List ℕ) (e : Entry) (older : History) → EachCanCome (e ∷ older) →
-    is_ok (marks_of (e ∷ older)) ≡ true → DropsNothing (e ∷ older) → NewestIsWithin order (e ∷ older) →
+    is_ok (marks_of (e ∷ older)) ≡ true → NewestIsWithin order (e ∷ older) →
     CanGoOutEarly order (arrival e older) (arrivals older)
-can_go_out_early law order (decoded_picture sps h planes) older come ok drops within = record {
-  drops = λ dropped. ap arrivals (drops.0 dropped);
+can_go_out_early law order (decoded_picture sps h planes) older come ok within = record {
   references = adds_own_place law (decoded_picture sps h planes) older ok;
   non_existing = λ missing. wrong (sym missing);
   no_limit = λ missing. wrong (sym missing);
-  limit = λ _ stays. limit_in_sequence older come.1 sps ((come.0).same (not_idr sps h older come.0 stays));
-  within = λ _. newest_within order sps h planes older come within;
+  limit = λ _. limit_before sps h older come.1 come.0;
+  within = λ _. newest_within order sps h planes older within;
 }
-can_go_out_early law order (missing_frame sps frame_num) older come ok drops within = record {
-  drops = λ dropped. wrong (sym (ap do_remain dropped));
+can_go_out_early law order (missing_frame sps frame_num) older come ok within = record {
   references = adds_own_place law (missing_frame sps frame_num) older ok;
   non_existing = λ _. missing_is_reference sps frame_num older ok;
   no_limit = λ _. refl;
@@ -234,18 +169,14 @@ come_before : (e : Entry) (older : History) → EachCanCome (e ∷ older) → Ea
 come_before (decoded_picture sps h planes) older come = come.1
 come_before (missing_frame sps frame_num) older come = come
 
-drops_before : (e : Entry) (older : History) → DropsNothing (e ∷ older) → DropsNothing older
-drops_before (decoded_picture sps h planes) older drops = drops.1
-drops_before (missing_frame sps frame_num) older drops = drops
-
-all_can_go_out_early : AddsOwnFrameAlone → (order : List ℕ) (h : History) → EachCanCome h → is_ok (marks_of h) ≡ true → DropsNothing h →
+all_can_go_out_early : AddsOwnFrameAlone → (order : List ℕ) (h : History) → EachCanCome h → is_ok (marks_of h) ≡ true →
     EachIsWithin order h → AllCanGoOutEarly order (arrivals h)
-all_can_go_out_early law order [] come ok drops within = tt
-all_can_go_out_early law order (e ∷ older) come ok drops within = (
-  can_go_out_early law order e older come ok drops within.0,
-  all_can_go_out_early law order older (come_before e older come) (marked_before e older ok) (drops_before e older drops) within.1,
+all_can_go_out_early law order [] come ok within = tt
+all_can_go_out_early law order (e ∷ older) come ok within = (
+  can_go_out_early law order e older come ok within.0,
+  all_can_go_out_early law order older (come_before e older come) (marked_before e older ok) within.1,
 )
 
 pub early_output_keeps_histories : EarlyOutputKeepsTheOrder → AddsOwnFrameAlone → EarlyOutputKeepsHistories
-early_output_keeps_histories early law h come ok drops within =
-    early (arrivals h) (all_can_go_out_early law (output_order Full h) h come ok drops within)
+early_output_keeps_histories early law h come ok within =
+    early (arrivals h) (all_can_go_out_early law (output_order Full h) h come ok within)

@@ -1,5 +1,5 @@
 -- The state of a sequence as pictures are opened and closed.
-use Rattle.std.proofs.Common.{◌≡◌, ℤ, Bool, true, false, List, ◌∷◌, Option, Some, None, Result, Ok, Err, is_ok, is_some, refl, ap, ap₂, sym, ◌∙◌, rules}
+use Rattle.std.proofs.Common.{◌≡◌, ℤ, Bool, true, false, List, [], ◌∷◌, ◌++◌, Option, Some, None, Result, Ok, Err, is_ok, is_some, refl, ap, ap₂, sym, subst, ◌∙◌, rules}
 use Rattle.std.proofs.lemmas.Bool.{false≢true}
 use Rattle.std.proofs.lemmas.Option.{none-some, same_Some}
 use Rattle.std.specs.Option.{option_map}
@@ -12,18 +12,21 @@ use Rattle.avc_params.specs.declared.sps.Sps.{Sps}
 use Rattle.avc_params.specs.Within.{IsSps}
 use Rattle.avc_slice.specs.declared.header.Header.{Header}
 use Rattle.avc_slice.specs.Header.{is_idr, is_reference, has_idr_marking}
-use Rattle.avc_marking.specs.Marks.{Marks}
+use Rattle.avc_marking.specs.Marks.{Marks, no_marks}
 use Rattle.avc_dpb.specs.declared.output.Output.{Output}
+use Rattle.avc_poc.specs.OrderCounts.{order_counts}
 use Rattle.avc_poc.specs.OrderCountState.{OrderCountState}
 use Rattle.avc_types.specs.Results.{◌>>=◌}
-use Rattle.avc_decoder_core.specs.History.{Entry, decoded_picture, History, history_after_closing, history_at_opening, marks_of, pasts, sequence_sps}
-use Rattle.avc_decoder_core.specs.Opening.{count_on}
-use Rattle.avc_decoder_core.specs.Pictures.{output_pictures}
-use Rattle.avc_decoder_core.specs.FrameBufferState.{FrameBufferState}
+use Rattle.avc_decoder_core.specs.History.{Entry, decoded_picture, History, earlier_in_sequence, history_after_closing, history_at_opening, is_same_sps}
+use Rattle.avc_decoder_core.specs.History.{marks_of, order_or_0, pasts, picture_entry, sequence_sps, with_picture}
+use Rattle.avc_decoder_core.specs.Opening.{count_of, set_with}
+use Rattle.avc_decoder_core.specs.Pictures.{output_at_closing, output_pictures}
+use Rattle.avc_decoder_core.specs.FrameBufferState.{FrameBufferState, BeginsSequence, CanFollow, Stores, at_sequence_of, empty_frame_buffer}
 use Rattle.avc_decoder_core.specs.SequenceState.{OpenPictureStart, SequenceState, current_history, or_before, IsClosed}
-use Rattle.avc_decoder_core.specs.SequenceFields.{IsStateOf, StandsOnIf, counted, open_picture_of}
+use Rattle.avc_decoder_core.specs.SequenceFields.{IsStateOf, StandsOn, StandsOnIf, counted, open_picture_of}
 use Rattle.avc_decoder_core.specs.declared.open_picture.OpenPicture.{OpenPicture}
 use Rattle.avc_decoder_core.proofs.MissingNumbers.{can_follow, ok_same, set_at_opening}
+use Rattle.avc_decoder_core.proofs.SameSequence.{idr_not_refused}
 
 -- ---- with no open picture
 
@@ -46,12 +49,12 @@ current_is closed history (Some o) frames output failed s stands e = ap current_
 
 -- its count and what order counts keep
 counts_on : (sps : Sps) (h : Header) (history full : History) (order : ℤ) (counts : OrderCountState) → history_at_opening sps h history ≡ Ok full
-    → Ok (order, counts) ≡ result_map (count_on sps h) (history_at_opening sps h history) → (order, counts) ≡ count_on sps h full
-counts_on sps h history full order counts opens told = ok_same (order, counts) (count_on sps h full) (told ∙ ap (result_map (count_on sps h)) opens)
+    → Ok (order, counts) ≡ result_map (count_of sps h) (history_at_opening sps h history) → (order, counts) ≡ count_of sps h full
+counts_on sps h history full order counts opens told = ok_same (order, counts) (count_of sps h full) (told ∙ ap (result_map (count_of sps h)) opens)
 
 pub opened_state : (sps : Sps) (h : Header) (closed history : History) (order : ℤ) (counts : OrderCountState) (buffer : FrameBufferState) (set : Option Sps)
     → IsSps sps → (is_idr h ≡ true → has_idr_marking h ≡ true) → is_some h.marking ≡ is_reference h → buffer.failed ≡ false → closed ≡ history → set ≡ sequence_sps history
-    → history_at_opening sps h history ≡ Ok buffer.history → Ok (order, counts) ≡ result_map (count_on sps h) (history_at_opening sps h closed)
+    → history_at_opening sps h history ≡ Ok buffer.history → Ok (order, counts) ≡ result_map (count_of sps h) (history_at_opening sps h closed)
     → IsStateOf closed (Some (record { sps = sps; header = h; order = order })) buffer counts set
 opened_state sps h closed history order counts buffer set limits marking reference going rest is_set opens told =
     let opens' = ap (history_at_opening sps h) rest ∙ opens in
@@ -70,24 +73,130 @@ opened_state sps h closed history order counts buffer set limits marking referen
 
 -- ---- a picture is closed
 
--- the marks of an entry let it come
-closes_by : (e : Entry) (history : History) → is_ok (marks_of (e ∷ history)) ≡ true → (marks_of (e ∷ history) >>= λ m. Ok (e ∷ history)) ≡ Ok (e ∷ history)
-closes_by e history marked = by (marks_of (e ∷ history)) marked
+-- what an IDR picture finds
+history_there : (h : Header) (b : FrameBufferState) → (at_sequence_of h b).history ≡ earlier_in_sequence h b.history
+history_there h b = by (is_idr h)
   where
-    by : (r : Result Marks Fault) → is_ok r ≡ true → (r >>= λ m. Ok (e ∷ history)) ≡ Ok (e ∷ history)
+    by : (idr : Bool) → (elim idr as (λ _. FrameBufferState) [ true ↦ empty_frame_buffer b.output | false ↦ b ]).history ≡ elim idr as (λ _. History) [ true ↦ [] | false ↦ b.history ]
+    by true = refl
+    by false = refl
+
+output_there : (h : Header) (b : FrameBufferState) → (at_sequence_of h b).output ≡ b.output
+output_there h b = by (is_idr h)
+  where
+    by : (idr : Bool) → (elim idr as (λ _. FrameBufferState) [ true ↦ empty_frame_buffer b.output | false ↦ b ]).output ≡ b.output
+    by true = refl
+    by false = refl
+
+going_there : (h : Header) (b : FrameBufferState) → b.failed ≡ false → (at_sequence_of h b).failed ≡ false
+going_there h b going = by (is_idr h)
+  where
+    by : (idr : Bool) → (elim idr as (λ _. FrameBufferState) [ true ↦ empty_frame_buffer b.output | false ↦ b ]).failed ≡ false
+    by true = refl
+    by false = going
+
+-- The picture can be stored there.
+pub record CanStore (sps : Sps) (h : Header) (b : FrameBufferState) (order : ℤ) : Type 0 where
+  pub going : b.failed ≡ false
+  pub follows : CanFollow b.history sps h
+  pub order_is : order ≡ order_or_0 (order_counts sps h (pasts b.history))
+  pub first : is_idr h ≡ true → b.history ≡ []
+
+none_before : (h : Header) (before : History) → is_idr h ≡ true → earlier_in_sequence h before ≡ []
+none_before h before idr = ap (λ b. elim b as (λ _. History) [ true ↦ [] | false ↦ before ]) idr
+
+all_before : (h : Header) (before : History) → is_idr h ≡ false → earlier_in_sequence h before ≡ before
+all_before h before other = ap (λ b. elim b as (λ _. History) [ true ↦ [] | false ↦ before ]) other
+
+pub can_store : (closed : History) (p : OpenPicture) (b there : FrameBufferState) (prior : List Picture) → b.failed ≡ false → StandsOn closed b.history p
+    → BeginsSequence b p.header prior there → CanStore p.sps p.header there p.order
+can_store closed p b there prior going stands begins =
+    let is : there.history ≡ earlier_in_sequence p.header b.history = ap (λ (v : FrameBufferState). v.history) begins.state ∙ history_there p.header b in
+    record {
+      going = ap (λ (v : FrameBufferState). v.failed) begins.state ∙ going_there p.header b going;
+      follows = record {
+        idr = (stands.follows).idr;
+        same = λ other. ap (λ l. is_same_sps (sequence_sps l) p.sps) (is ∙ all_before p.header b.history other) ∙ (stands.follows).same other;
+        reference = (stands.follows).reference;
+      };
+      order_is = stands.order ∙ ap (λ l. order_or_0 (order_counts p.sps p.header (pasts l))) (sym is);
+      first = λ idr. is ∙ none_before p.header b.history idr;
+    }
+
+-- It was stored, and these pictures go out.
+pub record IsStoredOn (sps : Sps) (h : Header) (planes : Planes) (b : FrameBufferState) (out : List Picture) (after : FrameBufferState) : Type 0 where
+  pub going : after.failed ≡ false
+  pub history : after.history ≡ with_picture sps h planes b.history
+  pub output : after.output ≡ b.output
+  pub marked : is_ok (marks_of (with_picture sps h planes b.history)) ≡ true
+  pub pictures : out ≡ output_at_closing b.output h b.history (with_picture sps h planes b.history)
+
+pub stored_on : (sps : Sps) (h : Header) (planes : Planes) (b there after : FrameBufferState) (prior more out : List Picture) → BeginsSequence b h prior there
+    → Stores there (decoded_picture sps h planes) more after → out ≡ prior ++ more → IsStoredOn sps h planes b out after
+stored_on sps h planes b there after prior more out begins stores all =
+    let e = decoded_picture sps h planes in
+    let is : there.history ≡ earlier_in_sequence h b.history = ap (λ (v : FrameBufferState). v.history) begins.state ∙ history_there h b in
+    let output : there.output ≡ b.output = ap (λ (v : FrameBufferState). v.output) begins.state ∙ output_there h b in
+    record {
+      going = ap (λ (v : FrameBufferState). v.failed) stores.state;
+      history = ap (λ (v : FrameBufferState). v.history) stores.state ∙ ap (λ l. e ∷ l) is;
+      output = ap (λ (v : FrameBufferState). v.output) stores.state ∙ output;
+      marked = ap (λ l. is_ok (marks_of (e ∷ l))) (sym is) ∙ stores.marked;
+      pictures = all ∙ ap₂ (λ l r. l ++ r) begins.pictures (stores.pictures ∙ ap₂ (λ o l. output_pictures o l (e ∷ l)) output is);
+    }
+
+-- Nothing changed, and it could not be marked.
+pub record IsRefusedOn (sps : Sps) (h : Header) (planes : Planes) (b : FrameBufferState) (f : Fault) (after : FrameBufferState) : Type 0 where
+  pub same : after ≡ b
+  pub refused : marks_of (with_picture sps h planes b.history) ≡ Err f
+
+pub refused_on : (sps : Sps) (h : Header) (planes : Planes) (b there after : FrameBufferState) (prior : List Picture) (f : Fault) → (is_idr h ≡ true → has_idr_marking h ≡ true)
+    → BeginsSequence b h prior there → after ≡ there → marks_of (decoded_picture sps h planes ∷ there.history) ≡ Err f → IsRefusedOn sps h planes b f after
+refused_on sps h planes b there after prior f marking begins same refused = by (is_idr h) refl
+  where
+    e : Entry
+    e = decoded_picture sps h planes
+
+    is : there.history ≡ earlier_in_sequence h b.history
+    is = ap (λ (v : FrameBufferState). v.history) begins.state ∙ history_there h b
+
+    by : (idr : Bool) → is_idr h ≡ idr → IsRefusedOn sps h planes b f after
+    by true idr =
+        absurd (idr_not_refused h (picture_entry sps h) 0 no_marks f (marking idr)
+        (sym (ap (λ l. marks_of (e ∷ l)) (is ∙ none_before h b.history idr)) ∙ refused))
+    by false idr = record {
+      same = same ∙ begins.state ∙ ap (λ b'. elim b' as (λ _. FrameBufferState) [ true ↦ empty_frame_buffer b.output | false ↦ b ]) idr;
+      refused = ap (λ l. marks_of (e ∷ l)) (sym is) ∙ refused;
+    }
+
+-- the parameter set of the sequence then
+pub set_then : (sps : Sps) (h : Header) (planes : Planes) (before : History) (set : Option Sps) → set ≡ sequence_sps before
+    → set_with sps h set ≡ sequence_sps (with_picture sps h planes before)
+set_then sps h planes before set is = by (is_idr h)
+  where
+    by : (idr : Bool) → elim idr as (λ _. Option Sps) [ true ↦ Some sps | false ↦ set ]
+        ≡ elim idr as (λ _. Option Sps) [ true ↦ Some sps | false ↦ sequence_sps (elim idr as (λ _. History) [ true ↦ [] | false ↦ before ]) ]
+    by true = refl
+    by false = is
+
+-- the marks of an entry let it come
+closes_by : (history : History) → is_ok (marks_of history) ≡ true → (marks_of history >>= λ m. Ok history) ≡ Ok history
+closes_by history marked = by (marks_of history) marked
+  where
+    by : (r : Result Marks Fault) → is_ok r ≡ true → (r >>= λ m. Ok history) ≡ Ok history
     by (Ok m) t = refl
     by (Err f) t = absurd (false≢true t)
 
 pub is_closed : (old new : SequenceState) (o : OpenPictureStart) (planes : Planes) (frames : List (Frame 32)) (history : History) (out : List Picture) → old.failed ≡ false
-    → current_history old ≡ history → is_ok (marks_of (decoded_picture o.sps o.header planes ∷ history)) ≡ true
-    → new ≡ record { history = decoded_picture o.sps o.header planes ∷ history; open_picture = None; frames = frames; output = old.output; failed = false }
-    → out ≡ output_pictures old.output history (decoded_picture o.sps o.header planes ∷ history) → IsClosed old o planes out new
+    → current_history old ≡ history → is_ok (marks_of (with_picture o.sps o.header planes history)) ≡ true
+    → new ≡ record { history = with_picture o.sps o.header planes history; open_picture = None; frames = frames; output = old.output; failed = false }
+    → out ≡ output_at_closing old.output o.header history (with_picture o.sps o.header planes history) → IsClosed old o planes out new
 is_closed old new o planes frames history out going current marked state pictures =
     rw state (record {
       going = going;
       state = refl;
-      closes = ap (history_after_closing o.sps o.header planes) current ∙ closes_by (decoded_picture o.sps o.header planes) history marked;
-      pictures = pictures ∙ ap (λ h. output_pictures old.output h (decoded_picture o.sps o.header planes ∷ history)) (sym current);
+      closes = ap (history_after_closing o.sps o.header planes) current ∙ closes_by (with_picture o.sps o.header planes history) marked;
+      pictures = pictures ∙ ap (λ h. output_at_closing old.output o.header h (with_picture o.sps o.header planes history)) (sym current);
     })
 
 -- `o` is the open picture
@@ -95,18 +204,18 @@ pub open_is : (p : OpenPicture) (opened : Option OpenPicture) (o : OpenPictureSt
     → s.open_picture ≡ Some o → open_picture_of p ≡ o
 open_is p opened o s is seen told = same_Some (open_picture_of p) o (ap (option_map open_picture_of) (sym is) ∙ seen ∙ told)
 
-refused_by : (e : Entry) (history : History) (f : Fault) → marks_of (e ∷ history) ≡ Err f → (marks_of (e ∷ history) >>= λ m. Ok (e ∷ history)) ≡ Err f
-refused_by e history f told = by (marks_of (e ∷ history)) told
+refused_by : (history : History) (f : Fault) → marks_of history ≡ Err f → (marks_of history >>= λ m. Ok history) ≡ Err f
+refused_by history f told = by (marks_of history) told
   where
-    by : (r : Result Marks Fault) → r ≡ Err f → (r >>= λ m. Ok (e ∷ history)) ≡ Err f
+    by : (r : Result Marks Fault) → r ≡ Err f → (r >>= λ m. Ok history) ≡ Err f
     by (Ok m) t = search rules
     by (Err g) t = search rules
 
 -- it can't be closed
 pub closing_refused : (o : OpenPictureStart) (planes : Planes) (s : SequenceState) (history : History) (f : Fault) → current_history s ≡ history
-    → marks_of (decoded_picture o.sps o.header planes ∷ history) ≡ Err f → history_after_closing o.sps o.header planes (current_history s) ≡ Err f
+    → marks_of (with_picture o.sps o.header planes history) ≡ Err f → history_after_closing o.sps o.header planes (current_history s) ≡ Err f
 closing_refused o planes s history f current told =
-    ap (history_after_closing o.sps o.header planes) current ∙ refused_by (decoded_picture o.sps o.header planes) history f told
+    ap (history_after_closing o.sps o.header planes) current ∙ refused_by (with_picture o.sps o.header planes history) f told
 
 pub unchanged : (closed : History) (o o' : Option OpenPicture) (frames frames' : List (Frame 32)) (output output' : Output) (failed : Bool) (s : SequenceState) → o ≡ o' → frames' ≡ frames → output' ≡ output → failed ≡ false
     → record { history = closed; open_picture = option_map open_picture_of o; frames = frames; output = output; failed = failed } ≡ s
@@ -116,3 +225,8 @@ unchanged closed o o' frames frames' output output' failed s same_open same_fram
     ∙ ap₂ (λ (l : List (Frame 32)) (m : Output). record { history = closed; open_picture = option_map open_picture_of o; frames = l; output = m; failed = false }) same_frames same_output
     ∙ ap (λ b. record { history = closed; open_picture = option_map open_picture_of o; frames = frames; output = output; failed = b }) (sym going)
     ∙ seen
+
+-- the state with the open picture
+pub state_with : (closed : History) (o : Option OpenPicture) (p : OpenPicture) (b : FrameBufferState) (counts : OrderCountState) (set : Option Sps)
+    → IsStateOf closed o b counts set → o ≡ Some p → IsStateOf closed (Some p) b counts set
+state_with closed o p b counts set state is = subst (λ o. IsStateOf closed o b counts set) is state

@@ -2,7 +2,7 @@
 use Rattle.std.proofs.Common.{◌≡◌, ℕ, zero, suc, Bool, true, false, List, [], ◌∷◌, ◌++◌, map, Option, Some, None, refl, sym, subst}
 use Rattle.std.specs.Prelude.{◌==◌, count_by, slice_get, if◌then◌else◌}
 use Rattle.avc_dpb.specs.declared.output.Output.{Output}
-use Rattle.avc_dpb.specs.Bumping.{Arrival, Stored, Buffer, PriorPictures, remain, are_output, are_dropped, needed_frames, no_longer_held}
+use Rattle.avc_dpb.specs.Bumping.{Arrival, Stored, Buffer, PriorPictures, remain, are_output, needed_frames, no_longer_held}
 use Rattle.avc_dpb.specs.Bumping.{held_in_output_order, after_bumping, after_bumping_while, after_making_room, must_bump, with_frame}
 use Rattle.avc_dpb.specs.Bumping.{with_direct_output, is_full, after_placing, holds_too_many, after_frame, after_prior_pictures}
 use Rattle.avc_decoder_core.specs.FrameBufferFields.{Each}
@@ -59,4 +59,3 @@ each_after_frame P output entry a b own h =
 pub each_prior : (P : ℕ → Type 0) (prior : PriorPictures) (b : Buffer) → Stored_each P b.frames → Stored_each P (after_prior_pictures prior b).frames
 each_prior P remain b h = h
 each_prior P are_output b h = tt
-each_prior P are_dropped b h = tt

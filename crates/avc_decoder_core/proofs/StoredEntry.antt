@@ -21,11 +21,11 @@ use Rattle.avc_marking.specs.Frames.{MarksFrame, marks_at}
 use Rattle.avc_marking.specs.Marks.{Marks, frame_num_after_marking, marks_after, prev_ref_frame_num}
 use Rattle.avc_dpb.specs.declared.arriving_frame.ArrivingFrame.{ArrivingFrame}
 use Rattle.avc_dpb.specs.declared.output.Output.{Output}
-use Rattle.avc_dpb.specs.Bumping.{PriorPictures, are_dropped, are_output, remain}
+use Rattle.avc_dpb.specs.Bumping.{are_output, remain}
 use Rattle.avc_dpb.specs.Contents.{Contents, OutputsAll, Stores}
 use Rattle.avc_dpb.specs.StoredFrame.{shown_frame}
 use Rattle.avc_decoder_core.specs.Frames.{frame_at, frame_of, mark_in}
-use Rattle.avc_decoder_core.specs.FrameBufferFields.{is_output, IsStateAfter, OutputsPrior, places_in, with_all_marks}
+use Rattle.avc_decoder_core.specs.FrameBufferFields.{IsStateAfter, OutputsPrior, places_in, with_all_marks}
 use Rattle.avc_decoder_core.specs.History.{Entry, decoded_picture, missing_frame, History, arrival, buffer_of, marking_entries, marking_entry}
 use Rattle.avc_decoder_core.specs.History.{marks_of, or_no_references, order_or_0, pasts, picture_entry, prior_pictures_of, reorder_limit}
 use Rattle.avc_decoder_core.proofs.FramesAt.{entry_newest, last_mark}
@@ -88,13 +88,11 @@ taken e h c idx previous s follows limits old new new_idx old_is long marks afte
 pub outputs_none : (c : Contents (Frame 32)) → OutputsPrior remain c [] c
 outputs_none c = λ b next frame is. record { buffer = is; pictures = ap (filter_map (λ p. shown_frame (frame p))) (sym (drop-length b.out)) }
 
-output_is : (p : PriorPictures) → is_output p ≡ true → p ≡ are_output
-output_is remain e = wrong e
-output_is are_output e = refl
-output_is are_dropped e = wrong e
-
-pub all_output : (p : PriorPictures) (old new : Contents (Frame 32)) (out : List Picture) → is_output p ≡ true → OutputsAll shown_frame old out new → OutputsPrior p old out new
-all_output p old new out is outputs = subst (λ p. OutputsPrior p old out new) (sym (output_is p is)) outputs
+-- what a call made of the buffer where all pictures go out, which operation 5 asks for
+pub all_output : (five : Bool) (old new : Contents (Frame 32)) (out : List Picture) → five ≡ true → OutputsAll shown_frame old out new
+    → OutputsPrior (if five then are_output else remain) old out new
+all_output true old new out is outputs = outputs
+all_output false old new out is outputs = wrong is
 
 abbrev pub missing_arrival : (capacity : ℕ) → ArrivingFrame
 missing_arrival capacity = record { order = pos 0; existing = false; is_reference = true; capacity = capacity; max_num_reorder_frames = None }

@@ -15,7 +15,7 @@ use Rattle.avc_plane.specs.Frames.{marked_frame}
 use Rattle.avc_marking.specs.Marks.{Marks}
 use Rattle.avc_dpb.specs.declared.arriving_frame.ArrivingFrame.{ArrivingFrame}
 use Rattle.avc_dpb.specs.declared.output.Output.{Output}
-use Rattle.avc_dpb.specs.Bumping.{Buffer, PriorPictures, remain, are_output, are_dropped, after_frame, after_prior_pictures, is_reference_in}
+use Rattle.avc_dpb.specs.Bumping.{Buffer, PriorPictures, remain, are_output, after_frame, after_prior_pictures, is_reference_in}
 use Rattle.avc_dpb.specs.Contents.{Contents, HasBuffer, IsBuffer, Stores, arrival_of}
 use Rattle.avc_dpb.specs.Laws.{HasRoom, places_of_references}
 use Rattle.avc_dpb.specs.StoredFrame.{shown_frame}
@@ -62,7 +62,6 @@ pub kept : (rs : List Reference) (n : ℕ) (b : Buffer) (prior : PriorPictures) 
 kept rs n b prior false alone stays low = subst (λ p. places_of_references (entries rs) (after_prior_pictures p b) ≡ filter (is_entry rs) (places_in b)) (sym (stays refl)) (kept_remain rs b)
 kept rs n b remain true alone stays low = kept_remain rs b
 kept rs n b are_output true alone stays low = kept_alone rs n (places_in b) (alone refl) low
-kept rs n b are_dropped true alone stays low = kept_alone rs n (places_in b) (alone refl) low
 
 -- ---- the entry's own
 

@@ -8,7 +8,7 @@ use Rattle.avc_plane.specs.declared.frame.Frame.{Frame}
 use Rattle.avc_params.specs.Limits.{width_in_mbs, height_in_mbs, reference_limit}
 use Rattle.avc_params.specs.declared.sps.Sps.{Sps}
 use Rattle.avc_marking.specs.Marks.{Marks, frame_num_after_marking, prev_ref_frame_num}
-use Rattle.avc_dpb.specs.Bumping.{Buffer, PriorPictures, after_prior_pictures, are_dropped, are_output, remain}
+use Rattle.avc_dpb.specs.Bumping.{Buffer, PriorPictures, after_prior_pictures}
 use Rattle.avc_dpb.specs.Contents.{Contents, IsBuffer, HasBuffer}
 use Rattle.avc_dpb.specs.Laws.{IsWithin}
 use Rattle.avc_dpb.specs.StoredFrame.{shown_frame}
@@ -94,19 +94,7 @@ with_marks (f ∷ frames) (m ∷ marked) = record f { mark = m.mark } ∷ with_m
 abbrev pub with_all_marks : Contents (Frame 32) → List MarkedFrame → Contents (Frame 32)
 with_all_marks c marked = record c { frames = with_marks c.frames marked }
 
--- the pictures before are dropped
-abbrev pub is_dropping : PriorPictures → Bool
-is_dropping remain = false
-is_dropping are_output = false
-is_dropping are_dropped = true
-
--- they go out
-abbrev pub is_output : PriorPictures → Bool
-is_output remain = false
-is_output are_output = true
-is_output are_dropped = false
-
--- The pictures before have gone out, or were dropped, or remain (C.4.4).
+-- The pictures before have gone out, or remain (C.4.4).
 abbrev pub OutputsPrior : PriorPictures → (old : Contents (Frame 32)) (out : List Picture) (new : Contents (Frame 32)) → Type 0
 OutputsPrior prior old out new =
     (b : Buffer) (next : ℕ) (frame_of : ℕ → Frame 32) → IsBuffer old b next frame_of →

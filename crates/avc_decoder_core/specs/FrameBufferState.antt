@@ -12,7 +12,7 @@ use Rattle.avc_slice.specs.Header.{is_idr, is_reference, has_idr_marking}
 use Rattle.avc_slice.specs.declared.header.Header.{Header}
 use Rattle.avc_marking.specs.Marks.{Marks}
 use Rattle.avc_decoder_core.specs.History.{Entry, History, is_same_sps, marks_of, sequence_sps}
-use Rattle.avc_decoder_core.specs.Pictures.{output_pictures, held_pictures}
+use Rattle.avc_decoder_core.specs.Pictures.{output_pictures, held_pictures, prior_output}
 
 -- The history of decoded pictures and missing numbers, the stored frames with their marks in decoding order, when pictures go out,
 -- and whether memory was refused.
@@ -39,6 +39,16 @@ pub record Stores (old : FrameBufferState) (e : Entry) (out : List Picture) (new
   pub state : new ≡ record { history = e ∷ old.history; frames = new.frames; output = old.output; failed = false }
   pub marked : is_ok (marks_of (e ∷ old.history)) ≡ true
   pub pictures : out ≡ output_pictures old.output old.history (e ∷ old.history)
+
+-- what a picture with this header finds: an IDR picture no history
+abbrev pub at_sequence_of : Header → FrameBufferState → FrameBufferState
+at_sequence_of h b = elim (is_idr h) [ true ↦ empty_frame_buffer b.output | false ↦ b ]
+
+-- An IDR picture begins a sequence: what is held goes out, unless it is dropped (C.4.4), and the history is forgotten. At another
+-- picture nothing changes.
+pub record BeginsSequence (old : FrameBufferState) (h : Header) (out : List Picture) (new : FrameBufferState) : Type 0 where
+  pub state : new ≡ at_sequence_of h old
+  pub pictures : out ≡ prior_output old.output h old.history
 
 -- The entry could not be marked, and nothing changed, or memory was refused.
 abbrev pub Refuses : (old : FrameBufferState) → Result Marks Fault → PictureError → (new : FrameBufferState) → Type 0

@@ -1,4 +1,4 @@
--- The history of a sequence of pictures, and what decoding one more picture starts from. A history is written with its
+-- The history of a coded video sequence, and what decoding one more picture starts from. A history is written with its
 -- newest entry first; an entry's place is the number of those before it.
 use Rattle.std.specs.Prelude.{ℕ, zero, suc, ◌-◌, ℤ, pos, Bool, true, false, if◌then◌else◌, List, [], ◌∷◌, length, map, drop, Option, Some, None, slice_get, Result, Ok, Err}
 use Rattle.std.specs.Option.{option_map}
@@ -6,7 +6,7 @@ use Rattle.avc_types.specs.declared.current_frame_num.CurrentFrameNum.{CurrentFr
 use Rattle.avc_types.specs.declared.fault.Fault.{Fault}
 use Rattle.avc_types.specs.declared.fault.Fault.TheVariants as faults
 use Rattle.avc_types.specs.declared.references.Marking.{Marking}
-use Rattle.avc_types.specs.declared.references.Marking.TheVariants.{Idr, SlidingWindow}
+use Rattle.avc_types.specs.declared.references.Marking.TheVariants.{SlidingWindow}
 use Rattle.avc_types.specs.References.{Reference}
 use Rattle.avc_types.specs.Results.{◌>>=◌}
 use Rattle.avc_plane.specs.Planes.{Planes, StoredFrame}
@@ -18,7 +18,7 @@ use Rattle.avc_slice.specs.Header.{is_idr, is_reference, has_operation_5}
 use Rattle.avc_poc.specs.OrderCounts.{Counts, Past, picture, missing, order_counts, order_of}
 use Rattle.avc_marking.specs.Marks.{MarkingEntry, Marks, marks, prev_ref_frame_num, missing_frame_nums}
 use Rattle.avc_dpb.specs.declared.output.Output.{Output}
-use Rattle.avc_dpb.specs.Bumping.{PriorPictures, remain, are_output, are_dropped, Arrival, Buffer, buffer_after, held_in_output_order}
+use Rattle.avc_dpb.specs.Bumping.{PriorPictures, remain, are_output, Arrival, Buffer, buffer_after, held_in_output_order}
 
 -- A closed picture with its parameter set, its first slice's header and its planes; or a frame number
 -- that is missing (8.2.5.2).
@@ -26,7 +26,7 @@ pub data Entry : Type 0 where
   decoded_picture : Sps → Header → Planes → Entry
   missing_frame : Sps → (frame_num : ℕ) → Entry
 
--- all entries since decoding last started, the newest first
+-- all entries of a coded video sequence so far, the newest first: the oldest is its IDR picture (7.4.1.2.2)
 abbrev pub History : Type 0
 History = List Entry
 
@@ -85,18 +85,9 @@ or_no_references (Err f) = []
 abbrev pub references_of : History → List Reference
 references_of h = or_no_references (marks_of h)
 
--- What becomes of the pictures before: at an IDR picture they go out, or are dropped by
--- no_output_of_prior_pics_flag; with operation 5 they go out (C.4.4). That the flag is never
--- inferred is this decoder's rule.
-abbrev pub prior_pictures_under : (operation_5 : Bool) → Option Marking → PriorPictures
-prior_pictures_under operation_5 None = remain
-prior_pictures_under operation_5 (Some (Idr no_output_of_prior_pics long_term)) =
-    if no_output_of_prior_pics then are_dropped else are_output
-prior_pictures_under operation_5 (Some _) = if operation_5 then are_output else remain
-
--- the same by a picture's header (C.4.4)
+-- What becomes of the pictures of the sequence before: with operation 5 they go out (C.4.4).
 abbrev pub prior_pictures_of : Header → PriorPictures
-prior_pictures_of h = prior_pictures_under (has_operation_5 h) h.marking
+prior_pictures_of h = if has_operation_5 h then are_output else remain
 
 -- PicOrderCnt (8.2.1); 0 at a fault, at which there is no picture
 abbrev pub order_or_0 : Result Counts Fault → ℤ
@@ -166,6 +157,16 @@ stored h r = record { reference = r; planes = planes_in (entry_at h r.entry) }
 abbrev pub stored_frames : History → List StoredFrame
 stored_frames h = map (stored h) (references_of h)
 
+-- ---- coded video sequences (7.4.1.2.2)
+
+-- the entries before a picture in its coded video sequence: none before an IDR picture, which begins one (7.4.1.2.2)
+abbrev pub earlier_in_sequence : Header → (before : History) → History
+earlier_in_sequence h before = elim (is_idr h) [ true ↦ [] | false ↦ before ]
+
+-- the history with a closed picture: that of an IDR picture has it alone (7.4.1.2.2)
+abbrev pub with_picture : Sps → Header → Planes → (before : History) → History
+with_picture sps h planes before = decoded_picture sps h planes ∷ earlier_in_sequence h before
+
 -- ---- opening a picture (7.4.1.2.1, 7.4.3, 8.2.5.2)
 
 -- the parameter set of the sequence: that of the last IDR picture (7.4.1.2.1)
@@ -190,11 +191,12 @@ with_order_counts sps h history = order_counts sps h (pasts history) >>= λ c. O
 
 -- The history with the frame numbers that are missing before a picture of this header (7.4.3,
 -- 8.2.5.2), or the first of ParameterSetChanged, FrameNumGap, FrameNumRepeated, TooManyReferences and
--- PocRange (this decoder's rule).
+-- PocRange (this decoder's rule). Before an IDR picture, which is counted alone, the sequence before it
+-- stays until it is closed.
 abbrev pub history_at_opening : Sps → Header → History → Result History Fault
 history_at_opening sps h history =
     elim (is_idr h) [
-      | true ↦ with_order_counts sps h history
+      | true ↦ with_order_counts sps h [] >>= λ none. Ok history
       | false ↦ elim (is_same_sps (sequence_sps history) sps) [
         | false ↦ Err faults.ParameterSetChanged
         | true ↦ missing_frame_nums (prev_ref_frame_num (marking_entries history)) sps.gaps_in_frame_num_value_allowed_flag (picture_entry sps h)
@@ -207,4 +209,4 @@ history_at_opening sps h history =
 -- The history with the picture marked (8.2.5), or BadMarking or TooManyReferences.
 abbrev pub history_after_closing : Sps → Header → Planes → History → Result History Fault
 history_after_closing sps h planes history =
-    marks_of (decoded_picture sps h planes ∷ history) >>= λ m. Ok (decoded_picture sps h planes ∷ history)
+    marks_of (with_picture sps h planes history) >>= λ m. Ok (with_picture sps h planes history)

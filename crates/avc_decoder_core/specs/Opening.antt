@@ -10,7 +10,7 @@ use Rattle.avc_slice.specs.Header.{is_idr}
 use Rattle.avc_poc.specs.OrderCountState.{OrderCountState, order_count_state}
 use Rattle.avc_poc.specs.OrderCounts.{order_counts, picture}
 use Rattle.avc_marking.specs.Marks.{missing_frame_nums, prev_ref_frame_num}
-use Rattle.avc_decoder_core.specs.History.{History, missing_frame, is_same_sps, marking_entries, order_or_0, pasts, picture_entry, sequence_sps}
+use Rattle.avc_decoder_core.specs.History.{History, earlier_in_sequence, missing_frame, is_same_sps, marking_entries, order_or_0, pasts, picture_entry, sequence_sps}
 use Rattle.avc_decoder_core.specs.History.{with_order_counts}
 use Rattle.avc_decoder_core.specs.FrameBufferState.{FrameBufferState}
 use Rattle.avc_decoder_core.specs.Pictures.{output_pictures}
@@ -32,6 +32,10 @@ with_all_missing sps (n ∷ numbers) history = with_all_missing sps numbers (mis
 -- PicOrderCnt of a picture after this history, and what order counts keep once it has come
 abbrev pub count_on : Sps → Header → History → ℤ × OrderCountState
 count_on sps h history = (order_or_0 (order_counts sps h (pasts history)), order_count_state (picture sps h ∷ pasts history))
+
+-- the same of a picture that is opened on this history: an IDR picture is counted alone
+abbrev pub count_of : Sps → Header → History → ℤ × OrderCountState
+count_of sps h history = count_on sps h (earlier_in_sequence h history)
 
 -- the order counts of the history, or the fault
 abbrev pub counts_over : Result History Fault → Result OrderCountState Fault

@@ -1,14 +1,18 @@
 -- The pictures of a history as they are handed out (7.4.2.1.1, C.4).
-use Rattle.std.specs.Prelude.{ℕ, ◌*◌, List, [], ◌∷◌, Option, Some, None}
+use Rattle.std.specs.Prelude.{ℕ, ◌*◌, Bool, true, false, if◌then◌else◌, List, [], ◌∷◌, ◌++◌, Option, Some, None}
 use Rattle.std.specs.List.{flat_map}
 use Rattle.avc_types.specs.declared.picture.Crop.{Crop}
 use Rattle.avc_types.specs.declared.picture.Picture.{Picture}
+use Rattle.avc_types.specs.declared.references.Marking.{Marking}
+use Rattle.avc_types.specs.declared.references.Marking.TheVariants.{Idr}
 use Rattle.avc_dpb.specs.declared.output.Output.{Output}
 use Rattle.avc_plane.specs.Planes.{Planes}
 use Rattle.avc_params.specs.Limits.{width_in_mbs, height_in_mbs}
 use Rattle.avc_params.specs.declared.sps.Cropping.{Cropping}
 use Rattle.avc_params.specs.declared.sps.Sps.{Sps}
-use Rattle.avc_decoder_core.specs.History.{Entry, decoded_picture, missing_frame, History, entry_at, new_output, all_held}
+use Rattle.avc_slice.specs.Header.{is_idr}
+use Rattle.avc_slice.specs.declared.header.Header.{Header}
+use Rattle.avc_decoder_core.specs.History.{Entry, decoded_picture, missing_frame, History, earlier_in_sequence, entry_at, new_output, all_held}
 
 -- the cropping rectangle in luma samples (7.4.2.1.1): a unit of the offsets is two of them at 4:2:0
 abbrev pub crop_of : Option Cropping → Crop
@@ -48,3 +52,20 @@ output_pictures output old new = pictures_at new (new_output output old new)
 -- all held pictures, in the order in which they go out (C.4.5.3)
 abbrev pub held_pictures : Output → History → List Picture
 held_pictures output h = pictures_at h (all_held output h)
+
+-- ---- where a picture is closed (C.4.4)
+
+-- no_output_of_prior_pics_flag (7.4.3.3); that it is never inferred is this decoder's rule
+abbrev pub no_output_of_prior_pics : Option Marking → Bool
+no_output_of_prior_pics (Some (Idr no_output long_term)) = no_output
+no_output_of_prior_pics _ = false
+
+-- what goes out of the sequence before where a picture with this header is closed: before an IDR picture all that is held, or
+-- nothing by no_output_of_prior_pics_flag (C.4.4)
+abbrev pub prior_output : Output → Header → (before : History) → List Picture
+prior_output output h before =
+    elim (is_idr h) [ true ↦ (if no_output_of_prior_pics h.marking then [] else held_pictures output before) | false ↦ [] ]
+
+-- what goes out where a picture with this header is closed on the history `before`, which then is `after` (C.4.4, C.4.5)
+abbrev pub output_at_closing : Output → Header → (before after : History) → List Picture
+output_at_closing output h before after = prior_output output h before ++ output_pictures output (earlier_in_sequence h before) after

@@ -3,30 +3,22 @@ use Rattle.std.specs.Prelude.{◌≡◌, ℕ, ◌≤◌, true, false, IfSome, Li
 use Rattle.std.specs.Result.{is_ok}
 use Rattle.avc_dpb.specs.declared.output.Output.{Output}
 use Rattle.avc_dpb.specs.declared.output.Output.TheVariants.{Full, Early}
-use Rattle.avc_dpb.specs.Bumping.{are_dropped}
 use Rattle.avc_dpb.specs.Reordering.{reordered, whole_output}
 use Rattle.avc_params.specs.declared.sps.Sps.{Sps}
 use Rattle.avc_slice.specs.Header.{is_idr, has_idr_marking}
 use Rattle.avc_slice.specs.declared.header.Header.{Header}
-use Rattle.avc_decoder_core.specs.History.{decoded_picture, missing_frame, History, arrivals, is_same_sps, marks_of, prior_pictures_of}
-use Rattle.avc_decoder_core.specs.History.{reorder_limit, sequence_sps}
+use Rattle.avc_decoder_core.specs.History.{decoded_picture, missing_frame, History, arrivals, is_same_sps, marks_of, reorder_limit, sequence_sps}
 
 -- the places of all pictures of a history, in the order in which they go out in the end (C.4)
 abbrev pub output_order : Output → History → List ℕ
 output_order output h = whole_output output (arrivals h)
 
--- the place at which the newest sequence begins: that of the last IDR picture (7.4.1.2.1)
-abbrev pub sequence_start : History → ℕ
-sequence_start [] = 0
-sequence_start (decoded_picture sps h planes ∷ older) = elim (is_idr h) [ true ↦ length older | false ↦ sequence_start older ]
-sequence_start (missing_frame sps frame_num ∷ older) = sequence_start older
-
--- Of the pictures of the newest entry's sequence at most max_num_reorder_frames are decoded before it and go out after it, where
+-- Of the pictures of the sequence at most max_num_reorder_frames are decoded before the newest entry and go out after it, where
 -- pictures go out in this order (E.2.1).
 abbrev pub NewestIsWithin : (order : List ℕ) → History → Type 0
 NewestIsWithin order [] = Unit {0}
 NewestIsWithin order (decoded_picture sps h planes ∷ older) =
-    IfSome (reorder_limit sps) (λ most. reordered (sequence_start (decoded_picture sps h planes ∷ older)) (length older) order ≤ most)
+    IfSome (reorder_limit sps) (λ most. reordered 0 (length older) order ≤ most)
 NewestIsWithin order (missing_frame sps frame_num ∷ older) = Unit {0}
 
 -- the same of each entry
@@ -39,16 +31,11 @@ EachIsWithin order (e ∷ older) = NewestIsWithin order (e ∷ older) × EachIsW
 abbrev pub RespectsReorderNumbers : History → Type 0
 RespectsReorderNumbers h = EachIsWithin (output_order Full h) h
 
--- no_output_of_prior_pics_flag of no IDR picture but the first entry is 1 (7.4.3.3).
-abbrev pub DropsNothing : History → Type 0
-DropsNothing [] = Unit {0}
-DropsNothing (decoded_picture sps h planes ∷ older) = (prior_pictures_of h ≡ are_dropped → older ≡ []) × DropsNothing older
-DropsNothing (missing_frame sps frame_num ∷ older) = DropsNothing older
-
--- A picture with this header could come to the history: an IDR picture has the marking of one (7.3.3.3), another picture has the
--- parameter set of its sequence (7.4.1.2.1).
+-- A picture with this header could come to the history: an IDR picture has the marking of one (7.3.3.3) and begins the sequence
+-- (7.4.1.2.2), another picture has the parameter set of its sequence (7.4.1.2.1).
 pub record CanCome (sps : Sps) (h : Header) (older : History) : Type 0 where
   pub idr : is_idr h ≡ true → has_idr_marking h ≡ true
+  pub first : is_idr h ≡ true → older ≡ []
   pub same : is_idr h ≡ false → is_same_sps (sequence_sps older) sps ≡ true
 
 -- so could each of its pictures
@@ -57,9 +44,7 @@ EachCanCome [] = Unit {0}
 EachCanCome (decoded_picture sps h planes ∷ older) = CanCome sps h older × EachCanCome older
 EachCanCome (missing_frame sps frame_num ∷ older) = EachCanCome older
 
--- Where the reordering of pictures stays within its limits and none is dropped, early output hands them out in the order of full
--- output.
+-- Where the reordering of pictures stays within its limits, early output hands them out in the order of full output.
 abbrev pub EarlyOutputKeepsHistories : Type 0
 EarlyOutputKeepsHistories =
-    (h : History) → EachCanCome h → is_ok (marks_of h) ≡ true → DropsNothing h → RespectsReorderNumbers h →
-    output_order Early h ≡ output_order Full h
+    (h : History) → EachCanCome h → is_ok (marks_of h) ≡ true → RespectsReorderNumbers h → output_order Early h ≡ output_order Full h

@@ -13,14 +13,14 @@ use Rattle.avc_params.specs.Limits.{width_in_mbs, height_in_mbs}
 use Rattle.avc_params.specs.declared.sps.Sps.{Sps}
 use Rattle.avc_slice.specs.declared.header.Header.{Header}
 use Rattle.avc_decoder_core.specs.History.{History, history_at_opening, history_after_closing, sequence_sps, stored_frames}
-use Rattle.avc_decoder_core.specs.Pictures.{output_pictures, held_pictures}
+use Rattle.avc_decoder_core.specs.Pictures.{output_pictures, held_pictures, output_at_closing}
 
 -- the parameter set and the first slice's header of a picture that is being decoded
 pub record OpenPictureStart : Type 0 where
   pub sps : Sps
   pub header : Header
 
--- The history of closed pictures and missing numbers since the sequence was cleared, the picture that was opened on it, if there
+-- The history of the coded video sequence's closed pictures and missing numbers, the picture that was opened on it, if there
 -- is one, the stored frames with their marks in decoding order, when pictures go out, and whether memory was refused.
 pub record SequenceState : Type 0 where
   pub history : History
@@ -58,7 +58,7 @@ pub record IsClosed (old : SequenceState) (o : OpenPictureStart) (planes : Plane
   pub going : old.failed ≡ false
   pub state : new ≡ record { history = new.history; open_picture = None; frames = new.frames; output = old.output; failed = false }
   pub closes : history_after_closing o.sps o.header planes (current_history old) ≡ Ok new.history
-  pub pictures : out ≡ output_pictures old.output (current_history old) new.history
+  pub pictures : out ≡ output_at_closing old.output o.header (current_history old) new.history
 
 -- A call failed: with the fault in place of a history, and nothing changed, or for want of memory.
 abbrev pub Fails : (old : SequenceState) → Result History Fault → PictureError → (new : SequenceState) → Type 0

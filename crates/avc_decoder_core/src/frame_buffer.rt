@@ -1,13 +1,13 @@
 ghost use Rattle.std.specs.Prelude.{◌≡◌, ◌≢◌, [], ◌∷◌, ◌++◌, ◌≤◌, false, true, if◌then◌else◌, is_some, length, map, Some};
 ghost use Rattle.std.specs.Prelude.{IfErr, IfOk, OnErr, OnOk};
 ghost use Rattle.avc_types.specs.References.{result_map};
-ghost use Rattle.avc_decoder_core.specs.FrameBufferFields.{entry_of, frame_num_of, history_of, is_dropping, is_output, with_all_marks, OutputsPrior};
-ghost use Rattle.avc_decoder_core.specs.FrameBufferState.{empty_frame_buffer, CanFollow, IsEmptied, Refuses, Stores};
+ghost use Rattle.avc_decoder_core.specs.FrameBufferFields.{entry_of, frame_num_of, history_of, with_all_marks, OutputsPrior};
+ghost use Rattle.avc_decoder_core.specs.FrameBufferState.{empty_frame_buffer, BeginsSequence, CanFollow, IsEmptied, Refuses, Stores};
 ghost use Rattle.avc_decoder_core.specs.Frames.{coded_frame, frame_of};
 ghost use Rattle.avc_decoder_core.specs.History.{current_in, decoded_picture, is_same_sps, marking_entries};
 ghost use Rattle.avc_decoder_core.specs.History.{marks_of, missing_frame, order_or_0, pasts, picture_entry};
 ghost use Rattle.avc_decoder_core.specs.History.{prior_pictures_of, reorder_limit, sequence_sps};
-ghost use Rattle.avc_decoder_core.specs.Pictures.{held_pictures};
+ghost use Rattle.avc_decoder_core.specs.Pictures.{held_pictures, no_output_of_prior_pics};
 ghost use Rattle.avc_decoder_core.specs.SequenceState.{AreFramesIn, AreStoredIn};
 ghost use Rattle.avc_marking.specs.Marks.{missing_frame_nums, prev_ref_frame_num};
 ghost use Rattle.avc_decoder_core.specs.Gaps.{IsLongGap, KeepsTheSame, with_history};
@@ -16,6 +16,7 @@ ghost use Rattle.avc_params.specs.Limits.{height_in_mbs, reference_limit, width_
 ghost use Rattle.avc_params.specs.Within.{IsSps};
 ghost use Rattle.avc_plane.specs.Frames.{marked_frame, padded_planes_of, AreSized};
 ghost use Rattle.avc_poc.specs.OrderCounts.{order_counts};
+ghost use Rattle.avc_slice.specs.Header.{is_idr};
 
 use crate::cropping::crop_of;
 use crate::history_entry::HistoryEntry;
@@ -168,9 +169,9 @@ fn reorder_limit(sps: &Sps) -> Option<u32>
     }
 }
 
-/// no_output_of_prior_pics_flag drops the held pictures before an IDR picture (C.4.4).
-fn drops_prior_pictures(header: &Header) -> bool
-    ensures { result ≡ is_dropping (prior_pictures_of header.now) }
+/// no_output_of_prior_pics_flag (7.4.3.3).
+fn no_output_of_prior_pics(header: &Header) -> bool
+    ensures { result ≡ no_output_of_prior_pics header.now.marking }
 {
     matches!(
         header.marking,
@@ -181,22 +182,7 @@ fn drops_prior_pictures(header: &Header) -> bool
     )
 }
 
-/// Else they go out before an IDR picture, and with operation 5 (C.4.4).
-fn outputs_prior_pictures(header: &Header) -> bool
-    ensures { result ≡ is_output (prior_pictures_of header.now) }
-{
-    match header.marking {
-        Some(
-            Marking::Idr {
-                no_output_of_prior_pics_flag,
-                ..
-            },
-        ) => !no_output_of_prior_pics_flag,
-        _ => header.has_operation_5(),
-    }
-}
-
-/// What becomes of the held pictures before this one is stored (C.4.4). Answers those that go out.
+/// What becomes of the held pictures of the sequence before this one is stored (C.4.4). Answers those that go out.
 fn output_prior_pictures(
     alloc: Global,
     dpb: &mut Dpb<Frame<PADDING>>,
@@ -205,11 +191,7 @@ fn output_prior_pictures(
     ensures ok { IfOk result (λ out. OutputsPrior (prior_pictures_of header.now) dpb.old out.items dpb.new) }
     ensures kept { dpb.new.output ≡ dpb.old.output }
 {
-    if drops_prior_pictures(header) {
-        dpb.drop_all();
-        return Ok(Vec::new(alloc));
-    }
-    if !outputs_prior_pictures(header) {
+    if !header.has_operation_5() {
         return Ok(Vec::new(alloc));
     }
     let out = dpb.empty()?;
@@ -217,7 +199,7 @@ fn output_prior_pictures(
 }
 
 /// These pictures and then those.
-fn joined(mut pictures: Vec<Picture>, mut more: Vec<Picture>) -> Result<Vec<Picture>, OutOfMemory>
+pub fn joined(mut pictures: Vec<Picture>, mut more: Vec<Picture>) -> Result<Vec<Picture>, OutOfMemory>
     ensures { IfOk result (λ all. all.items ≡ pictures.items ++ more.items) }
 {
     if pictures.is_empty() {
@@ -353,6 +335,35 @@ impl FrameBuffer {
         self.history = history;
     }
 
+    /// Before an IDR picture, which begins a sequence, hands out all held pictures, or drops them by no_output_of_prior_pics_flag, and
+    /// forgets the history (C.4.4). Before another picture it does nothing.
+    pub fn begin_sequence(&mut self, header: &Header) -> Result<Vec<Picture>, OutOfMemory>
+        requires { self.old.failed ≡ false }
+        ensures ok { IfOk result (λ out. BeginsSequence self.old header.now out.items self.new) }
+        ensures err { OnErr result (self.new.failed ≡ true) }
+    {
+        if !header.is_idr() {
+            return Ok(Vec::new(self.alloc));
+        }
+        if no_output_of_prior_pics(header) {
+            self.drop_all();
+            return Ok(Vec::new(self.alloc));
+        }
+        let out = self.empty()?;
+        Ok(out)
+    }
+
+    /// Drops all frames, and forgets the history.
+    fn drop_all(&mut self)
+        requires { self.old.failed ≡ false }
+        ensures { self.new ≡ empty_frame_buffer self.old.output }
+    {
+        self.dpb.drop_all();
+        self.max_long_term_frame_idx = None;
+        self.prev_ref_frame_num = 0;
+        self.history = History::new();
+    }
+
     /// Marks a decoded picture (8.2.5.1) with this PicOrderCnt and stores it. `closed` becomes the history with it. Answers the
     /// pictures that go out.
     pub fn store_picture(
@@ -366,6 +377,7 @@ impl FrameBuffer {
         requires going { self.old.failed ≡ false }
         requires sps { IsSps sps.now }
         requires follows { CanFollow self.old.history sps.now header.now }
+        requires first { is_idr header.now ≡ true → self.old.history ≡ [] }
         requires order { order ≡ order_or_0 (order_counts sps.now header.now (pasts self.old.history)) }
         requires sized { AreSized (width_in_mbs sps.now) (height_in_mbs sps.now) (padded_planes_of planes) }
         ensures ok { IfOk result (λ out. Stores self.old (decoded_picture sps.now header.now (padded_planes_of planes)) out.items self.new) }

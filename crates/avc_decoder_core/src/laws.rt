@@ -1,36 +1,19 @@
-//! Laws of what goes out (C.4.5.3, E.2.1), and of what an IDR picture begins anew.
+//! Laws of what goes out (C.4.5.3, E.2.1), and of long gaps in frame_num.
 
 ghost use Rattle.avc_decoder_core.specs.Gaps.{LongGapsLeaveTheirEnd};
-ghost use Rattle.avc_decoder_core.specs.Laws.{MissingNumbersKeepTheOrder, IdrPicturesBeginAnew};
+ghost use Rattle.avc_decoder_core.specs.Laws.{MissingNumbersKeepTheOrder};
 ghost use Rattle.avc_decoder_core.specs.SequenceOrder.{EarlyOutputKeepsHistories};
 
-use avc_dpb::laws::{
-    all_held_go_out_before, early_output_keeps_the_order, later_frames_go_out_alike,
-    output_begins_anew,
-};
-use avc_marking::laws::{idr_pictures_mark_anew, marking_keeps_frames};
-use avc_poc::laws::{idr_pictures_count_alone, idr_pictures_count_anew};
+use avc_dpb::laws::early_output_keeps_the_order;
+use avc_marking::laws::marking_keeps_frames;
 
 /// What goes out for missing frame numbers goes first of what is held.
 pub fn missing_numbers_keep_the_order()
     ensures { MissingNumbersKeepTheOrder }
 {}
 
-/// Where all that is held goes out with an IDR picture, what is decoded from that picture on does not depend on the history
-/// before it.
-pub fn idr_pictures_begin_anew()
-    ensures { IdrPicturesBeginAnew }
-{
-    idr_pictures_count_anew();
-    idr_pictures_count_alone();
-    idr_pictures_mark_anew();
-    output_begins_anew();
-    all_held_go_out_before();
-    later_frames_go_out_alike();
-}
-
-/// Where the reordering of pictures stays within max_num_reorder_frames and none is dropped, early output hands them out in the order
-/// of full output (E.2.1).
+/// Where the reordering of pictures stays within max_num_reorder_frames, early output hands them out in the order of full output
+/// (E.2.1).
 pub fn early_output_keeps_histories()
     ensures { EarlyOutputKeepsHistories }
 {

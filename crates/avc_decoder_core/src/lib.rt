@@ -1,4 +1,4 @@
-//! The history of one sequence of pictures (8.2, C.4).
+//! The history of one coded video sequence (8.2, C.4).
 #![tactic(auto)]
 
 mod cropping;

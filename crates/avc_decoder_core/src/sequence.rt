@@ -3,7 +3,7 @@ ghost use Rattle.std.specs.Result.{is_ok};
 ghost use Rattle.avc_types.specs.References.{result_map};
 ghost use Rattle.avc_types.specs.declared.picture_error.PictureError.TheVariants.{OutOfMemory as NoMemory};
 ghost use Rattle.avc_decoder_core.specs.History.{history_after_closing, history_at_opening, is_same_sps, pasts, sequence_sps, with_missing};
-ghost use Rattle.avc_decoder_core.specs.Opening.{count_on, counts_over, missing_before, set_with, CountsMissing, CountsPicture, StoresAll};
+ghost use Rattle.avc_decoder_core.specs.Opening.{count_of, counts_over, missing_before, set_with, CountsMissing, CountsPicture, StoresAll};
 ghost use Rattle.avc_decoder_core.specs.SequenceState.{empty_sequence, current_history, Fails, AreFramesIn};
 ghost use Rattle.avc_decoder_core.specs.SequenceState.{AreSizedAs, AreStoredIn, HoldsPictures, IsCleared, IsClosed};
 ghost use Rattle.avc_decoder_core.specs.SequenceState.{IsOpened, OpenPictureStart};
@@ -12,7 +12,7 @@ ghost use Rattle.avc_plane.specs.Frames.{padded_planes_of};
 ghost use Rattle.avc_poc.specs.OrderCountState.{order_count_state};
 ghost use Rattle.avc_slice.specs.Header.{has_idr_marking, is_idr, is_reference};
 
-use crate::frame_buffer::FrameBuffer;
+use crate::frame_buffer::{FrameBuffer, joined};
 use crate::history_entry::HistoryEntry;
 use crate::missing_frames::store_missing;
 use crate::open_picture::OpenPicture;
@@ -26,8 +26,8 @@ use avc_types::{Fault, History, OutOfMemory, Picture, PictureError};
 use std::alloc::Global;
 use std::marker::Model;
 
-/// The closed pictures of a stream since it was cleared, as far as later pictures and output need them. After want of memory it
-/// answers so from then on.
+/// The closed pictures of a coded video sequence, as far as later pictures and output need them. After want of memory it answers so
+/// from then on.
 #[derive(Drop)]
 pub struct Sequence {
     alloc: Global,
@@ -208,17 +208,18 @@ impl Sequence {
         requires going { self.now.failed ≡ false }
         requires rest { self.now.open_picture ≡ None }
         requires sps { IsSps sps.now }
-        ensures { result ≡ result_map (count_on sps.now header.now) (history_at_opening sps.now header.now self.now.history) }
+        ensures { result ≡ result_map (count_of sps.now header.now) (history_at_opening sps.now header.now self.now.history) }
     {
         if header.is_idr() {
-            return next_count(self.poc.copied(), header, sps);
+            return next_count(Poc::new(), header, sps);
         }
         let numbers = missing_frame_nums(&self.buffer, &self.sps, header, sps)?;
         let poc = after_missing(&self.buffer, self.poc.copied(), numbers, sps)?;
         next_count(poc, header, sps)
     }
 
-    /// Closes the open picture, whose samples are these: marks it, and lets pictures go out. Answers these.
+    /// Closes the open picture, whose samples are these: marks it, and lets pictures go out. Answers these. With an IDR picture the
+    /// history begins anew.
     pub fn close(&mut self, planes: PaddedPlanes<PADDING>) -> Result<Vec<Picture>, PictureError>
         requires picture { self.old.failed ≡ false → is_some self.old.open_picture ≡ true }
         requires sized { (o : OpenPictureStart) → self.old.open_picture ≡ Some o → AreSizedAs o (padded_planes_of planes) }
@@ -235,6 +236,7 @@ impl Sequence {
             unreachable!()
         };
         self.failed = true;
+        let prior = self.buffer.begin_sequence(&open_picture.header)?;
         match self.buffer.store_picture(
             &open_picture.sps,
             &open_picture.header,
@@ -242,7 +244,8 @@ impl Sequence {
             planes,
             &mut self.closed,
         ) {
-            Ok(out) => {
+            Ok(more) => {
+                let out = joined(prior, more)?;
                 self.sps = set_after(self.sps.take(), open_picture);
                 self.failed = false;
                 Ok(out)

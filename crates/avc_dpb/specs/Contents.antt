@@ -5,7 +5,7 @@ use Rattle.avc_types.specs.declared.references.Mark.{Mark}
 use Rattle.avc_dpb.specs.declared.slot.Slot.{Slot}
 use Rattle.avc_dpb.specs.declared.arriving_frame.ArrivingFrame.{ArrivingFrame}
 use Rattle.avc_dpb.specs.declared.output.Output.{Output}
-use Rattle.avc_dpb.specs.Bumping.{Arrival, remain, Stored, Buffer, is_reference_in, new_output, after_frame, after_prior_pictures, are_dropped, with_all_output}
+use Rattle.avc_dpb.specs.Bumping.{Arrival, remain, Stored, Buffer, is_reference_in, new_output, after_frame, with_all_output}
 
 -- the stored frames in decoding order, and beside each what output keeps of it; when pictures go out; whether memory was
 -- refused
@@ -79,12 +79,6 @@ abbrev pub OutputsSome : {T P : Type 0} → (shown : T → Option P) (old : Cont
 OutputsSome {T} {P} shown old =
     (b : Buffer) (next : ℕ) (frame_of : ℕ → T) → IsBuffer old b next frame_of →
     filter_map (λ entry. shown (frame_of entry)) (new_output b (with_all_output b)) ≢ []
-
--- All frames are dropped, and no picture goes out (C.4.4, no_output_of_prior_pics_flag 1).
-abbrev pub DropsAll : {T : Type 0} → (old new : Contents T) → Type 0
-DropsAll {T} old new =
-    (b : Buffer) (next : ℕ) (frame_of : ℕ → T) → IsBuffer old b next frame_of →
-    IsBuffer new (after_prior_pictures are_dropped b) next frame_of
 
 -- the frame at a place is held
 abbrev pub is_held_at : List Slot → (place : ℕ) → Bool

@@ -2,7 +2,7 @@
 use Rattle.std.specs.Prelude.{◌≡◌, ℕ, ◌+◌, ◌<◌, ◌≤◌, pos, ◌==◌, ◌≤ℤ◌, if◌then◌else◌, true, false, not, ◌||◌, List, [], ◌∷◌, ◌++◌, length, map, count_by, slice_get, Option, Some, None}
 use Rattle.std.specs.List.{filter, list_any}
 use Rattle.avc_dpb.specs.declared.output.Output.{Output}
-use Rattle.avc_dpb.specs.Bumping.{PriorPictures, remain, are_output, are_dropped, Arrival, Stored, Buffer, held_in_output_order, is_reference_in, needed_frames, after_bumping, after_bumping_while, with_all_output, after_prior_pictures, after_frame, after_entry, buffer_after, new_output}
+use Rattle.avc_dpb.specs.Bumping.{remain, Arrival, Stored, Buffer, held_in_output_order, is_reference_in, needed_frames, after_bumping, after_bumping_while, with_all_output, after_prior_pictures, after_frame, after_entry, buffer_after, new_output}
 use Rattle.avc_dpb.specs.Contents.{IsRising}
 
 -- ---- C.4.5.3
@@ -69,31 +69,15 @@ abbrev pub occurrences : (place : ℕ) → List ℕ → ℕ
 occurrences place [] = 0
 occurrences place (n ∷ places) = (if n == place then 1 else 0) + occurrences place places
 
--- the places of those that are held
-abbrev pub held_places : List Stored → List ℕ
-held_places frames = map (λ s. s.entry) (filter (λ s. s.held) frames)
-
--- the places of all pictures that were dropped
-abbrev pub dropped_by : PriorPictures → Buffer → List ℕ
-dropped_by remain b = []
-dropped_by are_output b = []
-dropped_by are_dropped b = held_places b.frames
-
--- over a history: those that no_output_of_prior_pics_flag dropped
-abbrev pub dropped : Output → List Arrival → List ℕ
-dropped output [] = []
-dropped output (a ∷ older) = dropped output older ++ dropped_by a.prior_pictures (buffer_after output older)
-
 -- the places of all pictures: of all entries but the non-existing frames
 abbrev pub pictures : List Arrival → List ℕ
 pictures [] = []
 pictures (a ∷ older) = pictures older ++ (if a.existing then length older ∷ [] else [])
 
--- Each picture goes out once in the end, or was dropped, and nothing else goes out.
+-- Each picture goes out once in the end, and nothing else goes out.
 abbrev pub GoesOutOnce : Type 0
 GoesOutOnce = (output : Output) (history : List Arrival) (place : ℕ)
-    → occurrences place (with_all_output (buffer_after output history)).out + occurrences place (dropped output history)
-    ≡ occurrences place (pictures history)
+    → occurrences place (with_all_output (buffer_after output history)).out ≡ occurrences place (pictures history)
 
 -- ---- the frames that stay
 
@@ -147,41 +131,3 @@ MissingFramesFindRoom = (output : Output) (entry capacity : ℕ) (references : L
     → length (needed_frames references b.frames) + 1 ≤ capacity
     → after_entry output entry (missing_arrival capacity references) b
     ≡ record { frames = needed_frames references b.frames ++ missing_stored entry ∷ []; out = b.out }
-
--- ---- a history that begins anew
-
--- a frame that stands n places later
-abbrev pub moved_frame : ℕ → Stored → Stored
-moved_frame n s = record s { entry = s.entry + n }
-
--- a buffer whose frames stand n places later, after these places have gone out
-abbrev pub moved_buffer : (n : ℕ) → (before : List ℕ) → Buffer → Buffer
-moved_buffer n before b =
-    record { frames = map (moved_frame n) b.frames; out = before ++ map (λ place. place + n) b.out }
-
--- an entry whose reference frames stand n places later
-abbrev pub moved_arrival : ℕ → Arrival → Arrival
-moved_arrival n a = record a { references = map (λ place. place + n) a.references }
-
--- Where all that is held goes out with an entry, output begins anew with it (C.4.4): what the entries
--- before it have put out stays in front, and all places are greater by their number.
-abbrev pub OutputBeginsAnew : Type 0
-OutputBeginsAnew = (output : Output) (older xs : List Arrival) (a : Arrival) → a.prior_pictures ≡ are_output
-    → buffer_after output (map (moved_arrival (length older)) xs ++ moved_arrival (length older) a ∷ older)
-    ≡ moved_buffer (length older) (with_all_output (buffer_after output older)).out (buffer_after output (xs ++ a ∷ []))
-
--- With that entry goes out what is held, and then what goes out with the entry alone.
-abbrev pub AllHeldGoOutBefore : Type 0
-AllHeldGoOutBefore = (output : Output) (older : List Arrival) (a : Arrival) → a.prior_pictures ≡ are_output
-    → new_output (buffer_after output older) (buffer_after output (moved_arrival (length older) a ∷ older))
-    ≡ held_in_order (buffer_after output older) ++ map (λ place. place + length older) (buffer_after output (a ∷ [])).out
-
--- A buffer whose frames stand n places later holds and puts out the same pictures, n places later.
-pub record PutsOutLater (n : ℕ) (before : List ℕ) : Type 0 where
-  pub held : (b : Buffer) → held_in_order (moved_buffer n before b) ≡ map (λ place. place + n) (held_in_order b)
-  pub goes_out : (old new : Buffer)
-      → new_output (moved_buffer n before old) (moved_buffer n before new) ≡ map (λ place. place + n) (new_output old new)
-
--- the same of any number of places, whatever has gone out before
-abbrev pub LaterFramesGoOutAlike : Type 0
-LaterFramesGoOutAlike = (n : ℕ) (before : List ℕ) → PutsOutLater n before

@@ -3,7 +3,7 @@ use Rattle.std.specs.Prelude.{◌≡◌, ◌⊎◌, ℕ, ◌≤◌, ◌==◌, na
 use Rattle.std.specs.List.{list_any}
 use Rattle.avc_dpb.specs.declared.output.Output.{Output}
 use Rattle.avc_dpb.specs.declared.output.Output.TheVariants.{Full, Early}
-use Rattle.avc_dpb.specs.Bumping.{remain, are_output, are_dropped, Arrival, with_all_output, buffer_after}
+use Rattle.avc_dpb.specs.Bumping.{remain, are_output, Arrival, with_all_output, buffer_after}
 
 -- ---- max_num_reorder_frames (E.2.1)
 
@@ -23,10 +23,10 @@ reordered first place order = count_by (λ p. nat_le first p && nat_lt p place) 
 
 -- ---- early output
 
--- the place of the last entry with which the pictures before went out or were dropped (C.4.4)
+-- the place of the last entry with which the pictures before went out (C.4.4)
 abbrev pub last_emptying : List Arrival → ℕ
 last_emptying [] = 0
-last_emptying (a ∷ older) = elim a.prior_pictures [ remain ↦ last_emptying older | are_output ↦ length older | are_dropped ↦ length older ]
+last_emptying (a ∷ older) = elim a.prior_pictures [ remain ↦ last_emptying older | are_output ↦ length older ]
 
 -- how many pictures may stay held after these entries: non-existing frames set no limit
 abbrev pub limit_after : List Arrival → Option ℕ
@@ -41,16 +41,14 @@ references_after (a ∷ older) = a.references
 -- An entry after these others. `within` is what a stream owes that respects its number of reordered pictures (E.2.1): of its pictures no
 -- more go out late than may, in this order; the rest holds of the entries of every decoding.
 pub record CanGoOutEarly (order : List ℕ) (a : Arrival) (older : List Arrival) : Type 0 where
-  -- nothing is dropped that was held
-  pub drops : a.prior_pictures ≡ are_dropped → older ≡ []
   -- It adds no reference frame but its own (8.2.5).
   pub references : (r : ℕ) → list_any (λ p. p == r) a.references ≡ true →
       (r ≡ length older) ⊎ (list_any (λ p. p == r) (references_after older) ≡ true)
   -- A non-existing frame is a reference frame, and sets no limit (8.2.5.2).
   pub non_existing : a.existing ≡ false → list_any (λ p. p == length older) a.references ≡ true
   pub no_limit : a.existing ≡ false → a.max_num_reorder_frames ≡ None
-  -- The limit stays as long as no new sequence begins.
-  pub limit : a.existing ≡ true → a.prior_pictures ≡ remain → a.max_num_reorder_frames ≡ limit_after older
+  -- All pictures have one limit.
+  pub limit : a.existing ≡ true → (older ≡ []) ⊎ (a.max_num_reorder_frames ≡ limit_after older)
   pub within : a.existing ≡ true →
       IfSome a.max_num_reorder_frames (λ most. reordered (last_emptying (a ∷ older)) (length older) order ≤ most)
 

@@ -3,7 +3,7 @@ ghost use Rattle.std.specs.Prelude.{if◌then◌else◌, length, map, slice_get,
 ghost use Rattle.std.specs.Prelude.{IsErr, IfSome, Some};
 ghost use Rattle.std.specs.List.{filter, filter_map};
 ghost use Rattle.avc_dpb.specs.Bumping.{empty_buffer};
-ghost use Rattle.avc_dpb.specs.Contents.{DropsAll, IsBuffer, OutputsAll, OutputsSome, Stores, is_held_at, with_mark};
+ghost use Rattle.avc_dpb.specs.Contents.{IsBuffer, OutputsAll, OutputsSome, Stores, is_held_at, with_mark};
 ghost use Rattle.avc_dpb.specs.Steps.{IsPlaced, IsReordered};
 ghost use Rattle.avc_dpb.specs.Places.{is_needed, needed_items, items_at, with_references};
 
@@ -144,7 +144,6 @@ impl<T: BufferedFrame + Drop> Dpb<T> {
     /// Drops all frames; no picture goes out (C.4.4, no_output_of_prior_pics_flag 1).
     pub fn drop_all(&mut self)
         ensures value { self.new ≡ record { slots = []; frames = []; output = self.old.output; failed = self.old.failed } }
-        ensures buffer { DropsAll self.old self.new }
     {
         self.slots.clear();
         empty_all(&mut self.frames, &mut self.emptied);

@@ -3,7 +3,6 @@
 ghost use Rattle.avc_dpb.specs.Laws.{LeastGoesOut, AllGoOutByBumping, AllHeldGoOut, StandsInDecodingOrder};
 ghost use Rattle.avc_dpb.specs.Laws.{OutOnlyGrows, GoesOutInTurn, HoldsAtMost, GoesOutOnce};
 ghost use Rattle.avc_dpb.specs.Laws.{MissingFramesKeepTheOrder, MissingFramesFindRoom, ReferencesStay};
-ghost use Rattle.avc_dpb.specs.Laws.{OutputBeginsAnew, AllHeldGoOutBefore, LaterFramesGoOutAlike};
 ghost use Rattle.avc_dpb.specs.Reordering.{EarlyOutputKeepsTheOrder};
 
 /// Bumping puts out the held picture with the least order count, of equals the one that was decoded first (C.4.5.3).
@@ -41,7 +40,7 @@ pub fn holds_at_most()
     ensures { HoldsAtMost }
 {}
 
-/// Each picture goes out once in the end, unless it was dropped, and nothing else goes out.
+/// Each picture goes out once in the end, and nothing else goes out.
 pub fn goes_out_once()
     ensures { GoesOutOnce }
 {}
@@ -59,21 +58,6 @@ pub fn missing_frames_find_room()
 /// Reference frames stay in the buffer, and the arriving frame with them if it is one (C.4.5.1).
 pub fn references_stay()
     ensures { ReferencesStay }
-{}
-
-/// Where all held pictures go out with an entry, what goes out from it on doesn't depend on the entries before it (C.4.4).
-pub fn output_begins_anew()
-    ensures { OutputBeginsAnew }
-{}
-
-/// With an entry with which output begins anew goes out all that is held, and then what goes out with the entry alone.
-pub fn all_held_go_out_before()
-    ensures { AllHeldGoOutBefore }
-{}
-
-/// A buffer whose frames stand later in the history holds and puts out the same pictures, so many places later.
-pub fn later_frames_go_out_alike()
-    ensures { LaterFramesGoOutAlike }
 {}
 
 /// Where the reordering of pictures stays within its limits, early output hands them out in the order of full output (E.2.1).

@@ -101,22 +101,3 @@ WindowTakesTheFirst =
     IsFullWindow place entry (limit_of s) longs (first ∷ shorts) → CountFrom max low number (first ∷ shorts) → number < low + max →
     m.references ≡ longs ++ first ∷ shorts →
     marks_after s entry (Some SlidingWindow) m ≡ Ok (record m { references = (longs ++ shorts) ++ current_frame s entry Short ∷ [] })
-
--- ---- what an IDR picture leaves of the entries before it
-
--- the frame, which stands n places later in the history
-abbrev pub moved_reference : (n : ℕ) → Reference → Reference
-moved_reference n r = record r { entry = r.entry + n }
-
--- marks whose frames stand n places later
-abbrev pub moved_marks : (n : ℕ) → Marks → Marks
-moved_marks n m = record m { references = map (moved_reference n) m.references }
-
--- Marks from an IDR picture on do not depend on what stands before it, but for the places of the frames
--- (8.2.5.1), and PrevRefFrameNum does not at all (7.4.3).
-abbrev pub IdrPicturesMarkAnew : Type 0
-IdrPicturesMarkAnew =
-    (e : MarkingEntry) (older xs : List MarkingEntry) (no_output long_term : Bool) →
-    e.marking ≡ Some (Idr no_output long_term) → is_ok (marks older) ≡ true →
-    (marks (xs ++ e ∷ older) ≡ result_map (moved_marks (length older)) (marks (xs ++ e ∷ [])))
-    × (prev_ref_frame_num (xs ++ e ∷ older) ≡ prev_ref_frame_num (xs ++ e ∷ []))

@@ -1,5 +1,5 @@
 ghost use Rattle.avc_marking.specs.Laws.{StaysLimited, IsLimited, AddsOwnFrameAlone, LeavesOwnFrameAlone, SlidesAgain};
-ghost use Rattle.avc_marking.specs.Laws.{IdrPicturesMarkAnew, WindowTakesTheFirst};
+ghost use Rattle.avc_marking.specs.Laws.{WindowTakesTheFirst};
 
 /// There are never more reference frames than max(max_num_ref_frames, 1). It does nothing at run time.
 pub fn references_are_limited()
@@ -25,10 +25,4 @@ pub fn sliding_window_can_go_on()
 /// The sliding window takes the first of short-term frames whose numbers rise. It does nothing at run time.
 pub fn window_takes_the_first()
     ensures { WindowTakesTheFirst }
-{}
-
-/// Marks from an IDR picture on do not depend on what stands before it, but for the places of the
-/// frames. It does nothing at run time.
-pub fn idr_pictures_mark_anew()
-    ensures { IdrPicturesMarkAnew }
 {}

@@ -1,5 +1,5 @@
--- Picture order counts (8.2.1), from the history: the closed pictures and the missing frame numbers since the decoder last
--- started running, in decoding order. A history is written with its newest entry first.
+-- Picture order counts (8.2.1), from the history: the closed pictures and the missing frame numbers of a coded video sequence, in
+-- decoding order. A history is written with its newest entry first.
 use Rattle.std.specs.Prelude.{ℕ, zero, suc, ◌+◌, ◌-◌, ◌*◌, ◌/◌, ◌%◌, ◌^◌, ℤ, pos, neg_ℤ, ◌+ℤ◌, ◌-ℤ◌, ◌*ℤ◌, int_lt, int_le, Bool, true, false, ◌&&◌, nat_lt, if◌then◌else◌, List, [], ◌∷◌, length, take, Result, Ok, Err}
 use Rattle.std.specs.Int.{int_min}
 use Rattle.avc_types.specs.declared.fault.Fault.{Fault}

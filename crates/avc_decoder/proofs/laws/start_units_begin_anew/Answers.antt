@@ -2,4 +2,4 @@ use Rattle.avc_decoder.proofs.StartUnits.{start_units}
 use Rattle.avc_decoder.proofs.laws.start_units_begin_anew.Goals as goal
 
 pub returns : goal.returns
-returns c = start_units c.headers_keep_idr_rules.ensures c.idr_pictures_begin_anew.ensures c.pictures_name_no_places.ensures
+returns c = start_units c.headers_keep_idr_rules.ensures

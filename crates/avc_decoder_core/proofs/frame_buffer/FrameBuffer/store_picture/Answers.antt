@@ -107,7 +107,7 @@ stored c =
     record {
       history = ap history_of c.with_newest-history.ensures ∙ ap (λ e. e ∷ h) same;
       taken =
-          taken e h i.dpb idx i.prev_ref_frame_num state (follows, c.requires.sized) c.requires.sps old new new_idx
+          taken e h i.dpb idx i.prev_ref_frame_num state (follows, c.requires.sized, λ idr. before ∙ c.requires.first idr) c.requires.sps old new new_idx
           (c.marked_frames-marked.ensures ∙ ap (map marked_frame) c.frames.ensures) c.in_ok-mark.ensures.length marks
           c.set_marks.new.dpb c.output_prior_pictures.new.dpb c.store.new.self set
           c.in_ok-prior.prior.items c.in_ok-more.more.items c.in_ok-prior.ensures.ok c.in_ok-prior.ensures.kept

@@ -1,19 +1,77 @@
-use Rattle.std.proofs.Common.{◌≡◌, ◌∷◌, ◌∙◌, ap, ap₂, sym, subst, false, Err, None, Some, Option, List}
+use Rattle.std.proofs.Common.{◌≡◌, ◌∷◌, ◌∙◌, ap, ap₂, sym, subst, false, Err, None, Some, Option, List, to_z, of_z, w32, rules}
 use Rattle.std.specs.Option.{option_map}
 use Rattle.avc_types.specs.declared.picture_error.PictureError.{PictureError}
 use Rattle.avc_types.specs.declared.picture_error.PictureError.TheVariants.{Fault as Faulty}
+use Rattle.avc_types.specs.declared.fault.Fault.{Fault}
 use Rattle.avc_dpb.specs.declared.output.Output.{Output}
 use Rattle.avc_plane.specs.Frames.{padded_planes_of}
+use Rattle.avc_plane.specs.Planes.{Planes}
+use Rattle.avc_poc.specs.OrderCountState.{order_count_state}
 use Rattle.avc_decoder_core.specs.declared.history_entry.HistoryEntry.{HistoryEntry}
 use Rattle.avc_decoder_core.specs.declared.open_picture.OpenPicture.{OpenPicture}
+use Rattle.avc_decoder_core.specs.declared.sequence.Sequence.TheInside.{Inside}
 use Rattle.avc_decoder_core.specs.FrameBufferFields.{history_of}
 use Rattle.avc_decoder_core.specs.FrameBufferState.{FrameBufferState, Refuses}
-use Rattle.avc_decoder_core.specs.History.{History, decoded_picture, marks_of}
-use Rattle.avc_decoder_core.specs.Pictures.{output_pictures}
-use Rattle.avc_decoder_core.specs.SequenceFields.{open_picture_of}
+use Rattle.avc_decoder_core.specs.History.{History, decoded_picture, marks_of, pasts, sequence_sps, with_picture}
+use Rattle.avc_decoder_core.specs.Pictures.{output_at_closing}
+use Rattle.avc_decoder_core.specs.SequenceFields.{IsSequenceState, IsStateOf, open_picture_of}
 use Rattle.avc_decoder_core.specs.SequenceState.{SequenceState, IsClosed, OpenPictureStart}
-use Rattle.avc_decoder_core.proofs.Sequences.{closing_refused, current_is, is_closed, open_is, unchanged}
+use Rattle.avc_decoder_core.proofs.Sequences.{CanStore, IsRefusedOn, IsStoredOn, can_store, closing_refused, current_is, is_closed, open_is, refused_on, set_then, state_with}
+use Rattle.avc_decoder_core.proofs.Sequences.{stored_on, unchanged}
 use Rattle.avc_decoder_core.proofs.sequence.Sequence.close.Goals as goal
+
+-- the state on which the picture stands
+kept : (s : Inside) (p : OpenPicture) → IsSequenceState s → s.failed ≡ false → s.open_picture ≡ Some p
+    → IsStateOf (history_of s.closed.items) (Some p) s.buffer s.poc s.sps
+kept s p invariant going opened = state_with (history_of s.closed.items) s.open_picture p s.buffer s.poc s.sps (invariant going) opened
+
+-- what the picture finds
+begun : (c : goal.After-store_picture-arg-4-1) → CanStore c.in-Some.open_picture.sps c.in-Some.open_picture.header c.begin_sequence.new.self c.in-Some.open_picture.order
+begun c =
+    let s = c.self.inside in
+    let p = c.in-Some.open_picture in
+    let state = kept s p c.self.invariant c.if-self.false (sym c.take.ensures.value ∙ c.in-Some.is) in
+    can_store (history_of s.closed.items) p s.buffer c.begin_sequence.new.self c.in_ok-prior.prior.items state.going state.stands c.in_ok-prior.ensures.ok
+
+pub store_picture-requires : goal.store_picture-requires
+store_picture-requires c =
+    let s = c.self.inside in
+    let p = c.in-Some.open_picture in
+    let opened : s.open_picture ≡ Some p = sym c.take.ensures.value ∙ c.in-Some.is in
+    let state = kept s p c.self.invariant c.if-self.false opened in
+    let can = begun c in
+    let back : to_z w32 (of_z w32 p.order) ≡ p.order = search rules in
+    record {
+      going = can.going;
+      sps = state.stands.limits;
+      follows = can.follows;
+      first = can.first;
+      order = back ∙ can.order_is;
+      sized = c.requires.sized (open_picture_of p) (sym (ap (λ (v : SequenceState). v.open_picture) c.self.view_is) ∙ ap (option_map open_picture_of) opened);
+    }
+
+stored : (c : goal.After-self-in-Ok-2-1) → IsStoredOn c.in-Some.open_picture.sps c.in-Some.open_picture.header (padded_planes_of c.args.planes) c.self.inside.buffer c.in_ok-out-in-Ok.out.items c.store_picture.new.self
+stored c =
+    let p = c.in-Some.open_picture in
+    stored_on p.sps p.header (padded_planes_of c.args.planes) c.self.inside.buffer c.begin_sequence.new.self c.store_picture.new.self c.in_ok-prior.prior.items c.in-Ok.more.items c.in_ok-out-in-Ok.out.items
+    c.in_ok-prior.ensures.ok c.in-Ok.ensures.ok c.in_ok-out-in-Ok.ensures
+
+pub invariant_of-self-in-Ok : goal.invariant_of-self-in-Ok
+invariant_of-self-in-Ok c = λ going.
+    let s = c.self.inside in
+    let p = c.in-Some.open_picture in
+    let state = kept s p c.self.invariant c.if-self.false (sym c.take.ensures.value ∙ c.in-Some.is) in
+    let done = stored c in
+    subst (λ o. IsStateOf (history_of c.store_picture.new.closed.items) o c.store_picture.new.self s.poc c.set_after-self-inside.result) (sym c.take.ensures.after)
+    (record {
+      going = done.going;
+      stands = c.in-Ok.ensures.closed;
+      counts = state.counts ∙ ap (λ l. order_count_state (pasts l)) (sym done.history);
+      set =
+          c.set_after-self-inside.ensures
+          ∙ set_then p.sps p.header (padded_planes_of c.args.planes) s.buffer.history c.take-in-Ok.result (c.take-in-Ok.ensures.value ∙ state.set)
+          ∙ ap sequence_sps (sym done.history);
+    })
 
 pub returns-in-Ok-clause-ok : goal.returns-in-Ok-clause-ok
 returns-in-Ok-clause-ok c o told =
@@ -22,10 +80,10 @@ returns-in-Ok-clause-ok c o told =
     let picture = c.in-Some.open_picture in
     let planes = padded_planes_of c.args.planes in
     let opened : s.open_picture ≡ Some picture = sym c.take.ensures.value ∙ c.in-Some.is in
-    let entry = decoded_picture picture.sps picture.header planes in
-    let stores = c.in-Ok.ensures.ok in
+    let done = stored c in
     let output : s.buffer.output ≡ old.output = ap (λ (v : SequenceState). v.output) c.self.view_is in
     let current = current_is (history_of s.closed.items) s.buffer.history s.open_picture s.buffer.frames s.buffer.output s.failed old (c.self.invariant c.if-self.false).stands c.self.view_is in
+    let after = with_picture picture.sps picture.header planes s.buffer.history in
     let new : SequenceState = record {
       history = history_of c.store_picture.new.closed.items;
       open_picture = option_map open_picture_of c.take.new.self;
@@ -33,15 +91,33 @@ returns-in-Ok-clause-ok c o told =
       output = c.store_picture.new.self.output;
       failed = false;
     } in
-    subst (λ (p : OpenPictureStart). IsClosed old p planes c.in-Ok.out.items new)
+    subst (λ (p : OpenPictureStart). IsClosed old p planes c.in_ok-out-in-Ok.out.items new)
     (open_is picture s.open_picture o old opened (ap (λ (v : SequenceState). v.open_picture) c.self.view_is) told)
-    (is_closed old new (open_picture_of picture) planes c.store_picture.new.self.frames s.buffer.history c.in-Ok.out.items
-    (sym (ap (λ (v : SequenceState). v.failed) c.self.view_is) ∙ c.if-self.false) current stores.marked
+    (is_closed old new (open_picture_of picture) planes c.store_picture.new.self.frames s.buffer.history c.in_ok-out-in-Ok.out.items
+    (sym (ap (λ (v : SequenceState). v.failed) c.self.view_is) ∙ c.if-self.false) current done.marked
     (ap₂ (λ (h : History) (p : Option OpenPicture). record { history = h; open_picture = option_map open_picture_of p; frames = c.store_picture.new.self.frames; output = c.store_picture.new.self.output; failed = false })
-    (c.in-Ok.ensures.closed ∙ ap (λ (b : FrameBufferState). b.history) stores.state) c.take.ensures.after
-    ∙ ap (λ (m : Output). record { history = entry ∷ s.buffer.history; open_picture = None; frames = c.store_picture.new.self.frames; output = m; failed = false })
-    (ap (λ (b : FrameBufferState). b.output) stores.state ∙ output))
-    (stores.pictures ∙ ap (λ (m : Output). output_pictures m s.buffer.history (entry ∷ s.buffer.history)) output))
+    (c.in-Ok.ensures.closed ∙ done.history) c.take.ensures.after
+    ∙ ap (λ (m : Output). record { history = after; open_picture = None; frames = c.store_picture.new.self.frames; output = m; failed = false }) (done.output ∙ output))
+    (done.pictures ∙ ap (λ (m : Output). output_at_closing m picture.header s.buffer.history after) output))
+
+not_stored : (c : goal.After-drop-prior) → IsRefusedOn c.in-Some.open_picture.sps c.in-Some.open_picture.header (padded_planes_of c.args.planes) c.self.inside.buffer c.in-Err-Fault.fault c.store_picture.new.self
+not_stored c =
+    let s = c.self.inside in
+    let p = c.in-Some.open_picture in
+    let planes = padded_planes_of c.args.planes in
+    let there = c.begin_sequence.new.self in
+    let state = kept s p c.self.invariant c.if-self.false (sym c.take.ensures.value ∙ c.in-Some.is) in
+    let refuses : Refuses there (marks_of (decoded_picture p.sps p.header planes ∷ there.history)) (Faulty c.in-Err-Fault.fault) c.store_picture.new.self =
+    subst (λ (e : PictureError). Refuses there (marks_of (decoded_picture p.sps p.header planes ∷ there.history)) e c.store_picture.new.self) c.in-Err-Fault.field-0-is c.in-Err-Fault.ensures.err in
+    refused_on p.sps p.header planes s.buffer there c.store_picture.new.self c.in_ok-prior.prior.items c.in-Err-Fault.fault (state.stands.follows).idr c.in_ok-prior.ensures.ok refuses.1 refuses.2
+
+pub invariant_of-self-in-Err-Fault : goal.invariant_of-self-in-Err-Fault
+invariant_of-self-in-Err-Fault c = λ going.
+    let s = c.self.inside in
+    let p = c.in-Some.open_picture in
+    let state = kept s p c.self.invariant c.if-self.false (sym c.take.ensures.value ∙ c.in-Some.is) in
+    subst (λ items. IsStateOf (history_of items) (Some p) c.store_picture.new.self s.poc s.sps) (sym c.in-Err-Fault.ensures.kept)
+    (subst (λ b. IsStateOf (history_of s.closed.items) (Some p) b s.poc s.sps) (sym (not_stored c).same) state)
 
 pub returns-in-Err-Fault-clause-err : goal.returns-in-Err-Fault-clause-err
 returns-in-Err-Fault-clause-err c o told =
@@ -50,15 +126,12 @@ returns-in-Err-Fault-clause-err c o told =
     let picture = c.in-Some.open_picture in
     let planes = padded_planes_of c.args.planes in
     let opened : s.open_picture ≡ Some picture = sym c.take.ensures.value ∙ c.in-Some.is in
-    let entry = decoded_picture picture.sps picture.header planes in
-    let told_so : Refuses s.buffer (marks_of (entry ∷ s.buffer.history)) c.in-Err-Fault.field-0 c.store_picture.new.self = c.in-Err-Fault.ensures.err in
-    let refuses : Refuses s.buffer (marks_of (entry ∷ s.buffer.history)) (Faulty c.in-Err-Fault.fault) c.store_picture.new.self =
-    subst (λ (e : PictureError). Refuses s.buffer (marks_of (entry ∷ s.buffer.history)) e c.store_picture.new.self) c.in-Err-Fault.field-0-is told_so in
+    let refused = not_stored c in
     let current = current_is (history_of s.closed.items) s.buffer.history s.open_picture s.buffer.frames s.buffer.output s.failed old (c.self.invariant c.if-self.false).stands c.self.view_is in
     let same = open_is picture s.open_picture o old opened (ap (λ (v : SequenceState). v.open_picture) c.self.view_is) told in (
       sym (ap (λ (v : SequenceState). v.failed) c.self.view_is) ∙ c.if-self.false,
       ap (λ (items : List HistoryEntry). record { history = history_of items; open_picture = Some (open_picture_of picture); frames = c.store_picture.new.self.frames; output = c.store_picture.new.self.output; failed = false }) c.in-Err-Fault.ensures.kept
-          ∙ unchanged (history_of s.closed.items) s.open_picture (Some picture) s.buffer.frames c.store_picture.new.self.frames s.buffer.output c.store_picture.new.self.output s.failed old opened (ap (λ (b : FrameBufferState). b.frames) refuses.1) (ap (λ (b : FrameBufferState). b.output) refuses.1) c.if-self.false c.self.view_is,
+          ∙ unchanged (history_of s.closed.items) s.open_picture (Some picture) s.buffer.frames c.store_picture.new.self.frames s.buffer.output c.store_picture.new.self.output s.failed old opened (ap (λ (b : FrameBufferState). b.frames) refused.same) (ap (λ (b : FrameBufferState). b.output) refused.same) c.if-self.false c.self.view_is,
       closing_refused o planes old s.buffer.history c.in-Err-Fault.fault current
-          (subst (λ (p : OpenPictureStart). marks_of (decoded_picture p.sps p.header planes ∷ s.buffer.history) ≡ Err c.in-Err-Fault.fault) same refuses.2),
+          (subst (λ (p : OpenPictureStart). marks_of (with_picture p.sps p.header planes s.buffer.history) ≡ Err c.in-Err-Fault.fault) same refused.refused),
     )

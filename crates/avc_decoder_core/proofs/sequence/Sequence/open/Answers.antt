@@ -3,7 +3,7 @@ use Rattle.std.specs.Option.{option_map}
 use Rattle.avc_types.specs.References.{result_map}
 use Rattle.avc_decoder_core.specs.FrameBufferFields.{history_of}
 use Rattle.avc_decoder_core.specs.History.{history_at_opening}
-use Rattle.avc_decoder_core.specs.Opening.{count_on}
+use Rattle.avc_decoder_core.specs.Opening.{count_of}
 use Rattle.avc_decoder_core.specs.SequenceFields.{open_picture_of}
 use Rattle.avc_decoder_core.specs.SequenceState.{SequenceState}
 use Rattle.avc_decoder_core.proofs.Sequences.{at_rest, opened_state}
@@ -23,4 +23,4 @@ invariant_of-self-2 c = λ on'.
     rw (c.copied.ensures, c.copied-2.ensures, back)
     (opened_state sps h closed s.buffer.history c.in_ok-order.order c.in_ok-order.poc c.store_all_missing.new.buffer s.sps c.requires.sps c.requires.marking c.requires.reference stores.going rest kept.set
     stores.history
-    (c.in_ok-order.ensures ∙ ap (λ (v : SequenceState). result_map (count_on sps h) (history_at_opening sps h v.history)) (sym c.self.view_is)))
+    (c.in_ok-order.ensures ∙ ap (λ (v : SequenceState). result_map (count_of sps h) (history_at_opening sps h v.history)) (sym c.self.view_is)))

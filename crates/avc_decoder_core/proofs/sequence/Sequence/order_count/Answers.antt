@@ -1,4 +1,4 @@
-use Rattle.std.proofs.Common.{◌≡◌, ◌∙◌, ap, sym, Result, Err, None, false, arith, rules}
+use Rattle.std.proofs.Common.{◌≡◌, ◌∙◌, [], ap, sym, Result, Err, None, false, arith, rules}
 use Rattle.std.specs.Option.{option_map}
 use Rattle.avc_types.specs.References.{result_map}
 use Rattle.avc_types.specs.declared.fault.Fault.{Fault}
@@ -7,11 +7,11 @@ use Rattle.avc_poc.specs.OrderCountState.{order_count_state}
 use Rattle.avc_slice.specs.declared.header.Header.{Header}
 use Rattle.avc_decoder_core.specs.FrameBufferFields.{history_of}
 use Rattle.avc_decoder_core.specs.History.{History, history_at_opening, pasts, with_missing}
-use Rattle.avc_decoder_core.specs.Opening.{count_on}
+use Rattle.avc_decoder_core.specs.Opening.{count_of}
 use Rattle.avc_decoder_core.specs.SequenceFields.{IsSequenceState, open_picture_of, sequence_state}
 use Rattle.avc_decoder_core.specs.SequenceState.{SequenceState}
 use Rattle.avc_decoder_core.specs.declared.sequence.Sequence.TheInside.{Inside}
-use Rattle.avc_decoder_core.proofs.MissingNumbers.{counted_over, opened_idr, opened_over, refused_missing, refused_numbers}
+use Rattle.avc_decoder_core.proofs.MissingNumbers.{counted_alone, counted_in_sequence, counted_over, opened_idr, opened_over, refused_missing, refused_numbers}
 use Rattle.avc_decoder_core.proofs.Sequences.{at_rest, counted_at_rest}
 use Rattle.avc_decoder_core.proofs.sequence.Sequence.order_count.Goals as goal
 
@@ -36,18 +36,19 @@ rests s now invariant seen going rest =
 -- the count on what opening makes of it
 count_at_opening : (sps : Sps) (h : Header) (s : Inside) (now : SequenceState) → IsAtRest s now → (opened : Result History Fault)
     → history_at_opening sps h s.buffer.history ≡ opened
-    → result_map (count_on sps h) opened ≡ result_map (count_on sps h) (history_at_opening sps h now.history)
+    → result_map (count_of sps h) opened ≡ result_map (count_of sps h) (history_at_opening sps h now.history)
 count_at_opening sps h s now at opened is =
-    sym (ap (λ (old : History). result_map (count_on sps h) (history_at_opening sps h old)) at.here ∙ ap (result_map (count_on sps h)) is)
+    sym (ap (λ (old : History). result_map (count_of sps h) (history_at_opening sps h old)) at.here ∙ ap (result_map (count_of sps h)) is)
 
 pub returns-then-is_idr : goal.returns-then-is_idr
 returns-then-is_idr c =
-    let s = c.self.inside in
     let sps = c.args.sps.now in
     let h = c.args.header.now in
-    let at = rests s c.args.self.now c.self.invariant c.self.view_is c.requires.going c.requires.rest in
-    c.next_count.ensures s.buffer.history (c.copied.ensures ∙ at.counts)
-    ∙ count_at_opening sps h s c.args.self.now at _ (opened_idr sps h s.buffer.history (sym c.is_idr.ensures ∙ c.if-is_idr.true))
+    let history = c.args.self.now.history in
+    let idr = sym c.is_idr.ensures ∙ c.if-is_idr.true in
+    c.next_count.ensures [] c.new.ensures
+    ∙ counted_alone sps h history idr
+    ∙ sym (ap (result_map (count_of sps h)) (opened_idr sps h history idr))
 
 pub returns-in_err-numbers : goal.returns-in_err-numbers
 returns-in_err-numbers c =
@@ -83,5 +84,6 @@ returns c =
     let over = counted_over (with_missing sps c.in_ok-numbers.numbers s.buffer.history) c.in_ok-poc.poc c.in_ok-poc.ensures in
     let is_other = sym c.is_idr.ensures ∙ c.if-is_idr.false in
     c.next_count-2.ensures over.full over.state
+    ∙ counted_in_sequence sps h _ is_other
     ∙ count_at_opening sps h s c.args.self.now at _
     (opened_over sps h s.buffer.history over.full c.in_ok-numbers.numbers is_other c.in_ok-numbers.ensures over.is)
