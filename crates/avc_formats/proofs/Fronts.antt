@@ -20,7 +20,6 @@ use Rattle.avc_run.specs.declared.fault.RunFault.{RunFault}
 use Rattle.avc_run.specs.declared.fault.RunFault.TheVariants.{Read, Endless, Write, Memory, Size}
 use Rattle.avc_run.specs.declared.report.Report.{Report}
 use Rattle.avc_run.proofs.Running.{err_is}
-use Rattle.avc_run.proofs.StreamWriting.{nothing_more}
 use Rattle.avc_formats.specs.Front.{first_sps, front_length, in_front, stream_sps, Decodes, IsFound, IsFront, IsLooking, IsSaid, NoFront}
 use Rattle.avc_formats.specs.Presenting.{no_presentation, Says}
 use Rattle.avc_formats.specs.declared.presentation.Presentation.{Presentation}
@@ -113,6 +112,11 @@ front_found stay unread left left' bytes piece bytes' s mid new sets now told p 
       says = says_of (stream_sps bytes' false) p said;
       enough = λ _ none. absurd (some_said (stream_sps bytes' false) p said none);
     }
+
+-- a read of none
+nothing_more : (unread left left' : Option (List ℕ)) (bytes piece : List ℕ) (len : ℕ) → Consumes unread left bytes → len ≡ 0 → Consumes left left' (take len piece) → Consumes unread left' bytes
+nothing_more unread left left' bytes piece len so_far none more =
+    subst (Consumes unread left') (append-nil bytes) (Consumes-trans unread left left' bytes [] so_far (subst (λ n. Consumes left left' (take n piece)) none more))
 
 pub front_ended : UnitsStay → (unread left left' : Option (List ℕ)) (bytes piece : List ℕ) (len : ℕ) (s mid new : SplitterState) (sets now : List SetUnit) (said : Option Presentation) (p : Presentation)
     → IsLooking unread left bytes s sets → len ≡ 0 → Consumes left left' (take len piece) → IsAtEnd left' → mid ≡ after_finish s → IsFound mid new sets now said

@@ -1,6 +1,5 @@
 -- What is written in two parts.
 use Rattle.std.proofs.Common.{true, ◌≡◌, ℕ, ◌+◌, ◌<◌, ◌≤◌, List, [], ◌∷◌, ◌++◌, length, take, Option, Result, Ok, Err, IfErr, ap, sym, subst, ◌∙◌, arith, length-append, suc}
-use Rattle.std.proofs.Math.Seq.{take-append-add}
 use Rattle.std.proofs.lemmas.List.{take-append-le}
 use Rattle.std.specs.Prelude.{IsErrAnd}
 use Rattle.std.specs.Io.KnownBytes.{Appends}
@@ -10,6 +9,12 @@ use Rattle.avc_run.specs.Reading.{WritesFirst}
 use Rattle.avc_run.specs.declared.fault.RunFault.{RunFault}
 use Rattle.avc_run.specs.declared.fault.RunFault.TheVariants.{Write}
 use Rattle.avc_formats.specs.Text.{newline}
+
+take_more : (a b : List ℕ) (n : ℕ) → take (length a + n) (a ++ b) ≡ a ++ take n b
+take_more [] b n = ap (λ k. take k b) (let same : 0 + n ≡ n = omega arith in same)
+take_more (x ∷ a) b n =
+    let same : length (x ∷ a) + n ≡ suc (length a + n) = omega arith in
+    ap (λ k. take k (x ∷ (a ++ b))) same ∙ ap (λ xs. x ∷ xs) (take_more a b n)
 
 -- a fault in the first part
 pub first_broken : (old new : Option (List ℕ)) (a b : List ℕ) → WritesFirst old new a → WritesFirst old new (a ++ b)
@@ -26,7 +31,7 @@ pub second_broken : (old mid new : Option (List ℕ)) (a b : List ℕ) (n : ℕ)
 second_broken old mid new a b n first fewer second = record {
   count = length a + n;
   fewer = omega (arith, fewer, length-append a b);
-  written = subst (Appends old new) (sym (take-append-add a b n)) (Appends-trans old mid new a (take n b) first second);
+  written = subst (Appends old new) (sym (take_more a b n)) (Appends-trans old mid new a (take n b) first second);
 }
 
 -- as the result says it

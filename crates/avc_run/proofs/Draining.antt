@@ -1,11 +1,11 @@
 -- Events that are taken one after another.
 use Rattle.std.specs.Prelude.{◌≡◌, ℕ, zero, suc, ◌+◌, ◌-◌, ◌<◌, ◌≤◌, List, [], ◌∷◌, ◌++◌, length, take, drop, Option, Some, None, Result, Ok, Err, IfErr, IsErrAnd, slice_get, refl}
 use Rattle.std.proofs.Common.{ap, sym, subst, ◌∙◌, arith, append_assoc, append-nil, length-append, drop-cons}
-use Rattle.std.proofs.Math.Seq.{drop-nil, take-append-add, take-append_seam}
+use Rattle.std.proofs.Math.Seq.{drop-nil}
 use Rattle.std.proofs.lemmas.List.{take-append-le}
 use Rattle.std.proofs.lemmas.Option.{slice_get_within, get_or_from_slice_get}
 use Rattle.std.specs.Io.KnownBytes.{Appends}
-use Rattle.std.proofs.KnownBytes.{Appends-trans}
+use Rattle.std.proofs.KnownBytes.{Appends-nil, Appends-trans}
 use Rattle.avc_types.specs.declared.fault.Fault.{Fault}
 use Rattle.avc_annexb.specs.Units.{saturated}
 use Rattle.avc_decoder.specs.Events.{pictures_in, refusals_in}
@@ -127,8 +127,15 @@ handled f d0 d d' r0 r w0 w none same i =
 
 -- ---- a fault
 
+take_front : {A : Type 0} (a b : List A) → take (length a) (a ++ b) ≡ a
+take_front [] b = refl
+take_front (x ∷ a) b = ap (λ xs. x ∷ xs) (take_front a b)
+
 take_more : {A : Type 0} (a b c : List A) (n : ℕ) → n ≤ length b → take (length a + n) (a ++ (b ++ c)) ≡ a ++ take n b
-take_more a b c n within = take-append-add a (b ++ c) n ∙ ap (λ xs. a ++ xs) (take-append-le n b c within)
+take_more [] b c n within = ap (λ k. take k (b ++ c)) (let same : 0 + n ≡ n = omega arith in same) ∙ take-append-le n b c within
+take_more (x ∷ a) b c n within =
+    let same : length (x ∷ a) + n ≡ suc (length a + n) = omega arith in
+    ap (λ k. take k (x ∷ (a ++ (b ++ c)))) same ∙ ap (λ xs. x ∷ xs) (take_more a b c n within)
 
 written_three : (f : Format) (n : ℕ) (a b c : List Event) → written_from f n (a ++ (b ++ c))
     ≡ written_from f n a ++ (written_from f (pictures_after n a) b ++ written_from f (pictures_after (pictures_after n a) b) c)
@@ -194,7 +201,7 @@ stopped f d0 d r0 r w0 w i =
       within = omega (arith, ap (λ es. length es) i.rest, length-append i.done (events_left d));
       written =
           subst (Appends w0 w) (sym (ap (λ es. written_from f r0.pictures (take (length i.done) es)) i.rest
-          ∙ ap (λ es. written_from f r0.pictures es) (take-append_seam i.done (events_left d)))) i.written;
+          ∙ ap (λ es. written_from f r0.pictures es) (take_front i.done (events_left d)))) i.written;
     }
 
 -- in the midst of one
@@ -216,6 +223,10 @@ in_picture f n Endless w w' p some = absurd some
 pub picture_broken : (f : Format) (n : ℕ) (fault : RunFault) (w w' : Option (List ℕ)) (e : Event) (p : Decoded) → e ≡ Picture p → StopsPicture fault (f.fits n p) w w' (f.text n p)
     → BreaksOff f n fault w w' (e ∷ [])
 picture_broken f n fault w w' e p is some = subst (λ e. BreaksOff f n fault w w' (e ∷ [])) (sym is) (in_picture f n fault w w' p some)
+
+-- nothing was handled
+pub none_handled : (f : Format) (n : ℕ) (w : Option (List ℕ)) (events : List Event) → WritesPicturesAs f n w w events
+none_handled f n w events = record { count = 0; within = omega arith; written = Appends-nil w }
 
 -- ---- faults that are passed on
 

@@ -54,6 +54,11 @@ cuts number new now unread left held holds found whole stay is kept read tells =
       tells i.going i.short ∙ ap (λ n. is_some (numbered_piece n s.bytes s.ended)) (kept ∙ first),
     )
 
+pub cuts_off : (number : ℕ) (new : PieceSoFar) (unread left held holds : Option (List ℕ)) (fault : RunFault) → new ≡ record { number = number; stream = new_stream }
+    → Lists (piece_text new.number) unread left held holds (Err fault) → Cuts number unread left held holds (Err fault)
+cuts_off number new unread left held holds fault is run =
+    subst (λ n. Lists (piece_text n) unread left held holds (Err fault)) (ap (λ (p : PieceSoFar). p.number) is) run
+
 -- no memory for the piece's start
 pub no_piece_begun : (number : ℕ) (unread held : Option (List ℕ)) (r : Result Bool RunFault) → IsErrAnd r (λ fault. fault ≡ Memory) → Cuts number unread unread held held r
 no_piece_begun number unread held (Ok found) is = absurd is

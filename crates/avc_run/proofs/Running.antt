@@ -18,7 +18,6 @@ use Rattle.avc_annexb.specs.Units.{saturated}
 use Rattle.avc_types.specs.declared.fault.Fault.{Fault}
 use Rattle.avc_run.specs.declared.fault.RunFault.{RunFault}
 use Rattle.avc_run.specs.declared.fault.RunFault.TheVariants.{Read, Endless, Write, Memory, Size}
-use Rattle.avc_run.proofs.StreamWriting.{nothing_more}
 use Rattle.avc_run.proofs.Draining.{behind, breaks_behind, pictures_now, report_with-append, reported_is}
 
 -- ---- reports
@@ -95,6 +94,11 @@ due_at_end grow output bytes =
     let then' = due_then grow output bytes [] true in
     let same : defined output bytes ≡ events output max_unit (bytes ++ []) true = ap (λ bs. events output max_unit bs true) (sym (append-nil bytes)) in
     (then'.0, same ∙ then'.1, ap (λ es. drop (length (events output max_unit bytes false)) es) same ∙ then'.2)
+
+-- a read of none
+nothing_more : (unread left left' : Option (List ℕ)) (bytes piece : List ℕ) (len : ℕ) → Consumes unread left bytes → len ≡ 0 → Consumes left left' (take len piece) → Consumes unread left' bytes
+nothing_more unread left left' bytes piece len so_far none more =
+    subst (Consumes unread left') (append-nil bytes) (Consumes-trans unread left left' bytes [] so_far (subst (λ n. Consumes left left' (take n piece)) none more))
 
 pub ended : (f : Format) → EventsOnlyGrow → (output : Output) (unread left left' w0 w w' : Option (List ℕ)) (d d' : Machine) (r r' : Report) (len : ℕ) (piece : List ℕ) →
     IsRunning f output unread left w0 w d r → len ≡ 0 → Consumes left left' (take len piece) → IsAtEnd left' → IsHandled f (after_flush d) d' r r' w w' → DecodesAs f output unread left' w0 w' (Ok r')
