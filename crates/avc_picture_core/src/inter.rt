@@ -36,6 +36,7 @@ fn picture_of<'r, 'a, const PAD: usize>(
     }
 }
 
+/// Whether a block has a picture to be predicted from.
 fn has_picture<const PAD: usize>(
     references: &[Option<ReferencePicture<'_, PAD>>],
     motion: Motion,
