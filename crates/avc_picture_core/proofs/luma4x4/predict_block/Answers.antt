@@ -1,4 +1,4 @@
-use Rattle.std.proofs.Common.{ℕ, ◌∙◌, arith, refl, sym}
+use Rattle.std.proofs.Common.{ℕ, ◌∙◌, refl, sym}
 use Rattle.std.specs.Option.{unwrap_or}
 use Rattle.avc_plane.proofs.Lending.{block_lent, room_lent}
 use Rattle.avc_intra.specs.Luma4x4.{can_predict4x4, extended, intra4x4, predict4x4}
