@@ -1,8 +1,7 @@
 -- A picture does not depend on the planes in which it began.
-use Rattle.std.specs.Prelude.{ℕ, zero, suc, ◌+◌, ◌-◌, ◌*◌, ◌/◌, ◌%◌, ◌<◌, ◌≤◌, ℤ, List, [], ◌∷◌, length, slice_index}
-use Rattle.std.proofs.Common.{◌≡◌, ◌∙◌, refl, sym, ap, subst, arith, mul_comm, add-one, ⊎_elim}
+use Rattle.std.specs.Prelude.{ℕ, suc, ◌+◌, ◌*◌, ◌/◌, ◌%◌, ◌<◌, ◌≤◌, List, [], ◌∷◌, length, slice_index}
+use Rattle.std.proofs.Common.{◌≡◌, ◌∙◌, sym, ap, subst, arith, mul_comm, add-one}
 use Rattle.std.proofs.Math.Nat.{add-mul, mul-le-mul_right, div-lt_iff_lt-mul}
-use Rattle.std.proofs.lemmas.Bool.{cases_lt}
 use Rattle.std.proofs.lemmas.List.{ext_get_or}
 use Rattle.std.proofs.lemmas.Nat.{div-add-mod', mod_below}
 use Rattle.avc_types.specs.Pictures.{Coded, PicMb}
@@ -10,7 +9,7 @@ use Rattle.avc_neigh.specs.Modes.{modes_before}
 use Rattle.avc_neigh.specs.declared.facts.NearMode.{NearMode}
 use Rattle.avc_neigh.specs.declared.facts.Motion.{Motion}
 use Rattle.avc_motion.specs.Motion.{motion_before}
-use Rattle.avc_plane.specs.Plane.{Plane, sample}
+use Rattle.avc_plane.specs.Plane.{Plane}
 use Rattle.avc_plane.specs.Planes.{Planes, empty_planes}
 use Rattle.avc_picture_core.specs.Built.{Place, built, built_on, place_of, planes_after}
 use Rattle.avc_picture_core.proofs.Earlier.{Agree, AgreeBefore, address_at, planes_agree}

@@ -1,5 +1,5 @@
 -- What holds of the macroblocks so far, before the first and over one more.
-use Rattle.std.specs.Prelude.{ℕ, zero, suc, ◌+◌, ◌*◌, ◌<◌, ℤ, Bool, [], ◌∷◌, length, map, All, ◌++◌, ◌/◌, ◌-◌, ◌≤◌}
+use Rattle.std.specs.Prelude.{ℕ, zero, suc, ◌+◌, ◌*◌, ◌<◌, ℤ, Bool, [], ◌∷◌, length, map, All, ◌++◌, ◌/◌, ◌≤◌}
 use Rattle.std.proofs.Common.{◌≡◌, ◌∙◌, refl, sym, ap, subst, arith}
 use Rattle.std.proofs.Math.Nat.{div-le_self}
 use Rattle.std.proofs.lemmas.List.{length-append}

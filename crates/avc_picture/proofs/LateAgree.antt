@@ -6,9 +6,8 @@ use Rattle.std.proofs.lemmas.Bool.{cases_lt}
 use Rattle.std.proofs.lemmas.List.{length-take-le}
 use Rattle.avc_types.specs.Pictures.{Coded}
 use Rattle.avc_neigh.specs.Modes.{modes_before}
-use Rattle.avc_neigh.specs.declared.facts.Motion.{Motion}
 use Rattle.avc_motion.specs.Motion.{motion_before}
-use Rattle.avc_plane.specs.Plane.{Plane, sample}
+use Rattle.avc_plane.specs.Plane.{Plane}
 use Rattle.avc_plane.specs.Frames.{AreSized}
 use Rattle.avc_plane.specs.Planes.{Planes, component, empty_planes, samples_of}
 use Rattle.avc_deblock.specs.Edges.{all_filtered, row_lines}
@@ -23,7 +22,7 @@ use Rattle.avc_picture_core.proofs.Earlier.{Agree, AgreeBefore, address_at}
 use Rattle.avc_picture.specs.FirstMbs.{HoldsFirst, MbsState}
 use Rattle.avc_picture.specs.MacroblocksState.{PartsAgree}
 use Rattle.avc_picture.specs.RowLate.{AreFactsOf, FilterFacts, covering_address, filtered_rows, first_built, row_late, rows_filtered}
-use Rattle.avc_picture.specs.Sizes.{HasSize, IsSized}
+use Rattle.avc_picture.specs.Sizes.{IsSized}
 use Rattle.avc_picture.proofs.Begun.{built_agrees, none_agree}
 use Rattle.avc_picture.proofs.Late.{has_row}
 use Rattle.avc_picture.proofs.LateRows.{from_long, row_facts, row_facts_are, rows_sized}

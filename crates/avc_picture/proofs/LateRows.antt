@@ -7,7 +7,7 @@ use Rattle.avc_types.specs.Pictures.{Coded, PicMb}
 use Rattle.avc_neigh.specs.Modes.{modes_before}
 use Rattle.avc_neigh.specs.declared.facts.Motion.{Motion}
 use Rattle.avc_motion.specs.Motion.{motion_before}
-use Rattle.avc_plane.specs.Planes.{Planes, empty_planes}
+use Rattle.avc_plane.specs.Planes.{Planes}
 use Rattle.avc_deblock.specs.Edges.{all_filtered, row_lines}
 use Rattle.avc_deblock.specs.Facts.{Names}
 use Rattle.avc_deblock.specs.ByFacts.{row_by_facts, AreOfRow}
@@ -20,7 +20,7 @@ use Rattle.avc_picture.specs.Sizes.{IsSized}
 use Rattle.avc_picture.proofs.FirstPlanes.{first_built_more}
 use Rattle.avc_picture.proofs.LastRows.{part}
 use Rattle.avc_picture.proofs.Late.{built_after}
-use Rattle.avc_picture.proofs.SizesKept.{all_sized, built_on_sized, empty_sized}
+use Rattle.avc_picture.proofs.SizesKept.{all_sized, built_on_sized}
 
 -- ---- the facts of one row
 

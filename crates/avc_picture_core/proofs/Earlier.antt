@@ -1,6 +1,6 @@
 -- A macroblock is built from the samples of macroblocks before it: planes that agree on these agree on it too.
 use Rattle.std.proofs.Common.{◌≡◌, ◌∙◌, ℕ, ℤ, ◌+◌, ◌-◌, ◌*◌, ◌/◌, ◌%◌, ◌<◌, ◌≤◌, zero, suc, pos, negsuc, nat_abs, ◌+ℤ◌, ◌-ℤ◌, nat_lt, Bool, true, false, if◌then◌else◌, refl, sym, ap, subst, arith, mul_comm, inl, inr, ⊎_elim}
-use Rattle.std.specs.Prelude.{◌⊎◌, Some, None, ◌==◌, ◌&&◌, ◌||◌, not, Option, slice_get, slice_index, slice_index_or}
+use Rattle.std.specs.Prelude.{◌⊎◌, Some, None, ◌==◌, ◌&&◌, ◌||◌, not, slice_get, slice_index, slice_index_or}
 use Rattle.std.specs.Option.{unwrap_or}
 use Rattle.std.proofs.lemmas.Bool.{and_parts, cases_lt, or_cases, ltb-true}
 use Rattle.std.proofs.lemmas.Bool.Decides.{nat_tests}
@@ -11,18 +11,17 @@ use Rattle.avc_types.specs.Macroblock.{MbSyntax, p_skip, i_pcm, i_nxn, i_16x16, 
 use Rattle.avc_types.specs.Pictures.{Coded}
 use Rattle.avc_neigh.specs.Blocks.{Location, block_x, block_y, block_at, location_in, same_slice}
 use Rattle.avc_neigh.specs.declared.facts.NearMode.TheVariants.{Absent as absent}
-use Rattle.avc_plane.specs.Plane.{Plane, sample, with_block, is_inside}
+use Rattle.avc_plane.specs.Plane.{Plane, sample, with_block}
 use Rattle.avc_plane.specs.Planes.{Planes}
 use Rattle.avc_plane.proofs.PlaneMaps.{sample-with_block}
 use Rattle.avc_plane.proofs.Rectangles.{by_place}
 use Rattle.avc_intra.specs.Luma4x4.{mode4x4_of}
 use Rattle.avc_intra.specs.Luma16x16.{mode16x16_of}
 use Rattle.avc_intra.specs.Chroma.{mode_chroma_of}
-use Rattle.avc_picture_core.specs.Built.{Place, chroma_after, inter_at, is_intra_place, is_there, left_of_mb, luma_after, mode_number, planes_after, residual_at, seen_from, sides_of, size_of, sum_of, top_of_mb, with_block4x4, with_blocks4x4}
+use Rattle.avc_picture_core.specs.Built.{Place, chroma_after, inter_at, is_intra_place, is_there, left_of_mb, luma_after, mode_number, planes_after, residual_at, seen_from, sides_of, sum_of, top_of_mb, with_blocks4x4}
 use Rattle.avc_picture_core.proofs.IntraRows.{block_from, chroma_from, luma_from}
-use Rattle.avc_picture_core.proofs.IntraSides.{AgreeBeside, agree4x4, agree16x16, agree_chroma, is_beside}
+use Rattle.avc_picture_core.proofs.IntraSides.{AgreeBeside, agree4x4, agree16x16, agree_chroma}
 use Rattle.avc_picture_core.proofs.PlaceOn.{sides_inside}
-use Rattle.avc_picture_core.proofs.Sixteens.{each_sixteen}
 
 -- ---- two planes of a size that agree where P holds
 
@@ -117,13 +116,15 @@ module _ (c : Coded) (a k : ℕ) where
       let equal = l.address == a in
       let block = nat_lt (block_at l.x l.y) k in
       let intra = not c.constrained_intra_pred || is_intra_place (slice_get c.mbs l.address) in
-      let before : (less || (equal && block)) ≡ true = (and_parts same (less || (equal && block)) (and_parts (same && (less || (equal && block))) intra there).0).1 in
-      (refl, ⊎_elim
-      (λ first. inl (ltb-true l.address a first))
-      (λ both.
-      let here = and_parts equal block both in
-      inr (eqb-eq l.address a here.0, ltb-true (block_at l.x l.y) k here.1))
-      (or_cases less (equal && block) before))
+      let before : (less || (equal && block)) ≡ true = (and_parts same (less || (equal && block)) (and_parts (same && (less || (equal && block))) intra there).0).1 in (
+        refl,
+        ⊎_elim
+            (λ first. inl (ltb-true l.address a first))
+            (λ both.
+            let here = and_parts equal block both in
+            inr (eqb-eq l.address a here.0, ltb-true (block_at l.x l.y) k here.1))
+            (or_cases less (equal && block) before),
+      )
 
   there_earlier : (x y : ℕ) (px py : ℤ) → px ≡ pos x → py ≡ pos y → is_there c a k (location_in 16 c.width px py) ≡ true
       → (x < 16 * c.width) × IsEarlier c.width a k x y
@@ -310,7 +311,7 @@ module _ (c : Coded) (size h a : ℕ) (big : 8 ≤ size) (some : 0 < c.width) (r
     -- a square that is built of either
     pub square_more : (f g : ℕ → ℕ → ℕ) → ((x y : ℕ) → x < size → y < size → f x y ≡ g x y)
         → Agree (size * c.width) (size * h) (λ x y. address_at size c.width x y < suc a)
-            (with_block s (size * column) (size * row) size size f) (with_block t (size * column) (size * row) size size g)
+        (with_block s (size * column) (size * row) size size f) (with_block t (size * column) (size * row) size size g)
     square_more f g same =
         agree_more (size * c.width) (size * h) (λ x y. address_at size c.width x y < a) (λ x y. address_at size c.width x y < suc a) s t agree (size * column) (size * row) size size f g same
         (λ x y inside low less out. ⊎_elim (λ earlier. earlier)

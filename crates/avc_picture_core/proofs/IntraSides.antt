@@ -11,7 +11,7 @@ use Rattle.avc_intra.specs.declared.luma16x16.Mode16x16.{Mode16x16}
 use Rattle.avc_intra.specs.declared.luma16x16.Mode16x16.TheVariants as of16x16
 use Rattle.avc_intra.specs.declared.chroma.ModeChroma.{ModeChroma}
 use Rattle.avc_intra.specs.declared.chroma.ModeChroma.TheVariants as of_chroma
-use Rattle.avc_intra.specs.Neighbourhood.{Around, has_corner_sides}
+use Rattle.avc_intra.specs.Neighbourhood.{Around}
 use Rattle.avc_intra.specs.Lines.{block4x4}
 use Rattle.avc_intra.specs.Luma4x4.{intra4x4, can_predict4x4, predict4x4, extended}
 use Rattle.avc_intra.specs.Luma16x16.{intra16x16, can_predict16x16, predict16x16}

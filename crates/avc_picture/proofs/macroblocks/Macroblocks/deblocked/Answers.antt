@@ -1,4 +1,4 @@
-use Rattle.std.proofs.Common.{◌≡◌, ◌∙◌, ◌/◌, ◌-◌, refl, sym, ap, subst, arith, length, rules, w8, to_z, of_z}
+use Rattle.std.proofs.Common.{◌≡◌, ◌∙◌, ◌/◌, refl, sym, ap, subst, arith, length, rules, w8, to_z, of_z}
 use Rattle.avc_plane.specs.Frames.{planes_of}
 use Rattle.avc_picture.specs.FirstMbs.{HoldsFirst, MbsState}
 use Rattle.avc_picture.specs.RowLate.{AreFactsOf, FiltersUpTo, filtered_rows}

@@ -2,7 +2,7 @@ use Rattle.std.proofs.Common.{◌≡◌, ◌∙◌, ◌≤◌, ◌*◌, refl, sy
 use Rattle.std.proofs.lemmas.Int.{ints}
 use Rattle.avc_params.specs.Limits.{max_macroblocks, height_in_mbs}
 use Rattle.avc_plane.specs.Planes.{Planes}
-use Rattle.avc_plane.specs.Frames.{planes_of, AreSized}
+use Rattle.avc_plane.specs.Frames.{planes_of}
 use Rattle.avc_picture.specs.RowLate.{FilterFacts}
 use Rattle.avc_picture_core.specs.Canvas.{CanvasState}
 use Rattle.avc_picture.specs.FirstMbs.{HoldsFirst}

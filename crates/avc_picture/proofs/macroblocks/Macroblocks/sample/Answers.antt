@@ -1,4 +1,4 @@
-use Rattle.std.proofs.Common.{◌≡◌, ◌∙◌, ◌<◌, ◌*◌, arith, sym, ap, subst}
+use Rattle.std.proofs.Common.{◌∙◌, ◌<◌, ◌*◌, arith, sym, ap, subst}
 use Rattle.avc_plane.specs.Planes.{empty_planes, samples_of}
 use Rattle.avc_picture_core.specs.Built.{size_of}
 use Rattle.avc_picture.specs.FirstMbs.{HoldsFirst, MbsState}
