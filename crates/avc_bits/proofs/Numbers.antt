@@ -1,10 +1,10 @@
 -- Bits and the numbers that they spell.
-use Rattle.std.proofs.Common.{◌≡◌, ℕ, zero, suc, ◌+◌, ◌-◌, ◌*◌, ◌/◌, ◌%◌, ◌^◌, ◌<◌, ◌≤◌, List, [], ◌∷◌, ◌++◌, length, Bool, true, false, eqb, refl, ap, lit<, inl, inr, ◌∙◌, sym, arith, take, drop, get_or, length-append, length-drop}
+use Rattle.std.proofs.Common.{◌≡◌, ℕ, zero, suc, ◌+◌, ◌-◌, ◌*◌, ◌/◌, ◌%◌, ◌^◌, ◌<◌, ◌≤◌, List, [], ◌∷◌, ◌++◌, length, Bool, true, false, eqb, refl, ap, lit<, inl, inr, ◌∙◌, sym, arith, take, drop, get_or, length-append, length-drop, append_assoc}
 use Rattle.std.proofs.lemmas.List.{drop-drop, drop-take, take-take, take-append-drop, length-take-le, get_or-take, get_or-drop}
 use Rattle.std.proofs.lemmas.Bool.{cases_order}
 use Rattle.std.proofs.lemmas.Grind.{common_steps}
 use Rattle.std.proofs.lemmas.Nat.{pow-add, mod-pow-add, shr-shr, shl-shr, field_of, div-mul-add, mod-mul-add, pow_pos, pow_below}
-use Rattle.std.specs.Prelude.{slice_index}
+use Rattle.std.specs.Prelude.{replicate, slice_index}
 use Rattle.std.proofs.Math.Nat.{pow-succ', mod-eq_of_lt, mod-lt}
 use Rattle.std.proofs.Math.Seq.{drop-append-add, drop-cons, take-append-add, take-append_seam}
 use Rattle.avc_bits.specs.Bits.{bits_of, byte_bits, number_of}
@@ -76,6 +76,20 @@ pub length-byte_bits : (bytes : List ℕ) → length (byte_bits bytes) ≡ 8 * l
 length-byte_bits [] = refl
 length-byte_bits (b ∷ bytes) = omega (arith, length-byte_bits bytes, length-append (bits_of 8 b) (byte_bits bytes), length-bits_of 8 b)
 
+pub number-zeros : (n : ℕ) → number_of (replicate n false) ≡ 0
+number-zeros zero = refl
+number-zeros (suc n) = number-zeros n
+
+pub bits_of-zero : (n : ℕ) → bits_of n 0 ≡ replicate n false
+bits_of-zero zero = refl
+bits_of-zero (suc n) =
+    let none : 0 / 2 ^ n % 2 ≡ 0 = omega arith in
+    rw (bits_of-zero n, none) refl
+
+pub byte_bits-append : (a b : List ℕ) → byte_bits (a ++ b) ≡ byte_bits a ++ byte_bits b
+byte_bits-append [] b = refl
+byte_bits-append (x ∷ a) b = ap (λ t. bits_of 8 x ++ t) (byte_bits-append a b) ∙ sym (append_assoc (bits_of 8 x) (byte_bits a) (byte_bits b))
+
 take-sum : {X : Type 0} (xs : List X) (m n : ℕ) → take (m + n) xs ≡ take m xs ++ take n (drop m xs)
 take-sum xs zero n = ap (λ k. take k xs) (omega arith)
 take-sum [] (suc m) n = grind (arith, common_steps)
@@ -98,22 +112,19 @@ pow_lt_trans value a b small less = elim (cases_order a b) [ inl same ↦ rw (�
 
 -- ---- a window of eight bytes
 
+number-halves : (n : ℕ) (bits : List Bool) → (number_of bits ≡ number_of (take n bits) * 2 ^ (length bits - n) + number_of (drop n bits)) × (number_of (drop n bits) < 2 ^ (length bits - n))
+number-halves n bits =
+    let rest : length (drop n bits) ≡ length bits - n = length-drop n bits in (
+      ap number_of (sym (take-append-drop n bits)) ∙ number-append (take n bits) (drop n bits) ∙ ap (λ k. number_of (take n bits) * 2 ^ k + number_of (drop n bits)) rest,
+      below_width (length bits - n) (drop n bits) rest,
+    )
+
 -- the number of the first bits, and of those after them
 pub number-take : (n : ℕ) (bits : List Bool) → n ≤ length bits → number_of bits / 2 ^ (length bits - n) ≡ number_of (take n bits)
-number-take n bits long =
-    let rest : length (drop n bits) ≡ length bits - n = length-drop n bits in
-    let below : number_of (drop n bits) < 2 ^ (length bits - n) = below_width (length bits - n) (drop n bits) rest in
-    let whole : number_of bits ≡ number_of (take n bits) * 2 ^ (length bits - n) + number_of (drop n bits) =
-    ap number_of (sym (take-append-drop n bits)) ∙ number-append (take n bits) (drop n bits) ∙ ap (λ k. number_of (take n bits) * 2 ^ k + number_of (drop n bits)) rest in
-    ap (λ v. v / 2 ^ (length bits - n)) whole ∙ div-mul-add (number_of (take n bits)) (2 ^ (length bits - n)) (number_of (drop n bits)) below
+number-take n bits long = let parts = number-halves n bits in ap (λ v. v / 2 ^ (length bits - n)) parts.0 ∙ div-mul-add (number_of (take n bits)) (2 ^ (length bits - n)) (number_of (drop n bits)) parts.1
 
 number-drop : (n : ℕ) (bits : List Bool) → n ≤ length bits → number_of bits % 2 ^ (length bits - n) ≡ number_of (drop n bits)
-number-drop n bits long =
-    let rest : length (drop n bits) ≡ length bits - n = length-drop n bits in
-    let below : number_of (drop n bits) < 2 ^ (length bits - n) = below_width (length bits - n) (drop n bits) rest in
-    let whole : number_of bits ≡ number_of (take n bits) * 2 ^ (length bits - n) + number_of (drop n bits) =
-    ap number_of (sym (take-append-drop n bits)) ∙ number-append (take n bits) (drop n bits) ∙ ap (λ k. number_of (take n bits) * 2 ^ k + number_of (drop n bits)) rest in
-    ap (λ v. v % 2 ^ (length bits - n)) whole ∙ mod-mul-add (number_of (take n bits)) (2 ^ (length bits - n)) (number_of (drop n bits)) below
+number-drop n bits long = let parts = number-halves n bits in ap (λ v. v % 2 ^ (length bits - n)) parts.0 ∙ mod-mul-add (number_of (take n bits)) (2 ^ (length bits - n)) (number_of (drop n bits)) parts.1
 
 -- some of the bits
 pub number-part : (first count total : ℕ) (bits : List Bool) → length bits ≡ total → first + count ≤ total → number_of bits / 2 ^ (total - first - count) % 2 ^ count ≡ number_of (take count (drop first bits))

@@ -14,16 +14,16 @@ use Rattle.avc_bits.specs.Codes.{split, zeros, zeros_before_one, u, ue, skip}
 use Rattle.avc_bits.specs.Reader.{leading, left_of, position_of, reader_bits}
 use Rattle.avc_bits.specs.declared.reader.BitReader.{BitReader}
 use Rattle.avc_bits.proofs.Stops.{stop_prefix}
-use Rattle.avc_bits.proofs.Numbers.{number_lt, number-append, number-take, bits_of-number, take_front, pow_lt_back, pow_lt_trans, number-part, field64_is}
+use Rattle.avc_bits.proofs.Numbers.{number_lt, number-append, number-take, bits_of-number, take_front, pow_lt_back, pow_lt_trans, number-part, field64_is, number-zeros}
 
 -- ---- so many bits
 
-split_short : (n : ℕ) (bits : List Bool) → length bits < n → split n bits ≡ None
+pub split_short : (n : ℕ) (bits : List Bool) → length bits < n → split n bits ≡ None
 split_short zero bits short = absurd (omega arith)
 split_short (suc n) [] short = refl
 split_short (suc n) (b ∷ bits) short = rw (split_short n bits (omega arith)) refl
 
-split_long : (n : ℕ) (bits : List Bool) → n ≤ length bits → split n bits ≡ Some (take n bits, drop n bits)
+pub split_long : (n : ℕ) (bits : List Bool) → n ≤ length bits → split n bits ≡ Some (take n bits, drop n bits)
 split_long zero bits long = refl
 split_long (suc n) [] long = absurd (omega arith)
 split_long (suc n) (b ∷ bits) long = rw (split_long n bits (omega arith)) refl
@@ -273,10 +273,6 @@ padded bits count there is = elim (cases_lt (length bits) count) [
       let none : count - there ≡ 0 = omega arith in
       take-append-le count bits (replicate count false) more ∙ ap (λ k. take k bits) (sym all) ∙ sym (append-nil (take there bits)) ∙ ap (λ k. take there bits ++ replicate k false) (sym none)
 ]
-
-number-zeros : (n : ℕ) → number_of (replicate n false) ≡ 0
-number-zeros zero = refl
-number-zeros (suc n) = number-zeros n
 
 pub peek_from : (bits : List Bool) (count there value : ℕ) → there ≡ min (length bits) count → value ≡ number_of (take there bits) →
     bits_of count (value * 2 ^ (count - there)) ≡ take count (bits ++ replicate count false)

@@ -1,23 +1,8 @@
 -- Reading a part so many times by a loop: what its first n turns read, and one turn more.
-use Rattle.std.proofs.Common.{◌≡◌, ℕ, zero, suc, ◌+◌, ◌<◌, List, [], ◌∷◌, ◌++◌, Result, Ok, Err, refl, ap, ◌∙◌, sym, arith}
+use Rattle.std.proofs.Common.{◌≡◌, ℕ, zero, suc, ◌+◌, ◌<◌, List, [], ◌∷◌, ◌++◌, Ok, Err, refl, ap, ◌∙◌, sym, arith}
 use Rattle.avc_types.specs.declared.fault.Fault.{Fault}
 use Rattle.avc_bits.specs.Bits.{Bits, Read, ◌>>=◌, give, times}
-
--- what came before a value
-before : {A B : Type 0} (r : Result (A × Bits) Fault) (next : A → Read B) (b : Bits) (y : B) (after : Bits) → ((λ _. r) >>= next) b ≡ Ok (y, after) →
-    (x : A) × (mid : Bits) × (r ≡ Ok (x, mid)) × (next x mid ≡ Ok (y, after))
-before (Ok p) next b y after is = (p.0, p.1, refl, is)
-before (Err f) next b y after is = cc
-
--- the value that was read; x at a fault
-abbrev value : {A : Type 0} → A → Result (A × Bits) Fault → A
-value x (Ok p) = p.0
-value x (Err f) = x
-
--- the bits that are left; after a fault those before
-abbrev left : {A : Type 0} → Bits → Result (A × Bits) Fault → Bits
-left b (Ok p) = p.1
-left b (Err f) = b
+use Rattle.avc_bits.proofs.Giving.{bind-ok, left, value}
 
 -- one turn and then the others
 pub one_first : {A : Type 0} (part : Read A) (n : ℕ) (b mid after : Bits) (x : A) (xs : List A) → part b ≡ Ok (x, mid) → times n part mid ≡ Ok (xs, after) → times (suc n) part b ≡ Ok (x ∷ xs, after)
@@ -37,8 +22,8 @@ times_more part zero b mid after xs x so_far here =
     rw (none, here') refl
 times_more part (suc n) b mid after xs x so_far here =
     let one : suc n + 1 ≡ suc (n + 1) = omega arith in
-    let first = before (part b) (λ y. times n part >>= λ ys. give (y ∷ ys)) b xs mid so_far in
-    let rest = before (times n part first.1) (λ ys. give (first.0 ∷ ys)) first.1 xs mid first.3 in
+    let first = bind-ok part (λ y. times n part >>= λ ys. give (y ∷ ys)) b mid xs so_far in
+    let rest = bind-ok (times n part) (λ ys. give (first.0 ∷ ys)) first.1 mid xs first.3 in
     let all : first.0 ∷ rest.0 ≡ xs = ap (value []) rest.3 in
     let same : rest.1 ≡ mid = ap (left b) rest.3 in
     let more = times_more part n first.1 rest.1 after rest.0 x rest.2 (ap part same ∙ here) in
@@ -53,8 +38,8 @@ times_fault part (suc total) zero b mid xs f less so_far here =
     let here' : part b ≡ Err f = ap part (sym same) ∙ here in
     rw here' refl
 times_fault part (suc total) (suc n) b mid xs f less so_far here =
-    let first = before (part b) (λ y. times n part >>= λ ys. give (y ∷ ys)) b xs mid so_far in
-    let rest = before (times n part first.1) (λ ys. give (first.0 ∷ ys)) first.1 xs mid first.3 in
+    let first = bind-ok part (λ y. times n part >>= λ ys. give (y ∷ ys)) b mid xs so_far in
+    let rest = bind-ok (times n part) (λ ys. give (first.0 ∷ ys)) first.1 mid xs first.3 in
     let same : rest.1 ≡ mid = ap (left b) rest.3 in
     let more = times_fault part total n first.1 rest.1 rest.0 f (omega arith) rest.2 (ap part same ∙ here) in
     rw (first.2, more) refl

@@ -10,7 +10,7 @@ before_none : (n : ℕ) → before_last_one (replicate n false) ≡ None
 before_none zero = refl
 before_none (suc n) = rw (before_none n) refl
 
-before_one : (front : List Bool) (n : ℕ) → before_last_one (front ++ true ∷ replicate n false) ≡ Some front
+pub before_one : (front : List Bool) (n : ℕ) → before_last_one (front ++ true ∷ replicate n false) ≡ Some front
 before_one [] n = rw (before_none n) refl
 before_one (true ∷ front) n = rw (before_one front n) refl
 before_one (false ∷ front) n = rw (before_one front n) refl

@@ -4,7 +4,7 @@ use Rattle.std.specs.Prelude.{Option, Some, None, ◌==◌, ◌||◌, if◌then�
 use Rattle.std.specs.Option.{is_some}
 use Rattle.std.specs.List.{flat_map, sum, zip}
 use Rattle.std.proofs.lemmas.Bool.Decides.{nat_tests}
-use Rattle.std.proofs.lemmas.Bool.{cases_eq, eq-eqb, eqb-true, eqb-false, ne_eqb, le-leb, ltb-true}
+use Rattle.std.proofs.lemmas.Bool.{cases_eq, cases_lt, eq-eqb, ne_eqb, le-leb, le-ltb, lt-ltb}
 use Rattle.std.proofs.lemmas.List.{length-drop, length-map, length-replicate, reverse-reverse, take-append-drop}
 use Rattle.avc_types.specs.declared.fault.Fault.TheVariants as faults
 use Rattle.avc_bits.specs.Bits.{Read, ◌>>=◌, bits_of, give, or_none, times}
@@ -92,19 +92,16 @@ back-levels sl above_one (l ∷ values) codes some above =
 stops_above : (most : ℕ) (values : List ℤ) → Each IsNonzero values → ones_first most values < most → IsAboveOne true (drop (ones_first most values) values)
 stops_above zero values some few = absurd (omega arith)
 stops_above (suc most) [] some few = tt
-stops_above (suc most) (l ∷ values) some few = by_test (nat_abs l == 1) refl (stops_above most values some.1) few
-  where
-    by_test : (test : Bool) → (nat_abs l == 1) ≡ test → (ones_first most values < most → IsAboveOne true (drop (ones_first most values) values)) →
-        (if test then suc (ones_first most values) else 0) < suc most → IsAboveOne true (drop (if test then suc (ones_first most values) else 0) (l ∷ values))
-    by_test true e later few = later (omega arith)
-    by_test false e later few = λ _. let other : nat_abs l ≢ 1 = eqb-false (nat_abs l) 1 e in omega (arith, some.0)
+stops_above (suc most) (l ∷ values) some few = elim (cases_eq (nat_abs l) 1) [
+  | inl one ↦ let is = eq-eqb (nat_abs l) 1 one in rw is (stops_above most values some.1 (omega (arith, rw is at few)))
+  | inr other ↦ rw (ne_eqb (nat_abs l) 1 other) (λ _. omega (arith, some.0))
+]
 
 ones_above : (values : List ℤ) → Each IsNonzero values → IsAboveOne (nat_lt (ones_first 3 values) 3) (drop (ones_first 3 values) values)
-ones_above values some = by_test (nat_lt (ones_first 3 values) 3) refl
-  where
-    by_test : (test : Bool) → nat_lt (ones_first 3 values) 3 ≡ test → IsAboveOne test (drop (ones_first 3 values) values)
-    by_test true e = stops_above 3 values some (ltb-true (ones_first 3 values) 3 e)
-    by_test false e = not_above (drop (ones_first 3 values) values)
+ones_above values some = elim (cases_lt (ones_first 3 values) 3) [
+  | inl few ↦ rw (lt-ltb (ones_first 3 values) 3 few) (stops_above 3 values some few)
+  | inr most ↦ rw (le-ltb (ones_first 3 values) 3 most) (not_above (drop (ones_first 3 values) values))
+]
 
 back-values : (found : List (ℤ × ℕ)) → HasCodes found → Each IsNonzero (values_of found) →
     GivesBack (token_levels (token (length found) (ones_first 3 (values_of found))))
@@ -166,27 +163,18 @@ Fills before levels = all_after (after_zeros before levels) ++ replicate (before
 
 fills : (before : ℕ) (levels : List ℤ) → Fills before levels
 fills before [] = let all : before + 0 - 0 ≡ before = omega arith in ap (λ n. replicate n (pos 0)) all ∙ sym (append-nil (replicate before (pos 0)))
-fills before (l ∷ levels) = by_test (nat_abs l == 0) refl (fills (before + 1) levels) (fills 0 levels)
-  where
-    by_test : (test : Bool) → (nat_abs l == 0) ≡ test → Fills (before + 1) levels → Fills 0 levels →
-        all_after (if test then after_zeros (before + 1) levels else (l, before) ∷ after_zeros 0 levels)
-        ++ replicate (before + suc (length levels) - length (all_after (if test then after_zeros (before + 1) levels else (l, before) ∷ after_zeros 0 levels))) (pos 0)
-        ≡ replicate before (pos 0) ++ l ∷ levels
-    by_test true e a b =
-        let sum : before + suc (length levels) ≡ before + 1 + length levels = omega arith in
-        let found = all_after (after_zeros (before + 1) levels) in
-        ap (λ n. found ++ replicate (n - length found) (pos 0)) sum ∙ a ∙ replicate_more before levels
-        ∙ ap (λ v. replicate before (pos 0) ++ v ∷ levels) (sym (is_zero l (eqb-true (nat_abs l) 0 e)))
-    by_test false e a b =
-        let others = all_after (after_zeros 0 levels) in
-        let here = replicate before (pos 0) ++ l ∷ [] in
-        let size : length (here ++ others) ≡ before + 1 + length others =
-        length-append here others ∙ ap (λ n. n + length others) (length-append (replicate before (pos 0)) (l ∷ []) ∙ ap (λ n. n + 1) (length-replicate before (pos 0))) in
-        let left : before + suc (length levels) - length (here ++ others) ≡ 0 + length levels - length others = omega (arith, size) in
-        ap (λ n. (here ++ others) ++ replicate n (pos 0)) left
-        ∙ append_assoc here others (replicate (0 + length levels - length others) (pos 0))
-        ∙ ap (λ t. here ++ t) b
-        ∙ append_assoc (replicate before (pos 0)) (l ∷ []) levels
+fills before (l ∷ levels) = elim (cases_eq (nat_abs l) 0) [
+  | inl none ↦
+      let sum : before + suc (length levels) ≡ before + 1 + length levels = omega arith in
+      rw (is_zero l none, sum) (fills (before + 1) levels ∙ replicate_more before levels)
+  | inr some ↦
+      let others = all_after (after_zeros 0 levels) in
+      let here = replicate before (pos 0) ++ l ∷ [] in
+      let size : length (here ++ others) ≡ before + 1 + length others =
+      length-append here others ∙ ap (λ n. n + length others) (length-append (replicate before (pos 0)) (l ∷ []) ∙ ap (λ n. n + 1) (length-replicate before (pos 0))) in
+      let left : before + suc (length levels) - length (here ++ others) ≡ 0 + length levels - length others = omega (arith, size) in
+      rw (ne_eqb (nat_abs l) 0 some, left) (append_assoc here others (replicate (0 + length levels - length others) (pos 0)) ∙ ap (λ t. here ++ t) (fills 0 levels) ∙ append_assoc (replicate before (pos 0)) (l ∷ []) levels)
+]
 
 placed_back : (most : ℕ) (levels : List ℤ) → length levels ≡ most → placed most (values_of (coded levels)) (runs_of (coded levels)) ≡ levels
 placed_back most levels is =

@@ -4,7 +4,7 @@ use Rattle.std.specs.Prelude.{Option, Some, None, ◌==◌, if◌then◌else◌,
 use Rattle.std.specs.Option.{is_some, option_map}
 use Rattle.std.specs.List.{sum}
 use Rattle.std.proofs.Math.Seq.{drop-cons}
-use Rattle.std.proofs.lemmas.Bool.{cases_eq, eq-eqb, eqb-false, ne_eqb}
+use Rattle.std.proofs.lemmas.Bool.{cases_eq, eq-eqb, ne_eqb}
 use Rattle.std.proofs.lemmas.Grind.{reverse_onto}
 use Rattle.std.proofs.lemmas.List.{get_or-map, get_or-take, length-map, length-reverse, length-take-le}
 use Rattle.std.proofs.lemmas.List.Sums.{sum_by-append}
@@ -39,7 +39,7 @@ is_some_given None word o is some = let q : false ≡ true = ap is_some is ∙ s
 -- ---- what is coded
 
 pub zero_more : (zeros : ℕ) (levels others : List ℤ) (l : ℤ) → levels ≡ l ∷ others → l ≡ pos 0 → after_zeros zeros levels ≡ after_zeros (zeros + 1) others
-zero_more zeros levels others l is none = ap (after_zeros zeros) is ∙ ap (λ v. after_zeros zeros (v ∷ others)) none
+zero_more zeros levels others l is none = rw (is, none) refl
 
 pub not_zero : (l : ℤ) → l ≢ pos 0 → (nat_abs l == 0) ≡ false
 not_zero l some = ne_eqb (nat_abs l) 0 (λ e. absurd (some (zero_abs l e)))
@@ -51,21 +51,17 @@ not_zero l some = ne_eqb (nat_abs l) 0 (λ e. absurd (some (zero_abs l e)))
 pub level_more : (zeros : ℕ) (levels others : List ℤ) (l : ℤ) (found : List (ℤ × ℕ)) → levels ≡ l ∷ others → l ≢ pos 0 → reverse (after_zeros zeros levels) ++ found ≡ reverse (after_zeros 0 others) ++ ((l, zeros) ∷ found)
 level_more zeros levels others l found is some =
     let rest = after_zeros 0 others in
-    let first : after_zeros zeros levels ≡ (l, zeros) ∷ rest =
-    ap (after_zeros zeros) is ∙ ap (λ t. if t then after_zeros (zeros + 1) others else (l, zeros) ∷ rest) (not_zero l some) in
-    ap (λ t. reverse t ++ found) first
-    ∙ ap (λ t. t ++ found) (reverse_onto rest (l, zeros) [])
-    ∙ append_assoc (reverse rest) ((l, zeros) ∷ []) found
+    let other = not_zero l some in
+    let first : after_zeros zeros levels ≡ (l, zeros) ∷ rest = rw (is, other) refl in
+    rw (first, reverse_onto rest (l, zeros) []) (append_assoc (reverse rest) ((l, zeros) ∷ []) found)
 
 -- ---- trailing ones
 
 pub ones_more : (most left : ℕ) (values others : List ℤ) (l : ℤ) → left ≡ suc most → values ≡ l ∷ others → nat_abs l ≡ 1 → ones_first left values ≡ suc (ones_first most others)
-ones_more most left values others l is_left is one =
-    ap (λ n. ones_first n values) is_left ∙ ap (ones_first (suc most)) is ∙ ap (λ t. if t then suc (ones_first most others) else 0) (eq-eqb (nat_abs l) 1 one)
+ones_more most left values others l is_left is one = rw (is_left, is, eq-eqb (nat_abs l) 1 one) refl
 
 pub ones_stop : (most left : ℕ) (values others : List ℤ) (l : ℤ) → left ≡ suc most → values ≡ l ∷ others → nat_abs l ≢ 1 → ones_first left values ≡ 0
-ones_stop most left values others l is_left is other =
-    ap (λ n. ones_first n values) is_left ∙ ap (ones_first (suc most)) is ∙ ap (λ t. if t then suc (ones_first most others) else 0) (ne_eqb (nat_abs l) 1 other)
+ones_stop most left values others l is_left is other = rw (is_left, is, ne_eqb (nat_abs l) 1 other) refl
 
 pub ones_end : (left : ℕ) (values : List ℤ) → values ≡ [] → ones_first left values ≡ 0
 ones_end zero values is = refl
@@ -93,8 +89,7 @@ put_all old new all going same = ap (λ b. record { bits = new.bits; failed = b 
 
 -- a word more, before those that are left
 pub put_one : (start old new : Made) (word left rest all : List Bool) → new ≡ with_bits old word → rest ≡ word ++ left → old.bits ++ rest ≡ start.bits ++ all → new.bits ++ left ≡ start.bits ++ all
-put_one start old new word left rest all more is put =
-    ap (λ m. m.bits ++ left) more ∙ append_assoc old.bits word left ∙ ap (λ t. old.bits ++ t) (sym is) ∙ put
+put_one start old new word left rest all more is put = rw (more, append_assoc, ← is) put
 
 -- the sign of the trailing one k
 pub sign_at : (n k : ℕ) (values : List ℤ) (l : ℤ) → k < n → n ≤ length values → l ≡ get_or values k (pos 0) → drop k (sign_bits n values) ≡ int_lt l (pos 0) ∷ drop (k + 1) (sign_bits n values)
@@ -133,12 +128,10 @@ size_of found = length found + sum (runs_of found)
 
 found_size : (before : ℕ) (levels : List ℤ) → size_of (after_zeros before levels) ≤ length levels + before
 found_size before [] = omega arith
-found_size before (l ∷ levels) = by_test (nat_abs l == 0) (found_size (before + 1) levels) (found_size 0 levels)
-  where
-    by_test : (test : Bool) → size_of (after_zeros (before + 1) levels) ≤ length levels + (before + 1) → size_of (after_zeros 0 levels) ≤ length levels + 0 →
-        size_of (if test then after_zeros (before + 1) levels else (l, before) ∷ after_zeros 0 levels) ≤ suc (length levels) + before
-    by_test true a b = omega (arith, a)
-    by_test false a b = omega (arith, b, sum-cons before (runs_of (after_zeros 0 levels)))
+found_size before (l ∷ levels) = elim (cases_eq (nat_abs l) 0) [
+  | inl none ↦ rw (eq-eqb (nat_abs l) 0 none) (omega (arith, found_size (before + 1) levels))
+  | inr some ↦ rw (ne_eqb (nat_abs l) 0 some) (omega (arith, found_size 0 levels, sum-cons before (runs_of (after_zeros 0 levels))))
+]
 
 pub coded_size : (levels : List ℤ) → length (coded levels) + sum (runs_of (coded levels)) ≤ length levels
 coded_size levels = omega (arith, found_size 0 levels, length-reverse (after_zeros 0 levels), runs_reverse (after_zeros 0 levels))
@@ -148,12 +141,10 @@ IsNonzero l = 1 ≤ nat_abs l
 
 found_some : (before : ℕ) (levels : List ℤ) → Each (λ c. IsNonzero c.0) (after_zeros before levels)
 found_some before [] = tt
-found_some before (l ∷ levels) = by_test (nat_abs l == 0) refl (found_some (before + 1) levels) (found_some 0 levels)
-  where
-    by_test : (test : Bool) → (nat_abs l == 0) ≡ test → Each (λ c. IsNonzero c.0) (after_zeros (before + 1) levels) → Each (λ c. IsNonzero c.0) (after_zeros 0 levels) →
-        Each (λ c. IsNonzero c.0) (if test then after_zeros (before + 1) levels else (l, before) ∷ after_zeros 0 levels)
-    by_test true e a b = a
-    by_test false e a b = (omega (arith, eqb-false (nat_abs l) 0 e), b)
+found_some before (l ∷ levels) = elim (cases_eq (nat_abs l) 0) [
+  | inl none ↦ rw (eq-eqb (nat_abs l) 0 none) (found_some (before + 1) levels)
+  | inr some ↦ rw (ne_eqb (nat_abs l) 0 some) (omega arith, found_some 0 levels)
+]
 
 pub each_value : (P : ℤ → Type 0) (found : List (ℤ × ℕ)) → Each (λ c. P c.0) found → Each P (values_of found)
 each_value P [] all = tt

@@ -14,6 +14,7 @@ use Rattle.avc_mbsyntax.specs.SliceData.{SliceStart, context, placed}
 use Rattle.avc_make.specs.DataWriting.{CanFollow, CanStand, DataStandsAlone, IsLike, i_data_bits, is_skip, p_data_bits}
 use Rattle.avc_make.specs.MbWriting.{mb_bits}
 use Rattle.avc_make.specs.Words.{ue_word}
+use Rattle.avc_make.proofs.SliceDataBack.{bits_other, bits_skip, on_kind}
 
 -- the same macroblocks are available to both
 record SeeSame (s s' : SliceStart) (before before' : List PicMb) : Type 0 where
@@ -67,10 +68,7 @@ more_seen s s' before before' mb same = record {
 
 side : (s s' : SliceStart) (before before' : List PicMb) (x y : ℤ) → SeeSame s s' before before' →
     at_location before s.slice (location_at s.width (length before) x y) ≡ at_location before' s'.slice (location_at s'.width (length before') x y)
-side s s' before before' x y same =
-    seen_at s s' before before' (location_at s.width (length before) x y) same
-    ∙ ap (λ w. at_location before' s'.slice (location_at w (length before) x y)) same.like.width
-    ∙ ap (λ n. at_location before' s'.slice (location_at s'.width n x y)) same.long
+side s s' before before' x y same = seen_at s s' before before' (location_at s.width (length before) x y) same ∙ rw (same.like.width, same.long) refl
 
 abbrev context_of : (is_p : Bool) → (active_count qp : ℕ) → (left up : Option Mb) → Context
 context_of is_p active_count qp left up = record {
@@ -82,14 +80,10 @@ context_of is_p active_count qp left up = record {
 }
 
 contexts : (s s' : SliceStart) (before before' : List PicMb) (qp : ℕ) → SeeSame s s' before before' → context s before qp ≡ context s' before' qp
-contexts s s' before before' qp same =
-    let left = at_location before s.slice (location_at s.width (length before) (negsuc 0) (pos 0)) in
-    let up = at_location before s.slice (location_at s.width (length before) (pos 0) (negsuc 0)) in
-    let left' = at_location before' s'.slice (location_at s'.width (length before') (negsuc 0) (pos 0)) in
-    ap (λ p. context_of p s.active_count qp left up) same.like.is_p
-    ∙ ap (λ n. context_of s'.is_p n qp left up) same.like.active_count
-    ∙ ap (λ l. context_of s'.is_p s'.active_count qp l up) (side s s' before before' (negsuc 0) (pos 0) same)
-    ∙ ap (λ u. context_of s'.is_p s'.active_count qp left' u) (side s s' before before' (pos 0) (negsuc 0) same)
+contexts s s' before before' qp same = cc_of (side s s' before before' (negsuc 0) (pos 0) same) (side s s' before before' (pos 0) (negsuc 0) same) same.like.is_p same.like.active_count
+  where
+    cc_of : {left left' up up' : Option Mb} {p p' : Bool} {n n' : ℕ} → left ≡ left' → up ≡ up' → p ≡ p' → n ≡ n' → context_of p n qp left up ≡ context_of p' n' qp left' up'
+    cc_of left up p n = cc
 
 -- ---- the data
 
@@ -97,29 +91,20 @@ i_same : (s s' : SliceStart) (before before' : List PicMb) (qp position : ℕ) (
 unfolding i_data_bits
 i_same s s' before before' qp position [] same = refl
 i_same s s' before before' qp position (m ∷ ms) same =
-    let w = mb_bits (context s' before' qp) position m.syntax in
-    ap (λ c. mb_bits c position m.syntax ++ i_data_bits s (before ++ placed s m ∷ []) m.qp (position + length (mb_bits c position m.syntax)) ms) (contexts s s' before before' qp same)
-    ∙ ap (λ l. w ++ l) (i_same s s' (before ++ placed s m ∷ []) (before' ++ placed s' m ∷ []) m.qp (position + length w) ms (more_seen s s' before before' m same))
+    let here = contexts s s' before before' qp same in
+    rw here (ap (λ l. mb_bits (context s' before' qp) position m.syntax ++ l) (i_same s s' (before ++ placed s m ∷ []) (before' ++ placed s' m ∷ []) m.qp _ ms (more_seen s s' before before' m same)))
 
 p_same : (s s' : SliceStart) (before before' : List PicMb) (qp position run : ℕ) (ms : List Mb) → SeeSame s s' before before' → p_data_bits s before qp position run ms ≡ p_data_bits s' before' qp position run ms
 unfolding p_data_bits
 p_same s s' before before' qp position run [] same = refl
 p_same s s' before before' qp position run (m ∷ ms) same =
     let first = position + length (ue_word run) in
-    let w = mb_bits (context s' before' qp) first m.syntax in
     let after = more_seen s s' before before' m same in
-    ap (λ l. elim (is_skip m.syntax) [
-      | true ↦ l
-      | false ↦ ue_word run ++ (mb_bits (context s before qp) first m.syntax ++ p_data_bits s (before ++ placed s m ∷ []) m.qp (first + length (mb_bits (context s before qp) first m.syntax)) 0 ms)
-    ]) (p_same s s' (before ++ placed s m ∷ []) (before' ++ placed s' m ∷ []) qp position (run + 1) ms after)
-    ∙ ap (λ c. elim (is_skip m.syntax) [
-      | true ↦ p_data_bits s' (before' ++ placed s' m ∷ []) qp position (run + 1) ms
-      | false ↦ ue_word run ++ (mb_bits c first m.syntax ++ p_data_bits s (before ++ placed s m ∷ []) m.qp (first + length (mb_bits c first m.syntax)) 0 ms)
-    ]) (contexts s s' before before' qp same)
-    ∙ ap (λ l. elim (is_skip m.syntax) [
-      | true ↦ p_data_bits s' (before' ++ placed s' m ∷ []) qp position (run + 1) ms
-      | false ↦ ue_word run ++ (w ++ l)
-    ]) (p_same s s' (before ++ placed s m ∷ []) (before' ++ placed s' m ∷ []) m.qp (first + length w) 0 ms after)
+    let here = contexts s s' before before' qp same in
+    let others = p_same s s' (before ++ placed s m ∷ []) (before' ++ placed s' m ∷ []) m.qp (first + length (mb_bits (context s' before' qp) first m.syntax)) 0 ms after in
+    on_kind (is_skip m.syntax)
+    (λ skip. bits_skip s before qp position run m ms skip ∙ p_same s s' (before ++ placed s m ∷ []) (before' ++ placed s' m ∷ []) qp position (run + 1) ms after ∙ sym (bits_skip s' before' qp position run m ms skip))
+    (λ other. bits_other s before qp position run m ms other ∙ rw (here, others) refl ∙ sym (bits_other s' before' qp position run m ms other))
 
 follows : (s s' : SliceStart) (before before' : List PicMb) (qp : ℕ) (ms : List Mb) → SeeSame s s' before before' → CanFollow s before qp ms → CanFollow s' before' qp ms
 follows s s' before before' qp [] same all = tt

@@ -7,8 +7,7 @@ use Rattle.std.proofs.Math.Seq.{take-append_seam, drop-append_seam}
 use Rattle.std.specs.Prelude.{replicate, bit_or}
 use Rattle.avc_bits.specs.Bits.{bits_of, byte_bits, number_of}
 use Rattle.avc_make.specs.Made.{IsFilled}
-use Rattle.avc_bits.proofs.Numbers.{bits_of-number, length-bits_of, length-byte_bits, number-append, number-bits_of}
-use Rattle.avc_make.proofs.Bits.{byte_bits-append, number-zeros}
+use Rattle.avc_bits.proofs.Numbers.{bits_of-number, byte_bits-append, length-bits_of, length-byte_bits, number-append, number-bits_of, number-zeros}
 
 pub filled_length : (bytes : List ℕ) (bits : List Bool) (padding : ℕ) → IsFilled bytes bits padding → 8 * length bytes ≡ length bits + padding
 filled_length bytes bits padding is =

@@ -7,7 +7,7 @@ use Rattle.std.proofs.Math.Nat.{div-lt_iff_lt-mul, mod-add-div, mod-lt}
 use Rattle.avc_bits.specs.Bits.{bits_of}
 use Rattle.avc_cavlc.specs.Block.{level_code, suffix_size}
 use Rattle.avc_make.specs.BlockWriting.{IsCode, code_of_level, least_code, level_bits, prefix_of}
-use Rattle.avc_make.proofs.Bits.{bits_of-zero}
+use Rattle.avc_bits.proofs.Numbers.{bits_of-zero}
 
 -- ---- a prefix
 

@@ -1,4 +1,3 @@
-pub mod Bits
 pub mod CodedSliceBack
 pub mod Filling
 pub mod HeaderBack

@@ -5,7 +5,7 @@ use Rattle.avc_bits.specs.Bits.{bits_of}
 use Rattle.avc_make.specs.Made.{Made, with_bits}
 use Rattle.avc_make.specs.MbWriting.{zeros_to_byte}
 use Rattle.avc_make.specs.Words.{bits_after_one, ue_word}
-use Rattle.avc_make.proofs.Bits.{bits_of-zero}
+use Rattle.avc_bits.proofs.Numbers.{bits_of-zero}
 
 -- first these bits, then those
 pub then : (a b c : Made) (v w : List Bool) → b ≡ with_bits a v → c ≡ with_bits b w → c ≡ with_bits a (v ++ w)

@@ -9,8 +9,9 @@ use Rattle.std.specs.Prelude.{◌==◌, if◌then◌else◌, int_le, int_lt, rep
 use Rattle.avc_types.specs.declared.fault.Fault.{Fault}
 use Rattle.avc_types.specs.declared.fault.Fault.TheVariants as faults
 use Rattle.avc_bits.specs.Bits.{Read, ◌>>=◌, ◌>>◌, bits_of, check, give, more, number_of, times, where_set}
-use Rattle.avc_bits.specs.Codes.{bits, flag, se, se_within, signed_value, split, te, u, u_to, ue, ue_to, zeros, zeros_before_one}
+use Rattle.avc_bits.specs.Codes.{bits, flag, se, se_within, signed_value, te, u, u_to, ue, ue_to, zeros, zeros_before_one}
 use Rattle.avc_bits.proofs.Numbers.{length-bits_of, number-bits_of}
+use Rattle.avc_vlc.proofs.Entries.{split-append}
 use Rattle.avc_params.specs.Parsing.{optional}
 use Rattle.avc_make.specs.VuiWriting.{Each, optional_bits, where_bits}
 use Rattle.avc_make.specs.Words.{ReadsBack, bits_after_one, se_word, te_word, ue_word}
@@ -94,10 +95,6 @@ back-where set {o = None} same gives is = rw (← same) back-give
 back-where set {o = Some x} same gives is = rw (← same) (back-last _ (gives.each x is))
 
 -- ---- codewords
-
-split-append : (w rest : List Bool) → split (length w) (w ++ rest) ≡ Some (w, rest)
-split-append [] rest = refl
-split-append (b ∷ w) rest = rw (split-append w rest) refl
 
 pub back-bits : (n : ℕ) {w : List Bool} → length w ≡ n → GivesBack (bits n) w w
 back-bits n {w} count = record { back = λ position rest. record { read = rw (← count, split-append w rest) refl } }

@@ -80,10 +80,10 @@ own_and_rest p s before qp position run m ms =
 
 -- where it is not skipped
 own_other : (c : Context) (position run : ℕ) (syntax : MbSyntax) → is_skip syntax ≡ false → own_bits c position run syntax ≡ coded_bits c position run syntax
-own_other c position run syntax other = ap (λ (b : Bool). elim b [ true ↦ [] | false ↦ coded_bits c position run syntax ]) other
+own_other c position run syntax other = rw (own_bits, other) refl
 
 own_skipped : (c : Context) (position run : ℕ) (syntax : MbSyntax) → is_skip syntax ≡ true → own_bits c position run syntax ≡ []
-own_skipped c position run syntax skip = ap (λ (b : Bool). elim b [ true ↦ [] | false ↦ coded_bits c position run syntax ]) skip
+own_skipped c position run syntax skip = rw (own_bits, skip) refl
 
 coded_where : (p : Bool) (c : Context) (position run : ℕ) (syntax : MbSyntax) → c.is_p ≡ p → coded_bits c position run syntax ≡ run_bits p run ++ mb_bits c (position + length (run_bits p run)) syntax
 coded_where p c position run syntax same = ap (λ b. run_bits b run ++ mb_bits c (position + length (run_bits b run)) syntax) same
@@ -138,15 +138,9 @@ pub own_put : (s : SliceStart) (before : List PicMb) (qp run : ℕ) (m : Mb) (ms
     → m.qp ≡ qp_of qp m.syntax → new ≡ with_bits old (own_bits (context s before qp) (length old.bits) run m.syntax) → old.bits ++ rest_bits s.is_p s before qp (length old.bits) run left ≡ all →
     new.bits ++ rest_bits s.is_p s (before ++ placed s m ∷ []) m.qp (length new.bits) (run_after run m.syntax) ms ≡ all
 own_put s before qp run m ms left old new all is_left stands is_qp is_new sum =
-    let before' = before ++ placed s m ∷ [] in
     let w = own_bits (context s before qp) (length old.bits) run m.syntax in
-    let next = run_after run m.syntax in
-    ap (λ t. t.bits ++ rest_bits s.is_p s before' m.qp (length t.bits) next ms) is_new
-    ∙ ap (λ k. (old.bits ++ w) ++ rest_bits s.is_p s before' m.qp k next ms) (length-append old.bits w)
-    ∙ append_assoc old.bits w (rest_bits s.is_p s before' m.qp (length old.bits + length w) next ms)
-    ∙ ap (λ l. old.bits ++ l) (sym (own_first s.is_p s before qp (length old.bits) run m ms refl stands is_qp))
-    ∙ ap (λ l. old.bits ++ rest_bits s.is_p s before qp (length old.bits) run l) (sym is_left)
-    ∙ sum
+    let first = own_first s.is_p s before qp (length old.bits) run m ms refl stands is_qp in
+    rw (is_new, length-append old.bits w, append_assoc) (rw (is_left, first) at sum)
 
 -- ---- the end
 
@@ -228,8 +222,7 @@ put_next c old now new i row row' qp qp' run run' m k syntax is here is_k is_syn
     let all = old.bits ++ some_bits s (earlier_mbs c) (length old.bits) c.macroblocks in
     let follow : CanFollow s before qp (m ∷ ms) = subst (λ l. CanFollow s before qp l) here.first is.follow in
     let grown = before_more c i m here in
-    let put : new ≡ with_bits now (own_bits (context s before qp) (length now.bits) run m.syntax) =
-    is_new ∙ ap (λ x. with_bits now (own_bits x (length now.bits) run syntax)) is_k ∙ ap (λ x. with_bits now (own_bits (context s before qp) (length now.bits) run x)) is_syntax in
+    let put : new ≡ with_bits now (own_bits (context s before qp) (length now.bits) run m.syntax) = rw (← is_k, ← is_syntax) is_new in
     let sum : new.bits ++ rest_bits s.is_p s before' m.qp (length new.bits) (run_after run m.syntax) ms ≡ all =
     own_put s before qp run m ms (drop i c.macroblocks) now new all here.first follow.0 follow.1 put is.sum in
     record {

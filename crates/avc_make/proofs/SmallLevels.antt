@@ -1,14 +1,14 @@
 -- Blocks of small levels can be written.
-use Rattle.std.proofs.Common.{ℕ, suc, ◌+◌, ◌^◌, ◌<◌, ◌≤◌, ℤ, pos, negsuc, nat_abs, List, [], ◌∷◌, drop, length, Bool, true, false, arith, lit<, inl, inr}
-use Rattle.std.specs.Prelude.{◌==◌, if◌then◌else◌, nat_lt}
-use Rattle.std.specs.List.{All}
-use Rattle.std.proofs.lemmas.Bool.{cases_eq}
+use Rattle.std.proofs.Common.{ℕ, ◌+◌, ◌^◌, ◌<◌, ◌≤◌, ℤ, pos, negsuc, nat_abs, List, [], ◌∷◌, drop, length, Bool, true, false, arith, lit<, inl, inr}
+use Rattle.std.specs.Prelude.{nat_lt}
+use Rattle.std.proofs.lemmas.Bool.{cases_eq, eq-eqb, ne_eqb}
 use Rattle.std.proofs.Math.Nat.{pow-le-pow_right}
 use Rattle.avc_cavlc.specs.Block.{next_suffix_length}
 use Rattle.avc_make.specs.BlockWriting.{AreCodes, IsCode, SmallAreWritable, after_zeros, code_of_level, coded, first_length, least_code, ones_first, values_of}
 use Rattle.avc_make.specs.VuiWriting.{Each}
 use Rattle.avc_make.proofs.BlockPutting.{each_drop, each_reverse, each_value}
 use Rattle.avc_make.proofs.LevelWords.{least_last}
+use Rattle.avc_make.proofs.WeightsBack.{each_of_all}
 
 abbrev IsSmall : ℤ → Type 0
 IsSmall l = nat_abs l ≤ 2063
@@ -33,21 +33,16 @@ small_codes : (sl : ℕ) (above_one : Bool) (values : List ℤ) → Each IsSmall
 small_codes sl above_one [] all = tt
 small_codes sl above_one (l ∷ values) all = (small_code sl above_one l all.0, small_codes (next_suffix_length sl l) false values all.1)
 
-each_from : {A : Type 0} (P : A → Type 0) (xs : List A) → All P xs → Each P xs
-each_from P [] all = tt
-each_from P (x ∷ xs) all = (all 0 x (omega arith), each_from P xs (λ k d within. all (suc k) d (omega arith)))
-
 each_found : (P : ℤ → Type 0) (before : ℕ) (levels : List ℤ) → Each P levels → Each (λ c. P c.0) (after_zeros before levels)
 each_found P before [] all = tt
-each_found P before (l ∷ levels) all = by_test (nat_abs l == 0) (each_found P (before + 1) levels all.1) (each_found P 0 levels all.1) all.0
-  where
-    by_test : (test : Bool) → Each (λ c. P c.0) (after_zeros (before + 1) levels) → Each (λ c. P c.0) (after_zeros 0 levels) → P l → Each (λ c. P c.0) (if test then after_zeros (before + 1) levels else (l, before) ∷ after_zeros 0 levels)
-    by_test true a b here = a
-    by_test false a b here = (here, b)
+each_found P before (l ∷ levels) all = elim (cases_eq (nat_abs l) 0) [
+  | inl none ↦ rw (eq-eqb (nat_abs l) 0 none) (each_found P (before + 1) levels all.1)
+  | inr some ↦ rw (ne_eqb (nat_abs l) 0 some) (all.0, each_found P 0 levels all.1)
+]
 
 pub small_writable : SmallAreWritable
 small_writable levels all =
     let found = coded levels in
     let ones = ones_first 3 (values_of found) in
-    let each = each_value IsSmall found (each_reverse (λ c. IsSmall c.0) (after_zeros 0 levels) (each_found IsSmall 0 levels (each_from IsSmall levels all))) in
+    let each = each_value IsSmall found (each_reverse (λ c. IsSmall c.0) (after_zeros 0 levels) (each_found IsSmall 0 levels (each_of_all IsSmall levels all))) in
     small_codes (first_length (length found) ones) (nat_lt ones 3) (drop ones (values_of found)) (each_drop IsSmall ones (values_of found) each)

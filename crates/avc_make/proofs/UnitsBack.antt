@@ -1,20 +1,12 @@
 -- The bits of a unit, read again.
-use Rattle.std.proofs.Common.{◌≡◌, ℕ, zero, suc, List, [], ◌∷◌, ◌++◌, Bool, true, false, drop, Some, None, refl, ap, ◌∙◌, arith, append_assoc}
+use Rattle.std.proofs.Common.{◌≡◌, ℕ, List, [], ◌∷◌, Bool, true, false, drop, ap, ◌∙◌, arith, append_assoc}
 use Rattle.std.specs.Prelude.{replicate}
 use Rattle.avc_annexb.specs.Escapes.{rbsp}
 use Rattle.avc_bits.specs.Bits.{before_last_one, or_none, start}
+use Rattle.avc_bits.proofs.Stops.{before_one}
 use Rattle.avc_make.specs.Cutting.{RbspsAreRead}
 use Rattle.avc_make.specs.Units.{IsUnit}
 use Rattle.avc_make.proofs.Removing.{removed}
-
-before_none : (n : ℕ) → before_last_one (replicate n false) ≡ None
-before_none zero = refl
-before_none (suc n) = rw (before_none n) refl
-
-before_one : (front : List Bool) (n : ℕ) → before_last_one (front ++ true ∷ replicate n false) ≡ Some front
-before_one [] n = rw (before_none n) refl
-before_one (true ∷ front) n = rw (before_one front n) refl
-before_one (false ∷ front) n = rw (before_one front n) refl
 
 pub rbsp_is_read : RbspsAreRead
 rbsp_is_read bits bytes is =

@@ -1,5 +1,5 @@
 -- An entry says how the bits ahead are read by the table.
-use Rattle.std.proofs.Common.{◌≡◌, ℕ, zero, suc, ◌+◌, ◌<◌, ◌≤◌, List, [], ◌∷◌, ◌++◌, length, Bool, true, false, refl, ap, subst, ◌∙◌, sym, arith, take, drop, length-append, append_assoc, append-nil, inl, inr}
+use Rattle.std.proofs.Common.{◌≡◌, ℕ, ◌+◌, ◌<◌, ◌≤◌, List, [], ◌∷◌, ◌++◌, length, Bool, true, false, refl, ap, subst, ◌∙◌, sym, arith, drop, length-append, append_assoc, append-nil, inl, inr}
 use Rattle.std.specs.Prelude.{◌||◌, Option, Some, None, Result, Ok, Err}
 use Rattle.std.specs.Option.{option_map}
 use Rattle.std.specs.List.{list_any}
@@ -8,6 +8,7 @@ use Rattle.avc_types.specs.declared.fault.Fault.{Fault}
 use Rattle.avc_types.specs.declared.fault.Fault.TheVariants as faults
 use Rattle.avc_bits.specs.Bits.{Bits}
 use Rattle.avc_bits.specs.Codes.{split, skip}
+use Rattle.avc_bits.proofs.Reading.{skip_long, skip_short, split_long, split_short}
 use Rattle.avc_vlc.specs.declared.entry.Entry.{Entry}
 use Rattle.avc_vlc.specs.Reading.{Table, after_word, is_prefix, lookup, table_code}
 use Rattle.avc_vlc.specs.Indexing.{begins, goes_on, word_entry, entry_from, Agree, Decides}
@@ -106,27 +107,17 @@ pub split-append : (word left : List Bool) → split (length word) (word ++ left
 split-append [] left = refl
 split-append (b ∷ word) left = ap (λ o. option_map (λ p. (b ∷ p.0, p.1)) o) (split-append word left)
 
-split-short : (word : List Bool) (n : ℕ) → length word < n → split n word ≡ None
-split-short word zero short = absurd (omega arith)
-split-short [] (suc n) short = refl
-split-short (b ∷ word) (suc n) short = ap (λ o. option_map (λ p. (b ∷ p.0, p.1)) o) (split-short word n (omega arith))
-
-split-long : (n : ℕ) (bits : List Bool) → n ≤ length bits → split n bits ≡ Some (take n bits, drop n bits)
-split-long zero bits long = refl
-split-long (suc n) [] long = absurd (omega arith)
-split-long (suc n) (b ∷ bits) long = ap (λ o. option_map (λ p. (b ∷ p.0, p.1)) o) (split-long n bits (omega arith))
-
 -- whether so many bits can be passed
 pub skip-ok : (n : ℕ) (b : Bits) (r : Unit {0} × Bits) → skip n b ≡ Ok r → n ≤ length b.ahead
 skip-ok n b r is = elim (cases_lt (length b.ahead) n) [
-  | inl short ↦ let cut : skip n b ≡ Err faults.Truncated = rw (split-short b.ahead n short) refl in cc
+  | inl short ↦ let cut : skip n b ≡ Err faults.Truncated = skip_short n b short in cc
   | inr long ↦ long
 ]
 
 pub skip-err : (n : ℕ) (b : Bits) (f : Fault) → skip n b ≡ Err f → length b.ahead < n
 skip-err n b f is = elim (cases_lt (length b.ahead) n) [
   | inl short ↦ short
-  | inr long ↦ let passed : skip n b ≡ Ok (tt, record { position = b.position + n; ahead = drop n b.ahead }) = rw (split-long n b.ahead long) refl in cc
+  | inr long ↦ let passed : skip n b ≡ Ok (tt, record { position = b.position + n; ahead = drop n b.ahead }) = skip_long n b long in cc
 ]
 
 abbrev bits_at : ℕ → List Bool → Bits
@@ -220,7 +211,7 @@ Answers table e position ahead = table_code table (bits_at position ahead) ≡ a
 read_cut : {A : Type 0} (table : Table A) (front : List Bool) (e : Entry A) (position : ℕ) → lookup table front ≡ None → begins table front ≡ true → length front < e.length → Answers table e position (front ++ [])
 read_cut {A} table front e position none word short =
     let P : List Bool → Type 0 = λ l. Answers table e position l in
-    subst P (sym (append-nil front)) (code-none table (bits_at position front) true none word ∙ sym (ap (answered e position) (split-short front e.length short)))
+    subst P (sym (append-nil front)) (code-none table (bits_at position front) true none word ∙ sym (ap (answered e position) (split_short e.length front short)))
 
 -- The entry answers as the table does.
 pub read_entry : {A : Type 0} (table : Table A) (front bits tail : List Bool) (e : Entry A) (position : ℕ) → entry_from table front bits ≡ Some e → Agree bits tail → Answers table e position (front ++ tail)
@@ -257,10 +248,10 @@ passed_answer : {A : Type 0} (table : Table A) (e : Entry A) (n : ℕ) (b left :
 passed_answer {A} table e n b left d same passed =
     let long : n ≤ length b.ahead = skip-ok n b (tt, left) passed in
     let after : Bits = record { position = b.position + e.length; ahead = drop e.length b.ahead } in
-    let all : skip e.length b ≡ Ok (tt, after) = rw (split-long e.length b.ahead (omega arith)) refl in
+    let all : skip e.length b ≡ Ok (tt, after) = skip_long e.length b (omega arith) in
     let also : skip e.length b ≡ Ok (tt, left) = ap (λ k. skip k b) (sym same) ∙ passed in
     let is : after ≡ left = ap (λ r. elim r [ Ok x ↦ x.1 | Err f ↦ after ]) (sym all ∙ also) in
-    decided_answer table e b d ∙ ap (answered e b.position) (split-long e.length b.ahead (omega arith))
+    decided_answer table e b d ∙ ap (answered e b.position) (split_long e.length b.ahead (omega arith))
     ∙ ap (λ l. elim e.value [ None ↦ Err faults.BadCode | Some v ↦ Ok (v, l) ]) is
 
 pub reads_word : {A : Type 0} (table : Table A) (e : Entry A) (n : ℕ) (b left : Bits) (v : A) → Decides table b.ahead e → n ≡ e.length → skip n b ≡ Ok (tt, left) → e.value ≡ Some v → table_code table b ≡ Ok (v, left)
@@ -272,6 +263,6 @@ reads_none table e n b left d same passed is = passed_answer table e n b left d 
 pub reads_cut : {A : Type 0} (table : Table A) (e : Entry A) (n : ℕ) (b : Bits) (f : Fault) → Decides table b.ahead e → n ≡ e.length → skip n b ≡ Err f → table_code table b ≡ Err f
 reads_cut table e n b f d same cut =
     let short : length b.ahead < n = skip-err n b f cut in
-    let also : skip n b ≡ Err faults.Truncated = rw (split-short b.ahead n short) refl in
+    let also : skip n b ≡ Err faults.Truncated = skip_short n b short in
     let is : faults.Truncated ≡ f = cc in
-    decided_answer table e b d ∙ ap (answered e b.position) (split-short b.ahead e.length (omega arith)) ∙ ap (λ x. Err x) is
+    decided_answer table e b d ∙ ap (answered e b.position) (split_short e.length b.ahead (omega arith)) ∙ ap (λ x. Err x) is

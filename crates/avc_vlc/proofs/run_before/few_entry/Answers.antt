@@ -1,4 +1,4 @@
-use Rattle.std.proofs.Common.{◌≡◌, ℕ, ◌-◌, refl, arith, true}
+use Rattle.std.proofs.Common.{◌≡◌, ℕ, refl, true}
 use Rattle.std.specs.Prelude.{nat_le}
 use Rattle.std.proofs.lemmas.Bool.{le-leb}
 use Rattle.avc_vlc.specs.Tables.{run_before_codes}

@@ -1,4 +1,4 @@
-use Rattle.std.proofs.Common.{◌≡◌, ◌+◌, ◌*◌, arith, refl, rules}
+use Rattle.std.proofs.Common.{◌+◌, ◌*◌, arith, refl, rules}
 use Rattle.avc_bits.specs.Bits.{passed}
 use Rattle.avc_bits.specs.Reader.{reader_bits}
 use Rattle.avc_bits.proofs.Reading.{short_ue_from}
