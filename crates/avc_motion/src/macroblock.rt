@@ -55,8 +55,6 @@ fn is_held(neighbours: &Neighbours<'_>) -> bool
 }
 
 /// The blocks of a skipped macroblock that may move.
-// apart from those that are held: their motion is written as the constant that it is
-#[inline(never)]
 fn set_moving(neighbours: &Neighbours<'_>, blocks: &mut [Motion; 16])
     ensures motion { blocks.new ≡ motion_by (motion_near (facts_of neighbours.now)) p_skip }
     ensures within { list_all is_in_range blocks.new ≡ true }

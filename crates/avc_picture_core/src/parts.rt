@@ -1,6 +1,6 @@
 //! The inter prediction of one rectangle of a macroblock (8.4.2).
 
-ghost use Rattle.std.specs.Prelude.{◌≡◌, ◌+◌, ◌*◌, ◌/◌, ◌%◌, ◌<◌, ◌≤◌, true, Some, IfSome, length, map, slice_index};
+ghost use Rattle.std.specs.Prelude.{◌≡◌, ◌+◌, ◌*◌, ◌/◌, ◌%◌, ◌<◌, ◌≤◌, true, None, Some, IfSome, length, map, slice_index};
 ghost use Rattle.std.specs.Option.{option_map};
 ghost use Rattle.avc_plane.specs.Frames.{planes_of};
 ghost use Rattle.avc_plane.specs.Plane.{sample, with_block};
@@ -179,8 +179,48 @@ fn copy_part<const W: usize, const H: usize, const CW: usize, const CH: usize, c
     copy_chroma::<CW, CH, PAD>(&reference.cr, x, y, &mut planes.cr);
 }
 
-/// Predicts a rectangle of W columns and H rows of luma, and of CW and CH of each chroma component, from one picture by one vector.
-pub(crate) fn set_part<
+/// Predicts a rectangle of W columns and H rows of luma, and of CW and CH of each chroma component, from one picture by one vector, without
+/// weights.
+#[inline(always)]
+fn set_plain_part<
+    const W: usize,
+    const H: usize,
+    const CW: usize,
+    const CH: usize,
+    const PAD: usize,
+>(
+    picture: &ReferencePicture<'_, PAD>,
+    mv: Mv,
+    place: MbPlace,
+    corner: Corner,
+    planes: &mut Planes<PAD>,
+)
+    requires columns { (1 ≤ CW) × (W ≡ 2 * CW) × (corner.x + W ≤ 16) }
+    requires rows { (1 ≤ CH) × (H ≡ 2 * CH) × (CH % 2 ≡ 0) × (corner.y + H ≤ 16) }
+    requires even { (corner.x % 2 ≡ 0) × (corner.y % 2 ≡ 0) }
+    requires macroblock { CoverMacroblock place.column place.row (planes_of planes.old) }
+    requires usable { IsUsableAt place.column place.row picture.now }
+    requires plain { picture.now.weights ≡ None }
+    ensures { planes_of planes.new ≡ with_part place.column place.row corner.x corner.y W H
+        (λ k x y. predicted_from picture.now mv k (size_of k * place.column + x) (size_of k * place.row + y)) (planes_of planes.old) }
+{
+    let reference = picture.planes;
+    let width = reference.luma.width();
+    let height = reference.luma.height();
+    prove!(16 * place.column + 16 <= width);
+    prove!(16 * place.row + 16 <= height);
+    let x = 16 * place.column + corner.x;
+    let y = 16 * place.row + corner.y;
+    predict_luma::<W, H, PAD>(&reference.luma, x, y, mv, &mut planes.luma);
+    let x = 8 * place.column + corner.x / 2;
+    let y = 8 * place.row + corner.y / 2;
+    predict_chroma::<CW, CH, PAD>(&reference.cb, x, y, mv, &mut planes.cb);
+    predict_chroma::<CW, CH, PAD>(&reference.cr, x, y, mv, &mut planes.cr);
+}
+
+/// The same with weights.
+#[inline(never)]
+fn set_weighted_part<
     const W: usize,
     const H: usize,
     const CW: usize,
@@ -230,6 +270,35 @@ pub(crate) fn set_part<
         half,
         &mut planes.cr,
     );
+}
+
+/// The same from one picture, with weights where it has them.
+pub(crate) fn set_part<
+    const W: usize,
+    const H: usize,
+    const CW: usize,
+    const CH: usize,
+    const PAD: usize,
+>(
+    picture: &ReferencePicture<'_, PAD>,
+    mv: Mv,
+    place: MbPlace,
+    corner: Corner,
+    planes: &mut Planes<PAD>,
+)
+    requires columns { (1 ≤ CW) × (W ≡ 2 * CW) × (corner.x + W ≤ 16) }
+    requires rows { (1 ≤ CH) × (H ≡ 2 * CH) × (CH % 2 ≡ 0) × (corner.y + H ≤ 16) }
+    requires even { (corner.x % 2 ≡ 0) × (corner.y % 2 ≡ 0) }
+    requires macroblock { CoverMacroblock place.column place.row (planes_of planes.old) }
+    requires usable { IsUsableAt place.column place.row picture.now }
+    ensures { planes_of planes.new ≡ with_part place.column place.row corner.x corner.y W H
+        (λ k x y. predicted_from picture.now mv k (size_of k * place.column + x) (size_of k * place.row + y)) (planes_of planes.old) }
+{
+    if picture.weights.is_none() {
+        set_plain_part::<W, H, CW, CH, PAD>(picture, mv, place, corner, planes);
+    } else {
+        set_weighted_part::<W, H, CW, CH, PAD>(picture, mv, place, corner, planes);
+    }
 }
 
 /// Predicts a macroblock from one picture by one vector.

@@ -1,6 +1,6 @@
 use Rattle.avc_plane.specs.Frames.{planes_of}
 use Rattle.avc_picture_core.proofs.Tiles.{part_predicted}
-use Rattle.avc_picture_core.proofs.parts.set_part.Goals as goal
+use Rattle.avc_picture_core.proofs.parts.set_weighted_part.Goals as goal
 
 pub returns : goal.returns
 returns g c =
