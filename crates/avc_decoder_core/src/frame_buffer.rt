@@ -199,7 +199,10 @@ fn output_prior_pictures(
 }
 
 /// These pictures and then those.
-pub fn joined(mut pictures: Vec<Picture>, mut more: Vec<Picture>) -> Result<Vec<Picture>, OutOfMemory>
+pub fn joined(
+    mut pictures: Vec<Picture>,
+    mut more: Vec<Picture>,
+) -> Result<Vec<Picture>, OutOfMemory>
     ensures { IfOk result (λ all. all.items ≡ pictures.items ++ more.items) }
 {
     pictures.append(&mut more)?;

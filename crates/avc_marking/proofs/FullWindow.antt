@@ -1,8 +1,8 @@
 -- The sliding window over short-term frames whose numbers rise.
 use Rattle.std.specs.List.{filter}
-use Rattle.std.specs.Prelude.{◌==◌, cond, if◌then◌else◌, int_lt, pos, ℤ, ◌+ℤ◌, ◌-ℤ◌, ◌≤ℤ◌, IfSome, ◌⊎◌, zero, ◌%◌, ◌*◌, ◌/◌}
-use Rattle.std.proofs.Common.{◌≡◌, ℕ, suc, ◌+◌, ◌<◌, ◌≤◌, nat_lt, Bool, true, false, not, ◌||◌, ◌&&◌, List, [], ◌∷◌, ◌++◌, length}
-use Rattle.std.proofs.Common.{Option, None, Some, Result, Ok, Err, inl, inr, ◌-◌, slice_get, refl, sym, ap, ap₂, ◌∙◌, subst, arith, length-append}
+use Rattle.std.specs.Prelude.{◌==◌, cond, if◌then◌else◌, int_lt, pos, ℤ, ◌+ℤ◌, ◌-ℤ◌, ◌≤ℤ◌, IfSome, ◌⊎◌, ◌%◌, ◌*◌, ◌/◌}
+use Rattle.std.proofs.Common.{◌≡◌, ℕ, ◌+◌, ◌<◌, ◌≤◌, nat_lt, Bool, true, false, not, ◌||◌, ◌&&◌, List, [], ◌∷◌, ◌++◌, length}
+use Rattle.std.proofs.Common.{Option, None, Some, Result, Ok, inl, inr, ◌-◌, slice_get, refl, sym, ap, ap₂, ◌∙◌, subst, arith, length-append}
 use Rattle.std.proofs.lemmas.Bool.Decides.{nat_tests}
 use Rattle.std.proofs.lemmas.List.Elements.{filter-append}
 use Rattle.std.proofs.Math.Nat.{mod-lt, div-add-mod, add-mod_right}
@@ -12,15 +12,13 @@ use Rattle.avc_types.specs.Arithmetic.{◌==ℤ◌ as same_number}
 use Rattle.avc_types.specs.declared.current_frame_num.CurrentFrameNum.{CurrentFrameNum}
 use Rattle.avc_types.specs.declared.fault.Fault.{Fault}
 use Rattle.avc_types.specs.declared.fault.Fault.TheVariants.{TooManyReferences}
-use Rattle.avc_types.specs.declared.references.Mark.{Mark}
 use Rattle.avc_types.specs.declared.references.Mark.TheVariants.{Short, Long}
-use Rattle.avc_types.specs.declared.references.Marking.TheVariants.{SlidingWindow}
-use Rattle.avc_types.specs.References.{Reference, is_short, pic_num, pic_num_of, placed_by, sorted_by}
+use Rattle.avc_types.specs.References.{Reference, is_short, pic_num_of, sorted_by}
 use Rattle.avc_types.specs.Results.{◌>>=◌}
-use Rattle.avc_marking.specs.Marks.{MarkingEntry, Marks, limit_of, frame_or, without_frame, current_frame, marks_after}
+use Rattle.avc_marking.specs.Marks.{limit_of, frame_or, without_frame, current_frame}
 use Rattle.avc_marking.specs.Marks.{precedes_in_window, first_in_window, after_sliding_window}
 use Rattle.avc_marking.specs.Frames.{first_in_window_of}
-use Rattle.avc_marking.specs.Laws.{StandBelow, StandFrom, IsShortTerm, CountFrom, IsFullWindow, WindowTakesTheFirst}
+use Rattle.avc_marking.specs.Laws.{StandBelow, StandFrom, CountFrom, WindowTakesTheFirst}
 use Rattle.avc_marking.proofs.Sliding.{first-placed}
 
 -- ---- numbers that go on past MaxFrameNum

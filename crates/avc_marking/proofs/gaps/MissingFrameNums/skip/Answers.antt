@@ -1,4 +1,4 @@
-use Rattle.std.proofs.Common.{◌≡◌, ◌+◌, ◌-◌, ◌≤◌, ◌∙◌, ◌%◌, ap, ap₂, sym, drop, length, arith}
+use Rattle.std.proofs.Common.{◌≡◌, ◌+◌, ◌-◌, ◌∙◌, ◌%◌, ap, ap₂, sym, drop, length, arith}
 use Rattle.avc_marking.specs.Marks.{frame_nums_from}
 use Rattle.avc_marking.proofs.Numbers.{length-numbers, numbers-mod, numbers-skipped}
 use Rattle.avc_marking.proofs.gaps.MissingFrameNums.skip.Goals as goal
