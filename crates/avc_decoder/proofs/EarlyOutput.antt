@@ -1,6 +1,5 @@
--- Early output and full output hand out the same: what goes out of a stream that has ended are the pictures of its coded video
--- sequences.
-use Rattle.std.specs.Prelude.{◌≡◌, ℕ, Bool, true, false, not, ◌&&◌, if◌then◌else◌, List, [], ◌∷◌, ◌++◌, All, Some, None, Result, Ok, Err, refl}
+-- Early output and full output hand out the same: what goes out of a stream that has ended are the pictures of its sequences.
+use Rattle.std.specs.Prelude.{◌≡◌, ℕ, Bool, true, false, not, ◌&&◌, List, [], ◌∷◌, ◌++◌, All, Some, None, Result, Ok, Err, refl}
 use Rattle.std.proofs.Common.{ap, ap₂, sym, subst, ◌∙◌, append-nil}
 use Rattle.std.proofs.lemmas.Grind.{flat_map-append}
 use Rattle.std.proofs.lemmas.List.Elements.{All-append, All-head, All-tail}
@@ -17,18 +16,18 @@ use Rattle.avc_dpb.specs.declared.output.Output.TheVariants.{Full, Early}
 use Rattle.avc_decoder_core.specs.History.{History}
 use Rattle.avc_decoder_core.specs.Pictures.{held_pictures, pictures_at}
 use Rattle.avc_decoder_core.specs.SequenceOrder.{EarlyOutputKeepsHistories}
-use Rattle.avc_decoder.specs.EarlyOutput.{IsNotDropped, EarlyOutputKeepsPictures, EndedSequence, IsReorderedWithin, ended_at_closing, ended_by_closing}
-use Rattle.avc_decoder.specs.EarlyOutput.{ended_by_unit, ended_sequence, phase_after_closing, sequences, sequences_from, stopped}
+use Rattle.avc_decoder.specs.EarlyOutput.{EarlyOutputKeepsPictures, EndedSequence, IsNotDropped, IsReorderedWithin, ended_at_closing}
+use Rattle.avc_decoder.specs.EarlyOutput.{ended_by_closing, ended_by_unit, ended_sequence, phase_after_closing, sequences, sequences_from, stopped}
 use Rattle.avc_decoder.specs.Events.{Outcome, Phase, after_closing, after_next, at_end, closed_outcome, closed_picture}
 use Rattle.avc_decoder.specs.Events.{closing_result, events_and_held, events_from, followed_by, history_in, in_phase, is_running}
 use Rattle.avc_decoder.specs.Events.{open_facts_in, pictures, pictures_in, refusals_in, running, waiting}
 use Rattle.avc_decoder.specs.FirstFault.{OpenPicture}
 use Rattle.avc_decoder.specs.declared.event.Event.{Event}
 use Rattle.avc_decoder.proofs.BeginningPictures.{Allows, Fits, Known, fits}
-use Rattle.avc_decoder.proofs.Histories.{IsClosed, IsSound, IsSoundOpen, all_of, closed_sound, gone}
-use Rattle.avc_decoder.proofs.Grown.{state_of}
-use Rattle.avc_decoder.proofs.Turning.{Goes, IsSoundSequence, Sound, of_sequence, all_in, closed_turns, followed, held_go_out, in_turn, next_turns, no_refusals}
-use Rattle.avc_decoder.proofs.Turning.{pictures_in-append, refusals_in-append, stays, stopped_sound}
+use Rattle.avc_decoder.proofs.Histories.{IsClosed, IsSound, IsSoundOpen, closed_sound, gone}
+use Rattle.avc_decoder.proofs.Through.{state_of}
+use Rattle.avc_decoder.proofs.Turning.{Goes, IsSoundSequence, Sound, all_in, closed_goes, followed, held_go_out, in_turn, next_turns, no_refusals}
+use Rattle.avc_decoder.proofs.Turning.{pictures_in-append, refusals_in-append, shown_by, stays, stopped_sound}
 
 -- ---- a unit
 
@@ -36,21 +35,19 @@ use Rattle.avc_decoder.proofs.Turning.{pictures_in-append, refusals_in-append, s
 abbrev after_closed : (sets : Sets) (unit : ℕ) → Step → OpenPicture → Result History (ℕ × Fault) → Output → Outcome
 after_closed sets unit what o r output = after_closing output sets unit what (closed_outcome output o r)
 
-closed_goes : (sets : Sets) (unit : ℕ) (what : Step) (h : History) (o : OpenPicture) (r : Result History (ℕ × Fault))
+closing_goes : (sets : Sets) (unit : ℕ) (what : Step) (h : History) (o : OpenPicture) (r : Result History (ℕ × Fault))
     → IsSoundOpen o → Allows what.next false → ((full : History) → r ≡ Ok full → IsClosed o full)
-    → Goes (running h (Some o)) (ended_by_closing o r ++ stopped (closed_outcome Full o r).phase (after_closed sets unit what o r Full).phase)
+    → Goes (running h (Some o))
+    (ended_by_closing o r ++ stopped (closed_outcome Full o r).phase (after_closed sets unit what o r Full).phase)
     (after_closed sets unit what o r)
-closed_goes sets unit what h o (Ok full) s a closed =
-    let p = running h (Some o) in
+closing_goes sets unit what h o (Ok full) s a closed =
     let q = running full None in
     let next : Output → Outcome = λ output. after_next output sets unit q what.next in
-    followed p q (ended_by_closing o (Ok full)) (stopped q (next Full).phase) (λ output. closed_outcome output o (Ok full)) next refl
-    (closed_turns h o (Ok full) s closed) (next_turns sets unit q what.next (closed full refl).sound a)
-closed_goes sets unit what h o (Err found) s a closed = by_even what.even_after_fault
+    followed (running h (Some o)) q (ended_by_closing o (Ok full)) (stopped q (next Full).phase)
+    (λ output. closed_outcome output o (Ok full)) next refl
+    (closed_goes h o (Ok full) s closed) (next_turns sets unit q what.next (closed full refl).sound a)
+closing_goes sets unit what h o (Err found) s a closed = by_even what.even_after_fault
   where
-    p : Phase
-    p = running h (Some o)
-
     failed : Output → Outcome
     failed output = closed_outcome output o (Err found)
 
@@ -60,12 +57,14 @@ closed_goes sets unit what h o (Err found) s a closed = by_even what.even_after_
     with_even : Bool → Output → Outcome
     with_even b output = elim (true && not b) [ true ↦ failed output | false ↦ followed_by (failed output) (next output) ]
 
-    by_even : (b : Bool) → Goes p (ended_by_closing o (Err found) ++ stopped waiting (with_even b Full).phase) (with_even b)
+    ended : List EndedSequence
+    ended = ended_by_closing o (Err found)
+
+    by_even : (b : Bool) → Goes (running h (Some o)) (ended ++ stopped waiting (with_even b Full).phase) (with_even b)
     by_even true =
-        followed p waiting (ended_by_closing o (Err found)) (stopped waiting (next Full).phase) failed next refl
-        (closed_turns h o (Err found) s closed) (next_turns sets unit waiting what.next tt a)
-    by_even false =
-        subst (λ hs. Goes p hs failed) (sym (append-nil (ended_by_closing o (Err found)))) (closed_turns h o (Err found) s closed)
+        followed (running h (Some o)) waiting ended (stopped waiting (next Full).phase) failed next refl
+        (closed_goes h o (Err found) s closed) (next_turns sets unit waiting what.next tt a)
+    by_even false = subst (λ ss. Goes (running h (Some o)) ss failed) (sym (append-nil ended)) (closed_goes h o (Err found) s closed)
 
 unit_goes : (sets : Sets) (unit : ℕ) (what : Step) (p : Phase) → Sound p → Fits (open_facts_in p) what
     → Goes p (ended_at_closing what.closes p ++ stopped (phase_after_closing Full what.closes p) (in_phase Full sets unit what p).phase)
@@ -83,7 +82,7 @@ unit_goes sets unit what (running h (Some o)) s fit = by_closes what.closes fit
           | false ↦ after_next output sets unit p what.next
         ] in
         Goes p (ended_at_closing b p ++ stopped (phase_after_closing Full b p) (x Full).phase) x
-    by_closes true a = closed_goes sets unit what h o (closing_result o) s a (λ full e. closed_sound o full s e)
+    by_closes true a = closing_goes sets unit what h o (closing_result o) s a (λ full e. closed_sound o full s e)
     by_closes false a = next_turns sets unit p what.next s a
 
 -- ---- the end
@@ -128,14 +127,16 @@ end_by h o (Ok full) s closed =
     let p = running h (Some o) in
     let q = running full None in
     let x : Output → Outcome = λ output. closed_outcome output o (Ok full) in
-    ends p (ended_by_closing o (Ok full) ++ ended_sequence full false) (λ output. followed_by (x output) (ended q output)) refl
-    (followed p q (ended_by_closing o (Ok full)) (ended_sequence full false) x (ended q) refl
-    (closed_turns h o (Ok full) s closed) (held_at_end full (closed full refl).sound))
+    let here = ended_by_closing o (Ok full) in
+    let last = ended_sequence full false in
+    ends p (here ++ last) (λ output. followed_by (x output) (ended q output)) refl
+    (followed p q here last x (ended q) refl (closed_goes h o (Ok full) s closed) (held_at_end full (closed full refl).sound))
 end_by h o (Err found) s closed =
     let p = running h (Some o) in
     let x : Output → Outcome = λ output. closed_outcome output o (Err found) in
-    ends p (ended_by_closing o (Err found) ++ []) (λ output. followed_by (x output) (ended waiting output)) refl
-    (followed p waiting (ended_by_closing o (Err found)) [] x (ended waiting) refl (closed_turns h o (Err found) s closed) (stays waiting tt))
+    let here = ended_by_closing o (Err found) in
+    ends p (here ++ []) (λ output. followed_by (x output) (ended waiting output)) refl
+    (followed p waiting here [] x (ended waiting) refl (closed_goes h o (Err found) s closed) (stays waiting tt))
 
 at_end_ends : (p : Phase) → Sound p
     → Ends p (ended_at_closing true p ++ stopped (phase_after_closing Full true p) waiting) (λ output. at_end output p)
@@ -170,7 +171,7 @@ one_more units p us hs hs' x g e = record {
       ∙ ap (λ l. out ++ l) (pictures_in-append (x output).events (others output))
       ∙ in_turn out (pictures_in (x output).events) (all_in output hs) next (pictures_in (others output)) (all_in output hs')
       (g.hands_out output) (e.hands_out output)
-      ∙ sym (flat_map-append (of_sequence output) hs hs');
+      ∙ sym (flat_map-append (λ s. shown_by output s.history s.dropped) hs hs');
   each_sound = All-append IsSoundSequence hs hs' g.each_sound e.each_sound;
 }
   where
@@ -198,29 +199,27 @@ all_end rules (u ∷ us) units p s =
 
 -- ---- the law
 
--- what goes out of one is the same
 same_sequence : EarlyOutputKeepsHistories → (s : EndedSequence) → IsSoundSequence s → IsNotDropped s → IsReorderedWithin s
-    → of_sequence Early s ≡ of_sequence Full s
-same_sequence keeps s sound kept within = of_all Early ∙ ap (pictures_at s.history) (keeps s.history sound.each sound.marked within) ∙ sym (of_all Full)
-  where
-    of_all : (output : Output) → of_sequence output s ≡ all_of output s.history
-    of_all output = ap (λ b. if b then gone output s.history else all_of output s.history) kept
+    → shown_by Early s.history s.dropped ≡ shown_by Full s.history s.dropped
+same_sequence keeps s sound all within =
+    let h = s.history in
+    ap (shown_by Early h) all ∙ ap (pictures_at h) (keeps h sound.each sound.marked within) ∙ sym (ap (shown_by Full h) all)
 
-same_sequences : EarlyOutputKeepsHistories → (hs : List EndedSequence)
-    → All IsSoundSequence hs → All IsNotDropped hs → All IsReorderedWithin hs → all_in Early hs ≡ all_in Full hs
-same_sequences keeps [] sound drops within = refl
-same_sequences keeps (h ∷ hs) sound drops within =
+same_sequences : EarlyOutputKeepsHistories → (ss : List EndedSequence)
+    → All IsSoundSequence ss → All IsNotDropped ss → All IsReorderedWithin ss → all_in Early ss ≡ all_in Full ss
+same_sequences keeps [] sound all within = refl
+same_sequences keeps (s ∷ ss) sound all within =
     ap₂ (λ a b. a ++ b)
-    (same_sequence keeps h (All-head IsSoundSequence h hs sound) (All-head IsNotDropped h hs drops) (All-head IsReorderedWithin h hs within))
-    (same_sequences keeps hs (All-tail IsSoundSequence h hs sound) (All-tail IsNotDropped h hs drops) (All-tail IsReorderedWithin h hs within))
+    (same_sequence keeps s (All-head IsSoundSequence s ss sound) (All-head IsNotDropped s ss all) (All-head IsReorderedWithin s ss within))
+    (same_sequences keeps ss (All-tail IsSoundSequence s ss sound) (All-tail IsNotDropped s ss all) (All-tail IsReorderedWithin s ss within))
 
 pub early_output : HeadersKeepIdrRules → EarlyOutputKeepsHistories → EarlyOutputKeepsPictures
-early_output rules keeps max bytes drops within =
+early_output rules keeps max bytes kept within =
     let all = all_end rules (units max bytes true) [] waiting tt in
     record {
       pictures =
           all.hands_out Early
-          ∙ same_sequences keeps (sequences max bytes) all.each_sound drops within
+          ∙ same_sequences keeps (sequences max bytes) all.each_sound kept within
           ∙ sym (all.hands_out Full);
       refusals = all.same_refusals Early;
     }

@@ -2,29 +2,38 @@
 use Rattle.std.specs.Prelude.{◌≡◌, ℕ, zero, suc, ◌<◌, Bool, true, false, List, [], ◌∷◌, ◌++◌, All, length, Option, Some, None, Result, Ok, Err, refl}
 use Rattle.std.specs.Result.{is_ok}
 use Rattle.std.proofs.Common.{ap, sym, subst, ◌∙◌, append_assoc, append-nil}
+use Rattle.std.proofs.lemmas.Bool.{false≢true}
 use Rattle.std.proofs.lemmas.Grind.{flat_map-append}
 use Rattle.std.proofs.lemmas.List.Elements.{All-cons, All-head, All-nil, All-tail}
 use Rattle.avc_types.specs.declared.fault.Fault.{Fault}
-use Rattle.avc_types.specs.declared.fault.Fault.TheVariants as faults
 use Rattle.avc_types.specs.declared.picture.Picture.{Picture as Decoded}
+use Rattle.avc_types.specs.Results.{◌>>=◌}
 use Rattle.avc_params.specs.declared.sps.Sps.{Sps}
+use Rattle.avc_plane.specs.Planes.{Planes}
+use Rattle.avc_marking.specs.Marks.{Marks}
 use Rattle.avc_slice.specs.Header.{has_idr_marking, is_idr}
 use Rattle.avc_slice.specs.declared.header.Header.{Header}
 use Rattle.avc_dpb.specs.declared.output.Output.{Output}
 use Rattle.avc_dpb.proofs.Conserved.{out_only_grows}
 use Rattle.avc_decoder_core.specs.History.{Entry, History, all_held, arrival, arrivals, buffer_of, decoded_picture, earlier_in_sequence, entry_at}
-use Rattle.avc_decoder_core.specs.History.{history_at_opening, is_same_sps, marks_of, missing_frame, new_output, sequence_sps}
-use Rattle.avc_decoder_core.specs.Opening.{with_all_missing}
+use Rattle.avc_decoder_core.specs.History.{history_after_closing, is_same_sps, marks_of, missing_frame, new_output, with_missing}
+use Rattle.avc_decoder_core.specs.History.{with_picture}
 use Rattle.avc_decoder_core.specs.Pictures.{entry_pictures, held_pictures, output_pictures, pictures_at}
 use Rattle.avc_decoder_core.specs.SequenceOrder.{CanCome, EachCanCome, output_order}
-use Rattle.avc_decoder_core.proofs.MissingNumbers.{is_with_all, opened_by, set_at_opening}
+use Rattle.avc_decoder_core.proofs.MissingNumbers.{ok_same, opened_by, set_at_opening}
 use Rattle.avc_decoder_core.proofs.Outputs.{Extends, extends_itself, extends_more, nothing_goes_out, output_more, pictures_stay}
 use Rattle.avc_decoder_core.proofs.Outputs.{places_below}
 use Rattle.avc_decoder.specs.Events.{at_last_slice, closing_result}
 use Rattle.avc_decoder.specs.FirstFault.{OpenPicture, closed_history, first_fault, first_header, first_slice}
 use Rattle.avc_decoder.specs.FirstFault.{history_at_opening_of, history_of, picture_planes}
-use Rattle.avc_decoder.proofs.Cases.{history_by}
-use Rattle.avc_decoder.proofs.Grown.{Follows, base_grows, closed_is, closing_leaves}
+use Rattle.avc_decoder.proofs.Cases.{fault_by, history_by, unless_found}
+
+-- ---- what comes of a history
+
+-- one history has come of another
+pub record Follows (h full : History) : Type 0 where
+  pub more : History
+  pub is : full ≡ more ++ h
 
 -- ---- what has gone out
 
@@ -104,100 +113,115 @@ pub record IsSoundOpen (o : OpenPicture) : Type 0 where
   pub before : IsSound o.before
   pub idr : HasItsMarking (first_header o)
 
--- missing numbers change nothing of it
-each_missing : (sps : Sps) (numbers : List ℕ) (h : History) → EachCanCome h → EachCanCome (with_all_missing sps numbers h)
-each_missing sps [] h c = c
-each_missing sps (n ∷ numbers) h c = each_missing sps numbers (missing_frame sps n ∷ h) c
+-- It has come of such a history by missing numbers, or is that.
+pub record Grows (h full : History) : Type 0 where
+  pub follows : Follows h full
+  pub sound : IsSound full
 
-each_opened : (sps : Sps) (hd : Header) (h full : History) → EachCanCome h → history_at_opening sps hd h ≡ Ok full → EachCanCome full
-each_opened sps hd h full c e =
-    let opened = opened_by sps hd h full e in
-    subst EachCanCome (sym (is_with_all sps opened.numbers h full opened.missing)) (each_missing sps opened.numbers h c)
+unchanged : (h : History) → IsSound h → Grows h h
+unchanged h s = record { follows = record { more = []; is = refl }; sound = s }
 
-each_before : (o : OpenPicture) → EachCanCome o.before → EachCanCome (history_of o)
-each_before o c =
-    by_address (first_header o).first_mb_in_slice (history_at_opening_of o) (λ h. each_opened o.sps (first_header o) o.before h c)
+missing_grows : (sps : Sps) (numbers : List ℕ) (h full : History) → IsSound h → with_missing sps numbers h ≡ Ok full → Grows h full
+missing_grows sps [] h full s e = subst (Grows h) (ok_same h full e) (unchanged h s)
+missing_grows sps (n ∷ numbers) h full s e =
+    by_marks (marks_of (missing_frame sps n ∷ h)) refl (missing_grows sps numbers (missing_frame sps n ∷ h) full) e
   where
-    by_address : (address : ℕ) (opened : Result History Fault) → ((h : History) → opened ≡ Ok h → EachCanCome h)
-        → EachCanCome (history_by address opened o.before)
-    by_address zero (Ok h) each = each h refl
-    by_address zero (Err f) each = c
-    by_address (suc n) opened each = c
+    x : History
+    x = missing_frame sps n ∷ h
+
+    by_marks : (r : Result Marks Fault) → marks_of x ≡ r → (IsSound x → with_missing sps numbers x ≡ Ok full → Grows x full)
+        → (r >>= λ m. with_missing sps numbers x) ≡ Ok full → Grows h full
+    by_marks (Ok m) is others e' =
+        let more = others (record { each = s.each; marked = ap is_ok is }) e' in
+        record {
+          follows = record {
+            more = more.follows.more ++ missing_frame sps n ∷ [];
+            is = more.follows.is ∙ sym (append_assoc more.follows.more (missing_frame sps n ∷ []) h);
+          };
+          sound = more.sound;
+        }
+    by_marks (Err f) is others e' = cc
 
 -- the history on which the open picture stands
-pub sound_before : (o : OpenPicture) → IsSoundOpen o → IsSound (history_of o)
-sound_before o s = record {
-  each = each_before o (s.before).each;
-  marked = (base_grows o (s.before).marked).marked;
-}
+pub base_grows : (o : OpenPicture) → IsSound o.before → Grows o.before (history_of o)
+base_grows o s = by_address (first_header o).first_mb_in_slice (history_at_opening_of o) opening_grows
+  where
+    opening_grows : (h : History) → history_at_opening_of o ≡ Ok h → Grows o.before h
+    opening_grows h e =
+        let opened = opened_by o.sps (first_header o) o.before h e in
+        missing_grows o.sps opened.numbers o.before h s opened.missing
+
+    by_address : (address : ℕ) (opened : Result History Fault) → ((h : History) → opened ≡ Ok h → Grows o.before h)
+        → Grows o.before (history_by address opened o.before)
+    by_address zero (Ok h) grows = grows h refl
+    by_address zero (Err f) grows = unchanged o.before s
+    by_address (suc n) opened grows = unchanged o.before s
 
 -- ---- a picture that is closed
 
-no_fault : (o : OpenPicture) (full : History) → closing_result o ≡ Ok full → first_fault o true ≡ None
-no_fault o full e = by_fault (first_fault o true) e
-  where
-    by_fault : (f : Option (ℕ × Fault))
-        → ◌≡◌ {A = Result History (ℕ × Fault)} (elim f [
-          | Some found ↦ Err found
-          | None ↦ at_last_slice o (closed_history o (history_of o))
-        ]) (Ok full)
-        → f ≡ None
-    by_fault None e' = refl
-    by_fault (Some found) e' = cc
+-- The open picture has no fault, and closing gives this history.
+record HasClosed (o : OpenPicture) (full : History) : Type 0 where
+  opened : history_at_opening_of o ≡ Ok (history_of o)
+  closed : closed_history o (history_of o) ≡ Ok full
 
 -- where no fault is found, whatever `others` looks for on the history with the missing numbers
 opens : (address : ℕ) (opened : Result History Fault) (unit : ℕ) (before : History) (others : History → Option (ℕ × Fault))
-    → ◌≡◌ {A = Option (ℕ × Fault)} (elim address [
-      | suc _ ↦ Some (unit, faults.MissingMacroblocks)
-      | zero ↦ elim opened [ Err f ↦ Some (unit, f) | Ok history ↦ others history ]
-    ]) None
-    → opened ≡ Ok (history_by address opened before)
+    → fault_by address unit opened others ≡ None → opened ≡ Ok (history_by address opened before)
 opens zero (Ok h) unit before others e = refl
 opens zero (Err f) unit before others e = cc
 opens (suc n) opened unit before others e = cc
 
-opened_there : (o : OpenPicture) → first_fault o true ≡ None → history_at_opening_of o ≡ Ok (history_of o)
-opened_there o e = opens (first_header o).first_mb_in_slice (history_at_opening_of o) (first_slice o).unit o.before _ e
+has_closed : (o : OpenPicture) (full : History) → closing_result o ≡ Ok full → HasClosed o full
+has_closed o full e = by_fault (first_fault o true) refl (closed_history o (history_of o)) refl e
+  where
+    opened_there : first_fault o true ≡ None → history_at_opening_of o ≡ Ok (history_of o)
+    opened_there = opens (first_header o).first_mb_in_slice (history_at_opening_of o) (first_slice o).unit o.before _
 
--- What closing leaves: a sequence goes on, or the picture is an IDR picture and begins one.
+    by_fault : (f : Option (ℕ × Fault)) → first_fault o true ≡ f → (r : Result History Fault) → closed_history o (history_of o) ≡ r
+        → unless_found f (at_last_slice o r) ≡ Ok full → HasClosed o full
+    by_fault (Some found) is r closed e' = cc
+    by_fault None is (Err f) closed e' = cc
+    by_fault None is (Ok h) closed e' = let same : h ≡ full = cc in record { opened = opened_there is; closed = closed ∙ ap Ok same }
+
+-- the history that it gives can be marked
+closing_is : (sps : Sps) (hd : Header) (planes : Planes) (h full : History) → history_after_closing sps hd planes h ≡ Ok full
+    → (full ≡ with_picture sps hd planes h) × (is_ok (marks_of full) ≡ true)
+closing_is sps hd planes h full e = by_marks (with_picture sps hd planes h) (marks_of (with_picture sps hd planes h)) refl e
+  where
+    by_marks : (x : History) (r : Result Marks Fault) → marks_of x ≡ r → (r >>= λ m. Ok x) ≡ Ok full
+        → (full ≡ x) × (is_ok (marks_of full) ≡ true)
+    by_marks x (Ok m) is e' = let same = sym (ok_same x full e') in (same, ap (λ l. is_ok (marks_of l)) same ∙ ap is_ok is)
+    by_marks x (Err f) is e' = cc
+
+-- What closing leaves: a history that has come of the one before, or of none with an IDR picture.
 pub record IsClosed (o : OpenPicture) (full : History) : Type 0 where
   pub sound : IsSound full
-  pub goes_on : is_idr (first_header o) ≡ false → Follows (history_of o) full
-
-each_earlier : (hd : Header) (before : History) → EachCanCome before → EachCanCome (earlier_in_sequence hd before)
-each_earlier hd before each = by_idr (is_idr hd)
-  where
-    by_idr : (idr : Bool) → EachCanCome (elim idr as (λ _. History) [ true ↦ [] | false ↦ before ])
-    by_idr true = tt
-    by_idr false = each
-
--- what stands before a picture in its sequence, by whether it is an IDR picture
-earlier_by : (hd : Header) (before : History) (idr : Bool) → is_idr hd ≡ idr
-    → earlier_in_sequence hd before ≡ elim idr as (λ _. History) [ true ↦ [] | false ↦ before ]
-earlier_by hd before idr is = ap (λ b. elim b as (λ _. History) [ true ↦ [] | false ↦ before ]) is
+  pub follows : Follows (earlier_in_sequence (first_header o) (history_of o)) full
 
 pub closed_sound : (o : OpenPicture) (full : History) → IsSoundOpen o → closing_result o ≡ Ok full → IsClosed o full
 closed_sound o full s e =
-    let hd = first_header o in
-    let base = history_of o in
-    let planes = picture_planes o base in
-    let closed = closing_leaves o.sps hd planes base full (closed_is o full e) in
-    let opened = opened_there o (no_fault o full e) in
-    let can_come : CanCome o.sps hd (earlier_in_sequence hd base) = record {
-      idr = s.idr;
-      first = earlier_by hd base true;
-      same = λ other.
-          ap (λ l. is_same_sps (sequence_sps l) o.sps) (earlier_by hd base false other)
-          ∙ ap (λ set. is_same_sps set o.sps) (set_at_opening o.sps hd o.before base opened)
-          ∙ (opened_by o.sps hd o.before base opened).same other;
-    } in
+    let c = has_closed o full e in
+    let closing = closing_is o.sps (first_header o) (picture_planes o (history_of o)) (history_of o) full c.closed in
     record {
-      sound = record {
-        each = subst EachCanCome (sym closed.is) (can_come, each_earlier hd base (sound_before o s).each);
-        marked = closed.marked;
-      };
-      goes_on = λ other. record {
-        more = decoded_picture o.sps hd planes ∷ [];
-        is = closed.is ∙ ap (λ l. decoded_picture o.sps hd planes ∷ l) (earlier_by hd base false other);
-      };
+      sound = record { each = subst EachCanCome (sym closing.0) (can_come c.opened (is_idr (first_header o)) refl); marked = closing.1 };
+      follows = record { more = decoded_picture o.sps (first_header o) (picture_planes o (history_of o)) ∷ []; is = closing.0 };
     }
+  where
+    hd : Header
+    hd = first_header o
+
+    base : History
+    base = history_of o
+
+    can_come : history_at_opening_of o ≡ Ok base → (b : Bool) → is_idr hd ≡ b
+        → let earlier = elim b as (λ _. History) [ true ↦ [] | false ↦ base ] in CanCome o.sps hd earlier × EachCanCome earlier
+    can_come opened true is = (record { idr = s.idr; first = λ _. refl; same = λ other. absurd (false≢true (sym other ∙ is)) }, tt)
+    can_come opened false is =
+        let set = ap (λ set. is_same_sps set o.sps) (set_at_opening o.sps hd o.before base opened) in (
+          record {
+            idr = s.idr;
+            first = λ idr. absurd (false≢true (sym is ∙ idr));
+            same = λ other. set ∙ (opened_by o.sps hd o.before base opened).same other;
+          },
+          ((base_grows o s.before).sound).each,
+        )

@@ -1,12 +1,11 @@
 -- What a picture decoder says holds on the history of the sequence, and the frames have the picture's size.
-use Rattle.std.proofs.Common.{◌≡◌, ℕ, Bool, true, false, List, [], ◌∷◌, map, All, Option, Some, None, Result, Ok, Err, refl, ap, sym, subst, ◌∙◌, arith}
+use Rattle.std.proofs.Common.{◌≡◌, ℕ, Bool, true, false, List, [], map, All, Option, Some, None, Ok, refl, ap, sym, subst, ◌∙◌, arith}
 use Rattle.std.proofs.lemmas.Bool.Decides.{nat_tests}
 use Rattle.std.proofs.lemmas.List.Elements.{All-cons, All-nil}
 use Rattle.std.specs.List.Sorted.{IsStrictlyIncreasing}
 use Rattle.std.specs.Prelude.{◌+◌, ◌-◌, ◌==◌, ◌&&◌, IfSome}
 use Rattle.avc_types.specs.References.{StandAt}
 use Rattle.avc_types.specs.declared.fault.Fault.{Fault}
-use Rattle.avc_types.specs.declared.fault.Fault.TheVariants.{ParameterSetChanged}
 use Rattle.avc_types.specs.declared.picture.Picture.{Picture as Decoded}
 use Rattle.avc_params.specs.Limits.{height_in_mbs, width_in_mbs}
 use Rattle.avc_params.specs.Same.{same_constraints, same_flag, same_order, same_sps}
@@ -19,14 +18,12 @@ use Rattle.avc_slice.specs.Header.{is_idr}
 use Rattle.avc_slice.specs.Within.{IsHeader}
 use Rattle.avc_slice.specs.declared.header.Header.{Header}
 use Rattle.avc_slice.specs.declared.slice.Slice.{Slice}
-use Rattle.avc_marking.specs.Marks.{Marks, missing_frame_nums, prev_ref_frame_num}
-use Rattle.avc_poc.specs.OrderCounts.{Counts, order_counts}
 use Rattle.avc_picture.specs.Decoded.{deblocked}
 use Rattle.avc_picture.specs.Slices.{Progress, coded_of, is_full, planes_after_slices, progress}
 use Rattle.avc_picture.specs.Decoding.{AreFramesOf, CanStandAt, Decoding, HasNoFault, HasRead, IsFull, Refuses, end_fault, fault_at_end, no_slice_yet, progress_at, start_at, with_slice_more}
 use Rattle.avc_picture.proofs.OtherFrames.{progress-other}
-use Rattle.avc_types.specs.Results.{◌>>=◌}
-use Rattle.avc_decoder_core.specs.History.{History, history_at_opening, is_same_sps, marking_entries, marks_of, missing_frame, pasts, picture_entry, sequence_sps, stored_frames, with_missing, with_order_counts}
+use Rattle.avc_decoder_core.specs.History.{History, history_at_opening, is_same_sps, sequence_sps, stored_frames}
+use Rattle.avc_decoder_core.proofs.MissingNumbers.{opened_by, set_at_opening}
 use Rattle.avc_decoder_core.specs.SequenceState.{AreFramesIn, AreStoredIn, IsOpened, SequenceState, current_history}
 use Rattle.avc_decoder.specs.PictureFrames.{CanHave, HasItsFrames, IsISlice, IsRefused, frames_for, progress_on_history, read_of_slice, start_with}
 
@@ -161,44 +158,8 @@ pub record StaysIn (sps : Sps) (history full : History) : Type 0 where
   pub set : sequence_sps full ≡ sequence_sps history
   pub same : is_same_sps (sequence_sps history) sps ≡ true
 
-ok_is : {A : Type 0} (a b : A) → ◌≡◌ {A = Result A Fault} (Ok a) (Ok b) → a ≡ b
-ok_is a b e = cc
-
-missing_stay : (sps : Sps) (numbers : List ℕ) (h h' : History) → with_missing sps numbers h ≡ Ok h' → sequence_sps h' ≡ sequence_sps h
-missing_stay sps [] h h' e = ap sequence_sps (sym (ok_is h h' e))
-missing_stay sps (n ∷ numbers) h h' e = by_marks (marks_of (missing_frame sps n ∷ h)) (missing_stay sps numbers (missing_frame sps n ∷ h) h') e
-  where
-    by_marks : (r : Result Marks Fault) → (with_missing sps numbers (missing_frame sps n ∷ h) ≡ Ok h' → sequence_sps h' ≡ sequence_sps h) → (r >>= λ m. with_missing sps numbers (missing_frame sps n ∷ h)) ≡ Ok h' → sequence_sps h' ≡ sequence_sps h
-    by_marks (Ok m) then' e' = then' e'
-    by_marks (Err f) then' e' = cc
-
-counted_is : (r : Result Counts Fault) (h h' : History) → (r >>= λ c. Ok h) ≡ Ok h' → h' ≡ h
-counted_is (Ok c) h h' e = cc
-counted_is (Err f) h h' e = cc
-
--- where the parameter set is that of the sequence
-abbrev same_set_opened : Sps → Header → History → Result History Fault
-same_set_opened sps hd h =
-    missing_frame_nums (prev_ref_frame_num (marking_entries h)) sps.gaps_in_frame_num_value_allowed_flag (picture_entry sps hd)
-    >>= λ numbers. with_missing sps numbers h >>= λ full. with_order_counts sps hd full
-
 stays_in : (sps : Sps) (hd : Header) (h h' : History) → is_idr hd ≡ false → history_at_opening sps hd h ≡ Ok h' → StaysIn sps h h'
-stays_in sps hd h h' other e = by_same (is_same_sps (sequence_sps h) sps) refl (sym opening ∙ e)
-  where
-    opening : history_at_opening sps hd h ≡ elim (is_same_sps (sequence_sps h) sps) [ false ↦ Err ParameterSetChanged | true ↦ same_set_opened sps hd h ]
-    opening = ap (λ (b : Bool). elim b as (λ _. Result History Fault) [ true ↦ with_order_counts sps hd [] >>= λ none. Ok h | false ↦ elim (is_same_sps (sequence_sps h) sps) [ false ↦ Err ParameterSetChanged | true ↦ same_set_opened sps hd h ] ]) other
-
-    by_full : (r : Result History Fault) → ((full : History) → r ≡ Ok full → sequence_sps full ≡ sequence_sps h) → (r >>= λ full. with_order_counts sps hd full) ≡ Ok h' → sequence_sps h' ≡ sequence_sps h
-    by_full (Ok full) stays e' = ap sequence_sps (counted_is (order_counts sps hd (pasts full)) full h' e') ∙ stays full refl
-    by_full (Err f) stays e' = cc
-
-    by_numbers : (r : Result (List ℕ) Fault) → (r >>= λ numbers. with_missing sps numbers h >>= λ full. with_order_counts sps hd full) ≡ Ok h' → sequence_sps h' ≡ sequence_sps h
-    by_numbers (Ok numbers) e' = by_full (with_missing sps numbers h) (λ full same. missing_stay sps numbers h full same) e'
-    by_numbers (Err f) e' = cc
-
-    by_same : (b : Bool) → is_same_sps (sequence_sps h) sps ≡ b → ◌≡◌ {A = Result History Fault} (elim b [ false ↦ Err ParameterSetChanged | true ↦ same_set_opened sps hd h ]) (Ok h') → StaysIn sps h h'
-    by_same true same e' = record { set = by_numbers (missing_frame_nums (prev_ref_frame_num (marking_entries h)) sps.gaps_in_frame_num_value_allowed_flag (picture_entry sps hd)) e'; same = same }
-    by_same false same e' = cc
+stays_in sps hd h h' other e = record { set = set_at_opening sps hd h h' e; same = (opened_by sps hd h h' e).same other }
 
 fit_set : (sps : Sps) (set : Option Sps) (frames : List (Frame 32)) → is_same_sps set sps ≡ true → IfSome set (λ before. AreFrames (width_in_mbs before) (height_in_mbs before) frames) → AreFramesOf sps frames
 fit_set sps None frames same fit = cc

@@ -23,7 +23,7 @@ use Rattle.avc_units.specs.declared.step.Next.TheVariants.{Nothing, Refusal, Fau
 use Rattle.avc_units.specs.declared.step.Step.{Step}
 use Rattle.avc_decoder_core.specs.History.{History, history_after_closing, history_at_opening}
 use Rattle.avc_dpb.specs.declared.output.Output.{Output}
-use Rattle.avc_decoder_core.specs.Pictures.{output_at_closing, output_pictures, held_pictures}
+use Rattle.avc_decoder_core.specs.Pictures.{held_pictures, output_at_closing, output_pictures}
 use Rattle.avc_decoder.specs.FirstFault.{OpenPicture, closed_history, first_fault, first_header, first_slice, history_at_opening_of}
 use Rattle.avc_decoder.specs.FirstFault.{history_of, oldest, picture_planes, progress_on, read_of, start_on}
 use Rattle.avc_decoder.specs.Events.{Outcome, Phase, after_closing, after_first_slice, after_next, after_next_slice, at_end, at_last_slice}

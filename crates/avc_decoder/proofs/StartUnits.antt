@@ -4,6 +4,7 @@ use Rattle.std.specs.Prelude.{is_some, IsTrue, refl}
 use Rattle.std.specs.Cmp.{first_so, second_so}
 use Rattle.std.specs.List.{list_all}
 use Rattle.std.proofs.Common.{ap, ap₂, sym, subst, ◌∙◌, append_assoc, append-nil}
+use Rattle.std.proofs.lemmas.List.Elements.{All-cons, All-nil}
 use Rattle.std.proofs.lemmas.List.Folds.{list_all-append}
 use Rattle.avc_types.specs.declared.fault.Fault.{Fault}
 use Rattle.avc_types.specs.declared.fault.Fault.TheVariants as faults
@@ -21,25 +22,23 @@ use Rattle.avc_slice.specs.declared.slice.Slice.{Slice}
 use Rattle.avc_slice.specs.Laws.{HeadersKeepIdrRules, KeepsIdrRules}
 use Rattle.avc_units.specs.Grouping.{Kind, slice, partition, sps, pps, boundary, other, OpenPictureFacts, is_start, kind, kind_of}
 use Rattle.avc_units.specs.Grouping.{running_step, set_units, slice_in, slice_step, step, unreadable, waiting_step}
-use Rattle.avc_units.specs.declared.step.Next.{Next}
 use Rattle.avc_units.specs.declared.step.Next.TheVariants.{Nothing, Refusal, FaultOfOpen, FaultOfOwn, Begins, Continues}
 use Rattle.avc_units.specs.declared.step.Step.{Step}
 use Rattle.avc_dpb.specs.declared.output.Output.{Output}
 use Rattle.avc_decoder_core.specs.History.{History}
 use Rattle.avc_decoder_core.specs.Pictures.{no_output_of_prior_pics}
 use Rattle.avc_decoder.specs.FirstFault.{OpenPicture, history_of}
-use Rattle.avc_decoder.specs.Events.{Outcome, Phase, State, after_closing, after_first_slice, after_next, after_unit, at_end, closed_outcome}
-use Rattle.avc_decoder.specs.Events.{closing_result, events_and_held, events_from, failed_at, held_after, in_phase}
-use Rattle.avc_decoder.specs.Events.{first_state, is_running, open_picture_facts, running, sets_named}
-use Rattle.avc_decoder.specs.Events.{waiting}
+use Rattle.avc_decoder.specs.Events.{Outcome, Phase, after_closing, after_first_slice, after_next, after_unit, at_end, closed_outcome}
+use Rattle.avc_decoder.specs.Events.{closing_result, events_and_held, events_from, failed_at, first_state, held_after, in_phase}
+use Rattle.avc_decoder.specs.Events.{is_running, open_picture_facts, running, sets_named, waiting}
 use Rattle.avc_decoder.specs.Laws.{StartUnitsBeginAnew, is_picture, state_through}
+use Rattle.avc_decoder.specs.PictureFrames.{IsISlice}
 use Rattle.avc_decoder.specs.declared.event.Event.{Event}
 use Rattle.avc_decoder.specs.declared.event.Event.TheVariants.{Refused}
-use Rattle.avc_decoder.proofs.FirstPicture.{IsFirst, KeepsPicture, Owed, Paid, Pays, Still, closed_first, due, facts_first, failed_first}
+use Rattle.avc_decoder.proofs.FirstPicture.{Gives, IsFirst, KeepsPicture, Owed, Paid, Still, closed_first, due, facts_first, failed_first}
 use Rattle.avc_decoder.proofs.FirstPicture.{in_first, picture_on, slice_first}
-use Rattle.avc_decoder.proofs.Grown.{state_of}
 use Rattle.avc_decoder.proofs.Headers.{begins_at_zero, idr_continues, read_is, slice_of_unit, starts}
-use Rattle.avc_decoder.proofs.Through.{output_through, sets_through}
+use Rattle.avc_decoder.proofs.Through.{output_through, sets_through, state_of}
 
 -- ---- events that are pictures
 
@@ -106,60 +105,55 @@ step_keeps rules sets facts u idr = by_bit (forbidden_zero_bit u.header)
 
 -- ---- from the IDR picture on
 
--- the open picture, come to this history
-abbrev open_on : History → OpenPicture → Phase
-open_on h o = running h (Some (picture_on h o))
+-- the open picture, where it came to this history
+abbrev open_on : (before : History) → OpenPicture → Phase
+open_on before o = running before (Some (picture_on before o))
 
--- From an open IDR picture on the events are those of the picture alone, behind what the history held.
-abbrev OpenGives : (output : Output) → History → List Piece → Type 0
-OpenGives output h us =
-    (units : List SetUnit) (o : OpenPicture) → IsFirst o → AllPictures (events_from (state_of output units (open_on h o)) us true)
-    → events_from (state_of output units (open_on h o)) us true
-    ≡ due output h ++ events_from (state_of output units (open_on [] o)) us true
+-- From an open IDR picture on the events are those without the sequence before it, behind what that held.
+abbrev OpenGives : Output → (before : History) → List Piece → Type 0
+OpenGives output before us =
+    (units : List SetUnit) (o : OpenPicture) → IsFirst o → AllPictures (events_from (state_of output units (open_on before o)) us true)
+    → events_from (state_of output units (open_on before o)) us true
+    ≡ due output before ++ events_from (state_of output units (open_on [] o)) us true
 
-owed_gives : (output : Output) → (h : History) (us : List Piece) → OpenGives output h us
+owed_gives : (output : Output) (before : History) (us : List Piece) → OpenGives output before us
     → (units : List SetUnit) (x' x : Outcome)
-    → Owed output h x' x → AllPictures (x'.events ++ events_from (state_of output units x'.phase) us true)
+    → Owed output before x' x → AllPictures (x'.events ++ events_from (state_of output units x'.phase) us true)
     → x'.events ++ events_from (state_of output units x'.phase) us true
-    ≡ due output h ++ (x.events ++ events_from (state_of output units x.phase) us true)
-owed_gives output h us gives units x' x (Still o first none' none is' is) shown =
-    let from_open : Phase → List Event = λ p. events_from (state_of output units p) us true in
-    let shown_open : AllPictures (from_open (open_on h o)) =
-    subst (λ p. AllPictures (from_open p)) is' (back_shown x'.events (from_open x'.phase) shown) in
-    ap (λ es. es ++ from_open x'.phase) none'
-    ∙ ap from_open is'
+    ≡ due output before ++ (x.events ++ events_from (state_of output units x.phase) us true)
+owed_gives output before us gives units x' x (Still o first none' none is' is) shown =
+    let from : Phase → List Event = λ p. events_from (state_of output units p) us true in
+    let shown_open : AllPictures (from (open_on before o)) = subst (λ p. AllPictures (from p)) is' (back_shown x'.events (from x'.phase) shown) in
+    ap₂ (λ es p. es ++ from p) none' is'
     ∙ gives units o first shown_open
-    ∙ ap (λ p. due output h ++ from_open p) (sym is)
-    ∙ ap (λ es. due output h ++ (es ++ from_open x.phase)) (sym none)
-owed_gives output h us gives units x' x (Paid paid) shown =
-    let rest : Phase → List Event = λ p. events_from (state_of output units p) us true in
-    ap₂ (λ es p. es ++ rest p) paid.events paid.phase
-    ∙ append_assoc (due output h) x.events (rest x.phase)
+    ∙ sym (ap₂ (λ es p. due output before ++ (es ++ from p)) none is)
+owed_gives output before us gives units x' x (Paid paid) shown =
+    let from : Phase → List Event = λ p. events_from (state_of output units p) us true in
+    ap₂ (λ es p. es ++ from p) paid.events paid.phase ∙ append_assoc (due output before) x.events (from x.phase)
 
-unit_owed : (output : Output) → HeadersKeepIdrRules → (h : History) (units : List SetUnit) (o : OpenPicture) (u : Piece)
-    → IsFirst o → AllPictures (after_unit (state_of output units (open_on h o)) u).events
-    → Owed output h (after_unit (state_of output units (open_on h o)) u) (after_unit (state_of output units (open_on [] o)) u)
-unit_owed output rules h units o u first =
+unit_owed : HeadersKeepIdrRules → (output : Output) (before : History) (units : List SetUnit) (o : OpenPicture) (u : Piece)
+    → IsFirst o → AllPictures (after_unit (state_of output units (open_on before o)) u).events
+    → Owed output before (after_unit (state_of output units (open_on before o)) u) (after_unit (state_of output units (open_on [] o)) u)
+unit_owed rules output before units o u first =
     let sets = sets_after units in
-    let by_facts : OpenPictureFacts → Outcome = λ f. in_phase output sets u.index (step sets true (Some f) u) (open_on h o) in
+    let by_facts : OpenPictureFacts → Outcome = λ f. in_phase output sets u.index (step sets true (Some f) u) (open_on before o) in
     let x = after_unit (state_of output units (open_on [] o)) u in
-    subst (λ f. AllPictures (by_facts f).events → Owed output h (by_facts f) x) (sym (facts_first h o first))
-    (in_first output h o first sets u.index (step sets true (Some (open_picture_facts (picture_on [] o))) u)
+    subst (λ f. AllPictures (by_facts f).events → Owed output before (by_facts f) x) (sym (facts_first before o first))
+    (in_first output before o first sets u.index (step sets true (Some (open_picture_facts (picture_on [] o))) u)
     (step_keeps rules sets (open_picture_facts (picture_on [] o)) u first.last_idr))
 
--- at the end what the phase holds goes out too
-and_held : (output : Output) (due : List Event) (x' x : Outcome) → Pays due x' x → events_and_held output x' ≡ due ++ events_and_held output x
-and_held output due x' x paid =
-    ap₂ (λ es p. es ++ held_after output p) paid.events paid.phase ∙ append_assoc due x.events (held_after output x.phase)
+end_gives : (output : Output) (front : List Event) (x' x : Outcome) → Gives front x' x
+    → events_and_held output x' ≡ front ++ events_and_held output x
+end_gives output front x' x g = ap₂ (λ es p. es ++ held_after output p) g.events g.phase ∙ append_assoc front x.events (held_after output x.phase)
 
-open_gives : (output : Output) → HeadersKeepIdrRules → (h : History) (us : List Piece) → OpenGives output h us
-open_gives output rules h [] units o first shown = and_held output (due output h) _ _ (closed_first output h o first)
-open_gives output rules h (u ∷ us) units o first shown =
-    let x' = after_unit (state_of output units (open_on h o)) u in
+open_gives : HeadersKeepIdrRules → (output : Output) (before : History) (us : List Piece) → OpenGives output before us
+open_gives rules output before [] units o first shown = end_gives output (due output before) _ _ (closed_first output before o first)
+open_gives rules output before (u ∷ us) units o first shown =
+    let x' = after_unit (state_of output units (open_on before o)) u in
     let x = after_unit (state_of output units (open_on [] o)) u in
     let after = units ++ set_units (u ∷ []) in
-    owed_gives output h us (open_gives output rules h us) after x' x
-    (unit_owed output rules h units o u first (front_shown x'.events (events_from (state_of output after x'.phase) us true) shown))
+    owed_gives output before us (open_gives rules output before us) after x' x
+    (unit_owed rules output before units o u first (front_shown x'.events (events_from (state_of output after x'.phase) us true) shown))
     shown
 
 -- ---- the unit itself
@@ -197,11 +191,15 @@ record IsBeginning (sets : Sets) (s : Slice) : Type 0 where
   address : (s.header).first_mb_in_slice ≡ 0
   idr : is_idr s.header ≡ true
   intra : KeepsIdrRules s.header
-  lets_out : no_output_of_prior_pics (s.header).marking ≡ false
+  keeps : no_output_of_prior_pics (s.header).marking ≡ false
 
-beginning : HeadersKeepIdrRules → (sets : Sets) (u : Piece) (s : Slice) → is_start u ≡ true → slice_in sets u ≡ Ok s
-    → no_output_of_prior_pics (s.header).marking ≡ false → IsBeginning sets s
-beginning rules sets u s e read lets_out =
+-- it lets the pictures before go out
+abbrev LetsOut : Sets → Piece → Type 0
+LetsOut sets u = (s : Slice) → slice_in sets u ≡ Ok s → no_output_of_prior_pics (s.header).marking ≡ false
+
+beginning : HeadersKeepIdrRules → (sets : Sets) (u : Piece) → is_start u ≡ true → LetsOut sets u → (s : Slice) → slice_in sets u ≡ Ok s
+    → IsBeginning sets s
+beginning rules sets u e lets s read =
     let unit_starts = starts u e in
     let of_unit = slice_of_unit sets u s read in
     let is = read_is u.header sets of_unit.rbsp s.header of_unit.is_read in
@@ -210,7 +208,7 @@ beginning rules sets u s e read lets_out =
       address = is.address (unit_starts.reads of_unit.rbsp of_unit.there);
       idr = is.of_idr (ap (λ t. t == 5) unit_starts.of_idr);
       intra = rules u.header sets of_unit.rbsp s.header of_unit.is_read;
-      lets_out = lets_out;
+      keeps = lets s read;
     }
 
 first_owed : (output : Output) (h : History) (sets : Sets) (s : Slice) → IsBeginning sets s
@@ -222,82 +220,85 @@ first_owed output h sets s is = by_named (sets_named sets s.header) is.named
     by_named None e = cc
     by_named (Some named) e =
         slice_first output h (record { before = []; sps = named.1; pps = named.0; last = s; earlier = [] })
-        (record { idr = is.idr; lets_out = is.lets_out; intra = ((is.intra).intra is.idr, tt); last_idr = is.idr })
+        (record {
+          idr = is.idr;
+          intra = All-cons IsISlice s [] ((is.intra).intra is.idr) (All-nil IsISlice);
+          last_idr = is.idr;
+          keeps = is.keeps;
+        })
         h [] 0 0 refl refl
 
 -- ---- no picture is open
 
--- that slice, after so many units, and then the others
-abbrev after_slice : (output : Output) → (sets : Sets) (unit : ℕ) (units : List SetUnit) (us : List Piece) → Phase → Next
-    → List Event
-after_slice output sets unit units us p n =
-    let x = after_next output sets unit p n in
-    x.events ++ events_from (state_of output units x.phase) us true
+-- an outcome after so many units, and then the others
+abbrev and_others : Output → List SetUnit → List Piece → Outcome → List Event
+and_others output units us x = x.events ++ events_from (state_of output units x.phase) us true
 
-begins_alone : (output : Output) → HeadersKeepIdrRules → (sets : Sets) (unit : ℕ) (units : List SetUnit)
-    (us : List Piece) (s : Slice) → IsBeginning sets s → (h : History)
-    → AllPictures (after_slice output sets unit units us (running h None) (Begins s))
-    → after_slice output sets unit units us (running h None) (Begins s) ≡ due output h ++ after_slice output sets unit units us waiting (Begins s)
-begins_alone output rules sets unit units us s is h shown =
-    owed_gives output h us (open_gives output rules h us) units
+-- that slice where decoding waits
+abbrev begun : Output → Sets → (unit : ℕ) → Slice → Outcome
+begun output sets unit s = after_next output sets unit waiting (Begins s)
+
+closed_begins : HeadersKeepIdrRules → (output : Output) (sets : Sets) (unit : ℕ) (units : List SetUnit) (us : List Piece) (s : Slice)
+    → IsBeginning sets s → (h : History) → AllPictures (and_others output units us (after_next output sets unit (running h None) (Begins s)))
+    → and_others output units us (after_next output sets unit (running h None) (Begins s))
+    ≡ due output h ++ and_others output units us (begun output sets unit s)
+closed_begins rules output sets unit units us s is h shown =
+    owed_gives output h us (open_gives rules output h us) units
     (after_first_slice output (sets_named sets s.header) h s) (after_first_slice output (sets_named sets s.header) [] s)
     (first_owed output h sets s is) shown
 
 -- ---- where the open picture is closed first
 
 -- the unit's slice begins a picture, whatever closing gave
-abbrev begins_after : (output : Output) → (sets : Sets) (unit : ℕ) → Slice → Outcome → Outcome
+abbrev begins_after : Output → Sets → (unit : ℕ) → Slice → Outcome → Outcome
 begins_after output sets unit s closed =
     after_closing output sets unit (record { closes = true; next = Begins s; even_after_fault = true }) closed
 
-closed_gives : (output : Output) → HeadersKeepIdrRules → (sets : Sets) (unit : ℕ) (units : List SetUnit)
-    (us : List Piece) (s : Slice) → IsBeginning sets s → (o : OpenPicture) (r : Result History (ℕ × Fault))
+closed_gives : HeadersKeepIdrRules → (output : Output) (sets : Sets) (unit : ℕ) (units : List SetUnit) (us : List Piece) (s : Slice)
+    → IsBeginning sets s → (o : OpenPicture) (r : Result History (ℕ × Fault))
     → let x = begins_after output sets unit s (closed_outcome output o r) in
-    AllPictures (x.events ++ events_from (state_of output units x.phase) us true)
-    → x.events ++ events_from (state_of output units x.phase) us true
-    ≡ events_and_held output (closed_outcome output o r) ++ after_slice output sets unit units us waiting (Begins s)
-closed_gives output rules sets unit units us s is o (Ok h) shown =
+    AllPictures (and_others output units us x)
+    → and_others output units us x
+    ≡ events_and_held output (closed_outcome output o r) ++ and_others output units us (begun output sets unit s)
+closed_gives rules output sets unit units us s is o (Ok h) shown =
     let out = (closed_outcome output o (Ok h)).events in
     let x = after_next output sets unit (running h None) (Begins s) in
-    let others = events_from (state_of output units x.phase) us true in
-    let behind = append_assoc out x.events others in
-    let shown_behind = back_shown out (x.events ++ others) (subst AllPictures behind shown) in
+    let behind = append_assoc out x.events (events_from (state_of output units x.phase) us true) in
+    let shown_behind = back_shown out (and_others output units us x) (subst AllPictures behind shown) in
     behind
-    ∙ ap (λ es. out ++ es) (begins_alone output rules sets unit units us s is h shown_behind)
-    ∙ sym (append_assoc out (due output h) (after_slice output sets unit units us waiting (Begins s)))
-closed_gives output rules sets unit units us s is o (Err found) shown =
+    ∙ ap (λ es. out ++ es) (closed_begins rules output sets unit units us s is h shown_behind)
+    ∙ sym (append_assoc out (due output h) (and_others output units us (begun output sets unit s)))
+closed_gives rules output sets unit units us s is o (Err found) shown =
     let out = (closed_outcome output o (Err found)).events in
-    let x = after_next output sets unit waiting (Begins s) in
+    let x = begun output sets unit s in
     append_assoc out x.events (events_from (state_of output units x.phase) us true)
-    ∙ ap (λ es. es ++ after_slice output sets unit units us waiting (Begins s)) (sym (append-nil out))
+    ∙ ap (λ es. es ++ and_others output units us x) (sym (append-nil out))
 
 -- ---- one state
 
 -- that of one state
-abbrev StartsAnewIn : (output : Output) → List SetUnit → Piece → List Piece → Phase → Type 0
+abbrev StartsAnewIn : Output → List SetUnit → Piece → List Piece → Phase → Type 0
 StartsAnewIn output units u us p =
     AllPictures (events_from (state_of output units p) (u ∷ us) true)
     → events_from (state_of output units p) (u ∷ us) true ≡ at_end output p ++ events_from (state_of output units waiting) (u ∷ us) true
 
 -- by what the unit does
-abbrev by_step : (output : Output) → (units : List SetUnit) (u : Piece) (us : List Piece) → Phase → Step → List Event
+abbrev by_step : Output → List SetUnit → Piece → List Piece → Phase → Step → List Event
 by_step output units u us p what =
-    let x = in_phase output (sets_after units) u.index what p in
-    x.events ++ events_from (state_of output (units ++ set_units (u ∷ [])) x.phase) us true
+    and_others output (units ++ set_units (u ∷ [])) us (in_phase output (sets_after units) u.index what p)
 
-abbrev GivesIn : (output : Output) → List SetUnit → Piece → List Piece → Phase → (what here : Step) → Type 0
+abbrev GivesIn : Output → List SetUnit → Piece → List Piece → Phase → (what here : Step) → Type 0
 GivesIn output units u us p what here =
     AllPictures (by_step output units u us p what) → by_step output units u us p what ≡ at_end output p ++ by_step output units u us waiting here
 
-none_gives : (output : Output) → HeadersKeepIdrRules → (units : List SetUnit) (u : Piece) (us : List Piece)
-    (h : History) (read : Result Slice Fault)
-    → ((s : Slice) → read ≡ Ok s → IsBeginning (sets_after units) s)
+none_gives : HeadersKeepIdrRules → (output : Output) (units : List SetUnit) (u : Piece) (us : List Piece) (h : History)
+    → (read : Result Slice Fault) → ((s : Slice) → read ≡ Ok s → IsBeginning (sets_after units) s)
     → GivesIn output units u us (running h None) (slice_step None true read) (slice_step None true read)
-none_gives output rules units u us h (Ok s) is shown =
-    begins_alone output rules (sets_after units) u.index (units ++ set_units (u ∷ [])) us s (is s refl) h shown
-none_gives output rules units u us h (Err f) is shown =
+none_gives rules output units u us h (Ok s) is shown =
+    closed_begins rules output (sets_after units) u.index (units ++ set_units (u ∷ [])) us s (is s refl) h shown
+none_gives rules output units u us h (Err f) is shown =
     let after = units ++ set_units (u ∷ []) in
-    owed_gives output h us (open_gives output rules h us) after (failed_at output h u.index f 0) (failed_at output [] u.index f 0)
+    owed_gives output h us (open_gives rules output h us) after (failed_at output h u.index f 0) (failed_at output [] u.index f 0)
     (Paid (failed_first output h u.index f 0 0)) shown
 
 -- a slice that cannot be read is refused
@@ -326,12 +327,10 @@ unreadable_refused output sets unit h o facts f = by_full facts.full
     by_full true shown = by_closed (closing_result o) shown
     by_full false shown = not_refused (due output (history_of o)) unit f shown
 
-some_gives : (output : Output) → HeadersKeepIdrRules → (units : List SetUnit) (u : Piece) (us : List Piece)
-    (h : History) (o : OpenPicture) → (read : Result Slice Fault)
-    → ((s : Slice) → read ≡ Ok s → IsBeginning (sets_after units) s)
+some_gives : HeadersKeepIdrRules → (output : Output) (units : List SetUnit) (u : Piece) (us : List Piece) (h : History) (o : OpenPicture)
+    → (read : Result Slice Fault) → ((s : Slice) → read ≡ Ok s → IsBeginning (sets_after units) s)
     → GivesIn output units u us (running h (Some o)) (slice_step (Some (open_picture_facts o)) true read) (slice_step None true read)
-some_gives output rules units u us h o (Ok s) is shown =
-    let after = units ++ set_units (u ∷ []) in
+some_gives rules output units u us h o (Ok s) is shown =
     by_begins (begins (o.last).header s.header) (begins_at_zero (o.last).header s.header (is s refl).address) shown
   where
     by_begins : (b : Bool) → b ≡ true → GivesIn output units u us (running h (Some o)) (elim b [
@@ -339,9 +338,9 @@ some_gives output rules units u us h o (Ok s) is shown =
       | false ↦ record { closes = false; next = Continues s; even_after_fault = false }
     ]) (slice_step None true (Ok s))
     by_begins true e shown' =
-        closed_gives output rules (sets_after units) u.index (units ++ set_units (u ∷ [])) us s (is s refl) o (closing_result o) shown'
+        closed_gives rules output (sets_after units) u.index (units ++ set_units (u ∷ [])) us s (is s refl) o (closing_result o) shown'
     by_begins false e shown' = cc
-some_gives output rules units u us h o (Err f) is shown =
+some_gives rules output units u us h o (Err f) is shown =
     let sets = sets_after units in
     let facts = open_picture_facts o in
     let x = in_phase output sets u.index (unreadable (Some facts) f) (running h (Some o)) in
@@ -350,41 +349,31 @@ some_gives output rules units u us h o (Err f) is shown =
     unreadable_refused output sets u.index h o facts f (front_shown x.events (events_from (state_of output after x.phase) us true) shown) in
     (cc no)
 
-starts_in : (output : Output) → HeadersKeepIdrRules → (units : List SetUnit) (u : Piece) (us : List Piece)
-    → is_start u ≡ true
-    → ((s : Slice) → slice_in (sets_after units) u ≡ Ok s → no_output_of_prior_pics (s.header).marking ≡ false)
-    → (p : Phase) → StartsAnewIn output units u us p
-starts_in output rules units u us e prior waiting = λ shown. refl
-starts_in output rules units u us e prior (running h None) =
+starts_in : HeadersKeepIdrRules → (output : Output) (units : List SetUnit) (u : Piece) (us : List Piece) → is_start u ≡ true
+    → (p : Phase) → (is_running p ≡ true → LetsOut (sets_after units) u) → StartsAnewIn output units u us p
+starts_in rules output units u us e waiting lets = λ shown. refl
+starts_in rules output units u us e (running h None) lets =
     let sets = sets_after units in
     let read = slice_in sets u in
-    let is : (s : Slice) → read ≡ Ok s → IsBeginning sets s = λ s r. beginning rules sets u s e r (prior s r) in
     subst (λ what. GivesIn output units u us (running h None) what (step sets false None u)) (sym ((says sets u e).runs None))
     (subst (λ here. GivesIn output units u us (running h None) (slice_step None true read) here) (sym (says sets u e).waits)
-    (none_gives output rules units u us h read is))
-starts_in output rules units u us e prior (running h (Some o)) =
+    (none_gives rules output units u us h read (beginning rules sets u e (lets refl))))
+starts_in rules output units u us e (running h (Some o)) lets =
     let sets = sets_after units in
     let read = slice_in sets u in
     let facts = Some (open_picture_facts o) in
-    let is : (s : Slice) → read ≡ Ok s → IsBeginning sets s = λ s r. beginning rules sets u s e r (prior s r) in
     subst (λ what. GivesIn output units u us (running h (Some o)) what (step sets false None u)) (sym ((says sets u e).runs facts))
     (subst (λ here. GivesIn output units u us (running h (Some o)) (slice_step facts true read) here) (sym (says sets u e).waits)
-    (some_gives output rules units u us h o read is))
+    (some_gives rules output units u us h o read (beginning rules sets u e (lets refl))))
 
 -- ---- the law
 
 -- the pictures before go out where the flag is 0
-lets_prior_out : (m : Option Marking) → ((n l : Bool) → m ≡ Some (Idr n l) → n ≡ false) → no_output_of_prior_pics m ≡ false
-lets_prior_out None f = refl
-lets_prior_out (Some (Idr n l)) f = f n l refl
-lets_prior_out (Some SlidingWindow) f = refl
-lets_prior_out (Some (Adaptive operations)) f = refl
-
-starts_where : (output : Output) → HeadersKeepIdrRules → (units : List SetUnit) (u : Piece) (us : List Piece) → is_start u ≡ true
-    → (p : Phase) → (is_running p ≡ true → (s : Slice) → slice_in (sets_after units) u ≡ Ok s → no_output_of_prior_pics (s.header).marking ≡ false)
-    → StartsAnewIn output units u us p
-starts_where output rules units u us e waiting prior = λ shown. refl
-starts_where output rules units u us e (running h o) prior = starts_in output rules units u us e (prior refl) (running h o)
+flag_is : (m : Option Marking) → ((n l : Bool) → m ≡ Some (Idr n l) → n ≡ false) → no_output_of_prior_pics m ≡ false
+flag_is None f = refl
+flag_is (Some (Idr n l)) f = f n l refl
+flag_is (Some SlidingWindow) f = refl
+flag_is (Some (Adaptive operations)) f = refl
 
 pub start_units : HeadersKeepIdrRules → StartUnitsBeginAnew
 start_units rules output before us u e prior shown =
@@ -393,12 +382,9 @@ start_units rules output before us u e prior shown =
     let p = s.phase in
     let all = set_units before in
     let state_is : (q : Phase) → events_from (state_of s.output s.sets q) (u ∷ us) true ≡ events_from (state_of output all q) (u ∷ us) true = λ q.
-    ap (λ units. events_from (state_of s.output units q) (u ∷ us) true) (sets_through first before)
-    ∙ ap (λ m. events_from (state_of m all q) (u ∷ us) true) (output_through first before) in
-    let lets_out : is_running p ≡ true → (t : Slice) → slice_in (sets_after all) u ≡ Ok t → no_output_of_prior_pics (t.header).marking ≡ false =
-    λ runs t read. lets_prior_out (t.header).marking (λ n l. prior runs t n l read) in
-    let shown_here : AllPictures (events_from (state_of output all p) (u ∷ us) true) = subst AllPictures (state_is p) shown in
+    ap₂ (λ m units. events_from (state_of m units q) (u ∷ us) true) (output_through first before) (sets_through first before) in
+    let lets : is_running p ≡ true → LetsOut (sets_after all) u = λ runs t read. flag_is (t.header).marking (λ n l. prior runs t n l read) in
     state_is p
-    ∙ starts_where output rules all u us e p lets_out shown_here
+    ∙ starts_in rules output all u us e p lets (subst AllPictures (state_is p) shown)
     ∙ ap (λ m. at_end m p ++ events_from (state_of output all waiting) (u ∷ us) true) (sym (output_through first before))
     ∙ ap (λ es. at_end s.output p ++ es) (sym (state_is waiting))

@@ -4,8 +4,13 @@ use Rattle.std.proofs.Common.{ap, sym, ◌∙◌, append_assoc, append-nil}
 use Rattle.avc_annexb.specs.declared.unit.Unit.{Unit as Piece}
 use Rattle.avc_params.specs.declared.set_unit.SetUnit.{SetUnit}
 use Rattle.avc_units.specs.Grouping.{set_units}
-use Rattle.avc_decoder.specs.Events.{State, after_unit, state_after}
+use Rattle.avc_dpb.specs.declared.output.Output.{Output}
+use Rattle.avc_decoder.specs.Events.{Phase, State, after_unit, state_after}
 use Rattle.avc_decoder.specs.Laws.{state_through}
+
+-- in this mode and phase, after these units with parameter sets
+abbrev pub state_of : Output → List SetUnit → Phase → State
+state_of output units p = record { output = output; sets = units; phase = p }
 
 -- one unit's sets, and then the others'
 pub sets-append : (a b c : List SetUnit) → (a ++ (b ++ [])) ++ c ≡ a ++ (b ++ c)

@@ -1,4 +1,4 @@
--- What the steps of decoding hand out, in each mode of output: what they end of coded video sequences, and what has gone out then.
+-- What the steps of decoding hand out, in each mode of output: the coded video sequences that end with them, and what has gone out then.
 use Rattle.std.specs.Prelude.{◌≡◌, ℕ, ◌-◌, Bool, true, false, ◌&&◌, if◌then◌else◌, List, [], ◌∷◌, ◌++◌, All, Option, Some, None}
 use Rattle.std.specs.Prelude.{Result, Ok, Err, flat_map, refl}
 use Rattle.std.proofs.Common.{ap, ap₂, sym, ◌∙◌, append_assoc, append-nil}
@@ -10,13 +10,14 @@ use Rattle.avc_params.specs.Tables.{Sets}
 use Rattle.avc_params.specs.declared.pps.Pps.{Pps}
 use Rattle.avc_params.specs.declared.sps.Sps.{Sps}
 use Rattle.avc_slice.specs.Header.{is_idr}
+use Rattle.avc_slice.specs.declared.header.Header.{Header}
 use Rattle.avc_slice.specs.declared.slice.Slice.{Slice}
 use Rattle.avc_units.specs.declared.step.Next.{Next}
 use Rattle.avc_units.specs.declared.step.Next.TheVariants.{Nothing, Refusal, FaultOfOpen, FaultOfOwn, Begins, Continues}
 use Rattle.avc_dpb.specs.declared.output.Output.{Output}
 use Rattle.avc_dpb.specs.declared.output.Output.TheVariants.{Full}
 use Rattle.avc_decoder_core.specs.History.{History}
-use Rattle.avc_decoder_core.specs.Pictures.{held_pictures, no_output_of_prior_pics, output_pictures}
+use Rattle.avc_decoder_core.specs.Pictures.{held_pictures, no_output_of_prior_pics, output_at_closing, output_pictures}
 use Rattle.avc_decoder.specs.EarlyOutput.{EndedSequence, ended_by_closing, ended_sequence, stopped}
 use Rattle.avc_decoder.specs.Events.{Outcome, Phase, after_first_slice, after_next, closed_outcome, failed_at, followed_by, history_in}
 use Rattle.avc_decoder.specs.Events.{is_running, is_waiting, no_change, pictures, pictures_in, refusals_in, running, sets_named, waiting}
@@ -25,9 +26,8 @@ use Rattle.avc_decoder.specs.FirstFault.{OpenPicture, first_fault, first_header,
 use Rattle.avc_decoder.specs.declared.event.Event.{Event}
 use Rattle.avc_decoder.specs.declared.event.Event.TheVariants.{Picture, Refused}
 use Rattle.avc_decoder.proofs.BeginningPictures.{Allows}
-use Rattle.avc_decoder.proofs.Histories.{HasItsMarking, IsClosed, IsSound, IsSoundOpen, all_of, gone, gone_and_held, gone_later}
-use Rattle.avc_decoder.proofs.Histories.{none_sound, sound_before}
-use Rattle.avc_decoder.proofs.Grown.{Follows, base_grows}
+use Rattle.avc_decoder.proofs.Histories.{Follows, HasItsMarking, IsClosed, IsSound, IsSoundOpen, all_of, base_grows, gone}
+use Rattle.avc_decoder.proofs.Histories.{gone_and_held, gone_later, none_sound}
 
 -- ---- pictures and refusals among events
 
@@ -59,21 +59,19 @@ refusals_in-append (Refused unit f ∷ a) b = ap (λ l. (unit, f) ∷ l) (refusa
 
 -- ---- a step of decoding, in each mode
 
--- what goes out of a sequence that has ended: all its pictures, unless what it held was dropped
-abbrev pub of_sequence : Output → EndedSequence → List Decoded
-of_sequence output s = if s.dropped then gone output s.history else all_of output s.history
+-- what a sequence with this history has handed out at its end: all its pictures, or without those that were dropped
+abbrev pub shown_by : Output → History → (dropped : Bool) → List Decoded
+shown_by output h dropped = elim dropped [ true ↦ gone output h | false ↦ all_of output h ]
 
--- the pictures of sequences, one after another
+-- the same of sequences, one after another
 abbrev pub all_in : Output → List EndedSequence → List Decoded
-all_in output hs = flat_map (of_sequence output) hs
+all_in output ended = flat_map (λ s. shown_by output s.history s.dropped) ended
 
-of_ended : (output : Output) (h : History) (dropped : Bool)
-    → all_in output (ended_sequence h dropped) ≡ (if dropped then gone output h else all_of output h)
-of_ended output [] true = refl
-of_ended output [] false = refl
-of_ended output (e ∷ older) dropped = append-nil (if dropped then gone output (e ∷ older) else all_of output (e ∷ older))
+shown_ended : (output : Output) (h : History) (dropped : Bool) → all_in output (ended_sequence h dropped) ≡ shown_by output h dropped
+shown_ended output [] true = refl
+shown_ended output [] false = refl
+shown_ended output (e ∷ older) dropped = append-nil (shown_by output (e ∷ older) dropped)
 
--- its history is sound
 abbrev pub IsSoundSequence : EndedSequence → Type 0
 IsSoundSequence s = IsSound s.history
 
@@ -90,7 +88,7 @@ Sound (running h (Some o)) = IsSoundOpen o
 sound_in : (p : Phase) → Sound p → IsSound (history_in p)
 sound_in waiting s = none_sound
 sound_in (running h None) s = s
-sound_in (running h (Some o)) s = sound_before o s
+sound_in (running h (Some o)) s = (base_grows o s.before).sound
 
 pub stopped_sound : (p q : Phase) → Sound p → All IsSoundSequence (stopped p q)
 stopped_sound p q s = by_test (is_running p && is_waiting q)
@@ -99,9 +97,9 @@ stopped_sound p q s = by_test (is_running p && is_waiting q)
     by_test true = ended_sound (history_in p) false (sound_in p s)
     by_test false = All-nil IsSoundSequence
 
--- From this phase a step with these outcomes, one in each mode, ends these sequences. The phase and the refusals are the same
--- in each mode. What had gone out of the phase's history, and then what goes out with the step, is what goes out of the sequences
--- that it ends, and then what has gone out of the history that decoding goes on with.
+-- From this phase these sequences end with a step with these outcomes, one in each mode. The phase and the refusals are the same
+-- in each mode. What had gone out of the phase's history, and then what goes out with the step, is what the sequences hand out that
+-- end, and then what has gone out of the history that decoding goes on with.
 pub record Goes (p : Phase) (hs : List EndedSequence) (x : Output → Outcome) : Type 0 where
   pub same_phase : (output : Output) → (x output).phase ≡ (x Full).phase
   pub same_refusals : (output : Output) → refusals_in (x output).events ≡ refusals_in (x Full).events
@@ -110,7 +108,7 @@ pub record Goes (p : Phase) (hs : List EndedSequence) (x : Output → Outcome) :
   pub each_sound : All IsSoundSequence hs
   pub sound : Sound (x Full).phase
 
--- a step that ends only the sequence of this phase, if decoding stops with it
+-- a step with which only this phase's sequence ends, if it stops decoding
 abbrev pub Turns : (p : Phase) → (Output → Outcome) → Type 0
 Turns p x = Goes p (stopped p (x Full).phase) x
 
@@ -136,7 +134,7 @@ followed p q hs hs' x y is g k = record {
       ∙ in_turn out (pictures_in (x output).events) (all_in output hs) next (pictures_in (y output).events) (all_in output hs' ++ end)
       (g.hands_out output ∙ ap (λ (r : Phase). all_in output hs ++ gone output (history_in r)) is) (k.hands_out output)
       ∙ sym (append_assoc (all_in output hs) (all_in output hs') end)
-      ∙ ap (λ l. l ++ end) (sym (flat_map-append (of_sequence output) hs hs'));
+      ∙ ap (λ l. l ++ end) (sym (flat_map-append (λ s. shown_by output s.history s.dropped) hs hs'));
   each_sound = All-append IsSoundSequence hs hs' g.each_sound k.each_sound;
   sound = k.sound;
 }
@@ -189,8 +187,7 @@ held_go_out p es none output =
     ∙ by_phase p
   where
     by_history : (h : History) → gone output h ++ held_pictures output h ≡ all_in output (ended_sequence h false) ++ []
-    by_history h =
-        gone_and_held output h ∙ sym (of_ended output h false) ∙ sym (append-nil (all_in output (ended_sequence h false)))
+    by_history h = gone_and_held output h ∙ sym (shown_ended output h false) ∙ sym (append-nil (all_in output (ended_sequence h false)))
 
     by_phase : (q : Phase)
         → gone output (history_in q) ++ held_pictures output (history_in q) ≡ all_in output (stopped q waiting) ++ gone output []
@@ -254,7 +251,7 @@ first_of_picture p None s sound marking =
 first_of_picture p (Some named) s sound marking =
     let o : OpenPicture = record { before = history_in p; sps = named.1; pps = named.0; last = s; earlier = [] } in
     let before = sound_in p sound in
-    one_slice p 0 o sound (record { before = before; idr = marking }) (base_grows o before.marked).follows
+    one_slice p 0 o sound (record { before = before; idr = marking }) (base_grows o before).follows
 
 -- ---- the steps
 
@@ -278,52 +275,48 @@ next_turns sets unit (running h (Some o)) (Continues t) s a =
     one_slice (running h (Some o)) (read_of o) (record o { last = t; earlier = o.last ∷ o.earlier }) s
     (record { before = s.before; idr = s.idr }) (record { more = []; is = refl })
 
--- ---- where the open picture is closed
-
--- an IDR picture begins a sequence
-begins_sequence : (h : History) (o : OpenPicture) (full : History) → IsSoundOpen o → IsSound full → (dropped : Bool)
-    → Goes (running h (Some o)) (ended_sequence (history_of o) dropped) (λ output. record {
-      events = pictures ((if dropped then [] else held_pictures output (history_of o)) ++ output_pictures output [] full);
-      phase = running full None;
-      read = 0;
-    })
-begins_sequence h o full s t dropped = record {
-  same_phase = λ output. refl;
-  same_refusals = λ output. no_refusals (prior dropped output ++ output_pictures output [] full) ∙ sym (no_refusals (prior dropped Full ++ output_pictures Full [] full));
-  hands_out = λ output.
-      ap (λ l. gone output old ++ l) (pictures_alone (prior dropped output ++ output_pictures output [] full))
-      ∙ sym (append_assoc (gone output old) (prior dropped output) (gone output full))
-      ∙ ap (λ l. l ++ gone output full) (by_dropped output dropped ∙ sym (of_ended output old dropped));
-  each_sound = ended_sound old dropped (sound_before o s);
-  sound = t;
-}
-  where
-    old : History
-    old = history_of o
-
-    prior : Bool → Output → List Decoded
-    prior b output = if b then [] else held_pictures output old
-
-    by_dropped : (output : Output) (b : Bool) → gone output old ++ prior b output ≡ (if b then gone output old else all_of output old)
-    by_dropped output true = append-nil (gone output old)
-    by_dropped output false = gone_and_held output old
-
--- a picture is closed, with this header
-closed_by : (h : History) (o : OpenPicture) (full : History) → IsSoundOpen o → IsClosed o full → (idr : Bool) → is_idr (first_header o) ≡ idr
-    → Goes (running h (Some o))
-    (elim idr [ true ↦ ended_sequence (history_of o) (no_output_of_prior_pics (first_header o).marking) | false ↦ [] ])
-    (λ output. record {
-      events = pictures
-          ((elim idr as (λ _. List Decoded) [ true ↦ (if no_output_of_prior_pics (first_header o).marking then [] else held_pictures output (history_of o)) | false ↦ [] ])
-          ++ output_pictures output (elim idr as (λ _. History) [ true ↦ [] | false ↦ history_of o ]) full);
-      phase = running full None;
-      read = 0;
-    })
-closed_by h o full s closed true is = begins_sequence h o full s closed.sound (no_output_of_prior_pics (first_header o).marking)
-closed_by h o full s closed false is = shown (running h (Some o)) full None 0 s closed.sound (closed.goes_on is)
-
-pub closed_turns : (h : History) (o : OpenPicture) (r : Result History (ℕ × Fault)) → IsSoundOpen o
+-- where the open picture is closed
+pub closed_goes : (h : History) (o : OpenPicture) (r : Result History (ℕ × Fault)) → IsSoundOpen o
     → ((full : History) → r ≡ Ok full → IsClosed o full)
     → Goes (running h (Some o)) (ended_by_closing o r) (λ output. closed_outcome output o r)
-closed_turns h o (Ok full) s closed = closed_by h o full s (closed full refl) (is_idr (first_header o)) refl
-closed_turns h o (Err found) s closed = failed (running h (Some o)) found.0 found.1 0 s
+closed_goes h o (Err found) s closed = failed (running h (Some o)) found.0 found.1 0 s
+closed_goes h o (Ok full) s closed = record {
+  same_phase = λ output. refl;
+  same_refusals = λ output. no_refusals (out output) ∙ sym (no_refusals (out Full));
+  hands_out = λ output.
+      ap (λ l. gone output base ++ l) (pictures_alone (out output))
+      ∙ goes_out output (is_idr hd) (no_output_of_prior_pics hd.marking) (closed full refl).follows;
+  each_sound = by_idr (is_idr hd);
+  sound = (closed full refl).sound;
+}
+  where
+    hd : Header
+    hd = first_header o
+
+    base : History
+    base = history_of o
+
+    out : Output → List Decoded
+    out output = output_at_closing output hd base full
+
+    -- by whether it is an IDR picture, and drops what is held
+    ended : (idr drops : Bool) → List EndedSequence
+    ended idr drops = elim idr [ true ↦ ended_sequence base drops | false ↦ [] ]
+
+    by_idr : (idr : Bool) → All IsSoundSequence (ended idr (no_output_of_prior_pics hd.marking))
+    by_idr true = ended_sound base _ (base_grows o s.before).sound
+    by_idr false = All-nil IsSoundSequence
+
+    by_drops : (output : Output) (drops : Bool) → gone output base ++ (if drops then [] else held_pictures output base) ≡ shown_by output base drops
+    by_drops output true = append-nil (gone output base)
+    by_drops output false = gone_and_held output base
+
+    goes_out : (output : Output) (idr drops : Bool) → Follows (elim idr as (λ _. History) [ true ↦ [] | false ↦ base ]) full
+        → gone output base
+        ++ ((elim idr [ true ↦ (if drops then [] else held_pictures output base) | false ↦ [] ])
+        ++ output_pictures output (elim idr [ true ↦ [] | false ↦ base ]) full)
+        ≡ all_in output (ended idr drops) ++ gone output full
+    goes_out output true drops f =
+        sym (append_assoc (gone output base) (if drops then [] else held_pictures output base) (gone output full))
+        ∙ ap (λ l. l ++ gone output full) (by_drops output drops ∙ sym (shown_ended output base drops))
+    goes_out output false drops f = gone_later output base full f

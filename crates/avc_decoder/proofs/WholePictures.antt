@@ -1,10 +1,9 @@
 -- Each picture that is handed out is whole.
-use Rattle.std.specs.Prelude.{◌≡◌, ℕ, zero, suc, ◌+◌, ◌-◌, ◌*◌, ◌/◌, ◌≤◌, Bool, true, false, not, ◌&&◌, List, [], ◌∷◌, ◌++◌, length, Option, Some, None, Result, Ok, Err, IfSome, if◌then◌else◌, slice_get, refl}
+use Rattle.std.specs.Prelude.{◌≡◌, ℕ, zero, suc, ◌+◌, ◌-◌, ◌*◌, ◌/◌, ◌≤◌, Bool, true, false, not, ◌&&◌, if◌then◌else◌, List, [], ◌∷◌, ◌++◌, length, Option, Some, None, Result, Ok, Err, IfSome, slice_get, refl}
 use Rattle.std.proofs.Common.{ap, sym, subst, ◌∙◌, arith}
 use Rattle.std.proofs.lemmas.List.{map-append}
 use Rattle.avc_types.specs.Whole.{IsWhole}
 use Rattle.avc_types.specs.declared.fault.Fault.{Fault}
-use Rattle.avc_types.specs.declared.fault.Fault.TheVariants as faults
 use Rattle.avc_types.specs.declared.picture.Picture.{Picture as Decoded}
 use Rattle.avc_annexb.specs.Units.{units}
 use Rattle.avc_annexb.specs.declared.unit.Unit.{Unit as StreamUnit}
@@ -16,8 +15,7 @@ use Rattle.avc_params.specs.declared.set_unit.SetUnit.{SetUnit}
 use Rattle.avc_params.specs.declared.sps.Cropping.{Cropping}
 use Rattle.avc_params.specs.declared.sps.Sps.{Sps}
 use Rattle.avc_plane.specs.Planes.{Planes}
-use Rattle.avc_poc.specs.OrderCounts.{Counts, order_counts}
-use Rattle.avc_marking.specs.Marks.{Marks, prev_ref_frame_num, missing_frame_nums}
+use Rattle.avc_marking.specs.Marks.{Marks}
 use Rattle.avc_slice.specs.Header.{is_idr}
 use Rattle.avc_slice.specs.declared.header.Header.{Header}
 use Rattle.avc_slice.specs.declared.slice.Slice.{Slice}
@@ -28,8 +26,10 @@ use Rattle.avc_units.specs.declared.step.Next.TheVariants.{Nothing, Refusal, Fau
 use Rattle.avc_units.specs.declared.step.Step.{Step}
 use Rattle.avc_dpb.specs.declared.output.Output.{Output}
 use Rattle.avc_types.specs.Results.{◌>>=◌}
-use Rattle.avc_decoder_core.specs.History.{is_same_sps, with_missing, with_order_counts, Entry, decoded_picture, earlier_in_sequence, missing_frame, History, new_output, all_held, entry_at, pasts, marking_entries, marks_of, picture_entry, history_at_opening, history_after_closing, sequence_sps, with_picture}
-use Rattle.avc_decoder_core.specs.Pictures.{crop_of, picture_of, entry_pictures, pictures_at, output_at_closing, output_pictures, held_pictures, no_output_of_prior_pics, prior_output}
+use Rattle.avc_decoder_core.specs.History.{Entry, History, all_held, decoded_picture, earlier_in_sequence, entry_at, history_after_closing, history_at_opening}
+use Rattle.avc_decoder_core.specs.History.{marks_of, missing_frame, new_output, with_missing, with_picture}
+use Rattle.avc_decoder_core.specs.Pictures.{crop_of, entry_pictures, held_pictures, no_output_of_prior_pics, output_at_closing, output_pictures, picture_of, pictures_at}
+use Rattle.avc_decoder_core.proofs.MissingNumbers.{ok_same, opened_by}
 use Rattle.avc_decoder.specs.FirstFault.{OpenPicture, first_header, first_fault, history_at_opening_of, history_of, read_of, picture_planes, closed_history, start_on, slices_of}
 use Rattle.avc_decoder.specs.Events.{pictures, Phase, waiting, running, State, first_state, Outcome, failed_at, at_last_slice, closing_result, closed_outcome, closed_picture, with_slice, sets_named, both, after_first_slice, after_next_slice, base_in, history_in, after_next, is_waiting, followed_by, after_closing, in_phase, after_unit, state_after, held_after, at_end, is_running, open_facts_in, events_from, events}
 use Rattle.avc_decoder.specs.declared.event.Event.{Event}
@@ -47,67 +47,29 @@ abbrev AllGood : History → Type 0
 AllGood [] = Unit {0}
 AllGood (e ∷ h) = Good e × AllGood h
 
-ok_is : {A : Type 0} (a b : A) → ◌≡◌ {A = Result A Fault} (Ok a) (Ok b) → a ≡ b
-ok_is a b e = cc
-
 good_missing : (sps : Sps) (numbers : List ℕ) (h h' : History) → AllGood h → with_missing sps numbers h ≡ Ok h' → AllGood h'
-good_missing sps [] h h' g e = subst AllGood (ok_is h h' e) g
+good_missing sps [] h h' g e = subst AllGood (ok_same h h' e) g
 good_missing sps (n ∷ numbers) h h' g e = by_marks (marks_of (missing_frame sps n ∷ h)) (good_missing sps numbers (missing_frame sps n ∷ h) h' (tt, g)) e
   where
     by_marks : (r : Result Marks Fault) → (with_missing sps numbers (missing_frame sps n ∷ h) ≡ Ok h' → AllGood h') → (r >>= λ m. with_missing sps numbers (missing_frame sps n ∷ h)) ≡ Ok h' → AllGood h'
     by_marks (Ok m) then' e' = then' e'
     by_marks (Err f) then' e' = cc
 
-good_counted : (sps : Sps) (hd : Header) (h h' : History) → AllGood h → with_order_counts sps hd h ≡ Ok h' → AllGood h'
-good_counted sps hd h h' g e = by_counts (order_counts sps hd (pasts h)) e
-  where
-    by_counts : (r : Result Counts Fault) → (r >>= λ c. Ok h) ≡ Ok h' → AllGood h'
-    by_counts (Ok c) e' = subst AllGood (ok_is h h' e') g
-    by_counts (Err f) e' = cc
-
 good_opened : (sps : Sps) (hd : Header) (h h' : History) → AllGood h → history_at_opening sps hd h ≡ Ok h' → AllGood h'
-good_opened sps hd h h' g e = by_idr (is_idr hd) e
+good_opened sps hd h h' g e = let opened = opened_by sps hd h h' e in good_missing sps opened.numbers h h' g opened.missing
+
+good_earlier : (hd : Header) (h : History) → AllGood h → AllGood (earlier_in_sequence hd h)
+good_earlier hd h g = by_idr (is_idr hd)
   where
-    by_full : (r : Result History Fault) → ((full : History) → r ≡ Ok full → AllGood full) → (r >>= λ full. with_order_counts sps hd full) ≡ Ok h' → AllGood h'
-    by_full (Ok full) good e' = good_counted sps hd full h' (good full refl) e'
-    by_full (Err f) good e' = cc
-
-    by_numbers : (r : Result (List ℕ) Fault) → (r >>= λ numbers. with_missing sps numbers h >>= λ full. with_order_counts sps hd full) ≡ Ok h' → AllGood h'
-    by_numbers (Ok numbers) e' = by_full (with_missing sps numbers h) (λ full same. good_missing sps numbers h full g same) e'
-    by_numbers (Err f) e' = cc
-
-    by_same : (b : Bool) → ◌≡◌ {A = Result History Fault} (elim b [
-      | false ↦ Err faults.ParameterSetChanged
-      | true ↦ missing_frame_nums (prev_ref_frame_num (marking_entries h)) sps.gaps_in_frame_num_value_allowed_flag (picture_entry sps hd)
-          >>= λ numbers. with_missing sps numbers h >>= λ full. with_order_counts sps hd full
-    ]) (Ok h') → AllGood h'
-    by_same true e' = by_numbers (missing_frame_nums (prev_ref_frame_num (marking_entries h)) sps.gaps_in_frame_num_value_allowed_flag (picture_entry sps hd)) e'
-    by_same false e' = cc
-
-    by_none : (r : Result History Fault) → (r >>= λ none. Ok h) ≡ Ok h' → AllGood h'
-    by_none (Ok none) e' = subst AllGood (ok_is h h' e') g
-    by_none (Err f) e' = cc
-
-    by_idr : (b : Bool) → ◌≡◌ {A = Result History Fault} (elim b [
-      | true ↦ with_order_counts sps hd [] >>= λ none. Ok h
-      | false ↦ elim (is_same_sps (sequence_sps h) sps) [
-        | false ↦ Err faults.ParameterSetChanged
-        | true ↦ missing_frame_nums (prev_ref_frame_num (marking_entries h)) sps.gaps_in_frame_num_value_allowed_flag (picture_entry sps hd)
-            >>= λ numbers. with_missing sps numbers h >>= λ full. with_order_counts sps hd full
-      ]
-    ]) (Ok h') → AllGood h'
-    by_idr true e' = by_none (with_order_counts sps hd []) e'
-    by_idr false e' = by_same (is_same_sps (sequence_sps h) sps) e'
+    by_idr : (idr : Bool) → AllGood (elim idr [ true ↦ [] | false ↦ h ])
+    by_idr true = tt
+    by_idr false = g
 
 good_closed_by : (sps : Sps) (hd : Header) (planes : Planes) (h h' : History) → Good (decoded_picture sps hd planes) → AllGood h → history_after_closing sps hd planes h ≡ Ok h' → AllGood h'
 good_closed_by sps hd planes h h' new g e = by_marks (marks_of (with_picture sps hd planes h)) e
   where
-    earlier : (idr : Bool) → AllGood (elim idr as (λ _. History) [ true ↦ [] | false ↦ h ])
-    earlier true = tt
-    earlier false = g
-
     by_marks : (r : Result Marks Fault) → (r >>= λ m. Ok (with_picture sps hd planes h)) ≡ Ok h' → AllGood h'
-    by_marks (Ok m) e' = subst AllGood (ok_is (with_picture sps hd planes h) h' e') (new, earlier (is_idr hd))
+    by_marks (Ok m) e' = subst AllGood (ok_same (with_picture sps hd planes h) h' e') (new, good_earlier hd h g)
     by_marks (Err f) e' = cc
 
 -- ---- pictures
@@ -213,31 +175,22 @@ GoodOutcome o = AllWhole o.events × GoodPhase o.phase
 failed_good : (output : Output) (h : History) (unit : ℕ) (f : Fault) (read : ℕ) → AllGood h → GoodOutcome (failed_at output h unit f read)
 failed_good output h unit f read g = (whole-append (pictures (held_pictures output h)) (Refused unit f ∷ []) (pictures_whole h (all_held output h) g) (tt, tt), tt)
 
-prior_whole : (output : Output) (hd : Header) (before : History) → AllGood before → AllWhole (pictures (prior_output output hd before))
-prior_whole output hd before g = by_idr (is_idr hd) (no_output_of_prior_pics hd.marking)
+closed_whole : (output : Output) (hd : Header) (base h : History) → AllGood base → AllGood h → AllWhole (pictures (output_at_closing output hd base h))
+closed_whole output hd base h b g = by_idr (is_idr hd) (no_output_of_prior_pics hd.marking) (new_output output (earlier_in_sequence hd base) h)
   where
-    by_idr : (idr dropped : Bool) → AllWhole (pictures (elim idr as (λ _. List Decoded) [
-      | true ↦ (if dropped then [] else held_pictures output before)
-      | false ↦ []
-    ]))
-    by_idr false dropped = tt
-    by_idr true true = tt
-    by_idr true false = pictures_whole before (all_held output before) g
-
-closing_whole : (output : Output) (hd : Header) (before after : History) → AllGood before → AllGood after
-    → AllWhole (pictures (output_at_closing output hd before after))
-closing_whole output hd before after g g' =
-    let prior = prior_output output hd before in
-    let others = output_pictures output (earlier_in_sequence hd before) after in
-    subst AllWhole (sym (map-append (λ p. Picture p) prior others))
-    (whole-append (pictures prior) (pictures others) (prior_whole output hd before g)
-    (pictures_whole after (new_output output (earlier_in_sequence hd before) after) g'))
+    by_idr : (idr drops : Bool) (places : List ℕ) → AllWhole (pictures (elim idr [ true ↦ (if drops then [] else held_pictures output base) | false ↦ [] ] ++ pictures_at h places))
+    by_idr true false places =
+        let held = held_pictures output base in
+        subst AllWhole (sym (map-append (λ p. Picture p) held (pictures_at h places)))
+        (whole-append (pictures held) (pictures (pictures_at h places)) (pictures_whole base (all_held output base) b) (pictures_whole h places g))
+    by_idr true true places = pictures_whole h places g
+    by_idr false drops places = pictures_whole h places g
 
 closed_good : PicturesAreSized → (output : Output) (o : OpenPicture) → GoodOpen o → GoodOutcome (closed_picture output o)
 closed_good sized output o g = by_closing (closing_result o) (good_closing sized o g)
   where
     by_closing : (r : Result History (ℕ × Fault)) → ((h : History) → r ≡ Ok h → AllGood h) → GoodOutcome (closed_outcome output o r)
-    by_closing (Ok h) good = (closing_whole output (first_header o) (history_of o) h (good_history_of o g) (good h refl), good h refl)
+    by_closing (Ok h) good = (closed_whole output (first_header o) (history_of o) h (good_history_of o g) (good h refl), good h refl)
     by_closing (Err found) good = failed_good output (history_of o) found.0 found.1 0 (good_history_of o g)
 
 with_slice_good : (output : Output) (before : History) (already : ℕ) (o : OpenPicture) → AllGood before → GoodOpen o → GoodOutcome (with_slice output before already o)
