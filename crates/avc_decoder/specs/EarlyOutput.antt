@@ -29,7 +29,7 @@ abbrev pub ended_sequence : History → (dropped : Bool) → List EndedSequence
 ended_sequence [] dropped = []
 ended_sequence (e ∷ older) dropped = record { history = e ∷ older; dropped = dropped } ∷ []
 
--- the sequence that ends where the open picture is closed: with an IDR picture that before it, at a fault its own
+-- the sequence that ends where the open picture is closed: that before an IDR picture, and at a fault that which is held
 abbrev pub ended_by_closing : OpenPicture → Result History (ℕ × Fault) → List EndedSequence
 ended_by_closing o (Ok h) =
     elim (is_idr (first_header o)) [

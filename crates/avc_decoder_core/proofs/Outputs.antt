@@ -9,7 +9,7 @@ use Rattle.std.proofs.lemmas.Grind.{flat_map-append}
 use Rattle.std.proofs.lemmas.List.Elements.{All-nil, All-cons, All-head, All-tail}
 use Rattle.std.proofs.Math.Seq.{drop-append_seam, drop-length}
 use Rattle.avc_dpb.specs.declared.output.Output.{Output}
-use Rattle.avc_dpb.specs.Bumping.{Arrival, with_all_output}
+use Rattle.avc_dpb.specs.Bumping.{Arrival}
 use Rattle.avc_dpb.specs.Laws.{occurrences, pictures}
 use Rattle.avc_dpb.proofs.Conserved.{out_only_grows}
 use Rattle.avc_dpb.proofs.Once.{goes_out_once}

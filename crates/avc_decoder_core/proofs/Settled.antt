@@ -1,24 +1,22 @@
 -- One more missing number in a settled window.
-use Rattle.std.proofs.Common.{◌≡◌, ℕ, zero, suc, ◌+◌, ◌<◌, ◌≤◌, Bool, true, false, cond, ◌||◌, List, [], ◌∷◌, ◌++◌, length, map, drop, Option, Some, None, Ok, refl, ap, ap₂}
+use Rattle.std.proofs.Common.{◌≡◌, ℕ, zero, suc, ◌+◌, ◌<◌, ◌≤◌, Bool, true, false, cond, ◌||◌, List, [], ◌∷◌, ◌++◌, length, drop, Ok, refl, ap, ap₂}
 use Rattle.std.proofs.Common.{sym, ◌∙◌, subst, arith, length-append, append_assoc, append-nil}
 use Rattle.std.specs.Prelude.{◌==◌, ◌%◌}
-use Rattle.std.specs.List.{filter, list_any}
+use Rattle.std.specs.List.{filter}
 use Rattle.std.proofs.lemmas.Bool.Decides.{nat_tests}
 use Rattle.std.proofs.lemmas.List.Elements.{filter-append}
-use Rattle.avc_types.specs.declared.references.Mark.TheVariants.{Short}
-use Rattle.avc_types.specs.declared.references.Marking.TheVariants.{SlidingWindow}
 use Rattle.avc_types.specs.References.{Reference}
 use Rattle.avc_params.specs.Limits.{dpb_size, max_frame_num, reference_limit}
 use Rattle.avc_params.specs.declared.sps.Sps.{Sps}
-use Rattle.avc_marking.specs.Laws.{CountFrom, IsFullWindow, StandBelow, StandFrom}
-use Rattle.avc_marking.specs.Marks.{Marks, frame_nums_from, limit_of}
+use Rattle.avc_marking.specs.Laws.{CountFrom, StandBelow, StandFrom}
+use Rattle.avc_marking.specs.Marks.{Marks, frame_nums_from}
 use Rattle.avc_marking.proofs.FullWindow.{window_takes_the_first}
 use Rattle.avc_dpb.specs.declared.output.Output.{Output}
-use Rattle.avc_dpb.specs.Bumping.{Buffer, Stored, after_entry, is_reference_in, needed_frames}
+use Rattle.avc_dpb.specs.Bumping.{Buffer, Stored, after_entry, needed_frames}
 use Rattle.avc_dpb.specs.Laws.{missing_arrival, missing_stored}
 use Rattle.avc_dpb.proofs.FindingRoom.{missing_frames_find_room}
 use Rattle.avc_decoder_core.specs.Gaps.{AreBefore, AreNotHeld, IsSettled, Staying, missing_reference, missing_references, stored_missing}
-use Rattle.avc_decoder_core.specs.History.{Entry, History, arrivals, buffer_of, marking_entry, marks_of, missing_frame, or_no_references}
+use Rattle.avc_decoder_core.specs.History.{Entry, History, buffer_of, marking_entry, marks_of, missing_frame, or_no_references}
 use Rattle.avc_decoder_core.specs.Opening.{with_all_missing}
 use Rattle.avc_decoder_core.proofs.Entering.{marks_then}
 use Rattle.avc_decoder_core.proofs.References.{entries, is_entry}

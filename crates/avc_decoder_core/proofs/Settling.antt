@@ -1,5 +1,5 @@
 -- Where the buffer's frames pass the test for a settled window.
-use Rattle.std.proofs.Common.{◌≡◌, ℕ, zero, suc, ◌+◌, ◌-◌, ◌<◌, ◌≤◌, Bool, true, false, not, ◌&&◌, ◌||◌, cond, List, [], ◌∷◌, ◌++◌, length, map, Option, Some, None, slice_get, is_some, unwrap_or, refl, ap, ap₂, Ok}
+use Rattle.std.proofs.Common.{◌≡◌, ℕ, zero, suc, ◌+◌, ◌-◌, ◌<◌, ◌≤◌, Bool, true, false, ◌&&◌, ◌||◌, cond, List, [], ◌∷◌, ◌++◌, length, map, Option, Some, None, slice_get, is_some, unwrap_or, refl, ap, ap₂, Ok}
 use Rattle.std.proofs.Common.{sym, ◌∙◌, subst, arith, length-append}
 use Rattle.std.specs.Prelude.{◌==◌, ◌%◌, nat_lt, if◌then◌else◌}
 use Rattle.std.specs.Option.{option_map}
@@ -12,7 +12,7 @@ use Rattle.std.proofs.lemmas.Simd.{map-map}
 use Rattle.std.proofs.Math.Nat.{add-mod_right}
 use Rattle.avc_types.specs.declared.references.Mark.{Mark}
 use Rattle.avc_types.specs.declared.references.Mark.TheVariants.{Short, Long}
-use Rattle.avc_types.specs.References.{Reference, is_short, reference_of, references_at}
+use Rattle.avc_types.specs.References.{Reference, is_short, references_at}
 use Rattle.avc_plane.specs.declared.frame.Frame.{Frame}
 use Rattle.avc_plane.specs.Frames.{marked_frame}
 use Rattle.avc_params.specs.Limits.{dpb_size, max_frame_num, reference_limit}
@@ -28,7 +28,7 @@ use Rattle.avc_decoder_core.specs.Frames.{frame_at}
 use Rattle.avc_decoder_core.specs.FrameBufferFields.{Each, IsStateAfter, places_in}
 use Rattle.avc_decoder_core.specs.Gaps.{AreBefore, AreNotHeld, IsLongGap, has_its_place, is_leaving, is_staying, settles_at}
 use Rattle.avc_decoder_core.specs.History.{History, buffer_of}
-use Rattle.avc_decoder_core.proofs.Places.{Rise, below, each_implies, increasing, rise}
+use Rattle.avc_decoder_core.proofs.Places.{Rise, each_implies, increasing, rise}
 use Rattle.avc_decoder_core.proofs.References.{entries, is_entry}
 
 -- ---- the reference frames among the buffer's frames

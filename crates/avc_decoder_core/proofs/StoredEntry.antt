@@ -1,6 +1,6 @@
 -- An entry's frame is marked and stored, in the terms of the calls that do it.
 use Rattle.std.proofs.Common.{◌≡◌, ℕ, ◌+◌, ℤ, pos, Bool, true, false, List, [], ◌∷◌, ◌++◌, length, map, Option, Some, None, is_some, Ok, refl, ap}
-use Rattle.std.proofs.Common.{ap₂, sym, ◌∙◌, subst, arith, length-append}
+use Rattle.std.proofs.Common.{ap₂, sym, ◌∙◌, arith, length-append}
 use Rattle.std.proofs.lemmas.List.{length-map}
 use Rattle.std.proofs.Math.Seq.{drop-length}
 use Rattle.std.specs.Result.{is_ok}

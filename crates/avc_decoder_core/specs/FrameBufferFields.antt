@@ -1,5 +1,5 @@
 -- What the fields of a frame buffer stand for.
-use Rattle.std.specs.Prelude.{◌≡◌, ℕ, ◌≤◌, Bool, true, false, List, [], ◌∷◌, length, map, IfSome, Option, Ok}
+use Rattle.std.specs.Prelude.{◌≡◌, ℕ, ◌≤◌, false, List, [], ◌∷◌, length, map, IfSome, Option, Ok}
 use Rattle.avc_types.specs.References.{references_at}
 use Rattle.avc_types.specs.declared.marked_frame.MarkedFrame.{MarkedFrame}
 use Rattle.avc_types.specs.declared.picture.Picture.{Picture}

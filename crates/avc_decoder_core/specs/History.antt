@@ -5,7 +5,6 @@ use Rattle.std.specs.Option.{option_map}
 use Rattle.avc_types.specs.declared.current_frame_num.CurrentFrameNum.{CurrentFrameNum}
 use Rattle.avc_types.specs.declared.fault.Fault.{Fault}
 use Rattle.avc_types.specs.declared.fault.Fault.TheVariants as faults
-use Rattle.avc_types.specs.declared.references.Marking.{Marking}
 use Rattle.avc_types.specs.declared.references.Marking.TheVariants.{SlidingWindow}
 use Rattle.avc_types.specs.References.{Reference}
 use Rattle.avc_types.specs.Results.{◌>>=◌}

@@ -1,5 +1,5 @@
 -- Laws of the buffer: that what the definition puts out is what C.4 asks for. Each is proved as the contract of a function of its name.
-use Rattle.std.specs.Prelude.{◌≡◌, ℕ, ◌+◌, ◌<◌, ◌≤◌, pos, ◌==◌, ◌≤ℤ◌, if◌then◌else◌, true, false, not, ◌||◌, List, [], ◌∷◌, ◌++◌, length, map, count_by, slice_get, Option, Some, None}
+use Rattle.std.specs.Prelude.{◌≡◌, ℕ, ◌+◌, ◌≤◌, pos, ◌==◌, ◌≤ℤ◌, if◌then◌else◌, true, false, not, ◌||◌, List, [], ◌∷◌, ◌++◌, length, map, count_by, slice_get, Option, Some, None}
 use Rattle.std.specs.List.{filter, list_any}
 use Rattle.avc_dpb.specs.declared.output.Output.{Output}
 use Rattle.avc_dpb.specs.Bumping.{remain, Arrival, Stored, Buffer, held_in_output_order, is_reference_in, needed_frames, after_bumping, after_bumping_while, with_all_output, after_prior_pictures, after_frame, after_entry, buffer_after, new_output}

@@ -2,7 +2,7 @@ use Rattle.std.proofs.Common.{◌≡◌, ◌∙◌, ◌+◌, ◌-◌, ◌≤◌,
 use Rattle.avc_decoder_core.specs.FrameBufferFields.{history_of}
 use Rattle.avc_decoder_core.specs.FrameBufferState.{FrameBufferState}
 use Rattle.avc_decoder_core.specs.Gaps.{KeepsTheSame}
-use Rattle.avc_decoder_core.specs.History.{History, with_missing}
+use Rattle.avc_decoder_core.specs.History.{with_missing}
 use Rattle.avc_decoder_core.specs.Opening.{with_all_missing}
 use Rattle.avc_decoder_core.specs.Pictures.{output_pictures}
 use Rattle.avc_decoder_core.proofs.LongGaps.{all_of, end_marked, long_gaps_leave_their_end}

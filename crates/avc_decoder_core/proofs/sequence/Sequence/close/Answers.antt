@@ -2,10 +2,8 @@ use Rattle.std.proofs.Common.{◌≡◌, ◌∷◌, ◌∙◌, ap, ap₂, sym, s
 use Rattle.std.specs.Option.{option_map}
 use Rattle.avc_types.specs.declared.picture_error.PictureError.{PictureError}
 use Rattle.avc_types.specs.declared.picture_error.PictureError.TheVariants.{Fault as Faulty}
-use Rattle.avc_types.specs.declared.fault.Fault.{Fault}
 use Rattle.avc_dpb.specs.declared.output.Output.{Output}
 use Rattle.avc_plane.specs.Frames.{padded_planes_of}
-use Rattle.avc_plane.specs.Planes.{Planes}
 use Rattle.avc_poc.specs.OrderCountState.{order_count_state}
 use Rattle.avc_decoder_core.specs.declared.history_entry.HistoryEntry.{HistoryEntry}
 use Rattle.avc_decoder_core.specs.declared.open_picture.OpenPicture.{OpenPicture}
