@@ -1,5 +1,5 @@
 -- One unit more is taken into a piece.
-use Rattle.std.proofs.Common.{◌≡◌, ◌+◌, ◌-◌, ◌<◌, ◌≤◌, ℕ, zero, suc, Bool, true, false, not, List, [], ◌∷◌, ◌++◌, length, if◌then◌else◌, None, refl, ap, sym, subst, ◌∙◌, arith, append_assoc, append-nil, inl, inr, ◌⊎◌}
+use Rattle.std.proofs.Common.{◌≡◌, ◌+◌, ℕ, suc, Bool, true, false, not, List, [], ◌∷◌, ◌++◌, if◌then◌else◌, None, refl, ap, sym, subst, ◌∙◌, arith, append_assoc, append-nil, inl, inr, ◌⊎◌}
 use Rattle.std.proofs.lemmas.Grind.{flat_map-append}
 use Rattle.std.proofs.lemmas.List.Elements.{filter-append}
 use Rattle.std.specs.Prelude.{replicate}
@@ -9,9 +9,9 @@ use Rattle.avc_annexb.specs.declared.unit.Unit.{Unit}
 use Rattle.avc_params.specs.Tables.{is_pps, is_sps, pps_record, sps_record}
 use Rattle.avc_units.specs.Grouping.{is_start, set_unit}
 use Rattle.avc_units.specs.Resuming.{sets_in_force}
-use Rattle.avc_tools.specs.Cutting.{AreReplaced, HasSets, kept_bytes}
+use Rattle.avc_tools.specs.Cutting.{AreReplaced, kept_bytes}
 use Rattle.avc_tools.specs.Pieces.{after_slices, is_left_out, is_slice, leads, through_slices}
-use Rattle.avc_tools.specs.Stages.{AreHeld, Holds, IsCutOff, IsCutOn, IsWaiting, Stage, StandsAt, begun, leading, made, next, over, phase_of, staying, text_of, waiting, writing}
+use Rattle.avc_tools.specs.Stages.{IsCutOff, IsCutOn, IsWaiting, Stage, StandsAt, begun, leading, made, next, over, staying, text_of, waiting, writing}
 use Rattle.avc_tools.specs.declared.cutter.Cutter.{Cutter}
 use Rattle.avc_tools.specs.declared.cutter.CutPhase.{CutPhase}
 use Rattle.avc_tools.specs.declared.cutter.CutPhase.TheVariants as phases

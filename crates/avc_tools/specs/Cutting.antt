@@ -1,5 +1,5 @@
 -- What the functions that cut a stream say to one another.
-use Rattle.std.specs.Prelude.{◌≡◌, ℕ, ◌<◌, Bool, true, false, List, [], ◌∷◌, ◌++◌, length, take, drop, Option, Some, None, is_some, slice_get}
+use Rattle.std.specs.Prelude.{◌≡◌, ℕ, ◌<◌, Bool, true, false, List, [], ◌∷◌, ◌++◌, length, take, drop, Option, Some, None, is_some}
 use Rattle.std.specs.List.{flat_map}
 use Rattle.avc_annexb.specs.declared.unit.Unit.{Unit}
 use Rattle.avc_params.specs.Stored.{stored}
@@ -7,7 +7,7 @@ use Rattle.avc_params.specs.Tables.{is_pps, is_sps, pps_in_force, sps_in_force}
 use Rattle.avc_params.specs.declared.set_unit.SetUnit.{SetUnit}
 use Rattle.avc_units.specs.Grouping.{is_start, set_units}
 use Rattle.avc_annexb.specs.Written.{written}
-use Rattle.avc_units.specs.Resuming.{deciding_unit, satisfies, unit_list}
+use Rattle.avc_units.specs.Resuming.{deciding_unit, satisfies}
 use Rattle.avc_tools.specs.Pieces.{piece}
 use Rattle.avc_tools.specs.declared.sets_in_force.SetsInForce.{SetsInForce}
 

@@ -1,5 +1,5 @@
 -- Cutting out one piece unit by unit: these words are the crate's own.
-use Rattle.std.specs.Prelude.{◌≡◌, ℕ, zero, suc, Bool, true, false, not, List, [], ◌∷◌, ◌++◌, length, if◌then◌else◌, Option, Some, None}
+use Rattle.std.specs.Prelude.{◌≡◌, ℕ, zero, suc, Bool, true, false, not, List, [], ◌∷◌, ◌++◌, if◌then◌else◌, Option, Some, None}
 use Rattle.std.specs.List.{filter, flat_map}
 use Rattle.avc_annexb.specs.SplitterState.{SplitterState}
 use Rattle.avc_annexb.specs.Units.{units}

@@ -1,4 +1,4 @@
-use Rattle.std.proofs.Common.{refl, sym, ◌∙◌, true, false, arith}
+use Rattle.std.proofs.Common.{sym, ◌∙◌, true, false, arith}
 use Rattle.avc_tools.proofs.Taking.{begins, waits_on}
 use Rattle.avc_tools.proofs.cutter.Cutter.wait_on.Goals as goal
 

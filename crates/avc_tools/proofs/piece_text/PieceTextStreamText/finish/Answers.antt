@@ -1,4 +1,4 @@
-use Rattle.std.proofs.Common.{◌≡◌, ◌++◌, [], true, ap, sym, subst, ◌∙◌, arith, append-nil}
+use Rattle.std.proofs.Common.{◌≡◌, ◌++◌, true, ap, sym, subst, ◌∙◌, arith, append-nil}
 use Rattle.avc_tools.specs.Streams.{max_unit}
 use Rattle.avc_tools.specs.PieceSoFar.{PieceSoFar, piece_text}
 use Rattle.avc_tools.proofs.Growing.{left_by_finish}

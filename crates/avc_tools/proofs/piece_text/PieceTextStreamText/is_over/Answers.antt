@@ -1,4 +1,4 @@
-use Rattle.std.proofs.Common.{◌≡◌, true, false, is_some, length, ap, sym, subst, ◌∙◌, arith}
+use Rattle.std.proofs.Common.{◌≡◌, true, false, length, ap, sym, subst, ◌∙◌, arith}
 use Rattle.avc_tools.specs.Streams.{max_unit}
 use Rattle.avc_tools.specs.PieceSoFar.{PieceSoFar, is_over}
 use Rattle.avc_tools.proofs.PieceTexts.{either_not_over, over_in, tells_over}
