@@ -1,16 +1,11 @@
 //! Laws of pictures: their definitions alone.
 
-ghost use Rattle.avc_picture.specs.Laws.{PicturesComeFromTheirMacroblocks, PicturesNameNoPlaces};
+ghost use Rattle.avc_picture.specs.Laws.{PicturesComeFromTheirMacroblocks};
 ghost use Rattle.avc_picture.specs.Sizes.{PicturesAreSized};
 
 /// Whatever its slices are, a picture has the size of its sequence parameter set.
 pub fn pictures_are_sized()
     ensures { PicturesAreSized }
-{}
-
-/// The samples and the faults of a picture do not depend on the places that its frames have in the history.
-pub fn pictures_name_no_places()
-    ensures { PicturesNameNoPlaces }
 {}
 
 /// The samples of a full picture before deblocking do not depend on the planes that its macroblocks are built on.
