@@ -33,5 +33,5 @@ returns-in-None-clause-built g c c' slice wide high are =
     let a = c.args in (
       refl,
       pictures_shown c' slice a.references.now a.motion.now are ∙ sym (all_as_first a.references.now a.motion.now c.told-motion c.requires.shape)
-      ∙ ap is_some (sym c.picture_of.ensures ∙ ap option_copied c.in-None.is),
+          ∙ ap is_some (sym c.picture_of.ensures ∙ ap option_copied c.in-None.is),
     )
