@@ -73,7 +73,10 @@ fn a_row_is_filtered_when_the_next_is_built(rt: HostRuntime) -> Result<(), Fail>
     let Some(pps) = table.pps(0) else {
         return Err(Fail::new("no picture parameter set"));
     };
-    if sps.width_in_mbs() != 1 || sps.height_in_mbs() != 2 {
+    if sps.width_in_mbs() != 1 {
+        return Err(Fail::new("a picture of another size"));
+    }
+    if sps.height_in_mbs() != 2 {
         return Err(Fail::new("a picture of another size"));
     }
     let upper = slice_of(alloc, &table, sps, pps, &UPPER)?;
