@@ -236,3 +236,8 @@ new_is_drained d output new = drained plain output None None None None d (report
 -- nothing was read before
 pub without_front : (f : Format) (output : Output) (unread left w0 w : Option (List ℕ)) (r : Result Report RunFault) → DecodesAs f output (prepend_known [] unread) left w0 w r → DecodesAs f output unread left w0 w r
 without_front f output unread left w0 w r d = subst (λ u. DecodesAs f output u left w0 w r) (prepend_known-nil unread) d
+
+-- by a new decoder
+pub by_new : (f : Format) (output : Output) (unread left w0 w : Option (List ℕ)) (r : Result Report RunFault) (m : Machine) → m ≡ new_machine output
+    → DecodesAs f m.output unread left w0 w r → DecodesAs f output unread left w0 w r
+by_new f output unread left w0 w r m e d = subst (λ (n : Machine). DecodesAs f n.output unread left w0 w r) e d
