@@ -1,6 +1,9 @@
 // One macroblock above another, in two slices: 128 above 136.
-ghost use Rattle.std.specs.Prelude.{◌≡◌, Some, IfOk};
+ghost use Rattle.std.specs.Prelude.{◌≡◌, [], Some, IfOk, OnOk};
+ghost use Rattle.avc_params.specs.Within.{IsPps, IsSps};
 ghost use Rattle.avc_params.specs.Tables.{pps_in_force, sps_in_force};
+ghost use Rattle.avc_picture.specs.Decoding.{HasNoFault};
+ghost use Rattle.avc_picture.specs.OpenPicture.{HasSample};
 ghost use Rattle.avc_slice.specs.Within.{IsHeader};
 
 use avc_params::{ParamTable, Pps, Sps};
@@ -46,6 +49,83 @@ fn slice_of(
     })
 }
 
+// One slice more of a picture without references.
+fn decode(picture: &mut PictureDecoder<32>, slice: &Slice) -> Result<(), Fail>
+    requires within { IsHeader picture.old.sps picture.old.pps slice.now.rbsp slice.now.header }
+    requires frames { picture.old.frames ≡ [] }
+    ensures fault { OnOk result (HasNoFault picture.new) }
+    ensures sps { picture.new.sps ≡ picture.old.sps }
+    ensures pps { picture.new.pps ≡ picture.old.pps }
+    ensures frames { picture.new.frames ≡ [] }
+{
+    match picture.slice(slice, &[]) {
+        Ok(()) => Ok(()),
+        Err(_) => Err(Fail::new("a slice is refused")),
+    }
+}
+
+// The luma sample in row `y` of the first column of a picture of 16x32 samples, of a macroblock that has been read.
+fn luma_at(picture: &PictureDecoder<32>, sps: &Sps, y: usize) -> Result<u8, Fail>
+    requires fault { HasNoFault picture.now }
+    requires sps { picture.now.sps ≡ sps.now }
+    ensures { IfOk result (λ value. HasSample 0 0 y value picture.now) }
+{
+    if sps.width_in_mbs() != 1 || sps.height_in_mbs() != 2 || y >= 32 {
+        return Err(Fail::new("a picture of another size"));
+    }
+    if y / 16 >= picture.read() as usize {
+        return Err(Fail::new("a sample that is not read yet"));
+    }
+    Ok(picture.sample(0, 0, y))
+}
+
+// How many rows are filtered after the upper slice, and the luma sample in row 15 of the first column; then the same after the lower
+// slice, and the sample in row 16.
+fn two_slices(
+    picture: &mut PictureDecoder<32>,
+    sps: &Sps,
+    upper: &Slice,
+    lower: &Slice,
+) -> Result<[u32; 5], Fail>
+    requires sps { picture.old.sps ≡ sps.now }
+    requires frames { picture.old.frames ≡ [] }
+    requires upper { IsHeader picture.old.sps picture.old.pps upper.now.rbsp upper.now.header }
+    requires lower { IsHeader picture.old.sps picture.old.pps lower.now.rbsp lower.now.header }
+{
+    decode(picture, upper)?;
+    let before = picture.filtered();
+    let unfiltered = luma_at(picture, sps, 15)?;
+    decode(picture, lower)?;
+    let after = picture.filtered();
+    let above = luma_at(picture, sps, 15)?;
+    let below = luma_at(picture, sps, 16)?;
+    Ok([
+        before,
+        u32::from(unfiltered),
+        after,
+        u32::from(above),
+        u32::from(below),
+    ])
+}
+
+// The same of a new picture.
+fn decoded(
+    alloc: Global,
+    sps: &Sps,
+    pps: &Pps,
+    upper: &Slice,
+    lower: &Slice,
+) -> Result<[u32; 5], Fail>
+    requires sps { IsSps sps.now }
+    requires pps { IsPps pps.now }
+    requires upper { IsHeader sps.now pps.now upper.now.rbsp upper.now.header }
+    requires lower { IsHeader sps.now pps.now lower.now.rbsp lower.now.header }
+{
+    let mut memory = PictureMemory::new();
+    let mut picture = PictureDecoder::<32>::begin(alloc, sps, pps, &[], &mut memory)?;
+    two_slices(&mut picture, sps, upper, lower)
+}
+
 #[test]
 fn a_row_is_filtered_when_the_next_is_built(rt: HostRuntime) -> Result<(), Fail> {
     let alloc = rt.alloc();
@@ -60,15 +140,9 @@ fn a_row_is_filtered_when_the_next_is_built(rt: HostRuntime) -> Result<(), Fail>
     };
     let upper = slice_of(alloc, &table, sps, pps, &UPPER)?;
     let lower = slice_of(alloc, &table, sps, pps, &LOWER)?;
-    let mut memory = PictureMemory::new();
-    let mut picture = PictureDecoder::<32>::begin(alloc, sps, pps, &[], &mut memory)?;
-    let Ok(()) = picture.slice(&upper, &[]) else {
-        return Err(Fail::new("the upper slice is refused"));
-    };
-    assert_eq!(rt; picture.filtered(), 0);
-    let Ok(()) = picture.slice(&lower, &[]) else {
-        return Err(Fail::new("the lower slice is refused"));
-    };
-    assert_eq!(rt; picture.filtered(), 1);
+    assert_eq!(rt;
+        decoded(alloc, sps, pps, &upper, &lower)?,
+        [0, 128, 1, 128, 136]
+    );
     Ok(())
 }
