@@ -9,8 +9,8 @@ pub use Rattle.std.proofs.Common.{zero, suc, Bool, true, false, cond, [], ◌∷
 pub use Rattle.std.proofs.Common.{drop-cons, rules, ◌-◌, to_z, of_z, w64}
 pub use Rattle.std.proofs.lemmas.Bool.{cases_lt, ne_eqb}
 pub use Rattle.std.proofs.lemmas.List.{get_or-take, length-take-le, take-replicate}
-pub use Rattle.std.proofs.lemmas.Nat.{mod_below, div_below, mul-le, row_fits}
-pub use Rattle.std.specs.List.{filter, find, list_any, sum_by}
+pub use Rattle.std.proofs.lemmas.Nat.{mod_below, mul-le, row_fits}
+pub use Rattle.std.specs.List.{filter, find, list_any}
 pub use Rattle.std.specs.Prelude.{slice_index_or, is_some, ◌==◌, ◌||◌, replicate, not, drop}
 pub use Rattle.avc_types.specs.Macroblock.{total_coeff}
 pub use Rattle.avc_types.specs.References.{Reference, StandAt, reference_of, references_at, reference_at, is_marked, sorted_by, placed_by}

@@ -1,6 +1,6 @@
 -- Levels of which none is counted.
-use Rattle.avc_types.proofs.Common.{◌≡◌, ℕ, zero, suc, ◌+◌, ◌<◌, false, ℤ, pos, negsuc, cond, nat_abs, List, [], ◌∷◌, length, refl, ap}
-use Rattle.avc_types.proofs.Common.{arith, replicate, not, ◌==◌, sum_by, ne_eqb, total_coeff, ◌++◌}
+use Rattle.avc_types.proofs.Common.{◌≡◌, ℕ, zero, suc, ◌+◌, ◌<◌, ℤ, pos, negsuc, cond, nat_abs, List, [], ◌∷◌, length, refl, ap}
+use Rattle.avc_types.proofs.Common.{arith, replicate, not, ◌==◌, ne_eqb, total_coeff, ◌++◌}
 use Rattle.std.proofs.lemmas.List.Sums.{sum_by-append}
 
 abbrev weight : ℤ → ℕ
