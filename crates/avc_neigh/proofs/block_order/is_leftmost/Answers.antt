@@ -1,4 +1,4 @@
-use Rattle.avc_neigh.proofs.Common.{◌≡◌, ◌==◌, nat_eq, bit_and, refl, block_x}
+use Rattle.avc_neigh.proofs.Common.{◌==◌, nat_eq, bit_and, refl, block_x}
 use Rattle.std.proofs.lemmas.Bool.{agree_below_at}
 use Rattle.avc_neigh.proofs.block_order.is_leftmost.Goals as goal
 
