@@ -1,7 +1,7 @@
 -- One block more.
 use Rattle.std.proofs.Common.{◌≡◌, ◌≢◌, ℕ, zero, suc, ◌+◌, ◌-◌, ◌/◌, ◌^◌, append-nil, append_assoc, ◌<◌, ◌≤◌, min, ℤ, pos, Bool, true, false, List, [], ◌∷◌, ◌++◌, length, take, get_or, set, length-set, map, refl, ap, ◌∙◌, sym, arith, inl, inr}
 use Rattle.avc_mbsyntax.proofs.Common.{Ok, Err, Option, replicate, ◌==◌, ◌||◌, nat_le, if◌then◌else◌, All, range_with_len, all_more}
-use Rattle.avc_mbsyntax.proofs.Common.{cases_lt, le-ltb, ne_eqb, total_coeff, Fault, Bits, Read, ◌>>=◌, give, check}
+use Rattle.avc_mbsyntax.proofs.Common.{cases_lt, le-ltb, ne_eqb, total_coeff, Fault, Bits, Read, ◌>>=◌, give, check, ◌>>◌}
 use Rattle.avc_mbsyntax.proofs.Common.{residual_block, runs, token_levels, small_none, AreSmall, block_where, blocks, is_coded, no_levels}
 use Rattle.std.proofs.lemmas.List.{get_or-replicate, get_or-set_other, get_or_past, length-replicate, map-append, replicate_more, take_all, take_more, take_more_set}
 use Rattle.avc_types.specs.declared.fault.Fault.TheVariants as faults

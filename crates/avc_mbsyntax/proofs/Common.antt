@@ -10,7 +10,7 @@ pub use Rattle.std.proofs.lemmas.List.Elements.{All-replicate}
 pub use Rattle.std.specs.List.{All, range_with_len}
 pub use Rattle.std.specs.Option.{option_copied}
 pub use Rattle.std.specs.Prelude.{not, replicate, ◌==◌, Option, ◌||◌, nat_le, nat_lt, if◌then◌else◌, IfOk}
-pub use Rattle.avc_bits.specs.Bits.{Bits, ◌>>=◌, give, Read, check, more_data, times, bits_of, number_of, start}
+pub use Rattle.avc_bits.specs.Bits.{Bits, ◌>>=◌, give, Read, check, more_data, times, bits_of, number_of, start, ◌>>◌}
 pub use Rattle.avc_bits.specs.Codes.{ue_to, ue, IsReadBy, IsU, Takes, flag, te, te_to, u, skip}
 pub use Rattle.avc_bits.specs.Reader.{Reads, reader_bits, reader_bytes}
 pub use Rattle.avc_bits.specs.declared.reader.BitReader.{BitReader}
