@@ -1,12 +1,7 @@
 -- Units where a unit may have more or fewer bytes.
-use Rattle.std.proofs.Common.{◌≡◌, ◌+◌, ◌<◌, ◌≤◌, ℕ, zero, suc, Bool, true, false, List, [], ◌∷◌, length, map, drop, slice_index, All}
-use Rattle.std.proofs.Common.{Option, Some, None, nat_le, is_some, refl, ap, ◌∙◌, arith}
-use Rattle.std.specs.Prelude.{IsTrue}
-use Rattle.std.proofs.lemmas.List.Elements.{All-nil, All-cons, All-head, All-tail, All-append}
-use Rattle.std.proofs.lemmas.Bool.Decides.{nat_tests}
-use Rattle.std.specs.Option.{option_map}
-use Rattle.std.proofs.lemmas.List.{length-drop}
-use Rattle.avc_annexb.specs.declared.unit.Unit.{Unit as Piece}
+use Rattle.avc_annexb.proofs.Common.{◌≡◌, ◌+◌, ◌<◌, ◌≤◌, ℕ, zero, suc, Bool, true, false, List, [], ◌∷◌, length, map, drop, slice_index}
+use Rattle.avc_annexb.proofs.Common.{All, Option, Some, None, nat_le, is_some, refl, ap, ◌∙◌, arith, IsTrue, All-nil, All-cons, All-head}
+use Rattle.avc_annexb.proofs.Common.{All-tail, All-append, nat_tests, option_map, length-drop, Piece}
 use Rattle.avc_annexb.specs.Units.{saturated, PlacedUnit, placed_units, numbered, unit_of, unit_at, units, unit_bytes, before_end, without_last_zeros, is_end, is_start}
 use Rattle.avc_annexb.specs.Laws.{contents, contents_within, body_within, unit_within, UnitsAreWithin, LimitsCutUnits, UnitsAreWhole}
 

@@ -1,9 +1,6 @@
 -- Runs in which each zero stands alone.
-use Rattle.std.proofs.Common.{◌≡◌, ℕ, ◌+◌, ◌-◌, ◌<◌, ◌≤◌, List, ap, ◌∙◌, arith, drop, ⊎_elim}
-use Rattle.std.specs.Prelude.{◌≢◌, slice_index}
-use Rattle.std.proofs.lemmas.Bool.{cases_eq, cases_lt}
-use Rattle.std.proofs.lemmas.List.{get_or-drop}
-use Rattle.avc_annexb.specs.Scanning.{HasLoneZerosBefore}
+use Rattle.avc_annexb.proofs.Common.{◌≡◌, ℕ, ◌+◌, ◌-◌, ◌<◌, ◌≤◌, List, ap, ◌∙◌, arith, drop, ⊎_elim, ◌≢◌, slice_index, cases_eq, cases_lt}
+use Rattle.avc_annexb.proofs.Common.{get_or-drop, HasLoneZerosBefore}
 
 -- bytes that are no zeros, after these
 pub lone_more : (bytes : List ℕ) (place len : ℕ) → HasLoneZerosBefore place bytes →

@@ -1,10 +1,7 @@
 -- What is still to come of an RBSP, where some zeros were given out already.
 use Rattle.std.proofs.Common.{◌≡◌, ℕ, zero, suc, ◌+◌, ◌<◌, ◌≤◌, List, [], ◌∷◌, ◌++◌, length, true, eqb, refl, ap, ◌∙◌, sym, arith, drop, min, append_assoc, append-nil, take, get_or, ◌-◌}
-use Rattle.std.specs.Prelude.{replicate}
-use Rattle.std.proofs.lemmas.Bool.{ne_eqb, eq-eqb}
-use Rattle.std.proofs.lemmas.List.{take-append-drop, drop-drop, drop_more, get_or-drop, get_or-take, length-take}
-use Rattle.avc_annexb.specs.Escapes.{rbsp, unescaped_run, zeros_after}
-use Rattle.avc_annexb.specs.Scanning.{HasNoZero}
+use Rattle.avc_annexb.proofs.Common.{replicate, ne_eqb, eq-eqb, take-append-drop, drop-drop, drop_more, get_or-drop, get_or-take}
+use Rattle.avc_annexb.proofs.Common.{length-take, rbsp, unescaped_run, zeros_after, HasNoZero}
 
 -- the RBSP of some zeros and the rest, without those zeros
 abbrev pub resumed : ℕ → List ℕ → List ℕ

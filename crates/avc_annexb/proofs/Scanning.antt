@@ -1,11 +1,8 @@
 -- Through a stream: zero by zero, and run by run of other bytes.
 use Rattle.std.proofs.Common.{◌≡◌, ℕ, ◌+◌, ◌-◌, ◌<◌, ◌≤◌, List, [], ◌∷◌, ◌++◌, length, Bool, true, false, eqb, Option, Some, None, refl, ap, ◌∙◌, sym, arith, append_assoc, append-nil, zero, suc, subst, length-append}
-use Rattle.std.proofs.lemmas.List.{length-replicate}
-use Rattle.std.proofs.lemmas.Bool.{ne_eqb}
-use Rattle.std.specs.Prelude.{replicate, ◌≢◌, slice_index, if◌then◌else◌}
-use Rattle.std.specs.Option.{option_map}
+use Rattle.avc_annexb.proofs.Common.{length-replicate, ne_eqb, replicate, ◌≢◌, slice_index, if◌then◌else◌, option_map, HasNoBoundary}
+use Rattle.avc_annexb.proofs.Common.{ScannedBytes, IsAt, HasLoneZeros, placed_units_after, closed_unit, with_more}
 use Rattle.avc_annexb.specs.Units.{PlacedUnit, placed_units, is_start, is_end, before_end, without_last_zeros, unit_at, unit_bytes}
-use Rattle.avc_annexb.specs.Scanning.{HasNoBoundary, ScannedBytes, IsAt, HasLoneZeros, placed_units_after, closed_unit, with_more}
 
 map_map : {A B C : Type 0} (f : B → C) (g : A → B) (o : Option A) → option_map f (option_map g o) ≡ option_map (λ x. f (g x)) o
 map_map f g None = refl

@@ -1,11 +1,9 @@
 -- The units that are over stay, and a unit's bytes have no boundary in them.
-use Rattle.std.proofs.Common.{ℕ, zero, suc, ◌+◌, ◌<◌, ◌≤◌, List, [], ◌∷◌, ◌++◌, length, Bool, true, false, Option, Some, None, All}
-use Rattle.std.proofs.Common.{ap, ◌∙◌, sym, arith, subst, append_assoc, append-nil}
-use Rattle.std.proofs.lemmas.List.Elements.{All-nil, All-cons, All-append, All-same}
-use Rattle.std.specs.Prelude.{◌≢◌}
+use Rattle.avc_annexb.proofs.Common.{ℕ, zero, suc, ◌+◌, ◌<◌, ◌≤◌, List, [], ◌∷◌, ◌++◌, length, Bool, true, false, Option, Some, None, All}
+use Rattle.avc_annexb.proofs.Common.{ap, ◌∙◌, sym, arith, subst, append_assoc, append-nil, All-nil, All-cons, All-append, All-same, ◌≢◌}
+use Rattle.avc_annexb.proofs.Common.{ScannedBytes, IsAt, HasNoBoundary, HasLoneZeros, closed_unit, placed_units_after}
 use Rattle.avc_annexb.specs.Units.{PlacedUnit, placed_units, unit_at, numbered}
 use Rattle.avc_annexb.specs.Laws.{UnitsStay}
-use Rattle.avc_annexb.specs.Scanning.{ScannedBytes, IsAt, HasNoBoundary, HasLoneZeros, closed_unit, placed_units_after}
 use Rattle.avc_annexb.proofs.Scanning.{scanned_first, scanned_zero, scanned_third, scanned_start, scanned_run, scanned_so_far, scanned_end}
 use Rattle.avc_annexb.proofs.Taking.{numbered-append}
 

@@ -1,12 +1,8 @@
 -- Units that are numbered, and bytes that join a unit.
 use Rattle.std.proofs.Common.{◌≡◌, ℕ, ◌+◌, ◌-◌, ◌<◌, ◌≤◌, List, [], ◌∷◌, ◌++◌, length, Option, Some, None, refl, ap, ◌∙◌, sym, arith, suc, append_assoc, get_or, take, drop, take_all, append-nil, ◌⊎◌, inl, inr, Bool, true, false}
-use Rattle.std.specs.Prelude.{slice_get, if◌then◌else◌, IfSome}
-use Rattle.std.specs.Option.{option_to_list}
-use Rattle.std.proofs.lemmas.List.{length_push}
-use Rattle.std.proofs.lemmas.Option.{slice_get_within}
+use Rattle.avc_annexb.proofs.Common.{slice_get, if◌then◌else◌, IfSome, option_to_list, length_push, slice_get_within, AreReady, IsOpenUnit}
+use Rattle.avc_annexb.proofs.Common.{closed_unit, with_bytes, IsSplitterStateIn, has_ended, has_failed, Unit}
 use Rattle.avc_annexb.specs.Units.{PlacedUnit, placed_units, units, numbered, unit_of, unit_at}
-use Rattle.avc_annexb.specs.Scanning.{AreReady, IsOpenUnit, closed_unit, with_bytes, IsSplitterStateIn, has_ended, has_failed}
-use Rattle.avc_annexb.specs.declared.unit.Unit.{Unit}
 use Rattle.avc_annexb.specs.SplitterState.{SplitterState, next_unit_of, after_next_unit, units_waiting}
 use Rattle.avc_annexb.specs.declared.scanner.Scanner.{Scanner}
 use Rattle.avc_annexb.specs.declared.splitter.SplitterPhase.{SplitterPhase}

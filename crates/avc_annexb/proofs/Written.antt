@@ -1,12 +1,8 @@
 -- The units of a stream that is written of units.
 use Rattle.std.proofs.Common.{◌≡◌, ℕ, zero, suc, ◌+◌, ◌-◌, ◌^◌, ◌<◌, ◌≤◌, List, [], ◌∷◌, ◌++◌, length, map, drop, flat_map, slice_get, slice_index, All}
 use Rattle.std.proofs.Common.{Bool, true, false, nat_le, Option, Some, None, is_some, refl, ap, ◌∙◌, sym, subst, arith, append_assoc, length-append}
-use Rattle.std.proofs.lemmas.Bool.Decides.{Decides-eqb}
-use Rattle.std.proofs.lemmas.List.{map-append}
-use Rattle.std.proofs.lemmas.List.Elements.{All-head, All-tail}
-use Rattle.std.proofs.lemmas.Option.{same_Some, slice_get_within, get_or_from_slice_get}
+use Rattle.avc_annexb.proofs.Common.{Decides-eqb, map-append, All-head, All-tail, same_Some, slice_get_within, get_or_from_slice_get, Unit}
 use Rattle.std.proofs.lemmas.Slice.Eq.{starts_is}
-use Rattle.avc_annexb.specs.declared.unit.Unit.{Unit}
 use Rattle.avc_annexb.specs.Units.{PlacedUnit, saturated, is_start, before_end, unit_at, unit_bytes, placed_units, unit_of, numbered, units}
 use Rattle.avc_annexb.specs.Written.{start_code, written}
 use Rattle.avc_annexb.specs.Laws.{contents, contents_within, body_within, IsUnitOf, WrittenUnitsStand, WrittenUnitsStandAlone, UnitsAreNumbered, UnitsAreFew}

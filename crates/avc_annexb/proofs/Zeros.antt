@@ -1,9 +1,8 @@
 -- Through zeros that stand in a row.
-use Rattle.std.proofs.Common.{◌≡◌, ℕ, zero, suc, ◌+◌, ◌<◌, ◌≤◌, List, [], ◌∷◌, ◌++◌, Option, None, refl, ap, ◌∙◌, sym, arith, append_assoc, append-nil, take, drop}
-use Rattle.std.specs.Prelude.{replicate}
+use Rattle.avc_annexb.proofs.Common.{◌≡◌, ℕ, zero, suc, ◌+◌, ◌<◌, ◌≤◌, List, [], ◌∷◌, ◌++◌, Option, None, refl, ap, ◌∙◌, sym, arith}
+use Rattle.avc_annexb.proofs.Common.{append_assoc, append-nil, take, drop, replicate, ScannedBytes, closed_unit}
 use Rattle.std.proofs.Math.Seq.{take-add}
 use Rattle.avc_annexb.specs.Units.{PlacedUnit}
-use Rattle.avc_annexb.specs.Scanning.{ScannedBytes, closed_unit}
 use Rattle.avc_annexb.proofs.Scanning.{scanned_zero, scanned_third}
 
 scanned_same : (bytes bytes' : List ℕ) (done done' : List PlacedUnit) (current : Option PlacedUnit) (count count' : ℕ) →

@@ -1,14 +1,8 @@
 -- The functions that read a code, against its codewords.
 use Rattle.std.proofs.Common.{◌≡◌, ℕ, zero, suc, ◌+◌, ◌-◌, ◌*◌, ◌^◌, ◌<◌, ◌≤◌, List, [], ◌∷◌, ◌++◌, length, Bool, true, false, ℤ, refl, ap, ◌∙◌, sym, arith, take, drop, length-drop, length-append, append_assoc, append-nil, eqb, inl, inr}
-use Rattle.std.specs.Prelude.{replicate}
-use Rattle.std.proofs.lemmas.Bool.{cases_lt, ne_eqb}
+use Rattle.avc_bits.proofs.Common.{replicate, cases_lt, ne_eqb, pow_pos, Fault, CodeTooLong, Bits, bits_of, number_of, passed, Takes}
+use Rattle.avc_bits.proofs.Common.{IsCutShort, IsReadBy, IsPrefixFree, IsU, IsUe, IsSe, IsTe, u, ue, se, te, signed_value, leading}
 use Rattle.std.proofs.lemmas.List.{drop-drop, length-take-le, take-append-drop, length-replicate}
-use Rattle.std.proofs.lemmas.Nat.{pow_pos}
-use Rattle.avc_types.specs.declared.fault.Fault.{Fault}
-use Rattle.avc_types.specs.declared.fault.Fault.TheVariants.{CodeTooLong}
-use Rattle.avc_bits.specs.Bits.{Bits, bits_of, number_of, passed}
-use Rattle.avc_bits.specs.Codes.{Takes, IsCutShort, IsReadBy, IsPrefixFree, IsU, IsUe, IsSe, IsTe, u, ue, se, te, signed_value}
-use Rattle.avc_bits.specs.Reader.{leading}
 use Rattle.avc_bits.proofs.Numbers.{bits_of-number, length-bits_of, below_width}
 use Rattle.avc_bits.proofs.Reading.{u_short, u_long, ue_too_long, ue_short, ue_long}
 

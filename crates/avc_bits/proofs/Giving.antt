@@ -2,9 +2,9 @@
 use Rattle.std.proofs.Common.{◌≡◌, ◌≤◌, ℕ, ℤ, ◌≤ℤ◌, zero, suc, Bool, true, false, nat_le, [], ◌∷◌, length, Some, None, IfSome, Result, Ok, Err, refl, ap, subst, arith}
 use Rattle.std.proofs.lemmas.Bool.Decides.{nat_tests}
 use Rattle.std.proofs.lemmas.Int.{ints}
-use Rattle.avc_types.specs.declared.fault.Fault.{Fault}
-use Rattle.avc_bits.specs.Bits.{Bits, Read, times, ◌>>=◌, ◌>>◌, give, check, where_set}
-use Rattle.avc_bits.specs.Codes.{ue, ue_to, se_within, se, u, u_to}
+use Rattle.std.specs.List.{All}
+use Rattle.std.proofs.lemmas.List.Elements.{All-cons, All-nil}
+use Rattle.avc_bits.proofs.Common.{Fault, Bits, Read, times, ◌>>=◌, ◌>>◌, give, check, where_set, ue, ue_to, se_within, se, u, u_to}
 
 -- ---- parts in turn
 
@@ -65,6 +65,13 @@ gives-times (suc n) part =
     gives-bind (λ _. Unit {0}) (λ xs. length xs ≡ suc n) part _ (gives-any part) (λ x _.
     gives-bind (λ xs. length xs ≡ n) (λ xs. length xs ≡ suc n) (times n part) _ (gives-times n part) (λ xs long.
     gives-give (λ xs. length xs ≡ suc n) (x ∷ xs) (ap suc long)))
+
+pub gives-each : {A : Type 0} (P : A → Type 0) (n : ℕ) (part : Read A) → Gives P part → Gives (All P) (times n part)
+gives-each P zero part g = gives-give (All P) [] (All-nil P)
+gives-each P (suc n) part g =
+    gives-bind P (All P) part _ g (λ x p.
+    gives-bind (All P) (All P) (times n part) _ (gives-each P n part g) (λ xs ps.
+    gives-give (All P) (x ∷ xs) (All-cons P x xs p ps)))
 
 pub gives-ue_to : (top : ℕ) → Gives (λ v. v ≤ top) (ue_to top)
 gives-ue_to top =

@@ -1,13 +1,10 @@
 -- Bits and the numbers that they spell.
 use Rattle.std.proofs.Common.{◌≡◌, ℕ, zero, suc, ◌+◌, ◌-◌, ◌*◌, ◌/◌, ◌%◌, ◌^◌, ◌<◌, ◌≤◌, List, [], ◌∷◌, ◌++◌, length, Bool, true, false, eqb, refl, ap, lit<, inl, inr, ◌∙◌, sym, arith, take, drop, get_or, length-append, length-drop, append_assoc}
 use Rattle.std.proofs.lemmas.List.{drop-drop, drop-take, take-take, take-append-drop, length-take-le, get_or-take, get_or-drop}
-use Rattle.std.proofs.lemmas.Bool.{cases_order}
+use Rattle.avc_bits.proofs.Common.{cases_order, pow-add, mod-pow-add, shr-shr, shl-shr, field_of, div-mul-add, mod-mul-add, pow_pos}
+use Rattle.avc_bits.proofs.Common.{pow_below, replicate, slice_index, pow-succ', mod-eq_of_lt, mod-lt, drop-append-add, drop-cons}
+use Rattle.avc_bits.proofs.Common.{take-append-add, take-append_seam, bits_of, byte_bits, number_of}
 use Rattle.std.proofs.lemmas.Grind.{common_steps}
-use Rattle.std.proofs.lemmas.Nat.{pow-add, mod-pow-add, shr-shr, shl-shr, field_of, div-mul-add, mod-mul-add, pow_pos, pow_below}
-use Rattle.std.specs.Prelude.{replicate, slice_index}
-use Rattle.std.proofs.Math.Nat.{pow-succ', mod-eq_of_lt, mod-lt}
-use Rattle.std.proofs.Math.Seq.{drop-append-add, drop-cons, take-append-add, take-append_seam}
-use Rattle.avc_bits.specs.Bits.{bits_of, byte_bits, number_of}
 
 pub length-bits_of : (width n : ℕ) → length (bits_of width n) ≡ width
 length-bits_of zero n = refl

@@ -1,18 +1,11 @@
 -- Reading the bits that stand ahead.
 use Rattle.std.proofs.Common.{◌≡◌, ℕ, zero, suc, ◌+◌, ◌-◌, ◌*◌, ◌/◌, ◌%◌, ◌^◌, ◌<◌, ◌≤◌, List, [], ◌∷◌, ◌++◌, length, Bool, true, false, Some, None, Ok, Err, refl, ap, ◌∙◌, sym, arith, take, drop, length-drop, length-append, append-nil, min, inl, inr, nat_lt}
-use Rattle.std.specs.Prelude.{replicate}
-use Rattle.std.proofs.lemmas.Bool.{lt-ltb, le-ltb, cases_lt}
+use Rattle.avc_bits.proofs.Common.{replicate, lt-ltb, le-ltb, cases_lt, pow_pos, leading_length, one_shl, shl_whole, pow-add, pow-succ'}
+use Rattle.avc_bits.proofs.Common.{mul-lt-mul_of_pos_right, take-append_seam, take-append-add, Fault, Truncated, CodeTooLong, Bits}
+use Rattle.avc_bits.proofs.Common.{bits_before_stop, bits_of, byte_bits, more_data, number_of, passed, split, zeros, zeros_before_one, u}
+use Rattle.avc_bits.proofs.Common.{ue, skip, leading, left_of, position_of, reader_bits, BitReader}
 use Rattle.std.proofs.lemmas.List.{length-replicate, take-append-le, take-replicate, length-take-le, drop-drop, drop-take, take-take, length-take}
-use Rattle.std.proofs.lemmas.Nat.{pow_pos, leading_length, one_shl, shl_whole, pow-add}
-use Rattle.std.proofs.Math.Nat.{pow-succ', mul-lt-mul_of_pos_right}
-use Rattle.std.proofs.Math.Seq.{take-append_seam, take-append-add}
 use lib.Count.{count_leading_zeros}
-use Rattle.avc_types.specs.declared.fault.Fault.{Fault}
-use Rattle.avc_types.specs.declared.fault.Fault.TheVariants.{Truncated, CodeTooLong}
-use Rattle.avc_bits.specs.Bits.{Bits, bits_before_stop, bits_of, byte_bits, more_data, number_of, passed}
-use Rattle.avc_bits.specs.Codes.{split, zeros, zeros_before_one, u, ue, skip}
-use Rattle.avc_bits.specs.Reader.{leading, left_of, position_of, reader_bits}
-use Rattle.avc_bits.specs.declared.reader.BitReader.{BitReader}
 use Rattle.avc_bits.proofs.Stops.{stop_prefix}
 use Rattle.avc_bits.proofs.Numbers.{number_lt, number-append, number-take, bits_of-number, take_front, pow_lt_back, pow_lt_trans, number-part, field64_is, number-zeros}
 

@@ -1,7 +1,6 @@
 -- Reading a part so many times by a loop: what its first n turns read, and one turn more.
-use Rattle.std.proofs.Common.{◌≡◌, ℕ, zero, suc, ◌+◌, ◌<◌, List, [], ◌∷◌, ◌++◌, Ok, Err, refl, ap, ◌∙◌, sym, arith}
-use Rattle.avc_types.specs.declared.fault.Fault.{Fault}
-use Rattle.avc_bits.specs.Bits.{Bits, Read, ◌>>=◌, give, times}
+use Rattle.avc_bits.proofs.Common.{◌≡◌, ℕ, zero, suc, ◌+◌, ◌<◌, List, [], ◌∷◌, ◌++◌, Ok, Err, refl, ap, ◌∙◌, sym, arith, Fault, Bits, Read}
+use Rattle.avc_bits.proofs.Common.{◌>>=◌, give, times}
 use Rattle.avc_bits.proofs.Giving.{bind-ok, left, value}
 
 -- one turn and then the others

@@ -1,9 +1,6 @@
 -- Worked examples of the codes.
-use Rattle.std.specs.Prelude.{◌≡◌, ℕ, List, [], ◌∷◌, Result, Ok, Err, refl}
-use Rattle.avc_types.specs.declared.fault.Fault.{Fault}
+use Rattle.avc_bits.proofs.Common.{◌≡◌, ℕ, List, [], ◌∷◌, Result, Ok, Err, refl, Fault, start, Read, ue}
 use Rattle.avc_types.specs.declared.fault.Fault.TheVariants as faults
-use Rattle.avc_bits.specs.Bits.{start, Read}
-use Rattle.avc_bits.specs.Codes.{ue}
 
 abbrev value_of : {A : Type 0} → Read A → List ℕ → Result A Fault
 value_of part bytes = elim (part (start bytes)) [ Ok r ↦ Ok r.0 | Err f ↦ Err f ]

@@ -1,9 +1,7 @@
 -- Where the stop bit stands.
 use Rattle.std.proofs.Common.{◌≡◌, ℕ, zero, suc, ◌+◌, ◌-◌, ◌*◌, ◌<◌, List, [], ◌∷◌, ◌++◌, length, Bool, true, false, Option, Some, None, refl, ap, ◌∙◌, sym, arith, take, drop, get_or, append_assoc, length-append}
 use Rattle.std.proofs.lemmas.List.{take-append-drop, length-take-le, get_or-drop, replicate-append-replicate}
-use Rattle.std.specs.Int.{bit_at}
-use Rattle.std.specs.Prelude.{replicate}
-use Rattle.avc_bits.specs.Bits.{bits_of, byte_bits, before_last_one, one_before, or_none, bits_before_stop}
+use Rattle.avc_bits.proofs.Common.{bit_at, replicate, bits_of, byte_bits, before_last_one, one_before, or_none, bits_before_stop}
 use Rattle.avc_bits.proofs.Numbers.{length-byte_bits, length-bits_of, drop-byte_bits, drop-bits_of}
 
 before_none : (n : ℕ) → before_last_one (replicate n false) ≡ None

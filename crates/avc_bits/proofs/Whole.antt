@@ -1,16 +1,9 @@
 -- Reading whole bytes.
 use Rattle.std.proofs.Common.{◌≡◌, ℕ, zero, suc, ◌+◌, ◌-◌, ◌*◌, ◌%◌, ◌<◌, ◌≤◌, List, [], ◌∷◌, ◌++◌, length, Bool, Result, Ok, Err, refl, ap, ◌∙◌, sym, arith, take, drop, get_or, length-drop, length-append, append_assoc, inl, inr}
-use Rattle.std.specs.Prelude.{IfOk}
-use Rattle.std.proofs.lemmas.Bool.{cases_lt}
+use Rattle.avc_bits.proofs.Common.{IfOk, cases_lt, mod-eq_of_lt, Fault, Truncated, Bits, bits_of, byte_bits, number_of, passed, times, u}
+use Rattle.avc_bits.proofs.Common.{skip, Reads, left_of, position_of, reader_bits, BitReader}
 use Rattle.std.proofs.lemmas.List.{take-append-drop, take_at, drop_at}
-use Rattle.std.proofs.Math.Nat.{mod-eq_of_lt}
-use Rattle.avc_types.specs.declared.fault.Fault.{Fault}
-use Rattle.avc_types.specs.declared.fault.Fault.TheVariants.{Truncated}
-use Rattle.avc_bits.specs.Bits.{Bits, bits_of, byte_bits, number_of, passed, times}
-use Rattle.avc_bits.specs.Codes.{u, skip}
-use Rattle.avc_bits.specs.Reader.{Reads, left_of, position_of, reader_bits}
 use Rattle.avc_bits.proofs.Repeating.{one_first, fault_later, times_fault}
-use Rattle.avc_bits.specs.declared.reader.BitReader.{BitReader}
 use Rattle.avc_bits.proofs.Numbers.{length-bits_of, number-bits_of, take_bytes, drop_bytes}
 use Rattle.avc_bits.proofs.Reading.{u_short, u_long, skip_short, skip_long, take-ahead, none_beyond}
 

@@ -1,34 +1,13 @@
 -- The machine values of a decoder's address. Assumes `Logic`.
-use Rattle.std.proofs.Common.{◌≡◌, ℕ, List, [], ◌∷◌, ◌++◌, refl, subst, lit<}
-use seplogic.Ra.Ura.{Ura}
-use mir.Syntax.{impl, tnil, dnil}
-use mir.Raw.{raw as bare}
-use lib.Dec.{T}
-use mathlib.Core.Bool.{true, ◌&&◌}
-use mir.Val.{Val, vptr, vnull, vstruct, of_list, has_ty, WT}
-use base.Logic.{never, fst∗}
-use types.Logic.{Logic, sem}
+use Rattle.avc_c.proofs.Common.{◌≡◌, ℕ, List, [], ◌∷◌, ◌++◌, refl, subst, lit<, Ura, impl, tnil, dnil, bare, T, true, ◌&&◌, Val, vptr}
+use Rattle.avc_c.proofs.Common.{vnull, vstruct, of_list, has_ty, WT, never, fst∗, Logic, sem, RattleType, Valss, RawPtr, lone, Ptr}
+use Rattle.avc_c.proofs.Common.{block_ptr, null_ptr, ptr_val, in_a_block, nothing, layout, within, shape, to, Option, Some, None, IsOpen}
+use Rattle.avc_c.proofs.Common.{box_owns, ghosts, Al, handle_tells, Good, and_tt, OpenDecoder}
 use types.Kit.{Item, Goal, Seq, Step, step, ‵, ◌$◌, move, drop, fsplit, fjoin, fpick, fpack, rewrite, feq_i, feq_l}
-use denote.RattleType.{RattleType, Valss}
-use denote.Builtin.{RawPtr}
-use denote.Memory.{lone}
-use denote.RawPtr.{Ptr, block_ptr, null_ptr, ptr_val, in_a_block}
-use denote.Steps.{nothing}
-use denote.Param.{layout}
-use denote.Struct.Struct.{within}
-use denote.Struct.Owning.{shape, to}
-use Rattle.std.specs.Prelude.{Option, Some, None}
-use Rattle.avc_c.specs.OpenDecoders.{IsOpen}
-use Rattle.std.specs.Box.Ownership.{box_owns}
 use Rattle.std.specs.contracts.alloc.Global as global
-use Rattle.std.specs.contracts.impls.GlobalAllocator.TheImpl.{ghosts}
 use Rattle.std.proofs.alloc.Global.TheLaws as global_laws
-use Rattle.core.proofs.alloc.Calls.{Al, handle_tells}
-use Rattle.core.proofs.cell.Inside.{Good}
-use Rattle.std_alloc.proofs.ResultValues.{and_tt}
 use Rattle.avc_c.proofs.RawBoxes.{two}
 use Rattle.avc_c.specs.Owned.{owned}
-use Rattle.avc_c.specs.declared.address.OpenDecoder.{OpenDecoder}
 use Rattle.avc_c.specs.contracts.address.OpenDecoder as open_decoder
 use Rattle.avc_c.specs.contracts.address.DecoderAddress as decoder_address
 

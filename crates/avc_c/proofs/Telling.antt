@@ -1,13 +1,11 @@
 -- What C is told by a list of calls is what the machine replies.
-use Rattle.std.proofs.Common.{◌≡◌, List, [], ◌∷◌, Option, Some, refl, ap, subst}
+use Rattle.avc_c.proofs.Common.{◌≡◌, List, [], ◌∷◌, Option, Some, refl, ap, subst, max_unit, OpenDecoder}
 use Rattle.avc_decoder.specs.Machine.{after_feed, after_flush, Run}
 use Rattle.avc_decoder.specs.declared.calls.Call.{Call}
 use Rattle.avc_decoder.specs.declared.calls.Call.TheVariants.{Feed, Take, Flush, Reset}
 use Rattle.avc_decoder.specs.declared.calls.Reply.{Reply}
 use Rattle.avc_decoder.specs.declared.calls.Reply.TheVariants as replies
 use Rattle.avc_c.specs.CallsOfC.{CallOfC, feeds, takes, flushes, resets, opens, looks, Told, AreAnswered, Tells}
-use Rattle.avc_c.specs.Exports.{max_unit}
-use Rattle.avc_c.specs.declared.address.OpenDecoder.{OpenDecoder}
 
 -- a run of the machine from this decoder that tells C the same
 abbrev pub IsARun : OpenDecoder → List CallOfC → List Told → OpenDecoder → Type 0

@@ -1,12 +1,7 @@
 -- A block from its parts.
-use Rattle.std.proofs.Common.{◌≡◌, ◌≢◌, ℕ, ◌+◌, ◌-◌, ◌≤◌, ℤ, pos, Bool, true, false, List, refl, ap, arith}
-use Rattle.std.specs.Prelude.{Ok, replicate, ◌==◌, ◌||◌}
-use Rattle.std.proofs.lemmas.Bool.{ne_eqb, eq-eqb, le-leb}
-use Rattle.avc_bits.specs.Bits.{Bits, Read, give}
-use Rattle.avc_vlc.specs.declared.token.Token.{Token}
-use Rattle.avc_vlc.specs.Reading.{coeff_token, total_zeros}
-use Rattle.avc_cavlc.specs.Block.{residual_block, token_levels}
-use Rattle.avc_cavlc.specs.Steps.{placed_by_runs}
+use Rattle.avc_cavlc.proofs.Common.{◌≡◌, ◌≢◌, ℕ, ◌+◌, ◌-◌, ◌≤◌, ℤ, pos, Bool, true, false, List, refl, ap, arith, Ok, replicate, ◌==◌, ◌||◌}
+use Rattle.avc_cavlc.proofs.Common.{ne_eqb, eq-eqb, le-leb, Bits, Read, give, Token, coeff_token, total_zeros, residual_block, token_levels}
+use Rattle.avc_cavlc.proofs.Common.{placed_by_runs, or_right, or_from}
 
 -- total_zeros of a block with these levels
 abbrev zeros_where : (none : Bool) → (max : ℕ) → Token → Read ℕ
@@ -15,23 +10,15 @@ zeros_where none max t = elim none [ true ↦ give 0 | false ↦ total_zeros t.t
 abbrev pub zeros_part : (max : ℕ) → Token → Read ℕ
 zeros_part max t = zeros_where (t.total == 0 || t.total == max) max t
 
-or_true : (a b : Bool) → b ≡ true → (a || b) ≡ true
-or_true true b e = refl
-or_true false b e = e
-
-or_false : (a b : Bool) → a ≡ false → b ≡ false → (a || b) ≡ false
-or_false true b e f = cc
-or_false false b e f = f
-
 -- no zeros have a place
 pub no_zeros : (max : ℕ) (t : Token) (b : Bits) → t.total ≡ max → zeros_part max t b ≡ Ok (0, b)
 no_zeros max t b all =
-    let full : (t.total == 0 || t.total == max) ≡ true = or_true (t.total == 0) (t.total == max) (eq-eqb t.total max all) in
+    let full : (t.total == 0 || t.total == max) ≡ true = or_right (t.total == 0) (t.total == max) (eq-eqb t.total max all) in
     ap (λ none. zeros_where none max t b) full
 
 pub some_zeros : (max : ℕ) (t : Token) (b : Bits) → t.total ≢ 0 → t.total ≢ max → zeros_part max t b ≡ total_zeros t.total (max == 4) b
 some_zeros max t b some room =
-    let test : (t.total == 0 || t.total == max) ≡ false = or_false (t.total == 0) (t.total == max) (ne_eqb t.total 0 some) (ne_eqb t.total max room) in
+    let test : (t.total == 0 || t.total == max) ≡ false = or_from (t.total == 0) (t.total == max) (ne_eqb t.total 0 some) (ne_eqb t.total max room) in
     ap (λ none. zeros_where none max t b) test
 
 -- a block without a level

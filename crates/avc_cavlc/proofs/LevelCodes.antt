@@ -1,9 +1,7 @@
 -- How great a levelCode can be.
-use Rattle.std.proofs.Common.{◌≡◌, ◌≢◌, ℕ, zero, suc, ◌*◌, ◌^◌, ◌<◌, ◌≤◌, Bool, true, false, subst, arith, inl, inr, lit<, rules}
-use Rattle.std.specs.Prelude.{◌==◌, ◌&&◌, IsTrue, if◌then◌else◌}
-use Rattle.std.proofs.lemmas.Bool.{cases_lt, ne_eqb}
+use Rattle.avc_cavlc.proofs.Common.{◌≡◌, ◌≢◌, ℕ, zero, suc, ◌*◌, ◌^◌, ◌<◌, ◌≤◌, Bool, true, false, subst, arith, inl, inr, lit<, rules}
+use Rattle.avc_cavlc.proofs.Common.{◌==◌, ◌&&◌, IsTrue, if◌then◌else◌, cases_lt, ne_eqb, level_code, suffix_size}
 use Rattle.std.proofs.Math.Nat.{pow-le-pow_right, mul-le-mul}
-use Rattle.avc_cavlc.specs.Block.{level_code, suffix_size}
 
 -- with prefix 15
 longest : (sl suffix : ℕ) (above_one : Bool) → sl ≤ 6 → suffix < 4096 → (IsTrue above_one → sl ≤ 1) → level_code 15 sl suffix above_one ≤ 5055

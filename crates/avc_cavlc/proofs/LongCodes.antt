@@ -1,14 +1,7 @@
 -- How many bits a level has.
-use Rattle.std.proofs.Common.{◌≡◌, ℕ, suc, ◌+◌, ◌≤◌, Bool, true, false, List, [], ◌∷◌, length, drop, refl, sym, ap, ◌∙◌, arith, inl, inr}
-use Rattle.std.specs.Prelude.{nat_lt, Result, Ok, Err}
-use Rattle.std.proofs.lemmas.Bool.{cases_lt}
-use Rattle.std.proofs.lemmas.List.{drop-drop, length-drop}
-use Rattle.avc_types.specs.declared.fault.Fault.{Fault}
-use Rattle.avc_types.specs.declared.fault.Fault.TheVariants.{BadCode}
-use Rattle.avc_bits.specs.Bits.{Bits, passed}
-use Rattle.avc_bits.specs.Codes.{skip, u, zeros, zeros_before_one}
-use Rattle.avc_bits.proofs.Reading.{skip_long, u_long, u_short}
-use Rattle.avc_cavlc.specs.Block.{level, level_code, level_of_code, suffix_size}
+use Rattle.avc_cavlc.proofs.Common.{◌≡◌, ℕ, suc, ◌+◌, ◌≤◌, Bool, true, false, List, [], ◌∷◌, length, drop, refl, sym, ap, ◌∙◌, arith, inl}
+use Rattle.avc_cavlc.proofs.Common.{inr, nat_lt, Result, Ok, Err, cases_lt, drop-drop, length-drop, Fault, BadCode, Bits, passed, skip, u}
+use Rattle.avc_cavlc.proofs.Common.{zeros, zeros_before_one, skip_long, u_long, u_short, level, level_code, level_of_code, suffix_size}
 
 -- the bits that were passed with the zeros and the 1
 record ArePassed (seen n : ℕ) (bits rest : List Bool) : Type 0 where

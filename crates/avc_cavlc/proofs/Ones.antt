@@ -1,18 +1,11 @@
 -- Trailing ones by one look at their sign bits.
 use Rattle.std.proofs.Common.{◌≡◌, ℕ, zero, suc, ◌+◌, ◌-◌, ◌/◌, ◌%◌, ◌^◌, ◌<◌, ◌≤◌, ℤ, pos, Bool, true, false, List, [], ◌∷◌, ◌++◌, length, take, drop, set, get_or, map, refl, ap, subst, ◌∙◌, sym, arith, to_z, of_z, w16}
-use Rattle.std.specs.Prelude.{Ok, Err, replicate, ◌==◌}
-use Rattle.std.specs.List.{All}
-use Rattle.std.proofs.lemmas.Int.{ints}
-use Rattle.std.proofs.lemmas.List.{take-take, take-append-le, take-append-drop, length-take-le}
-use Rattle.avc_types.specs.declared.fault.Fault.{Fault}
-use Rattle.avc_types.specs.declared.fault.Fault.TheVariants.{Truncated}
-use Rattle.avc_bits.specs.Bits.{Bits, bits_of, passed, times}
-use Rattle.avc_bits.specs.Codes.{skip}
-use Rattle.avc_bits.proofs.Reading.{skip_short, skip_long}
+use Rattle.avc_cavlc.proofs.Common.{Ok, Err, replicate, ◌==◌, All, ints, take-take, take-append-le, take-append-drop, length-take-le, Fault}
+use Rattle.avc_cavlc.proofs.Common.{Truncated, Bits, bits_of, passed, times, skip, skip_short, skip_long, IsLevel, trailing_one}
+use Rattle.avc_cavlc.proofs.Common.{one_of_sign}
+use Rattle.std.proofs.lemmas.List.FromFn.{get_or-map-range_with_len}
 use Rattle.avc_bits.proofs.Repeating.{one_first, fault_later}
 use Rattle.avc_vlc.proofs.Entries.{skip-ok, skip-err}
-use Rattle.avc_cavlc.specs.Block.{IsLevel, trailing_one}
-use Rattle.avc_cavlc.specs.Steps.{one_of_sign}
 
 abbrev from : ℕ → List Bool → Bits
 from position ahead = record { position = position; ahead = ahead }
@@ -102,15 +95,7 @@ table =
     map three_ones (0 ∷ 1 ∷ 2 ∷ 3 ∷ 4 ∷ 5 ∷ 6 ∷ 7 ∷ [])
 
 of_signs : (signs : ℕ) → signs < 8 → get_or table signs [] ≡ three_ones signs
-of_signs zero few = refl
-of_signs (suc zero) few = refl
-of_signs (suc (suc zero)) few = refl
-of_signs (suc (suc (suc zero))) few = refl
-of_signs (suc (suc (suc (suc zero)))) few = refl
-of_signs (suc (suc (suc (suc (suc zero))))) few = refl
-of_signs (suc (suc (suc (suc (suc (suc zero)))))) few = refl
-of_signs (suc (suc (suc (suc (suc (suc (suc zero))))))) few = refl
-of_signs (suc (suc (suc (suc (suc (suc (suc (suc n)))))))) few = absurd (omega arith)
+of_signs signs few = get_or-map-range_with_len three_ones 0 8 signs signs [] few (omega arith)
 
 one_of : (signs k : ℕ) → k < 3 → get_or (three_ones signs) k (pos 0) ≡ one_of_sign (signs / 2 ^ (2 - k) % 2 == 1)
 one_of signs zero few = refl

@@ -1,17 +1,11 @@
 -- One value more is put in its place.
-use Rattle.std.proofs.Common.{◌≡◌, ℕ, zero, suc, ◌+◌, ◌-◌, ◌<◌, ◌≤◌, ℤ, pos, false, cond, List, [], ◌∷◌, ◌++◌, length, reverse, take, drop, set, get_or, refl, ap, subst, ◌∙◌, sym, arith, append_assoc, length-set, inl, inr, nat_abs}
-use Rattle.std.specs.Prelude.{Result, Ok, Err, replicate, not, ◌==◌}
-use Rattle.std.specs.List.{sum_by}
-use Rattle.std.proofs.lemmas.Bool.{ne_eqb, cases_lt, cases_eq}
-use Rattle.std.proofs.lemmas.Int.{ints}
-use Rattle.std.proofs.lemmas.List.{length-replicate, drop-replicate, take-replicate, take-take, take-set-le, drop-set, drop-take, take-append-drop, drop-drop, get_or-set_same, get_or-set_other, get_or-replicate, get_or_past}
-use Rattle.std.proofs.lemmas.List.Sums.{sum_by-append}
+use Rattle.std.proofs.Common.{◌≡◌, ℕ, zero, suc, ◌+◌, ◌-◌, ◌<◌, ◌≤◌, ℤ, pos, List, [], ◌∷◌, ◌++◌, length, reverse, take, drop, set, get_or, refl, ap, subst, ◌∙◌, sym, arith, append_assoc, length-set, inl, inr}
+use Rattle.avc_cavlc.proofs.Common.{Result, Ok, Err, replicate, cases_lt, cases_eq, ints, length-replicate}
+use Rattle.avc_cavlc.proofs.Common.{drop-replicate, take-replicate, take-take, take-set-le, drop-set, drop-take, take-append-drop}
+use Rattle.avc_cavlc.proofs.Common.{drop-drop, get_or-set_same, get_or-set_other, get_or-replicate, get_or_past, Fault, Bits}
+use Rattle.avc_cavlc.proofs.Common.{◌>>=◌, give, IsLevel, IsSmall, each_after_zeros, run, runs, total_coeff, placed_before, placed_by_runs}
+use Rattle.avc_cavlc.proofs.Common.{total-append, counted}
 use Rattle.std.proofs.lemmas.Grind.{reverse_onto}
-use Rattle.avc_types.specs.declared.fault.Fault.{Fault}
-use Rattle.avc_bits.specs.Bits.{Bits, ◌>>=◌, give}
-use Rattle.avc_cavlc.specs.Block.{IsLevel, IsSmall, each_after_zeros, run, runs}
-use Rattle.avc_types.specs.Macroblock.{total_coeff}
-use Rattle.avc_cavlc.specs.Steps.{placed_before, placed_by_runs}
 use Rattle.avc_cavlc.proofs.RunSteps.{each_more, runs_length}
 
 -- ---- reading
@@ -113,31 +107,20 @@ done_more place at gap next levels v is is_place is_at =
 
 -- ---- how many are not 0
 
-abbrev pub weight : ℤ → ℕ
-weight l = cond (not (nat_abs l == 0)) 1 0
-
-no_weight : (n : ℕ) → sum_by weight (replicate n (pos 0)) ≡ 0
-no_weight zero = refl
-no_weight (suc n) = sum_by-append weight (pos 0 ∷ []) (replicate n (pos 0)) ∙ omega (arith, no_weight n)
-
 pub no_coefficients : (n : ℕ) → total_coeff (replicate n (pos 0)) ≡ 0
-no_coefficients n = no_weight n
+no_coefficients zero = refl
+no_coefficients (suc n) = total-append (pos 0 ∷ []) (replicate n (pos 0)) ∙ omega (arith, no_coefficients n)
 
 -- so many zeros in front count for nothing
 pub front_none : (n : ℕ) (levels : List ℤ) → take n levels ≡ replicate n (pos 0) → total_coeff levels ≡ total_coeff (drop n levels)
 front_none n levels front =
-    let both : total_coeff (take n levels ++ drop n levels) ≡ total_coeff (take n levels) + total_coeff (drop n levels) = sum_by-append weight (take n levels) (drop n levels) in
+    let both : total_coeff (take n levels ++ drop n levels) ≡ total_coeff (take n levels) + total_coeff (drop n levels) = total-append (take n levels) (drop n levels) in
     let none : total_coeff (take n levels) ≡ 0 = ap total_coeff front ∙ no_coefficients n in
     let all : total_coeff levels ≡ total_coeff (take n levels ++ drop n levels) = ap total_coeff (sym (take-append-drop n levels)) in
     omega (arith, both, none, all)
 
 pub coefficient_more : (gap : ℕ) (v : ℤ) (done : List ℤ) → IsLevel v → total_coeff (replicate gap (pos 0) ++ v ∷ done) ≡ total_coeff done + 1
-coefficient_more gap v done is =
-    let some : (nat_abs v == 0) ≡ false = ne_eqb (nat_abs v) 0 (let least : 1 ≤ nat_abs v = is.some in λ e. absurd (omega arith)) in
-    let one : weight v ≡ 1 = ap (λ t. cond (not t) 1 0) some in
-    sum_by-append weight (replicate gap (pos 0)) (v ∷ done)
-    ∙ ap (λ n. n + sum_by weight (v ∷ done)) (no_weight gap)
-    ∙ (let both : sum_by weight (v ∷ done) ≡ (0 + weight v) + sum_by weight done = sum_by-append weight (v ∷ []) done in omega (arith, both, one))
+coefficient_more gap v done is = omega (arith, total-append (replicate gap (pos 0)) (v ∷ done), no_coefficients gap, counted v done is.some)
 
 -- ---- how great they are
 

@@ -1,9 +1,6 @@
 -- Worked examples of residual blocks.
-use Rattle.std.specs.Prelude.{◌≡◌, ℕ, pos, negsuc, List, [], ◌∷◌, Result, Ok, Err, refl}
-use Rattle.avc_types.specs.declared.fault.Fault.{Fault}
+use Rattle.avc_cavlc.proofs.Common.{◌≡◌, ℕ, pos, negsuc, List, [], ◌∷◌, Result, Ok, Err, refl, Fault, Read, start, residual_block}
 use Rattle.avc_types.specs.declared.fault.Fault.TheVariants as faults
-use Rattle.avc_bits.specs.Bits.{Read, start}
-use Rattle.avc_cavlc.specs.Block.{residual_block}
 
 -- the value and the position after it
 abbrev value_of : {A : Type 0} → Read A → List ℕ → Result (A × ℕ) Fault

@@ -1,15 +1,9 @@
 -- Reading runs, and how many places they take.
 use Rattle.std.proofs.Common.{◌≡◌, ◌≢◌, ℕ, zero, suc, ◌+◌, ◌-◌, ◌≤◌, ℤ, pos, Bool, true, false, List, [], ◌∷◌, ◌++◌, length, reverse, refl, ap, ◌∙◌, sym, arith, append-nil, length-append}
-use Rattle.std.specs.Prelude.{Result, Ok, Err, replicate, nat_le}
-use Rattle.std.specs.List.{flat_map, zip}
-use Rattle.std.proofs.lemmas.Bool.{leb-true}
-use Rattle.std.proofs.lemmas.List.{length-replicate}
+use Rattle.avc_cavlc.proofs.Common.{Result, Ok, Err, replicate, nat_le, flat_map, zip, leb-true, length-replicate, Fault, Bits, Read, ◌>>=◌}
+use Rattle.avc_cavlc.proofs.Common.{◌>>◌, give, check, run_before, run_table, table_code, each_after_zeros, run, runs}
 use Rattle.std.proofs.lemmas.Grind.{flat_map-append, reverse_onto}
-use Rattle.avc_types.specs.declared.fault.Fault.{Fault}
 use Rattle.avc_types.specs.declared.fault.Fault.TheVariants as faults
-use Rattle.avc_bits.specs.Bits.{Bits, Read, ◌>>=◌, ◌>>◌, give, check}
-use Rattle.avc_vlc.specs.Reading.{run_before, run_table, table_code}
-use Rattle.avc_cavlc.specs.Block.{each_after_zeros, run, runs}
 
 -- ---- what came before a value
 

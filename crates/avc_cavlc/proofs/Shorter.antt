@@ -1,17 +1,10 @@
 -- A block of 16 levels as one of fewer.
-use Rattle.std.proofs.Common.{◌≡◌, ℕ, ◌+◌, ◌-◌, ◌≤◌, ℤ, pos, List, [], ◌++◌, length, take, drop, get_or, refl, ap, subst, ◌∙◌, sym, arith, inl, inr}
-use Rattle.std.specs.Prelude.{Result, Ok, Err, replicate}
-use Rattle.std.proofs.lemmas.Bool.{cases_lt}
-use Rattle.std.proofs.lemmas.List.{take-replicate, drop-replicate, take-append-drop, get_or-take, get_or_past, length-take}
-use Rattle.std.proofs.Math.Seq.{take-append-add, drop-append-add}
-use Rattle.std.proofs.lemmas.List.Sums.{sum_by-append}
-use Rattle.avc_types.specs.declared.fault.Fault.{Fault}
-use Rattle.avc_types.specs.Macroblock.{total_coeff}
-use Rattle.avc_bits.specs.Bits.{Bits}
-use Rattle.avc_cavlc.specs.Block.{IsSmall, each_after_zeros, runs}
-use Rattle.avc_cavlc.specs.Steps.{placed_by_runs}
+use Rattle.avc_cavlc.proofs.Common.{◌≡◌, ℕ, ◌+◌, ◌-◌, ◌≤◌, ℤ, pos, List, [], ◌++◌, length, take, drop, refl, ap, ◌∙◌, sym}
+use Rattle.avc_cavlc.proofs.Common.{arith, Result, Ok, Err, replicate, take-replicate, drop-replicate, take-append-drop}
+use Rattle.avc_cavlc.proofs.Common.{take-append-add, drop-append-add, Fault}
+use Rattle.avc_cavlc.proofs.Common.{total_coeff, Bits, each_after_zeros, runs, placed_by_runs, total-append}
 use Rattle.avc_cavlc.proofs.RunSteps.{runs_length}
-use Rattle.avc_cavlc.proofs.Placing.{no_coefficients, small_zero, weight}
+use Rattle.avc_cavlc.proofs.Placing.{no_coefficients}
 
 -- the first of 16 levels, of which those behind are 0
 abbrev pub ReadsShorter : (max : ℕ) → (values : List ℤ) → (n zeros : ℕ) → (b after : Bits) → (block : List ℤ) → Type 0
@@ -62,13 +55,7 @@ shorter max values n zeros b after block long none room few is_block = by_runs (
 
 pub shorter_count : (max : ℕ) (block : List ℤ) (k : ℕ) → drop max block ≡ replicate k (pos 0) → total_coeff (take max block) ≡ total_coeff block
 shorter_count max block k rest =
-    let both : total_coeff (take max block ++ drop max block) ≡ total_coeff (take max block) + total_coeff (drop max block) = sum_by-append weight (take max block) (drop max block) in
+    let both : total_coeff (take max block ++ drop max block) ≡ total_coeff (take max block) + total_coeff (drop max block) = total-append (take max block) (drop max block) in
     let none : total_coeff (drop max block) ≡ 0 = ap total_coeff rest ∙ no_coefficients k in
     let all : total_coeff block ≡ total_coeff (take max block ++ drop max block) = ap total_coeff (sym (take-append-drop max block)) in
     omega (arith, both, none, all)
-
-pub shorter_small : (max : ℕ) (block : List ℤ) → ((i : ℕ) → IsSmall (get_or block i (pos 0))) → (i : ℕ) → IsSmall (get_or (take max block) i (pos 0))
-shorter_small max block all i = elim (cases_lt i max) [
-  | inl within ↦ subst IsSmall (sym (get_or-take max block i (pos 0) within)) (all i)
-  | inr past ↦ subst IsSmall (sym (get_or_past (take max block) i (pos 0) (omega (arith, length-take max block)))) small_zero
-]

@@ -1,16 +1,7 @@
 -- Chroma blocks that the calls predict, as blocks of the definition's samples.
-use Rattle.std.proofs.Common.{ℕ, ℤ, ◌≡◌, ◌+◌, ◌-◌, ◌*◌, ◌/◌, ◌<◌, arith, ap, ◌∙◌, sym, pos, ◌+ℤ◌, slice_index, List}
-use Rattle.std.proofs.lemmas.Int.{ints}
-use Rattle.std.proofs.Math.Nat.{add-mul}
-use Rattle.avc_types.specs.Arithmetic.{◌>>ℤ◌, low_bits}
-use Rattle.avc_types.specs.Blocks.{block_of}
-use Rattle.avc_types.specs.declared.vector.Mv.{Mv}
-use Rattle.avc_types.proofs.Blocks.{block_of_same}
-use Rattle.avc_plane.specs.Plane.{clamped}
-use Rattle.avc_inter.specs.Luma.{Wide}
-use Rattle.avc_inter.specs.Chroma.{bilinear, inter_chroma}
-use Rattle.avc_inter.specs.Patch.{blend_of}
-use Rattle.avc_inter.specs.declared.bilinear.BilinearWeights.{BilinearWeights}
+use Rattle.avc_inter.proofs.Common.{ℕ, ℤ, ◌≡◌, ◌+◌, ◌-◌, ◌*◌, ◌/◌, ◌<◌, arith, ap, ◌∙◌, sym, pos, ◌+ℤ◌, slice_index, List, ints, add-mul}
+use Rattle.avc_inter.proofs.Common.{◌>>ℤ◌, low_bits, block_of, Mv, block_of_same, clamped, Wide, bilinear, inter_chroma, blend_of}
+use Rattle.avc_inter.proofs.Common.{BilinearWeights}
 
 same_bilinear : (s : Wide) (u u' v v' : ℤ) (p p' q q' : ℕ) → u ≡ u' → v ≡ v' → p ≡ p' → q ≡ q' → bilinear s u v p q ≡ bilinear s u' v' p' q'
 same_bilinear s u u' v v' p p' q q' a b c d =

@@ -1,10 +1,8 @@
 -- Lines of samples that are copied four at a time, each four counted from their first sample on.
 use Rattle.std.proofs.Common.{ℕ, ◌≡◌, ◌+◌, ◌-◌, ◌*◌, ◌/◌, ◌<◌, ◌≤◌, ◌++◌, arith, List, length, get_or, take, drop, slice_index, length-append, length-drop, sym, ap, ◌∙◌, inl, inr}
 use borrow.Rule.Slice.PartMut.{post_of, put_mid}
-use Rattle.std.proofs.lemmas.List.{get_or-drop, get_or-take, get_or_append_left, get_or-append_right, get_or_past, length-take-le}
-use Rattle.std.proofs.lemmas.Bool.{cases_lt}
-use Rattle.std.proofs.Math.Nat.{add-mul}
-use Rattle.avc_plane.specs.Strided.{IsRoom, IsSameOutside, IsStridedSet}
+use Rattle.avc_inter.proofs.Common.{get_or-drop, get_or-take, get_or_append_left, get_or-append_right, get_or_past, length-take-le}
+use Rattle.avc_inter.proofs.Common.{cases_lt, add-mul, IsRoom, IsSameOutside, IsStridedSet}
 
 pub fours : (four stride : ℕ) → four * (4 * stride) ≡ 4 * four * stride
 fours four stride = search arith

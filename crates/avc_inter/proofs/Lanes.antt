@@ -1,12 +1,8 @@
 -- Lanes one by one.
-use Rattle.std.proofs.Common.{ℕ, ℤ, zero, suc, ◌+◌, ◌*◌, ◌≤◌, ◌<◌, ◌-ℤ◌, ◌≡◌, arith, refl, ap, ◌∙◌, FitsSigned, w16, w32, to_z, of_z, pos, List, [], ◌∷◌, map, get_or, length, subst, sym, ⊎_elim, ◌-◌}
-use Rattle.std.proofs.lemmas.List.{length-map}
-use Rattle.std.proofs.lemmas.Bool.{cases_lt}
-use Rattle.std.proofs.Math.Nat.{mul-le-mul_right}
-use Rattle.std.proofs.lemmas.Int.{ints, to_z-of_z}
-use Rattle.std.proofs.lemmas.Simd.{Each1-weaker, get_or-chunk, Each1-zip2, Each2-of, get_or-put_chunk_below, get_or-put_chunk_at}
-use Rattle.std.specs.Simd.Lanes.{zip2, chunk, Each1, put_chunk}
-use Rattle.avc_inter.specs.Luma.{six_taps}
+use Rattle.std.proofs.Common.{ℕ, ℤ, zero, suc, ◌+◌, ◌*◌, ◌≤◌, ◌<◌, ◌-ℤ◌, ◌≡◌, arith, refl, ap, ◌∙◌, FitsSigned, w32, to_z, of_z, pos, List, [], ◌∷◌, map, get_or, length, subst, sym, ⊎_elim, ◌-◌}
+use mir.Syntax.{Width}
+use Rattle.avc_inter.proofs.Common.{get_or-zip2, Each2, length-map, cases_lt, mul-le-mul_right, ints, to_z-of_z, Each1-weaker, get_or-chunk, Each1-zip2}
+use Rattle.avc_inter.proofs.Common.{Each2-of, get_or-put_chunk_below, get_or-put_chunk_at, zip2, chunk, Each1, put_chunk, six_taps}
 
 pub sums_small : (m n : ℕ) (a b : List ℕ) → Each1 (λ x. x ≤ m) a → Each1 (λ y. y ≤ n) b → Each1 (λ z. z ≤ m + n) (zip2 (λ x y. x + y) a b)
 sums_small m n a b p q =
@@ -22,15 +18,29 @@ get_or-multiples by (x ∷ xs) zero = refl
 get_or-multiples by (x ∷ xs) (suc k) = get_or-multiples by xs k
 
 -- numbers that fit stay as they are through their bits
-pub get_or-through_bits : (ds : List ℤ) (k : ℕ) → FitsSigned w32 (get_or ds k (pos 0)) → get_or (map (to_z w32) (map (of_z w32) ds)) k (pos 0) ≡ get_or ds k (pos 0)
-get_or-through_bits [] k h = refl
-get_or-through_bits (d ∷ ds) zero h = to_z-of_z w32 d h
-get_or-through_bits (d ∷ ds) (suc k) h = get_or-through_bits ds k h
+pub get_or-through_bits : (w : Width) (ds : List ℤ) (k : ℕ) → FitsSigned w (get_or ds k (pos 0)) → get_or (map (to_z w) (map (of_z w) ds)) k (pos 0) ≡ get_or ds k (pos 0)
+get_or-through_bits w [] k h = refl
+get_or-through_bits w (d ∷ ds) zero h = to_z-of_z w d h
+get_or-through_bits w (d ∷ ds) (suc k) h = get_or-through_bits w ds k h
 
-pub get_or-through_narrow_bits : (ds : List ℤ) (k : ℕ) → FitsSigned w16 (get_or ds k (pos 0)) → get_or (map (to_z w16) (map (of_z w16) ds)) k (pos 0) ≡ get_or ds k (pos 0)
-get_or-through_narrow_bits [] k h = refl
-get_or-through_narrow_bits (d ∷ ds) zero h = to_z-of_z w16 d h
-get_or-through_narrow_bits (d ∷ ds) (suc k) h = get_or-through_narrow_bits ds k h
+-- differences that fit, one by one
+module _ (w : Width) where
+  pub fit : ((x y : ℕ) → x ≤ 16383 → y ≤ 16383 → FitsSigned w (to_z w x -ℤ to_z w y)) → (xs ys : List ℕ) → Each1 (λ x. x ≤ 16383) xs → Each1 (λ x. x ≤ 16383) ys →
+      Each2 (λ x y. FitsSigned w (to_z w x -ℤ to_z w y)) (map (λ x. x) xs) (map (λ y. y) ys)
+  fit one [] ys p q = tt
+  fit one (x ∷ xs) [] p q = tt
+  fit one (x ∷ xs) (y ∷ ys) p q = (one x y p.0 q.0, fit one xs ys p.1 q.1)
+
+  module _ (one : (x y : ℕ) → x ≤ 16383 → y ≤ 16383 → to_z w (of_z w (to_z w x -ℤ to_z w y)) ≡ pos x -ℤ pos y) where
+    pub are : (xs ys : List ℕ) → Each1 (λ x. x ≤ 16383) xs → Each1 (λ x. x ≤ 16383) ys →
+        map (to_z w) (zip2 (λ (x y : ℕ). of_z w (to_z w x -ℤ to_z w y)) (map (λ x. x) xs) (map (λ y. y) ys)) ≡ zip2 (λ x y. pos x -ℤ pos y) xs ys
+    are [] ys p q = refl
+    are (x ∷ xs) [] p q = refl
+    are (x ∷ xs) (y ∷ ys) p q = cc (one x y p.0 q.0, are xs ys p.1 q.1)
+
+    pub value : (xs ys : List ℕ) (k : ℕ) → Each1 (λ x. x ≤ 16383) xs → Each1 (λ x. x ≤ 16383) ys → k < length xs → k < length ys →
+        get_or (map (to_z w) (zip2 (λ (x y : ℕ). of_z w (to_z w x -ℤ to_z w y)) (map (λ x. x) xs) (map (λ y. y) ys))) k (pos 0) ≡ pos (get_or xs k 0) -ℤ pos (get_or ys k 0)
+    value xs ys k p q h j = ap (λ (v : List ℤ). get_or v k (pos 0)) (are xs ys p q) ∙ get_or-zip2 (λ x y. pos x -ℤ pos y) xs ys k 0 0 (pos 0) h j
 
 -- lane k of a row that was loaded
 pub lane_of_row : (r q v : List ℕ) (k : ℕ) → v ≡ chunk 0 16 q → q ≡ r → k < 16 → get_or v k 0 ≡ get_or r k 0
@@ -58,6 +68,6 @@ stored_more P dst r at room long fits old new k h =
     let j = k - at in
     let place : at + j ≡ k = omega arith in
     let within : j < 16 = omega arith in
-    let value = get_or-put_chunk_at at dst ys j (pos 0) (omega arith) (omega arith) ∙ get_or-through_bits r j (fits j within) in
+    let value = get_or-put_chunk_at at dst ys j (pos 0) (omega arith) (omega arith) ∙ get_or-through_bits w32 r j (fits j within) in
     subst (λ i. P i (get_or (put_chunk at dst ys) i (pos 0))) place (subst (P (at + j)) (sym value) (new j within)))
     (cases_lt k at)

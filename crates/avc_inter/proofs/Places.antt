@@ -1,19 +1,15 @@
 -- Places on and about a plane: in sixty-four bits, and in its padded rows.
-use Rattle.std.proofs.Common.{ℕ, ℤ, ◌≡◌, ◌+◌, ◌*◌, ◌^◌, ◌<◌, ◌≤◌, arith, ap, ◌∙◌, subst, pos, ◌+ℤ◌, ◌-ℤ◌, to_z, of_z, w64, slice_index, List, length}
-use Rattle.std.specs.Prelude.{Option, Some, IfSome, nat_abs}
-use Rattle.std.proofs.lemmas.Int.{ints}
-use Rattle.std.proofs.lemmas.Nat.{row_fits}
-use Rattle.std.proofs.Math.Nat.{add-mul}
-use Rattle.avc_types.specs.Arithmetic.{clip3}
-use Rattle.avc_plane.specs.Plane.{Plane, sample, clamped}
-use Rattle.avc_plane.specs.Padded.{stored_place, IsSurrounded}
-use Rattle.avc_plane.specs.Strided.{IsRoom}
+use Rattle.avc_inter.proofs.Common.{ℕ, ℤ, ◌≡◌, ◌+◌, ◌*◌, ◌^◌, ◌<◌, ◌≤◌, arith, ap, ◌∙◌, pos, ◌+ℤ◌, ◌-ℤ◌, to_z, of_z, w64}
+use Rattle.avc_inter.proofs.Common.{slice_index, List, length, Option, Some, IfSome, nat_abs, ints, row_fits, add-mul, clip3, Plane, sample}
+use Rattle.avc_inter.proofs.Common.{clamped, stored_place, IsSurrounded, IsRoom, IsPlace, Wide, IsThere}
 use Rattle.avc_plane.proofs.Rectangles.{room}
-use Rattle.avc_inter.specs.Bounds.{IsPlace}
-use Rattle.avc_inter.specs.Luma.{Wide}
+use Rattle.avc_plane.specs.declared.plane.lending.RowsPlace.{RowsPlace}
 
-pub at_some : {X : Type 0} (r : Option X) (P : X → Type 0) (x : X) → r ≡ Some x → IfSome r P → P x
-at_some {X} r P x is holds = subst (λ (o : Option X). IfSome o P) is holds
+-- the rows that a place was found in
+pub there_in : {pad w h : ℕ} {p : Plane} {left top : ℤ} (found : Option RowsPlace) (at : RowsPlace) → found ≡ Some at →
+    IfSome found (λ at. (rows : List ℕ) → IsSurrounded pad p rows → IsThere (clamped p.width p.height (sample p)) left top w h at.first at.stride rows) →
+    (rows : List ℕ) → IsSurrounded pad p rows → IsThere (clamped p.width p.height (sample p)) left top w h at.first at.stride rows
+there_in found at is holds = rw is at holds
 
 -- a place that a call sees through its bits, and one further on
 pub place_back : (z : ℤ) → IsPlace z → to_z w64 (of_z w64 z) ≡ z
@@ -64,14 +60,12 @@ module _ (pad : ℕ) (p : Plane) (rows : List ℕ) (all : IsSurrounded pad p row
 -- a rectangle inside the plane, whose upper left sample is in column x and row y
 module _ (pad : ℕ) (p : Plane) (rows : List ℕ) (all : IsSurrounded pad p rows) (x y w h first stride : ℕ) (columns : x + w ≤ p.width) (lines : y + h ≤ p.height)
     (is_first : first ≡ stored_place pad p.width x y) (is_stride : stride ≡ p.width + 2 * pad) where
-  same_rows : (j : ℕ) → j * stride ≡ j * (p.width + 2 * pad)
-  same_rows j = ap (λ n. j * n) is_stride
-
   pub room_inside : IsRoom w h first stride (length rows)
-  room_inside j low = omega (arith, room pad p.width p.height x y w h rows all.long columns lines j low, is_first, same_rows j)
+  room_inside = rw (is_first, is_stride) (room pad p.width p.height x y w h rows all.long columns lines)
 
   pub sample_inside : (i j : ℕ) → i < w → j < h → slice_index rows (first + j * stride + i) ≡ clamped p.width p.height (sample p) (pos x +ℤ pos i) (pos y +ℤ pos j)
   sample_inside i j column row =
-      ap (slice_index rows) (omega (arith, is_first, same_rows j, add-mul (y + pad) j (p.width + 2 * pad)))
+      rw (is_first, is_stride)
+      (ap (slice_index rows) (omega (arith, add-mul (y + pad) j (p.width + 2 * pad)))
       ∙ all.near (x + pad + i) (y + pad + j) (omega arith) (omega arith)
-      ∙ same_place (clamped p.width p.height (sample p)) (pos (x + pad + i) -ℤ pos pad) (pos (y + pad + j) -ℤ pos pad) (pos x +ℤ pos i) (pos y +ℤ pos j) (omega (arith, ints)) (omega (arith, ints))
+      ∙ same_place (clamped p.width p.height (sample p)) (pos (x + pad + i) -ℤ pos pad) (pos (y + pad + j) -ℤ pos pad) (pos x +ℤ pos i) (pos y +ℤ pos j) (omega (arith, ints)) (omega (arith, ints)))

@@ -1,18 +1,14 @@
 -- Blocks that the calls predict, as blocks of the definition's samples.
-use Rattle.std.proofs.Common.{ℕ, ℤ, ◌≡◌, ◌+◌, ◌*◌, ◌<◌, ◌≤◌, arith, ap, ◌∙◌, pos, ◌+ℤ◌, ◌-ℤ◌, to_z, of_z, w64, slice_index, List}
-use Rattle.std.proofs.lemmas.Int.{ints}
-use Rattle.avc_types.specs.Arithmetic.{◌>>ℤ◌, low_bits}
-use Rattle.avc_types.specs.Blocks.{block_of}
-use Rattle.avc_types.specs.declared.vector.Mv.{Mv}
-use Rattle.avc_types.proofs.Blocks.{block_of_same}
-use Rattle.avc_plane.specs.Plane.{clamped}
-use Rattle.avc_inter.specs.Bounds.{IsMoved}
-use Rattle.avc_inter.specs.Luma.{Wide, quarter, inter_luma}
-use Rattle.avc_inter.specs.Patch.{IsPatch, IsThere, quarter_of}
+use Rattle.avc_inter.proofs.Common.{ℕ, ℤ, ◌≡◌, ◌+◌, ◌*◌, ◌<◌, ◌≤◌, arith, ap, ◌∙◌, pos, ◌+ℤ◌, ◌-ℤ◌, to_z, of_z, w64, slice_index, List}
+use Rattle.avc_inter.proofs.Common.{ints, ◌>>ℤ◌, low_bits, block_of, Mv, block_of_same, clamped, IsMoved, Wide, quarter, inter_luma}
+use Rattle.avc_inter.proofs.Common.{IsPatch, IsThere, quarter_of}
 use Rattle.avc_inter.proofs.Shown.{Shows, quarter_shown}
 
 pub back_moved : (z : ℤ) → IsMoved z → to_z w64 (of_z w64 z) ≡ z
 back_moved z p = omega (arith, ints, p.low, p.high)
+
+pub still_moved : (z : ℤ) → IsMoved z → IsMoved (to_z w64 (of_z w64 z))
+still_moved z p = rw (back_moved z p) p
 
 pub back_before : (z : ℤ) → IsMoved z → to_z w64 (of_z w64 (to_z w64 (of_z w64 z) -ℤ pos 2)) ≡ z -ℤ pos 2
 back_before z p =

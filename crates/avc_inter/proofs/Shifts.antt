@@ -1,10 +1,6 @@
 -- A shift right by its bounds, and the sum of six taps in sixteen bits.
-use Rattle.std.proofs.Common.{ℕ, ℤ, ◌≡◌, ◌≤ℤ◌, ◌<ℤ◌, arith, refl, ap, ◌∙◌, ◌⊎◌, ⊎_elim, inl, inr, pos, negsuc, neg_ℤ, ◌+ℤ◌, ◌-ℤ◌, ◌*ℤ◌, to_z, of_z, w16}
-use Rattle.std.proofs.lemmas.Int.{ints}
-use Rattle.std.proofs.lemmas.Bool.{cases_lt}
-use Rattle.avc_types.specs.Arithmetic.{◌>>ℤ◌, clip1}
-use Rattle.avc_inter.specs.Luma.{six_taps}
-use Rattle.avc_inter.specs.Bounds.{IsSum, IsPair}
+use Rattle.avc_inter.proofs.Common.{ℕ, ℤ, ◌≡◌, ◌≤ℤ◌, ◌<ℤ◌, arith, refl, ap, ◌∙◌, ◌⊎◌, ⊎_elim, inl, inr, pos, negsuc, neg_ℤ, ◌+ℤ◌, ◌-ℤ◌}
+use Rattle.avc_inter.proofs.Common.{◌*ℤ◌, to_z, of_z, w16, ints, cases_lt, ◌>>ℤ◌, clip1, six_taps, IsSum, IsPair}
 
 pub low_4 : (z : ℤ) → (pos 4 *ℤ (z >>ℤ 2)) ≤ℤ z
 low_4 (pos a) = omega (arith, ints)
@@ -152,6 +148,10 @@ back_pair z p = back z (omega (arith, ints, p.low)) (omega (arith, ints, p.high)
 
 pub back_sum : (z : ℤ) → neg_ℤ (pos 2550) ≤ℤ z → z ≤ℤ pos 10710 → to_z w16 (of_z w16 z) ≡ z
 back_sum z p q = back z (omega (arith, ints)) (omega (arith, ints))
+
+pub same_taps : (e f g h i j e' f' g' h' i' j' : ℕ) → e ≡ e' → f ≡ f' → g ≡ g' → h ≡ h' → i ≡ i' → j ≡ j' →
+    six_taps (pos e) (pos f) (pos g) (pos h) (pos i) (pos j) ≡ six_taps (pos e') (pos f') (pos g') (pos h') (pos i') (pos j')
+same_taps e f g h i j e' f' g' h' i' j' a b c d x y = cc (a, b, c, d, x, y)
 
 pub same_centre : (e f g h i j e' f' g' h' i' j' : ℤ) → e ≡ e' → f ≡ f' → g ≡ g' → h ≡ h' → i ≡ i' → j ≡ j' →
     clip1 (six_taps e f g h i j +ℤ pos 512 >>ℤ 10) ≡ clip1 (six_taps e' f' g' h' i' j' +ℤ pos 512 >>ℤ 10)

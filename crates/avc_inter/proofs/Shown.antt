@@ -1,10 +1,9 @@
 -- The positions over a list of samples that shows a map are those of the map.
-use Rattle.std.proofs.Common.{ℕ, zero, suc, ℤ, ◌≡◌, ◌<◌, ◌+◌, ◌*◌, ◌+ℤ◌, ◌-ℤ◌, pos, arith, List, slice_index, ap, ◌∙◌, refl}
-use Rattle.std.proofs.lemmas.Int.{ints}
-use Rattle.std.proofs.Math.Nat.{add-mul}
-use Rattle.avc_types.specs.Arithmetic.{◌>>ℤ◌, clip1, mean_of_two}
-use Rattle.avc_inter.specs.Luma.{Wide, six_taps, across, down, half_b, half_h, half_j, half_m, half_s, quarter}
-use Rattle.avc_inter.specs.Patch.{taps_along, whole, whole_right, whole_below, b_of, s_of, h_of, m_of, j_of, quarter_of}
+use Rattle.avc_inter.proofs.Common.{ℕ, zero, suc, ℤ, ◌≡◌, ◌<◌, ◌+◌, ◌*◌, ◌+ℤ◌, ◌-ℤ◌, pos, arith, List, slice_index, ap, refl, ints}
+use Rattle.avc_inter.proofs.Common.{add-mul, ◌>>ℤ◌, clip1, Wide, across, down, half_b, half_h, half_j, half_m}
+use Rattle.avc_inter.proofs.Common.{half_s, quarter, taps_along, whole, whole_right, whole_below, b_of, s_of, h_of, m_of, j_of, quarter_of}
+use Rattle.avc_inter.proofs.Shifts.{same_taps, same_centre}
+use Rattle.avc_inter.proofs.SixRows.{same_mean}
 
 -- from place `first` on, p shows w columns and h rows of the map s, those at (left, top) and right of and below them, and the samples around them
 pub record Shows (s : Wide) (left top : ℤ) (w h first stride : ℕ) (p : List ℕ) : Type 0 where
@@ -14,10 +13,6 @@ pub record Shows (s : Wide) (left top : ℤ) (w h first stride : ℕ) (p : List 
 shown : (s : Wide) (left top : ℤ) (w h first stride : ℕ) (p : List ℕ) → Shows s left top w h first stride p →
     (n i j : ℕ) (u v : ℤ) → i < w + 5 → j < h + 5 → n ≡ first + j * stride + i → u ≡ left +ℤ pos i -ℤ pos 2 → v ≡ top +ℤ pos j -ℤ pos 2 → slice_index p n ≡ s u v
 shown s left top w h first stride p all n i j u v q r e f g = rw (e, f, g) (all.at i j q r)
-
-same_taps : (e f g h i j e' f' g' h' i' j' : ℕ) → e ≡ e' → f ≡ f' → g ≡ g' → h ≡ h' → i ≡ i' → j ≡ j' →
-    six_taps (pos e) (pos f) (pos g) (pos h) (pos i) (pos j) ≡ six_taps (pos e') (pos f') (pos g') (pos h') (pos i') (pos j')
-same_taps e f g h i j e' f' g' h' i' j' a b c d x y = cc (a, b, c, d, x, y)
 
 -- the taps along row j of the list, and down its column i
 across_is : (s : Wide) (left top : ℤ) (w h first stride : ℕ) (p : List ℕ) → Shows s left top w h first stride p →
@@ -44,33 +39,26 @@ down_is s left top w h first stride p all n i y u q r e f =
     (one (n + 4 * stride) (y + 4) (top +ℤ pos y +ℤ pos 2) (omega (arith, add-mul y 4 stride)) (omega arith) (omega (arith, ints)))
     (one (n + 5 * stride) (y + 5) (top +ℤ pos y +ℤ pos 3) (omega (arith, add-mul y 5 stride)) (omega arith) (omega (arith, ints)))
 
-same_centre : (e f g h i j e' f' g' h' i' j' : ℤ) → e ≡ e' → f ≡ f' → g ≡ g' → h ≡ h' → i ≡ i' → j ≡ j' →
-    clip1 (six_taps e f g h i j +ℤ pos 512 >>ℤ 10) ≡ clip1 (six_taps e' f' g' h' i' j' +ℤ pos 512 >>ℤ 10)
-same_centre e f g h i j e' f' g' h' i' j' a b c d x y = cc (a, b, c, d, x, y)
-
-mean_same : {a b x y : ℕ} → a ≡ x → b ≡ y → mean_of_two a b ≡ mean_of_two x y
-mean_same {a} {b} {x} {y} p q = ap (λ v. mean_of_two v b) p ∙ ap (λ v. mean_of_two x v) q
-
 by_fractions : (p : List ℕ) (stride k : ℕ) (s : Wide) (u v : ℤ) →
     whole p stride k ≡ s u v → whole_right p stride k ≡ s (u +ℤ pos 1) v → whole_below p stride k ≡ s u (v +ℤ pos 1) →
     b_of p stride k ≡ half_b s u v → s_of p stride k ≡ half_s s u v → h_of p stride k ≡ half_h s u v → m_of p stride k ≡ half_m s u v → j_of p stride k ≡ half_j s u v →
     (fx fy : ℕ) → quarter_of p stride k fx fy ≡ quarter s u v fx fy
 by_fractions p stride k s u v g right below b s' h m j zero zero = g
-by_fractions p stride k s u v g right below b s' h m j (suc zero) zero = mean_same g b
+by_fractions p stride k s u v g right below b s' h m j (suc zero) zero = same_mean _ _ _ _ g b
 by_fractions p stride k s u v g right below b s' h m j (suc (suc zero)) zero = b
-by_fractions p stride k s u v g right below b s' h m j (suc (suc (suc f))) zero = mean_same right b
-by_fractions p stride k s u v g right below b s' h m j zero (suc zero) = mean_same g h
-by_fractions p stride k s u v g right below b s' h m j (suc zero) (suc zero) = mean_same b h
-by_fractions p stride k s u v g right below b s' h m j (suc (suc zero)) (suc zero) = mean_same b j
-by_fractions p stride k s u v g right below b s' h m j (suc (suc (suc f))) (suc zero) = mean_same b m
+by_fractions p stride k s u v g right below b s' h m j (suc (suc (suc f))) zero = same_mean _ _ _ _ right b
+by_fractions p stride k s u v g right below b s' h m j zero (suc zero) = same_mean _ _ _ _ g h
+by_fractions p stride k s u v g right below b s' h m j (suc zero) (suc zero) = same_mean _ _ _ _ b h
+by_fractions p stride k s u v g right below b s' h m j (suc (suc zero)) (suc zero) = same_mean _ _ _ _ b j
+by_fractions p stride k s u v g right below b s' h m j (suc (suc (suc f))) (suc zero) = same_mean _ _ _ _ b m
 by_fractions p stride k s u v g right below b s' h m j zero (suc (suc zero)) = h
-by_fractions p stride k s u v g right below b s' h m j (suc zero) (suc (suc zero)) = mean_same h j
+by_fractions p stride k s u v g right below b s' h m j (suc zero) (suc (suc zero)) = same_mean _ _ _ _ h j
 by_fractions p stride k s u v g right below b s' h m j (suc (suc zero)) (suc (suc zero)) = j
-by_fractions p stride k s u v g right below b s' h m j (suc (suc (suc f))) (suc (suc zero)) = mean_same j m
-by_fractions p stride k s u v g right below b s' h m j zero (suc (suc (suc f))) = mean_same below h
-by_fractions p stride k s u v g right below b s' h m j (suc zero) (suc (suc (suc f))) = mean_same h s'
-by_fractions p stride k s u v g right below b s' h m j (suc (suc zero)) (suc (suc (suc f))) = mean_same j s'
-by_fractions p stride k s u v g right below b s' h m j (suc (suc (suc f))) (suc (suc (suc f'))) = mean_same m s'
+by_fractions p stride k s u v g right below b s' h m j (suc (suc (suc f))) (suc (suc zero)) = same_mean _ _ _ _ j m
+by_fractions p stride k s u v g right below b s' h m j zero (suc (suc (suc f))) = same_mean _ _ _ _ below h
+by_fractions p stride k s u v g right below b s' h m j (suc zero) (suc (suc (suc f))) = same_mean _ _ _ _ h s'
+by_fractions p stride k s u v g right below b s' h m j (suc (suc zero)) (suc (suc (suc f))) = same_mean _ _ _ _ j s'
+by_fractions p stride k s u v g right below b s' h m j (suc (suc (suc f))) (suc (suc (suc f'))) = same_mean _ _ _ _ m s'
 
 -- each position, at column x and row y of the block
 positions : (s : Wide) (left top : ℤ) (w h first stride : ℕ) (p : List ℕ) → Shows s left top w h first stride p → (x y : ℕ) → x < w → y < h →

@@ -1,23 +1,16 @@
 -- Blocks in rows of sixteen samples, as they lie in a list.
-use Rattle.std.proofs.Common.{◌≡◌, ℕ, ◌+◌, ◌-◌, ◌*◌, ◌/◌, ◌%◌, ◌<◌, ◌≤◌, List, length, slice_index, slice_index_or, arith, refl, ap, ◌∙◌, subst, pos, ◌+ℤ◌, ℤ, mul_comm, mul-le-mul_left, inl, inr, ⊎_elim}
-use Rattle.std.proofs.Math.Nat.{add-mul, mul-le-mul_right, le_of_mul-le-mul_right, mul_right_comm, div-lt_iff_lt-mul, mul-add-div_right, mul-add-mod_self_right}
-use Rattle.std.proofs.lemmas.Nat.{div-mul-add, mod-mul-add, mod_below}
-use Rattle.std.proofs.lemmas.Bool.{cases_lt}
-use Rattle.avc_types.specs.Arithmetic.{◌>>ℤ◌, clip1, mean_of_two}
-use Rattle.avc_plane.specs.Strided.{IsRoom, IsStridedSet}
-use Rattle.avc_plane.proofs.Strided.{strided_more}
-use Rattle.avc_inter.specs.Luma.{six_taps}
-use Rattle.avc_inter.specs.Patch.{blend_of, half_along, taps_along, centre_along, j_of, rounded_sum}
-use Rattle.avc_inter.specs.declared.bilinear.BilinearWeights.{BilinearWeights}
-use Rattle.avc_inter.specs.SixRows.{place_of, HasPlaces, HasRoom, AreLanes, half_of, taps_of}
+use Rattle.std.proofs.Common.{◌≡◌, ℕ, ◌+◌, ◌-◌, ◌*◌, ◌/◌, ◌%◌, ◌<◌, ◌≤◌, List, length, slice_index, slice_index_or, arith, refl, ap, ◌∙◌, subst, pos, ℤ, mul_comm, mul-le-mul_left, inl, inr, ⊎_elim}
+use Rattle.avc_inter.proofs.Common.{add-mul, mul-le-mul_right, le_of_mul-le-mul_right, mul_right_comm, div-lt_iff_lt-mul, mul-add-div_right}
+use Rattle.avc_inter.proofs.Common.{mul-add-mod_self_right, div-mul-add, mod-mul-add, mod_below, cases_lt, mean_of_two}
+use Rattle.avc_inter.proofs.Common.{IsRoom, IsStridedSet, strided_more, blend_of, half_along, taps_along, centre_along, j_of}
+use Rattle.avc_plane.proofs.Strided.{times_turned}
+use Rattle.avc_inter.proofs.Shifts.{same_taps, same_centre}
+use Rattle.avc_inter.proofs.Common.{rounded_sum, BilinearWeights, place_of, HasPlaces, HasRoom, AreLanes, taps_of}
 
 -- ---- places
 
 pub times_three : (a b c : ℕ) → a * b * c ≡ a * (b * c)
 times_three a b c = search arith
-
-times_turned : (y n s : ℕ) → y * (n * s) ≡ n * y * s
-times_turned y n s = search arith
 
 module _ (columns stride : ℕ) (lanes : AreLanes columns) where
   abbrev lines : ℕ
@@ -47,9 +40,6 @@ module _ (columns stride : ℕ) (lanes : AreLanes columns) where
 
   pub row_begins : (n at y : ℕ) (p : List ℕ) → HasPlaces columns stride n at p → 16 * y + 16 ≤ n → at + y * lines < length p
   row_begins n at y p all room = omega (arith, row_there n at y p all room 0 (omega arith))
-
-  pub lines_fit : lines ≤ 16 * stride
-  lines_fit = mul-le-mul_right stride (omega (arith, lanes.all, mul-le-mul_right (16 / columns) lanes.some, mul_comm columns (16 / columns)))
 
   pub line_fits : (at y : ℕ) (p : List ℕ) → HasPlaces columns stride 16 at p → y < 16 / columns → at + y * stride + columns ≤ length p
   line_fits at y p all low =
@@ -118,33 +108,9 @@ module _ (columns : ℕ) (lanes : AreLanes columns) (w first stride y : ℕ) (na
 
 -- ---- six rows
 
-abbrev half_of_six : (a b c d e f : ℕ) → ℕ
-half_of_six a b c d e f = clip1 (six_taps (pos a) (pos b) (pos c) (pos d) (pos e) (pos f) +ℤ pos 16 >>ℤ 5)
-
-same_half : (a b c d e f a' b' c' d' e' f' : ℕ) → a ≡ a' → b ≡ b' → c ≡ c' → d ≡ d' → e ≡ e' → f ≡ f' → half_of_six a b c d e f ≡ half_of_six a' b' c' d' e' f'
-same_half a b c d e f a' b' c' d' e' f' pa pb pc pd pe pf = rw (pa, pb, pc, pd, pe, pf) refl
-
 -- a row shows sixteen samples of a list
 abbrev pub Shows : (columns stride : ℕ) → List ℕ → List ℕ → ℕ → Type 0
 Shows columns stride r p at = (k : ℕ) → k < 16 → slice_index r k ≡ slice_index p (at + place_of columns stride k)
-
-module _ (columns stride : ℕ) (p e f g h i j : List ℕ) (at step k : ℕ) (low : k < 16) (se : Shows columns stride e p at) (sf : Shows columns stride f p (at + step))
-    (sg : Shows columns stride g p (at + 2 * step)) (sh : Shows columns stride h p (at + 3 * step)) (si : Shows columns stride i p (at + 4 * step)) (sj : Shows columns stride j p (at + 5 * step)) where
-  moved : (n : ℕ) → slice_index p (at + n * step + place_of columns stride k) ≡ slice_index p (at + place_of columns stride k + n * step)
-  moved n = ap (slice_index p) (omega arith)
-
-  once : slice_index p (at + step + place_of columns stride k) ≡ slice_index p (at + place_of columns stride k + step)
-  once = ap (slice_index p) (omega arith)
-
-  pub half_there : half_of e f g h i j k ≡ half_along p (at + place_of columns stride k) step
-  half_there =
-      same_half _ _ _ _ _ _ _ _ _ _ _ _ (se k low) (sf k low ∙ once) (sg k low ∙ moved 2) (sh k low ∙ moved 3) (si k low ∙ moved 4) (sj k low ∙ moved 5)
-
-abbrev sum_of_six : (a b c d e f : ℕ) → ℤ
-sum_of_six a b c d e f = six_taps (pos a) (pos b) (pos c) (pos d) (pos e) (pos f)
-
-same_sum : (a b c d e f a' b' c' d' e' f' : ℕ) → a ≡ a' → b ≡ b' → c ≡ c' → d ≡ d' → e ≡ e' → f ≡ f' → sum_of_six a b c d e f ≡ sum_of_six a' b' c' d' e' f'
-same_sum a b c d e f a' b' c' d' e' f' pa pb pc pd pe pf = rw (pa, pb, pc, pd, pe, pf) refl
 
 pub sum_there : (columns stride : ℕ) (p e f g h i j : List ℕ) (at k : ℕ) → k < 16 → Shows columns stride e p at → Shows columns stride f p (at + 1) →
     Shows columns stride g p (at + 2) → Shows columns stride h p (at + 3) → Shows columns stride i p (at + 4) → Shows columns stride j p (at + 5) →
@@ -152,7 +118,7 @@ pub sum_there : (columns stride : ℕ) (p e f g h i j : List ℕ) (at k : ℕ) �
 sum_there columns stride p e f g h i j at k low se sf sg sh si sj =
     let moved : (n m : ℕ) → m ≡ n → slice_index p (at + n + place_of columns stride k) ≡ slice_index p (at + place_of columns stride k + m) =
     λ n m same. ap (slice_index p) (omega (arith, same)) in
-    same_sum _ _ _ _ _ _ _ _ _ _ _ _ (se k low) (sf k low ∙ moved 1 1 refl) (sg k low ∙ moved 2 (2 * 1) (omega arith)) (sh k low ∙ moved 3 (3 * 1) (omega arith))
+    same_taps _ _ _ _ _ _ _ _ _ _ _ _ (se k low) (sf k low ∙ moved 1 1 refl) (sg k low ∙ moved 2 (2 * 1) (omega arith)) (sh k low ∙ moved 3 (3 * 1) (omega arith))
     (si k low ∙ moved 4 (4 * 1) (omega arith)) (sj k low ∙ moved 5 (5 * 1) (omega arith))
 
 -- the half samples of row y of sixteen, whose six samples begin `by` further
@@ -183,12 +149,6 @@ mean_turned a b = omega arith
 
 -- ---- j
 
-abbrev middle_of_six : (a b c d e f : ℤ) → ℕ
-middle_of_six a b c d e f = clip1 (six_taps a b c d e f +ℤ pos 512 >>ℤ 10)
-
-same_middle : (a b c d e f a' b' c' d' e' f' : ℤ) → a ≡ a' → b ≡ b' → c ≡ c' → d ≡ d' → e ≡ e' → f ≡ f' → middle_of_six a b c d e f ≡ middle_of_six a' b' c' d' e' f'
-same_middle a b c d e f a' b' c' d' e' f' pa pb pc pd pe pf = rw (pa, pb, pc, pd, pe, pf) refl
-
 -- j of sums that are there for five rows more
 pub middle_is : (columns stride : ℕ) → AreLanes columns → (p : List ℕ) (m : List ℤ) (at n k : ℕ) → k + 5 * columns < n →
     ((k : ℕ) → k < n → slice_index_or m k (pos 0) ≡ taps_along p (at + place_of columns stride k) 1) →
@@ -199,7 +159,7 @@ middle_is columns stride lanes p m at n k room sums =
     let below : r * columns ≤ 5 * columns = mul-le-mul_right columns low in
     ap (λ (i : ℕ). slice_index_or m i (pos 0)) (omega (arith, e)) ∙ sums (r * columns + k) (omega arith)
     ∙ ap (λ (i : ℕ). taps_along p i 1) (omega (arith, f, place_further columns stride lanes r k)) in
-    same_middle _ _ _ _ _ _ _ _ _ _ _ _
+    same_centre _ _ _ _ _ _ _ _ _ _ _ _
     (here 0 _ _ (omega arith) (omega arith) (omega arith))
     (here 1 _ _ (omega arith) (omega arith) (omega arith))
     (here 2 _ _ (omega arith) (omega arith) (omega arith))

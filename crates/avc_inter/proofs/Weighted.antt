@@ -1,11 +1,7 @@
 -- A block sample by sample.
-use Rattle.std.proofs.Common.{ℕ, ℤ, ◌≡◌, ◌+◌, ◌*◌, ◌/◌, ◌%◌, ◌<◌, arith, ap, ◌∙◌, sym, List, map, length, slice_index, to_z, of_z, w32}
-use Rattle.std.proofs.lemmas.Int.{ints}
-use Rattle.std.proofs.lemmas.List.{length-map, get_or-map}
+use Rattle.avc_inter.proofs.Common.{ℕ, ℤ, ◌≡◌, ◌+◌, ◌*◌, ◌/◌, ◌%◌, ◌<◌, arith, ap, ◌∙◌, sym, List, map, length, slice_index, to_z, of_z}
+use Rattle.avc_inter.proofs.Common.{w32, ints, length-map, get_or-map, block_of, place, IsWithin}
 use Rattle.std.proofs.lemmas.List.FromFn.{fill_by_all}
-use Rattle.avc_types.specs.Blocks.{block_of}
-use Rattle.avc_types.proofs.Blocks.{place}
-use Rattle.avc_inter.specs.Bounds.{IsWithin}
 
 pub back_within : (z : ℤ) → IsWithin 128 z → to_z w32 (of_z w32 z) ≡ z
 back_within z p = omega (arith, ints, p.low, p.high)

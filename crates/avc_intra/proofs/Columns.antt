@@ -1,7 +1,5 @@
 -- The column left of a block that is laid line by line stays.
-use Rattle.std.proofs.Common.{◌≡◌, ℕ, ◌+◌, ◌-◌, ◌*◌, ◌<◌, ◌≤◌, arith, List, slice_index}
-use Rattle.std.proofs.Math.Nat.{mul-le-mul_right}
-use Rattle.avc_plane.specs.Strided.{IsStridedSet}
+use Rattle.avc_intra.proofs.Common.{◌≡◌, ℕ, ◌+◌, ◌-◌, ◌*◌, ◌<◌, ◌≤◌, arith, List, slice_index, mul-le-mul_right, IsStridedSet}
 
 apart : (w first stride y v x : ℕ) → 0 < first → w < stride → v < y → x < w → first + y * stride - 1 ≡ first + v * stride + x → ⊥
 apart w first stride y v x some narrow low column e =

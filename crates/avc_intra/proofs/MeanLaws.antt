@@ -1,6 +1,5 @@
 -- The rounded means do not depend on the direction in which they are read.
-use Rattle.std.proofs.Common.{◌≡◌, ℕ, arith}
-use Rattle.avc_types.specs.Arithmetic.{mean_of_two, mean_of_three}
+use Rattle.avc_intra.proofs.Common.{◌≡◌, ℕ, arith, mean_of_two, mean_of_three}
 
 pub mean_of_two-swap : (a b : ℕ) → mean_of_two a b ≡ mean_of_two b a
 mean_of_two-swap a b = omega arith

@@ -1,10 +1,7 @@
 -- A sample of a block by its column and row.
 use Rattle.std.proofs.Common.{◌≡◌, ℕ, zero-add, mul_comm, below_more, ◌+◌, ◌*◌, ◌/◌, ◌%◌, ◌<◌, Bool, true, if◌then◌else◌, List, [], ◌∷◌, Some, None, slice_index, arith, ap, sym, ◌∙◌}
-use Rattle.std.proofs.lemmas.List.FromFn.{get_or-map-range_with_len}
+use Rattle.avc_intra.proofs.Common.{get_or-map-range_with_len, IsStridedSet, Sides, strided_same}
 use Rattle.std.proofs.lemmas.Nat.{mul-add-lt}
-use Rattle.avc_plane.specs.Strided.{IsStridedSet}
-use Rattle.avc_intra.specs.declared.sides.Sides.{Sides}
-use Rattle.avc_plane.proofs.Strided.{strided_same}
 use Rattle.avc_intra.specs.Lines.{block4x4}
 
 slice_index-block4x4 : (f : ℕ → ℕ → ℕ) (x y : ℕ) → x < 4 → y < 4 → slice_index (block4x4 f) (4 * y + x) ≡ f x y

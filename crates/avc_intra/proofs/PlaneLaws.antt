@@ -1,9 +1,6 @@
 -- The plane of the code is that of the standard: the same height, and the same slopes of the two sides.
-use Rattle.std.proofs.Common.{◌≡◌, ℕ, ℤ, ◌*◌, ◌<◌, pos, negsuc, ◌+ℤ◌, ◌-ℤ◌, ◌*ℤ◌, List, slice_index, to_z, of_z, w32, arith, ap, ◌∙◌, sym, refl}
-use Rattle.std.proofs.lemmas.Int.{ints}
-use Rattle.avc_types.specs.Arithmetic.{◌>>ℤ◌, clip1}
-use Rattle.avc_intra.specs.Luma16x16.{slope}
-use Rattle.avc_intra.specs.Slopes.{IsWithin, side_of}
+use Rattle.avc_intra.proofs.Common.{◌≡◌, ℕ, ℤ, ◌*◌, ◌<◌, pos, negsuc, ◌+ℤ◌, ◌-ℤ◌, ◌*ℤ◌, List, slice_index, to_z, of_z, w32, arith, ap, ◌∙◌}
+use Rattle.avc_intra.proofs.Common.{sym, refl, ints, ◌>>ℤ◌, clip1, slope, IsWithin, side_of}
 use Rattle.avc_intra.proofs.Sums.{slope-same}
 
 -- by m times the slope of the 2 * n samples of a side f

@@ -1,9 +1,6 @@
 -- Bounds of products with a sign.
-use Rattle.std.proofs.Common.{ℕ, ◌*◌, ◌≤◌, ℤ, pos, negsuc, ◌*ℤ◌, arith}
+use Rattle.avc_intra.proofs.Common.{ℕ, ◌*◌, ◌≤◌, ℤ, pos, negsuc, ◌*ℤ◌, arith, mul-le-mul, ints, unsigned_abs-mul, IsWithin}
 use Rattle.std.specs.Int.RustNames.{unsigned_abs}
-use Rattle.std.proofs.Math.Nat.{mul-le-mul}
-use Rattle.std.proofs.lemmas.Int.{ints, unsigned_abs-mul}
-use Rattle.avc_intra.specs.Slopes.{IsWithin}
 
 IsWithin-abs : (n : ℕ) (z : ℤ) → unsigned_abs z ≤ n → IsWithin n z
 IsWithin-abs n (pos k) h = record { low = omega (arith, ints); high = omega (arith, ints) }

@@ -1,12 +1,7 @@
 -- Sums of the samples beside a block, read from the rows in which it lies.
-use Rattle.std.proofs.Common.{◌≡◌, ℕ, ◌+◌, ◌-◌, ◌*◌, ◌<◌, ◌≤◌, pos, Bool, true, false, List, slice_index, refl, ap, sym, arith}
-use Rattle.std.specs.Prelude.{if◌then◌else◌, nat_lt, not, ◌&&◌}
+use Rattle.avc_intra.proofs.Common.{◌≡◌, ℕ, ◌+◌, ◌-◌, ◌*◌, ◌<◌, ◌≤◌, pos, Bool, true, false, List, slice_index, refl, ap, sym, arith}
+use Rattle.avc_intra.proofs.Common.{if◌then◌else◌, nat_lt, not, ◌&&◌, sum_below, Sides, Around, top, left_of, extended, sum_above, sum_left}
 use Rattle.std.proofs.lemmas.Bool.Decides.{nat_tests}
-use Rattle.avc_types.specs.Arithmetic.{sum_below}
-use Rattle.avc_intra.specs.declared.sides.Sides.{Sides}
-use Rattle.avc_intra.specs.Neighbourhood.{Around, top, left_of}
-use Rattle.avc_intra.specs.Luma4x4.{extended}
-use Rattle.avc_intra.specs.Chroma.{sum_above, sum_left}
 use Rattle.avc_intra.specs.InRows.{IsSeen}
 use Rattle.avc_intra.proofs.Sums.{sum_below-same}
 

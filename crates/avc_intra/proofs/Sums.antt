@@ -1,9 +1,6 @@
 -- Sums of which each term is known.
-use Rattle.std.proofs.Common.{◌≡◌, ℕ, ℤ, zero, suc, ◌+◌, ◌*◌, ◌-◌, ◌<◌, pos, negsuc, ◌+ℤ◌, ◌-ℤ◌, ◌*ℤ◌, inl, inr, add-one, ap, ◌∙◌, sym, arith}
-use Rattle.std.proofs.lemmas.Int.{ints}
-use Rattle.std.proofs.lemmas.Bool.{cases_lt}
-use Rattle.avc_types.specs.Arithmetic.{sum_below, sum_below_ℤ}
-use Rattle.avc_intra.specs.Luma16x16.{slope}
+use Rattle.avc_intra.proofs.Common.{◌≡◌, ℕ, ℤ, zero, suc, ◌+◌, ◌*◌, ◌-◌, ◌<◌, pos, negsuc, ◌+ℤ◌, ◌-ℤ◌, ◌*ℤ◌, inl, inr, add-one, ap, ◌∙◌}
+use Rattle.avc_intra.proofs.Common.{sym, arith, ints, cases_lt, sum_below, sum_below_ℤ, slope}
 
 -- one more term
 pub sum_below_ℤ_more : (f : ℕ → ℤ) (i : ℕ) (s r : ℤ) → s ≡ sum_below_ℤ i f → r ≡ f i → s +ℤ r ≡ sum_below_ℤ (i + 1) f

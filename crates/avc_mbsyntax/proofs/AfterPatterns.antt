@@ -1,20 +1,11 @@
 -- What is left of a macroblock when all before its blocks has been read.
-use Rattle.std.proofs.Common.{◌≡◌, ℕ, ℤ, pos, ◌/◌, ◌%◌, List, [], refl, ap, sym, subst, ◌∙◌, arith}
-use Rattle.std.specs.Prelude.{Ok, Err, not, replicate, ◌==◌}
-use Rattle.std.specs.List.{All}
-use Rattle.std.proofs.lemmas.List.Elements.{All-replicate}
-use Rattle.avc_types.specs.declared.fault.Fault.{Fault}
-use Rattle.avc_types.specs.Macroblock.{Residual, i_16x16}
-use Rattle.avc_types.specs.MacroblockFields.{residual_of}
+use Rattle.avc_mbsyntax.proofs.Common.{◌≡◌, ℕ, ℤ, pos, ◌/◌, ◌%◌, List, [], refl, ap, sym, subst, ◌∙◌, arith, Ok, Err, not, replicate, ◌==◌}
+use Rattle.avc_mbsyntax.proofs.Common.{All, All-replicate, Fault, Residual, i_16x16, residual_of, Bits, ◌>>=◌, give, ue_to, Context}
+use Rattle.avc_mbsyntax.proofs.Common.{small_none, AreSmall, IsResidual, HasNoLevels, after_pattern, cb_side, cr_side, i_16x16_mb}
+use Rattle.avc_mbsyntax.proofs.Common.{luma_dc_levels, luma_pattern_of, luma_side, no_levels, qp_after, qp_delta, qp_delta_where}
+use Rattle.avc_mbsyntax.proofs.Common.{residual_blocks, with_residual}
 use Rattle.avc_types.specs.declared.mb.BlockLevels.{BlockLevels}
-use Rattle.avc_bits.specs.Bits.{Bits, ◌>>=◌, give}
-use Rattle.avc_bits.specs.Codes.{ue_to}
-use Rattle.avc_mbsyntax.specs.declared.context.Context.{Context}
-use Rattle.avc_cavlc.proofs.Placing.{small_none}
-use Rattle.avc_mbsyntax.specs.Ranges.{AreSmall, IsResidual}
-use Rattle.avc_mbsyntax.specs.Steps.{HasNoLevels}
 use Rattle.avc_mbsyntax.proofs.BlockSteps.{no_chroma, no_luma}
-use Rattle.avc_mbsyntax.specs.Reading.{after_pattern, cb_side, cr_side, i_16x16_mb, luma_dc_levels, luma_pattern_of, luma_side, no_levels, qp_after, qp_delta, qp_delta_where, residual_blocks, with_residual}
 
 pub after_delta : (c : Context) (pattern : ℕ) (delta d : ℤ) (b b1 : Bits) → qp_delta_where (not (pattern == 0)) b ≡ Ok (delta, b1) → d ≡ delta →
     after_pattern c pattern b ≡ residual_blocks c 16 [] (pattern % 16) (pattern / 16) d b1

@@ -1,35 +1,21 @@
 -- One block more.
 use Rattle.std.proofs.Common.{◌≡◌, ◌≢◌, ℕ, zero, suc, ◌+◌, ◌-◌, ◌/◌, ◌^◌, append-nil, append_assoc, ◌<◌, ◌≤◌, min, ℤ, pos, Bool, true, false, List, [], ◌∷◌, ◌++◌, length, take, get_or, set, length-set, map, refl, ap, ◌∙◌, sym, arith, inl, inr}
-use Rattle.std.specs.Prelude.{Ok, Err, Option, replicate, ◌==◌, ◌||◌, nat_le, nat_lt, if◌then◌else◌}
-use Rattle.std.specs.List.{All, range_with_len}
-use Rattle.std.proofs.lemmas.List.Elements.{All-append}
-use Rattle.std.proofs.lemmas.Bool.{cases_lt, le-ltb, ne_eqb}
+use Rattle.avc_mbsyntax.proofs.Common.{Ok, Err, Option, replicate, ◌==◌, ◌||◌, nat_le, if◌then◌else◌, All, range_with_len, all_more}
+use Rattle.avc_mbsyntax.proofs.Common.{cases_lt, le-ltb, ne_eqb, total_coeff, Fault, Bits, Read, ◌>>=◌, give, check, ◌>>◌}
+use Rattle.avc_mbsyntax.proofs.Common.{residual_block, runs, token_levels, small_none, AreSmall, block_where, blocks, is_coded, no_levels}
 use Rattle.std.proofs.lemmas.List.{get_or-replicate, get_or-set_other, get_or_past, length-replicate, map-append, replicate_more, take_all, take_more, take_more_set}
-use Rattle.avc_types.specs.Macroblock.{total_coeff}
-use Rattle.avc_types.specs.declared.fault.Fault.{Fault}
 use Rattle.avc_types.specs.declared.fault.Fault.TheVariants as faults
-use Rattle.avc_bits.specs.Bits.{Bits, Read, ◌>>=◌, ◌>>◌, give, check}
 use Rattle.avc_vlc.specs.declared.token.Token.{Token}
-use Rattle.avc_vlc.specs.Tables.{coeff_token_0, coeff_token_2, coeff_token_4}
-use Rattle.avc_vlc.specs.Reading.{Table, table_code, token_table, tokens, tokens_8, total_zeros}
-use Rattle.avc_cavlc.specs.Block.{placed, residual_block, runs, token_levels}
+use Rattle.avc_vlc.specs.Reading.{Table, table_code, token_table, tokens_8, total_zeros}
+use Rattle.avc_cavlc.specs.Block.{placed}
 use Rattle.avc_neigh.specs.TotalCoeffs.{nc}
-use Rattle.avc_cavlc.proofs.Placing.{small_none}
-use Rattle.avc_mbsyntax.specs.Ranges.{AreSmall}
-use Rattle.avc_mbsyntax.specs.Reading.{block_where, blocks, is_coded, no_levels}
 use Rattle.std.proofs.Math.Nat.{div-eq_of_lt}
 use Rattle.std.proofs.lemmas.Nat.{pow_pos}
 
 -- ---- nC above 8
 
-abbrev table_by : (a b c : Bool) → Table Token
-table_by a b c = if a then tokens coeff_token_0 else if b then tokens coeff_token_2 else if c then tokens coeff_token_4 else tokens_8
-
-table_of_many : (n : ℕ) (a b c : Bool) → a ≡ false → b ≡ false → c ≡ false → table_by a b c ≡ tokens_8
-table_of_many n a b c e f g = rw (e, f, g) refl
-
 many_levels : (n : ℕ) → 8 ≤ n → token_table (pos n) ≡ tokens_8
-many_levels n many = table_of_many n (nat_lt n 2) (nat_lt n 4) (nat_lt n 8) (le-ltb n 2 (omega (arith, many))) (le-ltb n 4 (omega (arith, many))) (le-ltb n 8 many)
+many_levels n many = rw (le-ltb n 2 (omega (arith, many)), le-ltb n 4 (omega (arith, many)), le-ltb n 8 many) refl
 
 pub token_capped : (n : ℕ) → token_table (pos (min n 8)) ≡ token_table (pos n)
 token_capped n = elim (cases_lt n 8) [
@@ -87,13 +73,6 @@ pub no_chroma : (pattern : ℕ) (left up : Option (List ℕ)) (b : Bits) → pat
 no_chroma pattern left up b other = none_coded 15 8 (λ k. pattern == 2) left up (range_with_len 0 4) [] b (λ k. ne_eqb pattern 2 other)
 
 -- ---- what was read of the first blocks
-
-one_block : (P : List ℤ → Type 0) (x : List ℤ) → P x → All P (x ∷ [])
-one_block P x here zero d within = here
-one_block P x here (suc k) d within = absurd (omega arith)
-
-all_more : (P : List ℤ → Type 0) (xs : List (List ℤ)) (k : ℕ) (x : List ℤ) → k < length xs → All P (take k xs) → P x → All P (take (k + 1) (set xs k x))
-all_more P xs k x within all here = rw (take_more_set xs k x within) (All-append P (take k xs) (x ∷ []) all (one_block P x here))
 
 pub total_none : (max : ℕ) → total_coeff (no_levels max) ≡ 0
 total_none zero = refl

@@ -1,20 +1,15 @@
 -- One step of reading a slice's data.
 use Rattle.std.proofs.Common.{◌≡◌, ◌≢◌, ℕ, zero, suc, ◌+◌, ◌-◌, ◌<◌, ◌≤◌, Bool, true, false, List, [], ◌∷◌, ◌++◌, length, refl, ap, ◌∙◌, sym, arith, append_assoc, append-nil, length-append}
-use Rattle.std.specs.Prelude.{◌==◌, nat_lt, replicate, Option, Result, Ok, Err}
-use Rattle.std.proofs.lemmas.Bool.{eqb-false, le-ltb, lt-ltb, ltb-false, ne_eqb}
+use Rattle.avc_mbsyntax.proofs.Common.{◌==◌, nat_lt, replicate, Option, Result, Ok, Err, eqb-false, le-ltb, lt-ltb, ltb-false, ne_eqb}
+use Rattle.avc_mbsyntax.proofs.Common.{Fault, Mb, Bits, more_data, ue, macroblock, SliceMbs, SliceStart, after, after_run, context}
+use Rattle.avc_mbsyntax.proofs.Common.{data_from, ended, from_run, i_data, left_total_coeffs, p_data, placed, skipped, stopped}
+use Rattle.avc_mbsyntax.proofs.Common.{up_total_coeffs, where_room, after_skipped, one_more, rest_at, IsStage, eq-eqb}
 use Rattle.std.proofs.lemmas.List.{length-replicate}
-use Rattle.avc_types.specs.declared.fault.Fault.{Fault}
 use Rattle.avc_types.specs.declared.fault.Fault.TheVariants as faults
-use Rattle.avc_types.specs.Macroblock.{Mb}
 use Rattle.avc_types.specs.Pictures.{PicMb}
-use Rattle.avc_bits.specs.Bits.{Bits, more_data}
-use Rattle.avc_bits.specs.Codes.{ue}
 use Rattle.avc_neigh.specs.declared.facts.TotalCoeffs.{TotalCoeffs}
 use Rattle.avc_mbsyntax.specs.declared.stage.Stage.{Stage}
-use Rattle.avc_mbsyntax.specs.Reading.{macroblock}
-use Rattle.avc_mbsyntax.specs.SliceData.{SliceMbs, SliceStart, after, after_run, context, data_from, ended, from_run, i_data, left_total_coeffs, p_data, placed, skipped, stopped, up_total_coeffs, where_room}
 use Rattle.avc_mbsyntax.specs.Stages.{stage_after}
-use Rattle.avc_mbsyntax.specs.Rest.{after_skipped, one_more, rest_at, IsStage}
 
 -- ---- one macroblock
 
@@ -31,10 +26,7 @@ one_same false (Err f) k k' same = refl
 one_same false (Ok r) k k' same = ap (λ x. after (r.0 ∷ []) (elim (more_data r.1) [ true ↦ x | false ↦ ended ])) (same r refl)
 
 pub is_full : (n size r : ℕ) → size ≡ n + r → r ≡ 0 → (n == size) ≡ true
-is_full n size r room none = let same : size ≡ n = omega (arith, room, none) in rw same (same_is n)
-  where
-    same_is : (n : ℕ) → (n == n) ≡ true
-    same_is n = grind arith
+is_full n size r room none = eq-eqb n size (omega (arith, room, none))
 
 pub is_open : (n size r : ℕ) → size ≡ n + r → r ≢ 0 → (n == size) ≡ false
 is_open n size r room some = ne_eqb n size (λ e. some (omega (arith, room, e)))
@@ -48,9 +40,6 @@ one_full s before qp b full = ap (λ t. one_with t (macroblock (context s before
 one_found : (s : SliceStart) (before : List PicMb) (qp : ℕ) (b : Bits) (o : Result (Mb × Bits) Fault) → (length before == s.size) ≡ false → macroblock (context s before qp) b ≡ o → one_more s before qp b ≡ one_with false o (data_after s before)
 one_found s before qp b o room read =
     ap (λ t. one_with t (macroblock (context s before qp) b) (data_after s before)) room ∙ ap (λ x. one_with false x (data_after s before)) read
-
-pub one_fault : (s : SliceStart) (before : List PicMb) (qp : ℕ) (b : Bits) (f : Fault) → (length before == s.size) ≡ false → macroblock (context s before qp) b ≡ Err f → one_more s before qp b ≡ stopped f
-one_fault s before qp b f room read = one_found s before qp b (Err f) room read
 
 next_stage : (more : Bool) (s : SliceStart) (before : List PicMb) (qp : ℕ) (b : Bits) → elim more [ true ↦ data_from s before qp b | false ↦ ended ] ≡ rest_at (stage_after more) s before qp b
 next_stage true s before qp b = refl
@@ -75,6 +64,9 @@ one_longer before m size r room some = omega (arith, length-append before (m ∷
 
 -- ---- I slices
 
+intra_data : (s : SliceStart) (before : List PicMb) (qp : ℕ) (b : Bits) → s.is_p ≡ false → data_from s before qp b ≡ i_data s (s.size - length before) before qp b
+intra_data s before qp b intra = rw intra refl
+
 i_start_with : (n : ℕ) (s : SliceStart) (before : List PicMb) (qp : ℕ) (b : Bits) → s.is_p ≡ false → s.size ≡ length before + n → i_data s n before qp b ≡ one_more s before qp b
 i_start_with zero s before qp b intra room = sym (one_full s before qp b (is_full (length before) s.size zero room refl))
 i_start_with (suc n) s before qp b intra room =
@@ -85,19 +77,15 @@ i_start_with (suc n) s before qp b intra room =
     ap (λ m. i_data s m (before ++ placed s r.0 ∷ []) (r.0).qp r.1) left
     ∙ sym (intra_data s (before ++ placed s r.0 ∷ []) (r.0).qp r.1 intra))
     ∙ ap (λ t. one_with t (macroblock (context s before qp) b) (λ r. data_from s (before ++ placed s r.0 ∷ []) (r.0).qp r.1)) (sym is)
-  where
-    intra_data : (s : SliceStart) (before : List PicMb) (qp : ℕ) (b : Bits) → s.is_p ≡ false → data_from s before qp b ≡ i_data s (s.size - length before) before qp b
-    intra_data s before qp b intra = ap (λ p. elim p [ true ↦ p_data s (s.size - length before) before qp b | false ↦ i_data s (s.size - length before) before qp b ]) intra
 
 pub i_start : (s : SliceStart) (before : List PicMb) (qp r : ℕ) (b : Bits) → s.is_p ≡ false → s.size ≡ length before + r → data_from s before qp b ≡ one_more s before qp b
 i_start s before qp r b intra room =
-    ap (λ p. elim p [ true ↦ p_data s (s.size - length before) before qp b | false ↦ i_data s (s.size - length before) before qp b ]) intra
-    ∙ i_start_with (s.size - length before) s before qp b intra (omega (arith, room))
+    intra_data s before qp b intra ∙ i_start_with (s.size - length before) s before qp b intra (omega (arith, room))
 
 -- ---- P slices
 
 inter_data : (s : SliceStart) (before : List PicMb) (qp : ℕ) (b : Bits) → s.is_p ≡ true → data_from s before qp b ≡ p_data s (s.size - length before) before qp b
-inter_data s before qp b inter = ap (λ p. elim p [ true ↦ p_data s (s.size - length before) before qp b | false ↦ i_data s (s.size - length before) before qp b ]) inter
+inter_data s before qp b inter = rw inter refl
 
 abbrev over_with : (over : Bool) → SliceMbs → SliceMbs
 over_with over x = elim over [ true ↦ stopped faults.TooManyMacroblocks | false ↦ x ]

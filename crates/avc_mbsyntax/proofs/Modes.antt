@@ -1,11 +1,7 @@
 -- prev_intra4x4_pred_mode_flag and rem_intra4x4_pred_mode from the next four bits.
 use Rattle.std.proofs.Common.{◌≡◌, ℕ, ◌+◌, ◌/◌, ◌%◌, ◌^◌, ◌<◌, ◌≤◌, Bool, true, false, List, [], ◌∷◌, ◌++◌, take, Some, None, refl, ap, sym, ◌∙◌, arith}
-use Rattle.std.specs.Prelude.{replicate, ◌==◌}
-use Rattle.std.proofs.lemmas.Bool.Decides.{nat_tests}
-use Rattle.avc_bits.specs.Bits.{Bits, ◌>>=◌, bits_of, give, number_of}
-use Rattle.avc_bits.specs.Codes.{skip}
+use Rattle.avc_mbsyntax.proofs.Common.{replicate, ◌==◌, nat_tests, Bits, ◌>>=◌, bits_of, give, number_of, skip, block_mode}
 use Rattle.avc_bits.proofs.Numbers.{number-bits_of}
-use Rattle.avc_mbsyntax.specs.Reading.{block_mode}
 
 -- the first of some bits
 abbrev first : List Bool → Bool

@@ -1,8 +1,7 @@
 -- How many parts a macroblock has.
-use Rattle.std.proofs.Common.{◌≡◌, ℕ, ◌+◌, List, [], ◌∷◌, length, refl, ◌∙◌, arith, get_or, length-append}
+use Rattle.avc_mbsyntax.proofs.Common.{◌≡◌, ℕ, ◌+◌, List, [], ◌∷◌, length, refl, ◌∙◌, arith, get_or, length-append, Sub8x8, Sub8x4, Sub4x8}
+use Rattle.avc_mbsyntax.proofs.Common.{Sub4x4, parts_of_quarter, parts_of_quarters, quarter_x, quarter_y}
 use Rattle.avc_types.specs.declared.macroblock.SubMbType.{SubMbType}
-use Rattle.avc_types.specs.declared.macroblock.SubMbType.TheVariants.{Sub8x8, Sub8x4, Sub4x8, Sub4x4}
-use Rattle.avc_types.specs.Macroblock.{parts_of_quarter, parts_of_quarters, quarter_x, quarter_y}
 
 abbrev pub count : SubMbType → ℕ
 count s = length (parts_of_quarter s 0 0 0)

@@ -1,11 +1,7 @@
 -- Worked examples of macroblocks.
-use Rattle.std.specs.Prelude.{◌≡◌, ℕ, pos, false, List, [], ◌∷◌, replicate, None, Result, Ok, Err, refl}
-use Rattle.avc_types.specs.declared.fault.Fault.{Fault}
+use Rattle.avc_mbsyntax.proofs.Common.{◌≡◌, ℕ, pos, false, List, [], ◌∷◌, replicate, None, Result, Ok, Err, refl, Fault, Residual, i_16x16}
+use Rattle.avc_mbsyntax.proofs.Common.{Mb, start, blocks, macroblock, Context}
 use Rattle.avc_types.specs.declared.fault.Fault.TheVariants as faults
-use Rattle.avc_types.specs.Macroblock.{Residual, i_16x16, Mb}
-use Rattle.avc_bits.specs.Bits.{start}
-use Rattle.avc_mbsyntax.specs.Reading.{blocks, macroblock}
-use Rattle.avc_mbsyntax.specs.declared.context.Context.{Context}
 
 abbrev first : Context
 first = record { is_p = false; active_count = 0; qp = 26; left = None; up = None }

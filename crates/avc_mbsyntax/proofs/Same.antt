@@ -1,16 +1,7 @@
 -- A part of the syntax in other words.
-use Rattle.std.proofs.Common.{◌≡◌, ◌≢◌, ℕ, zero, suc, ◌-◌, ℤ, pos, min, true, false, ap, refl, ◌∙◌, sym, arith}
-use Rattle.std.specs.Prelude.{Bool, Result, Ok, Err, ◌==◌}
-use Rattle.std.proofs.lemmas.Bool.{ne_eqb}
-use Rattle.avc_types.specs.declared.fault.Fault.{Fault}
-use Rattle.avc_types.specs.Macroblock.{Mb}
-use Rattle.avc_bits.specs.Bits.{Bits, Read}
-use Rattle.avc_bits.specs.Reader.{Reads, reader_bits}
-use Rattle.avc_bits.specs.declared.reader.BitReader.{BitReader}
-use Rattle.avc_cavlc.specs.Block.{residual_block}
-use Rattle.avc_mbsyntax.specs.Reading.{block_where, i_16x16_mb, i_mb, i_pcm_mb}
-use Rattle.avc_mbsyntax.specs.declared.context.Context.{Context}
-use Rattle.avc_mbsyntax.specs.Steps.{ReadsInto}
+use Rattle.avc_mbsyntax.proofs.Common.{◌≡◌, ◌≢◌, ℕ, zero, suc, ◌-◌, ℤ, pos, min, true, false, ap, refl, ◌∙◌, sym, arith, Bool, Result, Ok}
+use Rattle.avc_mbsyntax.proofs.Common.{Err, ◌==◌, ne_eqb, Fault, Mb, Bits, Read, Reads, reader_bits, BitReader, residual_block, block_where}
+use Rattle.avc_mbsyntax.proofs.Common.{i_16x16_mb, i_mb, i_pcm_mb, Context, ReadsInto}
 use Rattle.avc_mbsyntax.proofs.BlockSteps.{block_capped}
 
 pub reads_same : {V : Type 0} (result : Result V Fault) (p q : Read V) (old new : BitReader) → ((b : Bits) → p b ≡ q b) → Reads result p old new → Reads result q old new

@@ -1,16 +1,8 @@
 -- The motion of a macroblock by its neighbours, and as found by sample coordinates.
-use Rattle.std.specs.Prelude.{negsuc, slice_index, slice_index_or, take}
-use Rattle.std.proofs.Common.{◌≡◌, ◌∙◌, ◌<◌, ◌≤◌, ◌+◌, ℕ, ℤ, pos, ◌-ℤ◌, ◌≤ℤ◌, List, [], ◌∷◌, length, refl, sym, ap, arith}
-use Rattle.std.proofs.lemmas.List.{get_or-take}
-use Rattle.std.proofs.lemmas.Int.{ints}
-use Rattle.avc_types.specs.declared.macroblock.Mvd.{Mvd}
-use Rattle.avc_types.specs.declared.macroblock.Part.{Part}
-use Rattle.avc_types.specs.declared.macroblock.PMbType.{PMbType}
-use Rattle.avc_neigh.specs.BlockNear.{IsAsked}
-use Rattle.avc_neigh.specs.declared.facts.Motion.{Motion}
-use Rattle.avc_neigh.specs.declared.facts.Motion.TheVariants.{Inter as inter}
+use Rattle.avc_motion.proofs.Common.{slice_index, take, ◌≡◌, ◌∙◌, ◌<◌, ◌≤◌, ◌+◌, ℕ, ℤ, pos, ◌-ℤ◌, List, []}
+use Rattle.avc_motion.proofs.Common.{◌∷◌, length, refl, ap, arith, get_or-take, ints, Mvd, Part, PMbType, IsAsked, Motion, inter, Near}
+use Rattle.avc_motion.proofs.Common.{else_motion, neighbours_of, predicted_vector, sum_with_mvd, motion_of_part, motion_of_parts, with_part}
 use Rattle.avc_motion.specs.declared.neighbouring.NeighbouringPartitions.{NeighbouringPartitions}
-use Rattle.avc_motion.specs.Motion.{Near, else_motion, neighbours_of, predicted_vector, sum_with_mvd, motion_of_part, motion_of_parts, with_part}
 use Rattle.avc_motion.proofs.Placed.{IsPlaced, AllPlaced}
 
 -- the four places

@@ -1,14 +1,7 @@
 -- A macroblock of one partition: all its blocks have one motion.
-use Rattle.std.specs.Prelude.{if◌then◌else◌, Some, None, slice_index}
-use Rattle.std.proofs.Common.{◌≡◌, ℕ, List, [], ◌∷◌, Bool, true, false, refl, sym, ap, ◌∙◌, subst}
-use Rattle.std.proofs.lemmas.Option.{same_Some}
-use Rattle.avc_types.specs.declared.macroblock.Mvd.{Mvd}
-use Rattle.avc_types.specs.declared.macroblock.PMbType.{PMbType}
-use Rattle.avc_types.specs.declared.macroblock.PMbType.TheVariants.{P16x16, P16x8, P8x16, P8x8, P8x8Ref0}
-use Rattle.avc_types.specs.Macroblock.{part, parts_of}
-use Rattle.avc_neigh.specs.declared.facts.Motion.{Motion}
-use Rattle.avc_motion.specs.Motion.{AreOfOneMotion, Near, is_in_range, is_one_partition, motion_of_part, no_motion, with_part}
-use Rattle.avc_motion.specs.Decoding.{decoded}
+use Rattle.avc_motion.proofs.Common.{if◌then◌else◌, Some, None, slice_index, ◌≡◌, ℕ, List, [], ◌∷◌, Bool, true, false, refl, sym, ap, ◌∙◌}
+use Rattle.avc_motion.proofs.Common.{subst, same_Some, Mvd, PMbType, P16x16, P16x8, P8x16, P8x8, P8x8Ref0, part, parts_of, Motion}
+use Rattle.avc_motion.proofs.Common.{AreOfOneMotion, Near, is_in_range, is_one_partition, motion_of_part, no_motion, with_part, decoded}
 
 filled_alike : (v : Motion) → AreOfOneMotion (with_part no_motion (part 0 0 16 16 0) v)
 unfolding with_part

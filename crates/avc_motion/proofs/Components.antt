@@ -1,17 +1,8 @@
 -- Vectors by their components.
-use Rattle.std.specs.Prelude.{if◌then◌else◌, Option, Some, None, Result, Ok, Err}
-use Rattle.std.proofs.Common.{◌≡◌, ◌∙◌, ℕ, ℤ, ◌+ℤ◌, to_z, of_z, w16, FitsSigned, Bool, true, false, refl, sym, ap}
-use Rattle.std.proofs.lemmas.Int.{to_z-of_z}
-use Rattle.std.proofs.lemmas.Option.{same_Some}
+use Rattle.avc_motion.proofs.Common.{if◌then◌else◌, Option, Some, None, Ok, Err, ◌≡◌, ℕ, ℤ, ◌+ℤ◌, to_z, of_z, w16, FitsSigned}
+use Rattle.avc_motion.proofs.Common.{Bool, true, false, refl, sym, to_z-of_z, same_Some, VectorRange, Mv, Mvd, inter}
+use Rattle.avc_motion.proofs.Common.{is_16_bit, sum_with_mvd, in_range_only}
 use Rattle.avc_types.specs.Arithmetic.{median}
-use Rattle.avc_types.specs.declared.fault.Fault.{Fault}
-use Rattle.avc_types.specs.declared.fault.Fault.TheVariants.{VectorRange}
-use Rattle.avc_types.specs.declared.vector.Mv.{Mv}
-use Rattle.avc_types.specs.declared.macroblock.Mvd.{Mvd}
-use Rattle.avc_neigh.specs.declared.facts.Motion.{Motion}
-use Rattle.avc_neigh.specs.declared.facts.Motion.TheVariants.{Inter as inter}
-use Rattle.avc_motion.specs.Motion.{is_16_bit, sum_with_mvd}
-use Rattle.avc_motion.specs.Decoding.{in_range_only}
 
 -- A median of numbers that passed through their bits.
 pub median_back : (r x y z : ℤ) → FitsSigned w16 x → FitsSigned w16 y → FitsSigned w16 z → FitsSigned w16 r

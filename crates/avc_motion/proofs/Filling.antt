@@ -1,15 +1,9 @@
 -- The blocks of a part filled in, block by block.
-use Rattle.std.specs.Prelude.{if◌then◌else◌}
-use Rattle.std.proofs.Common.{◌≡◌, ◌<◌, ◌≤◌, ◌+◌, ◌*◌, ℕ, List, length, slice_index_or, slice_set, refl, arith, ap, ◌∙◌, sym, inl, inr}
+use Rattle.avc_motion.proofs.Common.{if◌then◌else◌, ◌≡◌, ◌<◌, ◌≤◌, ◌+◌, ◌*◌, ℕ, List, length, slice_index_or, slice_set, refl, arith, ap}
+use Rattle.avc_motion.proofs.Common.{◌∙◌, sym, inl, inr, same_lists, get_or-set_same, get_or-set_other, get_or_default, below_more, Part}
+use Rattle.avc_motion.proofs.Common.{Motion, absent, with_part, is_in_part, IsQuarterFilled}
 use Rattle.std.proofs.lemmas.Bool.{cases_lt}
-use Rattle.std.proofs.lemmas.List.{same_lists, get_or-set_same, get_or-set_other, get_or_default}
 use Rattle.std.proofs.lemmas.List.FromFn.{get_or-map-range_with_len}
-use borrow.Author.Count.{below_more}
-use Rattle.avc_types.specs.declared.macroblock.Part.{Part}
-use Rattle.avc_neigh.specs.declared.facts.Motion.{Motion}
-use Rattle.avc_neigh.specs.declared.facts.Motion.TheVariants.{Absent as absent}
-use Rattle.avc_motion.specs.Motion.{with_part, is_in_part}
-use Rattle.avc_motion.specs.Decoding.{IsQuarterFilled}
 
 pub length-with_part : (mine : List Motion) (part : Part) (m : Motion) → length (with_part mine part m) ≡ 16
 unfolding with_part

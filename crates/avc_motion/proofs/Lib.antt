@@ -1,3 +1,4 @@
+mod Common
 mod Rows
 pub mod Agreeing
 pub mod Alike

@@ -1,12 +1,7 @@
 -- Where the parts of a macroblock lie.
-use Rattle.std.proofs.Common.{◌≡◌, ◌<◌, ◌≤◌, ◌+◌, ℕ, List, [], ◌∷◌, ◌++◌, length, arith}
-use Rattle.avc_types.specs.declared.macroblock.Part.{Part}
-use Rattle.avc_types.specs.declared.macroblock.PMbType.{PMbType}
-use Rattle.avc_types.specs.declared.macroblock.PMbType.TheVariants.{P16x16, P16x8, P8x16, P8x8, P8x8Ref0}
-use Rattle.avc_types.specs.declared.macroblock.SubMbType.{SubMbType}
-use Rattle.avc_types.specs.declared.macroblock.SubMbType.TheVariants.{Sub8x8, Sub8x4, Sub4x8, Sub4x4}
-use Rattle.avc_types.specs.Macroblock.{parts_of, parts_of_quarter, parts_of_quarters, partitions, quarter_x, quarter_y}
-use Rattle.avc_motion.specs.Decoding.{HasFourQuarters}
+use Rattle.avc_motion.proofs.Common.{◌<◌, ◌≤◌, ◌+◌, ℕ, List, [], ◌∷◌, ◌++◌, length, arith, Part, PMbType, P16x16, P16x8, P8x16, P8x8}
+use Rattle.avc_motion.proofs.Common.{P8x8Ref0, SubMbType, Sub8x8, Sub8x4, Sub4x8, Sub4x4, parts_of, parts_of_quarter, parts_of_quarters}
+use Rattle.avc_motion.proofs.Common.{partitions, quarter_x, quarter_y, HasFourQuarters}
 
 -- inside the macroblock, and of one of n partitions
 pub record IsPlaced (n : ℕ) (p : Part) : Type 0 where

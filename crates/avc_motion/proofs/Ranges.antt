@@ -1,42 +1,22 @@
 -- Vectors that can be had, and parts up to the first that can't.
-use Rattle.std.specs.Prelude.{if◌then◌else◌, not, ◌&&◌, Option, Some, None, slice_index, slice_index_or}
-use Rattle.std.specs.List.{list_all}
-use Rattle.std.proofs.Common.{◌≡◌, ◌∙◌, ◌<◌, ◌+◌, ℕ, zero, suc, List, [], ◌∷◌, length, Bool, true, false, refl, sym, ap, arith}
-use Rattle.std.proofs.lemmas.Option.{same_Some}
-use Rattle.avc_types.specs.declared.macroblock.Mvd.{Mvd}
-use Rattle.avc_types.specs.declared.macroblock.Part.{Part}
-use Rattle.avc_types.specs.declared.macroblock.PMbType.{PMbType}
-use Rattle.avc_neigh.specs.declared.facts.Motion.{Motion}
-use Rattle.avc_neigh.specs.declared.facts.Motion.TheVariants.{Absent as absent}
-use Rattle.avc_motion.specs.Motion.{Near, is_in_part, is_in_range, motion_of_part, motion_of_parts, with_part}
-use Rattle.avc_motion.specs.Decoding.{decoded}
+use Rattle.avc_motion.proofs.Common.{if◌then◌else◌, not, Option, Some, None, slice_index, slice_index_or, list_all, ◌≡◌, ◌∙◌, ◌<◌}
+use Rattle.avc_motion.proofs.Common.{ℕ, zero, suc, List, [], ◌∷◌, length, Bool, true, false, refl, sym, ap, arith, same_Some, Mvd}
+use Rattle.avc_motion.proofs.Common.{Part, PMbType, Motion, absent, Near, is_in_part, is_in_range, motion_of_part, motion_of_parts}
+use Rattle.avc_motion.proofs.Common.{with_part, decoded}
 use Rattle.avc_motion.proofs.Filling.{at-with_part, length-with_part}
-use Rattle.avc_motion.proofs.Apart.{Apart, HasOwn, is_off, and_first, and_second}
-
-by_test : {P : Type 0} (b : Bool) → (b ≡ true → P) → (b ≡ false → P) → P
-by_test true f g = f refl
-by_test false f g = g refl
-
-both : (a b : Bool) → a ≡ true → b ≡ true → (a && b) ≡ true
-both true b e f = f
-both false b e f = cc
+use Rattle.std.proofs.Common.{inl, inr}
+use Rattle.std.proofs.lemmas.Bool.{and_parts, and_from, and_left, and_right, cond-true, cond-false, not-true, cases_Bool}
+use Rattle.avc_motion.proofs.Apart.{Apart, HasOwn, is_off}
+use Rattle.avc_motion.proofs.Stepping.{some_where}
 
 pub all_in_range : (xs : List Motion) → ((k : ℕ) → k < length xs → is_in_range (slice_index_or xs k absent) ≡ true) → list_all is_in_range xs ≡ true
 all_in_range [] f = refl
-all_in_range (x ∷ xs) f = both (is_in_range x) (list_all is_in_range xs) (f 0 (omega arith)) (all_in_range xs (λ k h. f (suc k) (omega (arith, h))))
-
-second_false : (a b : Bool) → b ≡ false → (a && b) ≡ false
-second_false true b e = e
-second_false false b e = refl
-
-first_false : (a b : Bool) → a ≡ false → (a && b) ≡ false
-first_false true b e = cc
-first_false false b e = refl
+all_in_range (x ∷ xs) f = and_from (is_in_range x) (list_all is_in_range xs) (f 0 (omega arith)) (all_in_range xs (λ k h. f (suc k) (omega (arith, h))))
 
 not_all : (xs : List Motion) (k : ℕ) → is_in_range (slice_index_or xs k absent) ≡ false → list_all is_in_range xs ≡ false
 not_all [] k e = cc
-not_all (x ∷ xs) zero e = first_false (is_in_range x) (list_all is_in_range xs) e
-not_all (x ∷ xs) (suc k) e = second_false (is_in_range x) (list_all is_in_range xs) (not_all xs k e)
+not_all (x ∷ xs) zero e = and_left (is_in_range x) (list_all is_in_range xs) e
+not_all (x ∷ xs) (suc k) e = and_right (is_in_range x) (list_all is_in_range xs) (not_all xs k e)
 
 -- each block's vector can be had
 abbrev InRange : List Motion → Type 0
@@ -50,29 +30,9 @@ filled_in_range : (mine : List Motion) (p : Part) (m : Motion) → InRange mine 
 filled_in_range mine p m each e k h =
     ap is_in_range (at-with_part mine p m k h) ∙ either_in_range (is_in_part p k) m (slice_index_or mine k absent) e (each k h)
 
-some_where : (b : Bool) (x : Option (List Motion)) (m : List Motion) → (if b then x else None) ≡ Some m → b ≡ true
-some_where true x m e = refl
-some_where false x m e = cc
-
-some_is : (b : Bool) (x : Option (List Motion)) (m : List Motion) → (if b then x else None) ≡ Some m → x ≡ Some m
-some_is true x m e = e
-some_is false x m e = cc
-
 none_is : (b : Bool) (x : Option (List Motion)) → b ≡ true → (if b then x else None) ≡ None → x ≡ None
 none_is true x t e = e
 none_is false x t e = cc
-
-not_true : (b : Bool) → not b ≡ true → b ≡ false
-not_true true e = cc
-not_true false e = refl
-
-other_where : (b : Bool) (m v : Motion) → b ≡ false → (if b then m else v) ≡ v
-other_where true m v e = cc
-other_where false m v e = refl
-
-this_where : (b : Bool) (m v : Motion) → b ≡ true → (if b then m else v) ≡ m
-this_where true m v e = refl
-this_where false m v e = cc
 
 module _ (near : Near) (shape : PMbType) (refs : List ℕ) where
   abbrev moved : List Motion → Part → Mvd → Motion
@@ -84,23 +44,22 @@ module _ (near : Near) (shape : PMbType) (refs : List ℕ) where
   decoded_is mine m (p ∷ ps) [] e = same_Some mine m e
   decoded_is mine m (p ∷ ps) (d ∷ ms) e =
       let v = moved mine p d in
-      decoded_is (with_part mine p v) m ps ms (some_is (is_in_range v) (decoded near shape refs (with_part mine p v) ps ms) m e)
+      decoded_is (with_part mine p v) m ps ms (some_where (is_in_range v) (decoded near shape refs (with_part mine p v) ps ms) m e).1
 
   pub decoded_in_range : (mine m : List Motion) (ps : List Part) (ms : List Mvd) → InRange mine → decoded near shape refs mine ps ms ≡ Some m → InRange m
   decoded_in_range mine m [] ms each e = λ k h. ap (λ xs. is_in_range (slice_index_or xs k absent)) (sym (same_Some mine m e)) ∙ each k h
   decoded_in_range mine m (p ∷ ps) [] each e = λ k h. ap (λ xs. is_in_range (slice_index_or xs k absent)) (sym (same_Some mine m e)) ∙ each k h
   decoded_in_range mine m (p ∷ ps) (d ∷ ms) each e =
       let v = moved mine p d in
-      decoded_in_range (with_part mine p v) m ps ms
-      (filled_in_range mine p v each (some_where (is_in_range v) (decoded near shape refs (with_part mine p v) ps ms) m e))
-      (some_is (is_in_range v) (decoded near shape refs (with_part mine p v) ps ms) m e)
+      let is = some_where (is_in_range v) (decoded near shape refs (with_part mine p v) ps ms) m e in
+      decoded_in_range (with_part mine p v) m ps ms (filled_in_range mine p v each is.0) is.1
 
   pub decoded_long : (mine m : List Motion) (ps : List Part) (ms : List Mvd) → length mine ≡ 16 → decoded near shape refs mine ps ms ≡ Some m → length m ≡ 16
   decoded_long mine m [] ms long e = ap length (sym (same_Some mine m e)) ∙ long
   decoded_long mine m (p ∷ ps) [] long e = ap length (sym (same_Some mine m e)) ∙ long
   decoded_long mine m (p ∷ ps) (d ∷ ms) long e =
       let v = moved mine p d in
-      decoded_long (with_part mine p v) m ps ms (length-with_part mine p v) (some_is (is_in_range v) (decoded near shape refs (with_part mine p v) ps ms) m e)
+      decoded_long (with_part mine p v) m ps ms (length-with_part mine p v) (some_where (is_in_range v) (decoded near shape refs (with_part mine p v) ps ms) m e).1
 
   -- a block in none of the parts stays as it is
   stays : (mine : List Motion) (ps : List Part) (ms : List Mvd) (k : ℕ) → k < 16 → is_off k ps ≡ true
@@ -109,9 +68,8 @@ module _ (near : Near) (shape : PMbType) (refs : List ℕ) where
   stays mine (p ∷ ps) [] k h e = refl
   stays mine (p ∷ ps) (d ∷ ms) k h e =
       let v = moved mine p d in
-      stays (with_part mine p v) ps ms k h (and_second (not (is_in_part p k)) (is_off k ps) e)
-      ∙ at-with_part mine p v k h
-      ∙ other_where (is_in_part p k) v (slice_index_or mine k absent) (not_true (is_in_part p k) (and_first (not (is_in_part p k)) (is_off k ps) e))
+      let both = and_parts (not (is_in_part p k)) (is_off k ps) e in
+      stays (with_part mine p v) ps ms k h both.1 ∙ at-with_part mine p v k h ∙ cond-false _ _ _ (not-true _ both.0)
 
   out_at : (mine : List Motion) (p : Part) (ps : List Part) (ms : List Mvd) (v : Motion) → HasOwn p ps → is_in_range v ≡ false
       → list_all is_in_range (motion_of_parts near shape refs (with_part mine p v) ps ms) ≡ false
@@ -120,7 +78,7 @@ module _ (near : Near) (shape : PMbType) (refs : List ℕ) where
       (ap is_in_range
       (stays (with_part mine p v) ps ms own.block own.below own.alone
       ∙ at-with_part mine p v own.block own.below
-      ∙ this_where (is_in_part p own.block) v (slice_index_or mine own.block absent) own.inside)
+      ∙ cond-true _ _ _ own.inside)
       ∙ out)
 
   pub none_out : (mine : List Motion) (ps : List Part) (ms : List Mvd) → Apart ps → decoded near shape refs mine ps ms ≡ None
@@ -129,6 +87,7 @@ module _ (near : Near) (shape : PMbType) (refs : List ℕ) where
   none_out mine (p ∷ ps) [] apart e = cc
   none_out mine (p ∷ ps) (d ∷ ms) apart e =
       let v = moved mine p d in
-      by_test (is_in_range v)
-      (λ t. none_out (with_part mine p v) ps ms apart.1 (none_is (is_in_range v) (decoded near shape refs (with_part mine p v) ps ms) t e))
-      (λ f. out_at mine p ps ms v apart.0 f)
+      elim (cases_Bool (is_in_range v)) [
+        | inl t ↦ none_out (with_part mine p v) ps ms apart.1 (none_is (is_in_range v) (decoded near shape refs (with_part mine p v) ps ms) t e)
+        | inr f ↦ out_at mine p ps ms v apart.0 f
+      ]

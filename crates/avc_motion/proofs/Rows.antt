@@ -1,12 +1,8 @@
 -- Worked examples, which hold by computing both sides.
-use Rattle.std.specs.Prelude.{◌≡◌, refl, ℕ, ℤ, pos, negsuc, false, true, List, [], ◌∷◌, replicate, Ok, Err}
-use Rattle.avc_types.specs.declared.fault.Fault.TheVariants.{VectorRange}
-use Rattle.avc_types.specs.declared.vector.Mv.{Mv}
-use Rattle.avc_types.specs.declared.macroblock.PMbType.TheVariants.{P16x16, P16x8, P8x16}
-use Rattle.avc_types.specs.Macroblock.{MbSyntax, Mb, Residual, p_skip, p_inter}
+use Rattle.avc_motion.proofs.Common.{◌≡◌, refl, ℤ, pos, negsuc, false, [], ◌∷◌, replicate, Ok, Err, VectorRange, Mv, P16x16}
+use Rattle.avc_motion.proofs.Common.{P16x8, P8x16, MbSyntax, Residual, p_skip, p_inter, absent, intra, inter, motion_before}
+use Rattle.avc_motion.proofs.Common.{motion_or_fault, median_prediction, predicted_vector, skip_vector, with_part}
 use Rattle.avc_types.specs.Pictures.{Coded, PicMb}
-use Rattle.avc_neigh.specs.declared.facts.Motion.TheVariants.{Absent as absent, Intra as intra, Inter as inter}
-use Rattle.avc_motion.specs.Motion.{motion_before, motion_or_fault, median_prediction, predicted_vector, skip_vector, with_part}
 
 abbrev vector : ℤ → ℤ → Mv
 vector x y = record { x = x; y = y }

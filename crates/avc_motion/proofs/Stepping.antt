@@ -1,44 +1,21 @@
 -- One more part of a list of parts.
-use Rattle.std.specs.Prelude.{if◌then◌else◌, Option, Some, None, Result, Ok, Err, slice_index, slice_index_or}
-use Rattle.std.proofs.Common.{◌≡◌, ◌∙◌, ◌<◌, ◌≤◌, ◌+◌, ◌-◌, ℕ, List, [], ◌∷◌, ◌++◌, drop, take, length, Bool, true, false, refl, sym, ap, subst, arith}
-use Rattle.std.proofs.lemmas.List.{at_drop_more, drop-drop, length-drop, take_rest}
+use Rattle.avc_motion.proofs.Common.{if◌then◌else◌, Option, Some, None, Result, Ok, Err, slice_index, slice_index_or, ◌≡◌, ◌∙◌, ◌<◌, ◌≤◌}
+use Rattle.avc_motion.proofs.Common.{◌+◌, ◌-◌, ℕ, List, [], ◌∷◌, ◌++◌, drop, take, length, Bool, true, false, refl, sym, ap, subst, arith}
+use Rattle.avc_motion.proofs.Common.{at_drop_more, drop-drop, length-drop, take_rest, same_Some, Fault, VectorRange, Mvd, Part, PMbType}
+use Rattle.avc_motion.proofs.Common.{SubMbType, parts_of_quarter, parts_of_quarters, quarter_x, quarter_y, Motion, Near, motion_of_part}
+use Rattle.avc_motion.proofs.Common.{with_part, is_in_range, Decodes, decoded, in_range_only}
 use borrow.Rule.Slice.PartMut.{mid_of}
-use Rattle.std.proofs.lemmas.Option.{same_Some}
-use Rattle.avc_types.specs.declared.fault.Fault.{Fault}
-use Rattle.avc_types.specs.declared.fault.Fault.TheVariants.{VectorRange}
-use Rattle.avc_types.specs.declared.macroblock.Mvd.{Mvd}
-use Rattle.avc_types.specs.declared.macroblock.Part.{Part}
-use Rattle.avc_types.specs.declared.macroblock.PMbType.{PMbType}
-use Rattle.avc_types.specs.declared.macroblock.SubMbType.{SubMbType}
-use Rattle.avc_types.specs.Macroblock.{parts_of_quarter, parts_of_quarters, quarter_x, quarter_y}
-use Rattle.avc_neigh.specs.declared.facts.Motion.{Motion}
-use Rattle.avc_motion.specs.Motion.{Near, motion_of_part, with_part, is_in_range}
-use Rattle.avc_motion.specs.Decoding.{Decodes, decoded, in_range_only}
 
 abbrev result_where : Bool → Motion → Result Motion Fault
 result_where b m = if b then Ok m else Err VectorRange
 
-ok_where : (b : Bool) (m v : Motion) → Ok v ≡ result_where b m → b ≡ true
-ok_where true m v e = refl
+ok_where : (b : Bool) (m v : Motion) → Ok v ≡ result_where b m → (b ≡ true) × (m ≡ v)
+ok_where true m v e = (refl, cc)
 ok_where false m v e = cc
 
-ok_is : (b : Bool) (m v : Motion) → Ok v ≡ result_where b m → m ≡ v
-ok_is true m v e = cc
-ok_is false m v e = cc
-
-err_where : (b : Bool) (m : Motion) (f : Fault) → Err f ≡ result_where b m → b ≡ false
+err_where : (b : Bool) (m : Motion) (f : Fault) → Err f ≡ result_where b m → (b ≡ false) × (f ≡ VectorRange)
 err_where true m f e = cc
-err_where false m f e = refl
-
-err_is : (b : Bool) (m : Motion) (f : Fault) → Err f ≡ result_where b m → f ≡ VectorRange
-err_is true m f e = cc
-err_is false m f e = cc
-
-ok_in_range : (m v : Motion) → Ok v ≡ in_range_only m → is_in_range m ≡ true
-ok_in_range m v e = ok_where (is_in_range m) m v e
-
-ok_motion : (m v : Motion) → Ok v ≡ in_range_only m → m ≡ v
-ok_motion m v e = ok_is (is_in_range m) m v e
+err_where false m f e = (refl, cc)
 
 module _ (near : Near) (shape : PMbType) (refs : List ℕ) (mine : List Motion) (parts : List Part) (mvds : List Mvd) (i : ℕ) (p : Part) (d : Mvd)
     (in_parts : i < length parts) (in_mvds : i < length mvds) where
@@ -55,16 +32,16 @@ module _ (near : Near) (shape : PMbType) (refs : List ℕ) (mine : List Motion) 
     pub goes_on : (v : Motion) (now : List Motion) → Ok v ≡ in_range_only here → now ≡ with_part mine (slice_index_or parts i p) v
         → decoded near shape refs now (drop (i + 1) parts) (drop (i + 1) mvds) ≡ whole
     goes_on v now e filled =
-        let same : here ≡ v = ok_motion here v e in
+        let is = ok_where (is_in_range here) here v e in
         let step : decoded near shape refs mine (drop i parts) (drop i mvds)
         ≡ decoded near shape refs (with_part mine (slice_index_or parts i p) here) (drop (i + 1) parts) (drop (i + 1) mvds)
-        = unrolled ∙ (rw (ok_in_range here v e) refl) in
+        = unrolled ∙ (rw (is.0) refl) in
         ap (λ m. decoded near shape refs m (drop (i + 1) parts) (drop (i + 1) mvds))
-        (filled ∙ ap (λ m. with_part mine (slice_index_or parts i p) m) (sym same))
+        (filled ∙ ap (λ m. with_part mine (slice_index_or parts i p) m) (sym is.1))
         ∙ sym step ∙ so_far
 
     pub stops : (f : Fault) → Err f ≡ in_range_only here → (f ≡ VectorRange) × (whole ≡ None)
-    stops f e = (err_is (is_in_range here) here f e, sym so_far ∙ unrolled ∙ (rw (err_where (is_in_range here) here f e) refl))
+    stops f e = let is = err_where (is_in_range here) here f e in (is.1, sym so_far ∙ unrolled ∙ (rw (is.0) refl))
 
 -- The same parts come to the same.
 pub of_same_parts : (near : Near) (shape : PMbType) (refs : List ℕ) (mine now : List Motion) (mvds : List Mvd) (r : Result (Unit {0}) Fault) (ps qs : List Part)
@@ -73,13 +50,9 @@ of_same_parts near shape refs mine now mvds r ps qs e h = subst (λ (parts : Lis
 
 -- ---- parts before others
 
-some_where : (b : Bool) (x : Option (List Motion)) (m : List Motion) → (if b then x else None) ≡ Some m → b ≡ true
-some_where true x m e = refl
+pub some_where : (b : Bool) (x : Option (List Motion)) (m : List Motion) → (if b then x else None) ≡ Some m → (b ≡ true) × (x ≡ Some m)
+some_where true x m e = (refl, e)
 some_where false x m e = cc
-
-some_is : (b : Bool) (x : Option (List Motion)) (m : List Motion) → (if b then x else None) ≡ Some m → x ≡ Some m
-some_is true x m e = e
-some_is false x m e = cc
 
 pub decoded_before : (near : Near) (shape : PMbType) (refs : List ℕ) (mine m : List Motion) (ps qs : List Part) (ms : List Mvd)
     → length ps ≤ length ms → decoded near shape refs mine ps ms ≡ Some m
@@ -88,9 +61,8 @@ decoded_before near shape refs mine m [] qs ms h e = ap (λ x. decoded near shap
 decoded_before near shape refs mine m (p ∷ ps) qs [] h e = absurd (omega (arith, h))
 decoded_before near shape refs mine m (p ∷ ps) qs (d ∷ ms) h e =
     let v = motion_of_part near shape (slice_index refs p.partition) mine p d in
-    rw (some_where (is_in_range v) (decoded near shape refs (with_part mine p v) ps ms) m e)
-    (decoded_before near shape refs (with_part mine p v) m ps qs ms (omega (arith, h))
-    (some_is (is_in_range v) (decoded near shape refs (with_part mine p v) ps ms) m e))
+    let is = some_where (is_in_range v) (decoded near shape refs (with_part mine p v) ps ms) m e in
+    rw (is.0) (decoded_before near shape refs (with_part mine p v) m ps qs ms (omega (arith, h)) is.1)
 
 none_after : (b : Bool) (x y : Option (List Motion)) → (x ≡ None → y ≡ None) → (if b then x else None) ≡ None → (if b then y else None) ≡ None
 none_after true x y f e = f e

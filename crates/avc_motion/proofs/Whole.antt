@@ -1,18 +1,9 @@
 -- The whole macroblock.
-use Rattle.std.specs.Prelude.{if◌then◌else◌, Option, Some, None, Result, Ok, Err, replicate, slice_index_or, take}
-use Rattle.std.specs.List.{list_all}
-use Rattle.std.proofs.Common.{◌≡◌, ◌∙◌, ◌<◌, ℕ, ℤ, List, length, Bool, true, false, refl, sym, ap, arith}
-use Rattle.std.proofs.lemmas.List.{get_or-replicate}
-use Rattle.avc_types.specs.declared.fault.Fault.{Fault}
-use Rattle.avc_types.specs.declared.fault.Fault.TheVariants.{VectorRange}
-use Rattle.avc_types.specs.declared.macroblock.Mvd.{Mvd}
-use Rattle.avc_types.specs.declared.macroblock.PMbType.{PMbType}
-use Rattle.avc_types.specs.Macroblock.{MbSyntax, p_skip, i_pcm, p_inter, Residual, parts_of, partitions}
-use Rattle.avc_neigh.specs.BlockNear.{IsAsked}
-use Rattle.avc_neigh.specs.declared.facts.Motion.{Motion}
-use Rattle.avc_neigh.specs.declared.facts.Motion.TheVariants.{Absent as absent, Inter as inter}
-use Rattle.avc_motion.specs.Motion.{Near, is_in_range, motion_by, motion_of_parts, motion_or_fault, neighbours_of, no_motion, skip_vector}
-use Rattle.avc_motion.specs.Decoding.{blocks_or_fault, decoded, HasFourQuarters}
+use Rattle.avc_motion.proofs.Common.{if◌then◌else◌, Option, Some, None, Result, Ok, Err, replicate, slice_index_or, take, list_all, ◌≡◌}
+use Rattle.avc_motion.proofs.Common.{◌∙◌, ◌<◌, ℕ, ℤ, List, length, Bool, true, false, refl, sym, ap, arith, get_or-replicate, Fault}
+use Rattle.avc_motion.proofs.Common.{VectorRange, Mvd, PMbType, p_skip, p_inter, Residual, parts_of, partitions, IsAsked}
+use Rattle.avc_motion.proofs.Common.{Motion, absent, inter, Near, is_in_range, motion_by, motion_of_parts, motion_or_fault}
+use Rattle.avc_motion.proofs.Common.{no_motion, skip_vector, blocks_or_fault, decoded, HasFourQuarters}
 use Rattle.avc_motion.proofs.Agreeing.{neighbours_agree, parts_agree, take_differences}
 use Rattle.avc_motion.proofs.Apart.{parts_apart}
 use Rattle.avc_motion.proofs.Placed.{parts_placed}

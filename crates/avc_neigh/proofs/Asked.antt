@@ -1,12 +1,7 @@
 -- The entries that are asked for are those of the neighbours.
-use Rattle.std.proofs.Common.{ℕ, ◌≡◌, ◌≢◌, ◌+◌, ◌-◌, ◌%◌, ◌==◌, suc, arith, Bool, true, false, List, Option, None, length, get_or, sym, ap, ◌∙◌, add-one}
-use Rattle.std.proofs.Math.Nat.{suc-mod, mod-eq_of_lt}
-use Rattle.std.proofs.lemmas.Bool.{ne_eqb}
-use Rattle.std.proofs.lemmas.List.{get_or_default}
-use Rattle.avc_neigh.specs.declared.facts.NeighbourFacts.{NeighbourFacts}
-use Rattle.avc_neigh.specs.declared.row.Place.{Place}
-use Rattle.avc_neigh.specs.Around.{PictureFacts, back, of_slice, mb_a, mb_b, mb_c, mb_d}
-use Rattle.avc_neigh.specs.RowEntries.{AreRowEntries}
+use Rattle.avc_neigh.proofs.Common.{ℕ, ◌≡◌, ◌≢◌, ◌+◌, ◌-◌, ◌%◌, ◌==◌, suc, arith, Bool, true, false, List, Option, None, length, get_or}
+use Rattle.avc_neigh.proofs.Common.{sym, ap, ◌∙◌, add-one, suc-mod, mod-eq_of_lt, ne_eqb, get_or_default, NeighbourFacts, Place}
+use Rattle.avc_neigh.proofs.Common.{PictureFacts, back, of_slice, mb_a, mb_b, mb_c, mb_d, AreRowEntries}
 
 module _ (facts : List NeighbourFacts) (width : ℕ) (p : Place) (has_above : Bool) (entries : List (Option NeighbourFacts))
     (keeps : AreRowEntries facts width p has_above entries) (slice : ℕ) where

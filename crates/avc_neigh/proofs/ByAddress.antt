@@ -1,12 +1,8 @@
 -- Where the neighbours of a macroblock lie, by sample coordinates and by address.
 use Rattle.std.proofs.Common.{ℕ, ◌≡◌, ◌+◌, ◌-◌, ◌*◌, ◌/◌, ◌%◌, ◌==◌, ◌<◌, ◌⊎◌, zero, suc, arith, ℤ, pos, negsuc, ◌+ℤ◌, true, false, nat_lt, List, Option, Some, None, length, inl, inr, refl, sym, ap, ◌∙◌, add-one, lit<}
-use Rattle.std.specs.List.{slice_get}
-use Rattle.std.proofs.Math.Nat.{suc-mod, mod-eq_of_lt, mod_self}
-use Rattle.std.proofs.lemmas.Int.{ints}
-use Rattle.std.proofs.lemmas.Bool.{cases_eq, cases_lt, eq-eqb, ne_eqb, lt-ltb, le-ltb}
-use Rattle.avc_neigh.specs.declared.facts.NeighbourFacts.{NeighbourFacts}
-use Rattle.avc_neigh.specs.Around.{PictureFacts, back, of_slice, mb_a, mb_b, mb_c, mb_d}
-use Rattle.avc_neigh.specs.Blocks.{Location, location_in, location_at}
+use Rattle.avc_neigh.proofs.Common.{slice_get, suc-mod, mod-eq_of_lt, mod_self, ints, cases_eq, cases_lt, eq-eqb, ne_eqb, lt-ltb, le-ltb}
+use Rattle.avc_neigh.proofs.Common.{NeighbourFacts, PictureFacts, back, of_slice, mb_a, mb_b, mb_c, mb_d, Location, location_in}
+use Rattle.avc_neigh.proofs.Common.{location_at}
 use Rattle.avc_neigh.proofs.RowKeeping.{back_none, back_there}
 
 abbrev pub place_of : (b u v : ℕ) → Location
@@ -22,10 +18,10 @@ at_place width r c u v x y column row hu hv inside =
     let m' : (16 * c + u) % 16 ≡ u = omega arith in
     rw (column, row, t, q, q', m, m') refl
 
-left_off : (width : ℕ) (x y : ℤ) → x ≡ negsuc 0 → location_in 16 width x y ≡ None
+pub left_off : (width : ℕ) (x y : ℤ) → x ≡ negsuc 0 → location_in 16 width x y ≡ None
 left_off width x y e = rw e refl
 
-up_off : (width : ℕ) (x y : ℤ) → y ≡ negsuc 0 → location_in 16 width x y ≡ None
+pub up_off : (width : ℕ) (x y : ℤ) → y ≡ negsuc 0 → location_in 16 width x y ≡ None
 up_off width (pos x) y e = rw e refl
 up_off width (negsuc x) y e = refl
 

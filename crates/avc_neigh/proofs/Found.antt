@@ -1,27 +1,17 @@
 -- What is found by sample coordinates is what the neighbours have.
-use Rattle.std.proofs.Common.{ℕ, ◌≡◌, ◌==◌, ◌<◌, ◌+◌, ◌*◌, ◌/◌, ◌%◌, zero, suc, arith, pos, negsuc, ℤ, Bool, true, false, ◌&&◌, if◌then◌else◌, List, [], ◌∷◌, map, Option, Some, None, length, get_or, inl, inr, refl, sym, ap, ◌∙◌, lit<}
+use Rattle.std.proofs.Common.{nat_lt, ℕ, ◌≡◌, ◌==◌, ◌<◌, ◌+◌, ◌*◌, ◌/◌, ◌%◌, zero, suc, arith, pos, negsuc, ℤ, Bool, true, false, ◌&&◌, if◌then◌else◌, List, [], ◌∷◌, map, Option, Some, None, length, get_or, inl, inr, refl, sym, ap, ◌∙◌, lit<}
 use Rattle.avc_neigh.specs.TotalCoeffs.{total_coeffs_of}
-use Rattle.std.specs.List.{slice_get}
-use Rattle.std.specs.Option.{option_map}
-use Rattle.std.proofs.lemmas.Int.{ints}
+use Rattle.avc_neigh.proofs.Common.{slice_get, option_map, ints, get_or_past, cases_eq, cases_lt, eq-eqb, ne_eqb, lt-ltb, le-ltb, PicMb}
+use Rattle.avc_neigh.proofs.Common.{NeighbourFacts, PictureFacts, Around, around, of_slice, block_of, block_near, IsAsked, Location}
+use Rattle.avc_neigh.proofs.Common.{location_at, block_at, same_slice, slices_equal, in_slice, at_location}
+use Rattle.std.proofs.lemmas.List.{length-map}
 use Rattle.std.proofs.lemmas.Nat.{div-add-mod', mod_below}
-use Rattle.std.proofs.lemmas.List.{get_or_past}
 use Rattle.std.proofs.lemmas.Option.{slice_get-map, get_or_from_slice_get}
-use Rattle.std.proofs.lemmas.Bool.{cases_eq, cases_lt, eq-eqb, ne_eqb, lt-ltb, le-ltb}
 use Rattle.avc_types.specs.Macroblock.{Mb}
-use Rattle.avc_types.specs.Pictures.{PicMb}
-use Rattle.avc_neigh.specs.declared.facts.NeighbourFacts.{NeighbourFacts}
-use Rattle.avc_neigh.specs.Around.{PictureFacts, Around, around, of_slice}
-use Rattle.avc_neigh.specs.BlockNear.{block_of, block_near, IsAsked}
-use Rattle.avc_neigh.specs.Blocks.{Location, location_at, block_at, same_slice, slices_equal, in_slice, at_location}
 use Rattle.avc_neigh.specs.Nearby.{nearby, by_block}
 use Rattle.avc_neigh.specs.Laws.{BlocksAreFound, FactsTell, IsNext, TellSlices, AvailabilityIsFound, TotalCoeffsAreFound, holds_of, is_there_by, is_there_near}
 use Rattle.avc_neigh.proofs.RowKeeping.{slice_get-append}
 use Rattle.avc_neigh.proofs.ByAddress.{Matches, place_of, match_a, match_b, match_c, match_d, at_itself, at_right}
-
-length_map : {X Y : Type 0} (f : X → Y) (xs : List X) → length (map f xs) ≡ length xs
-length_map f [] = refl
-length_map f (x ∷ xs) = ap suc (length_map f xs)
 
 there_is : {X : Type 0} (xs : List X) (i : ℕ) → i < length xs → (x : X) × (slice_get xs i ≡ Some x)
 there_is [] i h = absurd (omega arith)
@@ -41,7 +31,7 @@ told_at said told mbs facts tell b f h is =
     some_of said (slice_get mbs b) (told f) (
     sym (slice_get-map said mbs b)
     ∙ ap (λ l. slice_get l b) tell.1
-    ∙ slice_get-append (map told facts) tell.0 b (omega (arith, length_map told facts))
+    ∙ slice_get-append (map told facts) tell.0 b (omega (arith, length-map facts told))
     ∙ slice_get-map told facts b
     ∙ ap (option_map told) is)
 
@@ -52,14 +42,8 @@ module _ {Y : Type 0} (said : Mb → Y) (told : NeighbourFacts → Y) (mbs : Lis
   at_address : (b : ℕ) (f : NeighbourFacts) (m : PicMb) → m.slice ≡ f.slice → said m.mb ≡ told f
       → option_map said (in_slice slice (Some m)) ≡ option_map told (of_slice slice (Some f))
   at_address b f m same is = elim (cases_eq f.slice slice) [
-    | inl e ↦
-        let t : (f.slice == slice) ≡ true = eq-eqb _ _ e in
-        let t' : (m.slice == slice) ≡ true = eq-eqb _ _ (same ∙ e) in
-        rw (t, t') (ap Some is)
-    | inr e ↦
-        let t : (f.slice == slice) ≡ false = ne_eqb _ _ e in
-        let t' : (m.slice == slice) ≡ false = ne_eqb _ _ (λ h. e (sym same ∙ h)) in
-        rw (t, t') refl
+    | inl e ↦ rw (eq-eqb f.slice slice e, eq-eqb m.slice slice (same ∙ e)) (ap Some is)
+    | inr e ↦ rw (ne_eqb f.slice slice e, ne_eqb m.slice slice (λ h. e (sym same ∙ h))) refl
   ]
 
   same_there : (b : ℕ) → b < length facts
@@ -94,6 +78,53 @@ total_coeffs_found mbs p slice wide slices tell =
 
 -- ---- what lies beside the next macroblock
 
+-- By sample coordinates: what stands in the next macroblock, beside it, and after it, where nothing is.
+module _ (width : ℕ) (wide : 0 < width) (facts : List NeighbourFacts) (slice : ℕ) where
+  abbrev n : Around
+  n = around (record { width = width; facts = facts }) slice
+
+  place : length facts ≡ length facts / width * width + length facts % width
+  place = sym (div-add-mod' (length facts) width)
+
+  inside : length facts % width < width
+  inside = mod_below (length facts) width wide
+
+  module _ {X : Type 0} (at : Option Location → X) (own : ℕ → ℕ → X) (of : Option NeighbourFacts → ℕ → ℕ → X) (absent : X)
+      (itself : (x y : ℕ) → at (Some (place_of (length facts) x y)) ≡ own x y)
+      (beside : (l : Option Location) (m : Option NeighbourFacts) (u v : ℕ) → Matches facts slice l m u v → at l ≡ of m u v)
+      (nowhere : at None ≡ absent) (after : (x y : ℕ) → at (Some (place_of (length facts + 1) x y)) ≡ absent)
+      (near : ℤ → ℤ → X) (near_own : (x y : ℕ) → near (pos x) (pos y) ≡ (if nat_lt x 16 then own x y else absent))
+      (near_a : (y : ℕ) → near (negsuc 0) (pos y) ≡ of n.a 15 y)
+      (near_above : (x : ℕ) → near (pos x) (negsuc 0) ≡ (if nat_lt x 16 then of n.b x 15 else of n.c 0 15))
+      (near_d : near (negsuc 0) (negsuc 0) ≡ of n.d 15 15) where
+    right : (y : ℕ) → y < 16 → at (location_at width (length facts) (pos 16) (pos y)) ≡ absent
+    right y h = elim (at_right width facts slice _ _ refl refl place inside y h) [
+      | inl none ↦ ap at none ∙ nowhere
+      | inr some ↦ ap at some ∙ after 0 y
+    ]
+
+    pub found_at : (x y : ℤ) → IsAsked x y → at (location_at width (length facts) x y) ≡ near x y
+    found_at (pos x) (pos y) asked =
+        let below : y < 16 = omega (arith, ints, asked.bottom) in
+        elim (cases_lt x 16) [
+          | inl h ↦ rw (near_own x y, lt-ltb x 16 h) (ap at (at_itself width facts slice _ _ refl refl place inside x y h below) ∙ itself x y)
+          | inr h ↦
+              let last : x ≡ 16 = omega (arith, ints, asked.right) in
+              rw (near_own x y, le-ltb x 16 h) (ap (λ i. at (location_at width (length facts) (pos i) (pos y))) last ∙ right y below)
+        ]
+    found_at (negsuc zero) (pos y) asked =
+        beside _ _ 15 y (match_a width facts slice _ _ refl refl place inside y (omega (arith, ints, asked.bottom))) ∙ sym (near_a y)
+    found_at (pos x) (negsuc zero) asked = elim (cases_lt x 16) [
+      | inl h ↦ rw (near_above x, lt-ltb x 16 h) (beside _ _ x 15 (match_b width facts slice _ _ refl refl place inside x h))
+      | inr h ↦
+          let last : x ≡ 16 = omega (arith, ints, asked.right) in
+          rw (near_above x, le-ltb x 16 h) (ap (λ i. at (location_at width (length facts) (pos i) (negsuc 0))) last
+          ∙ beside _ _ 0 15 (match_c width facts slice _ _ refl refl place inside))
+    ]
+    found_at (negsuc zero) (negsuc zero) asked = beside _ _ 15 15 (match_d width facts slice _ _ refl refl place inside) ∙ sym near_d
+    found_at (negsuc (suc x)) y asked = absurd (omega (arith, ints, asked.left))
+    found_at x (negsuc (suc y)) asked = absurd (omega (arith, ints, asked.top))
+
 if_absent : {X : Type 0} (c : Bool) (x absent : X) → x ≡ absent → (if c then x else absent) ≡ absent
 if_absent true x absent e = e
 if_absent false x absent e = refl
@@ -126,14 +157,8 @@ module _ (mbs : List PicMb) (facts : List NeighbourFacts) (slice : ℕ) (slices 
     chosen_block : (b k : ℕ) (f : NeighbourFacts) → b < length facts → slice_get facts b ≡ Some f
         → (if same_slice mbs (length facts) b then by_block absent (map blocks facts) b k else absent) ≡ block_of absent blocks (of_slice slice (Some f)) k
     chosen_block b k f h is = elim (cases_eq f.slice slice) [
-      | inl e ↦
-          let t : (f.slice == slice) ≡ true = eq-eqb _ _ e in
-          let t' : (slice == f.slice) ≡ true = eq-eqb _ _ (sym e) in
-          rw (same_slice_at b f h is, t, t') (known_block b f is k)
-      | inr e ↦
-          let t : (f.slice == slice) ≡ false = ne_eqb _ _ e in
-          let t' : (slice == f.slice) ≡ false = ne_eqb _ _ (λ d. e (sym d)) in
-          rw (same_slice_at b f h is, t, t') refl
+      | inl e ↦ rw (same_slice_at b f h is, eq-eqb f.slice slice e, eq-eqb slice f.slice (sym e)) (known_block b f is k)
+      | inr e ↦ rw (same_slice_at b f h is, ne_eqb f.slice slice e, ne_eqb slice f.slice (λ d. e (sym d))) refl
     ]
 
     block_there : (b u v : ℕ) → b < length facts
@@ -155,45 +180,14 @@ module _ (mbs : List PicMb) (facts : List NeighbourFacts) (slice : ℕ) (slices 
     after x y =
         let t : (length facts + 1 == length facts) ≡ false = ne_eqb _ _ (λ e. absurd (omega arith)) in
         let past : by_block absent (map blocks facts) (length facts + 1) (block_at x y) ≡ absent =
-        ap (λ l. get_or l (block_at x y) absent) (get_or_past (map blocks facts) (length facts + 1) [] (omega (arith, length_map blocks facts))) in
+        ap (λ l. get_or l (block_at x y) absent) (get_or_past (map blocks facts) (length facts + 1) [] (omega (arith, length-map facts blocks))) in
         rw t (if_absent (same_slice mbs (length facts) (length facts + 1)) _ absent past)
 
-    module _ (width : ℕ) (wide : 0 < width) where
-      abbrev n : Around
-      n = around (record { width = width; facts = facts }) slice
-
-      place : length facts ≡ length facts / width * width + length facts % width
-      place = sym (div-add-mod' (length facts) width)
-
-      inside : length facts % width < width
-      inside = mod_below (length facts) width wide
-
-      right : (y : ℕ) → y < 16 → at (location_at width (length facts) (pos 16) (pos y)) ≡ absent
-      right y h = elim (at_right width facts slice _ _ refl refl place inside y h) [
-        | inl none ↦ ap at none
-        | inr some ↦ ap at some ∙ after 0 y
-      ]
-
-      pub found : (x y : ℤ) → IsAsked x y → at (location_at width (length facts) x y) ≡ block_near absent blocks n mine x y
-      found (pos x) (pos y) asked =
-          let below : y < 16 = omega (arith, ints, asked.bottom) in
-          elim (cases_lt x 16) [
-            | inl h ↦ rw (lt-ltb x 16 h) (ap at (at_itself width facts slice _ _ refl refl place inside x y h below) ∙ itself x y)
-            | inr h ↦
-                let last : x ≡ 16 = omega (arith, ints, asked.right) in
-                rw (le-ltb x 16 h) (ap (λ i. at (location_at width (length facts) (pos i) (pos y))) last ∙ right y below)
-          ]
-      found (negsuc zero) (pos y) asked = beside _ _ 15 y (match_a width facts slice _ _ refl refl place inside y (omega (arith, ints, asked.bottom)))
-      found (pos x) (negsuc zero) asked = elim (cases_lt x 16) [
-        | inl h ↦ rw (lt-ltb x 16 h) (beside _ _ x 15 (match_b width facts slice _ _ refl refl place inside x h))
-        | inr h ↦
-            let last : x ≡ 16 = omega (arith, ints, asked.right) in
-            rw (le-ltb x 16 h) (ap (λ i. at (location_at width (length facts) (pos i) (negsuc 0))) last
-            ∙ beside _ _ 0 15 (match_c width facts slice _ _ refl refl place inside))
-      ]
-      found (negsuc zero) (negsuc zero) asked = beside _ _ 15 15 (match_d width facts slice _ _ refl refl place inside)
-      found (negsuc (suc x)) y asked = absurd (omega (arith, ints, asked.left))
-      found x (negsuc (suc y)) asked = absurd (omega (arith, ints, asked.top))
+    pub found : (width : ℕ) (wide : 0 < width) (x y : ℤ) → IsAsked x y
+        → at (location_at width (length facts) x y) ≡ block_near absent blocks (around (record { width = width; facts = facts }) slice) mine x y
+    found width wide =
+        found_at width wide facts slice at (λ u v. get_or mine (block_at u v) absent) (λ m u v. block_of absent blocks m (block_at u v)) absent itself beside refl after
+        _ (λ x y. refl) (λ y. refl) (λ x. refl) refl
 
 pub blocks_found : {X : Type 0} (absent : X) (blocks : NeighbourFacts → List X) → BlocksAreFound absent blocks
 blocks_found absent blocks mbs p slice is = record {
@@ -213,13 +207,9 @@ module _ (test : Option PicMb → Bool) (told : NeighbourFacts → Bool) (earlie
       let m = told_at (λ m. test (Some m)) told mbs p.facts tell b f h here in
       elim (cases_eq f.slice slice) [
         | inl e ↦
-            let t : (f.slice == slice) ≡ true = eq-eqb _ _ e in
-            let t' : (slice == f.slice) ≡ true = eq-eqb _ _ (sym e) in
-            rw (same_slice_at mbs p.facts slice is.slices is.next b f h here, t, t', lt-ltb b (length p.facts) h) (ap test m.1 ∙ m.2)
-        | inr e ↦
-            let t : (f.slice == slice) ≡ false = ne_eqb _ _ e in
-            let t' : (slice == f.slice) ≡ false = ne_eqb _ _ (λ d. e (sym d)) in
-            rw (same_slice_at mbs p.facts slice is.slices is.next b f h here, t, t') refl
+            rw (same_slice_at mbs p.facts slice is.slices is.next b f h here, eq-eqb f.slice slice e, eq-eqb slice f.slice (sym e), lt-ltb b (length p.facts) h)
+            (ap test m.1 ∙ m.2)
+        | inr e ↦ rw (same_slice_at mbs p.facts slice is.slices is.next b f h here, ne_eqb f.slice slice e, ne_eqb slice f.slice (λ d. e (sym d))) refl
       ]
 
   there_beside : (l : Option Location) (n : Option NeighbourFacts) (u v : ℕ) → Matches p.facts slice l n u v → there l ≡ holds_of told n
@@ -245,43 +235,13 @@ module _ (test : Option PicMb → Bool) (told : NeighbourFacts → Bool) (earlie
       rw (le-ltb (length p.facts + 1) (length p.facts) (omega arith), t)
       (not_both (same_slice mbs (length p.facts) (length p.facts + 1)) (test (slice_get mbs (length p.facts + 1))))
 
-  abbrev beside_place : length p.facts ≡ length p.facts / p.width * p.width + length p.facts % p.width
-  beside_place = sym (div-add-mod' (length p.facts) p.width)
-
-  abbrev beside_inside : length p.facts % p.width < p.width
-  beside_inside = mod_below (length p.facts) p.width is.wide
-
-  there_right : (y : ℕ) → y < 16 → there (location_at p.width (length p.facts) (pos 16) (pos y)) ≡ false
-  there_right y h = elim (at_right p.width p.facts slice _ _ refl refl beside_place beside_inside y h) [
-    | inl none ↦ ap there none
-    | inr some ↦ ap there some ∙ not_after 0 y
-  ]
-
   abbrev own : ℕ → ℕ → Bool
   own u v = earlier u v && test (slice_get mbs (length p.facts))
 
   pub there_found : (x y : ℤ) → IsAsked x y → there (location_at p.width (length p.facts) x y) ≡ is_there_near told own (around p slice) x y
-  there_found (pos x) (pos y) asked =
-      let below : y < 16 = omega (arith, ints, asked.bottom) in
-      elim (cases_lt x 16) [
-        | inl h ↦ rw (lt-ltb x 16 h) (ap there (at_itself p.width p.facts slice _ _ refl refl beside_place beside_inside x y h below) ∙ there_itself x y)
-        | inr h ↦
-            let last : x ≡ 16 = omega (arith, ints, asked.right) in
-            rw (le-ltb x 16 h) (ap (λ i. there (location_at p.width (length p.facts) (pos i) (pos y))) last ∙ there_right y below)
-      ]
-  there_found (negsuc zero) (pos y) asked =
-      there_beside _ _ 15 y (match_a p.width p.facts slice _ _ refl refl beside_place beside_inside y (omega (arith, ints, asked.bottom)))
-  there_found (pos x) (negsuc zero) asked = elim (cases_lt x 16) [
-    | inl h ↦ rw (lt-ltb x 16 h) (there_beside _ _ x 15 (match_b p.width p.facts slice _ _ refl refl beside_place beside_inside x h))
-    | inr h ↦
-        let last : x ≡ 16 = omega (arith, ints, asked.right) in
-        rw (le-ltb x 16 h)
-        (ap (λ i. there (location_at p.width (length p.facts) (pos i) (negsuc 0))) last
-        ∙ there_beside _ _ 0 15 (match_c p.width p.facts slice _ _ refl refl beside_place beside_inside))
-  ]
-  there_found (negsuc zero) (negsuc zero) asked = there_beside _ _ 15 15 (match_d p.width p.facts slice _ _ refl refl beside_place beside_inside)
-  there_found (negsuc (suc x)) y asked = absurd (omega (arith, ints, asked.left))
-  there_found x (negsuc (suc y)) asked = absurd (omega (arith, ints, asked.top))
+  there_found =
+      found_at p.width is.wide p.facts slice there own (λ m u v. holds_of told m) false there_itself there_beside refl not_after
+      _ (λ x y. refl) (λ y. refl) (λ x. refl) refl
 
 pub availability_found : AvailabilityIsFound
 availability_found test told earlier mbs p slice is tell x y asked = there_found test told earlier mbs p slice is tell x y asked

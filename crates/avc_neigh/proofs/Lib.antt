@@ -1,4 +1,4 @@
-pub mod Sixteen
+mod Common
 pub mod RowKeeping
 pub mod Asked
 pub mod NearModes

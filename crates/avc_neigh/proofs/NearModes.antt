@@ -1,19 +1,11 @@
 -- The modes of an I_NxN macroblock, from its four neighbours.
 use Rattle.std.proofs.Common.{ℕ, ◌≡◌, ◌+◌, ◌<◌, ◌≤◌, pos, ◌-ℤ◌, arith, Bool, List, [], ◌∷◌, ◌++◌, Option, Some, None, length, refl, sym, ap, ◌∙◌, length-append, true, false, nat_lt, if◌then◌else◌, negsuc, ℤ, suc, inl, inr, get_or, set, take, drop, drop-cons, length-drop, get_or-set_other, get_or-set_same, add-one, lit≤, IfSome}
 use Rattle.std.proofs.Math.Seq.{take-suc-set}
-use Rattle.std.proofs.lemmas.Bool.{cases_lt}
-use Rattle.std.proofs.lemmas.List.{get_or-take, get_or_past, length-take, length-take-le, take_all}
-use Rattle.std.proofs.lemmas.Int.{ints}
-use Rattle.std.proofs.lemmas.Bool.Decides.{nat_tests}
-use Rattle.std.specs.List.{All}
-use Rattle.avc_types.specs.Pictures.{Coded}
-use Rattle.avc_neigh.specs.declared.facts.NeighbourFacts.{NeighbourFacts}
+use Rattle.avc_neigh.proofs.Common.{cases_lt, get_or-take, get_or_past, length-take, length-take-le, take_all, ints, nat_tests, All, Coded}
+use Rattle.avc_neigh.proofs.Common.{NeighbourFacts, absent, inter, mode, Around, block_x, block_y, mode_near, HasModes, IsAsked}
+use Rattle.avc_neigh.proofs.Common.{ModesAreAround, block_of, chosen_mode, mode_of_neighbour, nxn_modes, predicted_mode, prediction_for}
+use Rattle.avc_neigh.proofs.Common.{IsMode, IsRem}
 use Rattle.avc_neigh.specs.declared.facts.NearMode.{NearMode}
-use Rattle.avc_neigh.specs.declared.facts.NearMode.TheVariants.{Absent as absent, Inter as inter, Mode as mode}
-use Rattle.avc_neigh.specs.Around.{Around}
-use Rattle.avc_neigh.specs.Blocks.{block_x, block_y}
-use Rattle.avc_neigh.specs.BlockNear.{mode_near, HasModes, IsAsked, ModesAreAround, block_of}
-use Rattle.avc_neigh.specs.Modes.{chosen_mode, mode_of_neighbour, nxn_modes, predicted_mode, prediction_for, IsMode, IsRem}
 
 abbrev pub prediction_near : Around → Bool → List NearMode → (k : ℕ) → ℕ
 prediction_near n constrained mine k =

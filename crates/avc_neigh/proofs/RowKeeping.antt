@@ -1,13 +1,7 @@
 -- Two rows of facts, over one macroblock more.
 use Rattle.std.proofs.Common.{ℕ, ◌≡◌, ◌+◌, ◌-◌, ◌%◌, ◌<◌, ◌≤◌, zero, suc, arith, Bool, true, false, ◌==◌, ◌||◌, nat_lt, inl, inr, List, [], ◌∷◌, ◌++◌, Option, Some, None, length, get_or, set, refl, sym, ap, ◌∙◌, length-append, length-set, get_or-set_same, get_or-set_other, add-one}
-use Rattle.std.specs.List.{slice_get}
-use Rattle.std.proofs.Math.Nat.{suc-mod, mod-eq_of_lt, mod_self}
-use Rattle.std.proofs.lemmas.Bool.Decides.{nat_tests}
-use Rattle.std.proofs.lemmas.Bool.{cases_lt}
-use Rattle.avc_neigh.specs.declared.facts.NeighbourFacts.{NeighbourFacts}
-use Rattle.avc_neigh.specs.Around.{back}
-use Rattle.avc_neigh.specs.declared.row.Place.{Place}
-use Rattle.avc_neigh.specs.RowEntries.{AreRowEntries, place_after}
+use Rattle.avc_neigh.proofs.Common.{slice_get, suc-mod, mod-eq_of_lt, mod_self, nat_tests, cases_lt, NeighbourFacts, back, Place}
+use Rattle.avc_neigh.proofs.Common.{AreRowEntries, place_after}
 
 pub slice_get-append : {X : Type 0} (xs ys : List X) (i : ℕ) → i < length xs → slice_get (xs ++ ys) i ≡ slice_get xs i
 slice_get-append [] ys i h = absurd (omega arith)

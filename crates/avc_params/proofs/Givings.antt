@@ -1,12 +1,6 @@
 -- What holds of what an optional part gives, and of the answer of a whole unit.
-use Rattle.std.proofs.Common.{◌≡◌, ℕ, Option, IfSome, Result, Ok, Err, refl, ap, sym}
-use Rattle.avc_types.specs.declared.fault.Fault.{Fault}
-use Rattle.avc_bits.specs.Bits.{Bits, Read}
-use Rattle.avc_bits.specs.Codes.{flag}
-use Rattle.avc_bits.proofs.Giving.{Gives, gives-any, gives-bind, gives-where_set}
-use Rattle.avc_params.specs.Parsing.{optional}
-use Rattle.avc_params.specs.Reading.{whole}
-use Rattle.avc_params.specs.declared.set_fault.SetFault.{SetFault}
+use Rattle.avc_params.proofs.Common.{◌≡◌, ℕ, Option, IfSome, Result, Ok, Err, refl, ap, sym, Fault, Bits, Read, flag, Gives, gives-any}
+use Rattle.avc_params.proofs.Common.{gives-bind, gives-where_set, optional, whole, SetFault}
 
 pub gives-optional : {A : Type 0} (P : A → Type 0) (part : Read A) → Gives P part → Gives (λ o. IfSome o P) (optional part)
 gives-optional P part g = gives-bind (λ _. Unit {0}) (λ o. IfSome o P) flag _ (gives-any flag) (λ set _. gives-where_set P set part g)

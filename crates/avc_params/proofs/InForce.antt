@@ -1,23 +1,14 @@
 -- The sets in force: after one unit more, and what each keeps to.
-use Rattle.std.proofs.Common.{◌≡◌, ℕ, Bool, true, false, List, [], ◌∷◌, ◌++◌, Option, Some, None, Result, Ok, Err, refl, ap, sym, ◌∙◌, if◌then◌else◌, append-nil, eqb-true, Bor, IfSome}
-use Rattle.std.specs.Option.{option_copied}
+use Rattle.avc_params.proofs.Common.{◌≡◌, ℕ, Bool, true, false, List, [], ◌∷◌, ◌++◌, Option, Some, None, Result, Ok, Err, refl, ap, sym}
+use Rattle.avc_params.proofs.Common.{◌∙◌, if◌then◌else◌, append-nil, eqb-true, Bor, IfSome, option_copied, pps_id, pps_of, sps_id, sps_of}
+use Rattle.avc_params.proofs.Common.{Keeps, stored, accepted, is_id, is_pps, is_sps, last, pps_in_force, pps_record, sps_in_force}
+use Rattle.avc_params.proofs.Common.{sps_record, start, pps, sps, PpsIsInForce, SpsIsInForce, SetFault, Pps, Sps, OfSps, OfPps}
 use Rattle.std.proofs.lemmas.List.Elements.{filter-append}
 use Rattle.std.specs.List.{filter}
-use Rattle.avc_params.specs.Reading.{pps_id, pps_of, sps_id, sps_of}
-use Rattle.avc_params.specs.Stored.{Keeps, stored}
-use Rattle.avc_params.specs.Tables.{accepted, is_id, is_pps, is_sps, last, pps_in_force, pps_record, sps_in_force, sps_record}
-use Rattle.avc_bits.specs.Bits.{start}
 use Rattle.avc_params.proofs.Givings.{whole-err}
-use Rattle.avc_params.specs.PpsReading.{pps}
-use Rattle.avc_params.specs.SpsReading.{sps}
 use Rattle.avc_params.proofs.PpsWithin.{pps_accepted}
 use Rattle.avc_params.proofs.SpsWithin.{sps_accepted}
-use Rattle.avc_params.specs.Within.{PpsIsInForce, SpsIsInForce}
-use Rattle.avc_params.specs.declared.set_fault.SetFault.{SetFault}
-use Rattle.avc_params.specs.declared.pps.Pps.{Pps}
-use Rattle.avc_params.specs.declared.sps.Sps.{Sps}
 use Rattle.avc_params.specs.declared.set_unit.SetUnit.{SetUnit}
-use Rattle.avc_params.specs.declared.set_unit.SetUnit.TheVariants.{OfSps, OfPps}
 
 last_more : {A : Type 0} (xs : List A) (x : A) → last (xs ++ x ∷ []) ≡ Some x
 last_more [] x = refl

@@ -1,14 +1,10 @@
 -- An accepted picture parameter set keeps to the ranges of its fields, and has the id that was read.
-use Rattle.std.proofs.Common.{◌≡◌, ℕ, pos, negsuc, ◌≤◌, ◌==◌, not, List, Some, Ok, refl, ap, sym}
-use Rattle.avc_bits.specs.Bits.{more_data, start}
-use Rattle.avc_bits.specs.Codes.{flag, se_within, u_to, ue, ue_to}
-use Rattle.avc_params.specs.PpsReading.{default_counts, pps, pps_after, quantisation, switches}
-use Rattle.avc_params.specs.Reading.{pps_id, pps_of, read_value}
-use Rattle.avc_params.specs.Within.{IsPps}
-use Rattle.avc_params.specs.declared.pps.Pps.{Pps}
+use Rattle.avc_params.proofs.Common.{◌≡◌, ℕ, pos, negsuc, ◌≤◌, ◌==◌, not, List, Some, Ok, refl, ap, sym, more_data, start, flag, se_within}
+use Rattle.avc_params.proofs.Common.{u_to, ue, ue_to, default_counts, pps, pps_after, quantisation, switches, pps_id, pps_of, read_value}
+use Rattle.avc_params.proofs.Common.{IsPps, Pps, Gives, IsFrom, bind-ok, gives-any, gives-bind, gives-check, gives-give, gives-se_within}
+use Rattle.avc_params.proofs.Common.{gives-then, gives-u_to, gives-ue_to}
 use Rattle.avc_params.specs.declared.pps_reading.DefaultCounts.{DefaultCounts}
 use Rattle.avc_params.specs.declared.pps_reading.Quantisation.{Quantisation}
-use Rattle.avc_bits.proofs.Giving.{Gives, IsFrom, bind-ok, gives-any, gives-bind, gives-check, gives-give, gives-se_within, gives-then, gives-u_to, gives-ue_to}
 use Rattle.avc_params.proofs.Givings.{whole-ok}
 
 record IsCounts (c : DefaultCounts) : Type 0 where

@@ -1,18 +1,11 @@
 -- Worked examples of parameter sets.
-use Rattle.std.specs.Prelude.{◌≡◌, ℕ, pos, true, false, [], ◌∷◌, Option, Some, None, Result, Ok, Err, refl}
-use Rattle.std.specs.Option.{option_map}
-use Rattle.avc_types.specs.declared.fault.Fault.{Fault}
+use Rattle.avc_params.proofs.Common.{◌≡◌, ℕ, pos, true, false, [], ◌∷◌, Option, Some, None, Result, Ok, Err, refl, option_map, Fault}
+use Rattle.avc_params.proofs.Common.{pps_of, sps_of, pps_in_force, sps_in_force, Pps, SetFault, OfSps, OfPps, Sps}
 use Rattle.avc_types.specs.declared.fault.Fault.TheVariants as faults
 use Rattle.avc_params.specs.Limits.{dpb_size, height_in_mbs, max_dpb_mbs, restriction_of, width_in_mbs}
-use Rattle.avc_params.specs.Reading.{pps_of, sps_of}
 use Rattle.avc_params.specs.Same.{same_sps}
-use Rattle.avc_params.specs.Tables.{pps_in_force, sps_in_force}
-use Rattle.avc_params.specs.declared.pps.Pps.{Pps}
-use Rattle.avc_params.specs.declared.set_fault.SetFault.{SetFault}
-use Rattle.avc_params.specs.declared.set_unit.SetUnit.TheVariants.{OfSps, OfPps}
 use Rattle.avc_params.specs.declared.sps.Cropping.{Cropping}
 use Rattle.avc_params.specs.declared.sps.OrderCount.TheVariants as orders
-use Rattle.avc_params.specs.declared.sps.Sps.{Sps}
 
 -- 16x16, order count type 2, one reference frame
 abbrev pub small : Sps

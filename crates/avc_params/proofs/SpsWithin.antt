@@ -1,19 +1,14 @@
 -- An accepted sequence parameter set keeps to the ranges of its fields, and has the id that was read.
 use Rattle.std.proofs.Common.{◌≡◌, ℕ, ◌+◌, ◌*◌, ◌≤◌, Bool, true, false, nat_lt, nat_le, ◌==◌, ◌&&◌, ◌||◌, List, length, Option, Some, None, IfSome, IsSome, is_some, Ok, refl, ap, sym, arith}
 use Rattle.std.proofs.lemmas.Bool.Decides.{nat_tests}
-use Rattle.avc_bits.specs.Bits.{give, start, times}
-use Rattle.avc_bits.specs.Codes.{u, flag, ue, ue_to, se}
+use Rattle.avc_params.proofs.Common.{give, start, times, u, flag, ue, ue_to, se, optional, read_value, sps_id, sps_of, constraint_flags}
+use Rattle.avc_params.proofs.Common.{cropping, cycle, identity, lsb, order_count, size, sps, sps_after, IsCropping, IsOrderCount, IsSps}
+use Rattle.avc_params.proofs.Common.{Sps, Gives, gives-any, gives-bind, gives-check, gives-give, gives-times, gives-ue_to, bind-ok}
 use Rattle.avc_params.specs.Limits.{max_dpb_mbs, max_macroblocks, max_side}
-use Rattle.avc_params.specs.Parsing.{optional}
-use Rattle.avc_params.specs.Reading.{read_value, sps_id, sps_of}
-use Rattle.avc_params.specs.SpsReading.{constraint_flags, cropping, cycle, identity, lsb, order_count, size, sps, sps_after}
 use Rattle.avc_params.specs.VuiReading.{vui}
-use Rattle.avc_params.specs.Within.{IsCropping, IsOrderCount, IsSps}
-use Rattle.avc_params.specs.declared.sps.Sps.{Sps}
 use Rattle.avc_params.specs.declared.sps.OrderCount.TheVariants as orders
 use Rattle.avc_params.specs.declared.sps_reading.Identity.{Identity}
 use Rattle.avc_params.specs.declared.sps_reading.Size.{Size}
-use Rattle.avc_bits.proofs.Giving.{Gives, gives-any, gives-bind, gives-check, gives-give, gives-times, gives-ue_to, bind-ok}
 use Rattle.avc_params.proofs.Givings.{gives-optional, whole-ok}
 
 record IsSize (s : Size) : Type 0 where

@@ -1,34 +1,20 @@
 -- Rectangles of a plane, written line by line.
 use Rattle.std.proofs.Common.{ℕ, ◌≡◌, ◌+◌, ◌-◌, ◌*◌, ◌/◌, ◌%◌, ◌<◌, ◌≤◌, arith, true, false, List, get_or, length, take, drop, ◌++◌, length-append, length-drop, refl, sym, ap, ◌∙◌, zero-add, mul_comm, inl, inr}
-use Rattle.std.specs.Prelude.{if◌then◌else◌}
-use Rattle.std.proofs.lemmas.List.{get_or-drop, get_or-take, get_or_append_left, get_or-append_right, length-take-le}
-use Rattle.std.proofs.lemmas.List.FromFn.{get_or-map-range_with_len, fill_by_all}
-use Rattle.std.proofs.lemmas.Nat.{row_fits, mod_below}
-use Rattle.std.proofs.Math.Nat.{div-lt_iff_lt-mul}
-use Rattle.std.proofs.lemmas.Bool.{cases_order, cases_lt}
-use Rattle.std.proofs.lemmas.Bool.Decides.{nat_tests}
-use Rattle.avc_plane.specs.Plane.{Plane, plane_of, sample, with_block, is_inside}
-use Rattle.avc_plane.specs.Padded.{stored_place, inner_plane}
+use Rattle.avc_plane.proofs.Common.{if◌then◌else◌, get_or-drop, get_or-take, get_or_append_left, get_or-append_right, length-take-le}
+use Rattle.avc_plane.proofs.Common.{get_or-map-range_with_len, fill_by_all, row_fits, cases_order, cases_lt}
+use Rattle.avc_plane.proofs.Common.{nat_tests, Plane, plane_of, sample, with_block, is_inside, stored_place, inner_plane, cases_Bool}
+use Rattle.avc_types.proofs.Blocks.{some_column, column, row}
 use Rattle.avc_plane.proofs.Stored.{stored_sample}
 use Rattle.avc_plane.proofs.PlaneMaps.{length-plane_of, sample-with_block}
 
 -- ---- planes that are the same at each place
-
-some_column : (k width height : ℕ) → k < width * height → 0 < width
-some_column k width height below = elim (cases_lt 0 width) [
-  | inl less ↦ less
-  | inr none ↦ let e : width ≡ 0 = omega arith in absurd (omega (arith, ap (λ w. w * height) e))
-]
-
-row_of : (k width height : ℕ) → k < width * height → k / width < height
-row_of k width height below = (div-lt_iff_lt-mul (some_column k width height below)).1 (omega (arith, mul_comm width height))
 
 pub plane_of_same : (width height : ℕ) (f g : ℕ → ℕ → ℕ) → ((x y : ℕ) → x < width → y < height → f x y ≡ g x y) → plane_of width height f ≡ plane_of width height g
 plane_of_same width height f g same =
     ap (λ (s : List ℕ). record { width = width; height = height; samples = s })
     (fill_by_all (λ i. g (i % width) (i / width)) (plane_of width height f).samples (width * height) 0 (length-plane_of width height f)
     (λ k below. get_or-map-range_with_len (λ i. f (i % width) (i / width)) 0 (width * height) k k 0 below (zero-add k)
-    ∙ same (k % width) (k / width) (mod_below k width (some_column k width height below)) (row_of k width height below)))
+    ∙ same (k % width) (k / width) (column width height k below) (row width height k below)))
 
 -- ---- places inside a rectangle and outside it
 
@@ -133,8 +119,12 @@ pub no_line : (p : Plane) (left top width : ℕ) (f : ℕ → ℕ → ℕ) → l
 no_line p left top width f long =
     ap (λ (s : List ℕ). record { width = p.width; height = p.height; samples = s })
     (fill_by_all (λ i. if is_inside left top width 0 (i % p.width) (i / p.width) then f (i % p.width - left) (i / p.width - top) else sample p (i % p.width) (i / p.width)) p.samples (p.width * p.height) 0 long
-    (λ k below. ap (λ i. get_or p.samples i 0) (omega (arith, mul_comm p.width (k / p.width), some_column k p.width p.height below))
+    (λ k below. ap (λ i. get_or p.samples i 0) (omega (arith, mul_comm p.width (k / p.width), some_column p.width p.height k below))
     ∙ ap (λ b. if b then f (k % p.width - left) (k / p.width - top) else sample p (k % p.width) (k / p.width)) (sym (none_inside left top width (k % p.width) (k / p.width)))))
+
+-- outside its last line a rectangle is as without that line
+one_line_more : (left top width count x y : ℕ) → is_inside left (top + count) width 1 x y ≡ false → is_inside left top width count x y ≡ is_inside left top width (count + 1) x y
+one_line_more left top width count x y out = grind (arith, nat_tests)
 
 module _ (p : Plane) (left top width count : ℕ) (line samples : List ℕ) (len : length line ≡ width) (same : (x : ℕ) → x < width → get_or line x 0 ≡ get_or samples (width * count + x) 0) where
   abbrev f : ℕ → ℕ → ℕ
@@ -163,27 +153,9 @@ module _ (p : Plane) (left top width count : ℕ) (line samples : List ℕ) (len
       ∙ ap (λ b. if b then f (x - left) (y - top) else sample p x y) (sym (inside left top width (count + 1) x y from less (omega arith) (omega arith)))
 
   each : (x y : ℕ) → x < p.width → y < p.height → more x y ≡ all x y
-  each x y column row = elim (cases_lt x left) [
-    | inl before ↦
-        kept x y column row (left_of_it left (top + count) (length line) 1 x y before)
-        (left_of_it left top width count x y before ∙ sym (left_of_it left top width (count + 1) x y before))
-    | inr from ↦ elim (cases_lt x (left + width)) [
-      | inr past ↦
-          kept x y column row (right_of_it left (top + count) (length line) 1 x y (omega arith))
-          (right_of_it left top width count x y past ∙ sym (right_of_it left top width (count + 1) x y past))
-      | inl less ↦ elim (cases_order y (top + count)) [
-        | inl here ↦ in_line x y from less here
-        | inr (inr lower) ↦
-            kept x y column row (below_it left (top + count) (length line) 1 x y (omega arith))
-            (below_it left top width count x y (omega arith) ∙ sym (below_it left top width (count + 1) x y (omega arith)))
-        | inr (inl higher) ↦
-            kept x y column row (above_it left (top + count) (length line) 1 x y higher)
-            (elim (cases_lt y top) [
-              | inl above ↦ above_it left top width count x y above ∙ sym (above_it left top width (count + 1) x y above)
-              | inr below ↦ inside left top width count x y from less below (omega arith) ∙ sym (inside left top width (count + 1) x y from less below (omega arith))
-            ])
-      ]
-    ]
+  each x y column row = elim (cases_Bool (is_inside left (top + count) (length line) 1 x y)) [
+    | inl in_there ↦ in_line x y (grind (arith, nat_tests)) (grind (arith, nat_tests)) (grind (arith, nat_tests))
+    | inr apart ↦ kept x y column row apart (one_line_more left top width count x y (ap (λ n. is_inside left (top + count) n 1 x y) (sym len) ∙ apart))
   ]
 
   -- one line more

@@ -1,11 +1,7 @@
 -- The nearest coordinate inside a size.
-use Rattle.std.proofs.Common.{ℕ, ◌≡◌, ◌+◌, ◌-◌, ◌<◌, ◌≤◌, arith, ap, ◌∙◌, pos, ◌-ℤ◌}
-use Rattle.std.specs.Prelude.{nat_abs}
-use Rattle.std.proofs.lemmas.Bool.Decides.{nat_tests}
+use Rattle.avc_plane.proofs.Common.{ℕ, ◌≡◌, ◌+◌, ◌-◌, ◌<◌, ◌≤◌, arith, ap, ◌∙◌, pos, ◌-ℤ◌, nat_abs, nat_tests, clamped, nearest}
 use Rattle.std.proofs.lemmas.Int.{ints}
 use Rattle.avc_types.specs.Arithmetic.{clip3}
-use Rattle.avc_plane.specs.Plane.{clamped}
-use Rattle.avc_plane.specs.Padded.{nearest}
 
 pub nearest_before : (pad size x : ℕ) → x < pad → nearest pad size x ≡ 0
 nearest_before pad size x before = grind (arith, nat_tests)

@@ -1,26 +1,17 @@
 -- Rectangles of a plane, in its padded rows.
-use Rattle.std.proofs.Common.{ℕ, ◌≡◌, ◌+◌, ◌-◌, ◌*◌, ◌<◌, ◌≤◌, ◌^◌, arith, Bool, true, false, List, length, slice_index, sym, ap, subst, ◌∙◌, ⊎_elim}
-use Rattle.std.specs.Prelude.{if◌then◌else◌}
-use Rattle.std.proofs.Math.Nat.{mul-le-mul_right}
-use Rattle.std.proofs.lemmas.Nat.{same_from_place}
-use Rattle.std.proofs.lemmas.Bool.{cases_lt}
-use Rattle.avc_plane.specs.Plane.{sample, with_block, is_inside}
-use Rattle.avc_plane.specs.Padded.{stored_place, inner_plane}
-use Rattle.avc_plane.specs.Strided.{IsRoom, IsSameOutside}
+use Rattle.avc_plane.proofs.Common.{ℕ, ◌≡◌, ◌+◌, ◌-◌, ◌*◌, ◌<◌, ◌≤◌, ◌^◌, arith, Bool, true, false, List, length, slice_index, sym, ap}
+use Rattle.avc_plane.proofs.Common.{subst, ◌∙◌, if◌then◌else◌, mul-le-mul_right, same_from_place, sample, with_block}
+use Rattle.avc_plane.proofs.Common.{is_inside, stored_place, inner_plane, IsRoom, IsSameOutside, cases_Bool, both_ways, inl, inr, nat_tests}
 use Rattle.avc_plane.proofs.Stored.{stored_sample}
-use Rattle.avc_plane.proofs.Blocks.{plane_of_same, inside, left_of_it, right_of_it, above_it, below_it}
+use Rattle.avc_plane.proofs.Blocks.{plane_of_same, inside}
 
 -- a place is in a rectangle, or it isn't
 pub by_place : (P : Bool → Type 0) (left top width height a b : ℕ) → (left ≤ a → a < left + width → top ≤ b → b < top + height → P true)
     → ((left ≤ a → a < left + width → top ≤ b → b < top + height → ⊥) → P false) → P (is_inside left top width height a b)
-by_place P left top width height a b in_it out =
-    ⊎_elim (λ h. subst P (sym (left_of_it left top width height a b h)) (out (λ p q r s. omega arith)))
-    (λ h1. ⊎_elim
-    (λ h2. ⊎_elim (λ h. subst P (sym (above_it left top width height a b h)) (out (λ p q r s. omega arith)))
-    (λ h3. ⊎_elim
-    (λ h4. subst P (sym (inside left top width height a b h1 h2 h3 h4)) (in_it h1 h2 h3 h4))
-    (λ h. subst P (sym (below_it left top width height a b h)) (out (λ p q r s. omega arith))) (cases_lt b (top + height))) (cases_lt b top))
-    (λ h. subst P (sym (right_of_it left top width height a b h)) (out (λ p q r s. omega arith))) (cases_lt a (left + width))) (cases_lt a left)
+by_place P left top width height a b in_it out = elim (cases_Bool (is_inside left top width height a b)) [
+  | inl in_there ↦ subst P (sym in_there) (in_it (grind (arith, nat_tests)) (grind (arith, nat_tests)) (grind (arith, nat_tests)) (grind (arith, nat_tests)))
+  | inr apart ↦ subst P (sym apart) (out (λ p q r s. both_ways (is_inside left top width height a b) apart (inside left top width height a b p q r s)))
+]
 
 pub small : (w h n : ℕ) → w < 2 ^ 31 → h < 2 ^ 31 → w * h ≡ n → n * 1 < 9223372036854775808
 small w h n narrow low e = let wide : w * h ≤ 2147483648 * h = mul-le-mul_right h (omega arith) in omega (arith, e, wide)
@@ -40,14 +31,13 @@ module _ (pad width height left top w h : ℕ) (stored : List ℕ) (long : lengt
   pub place : (x y : ℕ) → start + y * stride + x ≡ stored_place pad width (left + x) (top + y)
   place x y = omega arith
 
-  pub stored_rectangle : (new samples : List ℕ) →
-      ((y : ℕ) → y < h → (x : ℕ) → x < w → slice_index new (start + y * stride + x) ≡ slice_index samples (w * y + x)) → IsSameOutside w h start stride stored new →
-      inner_plane pad width height new ≡ with_block (inner_plane pad width height stored) left top w h (λ x y. slice_index samples (w * y + x))
-  stored_rectangle new samples within outside =
-      plane_of_same width height (λ x y. slice_index new (stored_place pad width x y))
-      (λ x y. if is_inside left top w h x y then slice_index samples (w * (y - top) + (x - left)) else sample (inner_plane pad width height stored) x y)
-      (λ x y column row. by_place
-      (λ t. slice_index new (stored_place pad width x y) ≡ (if t then slice_index samples (w * (y - top) + (x - left)) else sample (inner_plane pad width height stored) x y)) left top w h x y
+  -- the places of a rectangle that was set have its samples, and the others what stood there
+  pub rectangle_at : (f s : ℕ → ℕ → ℕ) (new : List ℕ) →
+      ((y : ℕ) → y < h → (x : ℕ) → x < w → slice_index new (start + y * stride + x) ≡ f x y) → IsSameOutside w h start stride stored new →
+      ((x y : ℕ) → x < width → y < height → slice_index stored (stored_place pad width x y) ≡ s x y) →
+      (x y : ℕ) → x < width → y < height → slice_index new (stored_place pad width x y) ≡ (if is_inside left top w h x y then f (x - left) (y - top) else s x y)
+  rectangle_at f s new within outside before x y column row = by_place
+      (λ t. slice_index new (stored_place pad width x y) ≡ (if t then f (x - left) (y - top) else s x y)) left top w h x y
       (λ a b c d.
       let across : x ≡ left + (x - left) = omega arith in
       let down : y ≡ top + (y - top) = omega arith in
@@ -60,4 +50,11 @@ module _ (pad width height left top w h : ℕ) (stored : List ℕ) (long : lengt
       let row_is : y + pad ≡ top + v + pad = same.0 in
       let column_is : x + pad ≡ left + u + pad = same.1 in
       none (omega arith) (omega arith) (omega arith) (omega arith))
-      ∙ stored_sample pad width height stored long x y column row))
+      ∙ before x y column row)
+
+  pub stored_rectangle : (new samples : List ℕ) →
+      ((y : ℕ) → y < h → (x : ℕ) → x < w → slice_index new (start + y * stride + x) ≡ slice_index samples (w * y + x)) → IsSameOutside w h start stride stored new →
+      inner_plane pad width height new ≡ with_block (inner_plane pad width height stored) left top w h (λ x y. slice_index samples (w * y + x))
+  stored_rectangle new samples within outside =
+      plane_of_same width height (λ x y. slice_index new (stored_place pad width x y)) _
+      (rectangle_at (λ x y. slice_index samples (w * y + x)) (sample (inner_plane pad width height stored)) new within outside (stored_sample pad width height stored long))

@@ -1,13 +1,9 @@
 -- The padded rows of a plane, and the map of its samples.
 use Rattle.std.proofs.Common.{ℕ, ◌≡◌, ◌≢◌, ◌+◌, ◌-◌, ◌*◌, ◌/◌, ◌%◌, ◌<◌, ◌≤◌, arith, List, map, get_or, set, length, take, drop, slice_range, sym, ap, ◌∙◌, zero-add, get_or-set_same, get_or-set_other, length-set, ⊎_elim, mul_comm}
 use Rattle.std.specs.List.{range_with_len}
-use Rattle.std.proofs.lemmas.List.{get_or-drop, get_or-take}
-use Rattle.std.proofs.lemmas.List.FromFn.{get_or-map-range_with_len, fill_by_all}
-use Rattle.std.proofs.lemmas.Nat.{mul-add-lt, div-mul-add, mod-mul-add, row_fits, same_from_place, mod_below}
-use Rattle.std.proofs.lemmas.Bool.{cases_eq}
-use Rattle.std.proofs.lemmas.Grind.{common_steps, same_number_lists}
-use Rattle.avc_plane.specs.Plane.{sample, with_sample}
-use Rattle.avc_plane.specs.Padded.{stored_place, inner_plane}
+use Rattle.avc_plane.proofs.Common.{get_or-drop, get_or-take, get_or-map-range_with_len, fill_by_all, mul-add-lt, div-mul-add, mod-mul-add}
+use Rattle.avc_plane.proofs.Common.{row_fits, same_from_place, mod_below, cases_eq, common_steps, same_number_lists, sample, with_sample}
+use Rattle.avc_plane.proofs.Common.{stored_place, inner_plane}
 use Rattle.avc_plane.proofs.PlaneMaps.{sample-plane_of, length-plane_of}
 
 module _ (pad width height : ℕ) (stored : List ℕ) (long : length stored ≡ (height + 2 * pad) * (width + 2 * pad)) where

@@ -1,16 +1,6 @@
 -- Rectangles in memory that are set some rows at a time.
-use Rattle.std.proofs.Common.{ℕ, ◌≡◌, ◌≢◌, ◌+◌, ◌-◌, ◌*◌, ◌<◌, ◌≤◌, arith, List, length, slice_index, below_more, refl, sym, ap, subst, ◌∙◌, inl, inr, mul_comm}
-use Rattle.std.proofs.Math.Nat.{add-mul, mul-le-mul_right}
-use Rattle.std.proofs.lemmas.Bool.{cases_lt}
-use Rattle.avc_plane.specs.Strided.{IsStridedSet}
-
--- no row
-pub strided_none : (w h start stride : ℕ) (f : ℕ → ℕ → ℕ) (old : List ℕ) → h ≡ 0 → IsStridedSet w h start stride f old old
-strided_none w h start stride f old none = record {
-  long = refl;
-  inside = λ y low x column. absurd (omega (arith, none, low));
-  outside = λ j apart. refl;
-}
+use Rattle.avc_plane.proofs.Common.{ℕ, ◌≡◌, ◌≢◌, ◌+◌, ◌-◌, ◌*◌, ◌<◌, ◌≤◌, arith, List, length, slice_index, below_more, sym, ap}
+use Rattle.avc_plane.proofs.Common.{subst, ◌∙◌, inl, inr, mul_comm, add-mul, mul-le-mul_right, cases_lt, IsStridedSet}
 
 -- the same samples under other words
 pub strided_same : (w h start stride : ℕ) (f g : ℕ → ℕ → ℕ) (old new : List ℕ) → IsStridedSet w h start stride f old new →
@@ -21,8 +11,8 @@ strided_same w h start stride f g old new set same = record {
   outside = set.outside;
 }
 
-turned : (y n s : ℕ) → y * (n * s) ≡ n * y * s
-turned y n s = search arith
+pub times_turned : (y n s : ℕ) → y * (n * s) ≡ n * y * s
+times_turned y n s = search arith
 
 one_more : (n y : ℕ) → n * (y + 1) ≡ n * y + n
 one_more n y = omega (arith, mul_comm n (y + 1), mul_comm n y)
@@ -32,7 +22,7 @@ module _ (w n y start stride : ℕ) (f g : ℕ → ℕ → ℕ) (old mid new : L
     (so_far : IsStridedSet w (n * y) start stride f old mid) (put : IsStridedSet w n (start + y * (n * stride)) stride g mid new)
     (same : (r x : ℕ) → r < n → x < w → g x r ≡ f x (n * y + r)) where
   place : (r x : ℕ) → start + y * (n * stride) + r * stride + x ≡ start + (n * y + r) * stride + x
-  place r x = omega (arith, turned y n stride, add-mul (n * y) r stride)
+  place r x = omega (arith, times_turned y n stride, add-mul (n * y) r stride)
 
   other : (v r x u : ℕ) → v < n * y → x < w → start + v * stride + x ≡ start + (n * y + r) * stride + u → ⊥
   other v r x u above column e =

@@ -1,7 +1,6 @@
 -- Rows in which each place is the nearest sample are a padded plane, and the same plane.
-use Rattle.std.proofs.Common.{ℕ, ◌≡◌, ◌+◌, ◌*◌, ◌<◌, arith, List, slice_index, length, ap, ◌∙◌, sym, pos, ◌-ℤ◌}
-use Rattle.avc_plane.specs.Plane.{Plane, sample, clamped}
-use Rattle.avc_plane.specs.Padded.{stored_place, inner_plane, nearest, IsSurrounded}
+use Rattle.avc_plane.proofs.Common.{ℕ, ◌≡◌, ◌+◌, ◌*◌, ◌<◌, arith, List, slice_index, length, ap, ◌∙◌, sym, pos, ◌-ℤ◌, Plane, sample}
+use Rattle.avc_plane.proofs.Common.{clamped, stored_place, inner_plane, nearest, IsSurrounded}
 use Rattle.avc_plane.proofs.PlaneMaps.{sample-plane_of}
 use Rattle.avc_plane.proofs.Blocks.{plane_of_same}
 use Rattle.avc_plane.proofs.Nearest.{nearest_inside, nearest_is_inside, clamped_is}

@@ -1,10 +1,8 @@
 -- Reading passes bits that stood ahead, and no others.
 use Rattle.std.proofs.Common.{◌≡◌, ◌+◌, ℕ, ℤ, zero, suc, Bool, true, false, nat_lt, [], ◌∷◌, List, length, Option, Some, None, Result, Ok, Err, refl, ap, sym, ◌∙◌, arith, ◌==◌}
 use Rattle.std.specs.Option.{option_map}
-use Rattle.avc_types.specs.declared.fault.Fault.{Fault}
-use Rattle.avc_types.specs.declared.fault.Fault.TheVariants.{CodeTooLong}
-use Rattle.avc_bits.specs.Bits.{Bits, Read, ◌>>=◌, ◌>>◌, give, refuse, check, where_set, number_of}
-use Rattle.avc_bits.specs.Codes.{split, bits, zeros, zeros_before_one, signed_value, flag, ue, ue_to, se_within, se, u}
+use Rattle.avc_slice.proofs.Common.{Fault, CodeTooLong, Bits, Read, ◌>>=◌, ◌>>◌, give, refuse, check, where_set, number_of, split, bits}
+use Rattle.avc_slice.proofs.Common.{zeros, zeros_before_one, signed_value, flag, ue, ue_to, se_within, se, u}
 use Rattle.avc_bits.proofs.Giving.{bind-ok, left}
 
 -- how many bits were passed or stand ahead

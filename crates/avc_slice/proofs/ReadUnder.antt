@@ -1,28 +1,20 @@
 -- What a slice header that was read keeps to.
 use Rattle.std.proofs.Common.{◌≡◌, ◌<◌, ◌≤◌, ◌+◌, ◌/◌, ◌%◌, ◌==◌, ◌&&◌, ◌||◌, ℕ, ℤ, zero, suc, pos, negsuc, Bool, true, false, not, nat_lt, int_le, List, [], length, Option, Some, None, is_some, IfSome, IfOk, Result, Ok, Err, if◌then◌else◌, refl, ap, sym, ◌∙◌, arith}
-use Rattle.std.proofs.lemmas.Bool.{ltb-true, and_parts, false≢true}
+use Rattle.avc_slice.proofs.Common.{ltb-true, and_parts, false≢true, Fault, BadMarking, NoParameterSet, Adaptive, Idr, Bits, Read, start}
+use Rattle.avc_slice.proofs.Common.{bits_before_stop, ◌>>=◌, give, check, where_set, flag, se, se_within, u, ue, ue_to, Sets, filled}
+use Rattle.avc_slice.proofs.Common.{is_idr, is_idr_marking, is_reference, has_idr_marking, is_p_type, slice_qp, pred_weight_table}
+use Rattle.avc_slice.proofs.Common.{IsDeblocking, IsPredWeightTable, IsReadUnder, Header}
 use Rattle.std.proofs.lemmas.Int.{ints}
-use Rattle.avc_types.specs.declared.fault.Fault.{Fault}
-use Rattle.avc_types.specs.declared.fault.Fault.TheVariants.{BadMarking, NoParameterSet}
 use Rattle.avc_types.specs.declared.edges.FilteredEdges.{FilteredEdges}
 use Rattle.avc_types.specs.declared.edges.FilteredEdges.TheVariants.{All, NoEdges, WithinSlice}
-use Rattle.avc_types.specs.declared.references.Marking.TheVariants.{Adaptive, Idr}
 use Rattle.avc_types.specs.declared.references.Marking.{Marking}
-use Rattle.avc_bits.specs.Bits.{Bits, Read, start, bits_before_stop, ◌>>=◌, give, check, where_set}
-use Rattle.avc_bits.specs.Codes.{flag, se, se_within, u, ue, ue_to}
 use Rattle.avc_bits.proofs.Giving.{Gives, IsFrom, bind-ok, gives-bind, gives-check, gives-give, gives-se_within, gives-then, gives-ue_to, gives-where_set, left, value}
 use Rattle.avc_params.specs.Limits.{max_frame_num, size_in_mbs}
-use Rattle.avc_params.specs.Tables.{Sets}
 use Rattle.avc_params.specs.declared.pps.Pps.{Pps}
 use Rattle.avc_params.specs.declared.sps.OrderCount.{OrderCount}
 use Rattle.avc_params.specs.declared.sps.OrderCount.TheVariants as orders
 use Rattle.avc_params.specs.declared.sps.Sps.{Sps}
-use Rattle.avc_slice.specs.Filling.{filled}
-use Rattle.avc_slice.specs.Header.{is_idr, is_idr_marking, is_reference, has_idr_marking, is_p_type, slice_qp}
 use Rattle.avc_slice.specs.Reading.{active_count, active_override, back, coded_order, deblocking, filtering, found, front, header_in_rbsp, header_of, idr_pic_id, is_qp, list_part, marking, modification, modification_list, most_operations, no_edges, numbers, offset_pair, operation, operations, optional_se, overridden_count, p_list, position_here, redundant_pic_cnt, slice_type_of, unless_ended, up_to, value_or_fault}
-use Rattle.avc_slice.specs.WeightsReading.{pred_weight_table}
-use Rattle.avc_slice.specs.Within.{IsDeblocking, IsPredWeightTable, IsReadUnder}
-use Rattle.avc_slice.specs.declared.header.Header.{Header}
 use Rattle.avc_slice.specs.declared.parts.Filtering.{Filtering}
 use Rattle.avc_slice.specs.declared.parts.Front.{Front}
 use Rattle.avc_slice.specs.declared.parts.ListPart.{ListPart}

@@ -1,19 +1,15 @@
 -- Worked examples of slice headers.
-use Rattle.std.specs.Prelude.{◌≡◌, ℕ, ℤ, pos, negsuc, true, false, List, [], ◌∷◌, Some, None, Result, Ok, Err, refl}
-use Rattle.avc_types.specs.declared.fault.Fault.{Fault}
+use Rattle.avc_slice.proofs.Common.{◌≡◌, ℕ, ℤ, pos, negsuc, true, false, List, [], ◌∷◌, Some, None, Result, Ok, Err, refl, Fault, Idr}
+use Rattle.avc_slice.proofs.Common.{SlidingWindow, Sets, sets_after, Header, empty_header}
 use Rattle.avc_types.specs.declared.fault.Fault.TheVariants as faults
 use Rattle.avc_types.specs.declared.weight.Weight.{Weight}
-use Rattle.avc_types.specs.declared.references.Marking.TheVariants.{Idr, SlidingWindow}
-use Rattle.avc_params.specs.Tables.{Sets, sets_after}
 use Rattle.avc_params.specs.declared.set_unit.SetUnit.TheVariants.{OfSps, OfPps}
-use Rattle.avc_slice.specs.declared.header.Header.{Header}
 use Rattle.avc_slice.specs.declared.header.SliceType.TheVariants.{AllP, AllI}
 use Rattle.avc_slice.specs.declared.weights.CodedWeight.{CodedWeight}
 use Rattle.avc_slice.specs.declared.weights.PredWeightTable.{PredWeightTable}
 use Rattle.avc_slice.specs.Reading.{header_in_rbsp}
 use Rattle.avc_slice.specs.Weights.{weights}
 use Rattle.avc_slice.specs.Begins.{begins}
-use Rattle.avc_slice.specs.Filling.{empty_header}
 
 abbrev sets : Sets
 sets = sets_after (OfSps (0x42 ∷ 0xC0 ∷ 0x0A ∷ 0xDA ∷ 0x71 ∷ []) ∷ OfPps (0xCE ∷ 0x38 ∷ 0x80 ∷ []) ∷ [])

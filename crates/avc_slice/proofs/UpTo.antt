@@ -1,13 +1,7 @@
 -- A list that a code ends, with some of its items read already.
-use Rattle.std.proofs.Common.{◌≡◌, ℕ, zero, suc, ◌==◌, true, List, [], ◌∷◌, ◌++◌, Result, Ok, Err, refl, ap, sym, ◌∙◌, append_assoc, append-nil, arith}
-use Rattle.std.proofs.lemmas.Bool.Decides.{nat_tests}
-use Rattle.std.proofs.lemmas.Bool.{ne_eqb}
-use Rattle.avc_types.specs.declared.fault.Fault.{Fault}
-use Rattle.avc_bits.specs.Bits.{Bits, Read, ◌>>=◌, give}
+use Rattle.avc_slice.proofs.Common.{◌≡◌, ℕ, zero, suc, List, [], ◌∷◌, ◌++◌, Result, Ok, Err, refl, ap, sym, ◌∙◌, append_assoc}
+use Rattle.avc_slice.proofs.Common.{append-nil, ne_eqb, Fault, Bits, Read, ◌>>=◌, give, eq-eqb}
 use Rattle.avc_slice.specs.Reading.{up_to}
-
-same_code : (a b : ℕ) → a ≡ b → (a == b) ≡ true
-same_code a b e = grind (arith, nat_tests)
 
 -- with these items in front
 abbrev pub joined : {A : Type 0} → List A → Result (List A × Bits) Fault → Result (List A × Bits) Fault
@@ -35,11 +29,11 @@ one_more read_code stop item fault whole left xs b b1 b2 code x h e n i =
 
 pub stops : {A : Type 0} (read_code : Read ℕ) (stop : ℕ) (item : ℕ → Read A) (fault : Fault) (whole : Result (List A × Bits) Fault) (left : ℕ) (xs : List A) (b b1 : Bits) (code : ℕ)
     → IsUnderWay read_code stop item fault whole (suc left) xs b → read_code b ≡ Ok (code, b1) → code ≡ stop → whole ≡ Ok (xs, b1)
-stops read_code stop item fault whole left xs b b1 code h e y = h.rest ∙ rw (e, same_code code stop y) (ap (λ items. Ok (items, b1)) (append-nil xs))
+stops read_code stop item fault whole left xs b b1 code h e y = h.rest ∙ rw (e, eq-eqb code stop y) (ap (λ items. Ok (items, b1)) (append-nil xs))
 
 pub ends : {A : Type 0} (read_code : Read ℕ) (stop : ℕ) (item : ℕ → Read A) (fault : Fault) (whole : Result (List A × Bits) Fault) (xs : List A) (b b1 : Bits) (code : ℕ)
     → IsUnderWay read_code stop item fault whole 0 xs b → read_code b ≡ Ok (code, b1) → code ≡ stop → whole ≡ Ok (xs, b1)
-ends read_code stop item fault whole xs b b1 code h e y = h.rest ∙ rw (e, same_code code stop y) (ap (λ items. Ok (items, b1)) (append-nil xs))
+ends read_code stop item fault whole xs b b1 code h e y = h.rest ∙ rw (e, eq-eqb code stop y) (ap (λ items. Ok (items, b1)) (append-nil xs))
 
 pub overflows : {A : Type 0} (read_code : Read ℕ) (stop : ℕ) (item : ℕ → Read A) (fault : Fault) (whole : Result (List A × Bits) Fault) (xs : List A) (b b1 : Bits) (code : ℕ)
     → IsUnderWay read_code stop item fault whole 0 xs b → read_code b ≡ Ok (code, b1) → (code ≡ stop → ⊥) → whole ≡ Err fault

@@ -1,14 +1,12 @@
 -- The table of explicit weights that was read: its ranges, and that nothing is passed but what stood ahead.
-use Rattle.std.proofs.Common.{◌≡◌, ℕ, zero, suc, ◌≤◌, pos, negsuc, List, [], ◌∷◌, length, IfSome}
+use Rattle.avc_slice.proofs.Common.{◌≡◌, ℕ, zero, suc, ◌≤◌, pos, negsuc, List, [], ◌∷◌, length, IfSome, Read, times, se_within, ue_to}
+use Rattle.avc_slice.proofs.Common.{chroma_weights, coded_weight, entry_weights, pred_weight_table, IsChromaWeights, IsCodedWeight}
+use Rattle.avc_slice.proofs.Common.{IsEntryWeights, IsPredWeightTable}
 use Rattle.std.specs.List.{All}
-use Rattle.std.proofs.lemmas.List.Elements.{All-cons, All-nil}
-use Rattle.avc_bits.specs.Bits.{Read, times}
-use Rattle.avc_bits.specs.Codes.{flag, se_within, ue_to}
-use Rattle.avc_bits.proofs.Giving.{Gives, IsFrom, gives-bind, gives-give, gives-se_within, gives-then, gives-times, gives-ue_to, gives-where_set}
+use Rattle.avc_bits.proofs.Giving.{Gives, IsFrom, gives-bind, gives-each, gives-give, gives-se_within, gives-times, gives-ue_to}
+use Rattle.avc_params.proofs.Givings.{gives-optional}
 use Rattle.avc_params.specs.Parsing.{optional}
-use Rattle.avc_slice.specs.WeightsReading.{chroma_weights, coded_weight, entry_weights, pred_weight_table}
 use Rattle.avc_slice.specs.declared.weights.EntryWeights.{EntryWeights}
-use Rattle.avc_slice.specs.Within.{IsChromaWeights, IsCodedWeight, IsEntryWeights, IsPredWeightTable}
 use Rattle.avc_slice.proofs.Keeping.{Keeps, parts_keep, keeps-bind, keeps-give}
 
 -- ---- nothing but what stood ahead is passed
@@ -43,21 +41,11 @@ gives-chroma_weights =
     gives-bind IsCodedWeight IsChromaWeights coded_weight _ gives-coded_weight (λ cr is_cr.
     gives-give IsChromaWeights _ (record { cb = is_cb; cr = is_cr })))
 
-gives-optional : {A : Type 0} (P : A → Type 0) (part : Read A) → Gives P part → Gives (λ o. IfSome o P) (optional part)
-gives-optional P part g = gives-then (λ o. IfSome o P) flag _ (λ present. gives-where_set P present part g)
-
 gives-entry_weights : Gives IsEntryWeights entry_weights
 gives-entry_weights =
     gives-bind (λ o. IfSome o IsCodedWeight) IsEntryWeights (optional coded_weight) _ (gives-optional IsCodedWeight coded_weight gives-coded_weight) (λ luma is_luma.
     gives-bind (λ o. IfSome o IsChromaWeights) IsEntryWeights (optional chroma_weights) _ (gives-optional IsChromaWeights chroma_weights gives-chroma_weights) (λ chroma is_chroma.
     gives-give IsEntryWeights _ (record { luma = is_luma; chroma = is_chroma })))
-
-gives-each : {A : Type 0} (P : A → Type 0) (n : ℕ) (part : Read A) → Gives P part → Gives (All P) (times n part)
-gives-each P zero part g = gives-give (All P) [] (All-nil P)
-gives-each P (suc n) part g =
-    gives-bind P (All P) part _ g (λ x p.
-    gives-bind (All P) (All P) (times n part) _ (gives-each P n part g) (λ xs ps.
-    gives-give (All P) (x ∷ xs) (All-cons P x xs p ps)))
 
 -- as many as were asked for, and each in its ranges
 record AreEntries (n : ℕ) (entries : List EntryWeights) : Type 0 where

@@ -1,10 +1,8 @@
 -- The DC values of luma and of chroma.
 use Rattle.std.proofs.Common.{ℕ, ℤ, pos, negsuc, ◌≡◌, ◌<◌, ◌≤◌, ◌-◌, ◌*◌, ◌/◌, ◌%◌, ◌^◌, ◌+ℤ◌, ◌*ℤ◌, arith, List, [], ◌∷◌, slice_index_or, nat_lt, false, if◌then◌else◌, ap, ◌∙◌, sym}
 use Rattle.std.proofs.Math.Nat.{mul-le-mul, pow-le-pow_right}
-use Rattle.std.proofs.lemmas.Int.{ints}
-use Rattle.std.proofs.lemmas.Bool.Decides.{nat_tests}
-use Rattle.avc_types.specs.Arithmetic.{◌>>ℤ◌, ◌<<ℤ◌, sum_below_ℤ}
-use Rattle.avc_transform.specs.Residual.{level, even_scale, hadamard, hadamard_row, luma_dc_scaled, chroma_dc_product, chroma_dc_scaled}
+use Rattle.avc_transform.proofs.Common.{ints, nat_tests, ◌>>ℤ◌, ◌<<ℤ◌, sum_below_ℤ, level, even_scale, hadamard, hadamard_row}
+use Rattle.avc_transform.proofs.Common.{luma_dc_scaled, chroma_dc_product, chroma_dc_scaled}
 use Rattle.avc_transform.proofs.BelowFour.{below_four}
 use Rattle.avc_transform.proofs.Small.{times_times}
 

@@ -1,9 +1,8 @@
 -- Laws of the residual: what is left of a block whose levels are all 0.
-use Rattle.std.specs.Prelude.{ℕ, zero, suc, ℤ, pos, ◌≡◌, ◌-◌, ◌/◌, ◌%◌, ◌^◌, ◌+ℤ◌, ◌*ℤ◌, List, refl}
-use Rattle.std.proofs.Common.{ap, ◌∙◌}
+use Rattle.avc_transform.proofs.Common.{ℕ, zero, suc, ℤ, pos, ◌≡◌, ◌-◌, ◌/◌, ◌%◌, ◌^◌, ◌+ℤ◌, ◌*ℤ◌, List, refl, ap, ◌∙◌, ◌>>ℤ◌, level}
+use Rattle.avc_transform.proofs.Common.{level_scale, zigzag, scaled, scaled_block, scaled_block_with_dc, inverse4, transformed_row}
+use Rattle.avc_transform.proofs.Common.{transformed, residual4x4, residual4x4_with_dc}
 use Rattle.std.proofs.Math.IntN.{zero-*ℤ, +ℤ_idr}
-use Rattle.avc_types.specs.Arithmetic.{◌>>ℤ◌}
-use Rattle.avc_transform.specs.Residual.{level, level_scale, zigzag, scaled, scaled_block, scaled_block_with_dc, inverse4, transformed_row, transformed, residual4x4, residual4x4_with_dc}
 
 pub same_inverse4 : (a0 a1 a2 a3 b0 b1 b2 b3 : ℤ) (x : ℕ) → a0 ≡ b0 → a1 ≡ b1 → a2 ≡ b2 → a3 ≡ b3 → inverse4 a0 a1 a2 a3 x ≡ inverse4 b0 b1 b2 b3 x
 same_inverse4 a0 a1 a2 a3 b0 b1 b2 b3 x e0 e1 e2 e3 =

@@ -1,11 +1,8 @@
 -- Numbers that are small enough for their 32 bits.
 use Rattle.std.proofs.Common.{ℕ, ℤ, pos, negsuc, zero, suc, neg_ℤ, ◌≡◌, ◌<◌, ◌≤◌, ◌^◌, ◌*◌, ◌/◌, ◌%◌, ◌*ℤ◌, arith, to_z, of_z, w16, w32, List, [], ◌∷◌, slice_index_or, ap, ◌∙◌, sym, subst, refl, zero-mul, mul_assoc}
 use Rattle.std.specs.Int.RustNames.{unsigned_abs}
-use Rattle.std.proofs.lemmas.Int.{ints, unsigned_abs-mul}
-use Rattle.std.proofs.lemmas.Nat.{mul-lt}
-use Rattle.avc_transform.specs.Bounds.{IsBelow, AllBelow}
+use Rattle.avc_transform.proofs.Common.{ints, unsigned_abs-mul, mul-lt, IsBelow, AllBelow, level, level_scale, scaled}
 use Rattle.avc_transform.proofs.BelowFour.{below_four}
-use Rattle.avc_transform.specs.Residual.{level, level_scale, scaled}
 
 -- a small number is what its 32 bits say
 pub cast_back : (z : ℤ) → IsBelow (2 ^ 31) z → to_z w32 (of_z w32 z) ≡ z

@@ -1,13 +1,9 @@
 -- The tables of the code are those of the standard.
 use Rattle.std.proofs.Common.{ℕ, ◌≡◌, ◌<◌, ◌≤◌, ◌/◌, ◌%◌, true, nat_eq, nat_lt, if◌then◌else◌, false, ◌-◌, slice_index, refl, ap, ◌∙◌, sym, arith, zero-add}
-use Rattle.std.specs.List.{range_with_len, list_all}
+use Rattle.avc_transform.proofs.Common.{range_with_len, list_all, nat_tests, zigzag, chroma_qp_at, ZIGZAG, CHROMA_QP}
 use Rattle.std.proofs.lemmas.Bool.{eqb-true, ltb-true}
-use Rattle.std.proofs.lemmas.Bool.Decides.{nat_tests}
 use Rattle.std.proofs.lemmas.List.FromFn.{get_or-range_with_len, length-range_with_len}
 use Rattle.std.proofs.lemmas.List.Sums.{AllPass-from_list_all}
-use Rattle.avc_transform.specs.Residual.{zigzag, chroma_qp_at}
-use Rattle.avc_transform.specs.declared.scaling.TheConstants.{ZIGZAG}
-use Rattle.avc_transform.specs.declared.quantiser.TheConstants.{CHROMA_QP}
 
 -- functions that are the same at each number below n
 same_below : (n : ℕ) (f g : ℕ → ℕ) → list_all (λ k. nat_eq (f k) (g k)) (range_with_len 0 n) ≡ true → (k : ℕ) → k < n → f k ≡ g k

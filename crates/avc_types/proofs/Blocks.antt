@@ -1,23 +1,21 @@
 -- Blocks by their samples.
-use Rattle.std.proofs.Common.{ℕ, ◌≡◌, ◌+◌, ◌*◌, ◌/◌, ◌%◌, ◌<◌, ◌≤◌, arith, List, length, slice_index, take, ap, ◌∙◌, inl, inr, mul_comm}
-use Rattle.std.proofs.lemmas.List.{get_or-take, length-take-le}
+use Rattle.avc_types.proofs.Common.{ℕ, ◌≡◌, ◌+◌, ◌*◌, ◌/◌, ◌%◌, ◌<◌, ◌≤◌, arith, List, length, slice_index, take, ap, ◌∙◌, inl, inr}
+use Rattle.avc_types.proofs.Common.{mul_comm, get_or-take, length-take-le, mod_below, cases_lt}
 use Rattle.std.proofs.lemmas.List.FromFn.{get_or-map-range_with_len, length-map-range_with_len, fill_by_all}
-use Rattle.std.proofs.lemmas.Nat.{mod_below, div_below}
-use Rattle.std.proofs.lemmas.Bool.{cases_lt}
 use Rattle.std.proofs.Math.Nat.{div-lt_iff_lt-mul}
 use Rattle.avc_types.specs.Blocks.{block_of}
 
 module _ (width height k : ℕ) (below : k < width * height) where
-  some_column : 0 < width
+  pub some_column : 0 < width
   some_column = elim (cases_lt 0 width) [
     | inl less ↦ less
     | inr none ↦ let e : width ≡ 0 = omega arith in absurd (omega (arith, ap (λ w. w * height) e))
   ]
 
-  column : k % width < width
+  pub column : k % width < width
   column = mod_below k width some_column
 
-  row : k / width < height
+  pub row : k / width < height
   row = (div-lt_iff_lt-mul some_column).1 (omega (arith, mul_comm width height))
 
   pub place : (k / width) * width + k % width ≡ k

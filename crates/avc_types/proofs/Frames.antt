@@ -1,12 +1,10 @@
 -- Frames as reference frames: which of them a test finds.
-use Rattle.std.specs.List.{filter, find, list_any}
+use Rattle.avc_types.proofs.Common.{filter, find, list_any, slice_index, slice_index_or, is_some, ◌==◌, ◌||◌, MarkedFrame, Reference}
+use Rattle.avc_types.proofs.Common.{StandAt, reference_of, references_at, reference_at, is_marked, sorted_by, placed_by, no_frame}
 use Rattle.std.specs.List.Sorted.{IsStrictlyIncreasing}
 use Rattle.std.proofs.Common.{◌≡◌, ℕ, zero, suc, ◌+◌, ◌<◌, nat_lt, Bool, true, false, cond, ◌&&◌, List, [], ◌∷◌, length, Some, slice_get, refl, ap, ◌∙◌, arith}
-use Rattle.std.specs.Prelude.{slice_index, slice_index_or, is_some, ◌==◌, ◌||◌}
 use Rattle.std.proofs.lemmas.List.Kept.{AllPairs-from_increasing}
 use Rattle.std.proofs.lemmas.Bool.Decides.{nat_tests}
-use Rattle.avc_types.specs.declared.marked_frame.MarkedFrame.{MarkedFrame}
-use Rattle.avc_types.specs.References.{Reference, StandAt, reference_of, references_at, reference_at, is_marked, sorted_by, placed_by, no_frame}
 use Rattle.avc_types.proofs.ReferencesAt.{placed_behind}
 
 -- ---- rising entries
@@ -23,13 +21,6 @@ pub stand_rest : (e : ℕ) (es : List ℕ) (f : MarkedFrame) (fs : List MarkedFr
 stand_rest e es f fs s = record { each = omega (arith, s.each); rising = rising_rest e es s.rising }
 
 -- ---- one frame more in front
-
--- what stands at a later place
-pub reference_at-rest : (e : ℕ) (es : List ℕ) (f : MarkedFrame) (fs : List MarkedFrame) (p : ℕ) → reference_at (e ∷ es) (f ∷ fs) (suc p) ≡ reference_at es fs p
-reference_at-rest e es f fs p = refl
-
-pub reference_at-first : (e : ℕ) (es : List ℕ) (f : MarkedFrame) (fs : List MarkedFrame) → reference_at (e ∷ es) (f ∷ fs) 0 ≡ reference_of e f
-reference_at-first e es f fs = refl
 
 -- A test that reads no entry passes over a frame or takes it.
 pub filter-references : (q : Reference → Bool) (free : (e : ℕ) (f : MarkedFrame) → q (reference_of e f) ≡ q (reference_of 0 f))

@@ -1,10 +1,9 @@
 -- How `History`'s functions are proved: each makes the empty struct, with items of its own. Assumes `Logic`.
-use Rattle.std.proofs.Common.{◌≡◌, ℕ, List, [], ◌∷◌, ◌++◌, length, map, refl, ◌+◌}
+use Rattle.avc_types.proofs.Common.{◌≡◌, ℕ, List, [], ◌∷◌, ◌++◌, length, map, refl, ◌+◌, Ura, Val, vptr, WT, has_ty, Logic, RattleType}
+use Rattle.avc_types.proofs.Common.{owns, nothing, owned}
 use Rattle.std.proofs.raw_atomic.Walks.{proved}
-use seplogic.Ra.Ura.{Ura}
 use lib.Dec.{T}
 use mir.Syntax.{Fn, Ty, ty_ref, named, imm, Callee, local, value_local, assign, seq, return, place, copy, aggregate}
-use mir.Val.{Val, vptr, WT, has_ty}
 use base.Logic.{SProp}
 use base.Fml.{ftrue, Lft}
 use prog.Wp.{Closed}
@@ -14,20 +13,17 @@ use contract.Lifetimes.{Lfts, lft_at}
 use contract.Monad.{fact}
 use contract.Notation.{connectives}
 use contract.Running.{Running, MachineTables, tables}
-use types.Logic.{Logic}
 use types.Kit.{Goal, Step, step, Item as Entry, ‵, raw, ◌⊛◌, ◌$◌, ◌∵◌, !, qed, move, keep, split, fjoin, suffices, done}
 use types.Part.{agg}
 use types.Run.{enter, returns, and_then, no_more}
 use types.ByLocal.{alloc_all, pass_all, free_all, look_at, get, sets}
 use denote.Exit.{yes, Last, left}
-use denote.RattleType.{RattleType, owns}
 use denote.Ref.{shr_vals}
 use denote.Builtin.{RefOf, SliceRefOf}
 use denote.Slice.{slice_ty, slice_val}
 use denote.Laws.{Is, Tells}
 use denote.Param.{param}
 use denote.Signature.{Slot, plain, types_at}
-use denote.Steps.{nothing, owned}
 use denote.Struct.Laws.{makes}
 use denote.Triple.Clauses.{Clauses, Ended, closing}
 use denote.Triple.Entry.{alive}

@@ -1,25 +1,15 @@
 -- Parameter sets that are sent again.
-use Rattle.std.proofs.Common.{◌≡◌, ◌==◌, ◌<◌, ℕ, Bool, true, false, cond, if◌then◌else◌, List, [], ◌∷◌, ◌++◌, Option, Some, None, is_some}
-use Rattle.std.proofs.Common.{Result, Ok, Err, IsTrue, All, filter, refl, ap, sym, ◌∙◌, arith}
+use Rattle.avc_units.proofs.Common.{◌≡◌, ◌==◌, ◌<◌, ℕ, Bool, true, false, cond, if◌then◌else◌, List, [], ◌∷◌, ◌++◌, Option, Some, None}
+use Rattle.avc_units.proofs.Common.{is_some, Result, Ok, Err, IsTrue, All, filter, refl, ap, sym, ◌∙◌, arith, eq-eqb, eqb-true, All-append}
+use Rattle.avc_units.proofs.Common.{All-cons, All-nil, flat_map, range_with_len, Fault, forbidden_zero_bit, Unit, pps_id, pps_of, sps_id}
+use Rattle.avc_units.proofs.Common.{sps_of, Sets, accepted, is_id, is_pps, is_sps, last, pps_in_force, pps_record, sets_after, sps_in_force}
+use Rattle.avc_units.proofs.Common.{sps_record, SetFault, SetUnit, OfPps, OfSps, Kind, boundary, kind, other, partition, pps, slice, sps}
+use Rattle.avc_units.proofs.Common.{ends_picture, fault_in, rbsp_of, set_of, set_unit, set_units, step, tables, deciding_unit, unit_list}
 use Rattle.std.proofs.Math.Path.{fun_ext}
-use Rattle.std.proofs.lemmas.Bool.{eq-eqb, eqb-true}
-use Rattle.std.proofs.lemmas.List.Elements.{All-append, All-cons, All-nil}
-use Rattle.std.specs.List.{flat_map, range_with_len}
-use Rattle.avc_types.specs.declared.fault.Fault.{Fault}
-use Rattle.avc_annexb.specs.Units.{forbidden_zero_bit}
-use Rattle.avc_annexb.specs.declared.unit.Unit.{Unit}
-use Rattle.avc_params.specs.Reading.{pps_id, pps_of, sps_id, sps_of}
-use Rattle.avc_params.specs.Tables.{Sets, accepted, is_id, is_pps, is_sps, last, pps_in_force, pps_record, sets_after, sps_in_force, sps_record}
 use Rattle.avc_params.specs.Within.{PpsInForceKeepsLimits, SpsInForceKeepsLimits}
 use Rattle.avc_params.specs.declared.pps.Pps.{Pps}
-use Rattle.avc_params.specs.declared.set_fault.SetFault.{SetFault}
-use Rattle.avc_params.specs.declared.set_unit.SetUnit.{SetUnit}
-use Rattle.avc_params.specs.declared.set_unit.SetUnit.TheVariants.{OfPps, OfSps}
 use Rattle.avc_params.specs.declared.sps.Sps.{Sps}
-use Rattle.avc_units.specs.Grouping.{Kind, boundary, kind, other, partition, pps, slice, sps}
-use Rattle.avc_units.specs.Grouping.{ends_picture, fault_in, rbsp_of, set_of, set_unit, set_units, step, tables}
 use Rattle.avc_units.specs.Laws.{IsSetOf, SetsAreInForceAgain, SetsComeAlike, SetsInForceAreUnits}
-use Rattle.avc_units.specs.Resuming.{deciding_unit, unit_list}
 use Rattle.avc_units.specs.declared.step.Next.TheVariants.{Nothing}
 use Rattle.avc_units.proofs.Deciding.{AreApart, decides, decides-again, decides-append, decides-of_each, decides-of_none, decides-other}
 use Rattle.avc_units.proofs.Deciding.{among_first, brings, brought, chosen, found, is_among, last_of_both, later, later-none, set_in}

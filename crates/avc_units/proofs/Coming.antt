@@ -1,19 +1,13 @@
 -- What a slice's unit does.
-use Rattle.std.proofs.Common.{◌≡◌, ◌==◌, ◌&&◌, ℕ, Bool, true, false, List, Option, Some, None, Result, Ok, Err, IfOk, if◌then◌else◌, refl, ap, sym, ◌∙◌}
-use Rattle.std.proofs.lemmas.Bool.{eqb-true}
-use Rattle.avc_types.specs.declared.fault.Fault.{Fault}
-use Rattle.avc_annexb.specs.Units.{forbidden_zero_bit, nal_unit_type}
-use Rattle.avc_annexb.specs.declared.unit.Unit.{Unit}
+use Rattle.avc_units.proofs.Common.{◌≡◌, ◌==◌, ◌&&◌, ℕ, Bool, true, false, List, Option, Some, None, Result, Ok, Err, IfOk, if◌then◌else◌}
+use Rattle.avc_units.proofs.Common.{refl, ap, sym, ◌∙◌, eqb-true, Fault, forbidden_zero_bit, nal_unit_type, Unit, Sets, Slice, IfSlice}
+use Rattle.avc_units.proofs.Common.{IsSliceUnder, slice, partition, sps, pps, boundary, other, OpenPictureFacts, is_start, kind, kind_of}
+use Rattle.avc_units.proofs.Common.{rbsp_of, reads_zero, readable, running_step, slice_in, slice_step, unreadable, waiting_step}
+use Rattle.avc_units.proofs.Common.{with_header, slice_or_start, Step}
 use Rattle.avc_bits.specs.Bits.{start}
 use Rattle.avc_bits.specs.Codes.{ue}
-use Rattle.avc_params.specs.Tables.{Sets}
 use Rattle.avc_slice.specs.Begins.{begins}
 use Rattle.avc_slice.specs.Reading.{header_in_rbsp}
-use Rattle.avc_slice.specs.declared.slice.Slice.{Slice}
-use Rattle.avc_units.specs.GrouperState.{IfSlice, IsSliceUnder}
-use Rattle.avc_units.specs.Grouping.{slice, partition, sps, pps, boundary, other, OpenPictureFacts, is_start, kind, kind_of, rbsp_of, reads_zero, readable, running_step, slice_in, slice_step, unreadable, waiting_step, with_header}
-use Rattle.avc_units.specs.Kinds.{slice_or_start}
-use Rattle.avc_units.specs.declared.step.Step.{Step}
 
 -- A slice's unit with its RBSP.
 abbrev read_from : Sets → Unit → List ℕ → Result Slice Fault

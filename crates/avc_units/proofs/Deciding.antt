@@ -1,14 +1,7 @@
 -- The unit that decides which parameter set of an id is in force.
-use Rattle.std.proofs.Common.{◌≡◌, ◌==◌, ◌||◌, ◌+◌, ◌<◌, ◌≤◌, ℕ, zero, suc, Bool, true, false, cond, List, [], ◌∷◌, ◌++◌, Option, Some, None}
-use Rattle.std.proofs.Common.{filter, slice_get, refl, ap, sym, ◌∙◌, append_assoc, arith}
-use Rattle.std.proofs.lemmas.Bool.{eq-eqb}
-use Rattle.std.proofs.lemmas.List.Elements.{filter-append}
-use Rattle.std.specs.List.{flat_map, range_with_len}
-use Rattle.avc_annexb.specs.declared.unit.Unit.{Unit}
-use Rattle.avc_params.specs.Tables.{last}
-use Rattle.avc_params.specs.declared.set_unit.SetUnit.{SetUnit}
-use Rattle.avc_units.specs.Grouping.{list_of, set_unit, set_units}
-use Rattle.avc_units.specs.Resuming.{deciding_unit, satisfies, unit_list}
+use Rattle.avc_units.proofs.Common.{◌≡◌, ◌==◌, ◌||◌, ◌+◌, ◌<◌, ◌≤◌, ℕ, zero, suc, Bool, true, false, cond, List, [], ◌∷◌, ◌++◌, Option}
+use Rattle.avc_units.proofs.Common.{Some, None, filter, slice_get, refl, ap, sym, ◌∙◌, append_assoc, arith, eq-eqb, filter-append, flat_map}
+use Rattle.avc_units.proofs.Common.{range_with_len, Unit, last, SetUnit, list_of, set_unit, set_units, deciding_unit, satisfies, unit_list}
 
 -- ---- the last of a list
 
@@ -89,11 +82,15 @@ pub brought : (test : SetUnit → Bool) (o : Option SetUnit) → satisfies test 
 brought test None is = cc
 brought test (Some s) is = record { set = s; is = refl; passes = is }
 
-set_units-append : (us vs : List Unit) → set_units (us ++ vs) ≡ set_units us ++ set_units vs
+pub set_units-append : (us vs : List Unit) → set_units (us ++ vs) ≡ set_units us ++ set_units vs
 set_units-append [] vs = refl
 set_units-append (u ∷ us) vs =
     ap (λ l. list_of (set_unit u) ++ l) (set_units-append us vs)
     ∙ sym (append_assoc (list_of (set_unit u)) (set_units us) (set_units vs))
+
+-- one unit's sets in front
+pub sets_then : (sets : List SetUnit) (u : Unit) (us : List Unit) → (sets ++ set_units (u ∷ [])) ++ set_units us ≡ sets ++ set_units (u ∷ us)
+sets_then sets u us = append_assoc sets (set_units (u ∷ [])) (set_units us) ∙ ap (λ l. sets ++ l) (sym (set_units-append (u ∷ []) us))
 
 pub decides-append : (test : SetUnit → Bool) (us vs : List Unit) → decides test (us ++ vs) ≡ later (decides test us) (decides test vs)
 decides-append test us vs = ap (λ l. last (filter test l)) (set_units-append us vs) ∙ last_of_both test (set_units us) (set_units vs)

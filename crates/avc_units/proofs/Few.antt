@@ -1,14 +1,8 @@
 -- The units that brought the parameter sets in force are no more than the units of the stream: each brings a set of one id.
-use Rattle.std.proofs.Common.{◌≡◌, ◌+◌, ◌<◌, ◌≤◌, ℕ, zero, suc, Bool, true, false, cond, List, [], ◌∷◌, length, Option, Some, None}
-use Rattle.std.proofs.Common.{is_some, filter, refl, ap, arith, length-append}
-use Rattle.std.specs.List.{flat_map, range_with_len}
-use Rattle.avc_annexb.specs.declared.unit.Unit.{Unit}
-use Rattle.avc_params.specs.Tables.{is_pps, is_sps, last, pps_record, sps_record}
-use Rattle.avc_params.specs.declared.set_unit.SetUnit.{SetUnit}
-use Rattle.avc_params.specs.declared.set_unit.SetUnit.TheVariants.{OfPps, OfSps}
-use Rattle.avc_units.specs.Grouping.{set_unit}
+use Rattle.avc_units.proofs.Common.{◌≡◌, ◌+◌, ◌<◌, ◌≤◌, ℕ, zero, suc, Bool, true, false, cond, List, [], ◌∷◌, length, Option, Some, None}
+use Rattle.avc_units.proofs.Common.{is_some, filter, refl, ap, arith, length-append, flat_map, range_with_len, Unit, is_pps, is_sps, last}
+use Rattle.avc_units.proofs.Common.{pps_record, sps_record, SetUnit, OfPps, OfSps, set_unit, deciding_unit, satisfies, unit_list}
 use Rattle.avc_units.specs.Laws.{SetsInForceAreFew}
-use Rattle.avc_units.specs.Resuming.{deciding_unit, satisfies, unit_list}
 use Rattle.avc_units.proofs.Again.{HasOneId, all_by, pps_one_id, sps_one_id, units_by, units_of_both}
 use Rattle.avc_units.proofs.Deciding.{brings, decides}
 

@@ -1,5 +1,6 @@
+mod Common
 mod Coming
 mod Refusals
 mod Again
-mod Deciding
+pub mod Deciding
 mod Few

@@ -1,18 +1,11 @@
 -- What a parameter set's unit says.
-use Rattle.std.proofs.Common.{◌≡◌, ℕ, List, Option, Some, None, Result, Ok, Err, IfOk, OnErr, true, is_some, refl, ap}
+use Rattle.avc_units.proofs.Common.{◌≡◌, ℕ, List, Option, Some, None, Result, Ok, Err, IfOk, OnErr, true, is_some, refl, ap, Unit, Fault}
+use Rattle.avc_units.proofs.Common.{pps_of, sps_of, refused, SetFault, Slice, IfSlice, ends_picture, fault_in, pps, rbsp_of, refusal_of}
+use Rattle.avc_units.proofs.Common.{set_fault, sps, Step}
 use Rattle.std.proofs.lemmas.Option.{none-some}
 use Rattle.avc_annexb.specs.Escapes.{rbsp}
-use Rattle.avc_annexb.specs.declared.unit.Unit.{Unit}
 use Rattle.std.specs.Option.{option_map}
-use Rattle.avc_types.specs.declared.fault.Fault.{Fault}
 use Rattle.avc_types.specs.declared.memory.OutOfMemory.{OutOfMemory}
-use Rattle.avc_params.specs.Reading.{pps_of, sps_of}
-use Rattle.avc_params.specs.Tables.{refused}
-use Rattle.avc_params.specs.declared.set_fault.SetFault.{SetFault}
-use Rattle.avc_slice.specs.declared.slice.Slice.{Slice}
-use Rattle.avc_units.specs.GrouperState.{IfSlice}
-use Rattle.avc_units.specs.Grouping.{ends_picture, fault_in, pps, rbsp_of, refusal_of, set_fault, sps}
-use Rattle.avc_units.specs.declared.step.Step.{Step}
 
 fault-refused : {A : Type 0} (r : Result A SetFault) → option_map (λ why. why.fault) (refused r) ≡ fault_in r
 fault-refused (Ok set) = refl

@@ -1,14 +1,8 @@
 -- Reading by a table: its three answers, and that they are those of the set of its codewords.
 use Rattle.std.proofs.Common.{◌≡◌, ℕ, ◌+◌, List, [], ◌∷◌, ◌++◌, length, Bool, true, false, refl, ap, subst, ◌∙◌, sym, arith, length-append, append-nil, inl, inr}
-use Rattle.std.specs.Prelude.{◌||◌, ◌&&◌, not, Option, Some, None, Result, Ok, Err}
-use Rattle.std.specs.List.{list_all}
-use Rattle.avc_types.specs.declared.fault.Fault.{Fault}
+use Rattle.avc_vlc.proofs.Common.{◌||◌, not, Option, Some, None, Result, Ok, Err, list_all, Fault, Bits, IsCutShort, IsReadBy}
+use Rattle.avc_vlc.proofs.Common.{IsPrefixFree, Table, IsIn, is_prefix, is_prefix_free, lookup, table_code, begins, IsTableRead, and_parts}
 use Rattle.avc_types.specs.declared.fault.Fault.TheVariants as faults
-use Rattle.avc_bits.specs.Bits.{Bits}
-use Rattle.avc_bits.specs.Codes.{IsCutShort, IsReadBy, IsPrefixFree}
-use Rattle.avc_vlc.specs.Reading.{Table, IsIn, is_prefix, is_prefix_free, lookup, table_code}
-use Rattle.avc_vlc.specs.Indexing.{begins}
-use Rattle.avc_vlc.specs.Laws.{IsTableRead}
 use Rattle.avc_vlc.proofs.Words.{is_prefix-true, is_prefix-append, lookup-some, lookup-none}
 
 pub record IsBegun {A : Type 0} (table : Table A) (bits : List Bool) : Type 0 where
@@ -85,26 +79,21 @@ table_read {A} table b = by_lookup (lookup table b.ahead) refl
 
 -- ---- no codeword begins another
 
-pub both_true : (a b : Bool) → (a && b) ≡ true → (a ≡ true) × (b ≡ true)
-both_true true true e = (refl, refl)
-both_true true false e = cc
-both_true false b e = cc
-
 -- the test of an entry against those after it
 abbrev is_apart : {A : Type 0} → List Bool × A → Table A → Bool
 is_apart entry table = list_all (λ other. not (is_prefix entry.0 other.0 || is_prefix other.0 entry.0)) table
 
 pub tests : {A : Type 0} (entry : List Bool × A) (table : Table A) → is_prefix_free (entry ∷ table) ≡ true → (is_apart entry table ≡ true) × (is_prefix_free table ≡ true)
-tests entry table test = both_true (is_apart entry table) (is_prefix_free table) test
+tests entry table test = and_parts (is_apart entry table) (is_prefix_free table) test
 
 -- the test at one codeword of the table
 pub apart : {A : Type 0} (entry : List Bool × A) (table : Table A) (word : List Bool) (value : A) →
     is_apart entry table ≡ true → IsIn table word value → not (is_prefix entry.0 word || is_prefix word entry.0) ≡ true
 apart entry [] word value test is = absurd is
 apart entry (other ∷ table) word value test (inl here) =
-    rw here.0 ((both_true (not (is_prefix entry.0 other.0 || is_prefix other.0 entry.0)) (is_apart entry table) test).0)
+    rw here.0 ((and_parts (not (is_prefix entry.0 other.0 || is_prefix other.0 entry.0)) (is_apart entry table) test).0)
 apart entry (other ∷ table) word value test (inr there) =
-    apart entry table word value ((both_true (not (is_prefix entry.0 other.0 || is_prefix other.0 entry.0)) (is_apart entry table) test).1) there
+    apart entry table word value ((and_parts (not (is_prefix entry.0 other.0 || is_prefix other.0 entry.0)) (is_apart entry table) test).1) there
 
 pub not_first : (a b : Bool) → not (a || b) ≡ true → a ≡ true → ⊥
 not_first a b e f = let g : not (true || b) ≡ true = rw f at e in cc

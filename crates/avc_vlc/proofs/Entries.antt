@@ -1,17 +1,10 @@
 -- An entry says how the bits ahead are read by the table.
-use Rattle.std.proofs.Common.{◌≡◌, ℕ, ◌+◌, ◌<◌, ◌≤◌, List, [], ◌∷◌, ◌++◌, length, Bool, true, false, refl, ap, subst, ◌∙◌, sym, arith, drop, length-append, append_assoc, append-nil, inl, inr}
-use Rattle.std.specs.Prelude.{◌||◌, Option, Some, None, Result, Ok, Err}
-use Rattle.std.specs.Option.{option_map}
-use Rattle.std.specs.List.{list_any}
-use Rattle.std.proofs.lemmas.Bool.{cases_lt}
-use Rattle.avc_types.specs.declared.fault.Fault.{Fault}
+use Rattle.avc_vlc.proofs.Common.{◌≡◌, ℕ, ◌+◌, ◌<◌, ◌≤◌, List, [], ◌∷◌, ◌++◌, length, Bool, true, false, refl, ap, subst, ◌∙◌, sym, arith}
+use Rattle.avc_vlc.proofs.Common.{drop, length-append, append_assoc, append-nil, inl, inr, Option, Some, None, Result, Ok, Err}
+use Rattle.avc_vlc.proofs.Common.{option_map, list_any, cases_lt, Fault, Bits, split, skip, Entry, Table, after_word, is_prefix, lookup}
+use Rattle.avc_vlc.proofs.Common.{table_code, begins, goes_on, word_entry, entry_from, Agree, Decides, or_parts}
 use Rattle.avc_types.specs.declared.fault.Fault.TheVariants as faults
-use Rattle.avc_bits.specs.Bits.{Bits}
-use Rattle.avc_bits.specs.Codes.{split, skip}
 use Rattle.avc_bits.proofs.Reading.{skip_long, skip_short, split_long, split_short}
-use Rattle.avc_vlc.specs.declared.entry.Entry.{Entry}
-use Rattle.avc_vlc.specs.Reading.{Table, after_word, is_prefix, lookup, table_code}
-use Rattle.avc_vlc.specs.Indexing.{begins, goes_on, word_entry, entry_from, Agree, Decides}
 use Rattle.avc_vlc.proofs.Words.{IsFound, after_word-more, lookup-here, lookup-past, lookup-some}
 use Rattle.avc_vlc.proofs.Codes.{begins-first, code-found, code-none}
 
@@ -42,19 +35,9 @@ stops bits word = by_answer (after_word bits word) refl
     by_answer None e p = ap (λ o. elim o [ None ↦ false | Some left ↦ elim left [ [] ↦ false | _ ∷ _ ↦ true ] ]) e
     by_answer (Some left) e p = let q : true ≡ false = sym (ap (λ o. elim o [ None ↦ false | Some l ↦ true ]) e) ∙ p in cc
 
-none_of : (a b : Bool) → (a || b) ≡ false → (a ≡ false) × (b ≡ false)
-none_of false b e = (refl, e)
-none_of true b e = cc
-
 -- whether a codeword goes on behind the bits
 abbrev longer : {A : Type 0} → Table A → List Bool → Bool
 longer table bits = list_any (λ entry. goes_on bits entry.0) table
-
-longer-first : {A : Type 0} (entry : List Bool × A) (table : Table A) (bits : List Bool) → longer (entry ∷ table) bits ≡ false → (goes_on bits entry.0 ≡ false) × (longer table bits ≡ false)
-longer-first entry table bits e = none_of (goes_on bits entry.0) (longer table bits) e
-
-begins-none : {A : Type 0} (entry : List Bool × A) (table : Table A) (bits : List Bool) → begins (entry ∷ table) bits ≡ false → (is_prefix bits entry.0 ≡ false) × (begins table bits ≡ false)
-begins-none entry table bits e = none_of (is_prefix bits entry.0) (begins table bits) e
 
 lookup-more : {A : Type 0} (table : Table A) (bits more : List Bool) (f : A × ℕ × List Bool) → lookup table bits ≡ Some f → longer table bits ≡ false → lookup table (bits ++ more) ≡ Some (f.0, f.1, f.2 ++ more)
 lookup-more [] bits more f e g = cc
@@ -67,8 +50,8 @@ lookup-more {A} (entry ∷ table) bits more f e g = by_answer (after_word entry.
         let r : (entry.1, length entry.0, left) ≡ f = cc in
         rw (← r) (lookup-here entry table (bits ++ more) (left ++ more) (after_word-more entry.0 bits more left a))
     by_answer None a later e g =
-        lookup-past entry table (bits ++ more) (past_more entry.0 bits more a (longer-first entry table bits g).0)
-        ∙ later (sym (lookup-past entry table bits a) ∙ e) (longer-first entry table bits g).1
+        lookup-past entry table (bits ++ more) (past_more entry.0 bits more a (or_parts _ _ g).0)
+        ∙ later (sym (lookup-past entry table bits a) ∙ e) (or_parts _ _ g).1
 
 -- no codeword is in front of the bits, and none begins with them
 pub record IsNone {A : Type 0} (table : Table A) (bits : List Bool) : Type 0 where
@@ -83,7 +66,7 @@ none-more {A} (entry ∷ table) bits more e g = by_answer (after_word entry.0 bi
         lookup (entry ∷ table) bits ≡ None → begins (entry ∷ table) bits ≡ false → IsNone (entry ∷ table) (bits ++ more)
     by_answer (Some left) a later e g = let q : Some (entry.1, length entry.0, left) ≡ None = sym (lookup-here entry table bits left a) ∙ e in cc
     by_answer None a later e g =
-        let none = begins-none entry table bits g in
+        let none = or_parts (is_prefix bits entry.0) (begins table bits) g in
         let rest = later (sym (lookup-past entry table bits a) ∙ e) none.1 in
         record {
           no_front = lookup-past entry table (bits ++ more) (past_more entry.0 bits more a (stops bits entry.0 none.0)) ∙ rest.no_front;

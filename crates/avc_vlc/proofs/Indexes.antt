@@ -1,13 +1,7 @@
 -- The places of an indexed table.
-use Rattle.std.proofs.Common.{◌≡◌, ℕ, ◌-◌, ◌^◌, ◌<◌, List, [], length, map, get_or, refl, ap, ◌∙◌, sym, arith}
-use Rattle.std.specs.Prelude.{Option, Some, None}
-use Rattle.std.specs.List.{range_with_len}
-use Rattle.std.proofs.lemmas.List.{get_or-map, get_or-replicate}
-use Rattle.std.proofs.lemmas.List.FromFn.{get_or-map-range_with_len}
-use Rattle.avc_vlc.specs.declared.entry.Entry.{Entry}
-use Rattle.avc_vlc.specs.Reading.{Table, tokens_8}
-use Rattle.avc_vlc.specs.Indexing.{AreFronts, AreIndexed, IsIndexed, index, entry_of, place_bits, six_bit_entry}
-use Rattle.avc_bits.specs.Bits.{bits_of}
+use Rattle.avc_vlc.proofs.Common.{◌≡◌, ℕ, ◌-◌, ◌^◌, ◌<◌, List, [], length, map, get_or, refl, ap, ◌∙◌, sym, arith, Option, Some, None}
+use Rattle.avc_vlc.proofs.Common.{range_with_len, get_or-map, get_or-replicate, get_or-map-range_with_len, Entry, Table, tokens_8}
+use Rattle.avc_vlc.proofs.Common.{AreFronts, AreIndexed, IsIndexed, index, entry_of, place_bits, six_bit_entry, bits_of}
 
 -- the entry at a place
 pub indexed_place : {A : Type 0} (table : Table A) (tail : ℕ) (rows : List (List (Entry A))) (row column : ℕ) (none : List (Entry A)) (e : Entry A) → IsIndexed table tail rows → row < length rows → column < 2 ^ tail → column < length (get_or rows row none) →

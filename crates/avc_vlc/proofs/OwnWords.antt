@@ -1,16 +1,13 @@
 -- A value that is read has the word that was read.
-use Rattle.std.proofs.Common.{◌≡◌, ℕ, zero, suc, ◌-◌, List, [], ◌∷◌, map, drop, get_or, Bool, true, false, refl, ap, subst, ◌∙◌, sym, inl, inr, ℤ, pos, negsuc}
-use Rattle.std.specs.Prelude.{Option, Some, None, Result, Ok, Err, if◌then◌else◌, nat_le, nat_lt}
-use Rattle.avc_types.specs.declared.fault.Fault.{Fault}
+use Rattle.avc_vlc.proofs.Common.{◌≡◌, ℕ, zero, suc, ◌-◌, List, [], ◌∷◌, map, drop, get_or, Bool, true, false, refl, ap, subst, ◌∙◌, sym}
+use Rattle.avc_vlc.proofs.Common.{inl, inr, ℤ, pos, negsuc, Option, Some, None, Result, Ok, Err, if◌then◌else◌, nat_le, Fault, Bits}
+use Rattle.avc_vlc.proofs.Common.{◌>>◌, check, give, IsReadBy, Takes, Token, run_before_codes}
+use Rattle.avc_vlc.proofs.Common.{total_zeros_4x4, total_zeros_chroma_dc, IsRead, IsIn, Table, coeff_token, row_at, row_table, run_before}
+use Rattle.avc_vlc.proofs.Common.{run_table, table_code, token_table, total_zeros, zeros_table, is_number_same}
+use Rattle.avc_vlc.proofs.Common.{is_token_same, run_word, token_word, word_of, zeros_word}
 use Rattle.avc_types.specs.declared.fault.Fault.TheVariants as faults
-use Rattle.avc_bits.specs.Bits.{Bits, ◌>>◌, check, give}
-use Rattle.avc_bits.specs.Codes.{IsReadBy, Takes}
-use Rattle.avc_vlc.specs.declared.token.Token.{Token}
-use Rattle.avc_vlc.specs.Tables.{coeff_token_0, coeff_token_2, coeff_token_4, run_before_codes, total_zeros_4x4, total_zeros_chroma_dc}
-use Rattle.avc_vlc.specs.Laws.{IsRead}
-use Rattle.avc_vlc.specs.Reading.{IsIn, Table, coeff_token, row_at, row_table, run_before, run_table, table_code, token_table, tokens, tokens_8, total_zeros, zeros_table}
-use Rattle.avc_vlc.specs.Writing.{is_number_same, is_token_same, run_word, token_word, word_of, zeros_word}
 use Rattle.avc_vlc.proofs.Codes.{table_read}
+use Rattle.avc_vlc.proofs.Tests.{each_class}
 
 -- each word is the first of its value
 abbrev pub AreOwn : {A : Type 0} → (A → A → Bool) → Table A → Type 0
@@ -29,13 +26,7 @@ own {A} same table value b left all is =
 
 tokens_own : (nc : ℤ) → AreOwn is_token_same (token_table nc)
 tokens_own (negsuc _) = refl
-tokens_own (pos n) = by_class (nat_lt n 2) (nat_lt n 4) (nat_lt n 8)
-  where
-    by_class : (a b c : Bool) → AreOwn is_token_same (if a then tokens coeff_token_0 else if b then tokens coeff_token_2 else if c then tokens coeff_token_4 else tokens_8)
-    by_class true b c = refl
-    by_class false true c = refl
-    by_class false false true = refl
-    by_class false false false = refl
+tokens_own (pos n) = each_class (AreOwn is_token_same) refl refl refl refl n
 
 abbrev found_in : List (ℕ × ℕ) → List (Option (List Bool))
 found_in row = map (λ entry. word_of (is_number_same entry.1) (row_table row)) (row_table row)

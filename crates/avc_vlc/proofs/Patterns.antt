@@ -1,20 +1,13 @@
 -- The table of coded_block_pattern.
-use Rattle.std.proofs.Common.{◌≡◌, ℕ, zero, suc, ◌<◌, ◌≤◌, List, [], ◌∷◌, length, get_or, Bool, true, false, refl, ap, arith}
-use Rattle.std.specs.Prelude.{Option, Some, None, nat_lt, Ok, Err}
-use Rattle.std.specs.List.{list_all}
-use Rattle.std.proofs.lemmas.Bool.{ltb-true}
-use Rattle.std.proofs.lemmas.Option.{slice_get-get_or, slice_get_past}
+use Rattle.avc_vlc.proofs.Common.{◌≡◌, ℕ, zero, suc, ◌<◌, ◌≤◌, List, [], ◌∷◌, length, get_or, Bool, true, false, refl, ap, arith, Option}
+use Rattle.avc_vlc.proofs.Common.{Some, None, nat_lt, Ok, Err, list_all, ltb-true, slice_get-get_or, slice_get_past, Bits, Read, give}
+use Rattle.avc_vlc.proofs.Common.{refuse, ue, cbp_intra, cbp_inter, pattern_at, coded_block_pattern, and_parts}
 use Rattle.avc_types.specs.declared.fault.Fault.TheVariants as faults
-use Rattle.avc_bits.specs.Bits.{Bits, Read, give, refuse}
-use Rattle.avc_bits.specs.Codes.{ue}
-use Rattle.avc_vlc.specs.Tables.{cbp_intra, cbp_inter}
-use Rattle.avc_vlc.specs.Reading.{pattern_at, coded_block_pattern}
-use Rattle.avc_vlc.proofs.Codes.{both_true}
 
 all_below : (numbers : List ℕ) (n most : ℕ) → list_all (λ v. nat_lt v most) numbers ≡ true → n < length numbers → get_or numbers n 0 < most
 all_below [] n most test within = absurd (omega arith)
-all_below (v ∷ numbers) zero most test within = ltb-true v most (both_true (nat_lt v most) (list_all (λ w. nat_lt w most) numbers) test).0
-all_below (v ∷ numbers) (suc n) most test within = all_below numbers n most (both_true (nat_lt v most) (list_all (λ w. nat_lt w most) numbers) test).1 (omega arith)
+all_below (v ∷ numbers) zero most test within = ltb-true v most (and_parts (nat_lt v most) (list_all (λ w. nat_lt w most) numbers) test).0
+all_below (v ∷ numbers) (suc n) most test within = all_below numbers n most (and_parts (nat_lt v most) (list_all (λ w. nat_lt w most) numbers) test).1 (omega arith)
 
 pub intra_below : (n : ℕ) → n < 48 → get_or cbp_intra n 0 < 48
 intra_below n small = all_below cbp_intra n 48 refl small

@@ -1,19 +1,12 @@
 -- The bits of a number, and the row and the column that they choose.
 use Rattle.std.proofs.Common.{◌≡◌, ℕ, zero, suc, ◌+◌, ◌-◌, ◌*◌, ◌/◌, ◌%◌, ◌^◌, ◌<◌, ◌≤◌, List, [], ◌∷◌, ◌++◌, length, Bool, true, false, eqb, refl, ap, subst, ◌∙◌, sym, arith, take, append_assoc, inl, inr, min, lit<}
-use Rattle.std.specs.Prelude.{◌⊎◌, replicate}
+use Rattle.avc_vlc.proofs.Common.{◌⊎◌, replicate, cases_lt, lt-ltb, le-ltb, pow-add, mod-pow-add, shr-shr, div-mul-add, pow_pos}
+use Rattle.avc_vlc.proofs.Common.{leading_length, take-take, take-append-le, take_all, bits_of, number_of, Agree, IsAhead, place_bits}
 use Rattle.std.specs.Int.Count.{count_leading_zeros}
-use Rattle.std.proofs.lemmas.Bool.{cases_lt, lt-ltb, le-ltb}
-use Rattle.std.proofs.lemmas.Nat.{pow-add, mod-pow-add, shr-shr, div-mul-add, pow_pos, leading_length}
+use Rattle.avc_bits.proofs.Numbers.{length-bits_of, number-bits_of, bits_of-zero}
 use Rattle.std.proofs.Math.Nat.{div-lt_iff_lt-mul, div-eq_of_lt, div-eq_of_lt-le, pow-succ', mod-lt, mod-eq_of_lt, pow-le-pow_right}
 use Rattle.std.proofs.Math.Pow.{mod-mod-pow}
 use Rattle.std.proofs.Math.Seq.{take-append_seam}
-use Rattle.std.proofs.lemmas.List.{take-take, take-append-le, take_all}
-use Rattle.avc_bits.specs.Bits.{bits_of, number_of}
-use Rattle.avc_vlc.specs.Indexing.{Agree, IsAhead, place_bits}
-
-pub length-bits_of : (n v : ℕ) → length (bits_of n v) ≡ n
-length-bits_of zero v = refl
-length-bits_of (suc n) v = ap (λ k. suc k) (length-bits_of n v)
 
 -- the upper and the lower bits
 pub bits_of-append : (a b v : ℕ) → bits_of (a + b) v ≡ bits_of a (v / 2 ^ b) ++ bits_of b v
@@ -21,10 +14,6 @@ bits_of-append zero b v = ap (λ k. bits_of k v) (omega arith)
 bits_of-append (suc a) b v =
     let sum : suc a + b ≡ suc (a + b) = omega arith in
     rw (sum, shr-shr v b a, bits_of-append a b v) (ap (λ k. eqb (v / 2 ^ k % 2) 1 ∷ (bits_of a (v / 2 ^ b) ++ bits_of b v)) (omega arith))
-
-zero_bits : (n : ℕ) → bits_of n 0 ≡ replicate n false
-zero_bits zero = refl
-zero_bits (suc n) = let none : 0 / 2 ^ n ≡ 0 = div-eq_of_lt (pow_pos n) in rw (none, zero_bits n) refl
 
 -- bits above the n-th don't matter
 pub bits_of-mod : (n j v : ℕ) → bits_of n (v % 2 ^ (j + n)) ≡ bits_of n v
@@ -67,13 +56,13 @@ one_behind word zeros low tail large small =
     let split : bits_of (tail + low) word ≡ bits_of tail (word / 2 ^ low % 2 ^ tail) ++ bits_of low word =
     bits_of-append tail low word ∙ ap (λ l. l ++ bits_of low word) (sym (bits_of-mod tail 0 (word / 2 ^ low)) ∙ ap (λ k. bits_of tail (word / 2 ^ low % 2 ^ k)) (omega arith)) in
     bits_of-append zeros (suc (tail + low)) word
-    ∙ rw (none, zero_bits zeros, one, split) (sym (append_assoc (replicate zeros false) (true ∷ bits_of tail (word / 2 ^ low % 2 ^ tail)) (bits_of low word)))
+    ∙ rw (none, bits_of-zero zeros, one, split) (sym (append_assoc (replicate zeros false) (true ∷ bits_of tail (word / 2 ^ low % 2 ^ tail)) (bits_of low word)))
 
 -- zeros
 zeros_behind : (word zeros low : ℕ) → word < 2 ^ low → bits_of (zeros + low) word ≡ replicate zeros false ++ bits_of low word
 zeros_behind word zeros low small =
     let none : word / 2 ^ low ≡ 0 = div-eq_of_lt small in
-    bits_of-append zeros low word ∙ rw (none, zero_bits zeros) refl
+    bits_of-append zeros low word ∙ rw (none, bits_of-zero zeros) refl
 
 pub agree_place : (word last tail row column : ℕ) (ahead : List Bool) → last ≤ 15 → tail ≤ 8 → row ≡ min (count_leading_zeros 32 word) last → column ≡ word / 2 ^ (31 - tail - row) % 2 ^ tail →
     IsAhead word ahead → Agree (place_bits last tail row column) ahead
@@ -124,18 +113,6 @@ code_is word count most ahead few is_count is = rw is.bits (
         let same : count ≡ length ahead = omega arith in
         rw same (take_all (length ahead) ahead (omega arith) ∙ sym (take_all most ahead (omega arith)))
     by_length (inr long) = ap (λ k. take k ahead) (omega arith)
-
-one_bit : (m : ℕ) (bits : List Bool) → m < 2 → number_of (eqb m 1 ∷ bits) ≡ m * 2 ^ length bits + number_of bits
-one_bit zero bits small = omega arith
-one_bit (suc zero) bits small = omega arith
-one_bit (suc (suc m)) bits small = absurd (omega arith)
-
--- the bits of a number spell it, up to their number
-number-bits_of : (n v : ℕ) → number_of (bits_of n v) ≡ v % 2 ^ n
-number-bits_of zero v = omega arith
-number-bits_of (suc n) v =
-    one_bit (v / 2 ^ n % 2) (bits_of n v) (omega arith)
-    ∙ rw (length-bits_of n v, number-bits_of n v) (sym (ap (λ k. v % 2 ^ k) (omega arith) ∙ mod-pow-add v 1 n))
 
 pub number_is : (word count : ℕ) → count ≤ 32 → word < 2 ^ 32 → word / 2 ^ (32 - count) ≡ number_of (take count (bits_of 32 word))
 number_is word count few small =

@@ -1,21 +1,15 @@
 -- A codeword with bits behind it is read as its value, and which values have a codeword.
-use Rattle.std.proofs.Common.{◌≡◌, ℕ, ◌<◌, ◌≤◌, ◌+◌, ◌-◌, List, [], ◌∷◌, ◌++◌, length, get_or, Bool, true, false, refl, ap, ◌∙◌, sym, arith, inl, inr, ℤ, pos, negsuc, ◌<ℤ◌}
-use Rattle.std.specs.Prelude.{◌⊎◌, ◌||◌, not, Option, Some, None, if◌then◌else◌, nat_le, nat_lt}
-use Rattle.std.specs.Option.{IsSome, is_some}
-use Rattle.std.specs.List.{list_all, range_with_len}
-use Rattle.std.proofs.lemmas.Bool.{le-ltb}
-use Rattle.std.proofs.lemmas.Int.{ints}
+use Rattle.avc_vlc.proofs.Common.{◌≡◌, ℕ, ◌<◌, ◌≤◌, ◌+◌, ◌-◌, List, [], ◌∷◌, ◌++◌, length, get_or, Bool, true, false, refl, ap, ◌∙◌, sym}
+use Rattle.avc_vlc.proofs.Common.{arith, inl, inr, ℤ, pos, negsuc, ◌<ℤ◌, ◌⊎◌, ◌||◌, not, Option, Some, None, if◌then◌else◌, nat_le, nat_lt}
+use Rattle.avc_vlc.proofs.Common.{IsSome, is_some, list_all, range_with_len, le-ltb, ints, get_or-range_with_len, length-range_with_len}
+use Rattle.avc_vlc.proofs.Common.{Bits, ◌>>◌, check, give, Token, coeff_token_0, coeff_token_2, coeff_token_4, coeff_token_chroma_dc}
+use Rattle.avc_vlc.proofs.Common.{IsReadBack, IsIn, IsToken, Table, after_word, coeff_token, is_prefix, is_prefix_free, lookup, run_before}
+use Rattle.avc_vlc.proofs.Common.{run_table, table_code, token, token_table, tokens, tokens_8, total_zeros, zeros_table, is_number_same}
+use Rattle.avc_vlc.proofs.Common.{is_token_same, number_is_same, run_word, token_is_same, token_word, word_of, zeros_word}
 use Rattle.std.proofs.lemmas.List.Folds.{list_all_at}
-use Rattle.std.proofs.lemmas.List.FromFn.{get_or-range_with_len, length-range_with_len}
 use Rattle.avc_types.specs.declared.fault.Fault.TheVariants as faults
-use Rattle.avc_bits.specs.Bits.{Bits, ◌>>◌, check, give}
-use Rattle.avc_vlc.specs.declared.token.Token.{Token}
-use Rattle.avc_vlc.specs.Tables.{coeff_token_0, coeff_token_2, coeff_token_4, coeff_token_chroma_dc}
-use Rattle.avc_vlc.specs.Laws.{IsReadBack}
-use Rattle.avc_vlc.specs.Reading.{IsIn, IsToken, Table, after_word, coeff_token, is_prefix, is_prefix_free, lookup, run_before, run_table, table_code, token, token_table, tokens, tokens_8, total_zeros, zeros_table}
-use Rattle.avc_vlc.specs.Writing.{is_number_same, is_token_same, number_is_same, run_word, token_is_same, token_word, word_of, zeros_word}
 use Rattle.avc_vlc.proofs.Codes.{apart, code-found, not_first, not_second, tests}
-use Rattle.avc_vlc.proofs.Tests.{runs_free, tokens_free, zeros_free}
+use Rattle.avc_vlc.proofs.Tests.{each_class, runs_free, tokens_free, zeros_free}
 use Rattle.avc_vlc.proofs.Words.{after_word-append, lookup-here, lookup-past}
 
 -- ---- reading
@@ -119,13 +113,10 @@ token_at table most t all small few is =
 
 pub token_whole : (nc : ℤ) (t : Token) → IsToken t → (nc <ℤ pos 0 → t.total ≤ 4) → IsSome (token_word nc t)
 token_whole (negsuc n) t is few = token_at (tokens coeff_token_chroma_dc) 4 t refl (omega arith) (few (omega (arith, ints))) is
-token_whole (pos n) t is few = by_class (nat_lt n 2) (nat_lt n 4) (nat_lt n 8)
-  where
-    by_class : (a b c : Bool) → IsSome (word_of (is_token_same t) (if a then tokens coeff_token_0 else if b then tokens coeff_token_2 else if c then tokens coeff_token_4 else tokens_8))
-    by_class true b c = token_at (tokens coeff_token_0) 16 t refl (omega arith) is.total is
-    by_class false true c = token_at (tokens coeff_token_2) 16 t refl (omega arith) is.total is
-    by_class false false true = token_at (tokens coeff_token_4) 16 t refl (omega arith) is.total is
-    by_class false false false = token_at tokens_8 16 t refl (omega arith) is.total is
+token_whole (pos n) t is few =
+    let at = λ (table : Table Token) (all : tokens_whole table 16 ≡ true). token_at table 16 t all (omega arith) is.total is in
+    each_class (λ table. IsSome (word_of (is_token_same t) table))
+    (at (tokens coeff_token_0) refl) (at (tokens coeff_token_2) refl) (at (tokens coeff_token_4) refl) (at tokens_8 refl) n
 
 pub zeros_whole : (total n : ℕ) → 1 ≤ total → total ≤ 15 → total + n ≤ 16 → IsSome (zeros_word total false n)
 zeros_whole total n some most within = pair_at (λ t z. is_some (zeros_word t false z)) 1 15 16 16 total n refl some (omega arith) (omega arith) within

@@ -1,10 +1,7 @@
 -- Worked examples.
-use Rattle.std.specs.Prelude.{◌≡◌, ℕ, pos, List, [], ◌∷◌, Result, Ok, Err, refl, length}
-use Rattle.avc_types.specs.declared.fault.Fault.{Fault}
+use Rattle.avc_vlc.proofs.Common.{◌≡◌, ℕ, pos, List, [], ◌∷◌, Result, Ok, Err, refl, length, Fault, Read, start, coeff_token_0}
+use Rattle.avc_vlc.proofs.Common.{coeff_token_2, coeff_token_4, tokens, tokens_8, coeff_token}
 use Rattle.avc_types.specs.declared.fault.Fault.TheVariants as faults
-use Rattle.avc_bits.specs.Bits.{Read, start}
-use Rattle.avc_vlc.specs.Tables.{coeff_token_0, coeff_token_2, coeff_token_4}
-use Rattle.avc_vlc.specs.Reading.{tokens, tokens_8, coeff_token}
 
 -- 62 codewords each
 sixty_two : (length (tokens coeff_token_0) ∷ length (tokens coeff_token_2) ∷ length (tokens coeff_token_4) ∷ length tokens_8 ∷ []) ≡ 62 ∷ 62 ∷ 62 ∷ 62 ∷ []

@@ -1,24 +1,18 @@
 -- Which values the tables have.
-use Rattle.std.proofs.Common.{◌≡◌, List, [], ◌∷◌, Bool, true, false, refl, subst, inl, inr}
-use Rattle.std.specs.Prelude.{ℤ, pos, negsuc, ◌&&◌, nat_lt, nat_le, Result, Ok, Err, IfOk, if◌then◌else◌}
-use Rattle.std.specs.List.{list_all}
-use Rattle.avc_types.specs.declared.fault.Fault.{Fault}
+use Rattle.avc_vlc.proofs.Common.{◌≡◌, List, [], ◌∷◌, Bool, true, refl, subst, inl, inr, ℤ, pos, negsuc, ◌&&◌, nat_le}
+use Rattle.avc_vlc.proofs.Common.{Result, Ok, Err, IfOk, list_all, Fault, leb-true, Bits, Reads, reader_bits, Takes}
+use Rattle.avc_vlc.proofs.Common.{IsReadBy, Token, Table, IsIn, table_code}
+use Rattle.avc_vlc.proofs.Common.{token_table, IsToken, and_parts}
 use Rattle.avc_types.specs.declared.fault.Fault.TheVariants as faults
-use Rattle.std.proofs.lemmas.Bool.{leb-true}
-use Rattle.avc_bits.specs.Bits.{Bits}
-use Rattle.avc_bits.specs.Reader.{Reads, reader_bits}
 use Rattle.avc_bits.specs.declared.reader.BitReader.{BitReader}
-use Rattle.avc_bits.specs.Codes.{Takes, IsReadBy}
-use Rattle.avc_vlc.specs.declared.token.Token.{Token}
-use Rattle.avc_vlc.specs.Tables.{coeff_token_0, coeff_token_2, coeff_token_4}
-use Rattle.avc_vlc.specs.Reading.{Table, IsIn, table_code, tokens, tokens_8, token_table, IsToken}
-use Rattle.avc_vlc.proofs.Codes.{both_true, table_read}
+use Rattle.avc_vlc.proofs.Codes.{table_read}
+use Rattle.avc_vlc.proofs.Tests.{each_class}
 
 -- a test of all values
 pub all_in : {A : Type 0} (p : A → Bool) (table : Table A) (word : List Bool) (v : A) → list_all (λ e. p e.1) table ≡ true → IsIn table word v → p v ≡ true
 all_in p [] word v test is = absurd is
-all_in p (entry ∷ table) word v test (inl here) = rw here.1 ((both_true (p entry.1) (list_all (λ e. p e.1) table) test).0)
-all_in p (entry ∷ table) word v test (inr there) = all_in p table word v ((both_true (p entry.1) (list_all (λ e. p e.1) table) test).1) there
+all_in p (entry ∷ table) word v test (inl here) = rw here.1 ((and_parts (p entry.1) (list_all (λ e. p e.1) table) test).0)
+all_in p (entry ∷ table) word v test (inr there) = all_in p table word v ((and_parts (p entry.1) (list_all (λ e. p e.1) table) test).1) there
 
 -- the value read is one of the table's
 pub if_read : {A : Type 0} (p : A → Bool) (table : Table A) (P : A → Type 0) (result : Result A Fault) (old new : BitReader) →
@@ -34,18 +28,12 @@ is_token t = nat_le t.total 16 && (nat_le t.ones t.total && nat_le t.ones 3)
 
 pub tokens_tested : (nc : ℤ) → list_all (λ e. is_token e.1) (token_table nc) ≡ true
 tokens_tested (negsuc _) = refl
-tokens_tested (pos n) = by_class (nat_lt n 2) (nat_lt n 4) (nat_lt n 8)
-  where
-    by_class : (a b c : Bool) → list_all (λ e. is_token e.1) (if a then tokens coeff_token_0 else if b then tokens coeff_token_2 else if c then tokens coeff_token_4 else tokens_8) ≡ true
-    by_class true b c = refl
-    by_class false true c = refl
-    by_class false false true = refl
-    by_class false false false = refl
+tokens_tested (pos n) = each_class (λ t. list_all (λ e. is_token e.1) t ≡ true) refl refl refl refl n
 
 pub token_tested : (t : Token) → is_token t ≡ true → IsToken t
 token_tested t test =
-    let first = both_true (nat_le t.total 16) (nat_le t.ones t.total && nat_le t.ones 3) test in
-    let others = both_true (nat_le t.ones t.total) (nat_le t.ones 3) first.1 in
+    let first = and_parts (nat_le t.total 16) (nat_le t.ones t.total && nat_le t.ones 3) test in
+    let others = and_parts (nat_le t.ones t.total) (nat_le t.ones 3) first.1 in
     record { total = leb-true t.total 16 first.0; ones = leb-true t.ones t.total others.0; few_ones = leb-true t.ones 3 others.1 }
 
 pub if_token : (nc : ℤ) (result : Result Token Fault) (old new : BitReader) → Reads result (table_code (token_table nc)) old new → IfOk result IsToken

@@ -1,7 +1,6 @@
 -- Codewords at the front of bits, and looking them up in a table.
-use Rattle.std.proofs.Common.{◌≡◌, ℕ, List, [], ◌∷◌, ◌++◌, length, Bool, true, false, refl, ap, ◌∙◌, sym, inl, inr}
-use Rattle.std.specs.Prelude.{Option, Some, None}
-use Rattle.avc_vlc.specs.Reading.{Table, IsIn, after_word, is_prefix, lookup}
+use Rattle.avc_vlc.proofs.Common.{◌≡◌, ℕ, List, [], ◌∷◌, ◌++◌, length, Bool, true, false, refl, ap, ◌∙◌, sym, inl, inr, Option, Some, None}
+use Rattle.avc_vlc.proofs.Common.{Table, IsIn, after_word, is_prefix, lookup}
 
 -- the bits are the word and what is left after it
 pub after_word-some : (word bits left : List Bool) → after_word word bits ≡ Some left → bits ≡ word ++ left

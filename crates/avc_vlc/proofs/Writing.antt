@@ -1,26 +1,17 @@
 -- The words of an indexed table.
-use Rattle.std.proofs.Common.{◌≡◌, ℕ, ℤ, pos, negsuc, ◌≤ℤ◌, ◌<ℤ◌, ◌<◌, ◌+◌, List, [], ◌∷◌, length, map, get_or, Bool, true, false, refl, ap, ◌∙◌, sym, arith}
-use Rattle.std.specs.Prelude.{Option, Some, None, if◌then◌else◌, nat_lt}
-use Rattle.std.specs.List.{enumerate_from, list_all, range_with_len}
-use Rattle.std.proofs.lemmas.Bool.{lt-ltb, le-ltb}
-use Rattle.std.proofs.lemmas.Int.{ints}
-use Rattle.std.proofs.lemmas.List.{get_or-map}
-use Rattle.std.proofs.lemmas.List.FromFn.{get_or-enumerate_from, get_or-map-range_with_len, length-enumerate_from}
-use Rattle.avc_vlc.specs.declared.entry.Entry.{Entry}
-use Rattle.avc_bits.specs.Bits.{bits_of}
-use Rattle.avc_vlc.specs.declared.token.Token.{Token}
-use Rattle.avc_vlc.specs.Tables.{coeff_token_0, coeff_token_2, coeff_token_4}
-use Rattle.avc_vlc.specs.Reading.{Table, token_table, tokens, tokens_8}
-use Rattle.avc_vlc.specs.Indexing.{IsWritten, entry_word, holds, place_word, six_bit_entry, word_at}
-use Rattle.avc_vlc.specs.Writing.{is_token_same, token_is_same, word_of}
-use Rattle.avc_vlc.proofs.Codes.{both_true}
+use Rattle.avc_vlc.proofs.Common.{◌≡◌, ℕ, ℤ, pos, negsuc, ◌≤ℤ◌, ◌<ℤ◌, ◌<◌, ◌+◌, List, [], ◌∷◌, length, map, get_or, Bool, true, false, refl}
+use Rattle.avc_vlc.proofs.Common.{ap, ◌∙◌, sym, arith, Option, Some, None, if◌then◌else◌, enumerate_from, list_all, range_with_len}
+use Rattle.avc_vlc.proofs.Common.{lt-ltb, le-ltb, ints, get_or-map, get_or-enumerate_from, get_or-map-range_with_len, length-enumerate_from}
+use Rattle.avc_vlc.proofs.Common.{Entry, bits_of, Token, coeff_token_0, coeff_token_2, coeff_token_4, Table, token_table, tokens, tokens_8}
+use Rattle.avc_vlc.proofs.Common.{IsWritten, entry_word, holds, place_word, six_bit_entry, word_at, is_token_same, token_is_same, word_of}
+use Rattle.avc_vlc.proofs.Common.{and_parts}
 
 -- a value that fails a test of all values has no codeword
 pub word_none : {A : Type 0} (same : A → A → Bool) (value : A) (test : A → Bool) (table : Table A) → ((a b : A) → same a b ≡ true → a ≡ b) → list_all (λ entry. test entry.1) table ≡ true → test value ≡ false →
     word_of (same value) table ≡ None
 word_none same value test [] is all fails = refl
 word_none {A} same value test (entry ∷ table) is all fails =
-    let both = both_true (test entry.1) (list_all (λ e. test e.1) table) all in
+    let both = and_parts (test entry.1) (list_all (λ e. test e.1) table) all in
     by_answer (same value entry.1) refl both.0 (word_none same value test table is both.1 fails)
   where
     by_answer : (answer : Bool) → same value entry.1 ≡ answer → test entry.1 ≡ true → word_of (same value) table ≡ None → word_of (same value) (entry ∷ table) ≡ None
@@ -77,26 +68,14 @@ six_found t number small here =
 
 -- ---- the classes of nC
 
-abbrev by_class : Bool → Bool → Bool → Table Token
-by_class a b c = if a then tokens coeff_token_0 else if b then tokens coeff_token_2 else if c then tokens coeff_token_4 else tokens_8
-
 pub class_0 : (nc : ℤ) → pos 0 ≤ℤ nc → nc <ℤ pos 2 → token_table nc ≡ tokens coeff_token_0
 class_0 (negsuc n) low high = absurd (omega (arith, ints))
-class_0 (pos n) low high =
-    let below : nat_lt n 2 ≡ true = lt-ltb n 2 (omega (arith, ints)) in
-    ap (λ a. by_class a (nat_lt n 4) (nat_lt n 8)) below
+class_0 (pos n) low high = rw (lt-ltb n 2 (omega (arith, ints))) refl
 
 pub class_2 : (nc : ℤ) → pos 2 ≤ℤ nc → nc <ℤ pos 4 → token_table nc ≡ tokens coeff_token_2
 class_2 (negsuc n) low high = absurd (omega (arith, ints))
-class_2 (pos n) low high =
-    let first : nat_lt n 2 ≡ false = le-ltb n 2 (omega (arith, ints)) in
-    let below : nat_lt n 4 ≡ true = lt-ltb n 4 (omega (arith, ints)) in
-    ap (λ a. by_class a (nat_lt n 4) (nat_lt n 8)) first ∙ ap (λ b. by_class false b (nat_lt n 8)) below
+class_2 (pos n) low high = rw (le-ltb n 2 (omega (arith, ints)), lt-ltb n 4 (omega (arith, ints))) refl
 
 pub class_4 : (nc : ℤ) → pos 4 ≤ℤ nc → nc <ℤ pos 8 → token_table nc ≡ tokens coeff_token_4
 class_4 (negsuc n) low high = absurd (omega (arith, ints))
-class_4 (pos n) low high =
-    let first : nat_lt n 2 ≡ false = le-ltb n 2 (omega (arith, ints)) in
-    let second : nat_lt n 4 ≡ false = le-ltb n 4 (omega (arith, ints)) in
-    let below : nat_lt n 8 ≡ true = lt-ltb n 8 (omega (arith, ints)) in
-    ap (λ a. by_class a (nat_lt n 4) (nat_lt n 8)) first ∙ ap (λ b. by_class false b (nat_lt n 8)) second ∙ ap (λ c. by_class false false c) below
+class_4 (pos n) low high = rw (le-ltb n 2 (omega (arith, ints)), le-ltb n 4 (omega (arith, ints)), lt-ltb n 8 (omega (arith, ints))) refl

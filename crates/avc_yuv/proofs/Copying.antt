@@ -1,18 +1,15 @@
 -- Rows laid into memory, and three planes one behind another.
 use Rattle.std.proofs.Common.{◌≡◌, ℕ, zero, suc, ◌+◌, ◌-◌, ◌*◌, ◌/◌, ◌^◌, ◌<◌, ◌≤◌, List, [], ◌∷◌, ◌++◌, length, map, take, drop, refl, ap, sym, ◌∙◌, arith, append_assoc, length-append, length-drop, length-take-le, take-append-drop, drop-drop, append-nil, drop_of_length-le}
-use Rattle.std.proofs.Math.Seq.{take-append-add, drop-append-add, take-append_seam}
-use Rattle.std.proofs.Math.Nat.{mul-le-mul_right, mul_comm}
+use Rattle.avc_yuv.proofs.Common.{take-append-add, drop-append-add, take-append_seam, range_with_len, flat_map}
+use Rattle.avc_yuv.proofs.Common.{length-map-range_with_len, length-range_with_len, map-range_with_len_more, Picture, part_of_row, window}
+use Rattle.avc_yuv.proofs.Common.{luma_window, chroma_window, i420, halved, laid, laid_at, luma_rectangle, rows_in, window_of, IsInside}
 use Rattle.std.proofs.lemmas.Slice.{drop-append-drop}
 use borrow.Rule.Slice.PartMut.{put_mid}
-use Rattle.std.specs.List.{range_with_len, flat_map}
-use Rattle.std.proofs.lemmas.List.FromFn.{length-map-range_with_len, length-range_with_len, map-range_with_len_more}
 use Rattle.avc_types.specs.Whole.{IsWhole}
-use Rattle.avc_types.specs.declared.picture.Picture.{Picture}
-use Rattle.avc_yuv.specs.I420.{part_of_row, window, luma_window, chroma_window, i420}
-use Rattle.avc_yuv.specs.Copying.{halved, laid, laid_at, luma_rectangle, rows_in, window_of, IsInside}
 use Rattle.avc_yuv.specs.declared.component.Component.TheVariants.{Luma, Cb}
 use Rattle.avc_yuv.specs.declared.window.Window.{Window}
 use Rattle.avc_yuv.proofs.Parts.{length-part_of_row, length-window, part_of_row_is}
+use Rattle.avc_yuv.proofs.Windows.{chroma_rows}
 
 -- each row has this length
 abbrev pub AreWide : ℕ → List (List ℕ) → Type 0
@@ -81,18 +78,12 @@ three_laid a b c old n m at behind =
         ∙ ap (λ l. l ++ part ++ drop (length front + length part) (front ++ rest)) (take-append_seam front rest)
         ∙ ap (λ l. front ++ part ++ l) (drop-append-add front rest (length part) ∙ drop-drop (length part) (length front) old ∙ ap (λ n. drop n old) far)
 
--- the rows of a window in a chroma plane
-pub chroma_rows : (top bottom height width : ℕ) → top + bottom ≤ height → (top / 2 + (height - (top + bottom)) / 2) * (width / 2) ≤ (width / 2) * (height / 2)
-chroma_rows top bottom height width inside =
-    let low : top / 2 + (height - (top + bottom)) / 2 ≤ height / 2 = omega arith in
-    omega (arith, mul-le-mul_right (width / 2) low, mul_comm (width / 2) (height / 2))
-
 -- the rectangle of a chroma component lies inside its plane
 pub chroma_inside : (p : Picture) (samples : List ℕ) → IsWhole p → p.width < 2 ^ 32 → p.height < 2 ^ 32 → length samples ≡ (p.width / 2) * (p.height / 2)
     → IsInside (halved (luma_rectangle p)) samples
 chroma_inside p samples whole narrow low long = record {
   columns = omega (arith, whole.columns);
-  rows = omega (arith, chroma_rows (p.crop).top (p.crop).bottom p.height p.width whole.rows, long);
+  rows = chroma_rows (p.crop).top (p.crop).bottom p.width p.height (length samples) whole.rows long;
   narrow = omega (arith, narrow);
   low = omega (arith, low, whole.rows);
 }

@@ -1,18 +1,9 @@
 -- Bytes that are written in parts, and the rows of a window.
 use Rattle.std.proofs.Common.{◌≡◌, ℕ, zero, suc, ◌+◌, ◌-◌, ◌*◌, ◌/◌, ◌^◌, ◌<◌, ◌≤◌, ◌==◌, Bool, true, false, List, [], ◌∷◌, ◌++◌, length, take, drop, Option, Result, Ok, Err, if◌then◌else◌, IfErr, refl, sym, ap, ◌∙◌, subst, arith, get_or, append_assoc, length-append, append-nil, length-drop}
-use Rattle.std.proofs.Math.Seq.{take-add, take-append-add}
-use Rattle.std.proofs.Math.Nat.{mul-le-mul_right, mul-le-mul}
-use Rattle.std.proofs.lemmas.List.{take-append-le, take_rest, length-take-le, same_lists, get_or-take, get_or-drop, get_or_default}
-use Rattle.std.proofs.lemmas.List.FromFn.{length-map-range_with_len, get_or-map-range_with_len}
-use Rattle.std.proofs.lemmas.Grind.{flat_map-append}
-use Rattle.std.specs.Prelude.{slice_index}
-use Rattle.std.specs.List.{range_with_len, flat_map}
-use Rattle.avc_yuv.specs.I420.{part_of_row, window, luma_window, chroma_window, i420}
-use Rattle.avc_types.specs.declared.picture.Picture.{Picture}
-use Rattle.avc_yuv.specs.declared.fault.WriteFault.{WriteFault}
-use Rattle.avc_yuv.specs.Writing.{Writes, done_after}
-use Rattle.std.specs.Io.KnownBytes.{Appends}
-use Rattle.std.proofs.KnownBytes.{Appends-trans}
+use Rattle.avc_yuv.proofs.Common.{take-add, take-append-add, mul-le-mul_right, mul-le-mul, take-append-le, take_rest, length-take-le}
+use Rattle.avc_yuv.proofs.Common.{same_lists, get_or-take, get_or-drop, get_or_default, length-map-range_with_len}
+use Rattle.avc_yuv.proofs.Common.{get_or-map-range_with_len, flat_map-append, slice_index, range_with_len, flat_map, part_of_row, window}
+use Rattle.avc_yuv.proofs.Common.{luma_window, chroma_window, i420, Picture, WriteFault, Writes, done_after, Appends, Appends-trans}
 
 done_by : (e : WriteFault) (b : Bool) (more next : ℕ) → Ok next ≡ (if b then Err e else Ok more) → next ≡ more
 done_by e true more next is = cc
@@ -57,16 +48,6 @@ module _ (row : ℕ → List ℕ) (top : ℕ) where
   rows_more n =
       ap (flat_map row) (range_split top n 1) ∙ flat_map-append row (range_with_len top n) (range_with_len (top + n) 1) ∙ ap (λ l. rows n ++ l) (append-nil (row (top + n)))
 
-  abbrev pub rows_after : (n height : ℕ) → List ℕ
-  rows_after n height = flat_map row (range_with_len (top + (n + 1)) (height - (n + 1)))
-
-  pub rows_split : (n height : ℕ) → n < height → rows height ≡ rows n ++ (row (top + n) ++ rows_after n height)
-  rows_split n height l =
-      let e : height ≡ (n + 1) + (height - (n + 1)) = omega arith in
-      ap rows e ∙ ap (flat_map row) (range_split top (n + 1) (height - (n + 1)))
-      ∙ flat_map-append row (range_with_len top (n + 1)) (range_with_len (top + (n + 1)) (height - (n + 1)))
-      ∙ ap (λ l. l ++ rows_after n height) (rows_more n) ∙ append_assoc (rows n) (row (top + n)) (rows_after n height)
-
   pub length-rows : (width n : ℕ) → ((y : ℕ) → length (row y) ≡ width) → length (rows n) ≡ n * width
   length-rows width zero w = let e : 0 ≡ 0 * width = omega arith in e
   length-rows width (suc n) w =
@@ -97,33 +78,6 @@ pub part_failed : (before : ℕ) (first second rest whole : List ℕ) (old mid n
     → (written ≤ f.written) × (f.written < written + length second) × Appends mid new (take (f.written - written) second) → Writes before whole old new r
 part_failed before first second rest whole old mid new written f r failed is at done h =
     subst (Writes before whole old new) (sym failed) (part_fault before first second rest whole old mid new written f.written is at done h.0 h.1 h.2)
-
--- the next row went out too
-pub next_row : (row_length : ℕ) (samples : List ℕ) (left top width n start before written next : ℕ) (old mid new : Option (List ℕ)) → start ≡ (top + n) * row_length + left
-    → start + width ≤ length samples → written ≡ before + n * width → Appends old mid (window row_length samples left top width n)
-    → (next ≡ written + length (take (start + width - start) (drop start samples))) × Appends mid new (take (start + width - start) (drop start samples))
-    → (next ≡ before + (n + 1) * width) × Appends old new (window row_length samples left top width (n + 1))
-next_row row_length samples left top width n start before written next old mid new at inside so_far done h =
-    let row = part_of_row row_length samples left width in
-    let is = part_of_row_is row_length samples left width (top + n) start at inside in
-    let long = ap length is ∙ length-part_of_row row_length samples left width (top + n) in
-    let joined = ap (λ l. rows row top n ++ l) is ∙ sym (rows_more row top n) in
-    (omega (arith, h.0, long), subst (Appends old new) joined (Appends-trans old mid new _ _ done h.1))
-
--- the next row went out in part
-pub row_failed : (row_length : ℕ) (samples : List ℕ) (left top width height n start before written : ℕ) (old mid new : Option (List ℕ)) (f : WriteFault) (r : Result ℕ WriteFault)
-    → r ≡ Err f → n < height → start ≡ (top + n) * row_length + left → start + width ≤ length samples → written ≡ before + n * width
-    → Appends old mid (window row_length samples left top width n)
-    → (written ≤ f.written) × (f.written < written + length (take (start + width - start) (drop start samples)))
-    × Appends mid new (take (f.written - written) (take (start + width - start) (drop start samples)))
-    → Writes before (window row_length samples left top width height) old new r
-row_failed row_length samples left top width height n start before written old mid new f r failed low at inside so_far done h =
-    let row = part_of_row row_length samples left width in
-    let is = part_of_row_is row_length samples left width (top + n) start at inside in
-    let split = rows_split row top n height low ∙ ap (λ l. rows row top n ++ (l ++ rows_after row top n height)) (sym is) in
-    let long = length-rows row top width n (length-part_of_row row_length samples left width) in
-    part_failed before (rows row top n) (take (start + width - start) (drop start samples)) (rows_after row top n height) (rows row top height) old mid new written f r
-    failed split (omega (arith, long)) done h
 
 -- a row of a window inside the plane is inside it
 pub row_inside : (row_length left top width height n long : ℕ) → left + width ≤ row_length → (top + height) * row_length ≤ long → n < height

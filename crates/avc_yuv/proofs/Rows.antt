@@ -1,9 +1,5 @@
 -- Worked examples: a cropped picture, and rows in memory.
-use Rattle.std.specs.Prelude.{◌≡◌, ◌*◌, [], ◌∷◌, ◌++◌, replicate, refl}
-use Rattle.std.specs.List.{range_with_len, flat_map}
-use Rattle.avc_types.specs.declared.picture.Picture.{Picture}
-use Rattle.avc_yuv.specs.I420.{i420}
-use Rattle.avc_yuv.specs.Copying.{laid}
+use Rattle.avc_yuv.proofs.Common.{◌≡◌, ◌*◌, [], ◌∷◌, ◌++◌, replicate, refl, range_with_len, flat_map, Picture, i420, laid}
 
 -- 16x16 of which 10x10 are shown; luma sample (x, y) is 16 y + x
 abbrev rising : Picture

@@ -1,15 +1,7 @@
 -- Some rows of a window at once.
-use Rattle.std.proofs.Common.{◌≡◌, ℕ, zero, suc, ◌+◌, ◌-◌, ◌*◌, ◌/◌, ◌^◌, ◌<◌, ◌≤◌, List, ◌++◌, length, take, drop, Option, Result, Err, refl, sym, ap, ◌∙◌, subst, arith}
-use Rattle.std.proofs.Math.Seq.{take-add}
-use Rattle.std.proofs.Math.Nat.{mul-le-mul}
-use Rattle.std.proofs.lemmas.List.{drop-drop}
-use Rattle.std.proofs.lemmas.Grind.{flat_map-append}
-use Rattle.std.specs.List.{range_with_len, flat_map}
-use Rattle.std.specs.Io.KnownBytes.{Appends}
-use Rattle.std.proofs.KnownBytes.{Appends-trans}
-use Rattle.avc_yuv.specs.I420.{part_of_row, window}
-use Rattle.avc_yuv.specs.Writing.{Writes}
-use Rattle.avc_yuv.specs.declared.fault.WriteFault.{WriteFault}
+use Rattle.avc_yuv.proofs.Common.{◌≡◌, ℕ, zero, suc, ◌+◌, ◌-◌, ◌*◌, ◌/◌, ◌^◌, ◌<◌, ◌≤◌, List, ◌++◌, length, take, drop, Option, Result, Err}
+use Rattle.avc_yuv.proofs.Common.{refl, sym, ap, ◌∙◌, subst, arith, take-add, mul-le-mul, drop-drop, flat_map-append, range_with_len}
+use Rattle.avc_yuv.proofs.Common.{flat_map, Appends, Appends-trans, part_of_row, window, Writes, WriteFault, append-nil}
 use Rattle.avc_yuv.proofs.Parts.{length-window, part_failed, part_of_row_is, length-part_of_row, range_split, rows, rows_more}
 
 -- the first rows, and those after them
@@ -77,6 +69,29 @@ rows_failed row_length samples left top width height n more before written old m
     ∙ ap (λ l. win top width n ++ l) (window_split row_length samples left (top + n) width more (height - (n + more))) in
     part_failed before (win top width n) (win (top + n) width more) (win (top + n + more) width (height - (n + more))) (win top width height) old mid new written f r
     failed split (omega (arith, so_far, length-window row_length samples left top width n)) done h
+
+-- the same of one row
+one_row : (row_length : ℕ) (samples : List ℕ) (left width y start : ℕ) → start ≡ y * row_length + left → start + width ≤ length samples
+    → take (start + width - start) (drop start samples) ≡ window row_length samples left y width 1
+one_row row_length samples left width y start at inside =
+    part_of_row_is row_length samples left width y start at inside ∙ sym (append-nil (part_of_row row_length samples left width y))
+
+pub next_row : (row_length : ℕ) (samples : List ℕ) (left top width n start before written next : ℕ) (old mid new : Option (List ℕ)) → start ≡ (top + n) * row_length + left
+    → start + width ≤ length samples → written ≡ before + n * width → Appends old mid (window row_length samples left top width n)
+    → (next ≡ written + length (take (start + width - start) (drop start samples))) × Appends mid new (take (start + width - start) (drop start samples))
+    → (next ≡ before + (n + 1) * width) × Appends old new (window row_length samples left top width (n + 1))
+next_row row_length samples left top width n start before written next old mid new at inside so_far done h =
+    next_rows row_length samples left top width n 1 before written next old mid new so_far done (rw (one_row row_length samples left width (top + n) start at inside) at h)
+
+pub row_failed : (row_length : ℕ) (samples : List ℕ) (left top width height n start before written : ℕ) (old mid new : Option (List ℕ)) (f : WriteFault) (r : Result ℕ WriteFault)
+    → r ≡ Err f → n < height → start ≡ (top + n) * row_length + left → start + width ≤ length samples → written ≡ before + n * width
+    → Appends old mid (window row_length samples left top width n)
+    → (written ≤ f.written) × (f.written < written + length (take (start + width - start) (drop start samples)))
+    × Appends mid new (take (f.written - written) (take (start + width - start) (drop start samples)))
+    → Writes before (window row_length samples left top width height) old new r
+row_failed row_length samples left top width height n start before written old mid new f r failed low at inside so_far done h =
+    rows_failed row_length samples left top width height n 1 before written old mid new f r failed (omega arith) so_far done
+    (rw (one_row row_length samples left width (top + n) start at inside) at h)
 
 -- one row more is gathered
 pub gathered_more : (row_length : ℕ) (samples : List ℕ) (left top width n start : ℕ) (old new bytes : List ℕ) → start ≡ (top + n) * row_length + left → start + width ≤ length samples

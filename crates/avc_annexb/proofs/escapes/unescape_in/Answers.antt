@@ -1,7 +1,4 @@
-use Rattle.std.proofs.Common.{◌+◌, ◌-◌, ◌<◌, arith, length, take, drop, get_or}
-use Rattle.std.proofs.lemmas.Bool.{eqb-true, eq-eqb}
-use Rattle.std.proofs.lemmas.List.{take_rest, length-drop}
-use Rattle.avc_annexb.specs.Scanning.{HasNoZero}
+use Rattle.avc_annexb.proofs.Common.{◌+◌, ◌-◌, ◌<◌, arith, length, take, drop, get_or, eqb-true, eq-eqb, take_rest, length-drop, HasNoZero}
 use Rattle.avc_annexb.proofs.Resumed.{resumed_more, resumed-last, free_before, few_after}
 use Rattle.avc_annexb.proofs.escapes.unescape_in.Goals as goal
 

@@ -1,5 +1,4 @@
-use Rattle.std.proofs.Common.{◌≡◌, ◌≤◌, ◌++◌, ◌-◌, drop, length}
-use Rattle.avc_annexb.specs.Escapes.{rbsp}
+use Rattle.avc_annexb.proofs.Common.{◌≡◌, ◌≤◌, ◌++◌, ◌-◌, drop, length, rbsp}
 use Rattle.avc_annexb.proofs.Resumed.{resumed}
 use Rattle.avc_annexb.proofs.escapes.unescape_in.Given as goal
 

@@ -1,7 +1,4 @@
-use Rattle.std.proofs.Common.{◌+◌, ◌≡◌, arith, length, drop}
-use Rattle.std.proofs.lemmas.Bool.{eq-eqb}
-use Rattle.std.proofs.lemmas.List.{take_rest, length-drop}
-use Rattle.std.specs.Prelude.{slice_index}
+use Rattle.avc_annexb.proofs.Common.{◌+◌, ◌≡◌, arith, length, drop, eq-eqb, take_rest, length-drop, slice_index}
 use Rattle.avc_annexb.proofs.Lone.{lone_more, lone_pair}
 use Rattle.avc_annexb.proofs.runs.run_length.Goals as goal
 

@@ -1,5 +1,4 @@
-use Rattle.std.proofs.Common.{◌≤◌, ◌-◌, length}
-use Rattle.avc_annexb.specs.Scanning.{HasLoneZerosBefore}
+use Rattle.avc_annexb.proofs.Common.{◌≤◌, ◌-◌, length, HasLoneZerosBefore}
 use Rattle.avc_annexb.proofs.runs.run_length.Given as goal
 
 -- each zero before this place stands alone

@@ -1,5 +1,4 @@
-use Rattle.std.proofs.Common.{◌≡◌, ◌≤◌, ◌-◌, length, take}
-use Rattle.std.specs.Prelude.{replicate}
+use Rattle.avc_annexb.proofs.Common.{◌≡◌, ◌≤◌, ◌-◌, length, take, replicate}
 use Rattle.avc_annexb.proofs.runs.zeros_at_start.Given as goal
 
 -- the bytes before this place are zeros

@@ -1,6 +1,4 @@
-use Rattle.std.proofs.Common.{◌≡◌, ◌+◌, ◌-◌, ◌*◌, ◌/◌, ◌%◌, ◌^◌, take, drop, ap, arith, ◌∙◌}
-use Rattle.std.proofs.lemmas.Nat.{one_shl}
-use Rattle.avc_bits.specs.Bits.{byte_bits, number_of}
+use Rattle.avc_bits.proofs.Common.{◌≡◌, ◌+◌, ◌-◌, ◌*◌, ◌/◌, ◌%◌, ◌^◌, take, drop, ap, arith, ◌∙◌, one_shl, byte_bits, number_of}
 use Rattle.avc_bits.proofs.Numbers.{few_from}
 use Rattle.avc_bits.proofs.bytes.bits_near_end.Goals as goal
 

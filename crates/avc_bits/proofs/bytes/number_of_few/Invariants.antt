@@ -1,5 +1,4 @@
-use Rattle.std.proofs.Common.{◌≡◌, take}
-use Rattle.avc_bits.specs.Bits.{byte_bits, number_of}
+use Rattle.avc_bits.proofs.Common.{◌≡◌, take, byte_bits, number_of}
 use Rattle.avc_bits.proofs.bytes.number_of_few.Given as goal
 
 abbrev pub invariant-bytes : goal.invariant-bytes

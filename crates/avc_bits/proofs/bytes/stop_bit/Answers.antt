@@ -1,6 +1,5 @@
-use Rattle.std.proofs.Common.{arith, ◌-◌, ◌<◌, get_or}
+use Rattle.avc_bits.proofs.Common.{arith, ◌-◌, ◌<◌, get_or, w8}
 use Rattle.std.proofs.lemmas.Nat.Bits.{bit_at-trailing_zeros}
-use Rattle.std.specs.Int.{w8}
 use Rattle.avc_bits.proofs.Stops.{stops, stops_never}
 use Rattle.avc_bits.proofs.bytes.stop_bit.Goals as goal
 use Rattle.avc_bits.proofs.bytes.stop_bit.Goals.{then-loop-len-test+else-bytes-len-eq0, else-loop-len-test}

@@ -1,7 +1,4 @@
-use Rattle.std.proofs.Common.{◌≡◌, Ok, arith, take, to_z, of_z, w8, ap, ◌∙◌, sym}
-use Rattle.std.proofs.lemmas.Int.{ints}
-use Rattle.avc_bits.specs.Reader.{reader_bits}
-use Rattle.avc_cavlc.specs.Block.{residual_block}
+use Rattle.avc_cavlc.proofs.Common.{◌≡◌, Ok, arith, take, to_z, of_z, w8, ap, ◌∙◌, sym, ints, reader_bits, residual_block}
 use Rattle.avc_cavlc.proofs.block.read_block.Goals as goal
 
 pub returns-in-Ok-clause-read : goal.returns-in-Ok-clause-read

@@ -1,11 +1,6 @@
-use Rattle.std.proofs.Common.{◌≡◌, ◌+◌, ◌≤◌, pos, Ok, length, take, drop, get_or, arith, sym, ap, subst, ◌∙◌, to_z, of_z, w8}
-use Rattle.std.specs.Prelude.{replicate}
-use Rattle.std.proofs.lemmas.Int.{ints}
-use Rattle.std.proofs.lemmas.List.{length-take-le, take-replicate, drop-replicate}
-use Rattle.avc_types.specs.Macroblock.{total_coeff}
-use Rattle.avc_bits.specs.Reader.{reader_bits, reader_bytes}
-use Rattle.avc_vlc.specs.Reading.{coeff_token}
-use Rattle.avc_cavlc.specs.Block.{IsSmall}
+use Rattle.avc_cavlc.proofs.Common.{◌≡◌, ◌+◌, ◌≤◌, pos, Ok, length, take, drop, get_or, arith, sym, ap, subst, ◌∙◌, to_z, of_z, w8}
+use Rattle.avc_cavlc.proofs.Common.{replicate, ints, length-take-le, take-replicate, drop-replicate, total_coeff, reader_bits, reader_bytes}
+use Rattle.avc_cavlc.proofs.Common.{coeff_token, IsSmall}
 use Rattle.avc_cavlc.proofs.Placing.{no_coefficients, small_none}
 use Rattle.avc_cavlc.proofs.Blocks.{zeros_part, no_zeros, some_zeros, no_levels, some_levels}
 use Rattle.avc_cavlc.proofs.Shorter.{ReadsShorter, shorter, shorter_count}

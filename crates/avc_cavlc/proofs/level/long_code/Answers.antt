@@ -1,6 +1,4 @@
-use Rattle.std.proofs.Common.{◌<◌, ◌^◌, ℕ, subst, sym, ap, ◌∙◌}
-use Rattle.avc_bits.specs.Codes.{u}
-use Rattle.avc_bits.specs.Reader.{reader_bits}
+use Rattle.avc_cavlc.proofs.Common.{◌<◌, ◌^◌, ℕ, subst, sym, ap, ◌∙◌, u, reader_bits}
 use Rattle.avc_cavlc.proofs.LevelCodes.{level_code_most}
 use Rattle.avc_cavlc.proofs.LongCodes.{level_long}
 use Rattle.avc_cavlc.proofs.level.long_code.Goals as goal

@@ -1,6 +1,5 @@
-use Rattle.std.proofs.Common.{◌<◌, ◌+◌, ◌^◌, ℕ, subst, arith, sym}
+use Rattle.avc_cavlc.proofs.Common.{◌<◌, ◌+◌, ◌^◌, ℕ, subst, arith, sym, reader_bits}
 use Rattle.avc_cavlc.proofs.LevelCodes.{level_code_most}
-use Rattle.avc_bits.specs.Reader.{reader_bits}
 use Rattle.avc_cavlc.proofs.LongCodes.{few_passed}
 use Rattle.avc_cavlc.proofs.LevelSteps.{short_suffix}
 use Rattle.avc_cavlc.proofs.level.read_level_code.Goals as goal

@@ -1,6 +1,4 @@
-use Rattle.std.proofs.Common.{Ok, ap, arith, ◌∙◌}
-use Rattle.avc_bits.specs.Reader.{reader_bits}
-use Rattle.avc_cavlc.specs.Block.{level_of_code}
+use Rattle.avc_cavlc.proofs.Common.{Ok, ap, arith, ◌∙◌, reader_bits, level_of_code}
 use Rattle.avc_cavlc.proofs.LongCodes.{few_skipped, skipped_is, never_cut}
 use Rattle.avc_cavlc.proofs.level.read_long_code.Goals as goal
 

@@ -1,9 +1,5 @@
 use Rattle.std.proofs.Common.{◌≡◌, ◌+◌, ◌-◌, ◌++◌, ◌∷◌, ◌<◌, [], ℤ, suc, false, length, take, Err, length-set, arith, rules, to_z, of_z, w16, ap, subst, ◌∙◌, sym}
-use Rattle.std.proofs.lemmas.Int.{ints}
-use Rattle.std.proofs.lemmas.List.{take_more_set}
-use Rattle.avc_bits.specs.Reader.{reader_bits}
-use Rattle.avc_cavlc.specs.Block.{IsLevel, level_of_code, next_suffix_length}
-use Rattle.avc_cavlc.specs.Steps.{levels_after}
+use Rattle.avc_cavlc.proofs.Common.{ints, take_more_set, reader_bits, IsLevel, level_of_code, next_suffix_length, levels_after}
 use Rattle.avc_cavlc.proofs.LevelSteps.{all_more, level_more, level_fault, raised_first, raised_next}
 use Rattle.avc_cavlc.proofs.level.read_others_by.Goals as goal
 

@@ -1,9 +1,5 @@
-use Rattle.std.proofs.Common.{◌≡◌, ◌+◌, ◌-◌, ◌*◌, ◌≤◌, false, length, take}
-use Rattle.std.specs.Prelude.{IsTrue}
-use Rattle.std.specs.List.{All}
-use Rattle.avc_bits.specs.Reader.{reader_bits, reader_bytes}
-use Rattle.avc_cavlc.specs.Block.{IsLevel}
-use Rattle.avc_cavlc.specs.Steps.{levels_after}
+use Rattle.avc_cavlc.proofs.Common.{◌≡◌, ◌+◌, ◌-◌, ◌*◌, ◌≤◌, false, length, take, IsTrue, All, reader_bits, reader_bytes, IsLevel}
+use Rattle.avc_cavlc.proofs.Common.{levels_after}
 use Rattle.avc_cavlc.proofs.level.read_others_by.Given as goal
 
 abbrev pub invariant-levels : goal.invariant-levels

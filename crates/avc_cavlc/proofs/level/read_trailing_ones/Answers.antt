@@ -1,11 +1,5 @@
-use Rattle.std.proofs.Common.{◌≡◌, ◌∷◌, [], take, set, Ok, Err, arith, rules, to_z, of_z, w16, ap, subst, ◌∙◌, sym}
-use Rattle.std.specs.Prelude.{◌==◌, ◌/◌, ◌%◌}
-use Rattle.std.specs.List.{All}
-use Rattle.avc_bits.specs.Bits.{times}
-use Rattle.avc_bits.specs.Codes.{skip}
-use Rattle.avc_bits.specs.Reader.{reader_bits}
-use Rattle.avc_cavlc.specs.Block.{IsLevel, trailing_one}
-use Rattle.avc_cavlc.specs.Steps.{one_of_sign}
+use Rattle.avc_cavlc.proofs.Common.{◌≡◌, ◌∷◌, [], take, set, Ok, Err, arith, rules, to_z, of_z, w16, ap, subst, ◌∙◌, sym, ◌==◌, ◌/◌, ◌%◌}
+use Rattle.avc_cavlc.proofs.Common.{All, times, skip, reader_bits, IsLevel, trailing_one, one_of_sign}
 use Rattle.avc_cavlc.proofs.Ones.{ones_read, ones_fault, ones_put, ones_levels, three_ones, one_back}
 use Rattle.avc_cavlc.proofs.level.read_trailing_ones.Goals as goal
 

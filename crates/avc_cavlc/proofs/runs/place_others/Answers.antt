@@ -1,10 +1,5 @@
 use Rattle.std.proofs.Common.{◌≡◌, ◌+◌, ◌-◌, ◌<◌, ◌++◌, ◌∷◌, ℤ, suc, pos, arith, length, take, drop, set, get_or, to_z, of_z, w16, ap, subst, ◌∙◌, sym, length-set}
-use Rattle.std.specs.Prelude.{reverse}
-use Rattle.std.proofs.lemmas.Int.{ints}
-use Rattle.std.proofs.lemmas.List.{drop-set, take-set-le, get_or-take, length-take}
-use Rattle.std.proofs.Math.Seq.{drop-cons}
-use Rattle.avc_cavlc.specs.Block.{IsLevel}
-use Rattle.avc_types.specs.Macroblock.{total_coeff}
+use Rattle.avc_cavlc.proofs.Common.{reverse, ints, drop-set, take-set-le, get_or-take, length-take, drop-cons, IsLevel, total_coeff}
 use Rattle.avc_cavlc.proofs.Placing.{coefficient_more, last_first, small_more}
 use Rattle.avc_cavlc.proofs.runs.place_others.Goals as goal
 

@@ -1,7 +1,4 @@
-use Rattle.std.proofs.Common.{◌≡◌, ◌+◌, ◌-◌, ◌++◌, ℕ, pos, drop, get_or, length, take}
-use Rattle.std.specs.Prelude.{reverse}
-use Rattle.avc_cavlc.specs.Block.{IsSmall}
-use Rattle.avc_types.specs.Macroblock.{total_coeff}
+use Rattle.avc_cavlc.proofs.Common.{◌≡◌, ◌+◌, ◌-◌, ◌++◌, ℕ, pos, drop, get_or, length, take, reverse, IsSmall, total_coeff}
 use Rattle.avc_cavlc.proofs.runs.place_others.Given as goal
 
 abbrev pub invariant-values : goal.invariant-values

@@ -1,8 +1,5 @@
-use Rattle.std.proofs.Common.{◌≡◌, ◌+◌, ◌-◌, ◌<◌, ℕ, pos, drop, get_or, length, take}
-use Rattle.avc_bits.specs.Reader.{reader_bits, reader_bytes}
-use Rattle.avc_cavlc.specs.Block.{IsSmall}
-use Rattle.avc_types.specs.Macroblock.{total_coeff}
-use Rattle.avc_cavlc.specs.Steps.{placed_before, placed_by_runs}
+use Rattle.avc_cavlc.proofs.Common.{◌≡◌, ◌+◌, ◌-◌, ◌<◌, ℕ, pos, drop, get_or, length, take, reader_bits, reader_bytes, IsSmall, total_coeff}
+use Rattle.avc_cavlc.proofs.Common.{placed_before, placed_by_runs}
 use Rattle.avc_cavlc.proofs.Placing.{IsOpen}
 use Rattle.avc_cavlc.proofs.runs.read_placed.Given as goal
 

@@ -1,36 +1,24 @@
-use Rattle.std.proofs.Common.{ℕ, List, ◌+◌, ◌*◌, ◌/◌, ◌<◌, ◌≤◌, ◌-ℤ◌, pos, to_z, of_z, w64, arith, subst, sym}
-use Rattle.avc_plane.specs.Plane.{sample, clamped}
-use Rattle.avc_plane.specs.Padded.{IsSurrounded}
-use Rattle.avc_plane.proofs.Strided.{strided_same}
-use Rattle.avc_inter.specs.Patch.{IsThere}
-use Rattle.avc_inter.proofs.Places.{at_some}
+use Rattle.avc_inter.proofs.Common.{ℕ, ◌+◌, ◌*◌, ◌/◌, ◌<◌, ◌≤◌, arith, subst, sym, sample, clamped}
+use Rattle.avc_inter.proofs.Common.{strided_same}
+use Rattle.avc_inter.proofs.Places.{there_in}
 use Rattle.avc_inter.proofs.Predicted.{back_before, between_at, moved_quarter, back_moved}
 use Rattle.avc_inter.proofs.SixRows.{room_is, rows_suffice, rows_are}
 use Rattle.avc_inter.proofs.between.lay_between.Goals as goal
 
 pub quarters-requires-clause-room : goal.quarters-requires-clause-room
 quarters-requires-clause-room g c =
-    let pad = g.row.PAD in
-    let p = c.args.reference.now in
     let r = c.requires in
     let at = c.in-Some.at in
-    let there = at_some _ (λ at. (rows : List ℕ) → IsSurrounded pad p rows → IsThere (clamped p.width p.height (sample p))
-    (to_z w64 (of_z w64 (to_z w64 (of_z w64 c.args.left) -ℤ pos 2))) (to_z w64 (of_z w64 (to_z w64 (of_z w64 c.args.top) -ℤ pos 2)))
-    (g.row.L + 5) (16 / g.row.L * c.count_around.result) at.first at.stride rows)
-    at c.in-Some.is c.find_within.ensures c.padded_rows.result.now c.padded_rows.ensures in
+    let there = there_in c.find_within.result at c.in-Some.is c.find_within.ensures c.padded_rows.result.now c.padded_rows.ensures in
     room_is g.row.L at.stride r.lanes c.args.count at.first c.padded_rows.result.now (λ j low. there.row j (subst (λ (n : ℕ). j < 16 / g.row.L * n) (sym c.count_around.ensures.value) low))
 
 pub returns-in-Some : goal.returns-in-Some
 returns-in-Some g c =
-    let pad = g.row.PAD in
     let p = c.args.reference.now in
     let r = c.requires in
     let at = c.in-Some.at in
     let rows = c.padded_rows.result.now in
-    let there = at_some _ (λ at. (rows : List ℕ) → IsSurrounded pad p rows → IsThere (clamped p.width p.height (sample p))
-    (to_z w64 (of_z w64 (to_z w64 (of_z w64 c.args.left) -ℤ pos 2))) (to_z w64 (of_z w64 (to_z w64 (of_z w64 c.args.top) -ℤ pos 2)))
-    (g.row.L + 5) (16 / g.row.L * c.count_around.result) at.first at.stride rows)
-    at c.in-Some.is c.find_within.ensures rows c.padded_rows.ensures in
+    let there = there_in c.find_within.result at c.in-Some.is c.find_within.ensures rows c.padded_rows.ensures in
     strided_same g.row.W (16 / g.row.L * c.args.count) c.args.to.first c.args.to.stride _ _ c.args.out.now c.quarters.new.out c.quarters.ensures
     (λ i j column row. between_at (clamped p.width p.height (sample p)) c.args.left _ c.args.top _ (back_before c.args.left r.left) (back_before c.args.top r.top)
     g.row.W (16 / g.row.L * c.args.count) (g.row.L + 5) (16 / g.row.L * c.count_around.result) at.first at.stride c.args.fx c.args.fy rows there.at (omega (arith, r.columns))

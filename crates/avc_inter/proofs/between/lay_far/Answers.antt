@@ -1,7 +1,4 @@
-use Rattle.std.proofs.Common.{ℕ, ◌+◌, ◌*◌, ◌/◌, ◌≤◌, arith, slice_index, ap, subst, sym, ◌∙◌}
-use Rattle.std.proofs.lemmas.Nat.{row_fits}
-use Rattle.avc_plane.specs.Plane.{sample, clamped}
-use Rattle.avc_plane.proofs.Strided.{strided_same}
+use Rattle.avc_inter.proofs.Common.{ℕ, ◌+◌, ◌*◌, ◌/◌, ◌≤◌, arith, slice_index, ap, subst, sym, ◌∙◌, row_fits, sample, clamped, strided_same}
 use Rattle.avc_inter.proofs.Predicted.{back_before, between_at}
 use Rattle.avc_inter.proofs.SixRows.{room_is, rows_suffice, rows_are}
 use Rattle.avc_inter.proofs.between.lay_far.Goals as goal

@@ -1,7 +1,4 @@
-use Rattle.std.proofs.Common.{◌+◌, ◌*◌, ◌/◌, length, arith, ap, ◌∙◌}
-use Rattle.avc_plane.proofs.Strided.{strided_rows}
-use Rattle.avc_inter.specs.Patch.{blend_of}
-use Rattle.avc_inter.specs.SixRows.{place_of}
+use Rattle.avc_inter.proofs.Common.{◌+◌, ◌*◌, ◌/◌, length, arith, ap, ◌∙◌, strided_rows, blend_of, place_of}
 use Rattle.avc_inter.proofs.SixRows.{row_begins, row_within, blend_in_row, place_at, sixteen_more, room_more, begins_more}
 use Rattle.avc_inter.proofs.bilinear.blend_rows.Goals as goal
 

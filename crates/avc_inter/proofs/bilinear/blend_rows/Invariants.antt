@@ -1,6 +1,4 @@
-use Rattle.std.proofs.Common.{◌+◌, ◌*◌, ◌/◌}
-use Rattle.avc_plane.specs.Strided.{IsStridedSet}
-use Rattle.avc_inter.specs.Patch.{blend_of}
+use Rattle.avc_inter.proofs.Common.{◌+◌, ◌*◌, ◌/◌, IsStridedSet, blend_of}
 use Rattle.avc_inter.proofs.bilinear.blend_rows.Given as goal
 
 abbrev pub invariant-loop-y : goal.invariant-loop-y

@@ -1,6 +1,5 @@
-use Rattle.std.proofs.Common.{ℕ, ◌≡◌, ◌≤◌, ◌+◌, ◌*◌, ◌∙◌, ap, List, arith, slice_index}
+use Rattle.avc_inter.proofs.Common.{ℕ, ◌≡◌, ◌≤◌, ◌+◌, ◌*◌, ◌∙◌, ap, List, arith, slice_index, Each1-get_or}
 use Rattle.std.proofs.Math.Nat.{mul_comm}
-use Rattle.std.proofs.lemmas.Simd.{Each1-get_or}
 use Rattle.avc_inter.proofs.Lanes.{addable, lane_of_row}
 use Rattle.avc_inter.proofs.bilinear.sums_of.Goals as goal
 

@@ -1,9 +1,5 @@
-use Rattle.std.proofs.Common.{ℕ, List, ◌+◌, ◌*◌, ◌/◌, to_z, of_z, w64, arith}
-use Rattle.avc_plane.specs.Plane.{sample, clamped}
-use Rattle.avc_plane.specs.Padded.{IsSurrounded}
-use Rattle.avc_plane.proofs.Strided.{strided_same}
-use Rattle.avc_inter.specs.Patch.{IsThere}
-use Rattle.avc_inter.proofs.Places.{at_some}
+use Rattle.avc_inter.proofs.Common.{◌+◌, ◌*◌, ◌/◌, arith, sample, clamped, strided_same}
+use Rattle.avc_inter.proofs.Places.{there_in}
 use Rattle.avc_inter.proofs.Predicted.{back_moved}
 use Rattle.avc_inter.proofs.Eighths.{blend_at, moved_bilinear}
 use Rattle.avc_inter.proofs.SixRows.{places_for}
@@ -11,27 +7,20 @@ use Rattle.avc_inter.proofs.chroma_between.lay_eighths.Goals as goal
 
 pub blend_rows-requires-clause-samples : goal.blend_rows-requires-clause-samples
 blend_rows-requires-clause-samples g c =
-    let pad = g.row.PAD in
-    let p = c.args.reference.now in
     let r = c.requires in
     let at = c.in-Some.at in
     let rows = c.padded_rows-rows.result.now in
-    let there = at_some _ (λ at. (rows : List ℕ) → IsSurrounded pad p rows → IsThere (clamped p.width p.height (sample p)) (to_z w64 (of_z w64 c.args.left)) (to_z w64 (of_z w64 c.args.top))
-    (g.row.L + 1) (16 / g.row.L * c.args.count + 1) at.first at.stride rows)
-    at c.in-Some.is c.find_within.ensures rows c.padded_rows-rows.ensures in
+    let there = there_in c.find_within.result at c.in-Some.is c.find_within.ensures rows c.padded_rows-rows.ensures in
     places_for g.row.L at.stride r.lanes c.args.count at.first rows there.row
 
 pub returns-in-Some : goal.returns-in-Some
 returns-in-Some g c =
-    let pad = g.row.PAD in
     let p = c.args.reference.now in
     let r = c.requires in
     let at = c.in-Some.at in
     let rows = c.padded_rows-rows.result.now in
     let shares = c.new-weights.ensures in
-    let there = at_some _ (λ at. (rows : List ℕ) → IsSurrounded pad p rows → IsThere (clamped p.width p.height (sample p)) (to_z w64 (of_z w64 c.args.left)) (to_z w64 (of_z w64 c.args.top))
-    (g.row.L + 1) (16 / g.row.L * c.args.count + 1) at.first at.stride rows)
-    at c.in-Some.is c.find_within.ensures rows c.padded_rows-rows.ensures in
+    let there = there_in c.find_within.result at c.in-Some.is c.find_within.ensures rows c.padded_rows-rows.ensures in
     strided_same g.row.W (16 / g.row.L * c.args.count) c.args.to.first c.args.to.stride _ _ c.args.out.now c.blend_rows.new.out c.blend_rows.ensures
     (λ i j column row. blend_at (clamped p.width p.height (sample p)) c.args.left _ c.args.top _ (g.row.L + 1) (16 / g.row.L * c.args.count + 1) at.first at.stride c.args.right c.args.down rows c.new-weights.result
     there.at (back_moved c.args.left r.left) (back_moved c.args.top r.top) shares.here shares.right shares.below shares.across i j (omega (arith, column, r.columns)) (omega (arith, row)))

@@ -1,7 +1,4 @@
-use Rattle.std.proofs.Common.{◌+◌, ◌*◌, ◌/◌, arith, ap, slice_index, ◌∙◌}
-use Rattle.std.proofs.lemmas.Nat.{row_fits}
-use Rattle.avc_plane.specs.Plane.{sample, clamped}
-use Rattle.avc_plane.proofs.Strided.{strided_same}
+use Rattle.avc_inter.proofs.Common.{◌+◌, ◌*◌, ◌/◌, arith, ap, slice_index, ◌∙◌, row_fits, sample, clamped, strided_same}
 use Rattle.avc_inter.proofs.Predicted.{back_moved}
 use Rattle.avc_inter.proofs.Eighths.{blend_at}
 use Rattle.avc_inter.proofs.SixRows.{places_for}

@@ -1,7 +1,4 @@
-use Rattle.std.proofs.Common.{◌≡◌, ◌*◌, ◌/◌, arith, to_z, of_z, w16}
-use Rattle.std.proofs.lemmas.Int.{ints}
-use Rattle.avc_plane.specs.Plane.{sample}
-use Rattle.avc_plane.proofs.Strided.{strided_rows, strided_same}
+use Rattle.avc_inter.proofs.Common.{◌≡◌, ◌*◌, ◌/◌, arith, to_z, of_z, w16, ints, sample, strided_rows, strided_same}
 use Rattle.avc_inter.proofs.Predicted.{back_moved}
 use Rattle.avc_inter.proofs.Eighths.{chroma_at}
 use Rattle.avc_inter.proofs.chroma_prediction.lay_chroma.Goals as goal

@@ -1,7 +1,4 @@
-use Rattle.std.proofs.Common.{◌+◌, arith}
-use Rattle.avc_plane.specs.Plane.{sample}
-use Rattle.avc_plane.proofs.Lending.{room_lent, block_lent}
-use Rattle.avc_inter.specs.Chroma.{inter_chroma}
+use Rattle.avc_inter.proofs.Common.{◌+◌, arith, sample, room_lent, block_lent, inter_chroma}
 use Rattle.avc_inter.proofs.chroma_prediction.predict_between.Goals as goal
 
 pub lay_chroma-requires : goal.lay_chroma-requires

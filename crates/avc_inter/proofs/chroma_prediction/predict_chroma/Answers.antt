@@ -1,7 +1,4 @@
-use Rattle.std.proofs.Common.{◌≡◌, ◌+◌, ◌+ℤ◌, pos, sym, arith, to_z, of_z, w16, w64, ◌∙◌}
-use Rattle.std.proofs.lemmas.Int.{ints}
-use Rattle.avc_plane.specs.Plane.{sample, clamped}
-use Rattle.avc_inter.specs.Chroma.{inter_chroma}
+use Rattle.avc_inter.proofs.Common.{◌≡◌, ◌+◌, ◌+ℤ◌, pos, sym, arith, to_z, of_z, w16, w64, ◌∙◌, ints, sample, clamped, inter_chroma}
 use Rattle.avc_inter.proofs.Predicted.{back_moved}
 use Rattle.avc_inter.proofs.Eighths.{chroma_at, whole_at}
 use Rattle.avc_inter.proofs.chroma_prediction.predict_chroma.Goals as goal

@@ -1,5 +1,4 @@
-use Rattle.std.proofs.Common.{◌+◌, ◌*◌, length, slice_index, arith, ap, ◌∙◌}
-use Rattle.avc_plane.proofs.Strided.{strided_more, strided_rows}
+use Rattle.avc_inter.proofs.Common.{◌+◌, ◌*◌, length, slice_index, arith, ap, strided_more, strided_rows}
 use Rattle.avc_inter.proofs.Fours.{begins, line_of_four, room_of_four}
 use Rattle.avc_inter.proofs.lines.copy_lines.Goals as goal
 

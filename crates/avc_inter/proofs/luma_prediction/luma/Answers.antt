@@ -1,6 +1,4 @@
-use Rattle.std.proofs.Common.{◌≡◌, ◌∙◌, sym, arith, to_z, of_z, w16}
-use Rattle.std.proofs.lemmas.Int.{ints}
-use Rattle.avc_plane.specs.Plane.{sample}
+use Rattle.avc_inter.proofs.Common.{◌≡◌, ◌∙◌, sym, arith, to_z, of_z, w16, ints, sample}
 use Rattle.avc_inter.proofs.Predicted.{back_moved, luma_is}
 use Rattle.avc_inter.proofs.luma_prediction.luma.Goals as goal
 

@@ -1,7 +1,4 @@
-use Rattle.std.proofs.Common.{◌+◌, arith}
-use Rattle.avc_plane.specs.Plane.{sample}
-use Rattle.avc_plane.proofs.Lending.{room_lent, block_lent}
-use Rattle.avc_inter.specs.Luma.{inter_luma}
+use Rattle.avc_inter.proofs.Common.{◌+◌, arith, sample, room_lent, block_lent, inter_luma}
 use Rattle.avc_inter.proofs.luma_prediction.predict_between.Goals as goal
 
 pub lay_luma-requires : goal.lay_luma-requires

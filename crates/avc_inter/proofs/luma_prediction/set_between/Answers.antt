@@ -1,10 +1,6 @@
-use Rattle.std.proofs.Common.{ℕ, [], ◌+◌, ◌*◌, ◌/◌, ◌≤◌, arith, subst, sym, ◌∙◌}
-use Rattle.std.proofs.Math.Nat.{mul-le-mul_right}
-use Rattle.std.proofs.lemmas.List.{length-replicate}
-use Rattle.avc_types.proofs.Blocks.{block_of_same}
-use Rattle.avc_plane.specs.Plane.{sample, clamped}
-use Rattle.avc_inter.specs.Bounds.{IsMoved}
-use Rattle.avc_inter.proofs.Predicted.{back_moved, moved_quarter}
+use Rattle.avc_inter.proofs.Common.{ℕ, [], ◌+◌, ◌*◌, ◌/◌, ◌≤◌, arith, ◌∙◌, mul-le-mul_right, length-replicate, block_of_same}
+use Rattle.avc_inter.proofs.Common.{sample, clamped, IsRoom, length, replicate}
+use Rattle.avc_inter.proofs.Predicted.{back_moved, still_moved, moved_quarter}
 use Rattle.avc_inter.proofs.SixRows.{rows_cover, rows_room}
 use Rattle.avc_inter.proofs.luma_prediction.set_between.Goals as goal
 
@@ -12,41 +8,13 @@ pub lay_between-requires : goal.lay_between-requires
 lay_between-requires g c =
     let r = c.requires in
     let l = g.row.L in
-    let count = c.count_of.ensures.value in
-    let left = subst IsMoved (sym (back_moved c.args.left r.left)) r.left in
-    let top = subst IsMoved (sym (back_moved c.args.top r.top)) r.top in
-    let patch = subst (λ (n : ℕ). 16 / l * (n + (5 * l + 15) / 16) * (l + 5) ≤ g.row.P) (sym count) r.patch.0 in
-    let room = rows_room l l r.lanes c.count_of.result 0 [] g.row.N (omega (arith, count)) in (
-      omega arith,
-      (
-        r.lanes,
-        (
-          omega arith,
-          (
-            c.count_of.ensures.few,
-            (
-              left,
-              (
-                top,
-                (
-                  (patch, r.patch.1),
-                  (
-                    r.fx,
-                    (
-                      r.fy,
-                      (
-                        omega arith,
-                        λ y low. omega (arith, room y low, length-replicate {A = ℕ} g.row.N 0),
-                      ),
-                    ),
-                  ),
-                ),
-              ),
-            ),
-          ),
-        ),
-      ),
-    )
+    let count = c.count_of.ensures in
+    let left = still_moved c.args.left r.left in
+    let top = still_moved c.args.top r.top in
+    let patch = rw (← count.value) at r.patch in
+    let lines = rows_room l l r.lanes c.count_of.result 0 [] g.row.N (omega (arith, count.value)) in
+    let room : IsRoom l (16 / l * c.count_of.result) 0 l (length (replicate g.row.N 0)) = λ y low. omega (arith, lines y low, length-replicate {A = ℕ} g.row.N 0) in
+    (omega arith, (r.lanes, (omega arith, (count.few, (left, (top, (patch, (r.fx, (r.fy, (omega arith, room))))))))))
 
 pub set_rows-requires : goal.set_rows-requires
 set_rows-requires g c = (

@@ -1,9 +1,5 @@
-use Rattle.std.proofs.Common.{◌≡◌, ◌+◌, ◌*◌, ◌-ℤ◌, ◌+ℤ◌, pos, to_z, of_z, w64, slice_index, arith, ap, sym, ◌∙◌}
-use Rattle.std.specs.Prelude.{nat_abs}
-use Rattle.std.proofs.lemmas.Nat.{row_fits}
-use borrow.Author.Count.{below_more}
-use Rattle.avc_types.specs.Arithmetic.{clip3}
-use Rattle.avc_plane.specs.Plane.{sample, clamped}
+use Rattle.avc_inter.proofs.Common.{◌≡◌, ◌+◌, ◌*◌, ◌-ℤ◌, ◌+ℤ◌, pos, to_z, of_z, w64, slice_index, arith, ap, sym, ◌∙◌, nat_abs, row_fits}
+use Rattle.avc_inter.proofs.Common.{below_more, clip3, sample, clamped}
 use Rattle.avc_inter.proofs.Places.{held_moved, place_back, moved_sample}
 use Rattle.avc_inter.proofs.patch.fetch_held.Goals as goal
 

@@ -1,5 +1,4 @@
-use Rattle.std.proofs.Common.{◌≡◌, ℕ, ◌+◌, ◌*◌, ◌<◌, slice_index, pos, ◌+ℤ◌}
-use Rattle.avc_plane.specs.Plane.{sample, clamped}
+use Rattle.avc_inter.proofs.Common.{◌≡◌, ℕ, ◌+◌, ◌*◌, ◌<◌, slice_index, pos, ◌+ℤ◌, sample, clamped}
 use Rattle.avc_inter.proofs.patch.fetch_held.Given as goal
 
 abbrev pub invariant-loop-j : goal.invariant-loop-j

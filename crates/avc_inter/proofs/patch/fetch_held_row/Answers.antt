@@ -1,9 +1,5 @@
-use Rattle.std.proofs.Common.{◌≡◌, ◌+◌, ◌<◌, ◌-ℤ◌, ◌+ℤ◌, pos, to_z, of_z, w64, slice_index, slice_set, length, arith, ap, ◌∙◌}
-use Rattle.std.specs.Prelude.{nat_abs}
-use Rattle.std.proofs.lemmas.List.{get_or-set_same, get_or-set_other}
-use borrow.Author.Count.{below_more}
-use Rattle.avc_types.specs.Arithmetic.{clip3}
-use Rattle.avc_plane.specs.Plane.{sample}
+use Rattle.avc_inter.proofs.Common.{◌≡◌, ◌+◌, ◌<◌, ◌-ℤ◌, ◌+ℤ◌, pos, to_z, of_z, w64, slice_index, slice_set, length, arith, ap, ◌∙◌}
+use Rattle.avc_inter.proofs.Common.{nat_abs, get_or-set_same, get_or-set_other, below_more, clip3, sample}
 use Rattle.avc_inter.proofs.Places.{held_moved, place_back}
 use Rattle.avc_inter.proofs.patch.fetch_held_row.Goals as goal
 

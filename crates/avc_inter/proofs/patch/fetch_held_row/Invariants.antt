@@ -1,7 +1,4 @@
-use Rattle.std.proofs.Common.{◌≡◌, ℕ, ◌+◌, ◌<◌, slice_index, pos, ◌+ℤ◌, ◌-ℤ◌}
-use Rattle.std.specs.Prelude.{nat_abs}
-use Rattle.avc_types.specs.Arithmetic.{clip3}
-use Rattle.avc_plane.specs.Plane.{sample}
+use Rattle.avc_inter.proofs.Common.{◌≡◌, ℕ, ◌+◌, ◌<◌, slice_index, pos, ◌+ℤ◌, ◌-ℤ◌, nat_abs, clip3, sample}
 use Rattle.avc_inter.proofs.patch.fetch_held_row.Given as goal
 
 abbrev pub invariant-loop-i : goal.invariant-loop-i

@@ -1,25 +1,17 @@
-use Rattle.std.proofs.Common.{ℕ, List, to_z, of_z, w64, arith, ◌∙◌}
-use Rattle.avc_plane.specs.Plane.{sample, clamped}
-use Rattle.avc_plane.specs.Padded.{IsSurrounded}
-use Rattle.avc_inter.specs.Patch.{IsThere}
-use Rattle.avc_inter.proofs.Places.{at_some}
+use Rattle.avc_inter.proofs.Common.{to_z, of_z, w64, arith, ◌∙◌, sample, clamped, IsThere}
+use Rattle.avc_inter.proofs.Places.{there_in}
 use Rattle.avc_inter.proofs.Predicted.{back_moved, there_is, moved_is}
 use Rattle.avc_inter.proofs.patch.set_whole.Goals as goal
 
 pub set_rows-requires : goal.set_rows-requires
 set_rows-requires g c =
-    let pad = g.row.PAD in
-    let p = c.args.plane.now in
-    let there = at_some _ (λ at. (rows : List ℕ) → IsSurrounded pad p rows → IsThere (clamped p.width p.height (sample p)) (to_z w64 (of_z w64 c.args.left)) (to_z w64 (of_z w64 c.args.top)) 16 g.row.H at.first at.stride rows)
-    c.in-Some.at c.in-Some.is c.find_within.ensures c.padded_rows.result.now c.padded_rows.ensures in
+    let there = there_in c.find_within.result c.in-Some.at c.in-Some.is c.find_within.ensures c.padded_rows.result.now c.padded_rows.ensures in
     (omega arith, there.row)
 
 pub returns-in-Some : goal.returns-in-Some
 returns-in-Some g c =
-    let pad = g.row.PAD in
     let p = c.args.plane.now in
-    let there = at_some _ (λ at. (rows : List ℕ) → IsSurrounded pad p rows → IsThere (clamped p.width p.height (sample p)) (to_z w64 (of_z w64 c.args.left)) (to_z w64 (of_z w64 c.args.top)) 16 g.row.H at.first at.stride rows)
-    c.in-Some.at c.in-Some.is c.find_within.ensures c.padded_rows.result.now c.padded_rows.ensures in
+    let there = there_in c.find_within.result c.in-Some.at c.in-Some.is c.find_within.ensures c.padded_rows.result.now c.padded_rows.ensures in
     let narrow : IsThere (clamped p.width p.height (sample p)) (to_z w64 (of_z w64 c.args.left)) (to_z w64 (of_z w64 c.args.top)) g.row.W g.row.H c.in-Some.at.first c.in-Some.at.stride c.padded_rows.result.now =
     record {
       row = λ j low. omega (arith, there.row j low, c.requires.columns);

@@ -1,5 +1,4 @@
-use Rattle.std.proofs.Common.{◌+◌, ◌*◌, ◌/◌, arith}
-use Rattle.avc_plane.proofs.Strided.{strided_same}
+use Rattle.avc_inter.proofs.Common.{◌+◌, ◌*◌, ◌/◌, arith, strided_same}
 use Rattle.avc_inter.proofs.SixRows.{room_for, middle_at, rounded_at, same_mean}
 use Rattle.avc_inter.proofs.positions.row_3.Goals as goal
 

@@ -1,8 +1,5 @@
-use Rattle.std.proofs.Common.{ℕ, ◌≡◌, ◌≤◌, ◌*◌, arith, Fits, w16, ap, ◌∙◌, length, map, replicate, get_or, List}
-use Rattle.std.proofs.Math.Nat.{mul-le-mul}
-use Rattle.std.proofs.lemmas.List.{length-map}
-use Rattle.std.proofs.lemmas.Simd.{Each1-weaker, Each2-splat, zip2_splat}
-use Rattle.std.specs.Simd.Lanes.{zip2}
+use Rattle.avc_inter.proofs.Common.{ℕ, ◌≡◌, ◌≤◌, ◌*◌, arith, Fits, w16, ap, ◌∙◌, length, map, replicate, get_or, List, mul-le-mul}
+use Rattle.avc_inter.proofs.Common.{length-map, Each1-weaker, Each2-splat, zip2_splat, zip2}
 use Rattle.avc_inter.proofs.Lanes.{multiples_small, get_or-multiples}
 use Rattle.avc_inter.proofs.row.multiples.Goals as goal
 

@@ -1,6 +1,4 @@
-use Rattle.std.proofs.Common.{◌≡◌, arith}
-use Rattle.std.proofs.lemmas.Simd.{length-put_chunk}
-use Rattle.avc_inter.specs.SixTapRow.{taps_at}
+use Rattle.avc_inter.proofs.Common.{◌≡◌, arith, length-put_chunk, taps_at}
 use Rattle.avc_inter.proofs.Lanes.{stored_more}
 use Rattle.avc_inter.proofs.row.six_tap_row.Goals as goal
 

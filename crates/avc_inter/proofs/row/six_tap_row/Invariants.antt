@@ -1,5 +1,4 @@
-use Rattle.std.proofs.Common.{◌≡◌, ℕ, ◌-◌, ◌<◌, ◌≤◌, pos, slice_index_or, length}
-use Rattle.avc_inter.specs.SixTapRow.{taps_at}
+use Rattle.avc_inter.proofs.Common.{◌≡◌, ℕ, ◌-◌, ◌<◌, ◌≤◌, pos, slice_index_or, length, taps_at}
 use Rattle.avc_inter.proofs.row.six_tap_row.Given as goal
 
 abbrev pub invariant-wide : goal.invariant-wide

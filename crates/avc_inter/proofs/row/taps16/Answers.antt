@@ -1,8 +1,5 @@
-use Rattle.std.proofs.Common.{ℕ, ℤ, ◌≡◌, ◌<◌, ◌+◌, pos, arith, ap, ◌∙◌, w32, slice_index, slice_index_or, List, length, map, to_z, of_z}
-use Rattle.std.proofs.lemmas.List.{length-map}
-use Rattle.std.proofs.lemmas.Simd.{get_or-chunk}
-use Rattle.std.specs.Simd.Lanes.{chunk}
-use Rattle.avc_inter.specs.SixTapRow.{taps_at}
+use Rattle.avc_inter.proofs.Common.{ℕ, ℤ, ◌≡◌, ◌<◌, ◌+◌, pos, arith, ap, ◌∙◌, w32, slice_index, slice_index_or, List, length, map, to_z}
+use Rattle.avc_inter.proofs.Common.{of_z, length-map, get_or-chunk, chunk, taps_at}
 use Rattle.avc_inter.proofs.Lanes.{get_or-through_bits, six_taps_apart}
 use Rattle.avc_inter.proofs.row.taps16.Goals as goal
 
@@ -37,6 +34,6 @@ returns c =
     (slice_index c.sums.result k) (slice_index c.multiples-2.result k) (omega arith) (omega arith) in
     record {
       long = through diff ∙ c.differences.ensures.long;
-      at = λ k h. get_or-through_bits diff k (c.differences.ensures.fits k h) ∙ all k h;
-      fits = λ k h. rw (get_or-through_bits diff k (c.differences.ensures.fits k h)) (c.differences.ensures.fits k h);
+      at = λ k h. get_or-through_bits w32 diff k (c.differences.ensures.fits k h) ∙ all k h;
+      fits = λ k h. rw (get_or-through_bits w32 diff k (c.differences.ensures.fits k h)) (c.differences.ensures.fits k h);
     }

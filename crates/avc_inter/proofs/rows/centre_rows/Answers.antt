@@ -1,6 +1,4 @@
-use Rattle.std.proofs.Common.{◌+◌, ◌*◌, ◌/◌, length, arith, refl, ap}
-use Rattle.avc_plane.proofs.Strided.{strided_rows}
-use Rattle.avc_inter.specs.Patch.{centre_along}
+use Rattle.avc_inter.proofs.Common.{◌+◌, ◌*◌, ◌/◌, length, arith, refl, ap, strided_rows, centre_along}
 use Rattle.avc_inter.proofs.SixRows.{sixteen_more, room_more, begins_more}
 use Rattle.avc_inter.proofs.rows.centre_rows.Goals as goal
 

@@ -1,6 +1,4 @@
-use Rattle.std.proofs.Common.{◌+◌, ◌*◌, ◌/◌}
-use Rattle.avc_plane.specs.Strided.{IsStridedSet}
-use Rattle.avc_inter.specs.Patch.{centre_along}
+use Rattle.avc_inter.proofs.Common.{◌+◌, ◌*◌, ◌/◌, IsStridedSet, centre_along}
 use Rattle.avc_inter.proofs.rows.centre_rows.Given as goal
 
 abbrev pub invariant-loop-y : goal.invariant-loop-y

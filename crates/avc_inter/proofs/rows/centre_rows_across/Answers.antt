@@ -1,7 +1,5 @@
-use Rattle.std.proofs.Common.{◌+◌, ◌*◌, ◌/◌, length, arith, refl, ap, pos, slice_index_or, ◌∙◌}
-use Rattle.avc_types.specs.Arithmetic.{mean_of_two}
-use Rattle.avc_plane.proofs.Strided.{strided_rows}
-use Rattle.avc_inter.specs.Patch.{centre_along, rounded_sum}
+use Rattle.avc_inter.proofs.Common.{◌+◌, ◌*◌, ◌/◌, length, arith, refl, ap, pos, slice_index_or, ◌∙◌, mean_of_two, strided_rows}
+use Rattle.avc_inter.proofs.Common.{centre_along, rounded_sum}
 use Rattle.avc_inter.proofs.SixRows.{rounded_further, same_mean, sixteen_more, room_more, begins_more}
 use Rattle.avc_inter.proofs.rows.centre_rows_across.Goals as goal
 

@@ -1,7 +1,4 @@
-use Rattle.std.proofs.Common.{◌+◌, ◌*◌, ◌/◌, pos, slice_index_or}
-use Rattle.avc_plane.specs.Strided.{IsStridedSet}
-use Rattle.avc_types.specs.Arithmetic.{mean_of_two}
-use Rattle.avc_inter.specs.Patch.{centre_along, rounded_sum}
+use Rattle.avc_inter.proofs.Common.{◌+◌, ◌*◌, ◌/◌, pos, slice_index_or, IsStridedSet, mean_of_two, centre_along, rounded_sum}
 use Rattle.avc_inter.proofs.rows.centre_rows_across.Given as goal
 
 abbrev pub invariant-loop-y : goal.invariant-loop-y

@@ -1,7 +1,4 @@
-use Rattle.std.proofs.Common.{◌+◌, ◌*◌, ◌/◌}
-use Rattle.avc_plane.specs.Strided.{IsStridedSet}
-use Rattle.avc_types.specs.Arithmetic.{mean_of_two}
-use Rattle.avc_inter.specs.Patch.{centre_along, half_along}
+use Rattle.avc_inter.proofs.Common.{◌+◌, ◌*◌, ◌/◌, IsStridedSet, mean_of_two, centre_along, half_along}
 use Rattle.avc_inter.proofs.rows.centre_rows_down.Given as goal
 
 abbrev pub invariant-loop-y : goal.invariant-loop-y

@@ -1,5 +1,4 @@
-use Rattle.std.proofs.Common.{◌≡◌, arith, rules}
-use Rattle.avc_inter.specs.SixRows.{centre_of}
+use Rattle.avc_inter.proofs.Common.{◌≡◌, arith, rules, centre_of}
 use Rattle.avc_inter.proofs.Stored.{stored}
 use Rattle.avc_inter.proofs.Shifts.{centre_cast}
 use Rattle.avc_inter.proofs.rows.centres_of.Goals as goal

@@ -1,8 +1,4 @@
-use Rattle.std.proofs.Common.{◌+◌, ◌*◌, ◌/◌, length, arith, ap, ◌∙◌}
-use Rattle.avc_types.specs.Arithmetic.{mean_of_two}
-use Rattle.avc_plane.proofs.Strided.{strided_rows}
-use Rattle.avc_inter.specs.Patch.{half_along}
-use Rattle.avc_inter.specs.SixRows.{place_of}
+use Rattle.avc_inter.proofs.Common.{◌+◌, ◌*◌, ◌/◌, length, arith, ap, ◌∙◌, mean_of_two, strided_rows, half_along, place_of}
 use Rattle.avc_inter.proofs.SixRows.{row_begins, row_within, half_in_row, same_mean, place_at, sixteen_more, room_more, begins_more}
 use Rattle.avc_inter.proofs.rows.diagonal_rows.Goals as goal
 

@@ -1,6 +1,4 @@
-use Rattle.std.proofs.Common.{◌+◌, ◌*◌, ◌/◌}
-use Rattle.avc_plane.specs.Strided.{IsStridedSet}
-use Rattle.avc_inter.specs.Patch.{half_along}
+use Rattle.avc_inter.proofs.Common.{◌+◌, ◌*◌, ◌/◌, IsStridedSet, half_along}
 use Rattle.avc_inter.proofs.rows.half_rows.Given as goal
 
 abbrev pub invariant-loop-y : goal.invariant-loop-y

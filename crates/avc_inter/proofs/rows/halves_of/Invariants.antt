@@ -1,5 +1,4 @@
-use Rattle.std.proofs.Common.{◌≡◌, ◌<◌, ℕ, length, slice_index}
-use Rattle.avc_inter.specs.SixRows.{half_of}
+use Rattle.avc_inter.proofs.Common.{◌≡◌, ◌<◌, ℕ, length, slice_index, half_of}
 use Rattle.avc_inter.proofs.rows.halves_of.Given as goal
 
 abbrev pub invariant-loop-k : goal.invariant-loop-k

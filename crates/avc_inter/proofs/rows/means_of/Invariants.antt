@@ -1,5 +1,4 @@
-use Rattle.std.proofs.Common.{◌≡◌, ◌<◌, ℕ, length, slice_index}
-use Rattle.avc_types.specs.Arithmetic.{mean_of_two}
+use Rattle.avc_inter.proofs.Common.{◌≡◌, ◌<◌, ℕ, length, slice_index, mean_of_two}
 use Rattle.avc_inter.proofs.rows.means_of.Given as goal
 
 abbrev pub invariant-loop-k : goal.invariant-loop-k

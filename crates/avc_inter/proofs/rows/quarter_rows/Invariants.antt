@@ -1,7 +1,4 @@
-use Rattle.std.proofs.Common.{◌+◌, ◌*◌, ◌/◌, slice_index}
-use Rattle.avc_plane.specs.Strided.{IsStridedSet}
-use Rattle.avc_types.specs.Arithmetic.{mean_of_two}
-use Rattle.avc_inter.specs.Patch.{half_along}
+use Rattle.avc_inter.proofs.Common.{◌+◌, ◌*◌, ◌/◌, slice_index, IsStridedSet, mean_of_two, half_along}
 use Rattle.avc_inter.proofs.rows.quarter_rows.Given as goal
 
 abbrev pub invariant-loop-y : goal.invariant-loop-y

@@ -1,5 +1,4 @@
-use Rattle.std.proofs.Common.{◌≡◌, ◌<◌, ◌+◌, ℕ, length, slice_index, slice_index_or, pos}
-use Rattle.avc_inter.specs.Patch.{rounded_sum}
+use Rattle.avc_inter.proofs.Common.{◌≡◌, ◌<◌, ◌+◌, ℕ, length, slice_index, slice_index_or, pos, rounded_sum}
 use Rattle.avc_inter.proofs.rows.rounded_row.Given as goal
 
 abbrev pub invariant-loop-k : goal.invariant-loop-k

@@ -1,5 +1,4 @@
-use Rattle.std.proofs.Common.{◌≡◌, ◌<◌, ◌+◌, ◌*◌, ℕ, length, slice_index}
-use Rattle.avc_inter.specs.SixRows.{place_of}
+use Rattle.avc_inter.proofs.Common.{◌≡◌, ◌<◌, ◌+◌, ◌*◌, ℕ, length, slice_index, place_of}
 use Rattle.avc_inter.proofs.rows.sixteen.Given as goal
 
 abbrev pub invariant-loop-y : goal.invariant-loop-y

@@ -1,5 +1,4 @@
-use Rattle.std.proofs.Common.{ℤ, ◌*◌, arith, sym, subst, ◌∙◌}
-use Rattle.avc_inter.specs.Bounds.{IsSum}
+use Rattle.avc_inter.proofs.Common.{ℤ, ◌*◌, arith, sym, subst, ◌∙◌, IsSum}
 use Rattle.avc_inter.proofs.SixRows.{row_within, by_row, sum_in_row}
 use Rattle.avc_inter.proofs.rows.sum_rows.Goals as goal
 

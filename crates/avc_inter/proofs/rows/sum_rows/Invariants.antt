@@ -1,7 +1,4 @@
-use Rattle.std.proofs.Common.{◌≡◌, ◌<◌, ◌+◌, ◌*◌, ℕ, slice_index_or, pos}
-use Rattle.avc_inter.specs.Bounds.{IsSum}
-use Rattle.avc_inter.specs.Patch.{taps_along}
-use Rattle.avc_inter.specs.SixRows.{place_of}
+use Rattle.avc_inter.proofs.Common.{◌≡◌, ◌<◌, ◌+◌, ◌*◌, ℕ, slice_index_or, pos, IsSum, taps_along, place_of}
 use Rattle.avc_inter.proofs.rows.sum_rows.Given as goal
 
 abbrev pub invariant-loop-y : goal.invariant-loop-y

@@ -1,8 +1,6 @@
-use Rattle.std.proofs.Common.{ℕ, ℤ, ◌≡◌, ◌≤◌, ◌<◌, ◌-ℤ◌, pos, arith, ◌∙◌, w16, to_z, of_z, map, slice_index, slice_index_or}
-use Rattle.std.proofs.lemmas.Simd.{Each1-get_or}
-use Rattle.std.proofs.lemmas.Int.{ints}
-use Rattle.avc_inter.specs.Bounds.{IsSum}
-use Rattle.avc_inter.proofs.Lanes.{get_or-through_narrow_bits, lane_of_row, six_taps_apart}
+use Rattle.avc_inter.proofs.Common.{ℕ, ℤ, ◌≡◌, ◌≤◌, ◌<◌, ◌-ℤ◌, pos, arith, ◌∙◌, w16, to_z, of_z, map, slice_index, slice_index_or}
+use Rattle.avc_inter.proofs.Common.{Each1-get_or, ints, IsSum}
+use Rattle.avc_inter.proofs.Lanes.{get_or-through_bits, lane_of_row, six_taps_apart}
 use Rattle.avc_inter.proofs.rows.sums_of.Goals as goal
 
 is_sum : (s m : ℕ) (z : ℤ) → s ≤ 10710 → m ≤ 2550 → z ≡ pos s -ℤ pos m → IsSum z
@@ -13,7 +11,7 @@ returns c =
     let a = c.args in
     let diff = c.narrow_differences.result in
     let back : (k : ℕ) → k < 16 → slice_index_or (map (to_z w16) (map (of_z w16) diff)) k (pos 0) ≡ pos (slice_index c.sums.result k) -ℤ pos (slice_index c.multiples-2.result k) = λ k h.
-    get_or-through_narrow_bits diff k (c.narrow_differences.ensures.fits k h) ∙ c.narrow_differences.ensures.at k h in
+    get_or-through_bits w16 diff k (c.narrow_differences.ensures.fits k h) ∙ c.narrow_differences.ensures.at k h in
     let outer_small = c.sums-outer.ensures.small 255 255 c.widened.ensures.small c.widened-2.ensures.small in
     let middle_small = c.sums-middle.ensures.small 255 255 c.widened-3.ensures.small c.widened-4.ensures.small in
     let inner_small = c.sums-inner.ensures.small 255 255 c.widened-5.ensures.small c.widened-6.ensures.small in

@@ -1,6 +1,4 @@
-use Rattle.std.proofs.Common.{◌+◌, ◌*◌, ◌/◌, length, arith, ap, slice_index, ◌∙◌}
-use Rattle.avc_plane.proofs.Strided.{strided_rows}
-use Rattle.avc_inter.specs.SixRows.{place_of}
+use Rattle.avc_inter.proofs.Common.{◌+◌, ◌*◌, ◌/◌, length, arith, ap, slice_index, ◌∙◌, strided_rows, place_of}
 use Rattle.avc_inter.proofs.SixRows.{row_begins, row_there, whole_in_row, place_at, sixteen_more, room_more, begins_more}
 use Rattle.avc_inter.proofs.rows.whole_rows.Goals as goal
 

@@ -1,6 +1,4 @@
-use Rattle.std.proofs.Common.{◌∙◌, ap, w16, ℤ, FitsSigned}
-use Rattle.std.proofs.lemmas.Int.{to_z-of_z}
-use Rattle.avc_types.specs.Arithmetic.{◌>>ℤ◌, clip1}
+use Rattle.avc_inter.proofs.Common.{◌∙◌, ap, w16, ℤ, FitsSigned, to_z-of_z, ◌>>ℤ◌, clip1}
 use Rattle.avc_inter.proofs.Shifts.{by_pairs, back_pair}
 use Rattle.avc_inter.proofs.taps.centre.Goals as goal
 

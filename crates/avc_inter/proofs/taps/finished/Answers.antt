@@ -1,5 +1,4 @@
-use Rattle.std.proofs.Common.{◌∙◌, w16}
-use Rattle.std.proofs.lemmas.Int.{to_z-of_z}
+use Rattle.avc_inter.proofs.Common.{◌∙◌, w16, to_z-of_z}
 use Rattle.avc_inter.proofs.Shifts.{near_cast, back, first_is, second_is, third_is}
 use Rattle.avc_inter.proofs.taps.finished.Goals as goal
 

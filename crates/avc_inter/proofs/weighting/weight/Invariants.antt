@@ -1,5 +1,4 @@
-use Rattle.std.proofs.Common.{◌≡◌, ℕ, ◌<◌, length, slice_index}
-use Rattle.avc_inter.specs.Weight.{weighted}
+use Rattle.avc_inter.proofs.Common.{◌≡◌, ℕ, ◌<◌, length, slice_index, weighted}
 use Rattle.avc_inter.proofs.weighting.weight.Given as goal
 
 abbrev pub invariant-loop-k : goal.invariant-loop-k

@@ -1,6 +1,4 @@
-use Rattle.std.proofs.Common.{arith, ap, slice_index, ◌∙◌}
-use Rattle.avc_plane.specs.Plane.{sample, clamped}
-use Rattle.avc_plane.proofs.Strided.{strided_same}
+use Rattle.avc_inter.proofs.Common.{arith, ap, slice_index, ◌∙◌, sample, clamped, strided_same}
 use Rattle.avc_inter.proofs.Predicted.{back_moved, moved_at}
 use Rattle.avc_inter.proofs.whole.lay_held.Goals as goal
 

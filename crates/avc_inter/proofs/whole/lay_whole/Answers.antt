@@ -1,26 +1,17 @@
-use Rattle.std.proofs.Common.{ℕ, List, to_z, of_z, w64, ◌∙◌}
-use Rattle.avc_plane.specs.Plane.{sample, clamped}
-use Rattle.avc_plane.specs.Padded.{IsSurrounded}
-use Rattle.avc_plane.proofs.Strided.{strided_same}
-use Rattle.avc_inter.specs.Patch.{IsThere}
-use Rattle.avc_inter.proofs.Places.{at_some}
+use Rattle.avc_inter.proofs.Common.{◌∙◌, sample, clamped, strided_same}
+use Rattle.avc_inter.proofs.Places.{there_in}
 use Rattle.avc_inter.proofs.Predicted.{back_moved, moved_at}
 use Rattle.avc_inter.proofs.whole.lay_whole.Goals as goal
 
 pub copy_lines-requires-clause-source : goal.copy_lines-requires-clause-source
 copy_lines-requires-clause-source g c =
-    let pad = g.row.PAD in
-    let p = c.args.plane.now in
-    let there = at_some _ (λ at. (rows : List ℕ) → IsSurrounded pad p rows → IsThere (clamped p.width p.height (sample p)) (to_z w64 (of_z w64 c.args.left)) (to_z w64 (of_z w64 c.args.top)) g.row.W g.row.H at.first at.stride rows)
-    c.in-Some.at c.in-Some.is c.find_within.ensures c.padded_rows.result.now c.padded_rows.ensures in
+    let there = there_in c.find_within.result c.in-Some.at c.in-Some.is c.find_within.ensures c.padded_rows.result.now c.padded_rows.ensures in
     there.row
 
 pub returns-in-Some : goal.returns-in-Some
 returns-in-Some g c =
-    let pad = g.row.PAD in
     let p = c.args.plane.now in
-    let there = at_some _ (λ at. (rows : List ℕ) → IsSurrounded pad p rows → IsThere (clamped p.width p.height (sample p)) (to_z w64 (of_z w64 c.args.left)) (to_z w64 (of_z w64 c.args.top)) g.row.W g.row.H at.first at.stride rows)
-    c.in-Some.at c.in-Some.is c.find_within.ensures c.padded_rows.result.now c.padded_rows.ensures in
+    let there = there_in c.find_within.result c.in-Some.at c.in-Some.is c.find_within.ensures c.padded_rows.result.now c.padded_rows.ensures in
     strided_same g.row.W g.row.H c.args.to.first c.args.to.stride _ _ c.args.out.now c.copy_lines.new.out c.copy_lines.ensures
     (λ i j column row. there.at i j column row ∙ moved_at (clamped p.width p.height (sample p)) c.args.left _ c.args.top _ i j (back_moved c.args.left c.requires.left) (back_moved c.args.top c.requires.top))
 

@@ -1,6 +1,4 @@
-use Rattle.std.proofs.Common.{◌∙◌}
-use Rattle.avc_plane.proofs.Lending.{room_lent, block_lent}
-use Rattle.avc_plane.proofs.Strided.{strided_same}
+use Rattle.avc_inter.proofs.Common.{◌∙◌, room_lent, block_lent, strided_same}
 use Rattle.avc_inter.proofs.Places.{room_inside, sample_inside}
 use Rattle.avc_inter.proofs.whole.predict_in_place.Goals as goal
 

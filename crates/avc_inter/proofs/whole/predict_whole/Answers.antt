@@ -1,9 +1,5 @@
-use Rattle.std.proofs.Common.{ℤ, arith, subst, sym, ◌∙◌}
-use Rattle.avc_plane.proofs.Lending.{room_lent, block_lent}
-use Rattle.avc_plane.proofs.Strided.{strided_same}
-use Rattle.avc_plane.specs.Plane.{sample, clamped}
-use Rattle.avc_inter.specs.Bounds.{IsMoved}
-use Rattle.avc_inter.proofs.Predicted.{back_moved, moved_at}
+use Rattle.avc_inter.proofs.Common.{arith, ◌∙◌, room_lent, block_lent, strided_same, sample, clamped}
+use Rattle.avc_inter.proofs.Predicted.{back_moved, moved_at, still_moved}
 use Rattle.avc_inter.proofs.whole.predict_whole.Goals as goal
 
 pub lay_whole-requires : goal.lay_whole-requires
@@ -13,9 +9,7 @@ lay_whole-requires g c =
     let room =
     room_lent g.row.PAD a.plane.now a.x a.y g.row.W g.row.H c.padded_place-to.result.first c.padded_place-to.result.stride c.padded_rows_mut-rows.result.now c.padded_rows_mut-rows.ensures.rows
     r.columns.2 r.rows.2 c.padded_place-to.ensures.first c.padded_place-to.ensures.stride in
-    let left = subst (λ (z : ℤ). IsMoved z) (sym (back_moved a.left r.left)) r.left in
-    let top = subst (λ (z : ℤ). IsMoved z) (sym (back_moved a.top r.top)) r.top in
-    (omega arith, (r.columns.1, (r.rows.1, (left, (top, (omega (arith, r.columns.2, c.padded_place-to.ensures.stride), room))))))
+    (omega arith, (r.columns.1, (r.rows.1, (still_moved a.left r.left, (still_moved a.top r.top, (omega (arith, r.columns.2, c.padded_place-to.ensures.stride), room))))))
 
 pub returns : goal.returns
 returns g c f same =

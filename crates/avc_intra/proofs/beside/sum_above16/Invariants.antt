@@ -1,5 +1,4 @@
-use Rattle.std.proofs.Common.{◌≡◌, ◌+◌, ◌-◌, ◌*◌, ◌≤◌, slice_index}
-use Rattle.avc_types.specs.Arithmetic.{sum_below}
+use Rattle.avc_intra.proofs.Common.{◌≡◌, ◌+◌, ◌-◌, ◌*◌, ◌≤◌, slice_index, sum_below}
 use Rattle.avc_intra.proofs.beside.sum_above16.Given as goal
 
 abbrev pub invariant-loop-x : goal.invariant-loop-x

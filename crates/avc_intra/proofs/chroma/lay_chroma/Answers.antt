@@ -1,7 +1,5 @@
-use Rattle.std.proofs.Common.{◌/◌, refl}
-use Rattle.avc_plane.proofs.Strided.{strided_same}
+use Rattle.avc_intra.proofs.Common.{◌/◌, refl, strided_same, predict_chroma, predict_dc_chroma, predict_plane_chroma}
 use Rattle.avc_intra.specs.declared.chroma.ModeChroma.TheVariants.{Dc, Plane}
-use Rattle.avc_intra.specs.Chroma.{predict_chroma, predict_dc_chroma, predict_plane_chroma}
 use Rattle.avc_intra.proofs.chroma.lay_chroma.Goals as goal
 
 pub returns-in-Dc-clause-samples : goal.returns-in-Dc-clause-samples

@@ -1,5 +1,4 @@
-use Rattle.std.proofs.Common.{pos, refl}
-use Rattle.avc_intra.specs.Neighbourhood.{left_of}
+use Rattle.avc_intra.proofs.Common.{pos, refl, left_of}
 use Rattle.avc_intra.proofs.MeanLaws.{mean_of_two-same, mean_of_three-same}
 use Rattle.avc_intra.proofs.directional.horizontal_up.Goals as goal
 

@@ -1,6 +1,4 @@
-use Rattle.std.proofs.Common.{◌+◌, slice_index, arith}
-use Rattle.std.proofs.lemmas.List.FromFn.{fill_by_all}
-use Rattle.avc_types.specs.Arithmetic.{mean_of_three}
+use Rattle.avc_intra.proofs.Common.{◌+◌, slice_index, arith, fill_by_all, mean_of_three}
 use Rattle.avc_intra.proofs.directional.triples.Goals as goal
 
 pub returns : goal.returns

@@ -1,6 +1,4 @@
-use Rattle.std.proofs.Common.{◌+◌, ◌-◌, ◌*◌, arith, slice_index, ◌∙◌}
-use Rattle.avc_plane.proofs.Strided.{strided_line, strided_rows}
-use Rattle.std.proofs.lemmas.List.{get_or-replicate}
+use Rattle.avc_intra.proofs.Common.{◌+◌, ◌-◌, ◌*◌, arith, slice_index, ◌∙◌, strided_line, strided_rows, get_or-replicate}
 use Rattle.avc_intra.proofs.Columns.{left_kept}
 use Rattle.avc_intra.proofs.lines.lay_same_columns.Goals as goal
 

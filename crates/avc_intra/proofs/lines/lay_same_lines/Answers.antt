@@ -1,5 +1,4 @@
-use Rattle.std.proofs.Common.{arith, slice_index}
-use Rattle.avc_plane.proofs.Strided.{strided_line, strided_rows}
+use Rattle.avc_intra.proofs.Common.{arith, slice_index, strided_line, strided_rows}
 use Rattle.avc_intra.proofs.lines.lay_same_lines.Goals as goal
 
 pub loop-y-preserved : goal.loop-y-preserved

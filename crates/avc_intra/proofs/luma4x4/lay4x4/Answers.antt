@@ -1,11 +1,7 @@
-use Rattle.std.proofs.Common.{◌≡◌, ◌+◌, ◌-◌, ◌*◌, ◌/◌, true, arith, slice_index, sym, ◌∙◌}
-use Rattle.std.specs.Prelude.{replicate}
-use Rattle.std.proofs.lemmas.List.{get_or-replicate}
-use Rattle.avc_plane.proofs.Strided.{strided_same}
+use Rattle.avc_intra.proofs.Common.{◌≡◌, ◌+◌, ◌-◌, ◌*◌, ◌/◌, true, arith, slice_index, sym, ◌∙◌, replicate, get_or-replicate, strided_same}
+use Rattle.avc_intra.proofs.Common.{sum_above, sum_left, extended, predict4x4}
 use Rattle.avc_intra.proofs.SeenSums.{above4, left4, mean_of_sides, near}
 use Rattle.avc_intra.specs.declared.luma4x4.Mode4x4.TheVariants.{Vertical, Horizontal, Dc, DiagonalDownLeft, DiagonalDownRight, VerticalRight, HorizontalDown, VerticalLeft, HorizontalUp}
-use Rattle.avc_intra.specs.Chroma.{sum_above, sum_left}
-use Rattle.avc_intra.specs.Luma4x4.{extended, predict4x4}
 use Rattle.avc_intra.proofs.Places.{laid4x4}
 use Rattle.avc_intra.proofs.luma4x4.lay4x4.Goals as goal
 

@@ -1,8 +1,5 @@
-use Rattle.std.proofs.Common.{◌≡◌, ℕ, ℤ, ◌-◌, ◌*◌, ◌/◌, ◌<◌, ◌≤◌, ◌+ℤ◌, ◌-ℤ◌, ◌*ℤ◌, pos, slice_index, to_z, of_z, w32, arith, ap, ◌∙◌}
-use Rattle.std.proofs.lemmas.Int.{ints}
-use Rattle.avc_types.specs.Arithmetic.{◌>>ℤ◌, clip1}
-use Rattle.avc_plane.proofs.Strided.{strided_line, strided_rows, strided_same}
-use Rattle.avc_intra.specs.Slopes.{plane_sample}
+use Rattle.avc_intra.proofs.Common.{◌≡◌, ℕ, ℤ, ◌-◌, ◌*◌, ◌/◌, ◌<◌, ◌≤◌, ◌+ℤ◌, ◌-ℤ◌, ◌*ℤ◌, pos, slice_index, to_z, of_z, w32, arith, ap, ◌∙◌}
+use Rattle.avc_intra.proofs.Common.{ints, ◌>>ℤ◌, clip1, strided_line, strided_rows, strided_same, plane_sample}
 use Rattle.avc_intra.proofs.PlaneLaws.{same_plane}
 use Rattle.avc_intra.proofs.plane.lay_plane.Goals as goal
 

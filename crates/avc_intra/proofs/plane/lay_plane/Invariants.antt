@@ -1,6 +1,4 @@
-use Rattle.std.proofs.Common.{◌-◌, ◌/◌}
-use Rattle.avc_plane.specs.Strided.{IsStridedSet}
-use Rattle.avc_intra.specs.Slopes.{plane_sample}
+use Rattle.avc_intra.proofs.Common.{◌-◌, ◌/◌, IsStridedSet, plane_sample}
 use Rattle.avc_intra.proofs.plane.lay_plane.Given as goal
 
 abbrev pub invariant-loop-y : goal.invariant-loop-y

@@ -1,6 +1,4 @@
-use Rattle.std.proofs.Common.{◌≡◌, ◌*ℤ◌, ◌-ℤ◌, pos, to_z, of_z, w32, arith}
-use Rattle.std.proofs.lemmas.Int.{ints}
-use Rattle.avc_intra.specs.Slopes.{IsWithin}
+use Rattle.avc_intra.proofs.Common.{◌≡◌, ◌*ℤ◌, ◌-ℤ◌, pos, to_z, of_z, w32, arith, ints, IsWithin}
 use Rattle.avc_intra.proofs.Products.{IsWithin-mul}
 use Rattle.avc_intra.proofs.plane.rise.Goals as goal
 

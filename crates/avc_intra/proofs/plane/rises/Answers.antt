@@ -1,6 +1,4 @@
-use Rattle.std.proofs.Common.{◌≡◌, arith, rules, pos, ◌-◌, ◌/◌, ◌-ℤ◌, ◌*ℤ◌, to_z, of_z, w32, ◌∙◌}
-use Rattle.std.proofs.lemmas.Int.{ints}
-use Rattle.avc_intra.specs.Slopes.{IsWithin}
+use Rattle.avc_intra.proofs.Common.{◌≡◌, arith, rules, pos, ◌-◌, ◌/◌, ◌-ℤ◌, ◌*ℤ◌, to_z, of_z, w32, ◌∙◌, ints, IsWithin}
 use Rattle.avc_intra.proofs.Stored.{stored}
 use Rattle.avc_intra.proofs.plane.rises.Goals as goal
 

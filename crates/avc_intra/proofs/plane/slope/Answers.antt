@@ -1,6 +1,4 @@
-use Rattle.std.proofs.Common.{◌≡◌, ◌+◌, ◌/◌, ◌+ℤ◌, ◌-ℤ◌, ◌*ℤ◌, ℕ, ℤ, pos, to_z, of_z, w32, arith, ap, ◌∙◌}
-use Rattle.std.proofs.lemmas.Int.{ints}
-use Rattle.avc_intra.specs.Slopes.{side_of}
+use Rattle.avc_intra.proofs.Common.{◌≡◌, ◌+◌, ◌/◌, ◌+ℤ◌, ◌-ℤ◌, ◌*ℤ◌, ℕ, ℤ, pos, to_z, of_z, w32, arith, ap, ◌∙◌, ints, side_of}
 use Rattle.avc_intra.proofs.Sums.{sum_below_ℤ_more}
 use Rattle.avc_intra.proofs.plane.slope.Goals as goal
 

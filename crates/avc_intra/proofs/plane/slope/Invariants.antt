@@ -1,6 +1,4 @@
-use Rattle.std.proofs.Common.{◌≡◌, ◌+◌, ◌*◌, ◌*ℤ◌, ◌-ℤ◌, pos}
-use Rattle.avc_types.specs.Arithmetic.{sum_below_ℤ}
-use Rattle.avc_intra.specs.Slopes.{IsWithin, side_of}
+use Rattle.avc_intra.proofs.Common.{◌≡◌, ◌+◌, ◌*◌, ◌*ℤ◌, ◌-ℤ◌, pos, sum_below_ℤ, IsWithin, side_of}
 use Rattle.avc_intra.proofs.plane.slope.Given as goal
 
 abbrev pub invariant-loop-i : goal.invariant-loop-i

@@ -1,5 +1,4 @@
-use Rattle.std.proofs.Common.{◌<◌, ◌∙◌, arith, length, length-set}
-use Rattle.avc_mbsyntax.specs.Reading.{no_levels}
+use Rattle.avc_mbsyntax.proofs.Common.{◌<◌, ◌∙◌, arith, length, length-set, no_levels}
 use Rattle.avc_mbsyntax.proofs.BlockSteps.{cleared_more}
 use Rattle.avc_mbsyntax.proofs.blocks.clear.Goals as goal
 

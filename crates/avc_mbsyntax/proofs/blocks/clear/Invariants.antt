@@ -1,6 +1,4 @@
-use Rattle.std.proofs.Common.{◌≡◌, length, take}
-use Rattle.std.specs.Prelude.{replicate}
-use Rattle.avc_mbsyntax.specs.Reading.{no_levels}
+use Rattle.avc_mbsyntax.proofs.Common.{◌≡◌, length, take, replicate, no_levels}
 use Rattle.avc_mbsyntax.proofs.blocks.clear.Given as goal
 
 abbrev pub invariant-each : goal.invariant-each

@@ -1,12 +1,5 @@
-use Rattle.std.proofs.Common.{◌≡◌, ◌∙◌, true, Ok, arith, rules, ap, refl, subst, sym}
-use Rattle.std.specs.Prelude.{◌==◌}
-use Rattle.std.specs.List.{All}
-use Rattle.std.specs.Option.{option_copied}
-use Rattle.std.proofs.lemmas.List.Elements.{All-replicate}
-use Rattle.avc_bits.specs.Reader.{reader_bits}
-use Rattle.avc_cavlc.proofs.Placing.{small_none}
-use Rattle.avc_mbsyntax.specs.Ranges.{AreSmall}
-use Rattle.avc_mbsyntax.specs.Reading.{no_levels}
+use Rattle.avc_mbsyntax.proofs.Common.{◌≡◌, ◌∙◌, true, Ok, arith, rules, ap, refl, subst, sym, ◌==◌, All, option_copied, All-replicate}
+use Rattle.avc_mbsyntax.proofs.Common.{reader_bits, small_none, AreSmall, no_levels}
 use Rattle.avc_mbsyntax.proofs.BlockSteps.{all_read, block_fault, block_read, no_chroma, none_read}
 use Rattle.avc_mbsyntax.proofs.blocks.read_chroma_blocks.Goals as goal
 

@@ -1,7 +1,4 @@
-use Rattle.std.proofs.Common.{◌≡◌, pos, min, true, arith, to_z, w8}
-use Rattle.std.proofs.lemmas.Int.{ints}
-use Rattle.avc_cavlc.specs.Block.{residual_block}
-use Rattle.avc_mbsyntax.specs.Reading.{block_where}
+use Rattle.avc_mbsyntax.proofs.Common.{◌≡◌, pos, min, true, arith, to_z, w8, ints, residual_block, block_where}
 use Rattle.avc_mbsyntax.proofs.Same.{capped_read, reads_same}
 use Rattle.avc_mbsyntax.proofs.blocks.read_coded.Goals as goal
 

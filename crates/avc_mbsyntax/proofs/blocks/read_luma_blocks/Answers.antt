@@ -1,11 +1,5 @@
-use Rattle.std.proofs.Common.{◌≡◌, ◌∙◌, true, false, Ok, arith, rules, ap, refl, subst, sym}
-use Rattle.std.specs.List.{All}
-use Rattle.std.specs.Option.{option_copied}
-use Rattle.std.proofs.lemmas.List.Elements.{All-replicate}
-use Rattle.avc_bits.specs.Reader.{reader_bits}
-use Rattle.avc_cavlc.proofs.Placing.{small_none}
-use Rattle.avc_mbsyntax.specs.Ranges.{AreSmall}
-use Rattle.avc_mbsyntax.specs.Reading.{is_coded, no_levels}
+use Rattle.avc_mbsyntax.proofs.Common.{◌≡◌, ◌∙◌, true, false, Ok, arith, rules, ap, refl, subst, sym, All, option_copied, All-replicate}
+use Rattle.avc_mbsyntax.proofs.Common.{reader_bits, small_none, AreSmall, is_coded, no_levels}
 use Rattle.avc_mbsyntax.proofs.BlockSteps.{all_read, block_fault, block_passed, block_read, no_luma, none_read}
 use Rattle.avc_mbsyntax.proofs.blocks.read_luma_blocks.Goals as goal
 

@@ -1,7 +1,4 @@
-use Rattle.std.proofs.Common.{◌≡◌}
-use Rattle.std.specs.Option.{option_copied}
-use Rattle.avc_bits.specs.Reader.{reader_bits, reader_bytes}
-use Rattle.avc_mbsyntax.specs.Reading.{is_coded}
+use Rattle.avc_mbsyntax.proofs.Common.{◌≡◌, option_copied, reader_bits, reader_bytes, is_coded}
 use Rattle.avc_mbsyntax.proofs.BlockSteps.{AreRead}
 use Rattle.avc_mbsyntax.proofs.blocks.read_luma_blocks.Given as goal
 

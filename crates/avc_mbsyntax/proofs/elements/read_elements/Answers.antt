@@ -1,7 +1,5 @@
-use Rattle.std.proofs.Common.{◌≡◌, ◌<◌, Err, arith, rules, ◌∙◌, length, take, length-set}
+use Rattle.avc_mbsyntax.proofs.Common.{◌≡◌, ◌<◌, Err, arith, rules, ◌∙◌, length, take, length-set, times, reader_bits}
 use Rattle.std.proofs.lemmas.List.{take_more_set}
-use Rattle.avc_bits.specs.Bits.{times}
-use Rattle.avc_bits.specs.Reader.{reader_bits}
 use Rattle.avc_bits.proofs.Repeating.{times_more, times_fault}
 use Rattle.avc_mbsyntax.proofs.elements.read_elements.Goals as goal
 

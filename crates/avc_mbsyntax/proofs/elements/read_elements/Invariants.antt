@@ -1,7 +1,4 @@
-use Rattle.std.proofs.Common.{◌≡◌, length, take}
-use Rattle.std.specs.Prelude.{Ok}
-use Rattle.avc_bits.specs.Bits.{times}
-use Rattle.avc_bits.specs.Reader.{reader_bits, reader_bytes}
+use Rattle.avc_mbsyntax.proofs.Common.{◌≡◌, length, take, Ok, times, reader_bits, reader_bytes}
 use Rattle.avc_mbsyntax.proofs.elements.read_elements.Given as goal
 
 abbrev pub invariant-elements : goal.invariant-elements

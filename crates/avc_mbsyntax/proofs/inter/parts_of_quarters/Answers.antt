@@ -1,5 +1,4 @@
-use Rattle.std.proofs.Common.{◌≡◌, length, rules}
-use Rattle.avc_types.specs.declared.macroblock.SubMbType.TheVariants.{Sub8x8}
+use Rattle.avc_mbsyntax.proofs.Common.{◌≡◌, length, rules, Sub8x8}
 use Rattle.avc_mbsyntax.proofs.Parts.{four_quarters}
 use Rattle.avc_mbsyntax.proofs.inter.parts_of_quarters.Goals as goal
 

@@ -1,10 +1,5 @@
-use Rattle.std.proofs.Common.{◌≤◌, ◌-◌, ◌∙◌, sym, take}
-use Rattle.avc_types.specs.Macroblock.{partitions}
-use Rattle.avc_bits.specs.Bits.{times}
-use Rattle.avc_bits.specs.Codes.{te_to}
-use Rattle.avc_mbsyntax.specs.Reading.{ref_idx_l0}
-use Rattle.std.specs.List.{All}
-use Rattle.avc_mbsyntax.proofs.Giving.{gives_all, gives_te_to, if_gives_into}
+use Rattle.avc_mbsyntax.proofs.Common.{◌≤◌, ◌-◌, ◌∙◌, sym, take, partitions, times, te_to, ref_idx_l0, All, gives-each}
+use Rattle.avc_mbsyntax.proofs.Giving.{gives_te_to, if_gives_into}
 use Rattle.avc_mbsyntax.proofs.RefIdx.{ref_idx_coded}
 use Rattle.avc_mbsyntax.proofs.Same.{reads_into_same}
 use Rattle.avc_mbsyntax.proofs.inter.read_ref_idx.Goals as goal
@@ -20,4 +15,4 @@ returns-clause-range c =
     let most = c.args.active_count - 1 in
     let count = partitions c.args.mb_type.now in
     let read = rw (c.partitions.ensures.value, c.from-most.ensures) at c.read_elements.ensures.read in
-    if_gives_into (All (λ ref. ref ≤ most)) c.read_elements.result (take count c.read_elements.new.elements) (times count (te_to most)) c.args.reader.now c.read_elements.new.reader read (gives_all (λ ref. ref ≤ most) count (te_to most) (gives_te_to most))
+    if_gives_into (All (λ ref. ref ≤ most)) c.read_elements.result (take count c.read_elements.new.elements) (times count (te_to most)) c.args.reader.now c.read_elements.new.reader read (gives-each (λ ref. ref ≤ most) count (te_to most) (gives_te_to most))

@@ -1,9 +1,5 @@
-use Rattle.std.proofs.Common.{◌≡◌, ◌%◌, ◌∙◌, ap, Err, arith, rules, to_z, of_z, w8, sym}
-use Rattle.std.proofs.lemmas.Int.{ints}
-use Rattle.avc_types.specs.MacroblockFields.{residual_of}
-use Rattle.avc_bits.specs.Reader.{reader_bits}
-use Rattle.avc_mbsyntax.specs.Steps.{context_of}
-use Rattle.avc_mbsyntax.specs.Reading.{i_16x16_mb, qp_after}
+use Rattle.avc_mbsyntax.proofs.Common.{◌≡◌, ◌%◌, ◌∙◌, ap, Err, arith, rules, to_z, of_z, w8, sym, ints, residual_of, reader_bits}
+use Rattle.avc_mbsyntax.proofs.Common.{context_of, i_16x16_mb, qp_after}
 use Rattle.avc_mbsyntax.proofs.AfterPatterns.{i_16x16_fault, i_16x16_read}
 use Rattle.avc_mbsyntax.proofs.intra.read_i_16x16.Goals as goal
 

@@ -1,6 +1,4 @@
-use Rattle.std.proofs.Common.{◌-◌, arith}
-use Rattle.avc_mbsyntax.specs.Reading.{i_16x16_mb, i_mb}
-use Rattle.avc_mbsyntax.specs.Steps.{context_of}
+use Rattle.avc_mbsyntax.proofs.Common.{◌-◌, arith, i_16x16_mb, i_mb, context_of}
 use Rattle.avc_mbsyntax.proofs.Same.{i_mb_16x16, reads_into_same}
 use Rattle.avc_mbsyntax.proofs.intra.read_i_mb.Goals as goal
 

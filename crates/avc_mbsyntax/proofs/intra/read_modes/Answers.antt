@@ -1,9 +1,6 @@
-use Rattle.std.proofs.Common.{refl}
-use Rattle.std.specs.List.{All}
-use Rattle.avc_bits.specs.Bits.{times}
-use Rattle.avc_mbsyntax.specs.Reading.{block_mode}
-use Rattle.avc_mbsyntax.proofs.Giving.{IsRem, gives_all, gives_block_mode, if_gives_into}
+use Rattle.avc_mbsyntax.proofs.Common.{refl, All, times, block_mode, gives-each}
+use Rattle.avc_mbsyntax.proofs.Giving.{IsRem, gives_block_mode, if_gives_into}
 use Rattle.avc_mbsyntax.proofs.intra.read_modes.Goals as goal
 
 pub returns-clause-range : goal.returns-clause-range
-returns-clause-range c = if_gives_into (All IsRem) c.read_elements.result c.read_elements.new.elements (times 16 block_mode) c.args.reader.now c.read_elements.new.reader (c.read_elements.ensures.whole refl) (gives_all IsRem 16 block_mode gives_block_mode)
+returns-clause-range c = if_gives_into (All IsRem) c.read_elements.result c.read_elements.new.elements (times 16 block_mode) c.args.reader.now c.read_elements.new.reader (c.read_elements.ensures.whole refl) (gives-each IsRem 16 block_mode gives_block_mode)

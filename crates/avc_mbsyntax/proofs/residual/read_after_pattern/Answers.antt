@@ -1,9 +1,5 @@
-use Rattle.std.proofs.Common.{◌≡◌, ◌∙◌, [], Err, refl, arith, rules, to_z, of_z, w8}
-use Rattle.std.proofs.lemmas.Int.{ints}
-use Rattle.avc_bits.specs.Reader.{reader_bits}
-use Rattle.avc_cavlc.proofs.Placing.{small_none}
-use Rattle.avc_mbsyntax.specs.Steps.{context_of}
-use Rattle.avc_mbsyntax.specs.Reading.{after_pattern}
+use Rattle.avc_mbsyntax.proofs.Common.{◌≡◌, ◌∙◌, [], Err, refl, arith, rules, to_z, of_z, w8, ints, reader_bits, small_none, context_of}
+use Rattle.avc_mbsyntax.proofs.Common.{after_pattern}
 use Rattle.avc_mbsyntax.proofs.AfterPatterns.{after_delta, nothing_after, nothing_in_range}
 use Rattle.avc_mbsyntax.proofs.residual.read_after_pattern.Goals as goal
 

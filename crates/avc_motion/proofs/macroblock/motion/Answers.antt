@@ -1,11 +1,7 @@
-use Rattle.std.specs.Prelude.{Ok, take}
-use Rattle.std.proofs.Common.{◌≡◌, ◌∙◌, sym, ap, rules, [], length, subst, List}
-use Rattle.avc_types.specs.Macroblock.{MbSyntax, p_skip, p_inter, parts_of, partitions}
+use Rattle.avc_motion.proofs.Common.{Ok, take, ◌≡◌, ◌∙◌, sym, ap, rules, [], length, subst, MbSyntax, p_skip, p_inter, parts_of}
+use Rattle.avc_motion.proofs.Common.{partitions, facts_of, motion_near, motion_of, motion_or_fault, near_in}
 use Rattle.avc_types.specs.MacroblockFields.{syntax_of, residual_of}
 use Rattle.avc_types.specs.References.{result_map}
-use Rattle.avc_neigh.specs.Around.{facts_of}
-use Rattle.avc_neigh.specs.BlockNear.{motion_near}
-use Rattle.avc_motion.specs.Motion.{motion_of, motion_or_fault, near_in}
 use Rattle.avc_motion.proofs.Whole.{skipped_is, inter_is}
 use Rattle.avc_motion.proofs.macroblock.motion.Goals as goal
 

@@ -1,5 +1,4 @@
-use Rattle.avc_neigh.specs.Around.{facts_of}
-use Rattle.avc_neigh.specs.BlockNear.{motion_near}
+use Rattle.avc_motion.proofs.Common.{facts_of, motion_near}
 use Rattle.avc_motion.proofs.Alike.{decoded_alike}
 use Rattle.avc_motion.proofs.macroblock.set_inter.Goals as goal
 

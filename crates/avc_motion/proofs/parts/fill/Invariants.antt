@@ -1,6 +1,4 @@
-use Rattle.std.proofs.Common.{◌≡◌, ◌≤◌, ◌<◌, ◌*◌, ℕ, length, slice_index_or}
-use Rattle.avc_neigh.specs.declared.facts.Motion.TheVariants.{Absent as absent}
-use Rattle.avc_motion.specs.Motion.{with_part}
+use Rattle.avc_motion.proofs.Common.{◌≡◌, ◌≤◌, ◌<◌, ◌*◌, ℕ, length, slice_index_or, absent, with_part}
 use Rattle.avc_motion.proofs.parts.fill.Given as goal
 
 abbrev pub invariant-loop-quarter : goal.invariant-loop-quarter

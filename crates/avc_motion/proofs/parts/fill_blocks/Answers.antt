@@ -1,8 +1,5 @@
-use Rattle.std.specs.Prelude.{if◌then◌else◌}
-use Rattle.std.proofs.Common.{◌≡◌, ◌*◌, ◌∙◌, ap, arith, rules, slice_index_or, length-set}
-use Rattle.std.proofs.lemmas.List.{get_or-set_other}
-use Rattle.avc_neigh.specs.declared.facts.Motion.TheVariants.{Absent as absent}
-use Rattle.avc_motion.specs.Motion.{is_in_part}
+use Rattle.avc_motion.proofs.Common.{if◌then◌else◌, ◌≡◌, ◌*◌, ◌∙◌, ap, arith, rules, slice_index_or, length-set, get_or-set_other, absent}
+use Rattle.avc_motion.proofs.Common.{is_in_part}
 use Rattle.avc_motion.proofs.Filling.{set_more}
 use Rattle.avc_motion.proofs.parts.fill_blocks.Goals as goal
 

@@ -1,7 +1,4 @@
-use Rattle.std.proofs.Common.{◌≡◌, ◌≤◌, ◌<◌, ◌*◌, ℕ, length, slice_index_or}
-use Rattle.std.specs.Prelude.{if◌then◌else◌}
-use Rattle.avc_neigh.specs.declared.facts.Motion.TheVariants.{Absent as absent}
-use Rattle.avc_motion.specs.Motion.{is_in_part}
+use Rattle.avc_motion.proofs.Common.{◌≡◌, ◌≤◌, ◌<◌, ◌*◌, ℕ, length, slice_index_or, if◌then◌else◌, absent, is_in_part}
 use Rattle.avc_motion.proofs.parts.fill_blocks.Given as goal
 
 abbrev pub invariant-loop-k : goal.invariant-loop-k

@@ -1,6 +1,4 @@
-use Rattle.std.proofs.Common.{◌*◌, ◌∙◌, arith, refl, length-set}
-use Rattle.std.proofs.lemmas.List.{get_or-set_other}
-use Rattle.avc_neigh.specs.declared.facts.Motion.TheVariants.{Absent as absent}
+use Rattle.avc_motion.proofs.Common.{◌*◌, ◌∙◌, arith, refl, length-set, get_or-set_other, absent}
 use Rattle.avc_motion.proofs.Filling.{set_more}
 use Rattle.avc_motion.proofs.parts.fill_whole.Goals as goal
 

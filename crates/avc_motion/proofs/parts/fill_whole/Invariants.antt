@@ -1,5 +1,4 @@
-use Rattle.std.proofs.Common.{◌≡◌, ◌≤◌, ◌<◌, ◌*◌, ℕ, length, slice_index_or}
-use Rattle.avc_neigh.specs.declared.facts.Motion.TheVariants.{Absent as absent}
+use Rattle.avc_motion.proofs.Common.{◌≡◌, ◌≤◌, ◌<◌, ◌*◌, ℕ, length, slice_index_or, absent}
 use Rattle.avc_motion.proofs.parts.fill_whole.Given as goal
 
 abbrev pub invariant-loop-k : goal.invariant-loop-k

@@ -1,5 +1,4 @@
-use Rattle.std.proofs.Common.{rules}
-use Rattle.avc_types.specs.declared.vector.Mv.{Mv}
+use Rattle.avc_motion.proofs.Common.{rules}
 use Rattle.avc_motion.proofs.Components.{median_back}
 use Rattle.avc_motion.proofs.prediction.median_vector.Goals as goal
 

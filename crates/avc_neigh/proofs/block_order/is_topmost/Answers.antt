@@ -1,8 +1,6 @@
-use Rattle.std.proofs.Common.{◌≡◌, ◌==◌, nat_eq, bit_and, refl}
-use Rattle.avc_neigh.specs.Blocks.{block_y}
-use Rattle.avc_neigh.proofs.Sixteen.{each_of_sixteen}
+use Rattle.avc_neigh.proofs.Common.{◌==◌, nat_eq, bit_and, refl, block_y}
+use Rattle.std.proofs.lemmas.Bool.{agree_below_at}
 use Rattle.avc_neigh.proofs.block_order.is_topmost.Goals as goal
 
 pub returns : goal.returns
-returns c =
-    each_of_sixteen (λ k. nat_eq (bit_and k 10) 0 ≡ (block_y k == 0)) refl refl refl refl refl refl refl refl refl refl refl refl refl refl refl refl c.args.k c.requires
+returns c = agree_below_at (λ k. nat_eq (bit_and k 10) 0) (λ k. block_y k == 0) 16 c.args.k refl c.requires

@@ -1,8 +1,5 @@
-use Rattle.std.proofs.Common.{◌≡◌, ◌<◌, ◌∙◌, [], Option, None, get_or, length, take, refl, sym, ap, arith, length-set, ℕ}
-use Rattle.std.proofs.lemmas.List.{get_or_default}
-use Rattle.avc_neigh.specs.Around.{facts_of}
-use Rattle.avc_neigh.specs.Modes.{chosen_mode}
-use Rattle.avc_neigh.specs.declared.facts.NearMode.TheVariants.{Absent as absent}
+use Rattle.avc_neigh.proofs.Common.{◌≡◌, ◌<◌, ◌∙◌, [], Option, None, get_or, length, take, refl, sym, ap, arith, length-set, ℕ}
+use Rattle.avc_neigh.proofs.Common.{get_or_default, facts_of, chosen_mode, absent}
 use Rattle.avc_neigh.proofs.NearModes.{modes_end, modes_more, modes_near, modes_step, prediction_near, same_modes, small_mode}
 use Rattle.avc_neigh.proofs.modes.intra4x4_modes.Goals as goal
 

@@ -1,10 +1,4 @@
-use Rattle.std.proofs.Common.{◌≡◌, ℕ, ◌<◌, [], length, take, drop}
-use Rattle.std.specs.List.{slice_index_or}
-use Rattle.std.specs.Option.{option_copied}
-use Rattle.avc_neigh.specs.Around.{facts_of}
-use Rattle.avc_neigh.specs.BlockNear.{HasModes}
-use Rattle.avc_neigh.specs.Modes.{IsMode}
-use Rattle.avc_neigh.specs.declared.facts.NearMode.TheVariants.{Absent as absent}
+use Rattle.avc_neigh.proofs.Common.{◌≡◌, ℕ, ◌<◌, [], length, take, drop, slice_index_or, option_copied, facts_of, HasModes, IsMode, absent}
 use Rattle.avc_neigh.proofs.NearModes.{modes_near}
 use Rattle.avc_neigh.proofs.modes.intra4x4_modes.Given as goal
 

@@ -1,7 +1,5 @@
 use Rattle.std.proofs.lemmas.Grind.{common_steps}
-use Rattle.std.proofs.Common.{rules, arith, ◌≡◌, Err, ◌∙◌, ap}
-use Rattle.avc_bits.specs.Bits.{times}
-use Rattle.avc_bits.specs.Reader.{reader_bits}
+use Rattle.avc_params.proofs.Common.{rules, arith, ◌≡◌, Err, ◌∙◌, ap, times, reader_bits}
 use Rattle.avc_bits.proofs.Repeating.{times_more, times_fault}
 use Rattle.avc_params.proofs.syntax.read_times.Goals as goal
 

@@ -1,6 +1,4 @@
-use Rattle.std.proofs.Common.{◌≡◌, ◌≤◌, length, Ok}
-use Rattle.avc_bits.specs.Bits.{times}
-use Rattle.avc_bits.specs.Reader.{reader_bits, reader_bytes}
+use Rattle.avc_params.proofs.Common.{◌≡◌, ◌≤◌, length, Ok, times, reader_bits, reader_bytes}
 use Rattle.avc_params.proofs.syntax.read_times.Given as goal
 
 abbrev pub invariant-loop : goal.invariant-loop

@@ -1,7 +1,5 @@
-use Rattle.std.proofs.Common.{◌≡◌, ℕ, ◌+◌, ◌-◌, ◌*◌, ◌<◌, slice_index, arith, ap, ◌∙◌, inl, inr}
-use Rattle.std.proofs.lemmas.Nat.{row_fits, mul-le}
-use Rattle.std.proofs.lemmas.Bool.{cases_lt}
-use borrow.Author.Count.{below_more}
+use Rattle.avc_plane.proofs.Common.{◌≡◌, ℕ, ◌+◌, ◌-◌, ◌*◌, ◌<◌, slice_index, arith, ap, ◌∙◌, inl, inr, row_fits, mul-le, cases_lt}
+use Rattle.avc_plane.proofs.Common.{below_more}
 use Rattle.avc_plane.proofs.Nearest.{nearest_before, nearest_inside, nearest_after}
 use Rattle.avc_plane.proofs.extension.extend_ends.Goals as goal
 

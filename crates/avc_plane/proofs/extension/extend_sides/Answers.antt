@@ -1,7 +1,4 @@
-use Rattle.std.proofs.Common.{◌≡◌, ℕ, ◌+◌, ◌*◌, slice_index, arith, ◌∙◌}
-use Rattle.std.proofs.lemmas.Nat.{row_fits}
-use borrow.Author.Count.{below_more}
-use Rattle.avc_plane.specs.Padded.{nearest}
+use Rattle.avc_plane.proofs.Common.{◌≡◌, ℕ, ◌+◌, ◌*◌, slice_index, arith, ◌∙◌, row_fits, below_more, nearest}
 use Rattle.avc_plane.proofs.extension.extend_sides.Goals as goal
 
 pub loop-y-preserved : goal.loop-y-preserved

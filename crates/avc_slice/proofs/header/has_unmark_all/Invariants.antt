@@ -1,6 +1,5 @@
-use Rattle.std.proofs.Common.{◌≡◌, drop}
+use Rattle.avc_slice.proofs.Common.{◌≡◌, drop, is_unmark_all}
 use Rattle.std.specs.List.{list_any}
-use Rattle.avc_slice.specs.Header.{is_unmark_all}
 use Rattle.avc_slice.proofs.header.has_unmark_all.Given as goal
 
 abbrev pub invariant-loop-operation : goal.invariant-loop-operation

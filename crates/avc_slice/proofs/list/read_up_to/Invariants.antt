@@ -1,5 +1,4 @@
-use Rattle.std.proofs.Common.{◌≡◌, ◌≤◌, ◌-◌, length}
-use Rattle.avc_bits.specs.Codes.{ue_to}
+use Rattle.avc_slice.proofs.Common.{◌≡◌, ◌≤◌, ◌-◌, length, ue_to}
 use Rattle.avc_bits.specs.Reader.{reader_bits, reader_bytes}
 use Rattle.avc_slice.specs.Reading.{up_to}
 use Rattle.avc_slice.proofs.UpTo.{IsUnderWay}

@@ -1,7 +1,4 @@
-use Rattle.std.proofs.Common.{ℤ, subst, w32}
-use Rattle.std.proofs.lemmas.Int.{to_z-of_z}
-use Rattle.avc_transform.specs.Lines.{AreLines}
-use Rattle.avc_transform.specs.Residual.{scaled_block_with_dc}
+use Rattle.avc_transform.proofs.Common.{ℤ, subst, w32, to_z-of_z, AreLines, scaled_block_with_dc}
 use Rattle.avc_transform.proofs.block.residual4x4_with_dc.Goals as goal
 
 pub returns-clause-values : goal.returns-clause-values

@@ -1,6 +1,4 @@
-use Rattle.std.proofs.Common.{ℤ, pos, ◌+ℤ◌, ◌∙◌, ap, sym, rules, w32}
-use Rattle.std.proofs.lemmas.Int.{to_z-of_z}
-use Rattle.avc_types.specs.Arithmetic.{◌>>ℤ◌}
+use Rattle.avc_transform.proofs.Common.{ℤ, pos, ◌+ℤ◌, ◌∙◌, ap, sym, rules, w32, to_z-of_z, ◌>>ℤ◌}
 use Rattle.avc_transform.proofs.NoResidual.{residual_of_dc}
 use Rattle.avc_transform.proofs.block.residual_of_dc.Goals as goal
 

@@ -1,5 +1,4 @@
-use Rattle.std.proofs.Common.{◌≡◌, ℕ, ◌<◌, ◌+ℤ◌, pos, length, slice_index, slice_index_or}
-use Rattle.avc_types.specs.Arithmetic.{clip1}
+use Rattle.avc_transform.proofs.Common.{◌≡◌, ℕ, ◌<◌, ◌+ℤ◌, pos, length, slice_index, slice_index_or, clip1}
 use Rattle.avc_transform.proofs.construction.add_clip.Given as goal
 
 abbrev pub invariant-loop-i : goal.invariant-loop-i

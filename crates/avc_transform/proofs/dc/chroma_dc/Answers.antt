@@ -1,6 +1,5 @@
-use Rattle.std.proofs.Common.{◌≡◌, ◌+◌, ◌*◌, ◌^◌, pos, slice_index_or, to_z, of_z, w32, get_or-set_other, arith, rules, ap, ◌∙◌}
-use Rattle.avc_transform.specs.Bounds.{IsBelow}
-use Rattle.avc_transform.specs.Residual.{chroma_dc_scaled}
+use Rattle.avc_transform.proofs.Common.{◌≡◌, ◌+◌, ◌*◌, ◌^◌, pos, slice_index_or, to_z, of_z, w32, get_or-set_other, arith, rules, ap, ◌∙◌}
+use Rattle.avc_transform.proofs.Common.{IsBelow, chroma_dc_scaled}
 use Rattle.avc_transform.proofs.Small.{cast_back, IsBelow-more}
 use Rattle.avc_transform.proofs.Matrices.{place_more}
 use Rattle.avc_transform.proofs.dc.chroma_dc.Goals as goal

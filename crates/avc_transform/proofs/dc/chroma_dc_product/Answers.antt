@@ -1,6 +1,5 @@
-use Rattle.std.proofs.Common.{◌≡◌, ℕ, ℤ, ◌*◌, ◌+◌, ◌^◌, ◌<◌, [], ◌∷◌, pos, slice_index_or, to_z, of_z, w32, arith, ◌∙◌, refl}
-use Rattle.avc_transform.specs.Bounds.{IsBelow}
-use Rattle.avc_transform.specs.Residual.{level, hadamard_row, chroma_dc_product}
+use Rattle.avc_transform.proofs.Common.{◌≡◌, ℕ, ℤ, ◌*◌, ◌+◌, ◌^◌, ◌<◌, [], ◌∷◌, pos, slice_index_or, to_z, of_z, w32, arith, ◌∙◌, refl}
+use Rattle.avc_transform.proofs.Common.{IsBelow, level, hadamard_row, chroma_dc_product}
 use Rattle.avc_transform.proofs.BelowFour.{below_two, each_of_four}
 use Rattle.avc_transform.proofs.Small.{cast_back, level_read, IsBelow-more}
 use Rattle.avc_transform.proofs.DcValues.{hadamard_row_of, whole_is, across_is, below_is, both_is}

@@ -1,8 +1,5 @@
-use Rattle.std.proofs.Common.{ℤ, ◌∙◌, ◌^◌, ◌*◌, ◌<◌, ap, arith, rules, of_z, to_z, w32}
-use Rattle.std.proofs.lemmas.Int.{to_z-of_z}
-use Rattle.avc_types.specs.Arithmetic.{◌>>ℤ◌}
-use Rattle.avc_transform.specs.Bounds.{IsBelow}
-use Rattle.avc_transform.specs.Residual.{chroma_dc_scaled}
+use Rattle.avc_transform.proofs.Common.{ℤ, ◌∙◌, ◌^◌, ◌*◌, ◌<◌, ap, arith, rules, of_z, to_z, w32, to_z-of_z, ◌>>ℤ◌, IsBelow}
+use Rattle.avc_transform.proofs.Common.{chroma_dc_scaled}
 use Rattle.avc_transform.proofs.Small.{cast_back, IsBelow-more}
 use Rattle.avc_transform.proofs.DcValues.{scale_below, chroma_shifted}
 use Rattle.avc_transform.proofs.dc.chroma_dc_scaled.Goals as goal

@@ -1,6 +1,4 @@
-use Rattle.std.proofs.Common.{◌*◌, arith}
-use Rattle.std.proofs.lemmas.Int.{ints}
-use Rattle.avc_transform.specs.Bounds.{IsBelow}
+use Rattle.avc_transform.proofs.Common.{◌*◌, arith, ints, IsBelow}
 use Rattle.avc_transform.proofs.BelowFour.{below_four, each_of_four}
 use Rattle.avc_transform.proofs.dc.hadamard_row.Goals as goal
 

@@ -1,6 +1,5 @@
-use Rattle.std.proofs.Common.{◌≡◌, ℕ, ◌+◌, ◌*◌, ◌^◌, ◌<◌, pos, slice_index_or, to_z, of_z, w32, get_or-set_other, arith, rules, ap, ◌∙◌}
-use Rattle.avc_transform.specs.Bounds.{IsBelow, matrix}
-use Rattle.avc_transform.specs.Residual.{level, zigzag, hadamard_row, luma_dc_scaled}
+use Rattle.avc_transform.proofs.Common.{◌≡◌, ℕ, ◌+◌, ◌*◌, ◌^◌, ◌<◌, pos, slice_index_or, to_z, of_z, w32, get_or-set_other, arith, rules}
+use Rattle.avc_transform.proofs.Common.{ap, ◌∙◌, IsBelow, matrix, level, zigzag, hadamard_row, luma_dc_scaled}
 use Rattle.avc_transform.proofs.Small.{cast_back, IsBelow-more}
 use Rattle.avc_transform.proofs.Matrices.{place_more}
 use Rattle.avc_transform.proofs.DcValues.{same_hadamard_row, product_is}

@@ -1,6 +1,4 @@
-use Rattle.std.proofs.Common.{◌≡◌, ℕ, ◌<◌, ◌≤◌, ◌^◌, pos, length, slice_index_or}
-use Rattle.avc_transform.specs.Bounds.{IsBelow}
-use Rattle.avc_transform.specs.Residual.{luma_dc_scaled}
+use Rattle.avc_transform.proofs.Common.{◌≡◌, ℕ, ◌<◌, ◌≤◌, ◌^◌, pos, length, slice_index_or, IsBelow, luma_dc_scaled}
 use Rattle.avc_transform.proofs.dc.luma_dc.Given as goal
 
 abbrev pub invariant-loop-i : goal.invariant-loop-i

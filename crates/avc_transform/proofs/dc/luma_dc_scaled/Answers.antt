@@ -1,7 +1,4 @@
-use Rattle.std.proofs.Common.{◌∙◌, ◌^◌, ◌*◌, ◌<◌, ap, arith, rules, of_z, to_z, w32}
-use Rattle.std.proofs.lemmas.Int.{to_z-of_z}
-use Rattle.avc_transform.specs.Bounds.{IsBelow}
-use Rattle.avc_transform.specs.Residual.{luma_dc_scaled}
+use Rattle.avc_transform.proofs.Common.{◌∙◌, ◌^◌, ◌*◌, ◌<◌, ap, arith, rules, of_z, to_z, w32, to_z-of_z, IsBelow, luma_dc_scaled}
 use Rattle.avc_transform.proofs.Small.{cast_back, IsBelow-more}
 use Rattle.avc_transform.proofs.DcValues.{scale_below, luma_shifted}
 use Rattle.avc_transform.proofs.dc.luma_dc_scaled.Goals as goal

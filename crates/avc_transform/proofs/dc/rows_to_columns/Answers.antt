@@ -1,6 +1,5 @@
-use Rattle.std.proofs.Common.{◌≡◌, ℕ, ◌+◌, ◌*◌, ◌/◌, ◌%◌, ◌^◌, ◌<◌, pos, slice_index_or, to_z, of_z, w32, arith, rules, ap, ◌∙◌, sym, add-zero}
-use Rattle.avc_transform.specs.Residual.{hadamard_row}
-use Rattle.avc_transform.specs.Bounds.{IsBelow, AllBelow, matrix}
+use Rattle.avc_transform.proofs.Common.{◌≡◌, ℕ, ◌+◌, ◌*◌, ◌/◌, ◌%◌, ◌^◌, ◌<◌, pos, slice_index_or, to_z, of_z, w32, arith, rules, ap, ◌∙◌}
+use Rattle.avc_transform.proofs.Common.{sym, add-zero, hadamard_row, IsBelow, AllBelow, matrix}
 use Rattle.avc_transform.proofs.Small.{cast_back, IsBelow-more}
 use Rattle.avc_transform.proofs.Matrices.{place_of_four}
 use Rattle.avc_transform.proofs.DcValues.{hadamard_row_of}

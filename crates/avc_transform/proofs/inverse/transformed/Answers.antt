@@ -1,8 +1,5 @@
-use Rattle.std.proofs.Common.{ℕ, ℤ, ◌≡◌, ◌+◌, ◌*◌, ◌/◌, ◌%◌, ◌^◌, ◌<◌, ◌≤◌, ◌+ℤ◌, arith, ap, ◌∙◌, to_z, of_z, w32, List, [], ◌∷◌, pos, slice_index_or}
-use Rattle.avc_types.specs.Arithmetic.{◌>>ℤ◌}
-use Rattle.avc_transform.specs.Bounds.{AllBelow, IsBelow}
-use Rattle.avc_transform.specs.Lines.{AreBelow}
-use Rattle.avc_transform.specs.Residual.{transformed_row, transformed}
+use Rattle.avc_transform.proofs.Common.{ℕ, ℤ, ◌≡◌, ◌+◌, ◌*◌, ◌/◌, ◌%◌, ◌^◌, ◌<◌, ◌≤◌, ◌+ℤ◌, arith, ap, ◌∙◌, to_z, of_z, w32, List, [], ◌∷◌}
+use Rattle.avc_transform.proofs.Common.{pos, slice_index_or, ◌>>ℤ◌, AllBelow, IsBelow, AreBelow, transformed_row, transformed}
 use Rattle.avc_transform.specs.declared.lines.Lines.{Lines}
 use Rattle.avc_transform.proofs.BelowFour.{below_four}
 use Rattle.avc_transform.proofs.Matrices.{place_of_four}

@@ -1,6 +1,5 @@
-use Rattle.std.proofs.Common.{ℕ, ℤ, ◌≡◌, ◌+◌, ◌*◌, ◌^◌, ◌+ℤ◌, arith, ap, ◌∙◌, to_z, of_z, w32, pos, slice_index_or}
-use Rattle.avc_types.specs.Arithmetic.{◌>>ℤ◌}
-use Rattle.avc_transform.specs.Bounds.{IsBelow}
+use Rattle.avc_transform.proofs.Common.{ℕ, ℤ, ◌≡◌, ◌+◌, ◌*◌, ◌^◌, ◌+ℤ◌, arith, ap, ◌∙◌, to_z, of_z, w32, pos, slice_index_or, ◌>>ℤ◌}
+use Rattle.avc_transform.proofs.Common.{IsBelow}
 use Rattle.avc_transform.proofs.BelowFour.{below_four, each_of_four}
 use Rattle.avc_transform.proofs.Small.{cast_small, small_cast}
 use Rattle.avc_transform.proofs.lanes.all_rounded.Goals as goal

@@ -1,6 +1,4 @@
-use Rattle.std.proofs.Common.{ℕ, ℤ, ◌≡◌, ◌+◌, ◌*◌, ◌^◌, arith, ap, ◌∙◌, to_z, of_z, w32, pos, slice_index_or}
-use Rattle.avc_types.specs.Arithmetic.{◌>>ℤ◌}
-use Rattle.avc_transform.specs.Bounds.{IsBelow}
+use Rattle.avc_transform.proofs.Common.{ℕ, ℤ, ◌≡◌, ◌+◌, ◌*◌, ◌^◌, arith, ap, ◌∙◌, to_z, of_z, w32, pos, slice_index_or, ◌>>ℤ◌, IsBelow}
 use Rattle.avc_transform.proofs.BelowFour.{below_four, each_of_four}
 use Rattle.avc_transform.proofs.Small.{cast_small}
 use Rattle.avc_transform.proofs.lanes.halves.Goals as goal

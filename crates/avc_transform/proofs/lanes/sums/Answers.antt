@@ -1,6 +1,5 @@
-use Rattle.std.proofs.Common.{ℕ, ℤ, ◌≡◌, ◌+ℤ◌, ◌+◌, ◌^◌, ◌<◌, arith, ◌∙◌, sym, subst, to_z, of_z, w32, FitsSigned, pos, slice_index_or}
-use Rattle.std.proofs.lemmas.Int.{ints}
-use Rattle.avc_transform.specs.Bounds.{IsBelow}
+use Rattle.avc_transform.proofs.Common.{ℕ, ℤ, ◌≡◌, ◌+ℤ◌, ◌+◌, ◌^◌, ◌<◌, arith, ◌∙◌, sym, subst, to_z, of_z, w32, FitsSigned, pos}
+use Rattle.avc_transform.proofs.Common.{slice_index_or, ints, IsBelow}
 use Rattle.avc_transform.proofs.LaneLaws.{each_lane, lane}
 use Rattle.avc_transform.proofs.lanes.sums.Goals as goal
 

@@ -1,9 +1,6 @@
-use Rattle.std.proofs.Common.{◌≡◌, ◌+ℤ◌, ◌∙◌, ℤ, ap, pos, nat_abs, of_z, to_z, w16, slice_index, arith}
+use Rattle.avc_transform.proofs.Common.{◌≡◌, ◌+ℤ◌, ◌∙◌, ℤ, ap, pos, nat_abs, of_z, to_z, w16, slice_index, arith, ints, clip3, chroma_qp_at}
+use Rattle.avc_transform.proofs.Common.{CHROMA_QP}
 use Rattle.std.specs.Int.{int_max, int_min}
-use Rattle.std.proofs.lemmas.Int.{ints}
-use Rattle.avc_types.specs.Arithmetic.{clip3}
-use Rattle.avc_transform.specs.Residual.{chroma_qp_at}
-use Rattle.avc_transform.specs.declared.quantiser.TheConstants.{CHROMA_QP}
 use Rattle.avc_transform.proofs.Tables.{chroma_table}
 use Rattle.avc_transform.proofs.quantiser.chroma_qp.Goals as goal
 

@@ -1,7 +1,5 @@
-use Rattle.std.proofs.Common.{◌≡◌, ◌/◌, ◌%◌, ◌^◌, arith, rules, of_z, to_z, w32, slice_index, sym, subst, ap, ◌∙◌}
-use Rattle.avc_transform.specs.Bounds.{IsBelow}
-use Rattle.avc_transform.specs.Residual.{level, zigzag}
-use Rattle.avc_transform.specs.declared.scaling.TheConstants.{ZIGZAG}
+use Rattle.avc_transform.proofs.Common.{◌≡◌, ◌/◌, ◌%◌, ◌^◌, arith, rules, of_z, to_z, w32, slice_index, sym, subst, ap, ◌∙◌, IsBelow, level}
+use Rattle.avc_transform.proofs.Common.{zigzag, ZIGZAG}
 use Rattle.avc_transform.proofs.Matrices.{place_more}
 use Rattle.avc_transform.proofs.Small.{level_read}
 use Rattle.avc_transform.proofs.Tables.{zigzag_table, zigzag_inside}

@@ -1,5 +1,4 @@
-use Rattle.std.proofs.Common.{ℕ, ◌*◌, ◌≤◌, ◌<◌, ◌^◌, arith, slice_index}
-use Rattle.std.proofs.lemmas.Nat.{mul-lt}
+use Rattle.avc_transform.proofs.Common.{ℕ, ◌*◌, ◌≤◌, ◌<◌, ◌^◌, arith, slice_index, mul-lt}
 use Rattle.avc_transform.proofs.BelowFour.{below_four}
 use Rattle.avc_transform.proofs.scaling.raised.Goals as goal
 

@@ -1,5 +1,4 @@
-use Rattle.std.proofs.Common.{ℕ, ◌<◌, arith}
-use Rattle.avc_transform.specs.Residual.{level, zigzag}
+use Rattle.avc_transform.proofs.Common.{ℕ, ◌<◌, arith, level, zigzag}
 use Rattle.avc_transform.proofs.Small.{four_levels, level_back, scaled_of}
 use Rattle.avc_transform.proofs.scaling.scaled_levels.Goals as goal
 

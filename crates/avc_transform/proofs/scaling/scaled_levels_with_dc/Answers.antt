@@ -1,7 +1,4 @@
-use Rattle.std.proofs.Common.{ℕ, ◌<◌, ◌^◌, ◌∙◌, arith, w32, pos, slice_index_or}
-use Rattle.std.proofs.lemmas.Int.{ints, to_z-of_z}
-use Rattle.avc_transform.specs.Bounds.{IsBelow}
-use Rattle.avc_transform.specs.Residual.{level}
+use Rattle.avc_transform.proofs.Common.{ℕ, ◌<◌, ◌^◌, ◌∙◌, arith, w32, pos, slice_index_or, ints, to_z-of_z, IsBelow, level}
 use Rattle.avc_transform.proofs.BelowFour.{below_four, each_of_four}
 use Rattle.avc_transform.proofs.Small.{AllBelow-more, cast_small, small_cast, level_back, level_small, scaled_of, IsBelow-more}
 use Rattle.avc_transform.proofs.scaling.scaled_levels_with_dc.Goals as goal

@@ -1,5 +1,4 @@
-use Rattle.std.proofs.Common.{◌∙◌, refl, ap, slice_get, arith, rules}
-use Rattle.avc_types.specs.References.{has_long_term_frame_idx, references_at}
+use Rattle.avc_types.proofs.Common.{◌∙◌, refl, ap, slice_get, arith, rules, has_long_term_frame_idx, references_at}
 use Rattle.avc_types.proofs.Frames.{first-found, filter-none, find-filter}
 use Rattle.avc_types.proofs.marked_frame.long_term_place.Goals as goal
 

@@ -1,6 +1,4 @@
-use Rattle.std.proofs.Common.{◌≡◌, ℕ, ◌<◌, false}
-use Rattle.std.specs.Prelude.{slice_index_or}
-use Rattle.avc_types.specs.References.{is_marked, has_long_term_frame_idx, no_frame}
+use Rattle.avc_types.proofs.Common.{◌≡◌, ℕ, ◌<◌, false, slice_index_or, is_marked, has_long_term_frame_idx, no_frame}
 use Rattle.avc_types.proofs.marked_frame.long_term_place.Given as goal
 
 abbrev pub invariant-loop-place : goal.invariant-loop-place

@@ -1,6 +1,4 @@
-use Rattle.std.proofs.Common.{◌≡◌, ℕ, ◌<◌, ◌≤◌, false, length}
-use Rattle.std.specs.Prelude.{slice_index_or}
-use Rattle.avc_types.specs.References.{is_marked, has_pic_num, no_frame}
+use Rattle.avc_types.proofs.Common.{◌≡◌, ℕ, ◌<◌, ◌≤◌, false, length, slice_index_or, is_marked, has_pic_num, no_frame}
 use Rattle.avc_types.proofs.marked_frame.short_term_place.Given as goal
 
 abbrev pub invariant-loop-place : goal.invariant-loop-place

@@ -1,5 +1,4 @@
-use Rattle.std.proofs.Common.{◌≡◌, ℕ, ◌+◌, ◌*◌, ◌<◌, slice_index, arith, ◌∙◌}
-use Rattle.std.proofs.lemmas.Nat.{row_fits}
+use Rattle.avc_types.proofs.Common.{◌≡◌, ◌+◌, ◌*◌, slice_index, arith, ◌∙◌, row_fits}
 use borrow.Author.Count.{below_more}
 use Rattle.avc_types.proofs.rows.copy_rows.Goals as goal
 

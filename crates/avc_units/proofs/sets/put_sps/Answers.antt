@@ -1,5 +1,4 @@
-use Rattle.std.proofs.Common.{ap, sym, ◌∙◌}
-use Rattle.avc_units.specs.Grouping.{ends_picture, rbsp_of}
+use Rattle.avc_units.proofs.Common.{ap, sym, ◌∙◌, ends_picture, rbsp_of}
 use Rattle.avc_units.proofs.Refusals.{has-body, on-err, sps-refused}
 use Rattle.avc_units.proofs.sets.put_sps.Goals as goal
 

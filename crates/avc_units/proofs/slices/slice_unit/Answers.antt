@@ -1,6 +1,4 @@
-use Rattle.std.proofs.Common.{sym, ◌∙◌}
-use Rattle.avc_params.specs.Tables.{sets_after}
-use Rattle.avc_units.specs.Kinds.{open_picture_in}
+use Rattle.avc_units.proofs.Common.{sym, ◌∙◌, sets_after, open_picture_in}
 use Rattle.avc_units.proofs.Coming.{slice_or_start-read, slice_or_start-under}
 use Rattle.avc_units.proofs.slices.slice_unit.Goals as goal
 

@@ -1,5 +1,4 @@
-use Rattle.std.proofs.Common.{◌<◌, length, arith, rules}
-use Rattle.avc_bits.specs.Reader.{reader_bits}
+use Rattle.avc_vlc.proofs.Common.{◌<◌, length, arith, rules, reader_bits}
 use Rattle.avc_vlc.proofs.Entries.{skip-ok, skip-err}
 use Rattle.avc_vlc.proofs.code.has.Goals as goal
 

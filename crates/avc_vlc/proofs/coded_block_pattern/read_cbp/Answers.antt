@@ -1,5 +1,4 @@
-use Rattle.std.proofs.Common.{arith}
-use Rattle.avc_bits.specs.Reader.{reader_bits}
+use Rattle.avc_vlc.proofs.Common.{arith, reader_bits}
 use Rattle.avc_vlc.proofs.Patterns.{pattern_refused}
 use Rattle.avc_vlc.proofs.coded_block_pattern.read_cbp.Goals as goal
 

@@ -1,6 +1,4 @@
-use Rattle.std.proofs.Common.{ap, sym, ◌∙◌}
-use Rattle.std.specs.Prelude.{Some}
-use Rattle.avc_bits.specs.Bits.{bits_of}
+use Rattle.avc_vlc.proofs.Common.{ap, sym, ◌∙◌, Some, bits_of}
 use Rattle.avc_vlc.proofs.Indexes.{six_bits_decide}
 use Rattle.avc_vlc.proofs.coeff_token.nc_8.Goals as goal
 

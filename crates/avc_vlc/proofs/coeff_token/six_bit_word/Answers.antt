@@ -1,6 +1,4 @@
-use Rattle.std.proofs.Common.{◌≡◌, ◌<◌, ◌∙◌, true, ap, sym, arith}
-use Rattle.avc_vlc.specs.Indexing.{holds, six_bit_entry}
-use Rattle.avc_vlc.specs.Writing.{is_token_same}
+use Rattle.avc_vlc.proofs.Common.{◌≡◌, ◌<◌, ◌∙◌, true, ap, sym, arith, holds, six_bit_entry, is_token_same}
 use Rattle.avc_vlc.proofs.Writing.{six_found}
 use Rattle.avc_vlc.proofs.coeff_token.six_bit_word.Goals as goal
 

@@ -1,6 +1,4 @@
-use Rattle.std.proofs.Common.{◌≡◌, false, take}
-use Rattle.std.specs.List.{list_any}
-use Rattle.avc_vlc.specs.Indexing.{holds}
+use Rattle.avc_vlc.proofs.Common.{◌≡◌, false, take, list_any, holds}
 use Rattle.avc_vlc.proofs.entry.column_of.Given as goal
 
 -- none of the entries so far

@@ -1,5 +1,4 @@
-use Rattle.std.proofs.Common.{◌≡◌, length, get_or, [], arith}
-use Rattle.avc_bits.specs.Bits.{bits_of}
+use Rattle.avc_vlc.proofs.Common.{◌≡◌, length, get_or, [], arith, bits_of}
 use Rattle.avc_vlc.proofs.Indexes.{front_entry}
 use Rattle.avc_vlc.proofs.entry.number_of_three.Goals as goal
 

@@ -1,8 +1,4 @@
-use Rattle.std.proofs.Common.{◌≡◌, ℕ, refl, true}
-use Rattle.std.specs.Prelude.{nat_le}
-use Rattle.std.proofs.lemmas.Bool.{le-leb}
-use Rattle.avc_vlc.specs.Tables.{run_before_codes}
-use Rattle.avc_vlc.specs.Reading.{Table, row_at, row_table}
+use Rattle.avc_vlc.proofs.Common.{◌≡◌, ℕ, refl, true, nat_le, le-leb, run_before_codes, Table, row_at, row_table}
 use Rattle.avc_vlc.proofs.run_before.few_entry.Goals as goal
 
 pub returns : goal.returns

@@ -1,7 +1,4 @@
-use Rattle.std.proofs.Common.{◌≡◌, refl, arith, false}
-use Rattle.std.specs.Prelude.{nat_le}
-use Rattle.std.proofs.lemmas.Bool.{lt-leb}
-use Rattle.avc_vlc.specs.Reading.{run_table}
+use Rattle.avc_vlc.proofs.Common.{◌≡◌, refl, arith, false, nat_le, lt-leb, run_table}
 use Rattle.avc_vlc.proofs.run_before.many_entry.Goals as goal
 
 pub returns : goal.returns

@@ -1,19 +1,8 @@
-use Rattle.std.proofs.Common.{◌≡◌, ◌<◌, ℕ, refl}
-use Rattle.std.specs.Prelude.{Option, Some, None, Ok, Err, IfSome}
-use Rattle.std.proofs.lemmas.Bool.{lt-leb}
-use Rattle.avc_types.specs.declared.fault.Fault.{Fault}
+use Rattle.avc_vlc.proofs.Common.{◌≡◌, ◌<◌, ℕ, refl, Option, Some, None, Ok, Err, IfSome, lt-leb, Bits, skip, reader_bits, Entry}
+use Rattle.avc_vlc.proofs.Common.{Decides, run_before, run_table, table_code}
 use Rattle.avc_types.specs.declared.fault.Fault.TheVariants.{BadCode}
-use Rattle.avc_bits.specs.Bits.{Bits}
-use Rattle.avc_bits.specs.Codes.{skip}
-use Rattle.avc_bits.specs.Reader.{reader_bits}
-use Rattle.avc_vlc.specs.declared.entry.Entry.{Entry}
-use Rattle.avc_vlc.specs.Indexing.{Decides}
-use Rattle.avc_vlc.specs.Reading.{run_before, run_table, table_code}
 use Rattle.avc_vlc.proofs.Entries.{reads_word, reads_none, reads_cut}
 use Rattle.avc_vlc.proofs.run_before.refused.Goals as goal
-
-run_fault : (zeros_left : ℕ) (b : Bits) (fault : Fault) → table_code (run_table zeros_left) b ≡ Err fault → run_before zeros_left b ≡ Err fault
-run_fault zeros_left b fault is = rw is refl
 
 run_longer : (zeros_left run : ℕ) (b left : Bits) → table_code (run_table zeros_left) b ≡ Ok (run, left) → zeros_left < run → run_before zeros_left b ≡ Err BadCode
 run_longer zeros_left run b left is longer = rw (is, lt-leb run zeros_left longer) refl
@@ -24,7 +13,7 @@ not_read : (zeros_left n : ℕ) (e : Entry ℕ) (b left : Bits) → Decides (run
 not_read zeros_left n e b left d same passed longer = by_value e.value refl longer
   where
     by_value : (o : Option ℕ) → e.value ≡ o → IfSome o (λ run. zeros_left < run) → run_before zeros_left b ≡ Err BadCode
-    by_value None is longer = run_fault zeros_left b BadCode (reads_none (run_table zeros_left) e n b left d same passed is)
+    by_value None is longer = rw (reads_none (run_table zeros_left) e n b left d same passed is) refl
     by_value (Some run) is longer = run_longer zeros_left run b left (reads_word (run_table zeros_left) e n b left run d same passed is) longer
 
 pub returns-in-Ok : goal.returns-in-Ok
@@ -33,5 +22,4 @@ returns-in-Ok c =
 
 pub returns-in-Err : goal.returns-in-Err
 returns-in-Err c =
-    run_fault c.args.zeros_left (reader_bits c.args.reader) c.in-Err.fault
-    (reads_cut (run_table c.args.zeros_left) c.args.entry c.from.result (reader_bits c.args.reader) c.in-Err.fault c.requires.decided c.from.ensures c.in-Err.ensures.read)
+    rw (reads_cut (run_table c.args.zeros_left) c.args.entry c.from.result (reader_bits c.args.reader) c.in-Err.fault c.requires.decided c.from.ensures c.in-Err.ensures.read) refl

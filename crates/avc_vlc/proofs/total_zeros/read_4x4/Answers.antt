@@ -1,11 +1,6 @@
-use Rattle.std.proofs.Common.{◌≡◌, ℕ, ◌-◌, List, [], refl, ap, arith}
-use Rattle.std.specs.Prelude.{Some, None, Err}
-use Rattle.std.proofs.lemmas.Option.{slice_get_past}
+use Rattle.avc_vlc.proofs.Common.{◌≡◌, ℕ, ◌-◌, List, [], refl, ap, arith, Some, None, Err, slice_get_past, Bits, reader_bits}
+use Rattle.avc_vlc.proofs.Common.{total_zeros_4x4, row_at, row_table, table_code}
 use Rattle.avc_types.specs.declared.fault.Fault.TheVariants as faults
-use Rattle.avc_bits.specs.Bits.{Bits}
-use Rattle.avc_bits.specs.Reader.{reader_bits}
-use Rattle.avc_vlc.specs.Tables.{total_zeros_4x4}
-use Rattle.avc_vlc.specs.Reading.{row_at, row_table, table_code}
 use Rattle.avc_vlc.proofs.total_zeros.read_4x4.Goals as goal
 
 no_codeword : (row : List (ℕ × ℕ)) (b : Bits) → row ≡ [] → table_code (row_table row) b ≡ Err faults.BadCode

@@ -1,7 +1,4 @@
-use Rattle.std.proofs.Common.{ℕ, refl, subst, ◌∙◌}
-use Rattle.avc_vlc.specs.Tables.{total_zeros_4x4}
-use Rattle.avc_vlc.specs.Indexing.{Decides}
-use Rattle.avc_vlc.specs.Reading.{Table, row_at, row_table}
+use Rattle.avc_vlc.proofs.Common.{ℕ, refl, subst, ◌∙◌, total_zeros_4x4, Decides, Table, row_at, row_table}
 use Rattle.avc_vlc.proofs.total_zeros.zeros_entry.Goals as goal
 
 pub returns : goal.returns

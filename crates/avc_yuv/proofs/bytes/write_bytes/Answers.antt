@@ -1,5 +1,4 @@
-use Rattle.std.proofs.Common.{◌-◌, arith, length, drop, length-take, sym, subst, take}
-use Rattle.std.specs.Io.KnownBytes.{Appends}
+use Rattle.avc_yuv.proofs.Common.{◌-◌, arith, length, drop, length-take, sym, subst, take, Appends}
 use Rattle.avc_yuv.proofs.Parts.{done_is, row_more}
 use Rattle.avc_yuv.proofs.bytes.write_bytes.Goals as goal
 

@@ -1,5 +1,4 @@
-use Rattle.std.proofs.Common.{length, take, ◌-◌, ◌≤◌}
-use Rattle.std.specs.Io.KnownBytes.{Appends}
+use Rattle.avc_yuv.proofs.Common.{length, take, ◌-◌, ◌≤◌, Appends}
 use Rattle.avc_yuv.proofs.bytes.write_bytes.Given as goal
 
 abbrev pub invariant-loop-done : goal.invariant-loop-done

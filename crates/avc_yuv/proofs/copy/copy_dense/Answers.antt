@@ -1,6 +1,4 @@
-use Rattle.std.proofs.Common.{ap, ◌∙◌}
-use Rattle.std.proofs.lemmas.List.{take_rest}
-use Rattle.avc_yuv.specs.Copying.{laid, rows_in}
+use Rattle.avc_yuv.proofs.Common.{ap, ◌∙◌, take_rest, laid, rows_in}
 use Rattle.avc_yuv.proofs.Copying.{dense_window, end_written}
 use Rattle.avc_yuv.proofs.copy.copy_dense.Goals as goal
 

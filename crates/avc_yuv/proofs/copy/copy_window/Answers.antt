@@ -1,5 +1,4 @@
-use Rattle.std.proofs.Common.{◌+◌, ◌-◌, ◌*◌, ◌≤◌, length, ◌∙◌, arith, refl}
-use Rattle.std.proofs.Math.Nat.{mul-le-mul_right}
+use Rattle.avc_yuv.proofs.Common.{◌+◌, ◌-◌, ◌*◌, ◌≤◌, length, ◌∙◌, arith, refl, mul-le-mul_right}
 use Rattle.avc_yuv.proofs.Copying.{next_row}
 use Rattle.avc_yuv.proofs.Parts.{row_inside}
 use Rattle.avc_yuv.proofs.copy.copy_window.Goals as goal

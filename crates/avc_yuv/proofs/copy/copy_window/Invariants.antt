@@ -1,5 +1,4 @@
-use Rattle.std.proofs.Common.{◌≡◌, length}
-use Rattle.avc_yuv.specs.Copying.{laid, rows_in}
+use Rattle.avc_yuv.proofs.Common.{◌≡◌, length, laid, rows_in}
 use Rattle.avc_yuv.proofs.copy.copy_window.Given as goal
 
 abbrev pub invariant-rows : goal.invariant-rows

@@ -1,5 +1,4 @@
-use Rattle.std.proofs.Common.{◌≡◌, ◌*◌, length, take}
-use Rattle.avc_yuv.specs.I420.{window}
+use Rattle.avc_yuv.proofs.Common.{◌≡◌, ◌*◌, length, take, window}
 use Rattle.avc_yuv.proofs.window_rows.gather.Given as goal
 
 abbrev pub invariant-loop-row : goal.invariant-loop-row

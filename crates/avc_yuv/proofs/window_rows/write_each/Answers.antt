@@ -1,7 +1,6 @@
-use Rattle.std.proofs.Common.{◌≡◌, ◌+◌, ◌*◌, Err, sym, ap, ◌∙◌, arith, refl, rules, subst}
-use Rattle.std.specs.Io.KnownBytes.{Appends}
-use Rattle.avc_yuv.specs.I420.{window, part_of_row}
-use Rattle.avc_yuv.proofs.Parts.{next_row, row_failed, row_inside, length-rows, length-part_of_row}
+use Rattle.avc_yuv.proofs.Common.{◌≡◌, ◌+◌, ◌*◌, Err, sym, ap, ◌∙◌, arith, refl, rules, subst, Appends, window, part_of_row}
+use Rattle.avc_yuv.proofs.Windows.{next_row, row_failed}
+use Rattle.avc_yuv.proofs.Parts.{row_inside, length-rows, length-part_of_row}
 use Rattle.avc_yuv.proofs.window_rows.write_each.Goals as goal
 
 pub returns-in_err-written : goal.returns-in_err-written

@@ -1,6 +1,4 @@
-use Rattle.std.proofs.Common.{◌≡◌, ◌+◌, ◌*◌}
-use Rattle.std.specs.Io.KnownBytes.{Appends}
-use Rattle.avc_yuv.specs.I420.{window}
+use Rattle.avc_yuv.proofs.Common.{◌≡◌, ◌+◌, ◌*◌, Appends, window}
 use Rattle.avc_yuv.proofs.window_rows.write_each.Given as goal
 
 abbrev pub invariant-loop-row : goal.invariant-loop-row

@@ -1,7 +1,4 @@
-use Rattle.std.proofs.Common.{◌≡◌, ◌+◌, ◌*◌, ◌≤◌, Err, refl, sym, ap, ◌∙◌, subst, arith, rules}
-use Rattle.std.specs.Io.KnownBytes.{Appends}
-use Rattle.avc_yuv.specs.I420.{window}
-use Rattle.avc_yuv.specs.Writing.{Writes}
+use Rattle.avc_yuv.proofs.Common.{◌≡◌, ◌+◌, ◌*◌, ◌≤◌, Err, refl, sym, ap, ◌∙◌, subst, arith, rules, Appends, window, Writes}
 use Rattle.avc_yuv.proofs.Parts.{length-window}
 use Rattle.avc_yuv.proofs.Windows.{cut_rows, next_room, next_rows, rows_failed}
 use Rattle.avc_yuv.proofs.window_rows.write_window.Goals as goal

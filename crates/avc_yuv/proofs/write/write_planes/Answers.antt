@@ -1,5 +1,4 @@
-use Rattle.std.proofs.Common.{◌≡◌, ◌/◌, length, Err, ap, ◌∙◌, arith, rules, subst, ◌*◌, ◌<◌, ◌^◌}
-use Rattle.avc_yuv.specs.I420.{shown_width, shown_height}
+use Rattle.avc_yuv.proofs.Common.{◌≡◌, ◌/◌, length, Err, ap, ◌∙◌, arith, rules, subst, ◌*◌, ◌<◌, ◌^◌, shown_width, shown_height}
 use Rattle.avc_yuv.proofs.Parts.{room, length-window, cb_failed, cr_failed}
 use Rattle.avc_yuv.proofs.Windows.{chroma_rows}
 use Rattle.avc_yuv.proofs.write.write_planes.Goals as goal

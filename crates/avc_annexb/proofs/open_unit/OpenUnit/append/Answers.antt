@@ -1,6 +1,4 @@
-use Rattle.std.proofs.Common.{◌∷◌, [], get_or, take, drop, length, ◌-◌}
-use Rattle.std.proofs.lemmas.Result.{on_ok_weaker}
-use Rattle.avc_annexb.specs.Scanning.{with_bytes}
+use Rattle.avc_annexb.proofs.Common.{◌∷◌, [], get_or, take, drop, length, ◌-◌, on_ok_weaker, with_bytes}
 use Rattle.avc_annexb.proofs.Taking.{keeps-append, first_and_rest}
 use Rattle.avc_annexb.proofs.open_unit.OpenUnit.append.Goals as goal
 

@@ -1,7 +1,4 @@
-use Rattle.std.proofs.Common.{◌++◌, replicate, length-append, arith}
-use Rattle.std.proofs.lemmas.Bool.Decides.{nat_tests}
-use Rattle.std.proofs.lemmas.Result.{on_ok_weaker}
-use Rattle.avc_annexb.specs.Scanning.{with_more}
+use Rattle.avc_annexb.proofs.Common.{◌++◌, replicate, length-append, arith, nat_tests, on_ok_weaker, with_more}
 use Rattle.avc_annexb.proofs.Scanning.{scanned_run}
 use Rattle.avc_annexb.proofs.scanner.Scanner.pass.Goals as goal
 

@@ -1,5 +1,4 @@
-use Rattle.std.proofs.Common.{◌≡◌, ◌∷◌, ◌++◌, [], ap, sym, ◌∙◌, append_assoc, arith, get_or, take, drop, length, ◌-◌}
-use Rattle.std.proofs.lemmas.Result.{on_ok_weaker}
+use Rattle.avc_annexb.proofs.Common.{◌≡◌, ◌∷◌, ◌++◌, [], ap, sym, ◌∙◌, append_assoc, arith, get_or, take, drop, length, ◌-◌, on_ok_weaker}
 use Rattle.avc_annexb.proofs.Taking.{first_and_rest}
 use Rattle.avc_annexb.proofs.scanner.Scanner.run.Goals as goal
 

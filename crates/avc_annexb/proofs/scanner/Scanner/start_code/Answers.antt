@@ -1,7 +1,4 @@
-use Rattle.std.proofs.Common.{◌+◌, ◌++◌, [], Some, length, arith}
-use Rattle.std.proofs.lemmas.List.{length_push}
-use Rattle.std.proofs.lemmas.Result.{on_ok_weaker}
-use Rattle.avc_annexb.specs.Scanning.{closed_unit}
+use Rattle.avc_annexb.proofs.Common.{◌+◌, ◌++◌, [], Some, length, arith, length_push, on_ok_weaker, closed_unit}
 use Rattle.avc_annexb.proofs.Scanning.{scanned_start}
 use Rattle.avc_annexb.proofs.scanner.Scanner.start_code.Goals as goal
 

@@ -1,5 +1,4 @@
-use Rattle.std.proofs.Common.{arith, drop}
-use Rattle.std.proofs.lemmas.List.{take_rest, length-drop}
+use Rattle.avc_annexb.proofs.Common.{arith, drop, take_rest, length-drop}
 use Rattle.avc_annexb.proofs.Zeros.{zeros_and_run}
 use Rattle.avc_annexb.proofs.scanner.Scanner.take_in.Goals as goal
 

@@ -1,8 +1,4 @@
-use Rattle.std.proofs.Common.{◌++◌, ℕ, None, arith, length-append}
-use Rattle.std.specs.Prelude.{replicate}
-use Rattle.std.proofs.lemmas.List.{length-replicate}
-use Rattle.std.proofs.lemmas.Result.{on_ok_weaker}
-use Rattle.avc_annexb.specs.Scanning.{closed_unit}
+use Rattle.avc_annexb.proofs.Common.{◌++◌, ℕ, None, arith, length-append, replicate, length-replicate, on_ok_weaker, closed_unit}
 use Rattle.avc_annexb.proofs.Zeros.{scanned_few, scanned_many}
 use Rattle.avc_annexb.proofs.scanner.Scanner.zeros.Goals as goal
 

@@ -1,5 +1,4 @@
-use Rattle.std.proofs.Common.{arith, refl}
-use Rattle.avc_bits.specs.Reader.{reader_bits}
+use Rattle.avc_bits.proofs.Common.{arith, refl, reader_bits}
 use Rattle.avc_bits.proofs.Reading.{length-ahead, short_ue_from}
 use Rattle.avc_bits.proofs.reader.BitReader.any_ue.Goals as goal
 

@@ -1,5 +1,4 @@
-use Rattle.std.proofs.Common.{arith, ◌∙◌}
-use Rattle.avc_bits.specs.Reader.{position_of}
+use Rattle.avc_bits.proofs.Common.{arith, ◌∙◌, position_of}
 use Rattle.avc_bits.proofs.Numbers.{window_from}
 use Rattle.avc_bits.proofs.Reading.{none_beyond}
 use Rattle.avc_bits.proofs.reader.BitReader.bits_of_eight.Goals as goal

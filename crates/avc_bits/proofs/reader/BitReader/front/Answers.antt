@@ -1,6 +1,4 @@
-use Rattle.std.proofs.Common.{arith, ◌∙◌, ap, sym}
-use Rattle.avc_bits.specs.Bits.{number_of}
-use Rattle.avc_bits.specs.Reader.{reader_bits}
+use Rattle.avc_bits.proofs.Common.{arith, ◌∙◌, ap, sym, number_of, reader_bits}
 use Rattle.avc_bits.proofs.Reading.{length-ahead, leading_from, leading_le, take-ahead}
 use Rattle.avc_bits.proofs.reader.BitReader.front.Goals as goal
 

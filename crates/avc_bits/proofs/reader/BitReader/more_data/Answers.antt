@@ -1,6 +1,5 @@
-use Rattle.std.proofs.Common.{sym, ◌∙◌}
+use Rattle.avc_bits.proofs.Common.{sym, ◌∙◌, reader_bits}
 use Rattle.avc_bits.proofs.Reading.{length-ahead, some_left}
-use Rattle.avc_bits.specs.Reader.{reader_bits}
 use Rattle.avc_bits.proofs.reader.BitReader.more_data.Goals as goal
 
 pub returns : goal.returns

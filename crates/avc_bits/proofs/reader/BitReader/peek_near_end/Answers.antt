@@ -1,6 +1,4 @@
-use Rattle.std.proofs.Common.{arith, ap, sym, ◌∙◌, take, drop}
-use Rattle.avc_bits.specs.Bits.{bits_of, byte_bits, number_of}
-use Rattle.avc_bits.specs.Reader.{reader_bits}
+use Rattle.avc_bits.proofs.Common.{arith, ap, sym, ◌∙◌, take, drop, bits_of, byte_bits, number_of, reader_bits}
 use Rattle.avc_bits.proofs.Reading.{length-ahead, take-ahead, peek_fits, peek_from, within_bytes}
 use Rattle.avc_bits.proofs.reader.BitReader.peek_near_end.Goals as goal
 

@@ -1,6 +1,4 @@
-use Rattle.std.proofs.Common.{◌+◌, ◌*◌, arith, refl, rules}
-use Rattle.avc_bits.specs.Bits.{passed}
-use Rattle.avc_bits.specs.Reader.{reader_bits}
+use Rattle.avc_bits.proofs.Common.{◌+◌, ◌*◌, arith, refl, rules, passed, reader_bits}
 use Rattle.avc_bits.proofs.Reading.{short_ue_from}
 use Rattle.avc_bits.proofs.reader.BitReader.short_ue.Goals as goal
 

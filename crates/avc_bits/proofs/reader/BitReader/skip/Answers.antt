@@ -1,5 +1,4 @@
-use Rattle.std.proofs.Common.{arith, ap, ◌∙◌, sym, Ok}
-use Rattle.avc_bits.specs.Reader.{reader_bits}
+use Rattle.avc_bits.proofs.Common.{arith, ap, ◌∙◌, sym, Ok, reader_bits}
 use Rattle.avc_bits.proofs.Reading.{length-ahead, skip_short, skip_long}
 use Rattle.avc_bits.proofs.reader.BitReader.skip.Goals as goal
 

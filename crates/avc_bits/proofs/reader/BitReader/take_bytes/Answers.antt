@@ -1,5 +1,4 @@
-use Rattle.std.proofs.Common.{arith}
-use Rattle.avc_bits.specs.Reader.{reader_bits}
+use Rattle.avc_bits.proofs.Common.{arith, reader_bits}
 use Rattle.avc_bits.proofs.Reading.{length-ahead}
 use Rattle.avc_bits.proofs.Whole.{times_short, bytes_from}
 use Rattle.avc_bits.proofs.reader.BitReader.take_bytes.Goals as goal

@@ -1,5 +1,4 @@
-use Rattle.std.proofs.Common.{arith}
-use Rattle.avc_bits.specs.Reader.{reader_bits}
+use Rattle.avc_bits.proofs.Common.{arith, reader_bits}
 use Rattle.avc_bits.proofs.Reading.{length-ahead, u_short, u_from}
 use Rattle.avc_bits.proofs.reader.BitReader.u.Goals as goal
 

@@ -1,5 +1,4 @@
-use Rattle.std.proofs.Common.{arith, ◌+◌, ◌*◌}
-use Rattle.avc_bits.specs.Reader.{reader_bits}
+use Rattle.avc_bits.proofs.Common.{arith, ◌+◌, ◌*◌, reader_bits}
 use Rattle.avc_bits.proofs.Reading.{length-ahead, ue_too_long, ue_short, ue_from, ue_fits, within_bytes}
 use Rattle.avc_bits.proofs.reader.BitReader.ue_after.Goals as goal
 

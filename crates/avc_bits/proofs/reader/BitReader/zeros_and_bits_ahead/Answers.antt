@@ -1,6 +1,5 @@
-use Rattle.std.proofs.Common.{◌≡◌, ◌+◌, ◌*◌, ◌/◌, ◌%◌, ◌-◌, ◌^◌, arith, refl, ap, sym, ◌∙◌, take, drop, ℕ, List, Bool, ◌≤◌, ◌<◌}
-use Rattle.avc_bits.specs.Bits.{number_of, passed}
-use Rattle.avc_bits.specs.Reader.{reader_bits}
+use Rattle.avc_bits.proofs.Common.{◌≡◌, ◌+◌, ◌*◌, ◌/◌, ◌%◌, ◌-◌, ◌^◌, arith, refl, ap, sym, ◌∙◌, take, drop, ℕ, List, Bool, ◌≤◌, ◌<◌}
+use Rattle.avc_bits.proofs.Common.{number_of, passed, reader_bits}
 use Rattle.avc_bits.proofs.Numbers.{pow_lt_trans}
 use Rattle.avc_bits.proofs.Reading.{length-ahead, take-ahead, number-take_lt, before_from, zeros_value, u_after}
 use Rattle.std.specs.Int.Count.{count_leading_zeros}

@@ -1,5 +1,4 @@
-use Rattle.std.proofs.Common.{arith}
-use Rattle.avc_bits.specs.Reader.{reader_bits}
+use Rattle.avc_bits.proofs.Common.{arith, reader_bits}
 use Rattle.avc_bits.proofs.Reading.{length-ahead, before_many, before_short, before_from}
 use Rattle.avc_bits.proofs.reader.BitReader.zeros_before_one.Goals as goal
 

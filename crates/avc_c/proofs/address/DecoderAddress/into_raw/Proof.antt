@@ -1,27 +1,11 @@
 -- `into_raw` hands on what the state owns.
-use Rattle.std.proofs.Common.{◌≡◌, List, [], ◌∷◌, ◌++◌, refl, sym, subst}
-use mir.Val.{Val, vptr}
-use base.Logic.{SProp, ent, id⊢, emp}
-use prog.Wp.{WpFn}
-use contract.Monad.{fact, fact_i}
-use contract.Running.{tables}
+use Rattle.avc_c.proofs.Common.{◌≡◌, List, [], ◌∷◌, ◌++◌, refl, sym, subst, Val, vptr, SProp, ent, id⊢, emp, WpFn, fact, fact_i, tables}
+use Rattle.avc_c.proofs.Common.{stop, fld, of_opd, no_more, and_then, returns, enter, agg, sub, whole, owns, types_at, plain, block_ptr}
+use Rattle.avc_c.proofs.Common.{nothing, heard, alive, Stays, stay_dropped, walk_of, Goes-blank, proved_at, leaves, ghosts, Some, IsOpen}
 use types.Kit.{‵, raw, ◌⊛◌, ◌$◌, ◌∵◌, !, qed, by, move, keep, split, fsplit, fjoin, suffices, use0}
-use types.Run.{stop, fld, of_opd, no_more, and_then, returns, enter}
 use types.ByLocal.{alloc_all, pass_all, free_all, look_at, get, get_in, sets}
-use types.Part.{agg, sub, whole}
-use denote.RattleType.{owns}
-use denote.Signature.{types_at, plain}
-use denote.RawPtr.{block_ptr}
-use denote.Steps.{nothing, heard}
-use denote.Triple.Entry.{alive}
-use denote.Triple.Walked.{Stays, stay_dropped, walk_of}
-use Rattle.core.proofs.alloc.Calls.{Goes-blank}
-use Rattle.std.proofs.raw_atomic.Walks.{proved_at, leaves}
 use Rattle.std.proofs.alloc.Global.TheLaws as global_laws
-use Rattle.std.specs.contracts.impls.GlobalAllocator.TheImpl.{ghosts}
 use Rattle.avc_c.proofs.RawBoxes.{two, is_typed, closed}
-use Rattle.std.specs.Prelude.{Some}
-use Rattle.avc_c.specs.OpenDecoders.{IsOpen}
 use Rattle.avc_c.proofs.Addresses.{R, Z, Address, decoder_in, address_out}
 use Rattle.avc_c.specs.contracts.address.DecoderAddress.into_raw.{ended, clauses}
 use Rattle.avc_c.specs.contracts.address.DecoderAddress.into_raw.Key.{name as #self}

@@ -1,27 +1,11 @@
 -- `none` owns nothing.
-use Rattle.std.proofs.Common.{◌≡◌, List, [], ◌∷◌, ◌++◌, refl, sym, subst}
-use mir.Val.{Val, vnull}
-use base.Logic.{SProp, ent, id⊢, emp}
-use base.Fml.{ftrue}
-use prog.Wp.{WpFn}
-use contract.Monad.{fact, fact_i}
-use contract.Running.{tables}
+use Rattle.avc_c.proofs.Common.{◌≡◌, List, [], ◌∷◌, ◌++◌, refl, sym, subst, Val, vnull, SProp, ent, id⊢, emp, ftrue, WpFn, fact, fact_i}
+use Rattle.avc_c.proofs.Common.{tables, lit, no_more, and_then, returns, enter, agg, owns, types_at, plain, null_ptr, nothing, alive, Stays}
+use Rattle.avc_c.proofs.Common.{stay_dropped, walk_of, Option, None, Goes-blank, handle_tells, proved_at, leaves, OpenDecoder}
 use types.Kit.{‵, raw, ◌⊛◌, ◌$◌, ◌∵◌, !, qed, by, move, keep, drop, split, fsplit, fjoin, suffices, use0}
-use types.Run.{lit, no_more, and_then, returns, enter}
 use types.ByLocal.{alloc_all, pass_all, free_all, look_at, get, sets}
-use types.Part.{agg}
-use denote.RattleType.{owns}
-use denote.Signature.{types_at, plain}
-use denote.RawPtr.{null_ptr}
-use denote.Steps.{nothing}
-use denote.Triple.Entry.{alive}
-use denote.Triple.Walked.{Stays, stay_dropped, walk_of}
-use Rattle.std.specs.Prelude.{Option, None}
-use Rattle.core.proofs.alloc.Calls.{Goes-blank, handle_tells}
-use Rattle.std.proofs.raw_atomic.Walks.{proved_at, leaves}
 use Rattle.avc_c.proofs.RawBoxes.{two}
 use Rattle.avc_c.proofs.Addresses.{Z, heap, null_typed, address_in}
-use Rattle.avc_c.specs.declared.address.OpenDecoder.{OpenDecoder}
 use Rattle.avc_c.specs.contracts.address.DecoderAddress.none.{ended, clauses}
 use Rattle.avc_c.specs.contracts.address.DecoderAddress.none.Key.{name as #self}
 use Rattle.avc_c.proofs.address.DecoderAddress.none.Statement.{statement}

@@ -1,26 +1,10 @@
 -- `of_raw` owns what the box owned.
-use Rattle.std.proofs.Common.{◌≡◌, List, [], ◌∷◌, ◌++◌, refl, sym, subst}
-use mir.Val.{Val, vptr}
-use base.Logic.{SProp, ent, id⊢, emp}
-use base.Fml.{ftrue}
-use prog.Wp.{WpFn}
-use contract.Monad.{fact, fact_i}
-use contract.Running.{tables}
+use Rattle.avc_c.proofs.Common.{◌≡◌, List, [], ◌∷◌, ◌++◌, refl, sym, subst, Val, vptr, SProp, ent, id⊢, emp, ftrue, WpFn, fact, fact_i}
+use Rattle.avc_c.proofs.Common.{tables, stop, fld, of_opd, no_more, and_then, returns, enter, agg, sub, whole, owns, types_at, plain}
+use Rattle.avc_c.proofs.Common.{block_ptr, nothing, alive, Stays, stay_dropped, walk_of, Some, Goes-blank, proved_at, leaves, ghosts}
 use types.Kit.{‵, raw, ◌⊛◌, ◌$◌, ◌∵◌, !, qed, by, move, keep, drop, split, fsplit, fjoin, suffices, use0}
-use types.Run.{stop, fld, of_opd, no_more, and_then, returns, enter}
 use types.ByLocal.{alloc_all, pass_all, free_all, look_at, get, get_in, sets}
-use types.Part.{agg, sub, whole}
-use denote.RattleType.{owns}
-use denote.Signature.{types_at, plain}
-use denote.RawPtr.{block_ptr}
-use denote.Steps.{nothing}
-use denote.Triple.Entry.{alive}
-use denote.Triple.Walked.{Stays, stay_dropped, walk_of}
-use Rattle.std.specs.Prelude.{Some}
-use Rattle.core.proofs.alloc.Calls.{Goes-blank}
-use Rattle.std.proofs.raw_atomic.Walks.{proved_at, leaves}
 use Rattle.std.proofs.alloc.Global.TheLaws as global_laws
-use Rattle.std.specs.contracts.impls.GlobalAllocator.TheImpl.{ghosts}
 use Rattle.avc_c.proofs.RawBoxes.{two, Apart, is_typed, opened}
 use Rattle.avc_c.proofs.Addresses.{R, Z, address_in}
 use Rattle.avc_c.specs.contracts.address.DecoderAddress.of_raw.{ended, clauses}

@@ -1,8 +1,4 @@
-use Rattle.std.proofs.Common.{◌≡◌, to_z, of_z, w32, pos, ◌+◌, ◌*◌, arith}
-use Rattle.std.proofs.lemmas.Int.{ints}
-use Rattle.avc_plane.proofs.Strided.{strided_same}
-use Rattle.avc_intra.specs.Neighbourhood.{top, left_of}
-use Rattle.avc_intra.specs.Luma16x16.{predict_plane16x16}
+use Rattle.avc_intra.proofs.Common.{◌≡◌, to_z, of_z, w32, pos, ◌+◌, ◌*◌, arith, ints, strided_same, top, left_of, predict_plane16x16}
 use Rattle.avc_intra.proofs.PlaneLaws.{gradient_of_side, same_plane}
 use Rattle.avc_intra.proofs.luma16x16.Around16x16.lay_plane.Goals as goal
 

@@ -1,9 +1,5 @@
-use Rattle.std.proofs.Common.{◌≡◌, true, false, ap, sym, subst, refl, ◌∙◌, arith, rules}
-use Rattle.avc_bits.specs.Bits.{more_data}
-use Rattle.avc_bits.specs.Reader.{reader_bits}
-use Rattle.avc_mbsyntax.specs.declared.stage.Stage.TheVariants.{Skipped}
-use Rattle.avc_mbsyntax.specs.SliceData.{stopped}
-use Rattle.avc_mbsyntax.specs.Rest.{Follows, IsStage, one_more, rest_at, rest_of}
+use Rattle.avc_mbsyntax.proofs.Common.{◌≡◌, true, false, ap, sym, subst, refl, ◌∙◌, arith, rules, more_data, reader_bits, Skipped, stopped}
+use Rattle.avc_mbsyntax.proofs.Common.{Follows, IsStage, one_more, rest_at, rest_of}
 use Rattle.avc_mbsyntax.proofs.DataSteps.{run_ends, run_goes_on}
 use Rattle.avc_mbsyntax.proofs.slice_data.SliceData.go_on.Goals as goal
 

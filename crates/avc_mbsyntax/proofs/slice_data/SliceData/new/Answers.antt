@@ -1,7 +1,4 @@
-use Rattle.std.proofs.Common.{ap, arith, sym}
-use Rattle.avc_bits.specs.Reader.{reader_bits}
-use Rattle.avc_mbsyntax.specs.SliceData.{data_from}
-use Rattle.avc_mbsyntax.specs.Rest.{rest_of}
+use Rattle.avc_mbsyntax.proofs.Common.{ap, arith, sym, reader_bits, data_from, rest_of}
 use Rattle.avc_mbsyntax.proofs.slice_data.SliceData.new.Goals as goal
 
 pub returns : goal.returns

@@ -1,7 +1,4 @@
-use Rattle.std.proofs.Common.{◌≡◌, ap}
-use Rattle.avc_bits.specs.Reader.{reader_bits}
-use Rattle.avc_mbsyntax.specs.SliceData.{ended}
-use Rattle.avc_mbsyntax.specs.Rest.{rest_at, rest_of}
+use Rattle.avc_mbsyntax.proofs.Common.{◌≡◌, ap, reader_bits, ended, rest_at, rest_of}
 use Rattle.avc_mbsyntax.proofs.slice_data.SliceData.next.Goals as goal
 
 pub returns-in-Ended : goal.returns-in-Ended

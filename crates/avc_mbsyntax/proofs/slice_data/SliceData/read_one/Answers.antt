@@ -1,12 +1,5 @@
-use Rattle.std.proofs.Common.{◌≡◌, ◌<◌, ◌-◌, false, ap, sym, subst, ◌∙◌, arith, length, Ok}
-use Rattle.std.specs.Prelude.{◌==◌}
-use Rattle.std.specs.Option.{option_copied}
-use Rattle.avc_bits.specs.Bits.{more_data}
-use Rattle.avc_bits.specs.Reader.{reader_bits}
-use Rattle.avc_mbsyntax.specs.Ranges.{IsSyntax}
-use Rattle.avc_mbsyntax.specs.Reading.{macroblock}
-use Rattle.avc_mbsyntax.specs.SliceData.{context, placed}
-use Rattle.avc_mbsyntax.specs.Rest.{IsStage, rest_of}
+use Rattle.avc_mbsyntax.proofs.Common.{◌≡◌, ◌<◌, ◌-◌, false, ap, sym, subst, ◌∙◌, arith, length, Ok, ◌==◌, option_copied, more_data}
+use Rattle.avc_mbsyntax.proofs.Common.{reader_bits, IsSyntax, macroblock, context, placed, IsStage, rest_of}
 use Rattle.avc_mbsyntax.proofs.DataSteps.{context_is, is_open, one_longer, one_read, stage_is}
 use Rattle.avc_mbsyntax.proofs.slice_data.SliceData.read_one.Goals as goal
 

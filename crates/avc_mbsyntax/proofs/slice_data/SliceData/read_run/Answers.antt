@@ -1,8 +1,5 @@
-use Rattle.std.proofs.Common.{◌≡◌, ap, ◌∙◌, rules}
+use Rattle.avc_mbsyntax.proofs.Common.{◌≡◌, ap, ◌∙◌, rules, reader_bits, stopped, rest_at, rest_of}
 use Rattle.avc_types.specs.declared.fault.Fault.TheVariants as faults
-use Rattle.avc_bits.specs.Reader.{reader_bits}
-use Rattle.avc_mbsyntax.specs.SliceData.{stopped}
-use Rattle.avc_mbsyntax.specs.Rest.{rest_at, rest_of}
 use Rattle.avc_mbsyntax.proofs.DataSteps.{p_fault, p_full, p_over, p_run}
 use Rattle.avc_mbsyntax.proofs.slice_data.SliceData.read_run.Goals as goal
 

@@ -1,8 +1,5 @@
-use Rattle.std.proofs.Common.{◌≡◌, ◌<◌, ◌+◌, ◌-◌, ◌++◌, ◌∷◌, [], suc, ap, sym, subst, ◌∙◌, arith, length}
-use Rattle.avc_bits.specs.Reader.{reader_bits}
-use Rattle.avc_mbsyntax.specs.declared.stage.Stage.TheVariants.{Skipped}
-use Rattle.avc_mbsyntax.specs.SliceData.{placed, skipped}
-use Rattle.avc_mbsyntax.specs.Rest.{IsStage, rest_at, rest_of}
+use Rattle.avc_mbsyntax.proofs.Common.{◌≡◌, ◌<◌, ◌+◌, ◌-◌, ◌++◌, ◌∷◌, [], suc, ap, sym, subst, ◌∙◌, arith, length, reader_bits, Skipped}
+use Rattle.avc_mbsyntax.proofs.Common.{placed, skipped, IsStage, rest_at, rest_of}
 use Rattle.avc_mbsyntax.proofs.DataSteps.{one_longer, skip_more}
 use Rattle.avc_mbsyntax.proofs.slice_data.SliceData.skip.Goals as goal
 

@@ -1,7 +1,4 @@
-use Rattle.std.proofs.Common.{◌≡◌, false, ap, sym, subst, ◌∙◌, rules}
-use Rattle.avc_bits.specs.Reader.{reader_bits}
-use Rattle.avc_mbsyntax.specs.SliceData.{stopped}
-use Rattle.avc_mbsyntax.specs.Rest.{Follows, one_more, rest_at, rest_of}
+use Rattle.avc_mbsyntax.proofs.Common.{◌≡◌, false, ap, sym, subst, ◌∙◌, rules, reader_bits, stopped, Follows, one_more, rest_at, rest_of}
 use Rattle.avc_mbsyntax.proofs.DataSteps.{i_start}
 use Rattle.avc_mbsyntax.proofs.slice_data.SliceData.start.Goals as goal
 

@@ -1,8 +1,4 @@
-use Rattle.std.specs.Prelude.{Err}
-use Rattle.std.proofs.Common.{◌≡◌, ◌<◌, rules, sym, ◌∙◌, arith, length, ap}
-use Rattle.avc_neigh.specs.Around.{facts_of}
-use Rattle.avc_neigh.specs.BlockNear.{motion_near}
-use Rattle.avc_motion.specs.Decoding.{decoded}
+use Rattle.avc_motion.proofs.Common.{Err, ◌≡◌, rules, sym, ◌∙◌, arith, facts_of, motion_near}
 use Rattle.avc_motion.proofs.Stepping.{goes_on, stops}
 use Rattle.avc_motion.proofs.parts.Inter.decode_parts.Goals as goal
 

@@ -1,7 +1,4 @@
-use Rattle.std.proofs.Common.{◌≡◌, drop}
-use Rattle.avc_neigh.specs.Around.{facts_of}
-use Rattle.avc_neigh.specs.BlockNear.{motion_near}
-use Rattle.avc_motion.specs.Decoding.{decoded}
+use Rattle.avc_motion.proofs.Common.{◌≡◌, drop, facts_of, motion_near, decoded}
 use Rattle.avc_motion.proofs.parts.Inter.decode_parts.Given as goal
 
 abbrev pub invariant-loop-i : goal.invariant-loop-i

@@ -1,7 +1,4 @@
-use Rattle.std.proofs.Common.{◌≡◌, ◌+◌, rules, [], ◌∷◌}
-use Rattle.avc_types.specs.Macroblock.{part, quarter_x, quarter_y}
-use Rattle.avc_neigh.specs.Around.{facts_of}
-use Rattle.avc_neigh.specs.BlockNear.{motion_near}
+use Rattle.avc_motion.proofs.Common.{◌≡◌, ◌+◌, rules, [], ◌∷◌, part, quarter_x, quarter_y, facts_of, motion_near}
 use Rattle.avc_motion.proofs.Stepping.{of_same_parts}
 use Rattle.avc_motion.proofs.parts.Inter.decode_quarter.Goals as goal
 

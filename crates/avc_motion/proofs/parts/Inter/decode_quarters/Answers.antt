@@ -1,10 +1,5 @@
-use Rattle.std.specs.Prelude.{Err, Some, None, slice_index_or, take}
-use Rattle.std.proofs.Common.{◌≡◌, ◌+◌, ◌-◌, ◌≤◌, ◌∙◌, rules, arith, drop, length, sym, ap}
-use Rattle.avc_types.specs.Macroblock.{parts_of_quarter, quarter_x, quarter_y}
-use Rattle.avc_types.specs.declared.macroblock.SubMbType.TheVariants.{Sub8x8}
-use Rattle.avc_neigh.specs.Around.{facts_of}
-use Rattle.avc_neigh.specs.BlockNear.{motion_near}
-use Rattle.avc_motion.specs.Decoding.{decoded}
+use Rattle.avc_motion.proofs.Common.{Err, slice_index_or, ◌≡◌, ◌∙◌, rules, arith, sym, ap}
+use Rattle.avc_motion.proofs.Common.{parts_of_quarter, quarter_x, quarter_y, Sub8x8, facts_of, motion_near, decoded}
 use Rattle.avc_motion.proofs.Stepping.{decodes_ok, decodes_err, quarter_goes_on, quarter_stops, all_behind}
 use Rattle.avc_motion.proofs.parts.Inter.decode_quarters.Goals as goal
 

@@ -1,8 +1,4 @@
-use Rattle.std.proofs.Common.{◌≡◌, ◌≤◌, ◌*◌, drop}
-use Rattle.avc_types.specs.Macroblock.{parts_of_quarters}
-use Rattle.avc_neigh.specs.Around.{facts_of}
-use Rattle.avc_neigh.specs.BlockNear.{motion_near}
-use Rattle.avc_motion.specs.Decoding.{decoded}
+use Rattle.avc_motion.proofs.Common.{◌≡◌, ◌≤◌, ◌*◌, drop, parts_of_quarters, facts_of, motion_near, decoded}
 use Rattle.avc_motion.proofs.parts.Inter.decode_quarters.Given as goal
 
 abbrev pub invariant-loop-quarter : goal.invariant-loop-quarter

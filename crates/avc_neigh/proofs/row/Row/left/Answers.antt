@@ -1,5 +1,4 @@
-use Rattle.std.proofs.Common.{◌∙◌, ap}
-use Rattle.avc_neigh.specs.Around.{of_slice}
+use Rattle.avc_neigh.proofs.Common.{◌∙◌, ap, of_slice}
 use Rattle.avc_neigh.proofs.Asked.{left_is}
 use Rattle.avc_neigh.proofs.row.Row.left.Goals as goal
 

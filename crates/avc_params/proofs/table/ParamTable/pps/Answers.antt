@@ -1,5 +1,4 @@
-use Rattle.std.proofs.Common.{◌∙◌}
-use Rattle.avc_params.specs.Within.{PpsIsInForce}
+use Rattle.avc_params.proofs.Common.{◌∙◌, PpsIsInForce}
 use Rattle.avc_params.proofs.InForce.{lent, pps_in_force_is}
 use Rattle.avc_params.proofs.table.ParamTable.pps.Goals as goal
 

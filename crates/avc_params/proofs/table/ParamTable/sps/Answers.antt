@@ -1,5 +1,4 @@
-use Rattle.std.proofs.Common.{◌∙◌}
-use Rattle.avc_params.specs.Within.{SpsIsInForce}
+use Rattle.avc_params.proofs.Common.{◌∙◌, SpsIsInForce}
 use Rattle.avc_params.proofs.InForce.{lent, sps_in_force_is}
 use Rattle.avc_params.proofs.table.ParamTable.sps.Goals as goal
 

@@ -1,7 +1,4 @@
-use Rattle.std.proofs.Common.{◌∙◌, ◌<◌, sym, ap, subst}
-use Rattle.std.proofs.lemmas.Grind.{get_or_default_zero}
-use Rattle.avc_plane.specs.Plane.{Plane, sample}
-use Rattle.avc_plane.specs.Padded.{stored_place}
+use Rattle.avc_plane.proofs.Common.{◌∙◌, ◌<◌, sym, ap, subst, get_or_default_zero, Plane, sample, stored_place}
 use Rattle.avc_plane.proofs.Stored.{fits, stored_sample}
 use Rattle.avc_plane.proofs.padded.PaddedPlane.get.Goals as goal
 

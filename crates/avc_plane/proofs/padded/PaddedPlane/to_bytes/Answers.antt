@@ -1,8 +1,5 @@
-use Rattle.std.proofs.Common.{ℕ, ◌≡◌, ◌+◌, ◌*◌, ◌∙◌, ◌++◌, List, length, take, drop, slice_range, arith, ap, sym, subst, mul_comm}
-use Rattle.std.proofs.Math.Seq.{take-add, take-length}
-use Rattle.avc_plane.specs.Plane.{Plane}
-use Rattle.avc_plane.specs.Padded.{stored_place}
-use Rattle.std.specs.Prelude.{slice_index}
+use Rattle.avc_plane.proofs.Common.{ℕ, ◌≡◌, ◌+◌, ◌*◌, ◌∙◌, ◌++◌, List, length, take, drop, slice_range, arith, ap, sym, subst, mul_comm}
+use Rattle.avc_plane.proofs.Common.{take-add, take-length, Plane, stored_place, slice_index}
 use Rattle.avc_plane.proofs.PlaneMaps.{length-plane_of}
 use Rattle.avc_plane.proofs.padded.PaddedPlane.to_bytes.Goals as goal
 

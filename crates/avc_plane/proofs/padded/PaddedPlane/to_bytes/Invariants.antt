@@ -1,5 +1,4 @@
-use Rattle.std.proofs.Common.{◌≡◌, ◌*◌}
-use Rattle.std.specs.Prelude.{take}
+use Rattle.avc_plane.proofs.Common.{◌≡◌, ◌*◌, take}
 use Rattle.avc_plane.proofs.padded.PaddedPlane.to_bytes.Given as goal
 
 abbrev pub invariant-loop-y : goal.invariant-loop-y

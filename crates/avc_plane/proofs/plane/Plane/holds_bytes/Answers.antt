@@ -1,7 +1,4 @@
-use Rattle.std.proofs.Common.{◌≡◌, ◌*◌, length, subst}
-use Rattle.std.specs.Prelude.{slice_index}
-use Rattle.avc_plane.specs.Plane.{Plane}
-use Rattle.avc_plane.specs.Padded.{stored_place}
+use Rattle.avc_plane.proofs.Common.{◌≡◌, ◌*◌, length, subst, slice_index, Plane, stored_place}
 use Rattle.avc_plane.proofs.PlaneMaps.{length-plane_of}
 use Rattle.avc_plane.proofs.plane.Plane.holds_bytes.Goals as goal
 

@@ -1,5 +1,4 @@
-use Rattle.std.proofs.Common.{◌<◌, ◌≤◌, ℕ}
-use Rattle.avc_plane.specs.Plane.{sample}
+use Rattle.avc_plane.proofs.Common.{◌<◌, ◌≤◌, ℕ, sample}
 use Rattle.avc_plane.proofs.plane.Plane.holds_bytes.Given as goal
 
 abbrev pub invariant-loop-y : goal.invariant-loop-y

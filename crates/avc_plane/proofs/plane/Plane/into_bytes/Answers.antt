@@ -1,5 +1,4 @@
-use Rattle.std.proofs.Common.{◌∙◌, ap}
-use Rattle.avc_plane.specs.Plane.{Plane}
+use Rattle.avc_plane.proofs.Common.{◌∙◌, ap, Plane}
 use Rattle.avc_plane.proofs.Stored.{all_stored}
 use Rattle.avc_plane.proofs.plane.Plane.into_bytes.Goals as goal
 

@@ -1,7 +1,4 @@
-use Rattle.std.proofs.Common.{◌≡◌, ◌+◌, ◌*◌, ◌<◌, ◌∙◌, length, arith, ap, sym, subst}
-use Rattle.std.proofs.lemmas.List.{with_items_is}
-use Rattle.avc_plane.specs.Plane.{Plane}
-use Rattle.avc_plane.specs.Padded.{inner_plane, IsPadded}
+use Rattle.avc_plane.proofs.Common.{◌≡◌, ◌+◌, ◌*◌, ◌<◌, ◌∙◌, length, arith, ap, sym, subst, with_items_is, Plane, inner_plane, IsPadded}
 use Rattle.avc_plane.proofs.Surrounded.{same_plane, surrounded}
 use Rattle.avc_plane.proofs.plane.Plane.pad.Goals as goal
 

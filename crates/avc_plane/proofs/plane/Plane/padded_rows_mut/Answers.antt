@@ -1,7 +1,4 @@
-use Rattle.std.proofs.Common.{ℕ, List, refl, sym, ap, subst, ◌∙◌}
-use Rattle.avc_plane.specs.Plane.{Plane}
-use Rattle.avc_plane.specs.Padded.{HaveSamples}
-use Rattle.avc_plane.specs.Lending.{with_rows}
+use Rattle.avc_plane.proofs.Common.{ℕ, List, refl, sym, ap, subst, ◌∙◌, Plane, HaveSamples, with_rows}
 use Rattle.avc_plane.proofs.Lending.{rows_written, have_samples}
 use Rattle.avc_plane.proofs.plane.Plane.padded_rows_mut.Goals as goal
 

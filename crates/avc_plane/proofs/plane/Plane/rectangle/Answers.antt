@@ -1,7 +1,4 @@
-use Rattle.std.proofs.Common.{◌≡◌, ◌*◌, ◌∙◌, ◌+◌, ◌≤◌, length, arith, sym, ap, subst}
-use Rattle.std.specs.Prelude.{slice_index}
-use Rattle.avc_plane.specs.Plane.{Plane, sample}
-use Rattle.avc_plane.specs.Padded.{stored_place}
+use Rattle.avc_plane.proofs.Common.{◌≡◌, ◌*◌, ◌∙◌, ◌+◌, ◌≤◌, length, arith, sym, ap, subst, slice_index, Plane, sample, stored_place}
 use Rattle.avc_plane.proofs.PlaneMaps.{length-plane_of}
 use Rattle.avc_plane.proofs.Stored.{stored_sample}
 use Rattle.avc_plane.proofs.Rectangles.{small, room, place}

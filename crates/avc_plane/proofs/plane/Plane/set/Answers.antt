@@ -1,5 +1,4 @@
-use Rattle.std.proofs.Common.{◌∙◌, ◌<◌, sym, ap, subst}
-use Rattle.avc_plane.specs.Plane.{Plane, with_sample}
+use Rattle.avc_plane.proofs.Common.{◌∙◌, ◌<◌, sym, ap, subst, Plane, with_sample}
 use Rattle.avc_plane.proofs.Stored.{stored_set}
 use Rattle.avc_plane.proofs.plane.Plane.set.Goals as goal
 

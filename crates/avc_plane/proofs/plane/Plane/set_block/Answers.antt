@@ -1,9 +1,5 @@
 use Rattle.std.proofs.Common.{ℕ, ◌≡◌, ◌+◌, ◌-◌, ◌*◌, ◌∙◌, ◌<◌, ◌≤◌, length, get_or, take, drop, length-drop, arith, ap, subst, mul_comm}
-use Rattle.std.specs.Prelude.{slice_index}
-use Rattle.std.proofs.lemmas.List.{length-take-le, get_or-take, get_or-drop}
-use Rattle.std.proofs.lemmas.Nat.{row_fits}
-use Rattle.avc_plane.specs.Plane.{Plane, with_block}
-use Rattle.avc_plane.specs.Padded.{stored_place}
+use Rattle.avc_plane.proofs.Common.{slice_index, length-take-le, get_or-take, get_or-drop, row_fits, Plane, with_block, stored_place}
 use Rattle.avc_plane.proofs.PlaneMaps.{length-plane_of}
 use Rattle.avc_plane.proofs.Blocks.{no_line, line_more}
 use Rattle.avc_plane.proofs.plane.Plane.set_block.Goals as goal

@@ -1,6 +1,4 @@
-use Rattle.std.proofs.Common.{◌≡◌, ◌+◌, ◌*◌}
-use Rattle.std.specs.Prelude.{slice_index}
-use Rattle.avc_plane.specs.Plane.{with_block}
+use Rattle.avc_plane.proofs.Common.{◌≡◌, ◌+◌, ◌*◌, slice_index, with_block}
 use Rattle.avc_plane.proofs.plane.Plane.set_block.Given as goal
 
 abbrev pub invariant-loop-row : goal.invariant-loop-row

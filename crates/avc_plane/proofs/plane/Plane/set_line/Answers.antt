@@ -1,11 +1,7 @@
-use Rattle.std.proofs.Common.{ℕ, ◌≡◌, ◌+◌, ◌-◌, ◌∙◌, ◌<◌, ◌≤◌, ◌++◌, List, length, take, drop, append_assoc, arith, refl, sym, ap, subst}
-use Rattle.std.specs.Prelude.{slice_index}
-use Rattle.std.proofs.Math.Seq.{take-length}
+use Rattle.avc_plane.proofs.Common.{ℕ, ◌≡◌, ◌+◌, ◌-◌, ◌∙◌, ◌<◌, ◌≤◌, ◌++◌, List, length, take, drop, append_assoc, arith, refl, sym, ap}
+use Rattle.avc_plane.proofs.Common.{subst, slice_index, take-length, with_items_is, Plane, with_block, stored_place, inner_plane}
 use borrow.Rule.Slice.PartMut.{put_mid}
-use Rattle.std.proofs.lemmas.List.{with_items_is}
 use Rattle.std.proofs.lemmas.Slice.{put_mid-paste}
-use Rattle.avc_plane.specs.Plane.{Plane, with_block}
-use Rattle.avc_plane.specs.Padded.{stored_place, inner_plane}
 use Rattle.avc_plane.proofs.Blocks.{spliced, length-spliced, within, stored_line}
 use Rattle.avc_plane.proofs.plane.Plane.set_line.Goals as goal
 

@@ -1,9 +1,5 @@
-use Rattle.std.proofs.Common.{◌≡◌, ◌∙◌, ℕ, ◌+◌, ◌*◌, ◌≤◌, List, length, arith, sym, ap, subst}
-use Rattle.std.specs.Prelude.{slice_index}
-use Rattle.std.proofs.lemmas.List.{with_items_is}
-use Rattle.avc_plane.specs.Plane.{Plane, with_block}
-use Rattle.avc_plane.specs.Padded.{inner_plane}
-use Rattle.avc_plane.specs.Strided.{IsSameOutside}
+use Rattle.avc_plane.proofs.Common.{◌≡◌, ◌∙◌, ℕ, ◌+◌, ◌*◌, ◌≤◌, List, length, arith, sym, ap, subst, slice_index, with_items_is, Plane}
+use Rattle.avc_plane.proofs.Common.{with_block, inner_plane, IsSameOutside}
 use Rattle.avc_plane.proofs.Rectangles.{small, room, stored_rectangle}
 use Rattle.avc_plane.proofs.plane.Plane.store_rectangle.Goals as goal
 

@@ -1,6 +1,4 @@
-use Rattle.std.proofs.Common.{◌*◌}
-use Rattle.std.proofs.lemmas.List.{take-replicate}
-use Rattle.std.proofs.lemmas.Nat.{mul-le}
+use Rattle.avc_types.proofs.Common.{◌*◌, take-replicate, mul-le}
 use Rattle.avc_types.proofs.block.Block.new.Goals as goal
 
 pub returns : goal.returns

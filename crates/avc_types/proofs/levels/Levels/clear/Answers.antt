@@ -1,6 +1,4 @@
-use Rattle.std.proofs.Common.{◌≡◌, ℤ, pos, ◌∙◌, length, ap, sym, arith}
-use Rattle.std.specs.Prelude.{replicate}
-use Rattle.avc_types.specs.Macroblock.{total_coeff}
+use Rattle.avc_types.proofs.Common.{◌≡◌, pos, ◌∙◌, length, ap, sym, arith, replicate, total_coeff}
 use Rattle.avc_types.proofs.NoLevels.{none_counted}
 use Rattle.avc_types.proofs.levels.Levels.clear.Goals as goal
 

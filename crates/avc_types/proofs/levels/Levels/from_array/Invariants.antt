@@ -1,5 +1,4 @@
-use Rattle.std.proofs.Common.{◌≡◌, ◌≤◌, take}
-use Rattle.avc_types.specs.Macroblock.{total_coeff}
+use Rattle.avc_types.proofs.Common.{◌≡◌, ◌≤◌, take, total_coeff}
 use Rattle.avc_types.proofs.levels.Levels.from_array.Given as goal
 
 abbrev pub invariant-levels : goal.invariant-levels

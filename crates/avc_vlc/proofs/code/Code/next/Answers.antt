@@ -1,5 +1,4 @@
-use Rattle.std.proofs.Common.{◌≡◌, ◌≤◌, rules, length, min, arith}
-use Rattle.avc_bits.specs.Reader.{reader_bits}
+use Rattle.avc_vlc.proofs.Common.{◌≡◌, ◌≤◌, rules, length, min, arith, reader_bits}
 use Rattle.avc_vlc.proofs.Places.{code_is}
 use Rattle.avc_vlc.proofs.code.Code.next.Goals as goal
 use Rattle.avc_vlc.proofs.code.Code.next.Goals.{then-count-test+else-not-has, else-count-test}

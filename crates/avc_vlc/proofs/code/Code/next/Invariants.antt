@@ -1,5 +1,4 @@
-use Rattle.std.proofs.Common.{◌≤◌, length, min}
-use Rattle.avc_bits.specs.Reader.{reader_bits}
+use Rattle.avc_vlc.proofs.Common.{◌≤◌, length, min, reader_bits}
 use Rattle.avc_vlc.proofs.code.Code.next.Given as goal
 
 abbrev pub invariant-count : goal.invariant-count

@@ -1,5 +1,4 @@
-use Rattle.std.proofs.Common.{arith}
-use Rattle.std.proofs.lemmas.Nat.{and_mask, one_shl}
+use Rattle.avc_vlc.proofs.Common.{arith, and_mask, one_shl}
 use Rattle.avc_vlc.proofs.Places.{agree_place}
 use Rattle.avc_vlc.proofs.code.Code.place.Goals as goal
 

@@ -1,7 +1,4 @@
-use Rattle.std.proofs.Common.{◌≡◌, ◌<◌, length, get_or, take, Some, ap, ◌∙◌, sym, arith}
-use Rattle.std.specs.List.{list_any}
-use Rattle.std.proofs.lemmas.List.{take_all}
-use Rattle.avc_vlc.specs.Indexing.{holds, word_at}
+use Rattle.avc_vlc.proofs.Common.{◌≡◌, ◌<◌, length, get_or, take, Some, ap, ◌∙◌, sym, arith, list_any, take_all, holds, word_at}
 use Rattle.avc_vlc.proofs.Writing.{word_found, word_none}
 use Rattle.avc_vlc.proofs.codeword.Codeword.of.Goals as goal
 
