@@ -119,17 +119,6 @@ impl<'a> BitReader<'a> {
         }
     }
 
-    /// The same where 64 bits stand ahead, which is not tested.
-    #[inline(always)]
-    pub fn peek_ahead(&self, count: u32) -> u32
-        requires few { count ≤ 32 }
-        requires ahead { 64 ≤ length (reader_bits self.now).ahead }
-        ensures bits { bits_of count result ≡ take count ((reader_bits self.now).ahead ++ replicate count false) }
-        ensures below { result < 2 ^ count }
-    {
-        self.bits_of_eight(count)
-    }
-
     // the same, where the stop bit may be near
     #[cold]
     #[inline(never)]
