@@ -1,21 +1,24 @@
 -- The units that were not taken are handled, and with them all.
-use Rattle.std.proofs.Common.{◌≡◌, ◌+◌, ◌<◌, ℕ, zero, suc, Bool, true, false, List, [], ◌∷◌, ◌++◌, length, drop, Option, Some, None, Result, Err, refl, ap, sym, ◌∙◌, arith, add-one, add-zero, add_assoc, append_assoc, append-nil, le_of_eq, le_trans, length-append, subst}
-use Rattle.std.specs.Prelude.{◌==◌, slice_get}
+use Rattle.std.proofs.Common.{◌≡◌, ◌+◌, ◌<◌, ℕ, zero, suc, Bool, true, false, List, [], ◌∷◌, ◌++◌, length, drop, Option, Some, None, Result, Ok, Err, refl, ap, sym, ◌∙◌, arith, add-one, add-zero, add_assoc, append_assoc, append-nil, le_of_eq, le_trans, length-append, subst}
+use Rattle.std.specs.Prelude.{◌==◌, IfOk, IfSome, is_none, is_some, not, slice_get}
 use Rattle.std.proofs.lemmas.Bool.Decides.{nat_tests}
 use Rattle.std.proofs.Math.Seq.{drop-append_seam}
 use Rattle.avc_annexb.specs.SplitterState.{SplitterState, after_feed, after_finish, next_unit_of, after_next_unit}
 use Rattle.avc_annexb.specs.Units.{saturated, units}
 use Rattle.avc_annexb.specs.declared.unit.Unit.{Unit as Piece}
 use Rattle.avc_annexb.proofs.Staying.{units_stay_first}
+use Rattle.avc_types.specs.declared.memory.OutOfMemory.{OutOfMemory}
 use Rattle.avc_dpb.specs.declared.output.Output.{Output}
-use Rattle.avc_decoder.specs.Events.{State, after_unit, at_end, events_from, first_state, read_from, state_after, turns}
+use Rattle.avc_decoder.specs.Events.{State, after_unit, at_end, events, events_from, first_state, read_from, state_after, turns}
 use Rattle.avc_decoder.specs.Laws.{state_through}
-use Rattle.avc_decoder.specs.Machine.{Machine, IsFeedAnswer}
+use Rattle.avc_decoder.specs.Machine.{Machine, IsFeedAnswer, new_machine, next_event}
 use Rattle.avc_decoder.specs.Machine as machine
 use Rattle.avc_decoder.specs.declared.error.DecodeError.{DecodeError}
+use Rattle.avc_decoder.specs.declared.event.Event.{Event}
 use Rattle.avc_decoder.specs.declared.error.DecodeError.TheVariants.{OutOfMemory as NoMemory}
 use Rattle.avc_decoder.proofs.Growing.{events-append, read-append, turns_grow}
-use Rattle.avc_decoder.specs.States.{StreamState, IsDecoded, IsDecoderState, more_read, after_units_in_stream, after_stream_end, after_unit_in_stream}
+use Rattle.avc_decoder.specs.States.{StreamState, EndsIn, FeedsIn, HandlesAll, IsDecoded, IsDecoderState, IsNew, IsWorking, more_read, after_take_in, after_units_in_stream, after_stream_end, after_unit_in_stream, next_event_in, stream_state}
+use Rattle.avc_decoder.specs.declared.parts.Parts.{Parts}
 
 drop_some : {A : Type 0} (xs : List A) (n : ℕ) (x : A) → Some x ≡ slice_get xs n → drop n xs ≡ x ∷ drop (suc n) xs
 drop_some [] n x e = cc
@@ -54,7 +57,6 @@ refused_to m after new result going unended changes output e is =
 pub record Left (max : ℕ) (first : SplitterState) (flow : StreamState) (s : SplitterState) (t : StreamState) : Type 0 where
   pub splitter : s ≡ record first { taken = s.taken }
   pub going : first.failed ≡ false
-  pub on : t.failed ≡ false
   pub handles : after_units_in_stream (drop s.taken (units max first.bytes first.ended)) t ≡ after_units_in_stream (drop first.taken (units max first.bytes first.ended)) flow
   pub counts : s.taken + length (drop s.taken (units max first.bytes first.ended)) ≡ first.taken + length (drop first.taken (units max first.bytes first.ended))
 
@@ -69,7 +71,6 @@ one_more max first flow s s1 t t1 u l e es et =
     rw (es, et, add-one) (record {
       splitter = ap (λ (x : SplitterState). record x { taken = suc s.taken }) l.splitter;
       going = l.going;
-      on = refl;
       handles = sym (ap (λ us. after_units_in_stream us t) next) ∙ l.handles;
       counts = omega (arith, l.counts, ap length next);
     })
@@ -98,17 +99,16 @@ pub record Handled (us : List Piece) (f f' : StreamState) : Type 0 where
   pub events : f'.events ≡ f.events ++ events_from f.state us false
   pub taken : f'.taken ≡ f.taken
   pub read : (n : ℕ) → f.read ≡ saturated n → f'.read ≡ saturated (n + read_from f.state us)
-  pub on : f'.failed ≡ false
 
 -- a count that was held counts on as the whole does
 held_more : (n more : ℕ) → more_read (saturated n) more ≡ saturated (n + more)
 held_more n zero = ap saturated (sym (add-zero n))
 held_more n (suc more) = omega arith
 
-handled_all : (us : List Piece) (f : StreamState) → f.failed ≡ false → Handled us f (after_units_in_stream us f)
-handled_all [] f on = record { state = refl; events = sym (append-nil f.events); taken = refl; read = λ n e. e ∙ ap saturated (sym (add-zero n)); on = on }
-handled_all (u ∷ us) f on =
-    let h = handled_all us (after_unit_in_stream u f) refl in
+handled_all : (us : List Piece) (f : StreamState) → Handled us f (after_units_in_stream us f)
+handled_all [] f = record { state = refl; events = sym (append-nil f.events); taken = refl; read = λ n e. e ∙ ap saturated (sym (add-zero n)) }
+handled_all (u ∷ us) f =
+    let h = handled_all us (after_unit_in_stream u f) in
     let o = after_unit f.state u in
     let rest = read_from (state_after f.state u o) us in
     record {
@@ -116,13 +116,7 @@ handled_all (u ∷ us) f on =
       events = h.events ∙ append_assoc f.events _ _;
       taken = h.taken;
       read = λ n e. h.read (n + o.read) (ap (λ m. more_read m o.read) e ∙ held_more n o.read) ∙ ap saturated (add_assoc n o.read rest);
-      on = h.on;
     }
-
--- all units of s1
-pub record HandlesAll (max : ℕ) (s1 s2 : SplitterState) (t t2 : StreamState) : Type 0 where
-  pub splitter : s2 ≡ record s1 { taken = s1.taken + length (drop s1.taken (units max s1.bytes s1.ended)) }
-  pub stream : t2 ≡ after_units_in_stream (drop s1.taken (units max s1.bytes s1.ended)) t
 
 -- of all units, so many had been handled
 pub record AllHandled (output : Output) (all : List Piece) (n : ℕ) (t2 : StreamState) (t : StreamState) : Type 0 where
@@ -131,13 +125,12 @@ pub record AllHandled (output : Output) (all : List Piece) (n : ℕ) (t2 : Strea
   pub events : (ended : Bool) → t2.events ++ events_from (state_through (first_state output) all) [] ended ≡ events_from (first_state output) all ended
   pub taken : t2.taken ≡ t.taken
   pub read : t2.read ≡ saturated (read_from (first_state output) all)
-  pub on : t2.failed ≡ false
 
-rest_handled : (output : Output) (us more all : List Piece) (n : ℕ) (t t2 : StreamState) → all ≡ us ++ more → n ≡ length us → t.failed ≡ false → t.state ≡ state_through (first_state output) us → t.events ≡ events_from (first_state output) us false
+rest_handled : (output : Output) (us more all : List Piece) (n : ℕ) (t t2 : StreamState) → all ≡ us ++ more → n ≡ length us → t.state ≡ state_through (first_state output) us → t.events ≡ events_from (first_state output) us false
     → t.read ≡ saturated (read_from (first_state output) us) → t2 ≡ after_units_in_stream (drop n all) t → AllHandled output all n t2 t
-rest_handled output us more all n t t2 e len on at es er et =
+rest_handled output us more all n t t2 e len at es er et =
     let d : drop n all ≡ more = ap (λ m. drop m all) len ∙ ap (drop (length us)) e ∙ drop-append_seam us more in
-    let h = handled_all more t on in
+    let h = handled_all more t in
     let is : t2 ≡ after_units_in_stream more t = et ∙ ap (λ ps. after_units_in_stream ps t) d in
     let state : t2.state ≡ state_through (first_state output) all = ap (λ (f : StreamState). f.state) is ∙ h.state ∙ ap (λ x. state_through x more) at ∙ sym (state_through-append (first_state output) us more) ∙ ap (state_through (first_state output)) (sym e) in
     let so_far : t2.events ≡ events_from (first_state output) all false =
@@ -150,7 +143,6 @@ rest_handled output us more all n t t2 e len on at es er et =
       taken = ap (λ (f : StreamState). f.taken) is ∙ h.taken;
       read = ap (λ (f : StreamState). f.read) is ∙ h.read (read_from (first_state output) us) er ∙ ap (λ x. saturated (read_from (first_state output) us + read_from x more)) at
           ∙ ap saturated (sym (read-append (first_state output) us more)) ∙ ap (λ ps. saturated (read_from (first_state output) ps)) (sym e);
-      on = ap (λ (f : StreamState). f.failed) is ∙ h.on;
     }
 
 -- The decoder has come to this: all units are handled.
@@ -163,19 +155,17 @@ fed_at : (output : Output) (max : ℕ) (s s2 : SplitterState) (t t2 : StreamStat
 fed_at output max s s2 t t2 piece d h =
     let stay = units_stay_first max s.bytes piece false in
     let all = units max (s.bytes ++ piece) false in
-    let r = rest_handled output (units max s.bytes false) stay.0 all s.taken t t2 stay.1 d.counted d.flows (d.state refl) d.events d.read h.stream in
+    let r = rest_handled output (units max s.bytes false) stay.0 all s.taken t t2 stay.1 d.counted (d.state refl) d.events d.read h.stream in
     rw h.splitter (record {
-      decoded = record { going = d.going; flows = r.on; ends = refl; counted = r.counted; state = λ _. r.state; events = sym (append-nil t2.events) ∙ r.events false; read = r.read };
+      decoded = record { going = d.going; ends = refl; counted = r.counted; state = λ _. r.state; events = sym (append-nil t2.events) ∙ r.events false; read = r.read };
       bytes_are = refl;
       taken_are = r.taken;
     })
 
-pub decoded_fed : (output : Output) (max : ℕ) (ended : Bool) (s s1 s2 : SplitterState) (t t2 : StreamState) (piece : List ℕ) → IsDecoded output max s ended t → ended ≡ false → s1 ≡ after_feed s piece → HandlesAll max s1 s2 t t2
+decoded_fed : (output : Output) (max : ℕ) (ended : Bool) (s s2 : SplitterState) (t t2 : StreamState) (piece : List ℕ) → IsDecoded output max s ended t → ended ≡ false → HandlesAll max (after_feed s piece) s2 t t2
     → Decoded output max (s.bytes ++ piece) ended t.taken s2 t2
-decoded_fed output max true s s1 s2 t t2 piece d e is h = cc
-decoded_fed output max false s s1 s2 t t2 piece d e is h =
-    let is' : s1 ≡ record s { bytes = s.bytes ++ piece; ended = false } = is ∙ fed_going s d.ends in
-    fed_at output max s s2 t t2 piece d (subst (λ x. HandlesAll max x s2 t t2) is' h)
+decoded_fed output max true s s2 t t2 piece d e h = cc
+decoded_fed output max false s s2 t t2 piece d e h = fed_at output max s s2 t t2 piece d (subst (λ x. HandlesAll max x s2 t t2) (fed_going s d.ends) h)
   where
     fed_going : (x : SplitterState) → x.ended ≡ false → after_feed x piece ≡ record x { bytes = x.bytes ++ piece; ended = false }
     fed_going x off = rw off refl
@@ -184,9 +174,9 @@ finished_at : (output : Output) (max : ℕ) (s s2 : SplitterState) (t t2 t3 : St
 finished_at output max s s2 t t2 t3 d h e =
     let stay = units_stay_first max s.bytes [] true in
     let all = units max s.bytes true in
-    let r = rest_handled output (units max s.bytes false) stay.0 all s.taken t t2 (ap (λ b. units max b true) (sym (append-nil s.bytes)) ∙ stay.1) d.counted d.flows (d.state refl) d.events d.read h.stream in
+    let r = rest_handled output (units max s.bytes false) stay.0 all s.taken t t2 (ap (λ b. units max b true) (sym (append-nil s.bytes)) ∙ stay.1) d.counted (d.state refl) d.events d.read h.stream in
     rw (h.splitter, e) (record {
-      decoded = record { going = d.going; flows = refl; ends = refl; counted = r.counted; state = λ off. absurd_bool off; events = ap (λ (x : State). t2.events ++ at_end x.output x.phase) r.state ∙ r.events true; read = r.read };
+      decoded = record { going = d.going; ends = refl; counted = r.counted; state = λ off. absurd_bool off; events = ap (λ (x : State). t2.events ++ at_end x.output x.phase) r.state ∙ r.events true; read = r.read };
       bytes_are = refl;
       taken_are = r.taken;
     })
@@ -194,14 +184,10 @@ finished_at output max s s2 t t2 t3 d h e =
     absurd_bool : true ≡ false → (after_stream_end t2).state ≡ state_through (first_state output) (units max s.bytes false)
     absurd_bool off = cc
 
-pub decoded_finished : (output : Output) (max : ℕ) (ended : Bool) (s s1 s2 : SplitterState) (t t2 t3 : StreamState) → IsDecoded output max s ended t → ended ≡ false → s1 ≡ after_finish s → HandlesAll max s1 s2 t t2 → t3 ≡ after_stream_end t2
+decoded_finished : (output : Output) (max : ℕ) (ended : Bool) (s s2 : SplitterState) (t t2 t3 : StreamState) → IsDecoded output max s ended t → ended ≡ false → HandlesAll max (after_finish s) s2 t t2 → t3 ≡ after_stream_end t2
     → Decoded output max s.bytes true t.taken s2 t3
-decoded_finished output max true s s1 s2 t t2 t3 d e is h f = cc
-decoded_finished output max false s s1 s2 t t2 t3 d e is h f = finished_at output max s s2 t t2 t3 d (subst (λ x. HandlesAll max x s2 t t2) is h) f
-
--- the units that were handled before the end
-pub still_going : (max : ℕ) (s : SplitterState) (t t2 : StreamState) → t.failed ≡ false → t2 ≡ after_units_in_stream (drop s.taken (units max s.bytes s.ended)) t → t2.failed ≡ false
-still_going max s t t2 on e = ap (λ (f : StreamState). f.failed) e ∙ (handled_all (drop s.taken (units max s.bytes s.ended)) t on).on
+decoded_finished output max true s s2 t t2 t3 d e h f = cc
+decoded_finished output max false s s2 t t2 t3 d e h f = finished_at output max s s2 t t2 t3 d h f
 
 -- ---- the same of the whole decoder
 
@@ -209,41 +195,47 @@ still_going max s t t2 on e = ap (λ (f : StreamState). f.failed) e ∙ (handled
 abbrev pub machine_of : Output → List ℕ → (ended : Bool) → (taken : ℕ) → (failed : Bool) → Machine
 machine_of output bytes ended taken failed = record { output = output; bytes = bytes; ended = ended; taken = taken; failed = failed }
 
+-- no call was refused memory
+pub going_on : {A : Type 0} (o : Option A) (none : Bool) → is_some o ≡ not none → none ≡ false → is_none o ≡ false
+going_on o none e off = ap not e ∙ ap (λ b. not (not b)) off
+
+-- what the answer says
+pub ok_so : (P : ℕ → Type 0) (answer answer' : Result ℕ OutOfMemory) (read : ℕ) → IfOk answer P → answer' ≡ answer → answer' ≡ Ok read → P read
+ok_so P answer answer' read is same e = rw (sym same ∙ e) at is
+
 -- a piece more was handled
-pub kept_fed : (output : Output) (max : ℕ) (bytes bytes' piece : List ℕ) (ended failed : Bool) (taken : ℕ) (s s1 s2 : SplitterState) (t t2 : StreamState) (read read' : ℕ) → IsDecoderState max (machine_of output bytes ended taken failed) s t read
-    → failed ≡ false → ended ≡ false → bytes' ≡ bytes ++ piece → s1 ≡ after_feed s piece → HandlesAll max s1 s2 t t2 → read' ≡ t2.read → IsDecoderState max (machine_of output bytes' ended taken false) s2 t2 read'
-kept_fed output max bytes bytes' piece ended failed taken s s1 s2 t t2 read read' i going unended given is all counts =
-    let k = decoded_fed output max ended s s1 s2 t t2 piece (i.decoded going) unended is all in
-    let same : s2.bytes ≡ bytes' = k.bytes_are ∙ ap (λ bs. bs ++ piece) (i.bytes going) ∙ sym given in
+pub kept_fed : (output : Output) (max : ℕ) (bytes bytes' piece : List ℕ) (ended : Bool) (taken : ℕ) (running running' : Option (Parts max)) (read read' : ℕ) → IsDecoderState max (machine_of output bytes ended taken (is_none running)) running read
+    → ended ≡ false → bytes' ≡ bytes ++ piece → FeedsIn max running piece read' running' → IsDecoderState max (machine_of output bytes' ended taken (is_none running')) running' read'
+kept_fed output max bytes bytes' piece ended taken None running' read read' i unended given f = absurd f
+kept_fed output max bytes bytes' piece ended taken (Some p) None read read' i unended given f = absurd f
+kept_fed output max bytes bytes' piece ended taken (Some p) (Some p') read read' i unended given f =
+    let k = decoded_fed output max ended p.splitter p'.splitter (stream_state p.stream) (stream_state p'.stream) piece i.parts.decoded unended f.handles in
+    let same : (p'.splitter).bytes ≡ bytes' = k.bytes_are ∙ ap (λ bs. bs ++ piece) i.parts.bytes ∙ sym given in
     record {
-      count_is = counts ∙ (k.decoded).read ∙ ap (λ bs. turns output max bs ended) same;
-      decoded = λ _. k.decoded;
-      bytes = λ _. same;
-      taken = λ _. k.taken_are ∙ i.taken going;
+      count_is = f.count ∙ (k.decoded).read ∙ ap (λ bs. turns output max bs ended) same;
+      parts = record { works = f.works; decoded = k.decoded; bytes = same; taken = k.taken_are ∙ i.parts.taken };
     }
 
 -- the end was handled
-pub kept_flushed : (output : Output) (max : ℕ) (bytes : List ℕ) (ended failed : Bool) (taken : ℕ) (s s1 s2 : SplitterState) (t t2 t3 : StreamState) (read read' : ℕ) → IsDecoderState max (machine_of output bytes ended taken failed) s t read
-    → failed ≡ false → ended ≡ false → s1 ≡ after_finish s → HandlesAll max s1 s2 t t2 → t3 ≡ after_stream_end t2 → read' ≡ t3.read → IsDecoderState max (machine_of output bytes true taken false) s2 t3 read'
-kept_flushed output max bytes ended failed taken s s1 s2 t t2 t3 read read' i going unended is all ends counts =
-    let k = decoded_finished output max ended s s1 s2 t t2 t3 (i.decoded going) unended is all ends in
-    let same : s2.bytes ≡ bytes = k.bytes_are ∙ i.bytes going in
+pub kept_flushed : (output : Output) (max : ℕ) (bytes : List ℕ) (ended : Bool) (taken : ℕ) (running running' : Option (Parts max)) (read read' : ℕ) → IsDecoderState max (machine_of output bytes ended taken (is_none running)) running read
+    → ended ≡ false → EndsIn max running read' running' → IsDecoderState max (machine_of output bytes true taken (is_none running')) running' read'
+kept_flushed output max bytes ended taken None running' read read' i unended f = absurd f
+kept_flushed output max bytes ended taken (Some p) None read read' i unended f = absurd f
+kept_flushed output max bytes ended taken (Some p) (Some p') read read' i unended f =
+    let k = decoded_finished output max ended p.splitter p'.splitter (stream_state p.stream) f.before (stream_state p'.stream) i.parts.decoded unended f.handles f.ends in
+    let same : (p'.splitter).bytes ≡ bytes = k.bytes_are ∙ i.parts.bytes in
     record {
-      count_is = counts ∙ (k.decoded).read ∙ ap (λ bs. turns output max bs true) same;
-      decoded = λ _. k.decoded;
-      bytes = λ _. same;
-      taken = λ _. k.taken_are ∙ i.taken going;
+      count_is = f.count ∙ (k.decoded).read ∙ ap (λ bs. turns output max bs true) same;
+      parts = record { works = f.works; decoded = k.decoded; bytes = same; taken = k.taken_are ∙ i.parts.taken };
     }
 
 -- memory was refused to a call with these bytes: the count is that before it
-pub kept_refused : (output : Output) (max : ℕ) (bytes bytes' piece : List ℕ) (ended ended' failed : Bool) (taken : ℕ) (s s' : SplitterState) (t t' : StreamState) (read : ℕ) → IsDecoderState max (machine_of output bytes ended taken failed) s t read
-    → failed ≡ false → ended ≡ false → bytes' ≡ bytes ++ piece → IsDecoderState max (machine_of output bytes' ended' taken true) s' t' read
-kept_refused output max bytes bytes' piece ended ended' true taken s s' t t' read i going unended given = cc
-kept_refused output max bytes bytes' piece true ended' false taken s s' t t' read i going unended given = cc
-kept_refused output max bytes bytes' piece false ended' false taken s s' t t' read i going unended given =
-    rw given (record {
+pub kept_refused : (output : Output) (max : ℕ) (bytes bytes' piece : List ℕ) (ended ended' : Bool) (taken : ℕ) (running running' : Option (Parts max)) (read : ℕ) → IsDecoderState max (machine_of output bytes ended taken (is_none running)) running read
+    → is_none running ≡ false → ended ≡ false → bytes' ≡ bytes ++ piece → running' ≡ None → IsDecoderState max (machine_of output bytes' ended' taken (is_none running')) running' read
+kept_refused output max bytes bytes' piece ended ended' taken None running' read i going unended given none = cc
+kept_refused output max bytes bytes' piece true ended' taken (Some p) running' read i going unended given none = cc
+kept_refused output max bytes bytes' piece false ended' taken (Some p) running' read i going unended given none =
+    rw (none, given) (record {
       count_is = le_trans (le_of_eq i.count_is) (turns_grow output max bytes piece ended');
-      decoded = λ e. cc;
-      bytes = λ e. cc;
-      taken = λ e. cc;
+      parts = tt;
     })

@@ -4,7 +4,7 @@ use Rattle.avc_types.specs.declared.fault.Fault.{Fault}
 use Rattle.avc_types.specs.declared.fault.Fault.TheVariants.{MissingMacroblocks}
 use Rattle.avc_picture.specs.Slices.{is_full}
 use Rattle.avc_decoder_core.specs.History.{History}
-use Rattle.avc_decoder.specs.FirstFault.{OpenPicture, first_header, history_at_opening_of, progress_on, start_on, closed_history, first_fault, history_of, read_of}
+use Rattle.avc_decoder.specs.FirstFault.{OpenPicture, first_header, first_slice, history_at_opening_of, progress_on, start_on, closed_history, first_fault, history_of, read_of}
 use Rattle.avc_decoder.specs.Events.{closing_result}
 
 -- The picture's macroblocks begin at 0, and it stands on this history.
@@ -20,6 +20,13 @@ read_is o h s = cc (s.first, s.stands)
 
 pub slice_fault : (o : OpenPicture) (h : History) (closing : Bool) (found : ℕ × Fault) → Stands o h → (progress_on o h).fault ≡ Some found → first_fault o closing ≡ Some found
 slice_fault o h closing found s e = cc (s.first, s.stands, e)
+
+-- the missing numbers could not be taken in
+pub unopened : (o : OpenPicture) (f : Fault) (closing : Bool) → (first_header o).first_mb_in_slice ≡ 0 → history_at_opening_of o ≡ Err f → first_fault o closing ≡ Some ((first_slice o).unit, f)
+unopened o f closing a e = cc (a, e)
+
+pub unopened_read : (o : OpenPicture) (f : Fault) → (first_header o).first_mb_in_slice ≡ 0 → history_at_opening_of o ≡ Err f → read_of o ≡ 0
+unopened_read o f a e = cc (a, e)
 
 pub no_fault : (o : OpenPicture) (h : History) → Stands o h → (progress_on o h).fault ≡ None → first_fault o false ≡ None
 no_fault o h s e = cc (s.first, s.stands, e)

@@ -1,513 +1,293 @@
--- What a step of the grouper comes to, once it is done, is what the unit does.
-use Rattle.std.proofs.Common.{◌≡◌, ℕ, Bool, true, false, List, [], ◌∷◌, ◌++◌, Option, Some, None, Result, Ok, Err, refl, ap, sym, ◌∙◌, append_assoc, append-nil, arith, subst}
-use Rattle.std.specs.Prelude.{◌&&◌, ◌||◌, IfSome}
+-- What a unit does, joined from its parts: closing the open picture, and what comes next.
+use Rattle.std.proofs.Common.{◌≡◌, ℕ, ◌+◌, Bool, true, false, not, ◌&&◌, List, [], ◌∷◌, ◌++◌, Option, Some, None, Result, Ok, Err, refl, ap, sym, ◌∙◌, append_assoc, append-nil, arith, subst}
+use Rattle.std.specs.Prelude.{IfSome, is_some}
 use Rattle.avc_types.specs.declared.fault.Fault.{Fault}
 use Rattle.avc_annexb.specs.declared.unit.Unit.{Unit as Piece}
 use Rattle.avc_params.specs.Tables.{Sets, sets_after}
 use Rattle.avc_params.specs.declared.set_unit.SetUnit.{SetUnit}
-use Rattle.avc_slice.specs.Header.{is_idr}
 use Rattle.avc_slice.specs.declared.header.Header.{Header}
 use Rattle.avc_slice.specs.declared.slice.Slice.{Slice}
-use Rattle.avc_units.specs.GrouperState.{GrouperState, IfSlice, IsSliceUnder, after_fault, begins_a_picture, after_step, last_header_after, open_picture_of}
-use Rattle.avc_units.specs.Grouping.{OpenPictureFacts, set_units, step}
+use Rattle.avc_picture.specs.Decoding.{IsFull}
+use Rattle.avc_units.specs.GrouperState.{IfSlice, IsSliceUnder, open_picture_of}
+use Rattle.avc_units.specs.Grouping.{set_units, step}
 use Rattle.avc_units.specs.declared.step.Next.{Next}
 use Rattle.avc_units.specs.declared.step.Next.TheVariants.{Begins, Continues, FaultOfOpen, FaultOfOwn, Nothing, Refusal}
 use Rattle.avc_units.specs.declared.step.Step.{Step}
 use Rattle.avc_dpb.specs.declared.output.Output.{Output}
 use Rattle.avc_decoder_core.specs.History.{History}
-use Rattle.avc_decoder_core.specs.Pictures.{output_pictures}
-use Rattle.avc_decoder.specs.FirstFault.{OpenPicture, first_fault, history_of}
-use Rattle.avc_decoder.specs.Events.{Outcome, Phase, after_closing, after_next, after_unit, base_in, closed_outcome, closing_result, failed_at, history_in, in_phase, is_running, is_waiting, open_facts_in, open_picture_facts, pictures, running, sets_named, no_change, waiting}
-use Rattle.avc_decoder.specs.States.{Agrees, CanContinue, Fits, Handles, IsNamed, PicturesState, closed_if, closed_in, is_full_in, after_outcome, last_header, more_read, next_in, open_picture_in, phase_of, state_of, after_fault_if}
+use Rattle.avc_decoder_core.specs.Pictures.{held_pictures}
+use Rattle.avc_decoder_core.specs.SequenceState.{SequenceState, current_history}
+use Rattle.avc_decoder.specs.Events.{Outcome, Phase, State, after_closing, after_next, after_unit, at_end, closed_outcome, closing_result, followed_by, held_after, in_phase, is_running, is_waiting, open_facts_in, pictures, running, state_after, waiting}
+use Rattle.avc_decoder.specs.FirstFault.{OpenPicture}
+use Rattle.avc_decoder.specs.QueueState.{QueueState, with_events}
+use Rattle.avc_decoder.specs.States.{ComesTo, FitsPhase, IsNamed, IsPhase, Stops, StreamState, Works, after_stream_end, after_unit_in_stream, closed_in, current_in, is_waiting_in, last_header_in, more_read, phase_of}
 use Rattle.avc_decoder.specs.declared.event.Event.{Event}
-use Rattle.avc_decoder.proofs.Closing.{some_is}
-use Rattle.avc_decoder.proofs.Keeping.{within_named}
-use Rattle.avc_decoder.proofs.Stepping.{Brings, BringsNext, brings_step, keeps_sets, same_kind, same_set}
+use Rattle.avc_decoder.specs.declared.phase.CurrentPicture.{CurrentPicture}
+use Rattle.avc_decoder.specs.declared.phase.Phase.{Phase as PhaseHere}
+use Rattle.avc_decoder.specs.declared.phase.Phase.TheVariants.{Waiting, Running}
+use Rattle.avc_decoder.proofs.Keeping.{facts_are, opened_phase, runs}
+use Rattle.avc_decoder.proofs.Stepping.{Brings, BringsNext, brings_step, keeps_sets}
 
-or_true : (b : Bool) → (b || true) ≡ true
-or_true true = refl
-or_true false = refl
+and_true : (b : Bool) → (b && true) ≡ false → b ≡ false
+and_true true e = e
+and_true false e = refl
 
-differ : (b : Bool) → b ≡ true → b ≡ false → ⊥
-differ true e f = cc
-differ false e f = cc
+and_true' : (b : Bool) → (b && true) ≡ true → b ≡ true
+and_true' true e = refl
+and_true' false e = e
 
--- ---- before the step's `next` is done
+and_false : (b : Bool) → (b && false) ≡ true → ⊥
+and_false true e = cc
+and_false false e = cc
 
-abbrev kept_at : Output → Phase → List Event → (taken read : ℕ) → PicturesState
-kept_at output p es t n = record { output = output; history = base_in p; open_picture = open_picture_in p; events = es; taken = t; read = n; failed = false }
+-- ---- what a step asks for can be carried out
 
--- a further slice finds its picture open
-abbrev OpenFor : Next → Option OpenPicture → Type 0
-OpenFor (Begins s) open_picture = open_picture ≡ None
-OpenFor (Continues s) None = ⊥
-OpenFor (Continues s) (Some o) = (((o.last).header).pic_parameter_set_id ≡ (s.header).pic_parameter_set_id) × (is_idr (o.last).header ≡ is_idr s.header)
-OpenFor _ open_picture = Unit {0}
+-- where no picture is open
+fits_none : (sets : Sets) (p : PhaseHere) (next : Next) → current_in p ≡ None → IfSlice next (IsSliceUnder sets) → FitsPhase sets p next
+fits_none sets p Nothing none under = tt
+fits_none sets p (Refusal f) none under = tt
+fits_none sets p (FaultOfOpen f) none under = tt
+fits_none sets p (FaultOfOwn f) none under = tt
+fits_none sets p (Begins s) none under = (under, none)
+fits_none sets p (Continues s) none under = (under, rw none tt)
 
-abbrev LastIs : Next → Option Header → Option OpenPicture → Type 0
-LastIs (Begins s) last open_picture = last ≡ Some s.header
-LastIs (Continues s) last open_picture = last ≡ Some s.header
-LastIs _ last open_picture = last ≡ last_header open_picture
+-- where it stays open
+fits_open : (sets : Sets) (c : CurrentPicture) (full : Bool) (next : Next) → BringsNext (open_picture_of full (Some c.last_header)) false next → IfSlice next (IsSliceUnder sets)
+    → FitsPhase sets (Running (Some c)) next
+fits_open sets c full Nothing b under = tt
+fits_open sets c full (Refusal f) b under = tt
+fits_open sets c full (FaultOfOpen f) b under = tt
+fits_open sets c full (FaultOfOwn f) b under = tt
+fits_open sets c full (Begins s) b under = cc
+fits_open sets c full (Continues s) b under = (under, b.1)
 
-pub record Ready (g : GrouperState) (k : PicturesState) (p : Phase) (next : Next) : Type 0 where
-  pub kept : k ≡ kept_at k.output p k.events k.taken k.read
-  pub runs : g.running ≡ (is_running p || begins_a_picture next)
-  pub last : LastIs next g.last (open_picture_in p)
-  pub named : IfSome (open_picture_in p) (IsNamed (sets_after g.sets))
-  pub for_next : OpenFor next (open_picture_in p)
+-- What the unit finds, and its step.
+pub record Steps (table table' : List SetUnit) (s : SequenceState) (p : PhaseHere) (u : Piece) (w : Step) : Type 0 where
+  pub full : Bool
+  pub is : w ≡ step (sets_after table) (not (is_waiting_in p)) (open_picture_of full (last_header_in p)) u
+  pub facts : open_picture_of full (last_header_in p) ≡ open_facts_in (phase_of s p)
+  pub put : table' ≡ table ++ set_units (u ∷ [])
+  pub under : IfSlice w.next (IsSliceUnder (sets_after table'))
+  pub same : IfSlice w.next (λ _. table' ≡ table)
 
--- ---- once it is done
-
-pub record Done (g g' : GrouperState) (k k' : PicturesState) (x : Outcome) : Type 0 where
-  pub agrees : Agrees g' k'
-  pub phase : phase_of g'.running k' ≡ x.phase
-  pub sets : g'.sets ≡ g.sets
-  pub events : k'.events ≡ k.events ++ x.events
-  pub taken : k'.taken ≡ k.taken
-  pub read : k'.read ≡ more_read k.read x.read
-  pub mode : k'.output ≡ k.output
-
-abbrev DoneAt : Output → Sets → GrouperState → Phase → (unit : ℕ) → Next → List Event → (taken read : ℕ) → Type 0
-DoneAt output sets g p unit next es t n =
-    let x = next_in sets unit next (kept_at output p es t n) in
-    Done g (after_fault_if (is_waiting x.phase) g) (kept_at output p es t n) (after_outcome x (kept_at output p es t n)) (after_next output sets unit p next)
-
--- only events
-stays_done : (output : Output) (g : GrouperState) (p : Phase) (es more : List Event) (t n : ℕ) → g.running ≡ (is_running p || false) → g.last ≡ last_header (open_picture_in p) → IfSome (open_picture_in p) (IsNamed (sets_after g.sets))
-    → Done g g (kept_at output p es t n) (after_outcome (record { events = more; phase = running (base_in p) (open_picture_in p); read = 0 }) (kept_at output p es t n)) (record { events = more; phase = p; read = 0 })
-stays_done output g waiting es more t n runs last named = record {
-  agrees = record { going = refl; last = last; no_history = λ _. refl; no_picture = λ _. refl; named = named };
-  phase = ap (λ b. phase_of b (kept_at output waiting (es ++ more) t n)) runs;
-  sets = refl;
-  events = refl;
-  taken = refl;
-  read = refl;
-  mode = refl;
-}
-stays_done output g (running h o) es more t n runs last named = record {
-  agrees = record { going = refl; last = last; no_history = λ off. absurd (differ g.running runs off); no_picture = λ off. absurd (differ g.running runs off); named = named };
-  phase = ap (λ b. phase_of b (kept_at output (running h o) (es ++ more) t n)) runs;
-  sets = refl;
-  events = refl;
-  taken = refl;
-  read = refl;
-  mode = refl;
+pub steps : (table table' : List SetUnit) (s : SequenceState) (p : PhaseHere) (u : Piece) (w : Step) (going full : Bool) (last : Option Header) → Works (sets_after table) s p
+    → w ≡ step (sets_after table) going (open_picture_of full last) u → going ≡ not (is_waiting_in p) → last ≡ last_header_in p → IfSome (current_in p) (λ c. IsFull full c.decoder)
+    → table' ≡ table ++ set_units (u ∷ []) → IfSlice w.next (IsSliceUnder (sets_after table')) → IfSlice w.next (λ _. table' ≡ table) → Steps table table' s p u w
+steps table table' s p u w going full last works is runs' at fills put under same = record {
+  full = full;
+  is = is ∙ ap (λ r. step (sets_after table) r (open_picture_of full last) u) runs' ∙ ap (λ l. step (sets_after table) (not (is_waiting_in p)) (open_picture_of full l) u) at;
+  facts = facts_are s p (last_header_in p) full works.stands refl fills;
+  put = put;
+  under = under;
+  same = same;
 }
 
-fault_by : (restarts : Bool) (g : GrouperState) → elim (restarts && false) as (λ _. GrouperState) [ true ↦ g | false ↦ record g { running = false; last = None; restarts = false } ] ≡ record g { running = false; last = None; restarts = false }
-fault_by true g = refl
-fault_by false g = refl
+waits_with_none : (p : PhaseHere) (full : Bool) → not (is_waiting_in p) ≡ false → open_picture_of full (last_header_in p) ≡ None
+waits_with_none Waiting full e = refl
+waits_with_none (Running o) full e = cc
 
-pub at_fault_is : (g : GrouperState) → after_fault false g ≡ record g { running = false; last = None; restarts = false }
-at_fault_is g = fault_by g.restarts g
+brings_here : (table table' : List SetUnit) (s : SequenceState) (p : PhaseHere) (u : Piece) (w : Step) (k : Steps table table' s p u w) → Brings (open_picture_of k.full (last_header_in p)) w
+brings_here table table' s p u w k =
+    subst (Brings (open_picture_of k.full (last_header_in p))) (sym k.is)
+    (brings_step (sets_after table) (not (is_waiting_in p)) (open_picture_of k.full (last_header_in p)) u (waits_with_none p k.full))
 
-history_same : (p : Phase) → history_in (running (base_in p) (open_picture_in p)) ≡ history_in p
-history_same waiting = refl
-history_same (running h None) = refl
-history_same (running h (Some o)) = refl
+-- the open picture is not closed, or there is none
+pub fits_before : (table table' : List SetUnit) (s : SequenceState) (p : PhaseHere) (u : Piece) (w : Step) → Steps table table' s p u w → (w.closes && is_some (current_in p)) ≡ false
+    → FitsPhase (sets_after table') p w.next
+fits_before table table' s Waiting u w k stays = fits_none (sets_after table') Waiting w.next refl k.under
+fits_before table table' s (Running None) u w k stays = fits_none (sets_after table') (Running None) w.next refl k.under
+fits_before table table' s (Running (Some c)) u w k stays = by w.closes refl
+  where
+    by : (b : Bool) → w.closes ≡ b → FitsPhase (sets_after table') (Running (Some c)) w.next
+    by true e = let no = sym e ∙ and_true w.closes stays in cc
+    by false e = fits_open (sets_after table') c k.full w.next (subst (λ b. BringsNext (open_picture_of k.full (Some c.last_header)) b w.next) e (brings_here table table' s (Running (Some c)) u w k).brings) k.under
 
-fault_done : (g : GrouperState) (k : PicturesState) (h : History) (unit : ℕ) (f : Fault) (read : ℕ) → Done g (after_fault false g) k (after_outcome (failed_at k.output h unit f read) k) (failed_at k.output h unit f read)
-fault_done g k h unit f read =
-    rw (at_fault_is g) (record { agrees = record { going = refl; last = refl; no_history = λ _. refl; no_picture = λ _. refl; named = tt }; phase = refl; sets = refl; events = refl; taken = refl; read = refl; mode = refl })
+-- its parameter sets stay in force
+pub works_before : (table table' : List SetUnit) (s : SequenceState) (p : PhaseHere) (u : Piece) (w : Step) → Works (sets_after table) s p → Steps table table' s p u w
+    → (w.closes && is_some (current_in p)) ≡ false → Works (sets_after table') s p
+works_before table table' s Waiting u w works k stays = record { stands = works.stands; named = tt }
+works_before table table' s (Running None) u w works k stays = record { stands = works.stands; named = tt }
+works_before table table' s (Running (Some c)) u w works k stays = by w.closes refl
+  where
+    by : (b : Bool) → w.closes ≡ b → Works (sets_after table') s (Running (Some c))
+    by true e = let no = sym e ∙ and_true w.closes stays in cc
+    by false e =
+        let none = keeps_sets (sets_after table) true (open_picture_of k.full (Some c.last_header)) u (ap (λ (x : Step). x.closes) (sym k.is) ∙ e) in
+        let same : table' ≡ table = k.put ∙ ap (λ ss. table ++ ss) none ∙ append-nil table in
+        rw same works
 
-abbrev slice_outcome : Output → Option (ℕ × Fault) → History → OpenPicture → (read : ℕ) → List Event → Outcome
-slice_outcome output m h o read es = elim m [
-  | Some found ↦ failed_at output h found.0 found.1 read
-  | None ↦ record { events = es; phase = running o.before (Some o); read = read }
-]
+-- ---- closing
 
-slice_done : (m : Option (ℕ × Fault)) (g : GrouperState) (k : PicturesState) (h : History) (o : OpenPicture) (read : ℕ) (es : List Event) → g.running ≡ true → g.last ≡ Some (o.last).header → IsNamed (sets_after g.sets) o
-    → Done g (after_fault_if (is_waiting (slice_outcome k.output m h o read es).phase) g) k (after_outcome (slice_outcome k.output m h o read es) k) (slice_outcome k.output m h o read es)
-slice_done (Some found) g k h o read es runs last named = fault_done g k h found.0 found.1 read
-slice_done None g k h o read es runs last named = record {
-  agrees = record { going = refl; last = last; no_history = λ off. absurd (differ g.running runs off); no_picture = λ off. absurd (differ g.running runs off); named = named };
-  phase = ap (λ b. phase_of b (after_outcome (slice_outcome k.output None h o read es) k)) runs;
-  sets = refl;
-  events = refl;
-  taken = refl;
-  read = refl;
-  mode = refl;
-}
+closed_facts : (output : Output) (o : OpenPicture) (x : Result History (ℕ × Fault)) → open_facts_in (closed_outcome output o x).phase ≡ None
+closed_facts output o (Ok h) = refl
+closed_facts output o (Err found) = refl
 
-named_is : (sets : Sets) (s : Slice) (t : IsSliceUnder sets s) → sets_named sets s.header ≡ Some (t.pps, t.sps)
-named_is sets s t = cc (t.pps_is, t.sps_is)
+none_after_closing : (output : Output) (p : Phase) → open_facts_in (closed_in output p).phase ≡ None
+none_after_closing output waiting = refl
+none_after_closing output (running h None) = refl
+none_after_closing output (running h (Some o)) = closed_facts output o (closing_result o)
 
-begins_done : (output : Output) (g : GrouperState) (p : Phase) (unit : ℕ) (s : Slice) (es : List Event) (t n : ℕ) → g.running ≡ (is_running p || true) → g.last ≡ Some s.header → IsSliceUnder (sets_after g.sets) s → DoneAt output (sets_after g.sets) g p unit (Begins s) es t n
-begins_done output g p unit s es t n runs last taken =
-    let o : OpenPicture = record { before = base_in p; sps = taken.sps; pps = taken.pps; last = s; earlier = [] } in
-    rw (named_is (sets_after g.sets) s taken)
-    (slice_done (first_fault o false) g (kept_at output p es t n) (base_in p) o _ (pictures (output_pictures output (base_in p) (history_of o))) (runs ∙ or_true (is_running p)) last (record { pps = taken.pps_is; sps = taken.sps_is }))
+none_here : (s : SequenceState) (p : PhaseHere) → IsPhase s p → open_facts_in (phase_of s p) ≡ None → current_in p ≡ None
+none_here s Waiting w e = refl
+none_here s (Running None) w e = refl
+none_here s (Running (Some c)) w e =
+    let there = sym (ap open_facts_in (opened_phase s c w)) ∙ e in
+    cc
 
-continues_done : (output : Output) (g : GrouperState) (h : History) (o : OpenPicture) (unit : ℕ) (s : Slice) (es : List Event) (t n : ℕ) → g.running ≡ true → g.last ≡ Some s.header → IsNamed (sets_after g.sets) o
-    → ((o.last).header).pic_parameter_set_id ≡ (s.header).pic_parameter_set_id → DoneAt output (sets_after g.sets) g (running h (Some o)) unit (Continues s) es t n
-continues_done output g h o unit s es t n runs last named same =
-    let o' : OpenPicture = record o { last = s; earlier = o.last ∷ o.earlier } in
-    slice_done (first_fault o' false) g (kept_at output (running h (Some o)) es t n) (history_of o) o' _ (pictures (output_pictures output (history_of o) (history_of o'))) runs last
-    (record { pps = ap (sets_after g.sets).pps (sym same) ∙ named.pps; sps = named.sps })
+-- it leaves none open
+pub fits_closed : (output : Output) (q q' : QueueState) (n n' : ℕ) (table table' : List SetUnit) (p : Phase) (s' : SequenceState) (p' : PhaseHere) (next : Next)
+    → ComesTo output q n table (closed_in output p) s' p' q' n' table' → IfSlice next (IsSliceUnder (sets_after table)) → FitsPhase (sets_after table') p' next
+fits_closed output q q' n n' table table' p s' p' next r under =
+    rw r.sets (fits_none (sets_after table) p' next (none_here s' p' r.works.stands (ap open_facts_in r.phase ∙ none_after_closing output p)) under)
 
-done_at : (output : Output) (g : GrouperState) (p : Phase) (unit : ℕ) (next : Next) (es : List Event) (t n : ℕ) → g.running ≡ (is_running p || begins_a_picture next) → LastIs next g.last (open_picture_in p)
-    → IfSome (open_picture_in p) (IsNamed (sets_after g.sets)) → OpenFor next (open_picture_in p) → IfSlice next (IsSliceUnder (sets_after g.sets)) → DoneAt output (sets_after g.sets) g p unit next es t n
-done_at output g p unit Nothing es t n runs last named open' taken = stays_done output g p es [] t n runs last named
-done_at output g p unit (Refusal f) es t n runs last named open' taken = stays_done output g p es _ t n runs last named
-done_at output g p unit (FaultOfOpen f) es t n runs last named open' taken = rw (history_same p) (fault_done g (kept_at output p es t n) (history_in p) unit f 0)
-done_at output g p unit (FaultOfOwn f) es t n runs last named open' taken = rw (history_same p) (fault_done g (kept_at output p es t n) (history_in p) unit f 0)
-done_at output g p unit (Begins s) es t n runs last named open' taken = begins_done output g p unit s es t n runs last taken
-done_at output g waiting unit (Continues s) es t n runs last named open' taken = absurd open'
-done_at output g (running h None) unit (Continues s) es t n runs last named open' taken = absurd open'
-done_at output g (running h (Some o)) unit (Continues s) es t n runs last named open' taken = continues_done output g h o unit s es t n runs last named open'.0
+-- nothing is read
+closed_read : (output : Output) (o : OpenPicture) (x : Result History (ℕ × Fault)) → (closed_outcome output o x).read ≡ 0
+closed_read output o (Ok h) = refl
+closed_read output o (Err f) = refl
 
-done : (g g' : GrouperState) (k k' : PicturesState) (p : Phase) (unit : ℕ) (next : Next) → Ready g k p next → IfSlice next (IsSliceUnder (sets_after g.sets))
-    → k' ≡ after_outcome (next_in (sets_after g.sets) unit next k) k → g' ≡ after_fault_if (is_waiting (next_in (sets_after g.sets) unit next k).phase) g
-    → Done g g' k k' (after_next k.output (sets_after g.sets) unit p next)
-done g g' k k' p unit next r taken ek eg = rw (ek, eg, r.kept) (done_at k.output g p unit next k.events k.taken k.read r.runs r.last r.named r.for_next taken)
+pub none_read : (output : Output) (p : Phase) → (closed_in output p).read ≡ 0
+none_read output waiting = refl
+none_read output (running h None) = refl
+none_read output (running h (Some o)) = closed_read output o (closing_result o)
 
--- what comes next can be carried out
-fits_at : (next : Next) (sets : Sets) (open_picture : Option OpenPicture) → OpenFor next open_picture → IfSome open_picture (IsNamed sets) → IfSlice next (IsSliceUnder sets) → Fits sets next open_picture
-fits_at Nothing sets open_picture open' named taken = tt
-fits_at (Refusal f) sets open_picture open' named taken = tt
-fits_at (FaultOfOpen f) sets open_picture open' named taken = tt
-fits_at (FaultOfOwn f) sets open_picture open' named taken = tt
-fits_at (Begins s) sets open_picture open' named taken = (taken, open')
-fits_at (Continues s) sets None open' named taken = absurd open'
-fits_at (Continues s) sets (Some o) open' named taken = λ q e.
-    let within = within_named sets s o.pps o.sps taken (ap sets.pps (sym open'.0) ∙ named.pps) named.sps in
-    subst (λ (x : OpenPicture). CanContinue x s) (some_is o q e) (record { within = within; idr = open'.1 })
+-- ---- what the unit comes to
+
+stays_by : (output : Output) (sets : Sets) (unit : ℕ) (w : Step) (h : History) (o : Option OpenPicture) → w.closes ≡ false
+    → in_phase output sets unit w (running h o) ≡ after_next output sets unit (running h o) w.next
+stays_by output sets unit w h None e = refl
+stays_by output sets unit w h (Some o) e = rw e refl
+
+-- where it does not close the open picture, or there is none
+stays_as : (output : Output) (sets : Sets) (unit : ℕ) (w : Step) (s : SequenceState) (p : PhaseHere) → (w.closes && is_some (current_in p)) ≡ false
+    → in_phase output sets unit w (phase_of s p) ≡ after_next output sets unit (phase_of s p) w.next
+stays_as output sets unit w s Waiting e = refl
+stays_as output sets unit w s (Running None) e = refl
+stays_as output sets unit w s (Running (Some c)) e = stays_by output sets unit w s.history _ (and_true w.closes e)
+
+-- where it does
+closes_as : (output : Output) (sets : Sets) (unit : ℕ) (w : Step) (s : SequenceState) (p : PhaseHere) → IsPhase s p → (w.closes && is_some (current_in p)) ≡ true
+    → in_phase output sets unit w (phase_of s p) ≡ after_closing output sets unit w (closed_in output (phase_of s p))
+closes_as output sets unit w s Waiting stands e = let no = and_false w.closes e in absurd no
+closes_as output sets unit w s (Running None) stands e = let no = and_false w.closes e in absurd no
+closes_as output sets unit w s (Running (Some c)) stands e = rw (opened_phase s c stands) (rw (and_true' w.closes e) refl)
+
+waits_here : (s : SequenceState) (p : PhaseHere) → is_waiting (phase_of s p) ≡ is_waiting_in p
+waits_here s Waiting = refl
+waits_here s (Running None) = refl
+waits_here s (Running (Some c)) = refl
 
 -- the sets before a slice are those after it
-same_next : (output : Output) (next : Next) (sets sets' : List SetUnit) (unit : ℕ) (p : Phase) → IfSlice next (λ _. sets' ≡ sets) → after_next output (sets_after sets') unit p next ≡ after_next output (sets_after sets) unit p next
-same_next output Nothing sets sets' unit p e = refl
-same_next output (Refusal f) sets sets' unit p e = refl
-same_next output (FaultOfOpen f) sets sets' unit p e = refl
-same_next output (FaultOfOwn f) sets sets' unit p e = refl
-same_next output (Begins s) sets sets' unit p e = ap (λ ss. after_next output (sets_after ss) unit p (Begins s)) e
-same_next output (Continues s) sets sets' unit p e = refl
+same_next : (output : Output) (next : Next) (table table' : List SetUnit) (unit : ℕ) (p : Phase) → IfSlice next (λ _. table' ≡ table)
+    → after_next output (sets_after table') unit p next ≡ after_next output (sets_after table) unit p next
+same_next output Nothing table table' unit p e = refl
+same_next output (Refusal f) table table' unit p e = refl
+same_next output (FaultOfOpen f) table table' unit p e = refl
+same_next output (FaultOfOwn f) table table' unit p e = refl
+same_next output (Begins s) table table' unit p e = ap (λ t. after_next output (sets_after t) unit p (Begins s)) e
+same_next output (Continues s) table table' unit p e = refl
 
--- ---- between closing and what comes next
-
--- The open picture is closed, where the unit closes it, and then comes what the unit does next.
-pub record Between (sets : Sets) (g1 : GrouperState) (k k1 : PicturesState) (u : Piece) (next : Next) (y : Outcome) : Type 0 where
-  pub phase : Phase
-  pub ready : Ready g1 k1 phase next
-  pub before : List Event
-  pub so_far : k1.events ≡ k.events ++ before
-  pub taken : k1.taken ≡ k.taken
-  pub read_so_far : k1.read ≡ k.read
-  pub mode : k1.output ≡ k.output
-  pub events : y.events ≡ before ++ (after_next k.output sets u.index phase next).events
-  pub rest : y.phase ≡ (after_next k.output sets u.index phase next).phase
-  pub read : y.read ≡ (after_next k.output sets u.index phase next).read
-
-last_ready : (closes : Bool) (next : Next) (last : Option Header) (open_picture : Option OpenPicture) → (closes ≡ true → last_header open_picture ≡ None) → (closes ≡ false → last ≡ last_header open_picture) → LastIs next (last_header_after closes next last) open_picture
-last_ready closes (Begins s) last open_picture shut no_change' = refl
-last_ready closes (Continues s) last open_picture shut no_change' = refl
-last_ready true Nothing last open_picture shut no_change' = sym (shut refl)
-last_ready true (Refusal f) last open_picture shut no_change' = sym (shut refl)
-last_ready true (FaultOfOpen f) last open_picture shut no_change' = sym (shut refl)
-last_ready true (FaultOfOwn f) last open_picture shut no_change' = sym (shut refl)
-last_ready false Nothing last open_picture shut no_change' = no_change' refl
-last_ready false (Refusal f) last open_picture shut no_change' = no_change' refl
-last_ready false (FaultOfOpen f) last open_picture shut no_change' = no_change' refl
-last_ready false (FaultOfOwn f) last open_picture shut no_change' = no_change' refl
-
--- no picture is open
-none_for : (closes : Bool) (next : Next) → BringsNext None closes next → OpenFor next None
-none_for closes (Begins s) b = refl
-none_for closes (Continues s) b = absurd b.1
-none_for closes Nothing b = tt
-none_for closes (Refusal f) b = tt
-none_for closes (FaultOfOpen f) b = tt
-none_for closes (FaultOfOwn f) b = tt
-
--- it was closed
-closed_for : (next : Next) (open' : Option OpenPictureFacts) → BringsNext open' true next → OpenFor next None
-closed_for (Begins s) open' b = refl
-closed_for (Continues s) open' b = let e = b.0 in cc
-closed_for Nothing open' b = tt
-closed_for (Refusal f) open' b = tt
-closed_for (FaultOfOpen f) open' b = tt
-closed_for (FaultOfOwn f) open' b = tt
-
--- it stays open
-open_for : (next : Next) (info : OpenPictureFacts) (o : OpenPicture) → info.last ≡ (o.last).header → BringsNext (Some info) false next → OpenFor next (Some o)
-open_for (Begins s) info o e b = cc
-open_for (Continues s) info o e b = (ap (λ (h : Header). h.pic_parameter_set_id) (sym e) ∙ same_set info.last s.header b.1, ap is_idr (sym e) ∙ same_kind info.last s.header b.1)
-open_for Nothing info o e b = tt
-open_for (Refusal f) info o e b = tt
-open_for (FaultOfOpen f) info o e b = tt
-open_for (FaultOfOwn f) info o e b = tt
-
--- At a phase: the grouper's state and the step's parts one by one.
-pub record IsAt (g : GrouperState) (p : Phase) : Type 0 where
-  pub runs : g.running ≡ is_running p
-  pub last : g.last ≡ last_header (open_picture_in p)
-  pub named : IfSome (open_picture_in p) (IsNamed (sets_after g.sets))
-
-abbrev step_at : (closes : Bool) → Next → (even : Bool) → Step
-step_at closes next even = record { closes = closes; next = next; even_after_fault = even }
-
--- no picture is open, so that none is closed
-closed_none : (closes : Bool) (k : PicturesState) → k.open_picture ≡ None → closed_if closes k ≡ no_change (running k.history None)
-closed_none true k e = ap (closed_in k.output k.history) e
-closed_none false k e = ap (λ o. no_change (running k.history o)) e
-
-between_none : (output : Output) (sets : Sets) (g : GrouperState) (p : Phase) (u : Piece) (closes : Bool) (next : Next) (even : Bool) (es : List Event) (t n : ℕ) → IsAt g p → open_picture_in p ≡ None → open_facts_in p ≡ None
-    → BringsNext (open_facts_in p) closes next → in_phase output sets u.index (step_at closes next even) p ≡ after_next output sets u.index p next
-    → Between sets (after_step g u (step_at closes next even)) (kept_at output p es t n) (after_outcome (closed_if closes (kept_at output p es t n)) (kept_at output p es t n)) u next (in_phase output sets u.index (step_at closes next even) p)
-between_none output sets g p u closes next even es t n a none none' b is = rw (closed_none closes (kept_at output p es t n) none) (record {
-  phase = p;
-  ready = record {
-    kept = ap (λ o. record { output = output; history = base_in p; open_picture = o; events = es ++ []; taken = t; read = n; failed = false }) (sym none);
-    runs = ap (λ b'. b' || begins_a_picture next) a.runs;
-    last = last_ready closes next g.last (open_picture_in p) (λ _. ap last_header none) (λ _. a.last);
-    named = subst (λ (o : Option OpenPicture). IfSome o (IsNamed (sets_after (g.sets ++ set_units (u ∷ []))))) (sym none) tt;
-    for_next = subst (OpenFor next) (sym none) (none_for closes next (subst (λ o. BringsNext o closes next) none' b));
-  };
-  before = [];
-  so_far = refl;
-  taken = refl;
-  read_so_far = refl;
-  mode = refl;
-  events = ap (λ (o : Outcome). o.events) is;
-  rest = ap (λ (o : Outcome). o.phase) is;
-  read = ap (λ (o : Outcome). o.read) is;
-})
-
--- it stays open
-between_open : (output : Output) (sets : Sets) (g : GrouperState) (h : History) (o : OpenPicture) (u : Piece) (next : Next) (even : Bool) (es : List Event) (t n : ℕ) → IsAt g (running h (Some o))
-    → BringsNext (open_facts_in (running h (Some o))) false next → set_units (u ∷ []) ≡ []
-    → Between sets (after_step g u (step_at false next even)) (kept_at output (running h (Some o)) es t n) (after_outcome (closed_if false (kept_at output (running h (Some o)) es t n)) (kept_at output (running h (Some o)) es t n)) u next
-    (in_phase output sets u.index (step_at false next even) (running h (Some o)))
-between_open output sets g h o u next even es t n a b no_set = record {
-  phase = running h (Some o);
-  ready = record {
-    kept = refl;
-    runs = ap (λ b'. b' || begins_a_picture next) a.runs;
-    last = last_ready false next g.last (Some o) (λ e. cc) (λ _. a.last);
-    named = subst (λ ss. IsNamed (sets_after ss) o) (sym (ap (λ ss. g.sets ++ ss) no_set ∙ append-nil g.sets)) a.named;
-    for_next = open_for next (open_picture_facts o) o refl b;
-  };
-  before = [];
-  so_far = refl;
-  taken = refl;
-  read_so_far = refl;
-  mode = refl;
-  events = refl;
-  rest = refl;
-  read = refl;
+-- one outcome, in which nothing is read, and then another
+then_comes : (output : Output) (q q1 q2 : QueueState) (n n1 n2 : ℕ) (t t1 t2 : List SetUnit) (o1 o2 : Outcome) (s1 s2 : SequenceState) (p1 p2 : PhaseHere) → o1.read ≡ 0
+    → ComesTo output q n t o1 s1 p1 q1 n1 t1 → ComesTo s1.output q1 n1 t1 o2 s2 p2 q2 n2 t2 → ComesTo output q n t (followed_by o1 o2) s2 p2 q2 n2 t2
+then_comes output q q1 q2 n n1 n2 t t1 t2 o1 o2 s1 s2 p1 p2 none a b = record {
+  works = b.works;
+  phase = b.phase;
+  output_is = b.output_is ∙ a.output_is;
+  queue = b.queue ∙ ap (with_events o2.events) a.queue ∙ ap (λ es. record q { events = es }) (append_assoc q.events o1.events o2.events);
+  count = b.count ∙ ap (λ m. more_read m o2.read) (a.count ∙ ap (more_read n) none) ∙ ap (more_read n) (omega (arith, none));
+  sets = b.sets ∙ a.sets;
 }
 
-abbrev close_outcome : Output → Sets → (unit : ℕ) → Next → (even : Bool) → Outcome → Outcome
-close_outcome output sets unit next even c = after_closing output sets unit (step_at true next even) c
+-- the stream's state is that after the unit
+state_is : (f : StreamState) (u : Piece) (x : Outcome) (st : State) (es : List Event) (t n : ℕ) → st ≡ state_after f.state u x → es ≡ f.events ++ x.events → t ≡ f.taken → n ≡ more_read f.read x.read
+    → x ≡ after_unit f.state u → (let f' : StreamState = record { state = st; events = es; taken = t; read = n } in f') ≡ after_unit_in_stream u f
+state_is f u x st es t n a b c d e = rw (a, b, c, d, e) refl
 
--- it was closed
-between_closed : (output : Output) (x : Result History (ℕ × Fault)) (sets : Sets) (g : GrouperState) (h : History) (o : OpenPicture) (u : Piece) (next : Next) (even : Bool) (es : List Event) (t n : ℕ) → IsAt g (running h (Some o))
-    → BringsNext (open_facts_in (running h (Some o))) true next → is_waiting (closed_outcome output o x).phase ≡ false
-    → Between sets (after_step g u (step_at true next even)) (kept_at output (running h (Some o)) es t n) (after_outcome (closed_outcome output o x) (kept_at output (running h (Some o)) es t n)) u next
-    (close_outcome output sets u.index next even (closed_outcome output o x))
-between_closed output (Err found) sets g h o u next even es t n a b found' = cc
-between_closed output (Ok h') sets g h o u next even es t n a b found = record {
-  phase = running h' None;
-  ready = record {
-    kept = refl;
-    runs = ap (λ b'. b' || begins_a_picture next) a.runs;
-    last = last_ready true next g.last None (λ _. refl) (λ e. cc);
-    named = tt;
-    for_next = closed_for next (open_facts_in (running h (Some o))) b;
-  };
-  before = (closed_outcome output o (Ok h')).events;
-  so_far = refl;
-  taken = refl;
-  read_so_far = refl;
-  mode = refl;
-  events = refl;
-  rest = refl;
-  read = omega arith;
-}
+-- where these stood for a stream's state
+abbrev pub flow : SequenceState → PhaseHere → QueueState → (read : ℕ) → List SetUnit → StreamState
+flow s p q n table = record { state = record { output = s.output; sets = table; phase = phase_of s p }; events = q.events; taken = q.taken; read = n }
 
-abbrev BetweenAt : Output → Sets → GrouperState → Phase → Piece → (closes : Bool) → Next → (even : Bool) → List Event → (taken read : ℕ) → Type 0
-BetweenAt output sets g p u closes next even es t n =
-    Between sets (after_step g u (step_at closes next even)) (kept_at output p es t n) (after_outcome (closed_if closes (kept_at output p es t n)) (kept_at output p es t n)) u next (in_phase output sets u.index (step_at closes next even) p)
-
-between_at : (output : Output) (closes : Bool) (p : Phase) (sets : Sets) (g : GrouperState) (u : Piece) (next : Next) (even : Bool) (es : List Event) (t n : ℕ) → IsAt g p → BringsNext (open_facts_in p) closes next
-    → (closes ≡ false → set_units (u ∷ []) ≡ []) → is_waiting (closed_if closes (kept_at output p es t n)).phase ≡ false → BetweenAt output sets g p u closes next even es t n
-between_at output closes waiting sets g u next even es t n a b keeps found = between_none output sets g waiting u closes next even es t n a refl refl b refl
-between_at output closes (running h None) sets g u next even es t n a b keeps found = between_none output sets g (running h None) u closes next even es t n a refl refl b refl
-between_at output false (running h (Some o)) sets g u next even es t n a b keeps found = between_open output sets g h o u next even es t n a b (keeps refl)
-between_at output true (running h (Some o)) sets g u next even es t n a b keeps found = between_closed output (closing_result o) sets g h o u next even es t n a b found
-
--- ---- closing was a fault
-
--- the unit begins a picture all the same, or decoding waits
-ready_fault : (output : Output) (next : Next) (g : GrouperState) (u : Piece) (open' : Option OpenPictureFacts) (es : List Event) (t n : ℕ) → BringsNext open' true next
-    → Ready (after_fault true (after_step g u (step_at true next true))) (kept_at output waiting es t n) waiting next
-ready_fault output (Begins s) g u open' es t n b = record { kept = refl; runs = or_true g.running; last = refl; named = tt; for_next = refl }
-ready_fault output (Continues s) g u open' es t n b = let e = b.0 in cc
-ready_fault output Nothing g u open' es t n b = record { kept = refl; runs = refl; last = refl; named = tt; for_next = tt }
-ready_fault output (Refusal f) g u open' es t n b = record { kept = refl; runs = refl; last = refl; named = tt; for_next = tt }
-ready_fault output (FaultOfOpen f) g u open' es t n b = record { kept = refl; runs = refl; last = refl; named = tt; for_next = tt }
-ready_fault output (FaultOfOwn f) g u open' es t n b = record { kept = refl; runs = refl; last = refl; named = tt; for_next = tt }
-
-between_faulty : (output : Output) (x : Result History (ℕ × Fault)) (sets : Sets) (g : GrouperState) (h : History) (o : OpenPicture) (u : Piece) (next : Next) (es : List Event) (t n : ℕ)
-    → BringsNext (open_facts_in (running h (Some o))) true next → is_waiting (closed_outcome output o x).phase ≡ true
-    → Between sets (after_fault true (after_step g u (step_at true next true))) (kept_at output (running h (Some o)) es t n) (after_outcome (closed_outcome output o x) (kept_at output (running h (Some o)) es t n)) u next
-    (close_outcome output sets u.index next true (closed_outcome output o x))
-between_faulty output (Ok h') sets g h o u next es t n b found = cc
-between_faulty output (Err f) sets g h o u next es t n b found = record {
-  phase = waiting;
-  ready = ready_fault output next g u (open_facts_in (running h (Some o))) (es ++ (closed_outcome output o (Err f)).events) t n b;
-  before = (closed_outcome output o (Err f)).events;
-  so_far = refl;
-  taken = refl;
-  read_so_far = refl;
-  mode = refl;
-  events = refl;
-  rest = refl;
-  read = omega arith;
-}
-
-between_fault_at : (output : Output) (closes : Bool) (p : Phase) (sets : Sets) (g : GrouperState) (u : Piece) (next : Next) (es : List Event) (t n : ℕ) → BringsNext (open_facts_in p) closes next
-    → is_waiting (closed_if closes (kept_at output p es t n)).phase ≡ true
-    → Between sets (after_fault true (after_step g u (step_at closes next true))) (kept_at output p es t n) (after_outcome (closed_if closes (kept_at output p es t n)) (kept_at output p es t n)) u next (in_phase output sets u.index (step_at closes next true) p)
-between_fault_at output false p sets g u next es t n b found = cc
-between_fault_at output true waiting sets g u next es t n b found = cc
-between_fault_at output true (running h None) sets g u next es t n b found = cc
-between_fault_at output true (running h (Some o)) sets g u next es t n b found = between_faulty output (closing_result o) sets g h o u next es t n b found
-
--- and nothing comes after it
-faulty_done : (output : Output) (x : Result History (ℕ × Fault)) (sets : Sets) (g : GrouperState) (h : History) (o : OpenPicture) (u : Piece) (next : Next) (es : List Event) (t n : ℕ) → is_waiting (closed_outcome output o x).phase ≡ true
-    → Done (after_step g u (step_at true next false)) (after_fault true (after_step g u (step_at true next false))) (kept_at output (running h (Some o)) es t n) (after_outcome (closed_outcome output o x) (kept_at output (running h (Some o)) es t n))
-    (close_outcome output sets u.index next false (closed_outcome output o x))
-faulty_done output (Ok h') sets g h o u next es t n found = cc
-faulty_done output (Err f) sets g h o u next es t n found = record {
-  agrees = record { going = refl; last = refl; no_history = λ _. refl; no_picture = λ _. refl; named = tt };
-  phase = refl;
-  sets = refl;
-  events = refl;
-  taken = refl;
-  read = refl;
-  mode = refl;
-}
-
-fault_done_at : (output : Output) (closes : Bool) (p : Phase) (sets : Sets) (g : GrouperState) (u : Piece) (next : Next) (es : List Event) (t n : ℕ) → is_waiting (closed_if closes (kept_at output p es t n)).phase ≡ true
-    → Done (after_step g u (step_at closes next false)) (after_fault true (after_step g u (step_at closes next false))) (kept_at output p es t n) (after_outcome (closed_if closes (kept_at output p es t n)) (kept_at output p es t n))
-    (in_phase output sets u.index (step_at closes next false) p)
-fault_done_at output false p sets g u next es t n found = cc
-fault_done_at output true waiting sets g u next es t n found = cc
-fault_done_at output true (running h None) sets g u next es t n found = cc
-fault_done_at output true (running h (Some o)) sets g u next es t n found = faulty_done output (closing_result o) sets g h o u next es t n found
-
--- ---- the step of a unit
-
-pub record Stepped (g : GrouperState) (k : PicturesState) (u : Piece) (w : Step) : Type 0 where
-  pub kept : k ≡ kept_at k.output (phase_of g.running k) k.events k.taken k.read
-  pub is_at : IsAt g (phase_of g.running k)
-  pub brings : BringsNext (open_facts_in (phase_of g.running k)) w.closes w.next
-  pub keeps : w.closes ≡ false → set_units (u ∷ []) ≡ []
-  pub outcome : after_unit (state_of g k) u ≡ in_phase k.output (sets_after g.sets) u.index w (phase_of g.running k)
-
-kept_by : (r : Bool) (k : PicturesState) → k.failed ≡ false → (r ≡ false → k.history ≡ []) → (r ≡ false → k.open_picture ≡ None) → k ≡ kept_at k.output (phase_of r k) k.events k.taken k.read
-kept_by true k on no_history no_picture = ap (λ f. record k { failed = f }) on
-kept_by false k on no_history no_picture =
-    ap (λ f. record k { failed = f }) on ∙ ap (λ h. record k { history = h; failed = false }) (no_history refl) ∙ ap (λ o. record k { history = []; open_picture = o; failed = false }) (no_picture refl)
-
-at_by : (r : Bool) (g : GrouperState) (k : PicturesState) → g.running ≡ r → g.last ≡ last_header k.open_picture → (r ≡ false → k.open_picture ≡ None) → IfSome k.open_picture (IsNamed (sets_after g.sets)) → IsAt g (phase_of r k)
-at_by true g k e last no_picture named = record { runs = e; last = last; named = named }
-at_by false g k e last no_picture named = record { runs = e; last = last ∙ ap last_header (no_picture refl); named = tt }
-
-open_by : (r : Bool) (k : PicturesState) (last : Option Header) (full : Bool) → last ≡ last_header k.open_picture → full ≡ is_full_in k.open_picture → (r ≡ false → k.open_picture ≡ None) → open_picture_of full last ≡ open_facts_in (phase_of r k)
-open_by false k last full e f no_picture = ap (open_picture_of full) (e ∙ ap last_header (no_picture refl))
-open_by true k last full e f no_picture = rw (e, f) (open_same k.history k.open_picture)
+unit_done : (s s' : SequenceState) (p p' : PhaseHere) (q q' : QueueState) (n n' : ℕ) (table table1 table' : List SetUnit) (u : Piece) (x : Outcome) → ComesTo s.output q n table1 x s' p' q' n' table'
+    → table1 ≡ table ++ set_units (u ∷ []) → x ≡ after_unit (flow s p q n table).state u → flow s' p' q' n' table' ≡ after_unit_in_stream u (flow s p q n table)
+unit_done s s' p p' q q' n n' table table1 table' u x r put is =
+    state_is (flow s p q n table) u x (flow s' p' q' n' table').state q'.events q'.taken n'
+    (state_of (r.output_is) (r.sets ∙ put) r.phase) (ap (λ (k : QueueState). k.events) r.queue) (ap (λ (k : QueueState). k.taken) r.queue) r.count is
   where
-    open_same : (h : History) (open_picture : Option OpenPicture) → open_picture_of (is_full_in open_picture) (last_header open_picture) ≡ open_facts_in (running h open_picture)
-    open_same h None = refl
-    open_same h (Some o) = refl
+    state_of : {o o' : Output} {t t' : List SetUnit} {a a' : Phase} → o ≡ o' → t ≡ t' → a ≡ a' → (let x : State = record { output = o; sets = t; phase = a } in x) ≡ record { output = o'; sets = t'; phase = a' }
+    state_of e f g = cc
 
-running_by : (r : Bool) (k : PicturesState) → is_running (phase_of r k) ≡ r
-running_by true k = refl
-running_by false k = refl
+-- what after_unit is by the step that the unit has
+unit_is : (table table' : List SetUnit) (s : SequenceState) (p : PhaseHere) (q : QueueState) (n : ℕ) (u : Piece) (w : Step) → Steps table table' s p u w
+    → in_phase s.output (sets_after table) u.index w (phase_of s p) ≡ after_unit (flow s p q n table).state u
+unit_is table table' s p q n u w k =
+    ap (λ v. in_phase s.output (sets_after table) u.index v (phase_of s p))
+    (k.is ∙ ap (λ r. step (sets_after table) r (open_picture_of k.full (last_header_in p)) u) (runs s p) ∙ ap (λ o. step (sets_after table) (is_running (phase_of s p)) o u) k.facts)
 
-waits_open : (r : Bool) (k : PicturesState) → is_running (phase_of r k) ≡ false → open_facts_in (phase_of r k) ≡ None
-waits_open true k e = cc
-waits_open false k e = refl
+-- the open picture stays open, or there is none
+pub stays : (table table1 table' : List SetUnit) (s s' : SequenceState) (p p' : PhaseHere) (q q' : QueueState) (n n' : ℕ) (u : Piece) (w : Step) → Steps table table1 s p u w → (w.closes && is_some (current_in p)) ≡ false
+    → ComesTo s.output q n table1 (after_next s.output (sets_after table1) u.index (phase_of s p) w.next) s' p' q' n' table' → flow s' p' q' n' table' ≡ after_unit_in_stream u (flow s p q n table)
+stays table table1 table' s s' p p' q q' n n' u w k open' r =
+    unit_done s s' p p' q q' n n' table table1 table' u _ r k.put
+    (same_next s.output w.next table table1 u.index (phase_of s p) k.same ∙ sym (stays_as s.output (sets_after table) u.index w s p open') ∙ unit_is table table1 s p q n u w k)
 
-stepped : (g : GrouperState) (k : PicturesState) (u : Piece) (full : Bool) (w : Step) → Agrees g k → full ≡ is_full_in k.open_picture → w ≡ step (sets_after g.sets) g.running (open_picture_of full g.last) u → Stepped g k u w
-stepped g k u full w a f i =
-    let p = phase_of g.running k in
-    let sets = sets_after g.sets in
-    let is : w ≡ step sets (is_running p) (open_facts_in p) u = i ∙ ap (λ r. step sets r (open_picture_of full g.last) u) (sym (running_by g.running k)) ∙ ap (λ o. step sets (is_running p) o u) (open_by g.running k g.last full a.last f a.no_picture) in
-    let brings = brings_step sets (is_running p) (open_facts_in p) u (waits_open g.running k) in
-    record {
-      kept = kept_by g.running k a.going a.no_history a.no_picture;
-      is_at = at_by g.running g k refl a.last a.no_picture a.named;
-      brings = (subst (Brings (open_facts_in p)) (sym is) brings).brings;
-      keeps = λ e. keeps_sets sets (is_running p) (open_facts_in p) u (ap (λ (x : Step). x.closes) (sym is) ∙ e);
-      outcome = ap (λ x. in_phase k.output sets u.index x p) (sym is);
-    }
+silent_by : (b : Bool) (o other : Outcome) → b ≡ true → elim b as (λ _. Outcome) [ true ↦ o | false ↦ other ] ≡ o
+silent_by true o other e = refl
+silent_by false o other e = cc
 
--- ---- the same of what the calls say
+goes_on_by : (b : Bool) (o other : Outcome) → b ≡ false → elim b as (λ _. Outcome) [ true ↦ o | false ↦ other ] ≡ other
+goes_on_by true o other e = cc
+goes_on_by false o other e = refl
 
-pub between : (g g1 : GrouperState) (k k1 : PicturesState) (u : Piece) (full found : Bool) (w : Step) → Agrees g k → full ≡ is_full_in k.open_picture → w ≡ step (sets_after g.sets) g.running (open_picture_of full g.last) u
-    → g1 ≡ after_step g u w → k1 ≡ after_outcome (closed_if w.closes k) k → found ≡ is_waiting (closed_if w.closes k).phase → found ≡ false
-    → Between (sets_after g.sets) g1 k k1 u w.next (after_unit (state_of g k) u)
-between g g1 k k1 u full found w a f i i1 j d sound =
-    let s = stepped g k u full w a f i in
-    let p = phase_of g.running k in
-    let sound' : is_waiting (closed_if w.closes (kept_at k.output p k.events k.taken k.read)).phase ≡ false = ap (λ (x : PicturesState). is_waiting (closed_if w.closes x).phase) (sym s.kept) ∙ sym d ∙ sound in
-    let b = between_at k.output w.closes p (sets_after g.sets) g u w.next w.even_after_fault k.events k.taken k.read s.is_at s.brings s.keeps sound' in
-    rw (i1, j, s.outcome) (subst (λ (x : PicturesState). Between (sets_after g.sets) (after_step g u w) x (after_outcome (closed_if w.closes x) x) u w.next (in_phase k.output (sets_after g.sets) u.index w p)) (sym s.kept) b)
+-- it was closed; that was a fault, and nothing comes after it
+pub closes_silently : (table table1 table' : List SetUnit) (s s' : SequenceState) (p p' : PhaseHere) (q q' : QueueState) (n n' : ℕ) (u : Piece) (w : Step) → IsPhase s p → Steps table table1 s p u w → (w.closes && is_some (current_in p)) ≡ true
+    → ComesTo s.output q n table1 (closed_in s.output (phase_of s p)) s' p' q' n' table' → (is_waiting_in p' && not w.even_after_fault) ≡ true → flow s' p' q' n' table' ≡ after_unit_in_stream u (flow s p q n table)
+closes_silently table table1 table' s s' p p' q q' n n' u w stands k shuts r silent =
+    let o = closed_in s.output (phase_of s p) in
+    let waits = ap (λ b. b && not w.even_after_fault) (ap is_waiting (sym r.phase) ∙ waits_here s' p') ∙ silent in
+    unit_done s s' p p' q q' n n' table table1 table' u o r k.put
+    (sym (silent_by (is_waiting o.phase && not w.even_after_fault) o _ waits) ∙ sym (closes_as s.output (sets_after table) u.index w s p stands shuts) ∙ unit_is table table1 s p q n u w k)
 
--- closing was a fault, and the unit goes on all the same
-pub between_fault : (g g1 g2 : GrouperState) (k k1 : PicturesState) (u : Piece) (full found : Bool) (w : Step) → Agrees g k → full ≡ is_full_in k.open_picture → w ≡ step (sets_after g.sets) g.running (open_picture_of full g.last) u
-    → g1 ≡ after_step g u w → k1 ≡ after_outcome (closed_if w.closes k) k → found ≡ is_waiting (closed_if w.closes k).phase → found ≡ true → g2 ≡ after_fault true g1 → w.even_after_fault ≡ true
-    → Between (sets_after g.sets) g2 k k1 u w.next (after_unit (state_of g k) u)
-between_fault g g1 g2 k k1 u full found w a f i i1 j d faulty i2 even =
-    let s = stepped g k u full w a f i in
-    let p = phase_of g.running k in
-    let faulty' : is_waiting (closed_if w.closes (kept_at k.output p k.events k.taken k.read)).phase ≡ true = ap (λ (x : PicturesState). is_waiting (closed_if w.closes x).phase) (sym s.kept) ∙ sym d ∙ faulty in
-    let b = between_fault_at k.output w.closes p (sets_after g.sets) g u w.next k.events k.taken k.read s.brings faulty' in
-    let b' = subst (λ (e : Bool). Between (sets_after g.sets) (after_fault true (after_step g u (step_at w.closes w.next e))) (kept_at k.output p k.events k.taken k.read) (after_outcome (closed_if w.closes (kept_at k.output p k.events k.taken k.read)) (kept_at k.output p k.events k.taken k.read)) u w.next (in_phase k.output (sets_after g.sets) u.index (step_at w.closes w.next e) p)) (sym even) b in
-    rw (i2, i1, j, s.outcome) (subst (λ (x : PicturesState). Between (sets_after g.sets) (after_fault true (after_step g u w)) x (after_outcome (closed_if w.closes x) x) u w.next (in_phase k.output (sets_after g.sets) u.index w p)) (sym s.kept) b')
+-- it was closed, and then comes what the unit does next
+pub closes_and_goes_on : (table table1 table2 table' : List SetUnit) (s s1 s' : SequenceState) (p p1 p' : PhaseHere) (q q1 q' : QueueState) (n n1 n' : ℕ) (u : Piece) (w : Step) → IsPhase s p → Steps table table1 s p u w
+    → (w.closes && is_some (current_in p)) ≡ true → ComesTo s.output q n table1 (closed_in s.output (phase_of s p)) s1 p1 q1 n1 table2 → (is_waiting_in p1 && not w.even_after_fault) ≡ false
+    → ComesTo s1.output q1 n1 table2 (after_next s1.output (sets_after table2) u.index (phase_of s1 p1) w.next) s' p' q' n' table' → flow s' p' q' n' table' ≡ after_unit_in_stream u (flow s p q n table)
+closes_and_goes_on table table1 table2 table' s s1 s' p p1 p' q q1 q' n n1 n' u w stands k shuts r on r' =
+    let o = closed_in s.output (phase_of s p) in
+    let goes = ap (λ b. b && not w.even_after_fault) (ap is_waiting (sym r.phase) ∙ waits_here s1 p1) ∙ on in
+    let next : after_next s1.output (sets_after table2) u.index (phase_of s1 p1) w.next ≡ after_next s.output (sets_after table) u.index o.phase w.next =
+    rw (r.output_is, r.phase, r.sets) (same_next s.output w.next table table1 u.index o.phase k.same) in
+    unit_done s s' p p' q q' n n' table table1 table' u _ (then_comes s.output q q1 q' n n1 n' table1 table2 table' o _ s1 s' p1 p' (none_read s.output (phase_of s p)) r r') k.put
+    (ap (followed_by o) next ∙ sym (goes_on_by (is_waiting o.phase && not w.even_after_fault) o _ goes) ∙ sym (closes_as s.output (sets_after table) u.index w s p stands shuts) ∙ unit_is table table1 s p q n u w k)
 
--- what comes next can be carried out
-pub between_fits : (sets : Sets) (g : GrouperState) (k k1 : PicturesState) (u : Piece) (next : Next) (y : Outcome) → Between sets g k k1 u next y → IfSlice next (IsSliceUnder (sets_after g.sets)) → Fits (sets_after g.sets) next k1.open_picture
-between_fits sets g k k1 u next y b taken = rw b.ready.kept (fits_at next (sets_after g.sets) (open_picture_in b.phase) b.ready.for_next b.ready.named taken)
+-- ---- the end of the units
 
-handles_of : (g g1 g' : GrouperState) (k k' : PicturesState) (u : Piece) → g1.sets ≡ g.sets ++ set_units (u ∷ []) → Done g1 g' k k' (after_unit (state_of g k) u) → Handles g k u g' k'
-handles_of g g1 g' k k' u sets d = record { agrees = d.agrees; state = rw (d.phase, d.sets, sets, d.mode) refl; events = d.events; taken = d.taken; read = d.read }
+end_events : (output : Output) (p : Phase) → (closed_in output p).events ++ held_after output (closed_in output p).phase ≡ at_end output p
+end_events output waiting = refl
+end_events output (running h None) = refl
+end_events output (running h (Some o)) = refl
 
--- what came next was done
-pub handles : (g g1 g' : GrouperState) (k k1 k' : PicturesState) (u : Piece) (next : Next) → g1.sets ≡ g.sets ++ set_units (u ∷ []) → Between (sets_after g.sets) g1 k k1 u next (after_unit (state_of g k) u)
-    → IfSlice next (IsSliceUnder (sets_after g1.sets)) → IfSlice next (λ _. g1.sets ≡ g.sets) → k' ≡ after_outcome (next_in (sets_after g1.sets) u.index next k1) k1
-    → g' ≡ after_fault_if (is_waiting (next_in (sets_after g1.sets) u.index next k1).phase) g1 → Handles g k u g' k'
-handles g g1 g' k k1 k' u next sets b taken same ek eg =
-    let d = done g1 g' k1 k' b.phase u.index next b.ready taken ek eg in
-    let is = same_next k1.output next g.sets g1.sets u.index b.phase same ∙ ap (λ m. after_next m (sets_after g.sets) u.index b.phase next) b.mode in
-    handles_of g g1 g' k k' u sets (record {
-      agrees = d.agrees;
-      phase = d.phase ∙ ap (λ (o : Outcome). o.phase) is ∙ sym b.rest;
-      sets = d.sets;
-      events = d.events ∙ ap (λ (o : Outcome). k1.events ++ o.events) is ∙ ap (λ es. es ++ (after_next k.output (sets_after g.sets) u.index b.phase next).events) b.so_far ∙ append_assoc k.events b.before _ ∙ ap (λ es. k.events ++ es) (sym b.events);
-      taken = d.taken ∙ b.taken;
-      read = d.read ∙ ap (λ (o : Outcome). more_read k1.read o.read) is ∙ ap (λ m. more_read m (after_next k.output (sets_after g.sets) u.index b.phase next).read) b.read_so_far ∙ ap (more_read k.read) (sym b.read);
-      mode = d.mode ∙ b.mode;
-    })
+held_here : (output : Output) (s : SequenceState) (p : PhaseHere) → IsPhase s p → open_facts_in (phase_of s p) ≡ None → pictures (held_pictures output (current_history s)) ≡ held_after output (phase_of s p)
+held_here output s Waiting w none = rw ((w.0).none, w.1) refl
+held_here output s (Running None) w none = rw w.none refl
+held_here output s (Running (Some c)) w none =
+    let there = sym (ap open_facts_in (opened_phase s c w)) ∙ none in
+    cc
 
--- closing was a fault, and nothing comes after it
-pub handles_fault : (g g1 g2 : GrouperState) (k k1 : PicturesState) (u : Piece) (full found : Bool) (w : Step) → Agrees g k → full ≡ is_full_in k.open_picture → w ≡ step (sets_after g.sets) g.running (open_picture_of full g.last) u
-    → g1 ≡ after_step g u w → k1 ≡ after_outcome (closed_if w.closes k) k → found ≡ is_waiting (closed_if w.closes k).phase → found ≡ true → g2 ≡ after_fault true g1 → w.even_after_fault ≡ false
-    → Handles g k u g2 k1
-handles_fault g g1 g2 k k1 u full found w a f i i1 j d faulty i2 even =
-    let s = stepped g k u full w a f i in
-    let p = phase_of g.running k in
-    let faulty' : is_waiting (closed_if w.closes (kept_at k.output p k.events k.taken k.read)).phase ≡ true = ap (λ (x : PicturesState). is_waiting (closed_if w.closes x).phase) (sym s.kept) ∙ sym d ∙ faulty in
-    let b = fault_done_at k.output w.closes p (sets_after g.sets) g u w.next k.events k.taken k.read faulty' in
-    let b' = subst (λ (e : Bool). Done (after_step g u (step_at w.closes w.next e)) (after_fault true (after_step g u (step_at w.closes w.next e))) (kept_at k.output p k.events k.taken k.read) (after_outcome (closed_if w.closes (kept_at k.output p k.events k.taken k.read)) (kept_at k.output p k.events k.taken k.read)) (in_phase k.output (sets_after g.sets) u.index (step_at w.closes w.next e) p)) (sym even) b in
-    let b'' = subst (λ (x : PicturesState). Done (after_step g u w) (after_fault true (after_step g u w)) x (after_outcome (closed_if w.closes x) x) (in_phase k.output (sets_after g.sets) u.index w p)) (sym s.kept) b' in
-    rw (i2, i1, j) (handles_of g (after_step g u w) (after_fault true (after_step g u w)) k (after_outcome (closed_if w.closes k) k) u refl (rw s.outcome b''))
+end_is : (f : StreamState) (st : State) (es : List Event) (t n : ℕ) → st ≡ record { output = (f.state).output; sets = (f.state).sets; phase = waiting } → es ≡ f.events ++ at_end (f.state).output (f.state).phase → t ≡ f.taken → n ≡ f.read
+    → (let f' : StreamState = record { state = st; events = es; taken = t; read = n } in f') ≡ after_stream_end f
+end_is f st es t n a b c d = rw (a, b, c, d) refl
 
-pub fault_sets : (closing : Bool) (g : GrouperState) → (after_fault closing g).sets ≡ g.sets
-fault_sets closing g = by (g.restarts && closing)
-  where
-    by : (b : Bool) → (elim b as (λ _. GrouperState) [ true ↦ g | false ↦ record g { running = false; last = None; restarts = false } ]).sets ≡ g.sets
-    by true = refl
-    by false = refl
+pub ends : (s s1 s' : SequenceState) (p p1 p' : PhaseHere) (q q1 q' : QueueState) (n n1 n' : ℕ) (table table1 table' : List SetUnit) → ComesTo s.output q n table (closed_in s.output (phase_of s p)) s1 p1 q1 n1 table1
+    → Stops s1.output q1 (pictures (held_pictures s1.output (current_history s1))) s' p' q' → n' ≡ n1 → table' ≡ table1 → flow s' p' q' n' table' ≡ after_stream_end (flow s p q n table)
+ends s s1 s' p p1 p' q q1 q' n n1 n' table table1 table' r w counts sets =
+    let x = closed_in s.output (phase_of s p) in
+    let f = flow s p q n table in
+    let none = ap open_facts_in r.phase ∙ none_after_closing s.output (phase_of s p) in
+    let held : pictures (held_pictures s1.output (current_history s1)) ≡ held_after s.output x.phase =
+    held_here s1.output s1 p1 r.works.stands none ∙ ap (held_after s1.output) r.phase ∙ ap (λ o. held_after o x.phase) r.output_is in
+    end_is f (flow s' p' q' n' table').state q'.events q'.taken n'
+    (rw (w.sequence, w.phase, sets, r.sets, r.output_is) refl)
+    (ap (λ (k : QueueState). k.events) w.queue ∙ ap (λ es. q1.events ++ es) held ∙ ap (λ (k : QueueState). k.events ++ held_after s.output x.phase) r.queue
+    ∙ append_assoc q.events x.events (held_after s.output x.phase) ∙ ap (λ es. q.events ++ es) (end_events s.output (phase_of s p)))
+    (ap (λ (k : QueueState). k.taken) w.queue ∙ ap (λ (k : QueueState). k.taken) r.queue)
+    (counts ∙ r.count ∙ ap (more_read n) (none_read s.output (phase_of s p)))

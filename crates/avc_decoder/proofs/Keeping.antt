@@ -1,49 +1,85 @@
--- What is kept of the open picture.
-use Rattle.std.proofs.Common.{◌≡◌, ℕ, Bool, ◌∷◌, Option, Some, None, refl, ap, sym, ◌∙◌, subst}
+-- What the phase knows of the open picture.
+use Rattle.std.proofs.Common.{◌≡◌, ℕ, Bool, false, not, ◌∷◌, List, Option, Some, None, refl, ap, sym, ◌∙◌, subst}
 use Rattle.std.specs.Prelude.{IfSome}
 use Rattle.avc_params.specs.Tables.{Sets}
 use Rattle.avc_params.specs.declared.pps.Pps.{Pps}
+use Rattle.avc_params.specs.declared.set_unit.SetUnit.{SetUnit}
 use Rattle.avc_params.specs.declared.sps.Sps.{Sps}
+use Rattle.avc_plane.specs.declared.frame.Frame.{Frame}
+use Rattle.avc_slice.specs.Begins.{begins}
+use Rattle.avc_slice.specs.declared.header.Header.{Header}
 use Rattle.avc_slice.specs.declared.slice.Slice.{Slice}
+use Rattle.avc_slice.specs.Header.{is_idr}
 use Rattle.avc_slice.specs.Within.{IsHeader}
 use Rattle.avc_picture.specs.Slices.{is_full, progress}
-use Rattle.avc_picture.specs.Decoding.{Decoding, HasNoFault, IsFull}
-use Rattle.avc_units.specs.GrouperState.{IsSliceUnder}
-use Rattle.avc_decoder_core.specs.History.{stored_frames}
+use Rattle.avc_picture.specs.Decoding.{HasNoFault, IsFull}
+use Rattle.avc_units.specs.GrouperState.{IsSliceUnder, open_picture_of}
+use Rattle.avc_decoder_core.specs.History.{History, stored_frames}
 use Rattle.avc_decoder_core.specs.SequenceState.{SequenceState, current_history}
+use Rattle.avc_decoder.specs.Events.{base_in, history_in, is_running, open_facts_in, running, sets_named}
 use Rattle.avc_decoder.specs.FirstFault.{OpenPicture}
 use Rattle.avc_decoder.specs.PictureFrames.{CanHave, start_with}
-use Rattle.avc_decoder.specs.States.{CanContinue, IsOpen, IsOpenIn, is_full_in, open_picture_from, open_picture_of}
+use Rattle.avc_decoder.specs.QueueState.{QueueState}
+use Rattle.avc_decoder.specs.States.{ComesTo, IsNamed, IsOpenIn, IsPhase, Works, closed_in, current_in, is_waiting_in, last_header_in, open_picture_from, phase_of, with_last}
+use Rattle.avc_decoder.specs.declared.phase.CurrentPicture.{CurrentPicture}
+use Rattle.avc_decoder.specs.declared.phase.Phase.{Phase as PhaseHere}
+use Rattle.avc_decoder.specs.declared.phase.Phase.TheVariants.{Waiting, Running}
 use Rattle.avc_decoder.proofs.Closing.{full_at, opened_as, some_is, stands_as}
 use Rattle.avc_decoder.proofs.FirstFaults.{history_is}
 use Rattle.avc_decoder.proofs.PictureFrames.{full_on, same_frames}
+use Rattle.avc_decoder.proofs.Slicing.{begun_with_slice, nothing_comes}
+use Rattle.avc_decoder.proofs.Stepping.{same_kind, same_set}
 
-pub full_is : (s : SequenceState) (unit : ℕ) (d : Decoding 32) (full : Bool) → IsOpenIn s unit d → IsFull full d → full ≡ is_full_in (open_picture_of s.history (Some d))
-full_is s unit d full w f =
-    let o = opened_as s d w.last w.earlier in
-    subst (λ ss. full ≡ is_full_in (open_picture_from s.history d.sps d.pps ss)) (sym w.slices)
-    (sym (ap (λ h. is_full (start_with (stored_frames h) d) (progress (start_with (stored_frames h) d) (w.last ∷ w.earlier))) (history_is o (current_history s) (stands_as s unit d w)) ∙ full_at s unit d full w (full_on s (w.last).header d full w.frames f)))
+-- the open picture
+pub opened_phase : (s : SequenceState) (c : CurrentPicture) (w : IsOpenIn s c) → phase_of s (Running (Some c)) ≡ running s.history (Some (opened_as s c.decoder w.last w.earlier))
+opened_phase s c w = ap (λ ss. running s.history (open_picture_from s.history (c.decoder).sps (c.decoder).pps ss)) w.slices
 
-pub can_have : (s : SequenceState) (unit : ℕ) (d : Decoding 32) (slice : Slice) → IsOpenIn s unit d → ((o : OpenPicture) → open_picture_of s.history (Some d) ≡ Some o → CanContinue o slice) → CanHave s d slice
-can_have s unit d slice w can =
-    let k = can (opened_as s d w.last w.earlier) (ap (open_picture_from s.history d.sps d.pps) w.slices) in
-    record { frames = same_frames s (w.last).header slice.header d k.idr w.frames; within = k.within }
+-- the history that it stands on
+pub history_here : (s : SequenceState) (p : PhaseHere) → IsPhase s p → history_in (phase_of s p) ≡ current_history s
+history_here s Waiting w = rw ((w.0).none, w.1) refl
+history_here s (Running None) w = rw w.none refl
+history_here s (Running (Some c)) w =
+    ap history_in (opened_phase s c w) ∙ history_is (opened_as s c.decoder w.last w.earlier) (current_history s) (stands_as s c w)
 
--- where a picture is open
-pub can_have_in : (s : SequenceState) (unit : ℕ) (picture : Option (Decoding 32)) (slice : Slice) → IsOpen s unit picture → ((o : OpenPicture) → open_picture_of s.history picture ≡ Some o → CanContinue o slice)
-    → IfSome picture (λ d. CanHave s d slice)
-can_have_in s unit None slice w can = tt
-can_have_in s unit (Some d) slice w can = can_have s unit d slice w can
+-- where none is open, a new one is decoded on that of the sequence
+pub base_here : (s : SequenceState) (p : PhaseHere) → IsPhase s p → current_in p ≡ None → base_in (phase_of s p) ≡ s.history
+base_here s Waiting w none = sym w.1
+base_here s (Running None) w none = refl
+base_here s (Running (Some c)) w none = refl
 
-pub well_in : (s : SequenceState) (unit : ℕ) (picture : Option (Decoding 32)) → IsOpen s unit picture → IfSome picture HasNoFault
-well_in s unit None w = tt
-well_in s unit (Some d) w = w.well
+pub none_open : (s : SequenceState) (p : PhaseHere) → IsPhase s p → current_in p ≡ None → s.open_picture ≡ None
+none_open s Waiting w none = (w.0).none
+none_open s (Running None) w none = w.none
+none_open s (Running (Some c)) w none = cc
 
-pub none_open : (s : SequenceState) (unit : ℕ) (picture : Option (Decoding 32)) → IsOpen s unit picture → open_picture_of s.history picture ≡ None → picture ≡ None
-none_open s unit None w e = refl
-none_open s unit (Some d) w e =
-    let wrong : Some (opened_as s d w.last w.earlier) ≡ None = sym (ap (open_picture_from s.history d.sps d.pps) w.slices) ∙ e in
-    cc
+pub well_in : (s : SequenceState) (p : PhaseHere) → IsPhase s p → IfSome (current_in p) (λ c. HasNoFault c.decoder)
+well_in s Waiting w = tt
+well_in s (Running None) w = tt
+well_in s (Running (Some c)) w = w.well
+
+-- ---- what a unit finds
+
+full_is : (s : SequenceState) (c : CurrentPicture) (full : Bool) (w : IsOpenIn s c) → IsFull full c.decoder
+    → let o = opened_as s c.decoder w.last w.earlier in
+    open_picture_of full (Some c.last_header) ≡ open_facts_in (running s.history (Some o))
+full_is s c full w f =
+    let o = opened_as s c.decoder w.last w.earlier in
+    let at = λ (h : History). is_full (start_with (stored_frames h) c.decoder) (progress (start_with (stored_frames h) c.decoder) (w.last ∷ w.earlier)) in
+    let same = ap at (history_is o (current_history s) (stands_as s c w)) ∙ full_at s c full w (full_on s (w.last).header c.decoder full w.frames f) in
+    rw (w.header, sym same) refl
+
+pub facts_are : (s : SequenceState) (p : PhaseHere) (last : Option Header) (full : Bool) → IsPhase s p → last ≡ last_header_in p → IfSome (current_in p) (λ c. IsFull full c.decoder)
+    → open_picture_of full last ≡ open_facts_in (phase_of s p)
+facts_are s Waiting last full w e f = rw e refl
+facts_are s (Running None) last full w e f = rw e refl
+facts_are s (Running (Some c)) last full w e f = rw e (full_is s c full w f ∙ ap open_facts_in (sym (opened_phase s c w)))
+
+pub runs : (s : SequenceState) (p : PhaseHere) → not (is_waiting_in p) ≡ is_running (phase_of s p)
+runs s Waiting = refl
+runs s (Running None) = refl
+runs s (Running (Some c)) = refl
+
+-- ---- a further slice
 
 -- a slice that can be decoded is within the sets that it names
 pub within_named : (sets : Sets) (slice : Slice) (pps : Pps) (sps : Sps) → IsSliceUnder sets slice → sets.pps (slice.header).pic_parameter_set_id ≡ Some pps → sets.sps pps.seq_parameter_set_id ≡ Some sps
@@ -52,3 +88,42 @@ within_named sets slice pps sps t ep es =
     let p : t.pps ≡ pps = some_is t.pps pps (sym t.pps_is ∙ ep) in
     let s : t.sps ≡ sps = some_is t.sps sps (sym t.sps_is ∙ ap (λ (q : Pps). sets.sps q.seq_parameter_set_id) p ∙ es) in
     rw (p, s) at t.within
+
+-- a picture's sets are those that its first slice names
+pub named_first : (sets : Sets) (slice : Slice) (sps : Sps) (pps : Pps) (frames : List (Frame 32)) → IsSliceUnder sets slice → sets_named sets slice.header ≡ Some (pps, sps) → IsNamed sets (begun_with_slice sps pps frames slice)
+named_first sets slice sps pps frames t e =
+    let named : sets_named sets slice.header ≡ Some (t.pps, t.sps) = cc (t.pps_is, t.sps_is) in
+    let same : ◌≡◌ {A = Pps × Sps} (t.pps, t.sps) (pps, sps) = some_is _ _ (sym named ∙ e) in
+    let p : t.pps ≡ pps = ap (λ (x : Pps × Sps). x.0) same in
+    let s : t.sps ≡ sps = ap (λ (x : Pps × Sps). x.1) same in
+    record { pps = t.pps_is ∙ ap Some p; sps = ap (λ (q : Pps). sets.sps q.seq_parameter_set_id) (sym p) ∙ t.sps_is ∙ ap Some s }
+
+-- and so are those that a further one names
+pub named_further : (sets : Sets) (p : PhaseHere) (slice : Slice) → IfSome (current_in p) (IsNamed sets) → IfSome (current_in p) (λ c. begins c.last_header slice.header ≡ false)
+    → IfSome (current_in p) (λ c. IsNamed sets (with_last slice c))
+named_further sets Waiting slice named goes = tt
+named_further sets (Running None) slice named goes = tt
+named_further sets (Running (Some c)) slice named goes = record { pps = ap sets.pps (sym (same_set c.last_header slice.header goes)) ∙ named.pps; sps = named.sps }
+
+pub can_have : (sets : Sets) (s : SequenceState) (p : PhaseHere) (slice : Slice) → Works sets s p → IsSliceUnder sets slice → IfSome (current_in p) (λ c. begins c.last_header slice.header ≡ false)
+    → IfSome (current_in p) (λ c. CanHave s c.decoder slice)
+can_have sets s Waiting slice w t goes = tt
+can_have sets s (Running None) slice w t goes = tt
+can_have sets s (Running (Some c)) slice w t goes =
+    let open' = w.stands in
+    let named = named_further sets (Running (Some c)) slice w.named goes in
+    record {
+      frames = same_frames s (open'.last).header slice.header c.decoder (ap is_idr (sym open'.header) ∙ same_kind c.last_header slice.header goes) open'.frames;
+      within = within_named sets slice (c.decoder).pps (c.decoder).sps t named.pps named.sps;
+    }
+
+-- ---- closing
+
+pub open_is : (p : PhaseHere) (c : CurrentPicture) → ◌≡◌ {A = Option CurrentPicture} (Some c) (current_in p) → p ≡ Running (Some c)
+open_is Waiting c e = cc
+open_is (Running o) c e = ap Running (sym e)
+
+pub closes_none : (s : SequenceState) (q : QueueState) (n : ℕ) (table : List SetUnit) (p : PhaseHere) → IsPhase s p → current_in p ≡ None → ComesTo s.output q n table (closed_in s.output (phase_of s p)) s p q n table
+closes_none s q n table Waiting w none = nothing_comes s q n table Waiting (record { stands = w; named = tt })
+closes_none s q n table (Running None) w none = nothing_comes s q n table (Running None) (record { stands = w; named = tt })
+closes_none s q n table (Running (Some c)) w none = cc

@@ -1,39 +1,53 @@
 -- What one slice more is answered in the open picture.
-use Rattle.std.proofs.Common.{◌≡◌, true, false, Option, Some, None, Ok, Err, refl, ap, sym, subst, ◌∙◌}
+use Rattle.std.proofs.Common.{◌≡◌, ℕ, ◌∷◌, Option, Some, None, Ok, Err, Result, refl, ap, sym, subst, ◌∙◌}
 use Rattle.std.specs.Prelude.{IfSome}
 use Rattle.avc_types.specs.declared.fault.Fault.{Fault}
-use Rattle.avc_types.specs.declared.picture_error.PictureError.{PictureError}
-use Rattle.avc_types.specs.declared.picture_error.PictureError.TheVariants.{Fault as Faulty}
+use Rattle.avc_slice.specs.declared.header.Header.{Header}
 use Rattle.avc_slice.specs.declared.slice.Slice.{Slice}
 use Rattle.avc_picture.specs.Decoding.{Decoding, HasNoFault, IsSliceAnswer, Refuses}
-use Rattle.avc_decoder_core.specs.SequenceState.{SequenceState, current_history, empty_sequence}
+use Rattle.avc_decoder_core.specs.SequenceState.{SequenceState, current_history}
 use Rattle.avc_decoder.specs.Events.{failed_at}
-use Rattle.avc_decoder.specs.PictureFrames.{CanHave, HasItsFrames}
-use Rattle.avc_decoder.specs.States.{DecodesIn, IsAnswerIn, QueueState, with_events}
-use Rattle.avc_decoder.specs.declared.open_picture.SliceAnswer.{SliceAnswer}
+use Rattle.avc_decoder.specs.PictureFrames.{CanHave, HasItsFrames, read_of_slice}
+use Rattle.avc_decoder.specs.QueueState.{QueueState}
+use Rattle.avc_decoder.specs.States.{DecodesAs, HasAnswered, IsAnswerIn, Stops, current_in, more_read, picture_answer}
+use Rattle.avc_decoder.specs.declared.phase.CurrentPicture.{CurrentPicture}
+use Rattle.avc_decoder.specs.declared.phase.Phase.{Phase as PhaseHere}
+use Rattle.avc_decoder.specs.declared.phase.Phase.TheVariants.{Waiting, Running}
+use Rattle.avc_decoder.specs.declared.slices.SliceAnswer.{SliceAnswer}
 use Rattle.avc_decoder.proofs.PictureFrames.{refused, slice_read, with_one_more}
 
-pub answered_well : (s : SequenceState) (q : QueueState) (slice : Slice) (a : SliceAnswer) (picture picture' : Option (Decoding 32)) → IfSome picture (λ d. CanHave s d slice) → IsAnswerIn picture slice a picture' → a.answer ≡ Ok tt
-    → DecodesIn picture slice s q (record { fault = false; read = a.read }) picture' s q
-answered_well s q slice a (Some d) (Some d') can is e =
-    let answer = subst (λ x. IsSliceAnswer d slice x d') e is.0 in
-    let read = is.1 in
-    let frames : HasItsFrames s slice.header d' = subst (HasItsFrames s slice.header) (sym answer.0) (with_one_more s d slice can) in
-    ((answer.0, frames, answer.1, refl, refl), slice_read s d d' slice read.before read.after a.read can answer.0 read.has_before read.has_after read.more, refl)
-answered_well s q slice a (Some d) None can is e = absurd is
-answered_well s q slice a None (Some d') can is e = absurd is
-answered_well s q slice a None None can is e = (refl, refl, refl, is.1, refl)
+read_more : (s : SequenceState) (c c' : CurrentPicture) (slice : Slice) (a : SliceAnswer) (n n' : ℕ) → CanHave s c.decoder slice → HasAnswered c slice a c' → c'.decoder ≡ record c.decoder { slices = slice ∷ (c.decoder).slices }
+    → n' ≡ more_read n a.read → n' ≡ more_read n (read_of_slice (current_history s) c.decoder slice)
+read_more s c c' slice a n n' can is e counts =
+    let r = is.read in
+    counts ∙ ap (more_read n) (slice_read s c.decoder c'.decoder slice r.before r.after a.read can e r.has_before r.has_after r.more)
 
-pub answered_faulty : (s s' : SequenceState) (q q' : QueueState) (slice : Slice) (a : SliceAnswer) (picture picture' : Option (Decoding 32)) (g : PictureError) (f : Fault) → IfSome picture (λ d. CanHave s d slice) → IfSome picture HasNoFault
-    → IsAnswerIn picture slice a picture' → a.answer ≡ Err g → g ≡ Faulty f → s' ≡ empty_sequence s.output → q' ≡ with_events (failed_at s.output (current_history s) slice.unit f 0).events q
-    → DecodesIn picture slice s q (record { fault = true; read = a.read }) None s' q'
-answered_faulty s s' q q' slice a (Some d) (Some d') g f can well is e h es eq =
-    let answer = subst (λ x. IsSliceAnswer d slice x d') (e ∙ ap Err h) is.0 in
-    let read = is.1 in
-    let refuses = subst (λ n. Refuses d slice f n) answer.0 answer.1 in
-    ((f, refused s d slice f can well refuses, es, eq), slice_read s d d' slice read.before read.after a.read can answer.0 read.has_before read.has_after read.more, refl)
-answered_faulty s s' q q' slice a (Some d) None g f can well is e h es eq = absurd is
-answered_faulty s s' q q' slice a None (Some d') g f can well is e h es eq = absurd is
-answered_faulty s s' q q' slice a None None g f can well is e h es eq =
-    let wrong : Ok tt ≡ Err g = sym is.0 ∙ e in
+last_is : (c : CurrentPicture) (d : Decoding 32) (h : Header) (unit : ℕ) → c.decoder ≡ d → c.last_header ≡ h → c.last_unit ≡ unit → c ≡ record { decoder = d; last_header = h; last_unit = unit }
+last_is c d h unit a b e = rw (← a, ← b, ← e) refl
+
+pub answered_well : (s : SequenceState) (q : QueueState) (slice : Slice) (a : SliceAnswer) (p p' : PhaseHere) (n n' : ℕ) → IfSome (current_in p) (λ c. CanHave s c.decoder slice)
+    → IsAnswerIn p slice a p' → a.answer ≡ Ok tt → n' ≡ more_read n a.read → DecodesAs p slice s q n p' s q n'
+answered_well s q slice a (Running (Some c)) (Running (Some c')) n n' can is e counts =
+    let answer = subst (λ x. IsSliceAnswer c.decoder slice (picture_answer x) c'.decoder) e is.answer in
+    let frames : HasItsFrames s slice.header c'.decoder = subst (HasItsFrames s slice.header) (sym answer.0) (with_one_more s c.decoder slice can) in
+    ((last_is c' _ slice.header slice.unit answer.0 is.header is.unit, frames, answer.1, refl, refl), read_more s c c' slice a n n' can is answer.0 counts)
+answered_well s q slice a (Running (Some c)) (Running None) n n' can is e counts = absurd is
+answered_well s q slice a (Running (Some c)) Waiting n n' can is e counts = absurd is
+answered_well s q slice a (Running None) p' n n' can is e counts = (is.0, refl, refl, counts ∙ ap (more_read n) is.2)
+answered_well s q slice a Waiting p' n n' can is e counts = (is.0, refl, refl, counts ∙ ap (more_read n) is.2)
+
+pub answered_faulty : (s s' : SequenceState) (q q' : QueueState) (slice : Slice) (a : SliceAnswer) (p between p' : PhaseHere) (n n' : ℕ) (f : Fault) → IfSome (current_in p) (λ c. CanHave s c.decoder slice)
+    → IfSome (current_in p) (λ c. HasNoFault c.decoder) → IsAnswerIn p slice a between → a.answer ≡ Err f → Stops s.output q (failed_at s.output (current_history s) slice.unit f 0).events s' p' q'
+    → n' ≡ more_read n a.read → DecodesAs p slice s q n p' s' q' n'
+answered_faulty s s' q q' slice a (Running (Some c)) (Running (Some c')) p' n n' f can well is e stops counts =
+    let answer = subst (λ x. IsSliceAnswer c.decoder slice (picture_answer x) c'.decoder) e is.answer in
+    let refuses = subst (λ d. Refuses c.decoder slice f d) answer.0 answer.1 in
+    rw stops.phase ((f, refused s c.decoder slice f can well refuses, stops.sequence, stops.queue), read_more s c c' slice a n n' can is answer.0 counts)
+answered_faulty s s' q q' slice a (Running (Some c)) (Running None) p' n n' f can well is e stops counts = absurd is
+answered_faulty s s' q q' slice a (Running (Some c)) Waiting p' n n' f can well is e stops counts = absurd is
+answered_faulty s s' q q' slice a (Running None) between p' n n' f can well is e stops counts =
+    let wrong : ◌≡◌ {A = Result (Unit {0}) Fault} (Ok tt) (Err f) = sym is.1 ∙ e in
+    cc
+answered_faulty s s' q q' slice a Waiting between p' n n' f can well is e stops counts =
+    let wrong : ◌≡◌ {A = Result (Unit {0}) Fault} (Ok tt) (Err f) = sym is.1 ∙ e in
     cc

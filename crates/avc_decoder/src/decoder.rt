@@ -1,14 +1,11 @@
-ghost use Rattle.std.specs.Prelude.{◌≡◌, ◌+◌, drop, false, length, OnOk};
-ghost use Rattle.avc_annexb.specs.Units.{units};
-ghost use Rattle.avc_decoder.specs.States.{after_units_in_stream};
+ghost use Rattle.std.specs.Prelude.{◌≡◌};
 ghost use Rattle.avc_decoder.specs.Machine.{after_feed, after_flush, new_machine, IsCount, IsFeedAnswer, IsTakeAnswer};
 
 use crate::error::DecodeError;
 use crate::event::Event;
-use crate::stream::Stream;
-use avc_annexb::Splitter;
+use crate::parts::{Parts, feed, finish, stop_at_refusal, take_event};
 use avc_decoder_core::Output;
-use avc_types::{History, OutOfMemory};
+use avc_types::History;
 use std::alloc::Global;
 use std::marker::Model;
 
@@ -17,28 +14,27 @@ use std::marker::Model;
 pub struct Decoder<const MAX: usize> {
     alloc: Global,
     output: Output,
-    splitter: Splitter<MAX>,
-    stream: Stream,
+    // none once a call was refused memory
+    running: Option<Parts<MAX>>,
     // how many macroblocks were read when a call was last carried out
     read: u64,
     ended: bool,
-    failed: bool,
     bytes: History<u8>,
     taken: History<Event>,
 }
 
 impl<const MAX: usize> Model for Decoder<MAX> {
-    ghost use Rattle.std.specs.Prelude.{length};
+    ghost use Rattle.std.specs.Prelude.{is_none, length};
     ghost use Rattle.avc_decoder.specs.States.{IsDecoderState};
     ghost use Rattle.avc_decoder.specs.Machine.{Machine};
 
     ghost Value = { Machine };
 
-    ghost view = { λ d. record { output = d.output; bytes = d.bytes.items; ended = d.ended; taken = length d.taken.items; failed = d.failed } };
+    ghost view = { λ d. record { output = d.output; bytes = d.bytes.items; ended = d.ended; taken = length d.taken.items; failed = is_none d.running } };
 
     ghost invariant = { λ d.
-        let m : Machine = record { output = d.output; bytes = d.bytes.items; ended = d.ended; taken = length d.taken.items; failed = d.failed } in
-        IsDecoderState MAX m d.splitter d.stream d.read };
+        let m : Machine = record { output = d.output; bytes = d.bytes.items; ended = d.ended; taken = length d.taken.items; failed = is_none d.running } in
+        IsDecoderState MAX m d.running d.read };
 }
 
 impl<const MAX: usize> Decoder<MAX> {
@@ -49,11 +45,9 @@ impl<const MAX: usize> Decoder<MAX> {
         Decoder {
             alloc,
             output,
-            splitter: Splitter::new(alloc),
-            stream: Stream::new(alloc, output),
+            running: Some(Parts::new(alloc, output)),
             read: 0,
             ended: false,
-            failed: false,
             bytes: History::new(),
             taken: History::new(),
         }
@@ -63,7 +57,7 @@ impl<const MAX: usize> Decoder<MAX> {
     pub fn feed(&mut self, piece: &[u8]) -> Result<(), DecodeError>
         ensures { IsFeedAnswer self.old (after_feed piece.now self.old) result self.new }
     {
-        if self.failed {
+        if self.running.is_none() {
             return Err(DecodeError::OutOfMemory);
         }
         if self.ended {
@@ -72,13 +66,9 @@ impl<const MAX: usize> Decoder<MAX> {
         if piece.is_empty() {
             return Ok(());
         }
-        // until all of it is done
-        self.failed = true;
         self.bytes = self.bytes.with_all(piece);
-        self.splitter.feed(piece)?;
-        handle_units(&mut self.splitter, &mut self.stream)?;
-        self.read = self.stream.turns();
-        self.failed = false;
+        let fed = feed(&mut self.running, piece);
+        self.read = stop_at_refusal(&mut self.running, fed)?;
         Ok(())
     }
 
@@ -86,10 +76,10 @@ impl<const MAX: usize> Decoder<MAX> {
     pub fn take(&mut self) -> Result<Option<Event>, DecodeError>
         ensures { IsTakeAnswer MAX self.old result self.new }
     {
-        if self.failed {
+        if self.running.is_none() {
             return Err(DecodeError::OutOfMemory);
         }
-        let Some(event) = self.stream.take() else {
+        let Some(event) = take_event(&mut self.running) else {
             return Ok(None);
         };
         self.taken = self.taken.with(&event);
@@ -100,19 +90,15 @@ impl<const MAX: usize> Decoder<MAX> {
     pub fn flush(&mut self) -> Result<(), DecodeError>
         ensures { IsFeedAnswer self.old (after_flush self.old) result self.new }
     {
-        if self.failed {
+        if self.running.is_none() {
             return Err(DecodeError::OutOfMemory);
         }
         if self.ended {
             return Err(DecodeError::Ended);
         }
-        self.failed = true;
         self.ended = true;
-        self.splitter.finish()?;
-        handle_units(&mut self.splitter, &mut self.stream)?;
-        self.stream.finish()?;
-        self.read = self.stream.turns();
-        self.failed = false;
+        let finished = finish(&mut self.running);
+        self.read = stop_at_refusal(&mut self.running, finished)?;
         Ok(())
     }
 
@@ -120,11 +106,9 @@ impl<const MAX: usize> Decoder<MAX> {
     pub fn reset(&mut self)
         ensures { self.new ≡ new_machine self.old.output }
     {
-        self.splitter = Splitter::new(self.alloc);
-        self.stream.reset(self.alloc, self.output);
+        self.running = Some(Parts::new(self.alloc, self.output));
         self.read = 0;
         self.ended = false;
-        self.failed = false;
         self.bytes = History::new();
         self.taken = History::new();
     }
@@ -136,23 +120,4 @@ impl<const MAX: usize> Decoder<MAX> {
     {
         self.read
     }
-}
-
-/// Handles the units that were not taken.
-fn handle_units<const MAX: usize>(
-    splitter: &mut Splitter<MAX>,
-    stream: &mut Stream,
-) -> Result<(), OutOfMemory>
-    requires splitter { splitter.old.failed ≡ false }
-    requires stream { stream.old.failed ≡ false }
-    ensures splitter { OnOk result (splitter.new ≡ record splitter.old {
-      taken = splitter.old.taken + length (drop splitter.old.taken (units MAX splitter.old.bytes splitter.old.ended));
-    }) }
-    ensures stream { OnOk result (stream.new ≡ after_units_in_stream (drop splitter.old.taken (units MAX splitter.old.bytes splitter.old.ended)) stream.old) }
-{
-    while let Some(unit) = splitter.next_unit() {
-        stream.unit(&unit)?;
-        splitter.take_back(unit);
-    }
-    Ok(())
 }

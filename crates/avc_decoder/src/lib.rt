@@ -3,13 +3,15 @@
 
 mod active_sets;
 mod calls;
+mod close;
 mod decoder;
 mod error;
 mod event;
 pub mod laws;
-mod open_picture;
-mod pictures;
+mod parts;
+mod phase;
 mod queue;
+mod slices;
 mod stream;
 
 pub use avc_decoder_core::Output;

@@ -1,6 +1,6 @@
 ghost use Rattle.std.specs.Prelude.{◌≡◌, [], ◌∷◌, ◌++◌, map, OnOk, slice_get};
 ghost use Rattle.avc_decoder.specs.Events.{pictures};
-ghost use Rattle.avc_decoder.specs.States.{after_queue_take, with_events};
+ghost use Rattle.avc_decoder.specs.QueueState.{after_queue_take, with_events};
 ghost use Rattle.avc_decoder.specs.declared.event.Event.TheVariants.{Refused};
 
 use crate::event::Event;
@@ -18,7 +18,7 @@ pub struct Queue {
 
 impl Model for Queue {
     ghost use Rattle.std.specs.Prelude.{◌++◌, length};
-    ghost use Rattle.avc_decoder.specs.States.{QueueState};
+    ghost use Rattle.avc_decoder.specs.QueueState.{QueueState};
 
     ghost Value = { QueueState };
 

@@ -1,5 +1,6 @@
 -- What the functions of this crate say of one another.
 use Rattle.std.specs.Prelude.{Bool, true, false, Option, None, Result}
+use Rattle.std.specs.Option.{option_copied}
 use Rattle.avc_types.specs.declared.fault.Fault.{Fault}
 use Rattle.avc_annexb.specs.declared.unit.Unit.{Unit}
 use Rattle.avc_params.specs.Tables.{Sets}
@@ -22,7 +23,7 @@ meant kinds.Other = other
 
 -- what is known of the open picture, if one is open
 abbrev pub open_picture_in : UnitContext → Option OpenPictureFacts
-open_picture_in b = open_picture_of b.full b.last.now
+open_picture_in b = open_picture_of b.full (option_copied b.last)
 
 -- What a unit of this kind does, where decoding runs or waits.
 abbrev pub step_by : UnitContext → Sets → Unit → Kind → Step

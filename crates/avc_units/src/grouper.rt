@@ -94,7 +94,7 @@ impl Grouper {
         self.failed = true;
         let context = UnitContext {
             running: self.running,
-            last: &self.last,
+            last: self.last.as_ref(),
             full,
         };
         let step = step_of(self.alloc, &mut self.table, &mut self.over, context, unit)?;

@@ -25,7 +25,8 @@ impl Model for LastHeader {
 }
 
 impl LastHeader {
-    pub(crate) fn new(header: &Header) -> LastHeader
+    /// Of a slice with this header.
+    pub fn new(header: &Header) -> LastHeader
         ensures { result ≡ header.now }
     {
         LastHeader {

@@ -10,9 +10,9 @@ use avc_types::Fault;
 /// What a unit finds: whether decoding runs, and the open picture, if there is one, with the header of its last slice and
 /// whether it is full.
 #[derive(Clone, Copy)]
-pub(crate) struct UnitContext<'a> {
+pub struct UnitContext<'a> {
     pub running: bool,
-    pub last: &'a Option<LastHeader>,
+    pub last: Option<&'a LastHeader>,
     pub full: bool,
 }
 
@@ -98,7 +98,7 @@ pub(crate) fn slice_or_start(
         slice_step(context, starts, read)
     } else if starts {
         let alone = UnitContext {
-            last: &None,
+            last: None,
             ..context
         };
         slice_step(alone, starts, read)

@@ -44,8 +44,9 @@ fn step_by(
     }
 }
 
-/// What a unit does, and what it puts into the table.
-pub(crate) fn step_of(
+/// What a unit does where it finds this, and what it puts into the table of the parameter sets before it. A slice is put in the place
+/// of one that is over, where there is such a one. Only of a slice or a parameter set that is not too long memory may be wanted.
+pub fn step_of(
     alloc: Global,
     table: &mut ParamTable,
     over: &mut Option<HeapSlice>,

@@ -1,5 +1,5 @@
 use Rattle.std.proofs.Common.{◌≡◌}
-use Rattle.avc_decoder.proofs.open_picture.keep_emptied.Given as goal
+use Rattle.avc_decoder.proofs.slices.keep_emptied.Given as goal
 
 abbrev pub invariant-loop-frame : goal.invariant-loop-frame
 invariant-loop-frame l = l.sequence ≡ l.initial.sequence
