@@ -21,45 +21,23 @@ use Rattle.avc_make.proofs.ReadingBack.{back-ue}
 -- ---- bits that are there
 
 more_true : (position : ℕ) (ahead : List Bool) → 0 < length ahead → more_data (record { position = position; ahead = ahead }) ≡ true
-more_true position [] some = absurd (omega (arith, some))
-more_true position (b ∷ ahead) some = refl
+more_true position ahead some = grind arith
 
-word_some : (v : ℕ) (rest : List Bool) → 0 < length (ue_word v ++ rest)
+word_some : (v : ℕ) → 0 < length (ue_word v)
 unfolding ue_word
-word_some v rest =
-    let n = bits_after_one (v + 1) in
-    omega (arith, length-append (replicate n false) (true ∷ bits_of n (v + 1)), length-append (ue_word v) rest)
-
-longer : (w w' rest : List Bool) → ((more : List Bool) → 0 < length (w ++ more)) → 0 < length ((w ++ w') ++ rest)
-longer w w' rest some = subst (λ l. 0 < length l) (sym (append_assoc w w' rest)) (some (w' ++ rest))
+word_some v = let n = bits_after_one (v + 1) in omega (arith, length-append (replicate n false) (true ∷ bits_of n (v + 1)))
 
 mb_some : (c : Context) (position : ℕ) (syntax : MbSyntax) (rest : List Bool) → HasRanges c syntax → 0 < length (mb_bits c position syntax ++ rest)
-mb_some c position p_skip rest is = absurd is
-mb_some c position (i_pcm luma cb cr) rest is = longer (ue_word (i_type c.is_p 25)) _ rest (word_some (i_type c.is_p 25))
-mb_some c position (i_nxn modes chroma_mode r) rest is = longer (ue_word (i_type c.is_p 0)) _ rest (word_some (i_type c.is_p 0))
-mb_some c position (i_16x16 mode chroma_mode r) rest is = longer (ue_word (i_type c.is_p (type_16x16 mode r))) _ rest (word_some (i_type c.is_p (type_16x16 mode r)))
-mb_some c position (p_inter t ref_idx mvd r) rest is = longer (ue_word (p_mb_number t)) _ rest (word_some (p_mb_number t))
+mb_some c position syntax rest is = grind (arith, word_some, length-append {A = Bool})
 
 -- by the two cases of a test
 pub on_kind : {P : Type 0} (b : Bool) → (b ≡ true → P) → (b ≡ false → P) → P
-on_kind true first second = first refl
-on_kind false first second = second refl
+on_kind b first second = grind arith
 
 -- ---- one macroblock
 
 pub ranges_of : (c : Context) (syntax : MbSyntax) → is_skip syntax ≡ false → CanStand c syntax → HasRanges c syntax
-ranges_of c p_skip other is = absurd (false≢true (sym other))
-ranges_of c (i_pcm luma cb cr) other is = is
-ranges_of c (i_nxn modes chroma_mode r) other is = is
-ranges_of c (i_16x16 mode chroma_mode r) other is = is
-ranges_of c (p_inter t ref_idx mvd r) other is = is
-
-skip_of : (syntax : MbSyntax) → is_skip syntax ≡ true → syntax ≡ p_skip
-skip_of p_skip is = refl
-skip_of (i_pcm luma cb cr) is = absurd (false≢true is)
-skip_of (i_nxn modes chroma_mode r) is = absurd (false≢true is)
-skip_of (i_16x16 mode chroma_mode r) is = absurd (false≢true is)
-skip_of (p_inter t ref_idx mvd r) is = absurd (false≢true is)
+ranges_of c syntax other is = grind arith
 
 -- read after so many bits, with its own QP
 mb_read : (c : Context) (position : ℕ) (rest : List Bool) (m : Mb) → HasRanges c m.syntax → m.qp ≡ qp_of c.qp m.syntax →
@@ -78,11 +56,7 @@ abbrev all_of : List Mb → SliceMbs
 all_of ms = record { mbs = ms; fault = None }
 
 pub i_stand : (s : SliceStart) (before : List PicMb) (qp : ℕ) (syntax : MbSyntax) → s.is_p ≡ false → CanStand (context s before qp) syntax → is_skip syntax ≡ false
-i_stand s before qp p_skip same is = absurd (false≢true (sym same ∙ is))
-i_stand s before qp (i_pcm luma cb cr) same is = refl
-i_stand s before qp (i_nxn modes chroma_mode r) same is = refl
-i_stand s before qp (i_16x16 mode chroma_mode r) same is = refl
-i_stand s before qp (p_inter t ref_idx mvd r) same is = refl
+i_stand s before qp syntax same is = grind arith
 
 i_some : (s : SliceStart) (before : List PicMb) (qp position : ℕ) (m : Mb) (ms : List Mb) → HasRanges (context s before qp) m.syntax → 0 < length (i_data_bits s before qp position (m ∷ ms))
 unfolding i_data_bits
@@ -121,23 +95,20 @@ mb_and_rest s before qp first m ms =
 pub bits_skip : (s : SliceStart) (before : List PicMb) (qp position run : ℕ) (m : Mb) (ms : List Mb) → is_skip m.syntax ≡ true →
     p_data_bits s before qp position run (m ∷ ms) ≡ p_data_bits s (before ++ placed s m ∷ []) qp position (run + 1) ms
 unfolding p_data_bits
-bits_skip s before qp position run m ms is =
-    ap (λ (b : Bool). elim b [ true ↦ p_data_bits s (before ++ placed s m ∷ []) qp position (run + 1) ms | false ↦ ue_word run ++ mb_and_rest s before qp (position + length (ue_word run)) m ms ]) is
+bits_skip s before qp position run m ms is = grind arith
 
 pub bits_other : (s : SliceStart) (before : List PicMb) (qp position run : ℕ) (m : Mb) (ms : List Mb) → is_skip m.syntax ≡ false →
     p_data_bits s before qp position run (m ∷ ms) ≡ ue_word run ++ mb_and_rest s before qp (position + length (ue_word run)) m ms
 unfolding p_data_bits
-bits_other s before qp position run m ms is =
-    ap (λ (b : Bool). elim b [ true ↦ p_data_bits s (before ++ placed s m ∷ []) qp position (run + 1) ms | false ↦ ue_word run ++ mb_and_rest s before qp (position + length (ue_word run)) m ms ]) is
+bits_other s before qp position run m ms is = grind arith
 
 p_some : (s : SliceStart) (before : List PicMb) (qp position run : ℕ) (ms : List Mb) → 1 ≤ run + length ms → 0 < length (p_data_bits s before qp position run ms)
 unfolding p_data_bits
 p_some s before qp position zero [] some = absurd (omega (arith, some))
-p_some s before qp position (suc run) [] some = subst (λ l. 0 < length l) (append-nil (ue_word (suc run))) (word_some (suc run) [])
+p_some s before qp position (suc run) [] some = word_some (suc run)
 p_some s before qp position run (m ∷ ms) some =
-    on_kind (is_skip m.syntax)
-    (λ is. subst (λ l. 0 < length l) (sym (bits_skip s before qp position run m ms is)) (p_some s (before ++ placed s m ∷ []) qp position (run + 1) ms (omega arith)))
-    (λ is. subst (λ l. 0 < length l) (sym (bits_other s before qp position run m ms is)) (word_some run (mb_and_rest s before qp (position + length (ue_word run)) m ms)))
+    let others = p_some s (before ++ placed s m ∷ []) qp position (run + 1) ms (omega arith) in
+    grind (arith, word_some run, others, length-append {A = Bool})
 
 -- a run that fits, and what comes then
 abbrev turn : SliceStart → (turns : ℕ) → List PicMb → (qp : ℕ) → Bits → SliceMbs
@@ -181,22 +152,16 @@ rest_read s turns before qp position (m ∷ ms) read =
 
 -- one more in the run
 run_grows : {A : Type 0} (before front : List A) (run : ℕ) (x : A) → before ≡ front ++ replicate run x → before ++ x ∷ [] ≡ front ++ replicate (run + 1) x
-run_grows before front run x is =
-    ap (λ l. l ++ x ∷ []) is ∙ append_assoc front (replicate run x) (x ∷ []) ∙ ap (λ l. front ++ l) (replicate-append-replicate run 1 x)
+run_grows before front run x is = rw (is, append_assoc, replicate-append-replicate run 1 x) refl
 
 pub skipped_is : (m : Mb) (qp : ℕ) → is_skip m.syntax ≡ true → m.qp ≡ qp_of qp m.syntax → m ≡ skipped qp
-skipped_is m qp is same =
-    let syntax = skip_of m.syntax is in
-    let own : m.qp ≡ qp = same ∙ ap (qp_of qp) syntax in
-    ap (λ x. record { syntax = x; qp = m.qp }) syntax ∙ ap (λ q. record { syntax = p_skip; qp = q }) own
+skipped_is m qp is same = grind arith
 
 skip_joins : (run : ℕ) (m : Mb) (qp : ℕ) (ms : List Mb) → m ≡ skipped qp → replicate (run + 1) (skipped qp) ++ ms ≡ replicate run (skipped qp) ++ m ∷ ms
-skip_joins run m qp ms same =
-    ap (λ l. l ++ ms) (sym (replicate-append-replicate run 1 (skipped qp))) ∙ append_assoc (replicate run (skipped qp)) (skipped qp ∷ []) ms
-    ∙ ap (λ y. replicate run (skipped qp) ++ y ∷ ms) (sym same)
+skip_joins run m qp ms same = rw (same, ← replicate-append-replicate run 1 (skipped qp), append_assoc) refl
 
 run_count : {A : Type 0} (before front : List A) (run : ℕ) (x : A) → before ≡ front ++ replicate run x → length before ≡ length front + run
-run_count before front run x is = ap length is ∙ length-append front (replicate run x) ∙ ap (λ n. length front + n) (length-replicate run x)
+run_count before front run x is = rw (is, length-append, length-replicate) refl
 
 -- the run, a macroblock that is not skipped, and the rest
 other_read : (s : SliceStart) (m : Mb) (ms : List Mb) (turns : ℕ) (front before : List PicMb) (qp position run : ℕ) → CanFollow s before qp (m ∷ ms) → before ≡ front ++ replicate run (placed s (skipped qp))

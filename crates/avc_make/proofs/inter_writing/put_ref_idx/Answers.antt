@@ -23,10 +23,5 @@ put_indices-requires c =
 
 pub returns-then-has_ref_idx : goal.returns-then-has_ref_idx
 returns-then-has_ref_idx c =
-    let t = c.args.mb_type.now in
-    let active = c.args.active_count in
-    let indices = take (partitions t) c.args.ref_idx.now in
     let is = sym c.has_ref_idx.ensures.value ∙ c.if-has_ref_idx.true in
-    let l = take c.partitions.result c.args.ref_idx.now in
-    puts_same c.put_indices.result (flat_map (te_word (active - 1)) l) (ref_idx_bits active (has_ref_idx active t) indices) c.args.maker.now c.put_indices.new.maker
-    (coded_indices active (has_ref_idx active t) l indices is (ap (λ n. take n c.args.ref_idx.now) c.partitions.ensures.value)) c.put_indices.ensures
+    rw is (rw c.partitions.ensures.value at c.put_indices.ensures)
