@@ -22,7 +22,7 @@ set_units-append [] vs = refl
 set_units-append (u ∷ us) vs = ap (λ l. list_of (set_unit u) ++ l) (set_units-append us vs) ∙ sym (append_assoc (list_of (set_unit u)) (set_units us) (set_units vs))
 
 -- one unit's sets in front
-sets_then : (sets : List SetUnit) (u : Unit) (us : List Unit) → (sets ++ set_units (u ∷ [])) ++ set_units us ≡ sets ++ set_units (u ∷ us)
+pub sets_then : (sets : List SetUnit) (u : Unit) (us : List Unit) → (sets ++ set_units (u ∷ [])) ++ set_units us ≡ sets ++ set_units (u ∷ us)
 sets_then sets u us =
     append_assoc sets (set_units (u ∷ [])) (set_units us)
     ∙ ap (λ l. sets ++ (l ++ set_units us)) (append-nil (list_of (set_unit u)))
