@@ -1,10 +1,8 @@
 -- What reading says of a residual block: it can be written, and its bits are those that were read.
-use Rattle.std.proofs.Common.{◌≡◌, ◌≢◌, ℕ, zero, suc, ◌+◌, ◌-◌, ◌*◌, ◌/◌, ◌%◌, ◌^◌, ◌<◌, ◌≤◌, ℤ, pos, negsuc, neg_ℤ, nat_abs, nat_le, List, [], ◌∷◌, ◌++◌, length, map, take, drop, reverse, Bool, true, false, refl, ap, subst, ◌∙◌, sym, arith, inl, inr, append_assoc, append-nil, length-append}
+use Rattle.std.proofs.Common.{◌≡◌, ℕ, zero, suc, ◌+◌, ◌-◌, ◌^◌, ◌<◌, ◌≤◌, ℤ, pos, neg_ℤ, nat_abs, nat_le, List, [], ◌∷◌, ◌++◌, length, map, take, drop, reverse, Bool, true, false, refl, ap, subst, ◌∙◌, sym, arith, inl, inr, append_assoc, append-nil, length-append}
 use Rattle.std.specs.Prelude.{Option, Result, Ok, Err, ◌==◌, ◌||◌, if◌then◌else◌, int_lt, nat_lt, replicate}
 use Rattle.std.specs.List.{flat_map, sum, zip}
-use Rattle.std.proofs.lemmas.Bool.{cases_eq, cases_lt, eq-eqb, ne_eqb, lt-ltb, le-ltb}
-use Rattle.std.proofs.Math.Nat.{div-lt_iff_lt-mul}
-use Rattle.std.proofs.lemmas.Nat.{div-mul-add, pow_pos}
+use Rattle.std.proofs.lemmas.Bool.{cases_lt, eq-eqb, ne_eqb, lt-ltb, le-ltb}
 use Rattle.avc_types.specs.declared.fault.Fault.{Fault}
 use Rattle.avc_types.specs.declared.fault.Fault.TheVariants as faults
 use Rattle.avc_bits.specs.Bits.{Bits, Read, ◌>>=◌, ◌>>◌, bits_of, check, give, or_none, times}
@@ -22,7 +20,7 @@ use Rattle.avc_vlc.proofs.Codes.{table_read}
 use Rattle.avc_vlc.proofs.Values.{all_in, is_token, token_tested, tokens_tested}
 use Rattle.avc_vlc.proofs.OwnWords.{run_own, token_own, zeros_own}
 use Rattle.avc_make.specs.Words.{joined}
-use Rattle.avc_make.specs.BlockWriting.{AreCodes, BlocksAreWritable, IsWritable, block_bits, IsCode, after_zeros, code_of_level, coded, first_length, least_code, level_bits, levels_bits, ones_first, prefix_of, run_bits, runs_bits, runs_of, sign_bits, values_of, zeros_bits}
+use Rattle.avc_make.specs.BlockWriting.{AreCodes, BlocksAreWritable, IsWritable, block_bits, IsCode, after_zeros, code_of_level, coded, first_length, least_code, level_bits, levels_bits, ones_first, run_bits, runs_bits, sign_bits, zeros_bits}
 use Rattle.avc_make.specs.VuiWriting.{Each}
 use Rattle.avc_make.proofs.BlockPutting.{IsNonzero, each_reverse, sum-cons}
 use Rattle.avc_make.proofs.BlockBack.{IsAboveOne}
@@ -89,6 +87,9 @@ took-u n = took-code (IsU n) faults.BadCode (u_reads n faults.BadCode)
 took-flag : Took flag (λ v w. w ≡ v ∷ [])
 took-flag = record { took = λ b left v is. record { word = v ∷ []; is = refl; ahead = bit_read b left v is } }
 
+pair_is : {A B : Type 0} (x y : A) (a b : B) → ◌≡◌ {A = Result (A × B) Fault} (Ok (x, a)) (Ok (y, b)) → (x ≡ y) × (a ≡ b)
+pair_is x y a b is = grind arith
+
 -- zeros and a 1
 record TookZeros (limit seen n : ℕ) (bits rest : List Bool) : Type 0 where
   pub more : ℕ
@@ -98,9 +99,7 @@ record TookZeros (limit seen n : ℕ) (bits rest : List Bool) : Type 0 where
 
 zeros_took : (limit seen n : ℕ) (f : Fault) (bits rest : List Bool) → seen ≤ limit → zeros limit f seen bits ≡ Ok (n, rest) → TookZeros limit seen n bits rest
 zeros_took limit seen n f [] rest few is = cc
-zeros_took limit seen n f (true ∷ bits) rest few is =
-    let first : seen ≡ n = ap (λ r. elim r [ Ok p ↦ p.0 | Err f ↦ seen ]) is in
-    record { more = 0; sum = omega arith; few = omega arith; ahead = ap (λ r. true ∷ elim r [ Ok p ↦ p.1 | Err f ↦ bits ]) is }
+zeros_took limit seen n f (true ∷ bits) rest few is = let both = pair_is seen n bits rest is in record { more = 0; sum = omega (arith, both.0); few = omega (arith, both.0); ahead = ap (λ r. true ∷ r) both.1 }
 zeros_took limit seen n f (false ∷ bits) rest few is = elim (cases_lt seen limit) [
   | inl below ↦
       let took = zeros_took limit (seen + 1) n f bits rest (omega arith) (rw (zeros, lt-ltb seen limit below) at is) in
@@ -115,8 +114,9 @@ prefix_took limit n f b left is = by_result (zeros limit f 0 b.ahead) refl is
         ◌≡◌ {A = Result (ℕ × Bits) Fault} (elim r [ Err g ↦ Err g | Ok p ↦ Ok (p.0, record { position = b.position + p.0 + 1; ahead = p.1 }) ]) (Ok (n, left)) → (n ≤ limit) × (b.ahead ≡ (replicate n false ++ true ∷ []) ++ left.ahead)
     by_result (Err g) e is = cc
     by_result (Ok p) e is =
-        let first : p.0 ≡ n = ap (λ r. elim r [ Ok q ↦ q.0 | Err g ↦ p.0 ]) is in
-        let second : p.1 ≡ left.ahead = ap (λ r. elim r [ Ok q ↦ q.1.ahead | Err g ↦ p.1 ]) is in
+        let both = pair_is p.0 n (record { position = b.position + p.0 + 1; ahead = p.1 }) left is in
+        let first = both.0 in
+        let second = ap (λ (c : Bits). c.ahead) both.1 in
         let took = zeros_took limit 0 p.0 f b.ahead p.1 (omega arith) e in
         let same : took.more ≡ n = omega (arith, took.sum) in (
           omega (arith, took.few),

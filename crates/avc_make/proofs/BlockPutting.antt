@@ -1,21 +1,16 @@
 -- What is coded of a block, put step by step.
-use Rattle.std.proofs.Common.{◌≡◌, ◌≢◌, ℕ, zero, suc, ◌+◌, ◌<◌, ◌≤◌, ℤ, pos, negsuc, nat_abs, List, [], ◌∷◌, ◌++◌, length, take, drop, get_or, reverse, Bool, true, false, refl, ap, subst, ◌∙◌, sym, arith, inl, inr, append_assoc, append-nil}
-use Rattle.std.specs.Prelude.{Option, Some, None, ◌==◌, if◌then◌else◌, int_lt, nat_lt}
+use Rattle.std.proofs.Common.{◌≡◌, ◌≢◌, ℕ, zero, suc, ◌+◌, ◌<◌, ◌≤◌, ℤ, pos, nat_abs, List, [], ◌∷◌, ◌++◌, length, take, drop, get_or, reverse, Bool, true, false, refl, ap, subst, ◌∙◌, sym, arith, inl, inr, append_assoc}
+use Rattle.std.specs.Prelude.{Option, ◌==◌, int_lt}
 use Rattle.std.specs.Option.{is_some, option_map}
 use Rattle.std.specs.List.{sum}
-use Rattle.std.proofs.Math.Seq.{drop-cons}
 use Rattle.std.proofs.lemmas.Bool.{cases_eq, eq-eqb, ne_eqb}
 use Rattle.std.proofs.lemmas.Grind.{reverse_onto}
 use Rattle.std.proofs.lemmas.List.{get_or-map, get_or-take, length-map, length-reverse, length-take-le, drop_more}
 use Rattle.std.proofs.lemmas.List.Sums.{sum_by-append}
-use Rattle.avc_make.specs.BlockWriting.{after_zeros, block_bits, coded, coded_bits, first_length, levels_bits, ones_first, runs_bits, runs_of, sign_bits, values_of, zeros_bits}
+use Rattle.avc_make.specs.BlockWriting.{after_zeros, coded, ones_first, runs_of, sign_bits, values_of}
 use Rattle.avc_make.specs.VuiWriting.{Each}
-use Rattle.avc_bits.specs.Bits.{or_none}
-use Rattle.avc_vlc.specs.Reading.{token}
-use Rattle.avc_vlc.specs.Writing.{token_word, zeros_word}
+use Rattle.avc_vlc.specs.Writing.{zeros_word}
 use Rattle.avc_vlc.proofs.ReadingBack.{chroma_zeros_whole, zeros_whole}
-use Rattle.avc_make.specs.Made.{Made, with_bits}
-use Rattle.avc_make.specs.Words.{joined}
 use Rattle.std.proofs.lemmas.Bool.Decides.{nat_tests}
 use Rattle.std.proofs.lemmas.Int.{ints}
 
@@ -139,4 +134,3 @@ zeros_there most total zeros some other few within = elim (cases_eq most 4) [
   | inl four ↦ rw (eq-eqb most 4 four) (chroma_zeros_whole total zeros some (omega arith) (omega arith))
   | inr more ↦ rw (ne_eqb most 4 more) (zeros_whole total zeros some (omega arith) (omega arith))
 ]
-

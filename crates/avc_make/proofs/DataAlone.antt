@@ -1,18 +1,15 @@
 -- The data of a slice depends on no macroblock of another slice.
-use Rattle.std.proofs.Common.{◌≡◌, ℕ, zero, suc, ◌+◌, ◌<◌, ℤ, pos, negsuc, List, [], ◌∷◌, ◌++◌, length, Bool, true, false, refl, ap, ◌∙◌, sym, subst, arith, length-append}
+use Rattle.std.proofs.Common.{◌≡◌, ℕ, ◌+◌, ℤ, pos, negsuc, List, [], ◌∷◌, ◌++◌, length, Bool, true, false, refl, ap, ◌∙◌, sym, arith, length-append}
 use Rattle.std.proofs.Common.{inl, inr}
 use Rattle.std.proofs.lemmas.Bool.{cases_order, eq-eqb, ne_eqb}
 use Rattle.std.proofs.lemmas.Option.{slice_get_past}
 use Rattle.avc_neigh.proofs.RowKeeping.{slice_get-append, slice_get-next}
-use Rattle.std.specs.Prelude.{◌==◌, if◌then◌else◌, None, Some, Option, slice_get}
-use Rattle.std.specs.Option.{option_map}
+use Rattle.std.specs.Prelude.{◌==◌, if◌then◌else◌, None, Some, Option}
 use Rattle.avc_types.specs.Macroblock.{Mb}
 use Rattle.avc_types.specs.Pictures.{PicMb}
-use Rattle.avc_neigh.specs.Blocks.{Location, at_location, available, in_slice, location_at}
-use Rattle.avc_neigh.specs.TotalCoeffs.{total_coeffs_of}
-use Rattle.avc_mbsyntax.specs.declared.context.Context.{Context}
+use Rattle.avc_neigh.specs.Blocks.{Location, at_location, available, location_at}
 use Rattle.avc_mbsyntax.specs.SliceData.{SliceStart, context, placed}
-use Rattle.avc_make.specs.DataWriting.{CanFollow, CanStand, DataStandsAlone, IsLike, i_data_bits, is_skip, p_data_bits}
+use Rattle.avc_make.specs.DataWriting.{CanFollow, DataStandsAlone, IsLike, i_data_bits, p_data_bits}
 use Rattle.avc_make.specs.MbWriting.{mb_bits}
 use Rattle.avc_make.specs.SliceSteps.{rest_bits}
 use Rattle.avc_make.specs.Words.{ue_word}
@@ -97,6 +94,6 @@ data_alone s s' before before' position (m ∷ ms) like long others others' =
     let same : SeeSame s s' before before' = record { like = like; long = long; seen = λ a. others a ∙ sym (others' a) } in
     let qp = like.qp in (
       ap (λ p. rest_bits p s before s.qp position 0 (m ∷ ms)) like.is_p ∙ ap (λ q. rest_bits s'.is_p s before q position 0 (m ∷ ms)) qp
-      ∙ where_same s'.is_p s s' before before' s'.qp position (m ∷ ms) same,
+          ∙ where_same s'.is_p s s' before before' s'.qp position (m ∷ ms) same,
       λ all. rw qp at (follows s s' before before' s.qp (m ∷ ms) same all),
     )

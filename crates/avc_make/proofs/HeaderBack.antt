@@ -33,7 +33,6 @@ use Rattle.avc_slice.specs.declared.header.CodedOrder.TheVariants.{Type0, Type1,
 use Rattle.avc_slice.specs.declared.header.Deblocking.{Deblocking}
 use Rattle.avc_slice.specs.declared.header.Header.{Header}
 use Rattle.avc_slice.specs.declared.header.SliceType.{SliceType}
-use Rattle.avc_slice.specs.declared.header.SliceType.TheVariants as slice_types
 use Rattle.avc_slice.specs.declared.parts.Filtering.{Filtering}
 use Rattle.avc_slice.specs.declared.parts.Front.{Front}
 use Rattle.avc_slice.specs.declared.parts.ListPart.{ListPart}

@@ -1,7 +1,6 @@
 -- The numbers of a header that can be written are within their codes.
 use Rattle.std.proofs.Common.{ℕ, ◌≤◌, List, [], ◌∷◌, Bool, true, false, Option, Some, None, IfSome, sym, subst, arith}
 use Rattle.avc_types.specs.declared.references.Modification.{Modification}
-use Rattle.avc_types.specs.declared.references.Modification.TheVariants.{Subtract, Add, LongTerm}
 use Rattle.avc_params.specs.Limits.{max_frame_num}
 use Rattle.avc_params.specs.Within.{IsSps}
 use Rattle.avc_params.specs.declared.pps.Pps.{Pps}

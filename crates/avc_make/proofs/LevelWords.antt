@@ -1,7 +1,7 @@
 -- The codewords of levels.
-use Rattle.std.proofs.Common.{◌≡◌, ◌≢◌, ℕ, zero, suc, ◌+◌, ◌-◌, ◌*◌, ◌/◌, ◌%◌, ◌^◌, ◌<◌, ◌≤◌, ℤ, pos, negsuc, nat_abs, ◌∷◌, ◌++◌, Bool, true, false, refl, ap, subst, ◌∙◌, sym, arith, inl, inr, rules, lit<}
-use Rattle.std.specs.Prelude.{◌⊎◌, ◌==◌, ◌&&◌, if◌then◌else◌, nat_lt, IsTrue, replicate}
-use Rattle.std.proofs.lemmas.Bool.{cases_lt, cases_eq, ne_eqb, lt-ltb, le-ltb, cases_order}
+use Rattle.std.proofs.Common.{◌≡◌, ◌≢◌, ℕ, zero, suc, ◌+◌, ◌-◌, ◌*◌, ◌^◌, ◌<◌, ◌≤◌, ℤ, nat_abs, ◌∷◌, ◌++◌, Bool, true, false, refl, ap, subst, ◌∙◌, arith, inl, inr, lit<}
+use Rattle.std.specs.Prelude.{IsTrue, replicate}
+use Rattle.std.proofs.lemmas.Bool.{cases_eq, cases_order}
 use Rattle.std.proofs.lemmas.Nat.{pow_pos}
 use Rattle.std.proofs.Math.Nat.{div-lt_iff_lt-mul, mod-add-div, mod-lt, pow-le-pow_right}
 use Rattle.avc_bits.specs.Bits.{bits_of}

@@ -1,8 +1,8 @@
 -- Macroblocks read from their bits.
-use Rattle.std.proofs.Common.{◌≡◌, ℕ, zero, suc, ◌+◌, ◌-◌, ◌*◌, ◌/◌, ◌%◌, ◌<◌, ◌≤◌, nat_le, nat_lt, List, [], ◌∷◌, ◌++◌, length, Bool, true, false, refl, ap, ◌∙◌, sym, subst, arith, append_assoc, append-nil, map, ℤ, pos, negsuc, ◌<ℤ◌, Some, None}
+use Rattle.std.proofs.Common.{◌≡◌, ℕ, zero, suc, ◌+◌, ◌-◌, ◌*◌, ◌/◌, ◌%◌, ◌<◌, ◌≤◌, nat_le, nat_lt, List, [], ◌∷◌, ◌++◌, length, Bool, true, false, refl, ◌∙◌, sym, subst, arith, append_assoc, append-nil, map, ℤ, pos, negsuc, ◌<ℤ◌, Some, None}
 use Rattle.std.proofs.Common.{◌≤ℤ◌, ◌&&◌, inl, inr}
 use Rattle.std.proofs.lemmas.Int.{ints}
-use Rattle.std.proofs.lemmas.Bool.{cases_eq, eqb-true, false≢true, le-leb, lt-ltb, le-ltb, ltb-true, ne_eqb}
+use Rattle.std.proofs.lemmas.Bool.{cases_eq, le-leb, lt-ltb, le-ltb, ltb-true, ne_eqb}
 use Rattle.std.proofs.lemmas.Bool.Decides.{nat_tests}
 use Rattle.std.proofs.lemmas.List.{length-replicate}
 use Rattle.avc_types.specs.declared.fault.Fault.TheVariants as faults
@@ -12,7 +12,6 @@ use Rattle.avc_types.specs.declared.macroblock.Mvd.{Mvd}
 use Rattle.avc_types.specs.declared.macroblock.PMbType.{PMbType}
 use Rattle.avc_types.specs.declared.macroblock.PMbType.TheVariants.{P16x16, P16x8, P8x16, P8x8, P8x8Ref0}
 use Rattle.avc_types.specs.declared.macroblock.SubMbType.{SubMbType}
-use Rattle.avc_types.specs.declared.macroblock.SubMbType.TheVariants.{Sub8x8, Sub8x4, Sub4x8, Sub4x4}
 use Rattle.avc_types.specs.Macroblock.{Residual, Mb, MbSyntax, p_skip, i_pcm, i_nxn, i_16x16, p_inter, total_coeff, parts_of, partitions}
 use Rattle.avc_bits.specs.Bits.{Read, ◌>>=◌, bits_of, byte_bits, give, refuse, times}
 use Rattle.avc_bits.specs.Codes.{align, skip, te_to, u, ue_to}
@@ -22,7 +21,6 @@ use Rattle.avc_mbsyntax.specs.Reading.{after_pattern, block_mode, block_where, b
 use Rattle.std.specs.Option.{option_map}
 use Rattle.avc_vlc.specs.Reading.{coded_block_pattern, pattern_at}
 use Rattle.avc_make.specs.MbWriting.{MbIsRead, type_16x16, AreSamples, HasQuarters, HasRanges, IsIPcm, IsMvd, IsPInter, IsRefIdx, has_ref_idx, i_pcm_bits, i_type, mb_bits, mvd_bits, p_inter_bits, p_mb_number, qp_of, ref_idx_bits, sub_mb_number, sub_mb_types_bits, zeros_to_byte, IsCodedMode, IsI16x16, IsINxN, IsPattern, i_16x16_bits, i_nxn_bits, mode_bits, pattern_number, pattern_of, qp_delta_bits, AreBlocks, IsBlock, IsChromaDc, IsResidual, bits_where_coded, block_words, blocks_bits, chroma_dc_bits, luma_max, residual_bits}
-use Rattle.avc_make.specs.VuiWriting.{Each}
 use Rattle.avc_make.specs.Words.{se_word, te_word, ue_word}
 use Rattle.avc_make.proofs.BlockBack.{back-block}
 use Rattle.avc_make.proofs.ReadingBack.{GivesBack, GivesEach, ReadsAt, at-bind, back-bind, back-bits, back-check, back-flag, back-give, back-last, back-se, back-se_within, back-te, back-then, back-times, back-u, back-ue, back-ue_to, with_value}

@@ -1,7 +1,6 @@
 -- The place of a pattern in its table.
-use Rattle.std.proofs.Common.{◌≡◌, ◌≢◌, ℕ, zero, suc, ◌+◌, ◌<◌, List, [], ◌∷◌, drop, Bool, true, false, Some, ap, ◌∙◌, sym, arith, refl}
+use Rattle.std.proofs.Common.{◌≡◌, ◌≢◌, ℕ, suc, ◌+◌, ◌<◌, List, ◌∷◌, drop, Bool, true, false, Some, ap, ◌∙◌, arith}
 use Rattle.std.specs.Prelude.{slice_get}
-use Rattle.std.proofs.lemmas.Bool.{eq-eqb, ne_eqb}
 use Rattle.avc_vlc.specs.Tables.{cbp_intra, cbp_inter}
 use Rattle.avc_vlc.specs.Reading.{pattern_at}
 use Rattle.avc_make.specs.MbWriting.{pattern_number, place_of}

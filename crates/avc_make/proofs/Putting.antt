@@ -1,6 +1,5 @@
 -- Bits put one after another.
-use Rattle.std.proofs.Common.{◌≡◌, ℕ, suc, ◌+◌, ◌-◌, ◌/◌, ◌%◌, ◌^◌, List, [], ◌∷◌, ◌++◌, Bool, true, false, eqb, ap, ◌∙◌, sym, append_assoc, refl, append-nil}
-use Rattle.std.specs.Prelude.{replicate}
+use Rattle.std.proofs.Common.{◌≡◌, ℕ, ◌+◌, ◌-◌, ◌%◌, List, [], ◌∷◌, ◌++◌, Bool, true, false, ap, ◌∙◌, sym, refl, append-nil}
 use Rattle.avc_bits.specs.Bits.{bits_of}
 use Rattle.avc_make.specs.Made.{Made, with_bits}
 use Rattle.avc_make.specs.MbWriting.{zeros_to_byte}

@@ -1,7 +1,5 @@
 -- Parts put one after another.
-use Rattle.std.proofs.Common.{◌≡◌, ℕ, suc, ◌<◌, List, [], ◌∷◌, ◌++◌, get_or, Fits, w8, Bool, false, subst, ap, ◌∙◌, sym, arith, append_assoc, append-nil}
-use Rattle.std.specs.List.{flat_map}
-use Rattle.avc_make.specs.Made.{Made, with_bits}
+use Rattle.std.proofs.Common.{ℕ, suc, ◌<◌, List, [], ◌∷◌, get_or, Fits, w8, arith}
 use Rattle.avc_make.specs.VuiWriting.{Each}
 
 pub any_each : {A : Type 0} (xs : List A) → Each (λ _. Unit {0}) xs

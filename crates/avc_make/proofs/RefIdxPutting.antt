@@ -1,6 +1,5 @@
 -- Reference indices, where they are coded.
-use Rattle.std.proofs.Common.{◌≡◌, ℕ, ◌-◌, ◌<◌, ◌≤◌, List, Bool, true, false, ap, ◌∙◌, sym, refl}
-use Rattle.std.proofs.lemmas.Bool.{false≢true}
+use Rattle.std.proofs.Common.{◌≡◌, ℕ, ◌-◌, ◌<◌, ◌≤◌, List, Bool, true, refl}
 use Rattle.std.specs.List.{flat_map}
 use Rattle.avc_make.specs.MbWriting.{IsRefIdx, ref_idx_bits}
 use Rattle.avc_make.specs.VuiWriting.{Each}
@@ -11,6 +10,3 @@ indices_active active n coded indices is all = let here = rw is at all in here.a
 
 pub coded_indices : (active : ℕ) (coded : Bool) (l indices : List ℕ) → coded ≡ true → l ≡ indices → flat_map (te_word (active - 1)) l ≡ ref_idx_bits active coded indices
 coded_indices active coded l indices is same = rw (same, is) refl
-
-pub uncoded_indices : (active : ℕ) (coded : Bool) (indices : List ℕ) → coded ≡ false → ref_idx_bits active coded indices ≡ ref_idx_bits active false indices
-uncoded_indices active coded indices is = ap (λ c. ref_idx_bits active c indices) is

@@ -1,8 +1,7 @@
 -- The blocks of a component put one after another.
-use Rattle.std.proofs.Common.{◌≡◌, ℕ, zero, suc, ◌+◌, ◌-◌, ◌<◌, ◌≤◌, min, ℤ, pos, negsuc, nat_lt, List, [], ◌∷◌, ◌++◌, drop, get_or, length, length-set, map, set, take, Bool, true, false, Option, ap, ◌∙◌, sym, subst, append_assoc, arith, refl}
+use Rattle.std.proofs.Common.{◌≡◌, ℕ, suc, ◌+◌, ◌-◌, ◌<◌, ◌≤◌, min, ℤ, pos, negsuc, nat_lt, List, [], ◌∷◌, ◌++◌, drop, get_or, length, length-set, map, set, take, Bool, true, false, Option, ap, ◌∙◌, sym, subst, append_assoc, arith}
 use Rattle.std.specs.Prelude.{Result}
 use Rattle.std.specs.List.{range_with_len, sum}
-use Rattle.std.proofs.lemmas.Bool.{false≢true}
 use Rattle.std.proofs.lemmas.List.{drop_more, map-append, take_more, take_more_set}
 use Rattle.avc_types.specs.Macroblock.{total_coeff}
 use Rattle.avc_types.specs.declared.memory.OutOfMemory.{OutOfMemory}

@@ -1,11 +1,11 @@
 -- The data of a slice read from its bits.
 use Rattle.std.proofs.Common.{◌≡◌, ℕ, zero, suc, ◌+◌, ◌-◌, ◌<◌, ◌≤◌, nat_lt, List, [], ◌∷◌, ◌++◌, length, Bool, true, false, refl, ap, ◌∙◌, sym, subst, arith, length-append, append_assoc, append-nil}
-use Rattle.std.proofs.lemmas.Bool.{false≢true, le-ltb, ne_eqb}
+use Rattle.std.proofs.lemmas.Bool.{le-ltb, ne_eqb}
 use Rattle.std.proofs.lemmas.List.{length-replicate, replicate-append-replicate}
 use Rattle.std.specs.Prelude.{◌==◌, replicate, None, Result, Ok, Err}
 use Rattle.avc_types.specs.declared.fault.Fault.{Fault}
 use Rattle.avc_types.specs.declared.fault.Fault.TheVariants as faults
-use Rattle.avc_types.specs.Macroblock.{Mb, MbSyntax, p_skip, i_pcm, i_nxn, i_16x16, p_inter}
+use Rattle.avc_types.specs.Macroblock.{Mb, MbSyntax}
 use Rattle.avc_types.specs.Pictures.{PicMb}
 use Rattle.avc_bits.specs.Bits.{Bits, bits_of, more_data}
 use Rattle.avc_bits.specs.Codes.{ue}
@@ -13,10 +13,11 @@ use Rattle.avc_mbsyntax.specs.declared.context.Context.{Context}
 use Rattle.avc_mbsyntax.specs.Reading.{macroblock}
 use Rattle.avc_mbsyntax.specs.SliceData.{SliceMbs, SliceStart, after, after_run, context, ended, from_run, i_data, p_data, placed, skipped, slice_data, stopped, where_room}
 use Rattle.avc_make.specs.DataWriting.{CanFollow, CanStand, DataIsRead, data_bits, i_data_bits, is_skip, p_data_bits}
-use Rattle.avc_make.specs.MbWriting.{HasRanges, i_type, mb_bits, p_mb_number, qp_of, type_16x16}
+use Rattle.avc_make.specs.MbWriting.{HasRanges, mb_bits, qp_of}
 use Rattle.avc_make.specs.Words.{bits_after_one, ue_word}
 use Rattle.avc_make.proofs.MbBack.{mb_is_read}
 use Rattle.avc_make.proofs.ReadingBack.{back-ue}
+use Rattle.avc_make.specs.SliceSteps.{rest_bits}
 
 -- ---- bits that are there
 
@@ -48,10 +49,6 @@ mb_read c position rest m is qp =
 
 -- ---- I slices
 
-i_step : (s : SliceStart) (left : ℕ) (before : List PicMb) (qp : ℕ) (b b' : Bits) (mb : Mb) → macroblock (context s before qp) b ≡ Ok (mb, b') →
-    i_data s (suc left) before qp b ≡ after (mb ∷ []) (elim (more_data b') [ true ↦ i_data s left (before ++ placed s mb ∷ []) mb.qp b' | false ↦ ended ])
-i_step s left before qp b b' mb read = rw (i_data, read) refl
-
 abbrev all_of : List Mb → SliceMbs
 all_of ms = record { mbs = ms; fault = None }
 
@@ -68,21 +65,18 @@ unfolding i_data_bits
 i_read s m ms zero before qp position same all few = absurd (omega (arith, few))
 i_read s m [] (suc left) before qp position same all few =
     let c = context s before qp in
-    let is = ranges_of c m.syntax (i_stand s before qp m.syntax same all.0) all.0 in
-    let w = mb_bits c position m.syntax in
-    i_step s left before qp (record { position = position; ahead = w ++ [] }) (record { position = position + length w; ahead = [] }) m (mb_read c position [] m is all.1)
+    let read = mb_read c position [] m (ranges_of c m.syntax (i_stand s before qp m.syntax same all.0) all.0) all.1 in
+    rw (i_data, read) refl
 i_read s m (m' ∷ ms) (suc left) before qp position same all few =
     let c = context s before qp in
-    let is = ranges_of c m.syntax (i_stand s before qp m.syntax same all.0) all.0 in
-    let w = mb_bits c position m.syntax in
-    let next = position + length w in
+    let next = position + length (mb_bits c position m.syntax) in
     let before' = before ++ placed s m ∷ [] in
     let others = i_data_bits s before' m.qp next (m' ∷ ms) in
+    let read = mb_read c position others m (ranges_of c m.syntax (i_stand s before qp m.syntax same all.0) all.0) all.1 in
     let second = ranges_of (context s before' m.qp) m'.syntax (i_stand s before' m.qp m'.syntax same all.2.0) all.2.0 in
     let more = more_true next others (i_some s before' m.qp next m' ms second) in
     let rest = i_read s m' ms left before' m.qp next same all.2 (omega (arith, few)) in
-    i_step s left before qp (record { position = position; ahead = w ++ others }) (record { position = next; ahead = others }) m (mb_read c position others m is all.1)
-    ∙ ap (after (m ∷ [])) (rw more rest)
+    rw (i_data, read) (ap (after (m ∷ [])) (rw more rest))
 
 -- ---- P slices
 
@@ -231,11 +225,8 @@ p_read s (m ∷ ms) (suc turns) front before qp position run all is some few sma
 abbrev data_where : (p : Bool) → SliceStart → List PicMb → Bits → SliceMbs
 data_where p s before b = elim p [ true ↦ p_data s (s.size - length before) before s.qp b | false ↦ i_data s (s.size - length before) before s.qp b ]
 
-abbrev bits_where : (p : Bool) → SliceStart → List PicMb → ℕ → List Mb → List Bool
-bits_where p s before position ms = elim p [ true ↦ p_data_bits s before s.qp position 0 ms | false ↦ i_data_bits s before s.qp position ms ]
-
 read_where : (p : Bool) (s : SliceStart) (before : List PicMb) (position : ℕ) (ms : List Mb) → s.is_p ≡ p → 1 ≤ length ms → length ms < 4294967295 → length before + length ms ≤ s.size → CanFollow s before s.qp ms →
-    data_where p s before (record { position = position; ahead = bits_where p s before position ms }) ≡ all_of ms
+    data_where p s before (record { position = position; ahead = rest_bits p s before s.qp position 0 ms }) ≡ all_of ms
 read_where p s before position [] same some small room all = absurd (omega (arith, some))
 read_where true s before position (m ∷ ms) same some small room all =
     p_read s (m ∷ ms) (s.size - length before) before before s.qp position 0 all (sym (append-nil before)) (omega arith) (omega (arith, room)) (omega (arith, small)) room
@@ -263,4 +254,4 @@ all_data_is_read s before position [] some small any room all = none_where s.is_
 all_data_is_read s before position (m ∷ ms) some small any room all = by_type s.is_p refl
   where
     by_type : (p : Bool) → s.is_p ≡ p → slice_data s before (record { position = position; ahead = data_bits s before position (m ∷ ms) }) ≡ all_of (m ∷ ms)
-    by_type p same = subst (λ q. data_where q s before (record { position = position; ahead = bits_where q s before position (m ∷ ms) }) ≡ all_of (m ∷ ms)) (sym same) (read_where p s before position (m ∷ ms) same (omega arith) small room all)
+    by_type p same = subst (λ q. data_where q s before (record { position = position; ahead = rest_bits q s before s.qp position 0 (m ∷ ms) }) ≡ all_of (m ∷ ms)) (sym same) (read_where p s before position (m ∷ ms) same (omega arith) small room all)

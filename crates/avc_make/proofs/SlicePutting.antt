@@ -1,5 +1,5 @@
 -- The macroblocks of a slice put one after another.
-use Rattle.std.proofs.Common.{◌≡◌, ℕ, ◌+◌, ◌<◌, ◌≤◌, List, [], ◌∷◌, ◌++◌, length, drop, get_or, take, Bool, true, false, refl, ap, ◌∙◌, sym, subst, arith, length-append, append_assoc, append-nil}
+use Rattle.std.proofs.Common.{◌≡◌, ℕ, ◌+◌, ◌<◌, ◌≤◌, List, [], ◌∷◌, ◌++◌, length, drop, get_or, take, Bool, false, refl, ap, ◌∙◌, sym, subst, arith, length-append, append_assoc, append-nil}
 use Rattle.std.proofs.lemmas.List.{drop_more, length-map, map-append, take_more}
 use Rattle.std.specs.Prelude.{map, Option}
 use Rattle.std.specs.Option.{option_map}
@@ -8,22 +8,19 @@ use Rattle.avc_types.specs.Pictures.{PicMb}
 use Rattle.avc_neigh.specs.declared.facts.NeighbourFacts.{NeighbourFacts}
 use Rattle.avc_neigh.specs.declared.facts.TotalCoeffs.{TotalCoeffs}
 use Rattle.avc_neigh.specs.Around.{PictureFacts, mb_a, mb_b, with_facts}
-use Rattle.avc_neigh.specs.Blocks.{above, left_of}
 use Rattle.avc_neigh.specs.Laws.{FactsTell}
 use Rattle.avc_neigh.specs.TotalCoeffs.{total_coeffs_of}
 use Rattle.avc_neigh.proofs.Found.{total_coeffs_found}
 use Rattle.avc_mbsyntax.specs.declared.context.Context.{Context}
 use Rattle.avc_mbsyntax.specs.SliceData.{SliceStart, context, left_total_coeffs, placed, up_total_coeffs}
-use Rattle.avc_make.specs.DataWriting.{CanFollow, CanStand, data_bits, i_data_bits, is_skip, p_data_bits}
+use Rattle.avc_make.specs.DataWriting.{CanFollow, CanStand, data_bits, i_data_bits, p_data_bits}
 use Rattle.avc_make.specs.HeaderWriting.{header_bits, slice_unit_header}
 use Rattle.avc_make.specs.Made.{Made, nothing, with_bits}
-use Rattle.avc_make.specs.MbWriting.{mb_bits, qp_of}
-use Rattle.avc_make.specs.SliceSteps.{IsOf, AreFactsOf, coded_bits, last_run_bits_where, own_bits, rest_bits, run_after, run_bits, some_bits}
+use Rattle.avc_make.specs.MbWriting.{qp_of}
+use Rattle.avc_make.specs.SliceSteps.{IsOf, AreFactsOf, last_run_bits_where, own_bits, rest_bits, run_after, some_bits}
 use Rattle.avc_make.specs.SliceMbs.{IsCodedSlice, coded_slice_bits, earlier_mbs, own_start}
 use Rattle.avc_make.specs.Units.{IsUnit}
-use Rattle.avc_make.specs.Words.{ue_word}
 use Rattle.avc_make.specs.declared.slice.CodedSlice.{CodedSlice}
-use Rattle.avc_make.proofs.SliceDataBack.{bits_other, bits_skip, i_stand, on_kind, skipped_is}
 
 -- ---- what the row has of them
 
@@ -131,18 +128,15 @@ is_at ms i m within is = record {
 
 before_more : (c : CodedSlice) (i : ℕ) (m : Mb) → IsAt c.macroblocks i m → before_of c i ++ placed (own_start c) m ∷ [] ≡ before_of c (i + 1)
 before_more c i m here =
-    let f = placed (own_start c) in
-    append_assoc (earlier_mbs c) (map f (take i c.macroblocks)) (f m ∷ [])
-    ∙ ap (λ l. earlier_mbs c ++ l) (sym (map-append f (take i c.macroblocks) (m ∷ [])))
-    ∙ ap (λ l. earlier_mbs c ++ map f l) (sym here.last)
+    let last = here.last in
+    rw (last, map-append) (append_assoc (earlier_mbs c) (map (placed (own_start c)) (take i c.macroblocks)) (placed (own_start c) m ∷ []))
 
 -- its context, and that it can stand there
 pub stands_at : (c : CodedSlice) (old now : Made) (i : ℕ) (row : PictureFacts) (qp run : ℕ) (m : Mb) (k : Context) (syntax : MbSyntax) → IsPut c old i row qp run now → IsAt c.macroblocks i m
     → k ≡ context (own_start c) (before_of c i) qp → syntax ≡ m.syntax → CanStand k syntax
 stands_at c old now i row qp run m k syntax is here is_k is_syntax =
-    let s = own_start c in
-    let all : CanFollow s (before_of c i) qp (m ∷ drop (i + 1) c.macroblocks) = subst (λ l. CanFollow s (before_of c i) qp l) here.first is.follow in
-    subst (λ x. CanStand k x) (sym is_syntax) (subst (λ x. CanStand x m.syntax) (sym is_k) all.0)
+    let all : CanFollow (own_start c) (before_of c i) qp (m ∷ drop (i + 1) c.macroblocks) = subst (λ l. CanFollow (own_start c) (before_of c i) qp l) here.first is.follow in
+    rw (is_syntax, is_k) (all.0)
 
 pub put_next : (c : CodedSlice) (old now new : Made) (i : ℕ) (row row' : PictureFacts) (qp qp' run run' : ℕ) (m : Mb) (k : Context) (syntax : MbSyntax) → IsPut c old i row qp run now → IsAt c.macroblocks i m
     → k ≡ context (own_start c) (before_of c i) qp → syntax ≡ m.syntax → new ≡ with_bits now (own_bits k (length now.bits) run syntax)
@@ -163,11 +157,7 @@ put_next c old now new i row row' qp qp' run run' m k syntax is here is_k is_syn
       told = subst (λ b. AreFactsOf s.width b row') grown told;
       few = omega (arith, few, is.few);
       follow = subst (λ q. CanFollow s (before_of c (i + 1)) q ms) (sym is_qp) (subst (λ b. CanFollow s b m.qp ms) grown follow.2);
-      sum =
-          ap (λ b. new.bits ++ rest_bits s.is_p s b qp' (length new.bits) run' ms) (sym grown)
-          ∙ ap (λ q. new.bits ++ rest_bits s.is_p s before' q (length new.bits) run' ms) is_qp
-          ∙ ap (λ r. new.bits ++ rest_bits s.is_p s before' m.qp (length new.bits) r ms) (is_run ∙ ap (run_after run) is_syntax)
-          ∙ sum;
+      sum = rw (← grown, is_qp, is_run, is_syntax) sum;
     }
 
 pub put_end : (c : CodedSlice) (old now new : Made) (i : ℕ) (row : PictureFacts) (qp run : ℕ) (p : Bool) → IsPut c old i row qp run now → drop i c.macroblocks ≡ [] → (own_start c).is_p ≡ p
@@ -181,8 +171,4 @@ put_end c old now new i row qp run p is none same is_new =
 pub unit_put : (c : CodedSlice) (empty first second : Made) (header : ℕ) (unit : List ℕ) → empty ≡ nothing → first ≡ with_bits empty (header_bits c.sps c.pps c.header)
     → second ≡ with_bits first (data_bits (own_start c) (earlier_mbs c) (length first.bits) c.macroblocks) → header ≡ slice_unit_header c.header → IsUnit header second.bits unit →
     IsUnit (slice_unit_header c.header) (coded_slice_bits c) unit
-unit_put c empty first second header unit is_empty is_first is_second is_header written =
-    let bits = header_bits c.sps c.pps c.header in
-    let one : first.bits ≡ bits = ap (λ m. m.bits) is_first ∙ ap (λ m. m.bits ++ bits) is_empty in
-    let all : second.bits ≡ coded_slice_bits c = ap (λ m. m.bits) is_second ∙ ap (λ b. b ++ data_bits (own_start c) (earlier_mbs c) (length b) c.macroblocks) one in
-    subst (λ b. IsUnit (slice_unit_header c.header) b unit) all (subst (λ h. IsUnit h second.bits unit) is_header written)
+unit_put c empty first second header unit is_empty is_first is_second is_header written = rw (is_header, is_second, is_first, is_empty) at written

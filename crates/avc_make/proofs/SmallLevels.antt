@@ -1,7 +1,7 @@
 -- Blocks of small levels can be written.
-use Rattle.std.proofs.Common.{ℕ, ◌+◌, ◌^◌, ◌<◌, ◌≤◌, ℤ, pos, negsuc, nat_abs, List, [], ◌∷◌, drop, length, Bool, true, false, arith, lit<, inl, inr}
+use Rattle.std.proofs.Common.{ℕ, ◌+◌, ◌^◌, ◌<◌, ◌≤◌, ℤ, nat_abs, List, [], ◌∷◌, drop, length, Bool, false, arith, lit<, inl, inr}
 use Rattle.std.specs.Prelude.{nat_lt}
-use Rattle.std.proofs.lemmas.Bool.{cases_eq, eq-eqb, ne_eqb}
+use Rattle.std.proofs.lemmas.Bool.{cases_eq}
 use Rattle.std.proofs.Math.Nat.{pow-le-pow_right}
 use Rattle.avc_cavlc.specs.Block.{next_suffix_length}
 use Rattle.avc_make.specs.BlockWriting.{AreCodes, IsCode, SmallAreWritable, after_zeros, code_of_level, coded, first_length, least_code, ones_first, values_of}

@@ -1,11 +1,8 @@
-use Rattle.std.proofs.Common.{ℕ, ◌-◌, ◌<◌, ◌≤◌, take, ap, ◌∙◌, sym, subst, arith}
-use Rattle.std.specs.List.{flat_map}
+use Rattle.std.proofs.Common.{ℕ, ◌-◌, ◌<◌, ◌≤◌, take, ◌∙◌, sym, subst, arith}
 use Rattle.avc_types.specs.Macroblock.{partitions}
-use Rattle.avc_make.specs.MbWriting.{has_ref_idx, ref_idx_bits}
+use Rattle.avc_make.specs.MbWriting.{has_ref_idx}
 use Rattle.avc_make.specs.VuiWriting.{Each}
-use Rattle.avc_make.specs.Words.{te_word}
-use Rattle.avc_make.proofs.RefIdxPutting.{coded_indices, indices_active}
-use Rattle.avc_make.proofs.ResidualPutting.{puts_same}
+use Rattle.avc_make.proofs.RefIdxPutting.{indices_active}
 use Rattle.avc_make.proofs.inter_writing.put_ref_idx.Goals as goal
 
 pub put_indices-requires : goal.put_indices-requires

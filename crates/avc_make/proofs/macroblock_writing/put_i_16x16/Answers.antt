@@ -5,5 +5,5 @@ pub returns : goal.returns
 returns c = (
   c.requires.going,
   rw (c.in_ok-put_residual_16x16.ensures.1, c.in_ok-put_delta.ensures.1, c.in_ok-put_chroma_mode.ensures.1, c.in_ok-put_i_type.ensures.1, c.type_16x16.ensures.value)
-  (simp append_assoc),
+      (simp append_assoc),
 )
