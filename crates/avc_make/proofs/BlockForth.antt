@@ -99,7 +99,9 @@ record TookZeros (limit seen n : ℕ) (bits rest : List Bool) : Type 0 where
 
 zeros_took : (limit seen n : ℕ) (f : Fault) (bits rest : List Bool) → seen ≤ limit → zeros limit f seen bits ≡ Ok (n, rest) → TookZeros limit seen n bits rest
 zeros_took limit seen n f [] rest few is = cc
-zeros_took limit seen n f (true ∷ bits) rest few is = let both = pair_is seen n bits rest is in record { more = 0; sum = omega (arith, both.0); few = omega (arith, both.0); ahead = ap (λ r. true ∷ r) both.1 }
+zeros_took limit seen n f (true ∷ bits) rest few is =
+    let both = pair_is seen n bits rest is in
+    record { more = 0; sum = omega (arith, both.0); few = omega (arith, both.0); ahead = ap (λ r. true ∷ r) both.1 }
 zeros_took limit seen n f (false ∷ bits) rest few is = elim (cases_lt seen limit) [
   | inl below ↦
       let took = zeros_took limit (seen + 1) n f bits rest (omega arith) (rw (zeros, lt-ltb seen limit below) at is) in

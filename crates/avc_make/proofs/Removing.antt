@@ -8,15 +8,18 @@ use Rattle.avc_annexb.specs.Escapes.{rbsp}
 use Rattle.avc_make.specs.Escaping.{HasNoStart, escaped_after, escaped_byte, zeros_with}
 
 -- after no zero, after one and after two
-none_removed : (b : ℕ) (bytes : List ℕ) → rbsp (escaped_after 0 bytes) ≡ bytes → rbsp (0 ∷ escaped_after 1 bytes) ≡ 0 ∷ bytes → rbsp (escaped_after 0 (b ∷ bytes)) ≡ b ∷ bytes
+none_removed : (b : ℕ) (bytes : List ℕ) → rbsp (escaped_after 0 bytes) ≡ bytes → rbsp (0 ∷ escaped_after 1 bytes) ≡ 0 ∷ bytes →
+    rbsp (escaped_after 0 (b ∷ bytes)) ≡ b ∷ bytes
 unfolding escaped_after
 none_removed b bytes none one = grind (arith, nat_tests)
 
-one_removed : (b : ℕ) (bytes : List ℕ) → rbsp (escaped_after 0 bytes) ≡ bytes → rbsp (0 ∷ 0 ∷ escaped_after 2 bytes) ≡ 0 ∷ 0 ∷ bytes → rbsp (0 ∷ escaped_after 1 (b ∷ bytes)) ≡ 0 ∷ b ∷ bytes
+one_removed : (b : ℕ) (bytes : List ℕ) → rbsp (escaped_after 0 bytes) ≡ bytes → rbsp (0 ∷ 0 ∷ escaped_after 2 bytes) ≡ 0 ∷ 0 ∷ bytes →
+    rbsp (0 ∷ escaped_after 1 (b ∷ bytes)) ≡ 0 ∷ b ∷ bytes
 unfolding escaped_after
 one_removed b bytes none two = grind (arith, nat_tests)
 
-two_removed : (b : ℕ) (bytes : List ℕ) → rbsp (escaped_after 0 bytes) ≡ bytes → rbsp (0 ∷ escaped_after 1 bytes) ≡ 0 ∷ bytes → rbsp (0 ∷ 0 ∷ escaped_after 2 (b ∷ bytes)) ≡ 0 ∷ 0 ∷ b ∷ bytes
+two_removed : (b : ℕ) (bytes : List ℕ) → rbsp (escaped_after 0 bytes) ≡ bytes → rbsp (0 ∷ escaped_after 1 bytes) ≡ 0 ∷ bytes →
+    rbsp (0 ∷ 0 ∷ escaped_after 2 (b ∷ bytes)) ≡ 0 ∷ 0 ∷ b ∷ bytes
 unfolding escaped_after
 two_removed b bytes none one = grind (arith, nat_tests)
 

@@ -7,5 +7,6 @@ level_code-requires-clause-prefix c = omega (arith, c.prefix_of-prefix.ensures, 
 
 pub returns : goal.returns
 returns c =
-    let word = level_word c.args.suffix_length c.args.code c.prefix_of-prefix.result c.level_code.result c.suffix_size.result c.prefix_of-prefix.ensures c.level_code.ensures c.suffix_size.ensures.value in
+    let word = level_word c.args.suffix_length c.args.code c.prefix_of-prefix.result c.level_code.result c.suffix_size.result
+    c.prefix_of-prefix.ensures c.level_code.ensures c.suffix_size.ensures.value in
     (c.in_ok-put.ensures.0, rw (c.in_ok-put-2.ensures.1, c.in_ok-flag.ensures.1, c.in_ok-put.ensures.1, ← word) (simp append_assoc))
