@@ -1,5 +1,5 @@
 -- Units are taken one after the other, until decoding can start with one.
-use Rattle.std.proofs.Common.{◌≡◌, true, false, List, [], ◌∷◌, ◌++◌, Option, Some, None, refl, ap, sym, subst, ◌∙◌, append_assoc, append-nil}
+use Rattle.std.proofs.Common.{◌≡◌, true, false, List, [], ◌∷◌, ◌++◌, Option, Some, None, refl, ap, sym, subst, ◌∙◌, append_assoc, append-nil, arith}
 use Rattle.std.specs.Prelude.{is_some}
 use Rattle.avc_annexb.specs.SplitterState.{SplitterState, after_next_unit, next_unit_of}
 use Rattle.avc_annexb.specs.declared.unit.Unit.{Unit}
@@ -8,7 +8,7 @@ use Rattle.avc_params.specs.declared.set_unit.SetUnit.{SetUnit}
 use Rattle.avc_params.specs.declared.sps.Sps.{Sps}
 use Rattle.avc_units.specs.Grouping.{list_of, set_unit, set_units}
 use Rattle.avc_tools.proofs.Draining.{IsDraining, one_more}
-use Rattle.avc_tools.proofs.Shown.{set_units-append}
+use Rattle.avc_tools.proofs.Shown.{set_units-append, sets_then}
 use Rattle.avc_tools.specs.Streams.{units_left}
 use Rattle.avc_run.specs.Decoding.{max_unit}
 use Rattle.avc_formats.specs.Front.{first_of, first_sps, starting_sps, IsFound, IsSaid}
@@ -17,14 +17,7 @@ use Rattle.avc_formats.specs.declared.presentation.Presentation.{Presentation}
 -- ---- the first set
 
 first_of-assoc : {A : Type 0} (a b c : Option A) → first_of a (first_of b c) ≡ first_of (first_of a b) c
-first_of-assoc None b c = refl
-first_of-assoc (Some x) b c = refl
-
--- one unit's sets in front
-sets_then : (sets : List SetUnit) (u : Unit) (us : List Unit) → (sets ++ set_units (u ∷ [])) ++ set_units us ≡ sets ++ set_units (u ∷ us)
-sets_then sets u us =
-    append_assoc sets (set_units (u ∷ [])) (set_units us)
-    ∙ ap (λ l. sets ++ (l ++ set_units us)) (append-nil (list_of (set_unit u)))
+first_of-assoc a b c = grind arith
 
 pub first-append : (sets : List SetUnit) (us vs : List Unit) → first_sps sets (us ++ vs) ≡ first_of (first_sps sets us) (first_sps (sets ++ set_units us) vs)
 first-append sets [] vs = ap (λ l. first_sps l vs) (sym (append-nil sets))
@@ -41,8 +34,7 @@ first_behind sets us vs none = first-append sets us vs ∙ ap (λ o. first_of o 
 
 -- what is said stays said
 said_first : (a b : Option Sps) (p : Presentation) → IsSaid a (Some p) → IsSaid (first_of a b) (Some p)
-said_first None b p said = let bad : Some p ≡ None = said in cc
-said_first (Some s) b p said = said
+said_first a b p said = grind arith
 
 pub said_still : (sets : List SetUnit) (us vs : List Unit) (p : Presentation) → IsSaid (first_sps sets us) (Some p) → IsSaid (first_sps sets (us ++ vs)) (Some p)
 said_still sets us vs p said =
@@ -50,8 +42,7 @@ said_still sets us vs p said =
 
 -- nothing is said where there is no set
 not_said : (a : Option Sps) → IsSaid a None → a ≡ None
-not_said None said = refl
-not_said (Some s) said = absurd said
+not_said a said = grind arith
 
 -- ---- units that were taken
 
@@ -81,8 +72,7 @@ passed_more before old new u said is none put done h = record {
     by (Some p) is none = absurd (none refl)
 
 first_alone : (a : Option Sps) → first_of a None ≡ a
-first_alone None = refl
-first_alone (Some s) = refl
+first_alone a = grind arith
 
 pub found_at : (before old : List SetUnit) (u : Unit) (p : Presentation) → IsSaid (starting_sps (sets_after old) u) (Some p) → (done : List Unit) → ArePassed before old done
     → IsSaid (first_sps before (done ++ u ∷ [])) (Some p)

@@ -1,5 +1,5 @@
 -- The front of a stream, piece after piece.
-use Rattle.std.proofs.Common.{◌≡◌, ℕ, ◌≤◌, Bool, true, false, List, [], ◌++◌, length, take, Option, Some, None, Result, Ok, Err, refl, ap, sym, subst, ◌∙◌, append-nil}
+use Rattle.std.proofs.Common.{◌≡◌, ℕ, ◌≤◌, Bool, true, false, List, [], ◌++◌, length, take, Option, Some, None, Result, Ok, Err, refl, ap, sym, subst, ◌∙◌, append-nil, arith}
 use Rattle.std.specs.Prelude.{if◌then◌else◌, unwrap_or, IsErrAnd}
 use Rattle.std.specs.Io.KnownBytes.{prepend_known, Consumes, IsAtEnd, Keeps}
 use Rattle.std.proofs.KnownBytes.{Appends-nil, Consumes-kept, Consumes-nil, Consumes-trans}
@@ -24,6 +24,7 @@ use Rattle.avc_formats.specs.Front.{first_sps, front_length, in_front, stream_sp
 use Rattle.avc_formats.specs.Presenting.{no_presentation, Says}
 use Rattle.avc_formats.specs.declared.presentation.Presentation.{Presentation}
 use Rattle.avc_formats.proofs.Finding.{first_behind}
+use Rattle.avc_run.proofs.StreamWriting.{nothing_more}
 
 pub looking_begins : (unread : Option (List ℕ)) (bytes : List ℕ) (s : SplitterState) (sets : List SetUnit) → bytes ≡ [] → s ≡ new_splitter → sets ≡ [] → IsLooking unread unread bytes s sets
 looking_begins unread bytes s sets none new empty = record {
@@ -83,15 +84,13 @@ looking_more stay unread left left' bytes piece bytes' s mid new sets now said i
 -- ---- the front is there
 
 says_of : (o : Option Sps) (p : Presentation) → IsSaid o (Some p) → Says o p
-says_of None p said = let bad : Some p ≡ None = said in cc
-says_of (Some s) p said = said
+says_of o p said = grind arith
 
 some_said : (o : Option Sps) (p : Presentation) → IsSaid o (Some p) → o ≡ None → ⊥
-some_said None p said none = let bad : Some p ≡ None = said in cc
-some_said (Some s) p said none = cc
+some_said o p said none = grind arith
 
 says_nothing : (o : Option Sps) → o ≡ None → Says o no_presentation
-says_nothing o none = subst (λ o. Says o no_presentation) (sym none) refl
+says_nothing o none = rw none refl
 
 pub front_found : UnitsStay → (unread left left' : Option (List ℕ)) (bytes piece bytes' : List ℕ) (s mid new : SplitterState) (sets now : List SetUnit) (said : Option Presentation) (p : Presentation)
     → IsLooking unread left bytes s sets → Consumes left left' piece → bytes' ≡ bytes ++ piece → mid ≡ after_feed s piece → IsFound mid new sets now said → said ≡ Some p
@@ -112,11 +111,6 @@ front_found stay unread left left' bytes piece bytes' s mid new sets now told p 
       says = says_of (stream_sps bytes' false) p said;
       enough = λ _ none. absurd (some_said (stream_sps bytes' false) p said none);
     }
-
--- a read of none
-nothing_more : (unread left left' : Option (List ℕ)) (bytes piece : List ℕ) (len : ℕ) → Consumes unread left bytes → len ≡ 0 → Consumes left left' (take len piece) → Consumes unread left' bytes
-nothing_more unread left left' bytes piece len so_far none more =
-    subst (Consumes unread left') (append-nil bytes) (Consumes-trans unread left left' bytes [] so_far (subst (λ n. Consumes left left' (take n piece)) none more))
 
 pub front_ended : UnitsStay → (unread left left' : Option (List ℕ)) (bytes piece : List ℕ) (len : ℕ) (s mid new : SplitterState) (sets now : List SetUnit) (said : Option Presentation) (p : Presentation)
     → IsLooking unread left bytes s sets → len ≡ 0 → Consumes left left' (take len piece) → IsAtEnd left' → mid ≡ after_finish s → IsFound mid new sets now said
@@ -152,13 +146,11 @@ front_full unread left bytes s sets i full = record {
 
 pub unread_on : (unread left left' : Option (List ℕ)) (bytes : List ℕ) (s : SplitterState) (sets : List SetUnit) (fault : RunFault) → IsLooking unread left bytes s sets → Keeps left left'
     → fault ≡ Read → NoFront fault unread left'
-unread_on unread left left' bytes s sets fault i kept is =
-    subst (λ f. NoFront f unread left') (sym is) (bytes, Consumes-kept unread left left' bytes i.consumed kept, i.none)
+unread_on unread left left' bytes s sets fault i kept is = rw is (bytes, Consumes-kept unread left left' bytes i.consumed kept, i.none)
 
 pub no_memory : (unread left left' : Option (List ℕ)) (bytes : List ℕ) (s : SplitterState) (sets : List SetUnit) (piece : List ℕ) (fault : RunFault) → IsLooking unread left bytes s sets → Consumes left left' piece
     → fault ≡ Memory → NoFront fault unread left'
-no_memory unread left left' bytes s sets piece fault i more is =
-    subst (λ f. NoFront f unread left') (sym is) (bytes ++ piece, Consumes-trans unread left left' bytes piece i.consumed more)
+no_memory unread left left' bytes s sets piece fault i more is = rw is (bytes ++ piece, Consumes-trans unread left left' bytes piece i.consumed more)
 
 -- ---- what is decoded behind the front
 
@@ -170,9 +162,7 @@ of_none : (f : Format) (output : Output) (u left held holds : Option (List ℕ))
 of_none f output u left held holds (Ok report) (bytes, all, read, wrote, told, wanted) = (bytes, all, read_of_none u left bytes all read, wrote, told, wanted)
 of_none f output u left held holds (Err Read) (bytes, read, rest) = (bytes, read_of_none u left bytes false read, rest)
 of_none f output u left held holds (Err Endless) (bytes, read, wrote, many) = (bytes, read_of_none u left bytes false read, wrote, many)
-of_none f output u left held holds (Err Write) (bytes, all, read, rest) = (bytes, all, read_of_none u left bytes all read, rest)
-of_none f output u left held holds (Err Memory) (bytes, all, read, rest) = (bytes, all, read_of_none u left bytes all read, rest)
-of_none f output u left held holds (Err Size) (bytes, all, read, rest) = (bytes, all, read_of_none u left bytes all read, rest)
+of_none f output u left held holds (Err _) (bytes, all, read, rest) = (bytes, all, read_of_none u left bytes all read, rest)
 
 pub behind_front : (f : Format) (output : Output) (unread middle left held holds : Option (List ℕ)) (front : List ℕ) (r : Result Report RunFault) → Consumes unread middle front
     → DecodesAs f output (prepend_known front middle) left held holds r → DecodesAs f output unread left held holds r

@@ -1,5 +1,5 @@
 -- Residual blocks read from their bits.
-use Rattle.std.proofs.Common.{◌≡◌, ◌≢◌, ℕ, zero, suc, ◌+◌, ◌-◌, ◌*◌, ◌/◌, ◌%◌, ◌<◌, ◌≤◌, ◌<ℤ◌, ℤ, pos, negsuc, neg_ℤ, nat_abs, List, [], ◌∷◌, ◌++◌, length, take, drop, reverse, Bool, true, false, refl, ap, subst, ◌∙◌, sym, arith, inl, inr, append_assoc, append-nil, length-append}
+use Rattle.std.proofs.Common.{◌≡◌, ◌≢◌, ℕ, zero, suc, ◌+◌, ◌-◌, ◌<◌, ◌≤◌, ◌<ℤ◌, ℤ, pos, negsuc, neg_ℤ, nat_abs, List, [], ◌∷◌, ◌++◌, length, take, drop, reverse, Bool, true, false, refl, ap, subst, ◌∙◌, sym, arith, inl, inr, append_assoc, append-nil, length-append}
 use Rattle.std.specs.Prelude.{Option, Some, None, ◌==◌, ◌||◌, if◌then◌else◌, int_lt, nat_lt, replicate}
 use Rattle.std.specs.Option.{is_some}
 use Rattle.std.specs.List.{flat_map, sum, zip}
@@ -19,6 +19,7 @@ use Rattle.avc_make.specs.VuiWriting.{Each}
 use Rattle.avc_make.proofs.BlockPutting.{IsNonzero, coded_size, coded_some, each_drop, ones_few, ones_within, sum-cons, zeros_there}
 use Rattle.avc_make.proofs.LevelWords.{prefix_is}
 use Rattle.avc_make.proofs.ReadingBack.{GivesBack, with_value, with_word, back-bind, back-check, back-flag, back-give, back-last, back-u, back-zeros, reads_back}
+use Rattle.std.proofs.lemmas.Int.{ints}
 
 -- a codeword of a table
 word_back : {A : Type 0} {value : A} (part : Read A) (o : Option (List Bool)) → is_some o ≡ true → ((word : List Bool) → o ≡ Some word → IsReadBack part word value) → GivesBack part (or_none o) value
@@ -44,24 +45,7 @@ back-ones (suc most) (l ∷ values) = elim (cases_eq (nat_abs l) 1) [
 ]
 
 level_back : (above_one : Bool) (l : ℤ) → IsNonzero l → (above_one ≡ true → 2 ≤ nat_abs l) → level_of_code (code_of_level above_one l + (if above_one then 2 else 0)) ≡ l
-level_back true (pos n) some above =
-    let two : 2 ≤ n = above refl in
-    let even : (2 * n - 2 - 2 + 2) % 2 ≡ 0 = omega arith in
-    let half : (2 * n - 2 - 2 + 2 + 2) / 2 ≡ n = omega arith in
-    rw (even, half) refl
-level_back false (pos n) some above =
-    let even : (2 * n - 2 - 0 + 0) % 2 ≡ 0 = omega (arith, some) in
-    let half : (2 * n - 2 - 0 + 0 + 2) / 2 ≡ n = omega (arith, some) in
-    rw (even, half) refl
-level_back true (negsuc n) some above =
-    let two : 2 ≤ suc n = above refl in
-    let odd : (2 * n + 1 - 2 + 2) % 2 ≡ 1 = omega arith in
-    let half : (2 * n + 1 - 2 + 2 + 1) / 2 ≡ suc n = omega arith in
-    rw (odd, half) refl
-level_back false (negsuc n) some above =
-    let odd : (2 * n + 1 - 0 + 0) % 2 ≡ 1 = omega arith in
-    let half : (2 * n + 1 - 0 + 0 + 1) / 2 ≡ suc n = omega arith in
-    rw (odd, half) refl
+level_back above_one l some above = grind (arith, nat_tests)
 
 back-level : (sl : ℕ) (above_one : Bool) (l : ℤ) → IsCode sl (code_of_level above_one l) → IsNonzero l → (above_one ≡ true → 2 ≤ nat_abs l) → GivesBack (level sl above_one) (level_bits sl (code_of_level above_one l)) l
 back-level sl above_one l is some above =
@@ -70,7 +54,7 @@ back-level sl above_one l is some above =
     let p = prefix_is sl code is in
     let same : level_code prefix sl (code - least_code sl prefix) above_one ≡ code + (if above_one then 2 else 0) = omega (arith, p.least) in
     let value : level_of_code (level_code prefix sl (code - least_code sl prefix) above_one) ≡ l = ap level_of_code same ∙ level_back above_one l some above in
-    let all = back-bind (λ k. u (suffix_size k sl) >>= λ s. give (level_of_code (level_code k sl s above_one))) (back-zeros faults.BadCode p.few) (back-last _ (back-u (suffix_size prefix sl) p.fits)) in
+    let all = back-bind (λ k. u (suffix_size k sl) >>= λ s. give (level_of_code (level_code k sl s above_one))) (back-zeros faults.BadCode p.few) (back-last _ (back-u (suffix_size prefix sl) (omega (arith, p.least, p.fits)))) in
     with_value value (with_word (append_assoc (replicate prefix false) (true ∷ []) (bits_of (suffix_size prefix sl) (code - least_code sl prefix))) all)
 
 -- the first level is known to be above 1 in size
@@ -79,8 +63,7 @@ IsAboveOne above_one [] = Unit {0}
 IsAboveOne above_one (l ∷ values) = above_one ≡ true → 2 ≤ nat_abs l
 
 not_above : (values : List ℤ) → IsAboveOne false values
-not_above [] = tt
-not_above (l ∷ values) = λ e. cc
+not_above values = grind arith
 
 back-levels : (sl : ℕ) (above_one : Bool) (values : List ℤ) → AreCodes sl above_one values → Each IsNonzero values → IsAboveOne above_one values →
     GivesBack (levels (length values) sl above_one) (levels_bits sl above_one values) values
@@ -150,8 +133,7 @@ abbrev all_after : List (ℤ × ℕ) → List ℤ
 all_after found = flat_map after found
 
 is_zero : (l : ℤ) → nat_abs l ≡ 0 → l ≡ pos 0
-is_zero (pos n) e = ap pos e
-is_zero (negsuc n) e = absurd (omega arith)
+is_zero l e = grind (arith, ints)
 
 replicate_more : (n : ℕ) (levels : List ℤ) → replicate (n + 1) (pos 0) ++ levels ≡ replicate n (pos 0) ++ pos 0 ∷ levels
 replicate_more zero levels = refl

@@ -1,10 +1,8 @@
 -- What reading says of a residual block: it can be written, and its bits are those that were read.
-use Rattle.std.proofs.Common.{◌≡◌, ◌≢◌, ℕ, zero, suc, ◌+◌, ◌-◌, ◌*◌, ◌/◌, ◌%◌, ◌^◌, ◌<◌, ◌≤◌, ℤ, pos, negsuc, neg_ℤ, nat_abs, nat_le, List, [], ◌∷◌, ◌++◌, length, map, take, drop, reverse, Bool, true, false, refl, ap, subst, ◌∙◌, sym, arith, inl, inr, append_assoc, append-nil, length-append}
+use Rattle.std.proofs.Common.{◌≡◌, ℕ, zero, suc, ◌+◌, ◌-◌, ◌^◌, ◌<◌, ◌≤◌, ℤ, pos, neg_ℤ, nat_abs, nat_le, List, [], ◌∷◌, ◌++◌, length, map, take, drop, reverse, Bool, true, false, refl, ap, subst, ◌∙◌, sym, arith, inl, inr, append_assoc, append-nil, length-append}
 use Rattle.std.specs.Prelude.{Option, Result, Ok, Err, ◌==◌, ◌||◌, if◌then◌else◌, int_lt, nat_lt, replicate}
 use Rattle.std.specs.List.{flat_map, sum, zip}
-use Rattle.std.proofs.lemmas.Bool.{cases_eq, cases_lt, eq-eqb, ne_eqb, lt-ltb, le-ltb}
-use Rattle.std.proofs.Math.Nat.{div-lt_iff_lt-mul}
-use Rattle.std.proofs.lemmas.Nat.{div-mul-add, pow_pos}
+use Rattle.std.proofs.lemmas.Bool.{cases_lt, eq-eqb, ne_eqb, lt-ltb, le-ltb}
 use Rattle.avc_types.specs.declared.fault.Fault.{Fault}
 use Rattle.avc_types.specs.declared.fault.Fault.TheVariants as faults
 use Rattle.avc_bits.specs.Bits.{Bits, Read, ◌>>=◌, ◌>>◌, bits_of, check, give, or_none, times}
@@ -22,11 +20,15 @@ use Rattle.avc_vlc.proofs.Codes.{table_read}
 use Rattle.avc_vlc.proofs.Values.{all_in, is_token, token_tested, tokens_tested}
 use Rattle.avc_vlc.proofs.OwnWords.{run_own, token_own, zeros_own}
 use Rattle.avc_make.specs.Words.{joined}
-use Rattle.avc_make.specs.BlockWriting.{AreCodes, BlocksAreWritable, IsWritable, block_bits, IsCode, after_zeros, code_of_level, coded, first_length, least_code, level_bits, levels_bits, ones_first, prefix_of, run_bits, runs_bits, runs_of, sign_bits, values_of, zeros_bits}
+use Rattle.avc_make.specs.BlockWriting.{AreCodes, BlocksAreWritable, IsWritable, block_bits, IsCode, after_zeros, code_of_level, coded, first_length, least_code, level_bits, levels_bits, ones_first, run_bits, runs_bits, sign_bits, zeros_bits}
 use Rattle.avc_make.specs.VuiWriting.{Each}
 use Rattle.avc_make.proofs.BlockPutting.{IsNonzero, each_reverse, sum-cons}
 use Rattle.avc_make.proofs.BlockBack.{IsAboveOne}
-use Rattle.avc_make.proofs.LevelWords.{least_last, least_plain, size_plain}
+use Rattle.avc_make.proofs.LevelWords.{IsPrefix, only_prefix, prefix_code}
+use Rattle.std.proofs.lemmas.Slice.Zip.{firsts-zip, seconds-zip}
+use Rattle.std.proofs.lemmas.Bool.Decides.{nat_tests}
+use Rattle.std.proofs.lemmas.Int.{ints}
+use Rattle.avc_make.proofs.Cutting.{bit_read}
 
 -- ---- what a part reads
 
@@ -40,7 +42,7 @@ record Took {A : Type 0} (part : Read A) (Of : A → List Bool → Type 0) : Typ
   pub took : (b left : Bits) (x : A) → part b ≡ Ok (x, left) → TookWord Of b left x
 
 given : {A : Type 0} (x y : A) (b left : Bits) → give x b ≡ Ok (y, left) → (x ≡ y) × (b ≡ left)
-given x y b left is = (ap (λ r. elim r [ Ok p ↦ p.0 | Err f ↦ x ]) is, ap (λ r. elim r [ Ok p ↦ p.1 | Err f ↦ b ]) is)
+given x y b left is = grind arith
 
 took-give : {A : Type 0} {Of : A → List Bool → Type 0} (x : A) → Of x [] → Took (give x) Of
 took-give {A} {Of} x of = record {
@@ -82,13 +84,11 @@ took-own word own = record {
 took-u : (n : ℕ) → Took (u n) (λ v w. (v < 2 ^ n) × (w ≡ bits_of n v))
 took-u n = took-code (IsU n) faults.BadCode (u_reads n faults.BadCode)
 
-flag_took : (position : ℕ) (ahead : List Bool) (left : Bits) (v : Bool) → flag (record { position = position; ahead = ahead }) ≡ Ok (v, left) → ahead ≡ v ∷ left.ahead
-flag_took position [] left v is = cc
-flag_took position (true ∷ bits) left v is = let same = given true v (record { position = position + 1; ahead = bits }) left is in ap (λ c. c ∷ bits) same.0 ∙ ap (λ c. v ∷ c.ahead) same.1
-flag_took position (false ∷ bits) left v is = let same = given false v (record { position = position + 1; ahead = bits }) left is in ap (λ c. c ∷ bits) same.0 ∙ ap (λ c. v ∷ c.ahead) same.1
-
 took-flag : Took flag (λ v w. w ≡ v ∷ [])
-took-flag = record { took = λ b left v is. record { word = v ∷ []; is = refl; ahead = flag_took b.position b.ahead left v is } }
+took-flag = record { took = λ b left v is. record { word = v ∷ []; is = refl; ahead = bit_read b left v is } }
+
+pair_is : {A B : Type 0} (x y : A) (a b : B) → ◌≡◌ {A = Result (A × B) Fault} (Ok (x, a)) (Ok (y, b)) → (x ≡ y) × (a ≡ b)
+pair_is x y a b is = grind arith
 
 -- zeros and a 1
 record TookZeros (limit seen n : ℕ) (bits rest : List Bool) : Type 0 where
@@ -100,8 +100,8 @@ record TookZeros (limit seen n : ℕ) (bits rest : List Bool) : Type 0 where
 zeros_took : (limit seen n : ℕ) (f : Fault) (bits rest : List Bool) → seen ≤ limit → zeros limit f seen bits ≡ Ok (n, rest) → TookZeros limit seen n bits rest
 zeros_took limit seen n f [] rest few is = cc
 zeros_took limit seen n f (true ∷ bits) rest few is =
-    let first : seen ≡ n = ap (λ r. elim r [ Ok p ↦ p.0 | Err f ↦ seen ]) is in
-    record { more = 0; sum = omega arith; few = omega arith; ahead = ap (λ r. true ∷ elim r [ Ok p ↦ p.1 | Err f ↦ bits ]) is }
+    let both = pair_is seen n bits rest is in
+    record { more = 0; sum = omega (arith, both.0); few = omega (arith, both.0); ahead = ap (λ r. true ∷ r) both.1 }
 zeros_took limit seen n f (false ∷ bits) rest few is = elim (cases_lt seen limit) [
   | inl below ↦
       let took = zeros_took limit (seen + 1) n f bits rest (omega arith) (rw (zeros, lt-ltb seen limit below) at is) in
@@ -116,8 +116,9 @@ prefix_took limit n f b left is = by_result (zeros limit f 0 b.ahead) refl is
         ◌≡◌ {A = Result (ℕ × Bits) Fault} (elim r [ Err g ↦ Err g | Ok p ↦ Ok (p.0, record { position = b.position + p.0 + 1; ahead = p.1 }) ]) (Ok (n, left)) → (n ≤ limit) × (b.ahead ≡ (replicate n false ++ true ∷ []) ++ left.ahead)
     by_result (Err g) e is = cc
     by_result (Ok p) e is =
-        let first : p.0 ≡ n = ap (λ r. elim r [ Ok q ↦ q.0 | Err g ↦ p.0 ]) is in
-        let second : p.1 ≡ left.ahead = ap (λ r. elim r [ Ok q ↦ q.1.ahead | Err g ↦ p.1 ]) is in
+        let both = pair_is p.0 n (record { position = b.position + p.0 + 1; ahead = p.1 }) left is in
+        let first = both.0 in
+        let second = ap (λ (c : Bits). c.ahead) both.1 in
         let took = zeros_took limit 0 p.0 f b.ahead p.1 (omega arith) e in
         let same : took.more ≡ n = omega (arith, took.sum) in (
           omega (arith, took.few),
@@ -135,8 +136,7 @@ abbrev IsOne : ℤ → Type 0
 IsOne l = nat_abs l ≡ 1
 
 sign_took : (negative : Bool) (l : ℤ) → (if negative then neg_ℤ (pos 1) else pos 1) ≡ l → IsOne l × (negative ≡ int_lt l (pos 0))
-sign_took true l is = (ap nat_abs (sym is), ap (λ v. int_lt v (pos 0)) is)
-sign_took false l is = (ap nat_abs (sym is), ap (λ v. int_lt v (pos 0)) is)
+sign_took negative l is = grind arith
 
 took-one : Took trailing_one (λ l w. IsOne l × (w ≡ int_lt l (pos 0) ∷ []))
 took-one = took-last (λ negative. if negative then neg_ℤ (pos 1) else pos 1) took-flag (λ negative w is. let sign = sign_took negative _ refl in (sign.0, is ∙ ap (λ s. s ∷ []) sign.1))
@@ -154,87 +154,14 @@ took-ones zero = took-give [] (record { count = refl; ones = tt; is_word = refl 
 took-ones (suc n) = took-bind _ took-one (λ l w one. took-last _ (took-ones n) (λ ls w' others.
     record { count = ap (λ k. suc k) others.count; ones = (one.0, others.ones); is_word = ap (λ t. t ++ w') one.1 ∙ ap (λ t. int_lt l (pos 0) ∷ t) others.is_word }))
 
--- the levelCode of a prefix and a suffix
-record IsCodeOf (sl prefix code : ℕ) : Type 0 where
-  pub is_code : IsCode sl code
-  pub is_prefix : prefix_of sl code ≡ prefix
-
-first_code : (prefix suffix : ℕ) → prefix < 14 → suffix < 2 ^ suffix_size prefix 0 → IsCodeOf 0 prefix (least_code 0 prefix + suffix)
-first_code prefix suffix few small =
-    let least = least_plain prefix 0 (omega arith) in
-    let size = size_plain prefix 0 (omega arith) (inl (omega arith)) in
-    let same : least_code 0 prefix + suffix ≡ prefix = omega (arith, least, small, ap (λ n. 2 ^ n) size) in
-    let test = lt-ltb prefix 14 few in
-    rw same (record { is_code = omega arith; is_prefix = rw test refl })
-
-fourteen_code : (suffix : ℕ) → suffix < 16 → IsCodeOf 0 14 (least_code 0 14 + suffix)
-fourteen_code suffix small =
-    let code = least_code 0 14 + suffix in
-    record { is_code = omega arith; is_prefix = rw (le-ltb code 14 (omega arith), lt-ltb code 30 (omega arith)) refl }
-
-fifteen_code : (suffix : ℕ) → suffix < 4096 → IsCodeOf 0 15 (least_code 0 15 + suffix)
-fifteen_code suffix small =
-    let code = least_code 0 15 + suffix in
-    record { is_code = omega arith; is_prefix = rw (le-ltb code 14 (omega arith), le-ltb code 30 (omega arith)) refl }
-
-later_prefix : (sl code : ℕ) → sl ≢ 0 → prefix_of sl code ≡ (if nat_lt code (15 * 2 ^ sl) then code / 2 ^ sl else 15)
-later_prefix sl code some = rw (ne_eqb sl 0 some) refl
-
-plain_code : (sl prefix suffix : ℕ) → sl ≢ 0 → prefix < 15 → suffix < 2 ^ suffix_size prefix sl → IsCodeOf sl prefix (least_code sl prefix + suffix)
-plain_code sl prefix suffix some few small =
-    let power = 2 ^ sl in
-    let positive : 0 < power = pow_pos sl in
-    let other : prefix ≢ 15 = omega arith in
-    let least : least_code sl prefix ≡ prefix * power = least_plain prefix sl other in
-    let size : 2 ^ suffix_size prefix sl ≡ power = ap (λ n. 2 ^ n) (size_plain prefix sl other (inr some)) in
-    let code = least_code sl prefix + suffix in
-    let rest : suffix < power = omega (arith, size, small) in
-    let sum : code ≡ prefix * power + suffix = omega (arith, least) in
-    let quotient : code / power ≡ prefix = ap (λ n. n / power) sum ∙ div-mul-add prefix power suffix rest in
-    let below : code < 15 * power = (div-lt_iff_lt-mul {k = power} {x = code} {y = 15} positive).0 (omega (arith, quotient)) in
-    record { is_code = omega (arith, least_last sl some); is_prefix = later_prefix sl code some ∙ rw (lt-ltb code (15 * power) below) quotient }
-
-last_code : (sl suffix : ℕ) → sl ≢ 0 → suffix < 4096 → IsCodeOf sl 15 (least_code sl 15 + suffix)
-last_code sl suffix some small =
-    let code = least_code sl 15 + suffix in
-    record { is_code = omega arith; is_prefix = later_prefix sl code some ∙ rw (le-ltb code (15 * 2 ^ sl) (omega (arith, least_last sl some))) refl }
-
-code_is : (sl prefix suffix : ℕ) → prefix ≤ 15 → suffix < 2 ^ suffix_size prefix sl → IsCodeOf sl prefix (least_code sl prefix + suffix)
-code_is sl prefix suffix most small = elim (cases_eq sl 0) [
-  | inl none ↦ elim (cases_lt prefix 14) [
-    | inl few ↦ rw none (first_code prefix suffix few (rw none at small))
-    | inr more ↦ elim (cases_eq prefix 14) [
-      | inl same ↦ rw (none, same) (fourteen_code suffix (rw (none, same) at small))
-      | inr other ↦ let same : prefix ≡ 15 = omega arith in rw (none, same) (fifteen_code suffix (rw (none, same) at small))
-    ]
-  ]
-  | inr some ↦ elim (cases_lt prefix 15) [
-    | inl few ↦ plain_code sl prefix suffix some few small
-    | inr last ↦ let same : prefix ≡ 15 = omega arith in rw same (last_code sl suffix some (rw same at small))
-  ]
-]
-
 -- what a levelCode stands for
 record IsValue (above_one : Bool) (code : ℕ) (l : ℤ) : Type 0 where
   pub back : code_of_level above_one l ≡ code
   pub some : IsNonzero l
   pub above : above_one ≡ true → 2 ≤ nat_abs l
 
-even_value : (above_one : Bool) (code all : ℕ) → all ≡ code + (if above_one then 2 else 0) → all % 2 ≡ 0 → IsValue above_one code (pos ((all + 2) / 2))
-even_value true code all is even = record { back = omega (arith, is); some = omega arith; above = λ _. omega (arith, is) }
-even_value false code all is even = record { back = omega (arith, is); some = omega arith; above = λ e. cc }
-
-odd_value : (above_one : Bool) (code all m : ℕ) → all ≡ code + (if above_one then 2 else 0) → all ≡ 2 * m + 1 → IsValue above_one code (negsuc m)
-odd_value true code all m is odd = record { back = omega (arith, is); some = omega arith; above = λ _. omega (arith, is) }
-odd_value false code all m is odd = record { back = omega (arith, is); some = omega arith; above = λ e. cc }
-
 value_is : (above_one : Bool) (code all : ℕ) → all ≡ code + (if above_one then 2 else 0) → IsValue above_one code (level_of_code all)
-value_is above_one code all is = elim (cases_eq (all % 2) 0) [
-  | inl even ↦ rw (eq-eqb (all % 2) 0 even) (even_value above_one code all is even)
-  | inr other ↦
-      let half : (all + 1) / 2 ≡ suc (all / 2) = omega arith in
-      rw (ne_eqb (all % 2) 0 other, half) (odd_value above_one code all (all / 2) is (omega arith))
-]
+value_is above_one code all is = grind (arith, nat_tests, ints)
 
 record IsLevelWord (sl : ℕ) (above_one : Bool) (l : ℤ) (word : List Bool) : Type 0 where
   code : IsCode sl (code_of_level above_one l)
@@ -247,14 +174,14 @@ level_took : (sl prefix suffix : ℕ) (above_one : Bool) (w w' : List Bool) → 
 level_took sl prefix suffix above_one w w' first second =
     let code = least_code sl prefix + suffix in
     let size = suffix_size prefix sl in
-    let is = code_is sl prefix suffix first.0 second.0 in
+    let is : IsPrefix sl code prefix = record { few = first.0; least = omega arith; fits = omega (arith, second.0) } in
     let value = value_is above_one code (level_code prefix sl suffix above_one) (omega arith) in
     let back = value.back in
-    let is_prefix = is.is_prefix in
+    let is_prefix = only_prefix sl code prefix is in
     let rest : code - least_code sl prefix ≡ suffix = omega arith in
     let word : level_bits sl code ≡ replicate prefix false ++ true ∷ bits_of size suffix = rw (is_prefix, rest) refl in
     record {
-      code = rw back (is.is_code);
+      code = rw back (prefix_code sl code prefix is);
       some = value.some;
       above = value.above;
       is_word = rw back (ap (λ t. t ++ w') first.1 ∙ ap (λ t. (replicate prefix false ++ true ∷ []) ++ t) second.1 ∙ append_assoc (replicate prefix false) (true ∷ []) (bits_of size suffix) ∙ sym word);
@@ -361,39 +288,23 @@ took-runs (suc n) zeros_left = took-bind _ (took-run n zeros_left) (λ z w one. 
 -- ---- places
 
 zeros_on : (n count : ℕ) (levels : List ℤ) → after_zeros count (replicate n (pos 0) ++ levels) ≡ after_zeros (count + n) levels
-zeros_on zero count levels = let same : count ≡ count + 0 = omega arith in ap (λ k. after_zeros k levels) same
-zeros_on (suc n) count levels = let same : count + 1 + n ≡ count + suc n = omega arith in zeros_on n (count + 1) levels ∙ ap (λ k. after_zeros k levels) same
+zeros_on zero count levels = ap (λ k. after_zeros k levels) (omega arith)
+zeros_on (suc n) count levels = zeros_on n (count + 1) levels ∙ ap (λ k. after_zeros k levels) (omega arith)
 
 abbrev after : ℤ × ℕ → List ℤ
 after p = replicate p.1 (pos 0) ++ p.0 ∷ []
 
 found_back : (found : List (ℤ × ℕ)) (n : ℕ) → Each (λ p. IsNonzero p.0) found → after_zeros 0 (flat_map after found ++ replicate n (pos 0)) ≡ found
-found_back [] n each = ap (after_zeros 0) (sym (append-nil (replicate n (pos 0)))) ∙ zeros_on n 0 []
+found_back [] n each = rw (← (append-nil (replicate n (pos 0)))) (zeros_on n 0 [])
 found_back (p ∷ found) n each =
-    let rest = flat_map after found ++ replicate n (pos 0) in
-    let same : 0 + p.1 ≡ p.1 = omega arith in
     let some : (nat_abs p.0 == 0) ≡ false = ne_eqb (nat_abs p.0) 0 (omega (arith, each.0)) in
-    ap (after_zeros 0) (append_assoc (after p) (flat_map after found) (replicate n (pos 0)) ∙ append_assoc (replicate p.1 (pos 0)) (p.0 ∷ []) rest)
-    ∙ zeros_on p.1 0 (p.0 ∷ rest)
-    ∙ ap (λ k. after_zeros k (p.0 ∷ rest)) same
-    ∙ ap (λ t. if t then after_zeros (p.1 + 1) rest else (p.0, p.1) ∷ after_zeros 0 rest) some
-    ∙ ap (λ f. p ∷ f) (found_back found n each.1)
+    let same : 0 + p.1 ≡ p.1 = omega arith in
+    simp (append_assoc, zeros_on, same, some, found_back found n each.1)
 
 each_zip : (values : List ℤ) (zero_runs : List ℕ) → Each IsNonzero values → Each (λ p. IsNonzero p.0) (zip values zero_runs)
 each_zip [] zero_runs each = tt
 each_zip (l ∷ values) [] each = tt
 each_zip (l ∷ values) (z ∷ zero_runs) each = (each.0, each_zip values zero_runs each.1)
-
-zip_values : (values : List ℤ) (zero_runs : List ℕ) → length values ≡ length zero_runs → values_of (zip values zero_runs) ≡ values
-zip_values [] zero_runs same = refl
-zip_values (l ∷ values) [] same = absurd (omega arith)
-zip_values (l ∷ values) (z ∷ zero_runs) same = ap (λ t. l ∷ t) (zip_values values zero_runs (omega arith))
-
-zip_runs : (values : List ℤ) (zero_runs : List ℕ) → length values ≡ length zero_runs → runs_of (zip values zero_runs) ≡ zero_runs
-zip_runs [] [] same = refl
-zip_runs [] (z ∷ zero_runs) same = absurd (omega arith)
-zip_runs (l ∷ values) [] same = absurd (omega arith)
-zip_runs (l ∷ values) (z ∷ zero_runs) same = ap (λ t. z ∷ t) (zip_runs values zero_runs (omega arith))
 
 coded_placed : (most : ℕ) (values : List ℤ) (zero_runs : List ℕ) → Each IsNonzero values → coded (placed most values zero_runs) ≡ zip values zero_runs
 coded_placed most values zero_runs each =
@@ -432,10 +343,10 @@ bits_by most nc total ones n values zero_runs =
 block_took : (most total ones n : ℕ) (nc : ℤ) (values : List ℤ) (zero_runs : List ℕ) (wt wv wz wr : List Bool) → wt ≡ or_none (token_word nc (token total ones)) → AreValues total ones values wv
     → wz ≡ zeros_bits most total n → (total ≡ 0 → n ≡ 0) → AreRuns total n zero_runs wr → IsBlockWord most nc (placed most values zero_runs) (wt ++ (wv ++ (wz ++ wr)))
 block_took most total ones n nc values zero_runs wt wv wz wr is_token v is_zeros none r =
-    let same : length values ≡ length zero_runs = omega (arith, v.count, r.count) in
+    let same : length zero_runs ≡ length values = omega (arith, v.count, r.count) in
     let found : coded (placed most values zero_runs) ≡ zip values zero_runs = coded_placed most values zero_runs v.some in
-    let is_values = zip_values values zero_runs same in
-    let is_runs = zip_runs values zero_runs same in
+    let is_values = firsts-zip values zero_runs same in
+    let is_runs = seconds-zip values zero_runs same in
     let is_total : length (zip values zero_runs) ≡ total = sym (length-map (zip values zero_runs) (λ c. c.0)) ∙ ap length is_values ∙ v.count in
     let is_ones = v.trailing in
     let is_sum = r.total none in

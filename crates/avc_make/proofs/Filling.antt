@@ -33,15 +33,6 @@ seam a b c d same le =
 one_byte : (x : ℕ) → byte_bits (x ∷ []) ≡ bits_of 8 x
 one_byte x = append-nil (bits_of 8 x)
 
--- a new byte
-pub filled_new : (bytes : List ℕ) (bits : List Bool) (x : ℕ) (bit : Bool) → IsFilled bytes bits 0 → bits_of 8 x ≡ bit ∷ replicate 7 false → IsFilled (bytes ++ x ∷ []) (bits ++ bit ∷ []) 7
-filled_new bytes bits x bit is byte =
-    let before : byte_bits bytes ≡ bits = is.filled ∙ append-nil bits in
-    record {
-      few = omega arith;
-      filled = byte_bits-append bytes (x ∷ []) ∙ ap (λ t. byte_bits bytes ++ t) (one_byte x ∙ byte) ∙ ap (λ t. t ++ bit ∷ replicate 7 false) before ∙ sym (append_assoc bits (bit ∷ []) (replicate 7 false));
-    }
-
 -- the next bit of the last byte
 pub filled_more : (rest : List ℕ) (last x k : ℕ) (bits : List Bool) (bit : Bool) → IsFilled (rest ++ last ∷ []) bits (suc k)
     → ((front : List Bool) → bits_of 8 last ≡ front ++ false ∷ replicate k false → bits_of 8 x ≡ front ++ bit ∷ replicate k false) → IsFilled (rest ++ x ∷ []) (bits ++ bit ∷ []) k

@@ -33,7 +33,6 @@ use Rattle.avc_slice.specs.declared.header.CodedOrder.TheVariants.{Type0, Type1,
 use Rattle.avc_slice.specs.declared.header.Deblocking.{Deblocking}
 use Rattle.avc_slice.specs.declared.header.Header.{Header}
 use Rattle.avc_slice.specs.declared.header.SliceType.{SliceType}
-use Rattle.avc_slice.specs.declared.header.SliceType.TheVariants as slice_types
 use Rattle.avc_slice.specs.declared.parts.Filtering.{Filtering}
 use Rattle.avc_slice.specs.declared.parts.Front.{Front}
 use Rattle.avc_slice.specs.declared.parts.ListPart.{ListPart}
@@ -60,25 +59,11 @@ found_in None f = refuse f
 back-found : {A : Type 0} {o : Option A} {x : A} (f : Fault) → o ≡ Some x → GivesBack (found_in o f) [] x
 back-found f is = rw is back-give
 
-type_found : (t : SliceType) → slice_type_of (slice_type_number t) ≡ Some t
-type_found slice_types.P = refl
-type_found slice_types.I = refl
-type_found slice_types.AllP = refl
-type_found slice_types.AllI = refl
-
-type_few : (t : SliceType) → slice_type_number t ≤ 9
-type_few slice_types.P = omega arith
-type_few slice_types.I = omega arith
-type_few slice_types.AllP = omega arith
-type_few slice_types.AllI = omega arith
-
-neither : (a b : Bool) → not a ≡ true → b ≡ false → not (a || b) ≡ true
-neither true b some none = cc
-neither false b some none = rw none refl
+type_found : (t : SliceType) → (slice_type_of (slice_type_number t) ≡ Some t) × (slice_type_number t ≤ 9)
+type_found t = grind arith
 
 idr_passes : (h : Header) (o : Option ℕ) → IfSome o (IsIdr h) → not (is_some o && (h.nal_ref_idc == 0 || is_p_type h.slice_type)) ≡ true
-idr_passes h None is = refl
-idr_passes h (Some id) is = neither (h.nal_ref_idc == 0) (is_p_type h.slice_type) is.reference is.i
+idr_passes h o is = grind (arith, nat_tests)
 
 abbrev front_in : Header → Front
 front_in h = record { first_mb_in_slice = h.first_mb_in_slice; slice_type = h.slice_type; pic_parameter_set_id = h.pic_parameter_set_id }
@@ -87,8 +72,8 @@ back-front : (sps : Sps) (pps : Pps) (h : Header) → IsHeader sps pps h → Giv
 back-front sps pps h is =
     let small : h.first_mb_in_slice < 4294967295 = omega (arith, is.first, is.sps_within.size) in
     let few : h.pic_parameter_set_id ≤ 255 = omega (arith, is.pps_id, is.pps_within.id) in
-    let type_known = back-found faults.SliceType (type_found h.slice_type) in
-    back-bind _ (back-ue small) (back-bind _ (back-ue_to 9 refl (type_few h.slice_type)) (back-bind _ type_known
+    let type_known = back-found faults.SliceType (type_found h.slice_type).0 in
+    back-bind _ (back-ue small) (back-bind _ (back-ue_to 9 refl (type_found h.slice_type).1) (back-bind _ type_known
     (back-bind _ (back-check _ (idr_passes h h.idr_pic_id is.idr)) (back-last _ (back-ue_to 255 refl few)))))
 
 -- ---- order counts
@@ -102,18 +87,12 @@ back-coded_order (orders.Type0 log2) present (Type0 lsb bottom) is = back-bind _
 back-coded_order (orders.Type1 zero_flag non_ref top_to_bottom offsets) present (Type1 delta_0 delta_1) is =
     back-bind _ (back-se_where (not zero_flag) is.0) (back-last (λ d. Type1 delta_0 d) (back-se_where (not zero_flag && present) is.1))
 back-coded_order orders.Type2 present Type2 is = back-give
-back-coded_order (orders.Type0 log2) present (Type1 a b) is = absurd is
-back-coded_order (orders.Type0 log2) present Type2 is = absurd is
-back-coded_order (orders.Type1 zero_flag non_ref top_to_bottom offsets) present (Type0 a b) is = absurd is
-back-coded_order (orders.Type1 zero_flag non_ref top_to_bottom offsets) present Type2 is = absurd is
-back-coded_order orders.Type2 present (Type0 a b) is = absurd is
-back-coded_order orders.Type2 present (Type1 a b) is = absurd is
+back-coded_order _ present _ is = absurd is
 
 -- ---- what tells the slice's picture from others
 
 idr_frame_num : (h : Header) (o : Option ℕ) → IfSome o (IsIdr h) → not (is_some o && not (h.frame_num == 0)) ≡ true
-idr_frame_num h None is = refl
-idr_frame_num h (Some id) is = rw (is.frame_num) refl
+idr_frame_num h o is = grind (arith, nat_tests)
 
 back-id : (h : Header) → GivesEach (ue_to 65535) ue_word (IsIdr h)
 back-id h = record { each = λ id is. back-ue_to 65535 refl is.id }
@@ -286,12 +265,7 @@ at-back rest position total sps pps h is sum =
 
 -- nal_ref_idc and whether the type is 5, in the first byte
 first_byte : (ref : ℕ) (idr : Bool) → ref < 4 → ((32 * ref + (if idr then 5 else 1)) / 32 % 4 ≡ ref) × (((32 * ref + (if idr then 5 else 1)) % 32 == 5) ≡ idr)
-first_byte ref true few =
-    let low : (32 * ref + 5) % 32 ≡ 5 = omega arith in
-    (omega (arith, few), rw low refl)
-first_byte ref false few =
-    let low : (32 * ref + 1) % 32 ≡ 1 = omega arith in
-    (omega (arith, few), rw low refl)
+first_byte ref idr few = grind (arith, nat_tests)
 
 at-slice_header : (rest : List Bool) (sets : Sets) (sps : Sps) (pps : Pps) (h : Header) → AreInForce sets sps pps → IsHeader sps pps h →
     ReadsAt 0 rest (header_bits sps pps h) (slice_header h.nal_ref_idc (is_idr h) sets) (placed_header sps pps h)

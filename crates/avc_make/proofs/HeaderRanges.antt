@@ -1,7 +1,6 @@
 -- The numbers of a header that can be written are within their codes.
 use Rattle.std.proofs.Common.{ℕ, ◌≤◌, List, [], ◌∷◌, Bool, true, false, Option, Some, None, IfSome, sym, subst, arith}
 use Rattle.avc_types.specs.declared.references.Modification.{Modification}
-use Rattle.avc_types.specs.declared.references.Modification.TheVariants.{Subtract, Add, LongTerm}
 use Rattle.avc_params.specs.Limits.{max_frame_num}
 use Rattle.avc_params.specs.Within.{IsSps}
 use Rattle.avc_params.specs.declared.pps.Pps.{Pps}
@@ -15,9 +14,7 @@ use Rattle.avc_make.specs.VuiWriting.{Each}
 use Rattle.avc_make.proofs.HeaderBack.{max_frame_num_few}
 
 modification_small : (n : ℕ) → n ≤ 65536 → (m : Modification) → IsModification n m → IsModification 65536 m
-modification_small n few (Subtract v) is = omega (arith, few, is)
-modification_small n few (Add v) is = omega (arith, few, is)
-modification_small n few (LongTerm v) is = is
+modification_small n few m is = grind arith
 
 each_small : (n : ℕ) → n ≤ 65536 → (list : List Modification) → Each (IsModification n) list → Each (IsModification 65536) list
 each_small n few [] all = tt
@@ -32,8 +29,7 @@ list_small true sps pps h within is = some_small (max_frame_num sps) (active_cou
 list_small false sps pps h within is = subst (λ o. IfSome o (Each (IsModification 65536))) (sym is.list) tt
 
 weights_where : (p : Bool) (sps : Sps) (pps : Pps) (h : Header) → IsListWhere p sps pps h → IfSome h.pred_weight_table (IsPredWeightTable h.active_count)
-weights_where true sps pps h is = is.weights
-weights_where false sps pps h is = subst (λ o. IfSome o (IsPredWeightTable h.active_count)) (sym is.weights) tt
+weights_where p sps pps h is = grind arith
 
 pub weights_small : (sps : Sps) (pps : Pps) (h : Header) → IsHeader sps pps h → IfSome h.pred_weight_table (IsPredWeightTable h.active_count)
 weights_small sps pps h is = weights_where (is_p h) sps pps h is.list

@@ -1,8 +1,8 @@
 -- Macroblocks read from their bits.
-use Rattle.std.proofs.Common.{◌≡◌, ℕ, zero, suc, ◌+◌, ◌-◌, ◌*◌, ◌/◌, ◌%◌, ◌<◌, ◌≤◌, nat_le, nat_lt, List, [], ◌∷◌, ◌++◌, length, Bool, true, false, refl, ap, ◌∙◌, sym, subst, arith, append_assoc, append-nil, map, ℤ, pos, negsuc, ◌<ℤ◌, Some, None}
+use Rattle.std.proofs.Common.{◌≡◌, ℕ, zero, suc, ◌+◌, ◌-◌, ◌*◌, ◌/◌, ◌%◌, ◌<◌, ◌≤◌, nat_le, nat_lt, List, [], ◌∷◌, ◌++◌, length, Bool, true, false, refl, ◌∙◌, sym, subst, arith, append_assoc, append-nil, map, ℤ, pos, negsuc, ◌<ℤ◌, Some, None}
 use Rattle.std.proofs.Common.{◌≤ℤ◌, ◌&&◌, inl, inr}
 use Rattle.std.proofs.lemmas.Int.{ints}
-use Rattle.std.proofs.lemmas.Bool.{cases_eq, eqb-true, false≢true, le-leb, lt-ltb, le-ltb, ltb-true, ne_eqb}
+use Rattle.std.proofs.lemmas.Bool.{cases_eq, le-leb, lt-ltb, le-ltb, ltb-true, ne_eqb}
 use Rattle.std.proofs.lemmas.Bool.Decides.{nat_tests}
 use Rattle.std.proofs.lemmas.List.{length-replicate}
 use Rattle.avc_types.specs.declared.fault.Fault.TheVariants as faults
@@ -12,7 +12,6 @@ use Rattle.avc_types.specs.declared.macroblock.Mvd.{Mvd}
 use Rattle.avc_types.specs.declared.macroblock.PMbType.{PMbType}
 use Rattle.avc_types.specs.declared.macroblock.PMbType.TheVariants.{P16x16, P16x8, P8x16, P8x8, P8x8Ref0}
 use Rattle.avc_types.specs.declared.macroblock.SubMbType.{SubMbType}
-use Rattle.avc_types.specs.declared.macroblock.SubMbType.TheVariants.{Sub8x8, Sub8x4, Sub4x8, Sub4x4}
 use Rattle.avc_types.specs.Macroblock.{Residual, Mb, MbSyntax, p_skip, i_pcm, i_nxn, i_16x16, p_inter, total_coeff, parts_of, partitions}
 use Rattle.avc_bits.specs.Bits.{Read, ◌>>=◌, bits_of, byte_bits, give, refuse, times}
 use Rattle.avc_bits.specs.Codes.{align, skip, te_to, u, ue_to}
@@ -22,10 +21,10 @@ use Rattle.avc_mbsyntax.specs.Reading.{after_pattern, block_mode, block_where, b
 use Rattle.std.specs.Option.{option_map}
 use Rattle.avc_vlc.specs.Reading.{coded_block_pattern, pattern_at}
 use Rattle.avc_make.specs.MbWriting.{MbIsRead, type_16x16, AreSamples, HasQuarters, HasRanges, IsIPcm, IsMvd, IsPInter, IsRefIdx, has_ref_idx, i_pcm_bits, i_type, mb_bits, mvd_bits, p_inter_bits, p_mb_number, qp_of, ref_idx_bits, sub_mb_number, sub_mb_types_bits, zeros_to_byte, IsCodedMode, IsI16x16, IsINxN, IsPattern, i_16x16_bits, i_nxn_bits, mode_bits, pattern_number, pattern_of, qp_delta_bits, AreBlocks, IsBlock, IsChromaDc, IsResidual, bits_where_coded, block_words, blocks_bits, chroma_dc_bits, luma_max, residual_bits}
-use Rattle.avc_make.specs.VuiWriting.{Each}
 use Rattle.avc_make.specs.Words.{se_word, te_word, ue_word}
 use Rattle.avc_make.proofs.BlockBack.{back-block}
 use Rattle.avc_make.proofs.ReadingBack.{GivesBack, GivesEach, ReadsAt, at-bind, back-bind, back-bits, back-check, back-flag, back-give, back-last, back-se, back-se_within, back-te, back-then, back-times, back-u, back-ue, back-ue_to, with_value}
+use Rattle.avc_make.proofs.PuttingEach.{any_each}
 
 -- ---- residual
 
@@ -51,8 +50,7 @@ abbrev dc_nc : Context → ℕ
 dc_nc c = nc 16 (option_map (λ t. t.luma) c.left) (option_map (λ t. t.luma) c.up) [] 0
 
 luma_max_small : (with_dc : Bool) → luma_max with_dc ≤ 16
-luma_max_small true = omega arith
-luma_max_small false = omega arith
+luma_max_small with_dc = grind arith
 
 back-chroma_dc : (pattern : ℕ) (levels : List ℤ) → IsChromaDc pattern levels → GivesBack (chroma_dc pattern) (chroma_dc_bits pattern levels) levels
 back-chroma_dc zero levels is = rw is back-give
@@ -89,16 +87,10 @@ all_have_numbers false = refl
 
 is_number_true : (n : ℕ) (found : Option ℕ) → is_number n found ≡ true → found ≡ Some n
 unfolding is_number
-is_number_true n None is = absurd (false≢true is)
-is_number_true n (Some m) is = ap (λ k. Some k) (sym (eqb-true n m is))
+is_number_true n found is = grind (arith, nat_tests)
 
-and_first : (a b : Bool) → (a && b) ≡ true → a ≡ true
-and_first true b is = refl
-and_first false b is = absurd (false≢true is)
-
-and_second : (a b : Bool) → (a && b) ≡ true → b ≡ true
-and_second true b is = is
-and_second false b is = absurd (false≢true is)
+all_three : (a b c : Bool) → (a && b && c) ≡ true → (a ≡ true) × ((b ≡ true) × (c ≡ true))
+all_three a b c all = grind arith
 
 pub record HasNumber (intra : Bool) (n : ℕ) : Type 0 where
   pub place : pattern_at intra (pattern_number intra n) ≡ Some n
@@ -107,15 +99,9 @@ pub record HasNumber (intra : Bool) (n : ℕ) : Type 0 where
 -- the last of those below suc k, from which the others follow
 split_numbers : (intra : Bool) (k : ℕ) → has_numbers intra (suc k) ≡ true → (has_numbers intra k ≡ true) × HasNumber intra k
 split_numbers intra k all =
-    let found = is_number k (pattern_at intra (pattern_number intra k)) in
-    let fits = nat_lt (pattern_number intra k) 48 in
-    let both = and_first (has_numbers intra k && found) fits all in (
-      and_first (has_numbers intra k) found both,
-      record {
-        place = is_number_true k (pattern_at intra (pattern_number intra k)) (and_second (has_numbers intra k) found both);
-        small = ltb-true (pattern_number intra k) 48 (and_second (has_numbers intra k && found) fits all);
-      },
-    )
+    let place = pattern_number intra k in
+    let each = all_three (has_numbers intra k) (is_number k (pattern_at intra place)) (nat_lt place 48) all in
+    (each.0, record { place = is_number_true k (pattern_at intra place) each.1.0; small = ltb-true place 48 each.1.1 })
 
 pub number_below : (intra : Bool) (k n : ℕ) → n < k → has_numbers intra k ≡ true → HasNumber intra n
 number_below intra zero n below all = absurd (omega (arith, below))
@@ -192,12 +178,7 @@ record Is16x16 (n mode luma chroma : ℕ) : Type 0 where
 
 type_says : (mode luma chroma : ℕ) (none : Bool) → mode ≤ 3 → chroma ≤ 2 → luma ≡ elim none [ true ↦ 0 | false ↦ 15 ] →
     Is16x16 (mode + 4 * chroma + elim none [ true ↦ 0 | false ↦ 12 ]) mode luma chroma
-type_says mode luma chroma true m ch is =
-    let low : nat_le 12 (mode + 4 * chroma + 0) ≡ false = grind (arith, nat_tests, m, ch) in
-    record { few = omega arith; mode_is = omega arith; chroma_is = omega arith; luma_is = rw (low, is) refl }
-type_says mode luma chroma false m ch is =
-    let high : nat_le 12 (mode + 4 * chroma + 12) ≡ true = le-leb 12 (mode + 4 * chroma + 12) (omega arith) in
-    record { few = omega arith; mode_is = omega arith; chroma_is = omega arith; luma_is = rw (high, is) refl }
+type_says mode luma chroma none m ch is = grind (arith, nat_tests)
 
 back-i_16x16 : (c : Context) (mode chroma_mode n : ℕ) (r : Residual) → Is16x16 n mode r.luma_pattern r.chroma_pattern → IsI16x16 mode chroma_mode r →
     GivesBack (i_mb c (suc n)) (i_16x16_bits c chroma_mode r) (mb_of c r (i_16x16 mode chroma_mode r))
@@ -232,31 +213,18 @@ at-i_pcm position rest c luma cb cr is =
 
 -- ---- P macroblocks
 
-number_is : (s : SubMbType) → sub_mb_type (sub_mb_number s) ≡ s
-number_is Sub8x8 = refl
-number_is Sub8x4 = refl
-number_is Sub4x8 = refl
-number_is Sub4x4 = refl
-
-number_few : (s : SubMbType) → sub_mb_number s ≤ 3
-number_few Sub8x8 = omega arith
-number_few Sub8x4 = omega arith
-number_few Sub4x8 = omega arith
-number_few Sub4x4 = omega arith
+number_is : (s : SubMbType) → (sub_mb_type (sub_mb_number s) ≡ s) × (sub_mb_number s ≤ 3)
+number_is s = grind arith
 
 back-sub : GivesEach (ue_to 3 >>= λ t. give (sub_mb_type t)) (λ s. ue_word (sub_mb_number s)) (λ (s : SubMbType). Unit {0})
-back-sub = record { each = λ s any. with_value (number_is s) (back-last sub_mb_type (back-ue_to 3 refl (number_few s))) }
-
-each_sub : (subs : List SubMbType) → Each (λ (s : SubMbType). Unit {0}) subs
-each_sub [] = tt
-each_sub (s ∷ subs) = (tt, each_sub subs)
+back-sub = record { each = λ s any. with_value (number_is s).0 (back-last sub_mb_type (back-ue_to 3 refl (number_is s).1)) }
 
 back-p_mb_type : (t : PMbType) → HasQuarters t → GivesBack (p_mb_type (p_mb_number t)) (sub_mb_types_bits t) t
 back-p_mb_type P16x16 is = back-give
 back-p_mb_type P16x8 is = back-give
 back-p_mb_type P8x16 is = back-give
-back-p_mb_type (P8x8 subs) is = back-last (λ l. P8x8 l) (back-times 4 is back-sub (each_sub subs))
-back-p_mb_type (P8x8Ref0 subs) is = back-last (λ l. P8x8Ref0 l) (back-times 4 is back-sub (each_sub subs))
+back-p_mb_type (P8x8 subs) is = back-last (λ l. P8x8 l) (back-times 4 is back-sub (any_each subs))
+back-p_mb_type (P8x8Ref0 subs) is = back-last (λ l. P8x8Ref0 l) (back-times 4 is back-sub (any_each subs))
 
 back-te_to : (range : ℕ) → GivesEach (te_to range) (te_word range) (λ v. (v ≤ range) × (v < 4294967295))
 back-te_to range = record { each = λ v is. back-then _ (back-te range is.0 is.1) (back-then _ (back-check _ (le-leb v range is.0)) back-give) }
@@ -301,11 +269,7 @@ at-i_type true c n few others =
 at-i_type false c n few others = at-bind _ ((back-ue_to 25 refl few).back _ _) others
 
 p_number_few : (t : PMbType) → p_mb_number t < 5
-p_number_few P16x16 = omega arith
-p_number_few P16x8 = omega arith
-p_number_few P8x16 = omega arith
-p_number_few (P8x8 subs) = omega arith
-p_number_few (P8x8Ref0 subs) = omega arith
+p_number_few t = grind arith
 
 back-p_type : {w : List Bool} (c : Context) (n : ℕ) {mb : Mb} → n < 5 → GivesBack (p_mb c n) w mb → GivesBack (macroblock_where true c) (ue_word n ++ w) mb
 back-p_type c n few others =

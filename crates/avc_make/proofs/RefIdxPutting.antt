@@ -1,17 +1,12 @@
 -- Reference indices, where they are coded.
-use Rattle.std.proofs.Common.{◌≡◌, ℕ, ◌-◌, ◌<◌, ◌≤◌, List, Bool, true, false, ap, ◌∙◌, sym}
-use Rattle.std.proofs.lemmas.Bool.{false≢true}
+use Rattle.std.proofs.Common.{◌≡◌, ℕ, ◌-◌, ◌<◌, ◌≤◌, List, Bool, true, refl}
 use Rattle.std.specs.List.{flat_map}
 use Rattle.avc_make.specs.MbWriting.{IsRefIdx, ref_idx_bits}
 use Rattle.avc_make.specs.VuiWriting.{Each}
 use Rattle.avc_make.specs.Words.{te_word}
 
 pub indices_active : (active n : ℕ) (coded : Bool) (indices : List ℕ) → coded ≡ true → IsRefIdx active n coded indices → Each (λ i. (i ≤ active - 1) × (i < 4294967295)) indices
-indices_active active n true indices is all = all.active
-indices_active active n false indices is all = absurd (false≢true is)
+indices_active active n coded indices is all = let here = rw is at all in here.active
 
 pub coded_indices : (active : ℕ) (coded : Bool) (l indices : List ℕ) → coded ≡ true → l ≡ indices → flat_map (te_word (active - 1)) l ≡ ref_idx_bits active coded indices
-coded_indices active coded l indices is same = ap (flat_map (te_word (active - 1))) same ∙ ap (λ c. ref_idx_bits active c indices) (sym is)
-
-pub uncoded_indices : (active : ℕ) (coded : Bool) (indices : List ℕ) → coded ≡ false → ref_idx_bits active coded indices ≡ ref_idx_bits active false indices
-uncoded_indices active coded indices is = ap (λ c. ref_idx_bits active c indices) is
+coded_indices active coded l indices is same = rw (same, is) refl

@@ -1,8 +1,7 @@
 -- The blocks of a component put one after another.
-use Rattle.std.proofs.Common.{◌≡◌, ℕ, zero, suc, ◌+◌, ◌-◌, ◌<◌, ◌≤◌, min, ℤ, pos, negsuc, nat_lt, List, [], ◌∷◌, ◌++◌, drop, get_or, length, length-set, map, set, take, Bool, true, false, Option, ap, ◌∙◌, sym, subst, append_assoc, arith, refl}
+use Rattle.std.proofs.Common.{◌≡◌, ℕ, suc, ◌+◌, ◌-◌, ◌<◌, ◌≤◌, min, ℤ, pos, negsuc, nat_lt, List, [], ◌∷◌, ◌++◌, drop, get_or, length, length-set, map, set, take, Bool, true, false, Option, ap, ◌∙◌, sym, subst, append_assoc, arith}
 use Rattle.std.specs.Prelude.{Result}
 use Rattle.std.specs.List.{range_with_len, sum}
-use Rattle.std.proofs.lemmas.Bool.{false≢true}
 use Rattle.std.proofs.lemmas.List.{drop_more, map-append, take_more, take_more_set}
 use Rattle.avc_types.specs.Macroblock.{total_coeff}
 use Rattle.avc_types.specs.declared.memory.OutOfMemory.{OutOfMemory}
@@ -15,7 +14,7 @@ use Rattle.avc_make.specs.BlockWriting.{IsWritable, block_bits, coded, first_len
 use Rattle.avc_make.specs.Made.{Made, Puts, with_bits}
 use Rattle.avc_make.specs.MbWriting.{AreBlocks, IsBlock, IsChromaDc, bits_where_coded, blocks_bits, chroma_dc_bits}
 use Rattle.avc_make.specs.Words.{joined}
-use Rattle.avc_make.proofs.BlockPutting.{put_all}
+use Rattle.avc_make.proofs.Putting.{put_all}
 
 -- ---- one block
 
@@ -34,24 +33,19 @@ bits_capped max n levels =
     ap (λ table. with_token max (word_of (is_token_same t) table) found) (token_capped n)
 
 pub coded_block : (max n : ℕ) (z : ℤ) (coded : Bool) (levels : List ℤ) → coded ≡ true → z ≡ pos (min n 8) → block_bits max z levels ≡ bits_where_coded max (pos n) coded levels
-coded_block max n z coded levels is same =
-    ap (λ y. block_bits max y levels) same ∙ bits_capped max n levels ∙ ap (λ c. bits_where_coded max (pos n) c levels) (sym is)
+coded_block max n z coded levels is same = rw (same, is) (bits_capped max n levels)
 
 pub writable_of : (max : ℕ) (coded : Bool) (levels : List ℤ) → coded ≡ true → IsBlock max coded levels → IsWritable levels
-writable_of max true levels is block = block.1
-writable_of max false levels is block = absurd (false≢true is)
+writable_of max coded levels is block = let both = rw is at block in both.1
 
 pub writable_dc : (pattern : ℕ) (levels : List ℤ) → 0 < pattern → IsChromaDc pattern levels → IsWritable levels
-writable_dc zero levels some block = absurd (omega (arith, some))
-writable_dc (suc p) levels some block = block.1
+writable_dc pattern levels some block = grind arith
 
 pub some_dc : (pattern : ℕ) (levels : List ℤ) → 0 < pattern → block_bits 4 (negsuc 0) levels ≡ chroma_dc_bits pattern levels
-some_dc zero levels some = absurd (omega (arith, some))
-some_dc (suc p) levels some = refl
+some_dc pattern levels some = grind arith
 
 pub no_dc : (pattern : ℕ) (levels : List ℤ) → pattern ≤ 0 → [] ≡ chroma_dc_bits pattern levels
-no_dc zero levels none = refl
-no_dc (suc p) levels none = absurd (omega (arith, none))
+no_dc pattern levels none = grind arith
 
 -- the same bits
 pub puts_same : (result : Result (Unit {0}) OutOfMemory) (v w : List Bool) (old new : Made) → v ≡ w → Puts result v old new → Puts result w old new

@@ -1,11 +1,11 @@
 -- The data of a slice read from its bits.
 use Rattle.std.proofs.Common.{◌≡◌, ℕ, zero, suc, ◌+◌, ◌-◌, ◌<◌, ◌≤◌, nat_lt, List, [], ◌∷◌, ◌++◌, length, Bool, true, false, refl, ap, ◌∙◌, sym, subst, arith, length-append, append_assoc, append-nil}
-use Rattle.std.proofs.lemmas.Bool.{false≢true, le-ltb, ne_eqb}
+use Rattle.std.proofs.lemmas.Bool.{le-ltb, ne_eqb}
 use Rattle.std.proofs.lemmas.List.{length-replicate, replicate-append-replicate}
 use Rattle.std.specs.Prelude.{◌==◌, replicate, None, Result, Ok, Err}
 use Rattle.avc_types.specs.declared.fault.Fault.{Fault}
 use Rattle.avc_types.specs.declared.fault.Fault.TheVariants as faults
-use Rattle.avc_types.specs.Macroblock.{Mb, MbSyntax, p_skip, i_pcm, i_nxn, i_16x16, p_inter}
+use Rattle.avc_types.specs.Macroblock.{Mb, MbSyntax}
 use Rattle.avc_types.specs.Pictures.{PicMb}
 use Rattle.avc_bits.specs.Bits.{Bits, bits_of, more_data}
 use Rattle.avc_bits.specs.Codes.{ue}
@@ -13,53 +13,32 @@ use Rattle.avc_mbsyntax.specs.declared.context.Context.{Context}
 use Rattle.avc_mbsyntax.specs.Reading.{macroblock}
 use Rattle.avc_mbsyntax.specs.SliceData.{SliceMbs, SliceStart, after, after_run, context, ended, from_run, i_data, p_data, placed, skipped, slice_data, stopped, where_room}
 use Rattle.avc_make.specs.DataWriting.{CanFollow, CanStand, DataIsRead, data_bits, i_data_bits, is_skip, p_data_bits}
-use Rattle.avc_make.specs.MbWriting.{HasRanges, i_type, mb_bits, p_mb_number, qp_of, type_16x16}
+use Rattle.avc_make.specs.MbWriting.{HasRanges, mb_bits, qp_of}
 use Rattle.avc_make.specs.Words.{bits_after_one, ue_word}
 use Rattle.avc_make.proofs.MbBack.{mb_is_read}
 use Rattle.avc_make.proofs.ReadingBack.{back-ue}
+use Rattle.avc_make.specs.SliceSteps.{rest_bits}
 
 -- ---- bits that are there
 
 more_true : (position : ℕ) (ahead : List Bool) → 0 < length ahead → more_data (record { position = position; ahead = ahead }) ≡ true
-more_true position [] some = absurd (omega (arith, some))
-more_true position (b ∷ ahead) some = refl
+more_true position ahead some = grind arith
 
-word_some : (v : ℕ) (rest : List Bool) → 0 < length (ue_word v ++ rest)
+word_some : (v : ℕ) → 0 < length (ue_word v)
 unfolding ue_word
-word_some v rest =
-    let n = bits_after_one (v + 1) in
-    omega (arith, length-append (replicate n false) (true ∷ bits_of n (v + 1)), length-append (ue_word v) rest)
-
-longer : (w w' rest : List Bool) → ((more : List Bool) → 0 < length (w ++ more)) → 0 < length ((w ++ w') ++ rest)
-longer w w' rest some = subst (λ l. 0 < length l) (sym (append_assoc w w' rest)) (some (w' ++ rest))
+word_some v = let n = bits_after_one (v + 1) in omega (arith, length-append (replicate n false) (true ∷ bits_of n (v + 1)))
 
 mb_some : (c : Context) (position : ℕ) (syntax : MbSyntax) (rest : List Bool) → HasRanges c syntax → 0 < length (mb_bits c position syntax ++ rest)
-mb_some c position p_skip rest is = absurd is
-mb_some c position (i_pcm luma cb cr) rest is = longer (ue_word (i_type c.is_p 25)) _ rest (word_some (i_type c.is_p 25))
-mb_some c position (i_nxn modes chroma_mode r) rest is = longer (ue_word (i_type c.is_p 0)) _ rest (word_some (i_type c.is_p 0))
-mb_some c position (i_16x16 mode chroma_mode r) rest is = longer (ue_word (i_type c.is_p (type_16x16 mode r))) _ rest (word_some (i_type c.is_p (type_16x16 mode r)))
-mb_some c position (p_inter t ref_idx mvd r) rest is = longer (ue_word (p_mb_number t)) _ rest (word_some (p_mb_number t))
+mb_some c position syntax rest is = grind (arith, word_some, length-append {A = Bool})
 
 -- by the two cases of a test
 pub on_kind : {P : Type 0} (b : Bool) → (b ≡ true → P) → (b ≡ false → P) → P
-on_kind true first second = first refl
-on_kind false first second = second refl
+on_kind b first second = grind arith
 
 -- ---- one macroblock
 
 pub ranges_of : (c : Context) (syntax : MbSyntax) → is_skip syntax ≡ false → CanStand c syntax → HasRanges c syntax
-ranges_of c p_skip other is = absurd (false≢true (sym other))
-ranges_of c (i_pcm luma cb cr) other is = is
-ranges_of c (i_nxn modes chroma_mode r) other is = is
-ranges_of c (i_16x16 mode chroma_mode r) other is = is
-ranges_of c (p_inter t ref_idx mvd r) other is = is
-
-skip_of : (syntax : MbSyntax) → is_skip syntax ≡ true → syntax ≡ p_skip
-skip_of p_skip is = refl
-skip_of (i_pcm luma cb cr) is = absurd (false≢true is)
-skip_of (i_nxn modes chroma_mode r) is = absurd (false≢true is)
-skip_of (i_16x16 mode chroma_mode r) is = absurd (false≢true is)
-skip_of (p_inter t ref_idx mvd r) is = absurd (false≢true is)
+ranges_of c syntax other is = grind arith
 
 -- read after so many bits, with its own QP
 mb_read : (c : Context) (position : ℕ) (rest : List Bool) (m : Mb) → HasRanges c m.syntax → m.qp ≡ qp_of c.qp m.syntax →
@@ -70,19 +49,11 @@ mb_read c position rest m is qp =
 
 -- ---- I slices
 
-i_step : (s : SliceStart) (left : ℕ) (before : List PicMb) (qp : ℕ) (b b' : Bits) (mb : Mb) → macroblock (context s before qp) b ≡ Ok (mb, b') →
-    i_data s (suc left) before qp b ≡ after (mb ∷ []) (elim (more_data b') [ true ↦ i_data s left (before ++ placed s mb ∷ []) mb.qp b' | false ↦ ended ])
-i_step s left before qp b b' mb read = rw (i_data, read) refl
-
 abbrev all_of : List Mb → SliceMbs
 all_of ms = record { mbs = ms; fault = None }
 
 pub i_stand : (s : SliceStart) (before : List PicMb) (qp : ℕ) (syntax : MbSyntax) → s.is_p ≡ false → CanStand (context s before qp) syntax → is_skip syntax ≡ false
-i_stand s before qp p_skip same is = absurd (false≢true (sym same ∙ is))
-i_stand s before qp (i_pcm luma cb cr) same is = refl
-i_stand s before qp (i_nxn modes chroma_mode r) same is = refl
-i_stand s before qp (i_16x16 mode chroma_mode r) same is = refl
-i_stand s before qp (p_inter t ref_idx mvd r) same is = refl
+i_stand s before qp syntax same is = grind arith
 
 i_some : (s : SliceStart) (before : List PicMb) (qp position : ℕ) (m : Mb) (ms : List Mb) → HasRanges (context s before qp) m.syntax → 0 < length (i_data_bits s before qp position (m ∷ ms))
 unfolding i_data_bits
@@ -94,21 +65,18 @@ unfolding i_data_bits
 i_read s m ms zero before qp position same all few = absurd (omega (arith, few))
 i_read s m [] (suc left) before qp position same all few =
     let c = context s before qp in
-    let is = ranges_of c m.syntax (i_stand s before qp m.syntax same all.0) all.0 in
-    let w = mb_bits c position m.syntax in
-    i_step s left before qp (record { position = position; ahead = w ++ [] }) (record { position = position + length w; ahead = [] }) m (mb_read c position [] m is all.1)
+    let read = mb_read c position [] m (ranges_of c m.syntax (i_stand s before qp m.syntax same all.0) all.0) all.1 in
+    rw (i_data, read) refl
 i_read s m (m' ∷ ms) (suc left) before qp position same all few =
     let c = context s before qp in
-    let is = ranges_of c m.syntax (i_stand s before qp m.syntax same all.0) all.0 in
-    let w = mb_bits c position m.syntax in
-    let next = position + length w in
+    let next = position + length (mb_bits c position m.syntax) in
     let before' = before ++ placed s m ∷ [] in
     let others = i_data_bits s before' m.qp next (m' ∷ ms) in
+    let read = mb_read c position others m (ranges_of c m.syntax (i_stand s before qp m.syntax same all.0) all.0) all.1 in
     let second = ranges_of (context s before' m.qp) m'.syntax (i_stand s before' m.qp m'.syntax same all.2.0) all.2.0 in
     let more = more_true next others (i_some s before' m.qp next m' ms second) in
     let rest = i_read s m' ms left before' m.qp next same all.2 (omega (arith, few)) in
-    i_step s left before qp (record { position = position; ahead = w ++ others }) (record { position = next; ahead = others }) m (mb_read c position others m is all.1)
-    ∙ ap (after (m ∷ [])) (rw more rest)
+    rw (i_data, read) (ap (after (m ∷ [])) (rw more rest))
 
 -- ---- P slices
 
@@ -121,23 +89,20 @@ mb_and_rest s before qp first m ms =
 pub bits_skip : (s : SliceStart) (before : List PicMb) (qp position run : ℕ) (m : Mb) (ms : List Mb) → is_skip m.syntax ≡ true →
     p_data_bits s before qp position run (m ∷ ms) ≡ p_data_bits s (before ++ placed s m ∷ []) qp position (run + 1) ms
 unfolding p_data_bits
-bits_skip s before qp position run m ms is =
-    ap (λ (b : Bool). elim b [ true ↦ p_data_bits s (before ++ placed s m ∷ []) qp position (run + 1) ms | false ↦ ue_word run ++ mb_and_rest s before qp (position + length (ue_word run)) m ms ]) is
+bits_skip s before qp position run m ms is = grind arith
 
 pub bits_other : (s : SliceStart) (before : List PicMb) (qp position run : ℕ) (m : Mb) (ms : List Mb) → is_skip m.syntax ≡ false →
     p_data_bits s before qp position run (m ∷ ms) ≡ ue_word run ++ mb_and_rest s before qp (position + length (ue_word run)) m ms
 unfolding p_data_bits
-bits_other s before qp position run m ms is =
-    ap (λ (b : Bool). elim b [ true ↦ p_data_bits s (before ++ placed s m ∷ []) qp position (run + 1) ms | false ↦ ue_word run ++ mb_and_rest s before qp (position + length (ue_word run)) m ms ]) is
+bits_other s before qp position run m ms is = grind arith
 
 p_some : (s : SliceStart) (before : List PicMb) (qp position run : ℕ) (ms : List Mb) → 1 ≤ run + length ms → 0 < length (p_data_bits s before qp position run ms)
 unfolding p_data_bits
 p_some s before qp position zero [] some = absurd (omega (arith, some))
-p_some s before qp position (suc run) [] some = subst (λ l. 0 < length l) (append-nil (ue_word (suc run))) (word_some (suc run) [])
+p_some s before qp position (suc run) [] some = word_some (suc run)
 p_some s before qp position run (m ∷ ms) some =
-    on_kind (is_skip m.syntax)
-    (λ is. subst (λ l. 0 < length l) (sym (bits_skip s before qp position run m ms is)) (p_some s (before ++ placed s m ∷ []) qp position (run + 1) ms (omega arith)))
-    (λ is. subst (λ l. 0 < length l) (sym (bits_other s before qp position run m ms is)) (word_some run (mb_and_rest s before qp (position + length (ue_word run)) m ms)))
+    let others = p_some s (before ++ placed s m ∷ []) qp position (run + 1) ms (omega arith) in
+    grind (arith, word_some run, others, length-append {A = Bool})
 
 -- a run that fits, and what comes then
 abbrev turn : SliceStart → (turns : ℕ) → List PicMb → (qp : ℕ) → Bits → SliceMbs
@@ -181,22 +146,16 @@ rest_read s turns before qp position (m ∷ ms) read =
 
 -- one more in the run
 run_grows : {A : Type 0} (before front : List A) (run : ℕ) (x : A) → before ≡ front ++ replicate run x → before ++ x ∷ [] ≡ front ++ replicate (run + 1) x
-run_grows before front run x is =
-    ap (λ l. l ++ x ∷ []) is ∙ append_assoc front (replicate run x) (x ∷ []) ∙ ap (λ l. front ++ l) (replicate-append-replicate run 1 x)
+run_grows before front run x is = rw (is, append_assoc, replicate-append-replicate run 1 x) refl
 
 pub skipped_is : (m : Mb) (qp : ℕ) → is_skip m.syntax ≡ true → m.qp ≡ qp_of qp m.syntax → m ≡ skipped qp
-skipped_is m qp is same =
-    let syntax = skip_of m.syntax is in
-    let own : m.qp ≡ qp = same ∙ ap (qp_of qp) syntax in
-    ap (λ x. record { syntax = x; qp = m.qp }) syntax ∙ ap (λ q. record { syntax = p_skip; qp = q }) own
+skipped_is m qp is same = grind arith
 
 skip_joins : (run : ℕ) (m : Mb) (qp : ℕ) (ms : List Mb) → m ≡ skipped qp → replicate (run + 1) (skipped qp) ++ ms ≡ replicate run (skipped qp) ++ m ∷ ms
-skip_joins run m qp ms same =
-    ap (λ l. l ++ ms) (sym (replicate-append-replicate run 1 (skipped qp))) ∙ append_assoc (replicate run (skipped qp)) (skipped qp ∷ []) ms
-    ∙ ap (λ y. replicate run (skipped qp) ++ y ∷ ms) (sym same)
+skip_joins run m qp ms same = rw (same, ← replicate-append-replicate run 1 (skipped qp), append_assoc) refl
 
 run_count : {A : Type 0} (before front : List A) (run : ℕ) (x : A) → before ≡ front ++ replicate run x → length before ≡ length front + run
-run_count before front run x is = ap length is ∙ length-append front (replicate run x) ∙ ap (λ n. length front + n) (length-replicate run x)
+run_count before front run x is = rw (is, length-append, length-replicate) refl
 
 -- the run, a macroblock that is not skipped, and the rest
 other_read : (s : SliceStart) (m : Mb) (ms : List Mb) (turns : ℕ) (front before : List PicMb) (qp position run : ℕ) → CanFollow s before qp (m ∷ ms) → before ≡ front ++ replicate run (placed s (skipped qp))
@@ -266,11 +225,8 @@ p_read s (m ∷ ms) (suc turns) front before qp position run all is some few sma
 abbrev data_where : (p : Bool) → SliceStart → List PicMb → Bits → SliceMbs
 data_where p s before b = elim p [ true ↦ p_data s (s.size - length before) before s.qp b | false ↦ i_data s (s.size - length before) before s.qp b ]
 
-abbrev bits_where : (p : Bool) → SliceStart → List PicMb → ℕ → List Mb → List Bool
-bits_where p s before position ms = elim p [ true ↦ p_data_bits s before s.qp position 0 ms | false ↦ i_data_bits s before s.qp position ms ]
-
 read_where : (p : Bool) (s : SliceStart) (before : List PicMb) (position : ℕ) (ms : List Mb) → s.is_p ≡ p → 1 ≤ length ms → length ms < 4294967295 → length before + length ms ≤ s.size → CanFollow s before s.qp ms →
-    data_where p s before (record { position = position; ahead = bits_where p s before position ms }) ≡ all_of ms
+    data_where p s before (record { position = position; ahead = rest_bits p s before s.qp position 0 ms }) ≡ all_of ms
 read_where p s before position [] same some small room all = absurd (omega (arith, some))
 read_where true s before position (m ∷ ms) same some small room all =
     p_read s (m ∷ ms) (s.size - length before) before before s.qp position 0 all (sym (append-nil before)) (omega arith) (omega (arith, room)) (omega (arith, small)) room
@@ -298,4 +254,4 @@ all_data_is_read s before position [] some small any room all = none_where s.is_
 all_data_is_read s before position (m ∷ ms) some small any room all = by_type s.is_p refl
   where
     by_type : (p : Bool) → s.is_p ≡ p → slice_data s before (record { position = position; ahead = data_bits s before position (m ∷ ms) }) ≡ all_of (m ∷ ms)
-    by_type p same = subst (λ q. data_where q s before (record { position = position; ahead = bits_where q s before position (m ∷ ms) }) ≡ all_of (m ∷ ms)) (sym same) (read_where p s before position (m ∷ ms) same (omega arith) small room all)
+    by_type p same = subst (λ q. data_where q s before (record { position = position; ahead = rest_bits q s before s.qp position 0 (m ∷ ms) }) ≡ all_of (m ∷ ms)) (sym same) (read_where p s before position (m ∷ ms) same (omega arith) small room all)

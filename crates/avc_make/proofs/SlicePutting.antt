@@ -1,5 +1,5 @@
 -- The macroblocks of a slice put one after another.
-use Rattle.std.proofs.Common.{◌≡◌, ℕ, ◌+◌, ◌<◌, ◌≤◌, List, [], ◌∷◌, ◌++◌, length, drop, get_or, take, Bool, true, false, refl, ap, ◌∙◌, sym, subst, arith, length-append, append_assoc, append-nil}
+use Rattle.std.proofs.Common.{◌≡◌, ℕ, ◌+◌, ◌<◌, ◌≤◌, List, [], ◌∷◌, ◌++◌, length, drop, get_or, take, Bool, false, refl, ap, ◌∙◌, sym, subst, arith, length-append, append_assoc, append-nil}
 use Rattle.std.proofs.lemmas.List.{drop_more, length-map, map-append, take_more}
 use Rattle.std.specs.Prelude.{map, Option}
 use Rattle.std.specs.Option.{option_map}
@@ -8,37 +8,28 @@ use Rattle.avc_types.specs.Pictures.{PicMb}
 use Rattle.avc_neigh.specs.declared.facts.NeighbourFacts.{NeighbourFacts}
 use Rattle.avc_neigh.specs.declared.facts.TotalCoeffs.{TotalCoeffs}
 use Rattle.avc_neigh.specs.Around.{PictureFacts, mb_a, mb_b, with_facts}
-use Rattle.avc_neigh.specs.Blocks.{above, left_of}
 use Rattle.avc_neigh.specs.Laws.{FactsTell}
 use Rattle.avc_neigh.specs.TotalCoeffs.{total_coeffs_of}
 use Rattle.avc_neigh.proofs.Found.{total_coeffs_found}
 use Rattle.avc_mbsyntax.specs.declared.context.Context.{Context}
 use Rattle.avc_mbsyntax.specs.SliceData.{SliceStart, context, left_total_coeffs, placed, up_total_coeffs}
-use Rattle.avc_make.specs.DataWriting.{CanFollow, CanStand, data_bits, i_data_bits, is_skip, p_data_bits}
+use Rattle.avc_make.specs.DataWriting.{CanFollow, CanStand, data_bits, i_data_bits, p_data_bits}
 use Rattle.avc_make.specs.HeaderWriting.{header_bits, slice_unit_header}
 use Rattle.avc_make.specs.Made.{Made, nothing, with_bits}
-use Rattle.avc_make.specs.MbWriting.{mb_bits, qp_of}
-use Rattle.avc_make.specs.SliceSteps.{IsOf, AreFactsOf, coded_bits, last_run_bits_where, own_bits, rest_bits, run_after, run_bits, some_bits}
+use Rattle.avc_make.specs.MbWriting.{qp_of}
+use Rattle.avc_make.specs.SliceSteps.{IsOf, AreFactsOf, last_run_bits_where, own_bits, rest_bits, run_after, some_bits}
 use Rattle.avc_make.specs.SliceMbs.{IsCodedSlice, coded_slice_bits, earlier_mbs, own_start}
 use Rattle.avc_make.specs.Units.{IsUnit}
-use Rattle.avc_make.specs.Words.{ue_word}
 use Rattle.avc_make.specs.declared.slice.CodedSlice.{CodedSlice}
-use Rattle.avc_make.proofs.SliceDataBack.{bits_other, bits_skip, i_stand, on_kind, skipped_is}
 
 -- ---- what the row has of them
 
 pub told_more : (width : ℕ) (before : List PicMb) (p : PictureFacts) (f : NeighbourFacts) (x : PicMb) → x.slice ≡ f.slice → total_coeffs_of x.mb.syntax ≡ f.total_coeffs → AreFactsOf width before p →
     AreFactsOf width (before ++ x ∷ []) (with_facts p f)
-told_more width before p f x slice total_coeffs is = record {
-  some = is.some;
-  wide = is.wide;
-  slices =
-      map-append (λ (m : PicMb). m.slice) before (x ∷ []) ∙ ap (λ l. l ++ x.slice ∷ []) is.slices
-      ∙ ap (λ n. map (λ (g : NeighbourFacts). g.slice) p.facts ++ n ∷ []) slice ∙ sym (map-append (λ (g : NeighbourFacts). g.slice) p.facts (f ∷ []));
-  total_coeffs =
-      map-append (λ (m : PicMb). total_coeffs_of m.mb.syntax) before (x ∷ []) ∙ ap (λ l. l ++ total_coeffs_of x.mb.syntax ∷ []) is.total_coeffs
-      ∙ ap (λ n. map (λ (g : NeighbourFacts). g.total_coeffs) p.facts ++ n ∷ []) total_coeffs ∙ sym (map-append (λ (g : NeighbourFacts). g.total_coeffs) p.facts (f ∷ []));
-}
+told_more width before p f x slice total_coeffs is =
+    let slices = is.slices in
+    let counts = is.total_coeffs in
+    record { some = is.some; wide = is.wide; slices = simp (map-append, slices, slice); total_coeffs = simp (map-append, counts, total_coeffs) }
 
 tells : {Y : Type 0} (said : PicMb → Y) (told : NeighbourFacts → Y) (before : List PicMb) (facts : List NeighbourFacts) → map said before ≡ map told facts → FactsTell said told before facts
 tells said told before facts same = ([], same ∙ sym (append-nil (map told facts)))
@@ -48,12 +39,6 @@ tells said told before facts same = ([], same ∙ sym (append-nil (map told fact
 abbrev of_parts : (is_p : Bool) → (active_count qp : ℕ) → (left up : Option TotalCoeffs) → Context
 of_parts is_p active_count qp left up = record { is_p = is_p; active_count = active_count; qp = qp; left = left; up = up }
 
-abbrev left_counts : List PicMb → (width slice a : ℕ) → Option TotalCoeffs
-left_counts before width slice a = option_map (λ m. total_coeffs_of m.syntax) (left_of before width slice a)
-
-abbrev up_counts : List PicMb → (width slice a : ℕ) → Option TotalCoeffs
-up_counts before width slice a = option_map (λ m. total_coeffs_of m.syntax) (above before width slice a)
-
 pub context_told : (s : SliceStart) (before : List PicMb) (p : PictureFacts) (c : Context) (qp : ℕ) (left up : Option TotalCoeffs) → IsOf s c → AreFactsOf s.width before p
     → left ≡ option_map (λ f. f.total_coeffs) (mb_a p 1) → up ≡ option_map (λ f. f.total_coeffs) (mb_b p 1) → of_parts c.is_p c.active_count qp left up ≡ context s before qp
 context_told s before p c qp left up own is is_left is_up =
@@ -61,14 +46,11 @@ context_told s before p c qp left up own is is_left is_up =
     let counts = tells (λ m. total_coeffs_of m.mb.syntax) (λ f. f.total_coeffs) before p.facts is.total_coeffs in
     let found = total_coeffs_found before p 1 (omega (arith, is.some, is.wide)) slices counts in
     let long : length p.facts ≡ length before = sym (length-map p.facts (λ (f : NeighbourFacts). f.slice)) ∙ ap length (sym is.slices) ∙ length-map before (λ (m : PicMb). m.slice) in
-    let left_is : left ≡ left_total_coeffs s before =
-    is_left ∙ sym found.0 ∙ ap (λ w. left_counts before w 1 (length p.facts)) is.wide ∙ ap (λ n. left_counts before s.width n (length p.facts)) (sym own.own)
-    ∙ ap (λ a. left_counts before s.width s.slice a) long in
-    let up_is : up ≡ up_total_coeffs s before =
-    is_up ∙ sym found.1 ∙ ap (λ w. up_counts before w 1 (length p.facts)) is.wide ∙ ap (λ n. up_counts before s.width n (length p.facts)) (sym own.own)
-    ∙ ap (λ a. up_counts before s.width s.slice a) long in
-    ap (λ b. of_parts b c.active_count qp left up) (sym own.is_p) ∙ ap (λ n. of_parts s.is_p n qp left up) (sym own.active_count)
-    ∙ ap (λ l. of_parts s.is_p s.active_count qp l up) left_is ∙ ap (λ u. of_parts s.is_p s.active_count qp (left_total_coeffs s before) u) up_is
+    let wide = is.wide in
+    let slice = own.own in
+    let left_is : left ≡ left_total_coeffs s before = is_left ∙ sym found.0 ∙ rw (wide, long, slice) refl in
+    let up_is : up ≡ up_total_coeffs s before = is_up ∙ sym found.1 ∙ rw (wide, long, slice) refl in
+    cc (left_is, up_is, own.is_p, own.active_count)
 
 -- ---- one macroblock
 
@@ -78,60 +60,10 @@ own_and_rest p s before qp position run m ms =
     let w = own_bits (context s before qp) position run m.syntax in
     w ++ rest_bits p s (before ++ placed s m ∷ []) m.qp (position + length w) (run_after run m.syntax) ms
 
--- where it is not skipped
-own_other : (c : Context) (position run : ℕ) (syntax : MbSyntax) → is_skip syntax ≡ false → own_bits c position run syntax ≡ coded_bits c position run syntax
-own_other c position run syntax other = rw (own_bits, other) refl
-
-own_skipped : (c : Context) (position run : ℕ) (syntax : MbSyntax) → is_skip syntax ≡ true → own_bits c position run syntax ≡ []
-own_skipped c position run syntax skip = rw (own_bits, skip) refl
-
-coded_where : (p : Bool) (c : Context) (position run : ℕ) (syntax : MbSyntax) → c.is_p ≡ p → coded_bits c position run syntax ≡ run_bits p run ++ mb_bits c (position + length (run_bits p run)) syntax
-coded_where p c position run syntax same = ap (λ b. run_bits b run ++ mb_bits c (position + length (run_bits b run)) syntax) same
-
-i_own : (s : SliceStart) (before : List PicMb) (qp position run : ℕ) (m : Mb) (ms : List Mb) → s.is_p ≡ false → CanStand (context s before qp) m.syntax →
-    rest_bits false s before qp position run (m ∷ ms) ≡ own_and_rest false s before qp position run m ms
-unfolding i_data_bits
-i_own s before qp position run m ms same stands =
-    let c = context s before qp in
-    let place : position + length {A = Bool} [] ≡ position = omega arith in
-    let own : own_bits c position run m.syntax ≡ mb_bits c position m.syntax =
-    own_other c position run m.syntax (i_stand s before qp m.syntax same stands) ∙ coded_where false c position run m.syntax same ∙ ap (λ k. mb_bits c k m.syntax) place in
-    ap (λ w. w ++ i_data_bits s (before ++ placed s m ∷ []) m.qp (position + length w) ms) (sym own)
-
-p_skipped : (s : SliceStart) (before : List PicMb) (qp position run : ℕ) (m : Mb) (ms : List Mb) → is_skip m.syntax ≡ true → m.qp ≡ qp_of qp m.syntax →
-    rest_bits true s before qp position run (m ∷ ms) ≡ own_and_rest true s before qp position run m ms
-p_skipped s before qp position run m ms skip is_qp =
-    let before' = before ++ placed s m ∷ [] in
-    let c = context s before qp in
-    let same : qp ≡ m.qp = sym (ap (λ (x : Mb). x.qp) (skipped_is m qp skip is_qp)) in
-    let own : own_bits c position run m.syntax ≡ [] = own_skipped c position run m.syntax skip in
-    let place : position ≡ position + length {A = Bool} [] = omega arith in
-    bits_skip s before qp position run m ms skip
-    ∙ ap (λ q. p_data_bits s before' q position (run + 1) ms) same
-    ∙ ap (λ k. p_data_bits s before' m.qp k (run + 1) ms) place
-    ∙ ap (λ l. l ++ p_data_bits s before' m.qp (position + length l) (run + 1) ms) (sym own)
-    ∙ ap (λ (b : Bool). own_bits c position run m.syntax ++ p_data_bits s before' m.qp (position + length (own_bits c position run m.syntax)) (elim b [ true ↦ run + 1 | false ↦ 0 ]) ms) (sym skip)
-
-p_coded : (s : SliceStart) (before : List PicMb) (qp position run : ℕ) (m : Mb) (ms : List Mb) → s.is_p ≡ true → is_skip m.syntax ≡ false →
-    rest_bits true s before qp position run (m ∷ ms) ≡ own_and_rest true s before qp position run m ms
-p_coded s before qp position run m ms same other =
-    let c = context s before qp in
-    let before' = before ++ placed s m ∷ [] in
-    let first = position + length (ue_word run) in
-    let w = mb_bits c first m.syntax in
-    let own : own_bits c position run m.syntax ≡ ue_word run ++ w = own_other c position run m.syntax other ∙ coded_where true c position run m.syntax same in
-    let place : first + length w ≡ position + length (ue_word run ++ w) = omega (arith, length-append (ue_word run) w) in
-    bits_other s before qp position run m ms other
-    ∙ sym (append_assoc (ue_word run) w (p_data_bits s before' m.qp (first + length w) 0 ms))
-    ∙ ap (λ k. (ue_word run ++ w) ++ p_data_bits s before' m.qp k 0 ms) place
-    ∙ ap (λ l. l ++ p_data_bits s before' m.qp (position + length l) 0 ms) (sym own)
-    ∙ ap (λ (b : Bool). own_bits c position run m.syntax ++ p_data_bits s before' m.qp (position + length (own_bits c position run m.syntax)) (elim b [ true ↦ run + 1 | false ↦ 0 ]) ms) (sym other)
-
 own_first : (p : Bool) (s : SliceStart) (before : List PicMb) (qp position run : ℕ) (m : Mb) (ms : List Mb) → s.is_p ≡ p → CanStand (context s before qp) m.syntax → m.qp ≡ qp_of qp m.syntax →
     rest_bits p s before qp position run (m ∷ ms) ≡ own_and_rest p s before qp position run m ms
-own_first true s before qp position run m ms same stands is_qp =
-    on_kind (is_skip m.syntax) (λ skip. p_skipped s before qp position run m ms skip is_qp) (λ other. p_coded s before qp position run m ms same other)
-own_first false s before qp position run m ms same stands is_qp = i_own s before qp position run m ms same stands
+unfolding i_data_bits p_data_bits
+own_first p s before qp position run m ms same stands is_qp = grind (arith, append_assoc, length-append {A = Bool})
 
 -- one macroblock more in the loop
 pub own_put : (s : SliceStart) (before : List PicMb) (qp run : ℕ) (m : Mb) (ms left : List Mb) (old new : Made) (all : List Bool) → left ≡ m ∷ ms → CanStand (context s before qp) m.syntax
@@ -146,16 +78,14 @@ own_put s before qp run m ms left old new all is_left stands is_qp is_new sum =
 
 none_left : (p : Bool) (s : SliceStart) (before : List PicMb) (qp position run : ℕ) → rest_bits p s before qp position run [] ≡ last_run_bits_where p run
 unfolding i_data_bits p_data_bits
-none_left true s before qp position run = refl
-none_left false s before qp position run = refl
+none_left p s before qp position run = grind arith
 
 -- the last run after all macroblocks
 pub all_put : (s : SliceStart) (before : List PicMb) (qp run : ℕ) (p : Bool) (left : List Mb) (old now new : Made) (all : List Bool) → left ≡ [] → s.is_p ≡ p → new ≡ with_bits now (last_run_bits_where p run)
     → now.bits ++ rest_bits s.is_p s before qp (length now.bits) run left ≡ old.bits ++ all → new ≡ with_bits old all
 all_put s before qp run p left old now new all none same is_new sum =
-    let last : last_run_bits_where p run ≡ rest_bits s.is_p s before qp (length now.bits) run left =
-    ap (λ b. last_run_bits_where b run) (sym same) ∙ sym (none_left s.is_p s before qp (length now.bits) run) ∙ ap (λ l. rest_bits s.is_p s before qp (length now.bits) run l) (sym none) in
-    is_new ∙ ap (λ w. with_bits now w) last ∙ ap (λ t. record { bits = t; failed = false }) sum
+    let last = none_left s.is_p s before qp (length now.bits) run in
+    is_new ∙ ap (λ t. record { bits = t; failed = false }) (rw (← same, ← last, ← none) sum)
 
 -- ---- so many macroblocks
 
@@ -198,18 +128,15 @@ is_at ms i m within is = record {
 
 before_more : (c : CodedSlice) (i : ℕ) (m : Mb) → IsAt c.macroblocks i m → before_of c i ++ placed (own_start c) m ∷ [] ≡ before_of c (i + 1)
 before_more c i m here =
-    let f = placed (own_start c) in
-    append_assoc (earlier_mbs c) (map f (take i c.macroblocks)) (f m ∷ [])
-    ∙ ap (λ l. earlier_mbs c ++ l) (sym (map-append f (take i c.macroblocks) (m ∷ [])))
-    ∙ ap (λ l. earlier_mbs c ++ map f l) (sym here.last)
+    let last = here.last in
+    rw (last, map-append) (append_assoc (earlier_mbs c) (map (placed (own_start c)) (take i c.macroblocks)) (placed (own_start c) m ∷ []))
 
 -- its context, and that it can stand there
 pub stands_at : (c : CodedSlice) (old now : Made) (i : ℕ) (row : PictureFacts) (qp run : ℕ) (m : Mb) (k : Context) (syntax : MbSyntax) → IsPut c old i row qp run now → IsAt c.macroblocks i m
     → k ≡ context (own_start c) (before_of c i) qp → syntax ≡ m.syntax → CanStand k syntax
 stands_at c old now i row qp run m k syntax is here is_k is_syntax =
-    let s = own_start c in
-    let all : CanFollow s (before_of c i) qp (m ∷ drop (i + 1) c.macroblocks) = subst (λ l. CanFollow s (before_of c i) qp l) here.first is.follow in
-    subst (λ x. CanStand k x) (sym is_syntax) (subst (λ x. CanStand x m.syntax) (sym is_k) all.0)
+    let all : CanFollow (own_start c) (before_of c i) qp (m ∷ drop (i + 1) c.macroblocks) = subst (λ l. CanFollow (own_start c) (before_of c i) qp l) here.first is.follow in
+    rw (is_syntax, is_k) (all.0)
 
 pub put_next : (c : CodedSlice) (old now new : Made) (i : ℕ) (row row' : PictureFacts) (qp qp' run run' : ℕ) (m : Mb) (k : Context) (syntax : MbSyntax) → IsPut c old i row qp run now → IsAt c.macroblocks i m
     → k ≡ context (own_start c) (before_of c i) qp → syntax ≡ m.syntax → new ≡ with_bits now (own_bits k (length now.bits) run syntax)
@@ -230,11 +157,7 @@ put_next c old now new i row row' qp qp' run run' m k syntax is here is_k is_syn
       told = subst (λ b. AreFactsOf s.width b row') grown told;
       few = omega (arith, few, is.few);
       follow = subst (λ q. CanFollow s (before_of c (i + 1)) q ms) (sym is_qp) (subst (λ b. CanFollow s b m.qp ms) grown follow.2);
-      sum =
-          ap (λ b. new.bits ++ rest_bits s.is_p s b qp' (length new.bits) run' ms) (sym grown)
-          ∙ ap (λ q. new.bits ++ rest_bits s.is_p s before' q (length new.bits) run' ms) is_qp
-          ∙ ap (λ r. new.bits ++ rest_bits s.is_p s before' m.qp (length new.bits) r ms) (is_run ∙ ap (run_after run) is_syntax)
-          ∙ sum;
+      sum = rw (← grown, is_qp, is_run, is_syntax) sum;
     }
 
 pub put_end : (c : CodedSlice) (old now new : Made) (i : ℕ) (row : PictureFacts) (qp run : ℕ) (p : Bool) → IsPut c old i row qp run now → drop i c.macroblocks ≡ [] → (own_start c).is_p ≡ p
@@ -248,8 +171,4 @@ put_end c old now new i row qp run p is none same is_new =
 pub unit_put : (c : CodedSlice) (empty first second : Made) (header : ℕ) (unit : List ℕ) → empty ≡ nothing → first ≡ with_bits empty (header_bits c.sps c.pps c.header)
     → second ≡ with_bits first (data_bits (own_start c) (earlier_mbs c) (length first.bits) c.macroblocks) → header ≡ slice_unit_header c.header → IsUnit header second.bits unit →
     IsUnit (slice_unit_header c.header) (coded_slice_bits c) unit
-unit_put c empty first second header unit is_empty is_first is_second is_header written =
-    let bits = header_bits c.sps c.pps c.header in
-    let one : first.bits ≡ bits = ap (λ m. m.bits) is_first ∙ ap (λ m. m.bits ++ bits) is_empty in
-    let all : second.bits ≡ coded_slice_bits c = ap (λ m. m.bits) is_second ∙ ap (λ b. b ++ data_bits (own_start c) (earlier_mbs c) (length b) c.macroblocks) one in
-    subst (λ b. IsUnit (slice_unit_header c.header) b unit) all (subst (λ h. IsUnit h second.bits unit) is_header written)
+unit_put c empty first second header unit is_empty is_first is_second is_header written = rw (is_header, is_second, is_first, is_empty) at written

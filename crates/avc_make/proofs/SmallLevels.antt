@@ -1,7 +1,7 @@
 -- Blocks of small levels can be written.
-use Rattle.std.proofs.Common.{ℕ, ◌+◌, ◌^◌, ◌<◌, ◌≤◌, ℤ, pos, negsuc, nat_abs, List, [], ◌∷◌, drop, length, Bool, true, false, arith, lit<, inl, inr}
+use Rattle.std.proofs.Common.{ℕ, ◌+◌, ◌^◌, ◌<◌, ◌≤◌, ℤ, nat_abs, List, [], ◌∷◌, drop, length, Bool, false, arith, lit<, inl, inr}
 use Rattle.std.specs.Prelude.{nat_lt}
-use Rattle.std.proofs.lemmas.Bool.{cases_eq, eq-eqb, ne_eqb}
+use Rattle.std.proofs.lemmas.Bool.{cases_eq}
 use Rattle.std.proofs.Math.Nat.{pow-le-pow_right}
 use Rattle.avc_cavlc.specs.Block.{next_suffix_length}
 use Rattle.avc_make.specs.BlockWriting.{AreCodes, IsCode, SmallAreWritable, after_zeros, code_of_level, coded, first_length, least_code, ones_first, values_of}
@@ -9,6 +9,7 @@ use Rattle.avc_make.specs.VuiWriting.{Each}
 use Rattle.avc_make.proofs.BlockPutting.{each_drop, each_reverse, each_value}
 use Rattle.avc_make.proofs.LevelWords.{least_last}
 use Rattle.avc_make.proofs.WeightsBack.{each_of_all}
+use Rattle.std.proofs.lemmas.Bool.Decides.{nat_tests}
 
 abbrev IsSmall : ℤ → Type 0
 IsSmall l = nat_abs l ≤ 2063
@@ -24,10 +25,7 @@ least_most sl = elim (cases_eq sl 0) [
 ]
 
 small_code : (sl : ℕ) (above_one : Bool) (l : ℤ) → IsSmall l → IsCode sl (code_of_level above_one l)
-small_code sl true (pos n) small = omega (arith, least_most sl)
-small_code sl false (pos n) small = omega (arith, least_most sl)
-small_code sl true (negsuc n) small = omega (arith, least_most sl)
-small_code sl false (negsuc n) small = omega (arith, least_most sl)
+small_code sl above_one l small = grind (arith, least_most sl)
 
 small_codes : (sl : ℕ) (above_one : Bool) (values : List ℤ) → Each IsSmall values → AreCodes sl above_one values
 small_codes sl above_one [] all = tt
@@ -35,10 +33,7 @@ small_codes sl above_one (l ∷ values) all = (small_code sl above_one l all.0, 
 
 each_found : (P : ℤ → Type 0) (before : ℕ) (levels : List ℤ) → Each P levels → Each (λ c. P c.0) (after_zeros before levels)
 each_found P before [] all = tt
-each_found P before (l ∷ levels) all = elim (cases_eq (nat_abs l) 0) [
-  | inl none ↦ rw (eq-eqb (nat_abs l) 0 none) (each_found P (before + 1) levels all.1)
-  | inr some ↦ rw (ne_eqb (nat_abs l) 0 some) (all.0, each_found P 0 levels all.1)
-]
+each_found P before (l ∷ levels) all = grind (arith, nat_tests, each_found P (before + 1) levels all.1, each_found P 0 levels all.1)
 
 pub small_writable : SmallAreWritable
 small_writable levels all =

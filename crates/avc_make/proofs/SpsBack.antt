@@ -47,7 +47,7 @@ back-order (orders.Type1 zero_flag non_ref top_to_bottom offsets) is values =
 back-order orders.Type2 is values = back-then order_count_of (back-ue_to 2 {v = 2} refl (omega arith)) back-give
 
 both : (a b : Bool) → a ≡ true → b ≡ true → (a && b) ≡ true
-both a b first second = rw (first, second) refl
+both a b first second = grind arith
 
 back-size : (s : Sps) → IsSps s → GivesBack size (size_bits s) (size_in s)
 back-size s is =

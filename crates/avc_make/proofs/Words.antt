@@ -1,5 +1,5 @@
 -- The codewords.
-use Rattle.std.proofs.Common.{◌≡◌, ℕ, zero, suc, ◌+◌, ◌-◌, ◌*◌, ◌/◌, ◌%◌, ◌^◌, ◌<◌, ◌≤◌, ◌∷◌, ◌++◌, true, false, ℤ, pos, negsuc, neg_ℤ, ◌<ℤ◌, refl, ap, ◌∙◌, sym, arith}
+use Rattle.std.proofs.Common.{◌≡◌, ℕ, zero, suc, ◌+◌, ◌-◌, ◌*◌, ◌%◌, ◌^◌, ◌<◌, ◌≤◌, ◌∷◌, ◌++◌, true, false, ℤ, pos, neg_ℤ, ◌<ℤ◌, refl, ap, ◌∙◌, sym, arith}
 use Rattle.std.proofs.lemmas.Bool.{ne_eqb}
 use Rattle.std.proofs.lemmas.Int.{ints}
 use Rattle.std.proofs.lemmas.Nat.{leading_length, mod-mul-add}
@@ -10,6 +10,7 @@ use Rattle.avc_bits.specs.Bits.{bits_of}
 use Rattle.avc_bits.specs.Codes.{IsSe, IsTe, IsUe, signed_value}
 use Rattle.avc_bits.proofs.Numbers.{length-bits_of, number-bits_of, number-inj}
 use Rattle.avc_make.specs.Words.{bits_after_one, se_word, signed_index, te_word, ue_word}
+use Rattle.std.proofs.lemmas.Bool.Decides.{nat_tests}
 
 -- where the first 1 of a number stands
 pub record IsTop (n value : ℕ) : Type 0 where
@@ -47,19 +48,10 @@ ue_is_word v small =
 
 -- the value at its place
 pub signed_back : (v : ℤ) → v ≡ signed_value (signed_index v)
-signed_back (pos zero) = refl
-signed_back (pos (suc n)) =
-    let odd : (2 * suc n - 1) % 2 ≡ 1 = omega arith in
-    let half : (2 * suc n - 1 + 1) / 2 ≡ suc n = omega arith in
-    rw (odd, half) refl
-signed_back (negsuc n) =
-    let even : 2 * (n + 1) % 2 ≡ 0 = omega arith in
-    let half : 2 * (n + 1) / 2 ≡ suc n = omega arith in
-    rw (even, half) refl
+signed_back v = grind (arith, nat_tests)
 
 pub index_small : (v : ℤ) → neg_ℤ (pos 2147483648) <ℤ v → v <ℤ pos 2147483648 → signed_index v < 4294967295
-index_small (pos n) low high = omega (arith, ints)
-index_small (negsuc n) low high = omega (arith, ints)
+index_small v low high = grind (arith, ints)
 
 pub se_is_word : (v : ℤ) → neg_ℤ (pos 2147483648) <ℤ v → v <ℤ pos 2147483648 → IsSe (se_word v) v
 unfolding se_word

@@ -1,8 +1,8 @@
 -- Events that are taken one after another.
 use Rattle.std.specs.Prelude.{◌≡◌, ℕ, zero, suc, ◌+◌, ◌-◌, ◌<◌, ◌≤◌, List, [], ◌∷◌, ◌++◌, length, take, drop, Option, Some, None, Result, Ok, Err, IfErr, IsErrAnd, slice_get, refl}
 use Rattle.std.proofs.Common.{ap, sym, subst, ◌∙◌, arith, append_assoc, append-nil, length-append, drop-cons}
-use Rattle.std.proofs.Math.Seq.{drop-nil}
-use Rattle.std.proofs.lemmas.List.{take-append-le}
+use Rattle.std.proofs.Math.Seq.{drop-nil, take-append-add, take-append_seam}
+use Rattle.std.proofs.lemmas.List.{take-append-le, drop_more}
 use Rattle.std.proofs.lemmas.Option.{slice_get_within, get_or_from_slice_get}
 use Rattle.std.specs.Io.KnownBytes.{Appends}
 use Rattle.std.proofs.KnownBytes.{Appends-nil, Appends-trans}
@@ -62,24 +62,16 @@ held_more m = omega arith
 
 pub reported_is : (m : ℕ) (refused : List (ℕ × Fault)) (events : List Event)
     → report_with (record { pictures = saturated m; refused = refused }) events ≡ record { pictures = saturated (m + length (pictures_in events)); refused = refused ++ refusals_in events }
-reported_is m refused [] =
-    let same : m ≡ m + 0 = omega arith in
-    ap (λ rs. record { pictures = saturated m; refused = rs }) (sym (append-nil refused)) ∙ ap (λ k. record { pictures = saturated k; refused = refused ++ [] }) same
+reported_is m refused [] = rw append-nil (ap (λ k. record { pictures = saturated k; refused = refused }) (omega arith))
 reported_is m refused (Picture p ∷ events) =
     let n = length (pictures_in events) in
     let same : m + 1 + n ≡ m + suc n = omega arith in
     ap (λ k. report_with (record { pictures = k; refused = refused }) events) (held_more m)
     ∙ reported_is (m + 1) refused events
     ∙ ap (λ k. record { pictures = saturated k; refused = refused ++ refusals_in events }) same
-reported_is m refused (Refused unit f ∷ events) =
-    reported_is m (refused ++ (unit, f) ∷ []) events
-    ∙ ap (λ rs. record { pictures = saturated (m + length (pictures_in events)); refused = rs }) (append_assoc refused ((unit, f) ∷ []) (refusals_in events))
+reported_is m refused (Refused unit f ∷ events) = reported_is m (refused ++ (unit, f) ∷ []) events ∙ rw append_assoc refl
 
 -- ---- the next one
-
-drop_next : {A : Type 0} (xs : List A) (k : ℕ) (x : A) → slice_get xs k ≡ Some x → drop k xs ≡ x ∷ drop (suc k) xs
-drop_next xs k x e =
-    drop-cons xs k x (slice_get_within xs k x e) ∙ ap (λ y. y ∷ drop (suc k) xs) (get_or_from_slice_get xs k x x e)
 
 drop_none : {A : Type 0} (xs : List A) (k : ℕ) → slice_get xs k ≡ None → drop k xs ≡ []
 drop_none [] k e = drop-nil k
@@ -90,10 +82,12 @@ drop_none (x ∷ xs) (suc k) e = drop_none xs k e
 
 -- where an event is taken
 due_next : (d : Machine) (e : Event) → Some e ≡ next_event max_unit d → events_left d ≡ e ∷ events_left (after_take (Some e) d)
-due_next d e is = drop_next (events_defined d) d.taken e (sym is) ∙ ap (λ k. e ∷ drop k (events_defined d)) (let same : suc d.taken ≡ d.taken + 1 = omega arith in same)
+due_next d e is =
+    let all = events_defined d in
+    drop_more all d.taken e (slice_get_within all d.taken e (sym is)) ∙ ap (λ y. y ∷ drop (d.taken + 1) all) (get_or_from_slice_get all d.taken e e (sym is))
 
 pub begun : (f : Format) (d : Machine) (r : Report) (held : Option (List ℕ)) → Appends held held [] → IsDraining f d d r r held held
-begun f d r holds nothing = record { done = []; rest = refl; machine = ap (λ k. record d { taken = k }) (let same : d.taken ≡ d.taken + 0 = omega arith in same); report = refl; written = nothing }
+begun f d r holds nothing = record { done = []; rest = refl; machine = ap (λ k. record d { taken = k }) (omega arith); report = refl; written = nothing }
 
 pub one_more : (f : Format) (d0 d d' : Machine) (r0 r r' : Report) (w0 w w' : Option (List ℕ)) (e : Event)
     → Some e ≡ next_event max_unit d → d' ≡ after_take (Some e) d → r' ≡ report_with r (e ∷ []) → Appends w w' (written_from f r.pictures (e ∷ []))
@@ -127,19 +121,12 @@ handled f d0 d d' r0 r w0 w none same i =
 
 -- ---- a fault
 
-take_front : {A : Type 0} (a b : List A) → take (length a) (a ++ b) ≡ a
-take_front [] b = refl
-take_front (x ∷ a) b = ap (λ xs. x ∷ xs) (take_front a b)
-
 take_more : {A : Type 0} (a b c : List A) (n : ℕ) → n ≤ length b → take (length a + n) (a ++ (b ++ c)) ≡ a ++ take n b
-take_more [] b c n within = ap (λ k. take k (b ++ c)) (let same : 0 + n ≡ n = omega arith in same) ∙ take-append-le n b c within
-take_more (x ∷ a) b c n within =
-    let same : length (x ∷ a) + n ≡ suc (length a + n) = omega arith in
-    ap (λ k. take k (x ∷ (a ++ (b ++ c)))) same ∙ ap (λ xs. x ∷ xs) (take_more a b c n within)
+take_more a b c n within = take-append-add a (b ++ c) n ∙ ap (λ t. a ++ t) (take-append-le n b c within)
 
 written_three : (f : Format) (n : ℕ) (a b c : List Event) → written_from f n (a ++ (b ++ c))
     ≡ written_from f n a ++ (written_from f (pictures_after n a) b ++ written_from f (pictures_after (pictures_after n a) b) c)
-written_three f n a b c = written-append f n a (b ++ c) ∙ ap (λ bs. written_from f n a ++ bs) (written-append f (pictures_after n a) b c)
+written_three f n a b c = rw (written-append f n a (b ++ c), written-append f (pictures_after n a) b c) refl
 
 -- the pictures of a, and of the first n events of b, before what would have followed
 parts : (f : Format) (m : ℕ) (w0 w w' : Option (List ℕ)) (a b c : List Event) (n : ℕ) → n ≤ length b → Appends w0 w (written_from f m a)
@@ -201,7 +188,7 @@ stopped f d0 d r0 r w0 w i =
       within = omega (arith, ap (λ es. length es) i.rest, length-append i.done (events_left d));
       written =
           subst (Appends w0 w) (sym (ap (λ es. written_from f r0.pictures (take (length i.done) es)) i.rest
-          ∙ ap (λ es. written_from f r0.pictures es) (take_front i.done (events_left d)))) i.written;
+          ∙ ap (λ es. written_from f r0.pictures es) (take-append_seam i.done (events_left d)))) i.written;
     }
 
 -- in the midst of one
@@ -214,15 +201,14 @@ stopped_in f fault d0 d r0 r w0 w w' e next some i =
 
 -- in the writing of one picture
 in_picture : (f : Format) (n : ℕ) (fault : RunFault) (w w' : Option (List ℕ)) (p : Decoded) → StopsPicture fault (f.fits n p) w w' (f.text n p) → BreaksOff f n fault w w' (Picture p ∷ [])
-in_picture f n Write w w' p some = subst (WritesFirst w w') (sym (append-nil (f.text n p))) some
+in_picture f n Write w w' p some = rw append-nil some
 in_picture f n Memory w w' p some = record { count = 0; within = omega arith; written = some }
 in_picture f n Size w w' p some = record { front = []; picture = p; rest = []; parts = refl; another = some.0; written = some.1 }
-in_picture f n Read w w' p some = absurd some
-in_picture f n Endless w w' p some = absurd some
+in_picture f n _ w w' p some = absurd some
 
 pub picture_broken : (f : Format) (n : ℕ) (fault : RunFault) (w w' : Option (List ℕ)) (e : Event) (p : Decoded) → e ≡ Picture p → StopsPicture fault (f.fits n p) w w' (f.text n p)
     → BreaksOff f n fault w w' (e ∷ [])
-picture_broken f n fault w w' e p is some = subst (λ e. BreaksOff f n fault w w' (e ∷ [])) (sym is) (in_picture f n fault w w' p some)
+picture_broken f n fault w w' e p is some = rw is (in_picture f n fault w w' p some)
 
 -- nothing was handled
 pub none_handled : (f : Format) (n : ℕ) (w : Option (List ℕ)) (events : List Event) → WritesPicturesAs f n w w events

@@ -7,7 +7,7 @@ use Rattle.std.proofs.lemmas.List.{take-append-le}
 use Rattle.avc_run.specs.Reading.{WritesFirst}
 use Rattle.avc_run.specs.declared.fault.RunFault.{RunFault}
 use Rattle.avc_run.specs.declared.fault.RunFault.TheVariants.{Write}
-use Rattle.avc_run.proofs.StreamWriting.{front_of_both}
+use Rattle.std.proofs.Math.Seq.{take-append-add}
 
 -- the first of the one
 pub stopped_before : (a b : Option (List ℕ)) (xs ys : List ℕ) → WritesFirst a b xs → WritesFirst a b (xs ++ ys)
@@ -22,15 +22,14 @@ pub stopped_after : (a b c : Option (List ℕ)) (xs ys : List ℕ) → Appends a
 stopped_after a b c xs ys all some = record {
   count = length xs + some.count;
   fewer = omega (arith, length-append xs ys, some.fewer);
-  written = subst (Appends a c) (sym (front_of_both xs ys some.count)) (Appends-trans a b c xs (take some.count ys) all some.written);
+  written = subst (Appends a c) (sym (take-append-add xs ys some.count)) (Appends-trans a b c xs (take some.count ys) all some.written);
 }
 
 -- ---- by results
 
 -- where it holds at all
 pub on_err : {A E : Type 0} (P : Type 0) (r : Result A E) → P → OnErr r P
-on_err P (Ok a) holds = tt
-on_err P (Err e) holds = holds
+on_err P r holds = grind arith
 
 -- the one was written, and the other is the last part
 pub stopped_last : {A : Type 0} (r : Result A RunFault) (a b c : Option (List ℕ)) (xs ys zs : List ℕ) → zs ≡ xs ++ ys → Appends a b xs → IfErr r (λ f. (f ≡ Write) × WritesFirst b c ys)

@@ -5,14 +5,11 @@ use Rattle.std.specs.Io.KnownBytes.{Appends, Keeps}
 use Rattle.std.proofs.Common.{ap, sym, ◌∙◌, append_assoc, append-nil, arith}
 use Rattle.std.proofs.Math.Seq.{take-suc}
 use Rattle.std.proofs.lemmas.Grind.{flat_map-append}
+use Rattle.std.proofs.lemmas.List.{take_more}
 
 -- the parts of a line
 pub line_is : (unit number name : List ℕ) → unit ++ codes ": " ++ number ++ codes " " ++ name ++ 10 ∷ [] ≡ unit ++ (58 ∷ 32 ∷ (number ++ (32 ∷ (name ++ (10 ∷ [])))))
-line_is unit number name =
-    append_assoc (((unit ++ codes ": ") ++ number) ++ codes " ") name (10 ∷ [])
-    ∙ append_assoc ((unit ++ codes ": ") ++ number) (codes " ") (name ++ (10 ∷ []))
-    ∙ append_assoc (unit ++ codes ": ") number (codes " " ++ (name ++ (10 ∷ [])))
-    ∙ append_assoc unit (codes ": ") (number ++ (codes " " ++ (name ++ (10 ∷ []))))
+line_is unit number name = simp append_assoc
 
 -- one item more
 pub told_more : {A : Type 0} (line : A → List ℕ) (items : List A) (x : A) → flat_map line (items ++ x ∷ []) ≡ flat_map line items ++ line x
@@ -21,8 +18,7 @@ told_more line items x = flat_map-append line items (x ∷ []) ∙ ap (λ l. fla
 -- one line more
 pub told_next : {A : Type 0} (line : A → List ℕ) (old new : List ℕ) (d : A) (items : List A) (i : ℕ) → i < length items → old ≡ flat_map line (take i items)
     → new ≡ old ++ line (get_or items i d) → new ≡ flat_map line (take (i + 1) items)
-told_next line old new d items i low so_far more =
-    more ∙ ap (λ l. l ++ line (get_or items i d)) so_far ∙ sym (told_more line (take i items) (get_or items i d)) ∙ ap (flat_map line) (sym (take-suc items i d low)) ∙ ap (λ n. flat_map line (take n items)) (let same : suc i ≡ i + 1 = omega arith in same)
+told_next line old new d items i low so_far more = rw (more, so_far, take_more items i d low) (sym (told_more line (take i items) (get_or items i d)))
 
 pub kept_front : (a b c : Option (List ℕ)) (bytes : List ℕ) → Keeps a b → Appends b c bytes → Appends a c bytes
 kept_front None b c bytes kept more = tt

@@ -24,8 +24,7 @@ some_before {A = A} xs n later = by (slice_get xs (n + 1)) refl later
         ap (λ (o : Option A). is_some o) (slice_get-get_or xs n x (omega (arith, low)))
 
 again : (piece : Option (List ℕ)) → is_some piece ≡ true → Some (bytes_of piece) ≡ piece
-again None e = cc e
-again (Some bytes) e = refl
+again piece e = grind arith
 
 -- all bytes, or so many that the next piece has begun
 is_piece : (number : ℕ) (bytes : List ℕ) (all : Bool) → PiecesAreWhole → PiecesStay → (all ≡ false → is_over number bytes false ≡ true)

@@ -1,6 +1,6 @@
 -- Where every picture is written as I420, and all are wanted.
 use Rattle.std.specs.Prelude.{◌≡◌, ℕ, ◌+◌, Bool, true, false, List, [], ◌∷◌, ◌++◌, take, Option, Result, Ok, Err, refl}
-use Rattle.std.proofs.Common.{ap, subst}
+use Rattle.std.proofs.Common.{ap, subst, arith}
 use Rattle.std.specs.Io.KnownBytes.{Appends}
 use Rattle.avc_annexb.specs.Units.{saturated}
 use Rattle.avc_yuv.specs.I420.{i420}
@@ -23,8 +23,7 @@ written_plain n (Refused unit f ∷ es) = written_plain n es
 
 -- all bytes were read
 whole : (all : Bool) → (all ≡ false → false ≡ true) → all ≡ true
-whole true other = refl
-whole false other = other refl
+whole all other = grind arith
 
 abbrev OfWhole : Output → (unread left held holds : Option (List ℕ)) → Report → (bytes : List ℕ) → Bool → Type 0
 OfWhole output unread left held holds report bytes all =

@@ -19,6 +19,7 @@ use Rattle.avc_types.specs.declared.fault.Fault.{Fault}
 use Rattle.avc_run.specs.declared.fault.RunFault.{RunFault}
 use Rattle.avc_run.specs.declared.fault.RunFault.TheVariants.{Read, Endless, Write, Memory, Size}
 use Rattle.avc_run.proofs.Draining.{behind, breaks_behind, pictures_now, report_with-append, reported_is}
+use Rattle.avc_run.proofs.StreamWriting.{nothing_more}
 
 -- ---- reports
 
@@ -26,9 +27,7 @@ abbrev fresh : Report
 fresh = record { pictures = 0; refused = [] }
 
 told : (es : List Event) → report_with fresh es ≡ report_of es
-told es =
-    let same : 0 + length (pictures_in es) ≡ length (pictures_in es) = omega arith in
-    reported_is 0 [] es ∙ ap (λ n. record { pictures = saturated n; refused = refusals_in es }) same
+told es = reported_is 0 [] es ∙ ap (λ n. record { pictures = saturated n; refused = refusals_in es }) (omega arith)
 
 told_more : (a b : List Event) → report_with (report_of a) b ≡ report_of (a ++ b)
 told_more a b = ap (λ r. report_with r b) (sym (told a)) ∙ sym (report_with-append fresh a b) ∙ told (a ++ b)
@@ -63,9 +62,9 @@ due_then grow output bytes more ended =
 drained_then : (m : Machine) (front others : List Event) → m.taken ≡ length front → events_defined m ≡ front ++ others → events_left m ≡ others →
     after_draining m ≡ record m { taken = length (events_defined m) }
 drained_then m front others taken all due' =
-    let count : m.taken + length (events_left m) ≡ length (events_defined m) =
-    ap (λ n. n + length (events_left m)) taken ∙ ap (λ es. length front + length es) due' ∙ sym (length-append front others) ∙ sym (ap (λ es. length es) all) in
-    ap (λ n. record m { taken = n }) count
+    let long = ap (λ es. length es) all in
+    let rest = ap (λ es. length es) due' in
+    ap (λ n. record m { taken = n }) (omega (arith, taken, long, rest, length-append front others))
 
 -- ---- the states of a run
 
@@ -95,11 +94,6 @@ due_at_end grow output bytes =
     let same : defined output bytes ≡ events output max_unit (bytes ++ []) true = ap (λ bs. events output max_unit bs true) (sym (append-nil bytes)) in
     (then'.0, same ∙ then'.1, ap (λ es. drop (length (events output max_unit bytes false)) es) same ∙ then'.2)
 
--- a read of none
-nothing_more : (unread left left' : Option (List ℕ)) (bytes piece : List ℕ) (len : ℕ) → Consumes unread left bytes → len ≡ 0 → Consumes left left' (take len piece) → Consumes unread left' bytes
-nothing_more unread left left' bytes piece len so_far none more =
-    subst (Consumes unread left') (append-nil bytes) (Consumes-trans unread left left' bytes [] so_far (subst (λ n. Consumes left left' (take n piece)) none more))
-
 pub ended : (f : Format) → EventsOnlyGrow → (output : Output) (unread left left' w0 w w' : Option (List ℕ)) (d d' : Machine) (r r' : Report) (len : ℕ) (piece : List ℕ) →
     IsRunning f output unread left w0 w d r → len ≡ 0 → Consumes left left' (take len piece) → IsAtEnd left' → IsHandled f (after_flush d) d' r r' w w' → DecodesAs f output unread left' w0 w' (Ok r')
 ended f grow output unread left left' w0 w w' d d' r r' len piece i none more at_end h =
@@ -126,7 +120,7 @@ enough f output unread left w0 w d r i all = (i.bytes, false, record { consumed 
 -- one of reading
 pub unread_on : (f : Format) (output : Output) (unread left left' w0 w : Option (List ℕ)) (d : Machine) (r : Report) (fault : RunFault) → IsRunning f output unread left w0 w d r → Keeps left left' → fault ≡ Read → DecodesAs f output unread left' w0 w (Err fault)
 unread_on f output unread left left' w0 w d r fault i kept is =
-    subst (λ fault. DecodesAs f output unread left' w0 w (Err fault)) (sym is) (i.bytes, record { consumed = Consumes-kept unread left left' i.bytes i.consumed kept; whole = λ all. cc }, i.written)
+    rw is (i.bytes, record { consumed = Consumes-kept unread left left' i.bytes i.consumed kept; whole = λ all. cc }, i.written)
 
 -- so many reads, each of some bytes
 pub record IsReading (format : Format) (reads : ℕ) (output : Output) (unread left held holds : Option (List ℕ)) (m : Machine) (r : Report) : Type 0 where
@@ -173,9 +167,7 @@ broken : (f : Format) (output : Output) (fault : RunFault) (unread left w0 w' : 
     → BreaksOff f 0 fault w0 w' (events output max_unit bytes all) → DecodesAs f output unread left w0 w' (Err fault)
 broken f output Read unread left w0 w' bytes all read off = absurd off
 broken f output Endless unread left w0 w' bytes all read off = absurd off
-broken f output Write unread left w0 w' bytes all read off = (bytes, all, read, off)
-broken f output Memory unread left w0 w' bytes all read off = (bytes, all, read, off)
-broken f output Size unread left w0 w' bytes all read off = (bytes, all, read, off)
+broken f output _ unread left w0 w' bytes all read off = (bytes, all, read, off)
 
 -- the front, what broke off, and nothing after it
 nothing_after : (front due all : List Event) → all ≡ front ++ due → all ≡ front ++ (due ++ [])
@@ -208,8 +200,7 @@ broken_at_end f grow output unread left left' w0 w w' d r len piece fault i none
     (subst (BreaksOff f 0 fault w0 w') (sym all) (breaks_behind f fresh r fault w0 w w' front due [] (i.report ∙ sym (told front)) i.written off))
 
 pub err_is : {A : Type 0} (r : Result A RunFault) (f : RunFault) → IsErrAnd r (λ e. e ≡ f) → r ≡ Err f
-err_is (Ok a) f is = absurd is
-err_is (Err e) f is = ap (λ e. Err e) is
+err_is r f is = grind arith
 
 pub decodes_err : (format : Format) (output : Output) (unread left old new : Option (List ℕ)) (r : Result Report RunFault) (f : RunFault) → r ≡ Err f
     → DecodesAs format output unread left old new (Err f) → DecodesAs format output unread left old new r

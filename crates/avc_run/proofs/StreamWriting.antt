@@ -10,6 +10,7 @@ use Rattle.avc_run.specs.Reading.{HasRead}
 use Rattle.avc_run.specs.StreamWriting.{IsStopped, IsWhole, IsWriting, IsWrittenOn, StopsWriting}
 use Rattle.avc_run.specs.declared.fault.RunFault.{RunFault}
 use Rattle.avc_run.specs.declared.fault.RunFault.TheVariants.{Write, Memory}
+use Rattle.std.proofs.Math.Seq.{take-append-add}
 
 -- a text by the bytes that came, and whether they are all
 abbrev pub Text : Type 0
@@ -48,7 +49,7 @@ no_memory_at_end text grows s held open_end short =
 -- ---- faults
 
 -- a read of none
-nothing_more : (unread left left' : Option (List ℕ)) (bytes piece : List ℕ) (len : ℕ) → Consumes unread left bytes → len ≡ 0 → Consumes left left' (take len piece) → Consumes unread left' bytes
+pub nothing_more : (unread left left' : Option (List ℕ)) (bytes piece : List ℕ) (len : ℕ) → Consumes unread left bytes → len ≡ 0 → Consumes left left' (take len piece) → Consumes unread left' bytes
 nothing_more unread left left' bytes piece len so_far none more =
     subst (Consumes unread left') (append-nil bytes) (Consumes-trans unread left left' bytes [] so_far (subst (λ n. Consumes left left' (take n piece)) none more))
 
@@ -68,24 +69,17 @@ stopped text Write unread left w0 w' bytes all read off = (bytes, all, read, off
 stopped text Memory unread left w0 w' bytes all read off = (bytes, all, read, off)
 stopped text _ unread left w0 w' bytes all read off = absurd off
 
--- all of a, and then n bytes of b
-pub front_of_both : (a b : List ℕ) (n : ℕ) → take (length a + n) (a ++ b) ≡ a ++ take n b
-front_of_both [] b n = ap (λ k. take k b) (let same : 0 + n ≡ n = omega arith in same)
-front_of_both (x ∷ a) b n =
-    let same : length (x ∷ a) + n ≡ suc (length a + n) = omega arith in
-    ap (λ k. take k (x ∷ (a ++ b))) same ∙ ap (λ xs. x ∷ xs) (front_of_both a b n)
-
 -- a fault in b, after all of a
 stops_later : (fault : RunFault) (w0 w w' : Option (List ℕ)) (a b : List ℕ) → Appends w0 w a → StopsWriting fault w w' b → StopsWriting fault w0 w' (a ++ b)
 stops_later Write w0 w w' a b all some = record {
   count = length a + some.count;
   fewer = omega (arith, length-append a b, some.fewer);
-  written = subst (Appends w0 w') (sym (front_of_both a b some.count)) (Appends-trans w0 w w' a (take some.count b) all some.written);
+  written = subst (Appends w0 w') (sym (take-append-add a b some.count)) (Appends-trans w0 w w' a (take some.count b) all some.written);
 }
 stops_later Memory w0 w w' a b all some = record {
   count = length a + some.count;
   within = omega (arith, length-append a b, some.within);
-  written = subst (Appends w0 w') (sym (front_of_both a b some.count)) (Appends-trans w0 w w' a (take some.count b) all some.written);
+  written = subst (Appends w0 w') (sym (take-append-add a b some.count)) (Appends-trans w0 w w' a (take some.count b) all some.written);
 }
 stops_later _ w0 w w' a b all some = absurd some
 

@@ -6,10 +6,10 @@ use Rattle.avc_run.specs.declared.fault.RunFault.{RunFault}
 use Rattle.avc_run.specs.declared.fault.RunFault.TheVariants.{Memory}
 use Rattle.avc_run.specs.declared.report.Report.{Report}
 use Rattle.avc_run.proofs.Lines.{kept_front}
+use Rattle.std.proofs.Common.{arith}
 
 pub as_it_is : (run : Result Report RunFault) → IsToldAs run run
-as_it_is (Ok report) = refl
-as_it_is (Err fault) = refl
+as_it_is run = grind arith
 
 -- no memory was found for the lines of its refusals
 pub as_memory : (run : Result Report RunFault) (fault : RunFault) → fault ≡ Memory → is_ok run ≡ true → IsToldAs run (Err fault)

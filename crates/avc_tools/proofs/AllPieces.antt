@@ -1,8 +1,8 @@
 -- The events of a stream, from those of its pieces, where each start begins anew.
-use Rattle.std.proofs.Common.{ℕ, ◌≡◌, ◌||◌, Bool, true, false, cond, not, if◌then◌else◌, List, [], ◌∷◌, ◌++◌, map, All}
+use Rattle.std.proofs.Common.{ℕ, ◌≡◌, ◌||◌, Bool, true, false, cond, not, if◌then◌else◌, List, [], ◌∷◌, ◌++◌, map, All, arith}
 use Rattle.std.proofs.Common.{refl, ap, ap₂, sym, ◌∙◌, append_assoc, append-nil}
 use Rattle.std.specs.List.{flat_map, list_all, list_any, take_while}
-use Rattle.std.proofs.lemmas.List.Elements.{All-nil, All-cons, All-head, All-tail, All-append, All-same}
+use Rattle.std.proofs.lemmas.List.Elements.{All-nil, All-cons, All-head, All-tail, All-append, All-same, All-push}
 use Rattle.std.proofs.lemmas.List.Sums.{take_while-cons}
 use Rattle.avc_annexb.specs.Laws.{UnitsAreWhole, UnitsAreWithin, WrittenUnitsStandAlone, contents}
 use Rattle.avc_annexb.specs.Units.{units}
@@ -18,22 +18,14 @@ use Rattle.avc_tools.specs.Cutting.{piece_units}
 use Rattle.avc_tools.specs.Pieces.{piece, pieces, rest_of_piece}
 use Rattle.avc_tools.proofs.PieceEvents.{piece_events, segment, segment_alike}
 use Rattle.avc_tools.proofs.PiecesWithin.{IsAccepted, IsSilent}
-use Rattle.avc_tools.proofs.Fronts.{set_units-append}
+use Rattle.avc_tools.proofs.Shown.{set_units-append}
 use Rattle.avc_tools.proofs.Refusals.{ArePictures, all_accepted, events_of_pieces, pictures_before, pictures_behind, pieces_of_pictures, silent_units}
 
 -- the units before the next start
 starts_now : (x : Bool) (u : Unit) (after : List Unit) → is_start u ≡ x → segment (u ∷ after) ≡ (if x then [] else u ∷ segment after)
-starts_now true u after is =
-    ap (λ b. if b || list_any is_start after then take_while (λ v. not (is_start v)) (u ∷ after) else u ∷ after) is
-    ∙ take_while-cons (λ v. not (is_start v)) u after ∙ ap (λ b. cond (not b) (u ∷ take_while (λ v. not (is_start v)) after) []) is
-starts_now false u after is =
-    ap (λ b. if b || list_any is_start after then take_while (λ v. not (is_start v)) (u ∷ after) else u ∷ after) is
-    ∙ ap (λ t. if list_any is_start after then t else u ∷ after) (take_while-cons (λ v. not (is_start v)) u after ∙ ap (λ b. cond (not b) (u ∷ take_while (λ v. not (is_start v)) after) []) is)
-    ∙ either (list_any is_start after) (take_while (λ v. not (is_start v)) after)
-  where
-    either : (b : Bool) (us : List Unit) → (if b then u ∷ us else u ∷ after) ≡ u ∷ (if b then us else after)
-    either true us = refl
-    either false us = refl
+starts_now x u after is =
+    let first = take_while-cons (λ v. not (is_start v)) u after in
+    grind (arith, first, is)
 
 -- Each start of these units begins anew.
 abbrev pub StartsBeginAnew : Output → List Unit → Type 0
@@ -105,7 +97,7 @@ module _ (again : SetsAreInForceAgain) (are : SetsInForceAreUnits) (no_units : P
       let behind = All-tail IsAccepted u after b in
       joined_by (is_start u) before after u s refl here through a behind pictures
       (joined (before ++ u ∷ []) after (state_after s u o) (here ∙ sym (append_assoc before (u ∷ []) after)) (is_through_more before u s through)
-      (All-append IsAccepted before (u ∷ []) a (All-cons IsAccepted u [] (All-head IsAccepted u after b) (All-nil IsAccepted))) behind
+      (All-push IsAccepted before u a (All-head IsAccepted u after b)) behind
       (pictures_behind o.events (events_from (state_after s u o) after true) pictures))
 
   silent_if : (x : Bool) (u : Unit) (us : List Unit) → is_start u ≡ x → IsAccepted u → All IsSilent us → All IsSilent (if x then [] else u ∷ us)

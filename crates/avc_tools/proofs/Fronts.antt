@@ -3,7 +3,7 @@ use Rattle.std.proofs.Common.{◌≡◌, ℕ, Bool, true, false, ◌&&◌, ◌||
 use Rattle.std.proofs.Common.{Option, None, refl, ap, ap₂, sym, ◌∙◌, append_assoc, append-nil, arith}
 use Rattle.std.proofs.lemmas.Bool.Decides.{nat_tests}
 use Rattle.std.specs.List.{filter}
-use Rattle.std.proofs.lemmas.List.Elements.{All-head, All-tail, All-append, All-weaker}
+use Rattle.std.proofs.lemmas.List.Elements.{All-head, All-tail, All-append, All-weaker, All-filter}
 use Rattle.avc_annexb.specs.Units.{forbidden_zero_bit, nal_unit_type}
 use Rattle.avc_annexb.specs.declared.unit.Unit.{Unit}
 use Rattle.avc_params.specs.Tables.{Sets, sets_after}
@@ -16,7 +16,7 @@ use Rattle.avc_units.specs.declared.step.Step.{Step}
 use Rattle.avc_decoder.specs.Events.{Outcome, State, after_next, after_unit, events_from, in_phase, is_running, no_change, open_facts_in, state_after, waiting}
 use Rattle.avc_tools.specs.Pieces.{after_slices, leads}
 use Rattle.avc_tools.proofs.PiecesWithin.{IsAccepted}
-use Rattle.avc_tools.proofs.PieceUnits.{all_filtered}
+use Rattle.avc_tools.proofs.Shown.{set_units-append}
 use Rattle.avc_tools.proofs.Joining.{Ends, IsBetween, between_after, ends}
 
 -- Where decoding waits, the unit does nothing more.
@@ -37,7 +37,7 @@ pub quiet_front : SetsInForceAreUnits → (before : List Unit) → All IsAccepte
 quiet_front are before h =
     All-append IsQuiet (sets_in_force before) (filter leads (after_slices before))
     (All-weaker (IsSetOf before) IsQuiet (set_quiet before) (sets_in_force before) (are before))
-    (All-weaker IsBetween IsQuiet between_quiet (filter leads (after_slices before)) (all_filtered IsBetween leads (after_slices before) (between_after before h)))
+    (All-weaker IsBetween IsQuiet between_quiet (filter leads (after_slices before)) (All-filter leads IsBetween (after_slices before) (between_after before h)))
 
 abbrev with_sets : State → List SetUnit → State
 with_sets s sets = record s { sets = sets; phase = waiting }
@@ -73,25 +73,15 @@ brings_set other = false
 
 set_by : (one five part s p b : Bool) → (s || p) ≡ false →
     brings_set (if one then slice false else (if five then slice true else (if part then partition else (if s then sps else (if p then pps else (if b then boundary else other)))))) ≡ false
-set_by true five part s p b h = refl
-set_by false true part s p b h = refl
-set_by false false true s p b h = refl
-set_by false false false true p b h = (cc)
-set_by false false false false true b h = (cc)
-set_by false false false false false true h = refl
-set_by false false false false false false h = refl
+set_by one five part s p b h = grind arith
 
 none_brought : (k : Kind) (o : Option (List ℕ)) → brings_set k ≡ false → set_of k o ≡ None
-none_brought (slice idr) o h = refl
-none_brought partition o h = refl
 none_brought sps o h = (cc)
 none_brought pps o h = (cc)
-none_brought boundary o h = refl
-none_brought other o h = refl
+none_brought _ o h = refl
 
 no_set_if : (bit : Bool) (o : Option SetUnit) → o ≡ None → (if bit then None else o) ≡ None
-no_set_if true o e = refl
-no_set_if false o e = e
+no_set_if bit o e = grind arith
 
 leads_no_set : (u : Unit) → leads u ≡ true → set_unit u ≡ None
 leads_no_set u h =
@@ -107,11 +97,6 @@ leading_by false u us is h = h
 leading_bring_none : (us : List Unit) → set_units (filter leads us) ≡ []
 leading_bring_none [] = refl
 leading_bring_none (u ∷ us) = leading_by (leads u) u (filter leads us) refl (leading_bring_none us)
-
-pub set_units-append : (us vs : List Unit) → set_units (us ++ vs) ≡ set_units us ++ set_units vs
-set_units-append [] vs = refl
-set_units-append (u ∷ us) vs =
-    ap (λ t. list_of (set_unit u) ++ t) (set_units-append us vs) ∙ sym (append_assoc (list_of (set_unit u)) (set_units us) (set_units vs))
 
 -- The sets in force behind a piece's front are those in force in the stream.
 pub front_sets : SetsAreInForceAgain → (before : List Unit) →

@@ -3,7 +3,7 @@ use Rattle.std.proofs.Common.{◌≡◌, ◌⊎◌, ℕ, Bool, true, false, cond
 use Rattle.std.proofs.Common.{Option, Some, None, Ok, Err, refl, ap, sym, ◌∙◌, append_assoc, append-nil, arith}
 use Rattle.std.proofs.lemmas.Bool.Decides.{nat_tests}
 use Rattle.std.specs.List.{filter, take_while}
-use Rattle.std.proofs.lemmas.List.Elements.{All-nil, All-cons, All-head, All-tail, All-same}
+use Rattle.std.proofs.lemmas.List.Elements.{All-nil, All-cons, All-head, All-tail, All-same, All-filter, All-weaker}
 use Rattle.std.proofs.lemmas.List.Sums.{take_while-cons}
 use Rattle.avc_types.specs.declared.fault.Fault.TheVariants as faults
 use Rattle.avc_annexb.specs.Units.{forbidden_zero_bit, nal_unit_type}
@@ -21,7 +21,7 @@ use Rattle.avc_decoder.specs.Laws.{state_through}
 use Rattle.avc_decoder.specs.declared.event.Event.{Event}
 use Rattle.avc_tools.specs.Pieces.{after_slices, is_left_out, is_slice, through_slices}
 use Rattle.avc_tools.proofs.PiecesWithin.{IsAccepted}
-use Rattle.avc_tools.proofs.PieceUnits.{all_after_slices, all_filtered, all_reversed}
+use Rattle.avc_tools.proofs.PieceUnits.{all_after_slices, all_reversed, taken_pass}
 use Rattle.avc_tools.proofs.Slices.{split_at_slices}
 
 -- ---- units one after the other
@@ -46,13 +46,7 @@ brings_data other = false
 data_by : (one five part s p b : Bool) →
     brings_data (if one then slice false else (if five then slice true else (if part then partition else (if s then sps else (if p then pps else (if b then boundary else other))))))
     ≡ (one || five || part)
-data_by true five part s p b = refl
-data_by false true part s p b = refl
-data_by false false true s p b = refl
-data_by false false false true p b = refl
-data_by false false false false true b = refl
-data_by false false false false false true = refl
-data_by false false false false false false = refl
+data_by one five part s p b = grind arith
 
 no_data : (t : ℕ) → (nat_le 1 t && nat_le t 5) ≡ false → brings_data (kind_of t) ≡ false
 no_data t h =
@@ -135,15 +129,8 @@ only_end (u ∷ us) s h =
 abbrev IsNoSlice : Unit → Type 0
 IsNoSlice u = is_slice u ≡ false
 
-no_slice_if : (x : Bool) (u : Unit) (us : List Unit) → is_slice u ≡ x → All IsNoSlice us → All IsNoSlice (cond (not x) (u ∷ us) [])
-no_slice_if true u us is h = All-nil IsNoSlice
-no_slice_if false u us is h = All-cons IsNoSlice u us is h
-
 no_slices_first : (us : List Unit) → All IsNoSlice (take_while (λ u. not (is_slice u)) us)
-no_slices_first [] = All-nil IsNoSlice
-no_slices_first (u ∷ us) =
-    All-same IsNoSlice (take_while (λ u. not (is_slice u)) (u ∷ us)) _ (take_while-cons (λ u. not (is_slice u)) u us)
-    (no_slice_if (is_slice u) u (take_while (λ u. not (is_slice u)) us) refl (no_slices_first us))
+no_slices_first us = All-weaker (λ u. not (is_slice u) ≡ true) IsNoSlice (λ u is. grind (arith, is)) _ (taken_pass (λ u. not (is_slice u)) us)
 
 no_slices_after : (us : List Unit) → All IsNoSlice (after_slices us)
 no_slices_after us = all_reversed IsNoSlice (take_while (λ u. not (is_slice u)) (reverse us)) (no_slices_first (reverse us))
@@ -166,5 +153,5 @@ left_out_alike us s h =
     let t = state_through s front in
     events-append front (filter stays (after_slices us)) s true
     ∙ ap (λ es. events_from s front false ++ es)
-    (only_end (filter stays (after_slices us)) t (all_filtered IsBetween stays (after_slices us) between) ∙ sym (only_end (after_slices us) t between))
+    (only_end (filter stays (after_slices us)) t (All-filter stays IsBetween (after_slices us) between) ∙ sym (only_end (after_slices us) t between))
     ∙ sym (events-append front (after_slices us) s true) ∙ ap (λ vs. events_from s vs true) (split_at_slices us)

@@ -49,11 +49,7 @@ cutting_again max number old mid new before ended c now piece h left is end_is c
 }
 
 pub feed_keeps_end : (s new : SplitterState) (piece : List ℕ) → new ≡ after_feed s piece → s.ended ≡ new.ended
-feed_keeps_end s new piece is = by s.ended refl ∙ ap (λ t. t.ended) (sym is)
-  where
-    by : (e : Bool) → s.ended ≡ e → s.ended ≡ (after_feed s piece).ended
-    by true e = ap (λ x. (if x then s else record s { bytes = s.bytes ++ piece }).ended) (sym e)
-    by false e = ap (λ x. (if x then s else record s { bytes = s.bytes ++ piece }).ended) (sym e)
+feed_keeps_end s new piece is = rw is (grind arith)
 
 pub text_added : (max number : ℕ) (old mid new : SplitterState) (before : StreamSoFar) (ended : Bool) (c now : Cutter) (part more added : List ℕ) → IsCutting max number old ended c → ended ≡ false → AreLeft max old mid
     → new ≡ after_units_left max mid → before.bytes ≡ old.bytes → before.ended ≡ old.ended → IsCutFrom c now part (units_left max mid)
@@ -114,9 +110,7 @@ begun_by (writing before c after) ended = refl
 begun_by (over before c after) ended = refl
 
 over_by : (s : Stage) → is_over s ≡ over_in (phase_of s)
-over_by (waiting left before) = refl
-over_by (writing before c after) = refl
-over_by (over before c after) = refl
+over_by s = grind arith
 
 pub tells_begun : (max number : ℕ) (s : SplitterState) (ended : Bool) (c : Cutter) → IsCutting max number s ended c → length s.bytes ≤ max → begun_in c.phase ≡ is_some (numbered_piece number s.bytes s.ended)
 tells_begun max number s ended c h short =
@@ -127,9 +121,7 @@ tells_over max number s ended c h short =
     ap over_in h.stands.phase ∙ sym (over_by (stage_of max number s)) ∙ sym (over_is max number s.bytes s.ended short)
 
 pub either_begun : (x : CutPhase) → (x ≡ phases.Writing) ⊎ (x ≡ phases.Over) → begun_in x ≡ true
-either_begun x (inl e) = ap begun_in e
-either_begun x (inr e) = ap begun_in e
+either_begun x h = grind arith
 
 pub either_not_over : (x : CutPhase) → (x ≡ phases.Waiting) ⊎ (x ≡ phases.Writing) → over_in x ≡ false
-either_not_over x (inl e) = ap over_in e
-either_not_over x (inr e) = ap over_in e
+either_not_over x h = grind arith

@@ -1,10 +1,10 @@
 -- The units of pieces: of which a stream's pieces are written, which facts they keep, and what a lower limit of a unit's bytes does.
-use Rattle.std.proofs.Common.{◌≡◌, ℕ, Bool, true, false, cond, not, ◌||◌, List, [], ◌∷◌, ◌++◌, length, map, reverse, drop, All}
+use Rattle.std.proofs.Common.{◌≡◌, ℕ, Bool, true, false, cond, not, ◌||◌, List, [], ◌∷◌, ◌++◌, length, map, reverse, drop, All, arith}
 use Rattle.std.proofs.Common.{Option, Some, None, is_some, if◌then◌else◌, refl, ap, ap₂, sym, ◌∙◌}
 use Rattle.std.specs.List.{filter, flat_map, list_any, prefix_len, range_with_len, take_while}
 use Rattle.std.specs.Option.{option_map}
 use Rattle.std.proofs.lemmas.List.{length-map, drop-map, map-append, reverse-append}
-use Rattle.std.proofs.lemmas.List.Elements.{All-nil, All-cons, All-head, All-tail, All-append, All-take, All-drop, All-same}
+use Rattle.std.proofs.lemmas.List.Elements.{All-nil, All-cons, All-head, All-tail, All-append, All-take, All-drop, All-same, All-push, All-filter}
 use Rattle.std.proofs.lemmas.List.Sums.{take_while-cons}
 use Rattle.avc_annexb.specs.declared.unit.Unit.{Unit}
 use Rattle.avc_annexb.specs.Laws.{unit_within}
@@ -20,8 +20,7 @@ use Rattle.avc_tools.specs.Pieces.{after_slices, is_left_out, is_slice, leads, p
 
 made_if : {X Y : Type 0} (f : X → Y) (starts : Bool) (x : X) (others : List X) →
     elim starts [ true ↦ f x ∷ map f others | false ↦ map f others ] ≡ map f (elim starts [ true ↦ x ∷ others | false ↦ others ])
-made_if f true x others = refl
-made_if f false x others = refl
+made_if f starts x others = grind arith
 
 pub pieces_written : (before after : List Unit) → pieces_from before after ≡ map (flat_map written) (piece_units before after)
 pieces_written before [] = refl
@@ -32,14 +31,6 @@ pieces_written before (u ∷ after) =
 -- ---- what holds of all units of a stream holds of those of a piece
 
 module _ {X : Type 0} (P : X → Type 0) where
-  all_if : (keep : Bool) (x : X) (xs : List X) → P x → All P xs → All P (cond keep (x ∷ xs) xs)
-  all_if true x xs h k = All-cons P x xs h k
-  all_if false x xs h k = k
-
-  pub all_filtered : (test : X → Bool) (xs : List X) → All P xs → All P (filter test xs)
-  all_filtered test [] h = All-nil P
-  all_filtered test (x ∷ xs) h = all_if (test x) x (filter test xs) (All-head P x xs h) (all_filtered test xs (All-tail P x xs h))
-
   pub all_taken : (test : X → Bool) (xs : List X) → All P xs → All P (take_while test xs)
   all_taken test xs h = All-take P (prefix_len test xs) xs h
 
@@ -47,11 +38,19 @@ module _ {X : Type 0} (P : X → Type 0) where
   all_reversed [] h = All-nil P
   all_reversed (x ∷ xs) h =
       All-same P (reverse (x ∷ xs)) (reverse xs ++ x ∷ []) (reverse-append (x ∷ []) xs)
-      (All-append P (reverse xs) (x ∷ []) (all_reversed xs (All-tail P x xs h)) (All-cons P x [] (All-head P x xs h) (All-nil P)))
+      (All-push P (reverse xs) x (all_reversed xs (All-tail P x xs h)) (All-head P x xs h))
 
   all_flat : {N : Type 0} (f : N → List X) (ns : List N) → ((n : N) → All P (f n)) → All P (flat_map f ns)
   all_flat f [] h = All-nil P
   all_flat f (n ∷ ns) h = All-append P (f n) (flat_map f ns) (h n) (all_flat f ns h)
+
+pub taken_pass : {X : Type 0} (test : X → Bool) (xs : List X) → All (λ x. test x ≡ true) (take_while test xs)
+taken_pass test [] = All-nil (λ x. test x ≡ true)
+taken_pass test (x ∷ xs) = rw (take_while-cons test x xs) (first (test x) refl (taken_pass test xs))
+  where
+    first : (b : Bool) → test x ≡ b → All (λ x. test x ≡ true) (take_while test xs) → All (λ x. test x ≡ true) (cond b (x ∷ take_while test xs) [])
+    first true e h = All-cons (λ x. test x ≡ true) x (take_while test xs) e h
+    first false e h = All-nil (λ x. test x ≡ true)
 
 module _ (P : Unit → Type 0) where
   all_last : (us : List Unit) → All P us → All P (unit_list (last us))
@@ -61,7 +60,7 @@ module _ (P : Unit → Type 0) where
 
   all_deciding : (in_force : Bool) (test : SetUnit → Bool) (us : List Unit) → All P us → All P (deciding_unit in_force test us)
   all_deciding false test us h = All-nil P
-  all_deciding true test us h = all_last _ (all_filtered P (λ u. satisfies test (set_unit u)) us h)
+  all_deciding true test us h = all_last _ (All-filter (λ u. satisfies test (set_unit u)) P us h)
 
   all_sets : (us : List Unit) → All P us → All P (sets_in_force us)
   all_sets us h =
@@ -81,7 +80,7 @@ module _ (P : Unit → Type 0) where
   pub all_of_rest : (starts : Bool) (us after : List Unit) → All P us → (starts ≡ false → All P after) →
       All P (if starts then through_slices us ++ filter (λ u. not (is_left_out u)) (after_slices us) else after)
   all_of_rest true us after h k =
-      All-append P (through_slices us) _ (all_through_slices us h) (all_filtered P (λ u. not (is_left_out u)) (after_slices us) (all_after_slices us h))
+      All-append P (through_slices us) _ (all_through_slices us h) (All-filter (λ u. not (is_left_out u)) P (after_slices us) (all_after_slices us h))
   all_of_rest false us after h k = k refl
 
   pub all_rest : (after : List Unit) → All P after → All P (rest_of_piece after)
@@ -92,7 +91,7 @@ module _ (P : Unit → Type 0) where
   all_from_parts before rest u h p k =
       All-append P (sets_in_force before ++ filter leads (after_slices before)) (u ∷ rest)
       (All-append P (sets_in_force before) (filter leads (after_slices before))
-      (all_sets before h) (all_filtered P leads (after_slices before) (all_after_slices before h)))
+      (all_sets before h) (All-filter leads P (after_slices before) (all_after_slices before h)))
       (All-cons P u rest p k)
 
   pub all_of_piece : (before after : List Unit) (u : Unit) → All P before → P u → All P after → All P (piece before u after)
@@ -106,14 +105,6 @@ reverse-map f (x ∷ xs) =
     reverse-append (f x ∷ []) (map f xs) ∙ ap (λ t. t ++ f x ∷ []) (reverse-map f xs)
     ∙ sym (map-append f (reverse xs) (x ∷ [])) ∙ ap (map f) (sym (reverse-append (x ∷ []) xs))
 
-kept_first : {X Y : Type 0} (f : X → Y) (keep : Bool) (x : X) (xs : List X) → cond keep (f x ∷ map f xs) [] ≡ map f (cond keep (x ∷ xs) [])
-kept_first f true x xs = refl
-kept_first f false x xs = refl
-
-kept_or_not : {X Y : Type 0} (f : X → Y) (keep : Bool) (x : X) (xs : List X) → cond keep (f x ∷ map f xs) (map f xs) ≡ map f (cond keep (x ∷ xs) xs)
-kept_or_not f true x xs = refl
-kept_or_not f false x xs = refl
-
 module _ {X Y : Type 0} (f : X → Y) (p : Y → Bool) (q : X → Bool) where
   abbrev Agree : X → Type 0
   Agree x = p (f x) ≡ q x
@@ -121,14 +112,16 @@ module _ {X Y : Type 0} (f : X → Y) (p : Y → Bool) (q : X → Bool) where
   take_while-map : (xs : List X) → All Agree xs → take_while p (map f xs) ≡ map f (take_while q xs)
   take_while-map [] h = refl
   take_while-map (x ∷ xs) h =
-      take_while-cons p (f x) (map f xs)
-      ∙ ap₂ (λ b t. cond b (f x ∷ t) []) (All-head Agree x xs h) (take_while-map xs (All-tail Agree x xs h))
-      ∙ kept_first f (q x) x (take_while q xs) ∙ ap (map f) (sym (take_while-cons q x xs))
+      let here = All-head Agree x xs h in
+      let later = take_while-map xs (All-tail Agree x xs h) in
+      rw (take_while-cons p, take_while-cons q) (grind (arith, here, later))
 
   filter-map : (xs : List X) → All Agree xs → filter p (map f xs) ≡ map f (filter q xs)
   filter-map [] h = refl
   filter-map (x ∷ xs) h =
-      ap₂ (λ b t. cond b (f x ∷ t) t) (All-head Agree x xs h) (filter-map xs (All-tail Agree x xs h)) ∙ kept_or_not f (q x) x (filter q xs)
+      let here = All-head Agree x xs h in
+      let later = filter-map xs (All-tail Agree x xs h) in
+      grind (arith, here, later)
 
   list_any-map : (xs : List X) → All Agree xs → list_any p (map f xs) ≡ list_any q xs
   list_any-map [] h = refl
@@ -243,7 +236,7 @@ module _ (max : ℕ) where
   piece_units-cut before [] sets more starts = refl
   piece_units-cut before (u ∷ after) sets more starts =
       let starts_after = All-tail (SameStart max) u after starts in
-      let sets_too = All-append (SameSet max) before (u ∷ []) sets (All-cons (SameSet max) u [] (All-head (SameSet max) u after more) (All-nil (SameSet max))) in
+      let sets_too = All-push (SameSet max) before u sets (All-head (SameSet max) u after more) in
       let others : piece_units (cut before ++ unit_within max u ∷ []) (cut after) ≡ map (map (unit_within max)) (piece_units (before ++ u ∷ []) after) =
       ap (λ b. piece_units b (cut after)) (sym (map-append (unit_within max) before (u ∷ [])))
       ∙ piece_units-cut (before ++ u ∷ []) after sets_too (All-tail (SameSet max) u after more) starts_after in

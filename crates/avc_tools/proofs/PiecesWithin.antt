@@ -5,7 +5,7 @@ use Rattle.std.proofs.Common.{Option, Some, None, is_some, if◌then◌else◌, 
 use Rattle.std.specs.Prelude.{IsTrue}
 use Rattle.std.specs.List.{flat_map, list_any, take_while}
 use Rattle.std.proofs.lemmas.List.{map-append}
-use Rattle.std.proofs.lemmas.List.Elements.{All-nil, All-cons, All-head, All-tail, All-append, All-same}
+use Rattle.std.proofs.lemmas.List.Elements.{All-nil, All-cons, All-head, All-tail, All-append, All-same, All-push, All-map, All-take, All-drop, All-weaker}
 use Rattle.std.proofs.lemmas.List.Sums.{take_while-cons}
 use Rattle.std.proofs.lemmas.Option.{slice_get-get_or}
 use Rattle.avc_annexb.specs.Escapes.{rbsp}
@@ -18,7 +18,8 @@ use Rattle.avc_bits.specs.Codes.{ue}
 use Rattle.avc_units.specs.Grouping.{Kind, boundary, is_start, kind, kind_of, other, partition, pps, rbsp_of, reads_zero, set_fault, set_of, slice, sps}
 use Rattle.avc_tools.specs.Cutting.{piece_units}
 use Rattle.avc_tools.specs.Pieces.{piece, pieces, rest_of_piece}
-use Rattle.avc_tools.proofs.PieceUnits.{SameSet, SameStart, all_from_parts, all_of_piece, all_of_rest, piece_units-cut, pieces_written}
+use Rattle.avc_tools.proofs.PieceUnits.{SameSet, SameStart, all_from_parts, all_of_piece, all_of_rest, piece_units-cut, pieces_written, taken_pass}
+use Rattle.std.proofs.Math.Seq.{take-append_seam, drop-append_seam}
 
 -- ---- units that a lower limit leaves as they are
 
@@ -44,12 +45,9 @@ body_if short body = elim short [ true ↦ Some body | false ↦ None ]
 set_of_short : (k : Kind) (short : Bool) (body : List ℕ) → set_fault k (rbsp_in (body_if short body)) ≡ None →
     set_of k (rbsp_in (body_if short body)) ≡ set_of k (Some (rbsp body))
 set_of_short k true body h = refl
-set_of_short (slice idr) false body h = refl
-set_of_short partition false body h = refl
 set_of_short sps false body h = (cc)
 set_of_short pps false body h = (cc)
-set_of_short boundary false body h = refl
-set_of_short other false body h = refl
+set_of_short _ false body h = refl
 
 set_of_within : (max : ℕ) (k : Kind) (o : Option (List ℕ)) → set_fault k (rbsp_in (body_within max o)) ≡ None →
     set_of k (rbsp_in (body_within max o)) ≡ set_of k (rbsp_in o)
@@ -64,8 +62,7 @@ abbrev starts_in : Option (List ℕ) → Bool
 starts_in o = elim o [ None ↦ false | Some bytes ↦ reads_zero (ue (start bytes)) ]
 
 short_is_same : (short : Bool) (body : List ℕ) → IsTrue (is_some (body_if short body)) → body_if short body ≡ Some body
-short_is_same true body h = refl
-short_is_same false body h = (cc)
+short_is_same short body h = grind arith
 
 within_is_same : (max : ℕ) (o : Option (List ℕ)) → IsTrue (is_some (body_within max o)) → body_within max o ≡ o
 within_is_same max None h = refl
@@ -83,10 +80,7 @@ same_start max u h = same_start_by (forbidden_zero_bit u.header) (nal_unit_type 
 no_start_if : (bit five short : Bool) (body : List ℕ) → (not bit && five && starts_in (Some (rbsp body))) ≡ false →
     (not bit && five && starts_in (rbsp_in (body_if short body))) ≡ false
 no_start_if bit five true body h = h
-no_start_if true true false body h = refl
-no_start_if true false false body h = refl
-no_start_if false true false body h = refl
-no_start_if false false false body h = refl
+no_start_if bit five false body h = grind arith
 
 no_start_within : (bit five : Bool) (max : ℕ) (o : Option (List ℕ)) → (not bit && five && starts_in (rbsp_in o)) ≡ false →
     (not bit && five && starts_in (rbsp_in (body_within max o))) ≡ false
@@ -104,6 +98,15 @@ pub record IsSilent (u : Unit) : Type 0 where
   pub accepted : IsAccepted u
   pub no_start : is_start u ≡ false
 
+all_from_cut : (max : ℕ) (P : Unit → Type 0) (us : List Unit) → All P (map (unit_within max) us) → All (λ u. P (unit_within max u)) us
+all_from_cut max P [] h = All-nil (λ u. P (unit_within max u))
+all_from_cut max P (u ∷ us) h =
+    All-cons (λ u. P (unit_within max u)) u us (All-head P (unit_within max u) (map (unit_within max) us) h)
+    (all_from_cut max P us (All-tail P (unit_within max u) (map (unit_within max) us) h))
+
+pub neither : (a b : Bool) → (a || b) ≡ false → (a ≡ false) × (b ≡ false)
+neither a b h = grind arith
+
 module _ (max : ℕ) where
   abbrev cut : List Unit → List Unit
   cut us = map (unit_within max) us
@@ -117,24 +120,15 @@ module _ (max : ℕ) where
   abbrev IsSilentWithin : Unit → Type 0
   IsSilentWithin u = IsSilent (unit_within max u)
 
-  none_of_them : (x : Bool) (u : Unit) (us : List Unit) → is_start u ≡ x → (x || list_any is_start us) ≡ false →
-      (list_any is_start us ≡ false → All IsNoStartWithin us) → All IsNoStartWithin (u ∷ us)
-  none_of_them true u us is h later = (cc)
-  none_of_them false u us is h later = All-cons IsNoStartWithin u us (no_start max u is) (later h)
-
   none_starts : (us : List Unit) → list_any is_start us ≡ false → All IsNoStartWithin us
   none_starts [] h = All-nil IsNoStartWithin
-  none_starts (u ∷ us) h = none_of_them (is_start u) u us refl h (none_starts us)
-
-  front_if : (x : Bool) (u : Unit) (us : List Unit) → is_start u ≡ x → All IsNoStartWithin us → All IsNoStartWithin (cond (not x) (u ∷ us) [])
-  front_if true u us is h = All-nil IsNoStartWithin
-  front_if false u us is h = All-cons IsNoStartWithin u us (no_start max u is) h
+  none_starts (u ∷ us) h =
+      let both = neither (is_start u) (list_any is_start us) h in
+      All-cons IsNoStartWithin u us (no_start max u both.0) (none_starts us both.1)
 
   none_before_start : (us : List Unit) → All IsNoStartWithin (take_while (λ u. not (is_start u)) us)
-  none_before_start [] = All-nil IsNoStartWithin
-  none_before_start (u ∷ us) =
-      All-same IsNoStartWithin (take_while (λ u. not (is_start u)) (u ∷ us)) _ (take_while-cons (λ u. not (is_start u)) u us)
-      (front_if (is_start u) u (take_while (λ u. not (is_start u)) us) refl (none_before_start us))
+  none_before_start us =
+      All-weaker (λ u. not (is_start u) ≡ true) IsNoStartWithin (λ u is. no_start max u (grind (arith, is))) _ (taken_pass (λ u. not (is_start u)) us)
 
   none_in_rest : (after : List Unit) → All IsNoStartWithin (rest_of_piece after)
   none_in_rest after =
@@ -161,10 +155,7 @@ module _ (max : ℕ) where
   same_sets us h = λ k d within. same_set max _ (h k d within)
 
   same_starts : (us : List Unit) → All IsWholeStart (cut us) → All (SameStart max) us
-  same_starts [] h = All-nil (SameStart max)
-  same_starts (u ∷ us) h =
-      All-cons (SameStart max) u us (same_start max u (All-head IsWholeStart (unit_within max u) (cut us) h))
-      (same_starts us (All-tail IsWholeStart (unit_within max u) (cut us) h))
+  same_starts us h = All-weaker (λ u. IsWholeStart (unit_within max u)) (SameStart max) (same_start max) us (all_from_cut max IsWholeStart us h)
 
   starts_here : (before after : List Unit) (u : Unit) → All IsAcceptedWithin before → All IsAcceptedWithin (u ∷ after) →
       All IsWholeStart (cut (u ∷ after)) → HavePieces before (u ∷ after)
@@ -218,9 +209,7 @@ module _ (max : ℕ) where
       let here = All-head IsAcceptedWithin u after b in
       let behind = All-tail IsAcceptedWithin u after b in
       one_more (is_start u) before after u refl (silent_piece before after u h is a here behind) (not_yet before after u is)
-      (later (All-append IsNoStartWithin before (u ∷ []) h (All-cons IsNoStartWithin u [] is (All-nil IsNoStartWithin)))
-      (All-append IsAcceptedWithin before (u ∷ []) a (All-cons IsAcceptedWithin u [] here (All-nil IsAcceptedWithin)))
-      behind (λ front v rest e. whole (unit_within max u ∷ front) v rest (ap (λ t. unit_within max u ∷ t) e)))
+      (later (All-push IsNoStartWithin before u h is) (All-push IsAcceptedWithin before u a here) behind (λ front v rest e. whole (unit_within max u ∷ front) v rest (ap (λ t. unit_within max u ∷ t) e)))
 
   have_pieces : (before after : List Unit) → All IsNoStartWithin before → All IsAcceptedWithin before → All IsAcceptedWithin after →
       StartsAreWhole (cut after) → HavePieces before after
@@ -270,12 +259,6 @@ module _ (max : ℕ) (bytes : List ℕ) (alone : WrittenUnitsStandAlone) where
       says_cut [] = refl
       says_cut (u ∷ us) = ap (λ t. contents_within max u ∷ t) (says_cut us)
 
-  cut_silent : (us : List Unit) → All (λ u. IsSilent (unit_within max u)) us → All IsSilent (map (unit_within max) us)
-  cut_silent [] h = All-nil IsSilent
-  cut_silent (u ∷ us) h =
-      All-cons IsSilent (unit_within max u) (map (unit_within max) us) (All-head (λ u. IsSilent (unit_within max u)) u us h)
-      (cut_silent us (All-tail (λ u. IsSilent (unit_within max u)) u us h))
-
   abbrev IsSilentPiece : List ℕ → Type 0
   IsSilentPiece piece = All IsSilent (units max piece true)
 
@@ -285,7 +268,7 @@ module _ (max : ℕ) (bytes : List ℕ) (alone : WrittenUnitsStandAlone) where
   all_quiet (p ∷ ps) h q =
       All-cons IsSilentPiece (flat_map written p) (map (flat_map written) ps)
       (all_silent (units max (flat_map written p) true) (map (unit_within max) p) (read_back p (All-head IsOfStream p ps h))
-      (cut_silent p (All-head (All (λ u. IsSilent (unit_within max u))) p ps q)))
+      (All-map IsSilent (unit_within max) p (All-head (All (λ u. IsSilent (unit_within max u))) p ps q)))
       (all_quiet ps (All-tail IsOfStream p ps h) (All-tail (All (λ u. IsSilent (unit_within max u))) p ps q))
 
   all_say : (ps : List (List Unit)) → All IsOfStream ps →
@@ -300,31 +283,23 @@ all_units_of P before (u ∷ after) h k =
     let p = All-head P u after k in
     let behind = All-tail P u after k in
     added (is_start u) (piece before u after) (piece_units (before ++ u ∷ []) after) (all_of_piece P before after u h p behind)
-    (all_units_of P (before ++ u ∷ []) after (All-append P before (u ∷ []) h (All-cons P u [] p (All-nil P))) behind)
+    (all_units_of P (before ++ u ∷ []) after (All-push P before u h p) behind)
   where
     added : (starts : Bool) (p : List Unit) (others : List (List Unit)) → All P p → All (All P) others →
         All (All P) (elim starts [ true ↦ p ∷ others | false ↦ others ])
     added true p others h k = All-cons (All P) p others h k
     added false p others h k = k
 
-front_of_all : {X : Type 0} (P : X → Type 0) (xs ys : List X) → All P (xs ++ ys) → All P xs
-front_of_all P [] ys h = All-nil P
-front_of_all P (x ∷ xs) ys h = All-cons P x xs (All-head P x (xs ++ ys) h) (front_of_all P xs ys (All-tail P x (xs ++ ys) h))
+pub front_of_all : {X : Type 0} (P : X → Type 0) (xs ys : List X) → All P (xs ++ ys) → All P xs
+front_of_all P xs ys h = rw (take-append_seam xs ys) at (All-take P (length xs) (xs ++ ys) h)
 
 rest_of_all : {X : Type 0} (P : X → Type 0) (xs ys : List X) → All P (xs ++ ys) → All P ys
-rest_of_all P [] ys h = h
-rest_of_all P (x ∷ xs) ys h = rest_of_all P xs ys (All-tail P x (xs ++ ys) h)
+rest_of_all P xs ys h = rw (drop-append_seam xs ys) at (All-drop P (length xs) (xs ++ ys) h)
 
 -- a stream's units are all of them
 are_of_stream : (limit : ℕ) (bytes : List ℕ) → All (λ u. IsTrue (is_some u.body)) (units limit bytes true) → All (IsUnitOf limit bytes) (units limit bytes true)
 are_of_stream limit bytes whole =
     λ k d within. record { place = k; is_there = slice_get-get_or (units limit bytes true) k d within; short = whole k d within }
-
-all_from_cut : (max : ℕ) (us : List Unit) → All IsAccepted (map (unit_within max) us) → All (λ u. IsAccepted (unit_within max u)) us
-all_from_cut max [] h = All-nil (λ u. IsAccepted (unit_within max u))
-all_from_cut max (u ∷ us) h =
-    All-cons (λ u. IsAccepted (unit_within max u)) u us (All-head IsAccepted (unit_within max u) (map (unit_within max) us) h)
-    (all_from_cut max us (All-tail IsAccepted (unit_within max u) (map (unit_within max) us) h))
 
 -- Where no unit is refused by itself and no unit is too long that decoding could go on with, a stream has such pieces.
 pub has_pieces : WrittenUnitsStandAlone → UnitsAreWithin → UnitsAreWhole → (max : ℕ) (bytes : List ℕ) →
@@ -332,7 +307,7 @@ pub has_pieces : WrittenUnitsStandAlone → UnitsAreWithin → UnitsAreWhole →
 has_pieces alone are_within are_whole max bytes accepted whole =
     let us = units (length bytes) bytes true in
     let same = are_within (length bytes) max bytes true (omega arith) in
-    let all_accepted = all_from_cut max us (subst (All IsAccepted) same accepted) in
+    let all_accepted = all_from_cut max IsAccepted us (subst (All IsAccepted) same accepted) in
     let r = have_pieces max [] us (All-nil (λ u. is_start (unit_within max u) ≡ false)) (All-nil (λ u. IsAccepted (unit_within max u))) all_accepted
     (subst StartsAreWhole same whole) in
     let there = are_of_stream (length bytes) bytes (are_whole (length bytes) bytes true (omega arith)) in

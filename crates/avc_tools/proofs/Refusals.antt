@@ -1,5 +1,5 @@
 -- What a stream without refusals says of its units, and pieces with which decoding doesn't start.
-use Rattle.std.proofs.Common.{◌≡◌, ◌-◌, ℕ, Bool, true, false, not, ◌&&◌, ◌==◌, List, [], ◌∷◌, ◌++◌, All}
+use Rattle.std.proofs.Common.{◌≡◌, ◌-◌, ℕ, Bool, true, false, not, ◌&&◌, ◌==◌, List, [], ◌∷◌, ◌++◌, All, arith}
 use Rattle.std.proofs.Common.{Option, Some, None, Result, Ok, Err, is_some, refl, ap, sym, ◌∙◌}
 use Rattle.std.specs.Prelude.{IsTrue}
 use Rattle.std.specs.List.{flat_map, list_all}
@@ -33,6 +33,7 @@ use Rattle.avc_decoder.specs.declared.event.Event.TheVariants.{Refused}
 use Rattle.avc_decoder.specs.Laws.{is_picture}
 use Rattle.avc_tools.specs.Pieces.{pieces}
 use Rattle.avc_tools.proofs.PiecesWithin.{HasPieces, IsAccepted, IsSilent, IsWholeStart, StartsAreWhole, has_pieces}
+use Rattle.std.proofs.lemmas.List.Folds.{list_all-append}
 
 abbrev next_of : Step → Next
 next_of what = what.next
@@ -44,11 +45,9 @@ events_of o = o.events
 
 silent_kind : (sets : Sets) (u : Unit) (k : Kind) → set_fault k (rbsp_of u) ≡ None → is_start u ≡ false → (waiting_step sets u k).next ≡ Nothing
 silent_kind sets u (slice idr) h no_start = ap (λ b. next_of (elim b [ true ↦ running_step sets None u (slice idr) | false ↦ no_effect ])) no_start
-silent_kind sets u partition h no_start = refl
 silent_kind sets u sps h no_start = ap refusal_of h
 silent_kind sets u pps h no_start = ap refusal_of h
-silent_kind sets u boundary h no_start = refl
-silent_kind sets u other h no_start = refl
+silent_kind sets u _ h no_start = refl
 
 silent_step : (sets : Sets) (u : Unit) → IsSilent u → (step sets false None u).next ≡ Nothing
 silent_step sets u s =
@@ -72,23 +71,14 @@ silent_units (u ∷ us) s waits h =
 abbrev pub ArePictures : List Event → Type 0
 ArePictures es = list_all is_picture es ≡ true
 
-and_left : (a b : Bool) → (a && b) ≡ true → a ≡ true
-and_left true b h = refl
-and_left false b h = (cc)
-
-and_right : (a b : Bool) → (a && b) ≡ true → b ≡ true
-and_right true b h = h
-and_right false b h = (cc)
+both : (a b : Bool) → (a && b) ≡ true → (a ≡ true) × (b ≡ true)
+both a b h = grind arith
 
 pub pictures_before : (xs ys : List Event) → ArePictures (xs ++ ys) → ArePictures xs
-pictures_before [] ys h = refl
-pictures_before (x ∷ xs) ys h =
-    ap (λ b. b && list_all is_picture xs) (and_left (is_picture x) (list_all is_picture (xs ++ ys)) h)
-    ∙ pictures_before xs ys (and_right (is_picture x) (list_all is_picture (xs ++ ys)) h)
+pictures_before xs ys h = (both (list_all is_picture xs) (list_all is_picture ys) (sym (list_all-append is_picture xs ys) ∙ h)).0
 
 pub pictures_behind : (xs ys : List Event) → ArePictures (xs ++ ys) → ArePictures ys
-pictures_behind [] ys h = h
-pictures_behind (x ∷ xs) ys h = pictures_behind xs ys (and_right (is_picture x) (list_all is_picture (xs ++ ys)) h)
+pictures_behind xs ys h = (both (list_all is_picture xs) (list_all is_picture ys) (sym (list_all-append is_picture xs ys) ∙ h)).1
 
 none_refused : (xs : List Event) (n : ℕ) (f : Fault) → ArePictures (xs ++ Refused n f ∷ []) → ⊥
 none_refused xs n f h = (cc (pictures_behind xs (Refused n f ∷ []) h))
@@ -132,14 +122,11 @@ set_is_good output sets n p (Some f) h = absurd (refuses output sets n true f p 
 set_by_kind : (output : Output) (sets : Sets) (n : ℕ) (p : Phase) (runs : Bool) (open_picture : Option OpenPictureFacts) (u : Unit) (k : Kind) →
     ArePictures (in_phase output sets n (elim runs [ true ↦ running_step sets open_picture u k | false ↦ waiting_step sets u k ]) p).events →
     set_fault k (rbsp_of u) ≡ None
-set_by_kind output sets n p runs open_picture u (slice idr) h = refl
-set_by_kind output sets n p runs open_picture u partition h = refl
 set_by_kind output sets n p true open_picture u sps h = set_is_good output sets n p (set_fault sps (rbsp_of u)) h
 set_by_kind output sets n p false open_picture u sps h = set_is_good output sets n p (set_fault sps (rbsp_of u)) h
 set_by_kind output sets n p true open_picture u pps h = set_is_good output sets n p (set_fault pps (rbsp_of u)) h
 set_by_kind output sets n p false open_picture u pps h = set_is_good output sets n p (set_fault pps (rbsp_of u)) h
-set_by_kind output sets n p runs open_picture u boundary h = refl
-set_by_kind output sets n p runs open_picture u other h = refl
+set_by_kind output sets n p runs open_picture u _ h = refl
 
 pub is_accepted : (s : State) (u : Unit) → ArePictures (after_unit s u).events → IsAccepted u
 is_accepted s u h =
@@ -240,16 +227,13 @@ record IsStart (u : Unit) : Type 0 where
   some : IsTrue (is_some u.body)
 
 some_by : (o : Option (List ℕ)) → starts_in o ≡ true → IsTrue (is_some o)
-some_by None starts = (cc)
-some_by (Some body) starts = refl
+some_by o starts = grind arith
 
 is_start_of : (u : Unit) → is_start u ≡ true → IsStart u
 is_start_of u starts =
-    let both = and_left (not (forbidden_zero_bit u.header) && nal_unit_type u.header == 5) (starts_in u.body) starts in
-    record {
-      slice = start_is_slice u (and_right (not (forbidden_zero_bit u.header)) (nal_unit_type u.header == 5) both);
-      some = some_by u.body (and_right (not (forbidden_zero_bit u.header) && nal_unit_type u.header == 5) (starts_in u.body) starts);
-    }
+    let one = both (not (forbidden_zero_bit u.header) && nal_unit_type u.header == 5) (starts_in u.body) starts in
+    let five = both (not (forbidden_zero_bit u.header)) (nal_unit_type u.header == 5) one.0 in
+    record { slice = start_is_slice u five.1; some = some_by u.body one.1 }
 
 waiting_start : (output : Output) (sets : Sets) (n : ℕ) (starts : Bool) (result : Result Slice Fault) → Runs (after_next output sets n waiting (slice_step None starts result).next)
 waiting_start output sets n starts (Ok s) all = first_runs output (sets_named sets s.header) [] s all

@@ -77,53 +77,42 @@ refused_id part id b why f = refused_by part id b why (part b) refl f
 
 -- ---- one set is put
 
-chosen : (has_id : Bool) (unit : List ℕ) (old : Option (List ℕ)) → (if has_id then Some unit else old) ≡ replaced has_id true unit old
-chosen true unit old = refl
-chosen false unit old = refl
-
-erased : (has_id : Bool) (unit : List ℕ) (old : Option (List ℕ)) → (if has_id then None else old) ≡ replaced has_id false unit old
-erased true unit old = refl
-erased false unit old = refl
+-- by one of either kind, which has this id and was accepted or not
+put_by : {A : Type 0} (has_id : ℕ → SetUnit → Bool) (record_of : Option SetUnit → Option A) (s : SetUnit) (id : Option ℕ) (accepted_so : Bool) (unit : List ℕ) (old new : List (Option (List ℕ)))
+    → ((k : ℕ) → has_id k s ≡ is_id k id) → is_some (record_of (Some s)) ≡ accepted_so → length new ≡ length old
+    → ((k : ℕ) → k < length old → stored new k ≡ (if is_id k id then (if accepted_so then Some unit else None) else stored old k))
+    → AreReplaced has_id record_of (Some s) unit old new
+put_by has_id record_of s id accepted_so unit old new same is long put = record {
+  long = long;
+  each = λ k low. rw (same k, is) (put k low ∙ by (is_id k id) accepted_so (stored old k));
+}
+  where
+    by : (hit accepted_so : Bool) (old : Option (List ℕ)) → (if hit then (if accepted_so then Some unit else None) else old) ≡ replaced hit accepted_so unit old
+    by hit accepted_so old = grind arith
 
 pub sps_put : SpsInForceKeepsLimits → (rbsp : List ℕ) (set : Sps) (unit : List ℕ) (old new : List (Option (List ℕ))) → sps_of rbsp ≡ Ok set → length new ≡ length old
     → ((k : ℕ) → k < length old → stored new k ≡ (if is_id k (Some set.seq_parameter_set_id) then Some unit else stored old k))
     → AreReplaced is_sps sps_record (Some (OfSps rbsp)) unit old new
-sps_put law rbsp set unit old new is long put = record {
-  long = long;
-  each = λ k low. put k low ∙ chosen (is_id k (Some set.seq_parameter_set_id)) unit (stored old k)
-      ∙ ap (λ o. replaced (is_id k o) true unit (stored old k)) (sym (sps_id_is law rbsp set is))
-      ∙ ap (λ a. replaced (is_id k (sps_id rbsp)) a unit (stored old k)) (sym (ap (λ r. is_some (accepted r)) is));
-}
+sps_put law rbsp set unit old new is =
+    put_by is_sps sps_record (OfSps rbsp) (Some set.seq_parameter_set_id) true unit old new (λ k. ap (is_id k) (sps_id_is law rbsp set is)) (ap (λ r. is_some (accepted r)) is)
 
 pub sps_erased : (rbsp : List ℕ) (why : SetFault) (unit : List ℕ) (old new : List (Option (List ℕ))) → sps_of rbsp ≡ Err why → length new ≡ length old
     → ((k : ℕ) → k < length old → stored new k ≡ (if is_id k why.id then None else stored old k))
     → AreReplaced is_sps sps_record (Some (OfSps rbsp)) unit old new
-sps_erased rbsp why unit old new is long put = record {
-  long = long;
-  each = λ k low. put k low ∙ erased (is_id k why.id) unit (stored old k)
-      ∙ ap (λ o. replaced (is_id k o) false unit (stored old k)) (sym (refused_id sps_part (sps_id rbsp) (start rbsp) why is))
-      ∙ ap (λ a. replaced (is_id k (sps_id rbsp)) a unit (stored old k)) (sym (ap (λ r. is_some (accepted r)) is));
-}
+sps_erased rbsp why unit old new is =
+    put_by is_sps sps_record (OfSps rbsp) why.id false unit old new (λ k. ap (is_id k) (refused_id sps_part (sps_id rbsp) (start rbsp) why is)) (ap (λ r. is_some (accepted r)) is)
 
 pub pps_put : PpsInForceKeepsLimits → (rbsp : List ℕ) (set : Pps) (unit : List ℕ) (old new : List (Option (List ℕ))) → pps_of rbsp ≡ Ok set → length new ≡ length old
     → ((k : ℕ) → k < length old → stored new k ≡ (if is_id k (Some set.pic_parameter_set_id) then Some unit else stored old k))
     → AreReplaced is_pps pps_record (Some (OfPps rbsp)) unit old new
-pps_put law rbsp set unit old new is long put = record {
-  long = long;
-  each = λ k low. put k low ∙ chosen (is_id k (Some set.pic_parameter_set_id)) unit (stored old k)
-      ∙ ap (λ o. replaced (is_id k o) true unit (stored old k)) (sym (pps_id_is law rbsp set is))
-      ∙ ap (λ a. replaced (is_id k (pps_id rbsp)) a unit (stored old k)) (sym (ap (λ r. is_some (accepted r)) is));
-}
+pps_put law rbsp set unit old new is =
+    put_by is_pps pps_record (OfPps rbsp) (Some set.pic_parameter_set_id) true unit old new (λ k. ap (is_id k) (pps_id_is law rbsp set is)) (ap (λ r. is_some (accepted r)) is)
 
 pub pps_erased : (rbsp : List ℕ) (why : SetFault) (unit : List ℕ) (old new : List (Option (List ℕ))) → pps_of rbsp ≡ Err why → length new ≡ length old
     → ((k : ℕ) → k < length old → stored new k ≡ (if is_id k why.id then None else stored old k))
     → AreReplaced is_pps pps_record (Some (OfPps rbsp)) unit old new
-pps_erased rbsp why unit old new is long put = record {
-  long = long;
-  each = λ k low. put k low ∙ erased (is_id k why.id) unit (stored old k)
-      ∙ ap (λ o. replaced (is_id k o) false unit (stored old k)) (sym (refused_id pps_part (pps_id rbsp) (start rbsp) why is))
-      ∙ ap (λ a. replaced (is_id k (pps_id rbsp)) a unit (stored old k)) (sym (ap (λ r. is_some (accepted r)) is));
-}
+pps_erased rbsp why unit old new is =
+    put_by is_pps pps_record (OfPps rbsp) why.id false unit old new (λ k. ap (is_id k) (refused_id pps_part (pps_id rbsp) (start rbsp) why is)) (ap (λ r. is_some (accepted r)) is)
 
 -- ---- what a unit brings
 
@@ -141,8 +130,7 @@ last_more (y ∷ []) x = refl
 last_more (y ∷ z ∷ xs) x = last_more (z ∷ xs) x
 
 last_kept : {A : Type 0} (p : A → Bool) (xs : List A) (x : A) (b : Bool) → p x ≡ b → last (filter p (xs ++ x ∷ [])) ≡ cond b (Some x) (last (filter p xs))
-last_kept p xs x true e = ap last (filter-append p xs (x ∷ [])) ∙ rw (filter, e) (last_more (filter p xs) x)
-last_kept p xs x false e = ap last (filter-append p xs (x ∷ [])) ∙ rw (filter, e) (ap last (append-nil (filter p xs)))
+last_kept p xs x b e = rw (filter-append p xs (x ∷ [])) (grind (arith, last_more, append-nil, e))
 
 last_set : (test : SetUnit → Bool) (sets : List SetUnit) (set : Option SetUnit) (hit : Bool) → satisfies test set ≡ hit
     → last (filter test (sets ++ (list_of set ++ []))) ≡ cond hit set (last (filter test sets))
@@ -174,9 +162,7 @@ decided_more record_of test before u false e =
 
 kept_replaced : (u : Unit) (hit in_force : Bool) (old : Option (List ℕ)) (by_id : List Unit) → kept_bytes old ≡ flat_map written by_id
     → kept_bytes (replaced hit in_force (written u) old) ≡ flat_map written (cond hit (cond in_force (u ∷ []) []) by_id)
-kept_replaced u true true old by_id e = sym (append-nil (written u))
-kept_replaced u true false old by_id e = refl
-kept_replaced u false in_force old by_id e = e
+kept_replaced u hit in_force old by_id e = grind (arith, append-nil)
 
 kept_more : {A : Type 0} (record_of : Option SetUnit → Option A) (has_id : ℕ → SetUnit → Bool) (count : ℕ) (before : List Unit) (u : Unit) (old new : List (Option (List ℕ)))
     → AreKept count (λ id. decided record_of (has_id id) before) old → AreReplaced has_id record_of (set_unit u) (written u) old new → AreKept count (λ id. decided record_of (has_id id) (before ++ u ∷ [])) new

@@ -22,19 +22,14 @@ set_units-append [] vs = refl
 set_units-append (u ∷ us) vs = ap (λ l. list_of (set_unit u) ++ l) (set_units-append us vs) ∙ sym (append_assoc (list_of (set_unit u)) (set_units us) (set_units vs))
 
 -- one unit's sets in front
-sets_then : (sets : List SetUnit) (u : Unit) (us : List Unit) → (sets ++ set_units (u ∷ [])) ++ set_units us ≡ sets ++ set_units (u ∷ us)
+pub sets_then : (sets : List SetUnit) (u : Unit) (us : List Unit) → (sets ++ set_units (u ∷ [])) ++ set_units us ≡ sets ++ set_units (u ∷ us)
 sets_then sets u us =
     append_assoc sets (set_units (u ∷ [])) (set_units us)
     ∙ ap (λ l. sets ++ (l ++ set_units us)) (append-nil (list_of (set_unit u)))
 
 under-append : (sets : List SetUnit) (us vs : List Unit) → header_lines_under sets (us ++ vs) ≡ header_lines_under sets us ++ header_lines_under (sets ++ set_units us) vs
-under-append sets [] vs = ap (λ l. header_lines_under l vs) (sym (append-nil sets))
-under-append sets (u ∷ us) vs =
-    let line = header_line (sets_after sets) u in
-    let front = header_lines_under (sets ++ set_units (u ∷ [])) us in
-    ap (λ l. line ++ l) (under-append (sets ++ set_units (u ∷ [])) us vs)
-    ∙ ap (λ l. line ++ (front ++ header_lines_under l vs)) (sets_then sets u us)
-    ∙ sym (append_assoc line front (header_lines_under (sets ++ set_units (u ∷ us)) vs))
+under-append sets [] vs = rw (append-nil sets) refl
+under-append sets (u ∷ us) vs = rw (under-append (sets ++ set_units (u ∷ [])) us vs, sets_then sets u us) (simp append_assoc)
 
 from_under : (before us : List Unit) → header_lines_under (set_units before) us ≡ header_lines_from before us
 from_under before [] = refl
@@ -109,10 +104,7 @@ line_by sets u forbidden k read = line_of u.index (elim forbidden [ true ↦ Som
 
 pub line_allowed : (sets : Sets) (u : Unit) (k : Kind) (read : Option (List ℕ)) → forbidden_zero_bit u.header ≡ false → k ≡ kind u → read ≡ rbsp_of u
     → line_of u.index (text_of sets u k read) ≡ header_line sets u
-line_allowed sets u k read allowed is same =
-    ap (λ x. line_by sets u x k read) (sym allowed)
-    ∙ ap (λ x. line_by sets u (forbidden_zero_bit u.header) x read) is
-    ∙ ap (λ x. line_by sets u (forbidden_zero_bit u.header) (kind u) x) same
+line_allowed sets u k read allowed is same = rw (is, same) (ap (λ x. line_by sets u x (kind u) (rbsp_of u)) (sym allowed))
 
 pub line_forbidden : (sets : Sets) (u : Unit) → forbidden_zero_bit u.header ≡ true → line_of u.index (Some (refused_text faults.ForbiddenBit)) ≡ header_line sets u
 line_forbidden sets u forbidden = ap (λ x. line_by sets u x (kind u) (rbsp_of u)) (sym forbidden)
@@ -134,8 +126,4 @@ header_refused sets u bytes f read is =
 -- a line of three parts, with a number in front and its end
 pub line_put : (old index a b c last s1 s2 s3 s4 s5 : List ℕ) → s1 ≡ old ++ index → s2 ≡ s1 ++ a → s3 ≡ s2 ++ b → s4 ≡ s3 ++ c → s5 ≡ s4 ++ last
     → s5 ≡ old ++ ((index ++ ((a ++ b) ++ c)) ++ last)
-line_put old index a b c last s1 s2 s3 s4 s5 e1 e2 e3 e4 e5 =
-    let two : s2 ≡ old ++ (index ++ a) = e2 ∙ ap (λ l. l ++ a) e1 ∙ append_assoc old index a in
-    let three : s3 ≡ old ++ (index ++ (a ++ b)) = e3 ∙ ap (λ l. l ++ b) two ∙ append_assoc old (index ++ a) b ∙ ap (λ l. old ++ l) (append_assoc index a b) in
-    let four : s4 ≡ old ++ (index ++ ((a ++ b) ++ c)) = e4 ∙ ap (λ l. l ++ c) three ∙ append_assoc old (index ++ (a ++ b)) c ∙ ap (λ l. old ++ l) (append_assoc index (a ++ b) c) in
-    e5 ∙ ap (λ l. l ++ last) four ∙ append_assoc old (index ++ ((a ++ b) ++ c)) last
+line_put old index a b c last s1 s2 s3 s4 s5 e1 e2 e3 e4 e5 = rw (e5, e4, e3, e2, e1) (simp append_assoc)

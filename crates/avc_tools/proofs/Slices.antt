@@ -12,10 +12,10 @@ use Rattle.avc_annexb.specs.Written.{written}
 use Rattle.avc_tools.specs.Pieces.{after_slices, is_left_out, is_slice, rest_of_piece, through_slices}
 
 pub stops : {X : Type 0} (p : X → Bool) (x : X) (xs : List X) → p x ≡ false → take_while p (x ∷ xs) ≡ []
-stops p x xs e = take_while-cons p x xs ∙ ap (λ b. cond b (x ∷ take_while p xs) []) e
+stops p x xs e = rw (take_while-cons, e) refl
 
 pub goes_on : {X : Type 0} (p : X → Bool) (x : X) (xs : List X) → p x ≡ true → take_while p (x ∷ xs) ≡ x ∷ take_while p xs
-goes_on p x xs e = take_while-cons p x xs ∙ ap (λ b. cond b (x ∷ take_while p xs) []) e
+goes_on p x xs e = rw (take_while-cons, e) refl
 
 abbrev is_other : Unit → Bool
 is_other u = not (is_slice u)
@@ -42,11 +42,7 @@ through_other us u is =
 
 front_and_rest : {X : Type 0} (p : X → Bool) (xs : List X) → take_while p xs ++ drop (length (take_while p xs)) xs ≡ xs
 front_and_rest p [] = refl
-front_and_rest p (x ∷ xs) = by (p x) refl (front_and_rest p xs)
-  where
-    by : (b : Bool) → p x ≡ b → take_while p xs ++ drop (length (take_while p xs)) xs ≡ xs → take_while p (x ∷ xs) ++ drop (length (take_while p (x ∷ xs))) (x ∷ xs) ≡ x ∷ xs
-    by true e h = ap (λ t. t ++ drop (length t) (x ∷ xs)) (goes_on p x xs e) ∙ ap (λ t. x ∷ t) h
-    by false e h = ap (λ t. t ++ drop (length t) (x ∷ xs)) (stops p x xs e)
+front_and_rest p (x ∷ xs) = rw take_while-cons (grind (arith, front_and_rest p xs))
 
 pub after_slice : (us : List Unit) (u : Unit) → is_slice u ≡ true → after_slices (us ++ u ∷ []) ≡ []
 after_slice us u is = ap (λ r. reverse (take_while is_other r)) (reverse-append us (u ∷ [])) ∙ ap reverse (stops is_other u (reverse us) (ap not is))
@@ -80,36 +76,22 @@ abbrev pub before_start : List Unit → ℕ
 before_start us = length (take_while not (map is_start us))
 
 by_flag : (us : List Unit) (u : Unit) (b : Bool) → is_start u ≡ b → before_start (u ∷ us) ≡ cond (not b) (suc (before_start us)) 0
-by_flag us u true e = ap length (stops not (is_start u) (map is_start us) (ap not e))
-by_flag us u false e = ap length (goes_on not (is_start u) (map is_start us) (ap not e))
+by_flag us u b e = grind (arith, take_while-cons {X = Bool})
 
 pub front_before_start : (us : List Unit) → take_while goes_before us ≡ take (before_start us) us
 front_before_start [] = refl
-front_before_start (u ∷ us) = by (is_start u) refl (front_before_start us)
-  where
-    by : (b : Bool) → is_start u ≡ b → take_while goes_before us ≡ take (before_start us) us → take_while goes_before (u ∷ us) ≡ take (before_start (u ∷ us)) (u ∷ us)
-    by true e h = stops goes_before u us (ap not e) ∙ ap (λ n. take n (u ∷ us)) (sym (by_flag us u true e))
-    by false e h = goes_on goes_before u us (ap not e) ∙ ap (λ t. u ∷ t) h ∙ ap (λ n. take n (u ∷ us)) (sym (by_flag us u false e))
+front_before_start (u ∷ us) = rw (take_while-cons goes_before u us, by_flag us u (is_start u) refl) (grind (arith, front_before_start us))
 
 pub any_by : (us : List Unit) (u : Unit) (b : Bool) → is_start u ≡ b → list_any is_start (u ∷ us) ≡ cond b true (list_any is_start us)
-any_by us u true e = rw (list_any, e) refl
-any_by us u false e = rw (list_any, e) refl
+any_by us u b e = grind arith
 
 one_starts : (us : List Unit) → before_start us < length us → list_any is_start us ≡ true
 one_starts [] low = absurd (omega (arith, low))
-one_starts (u ∷ us) low = by (is_start u) refl (one_starts us)
-  where
-    by : (b : Bool) → is_start u ≡ b → (before_start us < length us → list_any is_start us ≡ true) → list_any is_start (u ∷ us) ≡ true
-    by true e h = any_by us u true e
-    by false e h = let n = by_flag us u false e in any_by us u false e ∙ h (omega (arith, low, n))
+one_starts (u ∷ us) low = grind (arith, by_flag us u, one_starts us)
 
 none_starts : (us : List Unit) → length us ≤ before_start us → list_any is_start us ≡ false
 none_starts [] low = refl
-none_starts (u ∷ us) low = by (is_start u) refl (none_starts us)
-  where
-    by : (b : Bool) → is_start u ≡ b → (length us ≤ before_start us → list_any is_start us ≡ false) → list_any is_start (u ∷ us) ≡ false
-    by true e h = let n = by_flag us u true e in absurd (omega (arith, low, n))
-    by false e h = let n = by_flag us u false e in any_by us u false e ∙ h (omega (arith, low, n))
+none_starts (u ∷ us) low = grind (arith, by_flag us u, none_starts us)
 
 abbrev pub rest_by : Bool → (after us : List Unit) → List Unit
 rest_by starts after us = if starts then through_slices us ++ filter (λ u. not (is_left_out u)) (after_slices us) else after

@@ -16,6 +16,8 @@ use Rattle.avc_tools.specs.Stages.{Stage, begun, made, next, over, piece_of, sta
 use Rattle.avc_tools.specs.Streams.{OnlyGrows}
 use Rattle.avc_tools.proofs.Lengths.{whole_units}
 use Rattle.avc_tools.proofs.Slices.{any_by, goes_before, goes_on, rest_by, split_at_slices, stops, through_other, through_slice}
+use Rattle.std.proofs.lemmas.List.Sums.{take_while-cons}
+use Rattle.std.specs.Prelude.{Option}
 
 -- ---- stages
 
@@ -37,25 +39,21 @@ waiting_next starts left before u = if starts then begun left before u else wait
 -- ---- the rest of a piece so far
 
 no_start_more : (a : List Unit) (u : Unit) → list_any is_start a ≡ false → is_start u ≡ false → list_any is_start (a ++ u ∷ []) ≡ false
-no_start_more a u none e = list_any-append is_start a (u ∷ []) ∙ ap (λ b. b || list_any is_start (u ∷ [])) none ∙ any_by [] u false e
+no_start_more a u none e = grind (arith, list_any-append)
 
 a_start : (a : List Unit) (u : Unit) (us : List Unit) → list_any is_start a ≡ false → is_start u ≡ true → list_any is_start (a ++ u ∷ us) ≡ true
-a_start a u us none e = list_any-append is_start a (u ∷ us) ∙ ap (λ b. b || list_any is_start (u ∷ us)) none ∙ any_by us u true e
+a_start a u us none e = grind (arith, list_any-append)
 
 before_it : (a : List Unit) (u : Unit) (us : List Unit) → list_any is_start a ≡ false → is_start u ≡ true → take_while goes_before (a ++ u ∷ us) ≡ a
 before_it [] u us none e = stops goes_before u us (ap not e)
-before_it (v ∷ a) u us none e = by (is_start v) refl (before_it a u us)
-  where
-    by : (b : Bool) → is_start v ≡ b → (list_any is_start a ≡ false → is_start u ≡ true → take_while goes_before (a ++ u ∷ us) ≡ a) → take_while goes_before ((v ∷ a) ++ u ∷ us) ≡ v ∷ a
-    by true f h = let wrong : true ≡ false = sym (any_by a v true f) ∙ none in cc
-    by false f h = goes_on goes_before v (a ++ u ∷ us) (ap not f) ∙ ap (λ l. v ∷ l) (h (sym (any_by a v false f) ∙ none) e)
+before_it (v ∷ a) u us none e = grind (arith, take_while-cons goes_before v (a ++ u ∷ us), before_it a u us)
 
 abbrev rest_if : (ended starts : Bool) → (after : List Unit) → List Unit
 rest_if ended starts after = if ended || starts then rest_of_piece after else through_slices after
 
 none_yet : (a : List Unit) (ended : Bool) → list_any is_start a ≡ false → rest_so_far a ended ≡ (if ended then a else through_slices a)
-none_yet a true none = ap (λ b. rest_by b a (take_while goes_before a)) none
-none_yet a false none = ap (λ b. rest_if false b a) none
+none_yet a true none = rw none refl
+none_yet a false none = rw none refl
 
 rest_cut_at : (a : List Unit) (u : Unit) (us : List Unit) → list_any is_start a ≡ false → is_start u ≡ true → rest_of_piece (a ++ u ∷ us) ≡ through_slices a ++ staying a
 rest_cut_at a u us none e =
@@ -72,19 +70,14 @@ written_is : (before : List Unit) (c : Unit) (a us : List Unit) (ended : Bool) �
     → piece_of (stage_after (writing before c a) us) ended ≡ Some (made before c (rest_so_far (a ++ us) ended))
 written_is before c a [] ended none =
     ap (λ l. Some (made before c l)) (sym (none_yet a ended none) ∙ ap (λ l. rest_so_far l ended) (sym (append-nil a)))
-written_is before c a (u ∷ us) ended none = by (is_start u) refl (written_is before c (a ++ u ∷ []) us ended)
+written_is before c a (u ∷ us) ended none =
+    by (is_start u) refl (written_is before c (a ++ u ∷ []) us ended)
   where
     by : (b : Bool) → is_start u ≡ b
         → (list_any is_start (a ++ u ∷ []) ≡ false → piece_of (stage_after (writing before c (a ++ u ∷ [])) us) ended ≡ Some (made before c (rest_so_far ((a ++ u ∷ []) ++ us) ended)))
         → piece_of (stage_after (writing before c a) (u ∷ us)) ended ≡ Some (made before c (rest_so_far (a ++ u ∷ us) ended))
-    by true e h =
-        ap (λ b. piece_of (stage_after (writing_next b before c a u) us) ended) e
-        ∙ ap (λ s. piece_of s ended) (over_stays before c a us)
-        ∙ ap (λ l. Some (made before c l)) (sym (next_begun a u us ended none e))
-    by false e h =
-        ap (λ b. piece_of (stage_after (writing_next b before c a u) us) ended) e
-        ∙ h (no_start_more a u none e)
-        ∙ ap (λ l. Some (made before c (rest_so_far l ended))) (append_assoc a (u ∷ []) us)
+    by true e h = rw (e, over_stays before c a us) (ap (λ l. Some (made before c l)) (sym (next_begun a u us ended none e)))
+    by false e h = rw e (h (no_start_more a u none e) ∙ ap (λ l. Some (made before c (rest_so_far l ended))) (append_assoc a (u ∷ []) us))
 
 abbrev listed : (starts : Bool) → (x : List ℕ) (others : List (List ℕ)) → List (List ℕ)
 listed starts x others = elim starts [ true ↦ x ∷ others | false ↦ others ]
@@ -97,18 +90,13 @@ others_in before u us ended = pieces_so_far_from (before ++ u ∷ []) us ended
 
 piece_is : (left : ℕ) (before us : List Unit) (ended : Bool) → slice_get (pieces_so_far_from before us ended) left ≡ piece_of (stage_after (waiting left before) us) ended
 piece_is left before [] ended = refl
-piece_is left before (u ∷ us) ended = by (is_start u) refl left (λ n. piece_is n (before ++ u ∷ []) us ended)
+piece_is left before (u ∷ us) ended = by (is_start u) left (λ n. piece_is n (before ++ u ∷ []) us ended)
   where
-    by : (b : Bool) → is_start u ≡ b → (n : ℕ) → ((m : ℕ) → slice_get (others_in before u us ended) m ≡ piece_of (stage_after (waiting m (before ++ u ∷ [])) us) ended)
-        → slice_get (pieces_so_far_from before (u ∷ us) ended) n ≡ piece_of (stage_after (waiting n before) (u ∷ us)) ended
-    by false e n h =
-        ap (λ b. slice_get (listed b (first_in before u us ended) (others_in before u us ended)) n) e ∙ h n ∙ ap (λ b. piece_of (stage_after (waiting_next b n before u) us) ended) (sym e)
-    by true e zero h =
-        ap (λ b. slice_get (listed b (first_in before u us ended) (others_in before u us ended)) 0) e ∙ sym (written_is before u [] us ended refl)
-        ∙ ap (λ b. piece_of (stage_after (waiting_next b 0 before u) us) ended) (sym e)
-    by true e (suc n) h =
-        ap (λ b. slice_get (listed b (first_in before u us ended) (others_in before u us ended)) (suc n)) e ∙ h n
-        ∙ ap (λ b. piece_of (stage_after (waiting_next b (suc n) before u) us) ended) (sym e)
+    by : (b : Bool) (n : ℕ) → ((m : ℕ) → slice_get (others_in before u us ended) m ≡ piece_of (stage_after (waiting m (before ++ u ∷ [])) us) ended)
+        → slice_get (listed b (first_in before u us ended) (others_in before u us ended)) n ≡ piece_of (stage_after (waiting_next b n before u) us) ended
+    by false n h = h n
+    by true zero h = sym (written_is before u [] us ended refl)
+    by true (suc n) h = h n
 
 -- ---- whether it is over
 
@@ -119,34 +107,25 @@ is_over (over before c after) = true
 
 over_when : (before : List Unit) (c : Unit) (a us : List Unit) → is_over (stage_after (writing before c a) us) ≡ list_any is_start us
 over_when before c a [] = refl
-over_when before c a (u ∷ us) = by (is_start u) refl (over_when before c (a ++ u ∷ []) us)
-  where
-    by : (b : Bool) → is_start u ≡ b → is_over (stage_after (writing before c (a ++ u ∷ [])) us) ≡ list_any is_start us → is_over (stage_after (writing before c a) (u ∷ us)) ≡ list_any is_start (u ∷ us)
-    by true e h = ap (λ b. is_over (stage_after (writing_next b before c a u) us)) e ∙ ap is_over (over_stays before c a us) ∙ sym (any_by us u true e)
-    by false e h = ap (λ b. is_over (stage_after (writing_next b before c a u) us)) e ∙ h ∙ sym (any_by us u false e)
+over_when before c a (u ∷ us) = grind (arith, over_when before c (a ++ u ∷ []) us, over_stays before c a us)
 
 first_when : (before us : List Unit) (ended : Bool) → is_some (slice_get (pieces_so_far_from before us ended) 0) ≡ list_any is_start us
 first_when before [] ended = refl
-first_when before (u ∷ us) ended = by (is_start u) refl (first_when (before ++ u ∷ []) us ended)
+first_when before (u ∷ us) ended = by (is_start u) (first_when (before ++ u ∷ []) us ended)
   where
-    by : (b : Bool) → is_start u ≡ b → is_some (slice_get (others_in before u us ended) 0) ≡ list_any is_start us → is_some (slice_get (pieces_so_far_from before (u ∷ us) ended) 0) ≡ list_any is_start (u ∷ us)
-    by true e h = ap (λ b. is_some (slice_get (listed b (first_in before u us ended) (others_in before u us ended)) 0)) e ∙ sym (any_by us u true e)
-    by false e h = ap (λ b. is_some (slice_get (listed b (first_in before u us ended) (others_in before u us ended)) 0)) e ∙ h ∙ sym (any_by us u false e)
+    by : (b : Bool) → is_some (slice_get (others_in before u us ended) 0) ≡ list_any is_start us → is_some (slice_get (listed b (first_in before u us ended) (others_in before u us ended)) 0) ≡ (b || list_any is_start us)
+    by true h = refl
+    by false h = h
 
 next_is : (left : ℕ) (before us : List Unit) (ended : Bool) → is_some (slice_get (pieces_so_far_from before us ended) (suc left)) ≡ is_over (stage_after (waiting left before) us)
 next_is left before [] ended = refl
-next_is left before (u ∷ us) ended = by (is_start u) refl left (λ n. next_is n (before ++ u ∷ []) us ended)
+next_is left before (u ∷ us) ended = by (is_start u) left (λ n. next_is n (before ++ u ∷ []) us ended)
   where
-    by : (b : Bool) → is_start u ≡ b → (n : ℕ) → ((m : ℕ) → is_some (slice_get (others_in before u us ended) (suc m)) ≡ is_over (stage_after (waiting m (before ++ u ∷ [])) us))
-        → is_some (slice_get (pieces_so_far_from before (u ∷ us) ended) (suc n)) ≡ is_over (stage_after (waiting n before) (u ∷ us))
-    by false e n h =
-        ap (λ b. is_some (slice_get (listed b (first_in before u us ended) (others_in before u us ended)) (suc n))) e ∙ h n ∙ ap (λ b. is_over (stage_after (waiting_next b n before u) us)) (sym e)
-    by true e zero h =
-        ap (λ b. is_some (slice_get (listed b (first_in before u us ended) (others_in before u us ended)) 1)) e ∙ first_when (before ++ u ∷ []) us ended ∙ sym (over_when before u [] us)
-        ∙ ap (λ b. is_over (stage_after (waiting_next b 0 before u) us)) (sym e)
-    by true e (suc n) h =
-        ap (λ b. is_some (slice_get (listed b (first_in before u us ended) (others_in before u us ended)) (suc (suc n)))) e ∙ h n
-        ∙ ap (λ b. is_over (stage_after (waiting_next b (suc n) before u) us)) (sym e)
+    by : (b : Bool) (n : ℕ) → ((m : ℕ) → is_some (slice_get (others_in before u us ended) (suc m)) ≡ is_over (stage_after (waiting m (before ++ u ∷ [])) us))
+        → is_some (slice_get (listed b (first_in before u us ended) (others_in before u us ended)) (suc n)) ≡ is_over (stage_after (waiting_next b n before u) us)
+    by false n h = h n
+    by true zero h = first_when (before ++ u ∷ []) us ended ∙ sym (over_when before u [] us)
+    by true (suc n) h = h n
 
 -- ---- by the bytes of a stream
 
@@ -185,7 +164,7 @@ through_more : (before : List Unit) (c : Unit) (a : List Unit) (u : Unit) → (m
 through_more before c a u = by (is_slice u) refl
   where
     by : (b : Bool) → is_slice u ≡ b → (more : List ℕ) × (made before c (through_slices (a ++ u ∷ [])) ≡ made before c (through_slices a) ++ more)
-    by true e = (flat_map written (after_slices a) ++ flat_map written (u ∷ []), added_by_slice before c a u e)
+    by true e = (_, added_by_slice before c a u e)
     by false e = ([], ap (made before c) (through_other a u e) ∙ sym (append-nil (made before c (through_slices a))))
 
 abbrev Grows : Stage → List Unit → Bool → Type 0
@@ -197,16 +176,8 @@ grows_written before c a [] false = ([], sym (append-nil (made before c (through
 grows_written before c a (u ∷ us) ended = by (is_start u) refl (grows_written before c (a ++ u ∷ []) us ended)
   where
     by : (b : Bool) → is_start u ≡ b → Grows (writing before c (a ++ u ∷ [])) us ended → Grows (writing before c a) (u ∷ us) ended
-    by true e h = (
-      flat_map written (staying a),
-      ap (λ b. text_of (stage_after (writing_next b before c a u) us) ended) e ∙ ap (λ s. text_of s ended) (over_stays before c a us) ∙ added_by_next before c a,
-    )
-    by false e h =
-        let more = through_more before c a u in (
-          more.0 ++ h.0,
-          ap (λ b. text_of (stage_after (writing_next b before c a u) us) ended) e ∙ h.1 ∙ ap (λ t. t ++ h.0) more.1
-              ∙ append_assoc (made before c (through_slices a)) more.0 h.0,
-        )
+    by true e h = (flat_map written (staying a), rw (e, over_stays before c a us) (added_by_next before c a))
+    by false e h = let more = through_more before c a u in (more.0 ++ h.0, rw e (h.1 ∙ ap (λ t. t ++ h.0) more.1 ∙ append_assoc (made before c (through_slices a)) more.0 h.0))
 
 pub grows : (s : Stage) (us : List Unit) (ended : Bool) → Grows s us ended
 grows (waiting left before) us ended = (text_of (stage_after (waiting left before) us) ended, refl)
@@ -237,9 +208,8 @@ pub pieces_are_whole : PiecesAreWhole
 pieces_are_whole bytes = all_so_far [] (units (length bytes) bytes true)
 
 stays_over : (s : Stage) (us : List Unit) → is_over s ≡ true → piece_of (stage_after s us) true ≡ Some (text_of s false)
-stays_over (waiting left before) us e = cc
-stays_over (writing before c a) us e = cc
 stays_over (over before c a) us e = ap (λ s. piece_of s true) (over_stays before c a us)
+stays_over _ us e = cc
 
 pub pieces_stay : UnitsStay → PiecesStay
 pieces_stay stay number bytes more is =

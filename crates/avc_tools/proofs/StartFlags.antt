@@ -1,5 +1,5 @@
 -- Each start of a stream begins anew where no IDR picture but the first drops the pictures before.
-use Rattle.std.proofs.Common.{◌≡◌, ◌||◌, Bool, true, false, not, List, [], ◌∷◌, ◌++◌, drop, All}
+use Rattle.std.proofs.Common.{◌≡◌, ◌||◌, Bool, true, false, not, List, [], ◌∷◌, ◌++◌, drop, All, arith}
 use Rattle.std.proofs.Common.{refl, ap, sym, subst, ◌∙◌, append_assoc, append-nil}
 use Rattle.std.specs.List.{list_all, list_any}
 use Rattle.std.proofs.lemmas.List.Elements.{All-nil, All-cons, All-head, All-tail}
@@ -13,7 +13,7 @@ use Rattle.avc_decoder.specs.Events.{State, at_end, events_from, first_state, is
 use Rattle.avc_decoder.specs.Laws.{LetsPriorPicturesOut, PicturesNameNoUnits, StartUnitsBeginAnew, state_through}
 use Rattle.avc_tools.specs.Laws.{PiecesDecodeAlike, drop_flags, drops_by, drops_prior}
 use Rattle.avc_tools.proofs.AllPieces.{StartsBeginAnew, joined_pieces}
-use Rattle.avc_tools.proofs.PiecesWithin.{IsAccepted, IsSilent}
+use Rattle.avc_tools.proofs.PiecesWithin.{IsAccepted, IsSilent, front_of_all, neither}
 use Rattle.avc_tools.proofs.Refusals.{ArePictures, all_accepted, silent_unit}
 
 -- ---- the flags
@@ -22,19 +22,13 @@ abbrev AreOff : List Bool → Type 0
 AreOff flags = list_all (λ f. not f) flags ≡ true
 
 off_first : (f : Bool) (flags : List Bool) → AreOff (f ∷ flags) → f ≡ false
-off_first true flags e = (cc)
-off_first false flags e = refl
-
-off_others : (f : Bool) (flags : List Bool) → AreOff (f ∷ flags) → AreOff flags
-off_others true flags e = (cc)
-off_others false flags e = e
+off_first f flags e = grind arith
 
 abbrev flags_by : Bool → (flag : Bool) → (others : List Bool) → List Bool
 flags_by starts flag others = elim starts [ true ↦ flag ∷ others | false ↦ others ]
 
 off_behind : (starts flag : Bool) (others : List Bool) → AreOff (flags_by starts flag others) → AreOff others
-off_behind true flag others e = off_others flag others e
-off_behind false flag others e = e
+off_behind starts flag others e = grind arith
 
 -- the unit's flag, where all are off
 own_off : (b xs : List Unit) (u : Unit) (more : List Unit) → is_start u ≡ true → AreOff (drop_flags b (xs ++ u ∷ more))
@@ -74,15 +68,11 @@ lets_out before u off slice n l read marking =
 
 -- ---- before the first start decoding waits
 
-none_silent : (s : Bool) (u : Unit) (us : List Unit) → is_start u ≡ s → (s || list_any is_start us) ≡ false → IsAccepted u
-    → (list_any is_start us ≡ false → All IsSilent us) → All IsSilent (u ∷ us)
-none_silent true u us is none a later = (cc)
-none_silent false u us is none a later = All-cons IsSilent u us (record { accepted = a; no_start = is }) (later none)
-
 all_silent : (us : List Unit) → list_any is_start us ≡ false → All IsAccepted us → All IsSilent us
 all_silent [] none h = All-nil IsSilent
 all_silent (u ∷ us) none h =
-    none_silent (is_start u) u us refl none (All-head IsAccepted u us h) (λ later. all_silent us later (All-tail IsAccepted u us h))
+    let both = neither (is_start u) (list_any is_start us) none in
+    All-cons IsSilent u us (record { accepted = All-head IsAccepted u us h; no_start = both.0 }) (all_silent us both.1 (All-tail IsAccepted u us h))
 
 waits_through : (us : List Unit) (s : State) → s.phase ≡ waiting → All IsSilent us → (state_through s us).phase ≡ waiting
 waits_through [] s waits h = waits
@@ -101,18 +91,13 @@ started output before h runs = by (list_any is_start before) refl
         let waits = waits_through before (first_state output) refl (all_silent before e h) in
         ap is_running (sym waits) ∙ runs
 
-accepted_front : (xs ys : List Unit) → All IsAccepted (xs ++ ys) → All IsAccepted xs
-accepted_front [] ys h = All-nil IsAccepted
-accepted_front (x ∷ xs) ys h =
-    All-cons IsAccepted x xs (All-head IsAccepted x (xs ++ ys) h) (accepted_front xs ys (All-tail IsAccepted x (xs ++ ys) h))
-
 -- ---- the law
 
 begin_anew : StartUnitsBeginAnew → (output : Output) (all : List Unit) → All IsAccepted all → AreOff (drop 1 (drop_flags [] all))
     → StartsBeginAnew output all
 begin_anew anew output all accepted off before u more us s here is starts pictures =
     let first = first_state output in
-    let front = accepted_front before (u ∷ more) (subst (All IsAccepted) here accepted) in
+    let front = front_of_all IsAccepted before (u ∷ more) (subst (All IsAccepted) here accepted) in
     let flags = subst (λ vs. AreOff (drop 1 (drop_flags [] vs))) here off in
     let lets : is_running (state_through first before).phase ≡ true → LetsPriorPicturesOut before u = λ runs.
     lets_out before u (later_off [] before u more starts (started output before front runs) flags) in

@@ -27,8 +27,7 @@ stands_new number c phase left sps pps held = record { phase = phase; holds = re
 
 -- a unit where it passes
 one_if : (p : Unit → Bool) (u : Unit) (b : Bool) → p u ≡ b → flat_map written (filter p (u ∷ [])) ≡ (if b then written u else [])
-one_if p u true e = rw (filter, e) (append-nil (written u))
-one_if p u false e = rw (filter, e) refl
+one_if p u b e = grind (arith, append-nil)
 
 filtered_more : (p : Unit → Bool) (us : List Unit) (u : Unit) → flat_map written (filter p (us ++ u ∷ [])) ≡ flat_map written (filter p us) ++ (if p u then written u else [])
 filtered_more p us u =

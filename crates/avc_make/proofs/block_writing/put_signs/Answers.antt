@@ -1,9 +1,9 @@
-use Rattle.std.proofs.Common.{◌≡◌, ◌+◌, [], ◌∷◌, pos, drop, to_z, of_z, w16, ap, ◌∙◌, sym, arith}
+use Rattle.std.proofs.Common.{◌≡◌, ◌+◌, ◌∷◌, pos, drop, to_z, of_z, w16, ap, ◌∙◌, sym, arith, append_assoc}
 use Rattle.std.specs.Prelude.{int_lt}
 use Rattle.std.proofs.lemmas.Int.{ints}
 use Rattle.std.proofs.lemmas.List.{length-map}
 use Rattle.avc_make.specs.BlockWriting.{sign_bits, values_of}
-use Rattle.avc_make.proofs.BlockPutting.{put_one, sign_at}
+use Rattle.avc_make.proofs.BlockPutting.{sign_at}
 use Rattle.avc_make.proofs.block_writing.put_signs.Goals as goal
 
 pub ones-preserved : goal.ones-preserved
@@ -17,5 +17,5 @@ ones-preserved c =
     ∙ ap (λ v. int_lt v (pos 0) ∷ drop (c.ones.k + 1) all) (sym same) in
     record {
       going = ap (λ m. m.failed) c.in_ok-flag.ensures.1;
-      put = put_one c.args.maker.now c.ones.maker c.flag.new.self (bit ∷ []) (drop (c.ones.k + 1) all) (drop c.ones.k all) all c.in_ok-flag.ensures.1 here c.ones.invariant.put;
+      put = rw (c.in_ok-flag.ensures.1, append_assoc, ← here) c.ones.invariant.put;
     }

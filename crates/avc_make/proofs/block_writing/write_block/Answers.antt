@@ -1,12 +1,8 @@
-use Rattle.std.proofs.Common.{◌≡◌, ◌≤◌, ◌<ℤ◌, ℤ, pos, w8, to_z, of_z, ap, subst, ◌∙◌, sym, arith}
+use Rattle.std.proofs.Common.{◌≡◌, ◌≤◌, ◌<ℤ◌, ℤ, pos, w8, to_z, of_z, subst, sym, arith, append_assoc}
 use Rattle.std.proofs.lemmas.Int.{ints}
-use Rattle.avc_make.specs.BlockWriting.{coded, values_of, zeros_bits}
-use Rattle.avc_bits.specs.Bits.{or_none}
-use Rattle.avc_vlc.specs.Reading.{token}
-use Rattle.avc_vlc.specs.Writing.{token_word}
-use Rattle.avc_make.specs.Made.{with_bits}
+use Rattle.avc_make.specs.BlockWriting.{values_of}
 use Rattle.avc_make.specs.VuiWriting.{Each}
-use Rattle.avc_make.proofs.BlockPutting.{IsNonzero, block_put, coded_some, each_at}
+use Rattle.avc_make.proofs.BlockPutting.{IsNonzero, coded_some, each_at}
 use Rattle.avc_make.proofs.block_writing.write_block.Goals as goal
 
 pub put_token-requires-clause-chroma_dc : goal.put_token-requires-clause-chroma_dc
@@ -33,11 +29,18 @@ pub returns : goal.returns
 returns g c =
     let nc : to_z w8 (of_z w8 c.args.nc) ≡ c.args.nc = omega (arith, ints, c.ranges.nc.sfits) in (
       c.in_ok-put_token.ensures.0,
-      block_put c.args.maker.now c.put_token.new.maker c.put_signs.new.maker c.put_levels.new.maker c.put_zeros.new.maker c.put_runs.new.maker
-          g.row.MAXN c.args.nc c.args.levels.now c.of-found.result c.len.result c.trailing_ones-ones.result c.zeros-zeros.result
-          (c.of-found.ensures.value ∙ ap coded c.as_array.ensures) c.len.ensures.value c.trailing_ones-ones.ensures.value c.zeros-zeros.ensures
-          (c.in_ok-put_token.ensures.1 ∙ ap (λ n. with_bits c.args.maker.now (or_none (token_word n (token c.len.result c.trailing_ones-ones.result)))) nc)
-          c.in_ok-put_signs.ensures.1 c.in_ok-put_levels.ensures.1
-          (c.in_ok-put_zeros.ensures.1 ∙ ap (λ n. with_bits c.put_levels.new.maker (zeros_bits g.row.MAXN n c.zeros-zeros.result)) (c.len-2.ensures.value ∙ sym c.len.ensures.value))
-          c.in_ok-put_runs.ensures.1,
+      rw (
+        c.in_ok-put_runs.ensures.1,
+        c.in_ok-put_zeros.ensures.1,
+        c.in_ok-put_levels.ensures.1,
+        c.in_ok-put_signs.ensures.1,
+        c.in_ok-put_token.ensures.1,
+        nc,
+        c.zeros-zeros.ensures,
+        c.trailing_ones-ones.ensures.value,
+        c.len.ensures.value,
+        c.len-2.ensures.value,
+        c.of-found.ensures.value,
+        c.as_array.ensures,
+      ) (simp append_assoc),
     )

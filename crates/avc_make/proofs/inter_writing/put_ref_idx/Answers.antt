@@ -1,11 +1,8 @@
-use Rattle.std.proofs.Common.{ℕ, ◌-◌, ◌<◌, ◌≤◌, take, ap, ◌∙◌, sym, subst, arith}
-use Rattle.std.specs.List.{flat_map}
+use Rattle.std.proofs.Common.{ℕ, ◌-◌, ◌<◌, ◌≤◌, take, ◌∙◌, sym, subst, arith}
 use Rattle.avc_types.specs.Macroblock.{partitions}
-use Rattle.avc_make.specs.MbWriting.{has_ref_idx, ref_idx_bits}
+use Rattle.avc_make.specs.MbWriting.{has_ref_idx}
 use Rattle.avc_make.specs.VuiWriting.{Each}
-use Rattle.avc_make.specs.Words.{te_word}
-use Rattle.avc_make.proofs.RefIdxPutting.{coded_indices, indices_active}
-use Rattle.avc_make.proofs.ResidualPutting.{puts_same}
+use Rattle.avc_make.proofs.RefIdxPutting.{indices_active}
 use Rattle.avc_make.proofs.inter_writing.put_ref_idx.Goals as goal
 
 pub put_indices-requires : goal.put_indices-requires
@@ -23,10 +20,5 @@ put_indices-requires c =
 
 pub returns-then-has_ref_idx : goal.returns-then-has_ref_idx
 returns-then-has_ref_idx c =
-    let t = c.args.mb_type.now in
-    let active = c.args.active_count in
-    let indices = take (partitions t) c.args.ref_idx.now in
     let is = sym c.has_ref_idx.ensures.value ∙ c.if-has_ref_idx.true in
-    let l = take c.partitions.result c.args.ref_idx.now in
-    puts_same c.put_indices.result (flat_map (te_word (active - 1)) l) (ref_idx_bits active (has_ref_idx active t) indices) c.args.maker.now c.put_indices.new.maker
-    (coded_indices active (has_ref_idx active t) l indices is (ap (λ n. take n c.args.ref_idx.now) c.partitions.ensures.value)) c.put_indices.ensures
+    rw is (rw c.partitions.ensures.value at c.put_indices.ensures)

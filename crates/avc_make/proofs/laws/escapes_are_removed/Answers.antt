@@ -3,4 +3,4 @@ use Rattle.avc_make.proofs.Removing.{no_start, removed}
 use Rattle.avc_make.proofs.laws.escapes_are_removed.Goals as goal
 
 pub returns : goal.returns
-returns c = record { rbsp = λ bytes. removed 0 bytes (omega arith); start = λ bytes. no_start 0 bytes (omega arith) }
+returns c = record { rbsp = λ bytes. removed 0 bytes (omega arith); start = no_start }

@@ -1,9 +1,9 @@
-use Rattle.std.proofs.Common.{◌≡◌, ◌≤◌, ◌+◌, ◌<◌, ◌++◌, pos, length, drop, nat_abs, to_z, of_z, w16, false, ap, subst, ◌∙◌, sym, arith}
+use Rattle.std.proofs.Common.{◌≡◌, ◌≤◌, ◌+◌, ◌<◌, ◌++◌, pos, length, drop, nat_abs, to_z, of_z, w16, false, ap, subst, ◌∙◌, sym, arith, append_assoc}
 use Rattle.std.proofs.lemmas.Int.{ints}
 use Rattle.std.proofs.lemmas.List.{length-map}
 use Rattle.avc_cavlc.specs.Block.{IsLevel, next_suffix_length}
 use Rattle.avc_make.specs.BlockWriting.{AreCodes, code_of_level, level_bits, levels_bits, values_of}
-use Rattle.avc_make.proofs.BlockPutting.{at_place, put_one}
+use Rattle.avc_make.proofs.BlockPutting.{at_place}
 use Rattle.avc_make.proofs.LevelWords.{level_most}
 use Rattle.avc_make.proofs.level_writing.put_levels.Goals as goal
 
@@ -48,8 +48,7 @@ levels-preserved c =
     ∙ ap (λ n. level_bits sl c.code_of_level.result ++ levels_bits n false others) (sym next) in
     record {
       going = ap (λ m. m.failed) c.in_ok-put_level.ensures.1;
-      put = put_one c.args.maker.now c.levels.maker c.put_level.new.maker (level_bits sl c.code_of_level.result) (levels_bits c.next_suffix_length-suffix_length.result false others) (levels_bits sl above (drop k values)) _
-          c.in_ok-put_level.ensures.1 rest c.levels.invariant.put;
+      put = rw (c.in_ok-put_level.ensures.1, append_assoc, ← rest) c.levels.invariant.put;
       codes = subst (λ n. AreCodes n false others) (sym next) codes.1;
       few = c.next_suffix_length-suffix_length.ensures.few;
       first = λ t. cc;

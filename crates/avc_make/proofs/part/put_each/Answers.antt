@@ -1,7 +1,6 @@
-use Rattle.std.proofs.Common.{◌≡◌, ◌+◌, ◌∷◌, ◌++◌, drop, ap, sym, ◌∙◌}
+use Rattle.std.proofs.Common.{◌≡◌, ◌+◌, ◌∷◌, drop, ap, sym, ◌∙◌, append_assoc}
 use Rattle.std.proofs.Math.ListN.{drop_of_length-le}
-use Rattle.std.specs.List.{flat_map}
-use Rattle.avc_make.proofs.PuttingEach.{all_put, each_first, each_others, each_put}
+use Rattle.avc_make.proofs.Putting.{put_all}
 use Rattle.std.proofs.lemmas.List.{drop_more}
 use Rattle.avc_make.proofs.part.put_each.Goals as goal
 
@@ -11,20 +10,19 @@ loop-part-preserved g c =
     let parts = c.args.parts.now in
     let i = c.loop-part.part-index in
     let next : drop i parts ≡ x ∷ drop (i + 1) parts = drop_more parts i x c.loop-part-test.true ∙ ap (λ y. y ∷ drop (i + 1) parts) (sym c.part-item.is) in
-    let all = c.args.maker.now.bits ++ flat_map g.T.Part.bits parts in
     let put = c.in_ok-put.ensures.1 in
+    let fits = rw next at c.loop-part.invariant.fits in
     record {
       going = ap (λ v. v.failed) put;
-      sum = each_put g.T.Part.bits c.loop-part.maker c.put.new.maker all x (drop (i + 1) parts) (drop i parts) next put c.loop-part.invariant.sum;
-      fits = each_others g.T.Part.fits x (drop (i + 1) parts) (drop i parts) next c.loop-part.invariant.fits;
+      sum = rw (put, append_assoc) (rw next at c.loop-part.invariant.sum);
+      fits = fits.1;
     }
 
 pub returns : goal.returns
 returns g c =
-    let parts = c.args.parts.now in
-    let i = c.loop-part.part-index in (
+    let none = drop_of_length-le c.args.parts.now c.loop-part-test.false in (
       c.requires.going,
-      all_put g.T.Part.bits c.loop-part.maker c.args.maker.now.bits parts (drop i parts) (drop_of_length-le parts c.loop-part-test.false) c.loop-part.invariant.going c.loop-part.invariant.sum,
+      put_all c.args.maker.now c.loop-part.maker _ c.loop-part.invariant.going (rw none at c.loop-part.invariant.sum),
     )
 
 pub put-requires-clause-fits : goal.put-requires-clause-fits
@@ -33,4 +31,5 @@ put-requires-clause-fits g c =
     let parts = c.args.parts.now in
     let i = c.loop-part.part-index in
     let next : drop i parts ≡ x ∷ drop (i + 1) parts = drop_more parts i x c.loop-part-test.true ∙ ap (λ y. y ∷ drop (i + 1) parts) (sym c.part-item.is) in
-    each_first g.T.Part.fits x (drop (i + 1) parts) (drop i parts) next c.loop-part.invariant.fits
+    let fits = rw next at c.loop-part.invariant.fits in
+    fits.0

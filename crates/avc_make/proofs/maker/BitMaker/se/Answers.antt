@@ -1,11 +1,10 @@
-use Rattle.std.proofs.Common.{◌≡◌, ap, ◌∙◌, arith, to_z, of_z, w32}
+use Rattle.std.proofs.Common.{◌≡◌, arith, refl, to_z, of_z, w32}
 use Rattle.std.proofs.lemmas.Int.{ints}
-use Rattle.avc_make.specs.Made.{with_bits}
-use Rattle.avc_make.specs.Words.{se_word, signed_index, ue_word}
+use Rattle.avc_make.specs.Words.{se_word}
 use Rattle.avc_make.proofs.maker.BitMaker.se.Goals as goal
 
 pub returns : goal.returns
 unfolding se_word
 returns c =
     let back : to_z w32 (of_z w32 c.args.value) ≡ c.args.value = omega (arith, ints, c.ranges.value.sfits) in
-    (c.in_ok-ue.ensures.0, c.in_ok-ue.ensures.1 ∙ ap (λ k. with_bits c.args.self.now (ue_word k)) c.index_of.ensures.value ∙ ap (λ z. with_bits c.args.self.now (ue_word (signed_index z))) back)
+    (c.in_ok-ue.ensures.0, rw (c.in_ok-ue.ensures.1, c.index_of.ensures.value, back) refl)
