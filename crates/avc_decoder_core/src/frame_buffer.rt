@@ -1,5 +1,6 @@
 ghost use Rattle.std.specs.Prelude.{◌≡◌, ◌≢◌, [], ◌∷◌, ◌++◌, ◌≤◌, false, true, if◌then◌else◌, is_some, length, map, Some};
 ghost use Rattle.std.specs.Prelude.{IfErr, IfOk, OnErr, OnOk};
+ghost use Rattle.std.specs.Result.{is_ok};
 ghost use Rattle.avc_types.specs.References.{result_map};
 ghost use Rattle.avc_decoder_core.specs.FrameBufferFields.{entry_of, frame_num_of, history_of, with_all_marks, OutputsPrior};
 ghost use Rattle.avc_decoder_core.specs.FrameBufferState.{empty_frame_buffer, BeginsSequence, CanFollow, IsEmptied, Refuses, Stores};
@@ -262,15 +263,18 @@ impl FrameBuffer {
     }
 
     /// Stores a frame that stands for a missing number (8.2.5.2), which can be marked. Answers the pictures that go out.
-    pub fn store_missing(&mut self, sps: &Sps, frame_num: u32) -> Result<Vec<Picture>, PictureError>
+    pub fn store_missing(&mut self, sps: &Sps, frame_num: u32) -> Result<Vec<Picture>, OutOfMemory>
         requires going { self.old.failed ≡ false }
         requires sps { IsSps sps.now }
         requires same { is_same_sps (sequence_sps self.old.history) sps.now ≡ true }
+        requires marked { is_ok (marks_of (missing_frame sps.now frame_num ∷ self.old.history)) ≡ true }
         ensures ok { IfOk result (λ out. Stores self.old (missing_frame sps.now frame_num) out.items self.new) }
-        ensures err { IfErr result (λ error. Refuses self.old (marks_of (missing_frame sps.now frame_num ∷ self.old.history)) error self.new) }
+        ensures err { OnErr result (self.new.failed ≡ true) }
     {
         let mut marked = marked_frames(self.dpb.frames());
-        sliding_window(&mut marked, new_frame(sps, frame_num, false))?;
+        let Ok(()) = sliding_window(&mut marked, new_frame(sps, frame_num, false)) else {
+            unreachable!()
+        };
         self.failed = true;
         set_marks(&mut self.dpb, marked.as_slice());
         let entry = HistoryEntry::MissingFrame {

@@ -2,7 +2,7 @@ use Rattle.std.proofs.Common.{◌≡◌, List, length}
 use Rattle.avc_poc.specs.OrderCountState.{order_count_state}
 use Rattle.avc_decoder_core.specs.History.{Entry, pasts}
 use Rattle.avc_decoder_core.specs.Opening.{with_all_missing}
-use Rattle.avc_decoder_core.proofs.sequence.count_missing.Given as goal
+use Rattle.avc_decoder_core.proofs.opening.count_missing.Given as goal
 
 -- the rest of the numbers gives what all of them give
 abbrev pub invariant-loop-frame_num : goal.invariant-loop-frame_num

@@ -3,7 +3,7 @@ use Rattle.avc_poc.specs.OrderCountState.{order_count_state}
 use Rattle.avc_decoder_core.specs.History.{marks_of, missing_frame, pasts}
 use Rattle.avc_decoder_core.specs.Opening.{with_all_missing}
 use Rattle.avc_decoder_core.proofs.MissingNumbers.{all_counted, first_refused, is_marked}
-use Rattle.avc_decoder_core.proofs.sequence.after_missing.Goals as goal
+use Rattle.avc_decoder_core.proofs.opening.after_missing.Goals as goal
 
 pub returns-in_err-can_store_missing : goal.returns-in_err-can_store_missing
 returns-in_err-can_store_missing c =

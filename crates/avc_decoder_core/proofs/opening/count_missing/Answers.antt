@@ -3,7 +3,7 @@ use Rattle.avc_poc.specs.OrderCountState.{order_count_state}
 use Rattle.avc_decoder_core.specs.History.{missing_frame, pasts}
 use Rattle.avc_decoder_core.specs.Opening.{with_all_missing}
 use Rattle.avc_decoder_core.proofs.MissingNumbers.{counted_at_once, none_counted, one_counted}
-use Rattle.avc_decoder_core.proofs.sequence.count_missing.Goals as goal
+use Rattle.avc_decoder_core.proofs.opening.count_missing.Goals as goal
 
 pub returns-then-first-max_frame_num : goal.returns-then-first-max_frame_num
 returns-then-first-max_frame_num c history e =
