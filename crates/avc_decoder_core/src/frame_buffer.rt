@@ -43,7 +43,7 @@ use std::marker::Model;
 pub struct FrameBuffer {
     alloc: Global,
 
-    dpb: Dpb<Frame<PADDING>>,
+    dpb: Dpb,
 
     // MaxLongTermFrameIdx; none where there may be no long-term frames
     max_long_term_frame_idx: Option<u32>,
@@ -114,7 +114,7 @@ fn prev_ref_frame_num_after(previous: u32, frame_num: u32, header: &Header) -> u
 }
 
 /// Each stored frame gets its new mark.
-fn set_marks(dpb: &mut Dpb<Frame<PADDING>>, marked: &[MarkedFrame])
+fn set_marks(dpb: &mut Dpb, marked: &[MarkedFrame])
     requires { length dpb.old.frames ≤ length marked.now }
     ensures { dpb.new ≡ with_all_marks dpb.old marked.now }
 {
@@ -186,7 +186,7 @@ fn no_output_of_prior_pics(header: &Header) -> bool
 /// What becomes of the held pictures of the sequence before this one is stored (C.4.4). Answers those that go out.
 fn output_prior_pictures(
     alloc: Global,
-    dpb: &mut Dpb<Frame<PADDING>>,
+    dpb: &mut Dpb,
     header: &Header,
 ) -> Result<Vec<Picture>, OutOfMemory>
     ensures ok { IfOk result (λ out. OutputsPrior (prior_pictures_of header.now) dpb.old out.items dpb.new) }
