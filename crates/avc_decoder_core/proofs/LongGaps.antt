@@ -1,9 +1,8 @@
 -- The frames that a long gap leaves are those of its last numbers.
 use Rattle.std.proofs.Common.{◌≡◌, ℕ, zero, suc, ◌+◌, ◌<◌, ◌≤◌, Bool, true, false, List, [], ◌∷◌, ◌++◌, length, map, drop, Option, Some, None, Ok, is_ok, is_some, refl, ap, ap₂}
 use Rattle.std.proofs.Common.{sym, ◌∙◌, subst, arith, length-append}
-use Rattle.std.specs.Prelude.{◌==◌, ◌%◌, ◌-◌, pos, IfSome}
+use Rattle.std.specs.Prelude.{◌==◌, ◌%◌, ◌-◌, IfSome}
 use Rattle.std.proofs.lemmas.List.{length-map, map-append, append_cancel_right}
-use Rattle.std.proofs.lemmas.Bool.Decides.{nat_tests}
 use Rattle.std.proofs.Math.Seq.{drop-append-add, drop-length}
 use Rattle.std.proofs.lemmas.Bool.{eq-eqb}
 use Rattle.avc_types.specs.declared.marked_frame.MarkedFrame.{MarkedFrame}

@@ -18,7 +18,6 @@ use Rattle.avc_dpb.specs.declared.output.Output.{Output}
 use Rattle.avc_dpb.specs.Bumping.{Buffer, PriorPictures, remain, are_output, after_frame, after_prior_pictures, is_reference_in}
 use Rattle.avc_dpb.specs.Contents.{Contents, HasBuffer, IsBuffer, Stores, arrival_of}
 use Rattle.avc_dpb.specs.Laws.{HasRoom, places_of_references}
-use Rattle.avc_dpb.specs.StoredFrame.{shown_frame}
 use Rattle.avc_dpb.proofs.Staying.{references_stay}
 use Rattle.avc_decoder_core.specs.Frames.{frame_at}
 use Rattle.avc_decoder_core.specs.FrameBufferFields.{Each, IsStateAfter, places_in, with_all_marks, with_marks}

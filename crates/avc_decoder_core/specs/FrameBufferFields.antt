@@ -11,7 +11,6 @@ use Rattle.avc_marking.specs.Marks.{Marks, frame_num_after_marking, prev_ref_fra
 use Rattle.avc_dpb.specs.Bumping.{Buffer, PriorPictures, after_prior_pictures}
 use Rattle.avc_dpb.specs.Contents.{Contents, IsBuffer, HasBuffer}
 use Rattle.avc_dpb.specs.Laws.{IsWithin}
-use Rattle.avc_dpb.specs.StoredFrame.{shown_frame}
 use Rattle.avc_decoder_core.specs.Frames.{frame_at}
 use Rattle.avc_decoder_core.specs.History.{Entry, decoded_picture, missing_frame, History, arrivals, buffer_of, entry_at, marking_entries, marks_of}
 use Rattle.avc_decoder_core.specs.History.{picture_entry, planes_in, sequence_sps}
