@@ -31,7 +31,7 @@ marks_then e h m is =
     ap (λ r. r >>= λ m. marks_after (marking_entry e) (length (marking_entries h)) (marking_entry e).marking m) is
     ∙ ap (λ n. marks_after (marking_entry e) n (marking_entry e).marking m) (length-map h marking_entry)
 
-stand_before : (h : History) (c : Contents (Frame 32)) (b : Buffer) (frame : ℕ → Frame 32) (old : List MarkedFrame) → IsBuffer c b (length h) frame →
+stand_before : (h : History) (c : Contents) (b : Buffer) (frame : ℕ → Frame 32) (old : List MarkedFrame) → IsBuffer c b (length h) frame →
     old ≡ map marked_frame c.frames → StandBefore (places_in b) (length h) old
 stand_before h c b frame old buffer is = record {
   each = length-map b.frames (λ s. s.entry) ∙ sym (ap length is ∙ length-map c.frames marked_frame ∙ ap length buffer.frames ∙ length-map b.frames (λ s. frame s.entry));
@@ -39,7 +39,7 @@ stand_before h c b frame old buffer is = record {
 }
 
 -- The marks of the longer history are those of the frames, or there is the fault.
-pub marked_then : (e : Entry) (h : History) (c : Contents (Frame 32)) (idx : Option ℕ) (previous : ℕ) (s : IsStateAfter h c idx previous)
+pub marked_then : (e : Entry) (h : History) (c : Contents) (idx : Option ℕ) (previous : ℕ) (s : IsStateAfter h c idx previous)
     (old new : List MarkedFrame) (r : Result (Unit {0}) Fault) (new_idx : Option ℕ) → old ≡ map marked_frame c.frames →
     MarksFrame (λ entry. marks_after (marking_entry e) entry (marking_entry e).marking) old idx r new new_idx →
     marks_of (e ∷ h) ≡ or_fault r (marks_at (places_in (buffer_of c.output h) ++ length h ∷ []) new new_idx)
@@ -79,7 +79,7 @@ same_of frame r s same h = record {
   existing = same.same_existing ∙ h.existing ∙ ap (λ p. (frame p).existing) (sym same.same_entry);
 }
 
-pub is_marked : (e : Entry) (h : History) (c : Contents (Frame 32)) (idx : Option ℕ) (previous : ℕ) (s : IsStateAfter h c idx previous)
+pub is_marked : (e : Entry) (h : History) (c : Contents) (idx : Option ℕ) (previous : ℕ) (s : IsStateAfter h c idx previous)
     (m : Marks) (new : List MarkedFrame) → length new ≡ length c.frames + 1 → marks_of (e ∷ h) ≡ Ok m →
     m.references ≡ references_at (places_in (buffer_of c.output h) ++ length h ∷ []) new → IsMarked c.output e h m new
 is_marked e h c idx previous s m new long is references =

@@ -1,10 +1,10 @@
 -- The frames that a long gap leaves are those of its last numbers.
 use Rattle.std.proofs.Common.{◌≡◌, ℕ, zero, suc, ◌+◌, ◌<◌, ◌≤◌, Bool, true, false, List, [], ◌∷◌, ◌++◌, length, map, drop, Option, Some, None, Ok, is_ok, is_some, refl, ap, ap₂}
 use Rattle.std.proofs.Common.{sym, ◌∙◌, subst, arith, length-append}
-use Rattle.std.specs.Prelude.{◌==◌, ◌%◌, ◌-◌, pos, IfSome}
+use Rattle.std.specs.Prelude.{◌==◌, ◌%◌, ◌-◌, IfSome}
 use Rattle.std.proofs.lemmas.List.{length-map, map-append, append_cancel_right}
-use Rattle.std.proofs.lemmas.Bool.Decides.{nat_tests}
 use Rattle.std.proofs.Math.Seq.{drop-append-add, drop-length}
+use Rattle.std.proofs.lemmas.Bool.{eq-eqb}
 use Rattle.avc_types.specs.declared.marked_frame.MarkedFrame.{MarkedFrame}
 use Rattle.avc_types.specs.declared.references.Mark.TheVariants.{Short}
 use Rattle.avc_types.specs.References.{Reference, reference_of, references_at}
@@ -16,8 +16,8 @@ use Rattle.avc_marking.specs.Laws.{CountFrom, StandBelow, StandFrom}
 use Rattle.avc_marking.specs.Marks.{Marks, frame_nums_from, prev_ref_frame_num}
 use Rattle.avc_dpb.specs.declared.output.Output.{Output}
 use Rattle.avc_dpb.specs.Bumping.{Buffer, Stored}
-use Rattle.avc_dpb.specs.Contents.{Contents, IsRising}
-use Rattle.avc_dpb.specs.Laws.{IsWithin}
+use Rattle.avc_dpb.specs.Contents.{Contents, IsRising, slot_of}
+use Rattle.avc_dpb.specs.Laws.{IsWithin, missing_stored}
 use Rattle.avc_dpb.proofs.Conserved.{stands_in_decoding_order}
 use Rattle.avc_decoder_core.specs.Frames.{coded_frame, frame_at, frame_of, mark_in}
 use Rattle.avc_decoder_core.specs.FrameBufferFields.{Each, IsSizedAt, IsStateAfter, places_in}
@@ -175,13 +175,10 @@ missing_above : (max a place n p : ℕ) → p < place → Each (λ r. p < r.entr
 missing_above max a place zero p low = tt
 missing_above max a place (suc n) p low = (low, missing_above max (a + 1) (place + 1) n p (omega (arith, low)))
 
-same_entry : (n m : ℕ) → n ≡ m → (n == m) ≡ true
-same_entry n m e = grind (arith, nat_tests, e)
-
 missing_marked : (max a place n i : ℕ) → i < n → mark_in (missing_references max a place n) (place + i) ≡ Some Short
 missing_marked max a place zero i low = absurd (omega (arith, low))
 missing_marked max a place (suc n) zero low =
-    mark_of_first true (missing_reference (a % max) place) (missing_references max (a + 1) (place + 1) n) (place + 0) (same_entry place (place + 0) (omega arith))
+    mark_of_first true (missing_reference (a % max) place) (missing_references max (a + 1) (place + 1) n) (place + 0) (eq-eqb place (place + 0) (omega arith))
 missing_marked max a place (suc n) (suc i) low =
     let z : place + suc i ≡ (place + 1) + i = omega arith in
     mark_of_first false (missing_reference (a % max) place) (missing_references max (a + 1) (place + 1) n) (place + suc i) (other_entry place (place + suc i) (omega arith))
@@ -211,13 +208,9 @@ before_shown : (at at' : ℕ → Frame 32) (place : ℕ) (frames : List Stored) 
 before_shown at at' place [] same h = refl
 before_shown at at' place (s ∷ frames) same h = ap₂ (λ f fs. f ∷ fs) (same s.entry h.0) (before_shown at at' place frames same h.1)
 
-zeros : (w q q' : ℕ) → map (λ s. s.order) (stored_missing q w) ≡ map (λ s. s.order) (stored_missing q' w)
-zeros zero q q' = refl
-zeros (suc w) q q' = ap (λ l. pos 0 ∷ l) (zeros w (q + 1) (q' + 1))
-
-none_held : (w q q' : ℕ) → map (λ s. s.held) (stored_missing q w) ≡ map (λ s. s.held) (stored_missing q' w)
-none_held zero q q' = refl
-none_held (suc w) q q' = ap (λ l. false ∷ l) (none_held w (q + 1) (q' + 1))
+same_slots : (w q q' : ℕ) → map slot_of (stored_missing q w) ≡ map slot_of (stored_missing q' w)
+same_slots zero q q' = refl
+same_slots (suc w) q q' = ap (λ l. slot_of (missing_stored q) ∷ l) (same_slots w (q + 1) (q' + 1))
 
 -- ---- reference frames by their places
 
@@ -277,7 +270,7 @@ record AreAlike (output : Output) (sps : Sps) (S L : History) (t qs qf w place :
   sequence : sequence_sps S ≡ sequence_sps L
   within : IsWithin 16 (arrivals L)
 
-same_state : (sps : Sps) (S L : History) (t qs qf w place : ℕ) (stays : Staying) (c : Contents (Frame 32)) (idx : Option ℕ) (previous : ℕ) →
+same_state : (sps : Sps) (S L : History) (t qs qf w place : ℕ) (stays : Staying) (c : Contents) (idx : Option ℕ) (previous : ℕ) →
     AreAlike c.output sps S L t qs qf w place stays → IsStateAfter S c idx previous → IsStateAfter L c idx previous
 same_state sps S L t qs qf w place stays c idx previous alike s = record {
   marks = mf;
@@ -286,8 +279,7 @@ same_state sps S L t qs qf w place stays c idx previous alike s = record {
   previous_is = s.previous_is ∙ alike.previous;
   buffer = record {
     works = (s.buffer).works;
-    orders = (s.buffer).orders ∙ turned (λ x. x.order) (zeros w qs qf);
-    holds = (s.buffer).holds ∙ turned (λ x. x.held) (none_held w qs qf);
+    slots = (s.buffer).slots ∙ turned;
     frames = frames_f;
     rising = subst (λ n. IsRising (buffer_of c.output L).frames n) (length-arrivals L) (stands_in_decoding_order c.output (arrivals L));
   };
@@ -328,10 +320,11 @@ same_state sps S L t qs qf w place stays c idx previous alike s = record {
         ∙ ap (λ n. length stays.longs + n) (length_missing max w t qs ∙ sym (length_missing max w t qf)) ∙ sym (length-append stays.longs (missing_references max t qf w))
 
     -- what a field of the frames is in both buffers
-    turned : {A : Type 0} (f : Stored → A) → map f (stored_missing qs w) ≡ map f (stored_missing qf w) → map f (buffer_of c.output S).frames ≡ map f (buffer_of c.output L).frames
-    turned f e =
-        ap (λ (b : Buffer). map f b.frames) (alike.shorter).buffer ∙ map-append f stays.frames (stored_missing qs w)
-        ∙ ap (λ l. map f stays.frames ++ l) e ∙ sym (map-append f stays.frames (stored_missing qf w)) ∙ sym (ap (λ (b : Buffer). map f b.frames) (alike.longer).buffer)
+    turned : map slot_of (buffer_of c.output S).frames ≡ map slot_of (buffer_of c.output L).frames
+    turned =
+        ap (λ (b : Buffer). map slot_of b.frames) (alike.shorter).buffer ∙ map-append slot_of stays.frames (stored_missing qs w)
+        ∙ ap (λ l. map slot_of stays.frames ++ l) (same_slots w qs qf)
+        ∙ sym (map-append slot_of stays.frames (stored_missing qf w)) ∙ sym (ap (λ (b : Buffer). map slot_of b.frames) (alike.longer).buffer)
 
     at_s : ℕ → Frame 32
     at_s = frame_at S rs

@@ -1,6 +1,6 @@
 -- Missing numbers before a picture.
 use Rattle.std.proofs.Common.{◌≡◌, ℕ, zero, suc, ◌+◌, ◌%◌, ℤ, Bool, true, false, List, [], ◌∷◌, length, drop, Some, None, slice_get, Result, Ok, Err, is_ok, is_some, refl}
-use Rattle.std.proofs.Common.{ap, ap₂, sym, ◌∙◌, rules}
+use Rattle.std.proofs.Common.{ap, ap₂, sym, subst, ◌∙◌, ◌<◌, arith, rules}
 use Rattle.std.proofs.lemmas.Bool.{false≢true}
 use Rattle.std.proofs.lemmas.Option.{none-some, same_Some}
 use Rattle.std.specs.Int.{int_min}
@@ -17,10 +17,11 @@ use Rattle.avc_types.specs.declared.references.Marking.TheVariants.{SlidingWindo
 use Rattle.avc_marking.proofs.KeptFrames.{slides_again}
 use Rattle.avc_marking.specs.Marks.{MarkingEntry, Marks, frame_nums_from, marks_after, missing_frame_nums, prev_ref_frame_num}
 use Rattle.avc_types.specs.Results.{◌>>=◌}
-use Rattle.avc_decoder_core.specs.History.{missing_frame, History, history_at_opening, is_same_sps, marking_entries, marking_entry, marks_of}
+use Rattle.avc_decoder_core.specs.History.{missing_frame, History, earlier_in_sequence, history_at_opening, is_same_sps, marking_entries, marking_entry, marks_of}
 use Rattle.avc_decoder_core.specs.History.{order_or_0, picture_entry, pasts, sequence_sps, with_missing, with_order_counts}
 use Rattle.avc_decoder_core.specs.FrameBufferState.{CanFollow}
-use Rattle.avc_decoder_core.specs.Opening.{count_of, count_on, counts_over, missing_before, with_all_missing}
+use Rattle.avc_decoder_core.specs.Opening.{counts_over, missing_before, opening_on, with_all_missing, Finds}
+use Rattle.avc_decoder_core.specs.declared.opening.Opening.{Opening}
 
 pub ok_same : {A : Type 0} (x y : A) → ◌≡◌ {A = Result A Fault} (Ok x) (Ok y) → x ≡ y
 ok_same {A = A} x y e = ap (λ (r : Result A Fault). elim r as (λ _. A) [ Ok z ↦ z | Err f ↦ x ]) e
@@ -144,24 +145,22 @@ all_counted sps numbers n history counts e marked told =
     ap Ok told ∙ sym (ap (λ l. counts_over (with_missing sps l history)) (next_number numbers n e) ∙ ap counts_over (all_marked sps n (drop 1 numbers) history marked))
 
 -- the order count of the picture
-pub counted_next : (sps : Sps) (h : Header) (history : History) (top bottom order : ℤ) (counts : OrderCountState) → order ≡ int_min top bottom
+pub counted_next : (sps : Sps) (h : Header) (missing : List ℕ) (history : History) (top bottom order : ℤ) (counts : OrderCountState) → order ≡ int_min top bottom
     → Ok (top, bottom) ≡ count_pair (order_counts sps h (pasts history)) → counts ≡ order_count_state (picture sps h ∷ pasts history)
-    → Ok (order, counts) ≡ result_map (count_on sps h) (with_order_counts sps h history)
-counted_next sps h history top bottom order counts least told after =
-    ap₂ (λ n left. Ok (n, left)) (least ∙ order_is (order_counts sps h (pasts history)) told) after
-    ∙ sym (ap (result_map (count_on sps h)) (counted (order_counts sps h (pasts history)) told))
+    → Ok (record { missing = missing; order = order; poc = counts }) ≡ result_map (opening_on sps h missing) (with_order_counts sps h history)
+counted_next sps h missing history top bottom order counts least told after = by (order_counts sps h (pasts history)) refl
   where
-    order_is : (r : Result Counts Fault) → Ok (top, bottom) ≡ count_pair r → int_min top bottom ≡ order_or_0 r
-    order_is (Ok c) t = ap (λ (p : ℤ × ℤ). int_min p.0 p.1) (ok_same (top, bottom) (pair c) t)
-    order_is (Err f) t = absurd (ok_err (top, bottom) f t)
+    by : (r : Result Counts Fault) → order_counts sps h (pasts history) ≡ r
+        → Ok (record { missing = missing; order = order; poc = counts }) ≡ result_map (opening_on sps h missing) (r >>= λ c. Ok history)
+    by (Ok c) is =
+        let pairs = ok_same (top, bottom) (pair c) (told ∙ ap count_pair is) in
+        ap₂ (λ (n : ℤ) (kept : OrderCountState). Ok (record { missing = missing; order = n; poc = kept }))
+        (least ∙ ap (λ (p : ℤ × ℤ). int_min p.0 p.1) pairs ∙ sym (ap order_or_0 is)) after
+    by (Err f) is = absurd (ok_err (top, bottom) f (told ∙ ap count_pair is))
 
-    counted : (r : Result Counts Fault) → Ok (top, bottom) ≡ count_pair r → (r >>= λ c. Ok history) ≡ Ok history
-    counted (Ok c) t = refl
-    counted (Err f) t = absurd (ok_err (top, bottom) f t)
-
-pub not_counted : (sps : Sps) (h : Header) (history : History) (f : Fault) → Err f ≡ count_pair (order_counts sps h (pasts history))
-    → Err f ≡ result_map (count_on sps h) (with_order_counts sps h history)
-not_counted sps h history f told = sym (ap (result_map (count_on sps h)) (refused (order_counts sps h (pasts history)) told))
+pub not_counted : (sps : Sps) (h : Header) (missing : List ℕ) (history : History) (f : Fault) → Err f ≡ count_pair (order_counts sps h (pasts history))
+    → Err f ≡ result_map (opening_on sps h missing) (with_order_counts sps h history)
+not_counted sps h missing history f told = sym (ap (result_map (opening_on sps h missing)) (refused (order_counts sps h (pasts history)) told))
   where
     refused : (r : Result Counts Fault) → Err f ≡ count_pair r → (r >>= λ c. Ok history) ≡ Err f
     refused (Ok c) t = absurd (ok_err (pair c) f (sym t))
@@ -210,18 +209,24 @@ with_numbers : (sps : Sps) (h : Header) (full : History) (r : Result History Fau
 with_numbers sps h full (Ok x) e = ap Ok (with_counts (order_counts sps h (pasts x)) x full e)
 with_numbers sps h full (Err f) e = absurd (ok_err full f (sym e))
 
-is_same : {A B : Type 0} (b : Bool) (g : Fault) (r : Result A Fault) (f : A → Result B Fault) (y : B) → (choose b r (Err g) >>= f) ≡ Ok y → b ≡ true
-is_same true g r f y e = refl
-is_same false g r f y e = absurd (ok_err y g (sym e))
+is_same : {A : Type 0} (b : Bool) (g : Fault) (r : Result A Fault) (x : A) → choose b r (Err g) ≡ Ok x → b ≡ true
+is_same true g r x e = refl
+is_same false g r x e = absurd (ok_err x g (sym e))
 
-by_numbers : (sps : Sps) (h : Header) (history full : History) (r : Result (List ℕ) Fault) → is_same_sps (sequence_sps history) sps ≡ true
+same_set_known : (sps : Sps) (h : Header) (history : History) (numbers : List ℕ) → missing_before sps h history ≡ Ok numbers
+    → is_same_sps (sequence_sps history) sps ≡ true
+same_set_known sps h history numbers known =
+    is_same (is_same_sps (sequence_sps history) sps) faults.ParameterSetChanged
+    (missing_frame_nums (prev_ref_frame_num (marking_entries history)) sps.gaps_in_frame_num_value_allowed_flag (picture_entry sps h)) numbers known
+
+by_numbers : (sps : Sps) (h : Header) (history full : History) (r : Result (List ℕ) Fault) → missing_before sps h history ≡ r
     → (r >>= λ numbers. with_missing sps numbers history >>= λ full. with_order_counts sps h full) ≡ Ok full → IsOpenedBy sps h history full
-by_numbers sps h history full (Ok numbers) same e = record {
+by_numbers sps h history full (Ok numbers) known e = record {
   numbers = numbers;
   missing = with_numbers sps h full (with_missing sps numbers history) e;
-  same = λ _. same;
+  same = λ _. same_set_known sps h history numbers known;
 }
-by_numbers sps h history full (Err f) same e = absurd (ok_err full f (sym e))
+by_numbers sps h history full (Err f) known e = absurd (ok_err full f (sym e))
 
 pub opened_by : (sps : Sps) (h : Header) (history full : History) → history_at_opening sps h history ≡ Ok full → IsOpenedBy sps h history full
 opened_by sps h history full e = by (is_idr h) refl
@@ -232,13 +237,7 @@ opened_by sps h history full e = by (is_idr h) refl
       missing = ap Ok (with_counts (with_order_counts sps h []) history full (sym (opened_idr sps h history idr) ∙ e));
       same = λ other. absurd (false≢true (sym other ∙ idr));
     }
-    by false idr =
-        let opens = sym (opened_other sps h history idr) ∙ e in
-        by_numbers sps h history full (missing_before sps h history)
-        (is_same (is_same_sps (sequence_sps history) sps) faults.ParameterSetChanged
-        (missing_frame_nums (prev_ref_frame_num (marking_entries history)) sps.gaps_in_frame_num_value_allowed_flag (picture_entry sps h))
-        (λ numbers. with_missing sps numbers history >>= λ full. with_order_counts sps h full) full opens)
-        opens
+    by false idr = by_numbers sps h history full (missing_before sps h history) refl (sym (opened_other sps h history idr) ∙ e)
 
 pub set_at_opening : (sps : Sps) (h : Header) (history full : History) → history_at_opening sps h history ≡ Ok full → sequence_sps full ≡ sequence_sps history
 set_at_opening sps h history full e = let o = opened_by sps h history full e in same_set sps o.numbers history full o.missing
@@ -249,27 +248,6 @@ can_follow sps h history full marking reference e = record {
   same = λ other. ap (λ set. is_same_sps set sps) (set_at_opening sps h history full e) ∙ (opened_by sps h history full e).same other;
   reference = reference;
 }
-
--- ---- the count of the picture
-
--- an IDR picture is counted alone
-pub counted_alone : (sps : Sps) (h : Header) (history : History) → is_idr h ≡ true
-    → result_map (count_on sps h) (with_order_counts sps h []) ≡ result_map (count_of sps h) (with_order_counts sps h [] >>= λ none. Ok history)
-counted_alone sps h history idr = by (order_counts sps h [])
-  where
-    none : Counts → Result History Fault
-    none c = Ok []
-
-    by : (r : Result Counts Fault)
-        → result_map (count_on sps h) (r >>= none) ≡ result_map (count_of sps h) ((r >>= none) >>= λ none. Ok history)
-    by (Ok c) = ap (λ l. Ok (count_on sps h l)) (sym (on_true (is_idr h) [] history idr))
-    by (Err f) = refl
-
--- another picture on the whole history
-pub counted_in_sequence : (sps : Sps) (h : Header) (opened : Result History Fault) → is_idr h ≡ false
-    → result_map (count_on sps h) opened ≡ result_map (count_of sps h) opened
-counted_in_sequence sps h (Ok full) other = ap (λ l. Ok (count_on sps h l)) (sym (on_false (is_idr h) [] full other))
-counted_in_sequence sps h (Err f) other = refl
 
 -- ---- how opening ends
 
@@ -308,39 +286,43 @@ pub opened_over : (sps : Sps) (h : Header) (history full : History) (numbers : L
 opened_over sps h history full numbers idr known is =
     other_opened sps h history numbers idr known ∙ ap (λ r. r >>= λ full. with_order_counts sps h full) is
 
-counts_there : {A : Type 0} (r : Result A Fault) (x : History) → is_ok (r >>= λ c. Ok x) ≡ true → (r >>= λ c. Ok x) ≡ Ok x
-counts_there (Ok c) x e = refl
-counts_there (Err f) x e = absurd (false≢true e)
+-- what opening finds, where the missing numbers are known and the history `on` on which the picture is counted
+finds : (sps : Sps) (h : Header) (history on full : History) (numbers : List ℕ) (counts : Result Counts Fault) (r : Result Opening Fault)
+    → on ≡ earlier_in_sequence h full → history_at_opening sps h history ≡ (counts >>= λ c. Ok full) → with_missing sps numbers history ≡ Ok full
+    → (0 < length numbers → is_same_sps (sequence_sps history) sps ≡ true) → r ≡ result_map (opening_on sps h numbers) (counts >>= λ c. Ok on)
+    → Finds sps h history r
+finds sps h history on full numbers (Ok c) r alone opens missing same is = subst (Finds sps h history) (sym is) (record {
+  full = full;
+  opens = opens;
+  missing = missing;
+  same = same;
+  counted = ap (opening_on sps h numbers) alone;
+})
+finds sps h history on full numbers (Err f) r alone opens missing same is = subst (Finds sps h history) (sym is) opens
 
-pub opens_idr : (sps : Sps) (h : Header) (history : History) → is_idr h ≡ true → is_ok (history_at_opening sps h history) ≡ true → history_at_opening sps h history ≡ Ok history
-opens_idr sps h history idr opens =
-    let is = opened_idr sps h history idr in
-    is ∙ counts_there (with_order_counts sps h []) history (ap is_ok (sym is) ∙ opens)
+-- an IDR picture has no missing numbers before it, and is counted alone
+pub finds_idr : (sps : Sps) (h : Header) (history : History) (numbers : List ℕ) (r : Result Opening Fault) → is_idr h ≡ true → numbers ≡ []
+    → r ≡ result_map (opening_on sps h numbers) (with_order_counts sps h []) → Finds sps h history r
+finds_idr sps h history numbers r idr none is =
+    finds sps h history [] history numbers (order_counts sps h []) r (sym (on_true (is_idr h) [] history idr))
+    (opened_idr sps h history idr ∙ then_ok (order_counts sps h []))
+    (ap (λ l. with_missing sps l history) none) (λ some. absurd (omega (arith, ap length none, some))) is
+  where
+    empty : History
+    empty = []
 
-pub opens_other : (sps : Sps) (h : Header) (history full : History) (numbers : List ℕ) → is_idr h ≡ false → is_ok (history_at_opening sps h history) ≡ true
-    → Ok numbers ≡ missing_before sps h history → with_missing sps numbers history ≡ Ok full → history_at_opening sps h history ≡ Ok full
-opens_other sps h history full numbers idr opens known missing =
-    let is = opened_over sps h history full numbers idr known missing in
-    is ∙ counts_there (order_counts sps h (pasts full)) full (ap is_ok (sym is) ∙ opens)
+    then_ok : (r : Result Counts Fault) → ((r >>= λ c. Ok empty) >>= λ none. Ok history) ≡ (r >>= λ c. Ok history)
+    then_ok (Ok c) = refl
+    then_ok (Err f) = refl
 
-pub marked_at_opening : (sps : Sps) (h : Header) (history : History) (numbers : List ℕ) → is_idr h ≡ false → is_ok (history_at_opening sps h history) ≡ true
-    → Ok numbers ≡ missing_before sps h history → is_ok (with_missing sps numbers history) ≡ true
-marked_at_opening sps h history numbers idr opens known =
-    unless_fault (with_missing sps numbers history) (λ full. with_order_counts sps h full) (ap is_ok (sym (other_opened sps h history numbers idr known)) ∙ opens)
-
-same_unless : {A B : Type 0} (b : Bool) (g : Fault) (r : Result A Fault) (f : A → Result B Fault) → is_ok (choose b r (Err g) >>= f) ≡ true → b ≡ true
-same_unless true g r f e = refl
-same_unless false g r f e = absurd (false≢true e)
-
-pub same_at_opening : (sps : Sps) (h : Header) (history : History) → is_idr h ≡ false → is_ok (history_at_opening sps h history) ≡ true → is_same_sps (sequence_sps history) sps ≡ true
-same_at_opening sps h history idr opens =
-    same_unless (is_same_sps (sequence_sps history) sps) faults.ParameterSetChanged
-    (missing_frame_nums (prev_ref_frame_num (marking_entries history)) sps.gaps_in_frame_num_value_allowed_flag (picture_entry sps h))
-    (λ numbers. with_missing sps numbers history >>= λ full. with_order_counts sps h full)
-    (ap is_ok (sym (opened_other sps h history idr)) ∙ opens)
-
-pub numbers_known : (sps : Sps) (h : Header) (history : History) (f : Fault) → is_idr h ≡ false → is_ok (history_at_opening sps h history) ≡ true → Err f ≡ missing_before sps h history → ⊥
-numbers_known sps h history f idr opens e = false≢true (sym (ap is_ok (refused_numbers sps h history f idr e)) ∙ opens)
+-- another picture is counted on the whole history
+pub finds_other : (sps : Sps) (h : Header) (history full : History) (numbers : List ℕ) (r : Result Opening Fault) → is_idr h ≡ false
+    → Ok numbers ≡ missing_before sps h history → with_missing sps numbers history ≡ Ok full
+    → r ≡ result_map (opening_on sps h numbers) (with_order_counts sps h full) → Finds sps h history r
+finds_other sps h history full numbers r idr known missing is =
+    finds sps h history full full numbers (order_counts sps h (pasts full)) r (sym (on_false (is_idr h) [] full idr))
+    (opened_over sps h history full numbers idr known missing) missing
+    (λ some. same_set_known sps h history numbers (sym known)) is
 
 -- ---- all at once
 

@@ -1,8 +1,8 @@
 -- An entry adds no reference frame but its own.
-use Rattle.std.proofs.Common.{◌≡◌, ◌⊎◌, ℕ, ◌<◌, ◌==◌, Bool, true, false, ◌||◌, List, [], ◌∷◌, ◌++◌, length}
+use Rattle.std.proofs.Common.{◌≡◌, ◌⊎◌, ℕ, ◌<◌, ◌==◌, Bool, true, false, List, [], ◌∷◌, ◌++◌, length}
 use Rattle.std.proofs.Common.{Some, Result, Ok, Err, is_ok, inl, inr, refl, ap, sym, ◌∙◌, subst, arith}
 use Rattle.std.specs.List.{list_any}
-use Rattle.std.proofs.lemmas.Bool.{eqb-true}
+use Rattle.std.proofs.lemmas.Bool.{eqb-true, or_cases, or_left, or_right}
 use Rattle.std.proofs.lemmas.Bool.Decides.{nat_tests}
 use Rattle.avc_types.specs.declared.fault.Fault.{Fault}
 use Rattle.avc_types.specs.declared.references.Mark.TheVariants.{Short}
@@ -73,50 +73,38 @@ marked_below law (e ∷ older) ok b =
 
 -- ---- an entry adds no reference frame but its own
 
-either : (a b : Bool) → (a || b) ≡ true → (a ≡ true) ⊎ (b ≡ true)
-either true b e = inl refl
-either false b e = inr e
-
-or_first : (a b : Bool) → a ≡ true → (a || b) ≡ true
-or_first true b e = refl
-or_first false b e = wrong e
-
-or_second : (a b : Bool) → b ≡ true → (a || b) ≡ true
-or_second true b e = refl
-or_second false b e = e
-
 -- a place of the first frames is one of the others
 place_of_part : (place : ℕ) (new old : List Reference) → IsPartUpToMarks new old → is_entry new place ≡ true → is_entry old place ≡ true
 place_of_part place [] old part here = wrong here
 place_of_part place (r ∷ new) [] part here = absurd part
 place_of_part place (r ∷ new) (s ∷ old) (inl both) here =
-    by (either (r.entry == place) (is_entry new place) here) (place_of_part place new old both.1)
+    by (or_cases (r.entry == place) (is_entry new place) here) (place_of_part place new old both.1)
   where
     by : ((r.entry == place) ≡ true) ⊎ (is_entry new place ≡ true) → (is_entry new place ≡ true → is_entry old place ≡ true) →
         is_entry (s ∷ old) place ≡ true
-    by (inl first) rest = or_first (s.entry == place) (is_entry old place) (ap (λ n. n == place) (sym (both.0).same_entry) ∙ first)
-    by (inr later) rest = or_second (s.entry == place) (is_entry old place) (rest later)
+    by (inl first) rest = or_left (s.entry == place) (is_entry old place) (ap (λ n. n == place) (sym (both.0).same_entry) ∙ first)
+    by (inr later) rest = or_right (s.entry == place) (is_entry old place) (rest later)
 place_of_part place (r ∷ new) (s ∷ old) (inr part) here =
-    or_second (s.entry == place) (is_entry old place) (place_of_part place (r ∷ new) old part here)
+    or_right (s.entry == place) (is_entry old place) (place_of_part place (r ∷ new) old part here)
 
 own_or_other : (place : ℕ) (old : List Reference) (own : Reference) → is_entry (old ++ own ∷ []) place ≡ true →
     (place ≡ own.entry) ⊎ (is_entry old place ≡ true)
-own_or_other place [] own here = by (either (own.entry == place) false here)
+own_or_other place [] own here = by (or_cases (own.entry == place) false here)
   where
     by : ((own.entry == place) ≡ true) ⊎ (false ≡ true) → (place ≡ own.entry) ⊎ (is_entry [] place ≡ true)
     by (inl first) = inl (sym (eqb-true own.entry place first))
     by (inr none) = wrong none
 own_or_other place (s ∷ old) own here =
-    by (either (s.entry == place) (is_entry (old ++ own ∷ []) place) here) (λ there. later (own_or_other place old own there))
+    by (or_cases (s.entry == place) (is_entry (old ++ own ∷ []) place) here) (λ there. later (own_or_other place old own there))
   where
     later : (place ≡ own.entry) ⊎ (is_entry old place ≡ true) → (place ≡ own.entry) ⊎ (is_entry (s ∷ old) place ≡ true)
     later (inl is) = inl is
-    later (inr there) = inr (or_second (s.entry == place) (is_entry old place) there)
+    later (inr there) = inr (or_right (s.entry == place) (is_entry old place) there)
 
     by : ((s.entry == place) ≡ true) ⊎ (is_entry (old ++ own ∷ []) place ≡ true) →
         (is_entry (old ++ own ∷ []) place ≡ true → (place ≡ own.entry) ⊎ (is_entry (s ∷ old) place ≡ true)) →
         (place ≡ own.entry) ⊎ (is_entry (s ∷ old) place ≡ true)
-    by (inl first) rest = inr (or_first (s.entry == place) (is_entry old place) first)
+    by (inl first) rest = inr (or_left (s.entry == place) (is_entry old place) first)
     by (inr there) rest = rest there
 
 arriving_references : (e : Entry) (older : History) → (arrival e older).references ≡ entries (references_of (e ∷ older))
@@ -156,8 +144,8 @@ adds_own_place law e older ok place here =
 -- ---- a non-existing frame is a reference frame
 
 own_is_entry : (old : List Reference) (own : Reference) → is_entry (old ++ own ∷ []) own.entry ≡ true
-own_is_entry [] own = or_first (own.entry == own.entry) false (grind (arith, nat_tests))
-own_is_entry (s ∷ old) own = or_second (s.entry == own.entry) (is_entry (old ++ own ∷ []) own.entry) (own_is_entry old own)
+own_is_entry [] own = or_left (own.entry == own.entry) false (grind (arith, nat_tests))
+own_is_entry (s ∷ old) own = or_right (s.entry == own.entry) (is_entry (old ++ own ∷ []) own.entry) (own_is_entry old own)
 
 slid_by : (s : MarkingEntry) (n : ℕ) (m m' : Marks) (r : Result (List Reference) Fault) →
     (r >>= λ references. Ok (record m { references = references ++ current_frame s n Short ∷ [] })) ≡ Ok m' → is_entry m'.references n ≡ true

@@ -24,13 +24,13 @@ pub mark_of_first : (b : Bool) (r : Reference) (rs : List Reference) (p : ℕ) �
 mark_of_first true r rs p e = ap (λ t. option_map (λ r. r.mark) (cond t (Some r) (find (λ r. r.entry == p) rs))) e
 mark_of_first false r rs p e = ap (λ t. option_map (λ r. r.mark) (cond t (Some r) (find (λ r. r.entry == p) rs))) e
 
-same_entry : (n : ℕ) → (n == n) ≡ true
+pub same_entry : (n : ℕ) → (n == n) ≡ true
 same_entry n = grind (arith, nat_tests)
 
 pub other_entry : (n m : ℕ) → n < m → (n == m) ≡ false
 other_entry n m low = grind (arith, nat_tests, low)
 
-other_entry_above : (n m : ℕ) → m < n → (n == m) ≡ false
+pub other_entry_above : (n m : ℕ) → m < n → (n == m) ≡ false
 other_entry_above n m low = grind (arith, nat_tests, low)
 
 pub is_entry_marked : (rs : List Reference) (p : ℕ) → is_some (mark_in rs p) ≡ is_entry rs p

@@ -2,7 +2,7 @@
 use Rattle.std.proofs.Common.{◌≡◌, ℕ, ◌+◌, Bool, true, false, ◌&&◌, List, [], ◌∷◌, length, Option, Some, None, Ok, refl, ap, sym, ◌∙◌, Err}
 use Rattle.std.specs.Prelude.{IfSome, ◌==◌, if◌then◌else◌}
 use Rattle.std.specs.Option.{option_eq}
-use Rattle.std.proofs.lemmas.Bool.{eqb-true, false≢true}
+use Rattle.std.proofs.lemmas.Bool.{and_parts, eqb-true, false≢true}
 use Rattle.std.specs.Result.{is_ok}
 use Rattle.avc_types.specs.declared.fault.Fault.{Fault}
 use Rattle.avc_types.specs.declared.references.Marking.{Marking}
@@ -23,13 +23,8 @@ use Rattle.avc_decoder_core.specs.History.{is_same_sps, prior_pictures_of}
 pub wrong : {A : Type 0} → false ≡ true → A
 wrong e = absurd (let q : false ≡ true = e in cc)
 
-pub left : (a b : Bool) → (a && b) ≡ true → a ≡ true
-left true b e = refl
-left false b e = e
-
-pub right : (a b : Bool) → (a && b) ≡ true → b ≡ true
-right true b e = e
-right false b e = wrong e
+pub right : (x y : Bool) → (x && y) ≡ true → y ≡ true
+right x y e = (and_parts x y e).1
 
 -- the sizes that two parameter sets agree on
 pub record SameSizes (a b : Sps) : Type 0 where
@@ -40,11 +35,9 @@ pub record SameSizes (a b : Sps) : Type 0 where
 parts : (a b c d e f g references gaps width height rest : Bool) →
     (a && (b && (c && (d && (e && (f && (g && (references && (gaps && (width && (height && rest))))))))))) ≡ true → (references ≡ true) × (width ≡ true) × (height ≡ true)
 parts a b c d e f g references gaps width height rest all =
-    let from_width : (width && (height && rest)) ≡ true = right gaps _ (right references _ from_references) in
-    (left references _ from_references, left width _ from_width, left height _ (right width _ from_width))
-  where
-    from_references : (references && (gaps && (width && (height && rest)))) ≡ true
-    from_references = right g _ (right f _ (right e _ (right d _ (right c _ (right b _ (right a _ all))))))
+    let from_references = and_parts references _ (right g _ (right f _ (right e _ (right d _ (right c _ (right b _ (right a _ all))))))) in
+    let from_width = and_parts width _ (right gaps _ from_references.1) in
+    (from_references.0, from_width.0, (and_parts height _ from_width.1).0)
 
 pub same_sizes : (a b : Sps) → same_sps a b ≡ true → SameSizes a b
 same_sizes a b e =

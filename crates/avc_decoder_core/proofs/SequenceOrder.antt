@@ -3,7 +3,7 @@ use Rattle.std.proofs.Common.{◌≡◌, ℕ, ◌+◌, ◌≤◌, ◌==◌, nat_
 use Rattle.std.proofs.Common.{Option, Some, None, is_ok, ◌⊎◌, inl, inr, refl, ap, sym, ◌∙◌, subst, arith}
 use Rattle.std.specs.Prelude.{count_by, IfSome}
 use Rattle.std.specs.Option.{option_eq, option_map}
-use Rattle.std.proofs.lemmas.Bool.{eqb-true}
+use Rattle.std.proofs.lemmas.Bool.{eqb-true, and_parts}
 use Rattle.std.proofs.lemmas.Bool.Decides.{nat_tests}
 use Rattle.std.proofs.lemmas.List.Sums.{sum_by-cons}
 use Rattle.avc_plane.specs.Planes.{Planes}
@@ -24,7 +24,7 @@ use Rattle.avc_decoder_core.specs.SequenceOrder.{output_order, CanCome, EachCanC
 use Rattle.avc_decoder_core.specs.SequenceOrder.{EarlyOutputKeepsHistories}
 use Rattle.avc_decoder_core.proofs.OwnReferences.{adds_own_place, marked_before, missing_is_reference}
 use Rattle.avc_decoder_core.proofs.Outputs.{length_arrivals}
-use Rattle.avc_decoder_core.proofs.SameSequence.{if_some, left, right, wrong}
+use Rattle.avc_decoder_core.proofs.SameSequence.{if_some, right, wrong}
 
 -- ---- the limit of a sequence
 
@@ -34,7 +34,7 @@ last_part a b c d e f g h i j k l m n all =
     right m n (right l _ (right k _ (right j _ (right i _ (right h _ (right g _ (right f _ (right e _ (right d _ (right c _ (right b _ (right a _ all))))))))))))
 
 sixth_part : (a b c d e f g : Bool) → (a && (b && (c && (d && (e && (f && g)))))) ≡ true → f ≡ true
-sixth_part a b c d e f g all = left f g (right e _ (right d _ (right c _ (right b _ (right a _ all)))))
+sixth_part a b c d e f g all = (and_parts f g (right e _ (right d _ (right c _ (right b _ (right a _ all)))))).0
 
 tenth_part : (a b c d e f g h i j : Bool) → (a && (b && (c && (d && (e && (f && (g && (h && (i && j))))))))) ≡ true → j ≡ true
 tenth_part a b c d e f g h i j all = right i j (right h _ (right g _ (right f _ (right e _ (right d _ (right c _ (right b _ (right a _ all))))))))

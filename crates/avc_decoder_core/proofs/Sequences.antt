@@ -3,7 +3,6 @@ use Rattle.std.proofs.Common.{◌≡◌, ℤ, Bool, true, false, List, [], ◌�
 use Rattle.std.proofs.lemmas.Bool.{false≢true}
 use Rattle.std.proofs.lemmas.Option.{none-some, same_Some}
 use Rattle.std.specs.Option.{option_map}
-use Rattle.avc_types.specs.References.{result_map}
 use Rattle.avc_types.specs.declared.fault.Fault.{Fault}
 use Rattle.avc_types.specs.declared.picture.Picture.{Picture}
 use Rattle.avc_plane.specs.Planes.{Planes}
@@ -18,13 +17,14 @@ use Rattle.avc_poc.specs.OrderCounts.{order_counts}
 use Rattle.avc_poc.specs.OrderCountState.{OrderCountState}
 use Rattle.avc_types.specs.Results.{◌>>=◌}
 use Rattle.avc_decoder_core.specs.History.{Entry, decoded_picture, History, earlier_in_sequence, history_after_closing, history_at_opening, is_same_sps}
-use Rattle.avc_decoder_core.specs.History.{marks_of, order_or_0, pasts, picture_entry, sequence_sps, with_picture}
-use Rattle.avc_decoder_core.specs.Opening.{count_of, set_with}
+use Rattle.avc_decoder_core.specs.History.{marks_of, order_or_0, pasts, picture_entry, sequence_sps, with_missing, with_picture}
+use Rattle.avc_decoder_core.specs.Opening.{opening_on, set_with, IsOpening}
 use Rattle.avc_decoder_core.specs.Pictures.{output_at_closing, output_pictures}
 use Rattle.avc_decoder_core.specs.FrameBufferState.{FrameBufferState, BeginsSequence, CanFollow, Stores, at_sequence_of, empty_frame_buffer}
 use Rattle.avc_decoder_core.specs.SequenceState.{OpenPictureStart, SequenceState, current_history, or_before, IsClosed}
 use Rattle.avc_decoder_core.specs.SequenceFields.{IsStateOf, StandsOn, StandsOnIf, counted, open_picture_of}
 use Rattle.avc_decoder_core.specs.declared.open_picture.OpenPicture.{OpenPicture}
+use Rattle.avc_decoder_core.specs.declared.opening.Opening.{Opening}
 use Rattle.avc_decoder_core.proofs.MissingNumbers.{can_follow, ok_same, set_at_opening}
 use Rattle.avc_decoder_core.proofs.SameSequence.{idr_not_refused}
 
@@ -47,28 +47,28 @@ current_is closed history (Some o) frames output failed s stands e = ap current_
 
 -- ---- a picture is opened
 
--- its count and what order counts keep
-counts_on : (sps : Sps) (h : Header) (history full : History) (order : ℤ) (counts : OrderCountState) → history_at_opening sps h history ≡ Ok full
-    → Ok (order, counts) ≡ result_map (count_of sps h) (history_at_opening sps h history) → (order, counts) ≡ count_of sps h full
-counts_on sps h history full order counts opens told = ok_same (order, counts) (count_of sps h full) (told ∙ ap (result_map (count_of sps h)) opens)
+pub opened_on : (sps : Sps) (h : Header) (closed history : History) (o : Opening) (reached : History) → closed ≡ history → IsOpening sps h closed o
+    → with_missing sps o.missing history ≡ Ok reached → history_at_opening sps h closed ≡ Ok reached
+opened_on sps h closed history o reached rest found stored = found.opens ∙ sym found.missing ∙ ap (with_missing sps o.missing) rest ∙ stored
 
-pub opened_state : (sps : Sps) (h : Header) (closed history : History) (order : ℤ) (counts : OrderCountState) (buffer : FrameBufferState) (set : Option Sps)
+pub opened_state : (sps : Sps) (h : Header) (closed history : History) (o : Opening) (buffer : FrameBufferState) (set : Option Sps)
     → IsSps sps → (is_idr h ≡ true → has_idr_marking h ≡ true) → is_some h.marking ≡ is_reference h → buffer.failed ≡ false → closed ≡ history → set ≡ sequence_sps history
-    → history_at_opening sps h history ≡ Ok buffer.history → Ok (order, counts) ≡ result_map (count_of sps h) (history_at_opening sps h closed)
-    → IsStateOf closed (Some (record { sps = sps; header = h; order = order })) buffer counts set
-opened_state sps h closed history order counts buffer set limits marking reference going rest is_set opens told =
-    let opens' = ap (history_at_opening sps h) rest ∙ opens in
-    let both = counts_on sps h closed buffer.history order counts opens' told in
+    → IsOpening sps h closed o → with_missing sps o.missing history ≡ Ok buffer.history
+    → IsStateOf closed (Some (record { sps = sps; header = h; order = o.order })) buffer o.poc set
+opened_state sps h closed history o buffer set limits marking reference going rest is_set found stored =
+    let opens = opened_on sps h closed history o buffer.history rest found stored in
+    let counted : o ≡ opening_on sps h o.missing (earlier_in_sequence h buffer.history) =
+    found.counted ∙ ap (λ l. opening_on sps h o.missing (earlier_in_sequence h l)) (ok_same found.full buffer.history (sym found.opens ∙ opens)) in
     record {
       going = going;
       stands = record {
         limits = limits;
-        opened = opens';
-        follows = can_follow sps h closed buffer.history marking reference opens';
-        order = ap (λ (p : ℤ × OrderCountState). p.0) both;
+        opened = opens;
+        follows = can_follow sps h closed buffer.history marking reference opens;
+        order = ap (λ (o : Opening). o.order) counted;
       };
-      counts = ap (λ (p : ℤ × OrderCountState). p.1) both;
-      set = is_set ∙ sym (set_at_opening sps h history buffer.history opens);
+      counts = ap (λ (o : Opening). o.poc) counted;
+      set = is_set ∙ ap sequence_sps (sym rest) ∙ sym (set_at_opening sps h closed buffer.history opens);
     }
 
 -- ---- a picture is closed

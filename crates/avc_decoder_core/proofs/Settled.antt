@@ -3,8 +3,8 @@ use Rattle.std.proofs.Common.{◌≡◌, ℕ, zero, suc, ◌+◌, ◌<◌, ◌�
 use Rattle.std.proofs.Common.{sym, ◌∙◌, subst, arith, length-append, append_assoc, append-nil}
 use Rattle.std.specs.Prelude.{◌==◌, ◌%◌}
 use Rattle.std.specs.List.{filter}
-use Rattle.std.proofs.lemmas.Bool.Decides.{nat_tests}
 use Rattle.std.proofs.lemmas.List.Elements.{filter-append}
+use Rattle.std.proofs.lemmas.Bool.{or_right}
 use Rattle.avc_types.specs.References.{Reference}
 use Rattle.avc_params.specs.Limits.{dpb_size, max_frame_num, reference_limit}
 use Rattle.avc_params.specs.declared.sps.Sps.{Sps}
@@ -19,40 +19,27 @@ use Rattle.avc_decoder_core.specs.Gaps.{AreBefore, AreNotHeld, IsSettled, Stayin
 use Rattle.avc_decoder_core.specs.History.{Entry, History, buffer_of, marking_entry, marks_of, missing_frame, or_no_references}
 use Rattle.avc_decoder_core.specs.Opening.{with_all_missing}
 use Rattle.avc_decoder_core.proofs.Entering.{marks_then}
-use Rattle.avc_decoder_core.proofs.References.{entries, is_entry}
+use Rattle.avc_decoder_core.proofs.References.{entries, is_entry, other_entry, other_entry_above, same_entry}
 use Rattle.avc_decoder_core.proofs.Storing.{length-arrivals}
 
 -- ---- entries among those of reference frames
 
-itself : (n : ℕ) → (n == n) ≡ true
-itself n = grind (arith, nat_tests)
-
-less : (n m : ℕ) → n < m → (n == m) ≡ false
-less n m low = grind (arith, nat_tests, low)
-
-more : (n m : ℕ) → m < n → (n == m) ≡ false
-more n m low = grind (arith, nat_tests, low)
-
 below_all : (low next p : ℕ) (rs : List Reference) → p < low → StandFrom low next rs → is_entry rs p ≡ false
 below_all low next p [] before h = refl
 below_all low next p (r ∷ rs) before h =
-    ap₂ (λ a b. a || b) (more r.entry p (omega (arith, before, h.0))) (below_all (r.entry + 1) next p rs (omega (arith, before, h.0)) h.1)
+    ap₂ (λ a b. a || b) (other_entry_above r.entry p (omega (arith, before, h.0))) (below_all (r.entry + 1) next p rs (omega (arith, before, h.0)) h.1)
 
 above_all : (place p : ℕ) (rs : List Reference) → place ≤ p → StandBelow place rs → is_entry rs p ≡ false
 above_all place p [] low h = refl
-above_all place p (r ∷ rs) low h = ap₂ (λ a b. a || b) (less r.entry p (omega (arith, low, h.0))) (above_all place p rs low h.1)
+above_all place p (r ∷ rs) low h = ap₂ (λ a b. a || b) (other_entry r.entry p (omega (arith, low, h.0))) (above_all place p rs low h.1)
 
 among_first : (xs ys : List Reference) (p : ℕ) → is_entry ys p ≡ false → is_entry (xs ++ ys) p ≡ is_entry xs p
 among_first [] ys p e = e
 among_first (x ∷ xs) ys p e = ap (λ b. (x.entry == p) || b) (among_first xs ys p e)
 
-or_true : (b : Bool) → (b || true) ≡ true
-or_true true = refl
-or_true false = refl
-
 among_last : (xs ys : List Reference) (p : ℕ) → is_entry ys p ≡ true → is_entry (xs ++ ys) p ≡ true
 among_last [] ys p e = e
-among_last (x ∷ xs) ys p e = ap (λ b. (x.entry == p) || b) (among_last xs ys p e) ∙ or_true (x.entry == p)
+among_last (x ∷ xs) ys p e = ap (λ b. (x.entry == p) || b) (among_last xs ys p e) ∙ or_right (x.entry == p) true refl
 
 -- ---- frames that stay, and frames that leave
 
@@ -74,14 +61,14 @@ lasts_stay t low next [] (s ∷ frames) places all h = absurd h
 lasts_stay t low next (r ∷ rs) [] places all h = absurd h
 lasts_stay t low next (r ∷ rs) (s ∷ frames) places all h =
     ap (λ b. cond (s.held || b) (s ∷ filter (λ s. s.held || t s.entry) frames) (filter (λ s. s.held || t s.entry) frames)) here
-    ∙ ap (λ b. cond b (s ∷ filter (λ s. s.held || t s.entry) frames) (filter (λ s. s.held || t s.entry) frames)) (or_true s.held)
+    ∙ ap (λ b. cond b (s ∷ filter (λ s. s.held || t s.entry) frames) (filter (λ s. s.held || t s.entry) frames)) (or_right s.held true refl)
     ∙ ap (λ l. s ∷ l) (lasts_stay t (r.entry + 1) next rs frames places.1 later h.2)
   where
     here : t s.entry ≡ true
-    here = ap t h.0 ∙ all r.entry places.0 (ap (λ b. b || is_entry rs r.entry) (itself r.entry))
+    here = ap t h.0 ∙ all r.entry places.0 (ap (λ b. b || is_entry rs r.entry) (same_entry r.entry))
 
     later : (p : ℕ) → r.entry + 1 ≤ p → is_entry rs p ≡ true → t p ≡ true
-    later p low e = all p (omega (arith, low, places.0)) (ap (λ b. (r.entry == p) || b) e ∙ or_true (r.entry == p))
+    later p low e = all p (omega (arith, low, places.0)) (ap (λ b. (r.entry == p) || b) e ∙ or_right (r.entry == p) true refl)
 
 -- ---- one more at the end
 

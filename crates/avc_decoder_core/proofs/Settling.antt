@@ -4,12 +4,13 @@ use Rattle.std.proofs.Common.{sym, ◌∙◌, subst, arith, length-append}
 use Rattle.std.specs.Prelude.{◌==◌, ◌%◌, nat_lt, if◌then◌else◌}
 use Rattle.std.specs.Option.{option_map}
 use Rattle.std.specs.List.{filter}
-use Rattle.std.proofs.lemmas.Bool.{eqb-true}
+use Rattle.std.proofs.lemmas.Bool.{eqb-true, and_parts, or_right}
 use Rattle.std.proofs.lemmas.Bool.Decides.{nat_tests}
 use Rattle.std.proofs.lemmas.Option.{slice_get-map}
 use Rattle.std.proofs.lemmas.List.{length-map}
 use Rattle.std.proofs.lemmas.Simd.{map-map}
 use Rattle.std.proofs.Math.Nat.{add-mod_right}
+use Rattle.avc_decoder_core.proofs.SameSequence.{wrong}
 use Rattle.avc_types.specs.declared.references.Mark.{Mark}
 use Rattle.avc_types.specs.declared.references.Mark.TheVariants.{Short, Long}
 use Rattle.avc_types.specs.References.{Reference, is_short, references_at}
@@ -22,7 +23,7 @@ use Rattle.avc_marking.specs.Laws.{CountFrom, StandBelow, StandFrom}
 use Rattle.avc_marking.specs.Marks.{frame_nums_from}
 use Rattle.avc_marking.proofs.Numbers.{numbers-mod}
 use Rattle.avc_dpb.specs.Bumping.{Stored, needed_frames}
-use Rattle.avc_dpb.specs.Contents.{Contents, is_held_at}
+use Rattle.avc_dpb.specs.Contents.{Contents, is_held_at, slot_of}
 use Rattle.avc_dpb.specs.declared.slot.Slot.{Slot}
 use Rattle.avc_decoder_core.specs.Frames.{frame_at}
 use Rattle.avc_decoder_core.specs.FrameBufferFields.{Each, IsStateAfter, places_in}
@@ -53,17 +54,6 @@ test_of at first low max place o = elim o [ None ↦ false | Some s ↦ has_its_
 abbrev AllPass : (at : ℕ → Frame 32) → (first low max : ℕ) → List Stored → Type 0
 AllPass at first low max ts = (p : ℕ) → p < length ts → test_of at first low max p (slice_get ts p) ≡ true
 
-and_left : (a b : Bool) → (a && b) ≡ true → a ≡ true
-and_left true b e = refl
-and_left false b e = e
-
-and_right : (a b : Bool) → (a && b) ≡ true → b ≡ true
-and_right true b e = e
-and_right false b e = absurd (let q : false ≡ true = e in cc)
-
-no : {A : Type 0} → false ≡ true → A
-no e = absurd (let q : false ≡ true = e in cc)
-
 -- a frame that leaves
 record IsLeaving (low max : ℕ) (held : Bool) (f : Frame 32) : Type 0 where
   short : f.mark ≡ Some Short
@@ -71,19 +61,20 @@ record IsLeaving (low max : ℕ) (held : Bool) (f : Frame 32) : Type 0 where
   number : f.frame_num ≡ low % max
 
 leaving_by : (m : Option Mark) (held : Bool) → is_leaving held m ≡ true → (m ≡ Some Short) × (held ≡ false)
-leaving_by None held e = no e
+leaving_by None held e = wrong e
 leaving_by (Some Short) false e = (refl, refl)
-leaving_by (Some Short) true e = no e
-leaving_by (Some (Long index)) held e = no e
+leaving_by (Some Short) true e = wrong e
+leaving_by (Some (Long index)) held e = wrong e
 
 leaving : (low max : ℕ) (held : Bool) (f : Frame 32) → has_its_place 0 low max 0 held f ≡ true → IsLeaving low max held f
 leaving low max held f e =
     let both : (is_leaving held f.mark && f.frame_num == (low + (0 - 0)) % max) ≡ true = sym (ap (λ b. if b then is_staying held f.mark else is_leaving held f.mark && f.frame_num == (low + (0 - 0)) % max) none) ∙ e in
-    let parts = leaving_by f.mark held (and_left (is_leaving held f.mark) (f.frame_num == (low + (0 - 0)) % max) both) in
+    let split = and_parts (is_leaving held f.mark) (f.frame_num == (low + (0 - 0)) % max) both in
+    let parts = leaving_by f.mark held split.0 in
     record {
       short = parts.0;
       not_held = parts.1;
-      number = eqb-true f.frame_num ((low + (0 - 0)) % max) (and_right (is_leaving held f.mark) (f.frame_num == (low + (0 - 0)) % max) both)
+      number = eqb-true f.frame_num ((low + (0 - 0)) % max) split.1
           ∙ ap (λ x. x % max) (let z : low + (0 - 0) ≡ low = omega arith in z);
     }
   where
@@ -172,10 +163,6 @@ record AreParts (at : ℕ → Frame 32) (max low first next : ℕ) (ts : List St
   needed : Each (λ s. (s.held || is_entry longs s.entry) ≡ true) frames
   many : length shorts + first ≡ length ts
 
-or_true : (b : Bool) → (b || true) ≡ true
-or_true true = refl
-or_true false = refl
-
 are_parts : (at : ℕ → Frame 32) (max low first next : ℕ) (ts : List Stored) → first < length ts → Rise (map (λ s. s.entry) ts) next → AllPass at first low max ts → AreParts at max low first next ts
 are_parts at max low first next [] some rises all = absurd (omega (arith, some))
 are_parts at max low zero next (s ∷ ts) some rises all =
@@ -222,7 +209,7 @@ are_parts at max low (suc first) next (s ∷ ts) some rises all =
       needed = (ap (λ b. b || is_entry r.longs s.entry) held, r.needed);
       many = let m = r.many in omega (arith, m);
     }
-    by (Some Short) e held r = no held
+    by (Some Short) e held r = wrong held
     by (Some (Long index)) e held r = record {
       place = r.place;
       frames = s ∷ r.frames;
@@ -239,7 +226,7 @@ are_parts at max low (suc first) next (s ∷ ts) some rises all =
       counts = r.counts;
       not_held = r.not_held;
       needed = (
-        ap (λ b. s.held || (b || is_entry r.longs s.entry)) (let z : (s.entry == s.entry) ≡ true = grind (arith, nat_tests) in z) ∙ or_true s.held,
+        ap (λ b. s.held || (b || is_entry r.longs s.entry)) (let z : (s.entry == s.entry) ≡ true = grind (arith, nat_tests) in z) ∙ or_right s.held true refl,
         each_implies (λ t. (t.held || is_entry r.longs t.entry) ≡ true) (λ t. (t.held || ((s.entry == t.entry) || is_entry r.longs t.entry)) ≡ true) r.frames
             (λ t h. wider t.held (s.entry == t.entry) (is_entry r.longs t.entry) h) r.needed,
       );
@@ -248,7 +235,7 @@ are_parts at max low (suc first) next (s ∷ ts) some rises all =
       where
         wider : (a b c : Bool) → (a || c) ≡ true → (a || (b || c)) ≡ true
         wider true b c h = refl
-        wider false b c h = ap (λ x. b || x) h ∙ or_true b
+        wider false b c h = ap (λ x. b || x) h ∙ or_right b true refl
 
 all_needed : (longs : List Reference) (frames : List Stored) → Each (λ s. (s.held || is_entry longs s.entry) ≡ true) frames → needed_frames (entries longs) frames ≡ frames
 all_needed longs [] h = refl
@@ -261,23 +248,17 @@ abbrev held_of : Option Stored → Bool
 held_of None = false
 held_of (Some s) = s.held
 
-held_same : (slots : List Slot) (ts : List Stored) → map (λ s. s.held) slots ≡ map (λ s. s.held) ts → (p : ℕ) → is_held_at slots p ≡ held_of (slice_get ts p)
-held_same slots ts same p =
-    by (slice_get slots p) ∙ ap or_not (sym (slice_get-map (λ s. s.held) slots p) ∙ ap (λ l. slice_get l p) same ∙ slice_get-map (λ s. s.held) ts p) ∙ back (slice_get ts p)
+held_same : (slots : List Slot) (ts : List Stored) → slots ≡ map slot_of ts → (p : ℕ) → is_held_at slots p ≡ held_of (slice_get ts p)
+held_same slots ts same p = ap (λ l. is_held_at l p) same ∙ ap of (slice_get-map slot_of ts p) ∙ by (slice_get ts p)
   where
-    or_not : Option Bool → Bool
-    or_not None = false
-    or_not (Some b) = b
+    of : Option Slot → Bool
+    of o = elim o [ None ↦ false | Some s ↦ s.held ]
 
-    by : (o : Option Slot) → (elim o as (λ _. Bool) [ None ↦ false | Some s ↦ s.held ]) ≡ or_not (option_map (λ s. s.held) o)
+    by : (o : Option Stored) → of (option_map slot_of o) ≡ held_of o
     by None = refl
     by (Some s) = refl
 
-    back : (o : Option Stored) → or_not (option_map (λ s. s.held) o) ≡ held_of o
-    back None = refl
-    back (Some s) = refl
-
-passes : (at : ℕ → Frame 32) (first low max : ℕ) (c : Contents (Frame 32)) (ts : List Stored) → c.frames ≡ map (λ s. at s.entry) ts → map (λ s. s.held) c.slots ≡ map (λ s. s.held) ts →
+passes : (at : ℕ → Frame 32) (first low max : ℕ) (c : Contents) (ts : List Stored) → c.frames ≡ map (λ s. at s.entry) ts → c.slots ≡ map slot_of ts →
     ((p : ℕ) → p < length c.frames → settles_at c first low max p ≡ true) → AllPass at first low max ts
 passes at first low max c ts frames held all = λ p within.
     sym (by p (slice_get ts p) (slice_get c.frames p) (is_held_at c.slots p) (ap (λ l. slice_get l p) frames ∙ slice_get-map (λ s. at s.entry) ts p) (held_same c.slots ts held p))
@@ -290,7 +271,7 @@ passes at first low max c ts frames held all = λ p within.
         ap₂ (λ f h. elim f as (λ _. Bool) [ None ↦ false | Some g ↦ has_its_place first low max p h g ]) e k
 
 -- The test finds a long gap.
-pub long_gap : (h : History) (c : Contents (Frame 32)) (idx : Option ℕ) (previous : ℕ) (state : IsStateAfter h c idx previous) (sps : Sps) (numbers : List ℕ) (number shorts first low count : ℕ) →
+pub long_gap : (h : History) (c : Contents) (idx : Option ℕ) (previous : ℕ) (state : IsStateAfter h c idx previous) (sps : Sps) (numbers : List ℕ) (number shorts first low count : ℕ) →
     numbers ≡ frame_nums_from (max_frame_num sps) number (length numbers) → 0 < shorts → first + shorts ≡ length c.frames → low + shorts ≡ number + max_frame_num sps →
     length numbers + shorts ≤ max_frame_num sps → length c.frames ≤ 16 → CountsReferences (map marked_frame c.frames) count → count ≡ reference_limit sps → length c.frames ≤ dpb_size sps →
     ((p : ℕ) → p < length c.frames → settles_at c first low (max_frame_num sps) p ≡ true) → IsLongGap c.output sps h numbers
@@ -340,7 +321,7 @@ long_gap h c idx previous state sps numbers number shorts first low count from' 
     rises = rise ts (length h) (state.buffer).rising
 
     parts : AreParts at max low first (length h) ts
-    parts = are_parts at max low first (length h) ts (omega (arith, some, many, long)) rises (passes at first low max c ts (state.buffer).frames (state.buffer).holds all)
+    parts = are_parts at max low first (length h) ts (omega (arith, some, many, long)) rises (passes at first low max c ts (state.buffer).frames (state.buffer).slots all)
 
     marked : map marked_frame c.frames ≡ map (λ s. marked_frame (at s.entry)) ts
     marked = ap (map marked_frame) (state.buffer).frames ∙ map-map marked_frame (λ (s : Stored). at s.entry) ts

@@ -25,7 +25,6 @@ use Rattle.avc_dpb.specs.declared.arriving_frame.ArrivingFrame.{ArrivingFrame}
 use Rattle.avc_dpb.specs.declared.output.Output.{Output}
 use Rattle.avc_dpb.specs.Bumping.{empty_buffer, remain}
 use Rattle.avc_dpb.specs.Contents.{Contents, IsBuffer, OutputsAll, OutputsSome, Stores}
-use Rattle.avc_dpb.specs.declared.slot.Slot.{Slot}
 use Rattle.avc_dpb.specs.StoredFrame.{shown_frame}
 use Rattle.avc_dpb.proofs.Conserved.{all_held_go_out, holds_at_most}
 use Rattle.avc_decoder_core.specs.Frames.{frame_at, mark_in}
@@ -46,15 +45,15 @@ use Rattle.avc_decoder_core.proofs.Storing.{Arrives, marked_buffer, stored_buffe
 
 -- ---- the frames of a state
 
-pub few_frames : (h : History) (c : Contents (Frame 32)) (idx : Option ℕ) (previous : ℕ) → IsStateAfter h c idx previous → length c.frames ≤ 16
+pub few_frames : (h : History) (c : Contents) (idx : Option ℕ) (previous : ℕ) → IsStateAfter h c idx previous → length c.frames ≤ 16
 few_frames h c idx previous s =
     let long : length c.frames ≡ length (buffer_of c.output h).frames = ap length (s.buffer).frames ∙ length-map (buffer_of c.output h).frames (λ t. frame_at h (s.marks).references t.entry) in
     omega (arith, long, holds_at_most c.output 16 (arrivals h) s.within)
 
-frames_are : (h : History) (c : Contents (Frame 32)) (idx : Option ℕ) (previous : ℕ) (s : IsStateAfter h c idx previous) → c.frames ≡ map (frame_at h (s.marks).references) (places_in (buffer_of c.output h))
+frames_are : (h : History) (c : Contents) (idx : Option ℕ) (previous : ℕ) (s : IsStateAfter h c idx previous) → c.frames ≡ map (frame_at h (s.marks).references) (places_in (buffer_of c.output h))
 frames_are h c idx previous s = (s.buffer).frames ∙ sym (map-map (frame_at h (s.marks).references) (λ t. t.entry) (buffer_of c.output h).frames)
 
-pub are_stored : (h : History) (c : Contents (Frame 32)) (idx : Option ℕ) (previous : ℕ) → IsStateAfter h c idx previous → AreStoredIn h c.frames
+pub are_stored : (h : History) (c : Contents) (idx : Option ℕ) (previous : ℕ) → IsStateAfter h c idx previous → AreStoredIn h c.frames
 are_stored h c idx previous s =
     let ps = places_in (buffer_of c.output h) in
     let rs = (s.marks).references in
@@ -71,7 +70,7 @@ are_stored h c idx previous s =
       stored = ap (stored_at ps) frames ∙ stored_are h rs ps ∙ ap (map (stored h)) references ∙ ap (λ r. map (stored h) (or_no_references r)) (sym s.marked);
     }
 
-pub are_frames : (h : History) (c : Contents (Frame 32)) (idx : Option ℕ) (previous : ℕ) → IsStateAfter h c idx previous → AreFramesIn h c.frames
+pub are_frames : (h : History) (c : Contents) (idx : Option ℕ) (previous : ℕ) → IsStateAfter h c idx previous → AreFramesIn h c.frames
 are_frames h c idx previous s =
     let ps = places_in (buffer_of c.output h) in
     let rs = (s.marks).references in
@@ -131,16 +130,16 @@ prior_stays (missing_frame sps frame_num) h none = refl
 
 -- ---- an entry's frame is stored
 
-pub record IsLonger (output : Output) (e : Entry) (h : History) (c : Contents (Frame 32)) (idx : Option ℕ) (previous : ℕ) (prior out : List Picture) : Type 0 where
+pub record IsLonger (output : Output) (e : Entry) (h : History) (c : Contents) (idx : Option ℕ) (previous : ℕ) (prior out : List Picture) : Type 0 where
   pub state : IsStateAfter (e ∷ h) c idx previous
   pub kept : c.output ≡ output
   pub pictures : prior ++ out ≡ output_pictures output h (e ∷ h)
 
-pub stored_entry : (e : Entry) (h : History) (c : Contents (Frame 32)) (idx : Option ℕ) (previous : ℕ) → IsStateAfter h c idx previous → Follows e h → IsSps (sps_of e) →
-    (m : Marks) (marked : List MarkedFrame) → IsMarked c.output e h m marked → (after_marks after_prior after_store : Contents (Frame 32)) → after_marks ≡ with_all_marks c marked →
+pub stored_entry : (e : Entry) (h : History) (c : Contents) (idx : Option ℕ) (previous : ℕ) → IsStateAfter h c idx previous → Follows e h → IsSps (sps_of e) →
+    (m : Marks) (marked : List MarkedFrame) → IsMarked c.output e h m marked → (after_marks after_prior after_store : Contents) → after_marks ≡ with_all_marks c marked →
     (prior out : List Picture) → OutputsPrior (arrival e h).prior_pictures after_marks prior after_prior → after_prior.output ≡ after_marks.output →
     (frame : Frame 32) → frame_at (e ∷ h) m.references (length h) ≡ frame → (arriving : ArrivingFrame) → Arrives e h arriving m →
-    Stores shown_frame (λ f. is_some f.mark) after_prior frame arriving out after_store → after_store.output ≡ after_prior.output →
+    Stores after_prior frame arriving out after_store → after_store.output ≡ after_prior.output →
     (new_idx : Option ℕ) → new_idx ≡ m.max_long_term_frame_idx → (new_previous : ℕ) → new_previous ≡ prev_ref_frame_num (marking_entries (e ∷ h)) →
     IsLonger c.output e h after_store new_idx new_previous prior out
 stored_entry e h c idx previous s follows limits m marked is after_marks after_prior after_store set prior out outputs kept_output frame own arriving arrives stores kept_output' new_idx idx_is new_previous previous_is =
@@ -183,7 +182,7 @@ stored_entry e h c idx previous s follows limits m marked is after_marks after_p
 
 -- ---- no history
 
-pub empty_state : (output : Output) (items : List HistoryEntry) (c : Contents (Frame 32)) → items ≡ [] → c ≡ record { slots = []; frames = []; output = output; failed = false } →
+pub empty_state : (output : Output) (items : List HistoryEntry) (c : Contents) → items ≡ [] → c ≡ record { slots = []; frames = []; output = output; failed = false } →
     ((frame_of : ℕ → Frame 32) → IsBuffer c empty_buffer 0 frame_of) → IsStateAfter (history_of items) c None 0
 empty_state output items c none is buffer =
     let there : IsStateAfter [] c None 0 = record {
@@ -201,37 +200,32 @@ empty_state output items c none is buffer =
 
 -- ---- all pictures go out
 
-no_slots : (slots : List Slot) → map (λ s. s.order) slots ≡ [] → slots ≡ []
-no_slots [] e = refl
-no_slots (s ∷ slots) e = absurd (omega (arith, ap length e))
-
-pub record IsForgotten (output : Output) (h : History) (c : Contents (Frame 32)) (out : List Picture) : Type 0 where
+pub record IsForgotten (output : Output) (h : History) (c : Contents) (out : List Picture) : Type 0 where
   pub nothing : c ≡ record { slots = []; frames = []; output = output; failed = false }
   pub pictures : out ≡ held_pictures output h
 
-pub emptied_all : (h : History) (c : Contents (Frame 32)) (idx : Option ℕ) (previous : ℕ) → IsStateAfter h c idx previous → (out : List Picture) (new : Contents (Frame 32)) →
-    OutputsAll shown_frame c out new → new.output ≡ c.output → IsForgotten c.output h new out
+pub emptied_all : (h : History) (c : Contents) (idx : Option ℕ) (previous : ℕ) → IsStateAfter h c idx previous → (out : List Picture) (new : Contents) →
+    OutputsAll c out new → new.output ≡ c.output → IsForgotten c.output h new out
 emptied_all h c idx previous s out new outputs kept =
     let rs = (s.marks).references in
     let b = buffer_of c.output h in
     let has = outputs b (length h) (frame_at h rs) s.buffer in
-    let slots : new.slots ≡ [] = no_slots new.slots (has.buffer).orders in
     record {
-      nothing = ap₂ (λ slots frames. record new { slots = slots; frames = frames }) slots (has.buffer).frames
+      nothing = ap₂ (λ slots frames. record new { slots = slots; frames = frames }) (has.buffer).slots (has.buffer).frames
           ∙ ap₂ (λ output failed. record { slots = []; frames = []; output = output; failed = failed }) kept (has.buffer).works;
       pictures = has.pictures ∙ ap (filter_map (λ p. shown_frame (frame_at h rs p))) (all_held_go_out b) ∙ pictures_are h rs (all_held c.output h);
     }
 
 -- where none is held, nothing goes out
-pub holds_some : (h : History) (c : Contents (Frame 32)) (idx : Option ℕ) (previous : ℕ) → IsStateAfter h c idx previous → OutputsSome shown_frame c → held_pictures c.output h ≢ []
+pub holds_some : (h : History) (c : Contents) (idx : Option ℕ) (previous : ℕ) → IsStateAfter h c idx previous → OutputsSome c → held_pictures c.output h ≢ []
 holds_some h c idx previous s some =
     let rs = (s.marks).references in
     let b = buffer_of c.output h in
     λ none. some b (length h) (frame_at h rs) s.buffer
     (ap (filter_map (λ p. shown_frame (frame_at h rs p))) (all_held_go_out b) ∙ pictures_are h rs (all_held c.output h) ∙ none)
 
-pub no_buffer : (output : Output) (c : Contents (Frame 32)) → c ≡ record { slots = []; frames = []; output = output; failed = false } → (frame_of : ℕ → Frame 32) → IsBuffer c empty_buffer 0 frame_of
-no_buffer output c is frame_of = subst (λ c. IsBuffer c empty_buffer 0 frame_of) (sym is) (record { works = refl; orders = refl; holds = refl; frames = refl; rising = tt })
+pub no_buffer : (output : Output) (c : Contents) → c ≡ record { slots = []; frames = []; output = output; failed = false } → (frame_of : ℕ → Frame 32) → IsBuffer c empty_buffer 0 frame_of
+no_buffer output c is frame_of = subst (λ c. IsBuffer c empty_buffer 0 frame_of) (sym is) (record { works = refl; slots = refl; frames = refl; rising = tt })
 
 -- ---- what calls answer
 

@@ -60,18 +60,18 @@ frame_made e made_of marked there frame k d same is last made = record {
 }
 
 -- An entry was marked and its frame stored.
-pub record IsTaken (output : Output) (e : Entry) (h : History) (c : Contents (Frame 32)) (idx : Option ℕ) (previous : ℕ) (prior out : List Picture) : Type 0 where
+pub record IsTaken (output : Output) (e : Entry) (h : History) (c : Contents) (idx : Option ℕ) (previous : ℕ) (prior out : List Picture) : Type 0 where
   pub longer : IsLonger output e h c idx previous prior out
   pub ok : is_ok (marks_of (e ∷ h)) ≡ true
 
-pub taken : (e : Entry) (h : History) (c : Contents (Frame 32)) (idx : Option ℕ) (previous : ℕ) → IsStateAfter h c idx previous → Follows e h → IsSps (sps_of e) →
+pub taken : (e : Entry) (h : History) (c : Contents) (idx : Option ℕ) (previous : ℕ) → IsStateAfter h c idx previous → Follows e h → IsSps (sps_of e) →
     (old new : List MarkedFrame) (new_idx : Option ℕ) → old ≡ map marked_frame c.frames → length new ≡ length old + 1 →
     MarksFrame (λ entry. marks_after (marking_entry e) entry (marking_entry e).marking) old idx (Ok tt) new new_idx →
-    (after_marks after_prior after_store : Contents (Frame 32)) → after_marks ≡ with_all_marks c new →
+    (after_marks after_prior after_store : Contents) → after_marks ≡ with_all_marks c new →
     (prior out : List Picture) → OutputsPrior (arrival e h).prior_pictures after_marks prior after_prior → after_prior.output ≡ after_marks.output →
     (frame : Frame 32) → IsFrameMade e new frame → (arriving : ArrivingFrame) →
     ((m : Marks) → marks_of (e ∷ h) ≡ Ok m → Arrives e h arriving m) →
-    Stores shown_frame (λ f. is_some f.mark) after_prior frame arriving out after_store → after_store.output ≡ after_prior.output →
+    Stores after_prior frame arriving out after_store → after_store.output ≡ after_prior.output →
     (new_previous : ℕ) → new_previous ≡ prev_ref_frame_num (marking_entries (e ∷ h)) → IsTaken c.output e h after_store new_idx new_previous prior out
 taken e h c idx previous s follows limits old new new_idx old_is long marks after_marks after_prior after_store set prior out outputs kept frame made arriving arrives stores kept' new_previous previous_is =
     let m = marks_at (places_in (buffer_of c.output h) ++ length h ∷ []) new new_idx in
@@ -85,11 +85,11 @@ taken e h c idx previous s follows limits old new new_idx old_is long marks afte
 
 -- ---- of a missing number
 
-pub outputs_none : (c : Contents (Frame 32)) → OutputsPrior remain c [] c
+pub outputs_none : (c : Contents) → OutputsPrior remain c [] c
 outputs_none c = λ b next frame is. record { buffer = is; pictures = ap (filter_map (λ p. shown_frame (frame p))) (sym (drop-length b.out)) }
 
 -- what a call made of the buffer where all pictures go out, which operation 5 asks for
-pub all_output : (five : Bool) (old new : Contents (Frame 32)) (out : List Picture) → five ≡ true → OutputsAll shown_frame old out new
+pub all_output : (five : Bool) (old new : Contents) (out : List Picture) → five ≡ true → OutputsAll old out new
     → OutputsPrior (if five then are_output else remain) old out new
 all_output true old new out is outputs = outputs
 all_output false old new out is outputs = wrong is

@@ -18,7 +18,6 @@ use Rattle.avc_dpb.specs.declared.output.Output.{Output}
 use Rattle.avc_dpb.specs.Bumping.{Buffer, PriorPictures, remain, are_output, after_frame, after_prior_pictures, is_reference_in}
 use Rattle.avc_dpb.specs.Contents.{Contents, HasBuffer, IsBuffer, Stores, arrival_of}
 use Rattle.avc_dpb.specs.Laws.{HasRoom, places_of_references}
-use Rattle.avc_dpb.specs.StoredFrame.{shown_frame}
 use Rattle.avc_dpb.proofs.Staying.{references_stay}
 use Rattle.avc_decoder_core.specs.Frames.{frame_at}
 use Rattle.avc_decoder_core.specs.FrameBufferFields.{Each, IsStateAfter, places_in, with_all_marks, with_marks}
@@ -29,8 +28,8 @@ use Rattle.avc_decoder_core.proofs.FramesAt.{marked_again, referenced_are, refer
 use Rattle.avc_decoder_core.proofs.Entering.{IsMarked}
 
 -- the stored frames once they are marked
-pub marked_buffer : (e : Entry) (h : History) (c : Contents (Frame 32)) (idx : Option ℕ) (previous : ℕ) (s : IsStateAfter h c idx previous) (m : Marks) (marked : List MarkedFrame) →
-    IsMarked c.output e h m marked → (new : Contents (Frame 32)) → new ≡ with_all_marks c marked → IsBuffer new (buffer_of c.output h) (length h) (frame_at (e ∷ h) m.references)
+pub marked_buffer : (e : Entry) (h : History) (c : Contents) (idx : Option ℕ) (previous : ℕ) (s : IsStateAfter h c idx previous) (m : Marks) (marked : List MarkedFrame) →
+    IsMarked c.output e h m marked → (new : Contents) → new ≡ with_all_marks c marked → IsBuffer new (buffer_of c.output h) (length h) (frame_at (e ∷ h) m.references)
 marked_buffer e h c idx previous s m marked is new set =
     let b = buffer_of c.output h in
     let old = frame_at h (s.marks).references in
@@ -38,8 +37,7 @@ marked_buffer e h c idx previous s m marked is new set =
     let low = below (places_in b) (length h) (rise b.frames (length h) (s.buffer).rising) in
     let there : IsBuffer (with_all_marks c marked) b (length h) frame = record {
       works = (s.buffer).works;
-      orders = (s.buffer).orders;
-      holds = (s.buffer).holds;
+      slots = (s.buffer).slots;
       frames =
           ap (λ fs. with_marks fs marked) ((s.buffer).frames ∙ sym (map-map old (λ t. t.entry) b.frames))
           ∙ marked_again e h (s.marks).references m.references (places_in b) (length h ∷ []) marked low is.marks
@@ -84,16 +82,16 @@ buffer_is output e h arriving m arrives =
     ∙ ap (λ n. after_frame output n (arrival e h) (emptied output e h)) (sym (length-arrivals h))
 
 pub stored_buffer : (output : Output) (e : Entry) (h : History) (arriving : ArrivingFrame) (m : Marks) → Arrives e h arriving m →
-    (old new : Contents (Frame 32)) (frame : Frame 32) (out : List Picture) → IsBuffer old (emptied output e h) (length h) (frame_at (e ∷ h) m.references) → old.output ≡ output →
-    frame_at (e ∷ h) m.references (length h) ≡ frame → Stores shown_frame (λ f. is_some f.mark) old frame arriving out new →
-    HasBuffer shown_frame new out (emptied output e h) (buffer_of output (e ∷ h)) (length h + 1) (frame_at (e ∷ h) m.references)
+    (old new : Contents) (frame : Frame 32) (out : List Picture) → IsBuffer old (emptied output e h) (length h) (frame_at (e ∷ h) m.references) → old.output ≡ output →
+    frame_at (e ∷ h) m.references (length h) ≡ frame → Stores old frame arriving out new →
+    HasBuffer new out (emptied output e h) (buffer_of output (e ∷ h)) (length h + 1) (frame_at (e ∷ h) m.references)
 stored_buffer output e h arriving m arrives old new frame out is same own stores =
     let n = length h in
     let at = frame_at (e ∷ h) m.references in
     let has = stores (emptied output e h) n at (entries m.references) is
     (ap (map (λ f. is_some f.mark)) is.frames ∙ referenced_are (e ∷ h) m.references (emptied output e h).frames)
     own (ap (λ f. is_some f.mark) (sym own) ∙ referenced_is (e ∷ h) m.references n) in
-    subst (λ b. HasBuffer shown_frame new out (emptied output e h) b (n + 1) at)
+    subst (λ b. HasBuffer new out (emptied output e h) b (n + 1) at)
     (ap (λ o. after_frame o n (arrival_of arriving (entries m.references)) (emptied output e h)) same ∙ buffer_is output e h arriving m arrives) has
 
 -- ---- the reference frames
@@ -132,7 +130,7 @@ pub stored_references : (output : Output) (e : Entry) (h : History) (arriving : 
     (all : Bool) → (all ≡ true → Each (λ r. r.entry ≡ length h) m.references) → (all ≡ false → (arrival e h).prior_pictures ≡ remain) →
     Each (λ p. p < length h) (places_in (buffer_of output h)) →
     (is_entry m.references (length h) ≡ true → (arriving.is_reference || not arriving.existing) ≡ true) → length m.references ≤ arriving.capacity →
-    (old new : Contents (Frame 32)) → IsBuffer old (emptied output e h) (length h) (frame_at (e ∷ h) m.references) →
+    (old new : Contents) → IsBuffer old (emptied output e h) (length h) (frame_at (e ∷ h) m.references) →
     IsBuffer new (buffer_of output (e ∷ h)) (length h + 1) (frame_at (e ∷ h) m.references) →
     references_at (places_in (buffer_of output (e ∷ h))) (map marked_frame new.frames) ≡ m.references
 stored_references output e h arriving m marked arrives is all alone stays low stored limit old new before after =

@@ -1,5 +1,5 @@
 -- The frames of missing numbers are stored one after another.
-use Rattle.std.proofs.Common.{◌≡◌, ◌∷◌, ◌++◌, ◌∙◌, ℕ, List, [], drop, slice_get, Some, true, false, is_ok, ap, ap₂, sym, subst, append-nil, append_assoc}
+use Rattle.std.proofs.Common.{◌≡◌, ◌∷◌, ◌++◌, ◌∙◌, ◌<◌, ℕ, length, arith, List, [], drop, slice_get, Some, true, false, is_ok, ap, ap₂, sym, subst, append-nil, append_assoc}
 use Rattle.avc_types.specs.declared.picture.Picture.{Picture}
 use Rattle.avc_params.specs.declared.sps.Sps.{Sps}
 use Rattle.avc_dpb.specs.declared.output.Output.{Output}
@@ -7,17 +7,20 @@ use Rattle.avc_decoder_core.specs.FrameBufferState.{FrameBufferState, Stores}
 use Rattle.avc_decoder_core.specs.History.{History, is_same_sps, missing_frame, sequence_sps, with_missing}
 use Rattle.avc_decoder_core.specs.Opening.{StoresAll, with_all_missing}
 use Rattle.avc_decoder_core.specs.Pictures.{output_pictures}
-use Rattle.avc_decoder_core.proofs.MissingNumbers.{is_with_all, left_after}
+use Rattle.avc_decoder_core.proofs.MissingNumbers.{is_with_all, left_after, next_number}
 use Rattle.avc_decoder_core.proofs.Outputs.{Extends, extends_itself, extends_more, nothing_goes_out, output_more}
 
 -- of these numbers the ones before `rest` are stored, and these pictures have gone out
 pub record HasStored (sps : Sps) (numbers : List ℕ) (from' : FrameBufferState) (rest : List ℕ) (now : FrameBufferState) (out : List Picture) : Type 0 where
   pub going : now.failed ≡ false
-  pub same : is_same_sps (sequence_sps now.history) sps ≡ true
+  pub same : 0 < length rest → is_same_sps (sequence_sps now.history) sps ≡ true
   pub left : with_missing sps rest now.history ≡ with_missing sps numbers from'.history
   pub output : now.output ≡ from'.output
   pub extends : Extends from'.output from'.history now.history
   pub pictures : out ≡ output_pictures from'.output from'.history now.history
+
+pub some_left : (rest : List ℕ) (n : ℕ) → slice_get rest 0 ≡ Some n → 0 < length rest
+some_left rest n first = omega (arith, ap length (next_number rest n first))
 
 pub stored_one : (sps : Sps) (numbers : List ℕ) (from' : FrameBufferState) (rest : List ℕ) (now : FrameBufferState) (out : List Picture) (n : ℕ) (rest' : List ℕ)
     (new : FrameBufferState) (more out' : List Picture) → HasStored sps numbers from' rest now out → is_ok (with_missing sps numbers from'.history) ≡ true →
@@ -27,7 +30,7 @@ stored_one sps numbers from' rest now out n rest' new more out' h marked first r
     let after : new.history ≡ entry ∷ now.history = ap (λ (b : FrameBufferState). b.history) stores.state in
     record {
       going = ap (λ (b : FrameBufferState). b.failed) stores.state;
-      same = ap (λ (h : History). is_same_sps (sequence_sps h) sps) after ∙ h.same;
+      same = λ more. ap (λ (h : History). is_same_sps (sequence_sps h) sps) after ∙ h.same (some_left rest n first);
       left = ap₂ (λ l h. with_missing sps l h) rest_is after ∙ left_after sps rest n now.history first (ap is_ok h.left ∙ marked) ∙ h.left;
       output = ap (λ (b : FrameBufferState). b.output) stores.state ∙ h.output;
       extends = subst (Extends from'.output from'.history) (sym after) (extends_more from'.output entry from'.history now.history h.extends);

@@ -11,7 +11,6 @@ use Rattle.avc_marking.specs.Marks.{Marks, frame_num_after_marking, prev_ref_fra
 use Rattle.avc_dpb.specs.Bumping.{Buffer, PriorPictures, after_prior_pictures}
 use Rattle.avc_dpb.specs.Contents.{Contents, IsBuffer, HasBuffer}
 use Rattle.avc_dpb.specs.Laws.{IsWithin}
-use Rattle.avc_dpb.specs.StoredFrame.{shown_frame}
 use Rattle.avc_decoder_core.specs.Frames.{frame_at}
 use Rattle.avc_decoder_core.specs.History.{Entry, decoded_picture, missing_frame, History, arrivals, buffer_of, entry_at, marking_entries, marks_of}
 use Rattle.avc_decoder_core.specs.History.{picture_entry, planes_in, sequence_sps}
@@ -67,7 +66,7 @@ abbrev pub IsSizedAt : History → Sps → (place : ℕ) → Type 0
 IsSizedAt history sps place = IfSome (planes_in (entry_at history place)) (AreSized (width_in_mbs sps) (height_in_mbs sps))
 
 -- The buffer's frames that have a mark are the reference frames; there are no more than there may be, and all have one size.
-pub record IsStateAfter (history : History) (dpb : Contents (Frame 32)) (idx : Option ℕ) (previous : ℕ) : Type 0 where
+pub record IsStateAfter (history : History) (dpb : Contents) (idx : Option ℕ) (previous : ℕ) : Type 0 where
   pub marks : Marks
   pub marked : marks_of history ≡ Ok marks
   pub idx_is : idx ≡ marks.max_long_term_frame_idx
@@ -91,11 +90,11 @@ with_marks (f ∷ frames) [] = f ∷ frames
 with_marks (f ∷ frames) (m ∷ marked) = record f { mark = m.mark } ∷ with_marks frames marked
 
 -- the frames with these marks
-abbrev pub with_all_marks : Contents (Frame 32) → List MarkedFrame → Contents (Frame 32)
+abbrev pub with_all_marks : Contents → List MarkedFrame → Contents
 with_all_marks c marked = record c { frames = with_marks c.frames marked }
 
 -- The pictures before have gone out, or remain (C.4.4).
-abbrev pub OutputsPrior : PriorPictures → (old : Contents (Frame 32)) (out : List Picture) (new : Contents (Frame 32)) → Type 0
+abbrev pub OutputsPrior : PriorPictures → (old : Contents) (out : List Picture) (new : Contents) → Type 0
 OutputsPrior prior old out new =
     (b : Buffer) (next : ℕ) (frame_of : ℕ → Frame 32) → IsBuffer old b next frame_of →
-    HasBuffer shown_frame new out b (after_prior_pictures prior b) next frame_of
+    HasBuffer new out b (after_prior_pictures prior b) next frame_of

@@ -101,7 +101,7 @@ has_its_place first low max place held f =
     if nat_lt place first then is_staying held f.mark else is_leaving held f.mark && f.frame_num == (low + (place - first)) % max
 
 -- the frame that stands there does
-abbrev pub settles_at : Contents (Frame 32) → (first low max place : ℕ) → Bool
+abbrev pub settles_at : Contents → (first low max place : ℕ) → Bool
 settles_at c first low max place =
     elim (slice_get c.frames place) [ None ↦ false | Some f ↦ has_its_place first low max place (is_held_at c.slots place) f ]
 
@@ -110,7 +110,7 @@ settles_at c first low max place =
 -- What is kept after the shorter history is what is kept after the longer one.
 abbrev pub KeepsTheSame : Output → (shorter longer : History) → Type 0
 KeepsTheSame output shorter longer =
-    (c : Contents (Frame 32)) (idx : Option ℕ) (previous : ℕ) → c.output ≡ output → IsStateAfter shorter c idx previous → IsStateAfter longer c idx previous
+    (c : Contents) (idx : Option ℕ) (previous : ℕ) → c.output ≡ output → IsStateAfter shorter c idx previous → IsStateAfter longer c idx previous
 
 -- It is, and neither lets a picture out.
 pub record LeavesItsEnd (output : Output) (before shorter longer : History) : Type 0 where

@@ -1,5 +1,5 @@
 -- How a picture is opened: the frame numbers that are missing before it, and its order count (7.4.3, 8.2.1, 8.2.5.2).
-use Rattle.std.specs.Prelude.{◌≡◌, ℕ, ℤ, true, false, List, [], ◌∷◌, Option, Some, Result, Ok, Err}
+use Rattle.std.specs.Prelude.{◌≡◌, ℕ, ◌<◌, length, true, false, List, [], ◌∷◌, Option, Some, Result, Ok, Err}
 use Rattle.avc_types.specs.declared.fault.Fault.{Fault}
 use Rattle.avc_types.specs.declared.fault.Fault.TheVariants as faults
 use Rattle.avc_types.specs.declared.picture.Picture.{Picture}
@@ -11,7 +11,8 @@ use Rattle.avc_poc.specs.OrderCountState.{OrderCountState, order_count_state}
 use Rattle.avc_poc.specs.OrderCounts.{order_counts, picture}
 use Rattle.avc_marking.specs.Marks.{missing_frame_nums, prev_ref_frame_num}
 use Rattle.avc_decoder_core.specs.History.{History, earlier_in_sequence, missing_frame, is_same_sps, marking_entries, order_or_0, pasts, picture_entry, sequence_sps}
-use Rattle.avc_decoder_core.specs.History.{with_order_counts}
+use Rattle.avc_decoder_core.specs.History.{history_at_opening, with_missing, with_order_counts}
+use Rattle.avc_decoder_core.specs.declared.opening.Opening.{Opening}
 use Rattle.avc_decoder_core.specs.FrameBufferState.{FrameBufferState}
 use Rattle.avc_decoder_core.specs.Pictures.{output_pictures}
 
@@ -29,13 +30,27 @@ abbrev pub with_all_missing : Sps → List ℕ → History → History
 with_all_missing sps [] history = history
 with_all_missing sps (n ∷ numbers) history = with_all_missing sps numbers (missing_frame sps n ∷ history)
 
--- PicOrderCnt of a picture after this history, and what order counts keep once it has come
-abbrev pub count_on : Sps → Header → History → ℤ × OrderCountState
-count_on sps h history = (order_or_0 (order_counts sps h (pasts history)), order_count_state (picture sps h ∷ pasts history))
+-- what opening finds on this history, with these missing numbers: PicOrderCnt, and what order counts keep once the picture has come
+abbrev pub opening_on : Sps → Header → (missing : List ℕ) → History → Opening
+opening_on sps h missing history = record {
+  missing = missing;
+  order = order_or_0 (order_counts sps h (pasts history));
+  poc = order_count_state (picture sps h ∷ pasts history);
+}
 
--- the same of a picture that is opened on this history: an IDR picture is counted alone
-abbrev pub count_of : Sps → Header → History → ℤ × OrderCountState
-count_of sps h history = count_on sps h (earlier_in_sequence h history)
+-- What opening a picture finds: the missing numbers, the history with them, and the picture's order count on it. An IDR picture is
+-- counted alone.
+pub record IsOpening (sps : Sps) (h : Header) (history : History) (o : Opening) : Type 0 where
+  pub full : History
+  pub opens : history_at_opening sps h history ≡ Ok full
+  pub missing : with_missing sps o.missing history ≡ Ok full
+  pub same : 0 < length o.missing → is_same_sps (sequence_sps history) sps ≡ true
+  pub counted : o ≡ opening_on sps h o.missing (earlier_in_sequence h full)
+
+-- that, or the first fault
+abbrev pub Finds : Sps → Header → History → Result Opening Fault → Type 0
+Finds sps h history (Ok o) = IsOpening sps h history o
+Finds sps h history (Err f) = history_at_opening sps h history ≡ Err f
 
 -- the order counts of the history, or the fault
 abbrev pub counts_over : Result History Fault → Result OrderCountState Fault
@@ -49,9 +64,9 @@ CountsMissing sps numbers old new =
     (history : History) → old ≡ order_count_state (pasts history) → new ≡ order_count_state (pasts (with_all_missing sps numbers history))
 
 -- The next picture was counted, where it has order counts.
-abbrev pub CountsPicture : Sps → Header → (old : OrderCountState) → Result (ℤ × OrderCountState) Fault → Type 0
-CountsPicture sps h old counted =
-    (history : History) → old ≡ order_count_state (pasts history) → counted ≡ result_map (count_on sps h) (with_order_counts sps h history)
+abbrev pub CountsPicture : Sps → Header → (missing : List ℕ) → (old : OrderCountState) → Result Opening Fault → Type 0
+CountsPicture sps h missing old counted = (history : History) → old ≡ order_count_state (pasts history)
+    → counted ≡ result_map (opening_on sps h missing) (with_order_counts sps h history)
 
 -- ---- the frame buffer
 

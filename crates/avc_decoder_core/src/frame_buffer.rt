@@ -1,5 +1,6 @@
 ghost use Rattle.std.specs.Prelude.{◌≡◌, ◌≢◌, [], ◌∷◌, ◌++◌, ◌≤◌, false, true, if◌then◌else◌, is_some, length, map, Some};
 ghost use Rattle.std.specs.Prelude.{IfErr, IfOk, OnErr, OnOk};
+ghost use Rattle.std.specs.Result.{is_ok};
 ghost use Rattle.avc_types.specs.References.{result_map};
 ghost use Rattle.avc_decoder_core.specs.FrameBufferFields.{entry_of, frame_num_of, history_of, with_all_marks, OutputsPrior};
 ghost use Rattle.avc_decoder_core.specs.FrameBufferState.{empty_frame_buffer, BeginsSequence, CanFollow, IsEmptied, Refuses, Stores};
@@ -42,7 +43,7 @@ use std::marker::Model;
 pub struct FrameBuffer {
     alloc: Global,
 
-    dpb: Dpb<Frame<PADDING>>,
+    dpb: Dpb,
 
     // MaxLongTermFrameIdx; none where there may be no long-term frames
     max_long_term_frame_idx: Option<u32>,
@@ -113,7 +114,7 @@ fn prev_ref_frame_num_after(previous: u32, frame_num: u32, header: &Header) -> u
 }
 
 /// Each stored frame gets its new mark.
-fn set_marks(dpb: &mut Dpb<Frame<PADDING>>, marked: &[MarkedFrame])
+fn set_marks(dpb: &mut Dpb, marked: &[MarkedFrame])
     requires { length dpb.old.frames ≤ length marked.now }
     ensures { dpb.new ≡ with_all_marks dpb.old marked.now }
 {
@@ -185,7 +186,7 @@ fn no_output_of_prior_pics(header: &Header) -> bool
 /// What becomes of the held pictures of the sequence before this one is stored (C.4.4). Answers those that go out.
 fn output_prior_pictures(
     alloc: Global,
-    dpb: &mut Dpb<Frame<PADDING>>,
+    dpb: &mut Dpb,
     header: &Header,
 ) -> Result<Vec<Picture>, OutOfMemory>
     ensures ok { IfOk result (λ out. OutputsPrior (prior_pictures_of header.now) dpb.old out.items dpb.new) }
@@ -262,15 +263,18 @@ impl FrameBuffer {
     }
 
     /// Stores a frame that stands for a missing number (8.2.5.2), which can be marked. Answers the pictures that go out.
-    pub fn store_missing(&mut self, sps: &Sps, frame_num: u32) -> Result<Vec<Picture>, PictureError>
+    pub fn store_missing(&mut self, sps: &Sps, frame_num: u32) -> Result<Vec<Picture>, OutOfMemory>
         requires going { self.old.failed ≡ false }
         requires sps { IsSps sps.now }
         requires same { is_same_sps (sequence_sps self.old.history) sps.now ≡ true }
+        requires marked { is_ok (marks_of (missing_frame sps.now frame_num ∷ self.old.history)) ≡ true }
         ensures ok { IfOk result (λ out. Stores self.old (missing_frame sps.now frame_num) out.items self.new) }
-        ensures err { IfErr result (λ error. Refuses self.old (marks_of (missing_frame sps.now frame_num ∷ self.old.history)) error self.new) }
+        ensures err { OnErr result (self.new.failed ≡ true) }
     {
         let mut marked = marked_frames(self.dpb.frames());
-        sliding_window(&mut marked, new_frame(sps, frame_num, false))?;
+        let Ok(()) = sliding_window(&mut marked, new_frame(sps, frame_num, false)) else {
+            unreachable!()
+        };
         self.failed = true;
         set_marks(&mut self.dpb, marked.as_slice());
         let entry = HistoryEntry::MissingFrame {

@@ -8,6 +8,7 @@ pub mod laws;
 mod long_gaps;
 mod missing_frames;
 mod open_picture;
+mod opening;
 mod sequence;
 
 pub use avc_dpb::Output;

@@ -49,7 +49,7 @@ fn has_its_place(
         && u64::from(frame.frame_num) == (low + (place - first) as u64) % max
 }
 
-fn settles_at(dpb: &Dpb<Frame<PADDING>>, first: usize, low: u64, max: u64, place: usize) -> bool
+fn settles_at(dpb: &Dpb, first: usize, low: u64, max: u64, place: usize) -> bool
     requires max { 0 < max }
     requires small { low < 2 ^ 33 }
     requires few { place < 2 ^ 33 }
@@ -62,7 +62,7 @@ fn settles_at(dpb: &Dpb<Frame<PADDING>>, first: usize, low: u64, max: u64, place
 }
 
 /// The buffer's frames before `first` stay, and the others leave, with numbers from `low` on.
-pub fn all_settle(dpb: &Dpb<Frame<PADDING>>, first: usize, low: u64, max: u64) -> bool
+pub fn all_settle(dpb: &Dpb, first: usize, low: u64, max: u64) -> bool
     requires max { 0 < max }
     requires small { low < 2 ^ 33 }
     requires few { length dpb.now.frames ≤ 16 }

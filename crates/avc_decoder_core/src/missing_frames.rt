@@ -1,8 +1,7 @@
 //! The frames that stand for the missing numbers of a gap in frame_num (8.2.5.2).
 
-ghost use Rattle.std.specs.Prelude.{◌≡◌, ◌++◌, ◌≤◌, true, false, length, IfOk, IfErr, OnOk};
+ghost use Rattle.std.specs.Prelude.{◌≡◌, ◌++◌, ◌<◌, ◌≤◌, true, false, length, IfOk, OnOk};
 ghost use Rattle.std.specs.Result.{is_ok};
-ghost use Rattle.avc_types.specs.declared.picture_error.PictureError.TheVariants.{OutOfMemory as NoMemory};
 ghost use Rattle.avc_decoder_core.specs.Gaps.{IsLongGap};
 ghost use Rattle.avc_decoder_core.specs.History.{is_same_sps, sequence_sps, with_missing};
 ghost use Rattle.avc_decoder_core.specs.Opening.{StoresAll};
@@ -11,7 +10,7 @@ ghost use Rattle.avc_params.specs.Within.{IsSps};
 use crate::frame_buffer::FrameBuffer;
 use avc_marking::MissingFrameNums;
 use avc_params::Sps;
-use avc_types::{OutOfMemory, Picture, PictureError};
+use avc_types::{OutOfMemory, Picture};
 use std::alloc::Global;
 
 /// Of a long gap so many of the last numbers are stored: no sliding window has more frames.
@@ -31,13 +30,12 @@ fn store_each(
     buffer: &mut FrameBuffer,
     mut numbers: MissingFrameNums,
     sps: &Sps,
-) -> Result<Vec<Picture>, PictureError>
+) -> Result<Vec<Picture>, OutOfMemory>
     requires going { buffer.old.failed ≡ false }
     requires sps { IsSps sps.now }
     requires same { is_same_sps (sequence_sps buffer.old.history) sps.now ≡ true }
     requires marked { is_ok (with_missing sps.now numbers buffer.old.history) ≡ true }
-    ensures ok { IfOk result (λ out. StoresAll buffer.old (with_missing sps.now numbers buffer.old.history) out.items buffer.new) }
-    ensures err { IfErr result (λ error. error ≡ NoMemory) }
+    ensures { IfOk result (λ out. StoresAll buffer.old (with_missing sps.now numbers buffer.old.history) out.items buffer.new) }
 {
     let mut out = Vec::new(alloc);
     while let Some(frame_num) = numbers.next() {
@@ -66,15 +64,14 @@ fn store_last(
     buffer: &mut FrameBuffer,
     numbers: MissingFrameNums,
     sps: &Sps,
-) -> Result<Vec<Picture>, PictureError>
+) -> Result<Vec<Picture>, OutOfMemory>
     requires going { buffer.old.failed ≡ false }
     requires sps { IsSps sps.now }
     requires same { is_same_sps (sequence_sps buffer.old.history) sps.now ≡ true }
     requires marked { is_ok (with_missing sps.now numbers buffer.old.history) ≡ true }
     requires gap { IsLongGap buffer.old.output sps.now buffer.old.history numbers }
     requires long { 16 ≤ length numbers }
-    ensures ok { IfOk result (λ out. StoresAll buffer.old (with_missing sps.now numbers buffer.old.history) out.items buffer.new) }
-    ensures err { IfErr result (λ error. error ≡ NoMemory) }
+    ensures { IfOk result (λ out. StoresAll buffer.old (with_missing sps.now numbers buffer.old.history) out.items buffer.new) }
 {
     let history = buffer.history_with(sps, &numbers);
     let skipped = numbers.len() - STORED;
@@ -90,13 +87,12 @@ pub fn store_missing(
     buffer: &mut FrameBuffer,
     mut numbers: MissingFrameNums,
     sps: &Sps,
-) -> Result<Vec<Picture>, PictureError>
+) -> Result<Vec<Picture>, OutOfMemory>
     requires going { buffer.old.failed ≡ false }
     requires sps { IsSps sps.now }
-    requires same { is_same_sps (sequence_sps buffer.old.history) sps.now ≡ true }
+    requires same { 0 < length numbers → is_same_sps (sequence_sps buffer.old.history) sps.now ≡ true }
     requires marked { is_ok (with_missing sps.now numbers buffer.old.history) ≡ true }
-    ensures ok { IfOk result (λ out. StoresAll buffer.old (with_missing sps.now numbers buffer.old.history) out.items buffer.new) }
-    ensures err { IfErr result (λ error. error ≡ NoMemory) }
+    ensures { IfOk result (λ out. StoresAll buffer.old (with_missing sps.now numbers buffer.old.history) out.items buffer.new) }
 {
     let mut out = Vec::new(alloc);
     while let Some(frame_num) = numbers.next() {

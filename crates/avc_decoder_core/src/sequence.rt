@@ -1,21 +1,18 @@
-ghost use Rattle.std.specs.Prelude.{◌≡◌, ◌++◌, true, false, IfOk, IfErr, OnErr, OnOk, None, Some, is_some};
-ghost use Rattle.std.specs.Result.{is_ok};
-ghost use Rattle.avc_types.specs.References.{result_map};
-ghost use Rattle.avc_types.specs.declared.picture_error.PictureError.TheVariants.{OutOfMemory as NoMemory};
-ghost use Rattle.avc_decoder_core.specs.History.{history_after_closing, history_at_opening, is_same_sps, pasts, sequence_sps, with_missing};
-ghost use Rattle.avc_decoder_core.specs.Opening.{count_of, counts_over, missing_before, set_with, CountsMissing, CountsPicture, StoresAll};
+ghost use Rattle.std.specs.Prelude.{◌≡◌, true, false, IfOk, IfErr, OnErr, None, Some, is_some};
+ghost use Rattle.avc_decoder_core.specs.History.{history_after_closing, history_at_opening};
+ghost use Rattle.avc_decoder_core.specs.Opening.{set_with, Finds};
 ghost use Rattle.avc_decoder_core.specs.SequenceState.{empty_sequence, current_history, Fails, AreFramesIn};
 ghost use Rattle.avc_decoder_core.specs.SequenceState.{AreSizedAs, AreStoredIn, HoldsPictures, IsCleared, IsClosed};
 ghost use Rattle.avc_decoder_core.specs.SequenceState.{IsOpened, OpenPictureStart};
 ghost use Rattle.avc_params.specs.Within.{IsSps};
 ghost use Rattle.avc_plane.specs.Frames.{padded_planes_of};
-ghost use Rattle.avc_poc.specs.OrderCountState.{order_count_state};
 ghost use Rattle.avc_slice.specs.Header.{has_idr_marking, is_idr, is_reference};
 
 use crate::frame_buffer::{FrameBuffer, joined};
 use crate::history_entry::HistoryEntry;
 use crate::missing_frames::store_missing;
 use crate::open_picture::OpenPicture;
+use crate::opening::{Opening, after_missing, missing_frame_nums};
 use avc_dpb::Output;
 use avc_marking::MissingFrameNums;
 use avc_params::Sps;
@@ -61,95 +58,6 @@ impl Model for Sequence {
     ghost invariant = { IsSequenceState };
 }
 
-/// The missing frame numbers before a picture that is no IDR picture, or the first of ParameterSetChanged, FrameNumGap and
-/// FrameNumRepeated. `before` is the parameter set of the sequence.
-fn missing_frame_nums(
-    buffer: &FrameBuffer,
-    before: &Option<Sps>,
-    header: &Header,
-    sps: &Sps,
-) -> Result<MissingFrameNums, Fault>
-    requires going { buffer.now.failed ≡ false }
-    requires set { before.now ≡ sequence_sps buffer.now.history }
-    requires sps { IsSps sps.now }
-    ensures { result ≡ missing_before sps.now header.now buffer.now.history }
-{
-    match before {
-        Some(set) if set.is_same(sps) => buffer.missing_frame_nums(sps, header),
-        _ => Err(Fault::ParameterSetChanged),
-    }
-}
-
-/// These numbers are missing. As they go on modulo MaxFrameNum, this takes as long for many as for one.
-fn count_missing(poc: &mut Poc, mut numbers: MissingFrameNums, sps: &Sps)
-    requires { IsSps sps.now }
-    ensures { CountsMissing sps.now numbers poc.old poc.new }
-{
-    let max_frame_num = sps.max_frame_num();
-    if let Some(first) = numbers.first(max_frame_num) {
-        if first < max_frame_num {
-            poc.missing_from(first, numbers.len(), sps);
-            return;
-        }
-    }
-    while let Some(frame_num) = numbers.next() {
-        poc.missing(frame_num, sps);
-    }
-}
-
-/// The order counts after these missing numbers, or TooManyReferences where the first of them can't be marked; then all can.
-fn after_missing(
-    buffer: &FrameBuffer,
-    mut poc: Poc,
-    mut numbers: MissingFrameNums,
-    sps: &Sps,
-) -> Result<Poc, Fault>
-    requires going { buffer.now.failed ≡ false }
-    requires counts { poc ≡ order_count_state (pasts buffer.now.history) }
-    requires sps { IsSps sps.now }
-    ensures { result ≡ counts_over (with_missing sps.now numbers buffer.now.history) }
-{
-    let Some(first) = numbers.next() else {
-        return Ok(poc);
-    };
-    buffer.can_store_missing(sps, first)?;
-    poc.missing(first, sps);
-    count_missing(&mut poc, numbers, sps);
-    Ok(poc)
-}
-
-/// PicOrderCnt of the next picture, and the order counts after it.
-fn next_count(mut poc: Poc, header: &Header, sps: &Sps) -> Result<(i32, Poc), Fault>
-    requires { IsSps sps.now }
-    ensures { CountsPicture sps.now header.now poc result }
-{
-    let (top, bottom) = poc.next(header, sps)?;
-    Ok((top.min(bottom), poc))
-}
-
-/// Stores a frame for each missing number before a picture that can be opened. Answers the pictures that go out.
-fn store_all_missing(
-    alloc: Global,
-    buffer: &mut FrameBuffer,
-    before: &Option<Sps>,
-    header: &Header,
-    sps: &Sps,
-) -> Result<Vec<Picture>, PictureError>
-    requires going { buffer.old.failed ≡ false }
-    requires set { before.now ≡ sequence_sps buffer.old.history }
-    requires sps { IsSps sps.now }
-    requires opens { is_ok (history_at_opening sps.now header.now buffer.old.history) ≡ true }
-    ensures ok { IfOk result (λ out. StoresAll buffer.old (history_at_opening sps.now header.now buffer.old.history) out.items buffer.new) }
-    ensures err { IfErr result (λ error. error ≡ NoMemory) }
-{
-    if header.is_idr() {
-        return Ok(Vec::new(alloc));
-    }
-    let numbers = missing_frame_nums(buffer, before, header, sps)?;
-    let out = store_missing(alloc, buffer, numbers, sps)?;
-    Ok(out)
-}
-
 /// The parameter set of the sequence once this picture is closed: that of an IDR picture.
 fn set_after(before: Option<Sps>, picture: OpenPicture) -> Option<Sps>
     ensures { result ≡ set_with picture.sps picture.header before }
@@ -190,32 +98,33 @@ impl Sequence {
         if self.failed {
             return Err(PictureError::OutOfMemory);
         }
-        let (order, poc) = self.order_count(header, sps)?;
+        let opening = self.opening(header, sps)?;
         self.failed = true;
-        let out = store_all_missing(self.alloc, &mut self.buffer, &self.sps, header, sps)?;
-        self.poc = poc;
+        let out = store_missing(self.alloc, &mut self.buffer, opening.missing, sps)?;
+        self.poc = opening.poc;
         self.open_picture = Some(OpenPicture {
             sps: sps.copied(),
             header: header.copied(),
-            order,
+            order: opening.order,
         });
         self.failed = false;
         Ok(out)
     }
 
-    /// PicOrderCnt of a picture and the order counts after it, or the first fault of its opening.
-    fn order_count(&self, header: &Header, sps: &Sps) -> Result<(i32, Poc), Fault>
+    /// What opening a picture finds, or its first fault. Nothing changes.
+    fn opening(&self, header: &Header, sps: &Sps) -> Result<Opening, Fault>
         requires going { self.now.failed ≡ false }
         requires rest { self.now.open_picture ≡ None }
         requires sps { IsSps sps.now }
-        ensures { result ≡ result_map (count_of sps.now header.now) (history_at_opening sps.now header.now self.now.history) }
+        ensures { Finds sps.now header.now self.now.history result }
     {
         if header.is_idr() {
-            return next_count(Poc::new(), header, sps);
+            let none = MissingFrameNums::none(sps.max_frame_num());
+            return Opening::of_next(none, Poc::new(), header, sps);
         }
-        let numbers = missing_frame_nums(&self.buffer, &self.sps, header, sps)?;
-        let poc = after_missing(&self.buffer, self.poc.copied(), numbers, sps)?;
-        next_count(poc, header, sps)
+        let missing = missing_frame_nums(&self.buffer, &self.sps, header, sps)?;
+        let poc = after_missing(&self.buffer, self.poc.copied(), missing.copied(), sps)?;
+        Opening::of_next(missing, poc, header, sps)
     }
 
     /// Closes the open picture, whose samples are these: marks it, and lets pictures go out. Answers these. With an IDR picture the

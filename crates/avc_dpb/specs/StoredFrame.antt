@@ -1,5 +1,5 @@
--- Stored frames as pictures that go out.
-use Rattle.std.specs.Prelude.{ℕ, Option}
+-- Stored frames as pictures that go out, and as reference frames.
+use Rattle.std.specs.Prelude.{ℕ, Bool, Option, is_some}
 use Rattle.std.specs.Option.{option_map}
 use Rattle.avc_types.specs.declared.picture.Picture.{Picture}
 use Rattle.avc_plane.specs.declared.frame.Frame.{Frame}
@@ -14,3 +14,7 @@ shown_frame f = option_map (λ p. record {
   cb = (p.cb).samples;
   cr = (p.cr).samples;
 }) f.planes
+
+-- it is marked as used for reference (8.2.5)
+abbrev pub is_used_for_reference : {PAD : ℕ} → Frame PAD → Bool
+is_used_for_reference f = is_some f.mark

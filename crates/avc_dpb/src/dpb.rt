@@ -1,39 +1,38 @@
-ghost use Rattle.std.specs.Prelude.{◌≡◌, ◌≢◌, ◌+◌, ◌<◌, ◌≤◌, ℕ, List, [], ◌∷◌, ◌++◌, true, false, is_some};
-ghost use Rattle.std.specs.Prelude.{if◌then◌else◌, length, map, slice_get, slice_set, IfOk, OnErr, OnOk};
-ghost use Rattle.std.specs.Prelude.{IsErr, IfSome, Some};
-ghost use Rattle.std.specs.List.{filter, filter_map};
+ghost use Rattle.avc_plane.specs.declared.frame.Frame.{Frame as StoredFrame};
+ghost use Rattle.std.specs.Prelude.{◌≡◌, ◌+◌, ◌<◌, ◌≤◌, ℕ, [], true, false, length, IfOk, OnErr, OnOk, IsErr};
 ghost use Rattle.avc_dpb.specs.Bumping.{empty_buffer};
 ghost use Rattle.avc_dpb.specs.Contents.{IsBuffer, OutputsAll, OutputsSome, Stores, is_held_at, with_mark};
-ghost use Rattle.avc_dpb.specs.Steps.{IsPlaced, IsReordered};
-ghost use Rattle.avc_dpb.specs.Places.{is_needed, needed_items, items_at, with_references};
+ghost use Rattle.avc_dpb.specs.Steps.{PlacesFrame};
 
 use crate::arriving_frame::ArrivingFrame;
-use crate::buffered_frame::BufferedFrame;
-use crate::bumping::{hold_few, holds_too_many, is_full, make_room, output_all, replace};
+use crate::bumping::{bump_while, remove_needless};
 use crate::emptied_frames::EmptiedFrames;
 use crate::output::Output;
 use crate::slot::Slot;
+use crate::stored_frame::push_picture;
+use crate::waiting::{Bumping, is_full};
 use arrayvec::ArrayVec;
-use avc_types::{Mark, OutOfMemory};
+use avc_plane::{Frame, PADDING};
+use avc_types::{Mark, OutOfMemory, Picture};
 use std::alloc::Global;
 use std::marker::Model;
 
 /// The decoded picture buffer (C.4): at most 16 frames, in decoding order. After want of memory it answers so from then on.
 #[derive(Drop)]
-pub struct Dpb<T> {
+pub struct Dpb {
     alloc: Global,
     slots: ArrayVec<Slot, 16>,
-    frames: Vec<T>,
+    frames: Vec<Frame<PADDING>>,
     output: Output,
     failed: bool,
     // those that have left it
-    emptied: EmptiedFrames<T>,
+    emptied: EmptiedFrames,
 }
 
-impl<T> Model for Dpb<T> {
+impl Model for Dpb {
     ghost use Rattle.avc_dpb.specs.Contents.{Contents};
 
-    ghost Value = { Contents T };
+    ghost Value = { Contents };
 
     ghost use Rattle.std.specs.Prelude.{◌≡◌, false, length};
 
@@ -42,11 +41,11 @@ impl<T> Model for Dpb<T> {
     ghost invariant = { λ d. d.failed ≡ false → length d.frames.items ≡ length d.slots.items };
 }
 
-impl<T: BufferedFrame + Drop> Dpb<T> {
+impl Dpb {
     /// With no frame.
-    pub fn new(alloc: Global, output: Output) -> Dpb<T>
+    pub fn new(alloc: Global, output: Output) -> Dpb
         ensures value { result ≡ record { slots = []; frames = []; output = output; failed = false } }
-        ensures buffer { (frame_of : ℕ → T) → IsBuffer result empty_buffer 0 frame_of }
+        ensures buffer { (frame_of : ℕ → StoredFrame 32) → IsBuffer result empty_buffer 0 frame_of }
     {
         Dpb {
             alloc,
@@ -59,7 +58,7 @@ impl<T: BufferedFrame + Drop> Dpb<T> {
     }
 
     /// The stored frames, in decoding order.
-    pub fn frames(&self) -> &[T]
+    pub fn frames(&self) -> &[Frame<PADDING>]
         ensures { result.now ≡ self.now.frames }
     {
         self.frames.as_slice()
@@ -78,9 +77,9 @@ impl<T: BufferedFrame + Drop> Dpb<T> {
     /// Changes the mark of the stored frame at this place; with None it is unused for reference.
     pub fn mark(&mut self, place: usize, mark: Option<Mark>)
         requires { place < length self.old.frames }
-        ensures { self.new ≡ with_mark T.marked self.old place mark }
+        ensures { self.new ≡ with_mark self.old place mark }
     {
-        self.frames[place].set_mark(mark);
+        self.frames[place].mark = mark;
     }
 
     /// Makes room for a frame and stores it, or hands its picture out where there is no room (C.4.5.1, C.4.5.2, C.4.2), and then
@@ -88,11 +87,11 @@ impl<T: BufferedFrame + Drop> Dpb<T> {
     /// the pictures that go out, in order.
     pub fn store(
         &mut self,
-        frame: T,
+        frame: Frame<PADDING>,
         arriving: &ArrivingFrame,
-    ) -> Result<Vec<T::Picture>, OutOfMemory>
+    ) -> Result<Vec<Picture>, OutOfMemory>
         requires capacity { arriving.now.capacity ≤ 16 }
-        ensures ok { IfOk result (λ out. Stores T.shown T.referenced self.old frame arriving.now out.items self.new) }
+        ensures ok { IfOk result (λ out. Stores self.old frame arriving.now out.items self.new) }
         ensures err { OnErr result (self.new.failed ≡ true) }
         ensures failed { self.old.failed ≡ true → IsErr result }
         ensures kept { self.new.output ≡ self.old.output }
@@ -101,41 +100,58 @@ impl<T: BufferedFrame + Drop> Dpb<T> {
             return Err(OutOfMemory);
         }
         self.failed = true;
-        let mut out = place(
+        let mut out = Vec::new(self.alloc);
+        remove_needless(&mut self.slots, &mut self.frames, &mut self.emptied);
+        bump_while(
+            self.alloc,
+            &mut self.slots,
+            &mut self.frames,
+            &mut self.emptied,
+            Bumping::ForRoom(*arriving),
+            &mut out,
+        )?;
+        place(
             self.alloc,
             &mut self.slots,
             &mut self.frames,
             &mut self.emptied,
             frame,
             arriving,
+            &mut out,
         )?;
-        let mut early = output_early(
+        bump_while(
             self.alloc,
             &mut self.slots,
             &mut self.frames,
             &mut self.emptied,
-            self.output,
-            arriving,
+            Bumping::ForFew(self.output, *arriving),
+            &mut out,
         )?;
-        out.append(&mut early)?;
         self.failed = false;
         Ok(out)
     }
 
     /// Hands out all held pictures, by bumping, and is then empty (C.4.4). Where none is held no memory is wanted.
-    pub fn empty(&mut self) -> Result<Vec<T::Picture>, OutOfMemory>
-        ensures ok { IfOk result (λ out. OutputsAll T.shown self.old out.items self.new) }
+    pub fn empty(&mut self) -> Result<Vec<Picture>, OutOfMemory>
+        ensures ok { IfOk result (λ out. OutputsAll self.old out.items self.new) }
         ensures err { OnErr result (self.new.failed ≡ true) }
         ensures failed { self.old.failed ≡ true → IsErr result }
-        ensures memory { self.old.failed ≡ false → OnErr result (OutputsSome T.shown self.old) }
+        ensures memory { self.old.failed ≡ false → OnErr result (OutputsSome self.old) }
         ensures kept { self.new.output ≡ self.old.output }
     {
         if self.failed {
             return Err(OutOfMemory);
         }
         self.failed = true;
-        let places = output_all(&mut self.slots);
-        let out = pictures(self.alloc, self.frames.as_slice(), places.as_slice())?;
+        let mut out = Vec::new(self.alloc);
+        bump_while(
+            self.alloc,
+            &mut self.slots,
+            &mut self.frames,
+            &mut self.emptied,
+            Bumping::ForNone,
+            &mut out,
+        )?;
         self.drop_all();
         self.failed = false;
         Ok(out)
@@ -151,7 +167,7 @@ impl<T: BufferedFrame + Drop> Dpb<T> {
 
     /// Takes a frame that has left the buffer, if there is one, so that its memory is used again. At most 17 wait to be taken; what else
     /// leaves is dropped, and so is what stands for a missing frame number. Contracts say nothing of which these are.
-    pub fn emptied_frame(&mut self) -> Option<T>
+    pub fn emptied_frame(&mut self) -> Option<Frame<PADDING>>
         ensures { self.new ≡ self.old }
     {
         self.emptied.take()
@@ -159,7 +175,7 @@ impl<T: BufferedFrame + Drop> Dpb<T> {
 }
 
 // All frames leave.
-fn empty_all<T: BufferedFrame + Drop>(frames: &mut Vec<T>, emptied: &mut EmptiedFrames<T>)
+fn empty_all(frames: &mut Vec<Frame<PADDING>>, emptied: &mut EmptiedFrames)
     ensures { frames.new.items ≡ [] }
 {
     while let Some(frame) = frames.pop() {
@@ -167,160 +183,33 @@ fn empty_all<T: BufferedFrame + Drop>(frames: &mut Vec<T>, emptied: &mut Emptied
     }
 }
 
-// Makes room for a frame and stores it, or its picture goes out where there is no room. Answers the pictures that go out, in order.
-fn place<T: BufferedFrame + Drop>(
+// The arriving frame is stored, or where there is no room its picture goes out at once; a non-existing frame never does.
+fn place(
     alloc: Global,
     slots: &mut ArrayVec<Slot, 16>,
-    frames: &mut Vec<T>,
-    emptied: &mut EmptiedFrames<T>,
-    frame: T,
+    frames: &mut Vec<Frame<PADDING>>,
+    emptied: &mut EmptiedFrames,
+    frame: Frame<PADDING>,
     arriving: &ArrivingFrame,
-) -> Result<Vec<T::Picture>, OutOfMemory>
+    out: &mut Vec<Picture>,
+) -> Result<(), OutOfMemory>
     requires beside { length frames.old.items ≡ length slots.old.items }
     requires capacity { arriving.now.capacity ≤ 16 }
-    ensures ok { IfOk result
-        (λ out. IsPlaced T.shown T.referenced slots.old.items frames.old.items frame arriving.now out.items slots.new.items frames.new.items) }
+    ensures ok { OnOk result
+        (PlacesFrame slots.old.items frames.old.items out.old.items frame arriving.now slots.new.items frames.new.items out.new.items) }
     ensures beside { OnOk result (length frames.new.items ≡ length slots.new.items) }
 {
-    set_references(slots, frames.as_slice());
-    let places = make_room(slots, arriving);
-    let mut out = pictures(alloc, frames.as_slice(), places.as_slice())?;
-    let full = is_full(slots.as_slice(), arriving.capacity);
-    remove_needless(slots, frames, emptied);
-    if full {
-        at_once(alloc, &frame, arriving.existing, &mut out)?;
+    if is_full(slots.as_slice(), arriving.capacity) {
+        if arriving.existing {
+            push_picture(alloc, &frame, out)?;
+        }
         emptied.put(frame);
-        return Ok(out);
+        return Ok(());
     }
     frames.push(frame)?;
     slots.push(Slot {
         order: arriving.order,
         held: arriving.existing,
-        reference: false,
     });
-    Ok(out)
-}
-
-// Pictures go out as long as more are held than may stay so (E.2.1), and frames that are then needless leave. Answers the pictures, in
-// order.
-fn output_early<T: BufferedFrame + Drop>(
-    alloc: Global,
-    slots: &mut ArrayVec<Slot, 16>,
-    frames: &mut Vec<T>,
-    emptied: &mut EmptiedFrames<T>,
-    output: Output,
-    arriving: &ArrivingFrame,
-) -> Result<Vec<T::Picture>, OutOfMemory>
-    requires beside { length frames.old.items ≡ length slots.old.items }
-    ensures ok { IfOk result
-        (λ out. IsReordered T.shown T.referenced output arriving.now slots.old.items frames.old.items out.items slots.new.items frames.new.items) }
-    ensures beside { OnOk result (length frames.new.items ≡ length slots.new.items) }
-{
-    if !holds_too_many(slots.as_slice(), output, arriving) {
-        return Ok(Vec::new(alloc));
-    }
-    set_references(slots, frames.as_slice());
-    let places = hold_few(slots, output, arriving);
-    let out = pictures(alloc, frames.as_slice(), places.as_slice())?;
-    remove_needless(slots, frames, emptied);
-    Ok(out)
-}
-
-// A picture for which there is no room goes out; a non-existing frame never does.
-fn at_once<T: BufferedFrame>(
-    alloc: Global,
-    frame: &T,
-    existing: bool,
-    out: &mut Vec<T::Picture>,
-) -> Result<(), OutOfMemory>
-    ensures { OnOk result (out.new.items ≡ out.old.items ++ (if existing then filter_map T.shown (frame.now ∷ []) else [])) }
-{
-    if existing {
-        push_picture(alloc, frame, out)?;
-        return Ok(());
-    }
     Ok(())
-}
-
-// The pictures of the frames at these places, in order.
-fn pictures<T: BufferedFrame>(
-    alloc: Global,
-    frames: &[T],
-    places: &[usize],
-) -> Result<Vec<T::Picture>, OutOfMemory>
-    ensures pictures { IfOk result (λ out. out.items ≡ filter_map T.shown (items_at places.now frames.now)) }
-    ensures memory { OnErr result (filter_map T.shown (items_at places.now frames.now) ≢ []) }
-{
-    let mut out = Vec::new(alloc);
-    for place in places {
-        push_picture_at(alloc, frames, *place, &mut out)?;
-    }
-    Ok(out)
-}
-
-fn push_picture_at<T: BufferedFrame>(
-    alloc: Global,
-    frames: &[T],
-    place: usize,
-    out: &mut Vec<T::Picture>,
-) -> Result<(), OutOfMemory>
-    ensures pictures { OnOk result (out.new.items ≡ out.old.items ++ filter_map T.shown (items_at (place ∷ []) frames.now)) }
-    ensures memory { OnErr result (filter_map T.shown (items_at (place ∷ []) frames.now) ≢ []) }
-{
-    match frames.get(place) {
-        Some(frame) => {
-            push_picture(alloc, frame, out)?;
-            Ok(())
-        }
-        None => Ok(()),
-    }
-}
-
-// The picture of a frame that has one.
-fn push_picture<T: BufferedFrame>(
-    alloc: Global,
-    frame: &T,
-    out: &mut Vec<T::Picture>,
-) -> Result<(), OutOfMemory>
-    ensures pictures { OnOk result (out.new.items ≡ out.old.items ++ filter_map T.shown (frame.now ∷ [])) }
-    ensures memory { OnErr result (filter_map T.shown (frame.now ∷ []) ≢ []) }
-{
-    match frame.show(alloc)? {
-        Some(picture) => {
-            out.push(picture)?;
-            Ok(())
-        }
-        None => Ok(()),
-    }
-}
-
-// Each slot learns whether its frame is used for reference.
-fn set_references<T: BufferedFrame>(slots: &mut ArrayVec<Slot, 16>, frames: &[T])
-    requires { length frames.now ≡ length slots.old.items }
-    ensures with_references { slots.new.items ≡ with_references T.referenced slots.old.items frames.now }
-    ensures long { length slots.new.items ≡ length slots.old.items }
-{
-    for place in 0..slots.len() {
-        let slot = slots[place];
-        let reference = frames[place].is_reference();
-        replace(slots, place, Slot { reference, ..slot });
-    }
-}
-
-// Frames that are needed neither for output nor for reference leave.
-fn remove_needless<T: BufferedFrame + Drop>(
-    slots: &mut ArrayVec<Slot, 16>,
-    frames: &mut Vec<T>,
-    emptied: &mut EmptiedFrames<T>,
-)
-    requires { length frames.old.items ≡ length slots.old.items }
-    ensures slots { slots.new.items ≡ filter is_needed slots.old.items }
-    ensures frames { frames.new.items ≡ needed_items slots.old.items frames.old.items }
-{
-    for place in (0..slots.len()).rev() {
-        if !slots[place].is_needed() {
-            slots.remove(place);
-            emptied.put(frames.remove(place));
-        }
-    }
 }

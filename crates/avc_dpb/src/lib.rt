@@ -2,7 +2,6 @@
 #![tactic(auto)]
 
 mod arriving_frame;
-mod buffered_frame;
 mod bumping;
 mod dpb;
 mod emptied_frames;
@@ -10,9 +9,9 @@ pub mod laws;
 mod output;
 mod slot;
 mod stored_frame;
+mod waiting;
 
 pub use arriving_frame::ArrivingFrame;
-pub use buffered_frame::BufferedFrame;
 pub use dpb::Dpb;
 pub use output::Output;
 

@@ -1,6 +1,3 @@
-ghost use Rattle.std.specs.Prelude.{◌≡◌};
-ghost use Rattle.avc_dpb.specs.Places.{is_needed};
-
 /// What output keeps of a stored frame.
 #[derive(Clone, Copy, Default)]
 pub struct Slot {
@@ -9,16 +6,4 @@ pub struct Slot {
 
     /// Needed for output.
     pub held: bool,
-
-    /// Marked as used for reference when the last frame came.
-    pub reference: bool,
-}
-
-impl Slot {
-    // A frame that is needed for output or for reference stays in the buffer.
-    pub fn is_needed(&self) -> bool
-        ensures { result ≡ is_needed self.now }
-    {
-        self.held || self.reference
-    }
 }

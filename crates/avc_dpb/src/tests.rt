@@ -1,43 +1,10 @@
-ghost use Rattle.std.specs.Prelude.{◌≡◌, Some, is_some};
+ghost use Rattle.std.specs.Prelude.{◌≡◌};
 
-use crate::{ArrivingFrame, BufferedFrame, Dpb, Output};
-use avc_plane::{Frame, Planes};
-use avc_types::{Crop, Mark, OutOfMemory};
+use crate::{ArrivingFrame, Dpb, Output};
+use avc_plane::{Frame, PADDING, Planes};
+use avc_types::{Crop, Mark, OutOfMemory, Picture};
 use std::alloc::{AllocError, Global};
 use std::test::Fail;
-
-// A frame that goes out as its number.
-#[derive(Drop)]
-struct Numbered {
-    number: u32,
-    mark: Option<Mark>,
-}
-
-impl BufferedFrame for Numbered {
-    type Picture = u32;
-
-    ghost shown = { λ f. Some f.number };
-
-    ghost referenced = { λ f. is_some f.mark };
-
-    ghost marked = { λ f mark. record f { mark = mark } };
-
-    fn show(&self, _alloc: Global) -> Result<Option<u32>, OutOfMemory> {
-        Ok(Some(self.number))
-    }
-
-    fn is_existing(&self) -> bool {
-        true
-    }
-
-    fn is_reference(&self) -> bool {
-        self.mark.is_some()
-    }
-
-    fn set_mark(&mut self, mark: Option<Mark>) {
-        self.mark = mark;
-    }
-}
 
 fn reference(order: i32, capacity: usize) -> ArrivingFrame
     ensures { result.capacity ≡ capacity }
@@ -75,8 +42,29 @@ fn missing(capacity: usize) -> ArrivingFrame
     }
 }
 
-fn frame(number: u32, mark: Option<Mark>) -> Numbered {
-    Numbered { number, mark }
+// A frame of one macroblock, which goes out as its number.
+fn frame(alloc: Global, number: u32, mark: Option<Mark>) -> Result<Frame<PADDING>, OutOfMemory> {
+    Ok(Frame {
+        planes: Some(Planes::new(alloc, 1, 1)?.pad()),
+        frame_num: 0,
+        mark,
+        width: number,
+        height: 16,
+        crop: Crop {
+            left: 0,
+            right: 2,
+            top: 0,
+            bottom: 4,
+        },
+    })
+}
+
+fn numbers(alloc: Global, pictures: &[Picture]) -> Result<Vec<u32>, AllocError> {
+    let mut numbers = Vec::new(alloc);
+    for picture in pictures {
+        numbers.push(picture.width)?;
+    }
+    Ok(numbers)
 }
 
 // Room for two frames, none of which is a reference: order counts 0, 4, 2, 2.
@@ -84,18 +72,27 @@ fn frame(number: u32, mark: Option<Mark>) -> Numbered {
 fn by_order_count(rt: HostRuntime) -> Result<(), Fail> {
     let mut dpb = Dpb::new(rt.alloc(), Output::Full);
     for (number, order) in [(0, 0), (1, 4)] {
-        let out = dpb.store(frame(number, None), &other(order, 2))?;
-        assert_eq!(rt; out.as_slice(), [].as_slice());
+        let out = dpb.store(frame(rt.alloc(), number, None)?, &other(order, 2))?;
+        assert_eq!(rt;
+            numbers(rt.alloc(), out.as_slice())?.as_slice(),
+            [].as_slice()
+        );
     }
+    let out = dpb.store(frame(rt.alloc(), 2, None)?, &other(2, 2))?;
     assert_eq!(rt;
-        dpb.store(frame(2, None), &other(2, 2))?.as_slice(),
+        numbers(rt.alloc(), out.as_slice())?.as_slice(),
         [0].as_slice()
     );
+    let out = dpb.store(frame(rt.alloc(), 3, None)?, &other(2, 2))?;
     assert_eq!(rt;
-        dpb.store(frame(3, None), &other(2, 2))?.as_slice(),
+        numbers(rt.alloc(), out.as_slice())?.as_slice(),
         [2].as_slice()
     );
-    assert_eq!(rt; dpb.empty()?.as_slice(), [3, 1].as_slice());
+    let out = dpb.empty()?;
+    assert_eq!(rt;
+        numbers(rt.alloc(), out.as_slice())?.as_slice(),
+        [3, 1].as_slice()
+    );
     assert_eq!(rt; dpb.frames().len(), 0);
     Ok(())
 }
@@ -104,14 +101,23 @@ fn by_order_count(rt: HostRuntime) -> Result<(), Fail> {
 #[test]
 fn references_stay(rt: HostRuntime) -> Result<(), Fail> {
     let mut dpb = Dpb::new(rt.alloc(), Output::Full);
-    let out = dpb.store(frame(0, Some(Mark::Short)), &reference(0, 1))?;
-    assert_eq!(rt; out.as_slice(), [].as_slice());
-    let out = dpb.store(frame(1, None), &other(2, 1))?;
-    assert_eq!(rt; out.as_slice(), [0, 1].as_slice());
+    let out = dpb.store(frame(rt.alloc(), 0, Some(Mark::Short))?, &reference(0, 1))?;
+    assert_eq!(rt;
+        numbers(rt.alloc(), out.as_slice())?.as_slice(),
+        [].as_slice()
+    );
+    let out = dpb.store(frame(rt.alloc(), 1, None)?, &other(2, 1))?;
+    assert_eq!(rt;
+        numbers(rt.alloc(), out.as_slice())?.as_slice(),
+        [0, 1].as_slice()
+    );
     assert_eq!(rt; dpb.frames().len(), 1);
     dpb.mark(0, None);
-    let out = dpb.store(frame(2, None), &other(4, 1))?;
-    assert_eq!(rt; out.as_slice(), [].as_slice());
+    let out = dpb.store(frame(rt.alloc(), 2, None)?, &other(4, 1))?;
+    assert_eq!(rt;
+        numbers(rt.alloc(), out.as_slice())?.as_slice(),
+        [].as_slice()
+    );
     assert_eq!(rt; dpb.frames().len(), 1);
     Ok(())
 }
@@ -120,18 +126,29 @@ fn references_stay(rt: HostRuntime) -> Result<(), Fail> {
 #[test]
 fn never_goes_out(rt: HostRuntime) -> Result<(), Fail> {
     let mut dpb = Dpb::new(rt.alloc(), Output::Full);
-    dpb.store(frame(0, None), &reference(0, 1))?;
-    let out = dpb.store(frame(1, Some(Mark::Short)), &missing(1))?;
-    assert_eq!(rt; out.as_slice(), [0].as_slice());
-    assert_eq!(rt; dpb.empty()?.as_slice(), [].as_slice());
-    dpb.store(frame(2, None), &reference(0, 1))?;
+    dpb.store(frame(rt.alloc(), 0, None)?, &reference(0, 1))?;
+    let out = dpb.store(frame(rt.alloc(), 1, Some(Mark::Short))?, &missing(1))?;
+    assert_eq!(rt;
+        numbers(rt.alloc(), out.as_slice())?.as_slice(),
+        [0].as_slice()
+    );
+    let out = dpb.empty()?;
+    assert_eq!(rt;
+        numbers(rt.alloc(), out.as_slice())?.as_slice(),
+        [].as_slice()
+    );
+    dpb.store(frame(rt.alloc(), 2, None)?, &reference(0, 1))?;
     dpb.drop_all();
-    assert_eq!(rt; dpb.empty()?.as_slice(), [].as_slice());
+    let out = dpb.empty()?;
+    assert_eq!(rt;
+        numbers(rt.alloc(), out.as_slice())?.as_slice(),
+        [].as_slice()
+    );
     Ok(())
 }
 
-fn number_of(frame: Option<Numbered>) -> Option<u32> {
-    Some(frame?.number)
+fn number_of(frame: Option<Frame<PADDING>>) -> Option<u32> {
+    Some(frame?.width)
 }
 
 // Frames that have left are handed out once each: one that goes out for another, and all where the buffer is emptied.
@@ -140,7 +157,7 @@ fn hands_out_emptied_frames(rt: HostRuntime) -> Result<(), Fail> {
     let mut dpb = Dpb::new(rt.alloc(), Output::Full);
     assert_eq!(rt; number_of(dpb.emptied_frame()), None);
     for (number, order) in [(0, 0), (1, 4), (2, 2)] {
-        dpb.store(frame(number, None), &other(order, 2))?;
+        dpb.store(frame(rt.alloc(), number, None)?, &other(order, 2))?;
     }
     assert_eq!(rt; number_of(dpb.emptied_frame()), Some(0));
     assert_eq!(rt; number_of(dpb.emptied_frame()), None);
@@ -148,7 +165,7 @@ fn hands_out_emptied_frames(rt: HostRuntime) -> Result<(), Fail> {
     assert_eq!(rt; number_of(dpb.emptied_frame()), Some(1));
     assert_eq!(rt; number_of(dpb.emptied_frame()), Some(2));
     assert_eq!(rt; number_of(dpb.emptied_frame()), None);
-    dpb.store(frame(3, None), &reference(0, 1))?;
+    dpb.store(frame(rt.alloc(), 3, None)?, &reference(0, 1))?;
     dpb.empty()?;
     assert_eq!(rt; number_of(dpb.emptied_frame()), Some(3));
     Ok(())
@@ -169,10 +186,20 @@ fn one_of_four(order: i32) -> ArrivingFrame
 fn only_where_room_is_needed(rt: HostRuntime) -> Result<(), Fail> {
     let mut dpb = Dpb::new(rt.alloc(), Output::Full);
     for (number, order) in [(0, 0), (1, 4), (2, 2)] {
-        let out = dpb.store(frame(number, Some(Mark::Short)), &one_of_four(order))?;
-        assert_eq!(rt; out.as_slice(), [].as_slice());
+        let out = dpb.store(
+            frame(rt.alloc(), number, Some(Mark::Short))?,
+            &one_of_four(order),
+        )?;
+        assert_eq!(rt;
+            numbers(rt.alloc(), out.as_slice())?.as_slice(),
+            [].as_slice()
+        );
     }
-    assert_eq!(rt; dpb.empty()?.as_slice(), [0, 2, 1].as_slice());
+    let out = dpb.empty()?;
+    assert_eq!(rt;
+        numbers(rt.alloc(), out.as_slice())?.as_slice(),
+        [0, 2, 1].as_slice()
+    );
     Ok(())
 }
 
@@ -180,14 +207,27 @@ fn only_where_room_is_needed(rt: HostRuntime) -> Result<(), Fail> {
 #[test]
 fn no_more_than_may_stay_held(rt: HostRuntime) -> Result<(), Fail> {
     let mut dpb = Dpb::new(rt.alloc(), Output::Early);
-    let out = dpb.store(frame(0, Some(Mark::Short)), &one_of_four(0))?;
-    assert_eq!(rt; out.as_slice(), [].as_slice());
-    let out = dpb.store(frame(1, Some(Mark::Short)), &one_of_four(4))?;
-    assert_eq!(rt; out.as_slice(), [0].as_slice());
-    let out = dpb.store(frame(2, Some(Mark::Short)), &one_of_four(2))?;
-    assert_eq!(rt; out.as_slice(), [2].as_slice());
+    let out = dpb.store(frame(rt.alloc(), 0, Some(Mark::Short))?, &one_of_four(0))?;
+    assert_eq!(rt;
+        numbers(rt.alloc(), out.as_slice())?.as_slice(),
+        [].as_slice()
+    );
+    let out = dpb.store(frame(rt.alloc(), 1, Some(Mark::Short))?, &one_of_four(4))?;
+    assert_eq!(rt;
+        numbers(rt.alloc(), out.as_slice())?.as_slice(),
+        [0].as_slice()
+    );
+    let out = dpb.store(frame(rt.alloc(), 2, Some(Mark::Short))?, &one_of_four(2))?;
+    assert_eq!(rt;
+        numbers(rt.alloc(), out.as_slice())?.as_slice(),
+        [2].as_slice()
+    );
     assert_eq!(rt; dpb.frames().len(), 3);
-    assert_eq!(rt; dpb.empty()?.as_slice(), [1].as_slice());
+    let out = dpb.empty()?;
+    assert_eq!(rt;
+        numbers(rt.alloc(), out.as_slice())?.as_slice(),
+        [1].as_slice()
+    );
     Ok(())
 }
 
@@ -196,37 +236,35 @@ fn no_more_than_may_stay_held(rt: HostRuntime) -> Result<(), Fail> {
 fn no_limit(rt: HostRuntime) -> Result<(), Fail> {
     let mut dpb = Dpb::new(rt.alloc(), Output::Early);
     for (number, order) in [(0, 0), (1, 4)] {
-        let out = dpb.store(frame(number, Some(Mark::Short)), &reference(order, 4))?;
-        assert_eq!(rt; out.as_slice(), [].as_slice());
+        let out = dpb.store(
+            frame(rt.alloc(), number, Some(Mark::Short))?,
+            &reference(order, 4),
+        )?;
+        assert_eq!(rt;
+            numbers(rt.alloc(), out.as_slice())?.as_slice(),
+            [].as_slice()
+        );
     }
     Ok(())
 }
 
-// A stored frame shows its samples with its size; one that stands for a missing frame number shows nothing.
+// A picture goes out with the samples and the size of its frame; a frame that stands for a missing frame number has none.
 #[test]
 fn shows_its_picture(rt: HostRuntime) -> Result<(), Fail> {
-    let mut frame: Frame<4> = Frame {
-        planes: Some(Planes::new(rt.alloc(), 1, 1)?.pad()),
-        frame_num: 0,
-        mark: None,
-        width: 16,
-        height: 16,
-        crop: Crop {
-            left: 0,
-            right: 2,
-            top: 0,
-            bottom: 4,
-        },
+    let mut dpb = Dpb::new(rt.alloc(), Output::Full);
+    dpb.store(frame(rt.alloc(), 16, None)?, &other(0, 2))?;
+    let none = Frame {
+        planes: None,
+        ..frame(rt.alloc(), 16, None)?
     };
-    if let Some(picture) = frame.show(rt.alloc())? {
+    dpb.store(none, &other(2, 2))?;
+    let out = dpb.empty()?;
+    assert_eq!(rt; out.len(), 1);
+    for picture in out.as_slice() {
         assert_eq!(rt; picture.width, 16);
         assert_eq!(rt; picture.crop.bottom, 4);
         assert_eq!(rt; picture.luma.as_slice().len(), 256);
         assert_eq!(rt; picture.cr.as_slice().len(), 64);
     }
-    frame.set_mark(Some(Mark::Short));
-    assert!(rt; frame.is_reference());
-    frame.planes = None;
-    assert!(rt; frame.show(rt.alloc())?.is_none());
     Ok(())
 }

@@ -8,6 +8,7 @@ use Rattle.std.proofs.lemmas.List.Elements.{filter-append}
 use Rattle.std.proofs.Math.Nat.{mod-lt, div-add-mod, add-mod_right}
 use Rattle.std.proofs.lemmas.Nat.{mod-mul-add}
 use Rattle.std.proofs.lemmas.Int.{ints}
+use Rattle.std.proofs.lemmas.Bool.{eq-eqb, ne_eqb}
 use Rattle.avc_types.specs.Arithmetic.{◌==ℤ◌ as same_number}
 use Rattle.avc_types.specs.declared.current_frame_num.CurrentFrameNum.{CurrentFrameNum}
 use Rattle.avc_types.specs.declared.fault.Fault.{Fault}
@@ -163,25 +164,16 @@ all_short max low next (r ∷ rs) h =
     ap (λ m. cond (elim m as (λ _. Bool) [ Short ↦ true | Long index ↦ false ]) (r ∷ filter is_short rs) (filter is_short rs)) ((h.1).1).short
     ∙ ap (λ l. r ∷ l) (all_short max (h.0 + 1) next rs (h.1).2)
 
-other : (n m : ℕ) → n < m → (n == m) ≡ false
-other n m low = grind (arith, nat_tests, low)
-
-other_above : (n m : ℕ) → m < n → (n == m) ≡ false
-other_above n m low = grind (arith, nat_tests, low)
-
-itself : (n : ℕ) → (n == n) ≡ true
-itself n = grind (arith, nat_tests)
-
 kept_below : (r : Reference) (place : ℕ) (rs : List Reference) → place ≤ r.entry → StandBelow place rs → without_frame r rs ≡ rs
 kept_below r place [] low h = refl
 kept_below r place (s ∷ rs) low h =
-    ap (λ b. cond (not b) (s ∷ without_frame r rs) (without_frame r rs)) (other s.entry r.entry (omega (arith, low, h.0)))
+    ap (λ b. cond (not b) (s ∷ without_frame r rs) (without_frame r rs)) (ne_eqb s.entry r.entry (λ e. omega (arith, e, low, h.0)))
     ∙ ap (λ l. s ∷ l) (kept_below r place rs low h.1)
 
 kept_above : (r : Reference) (low next : ℕ) (rs : List Reference) → r.entry < low → StandFrom low next rs → without_frame r rs ≡ rs
 kept_above r low next [] before h = refl
 kept_above r low next (s ∷ rs) before h =
-    ap (λ b. cond (not b) (s ∷ without_frame r rs) (without_frame r rs)) (other_above s.entry r.entry (omega (arith, before, h.0)))
+    ap (λ b. cond (not b) (s ∷ without_frame r rs) (without_frame r rs)) (ne_eqb s.entry r.entry (λ e. omega (arith, e, before, h.0)))
     ∙ ap (λ l. s ∷ l) (kept_above r (s.entry + 1) next rs (omega (arith, before, h.0)) h.1)
 
 without_first : (longs shorts : List Reference) (first : Reference) (place next : ℕ) → StandBelow place longs → StandFrom place next (first ∷ shorts) →
@@ -189,7 +181,7 @@ without_first : (longs shorts : List Reference) (first : Reference) (place next 
 without_first longs shorts first place next below places =
     filter-append (λ s. not (s.entry == first.entry)) longs (first ∷ shorts)
     ∙ ap₂ (λ l r. l ++ r) (kept_below first place longs places.0 below)
-    (ap (λ b. cond (not b) (first ∷ without_frame first shorts) (without_frame first shorts)) (itself first.entry)
+    (ap (λ b. cond (not b) (first ∷ without_frame first shorts) (without_frame first shorts)) (eq-eqb first.entry first.entry refl)
     ∙ kept_above first (first.entry + 1) next shorts (omega arith) places.1)
 
 pub window_takes_the_first : WindowTakesTheFirst

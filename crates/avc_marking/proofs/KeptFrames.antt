@@ -7,6 +7,7 @@ use Rattle.std.proofs.Common.{◌≡◌, ℕ, suc, ◌+◌, ◌<◌, nat_lt, Boo
 use Rattle.std.proofs.lemmas.Bool.Decides.{nat_tests}
 use Rattle.std.proofs.lemmas.List.Elements.{All-head, All-tail, All-cons, All-nil}
 use Rattle.std.proofs.lemmas.List.Folds.{list_any-append}
+use Rattle.std.proofs.lemmas.Bool.{or_left, or_right}
 use Rattle.avc_types.specs.declared.current_frame_num.CurrentFrameNum.{CurrentFrameNum}
 use Rattle.avc_types.specs.declared.fault.Fault.{Fault}
 use Rattle.avc_types.specs.declared.fault.Fault.TheVariants.{TooManyReferences}
@@ -25,7 +26,7 @@ use Rattle.avc_marking.proofs.Parts.{same-refl, part-refl, part-trans, part-appe
 -- ---- results
 
 -- of a step that goes on only after another
-after : {A B : Type 0} (r : Result A Fault) (next : A → Result B Fault) (y : B) (P : Type 0) → (r >>= next) ≡ Ok y → ((x : A) → r ≡ Ok x → next x ≡ Ok y → P) → P
+pub after : {A B : Type 0} (r : Result A Fault) (next : A → Result B Fault) (y : B) (P : Type 0) → (r >>= next) ≡ Ok y → ((x : A) → r ≡ Ok x → next x ≡ Ok y → P) → P
 after (Ok x) next y P h k = k x refl h
 after (Err f) next y P h k = cc
 
@@ -338,11 +339,7 @@ slides s entry m short = by_test (nat_lt (length m.references) (limit_of s))
     by_test false = by_first (first_in_window s.current m.references) (first-some s.current m.references short)
 
 last-short : (xs : List Reference) (last : Reference) → is_short last ≡ true → list_any is_short (xs ++ last ∷ []) ≡ true
-last-short xs last h = list_any-append is_short xs (last ∷ []) ∙ ap (λ b. list_any is_short xs || (b || false)) h ∙ or-true (list_any is_short xs)
-  where
-    or-true : (b : Bool) → (b || true) ≡ true
-    or-true true = refl
-    or-true false = refl
+last-short xs last h = list_any-append is_short xs (last ∷ []) ∙ or_right (list_any is_short xs) (is_short last || false) (or_left (is_short last) false h)
 
 -- the entry's own frame is a short-term one
 pub window-short : (s : MarkingEntry) (entry : ℕ) (m m' : Marks) → marks_after s entry (Some SlidingWindow) m ≡ Ok m' → list_any is_short m'.references ≡ true

@@ -5,6 +5,8 @@ use Rattle.std.specs.Prelude.{nat_le, ◌==◌, if◌then◌else◌}
 use Rattle.std.proofs.lemmas.Bool.Decides.{nat_tests}
 use Rattle.std.proofs.lemmas.List.Elements.{All-head, All-tail}
 use Rattle.std.proofs.lemmas.List.Sums.{length-filter, count_by-le-length}
+use Rattle.std.proofs.lemmas.Bool.{eq-eqb, or_left, or_right}
+use Rattle.avc_marking.proofs.KeptFrames.{after}
 use Rattle.avc_types.specs.declared.current_frame_num.CurrentFrameNum.{CurrentFrameNum}
 use Rattle.avc_types.specs.declared.fault.Fault.{Fault}
 use Rattle.avc_types.specs.declared.fault.Fault.TheVariants.{TooManyReferences}
@@ -25,10 +27,6 @@ use Rattle.avc_marking.proofs.Sliding.{first-placed}
 abbrev is_there : Reference → List Reference → Bool
 is_there r references = list_any (λ s. s.entry == r.entry) references
 
-always : (b : Bool) → (b || true) ≡ true
-always true = refl
-always false = refl
-
 later_too : (a b c : Bool) → (b ≡ true → c ≡ true) → (a || b) ≡ true → (a || c) ≡ true
 later_too true b c h k = refl
 later_too false b c h k = h k
@@ -39,7 +37,7 @@ there-filter p r (x ∷ xs) h = by_test (p x) h (there-filter p r xs)
   where
     by_test : (passes : Bool) → is_there r (cond passes (x ∷ filter p xs) (filter p xs)) ≡ true → (is_there r (filter p xs) ≡ true → is_there r xs ≡ true) → ((x.entry == r.entry) || is_there r xs) ≡ true
     by_test true k more = later_too (x.entry == r.entry) (is_there r (filter p xs)) (is_there r xs) more k
-    by_test false k more = later_too (x.entry == r.entry) true (is_there r xs) (λ _. more k) (always (x.entry == r.entry))
+    by_test false k more = or_right (x.entry == r.entry) (is_there r xs) (more k)
 
 there-sorted : (current : CurrentFrameNum) (r : Reference) (xs : List Reference) → slice_get (sorted_by (precedes_in_window current) xs) 0 ≡ Some r → is_there r xs ≡ true
 there-sorted current r [] h = cc
@@ -48,17 +46,14 @@ there-sorted current r (x ∷ xs) h =
     (there-sorted current r xs)
   where
     here : x ≡ r → ((x.entry == r.entry) || is_there r xs) ≡ true
-    here e = ap (λ b. b || is_there r xs) (ap (λ y. y.entry == r.entry) e ∙ itself r.entry)
-      where
-        itself : (n : ℕ) → (n == n) ≡ true
-        itself n = grind (arith, nat_tests)
+    here e = or_left (x.entry == r.entry) (is_there r xs) (eq-eqb x.entry r.entry (ap (λ y. y.entry) e))
 
     by_first : (o : Option Reference) → first_in_window_of current x o ≡ Some r → (o ≡ Some r → is_there r xs ≡ true) → ((x.entry == r.entry) || is_there r xs) ≡ true
     by_first None k more = here cc
     by_first (Some y) k more = by_test (precedes_in_window current y x) k
       where
         by_test : (b : Bool) → ◌≡◌ {A = Option Reference} (elim b [ true ↦ Some y | false ↦ Some x ]) (Some r) → ((x.entry == r.entry) || is_there r xs) ≡ true
-        by_test true e = later_too (x.entry == r.entry) true (is_there r xs) (λ _. more e) (always (x.entry == r.entry))
+        by_test true e = or_right (x.entry == r.entry) (is_there r xs) (more e)
         by_test false e = here cc
 
 fewer : (r : Reference) (xs : List Reference) → is_there r xs ≡ true → length (without_frame r xs) + 1 ≤ length xs
@@ -104,11 +99,6 @@ within-limit n s m m' most h = by_test (nat_le (length m.references) (limit_of s
         let less : length m.references ≤ limit_of s = grind (arith, nat_tests) in
         omega (arith, ap (λ x. length x.references) same)
     by_test false t k = cc
-
--- of a step that goes on only after another
-after : {A : Type 0} (r : Result A Fault) (next : A → Result Marks Fault) (m' : Marks) (P : Type 0) → (r >>= next) ≡ Ok m' → ((x : A) → r ≡ Ok x → next x ≡ Ok m' → P) → P
-after (Ok x) next m' P h k = k x refl h
-after (Err f) next m' P h k = cc
 
 pub stays-with_max_long_term_frame_idx : StaysLimited
 stays-with_max_long_term_frame_idx n s entry m m' most few h = by_marking s.marking h

@@ -4,6 +4,7 @@ use Rattle.std.proofs.Common.{◌≡◌, ℕ, suc, ◌<◌, Bool, true, false, c
 use Rattle.std.specs.Prelude.{slice_index, slice_index_or, is_some, ℤ, int_lt}
 use Rattle.std.specs.Option.{option_map}
 use Rattle.std.proofs.lemmas.List.Kept.{AllPairs-from_increasing}
+use Rattle.std.proofs.lemmas.Bool.{and_parts}
 use Rattle.avc_types.specs.Arithmetic.{◌==ℤ◌}
 use Rattle.avc_types.specs.declared.current_frame_num.CurrentFrameNum.{CurrentFrameNum}
 use Rattle.avc_types.specs.declared.marked_frame.MarkedFrame.{MarkedFrame}
@@ -49,15 +50,10 @@ pub first-with : (current : CurrentFrameNum) (es : List ℕ) (fs : List MarkedFr
     first_in_window current (references_at (drop p es) (drop p fs)) ≡ first_in_window_of current (reference_at es fs p) (first_in_window current (references_at (drop n es) (drop n fs)))
 first-with current es fs p n e same within h =
     let f = slice_index_or fs p no_frame in
-    let parts = both (is_some (slice_index_or fs p no_frame).mark) (is_short (reference_of 0 (slice_index_or fs p no_frame))) h in
+    let parts = and_parts (is_some (slice_index_or fs p no_frame).mark) (is_short (reference_of 0 (slice_index_or fs p no_frame))) h in
     ap (first_in_window current) (references_with es fs p n e (omega (arith, same)) within parts.0)
     ∙ ap (λ b. slice_get (sorted_by (precedes_in_window current) (cond b (reference_at es fs p ∷ filter is_short (references_at (drop n es) (drop n fs))) (filter is_short (references_at (drop n es) (drop n fs))))) 0) parts.1
     ∙ first-placed current (reference_at es fs p) (sorted_by (precedes_in_window current) (filter is_short (references_at (drop n es) (drop n fs))))
-  where
-    both : (a b : Bool) → (a && b) ≡ true → (a ≡ true) × (b ≡ true)
-    both true true h = (refl, refl)
-    both true false h = cc
-    both false b h = cc
 
 pub first-without_frame : (current : CurrentFrameNum) (es : List ℕ) (fs : List MarkedFrame) (p n : ℕ) → n ≡ suc p → length es ≡ length fs → p < length fs → is_marked is_short (slice_index_or fs p no_frame) ≡ false →
     first_in_window current (references_at (drop p es) (drop p fs)) ≡ first_in_window current (references_at (drop n es) (drop n fs))

@@ -39,7 +39,8 @@ impl Model for MissingFrameNums {
 }
 
 impl MissingFrameNums {
-    fn none(max_frame_num: u32) -> MissingFrameNums
+    /// None, where they are counted modulo this MaxFrameNum.
+    pub fn none(max_frame_num: u32) -> MissingFrameNums
         requires { 0 < max_frame_num }
         ensures { result ≡ [] }
     {

@@ -2,6 +2,7 @@
 use Rattle.std.proofs.Common.{◌≡◌, ℕ, ◌^◌, ℤ, pos, ◌+ℤ◌, ◌*ℤ◌, ◌-ℤ◌, neg_ℤ, int_lt, int_le, Bool, true, false, ◌&&◌, if◌then◌else◌, Result, Ok, Err, refl, sym, ap, ◌∙◌, subst, arith}
 use Rattle.std.specs.Result.{is_ok}
 use Rattle.std.proofs.lemmas.Int.{ints}
+use Rattle.std.proofs.lemmas.Bool.{and_parts}
 use Rattle.avc_types.specs.declared.fault.Fault.{Fault}
 use Rattle.avc_types.specs.declared.fault.Fault.TheVariants.{PocRange}
 use Rattle.avc_params.specs.declared.sps.Sps.{Sps}
@@ -37,19 +38,11 @@ pub in_range_lowered : (h : Header) (c : Counts) → has_operation_5 h ≡ true 
     → ◌≡◌ {A = Result (ℤ × ℤ) Fault} (if both_in_32_bits (lowered_by_operation_5 c) then Ok (pair (lowered_by_operation_5 c)) else Err PocRange) (count_pair (in_range h c))
 in_range_lowered h c five fit = rw (five, fit) (answer_tested (both_in_32_bits (lowered_by_operation_5 c)) (lowered_by_operation_5 c))
 
-and_left : (a b : Bool) → (a && b) ≡ true → a ≡ true
-and_left true b e = refl
-and_left false b e = e
-
-and_right : (a b : Bool) → (a && b) ≡ true → b ≡ true
-and_right true b e = e
-and_right false true e = refl
-and_right false false e = e
-
 fits_is : (z : ℤ) → in_32_bits z ≡ true → IsNear 31 z
 fits_is z e =
-    let low : int_le (neg_ℤ (pos (2 ^ 31))) z ≡ true = and_left (int_le (neg_ℤ (pos (2 ^ 31))) z) (int_lt z (pos (2 ^ 31))) e in
-    let high : int_lt z (pos (2 ^ 31)) ≡ true = and_right (int_le (neg_ℤ (pos (2 ^ 31))) z) (int_lt z (pos (2 ^ 31))) e in
+    let parts = and_parts (int_le (neg_ℤ (pos (2 ^ 31))) z) (int_lt z (pos (2 ^ 31))) e in
+    let low : int_le (neg_ℤ (pos (2 ^ 31))) z ≡ true = parts.0 in
+    let high : int_lt z (pos (2 ^ 31)) ≡ true = parts.1 in
     record { low = omega (arith, ints); high = omega (arith, ints) }
 
 tested : (b : Bool) (c : Counts) → is_ok (if b then Ok c else Err PocRange) ≡ true → b ≡ true
@@ -74,7 +67,7 @@ kept : (o : OrderCount) (sps : Sps) (h : Header) (p : Previous) (n : ℕ) → ma
 kept (orders.Type0 log2) sps h p n e near low ok =
     let c : Counts = counts_0 sps h p in
     let top : IsNear 31 (msb_of (max_lsb sps.order_count) p (lsb_of h.order) +ℤ lsb_of h.order) =
-    fits_is _ (and_left (in_32_bits c.top) (in_32_bits c.bottom) (and_left (both_in_32_bits c) (both_in_32_bits (final_counts h c)) (tested (both_in_32_bits c && both_in_32_bits (final_counts h c)) (final_counts h c) ok))) in
+    fits_is _ (and_parts (in_32_bits c.top) (in_32_bits c.bottom) (and_parts (both_in_32_bits c) (both_in_32_bits (final_counts h c)) (tested (both_in_32_bits c && both_in_32_bits (final_counts h c)) (final_counts h c) ok)).0).0 in
     near_part _ _ top low
   where
     near_part : (m l : ℤ) → IsNear 31 (m +ℤ l) → IsNear 33 l → IsNear 34 m

@@ -9,7 +9,7 @@ pub mark-requires : goal.mark-requires
 mark-requires c =
     let long = length-all_marks c.args.dpb.now c.loop-place.dpb (take c.loop-place.place c.args.marked.now) c.loop-place.invariant in
     let low : c.loop-place.place < length c.args.dpb.now.frames = subst (λ fs. c.loop-place.place < length fs) c.frames-count.ensures c.loop-place-test.true in
-    (omega arith, subst (λ n. c.loop-place.place < n) (sym long) low)
+    subst (λ n. c.loop-place.place < n) (sym long) low
 
 pub loop-place-preserved : goal.loop-place-preserved
 loop-place-preserved c =

@@ -25,15 +25,15 @@ stand_for-requires-clause-same c =
     let mid = c.store_each.new.buffer in
     let far : (c.len-skipped.result - 16) + 16 ≤ length c.args.numbers = omega arith in
     let law = long_gaps_leave_their_end o sps h c.args.numbers (c.len-skipped.result - 16) c.requires.gap far in
-    let stores = c.in_ok-out.ensures.ok in
+    let stores = c.in_ok-out.ensures in
     let reached : mid.history ≡ with_all_missing sps (drop (c.len-skipped.result - 16) c.args.numbers) h =
     is_with_all sps c.skip.result h mid.history stores.history ∙ ap (λ l. with_all_missing sps l h) c.skip.ensures in
     subst (λ x. KeepsTheSame x mid.history (history_of c.history_with-history.result.items)) (sym stores.output)
     (subst (λ x. KeepsTheSame o x (history_of c.history_with-history.result.items)) (sym reached)
     (subst (λ x. KeepsTheSame o (with_all_missing sps (drop (c.len-skipped.result - 16) c.args.numbers) h) x) (sym c.history_with-history.ensures) law.same_state))
 
-pub returns-clause-ok : goal.returns-clause-ok
-returns-clause-ok c =
+pub returns : goal.returns
+returns c =
     let sps = c.args.sps.now in
     let h = c.args.buffer.now.history in
     let o = c.args.buffer.now.output in
@@ -41,7 +41,7 @@ returns-clause-ok c =
     let new = c.stand_for.new.self in
     let far : (c.len-skipped.result - 16) + 16 ≤ length c.args.numbers = omega arith in
     let law = long_gaps_leave_their_end o sps h c.args.numbers (c.len-skipped.result - 16) c.requires.gap far in
-    let stores = c.in_ok-out.ensures.ok in
+    let stores = c.in_ok-out.ensures in
     let reached : mid.history ≡ with_all_missing sps (drop (c.len-skipped.result - 16) c.args.numbers) h =
     is_with_all sps c.skip.result h mid.history stores.history ∙ ap (λ l. with_all_missing sps l h) c.skip.ensures in
     let now : new.history ≡ with_all_missing sps c.args.numbers h = ap (λ (b : FrameBufferState). b.history) c.stand_for.ensures ∙ c.history_with-history.ensures in

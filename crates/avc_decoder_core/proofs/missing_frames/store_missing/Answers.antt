@@ -7,12 +7,12 @@ loop-frame_num-preserved c =
     stored_one c.args.sps.now c.args.numbers c.args.buffer.now c.loop-frame_num.numbers c.loop-frame_num.buffer c.loop-frame_num.out.items c.in-Some.frame_num _ _ _ _
     c.loop-frame_num.invariant c.requires.marked (sym c.in-Some.ensures.first) c.next.ensures.rest c.in_ok-shown.ensures.ok c.in_ok-output_more.ensures
 
-pub returns-then-leaves_its_end-clause-ok : goal.returns-then-leaves_its_end-clause-ok
-returns-then-leaves_its_end-clause-ok c =
+pub returns-then-leaves_its_end : goal.returns-then-leaves_its_end
+returns-then-leaves_its_end c =
     let one =
     stored_one c.args.sps.now c.args.numbers c.args.buffer.now c.loop-frame_num.numbers c.loop-frame_num.buffer c.loop-frame_num.out.items c.in-Some.frame_num
     c.next.new.self c.store_missing.new.self c.in_ok-shown.shown.items c.output_more.new.out.items
     c.loop-frame_num.invariant c.requires.marked (sym c.in-Some.ensures.first) c.next.ensures.rest c.in_ok-shown.ensures.ok c.in_ok-output_more.ensures in
     stored_rest c.args.sps.now c.args.numbers c.args.buffer.now c.next.new.self c.store_missing.new.self c.output_more.new.out.items
     c.store_last.new.buffer c.in_ok-last.last.items c.output_more-then-leaves_its_end.new.out.items
-    one c.in_ok-last.ensures.ok c.in_ok-output_more-2.ensures
+    one c.in_ok-last.ensures c.in_ok-output_more-2.ensures

@@ -2,4 +2,4 @@ use Rattle.std.proofs.Common.{length}
 use Rattle.avc_dpb.proofs.dpb.empty_all.Given as goal
 
 abbrev pub decreases-loop-frame : goal.decreases-loop-frame
-decreases-loop-frame g l = length (l.frames).items
+decreases-loop-frame l = length (l.frames).items

@@ -1,7 +1,7 @@
-use Rattle.std.proofs.Common.{◌≡◌, ◌∙◌, ◌≤◌, ◌∷◌, ◌+◌, ◌-◌, [], length, map, ap, ap₂, refl, rules, sym, subst}
+use Rattle.std.proofs.Common.{◌≡◌, ◌∙◌, ◌≤◌, ◌∷◌, ◌+◌, ◌-◌, [], length, map, ap, ap₂, refl, sym, subst}
 use Rattle.std.proofs.Common.{false, Some, Ok, Err, arith}
+use Rattle.std.proofs.lemmas.Bool.{false≢true}
 use Rattle.std.proofs.lemmas.List.{length-map}
-use Rattle.avc_types.specs.declared.picture_error.PictureError.TheVariants.{Fault as Faulty}
 use Rattle.avc_types.specs.declared.references.Marking.TheVariants.{SlidingWindow}
 use Rattle.avc_plane.specs.Frames.{marked_frame}
 use Rattle.avc_marking.specs.Frames.{marking_entry, MarksFrame}
@@ -11,7 +11,7 @@ use Rattle.avc_decoder_core.specs.Pictures.{output_pictures}
 use Rattle.std.specs.Result.{is_ok}
 use Rattle.avc_decoder_core.specs.History.{Entry, is_same_sps, marks_of, missing_frame, sequence_sps}
 use Rattle.avc_decoder_core.proofs.Entering.{marked_then}
-use Rattle.avc_decoder_core.proofs.State.{few_frames, refused}
+use Rattle.avc_decoder_core.proofs.State.{few_frames}
 use Rattle.avc_decoder_core.proofs.StoredEntry.{IsTaken, frame_made, missing_arrival, missing_arrives, outputs_none, taken}
 use Rattle.avc_decoder_core.proofs.frame_buffer.FrameBuffer.store_missing.Goals as goal
 
@@ -29,8 +29,8 @@ sliding_window-requires c =
     let few = few_frames (history_of i.history.items) i.dpb i.max_long_term_frame_idx i.prev_ref_frame_num (c.self.invariant on) in
     subst (λ n. n ≤ 16) (sym (ap length c.marked_frames-marked.ensures ∙ length-map c.frames.result.now marked_frame ∙ ap length c.frames.ensures)) few
 
-pub returns-in_err-sliding_window-clause-err : goal.returns-in_err-sliding_window-clause-err
-returns-in_err-sliding_window-clause-err c =
+pub unreachable-requires : goal.unreachable-requires
+unreachable-requires c =
     let i = c.self.inside in
     let h = history_of i.history.items in
     let e = missing_frame c.args.sps.now c.args.frame_num in
@@ -38,15 +38,12 @@ returns-in_err-sliding_window-clause-err c =
     let old = c.marked_frames-marked.result.items in
     let new = c.sliding_window.new.frames.items in
     let idx = i.max_long_term_frame_idx in
-    let f = c.in_err-sliding_window.field-0.0 in
     let marks =
-    subst (λ n. MarksFrame (λ entry. marks_after (marking_entry n (Some SlidingWindow)) entry (Some SlidingWindow)) old idx (Err f) new idx)
-    c.new_frame.ensures (c.in_err-sliding_window.ensures.marks idx) in
-    let then = marked_then e h i.dpb idx i.prev_ref_frame_num (c.self.invariant on) old new (Err f) idx
+    subst (λ n. MarksFrame (λ entry. marks_after (marking_entry n (Some SlidingWindow)) entry (Some SlidingWindow)) old idx (Err c.in_default.field-0) new idx)
+    c.new_frame.ensures (c.in_default.ensures.marks idx) in
+    let then = marked_then e h i.dpb idx i.prev_ref_frame_num (c.self.invariant on) old new (Err c.in_default.field-0) idx
     (c.marked_frames-marked.ensures ∙ ap (map marked_frame) c.frames.ensures) marks in
-    let is : c.from_residual.result ≡ Err (Faulty f) = search rules in
-    refused c.args.self.now c.args.self.now (marks_of (e ∷ c.args.self.now.history)) f c.from_residual.result is c.requires.going refl
-    (sym (ap (λ v. marks_of (e ∷ v.history)) c.self.view_is) ∙ then)
+    false≢true (sym (ap is_ok then) ∙ ap (λ v. is_ok (marks_of (e ∷ v.history))) c.self.view_is ∙ c.requires.marked)
 
 -- the entry
 abbrev entry : goal.After-self-3-1 → Entry
@@ -72,9 +69,9 @@ stored c =
     let idx = i.max_long_term_frame_idx in
     let marks =
     subst (λ n. MarksFrame (λ entry. marks_after (marking_entry n (Some SlidingWindow)) entry (Some SlidingWindow)) old idx (Ok tt) new idx)
-    c.new_frame.ensures (c.in_ok-sliding_window.ensures.marks idx) in
+    c.new_frame.ensures (c.in-Ok.ensures.marks idx) in
     let set : c.set_marks.new.dpb ≡ with_all_marks i.dpb new = c.set_marks.ensures ∙ ap (with_all_marks i.dpb) c.as_slice.ensures.value in
-    let last : (c.len.result - 1) + 1 ≡ length new = omega (arith, c.len.ensures.value, c.in_ok-sliding_window.ensures.length) in
+    let last : (c.len.result - 1) + 1 ≡ length new = omega (arith, c.len.ensures.value, c.in-Ok.ensures.length) in
     let made =
     frame_made e _ new c.deref.result.now c.entry_frame-frame.result (c.len.result - 1) _
     (ap (λ s. missing_frame s frame_num) c.copied.ensures) c.deref.ensures.0 last c.entry_frame-frame.ensures in
@@ -83,7 +80,7 @@ stored c =
       history = ap history_of c.with_newest-history.ensures ∙ ap (λ s. missing_frame s frame_num ∷ h) c.copied.ensures;
       taken =
           taken e h i.dpb idx i.prev_ref_frame_num (c.self.invariant on) follows c.requires.sps old new idx
-          (c.marked_frames-marked.ensures ∙ ap (map marked_frame) c.frames.ensures) c.in_ok-sliding_window.ensures.length marks
+          (c.marked_frames-marked.ensures ∙ ap (map marked_frame) c.frames.ensures) c.in-Ok.ensures.length marks
           c.set_marks.new.dpb c.set_marks.new.dpb c.store.new.self set
           [] c.in_ok-out.out.items (outputs_none c.set_marks.new.dpb) refl
           c.entry_frame-frame.result made

@@ -1,14 +1,13 @@
-use Rattle.std.proofs.Common.{◌<◌, length, slice_set, ap, ◌∙◌, sym, subst}
+use Rattle.std.proofs.Common.{◌<◌, length, ap, ◌∙◌, sym, subst}
 use Rattle.avc_dpb.specs.Contents.{with_mark}
 use Rattle.avc_dpb.proofs.Removing.{changed_read}
 use Rattle.avc_dpb.proofs.dpb.Dpb.mark.Goals as goal
 
 pub returns : goal.returns
-returns g c =
+returns c =
     let i = c.self.inside in
     let p = c.args.place in
     let low : p < length i.frames.items = subst (λ v. p < length v.frames) (sym c.self.view_is) c.requires in
-    let frames = ap (slice_set i.frames.items p) c.set_mark.ensures
-    ∙ changed_read (λ f. g.T.BufferedFrame.marked f c.args.mark) i.frames.items p c.index_mut.result.now low c.index_mut.ensures.value in
-    ap (λ f. record { slots = i.slots.items; frames = f; output = i.output; failed = i.failed }) frames
-    ∙ ap (λ v. with_mark g.T.BufferedFrame.marked v p c.args.mark) c.self.view_is
+    ap (λ f. record { slots = i.slots.items; frames = f; output = i.output; failed = i.failed })
+    (changed_read (λ f. record f { mark = c.args.mark }) i.frames.items p c.index_mut.result.now low c.index_mut.ensures.value)
+    ∙ ap (λ v. with_mark v p c.args.mark) c.self.view_is

@@ -1,14 +1,20 @@
 use Rattle.std.proofs.Common.{subst, refl, false}
 use Rattle.avc_dpb.specs.Contents.{Contents, Stores}
-use Rattle.avc_dpb.proofs.Early.{stored_in_turn}
+use Rattle.avc_dpb.specs.Steps.{BumpsWhile}
+use Rattle.avc_dpb.specs.declared.waiting.Bumping.TheVariants.{ForRoom}
+use Rattle.avc_dpb.proofs.Standing.{stored}
 use Rattle.avc_dpb.proofs.dpb.Dpb.store.Goals as goal
 
 pub returns-clause-ok : goal.returns-clause-ok
-returns-clause-ok g c =
+returns-clause-ok c =
     let i = c.self.inside in
-    let old : Contents g.row.T.Denot = record { slots = i.slots.items; frames = i.frames.items; output = i.output; failed = i.failed } in
-    subst (λ v. Stores g.T.BufferedFrame.shown g.T.BufferedFrame.referenced v c.args.frame c.args.arriving.now c.append.new.self.items
-    (record { slots = c.output_early.new.slots.items; frames = c.output_early.new.frames.items; output = i.output; failed = false })) c.self.view_is
-    (stored_in_turn g.T.BufferedFrame.shown g.T.BufferedFrame.referenced c.args.arriving.now old _ c.place.new.slots.items c.output_early.new.slots.items
-    c.place.new.frames.items c.output_early.new.frames.items c.args.frame c.in_ok-out.out.items c.in_ok-early.early.items c.append.new.self.items
-    c.in_ok-out.ensures.ok c.in_ok-early.ensures.ok refl c.in_ok-append.ensures.items)
+    let old : Contents = record { slots = i.slots.items; frames = i.frames.items; output = i.output; failed = i.failed } in
+    let new : Contents = record { slots = c.bump_while-2.new.slots.items; frames = c.bump_while-2.new.frames.items; output = i.output; failed = false } in
+    subst (λ v. Stores v c.args.frame c.args.arriving.now c.bump_while-2.new.out.items new) c.self.view_is
+    (stored old new c.args.arriving.now c.args.frame c.remove_needless.new.slots.items c.bump_while.new.slots.items c.place.new.slots.items c.bump_while-2.new.slots.items
+    c.remove_needless.new.frames.items c.bump_while.new.frames.items c.place.new.frames.items c.bump_while-2.new.frames.items
+    c.bump_while.new.out.items c.place.new.out.items c.bump_while-2.new.out.items
+    c.remove_needless.ensures.slots c.remove_needless.ensures.frames
+    (subst (λ l. BumpsWhile (ForRoom c.args.arriving.now) c.remove_needless.new.slots.items c.remove_needless.new.frames.items l
+    c.bump_while.new.slots.items c.bump_while.new.frames.items c.bump_while.new.out.items) c.new-out.ensures.items c.in_ok-bump_while.ensures.ok)
+    c.in_ok-place.ensures.ok c.in_ok-bump_while-2.ensures.ok refl)

@@ -1,0 +1,27 @@
+use Rattle.std.proofs.Common.{◌∷◌, ◌∙◌, ap, sym}
+use Rattle.avc_poc.specs.OrderCountState.{order_count_state}
+use Rattle.avc_decoder_core.specs.History.{missing_frame, pasts}
+use Rattle.avc_decoder_core.specs.Opening.{with_all_missing}
+use Rattle.avc_decoder_core.proofs.MissingNumbers.{counted_at_once, none_counted, one_counted}
+use Rattle.avc_decoder_core.proofs.opening.count_missing.Goals as goal
+
+pub returns-then-first-max_frame_num : goal.returns-then-first-max_frame_num
+returns-then-first-max_frame_num c history e =
+    counted_at_once c.args.sps.now c.args.numbers c.max_frame_num-max_frame_num.result c.in-Some.first c.len.result c.missing_from.new.self history
+    c.max_frame_num-max_frame_num.ensures c.len.ensures c.in-Some.ensures (c.missing_from.ensures (pasts history) e)
+
+pub loop-frame_num-preserved : goal.loop-frame_num-preserved
+loop-frame_num-preserved c history e =
+    let sps = c.args.sps.now in
+    let reached = c.loop-frame_num.invariant history e in
+    let entry = missing_frame sps c.in-Some-next.frame_num in (
+      entry ∷ reached.0,
+      c.missing.ensures (pasts reached.0) reached.1,
+      ap (λ l. with_all_missing sps l (entry ∷ reached.0)) c.next.ensures.rest
+          ∙ one_counted sps c.loop-frame_num.numbers c.in-Some-next.frame_num reached.0 _ (sym c.in-Some-next.ensures.first) reached.2,
+    )
+
+pub returns : goal.returns
+returns c history e =
+    let reached = c.loop-frame_num.invariant history e in
+    reached.1 ∙ ap (λ h. order_count_state (pasts h)) (none_counted c.args.sps.now c.loop-frame_num.numbers reached.0 _ (sym c.in_default-next.ensures.first) reached.2)

@@ -1,0 +1,451 @@
+-- What slots and frames stand for while a frame is stored, or all pictures go out.
+use Rattle.std.proofs.Common.{◌≡◌, ◌≢◌, ℕ, zero, suc, ◌+◌, ◌-◌, ◌<◌, ◌==◌, ◌||◌, ◌&&◌, not, int_lt, nat_le, if◌then◌else◌, ℤ, Bool, true, false, cond, List, [], ◌∷◌, ◌++◌, length, map, get_or, slice_get, slice_set, Option, Some, None}
+use Rattle.std.proofs.Common.{refl, sym, ap, ap₂, ◌∙◌, subst, arith, append-nil, append_assoc, eq-eqb}
+use Rattle.std.specs.Prelude.{count_by}
+use Rattle.std.specs.Option.{option_map}
+use Rattle.std.specs.List.{filter, filter_map, fold, list_all, list_any, cons_option}
+use Rattle.std.proofs.lemmas.Bool.{eqb-true, false≢true, or_left, or_right}
+use Rattle.std.proofs.lemmas.Option.{none-some, same_Some, slice_get-map}
+use Rattle.std.proofs.lemmas.List.{map-append, map-set, length-map}
+use Rattle.std.proofs.lemmas.List.Elements.{filter_map-append}
+use Rattle.avc_types.specs.declared.picture.Picture.{Picture}
+use Rattle.avc_plane.specs.declared.frame.Frame.{Frame}
+use Rattle.avc_dpb.specs.declared.slot.Slot.{Slot}
+use Rattle.avc_dpb.specs.declared.arriving_frame.ArrivingFrame.{ArrivingFrame}
+use Rattle.avc_dpb.specs.declared.waiting.Bumping.{Bumping}
+use Rattle.avc_dpb.specs.declared.waiting.Bumping.TheVariants.{ForRoom, ForFew, ForNone}
+use Rattle.avc_dpb.specs.Bumping.{Stored, Buffer, are_too_many, is_reference_in, needed_frames, no_longer_held, after_bumping, after_bumping_while, after_making_room, with_all_output}
+use Rattle.avc_dpb.specs.Bumping.{is_full, with_frame, with_direct_output, with_frame_placed, after_frame}
+use Rattle.avc_dpb.specs.Contents.{Contents, IsBuffer, IsReferenceAmong, IsRising, Stores, OutputsAll, OutputsSome, arrival_of, changed_at as slot_changed_at, slot_of}
+use Rattle.avc_dpb.specs.Places.{are_needed, chosen, first_output_from, goes_on, no_longer_held as slot_let_go}
+use Rattle.avc_dpb.specs.Steps.{StandFor, Become, Bumps, ShowsFirst, goes_on_in, BumpsWhile, ShowsWhile, PlacesFrame}
+use Rattle.avc_dpb.specs.StoredFrame.{is_used_for_reference, shown_frame}
+use Rattle.avc_dpb.proofs.Held.{first_held, head_held, Agree, agree, not_held, changed_at}
+use Rattle.avc_dpb.proofs.Bumped.{bumped_none, bumped_some, still_rising, keep}
+use Rattle.avc_dpb.proofs.Rising.{filter_rising, rising_more, rising_push, same_head, same_tail}
+use Rattle.avc_dpb.proofs.Early.{Each, each_filter, each_unheld, each_push, one_more, stops}
+use Rattle.avc_dpb.proofs.BumpingTimes.{each_also}
+use Rattle.avc_dpb.proofs.Conserved.{grows_while, grown}
+use Rattle.avc_dpb.proofs.Least.{all_go_out_by_bumping}
+use Rattle.avc_dpb.proofs.Picking.{nil_middle}
+
+-- ---- the marks of all frames
+
+abbrev Tells : (frame_of : ℕ → Frame 32) (references : List ℕ) → ℕ → Type 0
+Tells frame_of references entry = IsReferenceAmong (frame_of entry) entry references
+
+tells_each : (frame_of : ℕ → Frame 32) (references : List ℕ) (frames : List Stored)
+    → map is_used_for_reference (map (λ s. frame_of s.entry) frames) ≡ map (is_reference_in references) frames → Each (Tells frame_of references) frames
+tells_each frame_of references [] e = tt
+tells_each frame_of references (s ∷ frames) e = (same_head _ _ _ _ e, tells_each frame_of references frames (same_tail _ _ _ _ e))
+
+each_tells : (frame_of : ℕ → Frame 32) (references : List ℕ) (frames : List Stored)
+    → Each (Tells frame_of references) frames → map is_used_for_reference (map (λ s. frame_of s.entry) frames) ≡ map (is_reference_in references) frames
+each_tells frame_of references [] h = refl
+each_tells frame_of references (s ∷ frames) h = ap₂ (λ x l. x ∷ l) h.0 (each_tells frame_of references frames h.1)
+
+told : {slots : List Slot} {frames : List (Frame 32)} {references : List ℕ} {b : Buffer} {next : ℕ} {frame_of : ℕ → Frame 32}
+    → StandFor slots frames references b next frame_of → Each (Tells frame_of references) b.frames
+told {frames = frames} {references = references} {b = b} {frame_of = frame_of} h =
+    tells_each frame_of references b.frames (ap (map is_used_for_reference) (sym h.frames_are) ∙ h.marks)
+
+stand_for : (slots : List Slot) (frames : List (Frame 32)) (references : List ℕ) (b : Buffer) (next : ℕ) (frame_of : ℕ → Frame 32)
+    → slots ≡ map slot_of b.frames → frames ≡ map (λ s. frame_of s.entry) b.frames → Each (Tells frame_of references) b.frames → IsRising b.frames next
+    → StandFor slots frames references b next frame_of
+stand_for slots frames references b next frame_of slots_are frames_are tells rising = record {
+  slots_are = slots_are;
+  frames_are = frames_are;
+  marks = ap (map is_used_for_reference) frames_are ∙ each_tells frame_of references b.frames tells;
+  rising = rising;
+}
+
+-- one after the other
+in_turn : {slots slots' : List Slot} {frames frames' : List (Frame 32)} {references : List ℕ} {b c d : Buffer} {next next' : ℕ} {frame_of : ℕ → Frame 32}
+    {out out' out'' : List Picture} → Become slots frames references b c next frame_of out out' → Become slots' frames' references c d next' frame_of out' out''
+    → Become slots' frames' references b d next' frame_of out out''
+in_turn {b = b} {frame_of = frame_of} {out = out} h k = record {
+  since = h.since ++ k.since;
+  grows = k.grows ∙ ap (λ l. l ++ k.since) h.grows ∙ append_assoc b.out h.since k.since;
+  stand = k.stand;
+  pictures = k.pictures ∙ ap (λ l. l ++ filter_map (λ e. shown_frame (frame_of e)) k.since) h.pictures
+      ∙ append_assoc out (filter_map (λ e. shown_frame (frame_of e)) h.since) (filter_map (λ e. shown_frame (frame_of e)) k.since)
+      ∙ ap (λ l. out ++ l) (sym (filter_map-append (λ e. shown_frame (frame_of e)) h.since k.since));
+}
+
+-- nothing goes out
+same_buffer : {slots : List Slot} {frames : List (Frame 32)} {references : List ℕ} {b : Buffer} {next : ℕ} {frame_of : ℕ → Frame 32} (c : Buffer) (out : List Picture)
+    → c ≡ b → StandFor slots frames references b next frame_of → Become slots frames references b c next frame_of out out
+same_buffer {slots} {frames} {references} {b} {next} {frame_of} c out is h = record {
+  since = [];
+  grows = ap (λ c. c.out) is ∙ sym (append-nil b.out);
+  stand = subst (λ c. StandFor slots frames references c next frame_of) (sym is) h;
+  pictures = sym (append-nil out);
+}
+
+-- ---- frames that are needless leave
+
+chosen_map : {A : Type 0} (p : Stored → Bool) (f : Stored → A) (fs : List Stored) → chosen (map p fs) (map f fs) ≡ map f (filter p fs)
+chosen_map p f [] = refl
+chosen_map {A} p f (x ∷ fs) = by (p x) (chosen_map p f fs)
+  where
+    by : (b : Bool) → chosen (map p fs) (map f fs) ≡ map f (filter p fs)
+        → (elim b as (λ _. List A) [ true ↦ f x ∷ chosen (map p fs) (map f fs) | false ↦ chosen (map p fs) (map f fs) ])
+        ≡ map f (cond b (x ∷ filter p fs) (filter p fs))
+    by true e = ap (λ l. f x ∷ l) e
+    by false e = e
+
+needed_are : (references : List ℕ) (frame_of : ℕ → Frame 32) (fs : List Stored) → Each (Tells frame_of references) fs
+    → are_needed (map slot_of fs) (map (λ s. frame_of s.entry) fs) ≡ map (keep references) fs
+needed_are references frame_of [] h = refl
+needed_are references frame_of (s ∷ fs) h = ap₂ (λ (r : Bool) (l : List Bool). (s.held || r) ∷ l) h.0 (needed_are references frame_of fs h.1)
+
+pub needless_leave : {slots : List Slot} {frames : List (Frame 32)} {references : List ℕ} {b : Buffer} {next : ℕ} {frame_of : ℕ → Frame 32}
+    (slots' : List Slot) (frames' : List (Frame 32)) → StandFor slots frames references b next frame_of
+    → slots' ≡ chosen (are_needed slots frames) slots → frames' ≡ chosen (are_needed slots frames) frames
+    → StandFor slots' frames' references (record b { frames = needed_frames references b.frames }) next frame_of
+needless_leave {slots} {frames} {references} {b} {next} {frame_of} slots' frames' h slots_is frames_is =
+    let kept : are_needed slots frames ≡ map (keep references) b.frames = ap₂ are_needed h.slots_are h.frames_are ∙ needed_are references frame_of b.frames (told h) in
+    stand_for slots' frames' references (record b { frames = needed_frames references b.frames }) next frame_of
+    (slots_is ∙ ap₂ chosen kept h.slots_are ∙ chosen_map (keep references) slot_of b.frames)
+    (frames_is ∙ ap₂ chosen kept h.frames_are ∙ chosen_map (keep references) (λ s. frame_of s.entry) b.frames)
+    (each_filter (Tells frame_of references) (keep references) b.frames (told h))
+    (filter_rising (keep references) b.frames next h.rising)
+
+-- ---- one picture goes out
+
+find_by : (frames : List Stored) (k : ℕ) (o : Option Stored) (p : Option (ℕ × ℤ)) → Agree frames 0 o p → Some k ≡ option_map (λ (p : ℕ × ℤ). p.0) p
+    → (s : Stored) × (o ≡ Some s) × (slice_get frames k ≡ Some s)
+find_by frames k o None a e = absurd (none-some k (sym e))
+find_by frames k None (Some p) a e = absurd a
+find_by frames k (Some s) (Some p) a e =
+    let place : k ≡ a.0 = omega (arith, same_Some k p.0 e, a.1) in
+    (s, refl, ap (slice_get frames) place ∙ a.3)
+
+find_none : (frames : List Stored) (o : Option Stored) (p : Option (ℕ × ℤ)) → Agree frames 0 o p → None ≡ option_map (λ (p : ℕ × ℤ). p.0) p → o ≡ None
+find_none frames None p a e = refl
+find_none frames (Some s) None a e = absurd a
+find_none frames (Some s) (Some p) a e = absurd (none-some p.0 e)
+
+unheld_entries : {A : Type 0} (g : ℕ → A) (first : Stored) (fs : List Stored) → map (λ s. g s.entry) (map (no_longer_held first) fs) ≡ map (λ s. g s.entry) fs
+unheld_entries g first [] = refl
+unheld_entries g first (s ∷ fs) = ap₂ (λ x l. x ∷ l) (by (s.entry == first.entry)) (unheld_entries g first fs)
+  where
+    by : (b : Bool) → g (if b then not_held s else s).entry ≡ g s.entry
+    by true = refl
+    by false = refl
+
+read_at : {A : Type 0} (xs : List A) (k : ℕ) (d x : A) → slice_get xs k ≡ Some x → get_or xs k d ≡ x
+read_at [] k d x e = absurd (none-some x e)
+read_at (y ∷ xs) zero d x e = same_Some y x e
+read_at (y ∷ xs) (suc k) d x e = read_at xs k d x e
+
+changed_there : {A : Type 0} (change : A → A) (xs : List A) (k : ℕ) (x : A) → slice_get xs k ≡ Some x → slot_changed_at change xs k ≡ slice_set xs k (change x)
+changed_there change [] k x e = refl
+changed_there change (y ∷ xs) zero x e = ap (λ z. change z ∷ xs) (same_Some y x e)
+changed_there change (y ∷ xs) (suc k) x e = ap (λ l. y ∷ l) (changed_there change xs k x e)
+
+-- the frame that goes first, and the buffer after it
+record IsFound (frames : List (Frame 32)) (k : ℕ) (references : List ℕ) (b : Buffer) (frame_of : ℕ → Frame 32) : Type 0 where
+  first : Stored
+  there : slice_get b.frames k ≡ Some first
+  after : after_bumping references b ≡ record { frames = needed_frames references (map (no_longer_held first) b.frames); out = b.out ++ first.entry ∷ [] }
+  frame : (d : Frame 32) → get_or frames k d ≡ frame_of first.entry
+
+found : (slots : List Slot) (frames : List (Frame 32)) (k : ℕ) (references : List ℕ) (b : Buffer) (next : ℕ) (frame_of : ℕ → Frame 32)
+    → Some k ≡ option_map (λ (p : ℕ × ℤ). p.0) (first_output_from 0 slots) → StandFor slots frames references b next frame_of → IsFound frames k references b frame_of
+found slots frames k references b next frame_of is h =
+    let f = find_by b.frames k (first_held b.frames) (first_output_from 0 (map slot_of b.frames)) (agree b.frames 0 next h.rising)
+    (is ∙ ap (λ l. option_map (λ (p : ℕ × ℤ). p.0) (first_output_from 0 l)) h.slots_are) in
+    record {
+      first = f.0;
+      there = f.2;
+      after = bumped_some references b f.0 (head_held b.frames ∙ f.1);
+      frame = λ d. read_at frames k d (frame_of (f.0).entry)
+          (ap (λ l. slice_get l k) h.frames_are ∙ slice_get-map (λ s. frame_of s.entry) b.frames k ∙ ap (option_map (λ s. frame_of s.entry)) f.2);
+    }
+
+pub bumped : (slots slots1 slots' : List Slot) (frames frames' : List (Frame 32)) (out out' : List Picture) (k : ℕ) (f : Frame 32)
+    → Some k ≡ option_map (λ (p : ℕ × ℤ). p.0) (first_output_from 0 slots) → f ≡ get_or frames k f → slots1 ≡ slot_changed_at slot_let_go slots k
+    → slots' ≡ chosen (are_needed slots1 frames) slots1 → frames' ≡ chosen (are_needed slots1 frames) frames
+    → out' ≡ out ++ filter_map shown_frame (f ∷ []) → Bumps slots frames out slots' frames' out'
+bumped slots slots1 slots' frames frames' out out' k f is f_is set slots_is frames_is out_is = λ b next frame_of references h.
+    let o = found slots frames k references b next frame_of is h in
+    let first = o.first in
+    let mid : Buffer = record { frames = map (no_longer_held first) b.frames; out = b.out ++ first.entry ∷ [] } in
+    let changed : mid.frames ≡ slice_set b.frames k (not_held first) = changed_at b.frames next k first h.rising o.there in
+    let slots_are : slots1 ≡ map slot_of mid.frames =
+    set ∙ ap (λ l. slot_changed_at slot_let_go l k) h.slots_are
+    ∙ changed_there slot_let_go (map slot_of b.frames) k (slot_of first) (slice_get-map slot_of b.frames k ∙ ap (option_map slot_of) o.there)
+    ∙ sym (map-set slot_of b.frames k (not_held first)) ∙ ap (map slot_of) (sym changed) in
+    let stands = stand_for slots1 frames references mid next frame_of slots_are (h.frames_are ∙ sym (unheld_entries frame_of first b.frames))
+    (each_unheld (Tells frame_of references) first b.frames (told h))
+    (subst (λ l. IsRising l next) (sym changed) (still_rising b.frames next k first o.there h.rising)) in
+    record {
+      since = first.entry ∷ [];
+      grows = ap (λ c. c.out) o.after;
+      stand = subst (λ c. StandFor slots' frames' references c next frame_of) (sym o.after) (needless_leave slots' frames' stands slots_is frames_is);
+      pictures = out_is ∙ ap (λ z. out ++ filter_map shown_frame (z ∷ [])) (f_is ∙ o.frame f);
+    }
+
+pub none_bumped : (slots : List Slot) (frames : List (Frame 32)) (out : List Picture) → None ≡ option_map (λ (p : ℕ × ℤ). p.0) (first_output_from 0 slots)
+    → Bumps slots frames out slots frames out
+none_bumped slots frames out is = λ b next frame_of references h.
+    let none = find_none b.frames (first_held b.frames) (first_output_from 0 (map slot_of b.frames)) (agree b.frames 0 next h.rising)
+    (is ∙ ap (λ l. option_map (λ (p : ℕ × ℤ). p.0) (first_output_from 0 l)) h.slots_are) in
+    same_buffer (after_bumping references b) out (bumped_none references b (head_held b.frames ∙ none)) h
+
+pub shows_first : (slots : List Slot) (frames : List (Frame 32)) (k : ℕ) (f : Frame 32)
+    → Some k ≡ option_map (λ (p : ℕ × ℤ). p.0) (first_output_from 0 slots) → f ≡ get_or frames k f → filter_map shown_frame (f ∷ []) ≢ []
+    → ShowsFirst slots frames
+shows_first slots frames k f is f_is some = λ b next frame_of references h.
+    let o = found slots frames k references b next frame_of is h in
+    record {
+      since = o.first.entry ∷ [];
+      grows = ap (λ c. c.out) o.after;
+      some = λ nil. some (ap (λ z. filter_map shown_frame (z ∷ [])) (f_is ∙ o.frame f) ∙ nil);
+    }
+
+-- ---- how long it goes on
+
+count_slots : (fs : List Stored) → count_by (λ s. s.held) (map slot_of fs) ≡ count_by (λ s. s.held) fs
+count_slots fs = from' 0 fs
+  where
+    from' : (n : ℕ) (fs : List Stored) → fold (λ n (s : Slot). n + cond s.held 1 0) n (map slot_of fs) ≡ fold (λ n (s : Stored). n + cond s.held 1 0) n fs
+    from' n [] = refl
+    from' n (s ∷ fs) = from' (n + cond s.held 1 0) fs
+
+first_slots : (order : ℤ) (fs : List Stored) → list_all (λ s. not s.held || int_lt order s.order) (map slot_of fs) ≡ list_all (λ s. not s.held || int_lt order s.order) fs
+first_slots order [] = refl
+first_slots order (s ∷ fs) = ap (λ t. (not s.held || int_lt order s.order) && t) (first_slots order fs)
+
+same_test : (bumping : Bumping) (references : List ℕ) (slots : List Slot) (b : Buffer) → slots ≡ map slot_of b.frames → goes_on bumping slots ≡ goes_on_in bumping references b
+same_test (ForRoom a) references slots b is =
+    ap (goes_on (ForRoom a)) is
+    ∙ ap₂ (λ (n : ℕ) (first : Bool). nat_le a.capacity n && (a.is_reference || not a.existing || not first)) (length-map b.frames slot_of) (first_slots a.order b.frames)
+same_test (ForFew output a) references slots b is =
+    ap (goes_on (ForFew output a)) is ∙ ap (are_too_many output a.max_num_reorder_frames) (count_slots b.frames)
+same_test ForNone references slots b is = refl
+
+-- So many bumpings were made of those that may be; `now` is the buffer after them.
+pub record IsSoFar (bumping : Bumping) (held turn : ℕ) (slots : List Slot) (frames : List (Frame 32)) (references : List ℕ) (b : Buffer) (next : ℕ)
+    (frame_of : ℕ → Frame 32) (out out' : List Picture) : Type 0 where
+  pub now : Buffer
+  pub become : Become slots frames references b now next frame_of out out'
+  pub left : after_bumping_while (goes_on_in bumping references) references (held - turn) now ≡ after_bumping_while (goes_on_in bumping references) references held b
+
+abbrev pub SoFar : Bumping → (held turn : ℕ) (slots : List Slot) (frames : List (Frame 32)) (out : List Picture) (slots' : List Slot) (frames' : List (Frame 32))
+    (out' : List Picture) → Type 0
+SoFar bumping held turn slots frames out slots' frames' out' =
+    (b : Buffer) (next : ℕ) (frame_of : ℕ → Frame 32) (references : List ℕ) → StandFor slots frames references b next frame_of
+    → IsSoFar bumping held turn slots' frames' references b next frame_of out out'
+
+pub at_start : (bumping : Bumping) (held : ℕ) (slots : List Slot) (frames : List (Frame 32)) (out : List Picture) → SoFar bumping held 0 slots frames out slots frames out
+at_start bumping held slots frames out = λ b next frame_of references h. record {
+  now = b;
+  become = same_buffer b out refl h;
+  left = ap (λ n. after_bumping_while (goes_on_in bumping references) references n b) (let z : held - 0 ≡ held = omega arith in z);
+}
+
+goes_more : (bumping : Bumping) (references : List ℕ) (held turn : ℕ) (slots : List Slot) (b : Buffer) → turn < held → goes_on bumping slots ≡ true → slots ≡ map slot_of b.frames
+    → after_bumping_while (goes_on_in bumping references) references (held - (turn + 1)) (after_bumping references b)
+    ≡ after_bumping_while (goes_on_in bumping references) references (held - turn) b
+goes_more bumping references held turn slots b low goes is =
+    let count : suc (held - (turn + 1)) ≡ held - turn = omega arith in
+    sym (one_more (goes_on_in bumping references) references (held - (turn + 1)) b (sym (same_test bumping references slots b is) ∙ goes))
+    ∙ ap (λ n. after_bumping_while (goes_on_in bumping references) references n b) count
+
+pub one_so_far : (bumping : Bumping) (held turn : ℕ) (slots0 slots slots' : List Slot) (frames0 frames frames' : List (Frame 32)) (out0 out out' : List Picture)
+    → turn < held → goes_on bumping slots ≡ true → SoFar bumping held turn slots0 frames0 out0 slots frames out → Bumps slots frames out slots' frames' out'
+    → SoFar bumping held (turn + 1) slots0 frames0 out0 slots' frames' out'
+one_so_far bumping held turn slots0 slots slots' frames0 frames frames' out0 out out' low goes so_far bumps = λ b next frame_of references h.
+    let f = so_far b next frame_of references h in
+    record {
+      now = after_bumping references f.now;
+      become = in_turn f.become (bumps f.now next frame_of references f.become.stand);
+      left = goes_more bumping references held turn slots f.now low goes f.become.stand.slots_are ∙ f.left;
+    }
+
+-- all that may be are as many as are held
+all_are : (bumping : Bumping) (references : List ℕ) (held : ℕ) (slots : List Slot) (b : Buffer) → held ≡ count_by (λ s. s.held) slots → slots ≡ map slot_of b.frames
+    → after_bumping_while (goes_on_in bumping references) references held b ≡ after_making_room (goes_on_in bumping references) references b
+all_are bumping references held slots b count is =
+    ap (λ n. after_bumping_while (goes_on_in bumping references) references n b) (count ∙ ap (count_by (λ s. s.held)) is ∙ count_slots b.frames)
+
+ended : (bumping : Bumping) (held turn : ℕ) (slots0 slots : List Slot) (frames0 frames : List (Frame 32)) (out0 out : List Picture)
+    → held ≡ count_by (λ s. s.held) slots0 → SoFar bumping held turn slots0 frames0 out0 slots frames out
+    → ((references : List ℕ) (b : Buffer) → slots ≡ map slot_of b.frames → after_bumping_while (goes_on_in bumping references) references (held - turn) b ≡ b)
+    → BumpsWhile bumping slots0 frames0 out0 slots frames out
+ended bumping held turn slots0 slots frames0 frames out0 out count so_far end = λ b next frame_of references h.
+    let f = so_far b next frame_of references h in
+    subst (λ c. Become slots frames references b c next frame_of out0 out)
+    (sym (end references f.now f.become.stand.slots_are) ∙ f.left ∙ all_are bumping references held slots0 b count h.slots_are) f.become
+
+pub stopped : (bumping : Bumping) (held turn : ℕ) (slots0 slots : List Slot) (frames0 frames : List (Frame 32)) (out0 out : List Picture)
+    → held ≡ count_by (λ s. s.held) slots0 → goes_on bumping slots ≡ false → SoFar bumping held turn slots0 frames0 out0 slots frames out
+    → BumpsWhile bumping slots0 frames0 out0 slots frames out
+stopped bumping held turn slots0 slots frames0 frames out0 out count stop so_far =
+    ended bumping held turn slots0 slots frames0 frames out0 out count so_far
+    (λ references b is. stops (goes_on_in bumping references) references (held - turn) b (sym (same_test bumping references slots b is) ∙ stop))
+
+pub all_turns : (bumping : Bumping) (held turn : ℕ) (slots0 slots : List Slot) (frames0 frames : List (Frame 32)) (out0 out : List Picture)
+    → held ≡ count_by (λ s. s.held) slots0 → held - turn ≡ 0 → SoFar bumping held turn slots0 frames0 out0 slots frames out
+    → BumpsWhile bumping slots0 frames0 out0 slots frames out
+all_turns bumping held turn slots0 slots frames0 frames out0 out count none so_far =
+    ended bumping held turn slots0 slots frames0 frames out0 out count so_far
+    (λ references b is. ap (λ n. after_bumping_while (goes_on_in bumping references) references n b) none)
+
+-- a picture that could not be added is one of those that go out
+pub shows_while : (bumping : Bumping) (held turn : ℕ) (slots0 slots : List Slot) (frames0 frames : List (Frame 32)) (out0 out : List Picture)
+    → held ≡ count_by (λ s. s.held) slots0 → turn < held → goes_on bumping slots ≡ true → SoFar bumping held turn slots0 frames0 out0 slots frames out
+    → ShowsFirst slots frames → ShowsWhile bumping slots0 frames0
+shows_while bumping held turn slots0 slots frames0 frames out0 out count low goes so_far shows = λ b next frame_of references h.
+    let f = so_far b next frame_of references h in
+    let first = shows f.now next frame_of references f.become.stand in
+    let after = after_bumping references f.now in
+    let more = grows_while (goes_on_in bumping references) references (held - (turn + 1)) after in
+    let all : after_bumping_while (goes_on_in bumping references) references (held - (turn + 1)) after ≡ after_making_room (goes_on_in bumping references) references b =
+    goes_more bumping references held turn slots f.now low goes f.become.stand.slots_are ∙ f.left ∙ all_are bumping references held slots0 b count h.slots_are in
+    let shown : List ℕ → List Picture = filter_map (λ e. shown_frame (frame_of e)) in
+    record {
+      since = f.become.since ++ (first.since ++ more.0);
+      grows = ap (λ c. c.out) (sym all) ∙ more.1 ∙ ap (λ l. l ++ more.0) (first.grows ∙ ap (λ l. l ++ first.since) f.become.grows)
+          ∙ append_assoc (b.out ++ f.become.since) first.since more.0 ∙ append_assoc b.out f.become.since (first.since ++ more.0);
+      some = λ nil. first.some (nil_middle (shown f.become.since) (shown first.since) (shown more.0)
+          (sym (filter_map-append (λ e. shown_frame (frame_of e)) f.become.since (first.since ++ more.0)
+          ∙ ap (λ l. shown f.become.since ++ l) (filter_map-append (λ e. shown_frame (frame_of e)) first.since more.0)) ∙ nil));
+    }
+
+-- ---- the arriving frame finds its place
+
+shown_if : (frame_of : ℕ → Frame 32) (next : ℕ) (frame : Frame 32) (b : Bool) → frame_of next ≡ frame
+    → (if b then filter_map shown_frame (frame ∷ []) else []) ≡ filter_map (λ e. shown_frame (frame_of e)) (if b then next ∷ [] else [])
+shown_if frame_of next frame true is = ap (λ f. cons_option (shown_frame f) []) (sym is)
+shown_if frame_of next frame false is = refl
+
+full_is : (capacity : ℕ) (slots : List Slot) (b : Buffer) → slots ≡ map slot_of b.frames → nat_le capacity (length slots) ≡ is_full capacity b
+full_is capacity slots b is = ap (nat_le capacity) (ap length is ∙ length-map b.frames slot_of)
+
+pub goes_at_once : (slots : List Slot) (frames : List (Frame 32)) (out out' : List Picture) (frame : Frame 32) (a : ArrivingFrame)
+    → nat_le a.capacity (length slots) ≡ true → out' ≡ out ++ (if a.existing then filter_map shown_frame (frame ∷ []) else [])
+    → PlacesFrame slots frames out frame a slots frames out'
+goes_at_once slots frames out out' frame a full out_is = λ b next frame_of references h is own.
+    let arrival = arrival_of a references in
+    let placed : with_frame_placed next arrival b ≡ with_direct_output next arrival b =
+    ap (λ f. if f then with_direct_output next arrival b else with_frame next arrival b) (sym (full_is a.capacity slots b h.slots_are) ∙ full) in
+    subst (λ c. Become slots frames references b c (next + 1) frame_of out out') (sym placed) (record {
+      since = if a.existing then next ∷ [] else [];
+      grows = refl;
+      stand = record { slots_are = h.slots_are; frames_are = h.frames_are; marks = h.marks; rising = rising_more b.frames next h.rising };
+      pictures = out_is ∙ ap (λ l. out ++ l) (shown_if frame_of next frame a.existing is);
+    })
+
+pub is_stored : (slots slots' : List Slot) (frames frames' : List (Frame 32)) (out : List Picture) (frame : Frame 32) (a : ArrivingFrame)
+    → nat_le a.capacity (length slots) ≡ false → slots' ≡ slots ++ record { order = a.order; held = a.existing } ∷ [] → frames' ≡ frames ++ frame ∷ []
+    → PlacesFrame slots frames out frame a slots' frames' out
+is_stored slots slots' frames frames' out frame a full slots_is frames_is = λ b next frame_of references h is own.
+    let arrival = arrival_of a references in
+    let s : Stored = record { entry = next; order = a.order; held = a.existing } in
+    let placed : with_frame_placed next arrival b ≡ with_frame next arrival b =
+    ap (λ f. if f then with_direct_output next arrival b else with_frame next arrival b) (sym (full_is a.capacity slots b h.slots_are) ∙ full) in
+    subst (λ c. Become slots' frames' references b c (next + 1) frame_of out out) (sym placed) (record {
+      since = [];
+      grows = sym (append-nil b.out);
+      stand = stand_for slots' frames' references (with_frame next arrival b) (next + 1) frame_of
+          (slots_is ∙ ap (λ l. l ++ slot_of s ∷ []) h.slots_are ∙ sym (map-append slot_of b.frames (s ∷ [])))
+          (frames_is ∙ ap₂ (λ l f. l ++ f ∷ []) h.frames_are (sym is) ∙ sym (map-append (λ s. frame_of s.entry) b.frames (s ∷ [])))
+          (each_push (Tells frame_of references) b.frames s (told h) (ap is_used_for_reference is ∙ own))
+          (rising_push b.frames next s refl h.rising);
+      pictures = sym (append-nil out);
+    })
+
+-- ---- a frame is stored
+
+pub stored : (c new : Contents) (a : ArrivingFrame) (frame : Frame 32) (slots1 slots2 slots3 slots4 : List Slot) (frames1 frames2 frames3 frames4 : List (Frame 32))
+    (out2 out3 out4 : List Picture) → slots1 ≡ chosen (are_needed c.slots c.frames) c.slots → frames1 ≡ chosen (are_needed c.slots c.frames) c.frames
+    → BumpsWhile (ForRoom a) slots1 frames1 [] slots2 frames2 out2 → PlacesFrame slots2 frames2 out2 frame a slots3 frames3 out3
+    → BumpsWhile (ForFew c.output a) slots3 frames3 out3 slots4 frames4 out4
+    → new ≡ record { slots = slots4; frames = frames4; output = c.output; failed = false } → Stores c frame a out4 new
+stored c new a frame slots1 slots2 slots3 slots4 frames1 frames2 frames3 frames4 out2 out3 out4 slots_is frames_is room placed few new_is =
+    λ b next frame_of references h marks is own.
+    let start : StandFor c.slots c.frames references b next frame_of = record { slots_are = h.slots; frames_are = h.frames; marks = marks; rising = h.rising } in
+    let one = room (record b { frames = needed_frames references b.frames }) next frame_of references (needless_leave slots1 frames1 start slots_is frames_is) in
+    let two = placed _ next frame_of references one.stand is own in
+    let three = few _ (next + 1) frame_of references two.stand in
+    let all = in_turn (in_turn one two) three in
+    let last = after_frame c.output next (arrival_of a references) b in
+    record {
+      buffer = subst (λ n. IsBuffer n last (next + 1) frame_of) (sym new_is)
+          (record { works = refl; slots = all.stand.slots_are; frames = all.stand.frames_are; rising = all.stand.rising });
+      pictures = all.pictures ∙ ap (filter_map (λ e. shown_frame (frame_of e))) (sym (grown b last all.since all.grows));
+    }
+
+-- ---- all pictures go out
+
+abbrev stands_in : List ℕ → ℕ → Bool
+stands_in es e = list_any (λ r. r == e) es
+
+stands_filtered : (p : ℕ → Bool) (e : ℕ) (es : List ℕ) → stands_in es e ≡ true → stands_in (filter p es) e ≡ p e
+stands_filtered p e es h = all es ∙ ap (λ b. p e && b) h ∙ both (p e)
+  where
+    both : (b : Bool) → (b && true) ≡ b
+    both true = refl
+    both false = refl
+
+    none : (b : Bool) → false ≡ (b && false)
+    none true = refl
+    none false = refl
+
+    by : (x : ℕ) (es : List ℕ) (t q r : Bool) → (x == e) ≡ t → p x ≡ q → p e ≡ r → stands_in (filter p es) e ≡ (p e && stands_in es e)
+        → stands_in (cond q (x ∷ filter p es) (filter p es)) e ≡ (p e && ((x == e) || stands_in es e))
+    by x es true true true t q r more = rw (t, r) refl
+    by x es true true false t q r more = absurd (false≢true (sym r ∙ ap p (sym (eqb-true x e t)) ∙ q))
+    by x es true false true t q r more = absurd (false≢true (sym q ∙ ap p (eqb-true x e t) ∙ r))
+    by x es true false false t q r more = rw r (more ∙ rw r refl)
+    by x es false true r' t q r more = rw t more
+    by x es false false r' t q r more = rw t more
+
+    all : (es : List ℕ) → stands_in (filter p es) e ≡ (p e && stands_in es e)
+    all [] = none (p e)
+    all (x ∷ es) = by x es (x == e) (p x) (p e) refl refl refl (all es)
+
+each_among : (es : List ℕ) (frames : List Stored) → ((e : ℕ) → stands_in (map (λ s. s.entry) frames) e ≡ true → stands_in es e ≡ true)
+    → Each (λ e. stands_in es e ≡ true) frames
+each_among es [] up = tt
+each_among es (s ∷ frames) up = (
+  up s.entry (or_left (s.entry == s.entry) (stands_in (map (λ s. s.entry) frames) s.entry) (eq-eqb s.entry s.entry refl)),
+  each_among es frames (λ e h. up e (or_right (s.entry == e) (stands_in (map (λ s. s.entry) frames) e) h)),
+)
+
+-- the reference frames that the marks tell of
+record HasReferences (c : Contents) (b : Buffer) (next : ℕ) (frame_of : ℕ → Frame 32) : Type 0 where
+  references : List ℕ
+  stand : StandFor c.slots c.frames references b next frame_of
+
+has_references : (c : Contents) (b : Buffer) (next : ℕ) (frame_of : ℕ → Frame 32) → IsBuffer c b next frame_of → HasReferences c b next frame_of
+has_references c b next frame_of h =
+    let entries : List ℕ = map (λ s. s.entry) b.frames in
+    let p : ℕ → Bool = λ e. is_used_for_reference (frame_of e) in
+    record {
+      references = filter p entries;
+      stand = stand_for c.slots c.frames (filter p entries) b next frame_of h.slots h.frames
+          (each_also (λ e. stands_in entries e ≡ true) (Tells frame_of (filter p entries)) (λ e among. sym (stands_filtered p e entries among)) b.frames
+          (each_among entries b.frames (λ e among. among))) h.rising;
+    }
+
+pub all_out : (c new : Contents) (slots : List Slot) (frames : List (Frame 32)) (out : List Picture) → BumpsWhile ForNone c.slots c.frames [] slots frames out
+    → new ≡ record { slots = []; frames = []; output = c.output; failed = false } → OutputsAll c out new
+all_out c new slots frames out bumps new_is = λ b next frame_of h.
+    let has = has_references c b next frame_of h in
+    let all = bumps b next frame_of has.references has.stand in
+    record {
+      buffer = subst (λ n. IsBuffer n (with_all_output b) next frame_of) (sym new_is) (record { works = refl; slots = refl; frames = refl; rising = tt });
+      pictures = all.pictures ∙ ap (filter_map (λ e. shown_frame (frame_of e)))
+          (sym (grown b (with_all_output b) all.since (all_go_out_by_bumping has.references b next h.rising ∙ all.grows)));
+    }
+
+pub shows_some : (c : Contents) → ShowsWhile ForNone c.slots c.frames → OutputsSome c
+shows_some c shows = λ b next frame_of h nil.
+    let has = has_references c b next frame_of h in
+    let all = shows b next frame_of has.references has.stand in
+    all.some (ap (filter_map (λ e. shown_frame (frame_of e)))
+    (sym (grown b (with_all_output b) all.since (all_go_out_by_bumping has.references b next h.rising ∙ all.grows))) ∙ nil)
