@@ -162,7 +162,9 @@ of_none : (f : Format) (output : Output) (u left held holds : Option (List ℕ))
 of_none f output u left held holds (Ok report) (bytes, all, read, wrote, told, wanted) = (bytes, all, read_of_none u left bytes all read, wrote, told, wanted)
 of_none f output u left held holds (Err Read) (bytes, read, rest) = (bytes, read_of_none u left bytes false read, rest)
 of_none f output u left held holds (Err Endless) (bytes, read, wrote, many) = (bytes, read_of_none u left bytes false read, wrote, many)
-of_none f output u left held holds (Err _) (bytes, all, read, rest) = (bytes, all, read_of_none u left bytes all read, rest)
+of_none f output u left held holds (Err Write) (bytes, all, read, rest) = (bytes, all, read_of_none u left bytes all read, rest)
+of_none f output u left held holds (Err Memory) (bytes, all, read, rest) = (bytes, all, read_of_none u left bytes all read, rest)
+of_none f output u left held holds (Err Size) (bytes, all, read, rest) = (bytes, all, read_of_none u left bytes all read, rest)
 
 pub behind_front : (f : Format) (output : Output) (unread middle left held holds : Option (List ℕ)) (front : List ℕ) (r : Result Report RunFault) → Consumes unread middle front
     → DecodesAs f output (prepend_known front middle) left held holds r → DecodesAs f output unread left held holds r

@@ -11,16 +11,6 @@ use Rattle.avc_run.specs.declared.fault.RunFault.TheVariants.{Write}
 use Rattle.avc_formats.specs.Text.{newline}
 use Rattle.avc_run.proofs.FaultLines.{stopped_after}
 
--- a fault in the first part
-pub first_broken : (old new : Option (List ℕ)) (a b : List ℕ) → WritesFirst old new a → WritesFirst old new (a ++ b)
-first_broken old new a b w =
-    let short : w.count ≤ length a = omega (arith, w.fewer) in
-    record {
-      count = w.count;
-      fewer = omega (arith, w.fewer, length-append a b);
-      written = subst (Appends old new) (sym (take-append-le w.count a b short)) w.written;
-    }
-
 -- a fault in the second
 pub second_broken : (old mid new : Option (List ℕ)) (a b : List ℕ) (n : ℕ) → Appends old mid a → n < length b → Appends mid new (take n b) → WritesFirst old new (a ++ b)
 second_broken old mid new a b n first fewer second = stopped_after old mid new a b first (record { count = n; fewer = fewer; written = second })

@@ -1,8 +1,8 @@
 -- The events of a stream, from those of its pieces, where each start begins anew.
-use Rattle.std.proofs.Common.{ℕ, ◌≡◌, ◌||◌, Bool, true, false, cond, not, if◌then◌else◌, List, [], ◌∷◌, ◌++◌, map, All, arith}
+use Rattle.std.proofs.Common.{ℕ, ◌≡◌, Bool, true, false, not, if◌then◌else◌, List, [], ◌∷◌, ◌++◌, map, All, arith}
 use Rattle.std.proofs.Common.{refl, ap, ap₂, sym, ◌∙◌, append_assoc, append-nil}
-use Rattle.std.specs.List.{flat_map, list_all, list_any, take_while}
-use Rattle.std.proofs.lemmas.List.Elements.{All-nil, All-cons, All-head, All-tail, All-append, All-same, All-push}
+use Rattle.std.specs.List.{flat_map, list_all}
+use Rattle.std.proofs.lemmas.List.Elements.{All-nil, All-cons, All-head, All-tail, All-same, All-push}
 use Rattle.std.proofs.lemmas.List.Sums.{take_while-cons}
 use Rattle.avc_annexb.specs.Laws.{UnitsAreWhole, UnitsAreWithin, WrittenUnitsStandAlone, contents}
 use Rattle.avc_annexb.specs.Units.{units}

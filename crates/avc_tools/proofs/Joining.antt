@@ -1,10 +1,9 @@
 -- The events of a piece, and of what it leaves out.
-use Rattle.std.proofs.Common.{◌≡◌, ◌⊎◌, ℕ, Bool, true, false, cond, not, ◌&&◌, ◌||◌, ◌==◌, nat_le, if◌then◌else◌, inl, inr, List, [], ◌∷◌, ◌++◌, reverse, All}
+use Rattle.std.proofs.Common.{◌≡◌, ◌⊎◌, ℕ, Bool, true, false, not, ◌&&◌, ◌||◌, ◌==◌, nat_le, if◌then◌else◌, inl, inr, List, [], ◌∷◌, ◌++◌, reverse, All}
 use Rattle.std.proofs.Common.{Option, Some, None, Ok, Err, refl, ap, sym, ◌∙◌, append_assoc, append-nil, arith}
 use Rattle.std.proofs.lemmas.Bool.Decides.{nat_tests}
 use Rattle.std.specs.List.{filter, take_while}
-use Rattle.std.proofs.lemmas.List.Elements.{All-nil, All-cons, All-head, All-tail, All-same, All-filter, All-weaker}
-use Rattle.std.proofs.lemmas.List.Sums.{take_while-cons}
+use Rattle.std.proofs.lemmas.List.Elements.{All-head, All-tail, All-filter, All-weaker}
 use Rattle.avc_types.specs.declared.fault.Fault.TheVariants as faults
 use Rattle.avc_annexb.specs.Units.{forbidden_zero_bit, nal_unit_type}
 use Rattle.avc_annexb.specs.declared.unit.Unit.{Unit}

@@ -1,11 +1,11 @@
 -- A piece whose stream comes is written as far as it is settled.
-use Rattle.std.proofs.Common.{◌≡◌, ◌≤◌, ℕ, Bool, true, false, if◌then◌else◌, List, [], ◌∷◌, ◌++◌, length, is_some, refl, ap, sym, subst, ◌∙◌, arith, append_assoc, append-nil, inl, inr, ◌⊎◌}
+use Rattle.std.proofs.Common.{◌≡◌, ◌≤◌, ℕ, Bool, true, false, if◌then◌else◌, List, [], ◌∷◌, ◌++◌, length, is_some, refl, ap, sym, subst, ◌∙◌, arith, append_assoc, append-nil, ◌⊎◌}
 use Rattle.avc_annexb.specs.SplitterState.{SplitterState, after_feed}
 use Rattle.avc_annexb.specs.Units.{units}
 use Rattle.avc_annexb.specs.declared.unit.Unit.{Unit}
 use Rattle.avc_tools.specs.PieceSoFar.{bytes_of, numbered_piece, piece_text}
 use Rattle.avc_tools.specs.PieceSoFar.{is_over as piece_is_over}
-use Rattle.avc_tools.specs.Stages.{IsCutOff, IsCutOn, IsCutting, Stage, StandsAt, next, over, phase_of, piece_of, stage_after, stage_of, text_of, waiting, writing}
+use Rattle.avc_tools.specs.Stages.{IsCutOff, IsCutOn, IsCutting, Stage, StandsAt, next, phase_of, piece_of, stage_after, stage_of, text_of, waiting}
 use Rattle.avc_tools.specs.Streams.{StreamSoFar, after_end, after_piece, after_units_left, units_left}
 use Rattle.avc_tools.specs.declared.cutter.Cutter.{Cutter}
 use Rattle.avc_tools.specs.declared.cutter.CutPhase.{CutPhase}
@@ -106,8 +106,7 @@ over_in phases.Over = true
 
 begun_by : (s : Stage) (ended : Bool) → is_some (piece_of s ended) ≡ begun_in (phase_of s)
 begun_by (waiting left before) ended = refl
-begun_by (writing before c after) ended = refl
-begun_by (over before c after) ended = refl
+begun_by _ ended = refl
 
 over_by : (s : Stage) → is_over s ≡ over_in (phase_of s)
 over_by s = grind arith

@@ -16,10 +16,7 @@ use Rattle.avc_tools.proofs.Slices.{after_is_rest, part_from}
 -- the five parts
 joined : (sets leading : List Unit) (u : Unit) (rest : List Unit)
     → ((flat_map written sets ++ flat_map written leading) ++ written u) ++ flat_map written rest ≡ flat_map written (sets ++ leading ++ u ∷ rest)
-joined sets leading u rest =
-    append_assoc (flat_map written sets ++ flat_map written leading) (written u) (flat_map written rest)
-    ∙ ap (λ w. w ++ flat_map written (u ∷ rest)) (sym (flat_map-append written sets leading))
-    ∙ sym (flat_map-append written (sets ++ leading) (u ∷ rest))
+joined sets leading u rest = rw (flat_map-append written (sets ++ leading), flat_map-append written sets) (append_assoc _ (written u) (flat_map written rest))
 
 pub piece_written : (us : List Unit) (place k : ℕ) (u : Unit) (sets : SetsInForce) (s0 s1 s2 s3 s4 s5 : List ℕ) → place < length us → u ≡ get_or us place u → HasSets (take place us) sets
     → k ≡ length (through_slices (take place us)) → s0 ≡ []
@@ -58,13 +55,7 @@ pub pieces_more : (us : List Unit) (i : ℕ) (u : Unit) (all more : List (List �
 pieces_more us i u all more low at sum is =
     let here : drop i us ≡ u ∷ drop (i + 1) us = drop_more us i u low ∙ ap (λ v. v ∷ drop (i + 1) us) (sym at) in
     let front : take (i + 1) us ≡ take i us ++ u ∷ [] = take_more us i u low ∙ ap (λ y. take i us ++ y ∷ []) (sym at) in
-    ap (λ t. t ++ pieces_from (take (i + 1) us) (drop (i + 1) us)) is
-    ∙ append_assoc all (pieces_at us i) (pieces_from (take (i + 1) us) (drop (i + 1) us))
-    ∙ ap (λ t. all ++ (pieces_at us i ++ pieces_from t (drop (i + 1) us))) front
-    ∙ ap (λ t. all ++ (pieces_in (take i us) t ++ pieces_from (take i us ++ u ∷ []) (drop (i + 1) us))) here
-    ∙ ap (λ t. all ++ t) (sym (pieces_first (take i us) u (drop (i + 1) us)))
-    ∙ ap (λ t. all ++ pieces_from (take i us) t) (sym here)
-    ∙ sum
+    rw (is, front, append_assoc, here) (rw (here, pieces_first (take i us) u (drop (i + 1) us)) at sum)
 
 pub pieces_all : (us : List Unit) (i : ℕ) (all : List (List ℕ)) → length us ≤ i → all ++ pieces_from (take i us) (drop i us) ≡ pieces_from [] us → all ≡ pieces_from [] us
 pieces_all us i all low sum = sym (append-nil all) ∙ ap (λ t. all ++ pieces_from (take i us) t) (sym (drop_all i us low)) ∙ sum

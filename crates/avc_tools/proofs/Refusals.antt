@@ -18,7 +18,7 @@ use Rattle.avc_params.specs.Tables.{Sets, sets_after}
 use Rattle.avc_params.specs.declared.pps.Pps.{Pps}
 use Rattle.avc_params.specs.declared.sps.Sps.{Sps}
 use Rattle.avc_slice.specs.declared.slice.Slice.{Slice}
-use Rattle.avc_units.specs.Grouping.{Kind, OpenPictureFacts, boundary, ends_picture, is_start, kind, kind_of, no_effect, other, partition, pps, rbsp_of}
+use Rattle.avc_units.specs.Grouping.{Kind, OpenPictureFacts, ends_picture, is_start, kind, kind_of, no_effect, pps, rbsp_of}
 use Rattle.avc_units.specs.Grouping.{reads_zero, refusal_of, running_step, set_fault, slice, slice_in, slice_step, sps, step, unreadable, waiting_step}
 use Rattle.avc_units.specs.declared.step.Next.{Next}
 use Rattle.avc_units.specs.declared.step.Next.TheVariants.{Nothing, Refusal, FaultOfOpen, FaultOfOwn, Begins, Continues}

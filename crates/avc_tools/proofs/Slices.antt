@@ -56,9 +56,7 @@ pub split_at_slices : (us : List Unit) → through_slices us ++ after_slices us 
 split_at_slices us =
     let others = take_while is_other (reverse us) in
     sym (reverse-append others (drop (length (reverse others)) (reverse us)))
-    ∙ ap (λ n. reverse (others ++ drop n (reverse us))) (length-reverse others)
-    ∙ ap reverse (front_and_rest is_other (reverse us))
-    ∙ reverse-reverse us
+    ∙ rw (length-reverse, front_and_rest is_other (reverse us), reverse-reverse) refl
 
 pub through_is_front : (us : List Unit) → through_slices us ≡ take (length (through_slices us)) us
 through_is_front us = sym (take-append_seam (through_slices us) (after_slices us)) ∙ ap (take (length (through_slices us))) (split_at_slices us)

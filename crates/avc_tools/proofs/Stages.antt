@@ -15,9 +15,8 @@ use Rattle.avc_tools.specs.Pieces.{after_slices, is_slice, leads, piece, pieces_
 use Rattle.avc_tools.specs.Stages.{Stage, begun, made, next, over, piece_of, stage_after, staying, text_of, waiting, writing}
 use Rattle.avc_tools.specs.Streams.{OnlyGrows}
 use Rattle.avc_tools.proofs.Lengths.{whole_units}
-use Rattle.avc_tools.proofs.Slices.{any_by, goes_before, goes_on, rest_by, split_at_slices, stops, through_other, through_slice}
+use Rattle.avc_tools.proofs.Slices.{goes_before, rest_by, split_at_slices, stops, through_other, through_slice}
 use Rattle.std.proofs.lemmas.List.Sums.{take_while-cons}
-use Rattle.std.specs.Prelude.{Option}
 
 -- ---- stages
 

@@ -30,9 +30,7 @@ one_if : (p : Unit → Bool) (u : Unit) (b : Bool) → p u ≡ b → flat_map wr
 one_if p u b e = grind (arith, append-nil)
 
 filtered_more : (p : Unit → Bool) (us : List Unit) (u : Unit) → flat_map written (filter p (us ++ u ∷ [])) ≡ flat_map written (filter p us) ++ (if p u then written u else [])
-filtered_more p us u =
-    ap (flat_map written) (filter-append p us (u ∷ [])) ∙ flat_map-append written (filter p us) (filter p (u ∷ []))
-    ∙ ap (λ t. flat_map written (filter p us) ++ t) (one_if p u (p u) refl)
+filtered_more p us u = rw (filter-append p us (u ∷ []), flat_map-append written (filter p us), one_if p u (p u) refl) refl
 
 pub leading_none : (before : List Unit) (u : Unit) → is_slice u ≡ true → leading (before ++ u ∷ []) ≡ []
 leading_none before u e = ap (λ us. flat_map written (filter leads us)) (after_slice before u e)
@@ -49,11 +47,8 @@ Passed left now true = left ≡ now + 1
 Passed left now false = left ≡ now
 
 next_passed : (left now : ℕ) (before : List Unit) (u : Unit) (b : Bool) → is_start u ≡ b → Passed left now b → next (waiting left before) u ≡ waiting now (before ++ u ∷ [])
-next_passed left now before u true e h =
-    ap (λ x. if x then begun left before u else waiting left (before ++ u ∷ [])) e
-    ∙ ap (λ n. begun n before u) (let same : left ≡ suc now = omega (arith, h) in same)
-next_passed left now before u false e h =
-    ap (λ x. if x then begun left before u else waiting left (before ++ u ∷ [])) e ∙ ap (λ n. waiting n (before ++ u ∷ [])) h
+next_passed left now before u true e h = let same : left ≡ suc now = omega (arith, h) in rw (e, same) refl
+next_passed left now before u false e h = rw (e, h) refl
 
 waited : (left : ℕ) (before : List Unit) (u : Unit) (b : Bool) (old new : Cutter) (piece : List ℕ) → IsWaiting left before old → is_start u ≡ b → Passed old.left new.left b → new.phase ≡ phases.Waiting
     → AreReplaced is_sps sps_record (set_unit u) (written u) old.sets.sps.items new.sets.sps.items → AreReplaced is_pps pps_record (set_unit u) (written u) old.sets.pps.items new.sets.pps.items
