@@ -1,17 +1,15 @@
 -- Units are taken one after the other.
-use Rattle.std.proofs.Common.{◌≡◌, ◌≤◌, ℕ, Bool, true, false, List, [], ◌∷◌, ◌++◌, length, if◌then◌else◌, refl, ap, sym, ◌∙◌, append_assoc, append-nil}
-use Rattle.avc_annexb.specs.SplitterState.{SplitterState, after_feed}
+use Rattle.avc_info.proofs.Common.{◌≡◌, ◌≤◌, ℕ, Bool, true, false, List, [], ◌∷◌, ◌++◌, length, if◌then◌else◌, refl, ap, sym, ◌∙◌}
+use Rattle.avc_info.proofs.Common.{append_assoc, append-nil, SplitterState, after_feed, AreLeft, drained, StreamSoFar, after_end}
+use Rattle.avc_info.proofs.Common.{after_piece, after_units_left, units_left, AreNoted, info_so_far}
 use Rattle.avc_annexb.specs.Units.{units}
 use Rattle.avc_annexb.specs.declared.unit.Unit.{Unit}
 use Rattle.avc_params.specs.Tables.{sets_after}
 use Rattle.avc_params.specs.declared.set_unit.SetUnit.{SetUnit}
 use Rattle.avc_units.specs.Grouping.{list_of, set_unit, set_units}
-use Rattle.avc_tools.proofs.Growing.{AreLeft, drained}
 use Rattle.avc_tools.proofs.Lengths.{whole_units}
 use Rattle.avc_tools.proofs.Shown.{set_units-append}
-use Rattle.avc_tools.specs.Streams.{StreamSoFar, after_end, after_piece, after_units_left, units_left}
 use Rattle.avc_info.specs.Facts.{no_facts}
-use Rattle.avc_info.specs.Info.{AreNoted, info_so_far}
 use Rattle.avc_info.specs.Noting.{after_unit, facts_after}
 use Rattle.avc_info.specs.declared.stream_facts.StreamFacts.{StreamFacts}
 

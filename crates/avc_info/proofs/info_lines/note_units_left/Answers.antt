@@ -1,5 +1,4 @@
-use Rattle.avc_tools.specs.Streams.{max_unit}
-use Rattle.avc_tools.proofs.Draining.{all_taken, begun, one_more}
+use Rattle.avc_info.proofs.Common.{max_unit, all_taken, begun, one_more}
 use Rattle.avc_info.proofs.Noted.{noted_more, noted_none}
 use Rattle.avc_info.proofs.info_lines.note_units_left.Goals as goal
 

@@ -1,6 +1,4 @@
-use Rattle.avc_annexb.specs.SplitterState.{units_waiting}
-use Rattle.avc_tools.specs.Streams.{max_unit}
-use Rattle.avc_tools.proofs.Draining.{IsDraining}
+use Rattle.avc_info.proofs.Common.{units_waiting, max_unit, IsDraining}
 use Rattle.avc_info.proofs.Noted.{IsNoted}
 use Rattle.avc_info.proofs.info_lines.note_units_left.Given as goal
 

@@ -1,8 +1,4 @@
-use Rattle.std.proofs.Common.{◌∙◌, ap, refl}
-use Rattle.serde_json.proofs.OnLiterals.{serde_json_on_literals}
-use Rattle.serde_json.proofs.Views.{view-Object}
-use Rattle.serde_json.specs.Data.{object}
-use Rattle.serde_json.specs.View.{members_view}
+use Rattle.avc_info.proofs.Common.{◌∙◌, ap, refl, serde_json_on_literals, view-Object, object, members_view}
 use Rattle.avc_info.proofs.Members.{with_one}
 use Rattle.avc_info.proofs.json.facts_value.Goals as goal
 

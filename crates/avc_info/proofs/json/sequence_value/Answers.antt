@@ -1,8 +1,4 @@
-use Rattle.std.proofs.Common.{◌∙◌, ap, refl, rules}
-use Rattle.serde_json.proofs.OnLiterals.{serde_json_on_literals}
-use Rattle.serde_json.proofs.Views.{view-Object}
-use Rattle.serde_json.specs.Data.{object, string}
-use Rattle.serde_json.specs.View.{members_view}
+use Rattle.avc_info.proofs.Common.{◌∙◌, ap, refl, rules, serde_json_on_literals, view-Object, object, string, members_view}
 use Rattle.avc_info.specs.Json.{count}
 use Rattle.avc_info.specs.Text.{level_name, profile_name}
 use Rattle.avc_info.proofs.Members.{with_one}

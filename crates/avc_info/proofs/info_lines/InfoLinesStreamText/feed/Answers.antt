@@ -1,7 +1,4 @@
-use Rattle.std.proofs.Common.{ap, sym, ◌∙◌, ◌++◌, append-nil}
-use Rattle.avc_tools.specs.Streams.{StreamSoFar, max_unit}
-use Rattle.avc_tools.proofs.Growing.{left_by_feed}
-use Rattle.avc_info.specs.Info.{info_so_far}
+use Rattle.avc_info.proofs.Common.{ap, sym, ◌∙◌, ◌++◌, append-nil, StreamSoFar, max_unit, left_by_feed, info_so_far}
 use Rattle.avc_info.proofs.Noted.{feed_keeps_end, noted_again, nothing_yet, open_still, stays_by_piece}
 use Rattle.avc_info.proofs.info_lines.InfoLinesStreamText.feed.Goals as goal
 

@@ -1,7 +1,4 @@
-use Rattle.std.proofs.Common.{ap, sym, ◌∙◌, ◌++◌, append-nil, arith, refl, true}
-use Rattle.avc_tools.specs.Streams.{StreamSoFar, max_unit}
-use Rattle.avc_tools.proofs.Growing.{left_by_finish}
-use Rattle.avc_info.specs.Info.{info_so_far}
+use Rattle.avc_info.proofs.Common.{ap, sym, ◌∙◌, ◌++◌, append-nil, arith, refl, true, StreamSoFar, max_unit, left_by_finish, info_so_far}
 use Rattle.avc_info.proofs.Noted.{noted_again, stays_by_end, told_at_end}
 use Rattle.avc_info.proofs.info_lines.InfoLinesStreamText.finish.Goals as goal
 
