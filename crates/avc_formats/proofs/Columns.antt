@@ -1,9 +1,7 @@
 -- Numbers in columns.
-use Rattle.std.proofs.Common.{◌≡◌, ℕ, zero, suc, ◌-◌, ◌^◌, false, List, [], ◌∷◌, ◌++◌, length, replicate, arith, refl, ap}
+use Rattle.avc_formats.proofs.Common.{◌≡◌, ℕ, zero, suc, ◌-◌, ◌^◌, false, List, [], ◌∷◌, ◌++◌, length, replicate, arith, refl, ap}
+use Rattle.avc_formats.proofs.Common.{char_count, decimal, format_spec, padded_integral, styled_decimal, append-nil, column}
 use Rattle.std.specs.List.{repeat}
-use Rattle.std.specs.Fmt.{char_count, decimal, format_spec, padded_integral, styled_decimal}
-use Rattle.std.proofs.lemmas.List.{append-nil}
-use Rattle.avc_formats.specs.FrameMd5.{column}
 
 spaces : (n : ℕ) → repeat {A = ℕ} n (32 ∷ []) ≡ replicate n 32
 spaces zero = refl

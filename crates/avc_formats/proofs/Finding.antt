@@ -1,18 +1,10 @@
 -- Units are taken one after the other, until decoding can start with one.
-use Rattle.std.proofs.Common.{◌≡◌, true, false, List, [], ◌∷◌, ◌++◌, Option, Some, None, refl, ap, sym, subst, ◌∙◌, append_assoc, append-nil, arith}
-use Rattle.std.specs.Prelude.{is_some}
-use Rattle.avc_annexb.specs.SplitterState.{SplitterState, after_next_unit, next_unit_of}
+use Rattle.avc_formats.proofs.Common.{◌≡◌, true, false, List, [], ◌∷◌, ◌++◌, Option, Some, None, refl, ap, sym, subst, ◌∙◌, append_assoc}
+use Rattle.avc_formats.proofs.Common.{append-nil, arith, is_some, SplitterState, after_next_unit, next_unit_of, SetUnit, Sps, list_of}
+use Rattle.avc_formats.proofs.Common.{set_unit, set_units, IsDraining, one_more, set_units-append, sets_then, units_left, max_unit}
+use Rattle.avc_formats.proofs.Common.{first_of, first_sps, starting_sps, IsFound, IsSaid, Presentation}
 use Rattle.avc_annexb.specs.declared.unit.Unit.{Unit}
 use Rattle.avc_params.specs.Tables.{sets_after}
-use Rattle.avc_params.specs.declared.set_unit.SetUnit.{SetUnit}
-use Rattle.avc_params.specs.declared.sps.Sps.{Sps}
-use Rattle.avc_units.specs.Grouping.{list_of, set_unit, set_units}
-use Rattle.avc_tools.proofs.Draining.{IsDraining, one_more}
-use Rattle.avc_tools.proofs.Shown.{set_units-append, sets_then}
-use Rattle.avc_tools.specs.Streams.{units_left}
-use Rattle.avc_run.specs.Decoding.{max_unit}
-use Rattle.avc_formats.specs.Front.{first_of, first_sps, starting_sps, IsFound, IsSaid}
-use Rattle.avc_formats.specs.declared.presentation.Presentation.{Presentation}
 
 -- ---- the first set
 

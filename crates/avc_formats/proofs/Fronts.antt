@@ -1,28 +1,17 @@
 -- The front of a stream, piece after piece.
 use Rattle.std.proofs.Common.{◌≡◌, ℕ, ◌≤◌, Bool, true, false, List, [], ◌++◌, length, take, Option, Some, None, Result, Ok, Err, refl, ap, sym, subst, ◌∙◌, append-nil, arith}
-use Rattle.std.specs.Prelude.{if◌then◌else◌, unwrap_or, IsErrAnd}
-use Rattle.std.specs.Io.KnownBytes.{prepend_known, Consumes, IsAtEnd, Keeps}
-use Rattle.std.proofs.KnownBytes.{Appends-nil, Consumes-kept, Consumes-nil, Consumes-trans}
+use Rattle.avc_formats.proofs.Common.{if◌then◌else◌, unwrap_or, IsErrAnd, prepend_known, Consumes, IsAtEnd, Keeps, Appends-nil}
+use Rattle.avc_formats.proofs.Common.{Consumes-kept, Consumes-nil, Consumes-trans, SplitterState, after_feed, after_finish, new_splitter}
+use Rattle.avc_formats.proofs.Common.{SetUnit, Sps, set_units, set_units-append, units_left, max_unit, DecodesAs, Format, HasRead, RunFault}
+use Rattle.avc_formats.proofs.Common.{Read, Endless, Write, Memory, Size, first_sps, front_length, in_front, stream_sps, Decodes, IsFound}
+use Rattle.avc_formats.proofs.Common.{IsFront, IsLooking, IsSaid, NoFront, Presentation}
 use Rattle.avc_annexb.specs.Laws.{UnitsStay}
-use Rattle.avc_annexb.specs.SplitterState.{SplitterState, after_feed, after_finish, new_splitter}
 use Rattle.avc_annexb.specs.Units.{units}
-use Rattle.avc_params.specs.declared.set_unit.SetUnit.{SetUnit}
-use Rattle.avc_params.specs.declared.sps.Sps.{Sps}
-use Rattle.avc_units.specs.Grouping.{set_units}
 use Rattle.avc_tools.proofs.Growing.{AreLeft, drained, left_by_feed, left_by_finish}
-use Rattle.avc_tools.proofs.Shown.{set_units-append}
-use Rattle.avc_tools.specs.Streams.{units_left}
 use Rattle.avc_run.specs.Output.{Output}
-use Rattle.avc_run.specs.Decoding.{max_unit}
-use Rattle.avc_run.specs.Formats.{DecodesAs, Format}
-use Rattle.avc_run.specs.Reading.{HasRead}
-use Rattle.avc_run.specs.declared.fault.RunFault.{RunFault}
-use Rattle.avc_run.specs.declared.fault.RunFault.TheVariants.{Read, Endless, Write, Memory, Size}
 use Rattle.avc_run.specs.declared.report.Report.{Report}
 use Rattle.avc_run.proofs.Running.{err_is}
-use Rattle.avc_formats.specs.Front.{first_sps, front_length, in_front, stream_sps, Decodes, IsFound, IsFront, IsLooking, IsSaid, NoFront}
 use Rattle.avc_formats.specs.Presenting.{no_presentation, Says}
-use Rattle.avc_formats.specs.declared.presentation.Presentation.{Presentation}
 use Rattle.avc_formats.proofs.Finding.{first_behind}
 use Rattle.avc_run.proofs.StreamWriting.{nothing_more}
 

@@ -1,14 +1,7 @@
 -- What is written in two parts.
 use Rattle.std.proofs.Common.{true, ◌≡◌, ℕ, ◌+◌, ◌<◌, ◌≤◌, List, [], ◌∷◌, ◌++◌, length, take, Option, Result, Ok, Err, IfErr, ap, sym, subst, ◌∙◌, arith, length-append, suc}
 use Rattle.std.proofs.lemmas.List.{take-append-le}
-use Rattle.std.specs.Prelude.{IsErrAnd}
-use Rattle.std.specs.Io.KnownBytes.{Appends}
-use Rattle.std.proofs.KnownBytes.{Appends-nil, Appends-trans}
-use Rattle.avc_run.specs.Formats.{StopsPicture}
-use Rattle.avc_run.specs.Reading.{WritesFirst}
-use Rattle.avc_run.specs.declared.fault.RunFault.{RunFault}
-use Rattle.avc_run.specs.declared.fault.RunFault.TheVariants.{Write}
-use Rattle.avc_formats.specs.Text.{newline}
+use Rattle.avc_formats.proofs.Common.{IsErrAnd, Appends, Appends-nil, Appends-trans, StopsPicture, WritesFirst, RunFault, Write, newline}
 use Rattle.avc_run.proofs.FaultLines.{stopped_after}
 
 -- a fault in the second

@@ -1,25 +1,19 @@
 -- Residual blocks read from their bits.
 use Rattle.std.proofs.Common.{◌≡◌, ◌≢◌, ℕ, zero, suc, ◌+◌, ◌-◌, ◌<◌, ◌≤◌, ◌<ℤ◌, ℤ, pos, negsuc, neg_ℤ, nat_abs, List, [], ◌∷◌, ◌++◌, length, take, drop, reverse, Bool, true, false, refl, ap, subst, ◌∙◌, sym, arith, inl, inr, append_assoc, append-nil, length-append}
-use Rattle.std.specs.Prelude.{Option, Some, None, ◌==◌, ◌||◌, if◌then◌else◌, int_lt, nat_lt, replicate}
+use Rattle.avc_make.proofs.Common.{Option, Some, None, ◌==◌, ◌||◌, if◌then◌else◌, int_lt, nat_lt, replicate, flat_map, sum, zip, nat_tests}
+use Rattle.avc_make.proofs.Common.{cases_eq, cases_lt, eq-eqb, ne_eqb, le-leb, le-ltb, lt-ltb, length-drop, length-map, length-replicate}
+use Rattle.avc_make.proofs.Common.{reverse-reverse, take-append-drop, Read, ◌>>=◌, bits_of, give, or_none, times, u, IsReadBack, IsToken}
+use Rattle.avc_make.proofs.Common.{coeff_token, run_before, token, total_zeros, run_word, token_word, zeros_word, run_back, run_whole}
+use Rattle.avc_make.proofs.Common.{token_back, token_whole, zeros_back, AreCodes, BlocksAreRead, HasCodes, IsCode, after_zeros, block_bits}
+use Rattle.avc_make.proofs.Common.{code_of_level, coded, first_length, least_code, level_bits, levels_bits, ones_first, prefix_of, run_bits}
+use Rattle.avc_make.proofs.Common.{runs_bits, runs_of, sign_bits, values_of, zeros_bits, Each, ints}
 use Rattle.std.specs.Option.{is_some}
-use Rattle.std.specs.List.{flat_map, sum, zip}
-use Rattle.std.proofs.lemmas.Bool.Decides.{nat_tests}
-use Rattle.std.proofs.lemmas.Bool.{cases_eq, cases_lt, eq-eqb, ne_eqb, le-leb, le-ltb, lt-ltb}
-use Rattle.std.proofs.lemmas.List.{length-drop, length-map, length-replicate, reverse-reverse, take-append-drop}
 use Rattle.avc_types.specs.declared.fault.Fault.TheVariants as faults
-use Rattle.avc_bits.specs.Bits.{Read, ◌>>=◌, bits_of, give, or_none, times}
-use Rattle.avc_bits.specs.Codes.{u}
-use Rattle.avc_vlc.specs.Laws.{IsReadBack}
-use Rattle.avc_vlc.specs.Reading.{IsToken, coeff_token, run_before, token, total_zeros}
-use Rattle.avc_vlc.specs.Writing.{run_word, token_word, zeros_word}
-use Rattle.avc_vlc.proofs.ReadingBack.{run_back, run_whole, token_back, token_whole, zeros_back}
 use Rattle.avc_cavlc.specs.Block.{level, level_code, level_of_code, levels, next_suffix_length, placed, residual_block, run, runs, suffix_size, token_levels, trailing_one}
-use Rattle.avc_make.specs.BlockWriting.{AreCodes, BlocksAreRead, HasCodes, IsCode, IsWritable, after_zeros, block_bits, code_of_level, coded, first_length, least_code, level_bits, levels_bits, ones_first, prefix_of, run_bits, runs_bits, runs_of, sign_bits, values_of, zeros_bits}
-use Rattle.avc_make.specs.VuiWriting.{Each}
+use Rattle.avc_make.specs.BlockWriting.{IsWritable}
 use Rattle.avc_make.proofs.BlockPutting.{IsNonzero, coded_size, coded_some, each_drop, ones_few, ones_within, sum-cons, zeros_there}
 use Rattle.avc_make.proofs.LevelWords.{prefix_is}
 use Rattle.avc_make.proofs.ReadingBack.{GivesBack, with_value, with_word, back-bind, back-check, back-flag, back-give, back-last, back-u, back-zeros, reads_back}
-use Rattle.std.proofs.lemmas.Int.{ints}
 
 -- a codeword of a table
 word_back : {A : Type 0} {value : A} (part : Read A) (o : Option (List Bool)) → is_some o ≡ true → ((word : List Bool) → o ≡ Some word → IsReadBack part word value) → GivesBack part (or_none o) value

@@ -1,33 +1,25 @@
 -- What reading says of a residual block: it can be written, and its bits are those that were read.
 use Rattle.std.proofs.Common.{◌≡◌, ℕ, zero, suc, ◌+◌, ◌-◌, ◌^◌, ◌<◌, ◌≤◌, ℤ, pos, neg_ℤ, nat_abs, nat_le, List, [], ◌∷◌, ◌++◌, length, map, take, drop, reverse, Bool, true, false, refl, ap, subst, ◌∙◌, sym, arith, inl, inr, append_assoc, append-nil, length-append}
-use Rattle.std.specs.Prelude.{Option, Result, Ok, Err, ◌==◌, ◌||◌, if◌then◌else◌, int_lt, nat_lt, replicate}
-use Rattle.std.specs.List.{flat_map, sum, zip}
-use Rattle.std.proofs.lemmas.Bool.{cases_lt, eq-eqb, ne_eqb, lt-ltb, le-ltb}
-use Rattle.avc_types.specs.declared.fault.Fault.{Fault}
+use Rattle.avc_make.proofs.Common.{Option, Result, Ok, Err, ◌==◌, ◌||◌, if◌then◌else◌, int_lt, nat_lt, replicate, flat_map, sum, zip}
+use Rattle.avc_make.proofs.Common.{cases_lt, eq-eqb, ne_eqb, lt-ltb, le-ltb, Fault, Bits, Read, ◌>>=◌, ◌>>◌, bits_of, check, give, or_none}
+use Rattle.avc_make.proofs.Common.{times, IsReadBy, IsU, Takes, flag, u, zeros, zeros_before_one, drop-append_seam, take-append_seam}
+use Rattle.avc_make.proofs.Common.{length-map, reverse-reverse, IsIn, IsToken, coeff_token, token, token_table, total_zeros, IsRead}
+use Rattle.avc_make.proofs.Common.{token_word, zeros_word, joined, AreCodes, BlocksAreWritable, block_bits, IsCode, after_zeros}
+use Rattle.avc_make.proofs.Common.{code_of_level, coded, first_length, least_code, level_bits, levels_bits, ones_first, run_bits, runs_bits}
+use Rattle.avc_make.proofs.Common.{sign_bits, zeros_bits, Each, nat_tests, ints}
 use Rattle.avc_types.specs.declared.fault.Fault.TheVariants as faults
-use Rattle.avc_bits.specs.Bits.{Bits, Read, ◌>>=◌, ◌>>◌, bits_of, check, give, or_none, times}
-use Rattle.avc_bits.specs.Codes.{IsReadBy, IsU, Takes, flag, u, zeros, zeros_before_one}
 use Rattle.avc_bits.proofs.CodeLaws.{u_reads}
 use Rattle.avc_cavlc.specs.Block.{each_after_zeros, level, level_code, level_of_code, levels, next_suffix_length, placed, residual_block, run, runs, suffix_size, token_levels, trailing_one}
-use Rattle.std.proofs.Math.Seq.{drop-append_seam, take-append_seam}
-use Rattle.std.proofs.lemmas.List.{length-map, reverse-reverse}
 use Rattle.avc_cavlc.proofs.RunSteps.{before, run_last, run_most}
 use Rattle.avc_vlc.specs.declared.token.Token.{Token}
-use Rattle.avc_vlc.specs.Reading.{IsIn, IsToken, coeff_token, token, token_table, total_zeros}
-use Rattle.avc_vlc.specs.Laws.{IsRead}
-use Rattle.avc_vlc.specs.Writing.{token_word, zeros_word}
 use Rattle.avc_vlc.proofs.Codes.{table_read}
 use Rattle.avc_vlc.proofs.Values.{all_in, is_token, token_tested, tokens_tested}
 use Rattle.avc_vlc.proofs.OwnWords.{run_own, token_own, zeros_own}
-use Rattle.avc_make.specs.Words.{joined}
-use Rattle.avc_make.specs.BlockWriting.{AreCodes, BlocksAreWritable, IsWritable, block_bits, IsCode, after_zeros, code_of_level, coded, first_length, least_code, level_bits, levels_bits, ones_first, run_bits, runs_bits, sign_bits, zeros_bits}
-use Rattle.avc_make.specs.VuiWriting.{Each}
+use Rattle.avc_make.specs.BlockWriting.{IsWritable}
 use Rattle.avc_make.proofs.BlockPutting.{IsNonzero, each_reverse, sum-cons}
 use Rattle.avc_make.proofs.BlockBack.{IsAboveOne}
 use Rattle.avc_make.proofs.LevelWords.{IsPrefix, only_prefix, prefix_code}
 use Rattle.std.proofs.lemmas.Slice.Zip.{firsts-zip, seconds-zip}
-use Rattle.std.proofs.lemmas.Bool.Decides.{nat_tests}
-use Rattle.std.proofs.lemmas.Int.{ints}
 use Rattle.avc_make.proofs.Cutting.{bit_read}
 
 -- ---- what a part reads

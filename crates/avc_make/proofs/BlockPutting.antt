@@ -1,18 +1,11 @@
 -- What is coded of a block, put step by step.
 use Rattle.std.proofs.Common.{◌≡◌, ◌≢◌, ℕ, zero, suc, ◌+◌, ◌<◌, ◌≤◌, ℤ, pos, nat_abs, List, [], ◌∷◌, ◌++◌, length, take, drop, get_or, reverse, Bool, true, false, refl, ap, subst, ◌∙◌, sym, arith, inl, inr, append_assoc}
-use Rattle.std.specs.Prelude.{Option, ◌==◌, int_lt}
-use Rattle.std.specs.Option.{is_some, option_map}
-use Rattle.std.specs.List.{sum}
-use Rattle.std.proofs.lemmas.Bool.{cases_eq, eq-eqb, ne_eqb}
+use Rattle.avc_make.proofs.Common.{Option, ◌==◌, int_lt, option_map, sum, cases_eq, eq-eqb, ne_eqb, get_or-map, get_or-take, length-map}
+use Rattle.avc_make.proofs.Common.{length-reverse, length-take-le, drop_more, after_zeros, coded, ones_first, runs_of, sign_bits, values_of}
+use Rattle.avc_make.proofs.Common.{Each, zeros_word, chroma_zeros_whole, zeros_whole, nat_tests, ints}
+use Rattle.std.specs.Option.{is_some}
 use Rattle.std.proofs.lemmas.Grind.{reverse_onto}
-use Rattle.std.proofs.lemmas.List.{get_or-map, get_or-take, length-map, length-reverse, length-take-le, drop_more}
 use Rattle.std.proofs.lemmas.List.Sums.{sum_by-append}
-use Rattle.avc_make.specs.BlockWriting.{after_zeros, coded, ones_first, runs_of, sign_bits, values_of}
-use Rattle.avc_make.specs.VuiWriting.{Each}
-use Rattle.avc_vlc.specs.Writing.{zeros_word}
-use Rattle.avc_vlc.proofs.ReadingBack.{chroma_zeros_whole, zeros_whole}
-use Rattle.std.proofs.lemmas.Bool.Decides.{nat_tests}
-use Rattle.std.proofs.lemmas.Int.{ints}
 
 -- ---- lists
 

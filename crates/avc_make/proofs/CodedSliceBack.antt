@@ -1,15 +1,9 @@
 -- Slices of any macroblocks read from their units.
-use Rattle.std.proofs.Common.{◌≡◌, ℕ, zero, suc, ◌++◌, length, drop, refl, ap, ◌∙◌, sym, arith}
-use Rattle.std.specs.Prelude.{None, replicate}
-use Rattle.std.proofs.Math.Seq.{drop-append_seam}
-use Rattle.std.proofs.lemmas.List.{length-replicate}
-use Rattle.avc_annexb.specs.Escapes.{rbsp}
-use Rattle.avc_bits.specs.Bits.{bits_before_stop}
-use Rattle.avc_neigh.specs.Blocks.{available}
+use Rattle.avc_make.proofs.Common.{◌≡◌, ℕ, zero, suc, ◌++◌, length, drop, refl, ap, ◌∙◌, sym, arith, None, replicate, drop-append_seam}
+use Rattle.avc_make.proofs.Common.{length-replicate, rbsp, bits_before_stop, available, data_bits, CodedSlicesAreRead, earlier_mbs}
+use Rattle.avc_make.proofs.Common.{own_start}
 use Rattle.avc_mbsyntax.specs.SliceData.{skipped, slice_data}
-use Rattle.avc_make.specs.DataWriting.{data_bits}
 use Rattle.avc_make.specs.HeaderWriting.{header_bits, slice_unit_header}
-use Rattle.avc_make.specs.SliceMbs.{CodedSlicesAreRead, earlier_mbs, own_start}
 use Rattle.avc_make.proofs.DataAlone.{data_alone}
 use Rattle.avc_make.proofs.HeaderBack.{header_unit_is_read}
 use Rattle.avc_make.proofs.SliceDataBack.{all_data_is_read}

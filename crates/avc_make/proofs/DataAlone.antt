@@ -1,18 +1,10 @@
 -- The data of a slice depends on no macroblock of another slice.
-use Rattle.std.proofs.Common.{◌≡◌, ℕ, ◌+◌, ℤ, pos, negsuc, List, [], ◌∷◌, ◌++◌, length, Bool, true, false, refl, ap, ◌∙◌, sym, arith, length-append}
-use Rattle.std.proofs.Common.{inl, inr}
-use Rattle.std.proofs.lemmas.Bool.{cases_order, eq-eqb, ne_eqb}
-use Rattle.std.proofs.lemmas.Option.{slice_get_past}
+use Rattle.avc_make.proofs.Common.{◌≡◌, ℕ, ◌+◌, ℤ, pos, negsuc, List, [], ◌∷◌, ◌++◌, length, Bool, true, false, refl, ap, ◌∙◌, sym, arith}
+use Rattle.avc_make.proofs.Common.{length-append, inl, inr, cases_order, eq-eqb, ne_eqb, slice_get_past, ◌==◌, if◌then◌else◌, None, Some}
+use Rattle.avc_make.proofs.Common.{Option, Mb, PicMb, Location, at_location, available, location_at, CanFollow, DataStandsAlone, IsLike}
+use Rattle.avc_make.proofs.Common.{i_data_bits, p_data_bits, mb_bits, rest_bits, ue_word}
 use Rattle.avc_neigh.proofs.RowKeeping.{slice_get-append, slice_get-next}
-use Rattle.std.specs.Prelude.{◌==◌, if◌then◌else◌, None, Some, Option}
-use Rattle.avc_types.specs.Macroblock.{Mb}
-use Rattle.avc_types.specs.Pictures.{PicMb}
-use Rattle.avc_neigh.specs.Blocks.{Location, at_location, available, location_at}
 use Rattle.avc_mbsyntax.specs.SliceData.{SliceStart, context, placed}
-use Rattle.avc_make.specs.DataWriting.{CanFollow, DataStandsAlone, IsLike, i_data_bits, p_data_bits}
-use Rattle.avc_make.specs.MbWriting.{mb_bits}
-use Rattle.avc_make.specs.SliceSteps.{rest_bits}
-use Rattle.avc_make.specs.Words.{ue_word}
 
 -- the same macroblocks are available to both
 record SeeSame (s s' : SliceStart) (before before' : List PicMb) : Type 0 where

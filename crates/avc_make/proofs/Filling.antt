@@ -1,13 +1,9 @@
 -- Bits that fill bytes.
 use Rattle.std.proofs.Common.{◌≡◌, ℕ, suc, ◌+◌, ◌-◌, ◌*◌, ◌%◌, ◌^◌, ◌<◌, ◌≤◌, List, [], ◌∷◌, ◌++◌, length, take, drop, Bool, true, false, ap, ◌∙◌, sym, arith, length-append, append_assoc, append-nil}
-use Rattle.std.proofs.lemmas.List.{take-append-drop, take-append-le, drop-append-le, length-replicate}
-use Rattle.std.proofs.lemmas.Nat.{one_shl, or_shifted, pow_pos}
-use Rattle.std.proofs.Math.Nat.{pow-succ', mod-eq_of_lt}
-use Rattle.std.proofs.Math.Seq.{take-append_seam, drop-append_seam}
-use Rattle.std.specs.Prelude.{replicate, bit_or}
-use Rattle.avc_bits.specs.Bits.{bits_of, byte_bits, number_of}
-use Rattle.avc_make.specs.Made.{IsFilled}
-use Rattle.avc_bits.proofs.Numbers.{bits_of-number, byte_bits-append, length-bits_of, length-byte_bits, number-append, number-bits_of, number-zeros}
+use Rattle.avc_make.proofs.Common.{take-append-drop, take-append-le, drop-append-le, length-replicate, one_shl, or_shifted, pow_pos}
+use Rattle.avc_make.proofs.Common.{pow-succ', mod-eq_of_lt, take-append_seam, drop-append_seam, replicate, bit_or, bits_of, byte_bits}
+use Rattle.avc_make.proofs.Common.{number_of, IsFilled, bits_of-number, byte_bits-append, length-bits_of, length-byte_bits, number-append}
+use Rattle.avc_make.proofs.Common.{number-bits_of, number-zeros}
 
 pub filled_length : (bytes : List ℕ) (bits : List Bool) (padding : ℕ) → IsFilled bytes bits padding → 8 * length bytes ≡ length bits + padding
 filled_length bytes bits padding is =

@@ -1,50 +1,31 @@
 -- Slice headers read from their bits.
 use Rattle.std.proofs.Common.{◌≡◌, ℕ, zero, suc, ◌+◌, ◌-◌, ◌*◌, ◌/◌, ◌%◌, ◌<◌, ◌≤◌, ◌||◌, ◌&&◌, nat_le, List, [], ◌∷◌, ◌++◌, length, Bool, true, false, not, Option, Some, None, is_some, IfSome, Result, Ok, Err, ℤ, pos, negsuc, refl, ap, ◌∙◌, sym, subst, arith, length-append, append_assoc, append-nil, drop}
-use Rattle.std.specs.List.{flat_map}
-use Rattle.std.specs.Prelude.{◌==◌, if◌then◌else◌}
-use Rattle.std.proofs.Math.Nat.{pow-le-pow_right}
-use Rattle.std.proofs.lemmas.Bool.{lt-ltb}
-use Rattle.std.proofs.lemmas.Bool.Decides.{nat_tests}
-use Rattle.std.proofs.lemmas.Int.{ints}
+use Rattle.avc_make.proofs.Common.{flat_map, ◌==◌, if◌then◌else◌, pow-le-pow_right, lt-ltb, nat_tests, ints, Fault, Modification, rbsp}
+use Rattle.avc_make.proofs.Common.{Bits, Read, ◌>>=◌, ◌>>◌, check, give, refuse, se_within, ue_to, max_frame_num, size_in_mbs, IsPps, IsSps}
+use Rattle.avc_make.proofs.Common.{Pps, OrderCount, Sps, is_idr, is_p, is_p_type, is_reference, slice_qp, Type0, Type1, Type2, Header}
+use Rattle.avc_make.proofs.Common.{IsPredWeightTable, IsUnit, Each, optional_bits, where_bits, se_word, ue_word}
 use Rattle.avc_types.specs.declared.edges.FilteredEdges.{FilteredEdges}
 use Rattle.avc_types.specs.declared.edges.FilteredEdges.TheVariants as edges
-use Rattle.avc_types.specs.declared.fault.Fault.{Fault}
 use Rattle.avc_types.specs.declared.fault.Fault.TheVariants as faults
 use Rattle.avc_types.specs.declared.references.Marking.{Marking}
 use Rattle.avc_types.specs.declared.references.Marking.TheVariants.{Idr, SlidingWindow, Adaptive}
-use Rattle.avc_types.specs.declared.references.Modification.{Modification}
 use Rattle.avc_types.specs.declared.references.Modification.TheVariants.{Subtract, Add, LongTerm}
 use Rattle.avc_types.specs.declared.references.Operation.{Operation}
 use Rattle.avc_types.specs.declared.references.Operation.TheVariants.{UnmarkShortTerm, UnmarkLongTerm, AssignLongTerm, MaxLongTermFrameIdx, UnmarkAll, CurrentToLongTerm}
-use Rattle.avc_annexb.specs.Escapes.{rbsp}
-use Rattle.avc_bits.specs.Bits.{Bits, Read, ◌>>=◌, ◌>>◌, check, give, refuse}
-use Rattle.avc_bits.specs.Codes.{se_within, ue_to}
-use Rattle.avc_params.specs.Limits.{max_frame_num, size_in_mbs}
 use Rattle.avc_params.specs.Tables.{Sets}
-use Rattle.avc_params.specs.Within.{IsPps, IsSps}
-use Rattle.avc_params.specs.declared.pps.Pps.{Pps}
-use Rattle.avc_params.specs.declared.sps.OrderCount.{OrderCount}
 use Rattle.avc_params.specs.declared.sps.OrderCount.TheVariants as orders
-use Rattle.avc_params.specs.declared.sps.Sps.{Sps}
-use Rattle.avc_slice.specs.Header.{is_idr, is_p, is_p_type, is_reference, slice_qp}
 use Rattle.avc_slice.specs.Reading.{active_count, active_override, back, coded_order, deblocking, filtering, front, header_in_rbsp, header_of, is_qp, list_part, marking, modification, modifications, most_operations, numbers, operation, optional_se, position_here, redundant_pic_cnt, slice_header, slice_type_of, up_to}
 use Rattle.avc_slice.specs.declared.header.CodedOrder.{CodedOrder}
-use Rattle.avc_slice.specs.declared.header.CodedOrder.TheVariants.{Type0, Type1, Type2}
 use Rattle.avc_slice.specs.declared.header.Deblocking.{Deblocking}
-use Rattle.avc_slice.specs.declared.header.Header.{Header}
 use Rattle.avc_slice.specs.declared.header.SliceType.{SliceType}
 use Rattle.avc_slice.specs.declared.parts.Filtering.{Filtering}
 use Rattle.avc_slice.specs.declared.parts.Front.{Front}
 use Rattle.avc_slice.specs.declared.parts.ListPart.{ListPart}
 use Rattle.avc_slice.specs.declared.parts.Numbers.{Numbers}
 use Rattle.avc_slice.specs.declared.weights.PredWeightTable.{PredWeightTable}
-use Rattle.avc_slice.specs.Within.{IsPredWeightTable}
 use Rattle.avc_make.specs.HeaderWriting.{IsDeblocking, IsDeblockingOf, IsHeader, IsIdr, IsListWhere, IsMarkingOf, IsModification, IsModificationList, IsOffset, IsOperation, IsOrderOf, IsOverride, IsQp, IsSeWhere, coded_order_bits, deblocking_bits, deblocking_bits_of, filtering_bits, front_bits, header_bits, list_bits_where, marking_bits, modification_bits, modifications_bits, numbers_bits, operation_bits, se_where, slice_type_number, slice_unit_header}
 use Rattle.avc_make.specs.SliceUnits.{AreInForce, placed_header}
 use Rattle.avc_make.specs.SpsWriting.{IsSeValue}
-use Rattle.avc_make.specs.Units.{IsUnit}
-use Rattle.avc_make.specs.VuiWriting.{Each, optional_bits, where_bits}
-use Rattle.avc_make.specs.Words.{se_word, ue_word}
 use Rattle.avc_make.proofs.ReadingBack.{GivesBack, GivesEach, ReadsAt, with_value, with_word, at-bind, at-then, back-bind, back-check, back-flag, back-give, back-last, back-optional, back-se, back-se_within, back-then, back-u, back-ue, back-ue_to, back-where}
 use Rattle.avc_make.proofs.UnitsBack.{unit_start}
 use Rattle.avc_make.proofs.WeightsBack.{back-table}

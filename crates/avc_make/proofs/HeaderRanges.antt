@@ -1,16 +1,8 @@
 -- The numbers of a header that can be written are within their codes.
-use Rattle.std.proofs.Common.{ℕ, ◌≤◌, List, [], ◌∷◌, Bool, true, false, Option, Some, None, IfSome, sym, subst, arith}
-use Rattle.avc_types.specs.declared.references.Modification.{Modification}
-use Rattle.avc_params.specs.Limits.{max_frame_num}
-use Rattle.avc_params.specs.Within.{IsSps}
-use Rattle.avc_params.specs.declared.pps.Pps.{Pps}
-use Rattle.avc_params.specs.declared.sps.Sps.{Sps}
-use Rattle.avc_slice.specs.Header.{is_p}
+use Rattle.avc_make.proofs.Common.{ℕ, ◌≤◌, List, [], ◌∷◌, Bool, true, false, Option, Some, None, IfSome, sym, subst, arith, Modification}
+use Rattle.avc_make.proofs.Common.{max_frame_num, IsSps, Pps, Sps, is_p, IsPredWeightTable, Header, Each}
 use Rattle.avc_slice.specs.Reading.{active_count}
-use Rattle.avc_slice.specs.Within.{IsPredWeightTable}
-use Rattle.avc_slice.specs.declared.header.Header.{Header}
 use Rattle.avc_make.specs.HeaderWriting.{IsHeader, IsListWhere, IsModification, IsModificationList}
-use Rattle.avc_make.specs.VuiWriting.{Each}
 use Rattle.avc_make.proofs.HeaderBack.{max_frame_num_few}
 
 modification_small : (n : ℕ) → n ≤ 65536 → (m : Modification) → IsModification n m → IsModification 65536 m

@@ -1,14 +1,9 @@
 -- The codewords of levels.
-use Rattle.std.proofs.Common.{◌≡◌, ◌≢◌, ℕ, zero, suc, ◌+◌, ◌-◌, ◌*◌, ◌^◌, ◌<◌, ◌≤◌, ℤ, nat_abs, ◌∷◌, ◌++◌, Bool, true, false, refl, ap, subst, ◌∙◌, arith, inl, inr, lit<}
-use Rattle.std.specs.Prelude.{IsTrue, replicate}
-use Rattle.std.proofs.lemmas.Bool.{cases_eq, cases_order}
-use Rattle.std.proofs.lemmas.Nat.{pow_pos}
-use Rattle.std.proofs.Math.Nat.{div-lt_iff_lt-mul, mod-add-div, mod-lt, pow-le-pow_right}
-use Rattle.avc_bits.specs.Bits.{bits_of}
+use Rattle.avc_make.proofs.Common.{◌≡◌, ◌≢◌, ℕ, zero, suc, ◌+◌, ◌-◌, ◌*◌, ◌^◌, ◌<◌, ◌≤◌, ℤ, nat_abs, ◌∷◌, ◌++◌, Bool, true, false, refl, ap}
+use Rattle.avc_make.proofs.Common.{subst, ◌∙◌, arith, inl, inr, lit<, IsTrue, replicate, cases_eq, cases_order, pow_pos, div-lt_iff_lt-mul}
+use Rattle.avc_make.proofs.Common.{mod-add-div, mod-lt, pow-le-pow_right, bits_of, IsCode, code_of_level, least_code, level_bits, prefix_of}
+use Rattle.avc_make.proofs.Common.{bits_of-zero, nat_tests}
 use Rattle.avc_cavlc.specs.Block.{level_code, suffix_size}
-use Rattle.avc_make.specs.BlockWriting.{IsCode, code_of_level, least_code, level_bits, prefix_of}
-use Rattle.avc_bits.proofs.Numbers.{bits_of-zero}
-use Rattle.std.proofs.lemmas.Bool.Decides.{nat_tests}
 
 -- ---- a prefix
 

@@ -1,3 +1,4 @@
+mod Common
 pub mod CodedSliceBack
 pub mod Filling
 pub mod HeaderBack

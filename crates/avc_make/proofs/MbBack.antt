@@ -1,27 +1,22 @@
 -- Macroblocks read from their bits.
 use Rattle.std.proofs.Common.{◌≡◌, ℕ, zero, suc, ◌+◌, ◌-◌, ◌*◌, ◌/◌, ◌%◌, ◌<◌, ◌≤◌, nat_le, nat_lt, List, [], ◌∷◌, ◌++◌, length, Bool, true, false, refl, ◌∙◌, sym, subst, arith, append_assoc, append-nil, map, ℤ, pos, negsuc, ◌<ℤ◌, Some, None}
 use Rattle.std.proofs.Common.{◌≤ℤ◌, ◌&&◌, inl, inr}
-use Rattle.std.proofs.lemmas.Int.{ints}
-use Rattle.std.proofs.lemmas.Bool.{cases_eq, le-leb, lt-ltb, le-ltb, ltb-true, ne_eqb}
-use Rattle.std.proofs.lemmas.Bool.Decides.{nat_tests}
-use Rattle.std.proofs.lemmas.List.{length-replicate}
+use Rattle.avc_make.proofs.Common.{ints, cases_eq, le-leb, lt-ltb, le-ltb, ltb-true, ne_eqb, nat_tests, length-replicate, ◌==◌, not}
+use Rattle.avc_make.proofs.Common.{replicate, Option, range_with_len, Residual, Mb, MbSyntax, p_skip, i_pcm, i_nxn, i_16x16, p_inter}
+use Rattle.avc_make.proofs.Common.{total_coeff, parts_of, partitions, Read, ◌>>=◌, bits_of, byte_bits, give, refuse, times, align, skip}
+use Rattle.avc_make.proofs.Common.{te_to, u, ue_to, nc, Context, after_pattern, block_mode, block_where, blocks, chroma_dc, residual_blocks}
+use Rattle.avc_make.proofs.Common.{i_mb, i_nxn_mb, i_pcm_mb, is_coded, mvd_l0, p_mb, p_mb_type, qp_after, qp_delta, qp_delta_where}
+use Rattle.avc_make.proofs.Common.{ref_idx_l0, residual, sub_mb_type, option_map, coded_block_pattern, pattern_at, MbIsRead, type_16x16}
+use Rattle.avc_make.proofs.Common.{AreSamples, HasQuarters, HasRanges, IsIPcm, IsMvd, IsPInter, IsRefIdx, has_ref_idx, i_pcm_bits, i_type}
+use Rattle.avc_make.proofs.Common.{mb_bits, mvd_bits, p_inter_bits, p_mb_number, qp_of, ref_idx_bits, sub_mb_number, sub_mb_types_bits}
+use Rattle.avc_make.proofs.Common.{zeros_to_byte, IsCodedMode, IsI16x16, IsINxN, IsPattern, i_16x16_bits, i_nxn_bits, mode_bits}
+use Rattle.avc_make.proofs.Common.{pattern_number, pattern_of, qp_delta_bits, AreBlocks, IsBlock, IsChromaDc, IsResidual, bits_where_coded}
+use Rattle.avc_make.proofs.Common.{block_words, blocks_bits, chroma_dc_bits, luma_max, residual_bits, se_word, te_word, ue_word}
 use Rattle.avc_types.specs.declared.fault.Fault.TheVariants as faults
-use Rattle.std.specs.Prelude.{◌==◌, not, replicate, Option}
-use Rattle.std.specs.List.{range_with_len}
 use Rattle.avc_types.specs.declared.macroblock.Mvd.{Mvd}
 use Rattle.avc_types.specs.declared.macroblock.PMbType.{PMbType}
 use Rattle.avc_types.specs.declared.macroblock.PMbType.TheVariants.{P16x16, P16x8, P8x16, P8x8, P8x8Ref0}
 use Rattle.avc_types.specs.declared.macroblock.SubMbType.{SubMbType}
-use Rattle.avc_types.specs.Macroblock.{Residual, Mb, MbSyntax, p_skip, i_pcm, i_nxn, i_16x16, p_inter, total_coeff, parts_of, partitions}
-use Rattle.avc_bits.specs.Bits.{Read, ◌>>=◌, bits_of, byte_bits, give, refuse, times}
-use Rattle.avc_bits.specs.Codes.{align, skip, te_to, u, ue_to}
-use Rattle.avc_neigh.specs.TotalCoeffs.{nc}
-use Rattle.avc_mbsyntax.specs.declared.context.Context.{Context}
-use Rattle.avc_mbsyntax.specs.Reading.{after_pattern, block_mode, block_where, blocks, chroma_dc, residual_blocks, i_mb, i_nxn_mb, i_pcm_mb, is_coded, mvd_l0, p_mb, p_mb_type, qp_after, qp_delta, qp_delta_where, ref_idx_l0, residual, sub_mb_type}
-use Rattle.std.specs.Option.{option_map}
-use Rattle.avc_vlc.specs.Reading.{coded_block_pattern, pattern_at}
-use Rattle.avc_make.specs.MbWriting.{MbIsRead, type_16x16, AreSamples, HasQuarters, HasRanges, IsIPcm, IsMvd, IsPInter, IsRefIdx, has_ref_idx, i_pcm_bits, i_type, mb_bits, mvd_bits, p_inter_bits, p_mb_number, qp_of, ref_idx_bits, sub_mb_number, sub_mb_types_bits, zeros_to_byte, IsCodedMode, IsI16x16, IsINxN, IsPattern, i_16x16_bits, i_nxn_bits, mode_bits, pattern_number, pattern_of, qp_delta_bits, AreBlocks, IsBlock, IsChromaDc, IsResidual, bits_where_coded, block_words, blocks_bits, chroma_dc_bits, luma_max, residual_bits}
-use Rattle.avc_make.specs.Words.{se_word, te_word, ue_word}
 use Rattle.avc_make.proofs.BlockBack.{back-block}
 use Rattle.avc_make.proofs.ReadingBack.{GivesBack, GivesEach, ReadsAt, at-bind, back-bind, back-bits, back-check, back-flag, back-give, back-last, back-se, back-se_within, back-te, back-then, back-times, back-u, back-ue, back-ue_to, with_value}
 use Rattle.avc_make.proofs.PuttingEach.{any_each}

@@ -1,11 +1,6 @@
 -- A worked example of a macroblock that is written.
-use Rattle.std.specs.Prelude.{◌≡◌, pos, false, [], ◌∷◌, take, replicate, None, refl}
-use Rattle.std.specs.Int.Count.{count_leading_zeros}
-use Rattle.avc_types.specs.Macroblock.{Residual, i_16x16}
-use Rattle.avc_bits.specs.Bits.{byte_bits}
-use Rattle.avc_mbsyntax.specs.declared.context.Context.{Context}
-use Rattle.avc_make.specs.MbWriting.{mb_bits}
-use Rattle.avc_make.specs.Words.{se_word, ue_word}
+use Rattle.avc_make.proofs.Common.{◌≡◌, pos, false, [], ◌∷◌, take, replicate, None, refl, count_leading_zeros, Residual, i_16x16, byte_bits}
+use Rattle.avc_make.proofs.Common.{Context, mb_bits, se_word, ue_word}
 
 abbrev first : Context
 first = record { is_p = false; active_count = 0; qp = 26; left = None; up = None }

@@ -1,13 +1,8 @@
 -- The place of a pattern in its table.
-use Rattle.std.proofs.Common.{◌≡◌, ◌≢◌, ℕ, suc, ◌+◌, ◌<◌, List, ◌∷◌, drop, Bool, true, false, Some, ap, ◌∙◌, arith}
-use Rattle.std.specs.Prelude.{slice_get}
+use Rattle.avc_make.proofs.Common.{◌≡◌, ◌≢◌, ℕ, suc, ◌+◌, ◌<◌, List, ◌∷◌, drop, Bool, true, false, Some, ap, ◌∙◌, arith, slice_get}
+use Rattle.avc_make.proofs.Common.{pattern_at, pattern_number, place_of, drop_more, nat_tests, slice_get_within, get_or_from_slice_get}
 use Rattle.avc_vlc.specs.Tables.{cbp_intra, cbp_inter}
-use Rattle.avc_vlc.specs.Reading.{pattern_at}
-use Rattle.avc_make.specs.MbWriting.{pattern_number, place_of}
 use Rattle.avc_make.proofs.MbBack.{all_have_numbers, number_below}
-use Rattle.std.proofs.lemmas.List.{drop_more}
-use Rattle.std.proofs.lemmas.Bool.Decides.{nat_tests}
-use Rattle.std.proofs.lemmas.Option.{slice_get_within, get_or_from_slice_get}
 
 abbrev pub table_of : (intra : Bool) → List ℕ
 table_of true = cbp_intra

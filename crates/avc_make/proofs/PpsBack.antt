@@ -1,14 +1,9 @@
 -- Picture parameter sets read from their bits.
-use Rattle.std.proofs.Common.{◌≡◌, ℕ, List, [], ◌++◌, false, not, drop, pos, negsuc, Ok, refl, ap, ◌∙◌, sym, arith, append-nil}
+use Rattle.avc_make.proofs.Common.{◌≡◌, ℕ, List, [], ◌++◌, false, not, drop, pos, negsuc, Ok, refl, ap, ◌∙◌, sym, arith, append-nil, rbsp}
+use Rattle.avc_make.proofs.Common.{Read, ◌>>◌, give, check, start, pps_id, pps_of, whole, IsPps, Pps, default_counts_bits, pps_bits}
+use Rattle.avc_make.proofs.Common.{quantisation_bits, switches_bits, IsUnit, pps_header}
 use Rattle.avc_types.specs.declared.fault.Fault.TheVariants as faults
-use Rattle.avc_annexb.specs.Escapes.{rbsp}
-use Rattle.avc_bits.specs.Bits.{Read, ◌>>◌, give, check, start}
 use Rattle.avc_params.specs.PpsReading.{default_counts, pps, pps_after, quantisation, switches}
-use Rattle.avc_params.specs.Reading.{pps_id, pps_of, whole}
-use Rattle.avc_params.specs.Within.{IsPps}
-use Rattle.avc_params.specs.declared.pps.Pps.{Pps}
-use Rattle.avc_make.specs.PpsWriting.{default_counts_bits, pps_bits, quantisation_bits, switches_bits}
-use Rattle.avc_make.specs.Units.{IsUnit, pps_header}
 use Rattle.avc_make.proofs.ReadingBack.{GivesBack, ReadsAt, at-bind, at-give, at-no_more, at-then, back-bind, back-flag, back-last, back-se_within, back-u_to, back-ue, back-ue_to}
 use Rattle.avc_make.proofs.UnitsBack.{unit_start}
 

@@ -1,10 +1,6 @@
 -- Bits put one after another.
-use Rattle.std.proofs.Common.{◌≡◌, ℕ, ◌+◌, ◌-◌, ◌%◌, List, [], ◌∷◌, ◌++◌, Bool, true, false, ap, ◌∙◌, sym, refl, append-nil}
-use Rattle.avc_bits.specs.Bits.{bits_of}
-use Rattle.avc_make.specs.Made.{Made, with_bits}
-use Rattle.avc_make.specs.MbWriting.{zeros_to_byte}
-use Rattle.avc_make.specs.Words.{bits_after_one, ue_word}
-use Rattle.avc_bits.proofs.Numbers.{bits_of-zero}
+use Rattle.avc_make.proofs.Common.{◌≡◌, ℕ, ◌+◌, ◌-◌, ◌%◌, List, [], ◌∷◌, ◌++◌, Bool, true, false, ap, ◌∙◌, sym, refl, append-nil, bits_of}
+use Rattle.avc_make.proofs.Common.{Made, with_bits, zeros_to_byte, bits_after_one, ue_word, bits_of-zero}
 
 pub ue_put : (v next count : ℕ) → next ≡ v + 1 → count ≡ bits_after_one next → bits_of count 0 ++ true ∷ bits_of count next ≡ ue_word v
 unfolding ue_word

@@ -1,6 +1,5 @@
 -- Parts put one after another.
-use Rattle.std.proofs.Common.{ℕ, suc, ◌<◌, List, [], ◌∷◌, get_or, Fits, w8, arith}
-use Rattle.avc_make.specs.VuiWriting.{Each}
+use Rattle.avc_make.proofs.Common.{ℕ, suc, ◌<◌, List, [], ◌∷◌, get_or, Fits, w8, arith, Each}
 
 pub any_each : {A : Type 0} (xs : List A) → Each (λ _. Unit {0}) xs
 any_each [] = tt

@@ -1,20 +1,13 @@
 -- Parts of the syntax read from their words.
 use Rattle.std.proofs.Common.{◌≡◌, ℕ, zero, suc, ◌+◌, ◌-◌, ◌^◌, ◌<◌, ◌≤◌, nat_le, nat_lt, List, [], ◌∷◌, ◌++◌, length, Bool, true, false, Option, Some, None, IfSome, is_some, Ok, ℤ, pos, neg_ℤ, ◌<ℤ◌, ◌≤ℤ◌, ◌&&◌, refl, ap, ◌∙◌, sym, arith, inl, inr, length-append, append_assoc}
-use Rattle.std.proofs.lemmas.List.{length-replicate}
-use Rattle.std.proofs.lemmas.Bool.{cases_eq, le-leb, lt-ltb, ltb-true, ne_eqb}
-use Rattle.std.proofs.lemmas.Int.{ints}
-use Rattle.std.proofs.Math.Nat.{mod-eq_of_lt}
-use Rattle.std.specs.List.{flat_map}
-use Rattle.std.specs.Prelude.{◌==◌, if◌then◌else◌, int_le, int_lt, replicate}
-use Rattle.avc_types.specs.declared.fault.Fault.{Fault}
+use Rattle.avc_make.proofs.Common.{length-replicate, cases_eq, le-leb, lt-ltb, ltb-true, ne_eqb, ints, mod-eq_of_lt, flat_map, ◌==◌}
+use Rattle.avc_make.proofs.Common.{if◌then◌else◌, int_le, int_lt, replicate, Fault, Read, ◌>>=◌, ◌>>◌, bits_of, check, give, more}
+use Rattle.avc_make.proofs.Common.{number_of, times, where_set, bits, flag, se, se_within, signed_value, te, u, u_to, ue, ue_to, zeros}
+use Rattle.avc_make.proofs.Common.{zeros_before_one, length-bits_of, number-bits_of, Each, optional_bits, where_bits, ReadsBack}
+use Rattle.avc_make.proofs.Common.{bits_after_one, se_word, te_word, ue_word}
 use Rattle.avc_types.specs.declared.fault.Fault.TheVariants as faults
-use Rattle.avc_bits.specs.Bits.{Read, ◌>>=◌, ◌>>◌, bits_of, check, give, more, number_of, times, where_set}
-use Rattle.avc_bits.specs.Codes.{bits, flag, se, se_within, signed_value, te, u, u_to, ue, ue_to, zeros, zeros_before_one}
-use Rattle.avc_bits.proofs.Numbers.{length-bits_of, number-bits_of}
 use Rattle.avc_vlc.proofs.Entries.{split-append}
 use Rattle.avc_params.specs.Parsing.{optional}
-use Rattle.avc_make.specs.VuiWriting.{Each, optional_bits, where_bits}
-use Rattle.avc_make.specs.Words.{ReadsBack, bits_after_one, se_word, te_word, ue_word}
 use Rattle.avc_make.proofs.Words.{index_small, low_bits, signed_back, top_of}
 
 -- Read from this word at this place with these bits after it, the part is the value, and those bits are left.

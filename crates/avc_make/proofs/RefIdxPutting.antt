@@ -1,9 +1,5 @@
 -- Reference indices, where they are coded.
-use Rattle.std.proofs.Common.{◌≡◌, ℕ, ◌-◌, ◌<◌, ◌≤◌, List, Bool, true, refl}
-use Rattle.std.specs.List.{flat_map}
-use Rattle.avc_make.specs.MbWriting.{IsRefIdx, ref_idx_bits}
-use Rattle.avc_make.specs.VuiWriting.{Each}
-use Rattle.avc_make.specs.Words.{te_word}
+use Rattle.avc_make.proofs.Common.{◌≡◌, ℕ, ◌-◌, ◌<◌, ◌≤◌, List, Bool, true, refl, flat_map, IsRefIdx, ref_idx_bits, Each, te_word}
 
 pub indices_active : (active n : ℕ) (coded : Bool) (indices : List ℕ) → coded ≡ true → IsRefIdx active n coded indices → Each (λ i. (i ≤ active - 1) × (i < 4294967295)) indices
 indices_active active n coded indices is all = let here = rw is at all in here.active

@@ -1,11 +1,7 @@
 -- What is escaped, read again.
-use Rattle.std.proofs.Common.{◌≡◌, ℕ, zero, suc, ◌+◌, ◌<◌, ◌≤◌, List, [], ◌∷◌, ◌++◌, length, drop, get_or, refl, ap, ◌∙◌, sym, arith, length-append, append_assoc, append-nil}
-use Rattle.std.proofs.Math.ListN.{drop_of_length-le}
-use Rattle.std.proofs.lemmas.List.{drop_more}
-use Rattle.std.proofs.lemmas.Bool.Decides.{nat_tests}
-use Rattle.std.specs.Prelude.{replicate}
-use Rattle.avc_annexb.specs.Escapes.{rbsp}
-use Rattle.avc_make.specs.Escaping.{HasNoStart, escaped_after, escaped_byte, zeros_with}
+use Rattle.avc_make.proofs.Common.{◌≡◌, ℕ, zero, suc, ◌+◌, ◌<◌, ◌≤◌, List, [], ◌∷◌, ◌++◌, length, drop, get_or, refl, ap, ◌∙◌, sym, arith}
+use Rattle.avc_make.proofs.Common.{length-append, append_assoc, append-nil, drop_of_length-le, drop_more, nat_tests, replicate, rbsp}
+use Rattle.avc_make.proofs.Common.{HasNoStart, escaped_after, escaped_byte, zeros_with}
 
 -- after no zero, after one and after two
 none_removed : (b : ℕ) (bytes : List ℕ) → rbsp (escaped_after 0 bytes) ≡ bytes → rbsp (0 ∷ escaped_after 1 bytes) ≡ 0 ∷ bytes →

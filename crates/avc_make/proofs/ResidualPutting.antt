@@ -1,19 +1,12 @@
 -- The blocks of a component put one after another.
 use Rattle.std.proofs.Common.{◌≡◌, ℕ, suc, ◌+◌, ◌-◌, ◌<◌, ◌≤◌, min, ℤ, pos, negsuc, nat_lt, List, [], ◌∷◌, ◌++◌, drop, get_or, length, length-set, map, set, take, Bool, true, false, Option, ap, ◌∙◌, sym, subst, append_assoc, arith}
-use Rattle.std.specs.Prelude.{Result}
-use Rattle.std.specs.List.{range_with_len, sum}
-use Rattle.std.proofs.lemmas.List.{drop_more, map-append, take_more, take_more_set}
-use Rattle.avc_types.specs.Macroblock.{total_coeff}
+use Rattle.avc_make.proofs.Common.{Result, range_with_len, sum, drop_more, map-append, take_more, take_more_set, total_coeff, or_none}
+use Rattle.avc_make.proofs.Common.{token, is_token_same, word_of, nc, block_bits, coded, first_length, levels_bits, ones_first, runs_bits}
+use Rattle.avc_make.proofs.Common.{runs_of, sign_bits, values_of, zeros_bits, Made, Puts, with_bits, AreBlocks, IsBlock, IsChromaDc}
+use Rattle.avc_make.proofs.Common.{bits_where_coded, blocks_bits, chroma_dc_bits, joined}
 use Rattle.avc_types.specs.declared.memory.OutOfMemory.{OutOfMemory}
-use Rattle.avc_bits.specs.Bits.{or_none}
-use Rattle.avc_vlc.specs.Reading.{token}
-use Rattle.avc_vlc.specs.Writing.{is_token_same, word_of}
-use Rattle.avc_neigh.specs.TotalCoeffs.{nc}
 use Rattle.avc_mbsyntax.proofs.BlockSteps.{token_capped}
-use Rattle.avc_make.specs.BlockWriting.{IsWritable, block_bits, coded, first_length, levels_bits, ones_first, runs_bits, runs_of, sign_bits, values_of, zeros_bits}
-use Rattle.avc_make.specs.Made.{Made, Puts, with_bits}
-use Rattle.avc_make.specs.MbWriting.{AreBlocks, IsBlock, IsChromaDc, bits_where_coded, blocks_bits, chroma_dc_bits}
-use Rattle.avc_make.specs.Words.{joined}
+use Rattle.avc_make.specs.BlockWriting.{IsWritable}
 use Rattle.avc_make.proofs.Putting.{put_all}
 
 -- ---- one block

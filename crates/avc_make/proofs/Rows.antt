@@ -1,15 +1,7 @@
 -- Worked examples of what is written.
-use Rattle.std.specs.Prelude.{◌≡◌, pos, negsuc, true, false, [], ◌∷◌, refl}
-use Rattle.std.proofs.Common.{arith}
-use Rattle.std.specs.Int.Count.{count_leading_zeros}
-use Rattle.avc_bits.specs.Bits.{byte_bits}
-use Rattle.avc_make.specs.BlockWriting.{block_bits}
-use Rattle.avc_make.specs.Escaping.{escaped, escaped_after}
-use Rattle.avc_make.specs.PpsWriting.{pps_bits}
-use Rattle.avc_make.specs.Units.{IsUnit, pps_header, sps_header}
-use Rattle.avc_make.specs.Words.{se_word, ue_word}
+use Rattle.avc_make.proofs.Common.{◌≡◌, pos, negsuc, true, false, [], ◌∷◌, refl, arith, count_leading_zeros, byte_bits, block_bits, escaped}
+use Rattle.avc_make.proofs.Common.{escaped_after, pps_bits, IsUnit, pps_header, sps_header, se_word, ue_word, plain, small}
 use Rattle.avc_make.specs.SpsWriting.{sps_bits}
-use Rattle.avc_params.proofs.Rows.{plain, small}
 
 zero_word : ue_word 0 ≡ true ∷ []
 unfolding ue_word count_leading_zeros

@@ -1,23 +1,13 @@
 -- The data of a slice read from its bits.
-use Rattle.std.proofs.Common.{◌≡◌, ℕ, zero, suc, ◌+◌, ◌-◌, ◌<◌, ◌≤◌, nat_lt, List, [], ◌∷◌, ◌++◌, length, Bool, true, false, refl, ap, ◌∙◌, sym, subst, arith, length-append, append_assoc, append-nil}
-use Rattle.std.proofs.lemmas.Bool.{le-ltb, ne_eqb}
-use Rattle.std.proofs.lemmas.List.{length-replicate, replicate-append-replicate}
-use Rattle.std.specs.Prelude.{◌==◌, replicate, None, Result, Ok, Err}
-use Rattle.avc_types.specs.declared.fault.Fault.{Fault}
+use Rattle.avc_make.proofs.Common.{◌≡◌, ℕ, zero, suc, ◌+◌, ◌-◌, ◌<◌, ◌≤◌, nat_lt, List, [], ◌∷◌, ◌++◌, length, Bool, true, false, refl, ap}
+use Rattle.avc_make.proofs.Common.{◌∙◌, sym, subst, arith, length-append, append_assoc, append-nil, le-ltb, ne_eqb, length-replicate}
+use Rattle.avc_make.proofs.Common.{replicate-append-replicate, ◌==◌, replicate, None, Result, Ok, Err, Fault, Mb, MbSyntax, PicMb, Bits}
+use Rattle.avc_make.proofs.Common.{bits_of, more_data, ue, Context, macroblock, CanFollow, CanStand, DataIsRead, data_bits, i_data_bits}
+use Rattle.avc_make.proofs.Common.{is_skip, p_data_bits, HasRanges, mb_bits, qp_of, bits_after_one, ue_word, rest_bits}
 use Rattle.avc_types.specs.declared.fault.Fault.TheVariants as faults
-use Rattle.avc_types.specs.Macroblock.{Mb, MbSyntax}
-use Rattle.avc_types.specs.Pictures.{PicMb}
-use Rattle.avc_bits.specs.Bits.{Bits, bits_of, more_data}
-use Rattle.avc_bits.specs.Codes.{ue}
-use Rattle.avc_mbsyntax.specs.declared.context.Context.{Context}
-use Rattle.avc_mbsyntax.specs.Reading.{macroblock}
 use Rattle.avc_mbsyntax.specs.SliceData.{SliceMbs, SliceStart, after, after_run, context, ended, from_run, i_data, p_data, placed, skipped, slice_data, stopped, where_room}
-use Rattle.avc_make.specs.DataWriting.{CanFollow, CanStand, DataIsRead, data_bits, i_data_bits, is_skip, p_data_bits}
-use Rattle.avc_make.specs.MbWriting.{HasRanges, mb_bits, qp_of}
-use Rattle.avc_make.specs.Words.{bits_after_one, ue_word}
 use Rattle.avc_make.proofs.MbBack.{mb_is_read}
 use Rattle.avc_make.proofs.ReadingBack.{back-ue}
-use Rattle.avc_make.specs.SliceSteps.{rest_bits}
 
 -- ---- bits that are there
 

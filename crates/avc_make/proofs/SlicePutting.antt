@@ -1,25 +1,16 @@
 -- The macroblocks of a slice put one after another.
 use Rattle.std.proofs.Common.{◌≡◌, ℕ, ◌+◌, ◌<◌, ◌≤◌, List, [], ◌∷◌, ◌++◌, length, drop, get_or, take, Bool, false, refl, ap, ◌∙◌, sym, subst, arith, length-append, append_assoc, append-nil}
-use Rattle.std.proofs.lemmas.List.{drop_more, length-map, map-append, take_more}
-use Rattle.std.specs.Prelude.{map, Option}
-use Rattle.std.specs.Option.{option_map}
-use Rattle.avc_types.specs.Macroblock.{Mb, MbSyntax}
-use Rattle.avc_types.specs.Pictures.{PicMb}
+use Rattle.avc_make.proofs.Common.{drop_more, length-map, map-append, take_more, map, Option, option_map, Mb, MbSyntax, PicMb}
+use Rattle.avc_make.proofs.Common.{total_coeffs_of, Context, CanFollow, CanStand, data_bits, i_data_bits, p_data_bits, Made, nothing}
+use Rattle.avc_make.proofs.Common.{with_bits, qp_of, IsOf, AreFactsOf, last_run_bits_where, own_bits, rest_bits, run_after, some_bits}
+use Rattle.avc_make.proofs.Common.{IsCodedSlice, coded_slice_bits, earlier_mbs, own_start, IsUnit}
 use Rattle.avc_neigh.specs.declared.facts.NeighbourFacts.{NeighbourFacts}
 use Rattle.avc_neigh.specs.declared.facts.TotalCoeffs.{TotalCoeffs}
 use Rattle.avc_neigh.specs.Around.{PictureFacts, mb_a, mb_b, with_facts}
 use Rattle.avc_neigh.specs.Laws.{FactsTell}
-use Rattle.avc_neigh.specs.TotalCoeffs.{total_coeffs_of}
 use Rattle.avc_neigh.proofs.Found.{total_coeffs_found}
-use Rattle.avc_mbsyntax.specs.declared.context.Context.{Context}
 use Rattle.avc_mbsyntax.specs.SliceData.{SliceStart, context, left_total_coeffs, placed, up_total_coeffs}
-use Rattle.avc_make.specs.DataWriting.{CanFollow, CanStand, data_bits, i_data_bits, p_data_bits}
 use Rattle.avc_make.specs.HeaderWriting.{header_bits, slice_unit_header}
-use Rattle.avc_make.specs.Made.{Made, nothing, with_bits}
-use Rattle.avc_make.specs.MbWriting.{qp_of}
-use Rattle.avc_make.specs.SliceSteps.{IsOf, AreFactsOf, last_run_bits_where, own_bits, rest_bits, run_after, some_bits}
-use Rattle.avc_make.specs.SliceMbs.{IsCodedSlice, coded_slice_bits, earlier_mbs, own_start}
-use Rattle.avc_make.specs.Units.{IsUnit}
 use Rattle.avc_make.specs.declared.slice.CodedSlice.{CodedSlice}
 
 -- ---- what the row has of them

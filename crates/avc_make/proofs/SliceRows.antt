@@ -1,15 +1,9 @@
 -- Worked examples of slice headers that are written, and of what stands before the samples of an I_PCM macroblock.
-use Rattle.std.specs.Prelude.{◌≡◌, pos, true, false, [], ◌∷◌, ◌++◌, take, None, Some, refl}
-use Rattle.std.specs.Int.Count.{count_leading_zeros}
-use Rattle.avc_bits.specs.Bits.{byte_bits}
+use Rattle.avc_make.proofs.Common.{◌≡◌, pos, true, false, [], ◌∷◌, ◌++◌, take, None, Some, refl, count_leading_zeros, byte_bits, Type0}
+use Rattle.avc_make.proofs.Common.{Header, i_type, zeros_to_byte, se_word, ue_word, plain, small}
 use Rattle.avc_params.specs.declared.sps.OrderCount.TheVariants as orders
-use Rattle.avc_slice.specs.declared.header.CodedOrder.TheVariants.{Type0}
-use Rattle.avc_slice.specs.declared.header.Header.{Header}
 use Rattle.avc_slice.specs.declared.header.SliceType.TheVariants.{AllI}
 use Rattle.avc_make.specs.HeaderWriting.{header_bits, slice_unit_header}
-use Rattle.avc_make.specs.MbWriting.{i_type, zeros_to_byte}
-use Rattle.avc_make.specs.Words.{se_word, ue_word}
-use Rattle.avc_params.proofs.Rows.{plain, small}
 use Rattle.avc_slice.proofs.Rows as Read
 
 -- of the only slice of an IDR picture

@@ -1,15 +1,11 @@
 -- Blocks of small levels can be written.
-use Rattle.std.proofs.Common.{ℕ, ◌+◌, ◌^◌, ◌<◌, ◌≤◌, ℤ, nat_abs, List, [], ◌∷◌, drop, length, Bool, false, arith, lit<, inl, inr}
-use Rattle.std.specs.Prelude.{nat_lt}
-use Rattle.std.proofs.lemmas.Bool.{cases_eq}
-use Rattle.std.proofs.Math.Nat.{pow-le-pow_right}
+use Rattle.avc_make.proofs.Common.{ℕ, ◌+◌, ◌^◌, ◌<◌, ◌≤◌, ℤ, nat_abs, List, [], ◌∷◌, drop, length, Bool, false, arith, lit<, inl, inr}
+use Rattle.avc_make.proofs.Common.{nat_lt, cases_eq, pow-le-pow_right, AreCodes, IsCode, SmallAreWritable, after_zeros, code_of_level}
+use Rattle.avc_make.proofs.Common.{coded, first_length, least_code, ones_first, values_of, Each, nat_tests}
 use Rattle.avc_cavlc.specs.Block.{next_suffix_length}
-use Rattle.avc_make.specs.BlockWriting.{AreCodes, IsCode, SmallAreWritable, after_zeros, code_of_level, coded, first_length, least_code, ones_first, values_of}
-use Rattle.avc_make.specs.VuiWriting.{Each}
 use Rattle.avc_make.proofs.BlockPutting.{each_drop, each_reverse, each_value}
 use Rattle.avc_make.proofs.LevelWords.{least_last}
 use Rattle.avc_make.proofs.WeightsBack.{each_of_all}
-use Rattle.std.proofs.lemmas.Bool.Decides.{nat_tests}
 
 abbrev IsSmall : ℤ → Type 0
 IsSmall l = nat_abs l ≤ 2063

@@ -1,11 +1,8 @@
 -- The bits of a unit, read again.
-use Rattle.std.proofs.Common.{◌≡◌, ℕ, List, [], ◌∷◌, Bool, true, false, drop, ap, ◌∙◌, arith, append_assoc}
-use Rattle.std.specs.Prelude.{replicate}
-use Rattle.avc_annexb.specs.Escapes.{rbsp}
-use Rattle.avc_bits.specs.Bits.{before_last_one, or_none, start}
+use Rattle.avc_make.proofs.Common.{◌≡◌, ℕ, List, [], ◌∷◌, Bool, true, false, drop, ap, ◌∙◌, arith, append_assoc, replicate, rbsp}
+use Rattle.avc_make.proofs.Common.{before_last_one, or_none, start, IsUnit}
 use Rattle.avc_bits.proofs.Stops.{before_one}
 use Rattle.avc_make.specs.Cutting.{RbspsAreRead}
-use Rattle.avc_make.specs.Units.{IsUnit}
 use Rattle.avc_make.proofs.Removing.{removed}
 
 pub rbsp_is_read : RbspsAreRead

@@ -1,10 +1,8 @@
 -- The table of explicit weights read from its bits.
-use Rattle.std.proofs.Common.{ℕ, List, [], ◌∷◌, pos, negsuc, refl}
-use Rattle.std.specs.List.{All}
+use Rattle.avc_make.proofs.Common.{ℕ, List, [], ◌∷◌, pos, negsuc, refl, All, IsChromaWeights, IsCodedWeight, IsEntryWeights}
+use Rattle.avc_make.proofs.Common.{IsPredWeightTable, Each}
 use Rattle.std.proofs.lemmas.List.Elements.{All-head, All-tail}
 use Rattle.avc_slice.specs.WeightsReading.{chroma_weights, coded_weight, entry_weights, pred_weight_table}
-use Rattle.avc_slice.specs.Within.{IsChromaWeights, IsCodedWeight, IsEntryWeights, IsPredWeightTable}
-use Rattle.avc_make.specs.VuiWriting.{Each}
 use Rattle.avc_make.specs.WeightsWriting.{chroma_weights_bits, coded_weight_bits, entry_weights_bits, pred_weight_table_bits}
 use Rattle.avc_make.proofs.ReadingBack.{GivesEach, back-bind, back-last, back-optional, back-se_within, back-times, back-ue_to}
 

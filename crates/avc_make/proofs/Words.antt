@@ -1,16 +1,8 @@
 -- The codewords.
-use Rattle.std.proofs.Common.{◌≡◌, ℕ, zero, suc, ◌+◌, ◌-◌, ◌*◌, ◌%◌, ◌^◌, ◌<◌, ◌≤◌, ◌∷◌, ◌++◌, true, false, ℤ, pos, neg_ℤ, ◌<ℤ◌, refl, ap, ◌∙◌, sym, arith}
-use Rattle.std.proofs.lemmas.Bool.{ne_eqb}
-use Rattle.std.proofs.lemmas.Int.{ints}
-use Rattle.std.proofs.lemmas.Nat.{leading_length, mod-mul-add}
-use Rattle.std.proofs.Math.Nat.{pow-succ', mod-eq_of_lt}
-use Rattle.std.specs.Int.Count.{count_leading_zeros}
-use Rattle.std.specs.Prelude.{◌==◌, replicate}
-use Rattle.avc_bits.specs.Bits.{bits_of}
-use Rattle.avc_bits.specs.Codes.{IsSe, IsTe, IsUe, signed_value}
-use Rattle.avc_bits.proofs.Numbers.{length-bits_of, number-bits_of, number-inj}
-use Rattle.avc_make.specs.Words.{bits_after_one, se_word, signed_index, te_word, ue_word}
-use Rattle.std.proofs.lemmas.Bool.Decides.{nat_tests}
+use Rattle.avc_make.proofs.Common.{◌≡◌, ℕ, zero, suc, ◌+◌, ◌-◌, ◌*◌, ◌%◌, ◌^◌, ◌<◌, ◌≤◌, ◌∷◌, ◌++◌, true, false, ℤ, pos, neg_ℤ, ◌<ℤ◌, refl}
+use Rattle.avc_make.proofs.Common.{ap, ◌∙◌, sym, arith, ne_eqb, ints, leading_length, mod-mul-add, pow-succ', mod-eq_of_lt}
+use Rattle.avc_make.proofs.Common.{count_leading_zeros, ◌==◌, replicate, bits_of, IsSe, IsTe, IsUe, signed_value, length-bits_of}
+use Rattle.avc_make.proofs.Common.{number-bits_of, number-inj, bits_after_one, se_word, signed_index, te_word, ue_word, nat_tests}
 
 -- where the first 1 of a number stands
 pub record IsTop (n value : ℕ) : Type 0 where

@@ -1,25 +1,14 @@
 -- Events that are taken one after another.
-use Rattle.std.specs.Prelude.{◌≡◌, ℕ, zero, suc, ◌+◌, ◌-◌, ◌<◌, ◌≤◌, List, [], ◌∷◌, ◌++◌, length, take, drop, Option, Some, None, Result, Ok, Err, IfErr, IsErrAnd, slice_get, refl}
-use Rattle.std.proofs.Common.{ap, sym, subst, ◌∙◌, arith, append_assoc, append-nil, length-append, drop-cons}
-use Rattle.std.proofs.Math.Seq.{drop-nil, take-append-add, take-append_seam}
-use Rattle.std.proofs.lemmas.List.{take-append-le, drop_more}
+use Rattle.avc_run.proofs.Common.{◌≡◌, ℕ, zero, suc, ◌+◌, ◌-◌, ◌<◌, ◌≤◌, List, [], ◌∷◌, ◌++◌, length, take, drop, Option, Some, None}
+use Rattle.avc_run.proofs.Common.{Result, Ok, Err, IfErr, IsErrAnd, refl, ap, sym, subst, ◌∙◌, arith, append_assoc, append-nil}
+use Rattle.avc_run.proofs.Common.{length-append, drop-cons, drop-nil, take-append-add, take-append_seam, take-append-le, drop_more, Appends}
+use Rattle.avc_run.proofs.Common.{Appends-nil, Appends-trans, Fault, saturated, pictures_in, refusals_in, Machine, next_event, after_take}
+use Rattle.avc_run.proofs.Common.{Event, Picture, Refused, max_unit, pictures_after, written_from, Format, StopsPicture, WritesPicturesAs}
+use Rattle.avc_run.proofs.Common.{events_defined, events_left, count_left, report_with, BreaksOff, IsDraining, IsHandled, WritesFirst}
+use Rattle.avc_run.proofs.Common.{RunFault, Read, Endless, Write, Memory, Size, Report}
+use Rattle.std.specs.Prelude.{slice_get}
 use Rattle.std.proofs.lemmas.Option.{slice_get_within, get_or_from_slice_get}
-use Rattle.std.specs.Io.KnownBytes.{Appends}
-use Rattle.std.proofs.KnownBytes.{Appends-nil, Appends-trans}
-use Rattle.avc_types.specs.declared.fault.Fault.{Fault}
-use Rattle.avc_annexb.specs.Units.{saturated}
-use Rattle.avc_decoder.specs.Events.{pictures_in, refusals_in}
-use Rattle.avc_decoder.specs.Machine.{Machine, next_event, after_take}
-use Rattle.avc_decoder.specs.declared.event.Event.{Event}
-use Rattle.avc_decoder.specs.declared.event.Event.TheVariants.{Picture, Refused}
-use Rattle.avc_run.specs.Decoding.{max_unit}
-use Rattle.avc_run.specs.Formats.{pictures_after, written_from, Format, StopsPicture, WritesPicturesAs}
-use Rattle.avc_run.specs.Draining.{events_defined, events_left, count_left, report_with, BreaksOff, IsDraining, IsHandled}
-use Rattle.avc_run.specs.Reading.{WritesFirst}
 use Rattle.avc_types.specs.declared.picture.Picture.{Picture as Decoded}
-use Rattle.avc_run.specs.declared.fault.RunFault.{RunFault}
-use Rattle.avc_run.specs.declared.fault.RunFault.TheVariants.{Read, Endless, Write, Memory, Size}
-use Rattle.avc_run.specs.declared.report.Report.{Report}
 
 -- ---- lists of events
 

@@ -1,13 +1,6 @@
 -- A text that is written in parts.
-use Rattle.std.specs.Prelude.{◌≡◌, ℕ, ◌+◌, ◌<◌, ◌≤◌, List, ◌++◌, length, take, Option, Result, Ok, Err, IfErr, OnErr}
-use Rattle.std.specs.Io.KnownBytes.{Appends}
-use Rattle.std.proofs.Common.{sym, subst, arith, length-append}
-use Rattle.std.proofs.KnownBytes.{Appends-trans}
-use Rattle.std.proofs.lemmas.List.{take-append-le}
-use Rattle.avc_run.specs.Reading.{WritesFirst}
-use Rattle.avc_run.specs.declared.fault.RunFault.{RunFault}
-use Rattle.avc_run.specs.declared.fault.RunFault.TheVariants.{Write}
-use Rattle.std.proofs.Math.Seq.{take-append-add}
+use Rattle.avc_run.proofs.Common.{◌≡◌, ℕ, ◌+◌, ◌<◌, ◌≤◌, List, ◌++◌, length, take, Option, Result, Ok, Err, IfErr, OnErr, Appends, sym}
+use Rattle.avc_run.proofs.Common.{subst, arith, length-append, Appends-trans, take-append-le, WritesFirst, RunFault, Write, take-append-add}
 
 -- the first of the one
 pub stopped_before : (a b : Option (List ℕ)) (xs ys : List ℕ) → WritesFirst a b xs → WritesFirst a b (xs ++ ys)

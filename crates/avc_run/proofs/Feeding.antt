@@ -1,19 +1,8 @@
 -- A piece that is fed in parts.
-use Rattle.std.specs.Prelude.{◌≡◌, ℕ, ◌+◌, ◌-◌, false, List, [], ◌++◌, length, take, drop, Option}
-use Rattle.std.proofs.Common.{ap, sym, subst, ◌∙◌, arith, append_assoc, append-nil, length-append}
-use Rattle.std.specs.Io.KnownBytes.{Appends}
-use Rattle.std.proofs.KnownBytes.{Appends-nil}
-use Rattle.std.proofs.Math.Seq.{drop-append_seam, take-add, take-length}
-use Rattle.std.proofs.lemmas.List.{take-append-drop}
-use Rattle.avc_decoder.specs.Laws.{EventsOnlyGrow}
-use Rattle.avc_decoder.specs.Machine.{Machine, after_feed}
-use Rattle.avc_decoder.specs.declared.event.Event.{Event}
-use Rattle.avc_decoder.specs.Events.{events}
-use Rattle.avc_run.specs.Decoding.{max_unit}
-use Rattle.avc_run.specs.Formats.{written_from, Format}
-use Rattle.avc_run.specs.Draining.{events_defined, events_left, report_with, BreaksOff, IsDrained, IsHandled}
-use Rattle.avc_run.specs.declared.report.Report.{Report}
-use Rattle.avc_run.specs.declared.fault.RunFault.{RunFault}
+use Rattle.avc_run.proofs.Common.{◌≡◌, ℕ, ◌+◌, ◌-◌, false, List, [], ◌++◌, length, take, drop, Option, ap, sym, subst, ◌∙◌, arith}
+use Rattle.avc_run.proofs.Common.{append_assoc, append-nil, length-append, Appends, Appends-nil, drop-append_seam, take-add, take-length}
+use Rattle.avc_run.proofs.Common.{take-append-drop, EventsOnlyGrow, Machine, after_feed, Event, events, max_unit, written_from, Format}
+use Rattle.avc_run.proofs.Common.{events_defined, events_left, report_with, BreaksOff, IsDrained, IsHandled, Report, RunFault}
 use Rattle.avc_run.proofs.Draining.{behind, breaks_behind, report_with-append}
 
 abbrev given : Machine → (bytes : List ℕ) (taken : ℕ) → Machine

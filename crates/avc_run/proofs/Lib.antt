@@ -1,3 +1,4 @@
+mod Common
 pub mod OnePiece
 pub mod Draining
 pub mod Feeding

@@ -1,11 +1,7 @@
 -- Texts that are told.
-use Rattle.std.specs.Prelude.{◌≡◌, ℕ, suc, ◌+◌, ◌<◌, List, [], ◌∷◌, ◌++◌, length, take, get_or, Option, Some, None, codes}
-use Rattle.std.specs.List.{flat_map}
-use Rattle.std.specs.Io.KnownBytes.{Appends, Keeps}
-use Rattle.std.proofs.Common.{ap, sym, ◌∙◌, append_assoc, append-nil, arith}
-use Rattle.std.proofs.Math.Seq.{take-suc}
+use Rattle.avc_run.proofs.Common.{◌≡◌, ℕ, suc, ◌+◌, ◌<◌, List, [], ◌∷◌, ◌++◌, length, take, get_or, Option, Some, None, codes, flat_map}
+use Rattle.avc_run.proofs.Common.{Appends, Keeps, ap, sym, ◌∙◌, append_assoc, append-nil, arith, take-suc, take_more}
 use Rattle.std.proofs.lemmas.Grind.{flat_map-append}
-use Rattle.std.proofs.lemmas.List.{take_more}
 
 -- the parts of a line
 pub line_is : (unit number name : List ℕ) → unit ++ codes ": " ++ number ++ codes " " ++ name ++ 10 ∷ [] ≡ unit ++ (58 ∷ 32 ∷ (number ++ (32 ∷ (name ++ (10 ∷ [])))))

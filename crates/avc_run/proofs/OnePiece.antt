@@ -1,16 +1,10 @@
 -- A piece of a stream that comes is the stream's piece.
 use Rattle.std.proofs.Common.{◌≡◌, ℕ, ◌+◌, ◌<◌, ◌^◌, Bool, true, false, List, [], ◌∷◌, ◌++◌, length, Option, Some, None, is_some, Result, Ok, Err, refl, ap, sym, subst, ◌∙◌, append-nil, arith}
-use Rattle.std.specs.Prelude.{IsErrAnd}
+use Rattle.avc_run.proofs.Common.{IsErrAnd, Appends, new_stream, Cuts, IsPieceOf, Lists, IsWhole, RunFault, Memory}
 use Rattle.std.specs.List.{slice_get}
 use Rattle.std.proofs.lemmas.Option.{slice_get_within, slice_get-get_or}
-use Rattle.std.specs.Io.KnownBytes.{Appends}
 use Rattle.avc_tools.specs.Pieces.{pieces}
 use Rattle.avc_tools.specs.PieceSoFar.{bytes_of, is_over, numbered_piece, piece_text, pieces_so_far, PieceSoFar, PiecesAreWhole, PiecesStay}
-use Rattle.avc_tools.specs.Streams.{new_stream}
-use Rattle.avc_run.specs.Listing.{Cuts, IsPieceOf, Lists}
-use Rattle.avc_run.specs.StreamWriting.{IsWhole}
-use Rattle.avc_run.specs.declared.fault.RunFault.{RunFault}
-use Rattle.avc_run.specs.declared.fault.RunFault.TheVariants.{Memory}
 use Rattle.avc_run.proofs.StreamWriting.{no_piece}
 
 -- where there is a later one, there are those before

@@ -1,19 +1,9 @@
 -- Where every picture is written as I420, and all are wanted.
-use Rattle.std.specs.Prelude.{◌≡◌, ℕ, ◌+◌, Bool, true, false, List, [], ◌∷◌, ◌++◌, take, Option, Result, Ok, Err, refl}
-use Rattle.std.proofs.Common.{ap, subst, arith}
-use Rattle.std.specs.Io.KnownBytes.{Appends}
-use Rattle.avc_annexb.specs.Units.{saturated}
+use Rattle.avc_run.proofs.Common.{◌≡◌, ℕ, ◌+◌, Bool, true, false, List, [], ◌∷◌, ◌++◌, take, Option, Result, Ok, Err, refl, ap, subst}
+use Rattle.avc_run.proofs.Common.{arith, Appends, saturated, events, Event, Picture, Refused, max_unit, shown, report_of, Decodes, plain}
+use Rattle.avc_run.proofs.Common.{written_from, DecodesAs, HasRead, WritesFirst, RunFault, Read, Endless, Write, Memory, Size, Report}
 use Rattle.avc_yuv.specs.I420.{i420}
 use Rattle.avc_decoder.specs.Output.{Output}
-use Rattle.avc_decoder.specs.Events.{events}
-use Rattle.avc_decoder.specs.declared.event.Event.{Event}
-use Rattle.avc_decoder.specs.declared.event.Event.TheVariants.{Picture, Refused}
-use Rattle.avc_run.specs.Decoding.{max_unit, shown, report_of, Decodes}
-use Rattle.avc_run.specs.Formats.{plain, written_from, DecodesAs}
-use Rattle.avc_run.specs.Reading.{HasRead, WritesFirst}
-use Rattle.avc_run.specs.declared.fault.RunFault.{RunFault}
-use Rattle.avc_run.specs.declared.fault.RunFault.TheVariants.{Read, Endless, Write, Memory, Size}
-use Rattle.avc_run.specs.declared.report.Report.{Report}
 
 -- it is what is shown
 written_plain : (n : ℕ) (es : List Event) → written_from plain n es ≡ shown es

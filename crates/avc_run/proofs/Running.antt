@@ -1,23 +1,12 @@
 -- A run, piece after piece.
-use Rattle.std.specs.Prelude.{◌≡◌, ℕ, ◌+◌, ◌<◌, ◌≤◌, ◌^◌, Bool, true, false, List, [], ◌++◌, length, take, drop, Option, None, Some, Result, Ok, Err, IsErrAnd, refl}
-use Rattle.std.proofs.Common.{ap, sym, subst, ◌∙◌, arith, append-nil, length-append}
-use Rattle.std.specs.Io.KnownBytes.{prepend_known, Appends, Consumes, IsAtEnd, Keeps}
-use Rattle.std.proofs.KnownBytes.{prepend_known-nil, Appends-nil, Consumes-kept, Consumes-nil, Consumes-trans}
-use Rattle.std.proofs.Math.Seq.{drop-append_seam}
+use Rattle.avc_run.proofs.Common.{◌≡◌, ℕ, ◌+◌, ◌<◌, ◌≤◌, ◌^◌, Bool, true, false, List, [], ◌++◌, length, take, drop, Option, None, Some}
+use Rattle.avc_run.proofs.Common.{Result, Ok, Err, IsErrAnd, refl, ap, sym, subst, ◌∙◌, arith, append-nil, length-append, prepend_known}
+use Rattle.avc_run.proofs.Common.{Appends, Consumes, IsAtEnd, Keeps, prepend_known-nil, Appends-nil, Consumes-kept, Consumes-nil}
+use Rattle.avc_run.proofs.Common.{Consumes-trans, drop-append_seam, events, pictures_in, refusals_in, EventsOnlyGrow, Machine, after_feed}
+use Rattle.avc_run.proofs.Common.{after_flush, new_machine, Event, max_unit, defined, report_of, pictures_after, plain, written_from}
+use Rattle.avc_run.proofs.Common.{DecodesAs, Format, events_defined, events_left, after_draining, report_with, BreaksOff, IsDrained}
+use Rattle.avc_run.proofs.Common.{IsHandled, IsRunning, HasRead, Report, saturated, Fault, RunFault, Read, Endless, Write, Memory, Size}
 use Rattle.avc_decoder.specs.Output.{Output}
-use Rattle.avc_decoder.specs.Events.{events, pictures_in, refusals_in}
-use Rattle.avc_decoder.specs.Laws.{EventsOnlyGrow}
-use Rattle.avc_decoder.specs.Machine.{Machine, after_feed, after_flush, new_machine}
-use Rattle.avc_decoder.specs.declared.event.Event.{Event}
-use Rattle.avc_run.specs.Decoding.{max_unit, defined, report_of}
-use Rattle.avc_run.specs.Formats.{pictures_after, plain, written_from, DecodesAs, Format}
-use Rattle.avc_run.specs.Draining.{events_defined, events_left, after_draining, report_with, BreaksOff, IsDrained, IsHandled, IsRunning}
-use Rattle.avc_run.specs.Reading.{HasRead}
-use Rattle.avc_run.specs.declared.report.Report.{Report}
-use Rattle.avc_annexb.specs.Units.{saturated}
-use Rattle.avc_types.specs.declared.fault.Fault.{Fault}
-use Rattle.avc_run.specs.declared.fault.RunFault.{RunFault}
-use Rattle.avc_run.specs.declared.fault.RunFault.TheVariants.{Read, Endless, Write, Memory, Size}
 use Rattle.avc_run.proofs.Draining.{behind, breaks_behind, pictures_now, report_with-append, reported_is}
 use Rattle.avc_run.proofs.StreamWriting.{nothing_more}
 

@@ -1,16 +1,9 @@
 -- Writing a text of a stream, piece after piece.
-use Rattle.std.specs.Prelude.{◌≡◌, ℕ, suc, ◌+◌, ◌^◌, ◌<◌, ◌≤◌, Bool, true, false, if◌then◌else◌, List, [], ◌∷◌, ◌++◌, length, take, Option, Ok, Err, refl}
-use Rattle.std.proofs.Common.{ap, sym, subst, ◌∙◌, arith, append-nil, length-append}
-use Rattle.std.specs.Io.KnownBytes.{Appends, Consumes, IsAtEnd}
-use Rattle.std.proofs.KnownBytes.{Appends-nil, Appends-trans, Consumes-nil, Consumes-trans}
-use Rattle.std.proofs.lemmas.List.{take-append-le, take-take}
-use Rattle.avc_tools.specs.Streams.{OnlyGrows, StreamSoFar, after_end, after_piece}
-use Rattle.avc_run.specs.Listing.{Lists}
-use Rattle.avc_run.specs.Reading.{HasRead}
-use Rattle.avc_run.specs.StreamWriting.{IsStopped, IsWhole, IsWriting, IsWrittenOn, StopsWriting}
-use Rattle.avc_run.specs.declared.fault.RunFault.{RunFault}
-use Rattle.avc_run.specs.declared.fault.RunFault.TheVariants.{Write, Memory}
-use Rattle.std.proofs.Math.Seq.{take-append-add}
+use Rattle.avc_run.proofs.Common.{◌≡◌, ℕ, suc, ◌+◌, ◌^◌, ◌<◌, ◌≤◌, Bool, true, false, if◌then◌else◌, List, [], ◌∷◌, ◌++◌, length, take}
+use Rattle.avc_run.proofs.Common.{Option, Ok, Err, refl, ap, sym, subst, ◌∙◌, arith, append-nil, length-append, Appends, Consumes, IsAtEnd}
+use Rattle.avc_run.proofs.Common.{Appends-nil, Appends-trans, Consumes-nil, Consumes-trans, take-append-le, take-take, OnlyGrows}
+use Rattle.avc_run.proofs.Common.{StreamSoFar, after_end, after_piece, Lists, HasRead, IsStopped, IsWhole, IsWriting, IsWrittenOn}
+use Rattle.avc_run.proofs.Common.{StopsWriting, RunFault, Write, Memory, take-append-add}
 
 -- a text by the bytes that came, and whether they are all
 abbrev pub Text : Type 0

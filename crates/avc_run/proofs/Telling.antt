@@ -1,12 +1,7 @@
 -- What is told of a run.
-use Rattle.std.specs.Prelude.{◌≡◌, ℕ, Bool, true, false, List, Option, Result, Ok, Err, is_ok, refl}
-use Rattle.std.specs.Io.KnownBytes.{Keeps}
-use Rattle.avc_run.specs.Program.{IsToldAs, Tells}
-use Rattle.avc_run.specs.declared.fault.RunFault.{RunFault}
-use Rattle.avc_run.specs.declared.fault.RunFault.TheVariants.{Memory}
-use Rattle.avc_run.specs.declared.report.Report.{Report}
+use Rattle.avc_run.proofs.Common.{◌≡◌, ℕ, Bool, true, false, List, Option, Result, Ok, Err, is_ok, refl, Keeps, IsToldAs, Tells, RunFault}
+use Rattle.avc_run.proofs.Common.{Memory, Report, arith}
 use Rattle.avc_run.proofs.Lines.{kept_front}
-use Rattle.std.proofs.Common.{arith}
 
 pub as_it_is : (run : Result Report RunFault) → IsToldAs run run
 as_it_is run = grind arith

@@ -1,10 +1,7 @@
 -- Where no piece has a number, and no memory is found to tell of it.
-use Rattle.std.proofs.Common.{◌≡◌, ℕ, Bool, true, false, List, [], Option, Some, None, is_some, Ok, Err, sym, ◌∙◌, arith}
-use Rattle.std.specs.Io.KnownBytes.{Appends}
+use Rattle.avc_run.proofs.Common.{◌≡◌, ℕ, Bool, true, false, List, [], Option, Some, None, is_some, Ok, Err, sym, ◌∙◌, arith, Appends, Cuts}
+use Rattle.avc_run.proofs.Common.{WritesSome, Memory}
 use Rattle.avc_tools.specs.PieceSoFar.{bytes_of, piece_text}
-use Rattle.avc_run.specs.Listing.{Cuts}
-use Rattle.avc_run.specs.Reading.{WritesSome}
-use Rattle.avc_run.specs.declared.fault.RunFault.TheVariants.{Memory}
 
 -- of what is not there nothing is written, and so the first of anything
 none_of_it : (piece : Option (List ℕ)) (held holds : Option (List ℕ)) (text : List ℕ) → is_some piece ≡ false → Appends held holds (bytes_of piece) → WritesSome held holds text

@@ -1,21 +1,10 @@
 -- The events of a stream, from those of its pieces, where each start begins anew.
-use Rattle.std.proofs.Common.{ℕ, ◌≡◌, Bool, true, false, not, if◌then◌else◌, List, [], ◌∷◌, ◌++◌, map, All, arith}
-use Rattle.std.proofs.Common.{refl, ap, ap₂, sym, ◌∙◌, append_assoc, append-nil}
-use Rattle.std.specs.List.{flat_map, list_all}
-use Rattle.std.proofs.lemmas.List.Elements.{All-nil, All-cons, All-head, All-tail, All-same, All-push}
-use Rattle.std.proofs.lemmas.List.Sums.{take_while-cons}
-use Rattle.avc_annexb.specs.Laws.{UnitsAreWhole, UnitsAreWithin, WrittenUnitsStandAlone, contents}
-use Rattle.avc_annexb.specs.Units.{units}
-use Rattle.avc_annexb.specs.declared.unit.Unit.{Unit}
-use Rattle.avc_params.specs.Tables.{sets_after}
-use Rattle.avc_units.specs.Grouping.{is_start, set_units}
-use Rattle.avc_units.specs.Laws.{SetsAreInForceAgain, SetsInForceAreUnits}
-use Rattle.avc_decoder.specs.Output.{Output}
+use Rattle.avc_tools.proofs.Common.{ℕ, ◌≡◌, Bool, true, false, not, if◌then◌else◌, List, [], ◌∷◌, ◌++◌, map, All, arith, refl, ap, ap₂, sym}
+use Rattle.avc_tools.proofs.Common.{◌∙◌, append_assoc, append-nil, flat_map, list_all, All-nil, All-cons, All-head, All-tail, All-same}
+use Rattle.avc_tools.proofs.Common.{All-push, take_while-cons, UnitsAreWhole, UnitsAreWithin, WrittenUnitsStandAlone, contents, units, Unit}
+use Rattle.avc_tools.proofs.Common.{sets_after, is_start, set_units, SetsAreInForceAgain, SetsInForceAreUnits, Output, PicturesNameNoUnits}
+use Rattle.avc_tools.proofs.Common.{is_picture, state_through, Event, piece_units, piece, pieces, rest_of_piece}
 use Rattle.avc_decoder.specs.Events.{State, after_unit, at_end, events, events_from, first_state, state_after, waiting}
-use Rattle.avc_decoder.specs.Laws.{PicturesNameNoUnits, is_picture, state_through}
-use Rattle.avc_decoder.specs.declared.event.Event.{Event}
-use Rattle.avc_tools.specs.Cutting.{piece_units}
-use Rattle.avc_tools.specs.Pieces.{piece, pieces, rest_of_piece}
 use Rattle.avc_tools.proofs.PieceEvents.{piece_events, segment, segment_alike}
 use Rattle.avc_tools.proofs.PiecesWithin.{IsAccepted, IsSilent}
 use Rattle.avc_tools.proofs.Shown.{set_units-append}

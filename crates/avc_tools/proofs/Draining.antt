@@ -1,12 +1,7 @@
 -- Taking all units whose end has been seen, one after the other.
 use Rattle.std.proofs.Common.{◌≡◌, ◌+◌, ℕ, List, [], ◌∷◌, ◌++◌, length, drop, Option, Some, None, true, false, if◌then◌else◌, refl, ap, sym, subst, ◌∙◌, inl, inr, rules, arith, append_assoc, append-nil, length-append}
-use Rattle.std.specs.List.{slice_get}
-use Rattle.std.proofs.lemmas.Option.{slice_get_cases, slice_get_within, get_or_from_slice_get}
-use Rattle.std.proofs.lemmas.List.{drop_more, drop_all}
-use Rattle.avc_annexb.specs.Units.{units}
-use Rattle.avc_annexb.specs.SplitterState.{SplitterState, next_unit_of, after_next_unit}
-use Rattle.avc_annexb.specs.declared.unit.Unit.{Unit}
-use Rattle.avc_tools.specs.Streams.{after_units_left, units_left}
+use Rattle.avc_tools.proofs.Common.{slice_get, slice_get_cases, slice_get_within, get_or_from_slice_get, drop_more, drop_all, units}
+use Rattle.avc_tools.proofs.Common.{SplitterState, next_unit_of, after_next_unit, Unit, after_units_left, units_left}
 
 -- a splitter that has a whole stream, of which no unit was taken
 abbrev pub whole_stream : (bytes : List ℕ) → SplitterState

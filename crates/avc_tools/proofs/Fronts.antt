@@ -1,20 +1,11 @@
 -- What stands in front of a piece's first slice: parameter sets, and what leads its picture.
 use Rattle.std.proofs.Common.{◌≡◌, ℕ, Bool, true, false, ◌&&◌, ◌||◌, ◌==◌, nat_le, if◌then◌else◌, inl, inr, List, [], ◌∷◌, ◌++◌, cond, All}
 use Rattle.std.proofs.Common.{Option, None, refl, ap, ap₂, sym, ◌∙◌, append_assoc, append-nil, arith}
-use Rattle.std.proofs.lemmas.Bool.Decides.{nat_tests}
-use Rattle.std.specs.List.{filter}
-use Rattle.std.proofs.lemmas.List.Elements.{All-head, All-tail, All-append, All-weaker, All-filter}
-use Rattle.avc_annexb.specs.Units.{forbidden_zero_bit, nal_unit_type}
-use Rattle.avc_annexb.specs.declared.unit.Unit.{Unit}
-use Rattle.avc_params.specs.Tables.{Sets, sets_after}
-use Rattle.avc_params.specs.declared.set_unit.SetUnit.{SetUnit}
-use Rattle.avc_units.specs.Grouping.{Kind, boundary, kind, list_of, other, partition, pps, rbsp_of, set_of, set_unit, set_units, slice, sps, step}
-use Rattle.avc_units.specs.Laws.{IsSetOf, SetsAreInForceAgain, SetsInForceAreUnits}
-use Rattle.avc_units.specs.Resuming.{sets_in_force}
-use Rattle.avc_units.specs.declared.step.Next.TheVariants.{Nothing}
-use Rattle.avc_units.specs.declared.step.Step.{Step}
+use Rattle.avc_tools.proofs.Common.{nat_tests, filter, All-head, All-tail, All-append, All-weaker, All-filter, forbidden_zero_bit}
+use Rattle.avc_tools.proofs.Common.{nal_unit_type, Unit, Sets, sets_after, SetUnit, Kind, boundary, kind, list_of, other, partition, pps}
+use Rattle.avc_tools.proofs.Common.{rbsp_of, set_of, set_unit, set_units, slice, sps, step, IsSetOf, SetsAreInForceAgain}
+use Rattle.avc_tools.proofs.Common.{SetsInForceAreUnits, sets_in_force, Nothing, Step, after_slices, leads}
 use Rattle.avc_decoder.specs.Events.{Outcome, State, after_next, after_unit, events_from, in_phase, is_running, no_change, open_facts_in, state_after, waiting}
-use Rattle.avc_tools.specs.Pieces.{after_slices, leads}
 use Rattle.avc_tools.proofs.PiecesWithin.{IsAccepted}
 use Rattle.avc_tools.proofs.Shown.{set_units-append}
 use Rattle.avc_tools.proofs.Joining.{Ends, IsBetween, between_after, ends}

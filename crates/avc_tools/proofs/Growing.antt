@@ -1,14 +1,8 @@
 -- The units that come with more bytes, or with the end.
-use Rattle.std.proofs.Common.{◌≡◌, ◌+◌, ◌≤◌, ℕ, Bool, true, false, if◌then◌else◌, List, [], ◌∷◌, ◌++◌, length, drop, refl, ap, sym, ◌∙◌, arith, append-nil, length-append}
-use Rattle.std.specs.List.{flat_map}
-use Rattle.std.proofs.Math.Seq.{drop-append_seam}
-use Rattle.std.proofs.lemmas.Grind.{flat_map-append}
-use Rattle.avc_annexb.specs.Laws.{UnitsStay}
-use Rattle.avc_annexb.specs.SplitterState.{SplitterState, after_feed, after_finish}
-use Rattle.avc_annexb.specs.Units.{PlacedUnit, numbered, placed_units, unit_of, units}
-use Rattle.avc_annexb.specs.declared.unit.Unit.{Unit}
-use Rattle.avc_tools.specs.Lines.{unit_line, unit_lines_so_far}
-use Rattle.avc_tools.specs.Streams.{IsDrained, OnlyGrows, StreamSoFar, after_units_left, units_left}
+use Rattle.avc_tools.proofs.Common.{◌≡◌, ◌+◌, ◌≤◌, ℕ, Bool, true, false, if◌then◌else◌, List, [], ◌∷◌, ◌++◌, length, drop, refl, ap, sym}
+use Rattle.avc_tools.proofs.Common.{◌∙◌, arith, append-nil, length-append, flat_map, drop-append_seam, flat_map-append, UnitsStay}
+use Rattle.avc_tools.proofs.Common.{SplitterState, after_feed, after_finish, PlacedUnit, numbered, placed_units, unit_of, units, Unit}
+use Rattle.avc_tools.proofs.Common.{unit_line, unit_lines_so_far, IsDrained, OnlyGrows, StreamSoFar, after_units_left, units_left}
 
 -- No line tells of a body, so it makes no difference how long a body is kept.
 same_lines : (few many index : ℕ) (all : List PlacedUnit) → flat_map unit_line (numbered few index all) ≡ flat_map unit_line (numbered many index all)

@@ -1,24 +1,14 @@
 -- The events of a piece, and of what it leaves out.
-use Rattle.std.proofs.Common.{◌≡◌, ◌⊎◌, ℕ, Bool, true, false, not, ◌&&◌, ◌||◌, ◌==◌, nat_le, if◌then◌else◌, inl, inr, List, [], ◌∷◌, ◌++◌, reverse, All}
-use Rattle.std.proofs.Common.{Option, Some, None, Ok, Err, refl, ap, sym, ◌∙◌, append_assoc, append-nil, arith}
-use Rattle.std.proofs.lemmas.Bool.Decides.{nat_tests}
-use Rattle.std.specs.List.{filter, take_while}
-use Rattle.std.proofs.lemmas.List.Elements.{All-head, All-tail, All-filter, All-weaker}
+use Rattle.avc_tools.proofs.Common.{◌≡◌, ◌⊎◌, ℕ, Bool, true, false, not, ◌&&◌, ◌||◌, ◌==◌, nat_le, if◌then◌else◌, inl, inr, List, [], ◌∷◌}
+use Rattle.avc_tools.proofs.Common.{◌++◌, reverse, All, Option, Some, None, Ok, Err, refl, ap, sym, ◌∙◌, append_assoc, append-nil, arith}
+use Rattle.avc_tools.proofs.Common.{nat_tests, filter, take_while, All-head, All-tail, All-filter, All-weaker, forbidden_zero_bit}
+use Rattle.avc_tools.proofs.Common.{nal_unit_type, Unit, Sets, sets_after, Kind, OpenPictureFacts, boundary, ends_picture, kind, kind_of}
+use Rattle.avc_tools.proofs.Common.{no_effect, other, partition, pps, rbsp_of, refusal_of, running_step, set_fault, slice, sps, step}
+use Rattle.avc_tools.proofs.Common.{waiting_step, Nothing, Refusal, Step, Output, OpenPicture, state_through, Event, after_slices}
+use Rattle.avc_tools.proofs.Common.{is_left_out, is_slice, through_slices}
 use Rattle.avc_types.specs.declared.fault.Fault.TheVariants as faults
-use Rattle.avc_annexb.specs.Units.{forbidden_zero_bit, nal_unit_type}
-use Rattle.avc_annexb.specs.declared.unit.Unit.{Unit}
-use Rattle.avc_params.specs.Tables.{Sets, sets_after}
-use Rattle.avc_units.specs.Grouping.{Kind, OpenPictureFacts, boundary, ends_picture, kind, kind_of, no_effect, other, partition, pps, rbsp_of}
-use Rattle.avc_units.specs.Grouping.{refusal_of, running_step, set_fault, slice, sps, step, waiting_step}
-use Rattle.avc_units.specs.declared.step.Next.TheVariants.{Nothing, Refusal}
-use Rattle.avc_units.specs.declared.step.Step.{Step}
-use Rattle.avc_decoder.specs.Output.{Output}
 use Rattle.avc_decoder.specs.Events.{Outcome, Phase, State, after_next, after_unit, at_end, closed_outcome, closed_picture, closing_result}
 use Rattle.avc_decoder.specs.Events.{events_and_held, events_from, followed_by, held_after, in_phase, is_running, is_waiting, open_facts_in, running, state_after, waiting}
-use Rattle.avc_decoder.specs.FirstFault.{OpenPicture}
-use Rattle.avc_decoder.specs.Laws.{state_through}
-use Rattle.avc_decoder.specs.declared.event.Event.{Event}
-use Rattle.avc_tools.specs.Pieces.{after_slices, is_left_out, is_slice, through_slices}
 use Rattle.avc_tools.proofs.PiecesWithin.{IsAccepted}
 use Rattle.avc_tools.proofs.PieceUnits.{all_after_slices, all_reversed, taken_pass}
 use Rattle.avc_tools.proofs.Slices.{split_at_slices}

@@ -1,9 +1,6 @@
 -- No unit of a stream is longer than the stream.
 use Rattle.std.proofs.Common.{◌≡◌, ◌+◌, ◌≤◌, ℕ, Bool, true, false, List, [], ◌∷◌, length, drop, slice_index, Some, None, nat_le, All, refl, ap, sym, ◌∙◌, arith}
-use Rattle.std.proofs.lemmas.Bool.Decides.{nat_tests}
-use Rattle.std.proofs.lemmas.List.Elements.{All-head, All-tail}
-use Rattle.avc_annexb.specs.Units.{PlacedUnit, placed_units, numbered, unit_of, units, saturated}
-use Rattle.avc_annexb.specs.declared.unit.Unit.{Unit as Piece}
+use Rattle.avc_tools.proofs.Common.{nat_tests, All-head, All-tail, PlacedUnit, placed_units, numbered, unit_of, units, saturated, Piece}
 use Rattle.avc_annexb.proofs.Limits.{IsShort, are_short}
 
 -- with its body or without

@@ -1,17 +1,9 @@
 -- What a piece hands out, by the units of the stream.
-use Rattle.std.proofs.Common.{◌≡◌, Bool, true, false, not, if◌then◌else◌, List, ◌∷◌, ◌++◌, map, All}
-use Rattle.std.proofs.Common.{refl, ap, sym, ◌∙◌}
-use Rattle.std.specs.List.{filter, list_all, list_any, take_while}
-use Rattle.avc_annexb.specs.Laws.{contents}
-use Rattle.avc_annexb.specs.declared.unit.Unit.{Unit}
-use Rattle.avc_params.specs.Tables.{sets_after}
-use Rattle.avc_units.specs.Grouping.{is_start, set_units}
-use Rattle.avc_units.specs.Laws.{SetsAreInForceAgain, SetsInForceAreUnits}
-use Rattle.avc_units.specs.Resuming.{sets_in_force}
-use Rattle.avc_decoder.specs.Output.{Output}
+use Rattle.avc_tools.proofs.Common.{◌≡◌, Bool, true, false, not, if◌then◌else◌, List, ◌∷◌, ◌++◌, map, All, refl, ap, sym, ◌∙◌, filter}
+use Rattle.avc_tools.proofs.Common.{list_all, list_any, take_while, contents, Unit, sets_after, is_start, set_units, SetsAreInForceAgain}
+use Rattle.avc_tools.proofs.Common.{SetsInForceAreUnits, sets_in_force, Output, PicturesNameNoUnits, is_picture, after_slices, is_left_out}
+use Rattle.avc_tools.proofs.Common.{leads, piece, rest_of_piece, through_slices}
 use Rattle.avc_decoder.specs.Events.{State, after_unit, events_from, first_state, state_after, waiting}
-use Rattle.avc_decoder.specs.Laws.{PicturesNameNoUnits, is_picture}
-use Rattle.avc_tools.specs.Pieces.{after_slices, is_left_out, leads, piece, rest_of_piece, through_slices}
 use Rattle.avc_tools.proofs.Fronts.{after_front, front_sets, quiet_front}
 use Rattle.avc_tools.proofs.Joining.{left_out_alike}
 use Rattle.avc_tools.proofs.PiecesWithin.{IsAccepted}

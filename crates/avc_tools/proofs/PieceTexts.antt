@@ -1,14 +1,8 @@
 -- A piece whose stream comes is written as far as it is settled.
 use Rattle.std.proofs.Common.{◌≡◌, ◌≤◌, ℕ, Bool, true, false, if◌then◌else◌, List, [], ◌∷◌, ◌++◌, length, is_some, refl, ap, sym, subst, ◌∙◌, arith, append_assoc, append-nil, ◌⊎◌}
-use Rattle.avc_annexb.specs.SplitterState.{SplitterState, after_feed}
-use Rattle.avc_annexb.specs.Units.{units}
-use Rattle.avc_annexb.specs.declared.unit.Unit.{Unit}
-use Rattle.avc_tools.specs.PieceSoFar.{bytes_of, numbered_piece, piece_text}
-use Rattle.avc_tools.specs.PieceSoFar.{is_over as piece_is_over}
+use Rattle.avc_tools.proofs.Common.{SplitterState, after_feed, units, Unit, bytes_of, numbered_piece, piece_text, piece_is_over}
+use Rattle.avc_tools.proofs.Common.{StreamSoFar, after_end, after_piece, after_units_left, units_left, Cutter, CutPhase}
 use Rattle.avc_tools.specs.Stages.{IsCutOff, IsCutOn, IsCutting, Stage, StandsAt, next, phase_of, piece_of, stage_after, stage_of, text_of, waiting}
-use Rattle.avc_tools.specs.Streams.{StreamSoFar, after_end, after_piece, after_units_left, units_left}
-use Rattle.avc_tools.specs.declared.cutter.Cutter.{Cutter}
-use Rattle.avc_tools.specs.declared.cutter.CutPhase.{CutPhase}
 use Rattle.avc_tools.specs.declared.cutter.CutPhase.TheVariants as phases
 use Rattle.avc_tools.proofs.Growing.{AreLeft, drained}
 use Rattle.avc_tools.proofs.Stages.{after-append, is_over, numbered_is, over_is}

@@ -1,20 +1,12 @@
 -- The units of pieces: of which a stream's pieces are written, which facts they keep, and what a lower limit of a unit's bytes does.
-use Rattle.std.proofs.Common.{◌≡◌, ℕ, Bool, true, false, cond, not, ◌||◌, List, [], ◌∷◌, ◌++◌, length, map, reverse, drop, All, arith}
-use Rattle.std.proofs.Common.{Option, Some, None, is_some, if◌then◌else◌, refl, ap, ap₂, sym, ◌∙◌}
-use Rattle.std.specs.List.{filter, flat_map, list_any, prefix_len, range_with_len, take_while}
-use Rattle.std.specs.Option.{option_map}
-use Rattle.std.proofs.lemmas.List.{length-map, drop-map, map-append, reverse-append}
-use Rattle.std.proofs.lemmas.List.Elements.{All-nil, All-cons, All-head, All-tail, All-append, All-take, All-drop, All-same, All-push, All-filter}
-use Rattle.std.proofs.lemmas.List.Sums.{take_while-cons}
-use Rattle.avc_annexb.specs.declared.unit.Unit.{Unit}
-use Rattle.avc_annexb.specs.Laws.{unit_within}
-use Rattle.avc_annexb.specs.Written.{written}
-use Rattle.avc_params.specs.Tables.{is_pps, is_sps, last, pps_in_force, sps_in_force}
-use Rattle.avc_params.specs.declared.set_unit.SetUnit.{SetUnit}
-use Rattle.avc_units.specs.Grouping.{is_start, list_of, set_unit, set_units}
-use Rattle.avc_units.specs.Resuming.{deciding_unit, satisfies, sets_in_force, unit_list}
-use Rattle.avc_tools.specs.Cutting.{piece_units}
-use Rattle.avc_tools.specs.Pieces.{after_slices, is_left_out, is_slice, leads, piece, pieces_from, rest_of_piece, through_slices}
+use Rattle.avc_tools.proofs.Common.{◌≡◌, ℕ, Bool, true, false, not, ◌||◌, List, [], ◌∷◌, ◌++◌, length, map, reverse, drop, All, arith}
+use Rattle.avc_tools.proofs.Common.{Option, Some, None, is_some, if◌then◌else◌, refl, ap, ap₂, sym, ◌∙◌, filter, flat_map, list_any}
+use Rattle.avc_tools.proofs.Common.{prefix_len, range_with_len, take_while, option_map, length-map, drop-map, map-append, reverse-append}
+use Rattle.avc_tools.proofs.Common.{All-nil, All-cons, All-head, All-tail, All-append, All-take, All-drop, All-same, All-push, All-filter}
+use Rattle.avc_tools.proofs.Common.{take_while-cons, Unit, unit_within, written, is_pps, is_sps, last, pps_in_force, sps_in_force, SetUnit}
+use Rattle.avc_tools.proofs.Common.{is_start, list_of, set_unit, set_units, deciding_unit, satisfies, sets_in_force, unit_list, piece_units}
+use Rattle.avc_tools.proofs.Common.{after_slices, is_left_out, is_slice, leads, piece, pieces_from, rest_of_piece, through_slices}
+use Rattle.std.proofs.Common.{cond}
 
 -- ---- the pieces, of their units
 

@@ -1,15 +1,8 @@
 -- Pieces, one after the other.
 use Rattle.std.proofs.Common.{◌≡◌, ◌+◌, ◌-◌, ◌<◌, ◌≤◌, ℕ, Bool, true, false, List, [], ◌∷◌, ◌++◌, length, map, take, drop, get_or, refl, ap, sym, ◌∙◌, arith, append_assoc, append-nil}
-use Rattle.std.proofs.lemmas.Grind.{flat_map-append}
-use Rattle.std.proofs.lemmas.List.{drop-map, drop_all, drop_more, length-map, take_more}
-use Rattle.std.specs.List.{filter, flat_map}
-use Rattle.avc_annexb.specs.declared.unit.Unit.{Unit}
-use Rattle.avc_units.specs.Grouping.{is_start}
-use Rattle.avc_annexb.specs.Written.{written}
-use Rattle.avc_units.specs.Resuming.{sets_in_force}
-use Rattle.avc_tools.specs.Cutting.{HasSets, kept_bytes, piece_at, piece_in, pieces_at, pieces_in}
-use Rattle.avc_tools.specs.Pieces.{after_slices, leads, piece, pieces_from, rest_of_piece, through_slices}
-use Rattle.avc_tools.specs.declared.sets_in_force.SetsInForce.{SetsInForce}
+use Rattle.avc_tools.proofs.Common.{flat_map-append, drop-map, drop_all, drop_more, length-map, take_more, filter, flat_map, Unit, is_start}
+use Rattle.avc_tools.proofs.Common.{written, sets_in_force, HasSets, kept_bytes, piece_at, piece_in, pieces_at, pieces_in, after_slices}
+use Rattle.avc_tools.proofs.Common.{leads, piece, pieces_from, rest_of_piece, through_slices, SetsInForce}
 use Rattle.avc_tools.proofs.SetsInForce.{sets_written}
 use Rattle.avc_tools.proofs.Slices.{after_is_rest, part_from}
 

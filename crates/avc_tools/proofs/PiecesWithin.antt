@@ -1,24 +1,13 @@
 -- The pieces of a stream that has no unit too long where that matters: those with which decoding starts are the pieces of its
 -- units as they are given out, and the others hand out nothing.
-use Rattle.std.proofs.Common.{◌≡◌, ◌+◌, ℕ, Bool, true, false, not, ◌&&◌, ◌||◌, ◌==◌, nat_le, List, [], ◌∷◌, ◌++◌, length, map, All}
-use Rattle.std.proofs.Common.{Option, Some, None, is_some, if◌then◌else◌, refl, ap, ap₂, sym, subst, ◌∙◌, arith}
-use Rattle.std.specs.Prelude.{IsTrue}
-use Rattle.std.specs.List.{flat_map, list_any, take_while}
-use Rattle.std.proofs.lemmas.List.{map-append}
-use Rattle.std.proofs.lemmas.List.Elements.{All-nil, All-cons, All-head, All-tail, All-push, All-map, All-take, All-drop, All-weaker}
-use Rattle.std.proofs.lemmas.Option.{slice_get-get_or}
-use Rattle.avc_annexb.specs.Escapes.{rbsp}
-use Rattle.avc_annexb.specs.Laws.{IsUnitOf, UnitsAreWhole, UnitsAreWithin, WrittenUnitsStandAlone, body_within, contents, contents_within, unit_within}
-use Rattle.avc_annexb.specs.Units.{forbidden_zero_bit, nal_unit_type, units}
-use Rattle.avc_annexb.specs.Written.{written}
-use Rattle.avc_annexb.specs.declared.unit.Unit.{Unit}
-use Rattle.avc_bits.specs.Bits.{start}
-use Rattle.avc_bits.specs.Codes.{ue}
-use Rattle.avc_units.specs.Grouping.{Kind, is_start, kind, kind_of, pps, rbsp_of, reads_zero, set_fault, set_of, sps}
-use Rattle.avc_tools.specs.Cutting.{piece_units}
-use Rattle.avc_tools.specs.Pieces.{piece, pieces, rest_of_piece}
+use Rattle.avc_tools.proofs.Common.{◌≡◌, ◌+◌, ℕ, Bool, true, false, not, ◌&&◌, ◌||◌, ◌==◌, nat_le, List, [], ◌∷◌, ◌++◌, length, map, All}
+use Rattle.avc_tools.proofs.Common.{Option, Some, None, is_some, if◌then◌else◌, refl, ap, ap₂, sym, subst, ◌∙◌, arith, IsTrue, flat_map}
+use Rattle.avc_tools.proofs.Common.{list_any, take_while, map-append, All-nil, All-cons, All-head, All-tail, All-push, All-map, All-take}
+use Rattle.avc_tools.proofs.Common.{All-drop, All-weaker, slice_get-get_or, rbsp, IsUnitOf, UnitsAreWhole, UnitsAreWithin}
+use Rattle.avc_tools.proofs.Common.{WrittenUnitsStandAlone, body_within, contents, contents_within, unit_within, forbidden_zero_bit}
+use Rattle.avc_tools.proofs.Common.{nal_unit_type, units, written, Unit, start, ue, Kind, is_start, kind, kind_of, pps, rbsp_of, reads_zero}
+use Rattle.avc_tools.proofs.Common.{set_fault, set_of, sps, piece_units, piece, pieces, rest_of_piece, take-append_seam, drop-append_seam}
 use Rattle.avc_tools.proofs.PieceUnits.{SameSet, SameStart, all_from_parts, all_of_piece, all_of_rest, piece_units-cut, pieces_written, taken_pass}
-use Rattle.std.proofs.Math.Seq.{take-append_seam, drop-append_seam}
 
 -- ---- units that a lower limit leaves as they are
 

@@ -1,39 +1,20 @@
 -- What a stream without refusals says of its units, and pieces with which decoding doesn't start.
-use Rattle.std.proofs.Common.{◌≡◌, ◌-◌, ℕ, Bool, true, false, not, ◌&&◌, ◌==◌, List, [], ◌∷◌, ◌++◌, All, arith}
-use Rattle.std.proofs.Common.{Option, Some, None, Result, Ok, Err, is_some, refl, ap, sym, ◌∙◌}
-use Rattle.std.specs.Prelude.{IsTrue}
-use Rattle.std.specs.List.{flat_map, list_all}
-use Rattle.std.proofs.lemmas.Bool.{eqb-true}
-use Rattle.std.proofs.lemmas.Grind.{flat_map-append}
-use Rattle.std.proofs.lemmas.List.Elements.{All-nil, All-cons, All-head, All-tail}
-use Rattle.avc_types.specs.declared.fault.Fault.{Fault}
+use Rattle.avc_tools.proofs.Common.{◌≡◌, ◌-◌, ℕ, Bool, true, false, not, ◌&&◌, ◌==◌, List, [], ◌∷◌, ◌++◌, All, arith, Option, Some, None}
+use Rattle.avc_tools.proofs.Common.{Result, Ok, Err, is_some, refl, ap, sym, ◌∙◌, IsTrue, flat_map, list_all, eqb-true, flat_map-append}
+use Rattle.avc_tools.proofs.Common.{All-nil, All-cons, All-head, All-tail, Fault, rbsp, UnitsAreWhole, UnitsAreWithin}
+use Rattle.avc_tools.proofs.Common.{WrittenUnitsStandAlone, forbidden_zero_bit, nal_unit_type, units, Unit, start, ue, Sets, sets_after}
+use Rattle.avc_tools.proofs.Common.{Pps, Sps, Kind, OpenPictureFacts, ends_picture, is_start, kind, kind_of, no_effect, pps, rbsp_of}
+use Rattle.avc_tools.proofs.Common.{reads_zero, refusal_of, running_step, set_fault, slice, slice_in, slice_step, sps, step, unreadable}
+use Rattle.avc_tools.proofs.Common.{waiting_step, Nothing, Refusal, FaultOfOpen, FaultOfOwn, Begins, Continues, Step, Output, OpenPicture}
+use Rattle.avc_tools.proofs.Common.{first_fault, history_of, read_of, Event, is_picture, pieces, list_all-append}
 use Rattle.avc_types.specs.declared.fault.Fault.TheVariants as faults
-use Rattle.avc_annexb.specs.Escapes.{rbsp}
-use Rattle.avc_annexb.specs.Laws.{UnitsAreWhole, UnitsAreWithin, WrittenUnitsStandAlone}
-use Rattle.avc_annexb.specs.Units.{forbidden_zero_bit, nal_unit_type, units}
-use Rattle.avc_annexb.specs.declared.unit.Unit.{Unit}
-use Rattle.avc_bits.specs.Bits.{start}
-use Rattle.avc_bits.specs.Codes.{ue}
-use Rattle.avc_params.specs.Tables.{Sets, sets_after}
-use Rattle.avc_params.specs.declared.pps.Pps.{Pps}
-use Rattle.avc_params.specs.declared.sps.Sps.{Sps}
 use Rattle.avc_slice.specs.declared.slice.Slice.{Slice}
-use Rattle.avc_units.specs.Grouping.{Kind, OpenPictureFacts, ends_picture, is_start, kind, kind_of, no_effect, pps, rbsp_of}
-use Rattle.avc_units.specs.Grouping.{reads_zero, refusal_of, running_step, set_fault, slice, slice_in, slice_step, sps, step, unreadable, waiting_step}
 use Rattle.avc_units.specs.declared.step.Next.{Next}
-use Rattle.avc_units.specs.declared.step.Next.TheVariants.{Nothing, Refusal, FaultOfOpen, FaultOfOwn, Begins, Continues}
-use Rattle.avc_units.specs.declared.step.Step.{Step}
-use Rattle.avc_decoder.specs.Output.{Output}
 use Rattle.avc_decoder.specs.Events.{Outcome, Phase, State, after_closing, after_first_slice, after_next, after_unit, at_end}
 use Rattle.avc_decoder.specs.Events.{closed_outcome, closed_picture, closing_result, events, events_from, failed_at, first_state, followed_by, held_after, history_in}
 use Rattle.avc_decoder.specs.Events.{in_phase, is_running, is_waiting, no_change, open_facts_in, running, sets_named, state_after, waiting, with_slice}
-use Rattle.avc_decoder.specs.FirstFault.{OpenPicture, first_fault, history_of, read_of}
-use Rattle.avc_decoder.specs.declared.event.Event.{Event}
 use Rattle.avc_decoder.specs.declared.event.Event.TheVariants.{Refused}
-use Rattle.avc_decoder.specs.Laws.{is_picture}
-use Rattle.avc_tools.specs.Pieces.{pieces}
 use Rattle.avc_tools.proofs.PiecesWithin.{HasPieces, IsAccepted, IsSilent, IsWholeStart, StartsAreWhole, has_pieces}
-use Rattle.std.proofs.lemmas.List.Folds.{list_all-append}
 
 abbrev next_of : Step → Next
 next_of what = what.next

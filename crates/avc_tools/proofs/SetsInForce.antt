@@ -1,34 +1,19 @@
 -- The units whose parameter sets are in force, after one unit more.
 use Rattle.std.proofs.Common.{◌≡◌, ◌+◌, ◌<◌, ℕ, suc, Bool, true, false, List, [], ◌∷◌, ◌++◌, length, Option, Some, None, is_some, Result, Ok, Err, if◌then◌else◌, refl, ap, sym, subst, ◌∙◌, arith, append-nil, take, get_or}
-use Rattle.std.specs.Prelude.{replicate}
+use Rattle.avc_tools.proofs.Common.{replicate, eq-eqb, filter-append, flat_map-append, get_or-replicate, length-replicate, take_more}
+use Rattle.avc_tools.proofs.Common.{option_map, filter, flat_map, range_with_len, Fault, forbidden_zero_bit, Unit, Bits, Read, ◌>>=◌, start}
+use Rattle.avc_tools.proofs.Common.{ue_to, accepted, is_id, is_pps, is_sps, last, pps_in_force, pps_record, sps_in_force, sps_record, Pps}
+use Rattle.avc_tools.proofs.Common.{SetUnit, Sps, kind, list_of, pps, rbsp_of, set_unit, set_units, sps, written, deciding_unit, satisfies}
+use Rattle.avc_tools.proofs.Common.{sets_in_force, unit_list, AreKept, AreReplaced, HasSets, kept_bytes, pps_unit, replaced, sps_unit}
+use Rattle.avc_tools.proofs.Common.{SetsInForce}
 use Rattle.std.proofs.Math.Bool.{cond}
-use Rattle.std.proofs.lemmas.Bool.{eq-eqb}
-use Rattle.std.proofs.lemmas.List.Elements.{filter-append}
-use Rattle.std.proofs.lemmas.Grind.{flat_map-append}
-use Rattle.std.proofs.lemmas.List.{get_or-replicate, length-replicate, take_more}
-use Rattle.std.specs.Option.{option_map}
-use Rattle.std.specs.List.{filter, flat_map, range_with_len}
-use Rattle.avc_types.specs.declared.fault.Fault.{Fault}
-use Rattle.avc_annexb.specs.Units.{forbidden_zero_bit}
-use Rattle.avc_annexb.specs.declared.unit.Unit.{Unit}
-use Rattle.avc_bits.specs.Bits.{Bits, Read, ◌>>=◌, start}
-use Rattle.avc_bits.specs.Codes.{ue_to}
 use Rattle.avc_params.specs.PpsReading.{pps as pps_part, pps_after}
 use Rattle.avc_params.specs.Reading.{pps_id, pps_of, read_value, sps_id, sps_of, whole}
 use Rattle.avc_params.specs.SpsReading.{identity, sps as sps_part, sps_after}
 use Rattle.avc_params.specs.Stored.{stored}
-use Rattle.avc_params.specs.Tables.{accepted, is_id, is_pps, is_sps, last, pps_in_force, pps_record, sps_in_force, sps_record}
 use Rattle.avc_params.specs.Within.{PpsInForceKeepsLimits, SpsInForceKeepsLimits}
-use Rattle.avc_params.specs.declared.pps.Pps.{Pps}
 use Rattle.avc_params.specs.declared.set_fault.SetFault.{SetFault}
-use Rattle.avc_params.specs.declared.set_unit.SetUnit.{SetUnit}
 use Rattle.avc_params.specs.declared.set_unit.SetUnit.TheVariants.{OfPps, OfSps}
-use Rattle.avc_params.specs.declared.sps.Sps.{Sps}
-use Rattle.avc_units.specs.Grouping.{kind, list_of, pps, rbsp_of, set_unit, set_units, sps}
-use Rattle.avc_annexb.specs.Written.{written}
-use Rattle.avc_units.specs.Resuming.{deciding_unit, satisfies, sets_in_force, unit_list}
-use Rattle.avc_tools.specs.Cutting.{AreKept, AreReplaced, HasSets, kept_bytes, pps_unit, replaced, sps_unit}
-use Rattle.avc_tools.specs.declared.sets_in_force.SetsInForce.{SetsInForce}
 use Rattle.avc_tools.proofs.Shown.{set_units-append}
 
 -- ---- ids

@@ -1,21 +1,15 @@
 -- Headers, one line after the other.
 use Rattle.std.proofs.Common.{◌≡◌, ◌^◌, ◌≤◌, ℕ, Bool, true, false, List, [], ◌∷◌, ◌++◌, length, Option, Some, None, Ok, Err, refl, ap, sym, ◌∙◌, arith, append_assoc, append-nil, length-append}
-use Rattle.avc_types.specs.declared.fault.Fault.{Fault}
+use Rattle.avc_tools.proofs.Common.{Fault, UnitsStay, SplitterState, forbidden_zero_bit, units, Unit, Sets, sets_after, SetUnit, Kind, kind}
+use Rattle.avc_tools.proofs.Common.{list_of, rbsp_of, set_unit, set_units, slice_in, with_header, AreShown, header_lines_under, OnlyGrows}
+use Rattle.avc_tools.proofs.Common.{StreamSoFar, after_units_left, units_left, header_line, header_lines_from, header_lines_so_far}
+use Rattle.avc_tools.proofs.Common.{header_text, line_of, refused_text, slice_text}
 use Rattle.avc_types.specs.declared.fault.Fault.TheVariants as faults
-use Rattle.avc_annexb.specs.Laws.{UnitsStay}
-use Rattle.avc_annexb.specs.SplitterState.{SplitterState}
-use Rattle.avc_annexb.specs.Units.{forbidden_zero_bit, units}
-use Rattle.avc_annexb.specs.declared.unit.Unit.{Unit}
-use Rattle.avc_params.specs.Tables.{Sets, sets_after}
-use Rattle.avc_params.specs.declared.set_unit.SetUnit.{SetUnit}
 use Rattle.avc_slice.specs.declared.header.Header.{Header}
 use Rattle.avc_slice.specs.Reading.{header_in_rbsp}
-use Rattle.avc_units.specs.Grouping.{Kind, kind, list_of, rbsp_of, set_unit, set_units, slice_in, with_header}
 use Rattle.avc_tools.proofs.Growing.{AreLeft, drained}
 use Rattle.avc_tools.proofs.Lengths.{whole_units}
-use Rattle.avc_tools.specs.Showing.{AreShown, header_lines_under}
-use Rattle.avc_tools.specs.Streams.{OnlyGrows, StreamSoFar, after_units_left, units_left}
-use Rattle.avc_tools.specs.Lines.{header_line, header_lines_from, header_lines_so_far, header_text, line_of, refused_text, slice_text, text_of}
+use Rattle.avc_tools.specs.Lines.{text_of}
 
 pub set_units-append : (us vs : List Unit) → set_units (us ++ vs) ≡ set_units us ++ set_units vs
 set_units-append [] vs = refl

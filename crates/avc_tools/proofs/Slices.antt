@@ -1,15 +1,9 @@
 -- Where the slices among units end, and where decoding can start.
 use Rattle.std.proofs.Common.{◌≡◌, ◌-◌, ◌<◌, ◌≤◌, ℕ, suc, Bool, true, false, not, List, [], ◌∷◌, ◌++◌, length, map, reverse, take, drop, if◌then◌else◌, refl, ap, sym, ◌∙◌, arith, append_assoc}
 use Rattle.std.proofs.Math.Bool.{cond}
-use Rattle.std.proofs.Math.Seq.{drop-append_seam, take-append_seam, take-length}
-use Rattle.std.proofs.lemmas.List.{length-drop, length-reverse, reverse-append, reverse-reverse}
-use Rattle.std.proofs.lemmas.List.Sums.{take_while-cons}
-use Rattle.std.proofs.lemmas.Grind.{flat_map-append}
-use Rattle.std.specs.List.{filter, flat_map, list_any, take_while}
-use Rattle.avc_annexb.specs.declared.unit.Unit.{Unit}
-use Rattle.avc_units.specs.Grouping.{is_start}
-use Rattle.avc_annexb.specs.Written.{written}
-use Rattle.avc_tools.specs.Pieces.{after_slices, is_left_out, is_slice, rest_of_piece, through_slices}
+use Rattle.avc_tools.proofs.Common.{drop-append_seam, take-append_seam, take-length, length-drop, length-reverse, reverse-append}
+use Rattle.avc_tools.proofs.Common.{reverse-reverse, take_while-cons, flat_map-append, filter, flat_map, list_any, take_while, Unit}
+use Rattle.avc_tools.proofs.Common.{is_start, written, after_slices, is_left_out, is_slice, rest_of_piece, through_slices}
 
 pub stops : {X : Type 0} (p : X → Bool) (x : X) (xs : List X) → p x ≡ false → take_while p (x ∷ xs) ≡ []
 stops p x xs e = rw (take_while-cons, e) refl

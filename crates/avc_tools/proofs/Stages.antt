@@ -1,22 +1,12 @@
 -- One piece unit by unit is what the definition says.
 use Rattle.std.proofs.Common.{◌≡◌, ◌≤◌, ℕ, zero, suc, Bool, true, false, not, ◌||◌, List, [], ◌∷◌, ◌++◌, length, Some, is_some, if◌then◌else◌, refl, ap, sym, ◌∙◌, arith, append_assoc, append-nil, length-append}
-use Rattle.std.proofs.lemmas.Grind.{flat_map-append}
-use Rattle.std.proofs.lemmas.List.Folds.{list_any-append}
-use Rattle.std.specs.List.{filter, flat_map, list_any, slice_get, take_while}
-use Rattle.avc_annexb.specs.Laws.{UnitsStay}
-use Rattle.avc_annexb.specs.Units.{units}
-use Rattle.avc_annexb.specs.Written.{written}
-use Rattle.avc_annexb.specs.declared.unit.Unit.{Unit}
-use Rattle.avc_units.specs.Grouping.{is_start}
-use Rattle.avc_units.specs.Resuming.{sets_in_force}
-use Rattle.avc_tools.specs.PieceSoFar.{PiecesAreWhole, PiecesStay, bytes_of, numbered_piece, piece_so_far, piece_text, pieces_so_far_from, rest_so_far}
-use Rattle.avc_tools.specs.PieceSoFar.{is_over as piece_is_over}
-use Rattle.avc_tools.specs.Pieces.{after_slices, is_slice, leads, piece, pieces_from, rest_of_piece, through_slices}
+use Rattle.avc_tools.proofs.Common.{flat_map-append, list_any-append, filter, flat_map, list_any, slice_get, take_while, UnitsStay, units}
+use Rattle.avc_tools.proofs.Common.{written, Unit, is_start, sets_in_force, PiecesAreWhole, PiecesStay, bytes_of, numbered_piece}
+use Rattle.avc_tools.proofs.Common.{piece_so_far, piece_text, pieces_so_far_from, rest_so_far, piece_is_over, after_slices, is_slice, leads}
+use Rattle.avc_tools.proofs.Common.{piece, pieces_from, rest_of_piece, through_slices, OnlyGrows, take_while-cons}
 use Rattle.avc_tools.specs.Stages.{Stage, begun, made, next, over, piece_of, stage_after, staying, text_of, waiting, writing}
-use Rattle.avc_tools.specs.Streams.{OnlyGrows}
 use Rattle.avc_tools.proofs.Lengths.{whole_units}
 use Rattle.avc_tools.proofs.Slices.{goes_before, rest_by, split_at_slices, stops, through_other, through_slice}
-use Rattle.std.proofs.lemmas.List.Sums.{take_while-cons}
 
 -- ---- stages
 

@@ -1,16 +1,10 @@
 -- Each start of a stream begins anew where no IDR picture but the first drops the pictures before.
-use Rattle.std.proofs.Common.{◌≡◌, ◌||◌, Bool, true, false, not, List, [], ◌∷◌, ◌++◌, drop, All, arith}
-use Rattle.std.proofs.Common.{refl, ap, sym, subst, ◌∙◌, append_assoc, append-nil}
-use Rattle.std.specs.List.{list_all, list_any}
-use Rattle.std.proofs.lemmas.List.Elements.{All-nil, All-cons, All-head, All-tail}
-use Rattle.avc_annexb.specs.Laws.{UnitsAreWhole, UnitsAreWithin, WrittenUnitsStandAlone}
-use Rattle.avc_annexb.specs.Units.{units}
-use Rattle.avc_annexb.specs.declared.unit.Unit.{Unit}
-use Rattle.avc_units.specs.Grouping.{is_start, slice_in, tables}
-use Rattle.avc_units.specs.Laws.{SetsAreInForceAgain, SetsInForceAreUnits}
-use Rattle.avc_decoder.specs.Output.{Output}
+use Rattle.avc_tools.proofs.Common.{◌≡◌, ◌||◌, Bool, true, false, not, List, [], ◌∷◌, ◌++◌, drop, All, arith, refl, ap, sym, subst, ◌∙◌}
+use Rattle.avc_tools.proofs.Common.{append_assoc, append-nil, list_all, list_any, All-nil, All-cons, All-head, All-tail, UnitsAreWhole}
+use Rattle.avc_tools.proofs.Common.{UnitsAreWithin, WrittenUnitsStandAlone, units, Unit, is_start, slice_in, tables, SetsAreInForceAgain}
+use Rattle.avc_tools.proofs.Common.{SetsInForceAreUnits, Output, LetsPriorPicturesOut, PicturesNameNoUnits, StartUnitsBeginAnew}
+use Rattle.avc_tools.proofs.Common.{state_through}
 use Rattle.avc_decoder.specs.Events.{State, at_end, events_from, first_state, is_running, no_change, state_after, waiting}
-use Rattle.avc_decoder.specs.Laws.{LetsPriorPicturesOut, PicturesNameNoUnits, StartUnitsBeginAnew, state_through}
 use Rattle.avc_tools.specs.Laws.{PiecesDecodeAlike, drop_flags, drops_by, drops_prior}
 use Rattle.avc_tools.proofs.AllPieces.{StartsBeginAnew, joined_pieces}
 use Rattle.avc_tools.proofs.PiecesWithin.{IsAccepted, IsSilent, front_of_all, neither}

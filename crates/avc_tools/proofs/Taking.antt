@@ -1,19 +1,9 @@
 -- One unit more is taken into a piece.
 use Rattle.std.proofs.Common.{◌≡◌, ◌+◌, ℕ, suc, Bool, true, false, not, List, [], ◌∷◌, ◌++◌, if◌then◌else◌, None, refl, ap, sym, subst, ◌∙◌, arith, append_assoc, append-nil, inl, inr, ◌⊎◌}
-use Rattle.std.proofs.lemmas.Grind.{flat_map-append}
-use Rattle.std.proofs.lemmas.List.Elements.{filter-append}
-use Rattle.std.specs.Prelude.{replicate}
-use Rattle.std.specs.List.{filter, flat_map}
-use Rattle.avc_annexb.specs.Written.{written}
-use Rattle.avc_annexb.specs.declared.unit.Unit.{Unit}
-use Rattle.avc_params.specs.Tables.{is_pps, is_sps, pps_record, sps_record}
-use Rattle.avc_units.specs.Grouping.{is_start, set_unit}
-use Rattle.avc_units.specs.Resuming.{sets_in_force}
-use Rattle.avc_tools.specs.Cutting.{AreReplaced, kept_bytes}
-use Rattle.avc_tools.specs.Pieces.{after_slices, is_left_out, is_slice, leads, through_slices}
+use Rattle.avc_tools.proofs.Common.{flat_map-append, filter-append, replicate, filter, flat_map, written, Unit, is_pps, is_sps, pps_record}
+use Rattle.avc_tools.proofs.Common.{sps_record, is_start, set_unit, sets_in_force, AreReplaced, kept_bytes, after_slices, is_left_out}
+use Rattle.avc_tools.proofs.Common.{is_slice, leads, through_slices, Cutter, CutPhase}
 use Rattle.avc_tools.specs.Stages.{IsCutOff, IsCutOn, IsWaiting, Stage, StandsAt, begun, leading, made, next, over, staying, text_of, waiting, writing}
-use Rattle.avc_tools.specs.declared.cutter.Cutter.{Cutter}
-use Rattle.avc_tools.specs.declared.cutter.CutPhase.{CutPhase}
 use Rattle.avc_tools.specs.declared.cutter.CutPhase.TheVariants as phases
 use Rattle.avc_tools.proofs.SetsInForce.{sets_more, sets_none, sets_written}
 use Rattle.avc_tools.proofs.Slices.{after_other, after_slice, through_other}

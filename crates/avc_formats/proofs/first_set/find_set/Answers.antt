@@ -1,6 +1,4 @@
-use Rattle.std.proofs.Common.{rules}
-use Rattle.avc_tools.proofs.Draining.{all_taken, one_more}
-use Rattle.avc_run.specs.Decoding.{max_unit}
+use Rattle.avc_formats.proofs.Common.{rules, all_taken, one_more, max_unit}
 use Rattle.avc_formats.proofs.Finding.{found_first, passed_more}
 use Rattle.avc_formats.proofs.first_set.find_set.Goals as goal
 

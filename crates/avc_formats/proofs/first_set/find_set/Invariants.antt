@@ -1,6 +1,4 @@
-use Rattle.avc_annexb.specs.SplitterState.{units_waiting}
-use Rattle.avc_tools.proofs.Draining.{IsDraining}
-use Rattle.avc_run.specs.Decoding.{max_unit}
+use Rattle.avc_formats.proofs.Common.{units_waiting, IsDraining, max_unit}
 use Rattle.avc_formats.proofs.Finding.{ArePassed}
 use Rattle.avc_formats.proofs.first_set.find_set.Given as goal
 

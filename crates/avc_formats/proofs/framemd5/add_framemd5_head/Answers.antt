@@ -1,5 +1,4 @@
-use Rattle.std.proofs.Common.{string_bytes}
-use Rattle.avc_formats.specs.FrameMd5.{aspect_line, codec_lines, columns_line, dimensions_line, format_lines, time_base_line}
+use Rattle.avc_formats.proofs.Common.{string_bytes, aspect_line, codec_lines, columns_line, dimensions_line, format_lines, time_base_line}
 use Rattle.avc_formats.proofs.Joining.{joined_six}
 use Rattle.avc_formats.proofs.framemd5.add_framemd5_head.Goals as goal
 

@@ -1,10 +1,7 @@
-use Rattle.std.proofs.Common.{◌++◌, length, rules, string_bytes, subst, sym, true}
-use Rattle.std.specs.Prelude.{codes}
+use Rattle.avc_formats.proofs.Common.{◌++◌, length, rules, string_bytes, subst, sym, true, codes, i420, StopsPicture, framemd5_line}
+use Rattle.avc_formats.proofs.Common.{size_text, times_text}
 use Rattle.hex.specs.Hex.{encode_lower}
 use Rattle.md5.specs.Md5.{md5}
-use Rattle.avc_yuv.specs.I420.{i420}
-use Rattle.avc_run.specs.Formats.{StopsPicture}
-use Rattle.avc_formats.specs.FrameMd5.{framemd5_line, size_text, times_text}
 use Rattle.avc_formats.proofs.Writing.{err_with, none_of_line, text_stopped}
 use Rattle.avc_formats.proofs.framemd5.write_line.Goals as goal
 

@@ -1,7 +1,5 @@
-use Rattle.std.proofs.Common.{◌∙◌, ap, refl, rules}
-use Rattle.std.specs.Prelude.{unwrap_or}
+use Rattle.avc_formats.proofs.Common.{◌∙◌, ap, refl, rules, unwrap_or, NoFront}
 use Rattle.avc_run.specs.declared.fault.RunFault.TheVariants as faults
-use Rattle.avc_formats.specs.Front.{NoFront}
 use Rattle.avc_formats.proofs.Fronts.{front_ended, front_found, looking_more, no_memory}
 use Rattle.avc_formats.proofs.Writing.{err_with}
 use Rattle.avc_formats.proofs.front.read_front.Goals as goal

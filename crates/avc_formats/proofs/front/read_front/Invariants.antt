@@ -1,5 +1,4 @@
-use Rattle.std.proofs.Common.{◌-◌, length}
-use Rattle.avc_formats.specs.Front.{front_length, IsLooking}
+use Rattle.avc_formats.proofs.Common.{◌-◌, length, front_length, IsLooking}
 use Rattle.avc_formats.proofs.front.read_front.Given as goal
 
 abbrev pub invariant-reads : goal.invariant-reads

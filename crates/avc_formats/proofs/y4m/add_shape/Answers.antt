@@ -1,7 +1,4 @@
-use Rattle.std.proofs.Common.{string_bytes}
-use Rattle.std.specs.Prelude.{codes}
-use Rattle.std.specs.Fmt.{decimal}
-use Rattle.avc_formats.specs.Y4m.{ratio_word}
+use Rattle.avc_formats.proofs.Common.{string_bytes, codes, decimal, ratio_word}
 use Rattle.avc_formats.proofs.Joining.{joined_shape}
 use Rattle.avc_formats.proofs.y4m.add_shape.Goals as goal
 

@@ -1,6 +1,4 @@
-use Rattle.std.proofs.Common.{string_bytes}
-use Rattle.avc_formats.specs.Text.{newline}
-use Rattle.avc_formats.specs.Y4m.{chroma_words, range_words, shape_words}
+use Rattle.avc_formats.proofs.Common.{string_bytes, newline, chroma_words, range_words, shape_words}
 use Rattle.avc_formats.proofs.Joining.{joined_four}
 use Rattle.avc_formats.proofs.y4m.add_y4m_header.Goals as goal
 

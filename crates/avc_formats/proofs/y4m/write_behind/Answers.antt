@@ -1,6 +1,4 @@
-use Rattle.std.proofs.Common.{◌≡◌, ◌++◌, refl}
-use Rattle.avc_yuv.specs.I420.{i420}
-use Rattle.avc_run.specs.Reading.{WritesFirst}
+use Rattle.avc_formats.proofs.Common.{◌≡◌, ◌++◌, refl, i420, WritesFirst}
 use Rattle.avc_run.specs.declared.fault.RunFault.TheVariants as faults
 use Rattle.avc_formats.proofs.Writing.{err_with, second_broken}
 use Rattle.avc_formats.proofs.y4m.write_behind.Goals as goal

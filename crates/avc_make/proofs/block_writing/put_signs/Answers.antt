@@ -1,8 +1,5 @@
-use Rattle.std.proofs.Common.{◌≡◌, ◌+◌, ◌∷◌, pos, drop, to_z, of_z, w16, ap, ◌∙◌, sym, arith, append_assoc}
-use Rattle.std.specs.Prelude.{int_lt}
-use Rattle.std.proofs.lemmas.Int.{ints}
-use Rattle.std.proofs.lemmas.List.{length-map}
-use Rattle.avc_make.specs.BlockWriting.{sign_bits, values_of}
+use Rattle.avc_make.proofs.Common.{◌≡◌, ◌+◌, ◌∷◌, pos, drop, to_z, of_z, w16, ap, ◌∙◌, sym, arith, append_assoc, int_lt, ints, length-map}
+use Rattle.avc_make.proofs.Common.{sign_bits, values_of}
 use Rattle.avc_make.proofs.BlockPutting.{sign_at}
 use Rattle.avc_make.proofs.block_writing.put_signs.Goals as goal
 

@@ -1,5 +1,4 @@
-use Rattle.std.proofs.Common.{◌≡◌, ◌++◌, drop, false}
-use Rattle.avc_make.specs.BlockWriting.{sign_bits, values_of}
+use Rattle.avc_make.proofs.Common.{◌≡◌, ◌++◌, drop, false, sign_bits, values_of}
 use Rattle.avc_make.proofs.block_writing.put_signs.Given as goal
 
 -- what was put and the signs that are left are all

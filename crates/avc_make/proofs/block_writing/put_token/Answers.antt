@@ -1,8 +1,5 @@
-use Rattle.std.proofs.Common.{◌≡◌, ℤ, pos, ◌<ℤ◌, ◌≤◌, w8, to_z, of_z, subst, sym, arith}
-use Rattle.std.proofs.lemmas.Int.{ints}
-use Rattle.avc_vlc.specs.Reading.{token}
-use Rattle.avc_vlc.specs.Writing.{token_word, word_bits}
-use Rattle.avc_vlc.proofs.ReadingBack.{token_whole}
+use Rattle.avc_make.proofs.Common.{◌≡◌, ℤ, pos, ◌<ℤ◌, ◌≤◌, w8, to_z, of_z, subst, sym, arith, ints, token, token_word, word_bits}
+use Rattle.avc_make.proofs.Common.{token_whole}
 use Rattle.avc_make.proofs.BlockPutting.{is_some_given}
 use Rattle.avc_make.proofs.block_writing.put_token.Goals as goal
 

@@ -1,7 +1,4 @@
-use Rattle.std.proofs.Common.{◌≡◌, ◌≤◌, ◌<ℤ◌, ℤ, pos, w8, to_z, of_z, subst, sym, arith, append_assoc}
-use Rattle.std.proofs.lemmas.Int.{ints}
-use Rattle.avc_make.specs.BlockWriting.{values_of}
-use Rattle.avc_make.specs.VuiWriting.{Each}
+use Rattle.avc_make.proofs.Common.{◌≡◌, ◌≤◌, ◌<ℤ◌, ℤ, pos, w8, to_z, of_z, subst, sym, arith, append_assoc, ints, values_of, Each}
 use Rattle.avc_make.proofs.BlockPutting.{IsNonzero, coded_some, each_at}
 use Rattle.avc_make.proofs.block_writing.write_block.Goals as goal
 

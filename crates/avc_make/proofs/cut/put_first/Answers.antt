@@ -1,5 +1,4 @@
-use Rattle.std.proofs.Common.{◌≡◌, ◌+◌, ◌-◌, suc, ap, append_assoc, arith}
-use Rattle.avc_bits.specs.Reader.{reader_bits}
+use Rattle.avc_make.proofs.Common.{◌≡◌, ◌+◌, ◌-◌, suc, ap, append_assoc, arith, reader_bits}
 use Rattle.avc_make.proofs.Cutting.{bit_read}
 use Rattle.avc_make.proofs.cut.put_first.Goals as goal
 

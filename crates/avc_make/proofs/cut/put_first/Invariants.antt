@@ -1,6 +1,4 @@
-use Rattle.std.proofs.Common.{◌≡◌, ◌++◌, ◌-◌, take, false}
-use Rattle.avc_bits.specs.Bits.{bits_before_stop}
-use Rattle.avc_bits.specs.Reader.{reader_bits}
+use Rattle.avc_make.proofs.Common.{◌≡◌, ◌++◌, ◌-◌, take, false, bits_before_stop, reader_bits}
 use Rattle.avc_make.proofs.cut.put_first.Given as goal
 
 -- what was put and what is left to put are all

@@ -1,5 +1,4 @@
-use Rattle.std.proofs.Common.{◌≡◌, ◌≤◌, ◌++◌, drop}
-use Rattle.avc_make.specs.Escaping.{escaped, escaped_after}
+use Rattle.avc_make.proofs.Common.{◌≡◌, ◌≤◌, ◌++◌, drop, escaped, escaped_after}
 use Rattle.avc_make.proofs.escapes.escape.Given as goal
 
 -- what was written and what is still to come are all

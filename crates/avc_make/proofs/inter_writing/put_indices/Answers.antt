@@ -1,6 +1,4 @@
-use Rattle.std.proofs.Common.{append_assoc, ap}
-use Rattle.std.proofs.Math.ListN.{drop_of_length-le}
-use Rattle.std.proofs.lemmas.List.{drop_more}
+use Rattle.avc_make.proofs.Common.{append_assoc, ap, drop_of_length-le, drop_more}
 use Rattle.avc_make.proofs.Putting.{put_all}
 use Rattle.avc_make.proofs.inter_writing.put_indices.Goals as goal
 

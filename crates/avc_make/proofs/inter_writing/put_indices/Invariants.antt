@@ -1,7 +1,4 @@
-use Rattle.std.proofs.Common.{◌≡◌, ◌≤◌, ◌<◌, ◌++◌, drop, false}
-use Rattle.std.specs.List.{flat_map}
-use Rattle.avc_make.specs.VuiWriting.{Each}
-use Rattle.avc_make.specs.Words.{te_word}
+use Rattle.avc_make.proofs.Common.{◌≡◌, ◌≤◌, ◌<◌, ◌++◌, drop, false, flat_map, Each, te_word}
 use Rattle.avc_make.proofs.inter_writing.put_indices.Given as goal
 
 -- what was put and the indices that are left are all

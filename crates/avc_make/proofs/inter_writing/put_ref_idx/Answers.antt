@@ -1,7 +1,4 @@
-use Rattle.std.proofs.Common.{ℕ, ◌-◌, ◌<◌, ◌≤◌, take, ◌∙◌, sym, subst, arith}
-use Rattle.avc_types.specs.Macroblock.{partitions}
-use Rattle.avc_make.specs.MbWriting.{has_ref_idx}
-use Rattle.avc_make.specs.VuiWriting.{Each}
+use Rattle.avc_make.proofs.Common.{ℕ, ◌-◌, ◌<◌, ◌≤◌, take, ◌∙◌, sym, subst, arith, partitions, has_ref_idx, Each}
 use Rattle.avc_make.proofs.RefIdxPutting.{indices_active}
 use Rattle.avc_make.proofs.inter_writing.put_ref_idx.Goals as goal
 

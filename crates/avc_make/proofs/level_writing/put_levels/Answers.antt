@@ -1,8 +1,6 @@
-use Rattle.std.proofs.Common.{◌≡◌, ◌≤◌, ◌+◌, ◌<◌, ◌++◌, pos, length, drop, nat_abs, to_z, of_z, w16, false, ap, subst, ◌∙◌, sym, arith, append_assoc}
-use Rattle.std.proofs.lemmas.Int.{ints}
-use Rattle.std.proofs.lemmas.List.{length-map}
+use Rattle.avc_make.proofs.Common.{◌≡◌, ◌≤◌, ◌+◌, ◌<◌, ◌++◌, pos, length, drop, nat_abs, to_z, of_z, w16, false, ap, subst, ◌∙◌, sym, arith}
+use Rattle.avc_make.proofs.Common.{append_assoc, ints, length-map, AreCodes, code_of_level, level_bits, levels_bits, values_of}
 use Rattle.avc_cavlc.specs.Block.{IsLevel, next_suffix_length}
-use Rattle.avc_make.specs.BlockWriting.{AreCodes, code_of_level, level_bits, levels_bits, values_of}
 use Rattle.avc_make.proofs.BlockPutting.{at_place}
 use Rattle.avc_make.proofs.LevelWords.{level_most}
 use Rattle.avc_make.proofs.level_writing.put_levels.Goals as goal

@@ -1,6 +1,4 @@
-use Rattle.std.proofs.Common.{◌≡◌, ◌≤◌, ◌++◌, drop, length, false}
-use Rattle.std.specs.Prelude.{IsTrue, nat_lt}
-use Rattle.avc_make.specs.BlockWriting.{AreCodes, first_length, levels_bits, values_of}
+use Rattle.avc_make.proofs.Common.{◌≡◌, ◌≤◌, ◌++◌, drop, length, false, IsTrue, nat_lt, AreCodes, first_length, levels_bits, values_of}
 use Rattle.avc_make.proofs.level_writing.put_levels.Given as goal
 
 -- what was put and the levels that are left are all

@@ -1,5 +1,4 @@
-use Rattle.std.proofs.Common.{◌≡◌, ◌-◌, ◌∷◌, ◌++◌, [], suc, arith}
-use Rattle.avc_make.specs.Made.{IsFilled}
+use Rattle.avc_make.proofs.Common.{◌≡◌, ◌-◌, ◌∷◌, ◌++◌, [], suc, arith, IsFilled}
 use Rattle.avc_make.proofs.Filling.{filled_length, filled_more}
 use Rattle.avc_make.proofs.maker.add_bit.Goals as goal
 

@@ -1,7 +1,5 @@
-use Rattle.std.proofs.Common.{◌≡◌, ◌+◌, ◌∷◌, drop, ap, sym, ◌∙◌, append_assoc}
-use Rattle.std.proofs.Math.ListN.{drop_of_length-le}
+use Rattle.avc_make.proofs.Common.{◌≡◌, ◌+◌, ◌∷◌, drop, ap, sym, ◌∙◌, append_assoc, drop_of_length-le, drop_more}
 use Rattle.avc_make.proofs.Putting.{put_all}
-use Rattle.std.proofs.lemmas.List.{drop_more}
 use Rattle.avc_make.proofs.part.put_each.Goals as goal
 
 pub loop-part-preserved : goal.loop-part-preserved

@@ -1,6 +1,4 @@
-use Rattle.std.proofs.Common.{◌≡◌, ◌++◌, drop, false}
-use Rattle.std.specs.List.{flat_map}
-use Rattle.avc_make.specs.VuiWriting.{Each}
+use Rattle.avc_make.proofs.Common.{◌≡◌, ◌++◌, drop, false, flat_map, Each}
 use Rattle.avc_make.proofs.part.put_each.Given as goal
 
 -- what was put and the parts that are left are all

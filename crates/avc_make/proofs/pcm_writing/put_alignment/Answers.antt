@@ -1,5 +1,4 @@
-use Rattle.std.proofs.Common.{◌-◌, ◌%◌, ◌≡◌, ap, ◌∙◌, length}
-use Rattle.avc_make.specs.Made.{with_bits}
+use Rattle.avc_make.proofs.Common.{◌-◌, ◌%◌, ◌≡◌, ap, ◌∙◌, length, with_bits}
 use Rattle.avc_make.proofs.Putting.{zeros_put}
 use Rattle.avc_make.proofs.pcm_writing.put_alignment.Goals as goal
 

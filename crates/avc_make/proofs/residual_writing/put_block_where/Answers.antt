@@ -1,7 +1,4 @@
-use Rattle.std.proofs.Common.{◌≡◌, pos, min, arith, rules, to_z, w8}
-use Rattle.std.proofs.lemmas.Int.{ints}
-use Rattle.avc_make.specs.BlockWriting.{block_bits}
-use Rattle.avc_make.specs.MbWriting.{bits_where_coded}
+use Rattle.avc_make.proofs.Common.{◌≡◌, pos, min, arith, rules, to_z, w8, ints, block_bits, bits_where_coded}
 use Rattle.avc_make.proofs.ResidualPutting.{coded_block, puts_same, writable_of}
 use Rattle.avc_make.proofs.residual_writing.put_block_where.Goals as goal
 

@@ -1,6 +1,4 @@
-use Rattle.std.proofs.Common.{negsuc, arith}
-use Rattle.avc_make.specs.BlockWriting.{block_bits}
-use Rattle.avc_make.specs.MbWriting.{chroma_dc_bits}
+use Rattle.avc_make.proofs.Common.{negsuc, arith, block_bits, chroma_dc_bits}
 use Rattle.avc_make.proofs.ResidualPutting.{puts_same, some_dc, writable_dc}
 use Rattle.avc_make.proofs.residual_writing.put_chroma_dc.Goals as goal
 

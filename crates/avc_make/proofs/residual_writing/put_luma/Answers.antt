@@ -1,8 +1,4 @@
-use Rattle.std.proofs.Common.{[], ap, ◌∙◌}
-use Rattle.std.specs.List.{range_with_len}
-use Rattle.std.specs.Option.{option_copied}
-use Rattle.avc_mbsyntax.specs.Reading.{is_coded, luma_side}
-use Rattle.avc_make.specs.MbWriting.{blocks_bits}
+use Rattle.avc_make.proofs.Common.{[], ap, ◌∙◌, range_with_len, option_copied, is_coded, luma_side, blocks_bits}
 use Rattle.avc_make.proofs.ResidualPutting.{puts_same}
 use Rattle.avc_make.proofs.residual_writing.put_luma.Goals as goal
 

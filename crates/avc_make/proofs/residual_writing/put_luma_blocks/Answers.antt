@@ -1,5 +1,4 @@
-use Rattle.std.proofs.Common.{◌≡◌, length, arith, rules, get_or, sym, subst}
-use Rattle.avc_make.specs.MbWriting.{IsBlock}
+use Rattle.avc_make.proofs.Common.{◌≡◌, length, arith, rules, get_or, sym, subst, IsBlock}
 use Rattle.avc_make.proofs.ResidualPutting.{block_here, block_put, blocks_put}
 use Rattle.avc_make.proofs.residual_writing.put_luma_blocks.Goals as goal
 

@@ -1,5 +1,4 @@
-use Rattle.std.specs.Option.{option_copied}
-use Rattle.avc_mbsyntax.specs.Reading.{is_coded}
+use Rattle.avc_make.proofs.Common.{option_copied, is_coded}
 use Rattle.avc_make.proofs.ResidualPutting.{ArePut}
 use Rattle.avc_make.proofs.residual_writing.put_luma_blocks.Given as goal
 

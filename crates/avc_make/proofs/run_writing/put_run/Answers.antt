@@ -1,6 +1,4 @@
-use Rattle.std.proofs.Common.{arith}
-use Rattle.avc_vlc.specs.Writing.{run_word, word_bits}
-use Rattle.avc_vlc.proofs.ReadingBack.{run_whole}
+use Rattle.avc_make.proofs.Common.{arith, run_word, word_bits, run_whole}
 use Rattle.avc_make.proofs.BlockPutting.{is_some_given}
 use Rattle.avc_make.proofs.run_writing.put_run.Goals as goal
 

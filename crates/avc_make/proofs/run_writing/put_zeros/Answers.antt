@@ -1,5 +1,4 @@
-use Rattle.std.proofs.Common.{eqb, arith}
-use Rattle.avc_vlc.specs.Writing.{word_bits, zeros_word}
+use Rattle.avc_make.proofs.Common.{eqb, arith, word_bits, zeros_word}
 use Rattle.avc_make.proofs.BlockPutting.{is_some_given, zeros_there}
 use Rattle.avc_make.proofs.run_writing.put_zeros.Goals as goal
 

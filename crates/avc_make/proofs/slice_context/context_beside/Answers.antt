@@ -1,5 +1,4 @@
-use Rattle.std.proofs.Common.{ap, ◌∙◌}
-use Rattle.std.specs.Option.{option_map}
+use Rattle.avc_make.proofs.Common.{ap, ◌∙◌, option_map}
 use Rattle.avc_make.proofs.SlicePutting.{context_told}
 use Rattle.avc_make.proofs.slice_context.context_beside.Goals as goal
 

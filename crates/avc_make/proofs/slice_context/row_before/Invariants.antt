@@ -1,7 +1,5 @@
-use Rattle.std.specs.Prelude.{replicate}
+use Rattle.avc_make.proofs.Common.{replicate, own_start, AreFactsOf}
 use Rattle.avc_mbsyntax.specs.SliceData.{skipped}
-use Rattle.avc_make.specs.SliceMbs.{own_start}
-use Rattle.avc_make.specs.SliceSteps.{AreFactsOf}
 use Rattle.avc_make.proofs.slice_context.row_before.Given as goal
 
 -- the row has as many macroblocks of slice 0 as were put

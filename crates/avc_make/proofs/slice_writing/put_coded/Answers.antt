@@ -1,5 +1,4 @@
-use Rattle.std.proofs.Common.{append_assoc, length-append}
-use Rattle.avc_types.specs.MacroblockFields.{syntax_of}
+use Rattle.avc_make.proofs.Common.{append_assoc, length-append, syntax_of}
 use Rattle.avc_make.proofs.SliceDataBack.{ranges_of}
 use Rattle.avc_make.proofs.slice_writing.put_coded.Goals as goal
 

@@ -1,7 +1,4 @@
-use Rattle.std.proofs.Common.{◌≡◌, [], drop, refl, ap, ◌∙◌, sym, subst}
-use Rattle.std.proofs.Math.ListN.{drop_of_length-le}
-use Rattle.avc_types.specs.MacroblockFields.{syntax_of}
-use Rattle.avc_make.specs.SliceMbs.{own_start}
+use Rattle.avc_make.proofs.Common.{◌≡◌, [], drop, refl, ap, ◌∙◌, sym, subst, drop_of_length-le, syntax_of, own_start}
 use Rattle.avc_make.proofs.SlicePutting.{IsAt, before_of, is_at, put_end, put_next, put_none, stands_at}
 use Rattle.avc_make.proofs.slice_writing.put_macroblocks.Goals as goal
 

@@ -1,5 +1,4 @@
-use Rattle.std.proofs.Common.{◌≡◌, Err, arith, rules}
-use Rattle.avc_decoder.specs.Laws.{EventsOnlyGrow}
+use Rattle.avc_run.proofs.Common.{◌≡◌, Err, arith, rules, EventsOnlyGrow}
 use Rattle.avc_run.proofs.Running.{broken_at_end, broken_in, broken_in_front, decodes_err, ended, endless, enough, err_is, front_taken, new_is_drained, one_piece, one_read, unread_on}
 use Rattle.avc_run.proofs.decoding.decode_by.Goals as goal
 

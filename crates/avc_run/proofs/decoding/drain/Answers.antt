@@ -1,6 +1,4 @@
-use Rattle.std.proofs.Common.{◌≡◌, Err, rules, sym, ap, ◌∙◌}
-use Rattle.avc_decoder.specs.Machine.{after_take}
-use Rattle.avc_run.specs.Draining.{events_left, BreaksOff}
+use Rattle.avc_run.proofs.Common.{◌≡◌, Err, rules, sym, ap, ◌∙◌, after_take, events_left, BreaksOff}
 use Rattle.avc_run.proofs.Draining.{by_fault, by_memory, handled, is_none, one_more, smaller, stopped, stopped_in}
 use Rattle.avc_run.proofs.decoding.drain.Goals as goal
 

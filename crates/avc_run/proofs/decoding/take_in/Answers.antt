@@ -1,5 +1,4 @@
-use Rattle.std.proofs.Common.{arith, refl, rules}
-use Rattle.avc_decoder.specs.Laws.{EventsOnlyGrow}
+use Rattle.avc_run.proofs.Common.{arith, refl, rules, EventsOnlyGrow}
 use Rattle.avc_run.proofs.Draining.{by_fault}
 use Rattle.avc_run.proofs.Running.{err_is}
 use Rattle.avc_run.proofs.Feeding.{all_fed, none_fed, one_part, part_broken}

@@ -1,6 +1,4 @@
-use Rattle.std.proofs.Common.{◌≤◌, ◌-◌, length, take}
-use Rattle.avc_decoder.specs.Machine.{after_feed}
-use Rattle.avc_run.specs.Draining.{IsHandled}
+use Rattle.avc_run.proofs.Common.{◌≤◌, ◌-◌, length, take, after_feed, IsHandled}
 use Rattle.avc_run.proofs.decoding.take_in.Given as goal
 
 abbrev pub invariant-parts : goal.invariant-parts

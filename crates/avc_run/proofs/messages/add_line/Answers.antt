@@ -1,5 +1,4 @@
-use Rattle.std.proofs.Common.{◌++◌, ◌∙◌, ap, sym, string_bytes}
-use Rattle.std.specs.Prelude.{codes}
+use Rattle.avc_run.proofs.Common.{◌++◌, ◌∙◌, ap, sym, string_bytes, codes}
 use Rattle.std.specs.Fmt.{decimal}
 use Rattle.avc_run.proofs.Lines.{line_is}
 use Rattle.avc_run.proofs.messages.add_line.Goals as goal

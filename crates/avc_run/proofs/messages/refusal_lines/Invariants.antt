@@ -1,6 +1,4 @@
-use Rattle.std.proofs.Common.{◌≡◌, string_bytes, take}
-use Rattle.std.specs.List.{flat_map}
-use Rattle.avc_run.specs.Messages.{refusal_line}
+use Rattle.avc_run.proofs.Common.{◌≡◌, string_bytes, take, flat_map, refusal_line}
 use Rattle.avc_run.proofs.messages.refusal_lines.Given as goal
 
 abbrev pub invariant-loop-unit : goal.invariant-loop-unit

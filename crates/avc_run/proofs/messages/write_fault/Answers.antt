@@ -1,8 +1,4 @@
-use Rattle.std.specs.Prelude.{◌∷◌, [], ◌++◌}
-use Rattle.std.proofs.Common.{refl, rules}
-use Rattle.std.proofs.KnownBytes.{Appends-trans}
-use Rattle.std.specs.Io.KnownBytes.{Appends}
-use Rattle.avc_run.specs.Messages.{fault_text, file_of, name_text}
+use Rattle.avc_run.proofs.Common.{◌∷◌, [], ◌++◌, refl, rules, Appends-trans, Appends, fault_text, file_of, name_text}
 use Rattle.avc_run.proofs.FaultLines.{on_err, stopped_after, stopped_before, stopped_last}
 use Rattle.avc_run.proofs.messages.write_fault.Goals as goal
 

@@ -1,6 +1,4 @@
-use Rattle.std.specs.Prelude.{codes}
-use Rattle.std.proofs.Common.{ap}
-use Rattle.avc_run.specs.Messages.{name_text}
+use Rattle.avc_run.proofs.Common.{codes, ap, name_text}
 use Rattle.avc_run.proofs.FaultLines.{stopped_last}
 use Rattle.avc_run.proofs.messages.write_name.Goals as goal
 

@@ -1,8 +1,5 @@
-use Rattle.std.proofs.Common.{◌≡◌, Err, ap, subst, ◌∙◌}
+use Rattle.avc_run.proofs.Common.{◌≡◌, Err, ap, subst, ◌∙◌, Tells, fault_line, Memory}
 use Rattle.avc_run.specs.Status.{fault_status}
-use Rattle.avc_run.specs.Program.{Tells}
-use Rattle.avc_run.specs.Messages.{fault_line}
-use Rattle.avc_run.specs.declared.fault.RunFault.TheVariants.{Memory}
 use Rattle.avc_run.proofs.Telling.{told_after}
 use Rattle.avc_run.proofs.Untold.{untold_piece}
 use Rattle.avc_run.proofs.program.cut.Goals as goal

@@ -1,6 +1,4 @@
-use Rattle.std.proofs.Common.{ap, sym, ◌∙◌, subst}
-use Rattle.avc_run.specs.Program.{Tells}
-use Rattle.avc_run.specs.Messages.{cut_text}
+use Rattle.avc_run.proofs.Common.{ap, sym, ◌∙◌, subst, Tells, cut_text}
 use Rattle.avc_run.proofs.program.write_no_piece.Goals as goal
 
 pub returns-clause-ok : goal.returns-clause-ok

@@ -1,6 +1,4 @@
-use Rattle.std.proofs.Common.{◌≡◌, Err, ap, rules, subst}
-use Rattle.avc_tools.specs.Streams.{after_piece}
-use Rattle.avc_run.specs.StreamWriting.{IsStopped}
+use Rattle.avc_run.proofs.Common.{◌≡◌, Err, ap, rules, subst, after_piece, IsStopped}
 use Rattle.avc_run.proofs.Draining.{by_fault}
 use Rattle.avc_run.proofs.Running.{err_is}
 use Rattle.avc_run.proofs.StreamWriting.{stopped_at_end, stopped_in, no_piece, same_front, whole_at_end, whole_by_over}

@@ -1,5 +1,4 @@
-use Rattle.std.proofs.Common.{◌≡◌, length}
-use Rattle.avc_run.specs.StreamWriting.{IsWriting}
+use Rattle.avc_run.proofs.Common.{◌≡◌, length, IsWriting}
 use Rattle.avc_run.proofs.streaming.write_stream.Given as goal
 
 abbrev pub invariant-pieces : goal.invariant-pieces

@@ -1,5 +1,4 @@
-use Rattle.std.proofs.Common.{◌++◌, [], ap, sym, ◌∙◌, if◌then◌else◌}
-use Rattle.avc_annexb.specs.Written.{written}
+use Rattle.avc_tools.proofs.Common.{◌++◌, [], ap, sym, ◌∙◌, if◌then◌else◌, written}
 use Rattle.avc_tools.proofs.Taking.{leading_more, leading_none}
 use Rattle.avc_tools.proofs.cutter.hold_leading.Goals as goal
 

@@ -1,5 +1,4 @@
-use Rattle.std.proofs.Common.{◌++◌, [], ap}
-use Rattle.avc_tools.specs.Pieces.{pieces_from}
+use Rattle.avc_tools.proofs.Common.{◌++◌, [], ap, pieces_from}
 use Rattle.avc_tools.proofs.PieceWriting.{pieces_more}
 use Rattle.avc_tools.proofs.SetsInForce.{sets_next, sets_none}
 use Rattle.avc_tools.proofs.cutting.pieces_of.Goals as goal

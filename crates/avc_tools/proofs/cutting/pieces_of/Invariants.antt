@@ -1,6 +1,4 @@
-use Rattle.std.proofs.Common.{◌≡◌, ◌++◌, [], take, drop}
-use Rattle.avc_tools.specs.Cutting.{HasSets}
-use Rattle.avc_tools.specs.Pieces.{pieces_from}
+use Rattle.avc_tools.proofs.Common.{◌≡◌, ◌++◌, [], take, drop, HasSets, pieces_from}
 use Rattle.avc_tools.proofs.cutting.pieces_of.Given as goal
 
 abbrev pub invariant-loop-place : goal.invariant-loop-place

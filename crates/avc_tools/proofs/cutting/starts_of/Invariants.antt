@@ -1,5 +1,4 @@
-use Rattle.std.proofs.Common.{◌≡◌, map, take}
-use Rattle.avc_units.specs.Grouping.{is_start}
+use Rattle.avc_tools.proofs.Common.{◌≡◌, map, take, is_start}
 use Rattle.avc_tools.proofs.cutting.starts_of.Given as goal
 
 abbrev pub invariant-loop-unit : goal.invariant-loop-unit

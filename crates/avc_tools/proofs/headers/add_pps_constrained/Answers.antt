@@ -1,6 +1,4 @@
-use Rattle.std.proofs.Common.{◌++◌, ◌∙◌, ap, string_bytes}
-use Rattle.std.specs.Prelude.{codes}
-use Rattle.avc_tools.specs.Lines.{and_number}
+use Rattle.avc_tools.proofs.Common.{◌++◌, ◌∙◌, ap, string_bytes, codes, and_number}
 use Rattle.avc_tools.proofs.headers.add_pps_constrained.Goals as goal
 
 pub returns : goal.returns

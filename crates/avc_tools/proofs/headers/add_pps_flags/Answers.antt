@@ -1,5 +1,4 @@
-use Rattle.std.proofs.Common.{◌++◌, ◌∙◌, ap, append_assoc, string_bytes}
-use Rattle.avc_tools.specs.Lines.{pps_constrained, pps_control}
+use Rattle.avc_tools.proofs.Common.{◌++◌, ◌∙◌, ap, append_assoc, string_bytes, pps_constrained, pps_control}
 use Rattle.avc_tools.proofs.headers.add_pps_flags.Goals as goal
 
 pub returns : goal.returns

@@ -1,5 +1,4 @@
-use Rattle.std.specs.Fmt.{decimal}
-use Rattle.avc_tools.specs.Lines.{newline, pps_fields, pps_flags, pps_identity}
+use Rattle.avc_tools.proofs.Common.{decimal, newline, pps_fields, pps_flags, pps_identity}
 use Rattle.avc_tools.proofs.Shown.{line_put}
 use Rattle.avc_tools.proofs.headers.add_pps_line.Goals as goal
 

@@ -1,6 +1,4 @@
-use Rattle.std.specs.Fmt.{decimal}
-use Rattle.avc_params.specs.Tables.{sets_after}
-use Rattle.avc_tools.specs.Lines.{newline, slice_fields, slice_picture, slice_place}
+use Rattle.avc_tools.proofs.Common.{decimal, sets_after, newline, slice_fields, slice_picture, slice_place}
 use Rattle.avc_tools.proofs.Shown.{line_put}
 use Rattle.avc_tools.proofs.headers.add_slice_line.Goals as goal
 

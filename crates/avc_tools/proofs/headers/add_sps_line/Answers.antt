@@ -1,5 +1,4 @@
-use Rattle.std.specs.Fmt.{decimal}
-use Rattle.avc_tools.specs.Lines.{newline, sps_frames, sps_identity, sps_size}
+use Rattle.avc_tools.proofs.Common.{decimal, newline, sps_frames, sps_identity, sps_size}
 use Rattle.avc_tools.proofs.Shown.{line_put}
 use Rattle.avc_tools.proofs.headers.add_sps_line.Goals as goal
 

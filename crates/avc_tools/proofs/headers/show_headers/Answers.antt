@@ -1,7 +1,4 @@
-use Rattle.std.proofs.Common.{[], true, ap, ◌∙◌, arith}
-use Rattle.avc_annexb.specs.SplitterState.{after_feed, after_finish}
-use Rattle.avc_tools.specs.Showing.{header_lines_under}
-use Rattle.avc_tools.specs.Streams.{max_unit, units_left}
+use Rattle.avc_tools.proofs.Common.{[], true, ap, ◌∙◌, arith, after_feed, after_finish, header_lines_under, max_unit, units_left}
 use Rattle.avc_tools.proofs.Shown.{header_lines_are}
 use Rattle.avc_tools.proofs.headers.show_headers.Goals as goal
 

@@ -1,5 +1,4 @@
-use Rattle.std.proofs.Common.{◌≡◌, ◌+◌, length, drop, not}
-use Rattle.std.specs.List.{take_while}
+use Rattle.avc_tools.proofs.Common.{◌≡◌, ◌+◌, length, drop, not, take_while}
 use Rattle.avc_tools.proofs.piece.count_before_start.Given as goal
 
 abbrev pub invariant-loop-place : goal.invariant-loop-place

@@ -1,6 +1,4 @@
-use Rattle.std.proofs.Common.{◌≡◌, ◌+◌, ◌-◌, ◌<◌, ◌∷◌, [], ◌++◌, ap, sym, ◌∙◌, arith, length, take}
-use Rattle.std.proofs.lemmas.List.{take_more}
-use Rattle.avc_tools.specs.Pieces.{through_slices}
+use Rattle.avc_tools.proofs.Common.{◌≡◌, ◌+◌, ◌-◌, ◌<◌, ◌∷◌, [], ◌++◌, ap, sym, ◌∙◌, arith, length, take, take_more, through_slices}
 use Rattle.avc_tools.proofs.Slices.{through_other}
 use Rattle.avc_tools.proofs.piece.count_through_slices.Goals as goal
 

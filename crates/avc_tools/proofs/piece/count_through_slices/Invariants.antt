@@ -1,5 +1,4 @@
-use Rattle.std.proofs.Common.{◌≡◌, ◌≤◌, length, take}
-use Rattle.avc_tools.specs.Pieces.{through_slices}
+use Rattle.avc_tools.proofs.Common.{◌≡◌, ◌≤◌, length, take, through_slices}
 use Rattle.avc_tools.proofs.piece.count_through_slices.Given as goal
 
 abbrev pub invariant-slices : goal.invariant-slices

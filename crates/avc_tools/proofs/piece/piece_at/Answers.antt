@@ -1,8 +1,4 @@
-use Rattle.std.proofs.Common.{◌+◌, ◌++◌, ap, sym, ◌∙◌, map, drop}
-use Rattle.std.proofs.lemmas.List.{drop-map}
-use Rattle.std.specs.List.{flat_map}
-use Rattle.avc_units.specs.Grouping.{is_start}
-use Rattle.avc_tools.specs.Cutting.{kept_bytes}
+use Rattle.avc_tools.proofs.Common.{◌+◌, ◌++◌, ap, sym, ◌∙◌, map, drop, drop-map, flat_map, is_start, kept_bytes}
 use Rattle.avc_tools.proofs.PieceWriting.{piece_written}
 use Rattle.avc_tools.proofs.Slices.{part_from}
 use Rattle.avc_tools.proofs.piece.piece_at.Goals as goal

@@ -1,7 +1,4 @@
-use Rattle.std.proofs.Common.{◌≡◌, ◌++◌, take}
-use Rattle.std.specs.List.{filter, flat_map}
-use Rattle.avc_annexb.specs.Written.{written}
-use Rattle.avc_tools.specs.Pieces.{leads}
+use Rattle.avc_tools.proofs.Common.{◌≡◌, ◌++◌, take, filter, flat_map, written, leads}
 use Rattle.avc_tools.proofs.piece.write_leads.Given as goal
 
 abbrev pub invariant-loop-unit : goal.invariant-loop-unit

@@ -1,7 +1,4 @@
-use Rattle.std.proofs.Common.{◌≡◌, ◌++◌, take, not}
-use Rattle.std.specs.List.{filter, flat_map}
-use Rattle.avc_annexb.specs.Written.{written}
-use Rattle.avc_tools.specs.Pieces.{is_left_out}
+use Rattle.avc_tools.proofs.Common.{◌≡◌, ◌++◌, take, not, filter, flat_map, written, is_left_out}
 use Rattle.avc_tools.proofs.piece.write_not_left_out.Given as goal
 
 abbrev pub invariant-loop-unit : goal.invariant-loop-unit

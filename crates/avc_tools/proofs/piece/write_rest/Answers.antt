@@ -1,6 +1,4 @@
-use Rattle.std.proofs.Common.{◌++◌, ap, sym, ◌∙◌, arith, length, not}
-use Rattle.std.specs.List.{flat_map, take_while}
-use Rattle.avc_annexb.specs.Written.{written}
+use Rattle.avc_tools.proofs.Common.{◌++◌, ap, sym, ◌∙◌, arith, length, not, flat_map, take_while, written}
 use Rattle.avc_tools.proofs.Slices.{rest_all, rest_written}
 use Rattle.avc_tools.proofs.piece.write_rest.Goals as goal
 

@@ -1,6 +1,4 @@
-use Rattle.std.proofs.Common.{◌≡◌, ◌++◌, take}
-use Rattle.std.specs.List.{flat_map}
-use Rattle.avc_annexb.specs.Written.{written}
+use Rattle.avc_tools.proofs.Common.{◌≡◌, ◌++◌, take, flat_map, written}
 use Rattle.avc_tools.proofs.piece.write_units.Given as goal
 
 abbrev pub invariant-loop-unit : goal.invariant-loop-unit

@@ -1,5 +1,4 @@
-use Rattle.avc_annexb.specs.SplitterState.{units_waiting}
-use Rattle.avc_tools.specs.Streams.{max_unit}
+use Rattle.avc_tools.proofs.Common.{units_waiting, max_unit}
 use Rattle.avc_tools.proofs.Draining.{IsDraining}
 use Rattle.avc_tools.proofs.PieceTexts.{IsCutFrom}
 use Rattle.avc_tools.proofs.piece_text.cut_units_left.Given as goal

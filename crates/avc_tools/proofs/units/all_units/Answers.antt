@@ -1,6 +1,4 @@
-use Rattle.std.proofs.Common.{◌≡◌, true, ◌++◌, ◌∷◌, [], ap, sym, subst, arith, refl, ◌∙◌}
-use Rattle.avc_annexb.specs.SplitterState.{after_feed, after_finish}
-use Rattle.avc_tools.specs.Streams.{max_unit}
+use Rattle.avc_tools.proofs.Common.{◌≡◌, true, ◌++◌, ◌∷◌, [], ap, sym, subst, arith, refl, ◌∙◌, after_feed, after_finish, max_unit}
 use Rattle.avc_tools.proofs.Draining.{IsDraining, all_taken, begun, one_more, whole_stream}
 use Rattle.avc_tools.proofs.Lengths.{whole_units}
 use Rattle.avc_tools.proofs.units.all_units.Goals as goal

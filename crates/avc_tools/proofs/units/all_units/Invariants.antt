@@ -1,6 +1,4 @@
-use Rattle.std.proofs.Common.{◌≡◌}
-use Rattle.avc_annexb.specs.SplitterState.{units_waiting}
-use Rattle.avc_tools.specs.Streams.{max_unit}
+use Rattle.avc_tools.proofs.Common.{◌≡◌, units_waiting, max_unit}
 use Rattle.avc_tools.proofs.Draining.{IsDraining, whole_stream}
 use Rattle.avc_tools.proofs.units.all_units.Given as goal
 

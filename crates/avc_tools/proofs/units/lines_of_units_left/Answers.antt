@@ -1,8 +1,4 @@
-use Rattle.std.proofs.Common.{◌≡◌, ◌∷◌, [], ◌++◌, List, ap, ◌∙◌, sym, append-nil}
-use Rattle.std.specs.List.{flat_map}
-use Rattle.std.proofs.lemmas.Grind.{flat_map-append}
-use Rattle.avc_annexb.specs.declared.unit.Unit.{Unit}
-use Rattle.avc_tools.specs.Lines.{unit_line}
+use Rattle.avc_tools.proofs.Common.{◌≡◌, ◌∷◌, [], ◌++◌, List, ap, ◌∙◌, sym, append-nil, flat_map, flat_map-append, Unit, unit_line}
 use Rattle.avc_tools.proofs.Draining.{all_taken, one_more}
 use Rattle.avc_tools.proofs.units.lines_of_units_left.Goals as goal
 

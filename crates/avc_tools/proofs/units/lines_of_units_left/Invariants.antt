@@ -1,7 +1,4 @@
-use Rattle.std.proofs.Common.{◌≡◌, string_bytes}
-use Rattle.std.specs.List.{flat_map}
-use Rattle.avc_annexb.specs.SplitterState.{units_waiting}
-use Rattle.avc_tools.specs.Lines.{unit_line}
+use Rattle.avc_tools.proofs.Common.{◌≡◌, string_bytes, flat_map, units_waiting, unit_line}
 use Rattle.avc_tools.proofs.Draining.{IsDraining}
 use Rattle.avc_tools.proofs.units.lines_of_units_left.Given as goal
 

@@ -1,8 +1,4 @@
-use Rattle.std.proofs.Common.{true, ap, ◌∙◌}
-use Rattle.std.specs.List.{flat_map}
-use Rattle.avc_annexb.specs.SplitterState.{after_feed, after_finish}
-use Rattle.avc_tools.specs.Lines.{unit_line}
-use Rattle.avc_tools.specs.Streams.{units_left}
+use Rattle.avc_tools.proofs.Common.{true, ap, ◌∙◌, flat_map, after_feed, after_finish, unit_line, units_left}
 use Rattle.avc_tools.proofs.Growing.{unit_lines_are}
 use Rattle.avc_tools.proofs.units.list_units.Goals as goal
 

@@ -1,6 +1,4 @@
-use Rattle.std.proofs.Common.{◌≡◌, ◌++◌, take}
-use Rattle.std.specs.List.{flat_map}
-use Rattle.avc_tools.specs.Cutting.{kept_bytes}
+use Rattle.avc_tools.proofs.Common.{◌≡◌, ◌++◌, take, flat_map, kept_bytes}
 use Rattle.avc_tools.proofs.writing.write_kept.Given as goal
 
 abbrev pub invariant-loop-unit : goal.invariant-loop-unit

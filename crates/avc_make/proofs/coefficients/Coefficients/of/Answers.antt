@@ -1,7 +1,5 @@
-use Rattle.std.proofs.Common.{◌≡◌, ◌≤◌, ◌+◌, ◌++◌, [], ℤ, ℕ, List, drop, length, reverse, ap, subst, ◌∙◌, sym, arith}
-use Rattle.std.specs.List.{sum}
-use Rattle.std.proofs.lemmas.List.{drop_all}
-use Rattle.avc_make.specs.BlockWriting.{after_zeros, coded, runs_of}
+use Rattle.avc_make.proofs.Common.{◌≡◌, ◌≤◌, ◌+◌, ◌++◌, [], ℤ, ℕ, List, drop, length, reverse, ap, subst, ◌∙◌, sym, arith, sum, drop_all}
+use Rattle.avc_make.proofs.Common.{after_zeros, coded, runs_of}
 use Rattle.avc_make.proofs.BlockPutting.{coded_size}
 use Rattle.avc_make.proofs.coefficients.Coefficients.of.Goals as goal
 

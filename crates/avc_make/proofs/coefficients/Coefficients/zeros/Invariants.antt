@@ -1,6 +1,4 @@
-use Rattle.std.proofs.Common.{◌≡◌, take}
-use Rattle.std.specs.List.{sum}
-use Rattle.avc_make.specs.BlockWriting.{runs_of}
+use Rattle.avc_make.proofs.Common.{◌≡◌, take, sum, runs_of}
 use Rattle.avc_make.proofs.coefficients.Coefficients.zeros.Given as goal
 
 abbrev pub invariant-runs : goal.invariant-runs

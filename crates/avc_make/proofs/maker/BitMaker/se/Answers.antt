@@ -1,6 +1,4 @@
-use Rattle.std.proofs.Common.{◌≡◌, arith, refl, to_z, of_z, w32}
-use Rattle.std.proofs.lemmas.Int.{ints}
-use Rattle.avc_make.specs.Words.{se_word}
+use Rattle.avc_make.proofs.Common.{◌≡◌, arith, refl, to_z, of_z, w32, ints, se_word}
 use Rattle.avc_make.proofs.maker.BitMaker.se.Goals as goal
 
 pub returns : goal.returns

@@ -1,6 +1,4 @@
-use Rattle.std.proofs.Common.{◌++◌, ap, ◌∙◌}
-use Rattle.std.specs.List.{flat_map}
-use Rattle.avc_tools.specs.Cutting.{kept_bytes}
+use Rattle.avc_tools.proofs.Common.{◌++◌, ap, ◌∙◌, flat_map, kept_bytes}
 use Rattle.avc_tools.proofs.Taking.{made_first}
 use Rattle.avc_tools.proofs.cutter.Cutter.begin.Goals as goal
 

@@ -1,5 +1,4 @@
-use Rattle.std.proofs.Common.{◌++◌, [], refl, ap, sym, ◌∙◌, if◌then◌else◌, not}
-use Rattle.avc_annexb.specs.Written.{written}
+use Rattle.avc_tools.proofs.Common.{◌++◌, [], refl, ap, sym, ◌∙◌, if◌then◌else◌, not, written}
 use Rattle.avc_tools.proofs.Taking.{ends_by, goes_on, goes_on_by_slice}
 use Rattle.avc_tools.proofs.cutter.Cutter.write_on.Goals as goal
 

@@ -1,5 +1,4 @@
-use Rattle.std.proofs.Common.{ap, sym, ◌∙◌, arith}
-use Rattle.avc_tools.specs.Streams.{max_unit}
+use Rattle.avc_tools.proofs.Common.{ap, sym, ◌∙◌, arith, max_unit}
 use Rattle.avc_tools.proofs.Growing.{left_by_finish}
 use Rattle.avc_tools.proofs.Shown.{header_lines_added, shown_again}
 use Rattle.avc_tools.proofs.headers.HeaderLinesStreamText.finish.Goals as goal

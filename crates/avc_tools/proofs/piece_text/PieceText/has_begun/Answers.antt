@@ -1,6 +1,4 @@
-use Rattle.std.proofs.Common.{◌≡◌, true, false, is_some, length, ap, sym, subst, ◌∙◌, arith}
-use Rattle.avc_tools.specs.Streams.{max_unit}
-use Rattle.avc_tools.specs.PieceSoFar.{PieceSoFar, numbered_piece}
+use Rattle.avc_tools.proofs.Common.{◌≡◌, true, false, is_some, length, ap, sym, subst, ◌∙◌, arith, max_unit, PieceSoFar, numbered_piece}
 use Rattle.avc_tools.proofs.PieceTexts.{begun_in, either_begun, tells_begun}
 use Rattle.avc_tools.proofs.piece_text.PieceText.has_begun.Goals as goal
 

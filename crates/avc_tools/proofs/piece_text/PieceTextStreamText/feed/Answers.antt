@@ -1,6 +1,4 @@
-use Rattle.std.proofs.Common.{◌≡◌, ◌++◌, [], ap, sym, subst, ◌∙◌, arith, append-nil}
-use Rattle.avc_tools.specs.Streams.{max_unit}
-use Rattle.avc_tools.specs.PieceSoFar.{PieceSoFar, piece_text}
+use Rattle.avc_tools.proofs.Common.{◌≡◌, ◌++◌, [], ap, sym, subst, ◌∙◌, arith, append-nil, max_unit, PieceSoFar, piece_text}
 use Rattle.avc_tools.specs.Stages.{stage_of}
 use Rattle.avc_tools.proofs.Growing.{left_by_feed}
 use Rattle.avc_tools.proofs.PieceTexts.{cutting_again, feed_keeps_end, no_more_at, stays_by_piece, text_added}

@@ -1,6 +1,4 @@
-use Rattle.std.proofs.Common.{◌≡◌, ◌++◌, true, ap, sym, subst, ◌∙◌, arith, append-nil}
-use Rattle.avc_tools.specs.Streams.{max_unit}
-use Rattle.avc_tools.specs.PieceSoFar.{PieceSoFar, piece_text}
+use Rattle.avc_tools.proofs.Common.{◌≡◌, ◌++◌, true, ap, sym, subst, ◌∙◌, arith, append-nil, max_unit, PieceSoFar, piece_text}
 use Rattle.avc_tools.proofs.Growing.{left_by_finish}
 use Rattle.avc_tools.proofs.PieceTexts.{cutting_again, stays_by_end, text_ended}
 use Rattle.avc_tools.proofs.piece_text.PieceTextStreamText.finish.Goals as goal

@@ -1,6 +1,4 @@
-use Rattle.std.proofs.Common.{◌≡◌, true, false, length, ap, sym, subst, ◌∙◌, arith}
-use Rattle.avc_tools.specs.Streams.{max_unit}
-use Rattle.avc_tools.specs.PieceSoFar.{PieceSoFar, is_over}
+use Rattle.avc_tools.proofs.Common.{◌≡◌, true, false, length, ap, sym, subst, ◌∙◌, arith, max_unit, PieceSoFar, is_over}
 use Rattle.avc_tools.proofs.PieceTexts.{either_not_over, over_in, tells_over}
 use Rattle.avc_tools.proofs.piece_text.PieceTextStreamText.is_over.Goals as goal
 
