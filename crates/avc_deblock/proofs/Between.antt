@@ -1,25 +1,20 @@
 -- The strength of facts is that of the picture.
-use Rattle.std.proofs.Common.{◌≡◌, ℕ, ◌/◌, ◌<◌, Bool, true, false, List, [], arith, refl, sym, ap, ◌∙◌, ⊎_elim}
-use Rattle.std.specs.Prelude.{◌==◌, nat_abs, ◌-ℤ◌, nat_le, not, ◌||◌, if◌then◌else◌, Some, slice_index, slice_index_or}
+use Rattle.std.proofs.Common.{◌≡◌, ℕ, ◌<◌, Bool, true, false, List, arith, refl}
+use Rattle.std.specs.Prelude.{◌==◌, nat_abs, ◌-ℤ◌, nat_le, not, ◌||◌, if◌then◌else◌, Some}
 use Rattle.std.proofs.Math.Bool.{or_assoc}
 use Rattle.std.proofs.lemmas.Bool.{cases_eq}
 use Rattle.std.proofs.lemmas.Bool.Decides.{nat_tests}
 use Rattle.avc_types.specs.declared.vector.Mv.{Mv}
 use Rattle.avc_types.specs.Pictures.{Coded}
 use Rattle.avc_neigh.specs.declared.facts.Motion.{Motion}
-use Rattle.avc_neigh.specs.declared.facts.Motion.TheVariants.{Absent as absent, Inter as inter}
-use Rattle.avc_motion.specs.Motion.{is_intra, zero_vector}
-use Rattle.avc_deblock.specs.Edges.{mb_at, picture_named, moves_differently, strength_between}
+use Rattle.avc_neigh.specs.declared.facts.Motion.TheVariants.{Inter as inter}
+use Rattle.avc_deblock.specs.Edges.{picture_named, moves_differently, strength_between}
 use Rattle.avc_deblock.specs.Facts.{Names, HasFacts, are_far, inter_strength, edge_block}
 use Rattle.avc_deblock.specs.declared.facts.MbFacts.{MbFacts}
 
 -- entries are equal where the numbers are
 same_entry : (names : Names) (m n : ℕ) → m < names.count → n < names.count → (names.entry m == names.entry n) ≡ (m == n)
-same_entry names m n m_low n_low =
-    ⊎_elim
-    (λ e. let same : names.entry m ≡ names.entry n = ap names.entry e in grind (arith, nat_tests))
-    (λ ne. let other : names.entry m ≡ names.entry n → ⊥ = (λ e. ne (names.apart m n m_low n_low e)) in grind (arith, nat_tests))
-    (cases_eq m n)
+same_entry names m n m_low n_low = grind (arith, nat_tests, cases_eq)
 
 named_both : (c : Coded) (pa qa r s : ℕ) (u v : Mv) (x y : ℕ) → picture_named c pa r ≡ Some x → picture_named c qa s ≡ Some y →
     moves_differently c pa qa (inter r u) (inter s v) ≡ (not (x == y) || are_far u v)
@@ -27,30 +22,11 @@ named_both c pa qa r s u v x y e f = rw (e, f) (or_assoc (not (x == y)) (nat_le 
 
 pub inter_between : (c : Coded) (motion : List (List Motion)) (names : Names) (pa qa : ℕ) (p : MbFacts) (kp : ℕ) (q : MbFacts) (kq : ℕ) → kp < 16 → kq < 16 →
     HasFacts c motion names pa p → HasFacts c motion names qa q → p.is_intra ≡ false → q.is_intra ≡ false → inter_strength p kp q kq ≡ strength_between c motion pa kp qa kq
-inter_between c motion names pa qa p kp q kq kp_low kq_low hp hq np nq =
-    let mp = hp.motion_is np kp kp_low in
-    let mq = hq.motion_is nq kq kq_low in
-    let u = slice_index_or p.vectors kp zero_vector in
-    let v = slice_index_or q.vectors kq zero_vector in
-    let x = slice_index p.pictures (kp / 4) in
-    let y = slice_index q.pictures (kq / 4) in
-    let m = slice_index_or (slice_index_or motion pa []) kp absent in
-    let n = slice_index_or (slice_index_or motion qa []) kq absent in
-    let sp = (mb_at c pa).mb.syntax in
-    let sq = (mb_at c qa).mb.syntax in
-    let moves : moves_differently c pa qa m n ≡ (not (x == y) || are_far u v) =
-    ap (λ (z : Motion). moves_differently c pa qa z n) mp.is ∙ ap (λ (z : Motion). moves_differently c pa qa (inter mp.reference u) z) mq.is
-    ∙ named_both c pa qa mp.reference mq.reference u v (names.entry x) (names.entry y) mp.picture mq.picture
-    ∙ ap (λ (z : Bool). not z || are_far u v) (same_entry names x y mp.named mq.named) in
-    rw (sym hp.intra_is ∙ np, sym hq.intra_is ∙ nq, sym (hp.coefficients_is kp kp_low), sym (hq.coefficients_is kq kq_low), moves) refl
+inter_between c motion names pa qa p kp q kq kp_low kq_low hp hq np nq = grind (arith, nat_tests, named_both, same_entry)
 
 pub intra_between : (c : Coded) (motion : List (List Motion)) (names : Names) (pa qa : ℕ) (p : MbFacts) (kp : ℕ) (q : MbFacts) (kq : ℕ) →
     HasFacts c motion names pa p → HasFacts c motion names qa q → (p.is_intra || q.is_intra) ≡ true → strength_between c motion pa kp qa kq ≡ (if pa == qa then 3 else 4)
-intra_between c motion names pa qa p kp q kq hp hq either =
-    let sp = (mb_at c pa).mb.syntax in
-    let sq = (mb_at c qa).mb.syntax in
-    let is : (is_intra sp || is_intra sq) ≡ true = rw (sym hp.intra_is, sym hq.intra_is) either in
-    rw is refl
+intra_between c motion names pa qa p kp q kq hp hq either = grind (arith, nat_tests)
 
 pub both_false : (a b : Bool) → (a || b) ≡ false → (a ≡ false) × (b ≡ false)
 both_false true b e = absurd (cc)

@@ -1,5 +1,5 @@
 -- The lines of a block of eight rows of sixteen samples, from the rows that are put into it.
-use Rattle.std.proofs.Common.{◌≡◌, ℕ, ◌+◌, ◌*◌, ◌<◌, List, true, false, slice_index, arith, ap, ◌∙◌, sym, refl, ⊎_elim}
+use Rattle.std.proofs.Common.{◌≡◌, ℕ, ◌+◌, ◌*◌, ◌<◌, List, slice_index, arith, ap, ◌∙◌, sym}
 use Rattle.std.specs.Prelude.{if◌then◌else◌, ◌==◌}
 use Rattle.std.proofs.lemmas.Bool.{cases_lt, cases_eq}
 use Rattle.std.proofs.lemmas.Bool.Decides.{nat_tests}
@@ -27,16 +27,7 @@ IsColumn c u r = (k : ℕ) → k < 16 → slice_index r k ≡ slice_index u (16 
 -- a sample after a row was put into the block
 put : (row c i : ℕ) {r t u : List ℕ} {v : ℕ} → i < 16 → IsRowSet (16 * row) r t u → at_column t c i ≡ v →
     at_column u c i ≡ (if c == row then slice_index r i else v)
-put row c i {r} {t} {u} {v} low h old =
-    ⊎_elim
-    (λ e.
-    let same : (c == row) ≡ true = grind (arith, nat_tests) in
-    ap (λ n. at_column u n i) e ∙ h.inside i low ∙ ap (λ d. if d then slice_index r i else v) (sym same))
-    (λ ne.
-    let other : (c == row) ≡ false = grind (arith, nat_tests) in
-    ⊎_elim (λ less. h.before (16 * c + i) (omega arith)) (λ no. h.behind (16 * c + i) (omega arith)) (cases_lt c row)
-    ∙ old ∙ ap (λ d. if d then slice_index r i else v) (sym other))
-    (cases_eq c row)
+put row c i {r} {t} {u} {v} low h old = grind (arith, nat_tests, cases_lt, cases_eq)
 
 -- four rows anew between others that stay
 pub weak_down : (s : Setting) (i : ℕ) (t p2 p1 p0 q0 q1 q2 n1 n0 m0 m1 a b c u : List ℕ) → i < 16 →
@@ -44,14 +35,7 @@ pub weak_down : (s : Setting) (i : ℕ) (t p2 p1 p0 q0 q1 q2 n1 n0 m0 m1 a b c u
     IsRowSet 32 n1 t a → IsRowSet 48 n0 a b → IsRowSet 64 m0 b c → IsRowSet 80 m1 c u →
     ((p3 q3 : ℕ) → filtered s (line_within p3 q3 p2 p1 p0 q0 q1 q2 i) ≡ line_within p3 q3 p2 n1 n0 m0 m1 q2 i) →
     filtered s (line_down t i) ≡ line_down u i
-weak_down s i t p2 p1 p0 q0 q1 q2 n1 n0 m0 m1 a b c u low k1 k2 k3 k4 k5 k6 h1 h2 h3 h4 is =
-    let new : (c : ℕ) → at_column u c i ≡ (if c == 5 then slice_index m1 i else (if c == 4 then slice_index m0 i
-    else (if c == 3 then slice_index n0 i else (if c == 2 then slice_index n1 i else at_column t c i)))) =
-    λ c. put 5 c i low h4 (put 4 c i low h3 (put 3 c i low h2 (put 2 c i low h1 refl))) in
-    ap (filtered s)
-    (same_line _ _ _ _ _ _ _ _ (at_column t 0 i) _ _ _ _ _ _ (at_column t 7 i) refl (sym (k1 i low)) (sym (k2 i low)) (sym (k3 i low)) (sym (k4 i low)) (sym (k5 i low)) (sym (k6 i low)) refl)
-    ∙ is (at_column t 0 i) (at_column t 7 i)
-    ∙ sym (same_line _ _ _ _ _ _ _ _ (at_column t 0 i) _ _ _ _ _ _ (at_column t 7 i) (new 0) (new 1 ∙ sym (k1 i low)) (new 2) (new 3) (new 4) (new 5) (new 6 ∙ sym (k6 i low)) (new 7))
+weak_down s i t p2 p1 p0 q0 q1 q2 n1 n0 m0 m1 a b c u low k1 k2 k3 k4 k5 k6 h1 h2 h3 h4 is = grind (arith, nat_tests, put, same_line)
 
 -- six rows anew between the two that stand furthest off
 pub strong_down : (s : Setting) (i : ℕ) (t p3 p2 p1 p0 q0 q1 q2 q3 n2 n1 n0 m0 m1 m2 a b c d e u : List ℕ) → i < 16 →
@@ -60,13 +44,7 @@ pub strong_down : (s : Setting) (i : ℕ) (t p3 p2 p1 p0 q0 q1 q2 q3 n2 n1 n0 m0
     filtered s (line_of_rows p3 p2 p1 p0 q0 q1 q2 q3 i) ≡ line_of_rows p3 n2 n1 n0 m0 m1 m2 q3 i →
     filtered s (line_down t i) ≡ line_down u i
 strong_down s i t p3 p2 p1 p0 q0 q1 q2 q3 n2 n1 n0 m0 m1 m2 a b c d e u low k0 k1 k2 k3 k4 k5 k6 k7 h1 h2 h3 h4 h5 h6 is =
-    let new : (c : ℕ) → at_column u c i ≡ (if c == 6 then slice_index m2 i else (if c == 5 then slice_index m1 i else (if c == 4 then slice_index m0 i
-    else (if c == 3 then slice_index n0 i else (if c == 2 then slice_index n1 i else (if c == 1 then slice_index n2 i else at_column t c i)))))) =
-    λ c. put 6 c i low h6 (put 5 c i low h5 (put 4 c i low h4 (put 3 c i low h3 (put 2 c i low h2 (put 1 c i low h1 refl))))) in
-    ap (filtered s)
-    (same_line _ _ _ _ _ _ _ _ _ _ _ _ _ _ _ _ (sym (k0 i low)) (sym (k1 i low)) (sym (k2 i low)) (sym (k3 i low)) (sym (k4 i low)) (sym (k5 i low)) (sym (k6 i low)) (sym (k7 i low)))
-    ∙ is
-    ∙ sym (same_line _ _ _ _ _ _ _ _ _ _ _ _ _ _ _ _ (new 0 ∙ sym (k0 i low)) (new 1) (new 2) (new 3) (new 4) (new 5) (new 6) (new 7 ∙ sym (k7 i low)))
+    grind (arith, nat_tests, put, same_line)
 
 -- two rows anew between two that stay
 pub near_set : (from : ℕ) (n0 m0 t a u : List ℕ) → IsRowSet (from + 16) n0 t a → IsRowSet (from + 32) m0 a u → IsNearSet from t u
@@ -81,18 +59,9 @@ pub near_lines : (s : Setting) (from i : ℕ) (t p1 p0 q0 q1 n0 m0 a u : List �
     IsRowSet (from + 16) n0 t a → IsRowSet (from + 32) m0 a u →
     (p3 p2 q2 q3 : ℕ) → filtered s (line_inside p3 p2 q2 q3 p1 p0 q0 q1 i) ≡ line_inside p3 p2 q2 q3 p1 n0 m0 q1 i →
     filtered s (line_near p3 p2 q2 q3 t from i) ≡ line_near p3 p2 q2 q3 u from i
-near_lines s from i t p1 p0 q0 q1 n0 m0 a u low k1 k2 k3 k4 h1 h2 p3 p2 q2 q3 is =
-    let first = h2.before (from + i) (omega arith) ∙ h1.before (from + i) (omega arith) in
-    let second = h2.before (from + 16 + i) (omega arith) ∙ h1.inside i low in
-    let fourth = h2.behind (from + 48 + i) (omega arith) ∙ h1.behind (from + 48 + i) (omega arith) in
-    ap (filtered s) (same_line _ _ _ _ _ _ _ _ p3 p2 _ _ _ _ q2 q3 refl refl (sym (k1 i low)) (sym (k2 i low)) (sym (k3 i low)) (sym (k4 i low)) refl refl)
-    ∙ is
-    ∙ sym (same_line _ _ _ _ _ _ _ _ p3 p2 _ _ _ _ q2 q3 refl refl (first ∙ sym (k1 i low)) second (h2.inside i low) (fourth ∙ sym (k4 i low)) refl refl)
+near_lines s from i t p1 p0 q0 q1 n0 m0 a u low k1 k2 k3 k4 h1 h2 p3 p2 q2 q3 is = grind (arith, nat_tests, same_line)
 
 -- the four in the middle of eight rows
 pub down_near : (s : Setting) (i : ℕ) (t u : List ℕ) → i < 16 → IsNearSet 32 t u →
     ((p3 p2 q2 q3 : ℕ) → filtered s (line_near p3 p2 q2 q3 t 32 i) ≡ line_near p3 p2 q2 q3 u 32 i) → filtered s (line_down t i) ≡ line_down u i
-down_near s i t u low h is =
-    is (at_column t 0 i) (at_column t 1 i) (at_column t 6 i) (at_column t 7 i)
-    ∙ sym (same_line _ _ _ _ _ _ _ _ (at_column t 0 i) (at_column t 1 i) _ _ _ _ (at_column t 6 i) (at_column t 7 i)
-    (h.before (16 * 0 + i) (omega arith)) (h.before (16 * 1 + i) (omega arith)) refl refl refl refl (h.behind (16 * 6 + i) (omega arith)) (h.behind (16 * 7 + i) (omega arith)))
+down_near s i t u low h is = grind (arith, nat_tests, same_line)

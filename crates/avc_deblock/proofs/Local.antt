@@ -122,9 +122,7 @@ local_if w low high false g h = local_none
 module _ (w low high : ℕ) (f : ℕ → Setting) (v : Bool) (x y n : ℕ) (far : v ≡ true → 4 ≤ x) (down : v ≡ false → 4 ≤ y)
     (lines : (i : ℕ) → i < n → LineStays low high (f i) (line_from v w x y i) (if v then 1 else w)) where
   shown : (s : Plane) → s.width ≡ w → (edge_filtered f v x y n s).samples ≡ all_set f (line_from v w x y) (if v then 1 else w) (range_with_len 0 n) s.samples
-  shown s e =
-      ap (λ (p : Plane). p.samples) (edge_shown f v x y n s far down)
-      ∙ ap (λ u. all_set f (line_from v u x y) (if v then 1 else u) (range_with_len 0 n) s.samples) e
+  shown s e = grind (arith, edge_shown, all_set, line_from)
 
   lines_to : (i : ℕ) → i < 0 + n → LineStays low high (f i) (line_from v w x y i) (if v then 1 else w)
   lines_to i less = lines i (omega arith)

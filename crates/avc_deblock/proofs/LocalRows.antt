@@ -11,14 +11,14 @@ use Rattle.avc_deblock.specs.Edges.{in_component, luma_per_sample}
 use Rattle.avc_deblock.proofs.OnPlane.{with_samples, some_column, row_of, block_is}
 use Rattle.avc_deblock.proofs.Within.{inside_block, outside_block}
 use Rattle.avc_plane.specs.Planes.{Planes}
-use Rattle.avc_deblock.specs.declared.thresholds.EdgeQp.{EdgeQp}
 use Rattle.avc_deblock.specs.declared.facts.MbFacts.{MbFacts}
 use Rattle.avc_deblock.specs.Facts.{filters_between}
-use Rattle.avc_deblock.specs.OneEdge.{edge_filtered, luma_setting, chroma_setting, chroma_of_edge}
+use Rattle.avc_deblock.specs.Line.{Setting}
+use Rattle.avc_deblock.specs.OneEdge.{luma_setting, chroma_setting}
 use Rattle.avc_deblock.specs.ByFacts.{strength_of, luma_qp_of, chroma_qp_of, edge_by_facts, edges_by_facts, mb_by_facts, row_by_facts, no_facts}
 use Rattle.avc_deblock.specs.Locality.{AgreesAbove, ChangesWithin, AgreesToRow, ChangesInRow, HasRow}
-use Rattle.avc_deblock.proofs.Local.{IsLocal, local_none, local_then, local_if, luma_reach, chroma_reach, local_vertical, local_horizontal}
-use Rattle.avc_deblock.proofs.EdgePlanes.{luma_of_edge, in_parts, far_enough}
+use Rattle.avc_deblock.proofs.Local.{IsLocal, HasReach, local_none, local_then, local_if, luma_reach, chroma_reach, local_vertical, local_horizontal}
+use Rattle.avc_deblock.proofs.EdgePlanes.{edge_behind, luma_of_edge, chroma_behind, in_parts, far_enough}
 use Rattle.avc_deblock.proofs.PictureFacts.{some}
 
 -- ---- changes of the three planes, each by itself
@@ -68,31 +68,14 @@ module _ (wl wb wr row : ℕ) where
   -- ---- one edge
 
   module _ (column : ℕ) (luma_fits : 16 * column + 16 ≤ wl) (cb_fits : 8 * column + 8 ≤ wb) (cr_fits : 8 * column + 8 ≤ wr) (offset : ℤ) where
-    chroma_acts : (v : Bool) (w : ℕ) → 8 * column + 8 ≤ w → (n : ℕ) → n < 4 → (v ≡ true → 1 ≤ 4 * column + n) → (v ≡ false → 1 ≤ 4 * row + n) → (f : ℕ → ℕ) (qp : EdgeQp) →
-        IsLocal w ((8 * row - 1) * w) ((8 * row + 8) * w) (λ s. chroma_of_edge v column row n f qp s)
-    chroma_acts true w fits n low across down f qp =
-        local_if w ((8 * row - 1) * w) ((8 * row + 8) * w) (n % 2 == 0) (λ s. edge_filtered (chroma_setting f qp) true (8 * column + 2 * n) (8 * row) 8 s)
-        (λ even.
-        let far : 4 ≤ 8 * column + 2 * n = far_enough column n (across refl) even in
-        let two : n ≤ 2 = even_low n low even in
-        local_vertical w (8 * row - 1) (8 * row + 8) (chroma_setting f qp) (8 * column + 2 * n) (8 * row) 8 far (omega arith) (omega arith) (omega arith))
-    chroma_acts false w fits n low across down f qp =
-        local_if w ((8 * row - 1) * w) ((8 * row + 8) * w) (n % 2 == 0) (λ s. edge_filtered (chroma_setting f qp) false (8 * column) (8 * row + 2 * n) 8 s)
-        (λ even.
-        let far : 4 ≤ 8 * row + 2 * n = far_enough row n (down refl) even in
-        let two : n ≤ 2 = even_low n low even in
-        local_horizontal w (8 * row - 1) (8 * row + 8) (chroma_setting f qp) (8 * column) (8 * row + 2 * n) 8 1 (λ i. chroma_reach (chroma_setting f qp i) refl)
-        (omega arith) far (omega arith) (omega arith) (omega arith))
-
-    luma_acts : (v : Bool) (n : ℕ) → n < 4 → (v ≡ true → 1 ≤ 4 * column + n) → (v ≡ false → 1 ≤ 4 * row + n) → (f : ℕ → ℕ) (luma : EdgeQp) →
-        IsLocal wl ((16 * row - 3) * wl) ((16 * row + 16) * wl) (λ s. luma_of_edge v column row n f luma s)
-    luma_acts true n low across down f luma =
-        let some = across refl in
-        local_vertical wl (16 * row - 3) (16 * row + 16) (luma_setting f luma) (16 * column + 4 * n) (16 * row) 16 (omega arith) (omega arith) (omega arith) (omega arith)
-    luma_acts false n low across down f luma =
-        let some = down refl in
-        local_horizontal wl (16 * row - 3) (16 * row + 16) (luma_setting f luma) (16 * column) (16 * row + 4 * n) 16 3 (λ i. luma_reach (luma_setting f luma i))
-        (omega arith) (omega arith) (omega arith) (omega arith) (omega arith)
+    -- d samples behind a side
+    acts_behind : (w size reach d : ℕ) (f : ℕ → Setting) → ((i : ℕ) → HasReach (f i) reach) → reach ≤ 4 → size * column + size ≤ w → d + 4 ≤ size → (v : Bool) →
+        (v ≡ true → 4 ≤ size * column + d) → (v ≡ false → 4 ≤ size * row + d) → IsLocal w ((size * row - reach) * w) ((size * row + size) * w) (edge_behind size f v column row d)
+    acts_behind w size reach d f keeps near fits inside true across down =
+        local_vertical w (size * row - reach) (size * row + size) f (size * column + d) (size * row) size (across refl) (omega arith) (omega arith) (omega arith)
+    acts_behind w size reach d f keeps near fits inside false across down =
+        let far = down refl in
+        local_horizontal w (size * row - reach) (size * row + size) f (size * column) (size * row + d) size reach keeps near far (omega arith) (omega arith) (omega arith)
 
     edge_acts : (v : Bool) (n : ℕ) → n < 4 → (v ≡ true → 1 ≤ 4 * column + n) → (v ≡ false → 1 ≤ 4 * row + n) → (p q : MbFacts) →
         ActsApart wl wb wr row (edge_by_facts v column row n offset p q)
@@ -100,14 +83,22 @@ module _ (wl wb wr row : ℕ) where
         let st = strength_of p q v n in
         let luma = luma_qp_of p q in
         let chroma = chroma_qp_of offset p q in
+        let acts_chroma : (w : ℕ) → 8 * column + 8 ≤ w → IsLocal w ((8 * row - 1) * w) ((8 * row + 8) * w) (chroma_behind v column row n st chroma) =
+        λ w fits.
+        local_if w _ _ (n % 2 == 0) (edge_behind 8 (chroma_setting st chroma) v column row (2 * n))
+        (λ even.
+        let two = even_low n low even in
+        acts_behind w 8 1 (2 * n) (chroma_setting st chroma) (λ i. chroma_reach (chroma_setting st chroma i) refl) (omega arith) fits (omega arith) v
+        (λ e. far_enough column n (across e) even) (λ e. far_enough row n (down e) even)) in
         record {
           luma = luma_of_edge v column row n st luma;
-          cb = chroma_of_edge v column row n st chroma;
-          cr = chroma_of_edge v column row n st chroma;
+          cb = chroma_behind v column row n st chroma;
+          cr = chroma_behind v column row n st chroma;
           is = in_parts v column row n st luma chroma;
-          luma_local = luma_acts v n low across down st luma;
-          cb_local = chroma_acts v wb cb_fits n low across down st chroma;
-          cr_local = chroma_acts v wr cr_fits n low across down st chroma;
+          luma_local = acts_behind wl 16 3 (4 * n) (luma_setting st luma) (λ i. luma_reach (luma_setting st luma i)) (omega arith) luma_fits (omega arith) v
+              (λ e. let some = across e in omega arith) (λ e. let some = down e in omega arith);
+          cb_local = acts_chroma wb cb_fits;
+          cr_local = acts_chroma wr cr_fits;
         }
 
     -- ---- the edges of a macroblock
@@ -270,12 +261,9 @@ module _ (row n : ℕ) (s : Planes) (has : HasRow row n s) (g : Planes → Plane
   acts_commute : (k : ℕ) → 16 / luma_per_sample k * (row + 1) ≤ top →
       three (a.luma (in_component k with_it s).luma) (a.cb (in_component k with_it s).cb) (a.cr (in_component k with_it s).cr)
       ≡ in_component k with_it (three (a.luma s.luma) (a.cb s.cb) (a.cr s.cr))
-  acts_commute zero below =
-      ap (λ p. three p (a.cb s.cb) (a.cr s.cr)) (commute_of (16 * row - 3) (16 * row + 16) a.luma s.luma a.luma_local has.full.luma has.luma_rows left top width height f (omega arith))
-  acts_commute (suc zero) below =
-      ap (λ p. three (a.luma s.luma) p (a.cr s.cr)) (commute_of (8 * row - 1) (8 * row + 8) a.cb s.cb a.cb_local has.full.cb has.cb_rows left top width height f (omega arith))
-  acts_commute (suc (suc k)) below =
-      ap (λ p. three (a.luma s.luma) (a.cb s.cb) p) (commute_of (8 * row - 1) (8 * row + 8) a.cr s.cr a.cr_local has.full.cr has.cr_rows left top width height f (omega arith))
+  acts_commute zero below = grind (arith, nat_tests, commute_of)
+  acts_commute (suc zero) below = grind (arith, nat_tests, commute_of)
+  acts_commute (suc (suc k)) below = grind (arith, nat_tests, commute_of)
 
 pub row_commutes : (offset : ℤ) (row : ℕ) (above facts : List MbFacts) (s : Planes) → HasRow row (length facts) s → (k left top width height : ℕ) (f : ℕ → ℕ → ℕ) →
     16 / luma_per_sample k * (row + 1) ≤ top →

@@ -42,21 +42,13 @@ left_is c motion names (suc column) row a f g at hf hg =
 
 pub above_is : (c : Coded) (motion : List (List Motion)) (names : Names) (column row a : ℕ) (f g : MbFacts) → IsAt c column row a → HasFacts c motion names a f →
     (1 ≤ row → HasFacts c motion names (a - c.width) g) → (nat_lt 0 row && filters_between f g) ≡ filters_horizontal c a 0
-above_is c motion names column zero a f g at hf hg =
-    let first : nat_lt a c.width ≡ true = let low : a < c.width = omega (arith, at.address, at.within) in grind (arith, nat_tests) in
-    rw first refl
-above_is c motion names column (suc row) a f g at hf hg =
-    let later : nat_lt a c.width ≡ false = let high : c.width ≤ a = omega (arith, at.address) in grind (arith, nat_tests) in
-    let more : nat_lt 0 (suc row) ≡ true = grind (arith, nat_tests) in
-    rw (later, more) (between_is c motion names a (a - c.width) f g hf (hg (omega arith)))
+above_is c motion names column zero a f g at hf hg = grind (arith, nat_tests, nat_lt)
+above_is c motion names column (suc row) a f g at hf hg = grind (arith, nat_tests, nat_lt, between_is)
 
 -- ---- one macroblock more
 
 range-append : (a m n : ℕ) → range_with_len a (m + n) ≡ range_with_len a m ++ range_with_len (a + m) n
-range-append a zero n =
-    let e : zero + n ≡ n = omega arith in
-    let f : a ≡ a + zero = omega arith in
-    ap (range_with_len a) e ∙ ap (λ (b : ℕ). range_with_len b n) f
+range-append a zero n = grind (arith, nat_tests)
 range-append a (suc m) n =
     let e : suc m + n ≡ suc (m + n) = omega arith in
     let f : a + 1 + m ≡ a + suc m = omega arith in
@@ -98,18 +90,9 @@ rows_are_all c (suc n) =
 
 pub one_row_more : (c : Coded) (motion : List (List Motion)) (n m : ℕ) (s t u : Planes) → m ≡ n + 1 → t ≡ all_filtered c motion s (flat_map (row_lines c) (range_with_len 0 n)) →
     u ≡ all_filtered c motion t (row_lines c n) → u ≡ all_filtered c motion s (flat_map (row_lines c) (range_with_len 0 m))
-one_row_more c motion n m s t u next before here =
-    let suc_is : m ≡ suc n = omega arith in
-    here ∙ ap (λ p. all_filtered c motion p (row_lines c n)) before
-    ∙ sym (all_filtered-append c motion s (flat_map (row_lines c) (range_with_len 0 n)) (row_lines c n))
-    ∙ ap (all_filtered c motion s) (sym (ap (λ k. flat_map (row_lines c) (range_with_len 0 k)) suc_is ∙ row_more c n))
+one_row_more c motion n m s t u next before here = grind (arith, nat_tests, all_filtered-append, row_more)
 
 -- facts of one row, from those of all macroblocks
 pub part_facts : (c : Coded) (motion : List (List Motion)) (names : Names) (facts part : List MbFacts) (w y h : ℕ) → c.width ≡ w → length facts ≡ h * w → y < h → length part ≡ w →
     ((k : ℕ) (other : MbFacts) → k < w → slice_index_or part k other ≡ slice_index_or facts (y * w + k) other) → HaveFacts c motion names 0 facts → HaveFacts c motion names (y * c.width) part
-part_facts c motion names facts part w y h width all low long value have k other k_low =
-    let less : k < w = omega (arith, k_low, long) in
-    let rows : y * w ≡ y * c.width = ap (λ (n : ℕ). y * n) (sym width) in
-    subst (λ (f : MbFacts). HasFacts c motion names (y * c.width + k) f) (sym (value k other less))
-    (shifted c motion names (0 + (y * w + k)) (y * c.width + k) (slice_index_or facts (y * w + k) other) (omega (arith, rows))
-    (have (y * w + k) other (omega (arith, all, mul-add-lt y w k h low less, mul_comm w h))))
+part_facts c motion names facts part w y h width all low long value have k other k_low = grind (arith, nat_tests, shifted, mul-add-lt, mul_comm)

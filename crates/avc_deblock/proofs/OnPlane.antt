@@ -1,5 +1,5 @@
 -- The lines of one edge, as a block of a plane that is changed.
-use Rattle.std.proofs.Common.{◌≡◌, ◌≢◌, ℕ, ◌+◌, ◌-◌, ◌*◌, ◌/◌, ◌%◌, ◌<◌, ◌≤◌, List, [], ◌∷◌, Bool, true, false, length, slice_index, slice_set, arith, refl, sym, ap, ◌∙◌, ⊎_elim, mul_comm}
+use Rattle.std.proofs.Common.{◌≡◌, ◌≢◌, ℕ, ◌+◌, ◌-◌, ◌*◌, ◌/◌, ◌%◌, ◌<◌, ◌≤◌, List, [], ◌∷◌, Bool, true, false, length, slice_index, slice_set, arith, refl, sym, ap, ◌∙◌, mul_comm}
 use Rattle.std.specs.Prelude.{if◌then◌else◌}
 use Rattle.std.specs.List.{range_with_len}
 use Rattle.std.proofs.lemmas.Bool.{cases_lt}
@@ -27,9 +27,7 @@ six_places xs l a b c d e f a' b' c' d' e' f' pa pb pc pd pe pf = rw (pa, pb, pc
 
 -- a line across a vertical edge
 vertical_line : (s : Plane) (left y : ℕ) → line_at s true (left + 4) y ≡ strided s.samples (y * s.width + left) 1
-vertical_line s left y =
-    same_line _ _ _ _ _ _ _ _ _ _ _ _ _ _ _ _ (ap (slice_index s.samples) (omega arith)) (ap (slice_index s.samples) (omega arith)) (ap (slice_index s.samples) (omega arith)) (ap (slice_index s.samples) (omega arith))
-    (ap (slice_index s.samples) (omega arith)) (ap (slice_index s.samples) (omega arith)) (ap (slice_index s.samples) (omega arith)) (ap (slice_index s.samples) (omega arith))
+vertical_line s left y = grind (arith, same_line)
 
 vertical_set : (s : Plane) (left y : ℕ) (l : Line) → with_line s true (left + 4) y l ≡ with_samples s (six_set s.samples (y * s.width + left) 1 l)
 unfolding sets
@@ -96,10 +94,7 @@ edge_shown setting false x y n s far low =
 -- ---- the block that they change
 
 pub some_column : (k width height : ℕ) → k < width * height → 0 < width
-some_column k width height below = ⊎_elim
-    (λ less. less)
-    (λ none. let e : width ≡ 0 = omega arith in absurd (omega (arith, ap (λ w. w * height) e)))
-    (cases_lt 0 width)
+some_column k width height below = grind (arith, cases_lt)
 
 pub row_of : (k width height : ℕ) → k < width * height → k / width < height
 row_of k width height below = (div-lt_iff_lt-mul (some_column k width height below)).1 (omega (arith, mul_comm width height))

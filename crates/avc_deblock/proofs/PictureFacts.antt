@@ -6,12 +6,11 @@ use Rattle.std.proofs.lemmas.Bool.{and_parts}
 use Rattle.avc_types.specs.Pictures.{Coded}
 use Rattle.avc_neigh.specs.declared.facts.Motion.{Motion}
 use Rattle.avc_plane.specs.Planes.{Planes}
-use Rattle.avc_transform.specs.Residual.{chroma_qp}
 use Rattle.avc_deblock.specs.declared.facts.MbFacts.{MbFacts}
 use Rattle.avc_deblock.specs.Edges.{strength_between, all_filtered, mb_lines, row_lines, filters_edge_to, filters_horizontal}
 use Rattle.avc_deblock.specs.OneEdge.{planes_edge, planes_edges, planes_mb}
 use Rattle.avc_deblock.specs.Facts.{HasFacts, IsAt, Names, edge_block, inter_strength, p_address, filters_between}
-use Rattle.avc_deblock.specs.ByFacts.{strength_of, luma_qp_of, chroma_qp_of, edge_by_facts, edges_by_facts, mb_by_facts, row_by_facts, no_facts, AreOfRow}
+use Rattle.avc_deblock.specs.ByFacts.{strength_of, edge_by_facts, edges_by_facts, mb_by_facts, row_by_facts, no_facts, AreOfRow}
 use Rattle.avc_deblock.proofs.Between.{inter_between, intra_between, both_false, low_block}
 use Rattle.avc_deblock.proofs.Places.{same_mb}
 use Rattle.avc_deblock.proofs.EdgePlanes.{edge_planes}
@@ -39,41 +38,24 @@ module _ (c : Coded) (motion : List (List Motion)) (names : Names) (column row a
         (low_block v ((n + 3) % 4) k (omega arith) k_low) (low_block v n k low k_low) hp hq neither.0 neither.1
 
     pub edge_is : (s : Planes) → edge_by_facts v column row n offset p q s ≡ planes_edge c motion v a n s
-    edge_is s =
-        let strengths : (k : ℕ) → k < 4 → strength_of p q v n k ≡ strength_between c motion (p_address c v n a) (edge_block v ((n + 3) % 4) k) a (edge_block v n k) =
-        λ k k_low. strength_by k k_low (p.is_intra || q.is_intra) refl in
-        edge_planes c motion v column row a n at low (strength_of p q v n) (luma_qp_of p q) (chroma_qp_of offset p q) s across down
-        (record { strengths = strengths; p_is = hp.qp_is; q_is = hq.qp_is; a_is = hq.offset_a_is; b_is = hq.offset_b_is })
-        (record {
-          strengths = strengths;
-          p_is = ap (λ (o : ℤ). chroma_qp o p.qp) (sym same_offset) ∙ ap (chroma_qp c.chroma_qp_index_offset) hp.qp_is;
-          q_is = ap (λ (o : ℤ). chroma_qp o q.qp) (sym same_offset) ∙ ap (chroma_qp c.chroma_qp_index_offset) hq.qp_is;
-          a_is = hq.offset_a_is;
-          b_is = hq.offset_b_is;
-        })
+    edge_is s = grind (arith, strength_by, edge_planes)
 
   outer_is : (o : Bool) (p q : MbFacts) → (o ≡ true → v ≡ true → 1 ≤ column) → (o ≡ true → v ≡ false → 1 ≤ row) →
       (o ≡ true → HasFacts c motion names (p_address c v 0 a) p) → HasFacts c motion names a q → (s : Planes) →
       (if o then edge_by_facts v column row 0 offset p q s else s) ≡ (if o then planes_edge c motion v a 0 s else s)
   outer_is false p q across down hp hq s = refl
-  outer_is true p q across down hp hq s =
-      edge_is 0 (omega arith) p q (λ e. let h : 1 ≤ column = across refl e in omega arith) (λ e. let h : 1 ≤ row = down refl e in omega arith) (hp refl) hq s
+  outer_is true p q across down hp hq s = grind (arith, edge_is)
 
   inner_is : (i : Bool) (q : MbFacts) → HasFacts c motion names a q → (s : Planes) →
       (if i then edge_by_facts v column row 3 offset q q (edge_by_facts v column row 2 offset q q (edge_by_facts v column row 1 offset q q s)) else s)
       ≡ (if i then planes_edge c motion v a 3 (planes_edge c motion v a 2 (planes_edge c motion v a 1 s)) else s)
   inner_is false q hq s = refl
-  inner_is true q hq s =
-      ap (λ (t : Planes). edge_by_facts v column row 3 offset q q (edge_by_facts v column row 2 offset q q t)) (edge_is 1 (omega arith) q q (λ e. omega arith) (λ e. omega arith) hq hq s)
-      ∙ ap (λ (t : Planes). edge_by_facts v column row 3 offset q q t) (edge_is 2 (omega arith) q q (λ e. omega arith) (λ e. omega arith) hq hq (planes_edge c motion v a 1 s))
-      ∙ edge_is 3 (omega arith) q q (λ e. omega arith) (λ e. omega arith) hq hq (planes_edge c motion v a 2 (planes_edge c motion v a 1 s))
+  inner_is true q hq s = grind (arith, edge_is)
 
   pub edges_are : (o i : Bool) (p q : MbFacts) → (o ≡ true → v ≡ true → 1 ≤ column) → (o ≡ true → v ≡ false → 1 ≤ row) →
       (o ≡ true → HasFacts c motion names (p_address c v 0 a) p) → HasFacts c motion names a q → (s : Planes) →
       edges_by_facts v column row offset o i p q s ≡ planes_edges c motion v o i a s
-  edges_are o i p q across down hp hq s =
-      inner_is i q hq (if o then edge_by_facts v column row 0 offset p q s else s)
-      ∙ ap (λ (t : Planes). if i then planes_edge c motion v a 3 (planes_edge c motion v a 2 (planes_edge c motion v a 1 t)) else t) (outer_is o p q across down hp hq s)
+  edges_are o i p q across down hp hq s = grind (arith, inner_is, outer_is)
 
 pub some : (b : Bool) (n : ℕ) → (nat_lt 0 n && b) ≡ true → 1 ≤ n
 some b zero t = let never : nat_lt 0 0 ≡ true = (and_parts (nat_lt 0 0) b t).0 in absurd (cc)

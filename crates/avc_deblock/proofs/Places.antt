@@ -1,5 +1,5 @@
 -- The macroblocks and blocks on both sides of a place of an edge, and the setting of its line.
-use Rattle.std.proofs.Common.{◌≡◌, ◌≢◌, ℕ, zero, suc, ◌+◌, ◌-◌, ◌*◌, ◌/◌, ◌%◌, ◌<◌, ◌≤◌, List, Bool, true, false, arith, refl, sym, ap, ◌∙◌}
+use Rattle.std.proofs.Common.{◌≡◌, ℕ, zero, suc, ◌+◌, ◌-◌, ◌*◌, ◌/◌, ◌%◌, ◌<◌, ◌≤◌, List, Bool, true, false, arith, refl, sym, ap, ◌∙◌}
 use Rattle.std.specs.Prelude.{◌==◌, not}
 use Rattle.std.proofs.lemmas.Bool.Decides.{nat_tests}
 use Rattle.avc_types.specs.Pictures.{Coded}
@@ -14,62 +14,36 @@ use Rattle.avc_deblock.specs.Facts.{edge_block, p_address, IsAt}
 address_is : (c : Coded) (x y column row : ℕ) → x / 16 ≡ column → y / 16 ≡ row → address_of c x y ≡ row * c.width + column
 address_is c x y column row e f = ap (λ u. (y / 16) * c.width + u) e ∙ ap (λ v. v * c.width + column) f
 
--- column and row of luma sample j along edge n of a macroblock
-abbrev pub x_along : Bool → (column n j : ℕ) → ℕ
-x_along true column n j = 16 * column + 4 * n
-x_along false column n j = 16 * column + j
+-- a coordinate of sample j along an edge that lies d samples behind x: that across the edge, or that along it
+abbrev pub along : Bool → (x d j : ℕ) → ℕ
+along true x d j = x + d
+along false x d j = x + j
 
-abbrev pub y_along : Bool → (row n j : ℕ) → ℕ
-y_along true row n j = 16 * row + j
-y_along false row n j = 16 * row + 4 * n
-
--- column and row of the sample on the other side
-abbrev x_before : Bool → ℕ → ℕ
-x_before true x = x - 1
-x_before false x = x
-
-abbrev y_before : Bool → ℕ → ℕ
-y_before true y = y
-y_before false y = y - 1
+-- that coordinate on the other side
+abbrev before_edge : Bool → ℕ → ℕ
+before_edge true x = x - 1
+before_edge false x = x
 
 row_back : (row width : ℕ) → 1 ≤ row → row * width ≡ (row - 1) * width + width
 row_back row width some = let back : row ≡ (row - 1) + 1 = omega arith in ap (λ r. r * width) back ∙ omega arith
 
 module _ (c : Coded) (column row a j : ℕ) (at : IsAt c column row a) (j_low : j < 16) where
-  here : (v : Bool) (n : ℕ) → n < 4 → address_of c (x_along v column n j) (y_along v row n j) ≡ a
+  here : (v : Bool) (n : ℕ) → n < 4 → address_of c (along v (16 * column) (4 * n) j) (along (not v) (16 * row) (4 * n) j) ≡ a
   here true n low = address_is c _ _ column row (omega arith) (omega arith) ∙ sym at.address
   here false n low = address_is c _ _ column row (omega arith) (omega arith) ∙ sym at.address
 
   before : (v : Bool) (n : ℕ) → n < 4 → (v ≡ true → 1 ≤ 4 * column + n) → (v ≡ false → 1 ≤ 4 * row + n) →
-      address_of c (x_before v (x_along v column n j)) (y_before v (y_along v row n j)) ≡ p_address c v n a
-  before true zero low across down =
-      let some = across refl in
-      let e = at.address in
-      address_is c _ _ (column - 1) row (omega arith) (omega arith) ∙ omega arith
-  before false zero low across down =
-      let some = down refl in
-      let e = at.address in
-      address_is c _ _ column (row - 1) (omega arith) (omega arith) ∙ omega (arith, row_back row c.width (omega arith))
+      address_of c (before_edge v (along v (16 * column) (4 * n) j)) (before_edge (not v) (along (not v) (16 * row) (4 * n) j)) ≡ p_address c v n a
+  before true zero low across down = grind (arith, nat_tests, address_is)
+  before false zero low across down = grind (arith, nat_tests, address_is, row_back)
   before true (suc n) low across down = address_is c _ _ column row (omega arith) (omega arith) ∙ sym at.address
   before false (suc n) low across down = address_is c _ _ column row (omega arith) (omega arith) ∙ sym at.address
 
 -- whether both sides are one macroblock
 pub same_mb : (c : Coded) (v : Bool) (column row a n : ℕ) → IsAt c column row a → (v ≡ true → 1 ≤ 4 * column + n) → (v ≡ false → 1 ≤ 4 * row + n) → (p_address c v n a == a) ≡ not (n == 0)
-same_mb c true column row a zero at across down =
-    let some = across refl in
-    let e = at.address in
-    let ne : a - 1 ≢ a = omega arith in
-    grind (arith, nat_tests)
-same_mb c false column row a zero at across down =
-    let some = down refl in
-    let e = at.address in
-    let w = at.within in
-    let ne : a - c.width ≢ a = omega (arith, row_back row c.width (omega arith)) in
-    grind (arith, nat_tests)
-same_mb c v column row a (suc n) at across down =
-    let none : (suc n == 0) ≡ false = grind (arith, nat_tests) in
-    let same : (a == a) ≡ true = grind (arith, nat_tests) in
-    same ∙ ap not (sym none)
+same_mb c true column row a zero at across down = grind (arith, nat_tests)
+same_mb c false column row a zero at across down = grind (arith, nat_tests, row_back)
+same_mb c v column row a (suc n) at across down = grind (arith, nat_tests)
 
 -- ---- settings
 
@@ -84,7 +58,7 @@ module _ (c : Coded) (motion : List (List Motion)) (k : ℕ) where
 
   -- the setting of the line at luma sample j along edge n
   pub setting_along : (v : Bool) (column row a n j x y : ℕ) → IsAt c column row a → n < 4 → j < 16 → (v ≡ true → 1 ≤ 4 * column + n) → (v ≡ false → 1 ≤ 4 * row + n) →
-      luma_per_sample k * x ≡ x_along v column n j → luma_per_sample k * y ≡ y_along v row n j →
+      luma_per_sample k * x ≡ along v (16 * column) (4 * n) j → luma_per_sample k * y ≡ along (not v) (16 * row) (4 * n) j →
       setting_at c motion (record { component = k; is_vertical = v; x = x; y = y })
       ≡ between (p_address c v n a) (edge_block v ((n + 3) % 4) (j / 4)) a (edge_block v n (j / 4))
   setting_along true column row a n j x y at low j_low across down e f =

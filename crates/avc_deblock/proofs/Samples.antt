@@ -2,6 +2,7 @@
 use Rattle.std.proofs.Common.{◌≡◌, ℕ, zero, suc, ◌<◌, ◌≤◌, [], ◌∷◌, Bool, true, false, slice_index, arith, refl, sym, ap, ◌∙◌}
 use Rattle.std.specs.Prelude.{if◌then◌else◌, ◌==◌, ◌&&◌, ◌||◌}
 use Rattle.std.proofs.lemmas.Bool.Decides.{nat_tests}
+use Rattle.avc_neigh.proofs.Sixteen.{each_of_four}
 use Rattle.avc_deblock.specs.Line.{Line, Setting, filtered, filtered_weakly, filtered_strongly, is_filtered}
 use Rattle.avc_deblock.specs.Rows.{line, line_of}
 
@@ -10,20 +11,14 @@ pub same_line : (a b c d e f g h a' b' c' d' e' f' g' h' : ℕ) → a ≡ a' →
 same_line a b c d e f g h a' b' c' d' e' f' g' h' pa pb pc pd pe pf pg ph = rw (pa, pb, pc, pd, pe, pf, pg, ph) refl
 
 pub same_samples : (f g : ℕ → ℕ) → ((k : ℕ) → k < 8 → f k ≡ g k) → line_of f ≡ line_of g
-same_samples f g same =
-    same_line _ _ _ _ _ _ _ _ _ _ _ _ _ _ _ _ (same 0 (omega arith)) (same 1 (omega arith)) (same 2 (omega arith)) (same 3 (omega arith))
-    (same 4 (omega arith)) (same 5 (omega arith)) (same 6 (omega arith)) (same 7 (omega arith))
+same_samples f g same = grind (arith, nat_tests, same_line)
 
 pub each_of_eight : (P : ℕ → Type 0) → P 0 → P 1 → P 2 → P 3 → P 4 → P 5 → P 6 → P 7 → (k : ℕ) → k < 8 → P k
 each_of_eight P a b c d e f g h zero low = a
 each_of_eight P a b c d e f g h (suc zero) low = b
 each_of_eight P a b c d e f g h (suc (suc zero)) low = c
 each_of_eight P a b c d e f g h (suc (suc (suc zero))) low = d
-each_of_eight P a b c d e f g h (suc (suc (suc (suc zero)))) low = e
-each_of_eight P a b c d e f g h (suc (suc (suc (suc (suc zero))))) low = f
-each_of_eight P a b c d e f g h (suc (suc (suc (suc (suc (suc zero)))))) low = g
-each_of_eight P a b c d e f g h (suc (suc (suc (suc (suc (suc (suc zero))))))) low = h
-each_of_eight P a b c d e f g h (suc (suc (suc (suc (suc (suc (suc (suc k)))))))) low = absurd (omega arith)
+each_of_eight P a b c d e f g h (suc (suc (suc (suc k)))) low = each_of_four (λ k. P (suc (suc (suc (suc k))))) e f g h k (omega arith)
 
 -- sample k of a line, from p3 to q3
 abbrev pub sample_of : Line → ℕ → ℕ
@@ -85,6 +80,4 @@ chroma_keeps s f g chroma e k less out = still_in f g _ e k less (chroma_kept s 
 -- ---- alpha or beta 0
 
 pub filtered_off : (s : Setting) (l : Line) → (s.alpha == 0 || s.beta == 0) ≡ true → filtered s l ≡ l
-filtered_off s l off =
-    let none : is_filtered s l ≡ false = grind (arith, nat_tests) in
-    ap (λ (b : Bool). if b then (if s.strength == 4 then filtered_strongly s l else filtered_weakly s l) else l) none
+filtered_off s l off = grind (arith, nat_tests)

@@ -1,11 +1,10 @@
 -- Edges whose lines have equal settings, and edges of strength 0.
-use Rattle.std.proofs.Common.{◌≡◌, ℕ, zero, suc, ◌+◌, ◌*◌, ◌<◌, ◌≤◌, List, [], ◌∷◌, Bool, true, false, slice_index, slice_set, arith, refl, ap, ◌∙◌}
-use Rattle.std.specs.Prelude.{if◌then◌else◌, ◌==◌, nat_lt, not, ◌&&◌, ◌||◌}
+use Rattle.std.proofs.Common.{◌≡◌, ℕ, zero, suc, ◌+◌, ◌*◌, ◌<◌, ◌≤◌, List, [], ◌∷◌, Bool, true, false, slice_index, arith, refl, ap, ◌∙◌}
+use Rattle.std.specs.Prelude.{◌==◌, ◌||◌}
 use Rattle.std.specs.List.{range_with_len}
 use Rattle.std.proofs.lemmas.List.{set-get_or}
-use Rattle.avc_types.specs.Arithmetic.{distance}
 use Rattle.avc_plane.specs.Plane.{Plane}
-use Rattle.avc_deblock.specs.Line.{Line, Setting, filtered, filtered_weakly, filtered_strongly}
+use Rattle.avc_deblock.specs.Line.{Line, Setting, filtered}
 use Rattle.avc_deblock.specs.Edges.{line_filtered}
 use Rattle.avc_deblock.specs.OneEdge.{lines_filtered, edge_filtered}
 use Rattle.avc_deblock.proofs.Strided.{sets, six_set, strided, all_set}
@@ -18,11 +17,9 @@ lines_same : (f g : ℕ → Setting) (v : Bool) (x y a m : ℕ) (s : Plane) → 
 lines_same f g true x y a zero s same = refl
 lines_same f g false x y a zero s same = refl
 lines_same f g true x y a (suc m) s same =
-    ap (λ (t : Setting). lines_filtered f true x y (range_with_len (a + 1) m) (line_filtered t true x (y + a) s)) (same a (omega arith))
-    ∙ lines_same f g true x y (a + 1) m (line_filtered (g a) true x (y + a) s) (λ i low. same i (omega arith))
+    grind (arith, lines_same f g true x y (a + 1) m (line_filtered (g a) true x (y + a) s) (λ i low. same i (omega arith)))
 lines_same f g false x y a (suc m) s same =
-    ap (λ (t : Setting). lines_filtered f false x y (range_with_len (a + 1) m) (line_filtered t false (x + a) y s)) (same a (omega arith))
-    ∙ lines_same f g false x y (a + 1) m (line_filtered (g a) false (x + a) y s) (λ i low. same i (omega arith))
+    grind (arith, lines_same f g false x y (a + 1) m (line_filtered (g a) false (x + a) y s) (λ i low. same i (omega arith)))
 
 pub edge_same : (f g : ℕ → Setting) (v : Bool) (x y n : ℕ) (s : Plane) → ((i : ℕ) → i < n → f i ≡ g i) → edge_filtered f v x y n s ≡ edge_filtered g v x y n s
 unfolding edge_filtered
@@ -43,16 +40,12 @@ edge_size f v x y n s = lines_size f v x y (range_with_len 0 n) s
 -- ---- strength 0
 
 filtered_none : (s : Setting) (l : Line) → s.strength ≡ 0 → filtered s l ≡ l
-filtered_none s l e =
-    ap (λ (n : ℕ). if not (n == 0) && nat_lt (distance l.p0 l.q0) s.alpha && nat_lt (distance l.p1 l.p0) s.beta && nat_lt (distance l.q1 l.q0) s.beta
-    then (if s.strength == 4 then filtered_strongly s l else filtered_weakly s l) else l) e
+filtered_none s l e = grind arith
 
 sets_kept : (xs : List ℕ) (base step : ℕ) (f : ℕ → ℕ) (n : ℕ) → ((k : ℕ) → k ≤ n → f k ≡ slice_index xs (base + k * step)) → sets xs base step f n ≡ xs
 unfolding sets
 sets_kept xs base step f zero same = refl
-sets_kept xs base step f (suc n) same =
-    ap (λ ys. slice_set ys (base + suc n * step) (f (suc n))) (sets_kept xs base step f n (λ k low. same k (omega arith)))
-    ∙ ap (slice_set xs (base + suc n * step)) (same (suc n) (omega arith)) ∙ set-get_or xs (base + suc n * step) 0
+sets_kept xs base step f (suc n) same = grind (arith, set-get_or, sets_kept xs base step f n (λ k low. same k (omega arith)))
 
 all_kept : (f : ℕ → Setting) (from : ℕ → ℕ) (step a m : ℕ) (xs : List ℕ) → ((i : ℕ) → i < a + m → (l : Line) → filtered (f i) l ≡ l) → all_set f from step (range_with_len a m) xs ≡ xs
 unfolding all_set
@@ -63,9 +56,7 @@ all_kept f from step a (suc m) xs none =
     ∙ all_kept f from step (a + 1) m xs (λ i low. none i (omega arith))
 
 pub edge_kept : (f : ℕ → Setting) (v : Bool) (x y n : ℕ) (s : Plane) → (v ≡ true → 4 ≤ x) → (v ≡ false → 4 ≤ y) → ((i : ℕ) → i < n → (l : Line) → filtered (f i) l ≡ l) → edge_filtered f v x y n s ≡ s
-edge_kept f v x y n s far low none =
-    edge_shown f v x y n s far low
-    ∙ ap (with_samples s) (all_kept f (line_from v s.width x y) (if v then 1 else s.width) 0 n s.samples (λ i less. none i (omega arith)))
+edge_kept f v x y n s far low none = grind (arith, edge_shown, with_samples, all_kept, line_from)
 
 pub edge_none : (f : ℕ → Setting) (v : Bool) (x y n : ℕ) (s : Plane) → (v ≡ true → 4 ≤ x) → (v ≡ false → 4 ≤ y) → ((i : ℕ) → i < n → (f i).strength ≡ 0) → edge_filtered f v x y n s ≡ s
 edge_none f v x y n s far low none = edge_kept f v x y n s far low (λ i less l. filtered_none (f i) l (none i less))

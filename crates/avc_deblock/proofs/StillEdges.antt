@@ -1,38 +1,27 @@
 -- A macroblock of one motion without coefficients has no edge inside it that is filtered.
-use Rattle.std.proofs.Common.{◌≡◌, ◌∙◌, ℕ, suc, ◌+◌, ◌%◌, ◌<◌, ◌≤◌, Bool, true, false, arith, refl, sym, ap}
-use Rattle.std.specs.Prelude.{ℤ, nat_lt, not, ◌&&◌, ◌||◌, ◌==◌, if◌then◌else◌}
+use Rattle.std.proofs.Common.{◌≡◌, ◌∙◌, ℕ, suc, ◌<◌, ◌≤◌, Bool, true, false, arith, refl, ap}
+use Rattle.std.specs.Prelude.{ℤ, nat_lt, not, ◌&&◌}
 use Rattle.avc_plane.specs.Planes.{Planes}
 use Rattle.avc_deblock.specs.declared.facts.MbFacts.{MbFacts}
-use Rattle.avc_deblock.specs.Facts.{edge_block, inter_strength, filters_between}
-use Rattle.avc_deblock.specs.ByFacts.{strength_of, luma_qp_of, chroma_qp_of, edge_by_facts, edges_by_facts, mb_by_facts}
+use Rattle.avc_deblock.specs.Facts.{inter_strength, filters_between}
+use Rattle.avc_deblock.specs.ByFacts.{strength_of, edge_by_facts, edges_by_facts, mb_by_facts}
 use Rattle.avc_deblock.proofs.Between.{low_block}
 use Rattle.avc_deblock.proofs.EdgePlanes.{edge_zero}
 use Rattle.avc_deblock.proofs.PictureFacts.{some}
 
 module _ (column row : ℕ) (offset : ℤ) (f : MbFacts) (inter : f.is_intra ≡ false) (none : (j k : ℕ) → j < 16 → k < 16 → inter_strength f j f k ≡ 0) (v : Bool) where
   still_edge : (n : ℕ) → suc n < 4 → (s : Planes) → edge_by_facts v column row (suc n) offset f f s ≡ s
-  still_edge n low s =
-      let before : (suc n + 3) % 4 < 4 = omega arith in
-      edge_zero v column row (suc n) (strength_of f f v (suc n)) (luma_qp_of f f) (chroma_qp_of offset f f) s (λ e. omega arith) (λ e. omega arith)
-      (λ k k_low.
-      let other : ℕ = inter_strength f (edge_block v ((suc n + 3) % 4) k) f (edge_block v (suc n) k) in
-      ap (λ (b : Bool). if b || b then (if suc n == 0 then 4 else 3) else other) inter
-      ∙ none (edge_block v ((suc n + 3) % 4) k) (edge_block v (suc n) k) (low_block v ((suc n + 3) % 4) k before k_low) (low_block v (suc n) k low k_low))
+  still_edge n low s = grind (arith, edge_zero, low_block)
 
   still_edges : (inner : Bool) (s : Planes) → edges_by_facts v column row offset false inner f f s ≡ s
   still_edges false s = refl
-  still_edges true s =
-      still_edge 2 (omega arith) (edge_by_facts v column row 2 offset f f (edge_by_facts v column row 1 offset f f s))
-      ∙ still_edge 1 (omega arith) (edge_by_facts v column row 1 offset f f s)
-      ∙ still_edge 0 (omega arith) s
+  still_edges true s = grind (arith, still_edge)
 
 -- Edges inside a macroblock that is still can go.
 pub without_still : (column row : ℕ) (offset : ℤ) (f : MbFacts) (still : Bool) → (still ≡ true → f.is_intra ≡ false) →
     (still ≡ true → (j k : ℕ) → j < 16 → k < 16 → inter_strength f j f k ≡ 0) → (v inner : Bool) (s : Planes) →
     edges_by_facts v column row offset false (inner && not still) f f s ≡ edges_by_facts v column row offset false inner f f s
-without_still column row offset f true inter none v inner s =
-    still_edges column row offset f (inter refl) (none refl) v (inner && false) s
-    ∙ sym (still_edges column row offset f (inter refl) (none refl) v inner s)
+without_still column row offset f true inter none v inner s = grind (arith, still_edges)
 without_still column row offset f false inter none v true s = refl
 without_still column row offset f false inter none v false s = refl
 
@@ -51,10 +40,7 @@ outer_kept : (v : Bool) (column row : ℕ) (e : ℤ) (p q : MbFacts) (acts joins
 outer_kept v column row e p q true true across down on off s = refl
 outer_kept v column row e p q true false across down on off s = let never : false ≡ true = on refl in absurd (cc)
 outer_kept v column row e p q false false across down on off s = refl
-outer_kept v column row e p q false true across down on off s =
-    sym
-    (edge_zero v column row 0 (strength_of p q v 0) (luma_qp_of p q) (chroma_qp_of e p q) s
-    (λ h. let some : 1 ≤ column = across refl h in omega arith) (λ h. let some : 1 ≤ row = down refl h in omega arith) (off refl refl))
+outer_kept v column row e p q false true across down on off s = grind (arith, edge_zero, some)
 
 module _ (column row : ℕ) (e : ℤ) (left above mb : MbFacts) (still i l u : Bool)
     (inter : still ≡ true → mb.is_intra ≡ false) (none : still ≡ true → (j k : ℕ) → j < 16 → k < 16 → inter_strength mb j mb k ≡ 0)

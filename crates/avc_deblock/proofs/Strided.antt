@@ -23,9 +23,7 @@ module _ (base step : ℕ) (f : ℕ → ℕ) where
   pub sets_other : (xs : List ℕ) (n j : ℕ) → ((k : ℕ) → 1 ≤ k → k ≤ n → j ≢ base + k * step) → slice_index (sets xs base step f n) j ≡ slice_index xs j
   unfolding sets
   sets_other xs zero j none = refl
-  sets_other xs (suc n) j none =
-      get_or-set_other (sets xs base step f n) (base + suc n * step) j (f (suc n)) 0 (none (suc n) (omega arith) (omega arith))
-      ∙ sets_other xs n j (λ k some low. none k some (omega arith))
+  sets_other xs (suc n) j none = grind (arith, get_or-set_other, sets_other xs n j (λ k some low. none k some (omega arith)))
 
   -- the sample at a place is v, if what is put there is v, and v stands there where nothing is put
   pub sets_value : (xs : List ℕ) (n j v : ℕ) → base + n * step < length xs → ((k : ℕ) → 1 ≤ k → k ≤ n → j ≡ base + k * step → f k ≡ v) →
@@ -33,30 +31,14 @@ module _ (base step : ℕ) (f : ℕ → ℕ) where
   unfolding sets
   sets_value xs zero j v within put kept = kept (λ k some low. absurd (omega arith))
   sets_value xs (suc n) j v within put kept =
-      let all = sets xs base step f n in
-      let place = base + suc n * step in
-      ⊎_elim
-      (λ e. ap (slice_index (slice_set all place (f (suc n)))) e ∙ get_or-set_same all place (f (suc n)) 0 (omega (arith, length-sets xs n)) ∙ put (suc n) (omega arith) (omega arith) e)
-      (λ ne.
-      get_or-set_other all place j (f (suc n)) 0 ne
-      ∙ sets_value xs n j v (omega arith) (λ k some low. put k some (omega arith))
-      (λ none. kept (λ k some low. ⊎_elim (λ less. none k some (omega arith)) (λ no e. ne (e ∙ ap (λ m. base + m * step) (omega arith))) (cases_lt k (suc n)))))
-      (cases_eq j place)
+      grind (arith, get_or-set_same, length-sets, get_or-set_other, cases_lt, cases_eq, sets_value xs n j v (omega arith) (λ k some low. put k some (omega arith)))
 
   pub sets_same : (xs ys : List ℕ) (n j : ℕ) → base + n * step < length xs → length ys ≡ length xs → slice_index ys j ≡ slice_index xs j →
       slice_index (sets ys base step f n) j ≡ slice_index (sets xs base step f n) j
   unfolding sets
   sets_same xs ys zero j within long same = same
   sets_same xs ys (suc n) j within long same =
-      let place = base + suc n * step in
-      let old : length (sets xs base step f n) ≡ length xs = length-sets xs n in
-      let new : length (sets ys base step f n) ≡ length ys = length-sets ys n in
-      ⊎_elim
-      (λ e.
-      ap (slice_index (sets ys base step f (suc n))) e ∙ get_or-set_same _ place (f (suc n)) 0 (omega arith)
-      ∙ sym (ap (slice_index (sets xs base step f (suc n))) e ∙ get_or-set_same _ place (f (suc n)) 0 (omega arith)))
-      (λ ne. get_or-set_other _ place j _ 0 ne ∙ sets_same xs ys n j (omega arith) long same ∙ sym (get_or-set_other _ place j _ 0 ne))
-      (cases_eq j place)
+      grind (arith, length-sets, get_or-set_same, get_or-set_other, cases_eq, sets_same xs ys n j (omega arith) long same)
 
 -- all samples of a line but the outermost
 abbrev pub six_set : (xs : List ℕ) (base step : ℕ) (l : Line) → List ℕ
@@ -102,8 +84,7 @@ module _ (setting : ℕ → Setting) (from : ℕ → ℕ) (step n size : ℕ) (p
   unfolding all_set
   untouched a zero xs j none = refl
   untouched a (suc m) xs j none =
-      untouched (a + 1) m (one_set a xs) j (λ i k low high. none i k (omega arith) (omega arith))
-      ∙ sets_other (from a) step (sample_of (filtered (setting a) (strided xs (from a) step))) xs 6 j (λ k some low. none a k (omega arith) (omega arith) (omega arith))
+      grind (arith, sets_other, sample_of, untouched (a + 1) m (one_set a xs) j (λ i k low high. none i k (omega arith) (omega arith)))
 
   -- a line before those that follow keeps its samples
   line_before : (a m i : ℕ) (xs : List ℕ) → i < a → a + m ≤ n → strided (all_set setting from step (range_with_len a m) xs) (from i) step ≡ strided xs (from i) step

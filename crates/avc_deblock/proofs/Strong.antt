@@ -1,9 +1,9 @@
 -- A line at strength 4 from its six new samples.
-use Rattle.std.proofs.Common.{◌≡◌, ℕ, Bool, true, false, nat_lt, ◌&&◌, if◌then◌else◌, arith, refl, ap, ◌∙◌, sym}
+use Rattle.std.proofs.Common.{◌≡◌, ℕ, Bool, true, false, nat_lt, ◌&&◌, if◌then◌else◌, arith, refl, ◌∙◌}
 use Rattle.std.proofs.lemmas.Int.{ints}
 use Rattle.avc_types.specs.Arithmetic.{distance}
 use Rattle.avc_deblock.specs.Line.{Setting, Line, mirrored, filtered, filtered_strongly, strong_p0, strong_p1, strong_p2}
-use Rattle.avc_deblock.specs.Rows.{line, IsStrong, strong_at}
+use Rattle.avc_deblock.specs.Rows.{line, IsStrong}
 use Rattle.avc_deblock.proofs.Weak.{any_at}
 
 -- the new samples, from whether the line is filtered
@@ -20,17 +20,17 @@ moved : (s : Setting) (l : Line) (on : Bool) (n2 n1 n0 m0 m1 m2 : ℕ) → IsMov
 moved s l true n2 n1 n0 m0 m1 m2 h = rw (h.p0_is, h.p1_is, h.p2_is, h.q0_is, h.q1_is, h.q2_is) refl
 moved s l false n2 n1 n0 m0 m1 m2 h = rw (h.p0_is, h.p1_is, h.p2_is, h.q0_is, h.q1_is, h.q2_is) refl
 
-setting_is : (s : Setting) (alpha beta : ℕ) → IsStrong s alpha beta → s ≡ strong_at alpha beta s.tc0
-setting_is s alpha beta w =
-    rw (w.alpha_is, w.beta_is) (ap (λ (f : Bool). any_at f s.strength s.alpha s.beta s.tc0) w.luma ∙ ap (λ (n : ℕ). any_at true n s.alpha s.beta s.tc0) w.strong)
-
-pub strong_is : (s : Setting) (alpha beta : ℕ) (l : Line) (on : Bool) (n2 n1 n0 m0 m1 m2 : ℕ) → IsStrong s alpha beta →
+-- the line filter of a setting at strength 4
+pub strongly : (is_luma : Bool) (s : Setting) (alpha beta : ℕ) (l : Line) (on : Bool) → IsStrong is_luma s alpha beta →
     on ≡ (nat_lt (distance l.p0 l.q0) alpha && nat_lt (distance l.p1 l.p0) beta && nat_lt (distance l.q1 l.q0) beta) →
-    IsMoved (strong_at alpha beta s.tc0) l on n2 n1 n0 m0 m1 m2 → filtered s l ≡ line l.p3 n2 n1 n0 m0 m1 m2 l.q3
+    filtered s l ≡ (if on then filtered_strongly (any_at is_luma 4 alpha beta s.tc0) l else l)
+strongly is_luma s alpha beta l on w is = grind (arith, any_at)
+
+pub strong_is : (s : Setting) (alpha beta : ℕ) (l : Line) (on : Bool) (n2 n1 n0 m0 m1 m2 : ℕ) → IsStrong true s alpha beta →
+    on ≡ (nat_lt (distance l.p0 l.q0) alpha && nat_lt (distance l.p1 l.p0) beta && nat_lt (distance l.q1 l.q0) beta) →
+    IsMoved (any_at true 4 alpha beta s.tc0) l on n2 n1 n0 m0 m1 m2 → filtered s l ≡ line l.p3 n2 n1 n0 m0 m1 m2 l.q3
 strong_is s alpha beta l on n2 n1 n0 m0 m1 m2 w is h =
-    ap (λ (t : Setting). filtered t l) (setting_is s alpha beta w)
-    ∙ ap (λ (f : Bool). if f then filtered_strongly (strong_at alpha beta s.tc0) l else l) (sym is)
-    ∙ moved (strong_at alpha beta s.tc0) l on n2 n1 n0 m0 m1 m2 h
+    strongly true s alpha beta l on w is ∙ moved (any_at true 4 alpha beta s.tc0) l on n2 n1 n0 m0 m1 m2 h
 
 -- the nearest sample, from what the code asks in another order
 pub either_nearest : (on near up f : Bool) (x y v : ℕ) → f ≡ (on && near && up) →

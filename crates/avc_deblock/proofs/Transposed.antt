@@ -1,5 +1,6 @@
 -- Four riffles of sixteen rows of eight samples make eight rows of sixteen, and three more make them sixteen rows of eight again.
 use Rattle.std.proofs.Common.{◌≡◌, ℕ, zero, suc, ◌+◌, ◌*◌, ◌/◌, ◌%◌, ◌<◌, List, slice_index, arith, ap, ◌∙◌, sym}
+use Rattle.avc_neigh.proofs.Sixteen.{each_of_four}
 use Rattle.avc_deblock.specs.Rows.{IsRiffled, IsTransposed}
 
 riffle_bit : (t u : List ℕ) (k b : ℕ) → IsRiffled t u → k < 64 → b < 2 → slice_index u (2 * k + b) ≡ slice_index t (64 * b + k)
@@ -34,8 +35,5 @@ two_riffles t a u h1 h2 row column r_low c_low =
 pub middle_row : (t a : List ℕ) (k column : ℕ) → k < 16 → column < 4 → ((k : ℕ) → k < 16 → slice_index a k ≡ slice_index t (32 + k)) → ((k : ℕ) → k < 16 → slice_index a (32 + k) ≡ slice_index t (48 + k)) →
     ((k : ℕ) → k < 16 → slice_index a (64 + k) ≡ slice_index t (64 + k)) → ((k : ℕ) → k < 16 → slice_index a (96 + k) ≡ slice_index t (80 + k)) →
     slice_index a (32 * column + k) ≡ slice_index t (32 + 16 * column + k)
-middle_row t a k zero low less first second third fourth = ap (slice_index a) (omega arith) ∙ first k low ∙ ap (slice_index t) (omega arith)
-middle_row t a k (suc zero) low less first second third fourth = ap (slice_index a) (omega arith) ∙ second k low ∙ ap (slice_index t) (omega arith)
-middle_row t a k (suc (suc zero)) low less first second third fourth = ap (slice_index a) (omega arith) ∙ third k low ∙ ap (slice_index t) (omega arith)
-middle_row t a k (suc (suc (suc zero))) low less first second third fourth = ap (slice_index a) (omega arith) ∙ fourth k low ∙ ap (slice_index t) (omega arith)
-middle_row t a k (suc (suc (suc (suc column)))) low less first second third fourth = absurd (omega arith)
+middle_row t a k column low less first second third fourth =
+    each_of_four (λ c. slice_index a (32 * c + k) ≡ slice_index t (32 + 16 * c + k)) (ap (slice_index a) (omega arith) ∙ first k low) (second k low) (third k low) (fourth k low) column less

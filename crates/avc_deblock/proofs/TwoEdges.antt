@@ -1,11 +1,12 @@
 -- Two vertical edges of chroma, four columns apart, as one block of a plane that is changed.
-use Rattle.std.proofs.Common.{◌≡◌, ℕ, zero, suc, ◌+◌, ◌-◌, ◌*◌, ◌<◌, ◌≤◌, List, Bool, true, length, slice_index, arith, refl, sym, ap, ◌∙◌, ⊎_elim}
+use Rattle.std.proofs.Common.{◌≡◌, ℕ, ◌+◌, ◌-◌, ◌*◌, ◌<◌, ◌≤◌, List, Bool, true, length, slice_index, arith, refl, sym, ap, ◌∙◌, ⊎_elim}
 use Rattle.std.specs.Prelude.{if◌then◌else◌}
 use Rattle.std.proofs.lemmas.Bool.{cases_lt}
 use Rattle.avc_plane.specs.Plane.{Plane, sample, with_block, is_inside}
 use Rattle.avc_plane.proofs.Rectangles.{by_place}
 use Rattle.avc_plane.proofs.Blocks.{plane_of_same}
 use Rattle.avc_plane.proofs.PlaneMaps.{length-plane_of}
+use Rattle.avc_neigh.proofs.Sixteen.{each_of_four}
 use Rattle.avc_deblock.specs.Line.{Setting, filtered}
 use Rattle.avc_deblock.specs.Rows.{line, line_near, IsTransposed, IsNearSet}
 use Rattle.avc_deblock.specs.OneEdge.{edge_filtered}
@@ -31,17 +32,10 @@ across_edge s left top g x y =
 
 module _ (s : Plane) (left top : ℕ) (g : ℕ → ℕ → ℕ) where
   new_samples : (x y : ℕ) → x < 4 → g x y ≡ across_edge s left top g (2 + x) y
-  new_samples zero y low = refl
-  new_samples (suc zero) y low = refl
-  new_samples (suc (suc zero)) y low = refl
-  new_samples (suc (suc (suc zero))) y low = refl
-  new_samples (suc (suc (suc (suc k)))) y low = absurd (omega arith)
+  new_samples x y = each_of_four (λ x. g x y ≡ across_edge s left top g (2 + x) y) refl refl refl refl x
 
   old_samples : (x y : ℕ) → x < 8 → (2 ≤ x → x < 6 → ⊥) → across_edge s left top g x y ≡ sample s (left + x) (top + y)
-  old_samples x y low out =
-      each_of_eight (λ x. (2 ≤ x → x < 6 → ⊥) → across_edge s left top g x y ≡ sample s (left + x) (top + y)) (λ out. refl) (λ out. refl)
-      (λ out. absurd (out (omega arith) (omega arith))) (λ out. absurd (out (omega arith) (omega arith)))
-      (λ out. absurd (out (omega arith) (omega arith))) (λ out. absurd (out (omega arith) (omega arith))) (λ out. refl) (λ out. refl) x low out
+  old_samples x y low out = grind (arith, each_of_eight)
 
 -- the four columns about an edge, where no line reads more
 one_edge : (setting : ℕ → Setting) (left top : ℕ) (s : Plane) (g : ℕ → ℕ → ℕ) → length s.samples ≡ s.width * s.height → left + 8 ≤ s.width → top + 8 ≤ s.height →
@@ -62,13 +56,10 @@ module _ (first second : ℕ → Setting) (left top b : ℕ) (s : Plane) (before
     (joined : (k : ℕ) → k < 64 → slice_index t (64 * b + k) ≡ slice_index before k) (from : IsTransposed t u) (to : IsTransposed z w)
     (parted : (k : ℕ) → k < 64 → slice_index after k ≡ slice_index z (64 * b + k))
     (first_set : IsNearSet 0 u v) (second_set : IsNearSet 64 v w)
-    (first_lines : (p3 p2 q2 q3 i : ℕ) → i < 8 → filtered (first i) (line_near p3 p2 q2 q3 u 0 (8 * b + i)) ≡ line_near p3 p2 q2 q3 v 0 (8 * b + i))
-    (second_lines : (p3 p2 q2 q3 i : ℕ) → i < 8 → filtered (second i) (line_near p3 p2 q2 q3 v 64 (8 * b + i)) ≡ line_near p3 p2 q2 q3 w 64 (8 * b + i)) where
+    (first_lines : (p3 p2 q2 q3 b i : ℕ) → b < 2 → i < 8 → filtered (first i) (line_near p3 p2 q2 q3 u 0 (8 * b + i)) ≡ line_near p3 p2 q2 q3 v 0 (8 * b + i))
+    (second_lines : (p3 p2 q2 q3 b i : ℕ) → b < 2 → i < 8 → filtered (second i) (line_near p3 p2 q2 q3 v 64 (8 * b + i)) ≡ line_near p3 p2 q2 q3 w 64 (8 * b + i)) where
   at : (c x i : ℕ) → c < 8 → i < 8 → x ≡ left + 2 + c → sample s x (top + i) ≡ slice_index u (16 * c + (8 * b + i))
-  at c x i c_low i_low e = sym
-      (from (8 * b + i) c (omega arith) c_low
-      ∙ ap (slice_index t) (let e' : 8 * (8 * b + i) + c ≡ 64 * b + (8 * i + c) = omega arith in e')
-      ∙ joined (8 * i + c) (omega arith) ∙ loaded c i c_low i_low ∙ ap (λ m. sample s m (top + i)) (sym e))
+  at c x i c_low i_low e = grind arith
 
   abbrev new : ℕ → ℕ → ℕ
   new x y = slice_index w (16 * x + (8 * b + y))
@@ -86,7 +77,7 @@ module _ (first second : ℕ → Setting) (left top b : ℕ) (s : Plane) (before
       ap (filtered (first i))
       (same_line _ _ _ _ _ _ _ _ p3 p2 _ _ _ _ q2 q3 refl refl (at 0 (left + 2) i (omega arith) low (omega arith)) (at 1 (left + 3) i (omega arith) low (omega arith))
       (at 2 (left + 4) i (omega arith) low (omega arith)) (at 3 (left + 5) i (omega arith) low (omega arith)) refl refl)
-      ∙ first_lines p3 p2 q2 q3 i low
+      ∙ first_lines p3 p2 q2 q3 b i bit low
       ∙ sym (same_line _ _ _ _ _ _ _ _ p3 p2 _ _ _ _ q2 q3 refl refl (second_set.before (16 * 0 + (8 * b + i)) (omega arith)) (second_set.before (16 * 1 + (8 * b + i)) (omega arith))
       (second_set.before (16 * 2 + (8 * b + i)) (omega arith)) (second_set.before (16 * 3 + (8 * b + i)) (omega arith)) refl refl))
 
@@ -95,11 +86,7 @@ module _ (first second : ℕ → Setting) (left top b : ℕ) (s : Plane) (before
       outside_block s (left + 2) top 4 8 new x (top + i) column (omega arith) (λ p q. absurd (omega arith))
 
   inside_it : (x y : ℕ) → x < 4 → y < 8 → new x y ≡ sample once (left + 2 + x) (top + y)
-  inside_it x y x_low y_low =
-      let x_is : x ≡ left + 2 + x - (left + 2) = omega arith in
-      let y_is : y ≡ top + y - top = omega arith in
-      ap (λ m. new m y) x_is ∙ ap (λ m. new (left + 2 + x - (left + 2)) m) y_is
-      ∙ sym (inside_block s (left + 2) top 4 8 new (left + 2 + x) (top + y) (omega arith) (omega arith) (omega arith) (omega arith) (omega arith) (omega arith))
+  inside_it x y x_low y_low = grind (arith, inside_block)
 
   next : (c x i : ℕ) → 4 ≤ c → c < 8 → i < 8 → x ≡ left + 2 + c → sample once x (top + i) ≡ slice_index v (16 * c + (8 * b + i))
   next c x i far c_low i_low e =
@@ -111,7 +98,7 @@ module _ (first second : ℕ → Setting) (left top b : ℕ) (s : Plane) (before
       ap (filtered (second i))
       (same_line _ _ _ _ _ _ _ _ p3 p2 _ _ _ _ q2 q3 refl refl (next 4 (left + 4 + 2) i (omega arith) (omega arith) low (omega arith)) (next 5 (left + 4 + 3) i (omega arith) (omega arith) low (omega arith))
       (next 6 (left + 4 + 4) i (omega arith) (omega arith) low (omega arith)) (next 7 (left + 4 + 5) i (omega arith) (omega arith) low (omega arith)) refl refl)
-      ∙ second_lines p3 p2 q2 q3 i low)
+      ∙ second_lines p3 p2 q2 q3 b i bit low)
 
   pub two_edges : with_block s (left + 2) top 8 8 (λ x y. slice_index after (8 * y + x)) ≡ edge_filtered second true (left + 8) top 8 (edge_filtered first true (left + 4) top 8 s)
   two_edges =

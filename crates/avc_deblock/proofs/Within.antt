@@ -8,15 +8,11 @@ use Rattle.avc_plane.proofs.PlaneMaps.{sample-with_block}
 
 pub outside_block : (s : Plane) (left top width height : ℕ) (f : ℕ → ℕ → ℕ) (x y : ℕ) → x < s.width → y < s.height →
     (left ≤ x → x < left + width → top ≤ y → y < top + height → ⊥) → sample (with_block s left top width height f) x y ≡ sample s x y
-outside_block s left top width height f x y column row out =
-    sample-with_block s left top width height f x y column row
-    ∙ by_place (λ t. (if t then f (x - left) (y - top) else sample s x y) ≡ sample s x y) left top width height x y (λ p q r u. absurd (out p q r u)) (λ none. refl)
+outside_block s left top width height f x y column row out = grind (arith, sample-with_block, by_place)
 
 pub inside_block : (s : Plane) (left top width height : ℕ) (f : ℕ → ℕ → ℕ) (x y : ℕ) → x < s.width → y < s.height →
     left ≤ x → x < left + width → top ≤ y → y < top + height → sample (with_block s left top width height f) x y ≡ f (x - left) (y - top)
-inside_block s left top width height f x y column row p q r u =
-    sample-with_block s left top width height f x y column row
-    ∙ ap (λ t. if t then f (x - left) (y - top) else sample s x y) (inside left top width height x y p q r u)
+inside_block s left top width height f x y column row p q r u = grind (arith, sample-with_block, inside)
 
 -- the rectangle of w' columns and h' rows at (a, b) of one of w columns and h rows
 pub within_block : (s : Plane) (left top w h a b w' h' left' top' : ℕ) (f g : ℕ → ℕ → ℕ) → left' ≡ left + a → top' ≡ top + b → a + w' ≤ w → b + h' ≤ h →

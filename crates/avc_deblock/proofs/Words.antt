@@ -1,6 +1,7 @@
 -- Four bytes as one word.
-use Rattle.std.proofs.Common.{◌≡◌, ℕ, zero, suc, ◌+◌, ◌*◌, ◌/◌, ◌%◌, ◌<◌, List, [], ◌∷◌, length, get_or, slice_index, arith, refl, ap, ◌∙◌}
+use Rattle.std.proofs.Common.{◌≡◌, add-zero, ℕ, ◌+◌, ◌*◌, ◌/◌, ◌%◌, ◌<◌, List, [], ◌∷◌, length, get_or, slice_index, arith, refl, ap, ◌∙◌}
 use Rattle.std.proofs.lemmas.Simd.{Each1-from_get_or, get_or_wider, get_or-chunk, length-chunk}
+use Rattle.avc_neigh.proofs.Sixteen.{each_of_four}
 use lib.Lanes.{chunk, number_l, digits_l}
 
 number_of_four : (xs : List ℕ) → length xs ≡ 4 → number_l 256 xs ≡ get_or xs 0 0 + 256 * (get_or xs 1 0 + 256 * (get_or xs 2 0 + 256 * get_or xs 3 0))
@@ -25,19 +26,11 @@ word_is t long bytes k low =
     ∙ number_of_four part (length-chunk (4 * k) 4 t (omega arith))
     ∙ omega arith
 
-by_remainder : (f g : ℕ → ℕ) (q r : ℕ) → r < 4 → f (4 * q) ≡ g (4 * q) → f (4 * q + 1) ≡ g (4 * q + 1) → f (4 * q + 2) ≡ g (4 * q + 2) → f (4 * q + 3) ≡ g (4 * q + 3) →
-    f (4 * q + r) ≡ g (4 * q + r)
-by_remainder f g q zero less a b c d = ap f (let e : 4 * q + 0 ≡ 4 * q = omega arith in e) ∙ a ∙ ap g (let e : 4 * q ≡ 4 * q + 0 = omega arith in e)
-by_remainder f g q (suc zero) less a b c d = b
-by_remainder f g q (suc (suc zero)) less a b c d = c
-by_remainder f g q (suc (suc (suc zero))) less a b c d = d
-by_remainder f g q (suc (suc (suc (suc r)))) less a b c d = absurd (omega arith)
-
 -- what is so at each of four neighbours is so at every place
 pub by_fours : (f g : ℕ → ℕ) (n : ℕ) → ((k : ℕ) → k < n → f (4 * k) ≡ g (4 * k)) → ((k : ℕ) → k < n → f (4 * k + 1) ≡ g (4 * k + 1)) →
     ((k : ℕ) → k < n → f (4 * k + 2) ≡ g (4 * k + 2)) → ((k : ℕ) → k < n → f (4 * k + 3) ≡ g (4 * k + 3)) → (k : ℕ) → k < 4 * n → f k ≡ g k
 by_fours f g n first second third fourth k low =
     let q = k / 4 in
     let at : (r : ℕ) → r ≡ k % 4 → r < 4 → f (4 * q + r) ≡ g (4 * q + r) =
-    λ r e less. by_remainder f g q r less (first q (omega arith)) (second q (omega arith)) (third q (omega arith)) (fourth q (omega arith)) in
+    λ r e. each_of_four (λ r. f (4 * q + r) ≡ g (4 * q + r)) (rw add-zero (first q (omega arith))) (second q (omega arith)) (third q (omega arith)) (fourth q (omega arith)) r in
     ap f (let e : k ≡ 4 * q + k % 4 = omega arith in e) ∙ at (k % 4) refl (omega arith) ∙ ap g (let e : 4 * q + k % 4 ≡ k = omega arith in e)

@@ -3,7 +3,7 @@ use Rattle.std.specs.Prelude.{◌≡◌, ℕ, ◌+◌, ◌*◌, ◌/◌, ◌%◌
 use Rattle.std.specs.List.{range_with_len}
 use Rattle.avc_plane.specs.Plane.{Plane}
 use Rattle.avc_deblock.specs.Line.{Setting, setting_of, threshold_index, alpha_of, beta_of, tc0_of}
-use Rattle.avc_deblock.specs.Rows.{IsWeak, IsWeakChroma}
+use Rattle.avc_deblock.specs.Rows.{IsWeak}
 use Rattle.avc_types.specs.Pictures.{Coded}
 use Rattle.avc_neigh.specs.declared.facts.Motion.{Motion}
 use Rattle.avc_plane.specs.Planes.{Planes}
@@ -67,11 +67,8 @@ pub record AreLimits (l : QpLimits) (qp : EdgeQp) : Type 0 where
   pub off : l.is_on ≡ false → (alpha_of (index_a_of qp) == 0 || beta_of (index_b_of qp) == 0) ≡ true
 
 -- a line of luma, or of chroma, at this strength below 4 with these limits
-abbrev pub FitsWeak : QpLimits → (strength : ℕ) → Setting → Type 0
-FitsWeak l strength s = IsWeak s (if strength == 0 then 0 else l.alpha1 + 1) (l.beta1 + 1) (tc0_of strength l.index_a)
-
-abbrev pub FitsWeakChroma : QpLimits → (strength : ℕ) → Setting → Type 0
-FitsWeakChroma l strength s = IsWeakChroma s (if strength == 0 then 0 else l.alpha1 + 1) (l.beta1 + 1) (tc0_of strength l.index_a)
+abbrev pub FitsWeak : (is_luma : Bool) → QpLimits → (strength : ℕ) → Setting → Type 0
+FitsWeak is_luma l strength s = IsWeak is_luma s (if strength == 0 then 0 else l.alpha1 + 1) (l.beta1 + 1) (tc0_of strength l.index_a)
 
 -- ---- the edges of a macroblock
 

@@ -1,5 +1,5 @@
 -- The lines of an edge, whose samples stand in rows of sixteen: one row for each distance from the edge.
-use Rattle.std.specs.Prelude.{◌≡◌, ℕ, ◌+◌, ◌*◌, ◌/◌, ◌<◌, ◌≤◌, ◌==◌, ℤ, pos, ◌+ℤ◌, ◌-ℤ◌, neg_ℤ, true, false, if◌then◌else◌, List, slice_index}
+use Rattle.std.specs.Prelude.{◌≡◌, ℕ, ◌+◌, ◌*◌, ◌/◌, ◌<◌, ◌≤◌, ◌==◌, ℤ, pos, ◌+ℤ◌, ◌-ℤ◌, neg_ℤ, Bool, if◌then◌else◌, List, slice_index}
 use Rattle.avc_types.specs.Arithmetic.{◌>>ℤ◌, ◌<<ℤ◌, clip3}
 use Rattle.avc_deblock.specs.Line.{Line, Setting}
 
@@ -17,9 +17,10 @@ abbrev pub line_within : (p3 q3 : ℕ) → (p2 p1 p0 q0 q1 q2 : List ℕ) → �
 line_within p3 q3 p2 p1 p0 q0 q1 q2 i =
     line p3 (slice_index p2 i) (slice_index p1 i) (slice_index p0 i) (slice_index q0 i) (slice_index q1 i) (slice_index q2 i) q3
 
--- A setting of luma, at a strength below 4, has this tC0 and these thresholds; alpha is 0 at strength 0
-pub record IsWeak (s : Setting) (alpha beta tc0 : ℕ) : Type 0 where
-  pub luma : s.is_luma ≡ true
+-- A setting of luma, or of chroma, at a strength below 4, has this tC0 and these thresholds; alpha is 0 at strength 0, where nothing
+-- is filtered (8.7.2.3).
+pub record IsWeak (is_luma : Bool) (s : Setting) (alpha beta tc0 : ℕ) : Type 0 where
+  pub component : s.is_luma ≡ is_luma
   pub weak : s.strength < 4
   pub alpha_is : alpha ≡ (if s.strength == 0 then 0 else s.alpha)
   pub beta_is : beta ≡ s.beta
@@ -37,13 +38,9 @@ bend p2 p1 p0 q0 = pos p2 +ℤ pos ((p0 + q0 + 1) / 2) -ℤ pos (2 * p1) >>ℤ 1
 abbrev pub held : ℕ → ℤ → ℤ
 held limit z = clip3 (neg_ℤ (pos limit)) (pos limit) z
 
--- a setting of luma at strength 4
-abbrev pub strong_at : (alpha beta tc0 : ℕ) → Setting
-strong_at alpha beta tc0 = record { is_luma = true; strength = 4; alpha = alpha; beta = beta; tc0 = tc0 }
-
--- luma at strength 4, with these alpha and beta (8.7.2.4)
-pub record IsStrong (s : Setting) (alpha beta : ℕ) : Type 0 where
-  pub luma : s.is_luma ≡ true
+-- luma, or chroma, at strength 4, with these alpha and beta (8.7.2.4)
+pub record IsStrong (is_luma : Bool) (s : Setting) (alpha beta : ℕ) : Type 0 where
+  pub component : s.is_luma ≡ is_luma
   pub strong : s.strength ≡ 4
   pub alpha_is : alpha ≡ s.alpha
   pub beta_is : beta ≡ s.beta
@@ -76,21 +73,6 @@ pub record IsRowSet (from : ℕ) (r t u : List ℕ) : Type 0 where
   pub behind : (k : ℕ) → from + 16 ≤ k → slice_index u k ≡ slice_index t k
 
 -- ---- chroma
-
--- chroma below strength 4; where the strength is 0, alpha is 0 and nothing is filtered (8.7.2.3)
-pub record IsWeakChroma (s : Setting) (alpha beta tc0 : ℕ) : Type 0 where
-  pub chroma : s.is_luma ≡ false
-  pub weak : s.strength < 4
-  pub alpha_is : alpha ≡ (if s.strength == 0 then 0 else s.alpha)
-  pub beta_is : beta ≡ s.beta
-  pub tc0_is : tc0 ≡ s.tc0
-
--- chroma at strength 4 (8.7.2.4)
-pub record IsStrongChroma (s : Setting) (alpha beta : ℕ) : Type 0 where
-  pub chroma : s.is_luma ≡ false
-  pub strong : s.strength ≡ 4
-  pub alpha_is : alpha ≡ s.alpha
-  pub beta_is : beta ≡ s.beta
 
 -- line i of four rows, between samples that stand further off
 abbrev pub line_inside : (p3 p2 q2 q3 : ℕ) → (p1 p0 q0 q1 : List ℕ) → ℕ → Line

@@ -1,6 +1,6 @@
-ghost use Rattle.std.specs.Prelude.{◌≡◌, ℕ, ◌+◌, ◌*◌, ◌/◌, ◌%◌, ◌<◌, ◌≤◌, ◌==◌, if◌then◌else◌, slice_index};
+ghost use Rattle.std.specs.Prelude.{◌≡◌, ℕ, ◌+◌, ◌*◌, ◌/◌, ◌%◌, ◌<◌, ◌≤◌, ◌==◌, true, false, if◌then◌else◌, slice_index};
 ghost use Rattle.avc_deblock.specs.Line.{Setting, filtered};
-ghost use Rattle.avc_deblock.specs.Rows.{IsRiffled, IsTransposed, IsRowSet, IsWeak, IsStrong, IsWeakChroma, IsStrongChroma, IsNearSet, line_down, line_near};
+ghost use Rattle.avc_deblock.specs.Rows.{IsRiffled, IsTransposed, IsRowSet, IsWeak, IsStrong, IsNearSet, line_down, line_near};
 
 use crate::lines::{
     Limits, StrongLimits, strong_chroma_lines, strong_lines, weak_chroma_lines, weak_lines,
@@ -140,7 +140,7 @@ pub(crate) fn spread(v: &[u8; 4]) -> [u8; 16]
 pub(crate) fn weak_luma(t: &mut [u8; 128], limits: &Limits)
     requires { (i : ℕ) → i < 16 → slice_index limits.now.tc0 i ≤ 92 }
     ensures { (s : Setting) (i : ℕ) → i < 16 →
-        IsWeak s (if slice_index limits.now.dead i == 0 then slice_index limits.now.alpha1 i + 1 else 0)
+        IsWeak true s (if slice_index limits.now.dead i == 0 then slice_index limits.now.alpha1 i + 1 else 0)
         (slice_index limits.now.beta1 i + 1) (slice_index limits.now.tc0 i) →
         filtered s (line_down t.old i) ≡ line_down t.new i }
 {
@@ -162,7 +162,7 @@ pub(crate) fn weak_luma(t: &mut [u8; 128], limits: &Limits)
 pub(crate) fn strong_luma(t: &mut [u8; 128], limits: &StrongLimits)
     requires { (i : ℕ) → i < 16 → slice_index limits.now.small1 i ≡ (slice_index limits.now.alpha1 i + 1) / 4 + 1 }
     ensures { (s : Setting) (i : ℕ) → i < 16 →
-        IsStrong s (slice_index limits.now.alpha1 i + 1) (slice_index limits.now.beta1 i + 1) →
+        IsStrong true s (slice_index limits.now.alpha1 i + 1) (slice_index limits.now.beta1 i + 1) →
         filtered s (line_down t.old i) ≡ line_down t.new i }
 {
     let p3 = row(t, 0);
@@ -190,7 +190,7 @@ pub(crate) fn weak_chroma(t: &mut [u8; 128], from: usize, limits: &Limits)
     requires tc0 { (i : ℕ) → i < 16 → slice_index limits.now.tc0 i ≤ 92 }
     requires room { from + 64 ≤ 128 }
     ensures lines { (p3 p2 q2 q3 : ℕ) (s : Setting) (i : ℕ) → i < 16 →
-        IsWeakChroma s (if slice_index limits.now.dead i == 0 then slice_index limits.now.alpha1 i + 1 else 0)
+        IsWeak false s (if slice_index limits.now.dead i == 0 then slice_index limits.now.alpha1 i + 1 else 0)
         (slice_index limits.now.beta1 i + 1) (slice_index limits.now.tc0 i) →
         filtered s (line_near p3 p2 q2 q3 t.old from i) ≡ line_near p3 p2 q2 q3 t.new from i }
     ensures others { IsNearSet from t.old t.new }
@@ -209,7 +209,7 @@ pub(crate) fn weak_chroma(t: &mut [u8; 128], from: usize, limits: &Limits)
 pub(crate) fn strong_chroma(t: &mut [u8; 128], from: usize, limits: &StrongLimits)
     requires room { from + 64 ≤ 128 }
     ensures lines { (p3 p2 q2 q3 : ℕ) (s : Setting) (i : ℕ) → i < 16 →
-        IsStrongChroma s (slice_index limits.now.alpha1 i + 1) (slice_index limits.now.beta1 i + 1) →
+        IsStrong false s (slice_index limits.now.alpha1 i + 1) (slice_index limits.now.beta1 i + 1) →
         filtered s (line_near p3 p2 q2 q3 t.old from i) ≡ line_near p3 p2 q2 q3 t.new from i }
     ensures others { IsNearSet from t.old t.new }
 {

@@ -22,7 +22,7 @@ pub(crate) fn weak_horizontal<const PAD: usize>(
     requires rows { top + 8 ≤ plane.old.height }
     requires strengths { (k : ℕ) → k < 4 → slice_index strengths.now k < 4 }
     requires index { limits.now.index_a < 52 }
-    ensures { (setting : ℕ → Setting) → ((i : ℕ) → i < 16 → FitsWeak limits.now (slice_index strengths.now (i / 4)) (setting i)) →
+    ensures { (setting : ℕ → Setting) → ((i : ℕ) → i < 16 → FitsWeak true limits.now (slice_index strengths.now (i / 4)) (setting i)) →
         plane.new ≡ edge_filtered setting false left (top + 4) 16 plane.old }
 {
     let _rows = plane.height();
@@ -46,7 +46,7 @@ pub(crate) fn weak_vertical<const PAD: usize>(
     requires rows { top + 16 ≤ plane.old.height }
     requires strengths { (k : ℕ) → k < 4 → slice_index strengths.now k < 4 }
     requires index { limits.now.index_a < 52 }
-    ensures { (setting : ℕ → Setting) → ((i : ℕ) → i < 16 → FitsWeak limits.now (slice_index strengths.now (i / 4)) (setting i)) →
+    ensures { (setting : ℕ → Setting) → ((i : ℕ) → i < 16 → FitsWeak true limits.now (slice_index strengths.now (i / 4)) (setting i)) →
         plane.new ≡ edge_filtered setting true (left + 4) top 16 plane.old }
 {
     let _columns = plane.width();
@@ -68,7 +68,7 @@ pub(crate) fn strong_horizontal<const PAD: usize>(
 )
     requires columns { left + 16 ≤ plane.old.width }
     requires rows { top + 8 ≤ plane.old.height }
-    ensures { (setting : ℕ → Setting) → ((i : ℕ) → i < 16 → IsStrong (setting i) (limits.now.alpha1 + 1) (limits.now.beta1 + 1)) →
+    ensures { (setting : ℕ → Setting) → ((i : ℕ) → i < 16 → IsStrong true (setting i) (limits.now.alpha1 + 1) (limits.now.beta1 + 1)) →
         plane.new ≡ edge_filtered setting false left (top + 4) 16 plane.old }
 {
     let mut lines = plane.rectangle::<16, 8, 128>(left, top);
@@ -86,7 +86,7 @@ pub(crate) fn strong_vertical<const PAD: usize>(
 )
     requires columns { left + 8 ≤ plane.old.width }
     requires rows { top + 16 ≤ plane.old.height }
-    ensures { (setting : ℕ → Setting) → ((i : ℕ) → i < 16 → IsStrong (setting i) (limits.now.alpha1 + 1) (limits.now.beta1 + 1)) →
+    ensures { (setting : ℕ → Setting) → ((i : ℕ) → i < 16 → IsStrong true (setting i) (limits.now.alpha1 + 1) (limits.now.beta1 + 1)) →
         plane.new ≡ edge_filtered setting true (left + 4) top 16 plane.old }
 {
     let block = plane.rectangle::<8, 16, 128>(left, top);

@@ -1,7 +1,7 @@
-ghost use Rattle.std.specs.Prelude.{◌≡◌, ◌≤◌, ℕ, ◌+◌, ◌*◌, ◌/◌, ◌==◌, pos, ◌+ℤ◌, nat_abs, nat_lt, if◌then◌else◌, ◌&&◌, ◌||◌, ℤ, Bool};
+ghost use Rattle.std.specs.Prelude.{◌≡◌, ◌≤◌, ℕ, ◌+◌, ◌*◌, ◌/◌, ◌==◌, pos, ◌+ℤ◌, nat_abs, nat_lt, true, false, if◌then◌else◌, ◌&&◌, ◌||◌, ℤ, Bool};
 ghost use Rattle.avc_types.specs.Arithmetic.{distance};
 ghost use Rattle.avc_deblock.specs.Line.{Setting, filtered, strong_p0, strong_p1, strong_p2};
-ghost use Rattle.avc_deblock.specs.Rows.{line, IsWeak, bend, held, IsStrong, strong_at, IsWeakChroma, IsStrongChroma};
+ghost use Rattle.avc_deblock.specs.Rows.{line, IsWeak, bend, held, IsStrong};
 
 use crate::bytes::{
     biased_step, capped_sum, distance, far_mean, floor_mean, less, lowered, mean, mean_of_four,
@@ -104,7 +104,7 @@ pub(crate) fn weak_line(
     tc0: u8,
 ) -> Inner
     requires { tc0 ≤ 92 }
-    ensures { (p3 q3 : ℕ) (s : Setting) → IsWeak s (if dead == 0 then a1 + 1 else 0) (b1 + 1) tc0 →
+    ensures { (p3 q3 : ℕ) (s : Setting) → IsWeak true s (if dead == 0 then a1 + 1 else 0) (b1 + 1) tc0 →
         filtered s (line p3 p2 p1 p0 q0 q1 q2 q3) ≡ line p3 p2 result.p1 result.p0 result.q0 result.q1 q2 q3 }
 {
     let beyond = excess(p1, p0, q0, q1, a1, b1, dead);
@@ -169,7 +169,7 @@ pub(crate) fn strong_line(
     c1: u8,
 ) -> Sides
     requires { c1 ≡ (a1 + 1) / 4 + 1 }
-    ensures { (s : Setting) → IsStrong s (a1 + 1) (b1 + 1) →
+    ensures { (s : Setting) → IsStrong true s (a1 + 1) (b1 + 1) →
         filtered s (line p3 p2 p1 p0 q0 q1 q2 q3) ≡ line p3 result.p2 result.p1 result.p0 result.q0 result.q1 result.q2 q3 }
 {
     let beyond = excess(p1, p0, q0, q1, a1, b1, 0);
@@ -207,7 +207,7 @@ pub(crate) fn weak_chroma_line(
     tc0: u8,
 ) -> Nearest
     requires { tc0 ≤ 92 }
-    ensures { (p3 p2 q2 q3 : ℕ) (s : Setting) → IsWeakChroma s (if dead == 0 then a1 + 1 else 0) (b1 + 1) tc0 →
+    ensures { (p3 p2 q2 q3 : ℕ) (s : Setting) → IsWeak false s (if dead == 0 then a1 + 1 else 0) (b1 + 1) tc0 →
         filtered s (line p3 p2 p1 p0 q0 q1 q2 q3) ≡ line p3 p2 p1 result.p0 result.q0 q1 q2 q3 }
 {
     let on = is_zero(excess(p1, p0, q0, q1, a1, b1, dead));
@@ -221,7 +221,7 @@ pub(crate) fn weak_chroma_line(
 
 #[inline(always)]
 pub(crate) fn strong_chroma_line(p1: u8, p0: u8, q0: u8, q1: u8, a1: u8, b1: u8) -> Nearest
-    ensures { (p3 p2 q2 q3 : ℕ) (s : Setting) → IsStrongChroma s (a1 + 1) (b1 + 1) →
+    ensures { (p3 p2 q2 q3 : ℕ) (s : Setting) → IsStrong false s (a1 + 1) (b1 + 1) →
         filtered s (line p3 p2 p1 p0 q0 q1 q2 q3) ≡ line p3 p2 p1 result.p0 result.q0 q1 q2 q3 }
 {
     let on = is_zero(excess(p1, p0, q0, q1, a1, b1, 0));

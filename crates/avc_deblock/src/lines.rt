@@ -1,6 +1,6 @@
-ghost use Rattle.std.specs.Prelude.{◌≡◌, ℕ, ◌+◌, ◌-◌, ◌/◌, ◌<◌, ◌≤◌, ◌==◌, if◌then◌else◌, slice_index};
+ghost use Rattle.std.specs.Prelude.{◌≡◌, ℕ, ◌+◌, ◌-◌, ◌/◌, ◌<◌, ◌≤◌, ◌==◌, true, false, if◌then◌else◌, slice_index};
 ghost use Rattle.avc_deblock.specs.Line.{Setting, filtered};
-ghost use Rattle.avc_deblock.specs.Rows.{line_of_rows, line_within, line_inside, IsWeak, IsStrong, IsWeakChroma, IsStrongChroma};
+ghost use Rattle.avc_deblock.specs.Rows.{line_of_rows, line_within, line_inside, IsWeak, IsStrong};
 
 use crate::bytes::less;
 use crate::line::{strong_chroma_line, strong_line, weak_chroma_line, weak_line};
@@ -117,7 +117,7 @@ pub(crate) fn weak_lines(
 )
     requires { (i : ℕ) → i < 16 → slice_index limits.now.tc0 i ≤ 92 }
     ensures { (p3 q3 : ℕ) (s : Setting) (i : ℕ) → i < 16 →
-        IsWeak s (if slice_index limits.now.dead i == 0 then slice_index limits.now.alpha1 i + 1 else 0)
+        IsWeak true s (if slice_index limits.now.dead i == 0 then slice_index limits.now.alpha1 i + 1 else 0)
         (slice_index limits.now.beta1 i + 1) (slice_index limits.now.tc0 i) →
         filtered s (line_within p3 q3 p2.now p1.old p0.old q0.old q1.old q2.now i) ≡ line_within p3 q3 p2.now p1.new p0.new q0.new q1.new q2.now i }
 {
@@ -156,7 +156,7 @@ pub(crate) fn strong_lines(
     limits: &StrongLimits,
 )
     requires { (i : ℕ) → i < 16 → slice_index limits.now.small1 i ≡ (slice_index limits.now.alpha1 i + 1) / 4 + 1 }
-    ensures { (s : Setting) (i : ℕ) → i < 16 → IsStrong s (slice_index limits.now.alpha1 i + 1) (slice_index limits.now.beta1 i + 1) →
+    ensures { (s : Setting) (i : ℕ) → i < 16 → IsStrong true s (slice_index limits.now.alpha1 i + 1) (slice_index limits.now.beta1 i + 1) →
         filtered s (line_of_rows p3.now p2.old p1.old p0.old q0.old q1.old q2.old q3.now i)
         ≡ line_of_rows p3.now p2.new p1.new p0.new q0.new q1.new q2.new q3.now i }
 {
@@ -198,7 +198,7 @@ pub(crate) fn weak_chroma_lines(
 )
     requires { (i : ℕ) → i < 16 → slice_index limits.now.tc0 i ≤ 92 }
     ensures { (p3 p2 q2 q3 : ℕ) (s : Setting) (i : ℕ) → i < 16 →
-        IsWeakChroma s (if slice_index limits.now.dead i == 0 then slice_index limits.now.alpha1 i + 1 else 0)
+        IsWeak false s (if slice_index limits.now.dead i == 0 then slice_index limits.now.alpha1 i + 1 else 0)
         (slice_index limits.now.beta1 i + 1) (slice_index limits.now.tc0 i) →
         filtered s (line_inside p3 p2 q2 q3 p1.now p0.old q0.old q1.now i) ≡ line_inside p3 p2 q2 q3 p1.now p0.new q0.new q1.now i }
 {
@@ -226,7 +226,7 @@ pub(crate) fn strong_chroma_lines(
     q1: &[u8; 16],
     limits: &StrongLimits,
 )
-    ensures { (p3 p2 q2 q3 : ℕ) (s : Setting) (i : ℕ) → i < 16 → IsStrongChroma s (slice_index limits.now.alpha1 i + 1) (slice_index limits.now.beta1 i + 1) →
+    ensures { (p3 p2 q2 q3 : ℕ) (s : Setting) (i : ℕ) → i < 16 → IsStrong false s (slice_index limits.now.alpha1 i + 1) (slice_index limits.now.beta1 i + 1) →
         filtered s (line_inside p3 p2 q2 q3 p1.now p0.old q0.old q1.now i) ≡ line_inside p3 p2 q2 q3 p1.now p0.new q0.new q1.now i }
 {
     let (p1, a0, b0, q1) = (*p1, *p0, *q0, *q1);

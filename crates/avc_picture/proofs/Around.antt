@@ -34,8 +34,7 @@ and_true false b c e = refl
 
 same_of_four : {S : Type 0} (f : Bool → Bool → Bool → Bool → S) (a a' r r' l l' c c' : Bool) → a ≡ a' → r ≡ r' → l ≡ l' → c ≡ c'
     → f a r l c ≡ f a' r' l' c'
-same_of_four f a a' r r' l l' c c' p q s t =
-    ap (λ z. f z r l c) p ∙ ap (λ z. f a' z l c) q ∙ ap (λ z. f a' r' z c) s ∙ ap (λ z. f a' r' l' z) t
+same_of_four f a a' r r' l l' c c' p q s t = rw (p, q, s, t) refl
 
 asked_above : (k : ℕ) → k < 16 → IsAsked (pos (block_x k)) (pos (block_y k) -ℤ pos 1)
 asked_above k h = record { left = omega (arith, ints, h); right = omega (arith, ints, h); top = omega (arith, ints, h); bottom = omega (arith, ints, h) }
@@ -62,11 +61,7 @@ module _ (c : Coded) (a : ℕ) (m : PicMb) (is : slice_get c.mbs a ≡ Some m) (
 
   around_as : {X : Type 0} (absent : X) (blocks : NeighbourFacts → List X) (known : List (List X)) → map blocks row.facts ≡ known
       → AreAround absent blocks near c.mbs c.width known a
-  around_as absent blocks known e =
-      subst (λ k. AreAround absent blocks near c.mbs c.width known k) has.count
-      (subst (λ xs. AreAround absent blocks near c.mbs c.width xs (next_address row)) e
-      (subst (λ w. AreAround absent blocks near c.mbs w (map blocks row.facts) (next_address row)) width
-      (blocks_found absent blocks c.mbs row m.slice next_is)))
+  around_as absent blocks known e = grind (arith, ints, blocks_found, next_is)
 
   pub motion_around : MotionIsAround near c.mbs c.width (motion_before c a) a
   motion_around = around_as motions.Absent (λ f. f.motion) (motion_before c a) has.motion
@@ -90,8 +85,7 @@ module _ (c : Coded) (a : ℕ) (m : PicMb) (is : slice_get c.mbs a ≡ Some m) (
     there_is (Some s) = refl
 
     own_is : (u v : ℕ) → (earlier u v && test (slice_get c.mbs (next_address row))) ≡ earlier u v
-    own_is u v =
-        ap (λ o. earlier u v && test o) next_there ∙ and_true (earlier u v) (not c.constrained_intra_pred) (is_intra m.mb.syntax) intra
+    own_is u v = grind (arith, ints, next_there, and_true)
 
     at_place : (x y : ℤ) → IsAsked x y → is_there c a k (location_at c.width a x y) ≡ is_there_near told earlier near x y
     at_place x y asked =

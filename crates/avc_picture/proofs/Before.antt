@@ -15,8 +15,7 @@ module _ {X : Type 0} (before : ℕ → List X) (last : ℕ → X) (none : befor
   grown_long (suc n) = ap length (more n) ∙ length-append (before n) (last n ∷ []) ∙ ap (λ k. k + 1) (grown_long n) ∙ add-one n
 
   entry_of_next : (n i : ℕ) (d : X) → i < n → slice_index_or (before (suc n)) i d ≡ slice_index_or (before n) i d
-  entry_of_next n i d h =
-      ap (λ xs. slice_index_or xs i d) (more n) ∙ get_or_append_left (before n) (last n ∷ []) d i (omega (arith, h, grown_long n))
+  entry_of_next n i d h = grind (arith, get_or_append_left, grown_long)
 
   grown_entry : (n m i : ℕ) (d : X) → i < n → n ≤ m → slice_index_or (before m) i d ≡ slice_index_or (before n) i d
   grown_entry n zero i d h k = absurd (omega (arith, h, k))

@@ -10,8 +10,9 @@ use Rattle.avc_neigh.specs.declared.facts.NearMode.{NearMode}
 use Rattle.avc_neigh.specs.declared.facts.Motion.{Motion}
 use Rattle.avc_motion.specs.Motion.{motion_before}
 use Rattle.avc_plane.specs.Plane.{Plane}
-use Rattle.avc_plane.specs.Planes.{Planes, empty_planes}
+use Rattle.avc_plane.specs.Planes.{Planes}
 use Rattle.avc_picture_core.specs.Built.{Place, built, built_on, place_of, planes_after}
+use Rattle.avc_picture_core.proofs.Ties.{planes_same}
 use Rattle.avc_picture_core.proofs.Earlier.{Agree, AgreeBefore, address_at, planes_agree}
 use Rattle.avc_picture.specs.Sizes.{HasSize, IsSized}
 use Rattle.avc_picture.proofs.SizesKept.{built_on_sized, empty_sized}
@@ -63,9 +64,8 @@ none_agree width height s t s_sized t_sized = record {
 
 pub all_agree : (width height : ℕ) → 0 < width → (s t : Planes) → IsSized width height s → IsSized width height t → AgreeBefore width height (width * height) s t → s ≡ t
 all_agree width height wide s t s_sized t_sized agree =
-    ap (λ (p : Plane). record { luma = p; cb = s.cb; cr = s.cr }) (agree_all 16 width height (omega arith) wide s.luma t.luma s_sized.luma t_sized.luma agree.luma)
-    ∙ ap (λ (p : Plane). record { luma = t.luma; cb = p; cr = s.cr }) (agree_all 8 width height (omega arith) wide s.cb t.cb s_sized.cb t_sized.cb agree.cb)
-    ∙ ap (λ (p : Plane). record { luma = t.luma; cb = t.cb; cr = p }) (agree_all 8 width height (omega arith) wide s.cr t.cr s_sized.cr t_sized.cr agree.cr)
+    planes_same s t (agree_all 16 width height (omega arith) wide s.luma t.luma s_sized.luma t_sized.luma agree.luma)
+    (agree_all 8 width height (omega arith) wide s.cb t.cb s_sized.cb t_sized.cb agree.cb) (agree_all 8 width height (omega arith) wide s.cr t.cr s_sized.cr t_sized.cr agree.cr)
 
 -- ---- the picture
 
@@ -85,12 +85,4 @@ module _ (c : Coded) (some : 0 < c.width) (modes : List (List NearMode)) (motion
 -- a full picture is the same, whatever its planes were before
 pub built_anyhow : (c : Coded) → 0 < c.width → length c.mbs ≡ c.width * c.height → (s : Planes) → IsSized c.width c.height s
     → built_on c (modes_before c (length c.mbs)) (motion_before c (length c.mbs)) 0 s c.mbs ≡ built c
-built_anyhow c some all s sized =
-    let modes = modes_before c (length c.mbs) in
-    let motion = motion_before c (length c.mbs) in
-    let e = empty_planes c.width c.height in
-    let none = empty_sized c.width c.height in
-    let agree = built_agrees c some modes motion 0 s e c.mbs (omega (arith, all)) (none_agree c.width c.height s e sized none) in
-    all_agree c.width c.height some (built_on c modes motion 0 s c.mbs) (built_on c modes motion 0 e c.mbs)
-    (built_on_sized c.width c.height c modes motion 0 s c.mbs sized) (built_on_sized c.width c.height c modes motion 0 e c.mbs none)
-    (subst (λ n. AgreeBefore c.width c.height n (built_on c modes motion 0 s c.mbs) (built_on c modes motion 0 e c.mbs)) (omega (arith, all)) agree)
+built_anyhow c some all s sized = grind (arith, empty_sized, built_agrees, none_agree, all_agree, built_on_sized, AgreeBefore)

@@ -29,6 +29,7 @@ use Rattle.avc_plane.specs.Frames.{marked_frame, padded_planes_of, AreFrames, Ar
 use Rattle.avc_plane.specs.declared.frame.Frame.{Frame}
 use Rattle.avc_plane.specs.declared.frame.PaddedPlanes.{PaddedPlanes}
 use Rattle.avc_deblock.specs.Facts.{Names}
+use Rattle.avc_deblock.proofs.Samples.{each_of_eight}
 use Rattle.avc_picture_core.specs.Faults.{is_picture}
 use Rattle.avc_picture_core.specs.References.{AreUsable, AreWeights, IsUsable, IsWeight, ShowsReference}
 use Rattle.avc_picture_core.specs.declared.references.ReferencePicture.{ReferencePicture}
@@ -47,15 +48,7 @@ some-within (x ∷ xs) (suc k) h = some-within xs k (omega (arith, h))
 -- ---- weights
 
 small-power : (d : ℕ) → d ≤ 7 → 2 ^ d ≤ 128
-small-power zero h = lit≤ tt
-small-power (suc zero) h = lit≤ tt
-small-power (suc (suc zero)) h = lit≤ tt
-small-power (suc (suc (suc zero))) h = lit≤ tt
-small-power (suc (suc (suc (suc zero)))) h = lit≤ tt
-small-power (suc (suc (suc (suc (suc zero))))) h = lit≤ tt
-small-power (suc (suc (suc (suc (suc (suc zero)))))) h = lit≤ tt
-small-power (suc (suc (suc (suc (suc (suc (suc zero))))))) h = lit≤ tt
-small-power (suc (suc (suc (suc (suc (suc (suc (suc d)))))))) h = absurd (omega (arith, h))
+small-power d h = each_of_eight (λ d. 2 ^ d ≤ 128) (lit≤ tt) (lit≤ tt) (lit≤ tt) (lit≤ tt) (lit≤ tt) (lit≤ tt) (lit≤ tt) (lit≤ tt) d (omega arith)
 
 is-weight : (d : ℕ) (o : Option CodedWeight) → d ≤ 7 → IfSome o IsCodedWeight → IsWeight (weight_of d o)
 is-weight d None h is =
@@ -115,10 +108,7 @@ module _ {PAD : ℕ} (width height : ℕ) (fs : List (Frame PAD)) (h : Header) (
 
   pub usable-pictures : (places : List (Option ℕ)) (pictures : List (Option (ReferencePicture PAD))) → length pictures ≡ 16 → ArePicturesAt fs h 16 places pictures
       → AreUsable width height pictures
-  usable-pictures places pictures long at = λ k d inside.
-      let within : k < 16 = omega (arith, long, inside) in
-      subst (λ o. IfSome o (IsUsable width height)) (get_or_default pictures k None d inside)
-      (usable-at k (slice_index_or places k None) (slice_index_or pictures k None) (at k within))
+  usable-pictures places pictures long at = λ k d inside. grind (arith, ints, nat_tests, get_or_default, usable-at)
 
 -- ---- a list's frames are marked
 
@@ -197,9 +187,7 @@ module _ {PAD : ℕ} (sps : Sps) (pps : Pps) (es : List ℕ) (fs : List (Frame P
     by-place r (Some k) o inside e at = let found = frame-at r k inside e in by-frame r k found.0 o e found.1 at
 
     unnamed : (r : ℕ) → 16 ≤ r → is_picture (frame_named c s.number r) ≡ false
-    unnamed r past =
-        let none : slice_index_or places r None ≡ None = get_or_past places r None (omega (arith, long, past)) in
-        ap is_picture (named-at r ∙ ap (λ x. option_map (frame_of p) (option_map reference x)) none)
+    unnamed r past = grind (arith, ints, nat_tests, get_or_past, named-at)
 
     shows : (r : ℕ) → ShowsReference c s.number r (slice_index_or s.references r None)
     shows r = by_length (nat_lt r 16) refl

@@ -18,8 +18,7 @@ none-of (Some x) h = absurd (h x refl)
 
 pub usable-still : {PAD : ℕ} (references : List (Option (ReferencePicture PAD))) (old new : MbsState) → HasSameSize old new
     → AreUsable old.canvas.width old.canvas.height references → AreUsable new.canvas.width new.canvas.height references
-usable-still references old new same usable =
-    subst (λ w. AreUsable w new.canvas.height references) (sym same.width) (subst (λ h. AreUsable old.canvas.width h references) (sym same.height) usable)
+usable-still references old new same usable = grind (arith, ints)
 
 pub usable-at : {PAD : ℕ} (references : List (Option (ReferencePicture PAD))) (w w' h h' : ℕ) → w' ≡ w → h' ≡ h → AreUsable w h references → AreUsable w' h' references
 usable-at references w w' h h' e f usable = subst (λ x. AreUsable x h' references) (sym e) (subst (λ y. AreUsable w y references) (sym f) usable)
@@ -33,14 +32,10 @@ less-left a a' n n' e f h = omega (arith, e, f, h)
 module _ {PAD : ℕ} (c : Coded) (names : Names) (s : SliceStart) (context : SliceContext PAD) (m : MbsState) (d : SliceData) (m' : MbsState) (d' : SliceData)
     (far : GoesOnFrom c names s context m d m' d') (read : ℕ) (reached : m'.next ≡ read) where
   pub ends-well : outcome_from c s m' d' ≡ (0, None) → IsDataAnswer c names m.next (outcome_from c s m d) (Ok tt) read m'
-  ends-well e =
-      let none : (outcome_from c s m' d').0 ≡ 0 = ap (λ o. o.0) e in
-      (far.fault ∙ ap (λ o. o.1) e, omega (arith, far.count, none, reached), reached, far.goes_on.holds)
+  ends-well e = grind (arith, ints)
 
   pub ends-badly : (k : ℕ) (f : Fault) (new : MbsState) → outcome_from c s m' d' ≡ (k, Some f) → IsDataAnswer c names m.next (outcome_from c s m d) (Err f) (read + k) new
-  ends-badly k f new e =
-      let count : (outcome_from c s m' d').0 ≡ k = ap (λ o. o.0) e in
-      (far.fault ∙ ap (λ o. o.1) e, omega (arith, far.count, count, reached))
+  ends-badly k f new e = grind (arith, ints)
 
   pub goes-further : (m'' : MbsState) (d'' : SliceData) → GoesOnFrom c names s context m' d' m'' d'' → GoesOnFrom c names s context m d m'' d''
   goes-further m'' d'' more = record { goes_on = more.goes_on; count = far.count ∙ more.count; fault = far.fault ∙ more.fault }

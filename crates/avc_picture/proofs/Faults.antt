@@ -34,14 +34,10 @@ found_is false motion found e = cc
 
 module _ (p : Place) (motion : List Motion) (is : p.motion ≡ motion) where
   pub out_of_range : (f : Fault) → Err f ≡ motion_or_fault motion → fault_of p ≡ Some f
-  out_of_range f e =
-      ap (λ xs. if not (list_all is_in_range xs) then Some VectorRange else refusal p) is
-      ∙ err_of (list_all is_in_range motion) motion f (refusal p) e
+  out_of_range f e = grind (arith, err_of)
 
   pub in_range : (found : List Motion) → Ok found ≡ motion_or_fault motion → fault_of p ≡ refusal p
-  in_range found e =
-      ap (λ xs. if not (list_all is_in_range xs) then Some VectorRange else refusal p) is
-      ∙ none_of (list_all is_in_range motion) motion found (refusal p) e
+  in_range found e = grind (arith, none_of)
 
   pub motion_found : (found : List Motion) → Ok found ≡ motion_or_fault motion → p.motion ≡ found
   motion_found found e = is ∙ found_is (list_all is_in_range motion) motion found e

@@ -1,6 +1,6 @@
 -- What the deblocking filter is told of the first macroblocks, over one macroblock more.
-use Rattle.std.specs.Prelude.{ℕ, ◌+◌, ◌*◌, ◌/◌, ◌<◌, List, [], ◌∷◌, ◌++◌, length, true, false, Some, slice_get, slice_index, slice_index_or, ◌-◌}
-use Rattle.std.proofs.Common.{◌≡◌, ◌∙◌, refl, sym, ap, subst, arith, inl, inr}
+use Rattle.std.specs.Prelude.{ℕ, ◌/◌, ◌<◌, List, [], ◌∷◌, ◌++◌, length, true, false, Some, slice_get, slice_index, slice_index_or}
+use Rattle.std.proofs.Common.{◌≡◌, ◌∙◌, refl, sym, ap, subst, arith}
 use Rattle.std.proofs.lemmas.Bool.{cases_lt}
 use Rattle.std.proofs.lemmas.List.{get_or-map, get_or_append_left, get_or-append_right, length-append}
 use Rattle.std.proofs.lemmas.Option.{get_or_from_slice_get}
@@ -21,18 +21,7 @@ use Rattle.avc_picture.proofs.Quarters.{IsFrom}
 
 pub facts_more : (c : Coded) (all : List (List Motion)) (names : Names) (a : ℕ) (facts : List MbFacts) (f : MbFacts) → length facts ≡ a
     → HaveFacts c all names 0 facts → HasFacts c all names a f → HaveFacts c all names 0 (facts ++ f ∷ [])
-facts_more c all names a facts f long have has = λ k other below.
-    let longer : length (facts ++ f ∷ []) ≡ length facts + 1 = length-append facts (f ∷ []) in
-    elim (cases_lt k a) [
-      | inl low ↦
-          subst (HasFacts c all names (0 + k)) (sym (get_or_append_left facts (f ∷ []) other k (omega (arith, low, long))))
-          (have k other (omega (arith, low, long)))
-      | inr high ↦
-          let last : k ≡ a = omega (arith, high, below, long, longer) in
-          let none_left : k - a ≡ 0 = omega (arith, last) in
-          subst (HasFacts c all names (0 + k)) (sym (get_or-append_right facts (f ∷ []) a k other long high ∙ ap (λ j. slice_index_or (f ∷ []) j other) none_left))
-          (subst (λ j. HasFacts c all names j f) (omega (arith, last)) has)
-    ]
+facts_more c all names a facts f long have has = λ k other below. grind (arith, length-append, cases_lt, get_or_append_left, get_or-append_right)
 
 picture_of : (c : Coded) (a slice i : ℕ) (frame : Frame) → (mb_at c a).slice ≡ slice → frame_named c slice i ≡ Some frame
     → picture_named c a i ≡ Some frame.entry
@@ -60,10 +49,7 @@ module _ {PAD : ℕ} (c : Coded) (names : Names) (s : SliceContext PAD) (slice :
   module _ (pictures : (k : ℕ) → k < 16 → is_picture (reference_of c s.number (block k)) ≡ true)
       (one : (k : ℕ) → k < 16 → IsFrom (r (k / 4)) (block k)) where
     quarter_number : (k : ℕ) → k < 16 → slice_index f.pictures (k / 4) ≡ slice_index_or s.frame_numbers (r (k / 4)) 0
-    quarter_number k h =
-        told.pictures_are (k / 4) (omega (arith, h))
-        ∙ number_from c s.number s.frame_numbers (r (k / 4)) (block (4 * (k / 4))) (pictures (4 * (k / 4)) (omega (arith, h)))
-        (subst (λ q. IsFrom (r q) (block (4 * (k / 4)))) (omega arith) (one (4 * (k / 4)) (omega (arith, h))))
+    quarter_number k h = grind (arith, number_from, IsFrom)
 
     block_has : (k : ℕ) → k < 16 → (m : Motion) → block k ≡ m → is_picture (reference_of c s.number m) ≡ true → IsFrom (r (k / 4)) m
         → HasMotion c names a f k m

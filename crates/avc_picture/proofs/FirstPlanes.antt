@@ -21,8 +21,7 @@ place c a m modes motion = record { coded = c; address = a; slice = m.slice; mb 
 module _ (c : Coded) (modes modes' : List (List NearMode)) (motion motion' : List (List Motion)) where
   same_place : (a : ℕ) (m : PicMb) → slice_index_or modes a [] ≡ slice_index_or modes' a []
       → slice_index_or motion a [] ≡ slice_index_or motion' a [] → place_of c modes motion a m ≡ place_of c modes' motion' a m
-  same_place a m e f =
-      ap (λ x. place c a m x (slice_index_or motion a [])) e ∙ ap (λ x. place c a m (slice_index_or modes' a []) x) f
+  same_place a m e f = grind arith
 
   same_built : (a : ℕ) (s : Planes) (ms : List PicMb)
       → ((k : ℕ) → k < a + length ms → slice_index_or modes k [] ≡ slice_index_or modes' k [])
@@ -30,8 +29,7 @@ module _ (c : Coded) (modes modes' : List (List NearMode)) (motion motion' : Lis
       → built_on c modes motion a s ms ≡ built_on c modes' motion' a s ms
   same_built a s [] e f = refl
   same_built a s (m ∷ ms) e f =
-      same_built (a + 1) (planes_after (place_of c modes motion a m) s) ms (λ k h. e k (omega (arith, h))) (λ k h. f k (omega (arith, h)))
-      ∙ ap (λ p. built_on c modes' motion' (a + 1) (planes_after p s) ms) (same_place a m (e a (omega arith)) (f a (omega arith)))
+      grind (arith, same_place, same_built (a + 1) (planes_after (place_of c modes motion a m) s) ms (λ k h. e k (omega (arith, h))) (λ k h. f k (omega (arith, h))))
 
   built_more : (a n : ℕ) (s : Planes) (ms : List PicMb) (m : PicMb) → n ≡ a + length ms
       → built_on c modes motion a s (ms ++ m ∷ []) ≡ planes_after (place_of c modes motion n m) (built_on c modes motion a s ms)

@@ -3,7 +3,7 @@ use Rattle.std.specs.List.{range_with_len}
 use Rattle.std.specs.List.Sorted.{IsStrictlyIncreasing}
 use Rattle.std.specs.Option.{option_map}
 use Rattle.std.specs.Prelude.{◌==◌}
-use Rattle.std.proofs.Common.{◌≡◌, ℕ, ◌+◌, ◌*◌, ◌<◌, ◌≤◌, Bool, true, false, List, [], ◌∷◌, length, Option, Some, None, Result, Ok, Err, refl, ap, sym, subst, ◌∙◌, arith}
+use Rattle.std.proofs.Common.{◌≡◌, ℕ, ◌*◌, ◌<◌, Bool, true, false, List, [], ◌∷◌, length, Option, Some, None, refl, ap, sym, subst, ◌∙◌, arith}
 use Rattle.std.proofs.lemmas.Bool.Decides.{nat_tests}
 use Rattle.std.proofs.lemmas.List.{length-map}
 use Rattle.std.proofs.lemmas.List.FromFn.{get_or-range_with_len, length-range_with_len}
@@ -22,10 +22,10 @@ use Rattle.avc_deblock.specs.Facts.{Names}
 use Rattle.avc_picture.specs.Context.{FramesStandAt, picture_start}
 use Rattle.avc_picture.specs.Decoded.{deblocked}
 use Rattle.avc_picture.specs.Decoding.{AreFramesOf, Decoding, HasNoFault, Refuses, end_fault, fault_at_end}
-use Rattle.avc_picture.specs.DecoderState.{IsDecoderState, IsStateOrFault, IsWellSoFar, IsWellSomewhere, number_after}
+use Rattle.avc_picture.specs.DecoderState.{IsDecoderState, IsWellSoFar, IsWellSomewhere}
 use Rattle.avc_picture.specs.FirstMbs.{HasSets, HoldsFirst, MbsState}
 use Rattle.avc_picture.specs.Sizes.{IsSized}
-use Rattle.avc_picture.specs.Slices.{PictureStart, Progress, coded_of, is_full, planes_after_slices, progress, with_slice}
+use Rattle.avc_picture.specs.Slices.{PictureStart, Progress, coded_of, planes_after_slices, progress, with_slice}
 use Rattle.avc_picture.specs.OpenPicture.{planes_so_far}
 use Rattle.avc_picture.specs.RowLate.{covering_address, filtered_rows, row_late, rows_filtered}
 use Rattle.avc_picture.proofs.SizesKept.{pictures_sized}
@@ -47,8 +47,7 @@ differs a b apart = by_test (a == b) refl
 -- ---- frames can stand somewhere
 
 rises : (n : ℕ) → IsStrictlyIncreasing (range_with_len 0 n)
-rises n = λ k h.
-    omega (arith, get_or-range_with_len 0 n k 0 (omega (arith, h, length-range_with_len 0 n)), get_or-range_with_len 0 n (k + 1) 0 (omega (arith, h, length-range_with_len 0 n)))
+rises n = λ k h. grind (arith, nat_tests, get_or-range_with_len, length-range_with_len)
 
 abbrev pub places-of : {PAD : ℕ} → List (Frame PAD) → List ℕ
 places-of fs = range_with_len 0 (length fs)
@@ -87,68 +86,6 @@ module _ {PAD : ℕ} (sps : Sps) (pps : Pps) (fs : List (Frame PAD)) (slices mor
           cc;
     }
 
-    pub kept-again : IsDecoderState sps pps fs more count read (Some f) m
-    kept-again = record {
-      of_sps = kept.of_sps;
-      of_pps = kept.of_pps;
-      of_frames = kept.of_frames;
-      width = kept.width;
-      height = kept.height;
-      within = kept.within;
-      keeps = λ es stand. (
-        ap (λ g. option_map (λ found. found.1) g.fault) (same-progress es stand) ∙ (kept.keeps es stand).0,
-        ap (λ g. g.read) (same-progress es stand) ∙ (kept.keeps es stand).1,
-      );
-    }
-
-  -- ---- a slice more
-
-  module _ (kept : IsDecoderState sps pps fs slices count read None m) (read' : ℕ) (m' : MbsState) (within : read' ≤ size_in_mbs sps)
-      (width : m'.canvas.width ≡ width_in_mbs sps) (height : m'.canvas.height ≡ height_in_mbs sps) where
-    more-is : (es : List ℕ) → with_slice (start es) s (progress (start es) slices) ≡ progress (start es) more
-    more-is es = sym (ap (progress (start es)) newest)
-
-    abbrev Decodes : Result (Unit {0}) Fault → Type 0
-    Decodes result = (es : List ℕ) (g : Progress) → FramesStandAt es fs → IsWellSoFar (start es) es g count read m
-        → IsStateOrFault (start es) es (with_slice (start es) s g) s.unit (number_after count read read') result read' m'
-
-    pub kept-more : (count' : ℕ) → count' ≡ number_after count read read' → Decodes (Ok tt) → IsDecoderState sps pps fs more count' read' None m'
-    kept-more count' e decodes = record {
-      of_sps = kept.of_sps;
-      of_pps = kept.of_pps;
-      of_frames = kept.of_frames;
-      width = width;
-      height = height;
-      within = within;
-      keeps = λ es stand.
-          subst (λ n. IsWellSoFar (start es) es (progress (start es) more) n read' m') (sym e)
-          (subst (λ g. IsWellSoFar (start es) es g (number_after count read read') read' m') (more-is es) (decodes es (progress (start es) slices) stand (kept.keeps es stand)));
-    }
-
-    fault-is : (f : Fault) → Decodes (Err f) → (es : List ℕ) → FramesStandAt es fs → ((progress (start es) more).fault ≡ Some (s.unit, f)) × ((progress (start es) more).read ≡ read')
-    fault-is f decodes es stand =
-        let here = decodes es (progress (start es) slices) stand (kept.keeps es stand) in
-        (sym (ap (λ g. g.fault) (more-is es)) ∙ here.0, sym (ap (λ g. g.read) (more-is es)) ∙ here.1)
-
-    pub kept-faulty : (f : Fault) (count' : ℕ) → Decodes (Err f) → IsDecoderState sps pps fs more count' read' (Some f) m'
-    kept-faulty f count' decodes = record {
-      of_sps = kept.of_sps;
-      of_pps = kept.of_pps;
-      of_frames = kept.of_frames;
-      width = width;
-      height = height;
-      within = within;
-      keeps = λ es stand.
-          let here = fault-is f decodes es stand in
-          (ap (option_map (λ found. found.1)) here.0, here.1);
-    }
-
-    pub refused-here : (f : Fault) → Decodes (Err f) → Refuses old s f new
-    refused-here f decodes = record {
-      fault = λ es stand. ap (option_map (λ found. found.1)) (fault-is f decodes es stand).0;
-      unit = λ well es stand. (fault-is f decodes es stand).0;
-    }
-
 -- ---- what is kept without a fault
 
 module _ {PAD : ℕ} (sps : Sps) (pps : Pps) (fs : List (Frame PAD)) (slices : List Slice) (count read : ℕ) (m : MbsState) (kept : IsDecoderState sps pps fs slices count read None m) where
@@ -161,17 +98,11 @@ module _ {PAD : ℕ} (sps : Sps) (pps : Pps) (fs : List (Frame PAD)) (slices : L
   pub well-somewhere : IsWellSomewhere sps pps fs count read m
   well-somewhere = record { entries = places-of fs; stand = stand-somewhere fs; so_far = progress (begun (places-of fs)) slices; well = kept.keeps (places-of fs) (stand-somewhere fs) }
 
-  pub has-no-fault : HasNoFault d
-  has-no-fault = λ es stand. (kept.keeps es stand).none
-
   counted : (es : List ℕ) → FramesStandAt es fs → length (progress (begun es) slices).mbs ≡ read
   counted es stand = let well = kept.keeps es stand in well.decoded.next ∙ well.reached
 
   at-end : (es : List ℕ) → FramesStandAt es fs → (full : Bool) → (read == size_in_mbs sps) ≡ full → end_fault es d ≡ fault_at_end None full
-  at-end es stand full e =
-      ap (λ o. fault_at_end o (is_full (begun es) (progress (begun es) slices))) (kept.keeps es stand).none
-      ∙ ap (λ n. fault_at_end None (n == size_in_mbs sps)) (counted es stand)
-      ∙ ap (fault_at_end None) e
+  at-end es stand full e = grind (arith, nat_tests, counted)
 
   pub missing-at-end : (read == size_in_mbs sps) ≡ false → (es : List ℕ) → FramesStandAt es fs → end_fault es d ≡ Some MissingMacroblocks
   missing-at-end e es stand = at-end es stand false e
@@ -214,9 +145,7 @@ module _ {PAD : ℕ} (sps : Sps) (pps : Pps) (fs : List (Frame PAD)) (slices : L
         subst (IsSized (width_in_mbs sps) (height_in_mbs sps)) (sym (planes-at-end (places-of fs) (stand-somewhere fs))) (pictures_sized (begun (places-of fs)) slices)
 
     pub are-sized : AreSized (width_in_mbs sps) (height_in_mbs sps) planes
-    are-sized =
-        let h = sized-at-end in
-        record { luma_width = h.luma.columns; luma_height = h.luma.rows; cb_width = h.cb.columns; cb_height = h.cb.rows; cr_width = h.cr.columns; cr_height = h.cr.rows }
+    are-sized = grind (arith, nat_tests, sized-at-end)
 
 -- where the slices have no fault, none is kept
 pub none-kept : {PAD : ℕ} (sps : Sps) (pps : Pps) (fs : List (Frame PAD)) (slices : List Slice) (count read : ℕ) (fault : Option Fault) (m : MbsState)

@@ -1,5 +1,5 @@
 -- The filter of the last whole row of macroblocks, from the facts of the rows that are kept.
-use Rattle.std.specs.Prelude.{ℕ, suc, ◌+◌, ◌-◌, ◌*◌, ◌/◌, ◌<◌, ◌≤◌, ℤ, List, length, slice_index_or}
+use Rattle.std.specs.Prelude.{ℕ, suc, ◌+◌, ◌-◌, ◌*◌, ◌/◌, ◌<◌, ◌≤◌, ℤ, List, length}
 use Rattle.std.proofs.Common.{◌≡◌, ◌∙◌, sym, ap, subst, arith}
 use Rattle.std.proofs.lemmas.Nat.{div-mul-add}
 use Rattle.avc_types.specs.Pictures.{Coded}
@@ -8,7 +8,7 @@ use Rattle.avc_motion.specs.Motion.{motion_before}
 use Rattle.avc_plane.specs.Planes.{Planes}
 use Rattle.avc_plane.specs.Frames.{AreSized}
 use Rattle.avc_deblock.specs.Edges.{all_filtered, row_lines}
-use Rattle.avc_deblock.specs.Facts.{Names, HasFacts, HaveFacts}
+use Rattle.avc_deblock.specs.Facts.{Names, HaveFacts}
 use Rattle.avc_deblock.specs.OneEdge.{HasRoom}
 use Rattle.avc_deblock.specs.ByFacts.{row_by_facts, AreOfRow}
 use Rattle.avc_deblock.specs.declared.facts.MbFacts.{MbFacts}
@@ -20,10 +20,7 @@ use Rattle.avc_picture.specs.FilterRows.{AreFrom, AreLastRows}
 -- the facts that are kept of a row, from those of all macroblocks
 pub part : (c : Coded) (motion : List (List Motion)) (names : Names) (all kept : List MbFacts) (address first n : ℕ) → AreFrom all address n kept
     → length kept ≡ n → address + n ≤ length all → first ≡ address → HaveFacts c motion names 0 all → HaveFacts c motion names first kept
-part c motion names all kept address first n from long within same have = λ k other below.
-    subst (HasFacts c motion names (first + k)) (sym (from k other (omega (arith, below, long))))
-    (subst (λ j. HasFacts c motion names j (slice_index_or all (address + k) other)) (omega (arith, same))
-    (have (address + k) other (omega (arith, below, long, within))))
+part c motion names all kept address first n from long within same have = λ k other below. grind arith
 
 module _ (f : FilterFacts) (column row : ℕ) (current last above : List MbFacts) (kept : AreLastRows f.facts f.width column row current last above) where
   -- the row of the macroblock that comes next
@@ -34,10 +31,7 @@ module _ (f : FilterFacts) (column row : ℕ) (current last above : List MbFacts
   same_row more = ap (λ n. n / f.width) (omega (arith, kept.count)) ∙ div-mul-add row f.width (column + 1) more
 
   pub next_row : column + 1 ≡ f.width → suc (length f.facts) / f.width ≡ suc row
-  next_row end =
-      let some : 0 < f.width = omega (arith, kept.narrow) in
-      let all : suc (length f.facts) ≡ suc row * f.width + 0 = omega (arith, kept.count, end) in
-      ap (λ n. n / f.width) all ∙ div-mul-add (suc row) f.width 0 some
+  next_row end = grind (arith, div-mul-add)
 
   pub row_filtered : (c : Coded) (names : Names) (offset : ℤ) → AreFactsOf c names offset f → 1 ≤ row → (r : ℕ) → r ≡ row - 1
       → (above' last' : List MbFacts) → above' ≡ above → last' ≡ last → (old new : Planes) → new ≡ row_by_facts offset r above' last' (length last') old

@@ -1,7 +1,7 @@
 -- The planes with a macroblock more, where all whole rows but the last are filtered.
-use Rattle.std.specs.Prelude.{ℕ, zero, suc, ◌+◌, ◌-◌, ◌*◌, ◌/◌, ◌<◌, ◌≤◌, ℤ, List, [], ◌∷◌, Some, length, take, drop, slice_get, slice_index_or}
+use Rattle.std.specs.Prelude.{ℕ, zero, suc, ◌+◌, ◌-◌, ◌*◌, ◌/◌, ◌<◌, ◌≤◌, ℤ, List, Some, length, take, drop, slice_get}
 use Rattle.std.proofs.Common.{◌≡◌, ◌∙◌, refl, sym, ap, subst, arith, mul_comm}
-use Rattle.std.proofs.lemmas.List.{length-take-le, length-drop}
+use Rattle.std.proofs.lemmas.List.{get_or-take, get_or-drop, length-take-le, length-drop}
 use Rattle.std.proofs.Math.Nat.{mul-le-mul_right, div-lt_iff_lt-mul, div-mul-le_self}
 use Rattle.avc_types.specs.Pictures.{Coded, PicMb}
 use Rattle.avc_neigh.specs.Modes.{modes_before}
@@ -24,22 +24,11 @@ use Rattle.avc_picture.proofs.SizesKept.{all_sized, built_on_sized}
 
 -- ---- the facts of one row
 
-get_take : (n : ℕ) (xs : List MbFacts) (k : ℕ) (d : MbFacts) → k < n → slice_index_or (take n xs) k d ≡ slice_index_or xs k d
-get_take zero xs k d low = absurd (omega (arith, low))
-get_take (suc n) [] k d low = refl
-get_take (suc n) (x ∷ xs) zero d low = refl
-get_take (suc n) (x ∷ xs) (suc k) d low = get_take n xs k d (omega (arith, low))
-
-get_drop : (a : ℕ) (xs : List MbFacts) (k : ℕ) (d : MbFacts) → slice_index_or (drop a xs) k d ≡ slice_index_or xs (a + k) d
-get_drop zero xs k d = let same : k ≡ zero + k = omega arith in ap (λ j. slice_index_or xs j d) same
-get_drop (suc a) [] k d = refl
-get_drop (suc a) (x ∷ xs) k d = let same : suc (a + k) ≡ suc a + k = omega arith in get_drop a xs k d ∙ ap (λ j. slice_index_or (x ∷ xs) j d) same
-
 abbrev from : List MbFacts → (address n : ℕ) → List MbFacts
 from all address n = take n (drop address all)
 
 are_from : (all : List MbFacts) (address n : ℕ) → AreFrom all address n (from all address n)
-are_from all address n k other low = get_take n (drop address all) k other low ∙ get_drop address all k other
+are_from all address n k other low = get_or-take n (drop address all) k other low ∙ get_or-drop address all k other
 
 pub from_long : (all : List MbFacts) (address n : ℕ) → address + n ≤ length all → length (from all address n) ≡ n
 from_long all address n within = length-take-le n (drop address all) (omega (arith, within, length-drop address all))
@@ -54,21 +43,7 @@ module _ (c : Coded) (names : Names) (offset : ℤ) (f : FilterFacts) (of : AreF
   row_facts row = from f.facts (row * f.width) f.width
 
   pub row_facts_are : (row : ℕ) → row * f.width + f.width ≤ length f.facts → AreOfRow c motion names row offset (row_facts (row - 1)) (row_facts row)
-  row_facts_are row within =
-      let earlier : (row - 1) * f.width ≤ row * f.width = mul-le-mul_right f.width (omega arith) in
-      let before : (row - 1) * f.width + f.width ≤ length f.facts = omega (arith, within, earlier) in
-      let long = from_long f.facts (row * f.width) f.width within in
-      let above_long = from_long f.facts ((row - 1) * f.width) f.width before in
-      record {
-        width_is = of.width_is ∙ sym long;
-        same = above_long ∙ sym long;
-        offset_is = of.offset_is;
-        facts_are = part c motion names f.facts (row_facts row) (row * f.width) (row * c.width) f.width (are_from f.facts (row * f.width) f.width) long within
-            (ap (λ n. row * n) of.width_is) of.facts_are;
-        above_are = λ more.
-            part c motion names f.facts (row_facts (row - 1)) ((row - 1) * f.width) ((row - 1) * c.width) f.width (are_from f.facts ((row - 1) * f.width) f.width) above_long before
-            (ap (λ n. (row - 1) * n) of.width_is) of.facts_are;
-      }
+  row_facts_are row within = grind (arith, mul-le-mul_right, from_long, part, are_from)
 
   pub rows_sized : (w h rows : ℕ) (s : Planes) → IsSized w h s → IsSized w h (rows_filtered c rows s)
   rows_sized w h zero s sized = sized

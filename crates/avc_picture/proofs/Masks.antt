@@ -34,8 +34,7 @@ mask_small x i b h = omega (arith, bit_small b, pow-succ' 2 i, ap (λ k. 2 ^ k) 
 pub mask_more : (f : ℕ → Bool) (x i : ℕ) → i < 16 → ((j : ℕ) → j < i → has_bit x j ≡ f (16 - i + j))
     → (j : ℕ) → j < i + 1 → has_bit (2 * x + bool_byte (f (15 - i))) j ≡ f (16 - (i + 1) + j)
 mask_more f x i h done zero k = lowest_bit x (f (15 - i)) ∙ ap f (omega arith)
-mask_more f x i h done (suc j) k =
-    upper_bit x (bool_byte (f (15 - i))) j (bit_small (f (15 - i))) ∙ done j (omega (arith, k)) ∙ ap f (omega (arith, h, k))
+mask_more f x i h done (suc j) k = grind (arith, nat_tests, upper_bit, bit_small)
 
 zero_or_one : (b : Bool) → (cond (not b) 1 0 == 0) ≡ b
 zero_or_one true = refl
@@ -51,9 +50,7 @@ not_both false b = refl
 
 some_level : (levels : List ℤ) → not (list_all (λ z. cond (not (nat_abs z == 0)) 1 0 == 0) levels) ≡ list_any (λ level. not (level ==ℤ pos 0)) levels
 some_level [] = refl
-some_level (z ∷ levels) =
-    not_both _ _ ∙ ap (λ b. not b || not (list_all (λ y. cond (not (nat_abs y == 0)) 1 0 == 0) levels)) (is_zero z)
-    ∙ ap (λ b. not (z ==ℤ pos 0) || b) (some_level levels)
+some_level (z ∷ levels) = grind (arith, nat_tests, not_both, is_zero, some_level levels)
 
 -- A block has a level that is not 0 where it has some of them.
 pub counted_or_not : (levels : List ℤ) → not (total_coeff levels == 0) ≡ list_any (λ level. not (level ==ℤ pos 0)) levels

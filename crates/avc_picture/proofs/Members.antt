@@ -1,7 +1,7 @@
 -- What holds of all reference frames holds of those that a list names (8.2.4).
 use Rattle.std.specs.List.{filter, find, list_any}
 use Rattle.std.specs.Prelude.{All, IfOk, IfSome, nat_lt, slice_get, ◌==◌, ◌||◌, if◌then◌else◌}
-use Rattle.std.proofs.Common.{◌≡◌, ℕ, ◌+◌, ◌-◌, Bool, true, false, not, List, [], ◌∷◌, ◌++◌, length, take, map, replicate, Option, Some, None, Result, Ok, Err, refl, ap, sym, subst, arith}
+use Rattle.std.proofs.Common.{◌≡◌, ℕ, ◌-◌, Bool, true, false, not, List, [], ◌∷◌, ◌++◌, length, take, map, replicate, Option, Some, None, Result, Ok, Err, refl, ap, sym, subst, arith}
 use Rattle.std.proofs.lemmas.Bool.Decides.{nat_tests}
 use Rattle.std.proofs.lemmas.List.{length-map, length-take, length-replicate, length-append}
 use Rattle.std.proofs.lemmas.List.Elements.{All-append, All-cons, All-filter, All-head, All-map, All-nil, All-replicate, All-tail, All-take, All-weaker}
@@ -92,11 +92,7 @@ module _ (P : Reference → Type 0) (current : CurrentFrameNum) (references : Li
 -- ---- and how long it is
 
 pub length-entries : {A : Type 0} (count : ℕ) (xs : List A) → length (entries count xs) ≡ count
-length-entries {A} count xs =
-    let none : Option A = None in
-    let all : length (entries count xs) ≡ length (map Some (take count xs)) + length (replicate (count - length xs) none) = length-append (map Some (take count xs)) (replicate (count - length xs) none) in
-    let front : length (map Some (take count xs)) ≡ length (take count xs) = length-map (take count xs) Some in
-    omega (arith, all, front, length-take count xs, length-replicate (count - length xs) none)
+length-entries {A} count xs = grind (arith, nat_tests, replicate, length-append, length-map, length-take, length-replicate)
 
 from-length : (count : ℕ) (initial : List Reference) (first : Result (List Reference) Fault) → IfOk (list_from count initial first) (λ list. length list ≡ count)
 from-length count initial (Ok first) = length-entries count (first ++ filter (λ r. not (is_in_list first r)) initial)

@@ -72,10 +72,7 @@ module _ {PAD : ℕ} (sps : Sps) (pps : Pps) (es : List ℕ) (fs : List (Frame P
 
   pub p-list : (answer : Result (List (Option ℕ)) Fault) → is_p h ≡ true → FramesStandAt es fs → NamesFrames (map marked_frame fs) each_entry listed answer
       → list_of p h ≡ each_entry (reference_at es (map marked_frame fs)) answer
-  p-list answer is stand names =
-      ap (λ b. elim b [ true ↦ listed (references_in p) | false ↦ Ok [] ]) is
-      ∙ ap listed (stored-references es fs)
-      ∙ names es stand
+  p-list answer is stand names = grind (arith, nat_tests, stored-references)
 
   long-list : (list : List (Option ℕ)) → is_p h ≡ true → list_of p h ≡ Ok (map (option_map (reference_at es (map marked_frame fs))) list) → length list ≡ h.active_count
   long-list list is e =

@@ -13,7 +13,7 @@ use Rattle.avc_types.specs.Macroblock.{MbSyntax, p_skip, i_pcm, i_nxn, i_16x16, 
 use Rattle.avc_neigh.specs.Blocks.{block_x, block_y}
 use Rattle.avc_neigh.specs.declared.facts.Motion.{Motion}
 use Rattle.avc_neigh.specs.declared.facts.Motion.TheVariants.{Absent as absent, Intra as intra, Inter as inter}
-use Rattle.avc_motion.specs.Motion.{Near, is_in_part, motion_by, motion_of_part, motion_of_parts, no_motion, with_part, is_intra, skip_vector, neighbours_of}
+use Rattle.avc_motion.specs.Motion.{Near, is_in_part, motion_by, motion_of_part, motion_of_parts, no_motion, with_part, is_intra}
 use Rattle.avc_motion.proofs.Apart.{and_first, and_second}
 use Rattle.avc_motion.proofs.Filling.{at-with_part}
 
@@ -82,8 +82,7 @@ module _ (shape : PMbType) where
   module _ (q : ℕ) (is : (k : ℕ) → k < 16 → q ≡ k / 4 → q ≡ partition_of shape (k / 4)) where
     one_of : (x y width height u v : ℕ) → u + width ≤ 8 → v + height ≤ 8 → x ≡ quarter_x q + u → y ≡ quarter_y q + v
         → IsOf shape (record { x = x; y = y; width = width; height = height; partition = q })
-    one_of x y width height u v wide high at_x at_y k h e =
-        is k h (part_of_quarter x y width height q u v k wide high at_x at_y h (part_in (record { x = x; y = y; width = width; height = height; partition = q }) k e))
+    one_of x y width height u v wide high at_x at_y k h e = grind (arith, nat_tests, part_of_quarter, part_in)
 
     quarter_of : (s : SubMbType) → AreOf shape (parts_of_quarter s (quarter_x q) (quarter_y q) q)
     quarter_of Sub8x8 = (one_of _ _ 8 8 0 0 (omega arith) (omega arith) (omega arith) (omega arith), tt)
@@ -95,22 +94,16 @@ module _ (shape : PMbType) where
       one_of _ _ 4 8 0 0 (omega arith) (omega arith) (omega arith) (omega arith),
       (one_of _ _ 4 8 4 0 (omega arith) (omega arith) (omega arith) (omega arith), tt),
     )
-    quarter_of Sub4x4 = (
-      one_of _ _ 4 4 0 0 (omega arith) (omega arith) (omega arith) (omega arith),
-      (
-        one_of _ _ 4 4 4 0 (omega arith) (omega arith) (omega arith) (omega arith),
-        (
-          one_of _ _ 4 4 0 4 (omega arith) (omega arith) (omega arith) (omega arith),
-          (one_of _ _ 4 4 4 4 (omega arith) (omega arith) (omega arith) (omega arith), tt),
-        ),
-      ),
-    )
+    quarter_of Sub4x4 =
+        let a = one_of (quarter_x q) (quarter_y q) 4 4 0 0 (omega arith) (omega arith) (omega arith) (omega arith) in
+        let b = one_of (quarter_x q + 4) (quarter_y q) 4 4 4 0 (omega arith) (omega arith) (omega arith) (omega arith) in
+        let c = one_of (quarter_x q) (quarter_y q + 4) 4 4 0 4 (omega arith) (omega arith) (omega arith) (omega arith) in
+        (a, (b, (c, (one_of (quarter_x q + 4) (quarter_y q + 4) 4 4 4 4 (omega arith) (omega arith) (omega arith) (omega arith), tt))))
 
   quarters_of : ((q k : ℕ) → k < 16 → q ≡ k / 4 → q ≡ partition_of shape (k / 4)) → (subs : List SubMbType) (q : ℕ)
       → AreOf shape (parts_of_quarters subs q)
   quarters_of is [] q = tt
-  quarters_of is (s ∷ subs) q =
-      both_of (parts_of_quarter s (quarter_x q) (quarter_y q) q) (parts_of_quarters subs (q + 1)) (quarter_of q (is q) s) (quarters_of is subs (q + 1))
+  quarters_of is (s ∷ subs) q = grind (arith, nat_tests, both_of, quarter_of, quarters_of is subs (q + 1))
 
 halves_16x8 : (x y height p k : ℕ) → y ≡ 8 * p → height ≡ 8 → k < 16 → IsIn x y 16 height k → p ≡ k / 4 / 2
 halves_16x8 x y height p k at high h i = omega (arith, at, high, h, i.top, i.bottom)
@@ -178,8 +171,7 @@ quarter_reference (i_16x16 mode chroma r) q = 0
 
 pub one_reference : (near : Near) (s : MbSyntax) → is_intra s ≡ false → (k : ℕ) → k < 16
     → IsFrom (quarter_reference s (k / 4)) (slice_index_or (motion_by near s) k absent)
-one_reference near p_skip e k h =
-    subst (IsFrom 0) (sym (get_or-replicate 16 k (inter 0 (skip_vector (neighbours_of near no_motion 0 0 16))) absent h)) refl
+one_reference near p_skip e k h = grind (arith, nat_tests, get_or-replicate)
 one_reference near (p_inter shape refs mvds r) e k h = inter_from near shape refs mvds k h
 one_reference near (i_pcm luma cb cr) e k h = cc
 one_reference near (i_nxn modes chroma r) e k h = cc

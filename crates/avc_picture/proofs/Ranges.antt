@@ -1,27 +1,15 @@
 -- What a macroblock that is read keeps to, as far as one function or another asks.
-use Rattle.std.specs.Prelude.{ℕ, ◌≤◌, ◌-◌, ◌%◌, ◌==◌, nat_lt, List, length, Bool, true, false, Option, Some, None, IfSome, All, slice_get, slice_index_or, if◌then◌else◌}
+use Rattle.std.specs.Prelude.{ℕ, ◌-◌, ◌%◌, ◌==◌, nat_lt, List, length, Bool, true, false, Option, Some, None, All, slice_get, if◌then◌else◌}
 use Rattle.std.proofs.Common.{◌≡◌, refl, subst}
 use Rattle.std.proofs.lemmas.Option.{get_or_from_slice_get, slice_get_within}
 use Rattle.avc_types.specs.Macroblock.{MbSyntax, p_skip, i_pcm, i_nxn, i_16x16, p_inter}
 use Rattle.avc_neigh.specs.Around.{PictureFacts, back, of_slice, mb_a, mb_b, next_address}
 use Rattle.avc_neigh.specs.BlockNear.{HasModes}
-use Rattle.avc_neigh.specs.Modes.{IsMode, IsRem}
+use Rattle.avc_neigh.specs.Modes.{IsMode}
 use Rattle.avc_neigh.specs.declared.facts.NeighbourFacts.{NeighbourFacts}
 use Rattle.avc_mbsyntax.specs.Ranges.{IsSyntax}
 use Rattle.avc_picture_core.specs.Canvas.{IsInRange}
 use Rattle.avc_picture.specs.MacroblocksState.{HaveModes}
-use Rattle.avc_picture.specs.MacroblockFacts.{HasRems}
-
-is_rem : (m : Option ℕ) → IfSome m (λ rem. rem ≤ 7) → IsRem m
-is_rem None h = tt
-is_rem (Some rem) h = h
-
-pub rems_of : (n : ℕ) (s : MbSyntax) → IsSyntax n s → HasRems s
-rems_of n p_skip is = tt
-rems_of n (i_pcm luma cb cr) is = tt
-rems_of n (i_nxn modes chroma r) is = λ k d h. is_rem (slice_index_or modes k d) (is.0 k d h)
-rems_of n (i_16x16 mode chroma r) is = tt
-rems_of n (p_inter shape refs mvds r) is = tt
 
 pub in_range_of : (n : ℕ) (s : MbSyntax) → IsSyntax n s → IsInRange s
 in_range_of n p_skip is = tt

@@ -1,7 +1,7 @@
 -- One slice more of a picture.
 use Rattle.std.specs.List.Sorted.{IsStrictlyIncreasing}
-use Rattle.std.specs.Prelude.{◌==◌, nat_lt, slice_index, slice_index_or, if◌then◌else◌}
-use Rattle.std.proofs.Common.{◌≡◌, ℕ, suc, ◌+◌, ◌*◌, ◌<◌, ◌≤◌, ◌⊎◌, inl, inr, Bool, true, false, List, [], ◌∷◌, ◌++◌, length, take, map, Option, Some, None, Result, Ok, Err, refl, ap, sym, subst, ◌∙◌, arith, append_assoc}
+use Rattle.std.specs.Prelude.{nat_lt, slice_index, slice_index_or, if◌then◌else◌}
+use Rattle.std.proofs.Common.{◌≡◌, ℕ, ◌+◌, ◌*◌, ◌<◌, ◌≤◌, ◌⊎◌, inl, inr, Bool, true, false, List, [], ◌∷◌, ◌++◌, length, take, map, Option, Some, None, Result, Ok, Err, refl, ap, sym, subst, ◌∙◌, arith, append_assoc}
 use Rattle.std.proofs.lemmas.Bool.Decides.{nat_tests}
 use Rattle.std.proofs.lemmas.List.{append-nil, length-append, length-map, take_at}
 use Rattle.std.proofs.lemmas.List.Kept.{AllPairs-from_increasing}
@@ -77,22 +77,13 @@ with-facts-is slices facts (mb ∷ mbs) = refl
 
 numbered : (slices : List SliceFacts) (facts : SliceFacts) (mbs : List Mb) (number read read' : ℕ) → length slices ≡ number → read' ≡ read + length mbs
     → number_after number read read' ≡ length (with_facts slices facts mbs)
-numbered slices facts [] number read read' e h =
-    let same : (read == read') ≡ true = grind (arith, nat_tests, h) in
-    ap (λ b. if b then number else suc number) same ∙ sym e
-numbered slices facts (mb ∷ mbs) number read read' e h =
-    let more : (read == read') ≡ false = grind (arith, nat_tests, h) in
-    let one : length (slices ++ facts ∷ []) ≡ length slices + 1 = length-append slices (facts ∷ []) in
-    let next : suc number ≡ length (slices ++ facts ∷ []) = omega (arith, one, e) in
-    ap (λ b. if b then number else suc number) more ∙ next
+numbered slices facts [] number read read' e h = grind (arith, nat_tests)
+numbered slices facts (mb ∷ mbs) number read read' e h = grind (arith, nat_tests, length-append)
 
 few-after : (slices : List SliceFacts) (facts : SliceFacts) (mbs : List Mb) (number read read' : ℕ) → length slices ≡ number → number ≤ read → read' ≡ read + length mbs
     → length (with_facts slices facts mbs) ≤ read'
 few-after slices facts [] number read read' e few h = omega (arith, e, few, h)
-few-after slices facts (mb ∷ mbs) number read read' e few h =
-    let one : length (slices ++ facts ∷ []) ≡ length slices + 1 = length-append slices (facts ∷ []) in
-    let some : length (mb ∷ mbs) ≡ suc (length mbs) = refl in
-    omega (arith, one, some, e, few, h)
+few-after slices facts (mb ∷ mbs) number read read' e few h = grind (arith, nat_tests, length-append)
 
 -- ---- what refuses a slice
 
@@ -109,33 +100,10 @@ module _ (p : PictureStart) (s : Slice) (g : Progress) (none : g.fault ≡ None)
   steps less more read = if less then refused g s.unit MissingMacroblocks else if more then refused g s.unit ArbitrarySliceOrder else read
 
   stepped : with_slice p s g ≡ steps (nat_lt (length g.mbs) first) (nat_lt first (length g.mbs)) (with_reference_list p s g (list_of p s.header))
-  stepped =
-      ap (λ o. elim o [
-        | Some f ↦ g
-        | None ↦ steps (nat_lt (length g.mbs) first) (nat_lt first (length g.mbs)) (with_reference_list p s g (list_of p s.header))
-      ]) none
-
-  by-tests : (x y : Bool) (f : Fault) (read : Progress) → (if x then Some MissingMacroblocks else (if y then Some ArbitrarySliceOrder else None)) ≡ Some f → steps x y read ≡ refused g s.unit f
-  by-tests true y f read e = let same : MissingMacroblocks ≡ f = cc in ap (refused g s.unit) same
-  by-tests false true f read e = let same : ArbitrarySliceOrder ≡ f = cc in ap (refused g s.unit) same
-  by-tests false false f read e = cc
-
-  pub misplaced : (f : Fault) → address_fault (length g.mbs) first ≡ Some f → with_slice p s g ≡ refused g s.unit f
-  misplaced f e = stepped ∙ by-tests (nat_lt (length g.mbs) first) (nat_lt first (length g.mbs)) f (with_reference_list p s g (list_of p s.header)) e
+  stepped = grind (arith, nat_tests)
 
   pub listed : address_fault (length g.mbs) first ≡ None → with_slice p s g ≡ with_reference_list p s g (list_of p s.header)
-  listed e =
-      let tests = tests-of (nat_lt (length g.mbs) first) (nat_lt first (length g.mbs)) e in
-      stepped
-      ∙ ap (λ b. steps b (nat_lt first (length g.mbs)) (with_reference_list p s g (list_of p s.header))) tests.0
-      ∙ ap (λ b. steps false b (with_reference_list p s g (list_of p s.header))) tests.1
-
-  pub unlisted : (f : Fault) → address_fault (length g.mbs) first ≡ None → list_of p s.header ≡ Err f → with_slice p s g ≡ refused g s.unit f
-  unlisted f e list = listed e ∙ ap (with_reference_list p s g) list
-
--- a refused slice leaves what was read
-pub is-refused : (p : PictureStart) (es : List ℕ) (g g' : Progress) (unit count read : ℕ) (f : Fault) (m : MbsState) → g' ≡ refused g unit f → g.read ≡ read → IsStateOrFault p es g' unit count (Err f) read m
-is-refused p es g g' unit count read f m e r = (ap (λ x. x.fault) e, ap (λ x. x.read) e ∙ r)
+  listed e = grind (arith, nat_tests, tests-of, stepped)
 
 -- ---- a slice whose data is read
 
@@ -194,10 +162,7 @@ module _ {PAD : ℕ} (sps : Sps) (pps : Pps) (es : List ℕ) (fs : List (Frame P
     -- where its first macroblock is refused
     pub fault-first : (c : Coded) (names : Names) → BeginsWith c (coded_of p whole) → AreNames es names → (f : Fault) (d' : SliceData)
         → IsHandedOut start (take m.next c.mbs) (Err f) unread d' → IsDataAnswer c names m.next (outcome_from c start m unread) (Err f) read m
-    fault-first c names b are f d' out =
-        let e : outcome_from c start m unread ≡ (0, Some f) = ap (λ ms. outcome c m.next ms) out.0 in
-        let none : (outcome_from c start m unread).0 ≡ 0 = ap (λ o. o.0) e in
-        (ap (λ o. o.1) e, omega (arith, none, well.reached))
+    fault-first c names b are f d' out = grind (arith, nat_tests)
 
     module _ (context : SliceContext PAD) (num : context.number ≡ number) (made : IsContextOf p es s.header list context) (qp : start.qp ≤ 51) where
       facts-are : (c : Coded) (mb : Mb) (mbs : List Mb) → BeginsWith c (coded_of p whole) → ms.mbs ≡ mb ∷ mbs → slice_facts c context.number ≡ facts
@@ -306,13 +271,7 @@ module _ {PAD : ℕ} (sps : Sps) (pps : Pps) (es : List ℕ) (fs : List (Frame P
           }
 
       pub faulty-slice : (f : Fault) → result ≡ Err f → IsStateOrFault p es (with_slice p s g) s.unit (number_after number read read') (Err f) read' m'
-      faulty-slice f err =
-          let mine = subst (λ r. IsDataAnswer (coded_of p whole) (names-of es rising) m.next (outcome_from (coded_of p whole) start m unread) r read' m') err own in
-          let same : (outcome_from (coded_of p whole) start m unread).0 ≡ (first_of found ms).0 = ap (λ o. o.0) expected in
-          let read-is : (with_slice p s g).read ≡ g.read + (first_of found ms).0 = ap (λ x. x.read) sliced ∙ read-after found in (
-            ap (λ x. x.fault) sliced ∙ fault-after found ∙ ap (with_unit s.unit) (sym (ap (λ o. o.1) expected) ∙ mine.0),
-            omega (arith, read-is, well.read_is, well.reached, same, mine.1),
-          )
+      faulty-slice f err = grind (arith, nat_tests, own, expected, sliced, read-after, fault-after)
 
       pub slice-decoded : IsStateOrFault p es (with_slice p s g) s.unit (number_after number read read') result read' m'
       slice-decoded = by_result result refl

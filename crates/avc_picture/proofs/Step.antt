@@ -13,7 +13,7 @@ use Rattle.avc_neigh.specs.TotalCoeffs.{total_coeffs_of}
 use Rattle.avc_neigh.specs.declared.facts.NeighbourFacts.{NeighbourFacts}
 use Rattle.avc_neigh.specs.declared.facts.Motion.{Motion}
 use Rattle.avc_neigh.specs.declared.facts.Motion.TheVariants.{Absent as absent, Intra as intra, Inter as inter}
-use Rattle.avc_motion.specs.Motion.{HasMotion, is_intra, motion_before, motion_of, near_in}
+use Rattle.avc_motion.specs.Motion.{HasMotion, is_intra, motion_before, motion_of}
 use Rattle.avc_deblock.specs.Facts.{Names}
 use Rattle.avc_deblock.specs.declared.facts.MbFacts.{MbFacts}
 use Rattle.avc_plane.specs.Planes.{Planes}
@@ -145,9 +145,7 @@ module _ {PAD : ℕ} (c : Coded) (names : Names) (old : MbsState) (holds : Holds
           ∙ has_pictures place here.0 e k (omega (arith, h, long, ap length motion_is))
 
       one : is_intra mb.syntax ≡ false → (k : ℕ) → k < 16 → IsFrom (quarter_reference mb.syntax (k / 4)) (slice_index_or facts.motion k absent)
-      one e k h =
-          subst (λ xs. IsFrom (quarter_reference mb.syntax (k / 4)) (slice_index_or xs k absent)) moved_is
-          (one_reference (near_in c (motion_before c a) a) mb.syntax e k h)
+      one e k h = grind (arith, IsFrom, quarter_reference, moved_is, one_reference)
 
       intra_is : is_intra mb.syntax ≡ is_intra_facts facts
       intra_is =

@@ -1,7 +1,7 @@
 -- A picture all of whose macroblocks are decoded.
-use Rattle.std.specs.Prelude.{ℕ, zero, suc, ◌+◌, ◌-◌, ◌*◌, ◌/◌, ◌<◌, length}
+use Rattle.std.specs.Prelude.{ℕ, zero, suc, ◌-◌, ◌*◌, ◌/◌, ◌<◌, length}
 use Rattle.std.specs.List.{range_with_len, flat_map}
-use Rattle.std.proofs.Common.{◌≡◌, ◌∙◌, refl, sym, ap, subst, arith}
+use Rattle.std.proofs.Common.{◌≡◌, ◌∙◌, refl, ap, subst, arith}
 use Rattle.std.proofs.Math.Nat.{mul_comm, div-lt_iff_lt-mul}
 use Rattle.std.proofs.Math.Seq.{take-length}
 use Rattle.std.proofs.lemmas.Nat.{div-mul-add}
@@ -9,7 +9,7 @@ use Rattle.avc_types.specs.Pictures.{Coded}
 use Rattle.avc_neigh.specs.Modes.{modes_before}
 use Rattle.avc_motion.specs.Motion.{motion_before}
 use Rattle.avc_plane.specs.Planes.{Planes}
-use Rattle.avc_deblock.specs.Edges.{all_filtered, line_filters, mb_lines, row_lines}
+use Rattle.avc_deblock.specs.Edges.{all_filtered, line_filters, row_lines}
 use Rattle.avc_deblock.specs.Facts.{Names}
 use Rattle.avc_deblock.specs.OneEdge.{HasRoom}
 use Rattle.avc_deblock.proofs.Macroblocks.{row_more, rows_are_all}
@@ -30,28 +30,17 @@ all_built c s = ap (built_on c (modes_before c (length c.mbs)) (motion_before c 
 rows_are : (c : Coded) (rows : ℕ) (s : Planes)
     → rows_filtered c rows s ≡ all_filtered c (motion_before c (length c.mbs)) s (flat_map (row_lines c) (range_with_len 0 rows))
 rows_are c zero s = refl
-rows_are c (suc row) s =
-    let motion = motion_before c (length c.mbs) in
-    let before = flat_map (row_lines c) (range_with_len 0 row) in
-    ap (λ t. all_filtered c motion t (row_lines c row)) (rows_are c row s)
-    ∙ sym (all_filtered-append c motion s before (row_lines c row))
-    ∙ ap (all_filtered c motion s) (sym (row_more c row))
+rows_are c (suc row) s = grind (arith, all_filtered-append, row_more, rows_are c row s)
 
 -- all rows of the picture
 all_rows_filtered : (c : Coded) (height : ℕ) → length c.mbs ≡ height * c.width → (s : Planes)
     → rows_filtered c height s ≡ all_filtered c (motion_before c (length c.mbs)) s (line_filters c)
-all_rows_filtered c height all s =
-    rows_are c height s
-    ∙ ap (all_filtered c (motion_before c (length c.mbs)) s)
-    (rows_are_all c height ∙ ap (λ n. flat_map (mb_lines c) (range_with_len 0 n)) (sym all))
+all_rows_filtered c height all s = grind (arith, rows_are, rows_are_all)
 
 module _ (c : Coded) (names : Names) (m : MbsState) (holds : HoldsFirst c names m) (kept : PartsAgree m) (whole : m.next ≡ length c.mbs)
     (all : length c.mbs ≡ c.width * c.height) where
   rows : m.next / c.width ≡ c.height
-  rows =
-      let some : 0 < c.width = subst (λ w. 0 < w) holds.width kept.wide in
-      let count : m.next ≡ c.height * c.width + 0 = omega (arith, whole, all, mul_comm c.width c.height) in
-      ap (λ n. n / c.width) count ∙ div-mul-add c.height c.width 0 some
+  rows = grind (arith, mul_comm, div-mul-add)
 
   pub filtered_is : (before after : Planes) → before ≡ m.canvas.planes → FiltersUpTo c (filtered_rows c.width m.next) (m.next / c.width) before after
       → after ≡ deblocked c
@@ -77,9 +66,4 @@ sized_room width height column row s sized h k = record {
 -- room for the row that is filtered next
 pub late_room : (m : MbsState) → PartsAgree m → (w : ℕ) → w ≡ m.canvas.width → (s : Planes) → AreSized m.canvas.width m.canvas.height s
     → (column : ℕ) → column < w → HasRoom column (length m.filter_facts / w - 1) s
-late_room m kept w w_is s sized column low =
-    let wide : 0 < w = omega (arith, w_is, kept.wide) in
-    let area : m.canvas.width * m.canvas.height ≡ m.canvas.height * w = mul_comm m.canvas.width m.canvas.height ∙ ap (λ k. m.canvas.height * k) (sym w_is) in
-    let all : length m.filter_facts < suc m.canvas.height * w = omega (arith, kept.filter_count, kept.within, area, wide) in
-    let row : length m.filter_facts / w < suc m.canvas.height = (div-lt_iff_lt-mul wide).1 all in
-    sized_room m.canvas.width m.canvas.height column (length m.filter_facts / w - 1) s sized (omega (arith, low, w_is)) (omega (arith, row, kept.high))
+late_room m kept w w_is s sized column low = grind (arith, mul_comm, div-lt_iff_lt-mul, sized_room)

@@ -1,5 +1,5 @@
 -- Which 4x4 block a sample is of, and what a residual of 0 adds.
-use Rattle.std.proofs.Common.{◌≡◌, ℕ, ◌+◌, ◌-◌, ◌*◌, ◌/◌, ◌%◌, ◌<◌, ◌≤◌, ℤ, pos, List, length, slice_index_or, arith, sym, ap, ◌∙◌}
+use Rattle.std.proofs.Common.{◌≡◌, ℕ, ◌+◌, ◌-◌, ◌*◌, ◌/◌, ◌%◌, ◌<◌, ◌≤◌, ℤ, pos, List, length, slice_index_or, arith}
 use Rattle.std.proofs.lemmas.Option.{get_or_from_slice_get, slice_get-get_or}
 use Rattle.std.proofs.lemmas.Bool.Decides.{nat_tests}
 use Rattle.std.proofs.lemmas.Int.{ints}
@@ -13,12 +13,7 @@ unchanged v z small none = rw none (grind (arith, ints, nat_tests))
 -- ---- the luma blocks of a macroblock
 
 pub luma_number : (k x y : ℕ) → k < 16 → block_x k ≤ x → x < block_x k + 4 → block_y k ≤ y → y < block_y k + 4 → block_at x y ≡ k
-luma_number k x y few p q r s =
-    let across : x / 8 ≡ (k / 4) % 2 = omega arith in
-    let across4 : (x / 4) % 2 ≡ k % 2 = omega arith in
-    let down : y / 8 ≡ k / 8 = omega arith in
-    let down4 : (y / 4) % 2 ≡ (k / 2) % 2 = omega arith in
-    omega (arith, across, across4, down, down4)
+luma_number k x y few p q r s = grind (arith, ints, nat_tests)
 
 pub luma_place : (x y : ℕ) → x < 16 → y < 16 → (block_x (block_at x y) ≡ 4 * (x / 4)) × (block_y (block_at x y) ≡ 4 * (y / 4))
 luma_place x y column row =
@@ -48,10 +43,7 @@ pub chroma_spot : (k x y : ℕ) → k < 4 → 4 * (k % 2) ≤ x → x < 4 * (k %
 chroma_spot k x y few p q r s = (omega arith, omega arith, omega arith, omega arith, omega arith)
 
 pub chroma_within : (k x y : ℕ) → x < 8 → y < 8 → chroma_number x y ≡ k → (4 * (k % 2) ≤ x) × (x < 4 * (k % 2) + 4) × (4 * (k / 2) ≤ y) × (y < 4 * (k / 2) + 4)
-chroma_within k x y column row is =
-    let across : k % 2 ≡ x / 4 = omega (arith, is) in
-    let down : k / 2 ≡ y / 4 = omega (arith, is) in
-    (omega (arith, across), omega (arith, across), omega (arith, down), omega (arith, down))
+chroma_within k x y column row is = grind (arith, ints, nat_tests)
 
 -- ---- what a place of a luma block is
 
@@ -67,11 +59,7 @@ luma_spot k left top x y few at_left at_top p q r s = (
 
 pub luma_within : (k left top x y : ℕ) → left ≡ block_x k → top ≡ block_y k → x < 16 → y < 16 → block_at x y ≡ k
     → (left ≤ x) × (x < left + 4) × (top ≤ y) × (y < top + 4)
-luma_within k left top x y at_left at_top column row is =
-    let places = luma_place x y column row in
-    let across : left ≡ 4 * (x / 4) = at_left ∙ ap block_x (sym is) ∙ places.0 in
-    let down : top ≡ 4 * (y / 4) = at_top ∙ ap block_y (sym is) ∙ places.1 in
-    (omega (arith, across), omega (arith, across), omega (arith, down), omega (arith, down))
+luma_within k left top x y at_left at_top column row is = grind (arith, ints, nat_tests, luma_place)
 
 -- an element that is there stands for any default
 pub any_default : {X : Type 0} (xs : List X) (i : ℕ) (x d : X) → i < length xs → slice_index_or xs i d ≡ slice_index_or xs i x

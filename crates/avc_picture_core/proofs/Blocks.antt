@@ -1,5 +1,5 @@
 -- Blocks predicted and laid into a plane.
-use Rattle.std.proofs.Common.{◌≡◌, ℕ, ◌+◌, ◌-◌, ◌*◌, ◌<◌, Bool, true, slice_index, if◌then◌else◌, arith, refl, ap, ◌∙◌}
+use Rattle.std.proofs.Common.{◌≡◌, ℕ, ◌+◌, ◌-◌, ◌*◌, ◌<◌, ◌≤◌, Bool, true, false, slice_index, if◌then◌else◌, arith, refl, ap, ◌∙◌}
 use Rattle.std.specs.Prelude.{Some, None}
 use Rattle.std.specs.Option.{unwrap_or}
 use Rattle.avc_plane.specs.Plane.{Plane, sample, with_block, is_inside}
@@ -25,3 +25,7 @@ predicted can v there = ap (λ t. unwrap_or (if t then Some v else None) 0) ther
 
 pub sample4x4 : (f : ℕ → ℕ → ℕ) (x y : ℕ) → x < 4 → y < 4 → slice_index (block4x4 f) (4 * y + x) ≡ f x y
 sample4x4 f x y column row = ap (slice_index (block4x4 f)) (omega arith) ∙ sample-plane_of 4 4 f x y column row
+
+-- a place outside a rectangle
+pub outside : (left top width height x y : ℕ) → (left ≤ x → x < left + width → top ≤ y → y < top + height → ⊥) → is_inside left top width height x y ≡ false
+outside left top width height x y none = grind (arith, by_place)

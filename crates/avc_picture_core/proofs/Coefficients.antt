@@ -10,7 +10,6 @@ use Rattle.avc_types.specs.Macroblock.{total_coeff}
 use Rattle.avc_transform.specs.Residual.{level, even_scale, hadamard2, chroma_dc, chroma_dc_product, chroma_dc_scaled}
 use Rattle.avc_transform.specs.MacroblockResidual.{chroma_residual}
 use Rattle.avc_transform.proofs.NoResidual.{residual_of_dc}
-use Rattle.avc_transform.proofs.BelowFour.{below_four}
 
 abbrev weight : ℤ → ℕ
 weight l = cond (not (nat_abs l == 0)) 1 0
@@ -36,27 +35,10 @@ no_level (l ∷ ls) e (suc i) =
     let both : sum_by weight (l ∷ ls) ≡ (0 + weight l) + sum_by weight ls = sum_by-append weight (l ∷ []) ls in
     no_level ls (omega (arith, both, e)) i
 
--- a block with the same value everywhere
-abbrev pub everywhere : ℤ → List ℤ
-everywhere v = v ∷ v ∷ v ∷ v ∷ v ∷ v ∷ v ∷ v ∷ v ∷ v ∷ v ∷ v ∷ v ∷ v ∷ v ∷ v ∷ []
-
-pub same_everywhere : (v : ℤ) (x y : ℕ) → x < 4 → y < 4
-    → slice_index_or (everywhere v) (4 * y + x) (pos 0) ≡ v
-same_everywhere v x y column row =
-    below_four (λ u. slice_index_or (everywhere v) (4 * y + u) (pos 0) ≡ v)
-    (at 0 y row refl refl refl refl) (at 1 y row refl refl refl refl) (at 2 y row refl refl refl refl) (at 3 y row refl refl refl refl) x column where
-      at : (u y : ℕ) → y < 4
-          → slice_index_or (everywhere v) (4 * 0 + u) (pos 0) ≡ v
-          → slice_index_or (everywhere v) (4 * 1 + u) (pos 0) ≡ v
-          → slice_index_or (everywhere v) (4 * 2 + u) (pos 0) ≡ v
-          → slice_index_or (everywhere v) (4 * 3 + u) (pos 0) ≡ v
-          → slice_index_or (everywhere v) (4 * y + u) (pos 0) ≡ v
-      at u y row e0 e1 e2 e3 = below_four (λ w. slice_index_or (everywhere v) (4 * w + u) (pos 0) ≡ v) e0 e1 e2 e3 y row
-
 -- ---- a chroma component whose levels are all 0
 
 nothing_times : (a b l : ℤ) → l ≡ pos 0 → a *ℤ l *ℤ b ≡ pos 0
-nothing_times a b l none = ap (λ (z : ℤ). a *ℤ z *ℤ b) none ∙ ap (λ (z : ℤ). z *ℤ b) (*ℤ-zero a) ∙ zero-*ℤ b
+nothing_times a b l none = rw (none, *ℤ-zero, zero-*ℤ) refl
 
 nothing_in_all : (a b c d : ℤ) → a ≡ pos 0 → b ≡ pos 0 → c ≡ pos 0 → d ≡ pos 0
     → ◌≡◌ {A = ℤ} (pos 0 +ℤ (pos 0 +ℤ a +ℤ b) +ℤ (pos 0 +ℤ c +ℤ d)) (pos 0)

@@ -1,5 +1,5 @@
 -- A macroblock is built from the samples of macroblocks before it: planes that agree on these agree on it too.
-use Rattle.std.proofs.Common.{◌≡◌, ◌∙◌, ℕ, ℤ, ◌+◌, ◌-◌, ◌*◌, ◌/◌, ◌%◌, ◌<◌, ◌≤◌, zero, suc, pos, negsuc, nat_abs, ◌+ℤ◌, ◌-ℤ◌, nat_lt, Bool, true, false, if◌then◌else◌, refl, sym, ap, subst, arith, mul_comm, inl, inr, ⊎_elim}
+use Rattle.std.proofs.Common.{◌≡◌, ◌∙◌, ℕ, ℤ, ◌+◌, ◌-◌, ◌*◌, ◌/◌, ◌%◌, ◌<◌, ◌≤◌, zero, suc, pos, negsuc, nat_abs, ◌+ℤ◌, ◌-ℤ◌, nat_lt, Bool, true, false, if◌then◌else◌, refl, sym, ap, arith, mul_comm, inl, inr, ⊎_elim}
 use Rattle.std.specs.Prelude.{◌⊎◌, Some, None, ◌==◌, ◌&&◌, ◌||◌, not, slice_get, slice_index, slice_index_or}
 use Rattle.std.specs.Option.{unwrap_or}
 use Rattle.std.proofs.lemmas.Bool.{and_parts, cases_lt, or_cases, ltb-true}
@@ -20,7 +20,7 @@ use Rattle.avc_intra.specs.Luma16x16.{mode16x16_of}
 use Rattle.avc_intra.specs.Chroma.{mode_chroma_of}
 use Rattle.avc_picture_core.specs.Built.{Place, chroma_after, inter_at, is_intra_place, is_there, left_of_mb, luma_after, mode_number, planes_after, residual_at, seen_from, sides_of, sum_of, top_of_mb, with_blocks4x4}
 use Rattle.avc_picture_core.proofs.IntraRows.{block_from, chroma_from, luma_from}
-use Rattle.avc_picture_core.proofs.IntraSides.{AgreeBeside, agree4x4, agree16x16, agree_chroma}
+use Rattle.avc_picture_core.proofs.IntraSides.{AgreeBeside, agree4x4, agree16x16, agree_chroma, on_each_side}
 use Rattle.avc_picture_core.proofs.PlaceOn.{sides_inside}
 
 -- ---- two planes of a size that agree where P holds
@@ -66,9 +66,7 @@ abbrev pub address_at : (size width x y : ℕ) → ℕ
 address_at size width x y = (y / size) * width + x / size
 
 pub address_in : (size width column row i j : ℕ) → i < size → j < size → address_at size width (column * size + i) (row * size + j) ≡ row * width + column
-address_in size width column row i j low high =
-    ap (λ n. n * width + (column * size + i) / size) (div-mul-add row size j high)
-    ∙ ap (λ n. row * width + n) (div-mul-add column size i low)
+address_in size width column row i j low high = grind (arith, ints, nat_tests, width, div-mul-add)
 
 -- the luma sample is of a macroblock before a, or of a block before block k of it
 abbrev pub IsEarlier : (width a k x y : ℕ) → Type 0
@@ -82,24 +80,14 @@ same_quarter : (x u : ℕ) → x / 4 ≡ u / 4 → (x % 16) / 4 ≡ (u % 16) / 4
 same_quarter x u e = omega (arith, e)
 
 same_block : (x y u v : ℕ) → x / 4 ≡ u / 4 → y / 4 ≡ v / 4 → block_at (x % 16) (y % 16) ≡ block_at (u % 16) (v % 16)
-same_block x y u v e f =
-    block_by (x % 16) (y % 16)
-    ∙ ap (λ n. 8 * (n / 2) + 4 * ((x % 16) / 4 / 2) + 2 * (n % 2) + ((x % 16) / 4) % 2) (same_quarter y v f)
-    ∙ ap (λ n. 8 * ((v % 16) / 4 / 2) + 4 * (n / 2) + 2 * (((v % 16) / 4) % 2) + n % 2) (same_quarter x u e)
-    ∙ sym (block_by (u % 16) (v % 16))
+same_block x y u v e f = grind (arith, ints, nat_tests, block_by, same_quarter)
 
 same_address : (width x y u v : ℕ) → x / 4 ≡ u / 4 → y / 4 ≡ v / 4 → address_at 16 width x y ≡ address_at 16 width u v
-same_address width x y u v e f =
-    let across : x / 16 ≡ u / 16 = omega (arith, e) in
-    let down : y / 16 ≡ v / 16 = omega (arith, f) in
-    ap (λ n. n * width + x / 16) down ∙ ap (λ n. (v / 16) * width + n) across
+same_address width x y u v e f = grind (arith, ints, nat_tests, width)
 
 -- samples of one 4x4 block come together
 together : (width a k x y u v : ℕ) → x / 4 ≡ u / 4 → y / 4 ≡ v / 4 → IsEarlier width a k u v → IsEarlier width a k x y
-together width a k x y u v e f earlier = ⊎_elim
-    (λ less. inl (subst (λ n. n < a) (sym (same_address width x y u v e f)) less))
-    (λ here. inr (same_address width x y u v e f ∙ here.0, subst (λ n. n < k) (sym (same_block x y u v e f)) here.1))
-    earlier
+together width a k x y u v e f earlier = grind (arith, ints, nat_tests, same_address, width, same_block)
 
 -- ---- what is there comes before
 
@@ -128,11 +116,7 @@ module _ (c : Coded) (a k : ℕ) where
 
   there_earlier : (x y : ℕ) (px py : ℤ) → px ≡ pos x → py ≡ pos y → is_there c a k (location_in 16 c.width px py) ≡ true
       → (x < 16 * c.width) × IsEarlier c.width a k x y
-  there_earlier x y px py e f there =
-      let at : is_there c a k (location_in 16 c.width (pos x) (pos y)) ≡ true =
-      subst (λ q. is_there c a k (location_in 16 c.width (pos x) q) ≡ true) f (subst (λ p. is_there c a k (location_in 16 c.width p py) ≡ true) e there) in
-      let found = there_of (nat_lt x (16 * c.width)) (record { address = (y / 16) * c.width + x / 16; x = x % 16; y = y % 16 }) at in
-      (ltb-true x (16 * c.width) found.0, found.1)
+  there_earlier x y px py e f there = grind (arith, ints, nat_tests, pos, there_of, nat_lt, ltb-true)
 
 -- ---- a 4x4 block
 
@@ -158,54 +142,29 @@ module _ (c : Coded) (h a k : ℕ) (some : 0 < c.width) (room : a / c.width < h)
 
   read : (x y u v : ℕ) (p q : ℤ) → nat_abs (pos left +ℤ p) ≡ x → nat_abs (pos top +ℤ q) ≡ y → x < 16 * c.width → y < 16 * h
       → x / 4 ≡ u / 4 → y / 4 ≡ v / 4 → IsEarlier c.width a k u v → seen_from s left top p q ≡ seen_from t left top p q
-  read x y u v p q e f column row i j earlier =
-      ap (λ n. sample s n (nat_abs (pos top +ℤ q))) e ∙ ap (sample s x) f
-      ∙ agree.samples x y column row (together c.width a k x y u v i j earlier)
-      ∙ sym (ap (λ n. sample t n (nat_abs (pos top +ℤ q))) e ∙ ap (sample t x) f)
+  read x y u v p q e f column row i j earlier = grind (arith, ints, nat_tests, nat_abs, pos, together)
 
   beside4x4 : AgreeBeside 4 (sides_of c a k) (seen_from s left top) (seen_from t left top)
-  beside4x4 (pos x) (pos y) is = absurd cc
-  beside4x4 (pos x) (negsuc y) is =
+  beside4x4 =
       let inside = sides_inside c a k in
-      let parts = and_parts (y == 0) (if nat_lt x 4 then (sides_of c a k).above else (nat_lt x 8 && (sides_of c a k).above_right)) is in
-      let one : y ≡ 0 = let e = parts.0 in grind (arith, nat_tests) in
-      ⊎_elim
-      (λ near.
-      let t : nat_lt x 4 ≡ true = grind (arith, nat_tests) in
-      let there : (sides_of c a k).above ≡ true = sym (ap (λ b. if b then (sides_of c a k).above else (nat_lt x 8 && (sides_of c a k).above_right)) t) ∙ parts.1 in
-      let high : 0 < top = inside.above there in
-      let earlier = there_earlier c a k left (top - 1) (pos (16 * m) +ℤ pos (block_x k)) (pos (16 * r) +ℤ (pos (block_y k) -ℤ pos 1)) (omega (arith, ints)) (omega (arith, ints, high)) there in
-      read (left + x) (top - 1) left (top - 1) (pos x) (negsuc y) (omega (arith, ints)) (omega (arith, ints, one, high)) (omega (arith, near, narrow, (inner k low).0)) (omega (arith, room, (inner k low).1))
-      (omega (arith, near)) refl earlier.1)
-      (λ far.
-      let t : nat_lt x 4 ≡ false = grind (arith, nat_tests) in
-      let right = and_parts (nat_lt x 8) (sides_of c a k).above_right (sym (ap (λ b. if b then (sides_of c a k).above else (nat_lt x 8 && (sides_of c a k).above_right)) t) ∙ parts.1) in
-      let end : x < 8 = ltb-true x 8 right.0 in
-      let high = inside.above_right right.1 in
-      let earlier = there_earlier c a k (left + 4) (top - 1) (pos (16 * m) +ℤ (pos (block_x k) +ℤ pos 4)) (pos (16 * r) +ℤ (pos (block_y k) -ℤ pos 1)) (omega (arith, ints)) (omega (arith, ints, high.0)) right.1 in
-      read (left + x) (top - 1) (left + 4) (top - 1) (pos x) (negsuc y) (omega (arith, ints)) (omega (arith, ints, one, high.0)) (omega (arith, end, high.1)) (omega (arith, room, (inner k low).1))
-      (omega (arith, far, end)) refl earlier.1)
-      (cases_lt x 4)
-  beside4x4 (negsuc x) (pos y) is =
-      let inside = sides_inside c a k in
-      let parts = and_parts (x == 0) (nat_lt y 4 && (sides_of c a k).left) is in
-      let one : x ≡ 0 = let e = parts.0 in grind (arith, nat_tests) in
-      let there = and_parts (nat_lt y 4) (sides_of c a k).left parts.1 in
-      let near : y < 4 = ltb-true y 4 there.0 in
-      let wide : 0 < left = inside.before there.1 in
-      let earlier = there_earlier c a k (left - 1) top (pos (16 * m) +ℤ (pos (block_x k) -ℤ pos 1)) (pos (16 * r) +ℤ pos (block_y k)) (omega (arith, ints, wide)) (omega (arith, ints)) there.1 in
-      read (left - 1) (top + y) (left - 1) top (negsuc x) (pos y) (omega (arith, ints, one, wide)) (omega (arith, ints)) (omega (arith, narrow, (inner k low).0)) (omega (arith, near, room, (inner k low).1))
-      refl (omega (arith, near)) earlier.1
-  beside4x4 (negsuc x) (negsuc y) is =
-      let inside = sides_inside c a k in
-      let parts = and_parts (x == 0) ((y == 0) && (sides_of c a k).corner) is in
-      let one : x ≡ 0 = let e = parts.0 in grind (arith, nat_tests) in
-      let there = and_parts (y == 0) (sides_of c a k).corner parts.1 in
-      let two : y ≡ 0 = let e = there.0 in grind (arith, nat_tests) in
-      let both = inside.corner there.1 in
-      let earlier = there_earlier c a k (left - 1) (top - 1) (pos (16 * m) +ℤ (pos (block_x k) -ℤ pos 1)) (pos (16 * r) +ℤ (pos (block_y k) -ℤ pos 1)) (omega (arith, ints, both.0)) (omega (arith, ints, both.1)) there.1 in
-      read (left - 1) (top - 1) (left - 1) (top - 1) (negsuc x) (negsuc y) (omega (arith, ints, one, both.0)) (omega (arith, ints, two, both.1)) (omega (arith, narrow, (inner k low).0)) (omega (arith, room, (inner k low).1))
-      refl refl earlier.1
+      on_each_side 4 (sides_of c a k) (λ u v. seen_from s left top u v ≡ seen_from t left top u v)
+      (λ x near there.
+      let high = inside.above there in
+      let earlier = there_earlier c a k left (top - 1) (pos (16 * m) +ℤ pos (block_x k)) (pos (16 * r) +ℤ (pos (block_y k) -ℤ pos 1)) (omega (arith, ints)) (omega (arith, ints)) there in
+      read (left + x) (top - 1) left (top - 1) (pos x) (negsuc 0) (omega (arith, ints)) (omega (arith, ints)) (omega (arith, narrow, (inner k low).0)) (omega (arith, (inner k low).1)) (omega arith) refl earlier.1)
+      (λ x far end there.
+      let high = inside.above_right there in
+      let earlier = there_earlier c a k (left + 4) (top - 1) (pos (16 * m) +ℤ (pos (block_x k) +ℤ pos 4)) (pos (16 * r) +ℤ (pos (block_y k) -ℤ pos 1)) (omega (arith, ints)) (omega (arith, ints, high.0)) there in
+      read (left + x) (top - 1) (left + 4) (top - 1) (pos x) (negsuc 0) (omega (arith, ints)) (omega (arith, ints, high.0)) (omega (arith, high.1)) (omega (arith, (inner k low).1)) (omega arith) refl earlier.1)
+      (λ y near there.
+      let wide = inside.before there in
+      let earlier = there_earlier c a k (left - 1) top (pos (16 * m) +ℤ (pos (block_x k) -ℤ pos 1)) (pos (16 * r) +ℤ pos (block_y k)) (omega (arith, ints)) (omega (arith, ints)) there in
+      read (left - 1) (top + y) (left - 1) top (negsuc 0) (pos y) (omega (arith, ints)) (omega (arith, ints)) (omega (arith, narrow, (inner k low).0)) (omega (arith, (inner k low).1)) refl (omega arith) earlier.1)
+      (λ there.
+      let both = inside.corner there in
+      let earlier = there_earlier c a k (left - 1) (top - 1) (pos (16 * m) +ℤ (pos (block_x k) -ℤ pos 1)) (pos (16 * r) +ℤ (pos (block_y k) -ℤ pos 1)) (omega (arith, ints, both.0)) (omega (arith, ints, both.1)) there in
+      read (left - 1) (top - 1) (left - 1) (top - 1) (negsuc 0) (negsuc 0) (omega (arith, ints, both.0)) (omega (arith, ints, both.1)) (omega (arith, narrow, (inner k low).0)) (omega (arith, (inner k low).1))
+      refl refl earlier.1)
 
 -- the block built from either
 pub block_agrees : (p : Place) (h k : ℕ) → 0 < p.coded.width → p.address / p.coded.width < h → k < 16 → (s t : Plane)
@@ -235,32 +194,16 @@ module _ (c : Coded) (size h a : ℕ) (big : 8 ≤ size) (some : 0 < c.width) (r
   whole : row * c.width + column ≡ a
   whole = div-add-mod' a c.width
 
-  IsHere : ℕ → ℕ → Type 0
-  IsHere x y = address_at size c.width x y < a
-
   -- a sample of the macroblock at this address is inside its square
   pub in_square : (x y : ℕ) → x < size * c.width → address_at size c.width x y ≡ a
       → (size * column ≤ x) × (x < size * column + size) × (size * row ≤ y) × (y < size * row + size)
-  in_square x y inside at =
-      let sized : 0 < size = omega (arith, big) in
-      let narrow : x / size < c.width = (div-lt_iff_lt-mul sized).1 (omega (arith, inside, mul_comm size c.width)) in
-      let down : y / size ≡ row = sym (div-mul-add (y / size) c.width (x / size) narrow) ∙ ap (λ n. n / c.width) at in
-      let across : x / size ≡ column = sym (mod-mul-add (y / size) c.width (x / size) narrow) ∙ ap (λ n. n % c.width) at in
-      let x_parts : size * column + x % size ≡ x = omega (arith, mul_comm size column, ap (λ n. n * size) across, div-add-mod' x size) in
-      let y_parts : size * row + y % size ≡ y = omega (arith, mul_comm size row, ap (λ n. n * size) down, div-add-mod' y size) in
-      (omega (arith, x_parts), omega (arith, x_parts, mod_below x size sized), omega (arith, y_parts), omega (arith, y_parts, mod_below y size sized))
+  in_square x y inside at = grind (arith, ints, nat_tests, narrow, div-lt_iff_lt-mul, mul_comm, div-mul-add, mod-mul-add, div-add-mod', mod_below)
 
   module _ (s t : Plane) (agree : Agree (size * c.width) (size * h) (λ x y. address_at size c.width x y < a) s t) where
     read_mb : (u v i j : ℕ) (p q : ℤ) → nat_abs (pos (size * column) +ℤ p) ≡ size * u + i → nat_abs (pos (size * row) +ℤ q) ≡ size * v + j
         → u < c.width → v < h → i < size → j < size → v * c.width + u < a
         → seen_from s (size * column) (size * row) p q ≡ seen_from t (size * column) (size * row) p q
-    read_mb u v i j p q e f narrow low across down earlier =
-        let at : address_at size c.width (size * u + i) (size * v + j) ≡ v * c.width + u =
-        ap (λ n. address_at size c.width (n + i) (size * v + j)) (mul_comm size u) ∙ ap (λ n. address_at size c.width (u * size + i) (n + j)) (mul_comm size v)
-        ∙ address_in size c.width u v i j across down in
-        ap (λ n. sample s n (nat_abs (pos (size * row) +ℤ q))) e ∙ ap (sample s (size * u + i)) f
-        ∙ agree.samples (size * u + i) (size * v + j) (less_in size c.width i u narrow across) (less_in size h j v low down) (subst (λ n. n < a) (sym at) earlier)
-        ∙ sym (ap (λ n. sample t n (nat_abs (pos (size * row) +ℤ q))) e ∙ ap (sample t (size * u + i)) f)
+    read_mb u v i j p q e f narrow low across down earlier = grind (arith, ints, nat_tests, mul_comm, address_in, nat_abs, pos, less_in, narrow)
 
     before : (n : ℕ) → 0 < n → size * n ≡ size * (n - 1) + size
     before n more = ap (λ k. size * k) (omega (arith, more)) ∙ mul-add size (n - 1) 1 ∙ omega arith
@@ -269,44 +212,24 @@ module _ (c : Coded) (size h a : ℕ) (big : 8 ≤ size) (some : 0 < c.width) (r
     above_is more = sym (ap (λ k. k * c.width) (omega (arith, more)) ∙ add-mul (row - 1) 1 c.width ∙ omega arith)
 
     beside_mb : AgreeBeside size (sides_of c a 0) (seen_from s (size * column) (size * row)) (seen_from t (size * column) (size * row))
-    beside_mb (pos x) (pos y) is = absurd cc
-    beside_mb (pos x) (negsuc y) is =
-        let sides = sides_of c a 0 in
-        let parts = and_parts (y == 0) (if nat_lt x size then sides.above else (nat_lt x 8 && sides.above_right)) is in
-        let one : y ≡ 0 = let e = parts.0 in grind (arith, nat_tests) in
-        ⊎_elim
-        (λ near.
-        let t : nat_lt x size ≡ true = grind (arith, nat_tests) in
-        let there : sides.above ≡ true = sym (ap (λ b. if b then sides.above else (nat_lt x 8 && sides.above_right)) t) ∙ parts.1 in
-        let high = (sides_inside c a 0).above there in
+    beside_mb =
+        let inside = sides_inside c a 0 in
+        on_each_side size (sides_of c a 0) (λ u v. seen_from s (size * column) (size * row) u v ≡ seen_from t (size * column) (size * row) u v)
+        (λ x near there.
+        let high = inside.above there in
         let some_row : 0 < row = omega (arith, high) in
-        read_mb column (row - 1) x (size - 1) (pos x) (negsuc y) refl (omega (arith, ints, one, before row some_row, big)) within (omega (arith, room)) near (omega (arith, big))
-        (omega (arith, above_is some_row, whole, some)))
-        (λ far.
-        let t : nat_lt x size ≡ false = grind (arith, nat_tests) in
-        let right = and_parts (nat_lt x 8) sides.above_right (sym (ap (λ b. if b then sides.above else (nat_lt x 8 && sides.above_right)) t) ∙ parts.1) in
-        absurd (omega (arith, ltb-true x 8 right.0, far, big)))
-        (cases_lt x size)
-    beside_mb (negsuc x) (pos y) is =
-        let sides = sides_of c a 0 in
-        let parts = and_parts (x == 0) (nat_lt y size && sides.left) is in
-        let one : x ≡ 0 = let e = parts.0 in grind (arith, nat_tests) in
-        let there = and_parts (nat_lt y size) sides.left parts.1 in
-        let wide = (sides_inside c a 0).before there.1 in
+        read_mb column (row - 1) x (size - 1) (pos x) (negsuc 0) refl (omega (arith, ints, before row some_row)) within (omega arith) near (omega arith) (omega (arith, above_is some_row, whole)))
+        (λ x far end there. absurd (omega arith))
+        (λ y near there.
+        let wide = inside.before there in
         let some_column : 0 < column = omega (arith, wide) in
-        read_mb (column - 1) row (size - 1) y (negsuc x) (pos y) (omega (arith, ints, one, before column some_column, big)) refl (omega (arith, within)) room (omega (arith, big)) (ltb-true y size there.0)
-        (omega (arith, whole, some_column))
-    beside_mb (negsuc x) (negsuc y) is =
-        let sides = sides_of c a 0 in
-        let parts = and_parts (x == 0) ((y == 0) && sides.corner) is in
-        let one : x ≡ 0 = let e = parts.0 in grind (arith, nat_tests) in
-        let there = and_parts (y == 0) sides.corner parts.1 in
-        let two : y ≡ 0 = let e = there.0 in grind (arith, nat_tests) in
-        let both = (sides_inside c a 0).corner there.1 in
+        read_mb (column - 1) row (size - 1) y (negsuc 0) (pos y) (omega (arith, ints, before column some_column)) refl (omega (arith, within)) room (omega arith) near (omega (arith, whole)))
+        (λ there.
+        let both = inside.corner there in
         let some_column : 0 < column = omega (arith, both.0) in
         let some_row : 0 < row = omega (arith, both.1) in
-        read_mb (column - 1) (row - 1) (size - 1) (size - 1) (negsuc x) (negsuc y) (omega (arith, ints, one, before column some_column, big)) (omega (arith, ints, two, before row some_row, big))
-        (omega (arith, within)) (omega (arith, room)) (omega (arith, big)) (omega (arith, big)) (omega (arith, above_is some_row, whole, some))
+        read_mb (column - 1) (row - 1) (size - 1) (size - 1) (negsuc 0) (negsuc 0) (omega (arith, ints, before column some_column)) (omega (arith, ints, before row some_row))
+        (omega (arith, within)) (omega arith) (omega arith) (omega arith) (omega (arith, above_is some_row, whole)))
 
     -- a square that is built of either
     pub square_more : (f g : ℕ → ℕ → ℕ) → ((x y : ℕ) → x < size → y < size → f x y ≡ g x y)
@@ -342,9 +265,7 @@ module _ (p : Place) (h : ℕ) (some : 0 < p.coded.width) (room : p.address / p.
       (omega (arith, across, square.0, square.1), omega (arith, across, square.0, square.1), omega (arith, down, square.2, square.3), omega (arith, down, square.2, square.3))
 
   blocks_agree : (n : ℕ) → n ≤ 16 → Agree (16 * w) (16 * h) (IsEarlier w a n) (with_blocks4x4 p n s) (with_blocks4x4 p n t)
-  blocks_agree zero few =
-      agree_less (16 * w) (16 * h) (λ x y. address_at 16 w x y < a) (IsEarlier w a 0) s t agree
-      (λ x y column row earlier. ⊎_elim (λ less. less) (λ here. absurd (omega (arith, here.1))) earlier)
+  blocks_agree zero few = grind (arith, ints, nat_tests, agree_less)
   blocks_agree (suc n) few =
       let so_far = blocks_agree n (omega (arith, few)) in
       agree_more (16 * w) (16 * h) (IsEarlier w a n) (IsEarlier w a (suc n)) (with_blocks4x4 p n s) (with_blocks4x4 p n t) so_far

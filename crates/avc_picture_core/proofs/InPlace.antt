@@ -9,8 +9,7 @@ use Rattle.avc_plane.proofs.Rectangles.{by_place}
 use Rattle.avc_picture_core.specs.Built.{sum_of}
 use Rattle.avc_picture_core.specs.Residuals.{with_residual}
 use Rattle.avc_picture_core.proofs.Adding.{unchanged}
-use Rattle.avc_picture_core.proofs.Blocks.{with_block_same}
-use Rattle.avc_picture_core.proofs.SquareRows.{outside}
+use Rattle.avc_picture_core.proofs.Blocks.{outside, with_block_same}
 
 -- a block set to the samples that it has
 pub block_of_its_own : (s : Plane) (left top w h : ℕ) (f : ℕ → ℕ → ℕ) → length s.samples ≡ s.width * s.height
@@ -40,9 +39,7 @@ no_residual_added s left top w h f long small none =
 -- the same residual under other words
 pub residual_same : (s : Plane) (left top w h : ℕ) (f g : ℕ → ℕ → ℤ) → ((x y : ℕ) → x < w → y < h → f x y ≡ g x y)
     → with_residual s left top w h f ≡ with_residual s left top w h g
-residual_same s left top w h f g same =
-    with_block_same s left top w h (λ x y. sum_of (sample s (left + x) (top + y)) (f x y)) (λ x y. sum_of (sample s (left + x) (top + y)) (g x y))
-    (λ x y column row. ap (sum_of (sample s (left + x) (top + y))) (same x y column row))
+residual_same s left top w h f g same = grind (arith, nat_tests, with_block_same)
 
 -- a residual added to a block that was predicted
 module _ (s : Plane) (left top w h : ℕ) (p : ℕ → ℕ → ℕ) (f : ℕ → ℕ → ℤ) (columns : left + w ≤ s.width) (rows : top + h ≤ s.height) where
@@ -67,11 +64,7 @@ module _ (s : Plane) (left top w h : ℕ) (p : ℕ → ℕ → ℕ) (f : ℕ →
       (λ none. sample-with_block s left top w h p u v column row ∙ ap (given u v) (outside left top w h u v none))
 
   pub residual_over : with_residual predicted left top w h f ≡ with_block s left top w h (λ x y. sum_of (p x y) (f x y))
-  residual_over =
-      plane_of_same s.width s.height
-      (λ u v. if is_inside left top w h u v then sum_of (sample predicted (left + (u - left)) (top + (v - top))) (f (u - left) (v - top)) else sample predicted u v)
-      (λ u v. if is_inside left top w h u v then sum_of (p (u - left) (v - top)) (f (u - left) (v - top)) else sample s u v)
-      each_sum
+  residual_over = grind (arith, nat_tests, plane_of_same, each_sum)
 
 -- ---- blocks that tile a square
 
@@ -89,9 +82,7 @@ module _ (s : Plane) (left top size : ℕ) (b : ℕ → ℕ → ℕ) (f : ℕ �
       (λ x y column row within below. let no : nat_lt (b x y) 0 ≡ false = grind (arith, nat_tests) in ap (chosen x y) no)
 
   pub all_before : (k : ℕ) → ((x y : ℕ) → x < size → y < size → b x y < k) → with_blocks_before k ≡ with_residual s left top size size f
-  all_before k few =
-      with_block_same s left top size size (λ x y. chosen x y (nat_lt (b x y) k)) (λ x y. chosen x y true)
-      (λ x y column row. let less = few x y column row in let yes : nat_lt (b x y) k ≡ true = grind (arith, nat_tests) in ap (chosen x y) yes)
+  all_before k few = grind (arith, nat_tests, with_block_same, nat_lt)
 
   module _ (k l t : ℕ) (g : ℕ → ℕ → ℤ) (columns : left + size ≤ s.width) (rows : top + size ≤ s.height) (across : l + 4 ≤ size) (down : t + 4 ≤ size)
       (here : (x y : ℕ) → x < size → y < size → l ≤ x → x < l + 4 → t ≤ y → y < t + 4 → (b x y ≡ k) × (g (x - l) (y - t) ≡ f x y))
@@ -138,17 +129,7 @@ module _ (s : Plane) (left top size : ℕ) (b : ℕ → ℕ → ℕ) (f : ℕ �
 
     without : (u v : ℕ) → u < s.width → v < s.height → (left + l ≤ u → u < left + l + 4 → top + t ≤ v → v < top + t + 4 → ⊥)
         → added u v false ≡ put (k + 1) u v (is_inside left top size size u v)
-    without u v column row none =
-        sample-with_block s left top size size (λ i j. chosen i j (nat_lt (b i j) k)) u v column row
-        ∙ by_place (λ q. put k u v q ≡ put (k + 1) u v q) left top size size u v
-        (λ p q r w.
-        ap (chosen (u - left) (v - top))
-        (same_test (u - left) (v - top)
-        (λ is. let o = only (u - left) (v - top) (omega arith) (omega arith) is in none (omega (arith, o.0)) (omega (arith, o.1)) (omega (arith, o.2)) (omega (arith, o.3)))))
-        (λ _. refl)
+    without u v column row none = grind (arith, nat_tests, sample-with_block, nat_lt, by_place, same_test)
 
     pub one_more : with_residual cur (left + l) (top + t) 4 4 g ≡ with_blocks_before (k + 1)
-    one_more =
-        plane_of_same s.width s.height (λ u v. added u v (is_inside (left + l) (top + t) 4 4 u v)) (λ u v. put (k + 1) u v (is_inside left top size size u v))
-        (λ u v column row. by_place (λ q. added u v q ≡ put (k + 1) u v (is_inside left top size size u v)) (left + l) (top + t) 4 4 u v
-        (within u v column row) (without u v column row))
+    one_more = grind (arith, nat_tests, plane_of_same, by_place, within, without)

@@ -1,6 +1,6 @@
 -- Inter macroblocks: refused, or predicted into the planes, with their residual.
-use Rattle.std.proofs.Common.{◌≡◌, ℕ, zero, suc, ◌+◌, ◌*◌, ◌/◌, ◌%◌, ◌<◌, ◌≤◌, ◌-◌, ℤ, Bool, true, false, List, arith, refl, sym, ap, subst, ◌∙◌}
-use Rattle.std.specs.Prelude.{Some, None, Result, Err, if◌then◌else◌}
+use Rattle.std.proofs.Common.{◌≡◌, ℕ, zero, suc, ◌+◌, ◌*◌, ◌/◌, ◌%◌, ◌<◌, ◌≤◌, ◌-◌, ℤ, Bool, true, false, List, arith, refl, sym, ap, ◌∙◌}
+use Rattle.std.specs.Prelude.{None, Result, Err, if◌then◌else◌}
 use Rattle.std.specs.List.{list_all}
 use Rattle.avc_types.specs.declared.fault.Fault.{Fault}
 use Rattle.avc_types.specs.declared.fault.Fault.TheVariants.{RefMissing}
@@ -13,9 +13,9 @@ use Rattle.avc_plane.specs.Plane.{Plane, sample, with_block}
 use Rattle.avc_plane.specs.Planes.{Planes}
 use Rattle.avc_plane.proofs.Blocks.{inside}
 use Rattle.avc_plane.proofs.PlaneMaps.{sample-with_block}
-use Rattle.avc_picture_core.specs.Built.{Place, inter_at, inter_predicted, planes_after, reference_of, residual_at, size_of, sum_of}
+use Rattle.avc_picture_core.specs.Built.{Place, inter_at, planes_after, reference_of, residual_at, size_of, sum_of}
 use Rattle.avc_picture_core.specs.Faults.{has_references, has_sides, is_picture, refusal}
-use Rattle.avc_picture_core.specs.Inter.{CoverMacroblock, motion_at, predicted_at, with_part}
+use Rattle.avc_picture_core.specs.Inter.{CoverMacroblock, predicted_at, with_part}
 use Rattle.avc_picture_core.specs.Places.{ArePlanesBuilt, IsAt}
 use Rattle.avc_picture_core.specs.Residuals.{with_residual}
 use Rattle.avc_picture_core.proofs.Adding.{unchanged}
@@ -32,9 +32,7 @@ have_all p motion = list_all (λ m. is_picture (reference_of p.coded p.slice m))
 pub refused_inter : (p : Place) (syntax : MbSyntax) (motion : List Motion) (result : Result (Unit {0}) Fault) (f : Fault) (s new : Planes)
     → p.mb.syntax ≡ syntax → has_references p syntax ≡ have_all p p.motion → has_sides p syntax ≡ true → p.motion ≡ motion
     → result ≡ Err f → (f ≡ RefMissing) × (have_all p motion ≡ false) → ArePlanesBuilt p result s new
-refused_inter p syntax motion result f s new is references sides mine errs missing =
-    subst (λ t. ArePlanesBuilt p t s new) (sym errs)
-    (refused_by p syntax false true is (references ∙ ap (have_all p) mine ∙ missing.1) sides ∙ ap (λ t. Some t) (sym missing.0))
+refused_inter p syntax motion result f s new is references sides mine errs missing = grind (arith, refused_by)
 
 module _ (p : Place) (column row : ℕ) (motion : List Motion) (across : p.address % p.coded.width ≡ column) (down : p.address / p.coded.width ≡ row) (mine : p.motion ≡ motion) where
   -- what is predicted without a place
@@ -43,12 +41,7 @@ module _ (p : Place) (column row : ℕ) (motion : List Motion) (across : p.addre
 
   -- is the prediction at the macroblock's place
   pub predicted_there : (k x y : ℕ) → sum_of (predicted k x y) (residual_at p k x y) ≡ inter_at p k x y
-  predicted_there k x y =
-      let a = p.address % p.coded.width in
-      ap (λ v. sum_of v (residual_at p k x y))
-      (ap (λ l. inter_predicted p.coded p.slice (motion_at l k x y) k (size_of k * column + x) (size_of k * row + y)) (sym mine)
-      ∙ ap (λ u. inter_predicted p.coded p.slice (motion_at p.motion k x y) k (size_of k * u + x) (size_of k * row + y)) (sym across)
-      ∙ ap (λ v. inter_predicted p.coded p.slice (motion_at p.motion k x y) k (size_of k * a + x) (size_of k * v + y)) (sym down))
+  predicted_there k x y = grind arith
 
 -- ---- without a residual
 
@@ -84,9 +77,7 @@ module _ (p : Place) (column row qp qp_of_chroma : ℕ) (motion : List Motion) (
   cr = ap (λ (t : Planes). t.cr) are.1 ∙ whole_cr column row f s
 
   kept : (k x y : ℕ) → f k x y ≤ 255 → f k x y ≡ inter_at p k x y
-  kept k x y small =
-      sym (unchanged (f k x y) (residual_at p k x y) small (ap (λ t. residual_of p.coded.chroma_qp_index_offset p.mb.qp t k x y) at.syntax_is))
-      ∙ predicted_there p column row motion at.column_is at.row_is mine k x y
+  kept k x y small = grind (arith, unchanged, predicted_there)
 
   each_kept : (k x y : ℕ) → k < 3 → x < size_of k → y < size_of k → f k x y ≡ inter_at p k x y
   each_kept zero x y few left top = kept 0 x y (laid_small s.luma new.luma (16 * column) (16 * row) 16 (f 0) luma room.luma_columns room.luma_rows l x y left top)

@@ -1,7 +1,8 @@
 -- An intra prediction reads no sample but those of the sides that are available.
-use Rattle.std.proofs.Common.{◌≡◌, ◌∙◌, ℕ, ℤ, ◌+◌, ◌*◌, ◌/◌, ◌<◌, pos, negsuc, nat_lt, Bool, true, false, if◌then◌else◌, refl, sym, ap, arith, slice_index}
+use Rattle.std.proofs.Common.{◌≡◌, ◌∙◌, ℕ, zero, suc, ◌≤◌, ℤ, ◌+◌, ◌*◌, ◌/◌, ◌<◌, pos, negsuc, nat_lt, Bool, true, false, if◌then◌else◌, refl, sym, ap, arith, slice_index}
 use Rattle.std.specs.Prelude.{Some, None, ◌==◌, ◌&&◌}
 use Rattle.std.proofs.Math.Path.{fun_ext}
+use Rattle.std.proofs.lemmas.Bool.{and_parts, cases_lt, ltb-true}
 use Rattle.std.proofs.lemmas.Bool.Decides.{nat_tests}
 use Rattle.avc_transform.proofs.BelowFour.{below_two}
 use Rattle.avc_intra.specs.declared.sides.Sides.{Sides}
@@ -126,6 +127,22 @@ all_chroma a r l c p of_chroma.Plane can x y low high = plane_chroma a r l c can
 
 -- ---- where two pictures agree beside the block
 
+no_further : (n : ℕ) (b : Bool) → ((suc n == 0) && b) ≡ true → ⊥
+no_further n b e = let none : (suc n == 0) ≡ false = grind (arith, nat_tests) in let never : false ≡ true = rw none at e in absurd (cc)
+
+-- what holds on each side that is available holds beside the block
+pub on_each_side : (size : ℕ) (s : Sides) (P : ℤ → ℤ → Type 0) → ((x : ℕ) → x < size → s.above ≡ true → P (pos x) (negsuc 0))
+    → ((x : ℕ) → size ≤ x → x < 8 → s.above_right ≡ true → P (pos x) (negsuc 0)) → ((y : ℕ) → y < size → s.left ≡ true → P (negsuc 0) (pos y))
+    → (s.corner ≡ true → P (negsuc 0) (negsuc 0)) → (x y : ℤ) → is_beside size s x y ≡ true → P x y
+on_each_side size s P above right left corner (pos x) (pos y) is = absurd cc
+on_each_side size s P above right left corner (pos x) (negsuc (suc y)) is = absurd (no_further y _ is)
+on_each_side size s P above right left corner (pos x) (negsuc zero) is = grind (arith, nat_tests, test, nat_lt, and_parts, ltb-true, cases_lt)
+on_each_side size s P above right left corner (negsuc (suc x)) (pos y) is = absurd (no_further x _ is)
+on_each_side size s P above right left corner (negsuc zero) (pos y) is = grind (arith, nat_tests, and_parts, nat_lt, ltb-true)
+on_each_side size s P above right left corner (negsuc (suc x)) (negsuc y) is = absurd (no_further x _ is)
+on_each_side size s P above right left corner (negsuc zero) (negsuc (suc y)) is = absurd (no_further y _ is)
+on_each_side size s P above right left corner (negsuc zero) (negsuc zero) is = corner is
+
 abbrev pub AgreeBeside : (size : ℕ) → Sides → (p q : Around) → Type 0
 AgreeBeside size s p q = (x y : ℤ) → is_beside size s x y ≡ true → p x y ≡ q x y
 
@@ -163,9 +180,4 @@ agree16x16 s p q agree mode x y low high =
 
 pub agree_chroma : (s : Sides) (p q : Around) → AgreeBeside 8 s p q → (mode : ModeChroma) (x y : ℕ) → x < 8 → y < 8
     → intra_chroma s p mode x y ≡ intra_chroma s q mode x y
-agree_chroma s p q agree mode x y low high =
-    if_can (can_predict_chroma s mode) (predict_chroma s p mode x y) (predict_chroma s q mode x y)
-    (λ can.
-    sym (all_chroma s.above s.above_right s.left s.corner p mode can x y low high)
-    ∙ ap (λ t. predict_chroma s t mode x y) (same_beside 8 s p q agree)
-    ∙ all_chroma s.above s.above_right s.left s.corner q mode can x y low high)
+agree_chroma s p q agree mode x y low high = grind (arith, nat_tests, if_can, all_chroma, same_beside)

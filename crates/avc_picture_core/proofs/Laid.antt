@@ -1,5 +1,5 @@
 -- Predictions laid into a plane, weighted where there are weights.
-use Rattle.std.proofs.Common.{ℕ, ◌≡◌, ◌+◌, ◌*◌, ◌/◌, ◌%◌, ◌<◌, arith, List, length, map, slice_index, sym, ap, ◌∙◌, mul_comm}
+use Rattle.std.proofs.Common.{ℕ, ◌≡◌, ◌+◌, ◌*◌, ◌/◌, ◌%◌, ◌<◌, arith, List, length, map, slice_index, ap, ◌∙◌, mul_comm}
 use Rattle.std.specs.Prelude.{Option, Some, None}
 use Rattle.std.proofs.lemmas.List.{get_or-map}
 use Rattle.std.proofs.lemmas.List.FromFn.{get_or-map-range_with_len, length-map-range_with_len}
@@ -35,17 +35,9 @@ module _ (s : Plane) (left top x y w h : ℕ) (p : ℕ → ℕ → ℕ) (by : Op
 
   -- without a weight
   pub laid_by : by ≡ None → with_block s (left + x) (top + y) w h (λ i j. p (left + x + i) (top + y + j)) ≡ with_block s (left + x) (top + y) w h (wanted_at by)
-  laid_by e =
-      with_block_same s (left + x) (top + y) w h (λ i j. p (left + x + i) (top + y + j)) (wanted_at by)
-      (λ i j column row. moved i j ∙ ap (λ o. wanted_at o i j) (sym e))
+  laid_by e = grind (arith, with_block_same, moved)
 
   -- with one
   pub laid_weighted : (o : Weight) → by ≡ Some o → (block : List ℕ) → block ≡ block_of w h (λ i j. p (left + x + i) (top + y + j))
       → with_block s (left + x) (top + y) w h (λ i j. weighted_by (Some o) (slice_index block (w * j + i))) ≡ with_block s (left + x) (top + y) w h (wanted_at by)
-  laid_weighted o e block is =
-      with_block_same s (left + x) (top + y) w h (λ i j. weighted_by (Some o) (slice_index block (w * j + i))) (wanted_at by)
-      (λ i j column row.
-      ap (λ xs. weighted_by (Some o) (slice_index xs (w * j + i))) is
-      ∙ ap (λ k. weighted_by (Some o) (slice_index (block_of w h (λ i j. p (left + x + i) (top + y + j))) k)) (omega (arith, mul_comm w j))
-      ∙ ap (weighted_by (Some o)) (block_sample w h i j (λ i j. p (left + x + i) (top + y + j)) column row ∙ moved i j)
-      ∙ ap (λ o. wanted_at o i j) (sym e))
+  laid_weighted o e block is = grind (arith, with_block_same, mul_comm, block_sample, moved)

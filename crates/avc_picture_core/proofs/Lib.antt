@@ -6,7 +6,6 @@ pub mod Adding
 pub mod Coefficients
 pub mod InPlace
 mod Weighted
-mod SquareRows
 mod Laid
 mod Tiles
 mod Shapes

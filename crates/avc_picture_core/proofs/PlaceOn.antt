@@ -1,12 +1,12 @@
 -- A macroblock's place on a canvas, as the code knows it: what its blocks may read, and what was built of it.
-use Rattle.std.proofs.Common.{◌≡◌, ℕ, ◌+◌, ◌*◌, ◌/◌, ◌%◌, ◌<◌, ◌≤◌, nat_lt, ℤ, pos, negsuc, ◌+ℤ◌, ◌-ℤ◌, Bool, true, false, not, ◌||◌, List, Option, None, Result, Ok, Err, arith, refl, sym, ap, subst, ◌∙◌, inl, inr}
+use Rattle.std.proofs.Common.{◌≡◌, ℕ, ◌+◌, ◌*◌, ◌/◌, ◌%◌, ◌≤◌, nat_lt, ℤ, pos, negsuc, Bool, true, false, not, ◌||◌, List, Option, None, Result, Ok, Err, arith, refl, sym, ap, subst, ◌∙◌}
 use Rattle.std.proofs.lemmas.Bool.{cases_lt, le-ltb, true≢false}
 use Rattle.std.proofs.lemmas.Int.{ints}
 use Rattle.avc_types.specs.declared.fault.Fault.{Fault}
 use Rattle.avc_types.specs.Macroblock.{Mb, MbSyntax}
 use Rattle.avc_types.specs.Pictures.{Coded}
 use Rattle.avc_neigh.specs.Around.{Around, is_intra_facts}
-use Rattle.avc_neigh.specs.Blocks.{Location, block_x, block_y, block_at, location_at, location_in}
+use Rattle.avc_neigh.specs.Blocks.{Location, block_x, block_y, block_at, location_in}
 use Rattle.avc_neigh.specs.Laws.{is_there_near}
 use Rattle.avc_neigh.specs.declared.facts.NeighbourFacts.{NeighbourFacts}
 use Rattle.avc_motion.specs.Motion.{is_intra}
@@ -31,21 +31,10 @@ readable_as constrained n k (pos x) (negsuc y) = refl
 readable_as constrained n k (negsuc x) (negsuc y) = refl
 
 sides_same : (s t : Sides) → s.above ≡ t.above → s.above_right ≡ t.above_right → s.left ≡ t.left → s.corner ≡ t.corner → s ≡ t
-sides_same s t above right left corner =
-    ap (λ (b : Bool). record s { above = b }) above
-    ∙ ap (λ (b : Bool). record s { above = t.above; above_right = b }) right
-    ∙ ap (λ (b : Bool). record s { above = t.above; above_right = t.above_right; left = b }) left
-    ∙ ap (λ (b : Bool). record s { above = t.above; above_right = t.above_right; left = t.left; corner = b }) corner
+sides_same s t above right left corner = grind arith
 
 pub near_readable : (constrained : Bool) (n : Around) (k : ℕ) → sides_near constrained n k ≡ readable_sides (readable_near constrained n) k
-near_readable constrained n k =
-    let x = pos (block_x k) in
-    let y = pos (block_y k) in
-    sides_same (sides_near constrained n k) (readable_sides (readable_near constrained n) k)
-    (readable_as constrained n k x (y -ℤ pos 1))
-    (readable_as constrained n k (x +ℤ pos 4) (y -ℤ pos 1))
-    (readable_as constrained n k (x -ℤ pos 1) y)
-    (readable_as constrained n k (x -ℤ pos 1) (y -ℤ pos 1))
+near_readable constrained n k = grind (arith, ints, pos, sides_same, readable_as)
 
 -- ---- and that it lies in the picture
 
@@ -66,34 +55,7 @@ on_picture : (c : Coded) (a k : ℕ) (l : Option Location) → is_there c a k l 
 on_picture c a k l there off = true≢false (sym there ∙ ap (is_there c a k) off)
 
 pub sides_inside : (c : Coded) (a k : ℕ) → AreInside (16 * (a % c.width) + block_x k) (16 * (a / c.width) + block_y k) (16 * c.width) (sides_of c a k)
-sides_inside c a k =
-    let m = a % c.width in
-    let r = a / c.width in
-    let x = pos (block_x k) in
-    let y = pos (block_y k) in
-    let at : ℤ → ℤ → Option Location = λ u v. location_at c.width a u v in
-    let below : (u : ℤ) → is_there c a k (at u (y -ℤ pos 1)) ≡ true → 0 < 16 * r + block_y k =
-    λ u there. elim (cases_lt 0 (16 * r + block_y k)) [
-      | inl some ↦ some
-      | inr none ↦ absurd (on_picture c a k (at u (y -ℤ pos 1)) there (up_off c.width (pos (16 * m) +ℤ u) (pos (16 * r) +ℤ (y -ℤ pos 1)) (omega (arith, ints, none))))
-    ] in
-    let after : (v : ℤ) → is_there c a k (at (x -ℤ pos 1) v) ≡ true → 0 < 16 * m + block_x k =
-    λ v there. elim (cases_lt 0 (16 * m + block_x k)) [
-      | inl some ↦ some
-      | inr none ↦ absurd (on_picture c a k (at (x -ℤ pos 1) v) there (left_off c.width (pos (16 * m) +ℤ (x -ℤ pos 1)) (pos (16 * r) +ℤ v) (omega (arith, ints, none))))
-    ] in
-    let before : is_there c a k (at (x +ℤ pos 4) (y -ℤ pos 1)) ≡ true → 16 * m + block_x k + 8 ≤ 16 * c.width =
-    λ there. elim (cases_lt (16 * m + block_x k + 4) (16 * c.width)) [
-      | inl some ↦ omega (arith, some)
-      | inr none ↦ absurd (on_picture c a k (at (x +ℤ pos 4) (y -ℤ pos 1)) there
-          (right_off c.width (16 * m + block_x k + 4) (pos (16 * m) +ℤ (x +ℤ pos 4)) (pos (16 * r) +ℤ (y -ℤ pos 1)) (omega (arith, ints)) none))
-    ] in
-    record {
-      above = below x;
-      above_right = λ there. (below (x +ℤ pos 4) there, before there);
-      before = after y;
-      corner = λ there. (after (y -ℤ pos 1) there, below (x -ℤ pos 1) there);
-    }
+sides_inside c a k = grind (arith, ints, pos, cases_lt, on_picture, up_off, left_off, right_off)
 
 -- ---- all of it
 
@@ -109,9 +71,7 @@ module _ {PAD : ℕ} (width height : ℕ) (offset : ℤ) (constrained : Bool) (p
   place_in qp_of_chroma chroma on =
       let near = readable_near constrained n in
       let inside : (k : ℕ) → AreInside (16 * (address % width) + block_x k) (16 * (address / width) + block_y k) (16 * width) (sides_of p.coded p.address k) =
-      λ k. subst (λ w. AreInside (16 * (address % w) + block_x k) (16 * (address / w) + block_y k) (16 * w) (sides_of p.coded p.address k)) on.width
-      (subst (λ a. AreInside (16 * (a % p.coded.width) + block_x k) (16 * (a / p.coded.width) + block_y k) (16 * p.coded.width) (sides_of p.coded p.address k)) on.address_is
-      (sides_inside p.coded p.address k)) in
+      λ k. rw (← on.width, ← on.address_is) (sides_inside p.coded p.address k) in
       record {
         at = record {
           column_is = ap (λ a. a % p.coded.width) on.address_is ∙ ap (λ w. address % w) on.width;

@@ -1,7 +1,6 @@
 -- Samples that are predicted by the list of reference pictures are the predictions of every coded picture with these pictures.
 use Rattle.std.proofs.Common.{ℕ, zero, suc, ◌≡◌, ◌+◌, ◌*◌, ◌%◌, ◌<◌, arith, Bool, true, false, ◌&&◌, List, [], ◌∷◌, length, refl, sym, ap, subst, ◌∙◌, inl, inr}
 use Rattle.std.specs.Prelude.{Option, Some, None, IfSome, is_some, slice_index_or}
-use Rattle.std.specs.Option.{option_map}
 use Rattle.std.specs.List.{list_all}
 use Rattle.std.proofs.lemmas.Bool.{cases_lt, false≢true}
 use Rattle.std.proofs.lemmas.List.{get_or_past}
@@ -13,12 +12,9 @@ use Rattle.avc_neigh.specs.Blocks.{block_at}
 use Rattle.avc_neigh.specs.declared.facts.Motion.{Motion}
 use Rattle.avc_neigh.specs.declared.facts.Motion.TheVariants as motions
 use Rattle.avc_motion.specs.Motion.{frame_named, vector_of}
-use Rattle.avc_plane.specs.Plane.{sample}
 use Rattle.avc_plane.specs.Planes.{Planes}
 use Rattle.avc_plane.specs.Frames.{padded_planes_of}
-use Rattle.avc_inter.specs.Luma.{inter_luma}
-use Rattle.avc_inter.specs.Chroma.{inter_chroma}
-use Rattle.avc_picture_core.specs.Built.{size_of, luma_place, component_weight, fetched, frame_sample, inter_predicted, reference_of, weighted_by}
+use Rattle.avc_picture_core.specs.Built.{size_of, luma_place, fetched, inter_predicted, reference_of}
 use Rattle.avc_picture_core.specs.Faults.{is_picture}
 use Rattle.avc_picture_core.specs.References.{AreReferences, AreUsable, IsReference, IsUsable, ShowsReference}
 use Rattle.avc_picture_core.specs.Inter.{AreUsableAt, HaveOneMotion, IsMacroblockShape, IsUsableAt, block_motion, fetched_from, have_pictures, motion_at, picture_in, predicted_at, predicted_from, predicted_in, wanted, with_part}
@@ -34,19 +30,7 @@ some_map P Q None f p = p
 some_map P Q (Some x) f p = f x p
 
 usable_on : {PAD : ℕ} (w h column row : ℕ) (p : ReferencePicture PAD) → column < w → row < h → IsUsable w h p → IsUsableAt column row p
-usable_on w h column row p a b u =
-    let s = u.sized in
-    record {
-      planes = record {
-        luma_columns = omega (arith, s.luma_width);
-        luma_rows = omega (arith, s.luma_height);
-        cb_columns = omega (arith, s.cb_width);
-        cb_rows = omega (arith, s.cb_height);
-        cr_columns = omega (arith, s.cr_width);
-        cr_rows = omega (arith, s.cr_height);
-      };
-      weights = u.weights;
-    }
+usable_on w h column row p a b u = grind arith
 
 usable_at : {PAD : ℕ} (w h : ℕ) (references : List (Option (ReferencePicture PAD))) (r : ℕ) → AreUsable w h references → IfSome (slice_index_or references r None) (IsUsable w h)
 usable_at w h references r all = elim (cases_lt r (length references)) [
@@ -77,8 +61,7 @@ same_all p q e (x ∷ xs) = ap (λ b. b && list_all p xs) (e x) ∙ ap (λ b. q 
 
 pub pictures_shown : {PAD : ℕ} (c : Coded) (slice : ℕ) (references : List (Option (ReferencePicture PAD))) (motion : List Motion) → AreReferences c slice references
     → list_all (λ m. is_picture (reference_of c slice m)) motion ≡ have_pictures references motion
-pictures_shown c slice references motion are =
-    same_all (λ m. is_picture (reference_of c slice m)) (λ m. is_some (picture_in references m)) (is_shown c slice references are) motion
+pictures_shown c slice references motion are = grind (arith, same_all, is_shown)
 
 -- ---- samples
 
@@ -87,24 +70,13 @@ module _ {PAD : ℕ} (c : Coded) (slice r w h : ℕ) (p : ReferencePicture PAD) 
   planes = padded_planes_of p.planes.now
 
   fetched_is : (k x y : ℕ) → fetched_from planes v k x y ≡ fetched c slice (motions.Inter r v) k x y
-  fetched_is zero x y =
-      ap (λ n. inter_luma n planes.luma.height (sample planes.luma) v x y) (usable.sized.luma_width ∙ ap (λ n. 16 * n) (sym wide))
-      ∙ ap (λ n. inter_luma (16 * c.width) n (sample planes.luma) v x y) (usable.sized.luma_height ∙ ap (λ n. 16 * n) (sym high))
-      ∙ ap (λ o. inter_luma (16 * c.width) (16 * c.height) (frame_sample o 0) v x y) (sym shows.frame)
-  fetched_is (suc zero) x y =
-      ap (λ n. inter_chroma n planes.cb.height (sample planes.cb) v x y) (usable.sized.cb_width ∙ ap (λ n. 8 * n) (sym wide))
-      ∙ ap (λ n. inter_chroma (8 * c.width) n (sample planes.cb) v x y) (usable.sized.cb_height ∙ ap (λ n. 8 * n) (sym high))
-      ∙ ap (λ o. inter_chroma (8 * c.width) (8 * c.height) (frame_sample o 1) v x y) (sym shows.frame)
-  fetched_is (suc (suc k)) x y =
-      ap (λ n. inter_chroma n planes.cr.height (sample planes.cr) v x y) (usable.sized.cr_width ∙ ap (λ n. 8 * n) (sym wide))
-      ∙ ap (λ n. inter_chroma (8 * c.width) n (sample planes.cr) v x y) (usable.sized.cr_height ∙ ap (λ n. 8 * n) (sym high))
-      ∙ ap (λ o. inter_chroma (8 * c.width) (8 * c.height) (frame_sample o (suc (suc k))) v x y) (sym shows.frame)
+  fetched_is zero x y = rw (shows.frame, wide, high) (cc (usable.sized.luma_width, usable.sized.luma_height))
+  fetched_is (suc zero) x y = rw (shows.frame, wide, high) (cc (usable.sized.cb_width, usable.sized.cb_height))
+  fetched_is (suc (suc k)) x y = rw (shows.frame, wide, high) (cc (usable.sized.cr_width, usable.sized.cr_height))
 
   from_is : (k x y : ℕ) → predicted_from p v k x y ≡ inter_predicted c slice (motions.Inter r v) k x y
   unfolding predicted_from
-  from_is k x y =
-      ap (λ n. weighted_by (option_map (component_weight k) p.weights) n) (fetched_is k x y)
-      ∙ ap (λ o. weighted_by (option_map (component_weight k) o) (fetched c slice (motions.Inter r v) k x y)) (sym shows.weights)
+  from_is k x y = grind (arith, fetched_is)
 
 by_entry : {PAD : ℕ} (c : Coded) (slice r w h : ℕ) (v : Mv) (k x y : ℕ) → c.width ≡ w → c.height ≡ h → (o : Option (ReferencePicture PAD)) → (references : List (Option (ReferencePicture PAD)))
     → slice_index_or references r None ≡ o → ShowsReference c slice r o → IfSome o (IsUsable w h) → is_some o ≡ true
@@ -116,15 +88,13 @@ predicted_is : {PAD : ℕ} (c : Coded) (slice w h : ℕ) (references : List (Opt
     → (m : Motion) → is_some (picture_in references m) ≡ true → predicted_in references m k x y ≡ inter_predicted c slice m k x y
 predicted_is c slice w h references k x y wide high are all motions.Absent there = absurd (false≢true there)
 predicted_is c slice w h references k x y wide high are all motions.Intra there = absurd (false≢true there)
-predicted_is c slice w h references k x y wide high are all (motions.Inter r v) there =
-    by_entry c slice r w h v k x y wide high (slice_index_or references r None) references refl (are.each r) (usable_at w h references r all) there
+predicted_is c slice w h references k x y wide high are all (motions.Inter r v) there = grind (arith, by_entry, usable_at, there)
 
 -- a block has a picture where all have
 has_picture : {PAD : ℕ} (references : List (Option (ReferencePicture PAD))) (motion : List Motion) (i : ℕ) → i < length motion → have_pictures references motion ≡ true
     → (b : Bool) → is_some (picture_in references (block_motion motion i)) ≡ b → b ≡ true
 has_picture references motion i within all true e = refl
-has_picture references motion i within all false e =
-    absurd (false≢true (sym (list_all_at (λ m. is_some (picture_in references m)) motion i motions.Absent within e) ∙ all))
+has_picture references motion i within all false e = grind (arith, false≢true, list_all_at)
 
 pub there : {PAD : ℕ} (references : List (Option (ReferencePicture PAD))) (motion : List Motion) (i : ℕ) → length motion ≡ 16 → i < 16 → have_pictures references motion ≡ true
     → is_some (picture_in references (block_motion motion i)) ≡ true
@@ -166,8 +136,7 @@ as_first p motion long shape false e = e ∙ sym (list_all_at p motion 0 motions
 
 pub all_as_first : {PAD : ℕ} (references : List (Option (ReferencePicture PAD))) (motion : List Motion) → length motion ≡ 16 → IsMacroblockShape motion Whole
     → is_some (picture_in references (block_motion motion 0)) ≡ have_pictures references motion
-all_as_first references motion long shape =
-    as_first (λ m. is_some (picture_in references m)) motion long shape (is_some (picture_in references (block_motion motion 0))) refl
+all_as_first references motion long shape = grind (arith, as_first)
 
 -- the picture of a block can be predicted from
 usable_named : {PAD : ℕ} (column row : ℕ) (references : List (Option (ReferencePicture PAD))) (p : ReferencePicture PAD) → AreUsableAt column row references

@@ -27,17 +27,10 @@ module _ (pad left upper size first stride : ℕ) (s : Plane) (sides : Sides) (r
   is_below some = omega (arith, is_first, is_stride, row_above some)
 
   above_at : (i : ℕ) → 0 < upper → left + i < s.width → 0 < s.height → seen_from s left upper (pos i) (negsuc 0) ≡ slice_index rows (first - stride + i)
-  above_at i some column row =
-      ap (λ v. sample s (left + i) v) (up some)
-      ∙ sym (have.at (left + i) (upper - 1) column (omega arith))
-      ∙ ap (slice_index rows) (omega (arith, is_first, is_stride, row_above some))
+  above_at i some column row = grind (arith, ints, up, row_above)
 
   left_at : (i : ℕ) → 0 < left → i < size → seen_from s left upper (negsuc 0) (pos i) ≡ slice_index rows (first + i * stride - 1)
-  left_at i some row =
-      let e : i * stride ≡ i * (s.width + 2 * pad) = ap (λ n. i * n) is_stride in
-      ap (λ u. sample s u (upper + i)) (back some)
-      ∙ sym (have.at (left - 1) (upper + i) (omega arith) (omega arith))
-      ∙ ap (slice_index rows) (omega (arith, is_first, e, add-mul (upper + pad) i (s.width + 2 * pad)))
+  left_at i some row = grind (arith, ints, back, add-mul)
 
   corner_at : 0 < left → 0 < upper → 0 < size → (stride < first) × (seen_from s left upper (negsuc 0) (negsuc 0) ≡ slice_index rows (first - stride - 1))
   corner_at some_left some_upper some = (

@@ -1,11 +1,11 @@
 -- What is built without a place, as the built picture has it at its place.
-use Rattle.std.proofs.Common.{arith, [], slice_index_or, ◌≡◌, ℕ, ◌+◌, ◌*◌, ◌/◌, ◌%◌, ◌<◌, ◌≤◌, ℤ, Bool, true, false, not, ◌&&◌, List, slice_index, if◌then◌else◌, refl, sym, ap, ◌∙◌}
+use Rattle.std.proofs.Common.{arith, suc, [], slice_index_or, ◌≡◌, ℕ, ◌+◌, ◌*◌, ◌/◌, ◌%◌, ◌<◌, ◌≤◌, ℤ, Bool, true, not, ◌&&◌, List, slice_index, if◌then◌else◌, refl, sym, ap, ◌∙◌}
 use Rattle.std.specs.Prelude.{Some, None, Option}
 use Rattle.std.specs.Option.{unwrap_or}
 use Rattle.avc_types.specs.declared.fault.Fault.{Fault}
 use Rattle.avc_types.specs.declared.fault.Fault.TheVariants.{RefMissing, IntraUnavailable}
 use Rattle.avc_types.specs.Macroblock.{MbSyntax, Residual, i_16x16, i_nxn, i_pcm}
-use Rattle.avc_transform.specs.MacroblockResidual.{chroma_residual, luma_residual_16x16, residual_of}
+use Rattle.avc_transform.specs.MacroblockResidual.{luma_residual, luma_residual_16x16, residual_of}
 use Rattle.avc_plane.specs.Plane.{Plane, with_block}
 use Rattle.avc_plane.specs.Planes.{Planes}
 use Rattle.avc_intra.specs.declared.sides.Sides.{Sides}
@@ -13,37 +13,29 @@ use Rattle.avc_intra.specs.Neighbourhood.{Around}
 use Rattle.avc_intra.specs.declared.luma4x4.Mode4x4.{Mode4x4}
 use Rattle.avc_intra.specs.declared.luma16x16.Mode16x16.{Mode16x16}
 use Rattle.avc_intra.specs.declared.chroma.ModeChroma.{ModeChroma}
-use Rattle.avc_intra.specs.Luma4x4.{intra4x4, mode4x4_of}
+use Rattle.avc_intra.specs.Luma4x4.{can_predict4x4, intra4x4, mode4x4_of}
 use Rattle.avc_neigh.specs.Blocks.{block_x, block_y, block_at}
 use Rattle.avc_neigh.specs.declared.facts.NearMode.TheVariants.{Absent as absent}
 use Rattle.avc_transform.specs.Residual.{residual4x4}
-use Rattle.avc_transform.specs.MacroblockResidual.{luma_residual}
-use Rattle.avc_picture_core.specs.Built.{left_of_mb, mode_number, top_of_mb, with_block4x4}
-use Rattle.avc_picture_core.specs.Sides.{AreInside}
 use Rattle.avc_picture_core.proofs.Adding.{luma_number, luma_remainders}
 use Rattle.avc_intra.specs.Luma16x16.{intra16x16, mode16x16_of}
-use Rattle.avc_intra.specs.Chroma.{intra_chroma, mode_chroma_of}
-use Rattle.avc_picture_core.specs.Built.{Place, chroma_after, inter_at, size_of, with_macroblock, luma_after, planes_after, residual_at, seen_from, sides_of, sum_of}
+use Rattle.avc_intra.specs.Chroma.{can_predict_chroma, intra_chroma, mode_chroma_of}
+use Rattle.avc_picture_core.specs.Built.{Place, chroma_after, inter_at, left_of_mb, mode_number, top_of_mb, with_block4x4, size_of, with_macroblock, luma_after, planes_after, residual_at, seen_from, sides_of, sum_of}
 use Rattle.avc_picture_core.specs.Faults.{has_references, has_sides, refusal}
-use Rattle.avc_picture_core.specs.Places.{IsAt}
+use Rattle.avc_picture_core.specs.Places.{IsAt, MayRead}
 use Rattle.std.specs.List.{list_all, range_with_len}
 use Rattle.avc_neigh.specs.declared.facts.NearMode.{NearMode}
-use Rattle.avc_intra.specs.Luma4x4.{can_predict4x4}
-use Rattle.avc_intra.specs.Chroma.{can_predict_chroma}
 use Rattle.avc_picture_core.specs.declared.sides.ReadableNeighbours.{ReadableNeighbours}
-use Rattle.avc_picture_core.specs.Sides.{readable_sides}
+use Rattle.avc_picture_core.specs.Sides.{AreInside, readable_sides}
 use Rattle.avc_picture_core.specs.Nxn.{IsNxnAt}
-use Rattle.avc_picture_core.specs.Places.{MayRead}
+use Rattle.avc_picture_core.proofs.IntraRows.{chroma_from}
 use Rattle.avc_picture_core.proofs.Sixteens.{same_sixteen}
 use Rattle.avc_picture_core.proofs.Blocks.{with_block_same}
 
 -- a block at the same place with the same samples
 pub laid : (s : Plane) (size a b column row : ℕ) (f h : ℕ → ℕ → ℕ) → a ≡ column → b ≡ row → ((x y : ℕ) → x < size → y < size → f x y ≡ h x y)
     → with_block s (size * column) (size * row) size size f ≡ with_block s (size * a) (size * b) size size h
-laid s size a b column row f h across down same =
-    ap (λ u. with_block s (size * u) (size * row) size size f) (sym across)
-    ∙ ap (λ v. with_block s (size * a) (size * v) size size f) (sym down)
-    ∙ with_block_same s (size * a) (size * b) size size f h same
+laid s size a b column row f h across down same = rw (← across, ← down) (with_block_same s (size * a) (size * b) size size f h same)
 
 -- an intra prediction with its residual
 pub predicted_at : (P : Sides → Around → ℕ → ℕ → Option ℕ) (s : Plane) (size a b column row : ℕ) (here there : Sides) (residual other : ℕ → ℕ → ℤ)
@@ -51,18 +43,14 @@ pub predicted_at : (P : Sides → Around → ℕ → ℕ → Option ℕ) (s : Pl
     → with_block s (size * column) (size * row) size size (λ x y. sum_of (unwrap_or (P here (seen_from s (size * column) (size * row)) x y) 0) (residual x y))
     ≡ with_block s (size * a) (size * b) size size (λ x y. sum_of (unwrap_or (P there (seen_from s (size * a) (size * b)) x y) 0) (other x y))
 predicted_at P s size a b column row here there residual other across down sides same =
-    laid s size a b column row (λ x y. sum_of (unwrap_or (P here (seen_from s (size * column) (size * row)) x y) 0) (residual x y))
-    (λ x y. sum_of (unwrap_or (P there (seen_from s (size * a) (size * b)) x y) 0) (other x y)) across down
-    (λ x y left top.
-    ap (λ u. sum_of (unwrap_or (P here (seen_from s (size * u) (size * row)) x y) 0) (residual x y)) (sym across)
-    ∙ ap (λ v. sum_of (unwrap_or (P here (seen_from s (size * a) (size * v)) x y) 0) (residual x y)) (sym down)
-    ∙ ap (λ t. sum_of (unwrap_or (P t (seen_from s (size * a) (size * b)) x y) 0) (residual x y)) (sym sides)
-    ∙ ap (sum_of (unwrap_or (P there (seen_from s (size * a) (size * b)) x y) 0)) (sym (same x y)))
+    rw (← across, ← down, ← sides)
+    (with_block_same s (size * a) (size * b) size size (λ x y. sum_of (unwrap_or (P there (seen_from s (size * a) (size * b)) x y) 0) (residual x y))
+    (λ x y. sum_of (unwrap_or (P there (seen_from s (size * a) (size * b)) x y) 0) (other x y))
+    (λ x y left top. ap (sum_of (unwrap_or (P there (seen_from s (size * a) (size * b)) x y) 0)) (sym (same x y))))
 
 -- planes with the same components
 pub planes_same : (a b : Planes) → a.luma ≡ b.luma → a.cb ≡ b.cb → a.cr ≡ b.cr → a ≡ b
-planes_same a b l u v =
-    ap (λ (t : Plane). record a { luma = t }) l ∙ ap (λ (t : Plane). record a { luma = b.luma; cb = t }) u ∙ ap (λ (t : Plane). record a { luma = b.luma; cb = b.cb; cr = t }) v
+planes_same a b l u v = grind arith
 
 -- ---- refusals
 
@@ -71,73 +59,29 @@ refused_if references sides = if not references then Some RefMissing else (if no
 
 pub refused_by : (p : Place) (syntax : MbSyntax) (references sides : Bool) → p.mb.syntax ≡ syntax → has_references p syntax ≡ references → has_sides p syntax ≡ sides
     → refusal p ≡ refused_if references sides
-refused_by p syntax references sides is r s =
-    ap (λ t. refused_if (has_references p t) (has_sides p t)) is
-    ∙ ap (λ t. refused_if t (has_sides p syntax)) r
-    ∙ ap (refused_if references) s
+refused_by p syntax references sides is r s = rw (is, r, s) refl
 
--- ---- Intra 16x16
+-- ---- intra predictions with their residual
 
-module _ (p : Place) (column row m chroma qp qp_of_chroma : ℕ) (r : Residual) (sides : Sides) (at : IsAt column row (i_16x16 m chroma r) qp qp_of_chroma p)
-    (mine : sides_of p.coded p.address 0 ≡ sides) where
-  pub luma_16x16 : (s new : Plane) (mode : Mode16x16) → mode ≡ mode16x16_of m
-      → new ≡ with_block s (16 * column) (16 * row) 16 16 (λ x y. sum_of (unwrap_or (intra16x16 sides (seen_from s (16 * column) (16 * row)) mode x y) 0) (luma_residual_16x16 qp r x y))
-      → new ≡ luma_after p p.mb.syntax s
-  luma_16x16 s new mode of is =
-      is
-      ∙ ap (λ t. with_block s (16 * column) (16 * row) 16 16 (λ x y. sum_of (unwrap_or (intra16x16 sides (seen_from s (16 * column) (16 * row)) t x y) 0) (luma_residual_16x16 qp r x y))) of
-      ∙ predicted_at (λ t a x y. intra16x16 t a (mode16x16_of m) x y) s 16 (p.address % p.coded.width) (p.address / p.coded.width) column row sides (sides_of p.coded p.address 0)
-      (luma_residual_16x16 qp r) (residual_at p 0) at.column_is at.row_is mine
-      (λ x y. ap (λ t. residual_of p.coded.chroma_qp_index_offset p.mb.qp t 0 x y) at.syntax_is ∙ ap (λ q. luma_residual_16x16 q r x y) at.qp_is)
-      ∙ sym (ap (λ t. luma_after p t s) at.syntax_is)
+pub luma_16x16 : (p : Place) (column row m chroma qp qp_of_chroma : ℕ) (r : Residual) (sides : Sides) (s new : Plane) (mode : Mode16x16) → IsAt column row (i_16x16 m chroma r) qp qp_of_chroma p
+    → sides_of p.coded p.address 0 ≡ sides → mode ≡ mode16x16_of m
+    → new ≡ with_block s (16 * column) (16 * row) 16 16 (λ x y. sum_of (unwrap_or (intra16x16 sides (seen_from s (16 * column) (16 * row)) mode x y) 0) (luma_residual_16x16 qp r x y))
+    → new ≡ luma_after p p.mb.syntax s
+luma_16x16 p column row m chroma qp qp_of_chroma r sides s new mode at mine of is =
+    rw of at is
+    ∙ predicted_at (λ t a x y. intra16x16 t a (mode16x16_of m) x y) s 16 _ _ column row sides (sides_of p.coded p.address 0) (luma_residual_16x16 qp r) (residual_at p 0)
+    at.column_is at.row_is mine (λ x y. rw (at.syntax_is, at.qp_is) refl)
+    ∙ sym (ap (λ t. luma_after p t s) at.syntax_is)
 
-  pub cb_16x16 : (s new : Plane) (mode : ModeChroma) → mode ≡ mode_chroma_of chroma
-      → new ≡ with_block s (8 * column) (8 * row) 8 8 (λ x y. sum_of (unwrap_or (intra_chroma sides (seen_from s (8 * column) (8 * row)) mode x y) 0) (chroma_residual qp_of_chroma r.cb_dc r.cb_ac x y))
-      → new ≡ chroma_after p 1 p.mb.syntax s
-  cb_16x16 s new mode of is =
-      is
-      ∙ ap (λ t. with_block s (8 * column) (8 * row) 8 8 (λ x y. sum_of (unwrap_or (intra_chroma sides (seen_from s (8 * column) (8 * row)) t x y) 0) (chroma_residual qp_of_chroma r.cb_dc r.cb_ac x y))) of
-      ∙ predicted_at (λ t a x y. intra_chroma t a (mode_chroma_of chroma) x y) s 8 (p.address % p.coded.width) (p.address / p.coded.width) column row sides (sides_of p.coded p.address 0)
-      (chroma_residual qp_of_chroma r.cb_dc r.cb_ac) (residual_at p 1) at.column_is at.row_is mine
-      (λ x y. ap (λ t. residual_of p.coded.chroma_qp_index_offset p.mb.qp t 1 x y) at.syntax_is ∙ ap (λ q. chroma_residual q r.cb_dc r.cb_ac x y) at.chroma_is)
-      ∙ sym (ap (λ t. chroma_after p 1 t s) at.syntax_is)
-
-  pub cr_16x16 : (s new : Plane) (mode : ModeChroma) → mode ≡ mode_chroma_of chroma
-      → new ≡ with_block s (8 * column) (8 * row) 8 8 (λ x y. sum_of (unwrap_or (intra_chroma sides (seen_from s (8 * column) (8 * row)) mode x y) 0) (chroma_residual qp_of_chroma r.cr_dc r.cr_ac x y))
-      → new ≡ chroma_after p 2 p.mb.syntax s
-  cr_16x16 s new mode of is =
-      is
-      ∙ ap (λ t. with_block s (8 * column) (8 * row) 8 8 (λ x y. sum_of (unwrap_or (intra_chroma sides (seen_from s (8 * column) (8 * row)) t x y) 0) (chroma_residual qp_of_chroma r.cr_dc r.cr_ac x y))) of
-      ∙ predicted_at (λ t a x y. intra_chroma t a (mode_chroma_of chroma) x y) s 8 (p.address % p.coded.width) (p.address / p.coded.width) column row sides (sides_of p.coded p.address 0)
-      (chroma_residual qp_of_chroma r.cr_dc r.cr_ac) (residual_at p 2) at.column_is at.row_is mine
-      (λ x y. ap (λ t. residual_of p.coded.chroma_qp_index_offset p.mb.qp t 2 x y) at.syntax_is ∙ ap (λ q. chroma_residual q r.cr_dc r.cr_ac x y) at.chroma_is)
-      ∙ sym (ap (λ t. chroma_after p 2 t s) at.syntax_is)
-
--- ---- the chroma of I_NxN
-
-module _ (p : Place) (column row chroma qp qp_of_chroma : ℕ) (coded : List (Option ℕ)) (r : Residual) (sides : Sides) (at : IsAt column row (i_nxn coded chroma r) qp qp_of_chroma p)
-    (mine : sides_of p.coded p.address 0 ≡ sides) where
-  pub cb_nxn : (s new : Plane) (mode : ModeChroma) → mode ≡ mode_chroma_of chroma
-      → new ≡ with_block s (8 * column) (8 * row) 8 8 (λ x y. sum_of (unwrap_or (intra_chroma sides (seen_from s (8 * column) (8 * row)) mode x y) 0) (chroma_residual qp_of_chroma r.cb_dc r.cb_ac x y))
-      → new ≡ chroma_after p 1 p.mb.syntax s
-  cb_nxn s new mode of is =
-      is
-      ∙ ap (λ t. with_block s (8 * column) (8 * row) 8 8 (λ x y. sum_of (unwrap_or (intra_chroma sides (seen_from s (8 * column) (8 * row)) t x y) 0) (chroma_residual qp_of_chroma r.cb_dc r.cb_ac x y))) of
-      ∙ predicted_at (λ t a x y. intra_chroma t a (mode_chroma_of chroma) x y) s 8 (p.address % p.coded.width) (p.address / p.coded.width) column row sides (sides_of p.coded p.address 0)
-      (chroma_residual qp_of_chroma r.cb_dc r.cb_ac) (residual_at p 1) at.column_is at.row_is mine
-      (λ x y. ap (λ t. residual_of p.coded.chroma_qp_index_offset p.mb.qp t 1 x y) at.syntax_is ∙ ap (λ q. chroma_residual q r.cb_dc r.cb_ac x y) at.chroma_is)
-      ∙ sym (ap (λ t. chroma_after p 1 t s) at.syntax_is)
-
-  pub cr_nxn : (s new : Plane) (mode : ModeChroma) → mode ≡ mode_chroma_of chroma
-      → new ≡ with_block s (8 * column) (8 * row) 8 8 (λ x y. sum_of (unwrap_or (intra_chroma sides (seen_from s (8 * column) (8 * row)) mode x y) 0) (chroma_residual qp_of_chroma r.cr_dc r.cr_ac x y))
-      → new ≡ chroma_after p 2 p.mb.syntax s
-  cr_nxn s new mode of is =
-      is
-      ∙ ap (λ t. with_block s (8 * column) (8 * row) 8 8 (λ x y. sum_of (unwrap_or (intra_chroma sides (seen_from s (8 * column) (8 * row)) t x y) 0) (chroma_residual qp_of_chroma r.cr_dc r.cr_ac x y))) of
-      ∙ predicted_at (λ t a x y. intra_chroma t a (mode_chroma_of chroma) x y) s 8 (p.address % p.coded.width) (p.address / p.coded.width) column row sides (sides_of p.coded p.address 0)
-      (chroma_residual qp_of_chroma r.cr_dc r.cr_ac) (residual_at p 2) at.column_is at.row_is mine
-      (λ x y. ap (λ t. residual_of p.coded.chroma_qp_index_offset p.mb.qp t 2 x y) at.syntax_is ∙ ap (λ q. chroma_residual q r.cr_dc r.cr_ac x y) at.chroma_is)
-      ∙ sym (ap (λ t. chroma_after p 2 t s) at.syntax_is)
+-- of a chroma component
+pub chroma_intra : (p : Place) (column row k chroma : ℕ) (sides : Sides) (residual : ℕ → ℕ → ℤ) (s new : Plane) (mode : ModeChroma)
+    → p.address % p.coded.width ≡ column → p.address / p.coded.width ≡ row → sides_of p.coded p.address 0 ≡ sides → ((x y : ℕ) → residual_at p (suc k) x y ≡ residual x y)
+    → mode ≡ mode_chroma_of chroma
+    → new ≡ with_block s (8 * column) (8 * row) 8 8 (λ x y. sum_of (unwrap_or (intra_chroma sides (seen_from s (8 * column) (8 * row)) mode x y) 0) (residual x y))
+    → new ≡ with_macroblock p (suc k) (chroma_from p chroma (suc k) s) s
+chroma_intra p column row k chroma sides residual s new mode across down mine same of is =
+    rw of at is
+    ∙ predicted_at (λ t a x y. intra_chroma t a (mode_chroma_of chroma) x y) s 8 _ _ column row sides (sides_of p.coded p.address 0) residual (residual_at p (suc k)) across down mine same
 
 -- ---- I_PCM
 
@@ -146,15 +90,7 @@ pub planes_pcm : (p : Place) (column row qp qp_of_chroma : ℕ) (luma cb cr : Li
     → new.cb ≡ with_block s.cb (8 * column) (8 * row) 8 8 (λ x y. slice_index cb (8 * y + x))
     → new.cr ≡ with_block s.cr (8 * column) (8 * row) 8 8 (λ x y. slice_index cr (8 * y + x))
     → (refusal p ≡ None) × (new ≡ planes_after p s)
-planes_pcm p column row qp qp_of_chroma luma cb cr at s new l b r =
-    let a = p.address % p.coded.width in
-    let d = p.address / p.coded.width in (
-      refused_by p (i_pcm luma cb cr) true true at.syntax_is refl refl,
-      planes_same new (planes_after p s)
-          (l ∙ laid s.luma 16 a d column row (λ x y. slice_index luma (16 * y + x)) (λ x y. slice_index luma (16 * y + x)) at.column_is at.row_is (λ x y h i. refl) ∙ sym (ap (λ t. luma_after p t s.luma) at.syntax_is))
-          (b ∙ laid s.cb 8 a d column row (λ x y. slice_index cb (8 * y + x)) (λ x y. slice_index cb (8 * y + x)) at.column_is at.row_is (λ x y h i. refl) ∙ sym (ap (λ t. chroma_after p 1 t s.cb) at.syntax_is))
-          (r ∙ laid s.cr 8 a d column row (λ x y. slice_index cr (8 * y + x)) (λ x y. slice_index cr (8 * y + x)) at.column_is at.row_is (λ x y h i. refl) ∙ sym (ap (λ t. chroma_after p 2 t s.cr) at.syntax_is)),
-    )
+planes_pcm p column row qp qp_of_chroma luma cb cr at s new l b r = grind (arith, refused_by, planes_same, laid)
 
 -- ---- sides of the macroblock as those of its first block
 
@@ -174,14 +110,6 @@ inside_chroma column row width wide sides room i = record {
   corner = λ h. let q = i.corner h in (omega (arith, q.0), omega (arith, q.1));
 }
 
-pub both_first : (a b : Bool) → (a && b) ≡ true → a ≡ true
-both_first true b e = refl
-both_first false b e = e
-
-pub both_second : (a b : Bool) → (a && b) ≡ true → b ≡ true
-both_second true b e = e
-both_second false b e = cc
-
 -- ---- one block of I_NxN
 
 pub nxn_block : (p : Place) (k : ℕ) (cur : Plane) (left top : ℕ) (sides : Sides) (mode : Mode4x4) (f : ℕ → ℕ → ℤ)
@@ -192,15 +120,10 @@ pub nxn_block : (p : Place) (k : ℕ) (cur : Plane) (left top : ℕ) (sides : Si
 nxn_block p k cur left top sides mode f across down mine of same =
     let l = left_of_mb p 0 + block_x k in
     let t = top_of_mb p 0 + block_y k in
-    let s = sides_of p.coded p.address k in
-    let m = mode4x4_of (mode_number (slice_index_or p.modes k absent)) in
-    ap (λ u. with_block cur u top 4 4 (λ x y. sum_of (unwrap_or (intra4x4 sides (seen_from cur u top) mode x y) 0) (f x y))) (sym across)
-    ∙ ap (λ v. with_block cur l v 4 4 (λ x y. sum_of (unwrap_or (intra4x4 sides (seen_from cur l v) mode x y) 0) (f x y))) (sym down)
-    ∙ ap (λ q. with_block cur l t 4 4 (λ x y. sum_of (unwrap_or (intra4x4 q (seen_from cur l t) mode x y) 0) (f x y))) (sym mine)
-    ∙ ap (λ q. with_block cur l t 4 4 (λ x y. sum_of (unwrap_or (intra4x4 s (seen_from cur l t) q x y) 0) (f x y))) (sym of)
-    ∙ with_block_same cur l t 4 4 (λ x y. sum_of (unwrap_or (intra4x4 s (seen_from cur l t) m x y) 0) (f x y))
-    (λ x y. sum_of (unwrap_or (intra4x4 s (seen_from cur l t) m x y) 0) (residual_at p 0 (block_x k + x) (block_y k + y)))
-    (λ x y column row. ap (sum_of (unwrap_or (intra4x4 s (seen_from cur l t) m x y) 0)) (same x y column row))
+    let value : ℕ → ℕ → ℕ = λ x y. unwrap_or (intra4x4 (sides_of p.coded p.address k) (seen_from cur l t) (mode4x4_of (mode_number (slice_index_or p.modes k absent))) x y) 0 in
+    rw (← across, ← down, ← mine, ← of)
+    (with_block_same cur l t 4 4 (λ x y. sum_of (value x y) (f x y)) (λ x y. sum_of (value x y) (residual_at p 0 (block_x k + x) (block_y k + y)))
+    (λ x y column row. ap (sum_of (value x y)) (same x y column row)))
 
 -- its residual
 pub nxn_residual : (qp k : ℕ) (r : Residual) (levels : List ℤ) → k < 16 → slice_index_or r.luma k [] ≡ levels → (x y : ℕ) → x < 4 → y < 4
@@ -256,11 +179,4 @@ pub planes_inter : (p : Place) (column row : ℕ) (syntax : MbSyntax) (has : Boo
     → new.cr ≡ with_block s.cr (8 * column) (8 * row) 8 8 (f 2)
     → (refusal p ≡ None) × (new ≡ planes_after p s)
 planes_inter p column row syntax has across down is references sides s new of_luma of_cb of_cr f same l b r =
-    let a = p.address % p.coded.width in
-    let d = p.address / p.coded.width in (
-      refused_by p syntax true true is references sides,
-      planes_same new (planes_after p s)
-          (l ∙ laid s.luma 16 a d column row (f 0) (inter_at p 0) across down (λ x y h i. same 0 x y (omega arith) h i) ∙ sym of_luma ∙ sym (ap (λ t. luma_after p t s.luma) is))
-          (b ∙ laid s.cb 8 a d column row (f 1) (inter_at p 1) across down (λ x y h i. same 1 x y (omega arith) h i) ∙ sym of_cb ∙ sym (ap (λ t. chroma_after p 1 t s.cb) is))
-          (r ∙ laid s.cr 8 a d column row (f 2) (inter_at p 2) across down (λ x y h i. same 2 x y (omega arith) h i) ∙ sym of_cr ∙ sym (ap (λ t. chroma_after p 2 t s.cr) is)),
-    )
+    grind (arith, refused_by, planes_same, laid)

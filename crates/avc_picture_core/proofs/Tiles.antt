@@ -1,5 +1,5 @@
 -- Rectangles of a macroblock's components, laid into the planes.
-use Rattle.std.proofs.Common.{ℕ, suc, ◌≡◌, ◌+◌, ◌-◌, ◌*◌, ◌/◌, ◌%◌, ◌<◌, ◌≤◌, arith, Bool, true, refl, sym, ap, subst, ◌∙◌, inl, inr}
+use Rattle.std.proofs.Common.{ℕ, ◌≡◌, ◌+◌, ◌-◌, ◌*◌, ◌/◌, ◌%◌, ◌<◌, ◌≤◌, arith, Bool, true, refl, sym, ap, ◌∙◌, inl, inr}
 use Rattle.std.specs.Prelude.{if◌then◌else◌, Option}
 use Rattle.std.specs.Option.{option_map}
 use Rattle.std.proofs.lemmas.Bool.{cases_lt}
@@ -13,11 +13,9 @@ use Rattle.avc_plane.proofs.Rectangles.{by_place}
 use Rattle.avc_inter.specs.Luma.{inter_luma}
 use Rattle.avc_inter.specs.Chroma.{inter_chroma}
 use Rattle.avc_picture_core.specs.Built.{size_of, luma_place, component_weight, weighted_by}
-use Rattle.avc_picture_core.specs.Inter.{CoverMacroblock, predicted_from, with_part}
-use Rattle.avc_picture_core.specs.Places.{AreSameSize}
+use Rattle.avc_picture_core.specs.Inter.{predicted_from, with_part}
 use Rattle.avc_picture_core.specs.declared.references.ReferencePicture.{ReferencePicture}
-use Rattle.avc_picture_core.proofs.Blocks.{with_block_same}
-use Rattle.avc_picture_core.proofs.SquareRows.{outside}
+use Rattle.avc_picture_core.proofs.Blocks.{outside, with_block_same}
 use Rattle.avc_picture_core.proofs.Ties.{planes_same}
 
 -- ---- two blocks that are one
@@ -131,25 +129,13 @@ two_beside column row left top w h all f s0 s1 s2 left_even even sum e1 e2 =
 pub part_same : (column row left top w h : ℕ) (f g : ℕ → ℕ → ℕ → ℕ) (s : Planes) → left % 2 ≡ 0 → top % 2 ≡ 0
     → ((k x y : ℕ) → k < 3 → is_inside left top w h (luma_place k x) (luma_place k y) ≡ true → f k x y ≡ g k x y)
     → with_part column row left top w h f s ≡ with_part column row left top w h g s
-part_same column row left top w h f g s left_even top_even same =
-    let chroma = λ (p : Plane) (k : ℕ) (low : k + 1 < 3).
-    with_block_same p (8 * column + left / 2) (8 * row + top / 2) (w / 2) (h / 2) (λ x y. f (suc k) (left / 2 + x) (top / 2 + y)) (λ x y. g (suc k) (left / 2 + x) (top / 2 + y))
-    (λ x y across down. same (suc k) (left / 2 + x) (top / 2 + y) (omega (arith, low))
-    (inside left top w h (2 * (left / 2 + x)) (2 * (top / 2 + y)) (omega (arith, left_even)) (omega (arith, left_even, across)) (omega (arith, top_even)) (omega (arith, top_even, down)))) in
-    planes_same (with_part column row left top w h f s) (with_part column row left top w h g s)
-    (with_block_same s.luma (16 * column + left) (16 * row + top) w h (λ x y. f 0 (left + x) (top + y)) (λ x y. g 0 (left + x) (top + y))
-    (λ x y across down. same 0 (left + x) (top + y) (omega arith) (inside left top w h (left + x) (top + y) (omega arith) (omega (arith, across)) (omega arith) (omega (arith, down)))))
-    (chroma s.cb 0 (omega arith)) (chroma s.cr 1 (omega arith))
+part_same column row left top w h f g s left_even top_even same = grind (arith, with_block_same, inside, planes_same)
 
 -- ---- a whole macroblock
 
 module _ (column row : ℕ) (f : ℕ → ℕ → ℕ → ℕ) (s : Planes) where
   whole_component : (p : Plane) (k left top size : ℕ) → with_block p (left + 0) (top + 0) size size (λ x y. f k (0 + x) (0 + y)) ≡ with_block p left top size size (f k)
-  whole_component p k left top size =
-      ap (λ u. with_block p u (top + 0) size size (λ x y. f k (0 + x) (0 + y))) (omega arith)
-      ∙ ap (λ v. with_block p left v size size (λ x y. f k (0 + x) (0 + y))) (omega arith)
-      ∙ with_block_same p left top size size (λ x y. f k (0 + x) (0 + y)) (f k)
-      (λ x y across down. ap (λ u. f k u (0 + y)) (omega arith) ∙ ap (f k x) (omega arith))
+  whole_component p k left top size = grind (arith, with_block_same)
 
   pub whole_luma : (with_part column row 0 0 16 16 f s).luma ≡ with_block s.luma (16 * column) (16 * row) 16 16 (f 0)
   whole_luma = whole_component s.luma 0 (16 * column) (16 * row) 16
@@ -159,22 +145,6 @@ module _ (column row : ℕ) (f : ℕ → ℕ → ℕ → ℕ) (s : Planes) where
 
   pub whole_cr : (with_part column row 0 0 16 16 f s).cr ≡ with_block s.cr (8 * column) (8 * row) 8 8 (f 2)
   whole_cr = whole_component s.cr 2 (8 * column) (8 * row) 8
-
--- ---- sizes
-
-pub part_covers : (column row left top w h : ℕ) (f : ℕ → ℕ → ℕ → ℕ) (s new : Planes) → new ≡ with_part column row left top w h f s → CoverMacroblock column row s → CoverMacroblock column row new
-part_covers column row left top w h f s new e room =
-    subst (CoverMacroblock column row) (sym e) (record {
-      luma_columns = room.luma_columns;
-      luma_rows = room.luma_rows;
-      cb_columns = room.cb_columns;
-      cb_rows = room.cb_rows;
-      cr_columns = room.cr_columns;
-      cr_rows = room.cr_rows;
-    })
-
-pub part_sized : (column row left top w h : ℕ) (f : ℕ → ℕ → ℕ → ℕ) (s new : Planes) → new ≡ with_part column row left top w h f s → AreSameSize s new
-part_sized column row left top w h f s new e = subst (AreSameSize s) (sym e) ((refl, refl), (refl, refl), (refl, refl))
 
 -- ---- a rectangle that is predicted from one picture
 
@@ -190,8 +160,7 @@ module _ {PAD : ℕ} (p : ReferencePicture PAD) (v : Mv) (column row left top w 
   chroma_laid t reference b width height = with_block t (8 * column + left / 2) (8 * row + top / 2) width height (from_chroma reference b)
 
   narrowed : (t reference : Plane) (b c : Option Weight) → b ≡ c → chroma_laid t reference b cw ch ≡ chroma_laid t reference c (w / 2) (h / 2)
-  narrowed t reference b c e =
-      ap (λ o. chroma_laid t reference o cw ch) e ∙ ap (λ n. chroma_laid t reference c n ch) (omega (arith, wide)) ∙ ap (λ n. chroma_laid t reference c (w / 2) n) (omega (arith, high))
+  narrowed t reference b c e = grind arith
 
   pub part_predicted : new.luma ≡ with_block s.luma (16 * column + left) (16 * row + top) w h (from_luma b0)
       → new.cb ≡ chroma_laid s.cb p.planes.now.cb b1 cw ch → new.cr ≡ chroma_laid s.cr p.planes.now.cr b2 cw ch

@@ -1,8 +1,8 @@
-use Rattle.std.proofs.Common.{◌≡◌, ℕ, ◌+◌, ◌*◌, ◌/◌, ◌%◌, arith, refl, ap, ◌∙◌}
+use Rattle.std.proofs.Common.{◌≡◌, ℕ, ◌+◌, ◌*◌, ◌/◌, ◌%◌, arith, false, refl, ap, ◌∙◌}
 use Rattle.std.specs.Prelude.{slice_index}
 use Rattle.avc_deblock.specs.declared.strengths.Strengths.TheVariants.{BelowFour}
 use Rattle.avc_deblock.specs.OneEdge.{chroma_setting, strength_along, tc1_of}
-use Rattle.avc_deblock.proofs.Limits.{weak_chroma_row, weak_chroma_by_tc1, fits_weak_chroma}
+use Rattle.avc_deblock.proofs.Limits.{weak_row, fits_weak}
 use Rattle.avc_deblock.proofs.chroma_edge.filter_below_four.Goals as goal
 
 pub returns-clause-lines : goal.returns-clause-lines
@@ -13,7 +13,7 @@ returns-clause-lines c qp are p3 p2 q2 q3 b i bit low =
     let e = c.weak.ensures in
     let n : ℕ = 8 * b + i in
     c.weak_chroma.ensures.lines p3 p2 q2 q3 s n (omega arith)
-    (weak_chroma_row s _ _ _ _ (slice_index c.chroma_tc1s-tc1.result n) l.alpha1 l.beta1 (e.alpha n (omega arith)) (e.beta n (omega arith)) (e.dead n (omega arith)) (e.tc0 n (omega arith))
-    (weak_chroma_by_tc1 l s (slice_index st (i / 2)) (slice_index c.chroma_tc1s-tc1.result n) c.requires.index
+    (weak_row false l s (slice_index st (i / 2)) _ _ _ _ (slice_index c.chroma_tc1s-tc1.result n)
+    (e.alpha n (omega arith)) (e.beta n (omega arith)) (e.dead n (omega arith)) (e.tc0 n (omega arith)) c.requires.index
     (c.chroma_tc1s-tc1.ensures.value n (omega arith) ∙ ap (λ (m : ℕ). tc1_of (slice_index st (m / 2)) l.index_a) (let e8 : n % 8 ≡ i = omega arith in e8))
-    (fits_weak_chroma l qp are c.requires.on (BelowFour st) st refl c.requires.strengths i low)))
+    (fits_weak l qp are c.requires.on false (BelowFour st) st refl c.requires.strengths (i / 2) (omega arith)))

@@ -1,6 +1,5 @@
-use Rattle.std.proofs.Common.{◌≡◌, ◌+◌, false, arith, sym, subst}
-use Rattle.avc_deblock.specs.declared.strengths.Strengths.{Strengths}
-use Rattle.avc_deblock.specs.OneEdge.{edge_filtered, strength_along, chroma_setting}
+use Rattle.std.proofs.Common.{◌+◌, false, arith, sym}
+use Rattle.avc_deblock.specs.OneEdge.{strength_along, chroma_setting}
 use Rattle.avc_deblock.proofs.Settings.{edge_off}
 use Rattle.avc_deblock.proofs.chroma_edge.horizontal_chroma.Goals as goal
 
@@ -13,17 +12,13 @@ returns-then-not-limits-clause-cr g c qp are =
     sym (edge_off (chroma_setting (strength_along c.args.strengths.now) qp) false c.args.left (c.args.top + 4) 8 c.args.cr.now (λ e. absurd (cc)) (λ e. omega arith) (λ i low. are.off c.if-not-limits.true))
 
 pub returns-in-Four-clause-cb : goal.returns-in-Four-clause-cb
-returns-in-Four-clause-cb g c qp are =
-    subst (λ (t : Strengths). c.strong_horizontal.new.cb ≡ edge_filtered (chroma_setting (strength_along t) qp) false c.args.left (c.args.top + 4) 8 c.args.cb.now) (sym c.in-Four.is) (c.strong_horizontal.ensures.cb qp are)
+returns-in-Four-clause-cb g c qp are = rw (c.in-Four.is) (c.strong_horizontal.ensures.cb qp are)
 
 pub returns-in-Four-clause-cr : goal.returns-in-Four-clause-cr
-returns-in-Four-clause-cr g c qp are =
-    subst (λ (t : Strengths). c.strong_horizontal.new.cr ≡ edge_filtered (chroma_setting (strength_along t) qp) false c.args.left (c.args.top + 4) 8 c.args.cr.now) (sym c.in-Four.is) (c.strong_horizontal.ensures.cr qp are)
+returns-in-Four-clause-cr g c qp are = rw (c.in-Four.is) (c.strong_horizontal.ensures.cr qp are)
 
 pub returns-in-BelowFour-clause-cb : goal.returns-in-BelowFour-clause-cb
-returns-in-BelowFour-clause-cb g c qp are =
-    subst (λ (t : Strengths). c.weak_horizontal.new.cb ≡ edge_filtered (chroma_setting (strength_along t) qp) false c.args.left (c.args.top + 4) 8 c.args.cb.now) (sym c.in-BelowFour.is) (c.weak_horizontal.ensures.cb qp are)
+returns-in-BelowFour-clause-cb g c qp are = rw (c.in-BelowFour.is) (c.weak_horizontal.ensures.cb qp are)
 
 pub returns-in-BelowFour-clause-cr : goal.returns-in-BelowFour-clause-cr
-returns-in-BelowFour-clause-cr g c qp are =
-    subst (λ (t : Strengths). c.weak_horizontal.new.cr ≡ edge_filtered (chroma_setting (strength_along t) qp) false c.args.left (c.args.top + 4) 8 c.args.cr.now) (sym c.in-BelowFour.is) (c.weak_horizontal.ensures.cr qp are)
+returns-in-BelowFour-clause-cr g c qp are = rw (c.in-BelowFour.is) (c.weak_horizontal.ensures.cr qp are)

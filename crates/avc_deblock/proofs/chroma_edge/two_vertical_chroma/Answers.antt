@@ -12,10 +12,7 @@ returns-clause-cb g c qp next are is =
     c.rectangle-of_cb.result c.half-new_cb.result c.joined-block.result c.columns-lines.result c.filter_chroma.new.t c.filter_chroma-2.new.t c.rows_of-after.result
     (omega arith) e.all c.requires.cb_columns c.requires.cb_rows e.samples
     (λ k low. ap (slice_index c.joined-block.result) (omega arith) ∙ c.joined-block.ensures.first k low) c.columns-lines.ensures c.rows_of-after.ensures
-    (λ k low. c.half-new_cb.ensures k low ∙ ap (slice_index c.rows_of-after.result) (omega arith))
-    c.filter_chroma.ensures.others c.filter_chroma-2.ensures.others
-    (λ p3 p2 q2 q3 i low. c.filter_chroma.ensures.lines qp are p3 p2 q2 q3 0 i (omega arith) low)
-    (λ p3 p2 q2 q3 i low. c.filter_chroma-2.ensures.lines next is p3 p2 q2 q3 0 i (omega arith) low)
+    c.half-new_cb.ensures c.filter_chroma.ensures.others c.filter_chroma-2.ensures.others (c.filter_chroma.ensures.lines qp are) (c.filter_chroma-2.ensures.lines next is)
 
 pub returns-clause-cr : goal.returns-clause-cr
 returns-clause-cr g c qp next are is =
@@ -25,7 +22,4 @@ returns-clause-cr g c qp next are is =
     c.rectangle-of_cr.result c.half-new_cr.result c.joined-block.result c.columns-lines.result c.filter_chroma.new.t c.filter_chroma-2.new.t c.rows_of-after.result
     (omega arith) e.all c.requires.cr_columns c.requires.cr_rows e.samples
     (λ k low. ap (slice_index c.joined-block.result) (omega arith) ∙ c.joined-block.ensures.second k low) c.columns-lines.ensures c.rows_of-after.ensures
-    (λ k low. c.half-new_cr.ensures k low ∙ ap (slice_index c.rows_of-after.result) (omega arith))
-    c.filter_chroma.ensures.others c.filter_chroma-2.ensures.others
-    (λ p3 p2 q2 q3 i low. c.filter_chroma.ensures.lines qp are p3 p2 q2 q3 1 i (omega arith) low)
-    (λ p3 p2 q2 q3 i low. c.filter_chroma-2.ensures.lines next is p3 p2 q2 q3 1 i (omega arith) low)
+    c.half-new_cr.ensures c.filter_chroma.ensures.others c.filter_chroma-2.ensures.others (c.filter_chroma.ensures.lines qp are) (c.filter_chroma-2.ensures.lines next is)

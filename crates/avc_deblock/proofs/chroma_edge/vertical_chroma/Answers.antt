@@ -1,34 +1,27 @@
-use Rattle.std.proofs.Common.{◌+◌, ◌*◌, true, arith, sym, ap, ◌∙◌}
+use Rattle.std.proofs.Common.{◌+◌, true, arith, sym, ap, ◌∙◌}
 use Rattle.std.specs.Prelude.{slice_index}
 use Rattle.avc_deblock.specs.OneEdge.{strength_along, chroma_setting}
-use Rattle.avc_deblock.proofs.Blocks.{down_near}
 use Rattle.avc_deblock.proofs.Settings.{edge_off}
 use Rattle.avc_deblock.proofs.Pairs.{vertical_part}
 use Rattle.avc_deblock.proofs.chroma_edge.vertical_chroma.Goals as goal
 
 pub returns-clause-cb : goal.returns-clause-cb
 returns-clause-cb g c qp are =
-    let e = c.rectangle-of_cb.ensures in
+    let of_cb = c.rectangle-of_cb in
     c.set_rectangle.ensures
-    ∙ vertical_part (chroma_setting (strength_along c.args.strengths.now) qp) c.args.left c.args.top 0 c.args.cb.now c.rectangle-of_cb.result c.half-new_cb.result (omega arith) e.all
-    c.requires.cb_columns c.requires.cb_rows e.samples c.joined-block.result c.columns-lines.result c.filter_chroma.new.t c.rows_of-after.result
-    (λ k low. ap (slice_index c.joined-block.result) (omega arith) ∙ c.joined-block.ensures.first k low) c.columns-lines.ensures c.rows_of-after.ensures
-    (λ k low. c.half-new_cb.ensures k low ∙ ap (slice_index c.rows_of-after.result) (omega arith))
-    (λ i low.
-    down_near (chroma_setting (strength_along c.args.strengths.now) qp i) (8 * 0 + i) c.columns-lines.result c.filter_chroma.new.t (omega arith) c.filter_chroma.ensures.others
-    (λ p3 p2 q2 q3. c.filter_chroma.ensures.lines qp are p3 p2 q2 q3 0 i (omega arith) low))
+    ∙ vertical_part (strength_along c.args.strengths.now) qp c.args.left c.args.top 0 c.args.cb.now of_cb.result c.half-new_cb.result (omega arith)
+    of_cb.ensures.all c.requires.cb_columns c.requires.cb_rows of_cb.ensures.samples c.columns-lines.result c.filter_chroma.new.t c.filter_chroma.ensures.others (c.filter_chroma.ensures.lines qp are)
+    c.joined-block.result c.rows_of-after.result (λ k low. ap (slice_index c.joined-block.result) (omega arith) ∙ c.joined-block.ensures.first k low)
+    c.columns-lines.ensures c.rows_of-after.ensures c.half-new_cb.ensures
 
 pub returns-clause-cr : goal.returns-clause-cr
 returns-clause-cr g c qp are =
-    let e = c.rectangle-of_cr.ensures in
+    let of_cr = c.rectangle-of_cr in
     c.set_rectangle-2.ensures
-    ∙ vertical_part (chroma_setting (strength_along c.args.strengths.now) qp) c.args.left c.args.top 1 c.args.cr.now c.rectangle-of_cr.result c.half-new_cr.result (omega arith) e.all
-    c.requires.cr_columns c.requires.cr_rows e.samples c.joined-block.result c.columns-lines.result c.filter_chroma.new.t c.rows_of-after.result
-    (λ k low. ap (slice_index c.joined-block.result) (omega arith) ∙ c.joined-block.ensures.second k low) c.columns-lines.ensures c.rows_of-after.ensures
-    (λ k low. c.half-new_cr.ensures k low ∙ ap (slice_index c.rows_of-after.result) (omega arith))
-    (λ i low.
-    down_near (chroma_setting (strength_along c.args.strengths.now) qp i) (8 * 1 + i) c.columns-lines.result c.filter_chroma.new.t (omega arith) c.filter_chroma.ensures.others
-    (λ p3 p2 q2 q3. c.filter_chroma.ensures.lines qp are p3 p2 q2 q3 1 i (omega arith) low))
+    ∙ vertical_part (strength_along c.args.strengths.now) qp c.args.left c.args.top 1 c.args.cr.now of_cr.result c.half-new_cr.result (omega arith)
+    of_cr.ensures.all c.requires.cr_columns c.requires.cr_rows of_cr.ensures.samples c.columns-lines.result c.filter_chroma.new.t c.filter_chroma.ensures.others (c.filter_chroma.ensures.lines qp are)
+    c.joined-block.result c.rows_of-after.result (λ k low. ap (slice_index c.joined-block.result) (omega arith) ∙ c.joined-block.ensures.second k low)
+    c.columns-lines.ensures c.rows_of-after.ensures c.half-new_cr.ensures
 
 pub returns-then-not-limits-clause-cb : goal.returns-then-not-limits-clause-cb
 returns-then-not-limits-clause-cb g c qp are =

@@ -4,7 +4,6 @@ use Rattle.avc_plane.specs.Plane.{sample}
 use Rattle.avc_deblock.specs.Line.{filtered}
 use Rattle.avc_deblock.proofs.Samples.{same_samples}
 use Rattle.avc_deblock.proofs.OnPlane.{horizontal_block}
-use Rattle.avc_deblock.proofs.Limits.{strong_row}
 use Rattle.avc_deblock.proofs.kernels.strong_horizontal.Goals as goal
 
 pub returns : goal.returns
@@ -17,5 +16,4 @@ returns g c setting fits =
     (λ i low.
     ap (filtered (setting i))
     (same_samples (λ k. sample s (c.args.left + i) (c.args.top + k)) (λ k. slice_index before (16 * k + i)) (λ k less. sym (c.rectangle-lines.ensures.samples i k low less)))
-    ∙ c.strong_luma.ensures (setting i) i low (
-    strong_row (setting i) _ _ c.args.limits.now.alpha1 c.args.limits.now.beta1 (c.strong.ensures.alpha i low) (c.strong.ensures.beta i low) (fits i low))))
+    ∙ c.strong_luma.ensures (setting i) i low (rw (c.strong.ensures.alpha i low, c.strong.ensures.beta i low) (fits i low))))

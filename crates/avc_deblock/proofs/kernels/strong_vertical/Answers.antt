@@ -5,7 +5,6 @@ use Rattle.avc_deblock.specs.Line.{filtered}
 use Rattle.avc_deblock.proofs.Blocks.{filtered_across}
 use Rattle.avc_deblock.proofs.Samples.{same_samples}
 use Rattle.avc_deblock.proofs.OnPlane.{vertical_block}
-use Rattle.avc_deblock.proofs.Limits.{strong_row}
 use Rattle.avc_deblock.proofs.kernels.strong_vertical.Goals as goal
 
 pub returns : goal.returns
@@ -17,5 +16,5 @@ returns g c setting fits =
     (λ i low.
     ap (filtered (setting i))
     (same_samples (λ k. sample s (c.args.left + k) (c.args.top + i)) (λ k. slice_index c.rectangle-block.result (8 * i + k)) (λ k less. sym (c.rectangle-block.ensures.samples k i less low)))
-    ∙ filtered_across (setting i) i c.rectangle-block.result c.columns-lines.result c.strong_luma.new.t after low c.columns-lines.ensures c.rows_of-after.ensures (c.strong_luma.ensures (setting i) i low (
-    strong_row (setting i) _ _ c.args.limits.now.alpha1 c.args.limits.now.beta1 (c.strong.ensures.alpha i low) (c.strong.ensures.beta i low) (fits i low)))))
+    ∙ filtered_across (setting i) i c.rectangle-block.result c.columns-lines.result c.strong_luma.new.t after low c.columns-lines.ensures c.rows_of-after.ensures
+    (c.strong_luma.ensures (setting i) i low (rw (c.strong.ensures.alpha i low, c.strong.ensures.beta i low) (fits i low)))))

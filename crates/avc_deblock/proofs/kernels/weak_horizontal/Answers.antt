@@ -1,4 +1,4 @@
-use Rattle.std.proofs.Common.{ℕ, ◌+◌, ◌*◌, ◌/◌, ◌≡◌, ◌<◌, arith, refl, sym, ap, ◌∙◌}
+use Rattle.std.proofs.Common.{ℕ, true, ◌+◌, ◌*◌, ◌/◌, ◌≡◌, ◌<◌, arith, refl, sym, ap, ◌∙◌}
 use Rattle.std.specs.Prelude.{slice_index}
 use Rattle.avc_plane.specs.Plane.{sample}
 use Rattle.avc_deblock.specs.Line.{filtered}
@@ -6,7 +6,7 @@ use Rattle.avc_deblock.proofs.OnPlane.{horizontal_block}
 use Rattle.avc_deblock.specs.Rows.{line_of}
 use Rattle.avc_deblock.proofs.Samples.{same_samples, weak_keeps}
 use Rattle.avc_deblock.proofs.Within.{within_block}
-use Rattle.avc_deblock.proofs.Limits.{weak_row, weak_by_tc1}
+use Rattle.avc_deblock.proofs.Limits.{weak_row}
 use Rattle.avc_deblock.proofs.kernels.weak_horizontal.Goals as goal
 
 pub returns : goal.returns
@@ -21,8 +21,8 @@ returns g c setting fits =
     ap (filtered (setting i))
     (same_samples (λ k. sample s (left + i) (top + k)) (λ k. slice_index before (16 * k + i)) (λ k less. sym (c.rectangle-lines.ensures.samples i k low less)))
     ∙ c.weak_luma.ensures (setting i) i low (
-    weak_row (setting i) _ _ _ _ (slice_index c.luma_tc1s-tc1.result i) c.args.limits.now.alpha1 c.args.limits.now.beta1 (c.weak.ensures.alpha i low) (c.weak.ensures.beta i low) (c.weak.ensures.dead i low) (c.weak.ensures.tc0 i low)
-    (weak_by_tc1 c.args.limits.now (setting i) (slice_index c.args.strengths.now (i / 4)) (slice_index c.luma_tc1s-tc1.result i) c.requires.index (c.luma_tc1s-tc1.ensures.value i low) (fits i low))) in
+    weak_row true c.args.limits.now (setting i) (slice_index c.args.strengths.now (i / 4)) _ _ _ _ (slice_index c.luma_tc1s-tc1.result i)
+    (c.weak.ensures.alpha i low) (c.weak.ensures.beta i low) (c.weak.ensures.dead i low) (c.weak.ensures.tc0 i low) c.requires.index (c.luma_tc1s-tc1.ensures.value i low) (fits i low)) in
     c.set_rectangle.ensures
     ∙ within_block s left top 16 8 0 2 16 4 left (top + 2) (λ x y. slice_index after (16 * y + x)) (λ x y. slice_index c.half-inner.result (16 * y + x)) (omega arith) refl (omega arith) (omega arith)
     (λ x y x_low y_low. c.half-inner.ensures (16 * y + x) (omega arith) ∙ ap (slice_index after) (omega arith))

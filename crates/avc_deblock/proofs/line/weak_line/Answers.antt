@@ -1,4 +1,4 @@
-use Rattle.std.proofs.Common.{◌≡◌, ℕ, ℤ, ◌+◌, pos, ◌+ℤ◌, ◌-ℤ◌, Bool, nat_lt, ◌&&◌, ◌==◌, if◌then◌else◌, arith, refl, sym, ap, ◌∙◌}
+use Rattle.std.proofs.Common.{◌≡◌, ℕ, ℤ, ◌+◌, pos, ◌+ℤ◌, ◌-ℤ◌, Bool, nat_lt, ◌&&◌, ◌==◌, if◌then◌else◌, arith, sym, ap, ◌∙◌}
 use Rattle.avc_types.specs.Arithmetic.{clip1, distance}
 use Rattle.avc_deblock.specs.Line.{Line}
 use Rattle.avc_deblock.specs.Rows.{line, slope, held}
@@ -26,6 +26,6 @@ returns c p3 q3 s w =
     (record {
       p0_is = c.raised.ensures z step.below step.above ∙ ap (λ (t : ℕ). clip1 (pos a.p0 +ℤ held t z)) tc_is;
       q0_is = c.lowered.ensures z step.below step.above ∙ ap (λ (t : ℕ). clip1 (pos a.q0 -ℤ held t z)) tc_is;
-      p1_is = second_is on up up a.tc0 _ _ a.p1 _ refl (c.pick.ensures ∙ ap (λ (b : Bool). if b then a.tc0 else 0) sp) c.second.ensures;
-      q1_is = second_is on uq uq a.tc0 _ _ a.q1 _ refl (c.pick-2.ensures ∙ ap (λ (b : Bool). if b then a.tc0 else 0) sq) c.second-2.ensures;
+      p1_is = second_is on up a.tc0 _ _ a.p1 _ (c.pick.ensures ∙ ap (λ (b : Bool). if b then a.tc0 else 0) sp) c.second.ensures;
+      q1_is = second_is on uq a.tc0 _ _ a.q1 _ (c.pick-2.ensures ∙ ap (λ (b : Bool). if b then a.tc0 else 0) sq) c.second-2.ensures;
     })

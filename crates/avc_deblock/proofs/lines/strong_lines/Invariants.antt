@@ -1,4 +1,4 @@
-use Rattle.std.proofs.Common.{◌≡◌, ◌<◌, ◌+◌, ℕ, length, slice_index}
+use Rattle.std.proofs.Common.{◌≡◌, true, ◌<◌, ◌+◌, ℕ, length, slice_index}
 use Rattle.avc_deblock.specs.Line.{Setting, filtered}
 use Rattle.avc_deblock.specs.Rows.{line_of_rows, IsStrong}
 use Rattle.avc_deblock.proofs.lines.strong_lines.Given as goal
@@ -11,6 +11,6 @@ invariant-loop-i l = record {
   far0 : length l.r0 ≡ 16;
   far1 : length l.r1 ≡ 16;
   far2 : length l.r2 ≡ 16;
-  done : (s : Setting) (k : ℕ) → k < l.i → IsStrong s (slice_index l.alpha1 k + 1) (slice_index l.beta1 k + 1) →
+  done : (s : Setting) (k : ℕ) → k < l.i → IsStrong true s (slice_index l.alpha1 k + 1) (slice_index l.beta1 k + 1) →
       filtered s (line_of_rows l.p3 l.a2 l.a1 l.a0 l.b0 l.b1 l.b2 l.q3 k) ≡ line_of_rows l.p3 l.o2 l.o1 l.o0 l.r0 l.r1 l.r2 l.q3 k;
 }

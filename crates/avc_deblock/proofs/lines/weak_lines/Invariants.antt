@@ -1,4 +1,4 @@
-use Rattle.std.proofs.Common.{◌≡◌, ◌<◌, ◌+◌, ℕ, length, slice_index}
+use Rattle.std.proofs.Common.{◌≡◌, true, ◌<◌, ◌+◌, ℕ, length, slice_index}
 use Rattle.std.specs.Prelude.{◌==◌, if◌then◌else◌}
 use Rattle.avc_deblock.specs.Line.{Setting, filtered}
 use Rattle.avc_deblock.specs.Rows.{line_within, IsWeak}
@@ -10,6 +10,6 @@ invariant-loop-i l = record {
   long0 : length l.o0 ≡ 16;
   far0 : length l.r0 ≡ 16;
   far1 : length l.r1 ≡ 16;
-  done : (p3 q3 : ℕ) (s : Setting) (k : ℕ) → k < l.i → IsWeak s (if slice_index l.dead k == 0 then slice_index l.alpha1 k + 1 else 0) (slice_index l.beta1 k + 1) (slice_index l.tc0 k) →
+  done : (p3 q3 : ℕ) (s : Setting) (k : ℕ) → k < l.i → IsWeak true s (if slice_index l.dead k == 0 then slice_index l.alpha1 k + 1 else 0) (slice_index l.beta1 k + 1) (slice_index l.tc0 k) →
       filtered s (line_within p3 q3 l.p2 l.a1 l.a0 l.b0 l.b1 l.q2 k) ≡ line_within p3 q3 l.p2 l.o1 l.o0 l.r0 l.r1 l.q2 k;
 }

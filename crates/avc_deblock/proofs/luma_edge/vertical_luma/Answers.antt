@@ -1,4 +1,4 @@
-use Rattle.std.proofs.Common.{◌+◌, arith, sym, subst, true}
+use Rattle.std.proofs.Common.{◌+◌, ◌/◌, arith, sym, subst, true}
 use Rattle.avc_deblock.specs.OneEdge.{luma_setting, strength_along, AreStrengths}
 use Rattle.avc_deblock.proofs.Settings.{edge_off}
 use Rattle.avc_deblock.proofs.Limits.{fits_weak, fits_strong}
@@ -10,9 +10,11 @@ returns-then-not-limits g c qp are =
 
 pub returns-in-Four : goal.returns-in-Four
 returns-in-Four g c qp are =
-    c.strong_vertical.ensures (luma_setting (strength_along c.args.strengths.now) qp) (λ i low. fits_strong c.args.limits.now qp are c.if-not-limits.false c.args.strengths.now c.in-Four.is i)
+    c.strong_vertical.ensures (luma_setting (strength_along c.args.strengths.now) qp) (λ i low. fits_strong c.args.limits.now qp are c.if-not-limits.false true c.args.strengths.now c.in-Four.is (i / 4))
 
 pub returns-in-BelowFour : goal.returns-in-BelowFour
 returns-in-BelowFour g c qp are =
     c.weak_vertical.ensures (luma_setting (strength_along c.args.strengths.now) qp)
-    (fits_weak c.args.limits.now qp are c.if-not-limits.false c.args.strengths.now c.in-BelowFour.s c.in-BelowFour.is (subst AreStrengths c.in-BelowFour.is c.requires.strengths))
+    (λ i low.
+    fits_weak c.args.limits.now qp are c.if-not-limits.false true c.args.strengths.now c.in-BelowFour.s c.in-BelowFour.is (subst AreStrengths c.in-BelowFour.is c.requires.strengths) (i / 4)
+    (omega arith))

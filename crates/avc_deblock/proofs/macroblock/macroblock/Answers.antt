@@ -1,4 +1,4 @@
-use Rattle.std.proofs.Common.{◌≡◌, ◌∙◌, ◌≤◌, Bool, true, false, arith, refl, sym, ap}
+use Rattle.std.proofs.Common.{◌≡◌, ◌∙◌, ◌≤◌, Bool, true, false, arith, refl, ap}
 use Rattle.std.specs.Prelude.{◌&&◌, not}
 use Rattle.avc_plane.specs.Planes.{Planes}
 use Rattle.avc_plane.specs.Frames.{planes_of}
@@ -16,22 +16,12 @@ all_off false false false b e t = ((refl, refl), refl)
 
 pub returns-then-idle-clause-lines : goal.returns-then-idle-clause-lines
 returns-then-idle-clause-lines g c =
-    let s : Planes = planes_of c.args.planes.now in
-    let mb = c.args.mb.now in
-    let left = c.args.left.now in
-    let above = c.args.above.now in
-    let column = c.args.place.column in
-    let row = c.args.place.row in
-    let e = c.args.place.chroma_qp_index_offset in
     let off = all_off c.both-inner.result c.reaches-from_left.result c.reaches-from_above.result c.all_three-idle.result c.all_three-idle.ensures c.if-idle.true in
-    let form : Bool → Bool → Bool → Planes =
-    λ (i : Bool) (l : Bool) (u : Bool).
-    edges_by_facts false column row e false i mb mb (edges_by_facts false column row e u false above mb (edges_by_facts true column row e false i mb mb (edges_by_facts true column row e l false left mb s))) in
-    ap (λ (i : Bool). form i false false) (sym off.0.0) ∙ ap (λ (l : Bool). form c.both-inner.result l false) (sym off.0.1) ∙ ap (λ (u : Bool). form c.both-inner.result c.reaches-from_left.result u) (sym off.1)
-    ∙ mb_kept column row e left above mb c.is_still.result c.both-inner.result c.reaches-from_left.result c.reaches-from_above.result
-    c.is_still.ensures.inter c.is_still.ensures.strengths
+    rw (off.0.0, off.0.1, off.1) at
+    (mb_kept c.args.place.column c.args.place.row c.args.place.chroma_qp_index_offset c.args.left.now c.args.above.now c.args.mb.now c.is_still.result c.both-inner.result
+    c.reaches-from_left.result c.reaches-from_above.result c.is_still.ensures.inter c.is_still.ensures.strengths
     (c.both-inner.ensures ∙ ap (λ (b : Bool). b && not c.is_still.result) c.filters_edge_to.ensures)
-    c.reaches-from_left.ensures.on c.reaches-from_left.ensures.off c.reaches-from_above.ensures.on c.reaches-from_above.ensures.off s
+    c.reaches-from_left.ensures.on c.reaches-from_left.ensures.off c.reaches-from_above.ensures.on c.reaches-from_above.ensures.off (planes_of c.args.planes.now))
 
 pub outer_edge-requires : goal.outer_edge-requires
 outer_edge-requires g c =

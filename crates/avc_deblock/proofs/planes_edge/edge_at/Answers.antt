@@ -3,7 +3,6 @@ use Rattle.avc_plane.specs.Frames.{planes_of}
 use Rattle.avc_plane.specs.Planes.{Planes}
 use Rattle.avc_deblock.specs.declared.thresholds.EdgeQp.{EdgeQp}
 use Rattle.avc_deblock.specs.OneEdge.{lines_of_edge, strength_along}
-use Rattle.avc_deblock.specs.ByFacts.{strength_of, luma_qp_of, chroma_qp_of}
 use Rattle.avc_deblock.proofs.EdgePlanes.{room_kept, same_strengths}
 use Rattle.avc_deblock.proofs.planes_edge.edge_at.Goals as goal
 
@@ -13,36 +12,20 @@ moved : (v b : Bool) (column row n : ℕ) (f g : ℕ → ℕ) (luma chroma : Edg
 moved v b column row n f g luma chroma s t is same shown =
     shown ∙ ap (λ (d : Bool). lines_of_edge d column row n f luma chroma s) (sym is) ∙ same_strengths column row n f g luma chroma s same v
 
-pub returns-then-is_vertical-clause-room : goal.returns-then-is_vertical-clause-room
-returns-then-is_vertical-clause-room g c =
-    let p = c.args.p.now in
-    let q = c.args.q.now in
-    let place = c.args.place in
-    room_kept true place.column place.row c.args.n (strength_along c.args.strengths.now) (luma_qp_of p q) (chroma_qp_of place.chroma_qp_index_offset p q)
-    (planes_of c.args.planes.now) (planes_of c.vertical.new.planes) (c.vertical.ensures (luma_qp_of p q) (chroma_qp_of place.chroma_qp_index_offset p q) c.requires.limits.luma c.requires.limits.chroma)
-
 pub returns-then-is_vertical-clause-lines : goal.returns-then-is_vertical-clause-lines
 returns-then-is_vertical-clause-lines g c =
-    let p = c.args.p.now in
-    let q = c.args.q.now in
-    let place = c.args.place in
-    moved c.args.is_vertical true place.column place.row c.args.n (strength_along c.args.strengths.now) (strength_of p q c.args.is_vertical c.args.n) (luma_qp_of p q) (chroma_qp_of place.chroma_qp_index_offset p q)
-    (planes_of c.args.planes.now) (planes_of c.vertical.new.planes) c.if-is_vertical.true c.requires.strengths
-    (c.vertical.ensures (luma_qp_of p q) (chroma_qp_of place.chroma_qp_index_offset p q) c.requires.limits.luma c.requires.limits.chroma)
+    moved c.args.is_vertical true c.args.place.column c.args.place.row c.args.n (strength_along c.args.strengths.now) _ _ _ (planes_of c.args.planes.now) (planes_of c.vertical.new.planes)
+    c.if-is_vertical.true c.requires.strengths (c.vertical.ensures _ _ c.requires.limits.luma c.requires.limits.chroma)
 
-pub returns-else-is_vertical-clause-room : goal.returns-else-is_vertical-clause-room
-returns-else-is_vertical-clause-room g c =
-    let p = c.args.p.now in
-    let q = c.args.q.now in
-    let place = c.args.place in
-    room_kept false place.column place.row c.args.n (strength_along c.args.strengths.now) (luma_qp_of p q) (chroma_qp_of place.chroma_qp_index_offset p q)
-    (planes_of c.args.planes.now) (planes_of c.horizontal.new.planes) (c.horizontal.ensures (luma_qp_of p q) (chroma_qp_of place.chroma_qp_index_offset p q) c.requires.limits.luma c.requires.limits.chroma)
+pub returns-then-is_vertical-clause-room : goal.returns-then-is_vertical-clause-room
+returns-then-is_vertical-clause-room g c =
+    room_kept c.args.is_vertical c.args.place.column c.args.place.row c.args.n _ _ _ (planes_of c.args.planes.now) (planes_of c.vertical.new.planes) (returns-then-is_vertical-clause-lines g c)
 
 pub returns-else-is_vertical-clause-lines : goal.returns-else-is_vertical-clause-lines
 returns-else-is_vertical-clause-lines g c =
-    let p = c.args.p.now in
-    let q = c.args.q.now in
-    let place = c.args.place in
-    moved c.args.is_vertical false place.column place.row c.args.n (strength_along c.args.strengths.now) (strength_of p q c.args.is_vertical c.args.n) (luma_qp_of p q) (chroma_qp_of place.chroma_qp_index_offset p q)
-    (planes_of c.args.planes.now) (planes_of c.horizontal.new.planes) c.if-is_vertical.false c.requires.strengths
-    (c.horizontal.ensures (luma_qp_of p q) (chroma_qp_of place.chroma_qp_index_offset p q) c.requires.limits.luma c.requires.limits.chroma)
+    moved c.args.is_vertical false c.args.place.column c.args.place.row c.args.n (strength_along c.args.strengths.now) _ _ _ (planes_of c.args.planes.now) (planes_of c.horizontal.new.planes)
+    c.if-is_vertical.false c.requires.strengths (c.horizontal.ensures _ _ c.requires.limits.luma c.requires.limits.chroma)
+
+pub returns-else-is_vertical-clause-room : goal.returns-else-is_vertical-clause-room
+returns-else-is_vertical-clause-room g c =
+    room_kept c.args.is_vertical c.args.place.column c.args.place.row c.args.n _ _ _ (planes_of c.args.planes.now) (planes_of c.horizontal.new.planes) (returns-else-is_vertical-clause-lines g c)

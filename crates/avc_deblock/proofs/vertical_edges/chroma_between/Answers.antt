@@ -1,16 +1,14 @@
-use Rattle.std.proofs.Common.{◌∙◌, true, sym, ap}
-use Rattle.avc_plane.specs.Plane.{Plane}
+use Rattle.std.proofs.Common.{◌∙◌, true, sym}
 use Rattle.avc_deblock.specs.ByFacts.{strength_of, chroma_qp_of}
-use Rattle.avc_deblock.proofs.EdgePlanes.{chroma_same, chroma_size, chroma_zero}
+use Rattle.avc_deblock.proofs.EdgePlanes.{chroma_same, chroma_zero}
+use Rattle.avc_deblock.proofs.VerticalEdges.{chroma_sized}
 use Rattle.avc_deblock.proofs.vertical_edges.chroma_between.Goals as goal
 
 pub returns-then-are_zero-clause-cb : goal.returns-then-are_zero-clause-cb
 returns-then-are_zero-clause-cb g c =
-    let p = c.args.p.now in
-    let q = c.args.q.now in
     sym
-    (chroma_zero c.args.place.column c.args.place.row c.args.n (strength_of p q true c.args.n) (chroma_qp_of c.args.place.chroma_qp_index_offset p q) c.args.cb.now
-    (λ k low. sym (c.requires.value k low) ∙ c.are_zero.ensures c.if-are_zero.true k low) true (λ e. c.requires.some) (λ e. absurd (cc)))
+    (chroma_zero c.args.place.column c.args.place.row c.args.n (strength_of c.args.p.now c.args.q.now true c.args.n) (chroma_qp_of c.args.place.chroma_qp_index_offset c.args.p.now c.args.q.now)
+    c.args.cb.now (λ k low. sym (c.requires.value k low) ∙ c.are_zero.ensures c.if-are_zero.true k low) true (λ e. c.requires.some) (λ e. absurd (cc)))
 
 pub returns-clause-cb : goal.returns-clause-cb
 returns-clause-cb g c =
@@ -20,26 +18,18 @@ returns-clause-cb g c =
 pub returns-clause-cb_width : goal.returns-clause-cb_width
 returns-clause-cb_width g c =
     let place = c.args.place in
-    let p = c.args.p.now in
-    let q = c.args.q.now in
-    let size = chroma_size true place.column place.row c.args.n (strength_of p q true c.args.n) (chroma_qp_of place.chroma_qp_index_offset p q) c.args.cb.now in
-    ap (λ (p : Plane). p.width) (returns-clause-cb g c) ∙ size.0
+    (chroma_sized place.column place.row c.args.n place.chroma_qp_index_offset c.args.p.now c.args.q.now c.args.cb.now c.vertical_chroma_of.new.cb (returns-clause-cb g c)).0
 
 pub returns-clause-cb_height : goal.returns-clause-cb_height
 returns-clause-cb_height g c =
     let place = c.args.place in
-    let p = c.args.p.now in
-    let q = c.args.q.now in
-    let size = chroma_size true place.column place.row c.args.n (strength_of p q true c.args.n) (chroma_qp_of place.chroma_qp_index_offset p q) c.args.cb.now in
-    ap (λ (p : Plane). p.height) (returns-clause-cb g c) ∙ size.1
+    (chroma_sized place.column place.row c.args.n place.chroma_qp_index_offset c.args.p.now c.args.q.now c.args.cb.now c.vertical_chroma_of.new.cb (returns-clause-cb g c)).1
 
 pub returns-then-are_zero-clause-cr : goal.returns-then-are_zero-clause-cr
 returns-then-are_zero-clause-cr g c =
-    let p = c.args.p.now in
-    let q = c.args.q.now in
     sym
-    (chroma_zero c.args.place.column c.args.place.row c.args.n (strength_of p q true c.args.n) (chroma_qp_of c.args.place.chroma_qp_index_offset p q) c.args.cr.now
-    (λ k low. sym (c.requires.value k low) ∙ c.are_zero.ensures c.if-are_zero.true k low) true (λ e. c.requires.some) (λ e. absurd (cc)))
+    (chroma_zero c.args.place.column c.args.place.row c.args.n (strength_of c.args.p.now c.args.q.now true c.args.n) (chroma_qp_of c.args.place.chroma_qp_index_offset c.args.p.now c.args.q.now)
+    c.args.cr.now (λ k low. sym (c.requires.value k low) ∙ c.are_zero.ensures c.if-are_zero.true k low) true (λ e. c.requires.some) (λ e. absurd (cc)))
 
 pub returns-clause-cr : goal.returns-clause-cr
 returns-clause-cr g c =
@@ -49,15 +39,9 @@ returns-clause-cr g c =
 pub returns-clause-cr_width : goal.returns-clause-cr_width
 returns-clause-cr_width g c =
     let place = c.args.place in
-    let p = c.args.p.now in
-    let q = c.args.q.now in
-    let size = chroma_size true place.column place.row c.args.n (strength_of p q true c.args.n) (chroma_qp_of place.chroma_qp_index_offset p q) c.args.cr.now in
-    ap (λ (p : Plane). p.width) (returns-clause-cr g c) ∙ size.0
+    (chroma_sized place.column place.row c.args.n place.chroma_qp_index_offset c.args.p.now c.args.q.now c.args.cr.now c.vertical_chroma_of.new.cr (returns-clause-cr g c)).0
 
 pub returns-clause-cr_height : goal.returns-clause-cr_height
 returns-clause-cr_height g c =
     let place = c.args.place in
-    let p = c.args.p.now in
-    let q = c.args.q.now in
-    let size = chroma_size true place.column place.row c.args.n (strength_of p q true c.args.n) (chroma_qp_of place.chroma_qp_index_offset p q) c.args.cr.now in
-    ap (λ (p : Plane). p.height) (returns-clause-cr g c) ∙ size.1
+    (chroma_sized place.column place.row c.args.n place.chroma_qp_index_offset c.args.p.now c.args.q.now c.args.cr.now c.vertical_chroma_of.new.cr (returns-clause-cr g c)).1

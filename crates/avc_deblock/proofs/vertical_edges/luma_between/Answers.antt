@@ -1,35 +1,24 @@
-use Rattle.std.proofs.Common.{◌∙◌, true, sym, ap}
-use Rattle.avc_plane.specs.Plane.{Plane}
-use Rattle.avc_deblock.specs.OneEdge.{strength_along}
+use Rattle.std.proofs.Common.{◌∙◌, true, sym}
 use Rattle.avc_deblock.specs.ByFacts.{strength_of, luma_qp_of}
-use Rattle.avc_deblock.proofs.EdgePlanes.{luma_size, luma_zero}
-use Rattle.avc_deblock.proofs.VerticalEdges.{luma_lines}
+use Rattle.avc_deblock.proofs.EdgePlanes.{luma_zero}
+use Rattle.avc_deblock.proofs.VerticalEdges.{luma_lines, luma_sized}
 use Rattle.avc_deblock.proofs.vertical_edges.luma_between.Goals as goal
 
 pub returns-then-are_zero-clause-lines : goal.returns-then-are_zero-clause-lines
 returns-then-are_zero-clause-lines g c =
-    let p = c.args.p.now in
-    let q = c.args.q.now in
     sym
-    (luma_zero c.args.place.column c.args.place.row c.args.n (strength_of p q true c.args.n) (luma_qp_of p q) c.args.luma.now
+    (luma_zero c.args.place.column c.args.place.row c.args.n (strength_of c.args.p.now c.args.q.now true c.args.n) (luma_qp_of c.args.p.now c.args.q.now) c.args.luma.now
     (λ k low. sym (c.requires.value k low) ∙ c.are_zero.ensures c.if-are_zero.true k low) true (λ e. c.requires.some) (λ e. absurd (cc)))
 
 pub returns-clause-lines : goal.returns-clause-lines
 returns-clause-lines g c =
     let qp = luma_qp_of c.args.p.now c.args.q.now in
-    luma_lines c.args.place.column c.args.place.row c.args.n (strength_along c.args.strengths.now) (strength_of c.args.p.now c.args.q.now true c.args.n) qp c.args.luma.now
-    c.vertical_luma.new.plane c.requires.some c.requires.value (c.vertical_luma.ensures qp c.requires.limits)
+    luma_lines c.args.place.column c.args.place.row c.args.n _ _ qp c.args.luma.now c.vertical_luma.new.plane c.requires.some c.requires.value (c.vertical_luma.ensures qp c.requires.limits)
 
 pub returns-clause-width : goal.returns-clause-width
 returns-clause-width g c =
-    let place = c.args.place in
-    let p = c.args.p.now in
-    let q = c.args.q.now in
-    ap (λ (p : Plane). p.width) (returns-clause-lines g c) ∙ (luma_size true place.column place.row c.args.n (strength_of p q true c.args.n) (luma_qp_of p q) c.args.luma.now).0
+    (luma_sized c.args.place.column c.args.place.row c.args.n c.args.p.now c.args.q.now c.args.luma.now c.vertical_luma.new.plane (returns-clause-lines g c)).0
 
 pub returns-clause-height : goal.returns-clause-height
 returns-clause-height g c =
-    let place = c.args.place in
-    let p = c.args.p.now in
-    let q = c.args.q.now in
-    ap (λ (p : Plane). p.height) (returns-clause-lines g c) ∙ (luma_size true place.column place.row c.args.n (strength_of p q true c.args.n) (luma_qp_of p q) c.args.luma.now).1
+    (luma_sized c.args.place.column c.args.place.row c.args.n c.args.p.now c.args.q.now c.args.luma.now c.vertical_luma.new.plane (returns-clause-lines g c)).1

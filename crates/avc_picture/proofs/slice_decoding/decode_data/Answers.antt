@@ -1,5 +1,4 @@
-use Rattle.std.proofs.Common.{◌≡◌, ◌+◌, ◌*◌, Ok, Err, take, sym, subst, ◌∙◌, arith, rules}
-use Rattle.avc_mbsyntax.specs.Rest.{IsHandedOut, handed_out}
+use Rattle.std.proofs.Common.{◌≡◌, ◌+◌, ◌*◌, Err, sym, subst, ◌∙◌, arith, rules}
 use Rattle.avc_picture.specs.DecoderState.{IsDataAnswer, outcome_from}
 use Rattle.avc_picture.proofs.DataAnswers.{ends-badly, ends-well, goes-further, less-left, same-area, usable-still}
 use Rattle.avc_picture.proofs.DataGoesOn.{at-end, at-fault, faulty, goes-on-from, is-read, next-mb, room, slice-is}
@@ -25,20 +24,10 @@ decode-requires g c =
     let m = c.macroblocks.macroblocks in
     let here = (c.macroblocks.invariant.goes_on w.coded w.names w.start w.goes_on).goes_on in
     let d' = c.next_macroblock.new.unread in
-    let handed = c.in_ok-next_macroblock.ensures w.coded w.names w.start here.holds here.width here.number here.follows in
-    let out = subst (λ o. IsHandedOut w.start (take m.next w.coded.mbs) (handed_out (Ok o) c.next_macroblock.new.mb) c.macroblocks.unread d') c.if-branch.true handed in (
-      omega arith,
-      (
-        omega arith,
-        (
-          room w.coded w.names w.start m c.macroblocks.unread d' c.args.context.now c.next_macroblock.new.mb here out,
-          (
-            is-read w.coded w.names w.start m c.macroblocks.unread d' c.args.context.now c.next_macroblock.new.mb here out,
-            usable-still _ c.args.macroblocks.now m c.macroblocks.invariant.size c.requires.usable,
-          ),
-        ),
-      ),
-    )
+    let out = rw (c.if-branch.true) at (c.in_ok-next_macroblock.ensures w.coded w.names w.start here.holds here.width here.number here.follows) in
+    let inside = room w.coded w.names w.start m c.macroblocks.unread d' c.args.context.now c.next_macroblock.new.mb here out in
+    let read = is-read w.coded w.names w.start m c.macroblocks.unread d' c.args.context.now c.next_macroblock.new.mb here out in
+    (omega arith, (omega arith, (inside, (read, usable-still _ c.args.macroblocks.now m c.macroblocks.invariant.size c.requires.usable))))
 
 pub macroblocks-smaller : goal.macroblocks-smaller
 macroblocks-smaller g c =
@@ -46,8 +35,7 @@ macroblocks-smaller g c =
     let m = c.macroblocks.macroblocks in
     let here = (c.macroblocks.invariant.goes_on w.coded w.names w.start w.goes_on).goes_on in
     let d' = c.next_macroblock.new.unread in
-    let handed = c.in_ok-next_macroblock.ensures w.coded w.names w.start here.holds here.width here.number here.follows in
-    let out = subst (λ o. IsHandedOut w.start (take m.next w.coded.mbs) (handed_out (Ok o) c.next_macroblock.new.mb) c.macroblocks.unread d') c.if-branch.true handed in
+    let out = rw (c.if-branch.true) at (c.in_ok-next_macroblock.ensures w.coded w.names w.start here.holds here.width here.number here.follows) in
     less-left (m.canvas.width * m.canvas.height) _ m.next _ (same-area m c.decode.new.self c.in_ok-decode.ensures.size) c.in_ok-decode.ensures.next
     (room w.coded w.names w.start m c.macroblocks.unread d' c.args.context.now c.next_macroblock.new.mb here out)
 
@@ -60,8 +48,7 @@ macroblocks-preserved g c =
     let m' = c.decode.new.self in
     let before = c.macroblocks.invariant in
     let here = (before.goes_on w.coded w.names w.start w.goes_on).goes_on in
-    let handed = c.in_ok-next_macroblock.ensures w.coded w.names w.start here.holds here.width here.number here.follows in
-    let out = subst (λ o. IsHandedOut w.start (take m.next w.coded.mbs) (handed_out (Ok o) c.next_macroblock.new.mb) d d') c.if-branch.true handed in
+    let out = rw (c.if-branch.true) at (c.in_ok-next_macroblock.ensures w.coded w.names w.start here.holds here.width here.number here.follows) in
     let inside = room w.coded w.names w.start m d d' c.args.context.now c.next_macroblock.new.mb here out in
     let kept = c.in_ok-decode.ensures.size in
     let area = same-area m m' kept in
@@ -73,8 +60,7 @@ macroblocks-preserved g c =
       goes_on = λ coded names s go.
           let far = before.goes_on coded names s go in
           let at = far.goes_on in
-          let handed' = c.in_ok-next_macroblock.ensures coded names s at.holds at.width at.number at.follows in
-          let out' = subst (λ o. IsHandedOut s (take m.next coded.mbs) (handed_out (Ok o) c.next_macroblock.new.mb) d d') c.if-branch.true handed' in
+          let out' = rw (c.if-branch.true) at (c.in_ok-next_macroblock.ensures coded names s at.holds at.width at.number at.follows) in
           let decoded = c.in_ok-decode.ensures.decoded coded names at.holds (next-mb coded names s m d d' c.args.context.now c.next_macroblock.new.mb at out') (slice-is coded names s m d d' c.args.context.now c.next_macroblock.new.mb at out') in
           goes-further coded names s c.args.context.now c.args.macroblocks.now c.args.unread.now m d far c.macroblocks.read before.reached m' d'
           (goes-on-from coded names s m d d' c.args.context.now c.next_macroblock.new.mb at out' m' next decoded.0 decoded.1);
@@ -86,8 +72,7 @@ returns-in_err-decode-clause-within g c =
     let m = c.macroblocks.macroblocks in
     let here = (c.macroblocks.invariant.goes_on w.coded w.names w.start w.goes_on).goes_on in
     let d' = c.next_macroblock.new.unread in
-    let handed = c.in_ok-next_macroblock.ensures w.coded w.names w.start here.holds here.width here.number here.follows in
-    let out = subst (λ o. IsHandedOut w.start (take m.next w.coded.mbs) (handed_out (Ok o) c.next_macroblock.new.mb) c.macroblocks.unread d') c.if-branch.true handed in
+    let out = rw (c.if-branch.true) at (c.in_ok-next_macroblock.ensures w.coded w.names w.start here.holds here.width here.number here.follows) in
     let inside = room w.coded w.names w.start m c.macroblocks.unread d' c.args.context.now c.next_macroblock.new.mb here out in
     let area = same-area c.args.macroblocks.now m c.macroblocks.invariant.size in
     omega (arith, inside, area, c.macroblocks.invariant.reached)
@@ -99,8 +84,7 @@ returns-in_err-decode-clause-answer g c = λ coded names s go.
     let d' = c.next_macroblock.new.unread in
     let far = c.macroblocks.invariant.goes_on coded names s go in
     let at = far.goes_on in
-    let handed = c.in_ok-next_macroblock.ensures coded names s at.holds at.width at.number at.follows in
-    let out = subst (λ o. IsHandedOut s (take m.next coded.mbs) (handed_out (Ok o) c.next_macroblock.new.mb) d d') c.if-branch.true handed in
+    let out = rw (c.if-branch.true) at (c.in_ok-next_macroblock.ensures coded names s at.holds at.width at.number at.follows) in
     let f = c.in_err-decode.field-0.0 in
     let wrong = c.in_err-decode.ensures.decoded coded names at.holds (next-mb coded names s m d d' c.args.context.now c.next_macroblock.new.mb at out) (slice-is coded names s m d d' c.args.context.now c.next_macroblock.new.mb at out) in
     let e : c.from_residual-in_err-decode.result ≡ Err f = search rules in
@@ -115,7 +99,6 @@ returns-clause-answer g c = λ coded names s go.
     let d' = c.next_macroblock.new.unread in
     let far = c.macroblocks.invariant.goes_on coded names s go in
     let at = far.goes_on in
-    let handed = c.in_ok-next_macroblock.ensures coded names s at.holds at.width at.number at.follows in
-    let out = subst (λ o. IsHandedOut s (take m.next coded.mbs) (handed_out (Ok o) c.next_macroblock.new.mb) d d') c.if-branch.false handed in
+    let out = rw (c.if-branch.false) at (c.in_ok-next_macroblock.ensures coded names s at.holds at.width at.number at.follows) in
     ends-well coded names s c.args.context.now c.args.macroblocks.now c.args.unread.now m d far c.macroblocks.read c.macroblocks.invariant.reached
     (at-end coded names s m d d' c.args.context.now at out)

@@ -12,19 +12,11 @@ decode-requires g c =
     let m = c.args.macroblocks.now in
     let context = c.new-context.result in
     let knows = c.new-context.ensures in
-    let go = h.goes_on context knows in (
-      omega arith,
-      (
-        omega arith,
-        (
-          room w.coded w.names w.start m w.unread c.args.unread.now context c.args.mb.now go h.first,
-          (
-            is-read w.coded w.names w.start m w.unread c.args.unread.now context c.args.mb.now go h.first,
-            usable-pictures m.canvas.width m.canvas.height c.args.frames.now c.args.header.now c.requires.frames c.requires.weights c.args.places.now context.references knows.full knows.pictures,
-          ),
-        ),
-      ),
-    )
+    let go = h.goes_on context knows in
+    let usable =
+    usable-pictures m.canvas.width m.canvas.height c.args.frames.now c.args.header.now c.requires.frames c.requires.weights c.args.places.now context.references knows.full knows.pictures in
+    let inside = room w.coded w.names w.start m w.unread c.args.unread.now context c.args.mb.now go h.first in
+    (omega arith, (omega arith, (inside, (is-read w.coded w.names w.start m w.unread c.args.unread.now context c.args.mb.now go h.first, usable))))
 
 pub returns-in_err-decode-clause-answer : goal.returns-in_err-decode-clause-answer
 returns-in_err-decode-clause-answer g c = λ coded names s d h.
@@ -56,26 +48,10 @@ decode_data-requires g c =
     let area = same-area m m' kept in
     let decoded =
     c.in_ok-decode.ensures.decoded w.coded w.names go.holds (next-mb w.coded w.names w.start m w.unread d' context mb go h.first) (slice-is w.coded w.names w.start m w.unread d' context mb go h.first) in
-    let far = goes-on-from w.coded w.names w.start m w.unread d' context mb go h.first m' next decoded.0 decoded.1 in (
-      omega arith,
-      (
-        omega arith,
-        (
-          record { coded = w.coded; names = w.names; start = w.start; goes_on = far.goes_on },
-          (
-            usable-still context.references m m' kept
-                (usable-pictures m.canvas.width m.canvas.height c.args.frames.now c.args.header.now c.requires.frames c.requires.weights c.args.places.now context.references knows.full knows.pictures),
-            (
-              omega (arith, next, c.requires.read),
-              (
-                omega (arith, inside, area, c.requires.read),
-                omega (arith, area, c.requires.small),
-              ),
-            ),
-          ),
-        ),
-      ),
-    )
+    let far = goes-on-from w.coded w.names w.start m w.unread d' context mb go h.first m' next decoded.0 decoded.1 in
+    let usable = usable-still context.references m m' kept
+    (usable-pictures m.canvas.width m.canvas.height c.args.frames.now c.args.header.now c.requires.frames c.requires.weights c.args.places.now context.references knows.full knows.pictures) in
+    (omega arith, (omega arith, (record { coded = w.coded; names = w.names; start = w.start; goes_on = far.goes_on }, (usable, (omega (arith, next, c.requires.read), (omega (arith, inside, area, c.requires.read), omega (arith, area, c.requires.small)))))))
 
 pub returns-clause-answer : goal.returns-clause-answer
 returns-clause-answer g c = λ coded names s d h.

@@ -1,4 +1,4 @@
-use Rattle.std.proofs.Common.{◌≡◌, ◌*◌, ◌∙◌, Ok, Err, None, length, take, ap, sym, subst, arith, rules}
+use Rattle.std.proofs.Common.{◌≡◌, ◌*◌, ◌∙◌, Ok, Err, None, length, take, refl, ap, sym, subst, arith, rules}
 use Rattle.avc_params.specs.Limits.{size_in_mbs, width_in_mbs}
 use Rattle.avc_slice.specs.Header.{slice_qp}
 use Rattle.avc_mbsyntax.specs.Rest.{IsHandedOut, handed_out}
@@ -68,34 +68,15 @@ decode_macroblocks-requires g c =
     let long = well.decoded.next ∙ well.reached in
     let dat = c.slice_data-unread.ensures (stored_at w.entries fs) (length w.so_far.slices) w.so_far.mbs long in
     let qp = abs-within 51 (slice_qp pps slice.header.slice_qp_delta) c.requires.header.qp_low c.requires.header.qp_high in
-    let area : m.canvas.width * m.canvas.height ≡ size_in_mbs sps = ap (λ x. x * m.canvas.height) c.requires.width ∙ ap (λ y. width_in_mbs sps * y) c.requires.height in (
-      omega arith,
-      (
-        omega arith,
-        (
-          subst (λ x. AreFrames x m.canvas.height fs) (sym c.requires.width) (subst (λ y. AreFrames (width_in_mbs sps) y fs) (sym c.requires.height) c.requires.frames),
-          (
-            c.in_ok-places.ensures.within,
-            (
-              c.requires.header.deblocking,
-              (
-                c.requires.header.weights,
-                (
-                  can-have-first sps pps w.entries fs slice w.so_far c.args.number c.args.read.now m unread made.0 w.stand.rising well dat (IsContextAt c.args.number fs slice.header places)
-                      (λ context at. (at.number_is, is-context sps pps w.entries fs slice.header w.stand c.args.number places context c.in_ok-places.ensures.long c.in_ok-places.ensures.within at made.0 made.1 made.2))
-                      qp mb d'
-                      (λ coded names s holds width number follows. subst (λ o. IsHandedOut s (take m.next coded.mbs) (handed_out (Ok o) mb) unread d') c.if-not-more.false (c.in_ok-more.ensures coded names s holds width number follows)),
-                  (
-                    well.reached,
-                    omega (arith, area, c.requires.sps.size),
-                  ),
-                ),
-              ),
-            ),
-          ),
-        ),
-      ),
-    )
+    let area : m.canvas.width * m.canvas.height ≡ size_in_mbs sps = rw (c.requires.width, c.requires.height) refl in
+    let frames = subst (λ x. AreFrames x m.canvas.height fs) (sym c.requires.width) (subst (λ y. AreFrames (width_in_mbs sps) y fs) (sym c.requires.height) c.requires.frames) in
+    let first =
+    can-have-first sps pps w.entries fs slice w.so_far c.args.number c.args.read.now m unread made.0 w.stand.rising well dat (IsContextAt c.args.number fs slice.header places)
+    (λ context at. (at.number_is, is-context sps pps w.entries fs slice.header w.stand c.args.number places context c.in_ok-places.ensures.long c.in_ok-places.ensures.within at made.0 made.1 made.2))
+    qp mb d'
+    (λ coded names s holds width number follows. subst (λ o. IsHandedOut s (take m.next coded.mbs) (handed_out (Ok o) mb) unread d') c.if-not-more.false (c.in_ok-more.ensures coded names s holds width number follows)) in
+    let h = c.requires.header in
+    (omega arith, (omega arith, (frames, (c.in_ok-places.ensures.within, (h.deblocking, (h.weights, (first, (well.reached, omega (arith, area, c.requires.sps.size)))))))))
 
 pub returns-clause-state : goal.returns-clause-state
 returns-clause-state g c = λ entries so_far stand well.

@@ -1,67 +1,36 @@
 use Rattle.std.proofs.Common.{◌≡◌, ◌+◌, ◌*◌, true, false, slice_index_or, refl, ap, sym, subst, ◌∙◌, arith, []}
+use Rattle.std.proofs.lemmas.Bool.{and_parts}
 use Rattle.avc_types.specs.Macroblock.{i_nxn}
 use Rattle.avc_types.specs.MacroblockFields.{residual_of}
+use Rattle.avc_transform.specs.MacroblockResidual.{chroma_residual}
 use Rattle.avc_neigh.specs.declared.facts.NearMode.TheVariants.{Absent as absent}
 use Rattle.avc_plane.specs.Frames.{planes_of}
 use Rattle.avc_intra.specs.Luma4x4.{can_predict4x4, mode4x4_of}
 use Rattle.avc_intra.specs.Chroma.{can_predict_chroma}
-use Rattle.avc_picture_core.specs.Built.{luma_after, mode_number, planes_after, sides_of}
+use Rattle.avc_picture_core.specs.Built.{chroma_after, luma_after, mode_number, planes_after, sides_of}
 use Rattle.avc_picture_core.specs.Sides.{AreInside, readable_sides}
 use Rattle.avc_picture_core.proofs.Sixteens.{each_sixteen}
-use Rattle.avc_picture_core.proofs.Ties.{both_first, both_second, cb_nxn, cr_nxn, has_nxn, inside_chroma, nxn_at, planes_same, refused_by}
+use Rattle.avc_picture_core.proofs.Ties.{chroma_intra, has_nxn, inside_chroma, nxn_at, planes_same, refused_by}
 use Rattle.avc_picture_core.proofs.intra.build_i_nxn.Goals as goal
 
 pub build_luma4x4-requires : goal.build_luma4x4-requires
-build_luma4x4-requires g c = (
-  omega arith,
-  (
-    c.requires.room.luma_columns,
-    (
-      c.requires.room.luma_rows,
-      (
-        c.requires.luma,
-        (
-          c.requires.levels,
-          (
-            c.requires.modes,
-            each_sixteen (λ k. can_predict4x4 (readable_sides c.args.readable k) (mode4x4_of (mode_number (slice_index_or c.args.modes.now k absent))))
-                (both_first _ _ (sym c.has_sides_nxn.ensures ∙ c.if-not-has_sides_nxn.false)),
-          ),
-        ),
-      ),
-    ),
-  ),
-)
+build_luma4x4-requires g c =
+    let r = c.requires in
+    let can = each_sixteen (λ k. can_predict4x4 (readable_sides c.args.readable k) (mode4x4_of (mode_number (slice_index_or c.args.modes.now k absent))))
+    (and_parts _ _ (sym c.has_sides_nxn.ensures ∙ c.if-not-has_sides_nxn.false)).0 in
+    (omega arith, (r.room.luma_columns, (r.room.luma_rows, (r.luma, (r.levels, (r.modes, can))))))
 
 pub build_component-requires : goal.build_component-requires
-build_component-requires g c = (
-  omega arith,
-  (
-    c.requires.room.cb_columns,
-    (
-      c.requires.room.cb_rows,
-      (
-        ap (λ s. can_predict_chroma s c.mode_chroma-mode.result) c.sides-sides.ensures ∙ both_second _ _ (sym c.has_sides_nxn.ensures ∙ c.if-not-has_sides_nxn.false),
-        (c.requires.chroma, (c.requires.levels.dc_of_cb, c.requires.levels.blocks_of_cb)),
-      ),
-    ),
-  ),
-)
+build_component-requires g c =
+    let r = c.requires in
+    let can = ap (λ s. can_predict_chroma s c.mode_chroma-mode.result) c.sides-sides.ensures ∙ (and_parts _ _ (sym c.has_sides_nxn.ensures ∙ c.if-not-has_sides_nxn.false)).1 in
+    (omega arith, (r.room.cb_columns, (r.room.cb_rows, (can, (r.chroma, (r.levels.dc_of_cb, r.levels.blocks_of_cb))))))
 
 pub build_component-requires-2 : goal.build_component-requires-2
-build_component-requires-2 g c = (
-  omega arith,
-  (
-    c.requires.room.cr_columns,
-    (
-      c.requires.room.cr_rows,
-      (
-        ap (λ s. can_predict_chroma s c.mode_chroma-mode.result) c.sides-sides.ensures ∙ both_second _ _ (sym c.has_sides_nxn.ensures ∙ c.if-not-has_sides_nxn.false),
-        (c.requires.chroma, (c.requires.levels.dc_of_cr, c.requires.levels.blocks_of_cr)),
-      ),
-    ),
-  ),
-)
+build_component-requires-2 g c =
+    let r = c.requires in
+    let can = ap (λ s. can_predict_chroma s c.mode_chroma-mode.result) c.sides-sides.ensures ∙ (and_parts _ _ (sym c.has_sides_nxn.ensures ∙ c.if-not-has_sides_nxn.false)).1 in
+    (omega arith, (r.room.cr_columns, (r.room.cr_rows, (can, (r.chroma, (r.levels.dc_of_cr, r.levels.blocks_of_cr))))))
 
 pub returns-then-not-has_sides_nxn-clause-built : goal.returns-then-not-has_sides_nxn-clause-built
 returns-then-not-has_sides_nxn-clause-built g c = λ p coded at may modes.
@@ -85,8 +54,12 @@ returns-clause-built g c = λ p coded at may modes.
       planes_same _ (planes_after p (planes_of old))
           (c.build_luma4x4.ensures.blocks p (nxn_at p column row old.luma.width chroma c.args.qp.luma c.args.qp.chroma coded r c.args.readable c.args.modes.now at may modes)
           ∙ sym (ap (λ t. luma_after p t old.luma) at.syntax_is))
-          (cb_nxn p column row chroma c.args.qp.luma c.args.qp.chroma coded r sides at mine old.cb c.build_component.new.plane c.mode_chroma-mode.result c.mode_chroma-mode.ensures
-          (c.build_component.ensures.samples (inside_chroma column row old.luma.width old.cb.width sides room.cb_columns within)))
-          (cr_nxn p column row chroma c.args.qp.luma c.args.qp.chroma coded r sides at mine old.cr c.build_component-2.new.plane c.mode_chroma-mode.result c.mode_chroma-mode.ensures
-          (c.build_component-2.ensures.samples (inside_chroma column row old.luma.width old.cr.width sides room.cr_columns within))),
+          (chroma_intra p column row 0 chroma sides (chroma_residual c.args.qp.chroma r.cb_dc r.cb_ac) old.cb c.build_component.new.plane c.mode_chroma-mode.result
+          at.column_is at.row_is mine (λ x y. rw (at.syntax_is, at.chroma_is) refl) c.mode_chroma-mode.ensures
+          (c.build_component.ensures.samples (inside_chroma column row old.luma.width old.cb.width sides room.cb_columns within))
+          ∙ sym (ap (λ t. chroma_after p 1 t old.cb) at.syntax_is))
+          (chroma_intra p column row 1 chroma sides (chroma_residual c.args.qp.chroma r.cr_dc r.cr_ac) old.cr c.build_component-2.new.plane c.mode_chroma-mode.result
+          at.column_is at.row_is mine (λ x y. rw (at.syntax_is, at.chroma_is) refl) c.mode_chroma-mode.ensures
+          (c.build_component-2.ensures.samples (inside_chroma column row old.luma.width old.cr.width sides room.cr_columns within))
+          ∙ sym (ap (λ t. chroma_after p 2 t old.cr) at.syntax_is)),
     )

@@ -1,6 +1,5 @@
-use Rattle.std.proofs.Common.{ℕ, ◌+◌, ◌*◌, ◌≤◌, ap, subst, sym, ◌∙◌, arith}
+use Rattle.std.proofs.Common.{ℕ, ◌+◌, ◌*◌, ◌≤◌, subst, refl, sym, ◌∙◌, arith}
 use Rattle.std.specs.Option.{unwrap_or}
-use Rattle.avc_plane.specs.Plane.{with_block}
 use Rattle.avc_plane.proofs.Lending.{block_lent, room_lent}
 use Rattle.avc_intra.specs.Luma16x16.{can_predict16x16, intra16x16, predict16x16}
 use Rattle.avc_picture_core.specs.Built.{seen_from}
@@ -30,13 +29,11 @@ returns-clause-samples g c inside =
     let rows = c.padded_rows_mut in
     let columns : left + 16 ≤ s.width = omega (arith, c.requires.columns, across) in
     let lines : top + 16 ≤ s.height = omega (arith, c.requires.rows, down) in
-    let f : ℕ → ℕ → ℕ → ℕ → ℕ = λ u v x y. unwrap_or (intra16x16 sides (seen_from s u v) mode x y) 0 in
     let within = subst (λ v. AreInside left v s.width sides) (sym down) (subst (λ u. AreInside u (16 * c.args.place.row) s.width sides) (sym across) inside) in
     let p = seen_from s left top in
     let of : ℕ → ℕ → ℕ = predict16x16 sides p mode in
     let there = seen g.row.PAD left top 16 at.result.first at.result.stride s sides rows.result.now rows.ensures.rows columns lines within at.ensures.first at.ensures.stride (omega arith) in
     block_lent g.row.PAD s left top 16 16 at.result.first at.result.stride rows.result.now rows.ensures.rows columns lines at.ensures.first at.ensures.stride
     of c.lay16x16.new.rows (c.lay16x16.ensures.samples p there)
-    ∙ with_block_same s left top 16 16 of (f left top) (λ x y column row. sym (predicted (can_predict16x16 sides mode) (of x y) c.requires.mode))
-    ∙ ap (λ u. with_block s u top 16 16 (f u top)) across
-    ∙ ap (λ v. with_block s (16 * c.args.place.column) v 16 16 (f (16 * c.args.place.column) v)) down
+    ∙ with_block_same s left top 16 16 of (λ x y. unwrap_or (intra16x16 sides p mode x y) 0) (λ x y column row. sym (predicted (can_predict16x16 sides mode) (of x y) c.requires.mode))
+    ∙ rw (across, down) refl

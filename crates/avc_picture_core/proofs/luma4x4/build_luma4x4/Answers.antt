@@ -1,11 +1,11 @@
-use Rattle.std.proofs.Common.{◌≡◌, ◌+◌, ◌*◌, [], suc, slice_index_or, ap, sym, subst, ◌∙◌, arith, rules}
+use Rattle.std.proofs.Common.{◌≡◌, ◌+◌, ◌*◌, [], suc, slice_index_or, ap, sym, ◌∙◌, arith, rules}
 use Rattle.avc_types.specs.MacroblockFields.{residual_of}
 use Rattle.avc_neigh.specs.Blocks.{block_x, block_y}
 use Rattle.avc_neigh.specs.declared.facts.NearMode.TheVariants.{Absent as absent}
 use Rattle.avc_intra.specs.Luma4x4.{mode4x4_of}
 use Rattle.avc_transform.specs.Residual.{residual4x4}
 use Rattle.avc_picture_core.specs.Built.{mode_number, with_block4x4, with_blocks4x4}
-use Rattle.avc_picture_core.specs.Sides.{AreInside, readable_sides}
+use Rattle.avc_picture_core.specs.Sides.{AreInside}
 use Rattle.avc_picture_core.proofs.Adding.{any_default}
 use Rattle.avc_picture_core.proofs.Ties.{nxn_block, nxn_residual}
 use Rattle.avc_picture_core.proofs.luma4x4.build_luma4x4.Goals as goal
@@ -32,10 +32,7 @@ loop-k-preserved g c =
       top = inv.top;
       done = λ p at.
           let within : AreInside left top cur.width c.sides.result =
-          subst (λ t. AreInside left top cur.width t) (sym c.sides.ensures)
-          (subst (λ w. AreInside left top w (readable_sides c.args.readable k)) (sym inv.wide)
-          (subst (λ v. AreInside left v s.width (readable_sides c.args.readable k)) (sym at_top)
-          (subst (λ u. AreInside u (16 * c.args.place.row + block_y k) s.width (readable_sides c.args.readable k)) (sym at_left) (at.may_read.inside k c.loop-k-test.true)))) in
+          rw (c.sides.ensures, inv.wide, at_top, at_left) (at.may_read.inside k c.loop-k-test.true) in
           c.build_block.ensures.block within
           ∙ nxn_block p k cur left top c.sides.result c.mode4x4-mode.result f
           (ap (λ n. n + block_x k) at.left ∙ sym at_left) (ap (λ n. n + block_y k) at.top ∙ sym at_top)

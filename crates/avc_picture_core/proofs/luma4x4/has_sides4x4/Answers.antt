@@ -1,4 +1,4 @@
-use Rattle.std.proofs.Common.{◌≡◌, slice_index_or, ap, sym, ◌∙◌, arith, below_more}
+use Rattle.std.proofs.Common.{◌≡◌, slice_index_or, sym, ◌∙◌, arith, below_more}
 use Rattle.avc_neigh.specs.declared.facts.NearMode.TheVariants.{Absent as absent}
 use Rattle.avc_intra.specs.Luma4x4.{can_predict4x4, mode4x4_of}
 use Rattle.avc_picture_core.specs.Built.{mode_number}
@@ -8,18 +8,14 @@ use Rattle.avc_picture_core.proofs.luma4x4.has_sides4x4.Goals as goal
 
 pub returns-then-not-is_available : goal.returns-then-not-is_available
 returns-then-not-is_available c =
-    let s = c.sides.result in
-    let m = c.mode4x4.result in
     let same : can_predict4x4 (readable_sides c.args.readable c.loop-k.k) (mode4x4_of (mode_number (slice_index_or c.args.modes.now c.loop-k.k absent))) ≡ c.is_available.result =
-    ap (λ n. can_predict4x4 (readable_sides c.args.readable c.loop-k.k) n) (sym c.mode4x4.ensures) ∙ ap (λ t. can_predict4x4 t m) (sym c.sides.ensures) ∙ sym c.is_available.ensures in
+    cc (c.mode4x4.ensures, c.sides.ensures, c.is_available.ensures) in
     sym (one_false (λ k. can_predict4x4 (readable_sides c.args.readable k) (mode4x4_of (mode_number (slice_index_or c.args.modes.now k absent)))) c.loop-k.k c.loop-k-test.true (same ∙ c.if-not-is_available.true))
 
 pub loop-k-preserved : goal.loop-k-preserved
 loop-k-preserved c =
-    let s = c.sides.result in
-    let m = c.mode4x4.result in
     let same : can_predict4x4 (readable_sides c.args.readable c.loop-k.k) (mode4x4_of (mode_number (slice_index_or c.args.modes.now c.loop-k.k absent))) ≡ c.is_available.result =
-    ap (λ n. can_predict4x4 (readable_sides c.args.readable c.loop-k.k) n) (sym c.mode4x4.ensures) ∙ ap (λ t. can_predict4x4 t m) (sym c.sides.ensures) ∙ sym c.is_available.ensures in
+    cc (c.mode4x4.ensures, c.sides.ensures, c.is_available.ensures) in
     record { done = below_more _ _ c.loop-k.invariant.done (same ∙ c.if-not-is_available.false) }
 
 pub returns-then-has_corner_neighbours : goal.returns-then-has_corner_neighbours

@@ -1,4 +1,4 @@
-use Rattle.std.proofs.Common.{◌≡◌, ◌*◌, ◌/◌, sym, refl, ap, ◌∙◌}
+use Rattle.std.proofs.Common.{◌*◌, ◌/◌, sym, refl, ap, ◌∙◌}
 use Rattle.std.specs.Prelude.{Option, None}
 use Rattle.std.specs.Option.{option_map}
 use Rattle.avc_types.specs.declared.weight.Weight.{Weight}

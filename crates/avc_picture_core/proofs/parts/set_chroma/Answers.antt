@@ -1,21 +1,11 @@
-use Rattle.std.proofs.Common.{◌*◌, ◌+◌, ◌∙◌, ap, arith, length, subst}
-use Rattle.std.specs.Prelude.{Option, IfSome}
-use Rattle.avc_types.specs.declared.weight.Weight.{Weight}
+use Rattle.std.proofs.Common.{◌*◌, ◌∙◌, arith}
 use Rattle.avc_plane.specs.Plane.{sample}
 use Rattle.avc_inter.specs.Chroma.{inter_chroma}
-use Rattle.avc_picture_core.specs.References.{IsWeight}
 use Rattle.avc_picture_core.proofs.Laid.{laid_by, laid_weighted, length-block}
 use Rattle.avc_picture_core.proofs.parts.set_chroma.Goals as goal
 
 pub set_weighted-requires : goal.set_weighted-requires
-set_weighted-requires g c =
-    let p = c.args.reference.now in
-    let a = c.args in
-    let r = c.requires in
-    let by = subst (λ (o : Option Weight). IfSome o IsWeight) c.in-Some.is r.weight in
-    let long = ap length c.chroma.ensures
-    ∙ length-block g.row.W g.row.H (λ i j. inter_chroma p.width p.height (sample p) a.mv (8 * a.place.column + a.corner.x + i) (8 * a.place.row + a.corner.y + j)) in
-    (omega arith, (omega arith, ((r.columns.0, omega (arith, r.columns.1), omega (arith, r.columns.1, r.plane_columns)), ((r.rows.0, omega (arith, r.rows.1), omega (arith, r.rows.1, r.plane_rows)), (by, long)))))
+set_weighted-requires g c = grind (arith, length-block)
 
 pub returns-in-None : goal.returns-in-None
 returns-in-None g c =

@@ -1,5 +1,5 @@
 use Rattle.std.proofs.lemmas.Int.{ints}
-use Rattle.std.proofs.Common.{to_z, of_z, w32, rules, ◌≡◌, ◌+◌, ◌-◌, ◌*◌, ◌/◌, ◌%◌, ℤ, pos, [], ap, ◌∙◌, sym, slice_index_or, arith}
+use Rattle.std.proofs.Common.{to_z, of_z, w32, rules, ◌≡◌, ◌+◌, ◌*◌, ◌/◌, ◌%◌, pos, [], ap, ◌∙◌, sym, slice_index_or, arith}
 use Rattle.avc_transform.specs.Residual.{residual4x4_with_dc, chroma_dc}
 use Rattle.avc_transform.specs.MacroblockResidual.{chroma_residual}
 use Rattle.avc_plane.specs.Plane.{Plane}
@@ -41,11 +41,7 @@ loop-k-preserved g c =
       high = ap (λ (p : Plane). p.height) e ∙ inv.high;
       left = inv.left;
       top = inv.top;
-      done = e
-          ∙ ap (λ (z : ℤ). with_residual c.loop-k.plane (c.first_column-column.result + l) (c.first_row-row.result + t) 4 4 (residual4x4_with_dc qp z levels)) back
-          ∙ ap (λ u. with_residual c.loop-k.plane (u + l) (c.first_row-row.result + t) 4 4 g) inv.left
-          ∙ ap (λ v. with_residual c.loop-k.plane (left + l) (v + t) 4 4 g) inv.top
-          ∙ ap (λ (p : Plane). with_residual p (left + l) (top + t) 4 4 g) inv.done
+      done = rw (back, inv.left, inv.top, inv.done) at e
           ∙ one_more c.args.plane.now left top 8 chroma_number f k l t g c.requires.columns c.requires.rows (omega arith) (omega (arith, c.loop-k-test.true))
           (λ x y column row p q r s.
           let spot = chroma_spot k x y c.loop-k-test.true p q r s in
@@ -54,15 +50,11 @@ loop-k-preserved g c =
           ∙ c.chroma_dc-values.ensures.values (x / 4) (y / 4) (omega arith) (omega arith)
           ∙ ap (λ l. chroma_dc qp l (x / 4) (y / 4)) c.as_array.ensures in (
             spot.0,
-            ap (λ u. residual4x4_with_dc qp dc levels u (y - t)) spot.1 ∙ ap (λ v. residual4x4_with_dc qp dc levels (x % 4) v) spot.2
-                ∙ ap (λ (z : ℤ). residual4x4_with_dc qp z levels (x % 4) (y % 4)) value
-                ∙ ap (λ l. residual4x4_with_dc qp (chroma_dc qp dcs (x / 4) (y / 4)) l (x % 4) (y % 4)) (sym mine ∙ ap (λ n. slice_index_or blocks n []) (sym spot.0)),
+            rw (spot.1, spot.2, value)
+                (ap (λ l. residual4x4_with_dc qp (chroma_dc qp dcs (x / 4) (y / 4)) l (x % 4) (y % 4)) (sym mine ∙ ap (λ n. slice_index_or blocks n []) (sym spot.0))),
           ))
           (λ x y column row is. chroma_within k x y column row is);
     }
 
 pub returns : goal.returns
-returns g c =
-    c.loop-k.invariant.done
-    ∙ all_before c.args.plane.now (8 * c.args.place.column) (8 * c.args.place.row) 8 chroma_number (chroma_residual c.args.qp c.args.dc.now c.args.ac.now) c.loop-k.k
-    (λ x y column row. omega (arith, c.loop-k-test.false))
+returns g c = search (rules, all_before, chroma_number)

@@ -1,51 +1,21 @@
-use Rattle.std.proofs.Common.{◌≡◌, Some, None, List, ℕ, sym, subst, ◌∙◌, arith}
-use Rattle.avc_types.specs.declared.fault.Fault.TheVariants.{MissingMacroblocks}
+use Rattle.std.proofs.Common.{◌≡◌, None, List, ℕ, sym, subst, ◌∙◌, arith}
 use Rattle.avc_params.specs.Limits.{height_in_mbs, size_in_mbs, width_in_mbs}
 use Rattle.avc_plane.specs.Frames.{padded_planes_of, planes_of, AreSized}
 use Rattle.avc_picture.specs.Decoding.{CanStandAt, Decoding, end_fault, start_at}
 use Rattle.avc_picture.specs.DecoderState.{IsDecoderState}
-use Rattle.avc_picture.specs.Slices.{is_full, planes_after_slices, progress}
-use Rattle.avc_picture.specs.Context.{picture_start}
+use Rattle.avc_picture.specs.Slices.{planes_after_slices}
 use Rattle.avc_picture.proofs.DataAnswers.{none-of}
 use Rattle.avc_picture.proofs.Kept.{agrees, are-sized, differs, first-at-end, missing-at-end, none-at-end, planes-at-end}
 use Rattle.avc_picture.proofs.decoder.PictureDecoder.finish.Goals as goal
 
 pub returns-in-Some-clause-answer : goal.returns-in-Some-clause-answer
-returns-in-Some-clause-answer g c =
-    let d = c.self.inside in
-    let f = c.in-Some.fault in
-    let kept = subst (λ o. IsDecoderState d.sps d.pps d.frames.items d.slices.items d.slice_count d.read o d.macroblocks) c.in-Some.is c.self.invariant in
-    subst (λ (v : Decoding g.row.PAD). (es : List ℕ) → CanStandAt es v → end_fault es v ≡ Some f) c.self.view_is
-    (λ es stand.
-    let so_far = progress (picture_start d.sps d.pps es d.frames.items) d.slices.items in
-    first-at-end so_far.fault (is_full (picture_start d.sps d.pps es d.frames.items) so_far) f (kept.keeps es stand).0)
+returns-in-Some-clause-answer g c = grind (arith, first-at-end)
 
 pub returns-then-self-size_in_mbs-clause-answer : goal.returns-then-self-size_in_mbs-clause-answer
-returns-then-self-size_in_mbs-clause-answer g c =
-    let d = c.self.inside in
-    let kept = subst (λ o. IsDecoderState d.sps d.pps d.frames.items d.slices.items d.slice_count d.read o d.macroblocks) (none-of d.fault c.in_default.not-Some) c.self.invariant in
-    let other = differs d.read (size_in_mbs d.sps) (λ e. c.if-self-size_in_mbs.true (e ∙ sym c.size_in_mbs.ensures)) in
-    subst (λ (v : Decoding g.row.PAD). (es : List ℕ) → CanStandAt es v → end_fault es v ≡ Some MissingMacroblocks) c.self.view_is
-    (missing-at-end d.sps d.pps d.frames.items d.slices.items d.slice_count d.read d.macroblocks kept other)
+returns-then-self-size_in_mbs-clause-answer g c = grind (arith, none-of, differs, missing-at-end)
 
 pub pad-requires : goal.pad-requires
-pad-requires g c =
-    let d = c.self.inside in
-    let kept = subst (λ o. IsDecoderState d.sps d.pps d.frames.items d.slices.items d.slice_count d.read o d.macroblocks) (none-of d.fault c.in_default.not-Some) c.self.invariant in
-    let full : d.read ≡ size_in_mbs d.sps = c.if-self-size_in_mbs.false ∙ c.size_in_mbs.ensures in
-    let sized = are-sized d.sps d.pps d.frames.items d.slices.items d.slice_count d.read d.macroblocks kept full (planes_of c.deblocked.result) c.deblocked.ensures.samples in (
-      omega arith,
-      (
-        omega arith,
-        (
-          record { some_column = omega (arith, sized.luma_width); some_row = omega (arith, sized.luma_height) },
-          (
-            record { some_column = omega (arith, sized.cb_width); some_row = omega (arith, sized.cb_height) },
-            record { some_column = omega (arith, sized.cr_width); some_row = omega (arith, sized.cr_height) },
-          ),
-        ),
-      ),
-    )
+pad-requires g c = grind (arith, none-of, are-sized)
 
 pub returns-clause-answer : goal.returns-clause-answer
 returns-clause-answer g c =

@@ -27,35 +27,12 @@ decode_slice-decoded-requires g c =
     let slice = c.args.slice.now in
     let kept = c.self.invariant in
     let sound = subst (λ o. IsDecoderState d.sps d.pps d.frames.items d.slices.items d.slice_count d.read o d.macroblocks) (none-of d.fault c.in_default.not-Some) kept in
-    let frames : d.frames.items ≡ c.args.frames.now = sym (c.requires.frames ∙ sym (ap (λ (v : Decoding g.row.PAD). v.frames) c.self.view_is)) in (
-      omega arith,
-      (
-        omega arith,
-        (
-          kept.of_sps,
-          (
-            kept.of_pps,
-            (
-              subst (λ (v : Decoding g.row.PAD). IsHeader v.sps v.pps slice.rbsp slice.header) (sym c.self.view_is) c.requires.within,
-              (
-                subst (AreFramesOf d.sps) frames kept.of_frames,
-                (
-                  kept.within,
-                  (
-                    kept.width,
-                    (
-                      kept.height,
-                      subst (λ fs. IsWellSomewhere d.sps d.pps fs d.slice_count d.read d.macroblocks) frames
-                          (well-somewhere d.sps d.pps d.frames.items d.slices.items d.slice_count d.read d.macroblocks sound),
-                    ),
-                  ),
-                ),
-              ),
-            ),
-          ),
-        ),
-      ),
-    )
+    let frames : d.frames.items ≡ c.args.frames.now = sym (c.requires.frames ∙ sym (ap (λ (v : Decoding g.row.PAD). v.frames) c.self.view_is)) in
+    let header = subst (λ (v : Decoding g.row.PAD). IsHeader v.sps v.pps slice.rbsp slice.header) (sym c.self.view_is) c.requires.within in
+    let well = subst (λ fs. IsWellSomewhere d.sps d.pps fs d.slice_count d.read d.macroblocks) frames
+    (well-somewhere d.sps d.pps d.frames.items d.slices.items d.slice_count d.read d.macroblocks sound) in
+    let stored = subst (AreFramesOf d.sps) frames kept.of_frames in
+    (omega arith, (omega arith, (kept.of_sps, (kept.of_pps, (header, (stored, (kept.within, (kept.width, (kept.height, well)))))))))
 
 pub number_after-self-inside-requires-clause-few : goal.number_after-self-inside-requires-clause-few
 number_after-self-inside-requires-clause-few g c =

@@ -3,7 +3,6 @@ use Rattle.std.proofs.Common.{◌≡◌, ◌∙◌, ◌<◌, ◌*◌, ◌+◌, �
 use Rattle.avc_neigh.specs.Around.{Around, PictureFacts, facts_of, with_facts}
 use Rattle.avc_neigh.specs.BlockNear.{HasModes}
 use Rattle.avc_picture_core.specs.Faults.{macroblock_fault}
-use Rattle.avc_picture_core.specs.References.{AreUsable}
 use Rattle.avc_picture.specs.FirstMbs.{HoldsFirst, MbsState}
 use Rattle.avc_plane.specs.Frames.{planes_of}
 use Rattle.avc_picture_core.specs.CanvasFields.{with_planes}
@@ -26,37 +25,7 @@ returns-in_err-set_neighbour_facts-clause-decoded g c = λ coded names holds is 
     rw e (ap (λ (o : MbsState). macroblock_fault coded o.next) back ∙ fault)
 
 pub build-requires : goal.build-requires
-build-requires g c =
-    let back = sym c.self.view_is in
-    let n_is = sym (c.sources-sources.ensures.neighbours ∙ c.around.ensures) in
-    let kept = c.self.invariant.kept in (
-      omega arith,
-      (
-        omega arith,
-        (
-          subst (λ (o : MbsState). o.next < o.canvas.width * o.canvas.height) back c.requires.room,
-          (
-            c.self.invariant.sized,
-            (
-              in_range_of c.requires.mb.active_count c.args.mb.now.syntax c.requires.mb.syntax,
-              (
-                c.requires.mb.quantiser,
-                (
-                  c.in_ok-set_neighbour_facts.ensures.told.in_range
-                      (subst (λ (n : Around). HasModes n.a) n_is (modes_left c.self.inside.row c.args.slice.now.number kept.modes))
-                      (subst (λ (n : Around). HasModes n.b) n_is (modes_above c.self.inside.row c.args.slice.now.number kept.modes)),
-                  (
-                    c.in_ok-set_neighbour_facts.ensures.one,
-                    subst (AreUsable c.self.inside.canvas.width c.self.inside.canvas.height) (sym c.sources-sources.ensures.references)
-                        (subst (λ (o : MbsState). AreUsable o.canvas.width o.canvas.height c.args.slice.now.references) back c.requires.references),
-                  ),
-                ),
-              ),
-            ),
-          ),
-        ),
-      ),
-    )
+build-requires g c = grind (arith, in_range_of, modes_left, modes_above)
 
 pub returns-in_err-build-clause-decoded : goal.returns-in_err-build-clause-decoded
 returns-in_err-build-clause-decoded g c = λ coded names holds is slice.
@@ -71,12 +40,7 @@ returns-in_err-build-clause-decoded g c = λ coded names holds is slice.
     rw e (ap (λ (o : MbsState). macroblock_fault coded o.next) back ∙ fault)
 
 pub filter_late-requires : goal.filter_late-requires
-filter_late-requires g c =
-    let i = c.self.inside in
-    let w = c.self.invariant in (
-      omega arith,
-      late_room (state_of i) w.kept i.filter_rows.width w.filter_width (planes_of c.build.new.planes) c.build.ensures.sized,
-    )
+filter_late-requires g c = grind (arith, late_room)
 
 pub invariant_of-self-2 : goal.invariant_of-self-2
 invariant_of-self-2 g c =

@@ -8,17 +8,7 @@ use Rattle.avc_picture.proofs.LateAgree.{component_columns, component_rows, samp
 use Rattle.avc_picture.proofs.macroblocks.Macroblocks.sample.Goals as goal
 
 pub sample_of-requires : goal.sample_of-requires
-sample_of-requires g c =
-    let i = c.self.inside in
-    let e = c.self.view_is in (
-      omega arith,
-      (
-        component_columns i.canvas.width i.canvas.height c.args.component c.args.x (state_of i).canvas.planes c.self.invariant.sized
-            (subst (λ (m : MbsState). c.args.x < size_of c.args.component * m.canvas.width) (sym e) c.requires.column),
-        component_rows i.canvas.width i.canvas.height c.args.component c.args.y (state_of i).canvas.planes c.self.invariant.sized
-            (subst (λ (m : MbsState). c.args.y < size_of c.args.component * m.canvas.height) (sym e) c.requires.row),
-      ),
-    )
+sample_of-requires g c = grind (arith, component_columns, component_rows)
 
 pub returns : goal.returns
 returns g c = λ coded names holds.
