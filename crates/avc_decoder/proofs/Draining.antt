@@ -1,6 +1,6 @@
 -- The units that were not taken are handled, and with them all.
 use Rattle.std.proofs.Common.{◌≡◌, ◌+◌, ◌<◌, ℕ, zero, suc, Bool, true, false, List, [], ◌∷◌, ◌++◌, length, drop, Option, Some, None, Result, Ok, Err, refl, ap, sym, ◌∙◌, arith, add-one, add-zero, add_assoc, append_assoc, append-nil, le_of_eq, le_trans, length-append, subst}
-use Rattle.std.specs.Prelude.{◌==◌, IfOk, IfSome, is_none, is_some, not, slice_get}
+use Rattle.std.specs.Prelude.{◌==◌, IfOk, is_none, is_some, not, slice_get}
 use Rattle.std.proofs.lemmas.Bool.Decides.{nat_tests}
 use Rattle.std.proofs.Math.Seq.{drop-append_seam}
 use Rattle.avc_annexb.specs.SplitterState.{SplitterState, after_feed, after_finish, next_unit_of, after_next_unit}
@@ -9,15 +9,14 @@ use Rattle.avc_annexb.specs.declared.unit.Unit.{Unit as Piece}
 use Rattle.avc_annexb.proofs.Staying.{units_stay_first}
 use Rattle.avc_types.specs.declared.memory.OutOfMemory.{OutOfMemory}
 use Rattle.avc_dpb.specs.declared.output.Output.{Output}
-use Rattle.avc_decoder.specs.Events.{State, after_unit, at_end, events, events_from, first_state, read_from, state_after, turns}
+use Rattle.avc_decoder.specs.Events.{State, after_unit, at_end, events_from, first_state, read_from, state_after, turns}
 use Rattle.avc_decoder.specs.Laws.{state_through}
 use Rattle.avc_decoder.specs.Machine.{Machine, IsFeedAnswer, new_machine, next_event}
 use Rattle.avc_decoder.specs.Machine as machine
 use Rattle.avc_decoder.specs.declared.error.DecodeError.{DecodeError}
-use Rattle.avc_decoder.specs.declared.event.Event.{Event}
 use Rattle.avc_decoder.specs.declared.error.DecodeError.TheVariants.{OutOfMemory as NoMemory}
 use Rattle.avc_decoder.proofs.Growing.{events-append, read-append, turns_grow}
-use Rattle.avc_decoder.specs.States.{StreamState, EndsIn, FeedsIn, HandlesAll, IsDecoded, IsDecoderState, IsNew, IsWorking, more_read, after_take_in, after_units_in_stream, after_stream_end, after_unit_in_stream, next_event_in, stream_state}
+use Rattle.avc_decoder.specs.States.{StreamState, EndsIn, FeedsIn, HandlesAll, IsDecoded, IsDecoderState, more_read, after_units_in_stream, after_stream_end, after_unit_in_stream, stream_state}
 use Rattle.avc_decoder.specs.declared.parts.Parts.{Parts}
 
 drop_some : {A : Type 0} (xs : List A) (n : ℕ) (x : A) → Some x ≡ slice_get xs n → drop n xs ≡ x ∷ drop (suc n) xs
@@ -106,7 +105,13 @@ held_more n zero = ap saturated (sym (add-zero n))
 held_more n (suc more) = omega arith
 
 handled_all : (us : List Piece) (f : StreamState) → Handled us f (after_units_in_stream us f)
-handled_all [] f = record { state = refl; events = sym (append-nil f.events); taken = refl; read = λ n e. e ∙ ap saturated (sym (add-zero n)) }
+handled_all [] f = record {
+  state = refl;
+  events = sym (append-nil f.events);
+  taken = refl;
+  read = λ n e. e
+      ∙ ap saturated (sym (add-zero n));
+}
 handled_all (u ∷ us) f =
     let h = handled_all us (after_unit_in_stream u f) in
     let o = after_unit f.state u in
@@ -126,7 +131,9 @@ pub record AllHandled (output : Output) (all : List Piece) (n : ℕ) (t2 : Strea
   pub taken : t2.taken ≡ t.taken
   pub read : t2.read ≡ saturated (read_from (first_state output) all)
 
-rest_handled : (output : Output) (us more all : List Piece) (n : ℕ) (t t2 : StreamState) → all ≡ us ++ more → n ≡ length us → t.state ≡ state_through (first_state output) us → t.events ≡ events_from (first_state output) us false
+rest_handled : (output : Output) (us more all : List Piece) (n : ℕ) (t t2 : StreamState) → all ≡ us ++ more
+    → n ≡ length us → t.state ≡ state_through (first_state output) us
+    → t.events ≡ events_from (first_state output) us false
     → t.read ≡ saturated (read_from (first_state output) us) → t2 ≡ after_units_in_stream (drop n all) t → AllHandled output all n t2 t
 rest_handled output us more all n t t2 e len at es er et =
     let d : drop n all ≡ more = ap (λ m. drop m all) len ∙ ap (drop (length us)) e ∙ drop-append_seam us more in
@@ -155,17 +162,28 @@ fed_at : (output : Output) (max : ℕ) (s s2 : SplitterState) (t t2 : StreamStat
 fed_at output max s s2 t t2 piece d h =
     let stay = units_stay_first max s.bytes piece false in
     let all = units max (s.bytes ++ piece) false in
-    let r = rest_handled output (units max s.bytes false) stay.0 all s.taken t t2 stay.1 d.counted (d.state refl) d.events d.read h.stream in
+    let r = rest_handled output (units max s.bytes false) stay.0 all s.taken t t2 stay.1 d.counted
+    (d.state refl) d.events d.read h.stream in
     rw h.splitter (record {
-      decoded = record { going = d.going; ends = refl; counted = r.counted; state = λ _. r.state; events = sym (append-nil t2.events) ∙ r.events false; read = r.read };
+      decoded = record {
+        going = d.going;
+        ends = refl;
+        counted = r.counted;
+        state = λ _. r.state;
+        events = sym
+            (append-nil t2.events) ∙ r.events false;
+        read = r.read;
+      };
       bytes_are = refl;
       taken_are = r.taken;
     })
 
-decoded_fed : (output : Output) (max : ℕ) (ended : Bool) (s s2 : SplitterState) (t t2 : StreamState) (piece : List ℕ) → IsDecoded output max s ended t → ended ≡ false → HandlesAll max (after_feed s piece) s2 t t2
+decoded_fed : (output : Output) (max : ℕ) (ended : Bool) (s s2 : SplitterState) (t t2 : StreamState) (piece : List ℕ)
+    → IsDecoded output max s ended t → ended ≡ false → HandlesAll max (after_feed s piece) s2 t t2
     → Decoded output max (s.bytes ++ piece) ended t.taken s2 t2
 decoded_fed output max true s s2 t t2 piece d e h = cc
-decoded_fed output max false s s2 t t2 piece d e h = fed_at output max s s2 t t2 piece d (subst (λ x. HandlesAll max x s2 t t2) (fed_going s d.ends) h)
+decoded_fed output max false s s2 t t2 piece d e h = fed_at output max s s2 t t2 piece d
+    (subst (λ x. HandlesAll max x s2 t t2) (fed_going s d.ends) h)
   where
     fed_going : (x : SplitterState) → x.ended ≡ false → after_feed x piece ≡ record x { bytes = x.bytes ++ piece; ended = false }
     fed_going x off = rw off refl
@@ -174,9 +192,19 @@ finished_at : (output : Output) (max : ℕ) (s s2 : SplitterState) (t t2 t3 : St
 finished_at output max s s2 t t2 t3 d h e =
     let stay = units_stay_first max s.bytes [] true in
     let all = units max s.bytes true in
-    let r = rest_handled output (units max s.bytes false) stay.0 all s.taken t t2 (ap (λ b. units max b true) (sym (append-nil s.bytes)) ∙ stay.1) d.counted (d.state refl) d.events d.read h.stream in
+    let r = rest_handled output (units max s.bytes false) stay.0 all s.taken t t2
+    (ap (λ b. units max b true) (sym (append-nil s.bytes)) ∙ stay.1) d.counted
+    (d.state refl) d.events d.read h.stream in
     rw (h.splitter, e) (record {
-      decoded = record { going = d.going; ends = refl; counted = r.counted; state = λ off. absurd_bool off; events = ap (λ (x : State). t2.events ++ at_end x.output x.phase) r.state ∙ r.events true; read = r.read };
+      decoded = record {
+        going = d.going;
+        ends = refl;
+        counted = r.counted;
+        state = λ off. absurd_bool off;
+        events = ap
+            (λ (x : State). t2.events ++ at_end x.output x.phase) r.state ∙ r.events true;
+        read = r.read;
+      };
       bytes_are = refl;
       taken_are = r.taken;
     })
@@ -184,7 +212,9 @@ finished_at output max s s2 t t2 t3 d h e =
     absurd_bool : true ≡ false → (after_stream_end t2).state ≡ state_through (first_state output) (units max s.bytes false)
     absurd_bool off = cc
 
-decoded_finished : (output : Output) (max : ℕ) (ended : Bool) (s s2 : SplitterState) (t t2 t3 : StreamState) → IsDecoded output max s ended t → ended ≡ false → HandlesAll max (after_finish s) s2 t t2 → t3 ≡ after_stream_end t2
+decoded_finished : (output : Output) (max : ℕ) (ended : Bool) (s s2 : SplitterState) (t t2 t3 : StreamState)
+    → IsDecoded output max s ended t → ended ≡ false → HandlesAll max (after_finish s) s2 t t2
+    → t3 ≡ after_stream_end t2
     → Decoded output max s.bytes true t.taken s2 t3
 decoded_finished output max true s s2 t t2 t3 d e h f = cc
 decoded_finished output max false s s2 t t2 t3 d e h f = finished_at output max s s2 t t2 t3 d h f
@@ -200,16 +230,21 @@ pub going_on : {A : Type 0} (o : Option A) (none : Bool) → is_some o ≡ not n
 going_on o none e off = ap not e ∙ ap (λ b. not (not b)) off
 
 -- what the answer says
-pub ok_so : (P : ℕ → Type 0) (answer answer' : Result ℕ OutOfMemory) (read : ℕ) → IfOk answer P → answer' ≡ answer → answer' ≡ Ok read → P read
+pub ok_so : (P : ℕ → Type 0) (answer answer' : Result ℕ OutOfMemory) (read : ℕ) → IfOk answer P → answer' ≡ answer
+    → answer' ≡ Ok read → P read
 ok_so P answer answer' read is same e = rw (sym same ∙ e) at is
 
 -- a piece more was handled
-pub kept_fed : (output : Output) (max : ℕ) (bytes bytes' piece : List ℕ) (ended : Bool) (taken : ℕ) (running running' : Option (Parts max)) (read read' : ℕ) → IsDecoderState max (machine_of output bytes ended taken (is_none running)) running read
-    → ended ≡ false → bytes' ≡ bytes ++ piece → FeedsIn max running piece read' running' → IsDecoderState max (machine_of output bytes' ended taken (is_none running')) running' read'
+pub kept_fed : (output : Output) (max : ℕ) (bytes bytes' piece : List ℕ) (ended : Bool) (taken : ℕ)
+    (running running' : Option (Parts max)) (read read' : ℕ)
+    → IsDecoderState max (machine_of output bytes ended taken (is_none running)) running read
+    → ended ≡ false → bytes' ≡ bytes ++ piece → FeedsIn max running piece read' running'
+    → IsDecoderState max (machine_of output bytes' ended taken (is_none running')) running' read'
 kept_fed output max bytes bytes' piece ended taken None running' read read' i unended given f = absurd f
 kept_fed output max bytes bytes' piece ended taken (Some p) None read read' i unended given f = absurd f
 kept_fed output max bytes bytes' piece ended taken (Some p) (Some p') read read' i unended given f =
-    let k = decoded_fed output max ended p.splitter p'.splitter (stream_state p.stream) (stream_state p'.stream) piece i.parts.decoded unended f.handles in
+    let k = decoded_fed output max ended p.splitter p'.splitter (stream_state p.stream)
+    (stream_state p'.stream) piece i.parts.decoded unended f.handles in
     let same : (p'.splitter).bytes ≡ bytes' = k.bytes_are ∙ ap (λ bs. bs ++ piece) i.parts.bytes ∙ sym given in
     record {
       count_is = f.count ∙ (k.decoded).read ∙ ap (λ bs. turns output max bs ended) same;
@@ -217,12 +252,16 @@ kept_fed output max bytes bytes' piece ended taken (Some p) (Some p') read read'
     }
 
 -- the end was handled
-pub kept_flushed : (output : Output) (max : ℕ) (bytes : List ℕ) (ended : Bool) (taken : ℕ) (running running' : Option (Parts max)) (read read' : ℕ) → IsDecoderState max (machine_of output bytes ended taken (is_none running)) running read
-    → ended ≡ false → EndsIn max running read' running' → IsDecoderState max (machine_of output bytes true taken (is_none running')) running' read'
+pub kept_flushed : (output : Output) (max : ℕ) (bytes : List ℕ) (ended : Bool) (taken : ℕ)
+    (running running' : Option (Parts max)) (read read' : ℕ)
+    → IsDecoderState max (machine_of output bytes ended taken (is_none running)) running read
+    → ended ≡ false → EndsIn max running read' running'
+    → IsDecoderState max (machine_of output bytes true taken (is_none running')) running' read'
 kept_flushed output max bytes ended taken None running' read read' i unended f = absurd f
 kept_flushed output max bytes ended taken (Some p) None read read' i unended f = absurd f
 kept_flushed output max bytes ended taken (Some p) (Some p') read read' i unended f =
-    let k = decoded_finished output max ended p.splitter p'.splitter (stream_state p.stream) f.before (stream_state p'.stream) i.parts.decoded unended f.handles f.ends in
+    let k = decoded_finished output max ended p.splitter p'.splitter (stream_state p.stream) f.before
+    (stream_state p'.stream) i.parts.decoded unended f.handles f.ends in
     let same : (p'.splitter).bytes ≡ bytes = k.bytes_are ∙ i.parts.bytes in
     record {
       count_is = f.count ∙ (k.decoded).read ∙ ap (λ bs. turns output max bs true) same;
@@ -230,8 +269,11 @@ kept_flushed output max bytes ended taken (Some p) (Some p') read read' i unende
     }
 
 -- memory was refused to a call with these bytes: the count is that before it
-pub kept_refused : (output : Output) (max : ℕ) (bytes bytes' piece : List ℕ) (ended ended' : Bool) (taken : ℕ) (running running' : Option (Parts max)) (read : ℕ) → IsDecoderState max (machine_of output bytes ended taken (is_none running)) running read
-    → is_none running ≡ false → ended ≡ false → bytes' ≡ bytes ++ piece → running' ≡ None → IsDecoderState max (machine_of output bytes' ended' taken (is_none running')) running' read
+pub kept_refused : (output : Output) (max : ℕ) (bytes bytes' piece : List ℕ) (ended ended' : Bool) (taken : ℕ)
+    (running running' : Option (Parts max)) (read : ℕ)
+    → IsDecoderState max (machine_of output bytes ended taken (is_none running)) running read
+    → is_none running ≡ false → ended ≡ false → bytes' ≡ bytes ++ piece → running' ≡ None
+    → IsDecoderState max (machine_of output bytes' ended' taken (is_none running')) running' read
 kept_refused output max bytes bytes' piece ended ended' taken None running' read i going unended given none = cc
 kept_refused output max bytes bytes' piece true ended' taken (Some p) running' read i going unended given none = cc
 kept_refused output max bytes bytes' piece false ended' taken (Some p) running' read i going unended given none =

@@ -22,10 +22,12 @@ pub slice_fault : (o : OpenPicture) (h : History) (closing : Bool) (found : ℕ 
 slice_fault o h closing found s e = cc (s.first, s.stands, e)
 
 -- the missing numbers could not be taken in
-pub unopened : (o : OpenPicture) (f : Fault) (closing : Bool) → (first_header o).first_mb_in_slice ≡ 0 → history_at_opening_of o ≡ Err f → first_fault o closing ≡ Some ((first_slice o).unit, f)
+pub unopened : (o : OpenPicture) (f : Fault) (closing : Bool) → (first_header o).first_mb_in_slice ≡ 0
+    → history_at_opening_of o ≡ Err f → first_fault o closing ≡ Some ((first_slice o).unit, f)
 unopened o f closing a e = cc (a, e)
 
-pub unopened_read : (o : OpenPicture) (f : Fault) → (first_header o).first_mb_in_slice ≡ 0 → history_at_opening_of o ≡ Err f → read_of o ≡ 0
+pub unopened_read : (o : OpenPicture) (f : Fault) → (first_header o).first_mb_in_slice ≡ 0
+    → history_at_opening_of o ≡ Err f → read_of o ≡ 0
 unopened_read o f a e = cc (a, e)
 
 pub no_fault : (o : OpenPicture) (h : History) → Stands o h → (progress_on o h).fault ≡ None → first_fault o false ≡ None

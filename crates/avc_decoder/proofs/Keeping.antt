@@ -1,5 +1,5 @@
 -- What the phase knows of the open picture.
-use Rattle.std.proofs.Common.{◌≡◌, ℕ, Bool, false, not, ◌∷◌, List, Option, Some, None, refl, ap, sym, ◌∙◌, subst}
+use Rattle.std.proofs.Common.{◌≡◌, ℕ, Bool, false, not, ◌∷◌, List, Option, Some, None, refl, ap, sym, ◌∙◌}
 use Rattle.std.specs.Prelude.{IfSome}
 use Rattle.avc_params.specs.Tables.{Sets}
 use Rattle.avc_params.specs.declared.pps.Pps.{Pps}
@@ -17,7 +17,6 @@ use Rattle.avc_units.specs.GrouperState.{IsSliceUnder, open_picture_of}
 use Rattle.avc_decoder_core.specs.History.{History, stored_frames}
 use Rattle.avc_decoder_core.specs.SequenceState.{SequenceState, current_history}
 use Rattle.avc_decoder.specs.Events.{base_in, history_in, is_running, open_facts_in, running, sets_named}
-use Rattle.avc_decoder.specs.FirstFault.{OpenPicture}
 use Rattle.avc_decoder.specs.PictureFrames.{CanHave, start_with}
 use Rattle.avc_decoder.specs.QueueState.{QueueState}
 use Rattle.avc_decoder.specs.States.{ComesTo, IsNamed, IsOpenIn, IsPhase, Works, closed_in, current_in, is_waiting_in, last_header_in, open_picture_from, phase_of, with_last}
@@ -31,18 +30,22 @@ use Rattle.avc_decoder.proofs.Slicing.{begun_with_slice, nothing_comes}
 use Rattle.avc_decoder.proofs.Stepping.{same_kind, same_set}
 
 -- the open picture
-pub opened_phase : (s : SequenceState) (c : CurrentPicture) (w : IsOpenIn s c) → phase_of s (Running (Some c)) ≡ running s.history (Some (opened_as s c.decoder w.last w.earlier))
-opened_phase s c w = ap (λ ss. running s.history (open_picture_from s.history (c.decoder).sps (c.decoder).pps ss)) w.slices
+pub opened_phase : (s : SequenceState) (c : CurrentPicture) (w : IsOpenIn s c)
+    → phase_of s (Running (Some c)) ≡ running s.history (Some (opened_as s c.decoder w.last w.earlier))
+opened_phase s c w = ap (λ ss. running s.history (open_picture_from s.history (c.decoder).sps (c.decoder).pps ss))
+    w.slices
 
 -- the history that it stands on
 pub history_here : (s : SequenceState) (p : PhaseHere) → IsPhase s p → history_in (phase_of s p) ≡ current_history s
 history_here s Waiting w = rw ((w.0).none, w.1) refl
 history_here s (Running None) w = rw w.none refl
 history_here s (Running (Some c)) w =
-    ap history_in (opened_phase s c w) ∙ history_is (opened_as s c.decoder w.last w.earlier) (current_history s) (stands_as s c w)
+    ap history_in (opened_phase s c w) ∙ history_is (opened_as s c.decoder w.last w.earlier) (current_history s)
+    (stands_as s c w)
 
 -- where none is open, a new one is decoded on that of the sequence
-pub base_here : (s : SequenceState) (p : PhaseHere) → IsPhase s p → current_in p ≡ None → base_in (phase_of s p) ≡ s.history
+pub base_here : (s : SequenceState) (p : PhaseHere) → IsPhase s p → current_in p ≡ None
+    → base_in (phase_of s p) ≡ s.history
 base_here s Waiting w none = sym w.1
 base_here s (Running None) w none = refl
 base_here s (Running (Some c)) w none = refl
@@ -64,15 +67,19 @@ full_is : (s : SequenceState) (c : CurrentPicture) (full : Bool) (w : IsOpenIn s
     open_picture_of full (Some c.last_header) ≡ open_facts_in (running s.history (Some o))
 full_is s c full w f =
     let o = opened_as s c.decoder w.last w.earlier in
-    let at = λ (h : History). is_full (start_with (stored_frames h) c.decoder) (progress (start_with (stored_frames h) c.decoder) (w.last ∷ w.earlier)) in
-    let same = ap at (history_is o (current_history s) (stands_as s c w)) ∙ full_at s c full w (full_on s (w.last).header c.decoder full w.frames f) in
+    let at = λ (h : History). is_full (start_with (stored_frames h) c.decoder)
+    (progress (start_with (stored_frames h) c.decoder) (w.last ∷ w.earlier)) in
+    let same = ap at (history_is o (current_history s) (stands_as s c w))
+    ∙ full_at s c full w (full_on s (w.last).header c.decoder full w.frames f) in
     rw (w.header, sym same) refl
 
-pub facts_are : (s : SequenceState) (p : PhaseHere) (last : Option Header) (full : Bool) → IsPhase s p → last ≡ last_header_in p → IfSome (current_in p) (λ c. IsFull full c.decoder)
+pub facts_are : (s : SequenceState) (p : PhaseHere) (last : Option Header) (full : Bool) → IsPhase s p
+    → last ≡ last_header_in p → IfSome (current_in p) (λ c. IsFull full c.decoder)
     → open_picture_of full last ≡ open_facts_in (phase_of s p)
 facts_are s Waiting last full w e f = rw e refl
 facts_are s (Running None) last full w e f = rw e refl
-facts_are s (Running (Some c)) last full w e f = rw e (full_is s c full w f ∙ ap open_facts_in (sym (opened_phase s c w)))
+facts_are s (Running (Some c)) last full w e f = rw e
+    (full_is s c full w f ∙ ap open_facts_in (sym (opened_phase s c w)))
 
 pub runs : (s : SequenceState) (p : PhaseHere) → not (is_waiting_in p) ≡ is_running (phase_of s p)
 runs s Waiting = refl
@@ -90,22 +97,31 @@ within_named sets slice pps sps t ep es =
     rw (p, s) at t.within
 
 -- a picture's sets are those that its first slice names
-pub named_first : (sets : Sets) (slice : Slice) (sps : Sps) (pps : Pps) (frames : List (Frame 32)) → IsSliceUnder sets slice → sets_named sets slice.header ≡ Some (pps, sps) → IsNamed sets (begun_with_slice sps pps frames slice)
+pub named_first : (sets : Sets) (slice : Slice) (sps : Sps) (pps : Pps) (frames : List (Frame 32))
+    → IsSliceUnder sets slice → sets_named sets slice.header ≡ Some (pps, sps)
+    → IsNamed sets (begun_with_slice sps pps frames slice)
 named_first sets slice sps pps frames t e =
     let named : sets_named sets slice.header ≡ Some (t.pps, t.sps) = cc (t.pps_is, t.sps_is) in
     let same : ◌≡◌ {A = Pps × Sps} (t.pps, t.sps) (pps, sps) = some_is _ _ (sym named ∙ e) in
     let p : t.pps ≡ pps = ap (λ (x : Pps × Sps). x.0) same in
     let s : t.sps ≡ sps = ap (λ (x : Pps × Sps). x.1) same in
-    record { pps = t.pps_is ∙ ap Some p; sps = ap (λ (q : Pps). sets.sps q.seq_parameter_set_id) (sym p) ∙ t.sps_is ∙ ap Some s }
+    record {
+      pps = t.pps_is ∙ ap Some p;
+      sps = ap (λ (q : Pps). sets.sps q.seq_parameter_set_id) (sym p) ∙ t.sps_is
+          ∙ ap Some s;
+    }
 
 -- and so are those that a further one names
-pub named_further : (sets : Sets) (p : PhaseHere) (slice : Slice) → IfSome (current_in p) (IsNamed sets) → IfSome (current_in p) (λ c. begins c.last_header slice.header ≡ false)
+pub named_further : (sets : Sets) (p : PhaseHere) (slice : Slice) → IfSome (current_in p) (IsNamed sets)
+    → IfSome (current_in p) (λ c. begins c.last_header slice.header ≡ false)
     → IfSome (current_in p) (λ c. IsNamed sets (with_last slice c))
 named_further sets Waiting slice named goes = tt
 named_further sets (Running None) slice named goes = tt
-named_further sets (Running (Some c)) slice named goes = record { pps = ap sets.pps (sym (same_set c.last_header slice.header goes)) ∙ named.pps; sps = named.sps }
+named_further sets (Running (Some c)) slice named goes = record
+    { pps = ap sets.pps (sym (same_set c.last_header slice.header goes)) ∙ named.pps; sps = named.sps }
 
-pub can_have : (sets : Sets) (s : SequenceState) (p : PhaseHere) (slice : Slice) → Works sets s p → IsSliceUnder sets slice → IfSome (current_in p) (λ c. begins c.last_header slice.header ≡ false)
+pub can_have : (sets : Sets) (s : SequenceState) (p : PhaseHere) (slice : Slice) → Works sets s p
+    → IsSliceUnder sets slice → IfSome (current_in p) (λ c. begins c.last_header slice.header ≡ false)
     → IfSome (current_in p) (λ c. CanHave s c.decoder slice)
 can_have sets s Waiting slice w t goes = tt
 can_have sets s (Running None) slice w t goes = tt
@@ -113,17 +129,21 @@ can_have sets s (Running (Some c)) slice w t goes =
     let open' = w.stands in
     let named = named_further sets (Running (Some c)) slice w.named goes in
     record {
-      frames = same_frames s (open'.last).header slice.header c.decoder (ap is_idr (sym open'.header) ∙ same_kind c.last_header slice.header goes) open'.frames;
+      frames = same_frames s (open'.last).header slice.header c.decoder
+          (ap is_idr (sym open'.header) ∙ same_kind c.last_header slice.header goes) open'.frames;
       within = within_named sets slice (c.decoder).pps (c.decoder).sps t named.pps named.sps;
     }
 
 -- ---- closing
 
-pub open_is : (p : PhaseHere) (c : CurrentPicture) → ◌≡◌ {A = Option CurrentPicture} (Some c) (current_in p) → p ≡ Running (Some c)
+pub open_is : (p : PhaseHere) (c : CurrentPicture) → ◌≡◌ {A = Option CurrentPicture} (Some c) (current_in p)
+    → p ≡ Running (Some c)
 open_is Waiting c e = cc
 open_is (Running o) c e = ap Running (sym e)
 
-pub closes_none : (s : SequenceState) (q : QueueState) (n : ℕ) (table : List SetUnit) (p : PhaseHere) → IsPhase s p → current_in p ≡ None → ComesTo s.output q n table (closed_in s.output (phase_of s p)) s p q n table
+pub closes_none : (s : SequenceState) (q : QueueState) (n : ℕ) (table : List SetUnit) (p : PhaseHere) → IsPhase s p
+    → current_in p ≡ None → ComesTo s.output q n table (closed_in s.output (phase_of s p)) s p q n table
 closes_none s q n table Waiting w none = nothing_comes s q n table Waiting (record { stands = w; named = tt })
-closes_none s q n table (Running None) w none = nothing_comes s q n table (Running None) (record { stands = w; named = tt })
+closes_none s q n table (Running None) w none = nothing_comes s q n table (Running None)
+    (record { stands = w; named = tt })
 closes_none s q n table (Running (Some c)) w none = cc

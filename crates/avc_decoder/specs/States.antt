@@ -1,5 +1,5 @@
 -- What the decoder's parts keep.
-use Rattle.std.specs.Prelude.{◌≡◌, ℕ, zero, suc, ◌+◌, ◌-◌, Bool, true, false, List, [], ◌∷◌, ◌++◌, length, drop, Option, Some, None, IfSome, Result, Ok, Err, slice_get}
+use Rattle.std.specs.Prelude.{◌≡◌, ℕ, zero, suc, ◌+◌, ◌-◌, Bool, true, false, not, List, [], ◌∷◌, ◌++◌, length, drop, Option, Some, None, IfSome, Result, Ok, Err, slice_get}
 use Rattle.std.specs.Option.{option_map}
 use Rattle.avc_types.specs.declared.fault.Fault.{Fault}
 use Rattle.avc_types.specs.declared.picture_error.PictureError.{PictureError}
@@ -14,10 +14,12 @@ use Rattle.avc_params.specs.declared.pps.Pps.{Pps}
 use Rattle.avc_slice.specs.Begins.{begins}
 use Rattle.avc_slice.specs.declared.header.Header.{Header}
 use Rattle.avc_slice.specs.declared.slice.Slice.{Slice}
-use Rattle.avc_picture.specs.Decoding.{Decoding, HasNoFault, HasRead, IsSliceAnswer, with_slice_more}
-use Rattle.avc_units.specs.GrouperState.{IsSliceUnder}
+use Rattle.avc_picture.specs.Decoding.{Decoding, HasNoFault, HasRead, IsFull, IsSliceAnswer, with_slice_more}
+use Rattle.avc_units.specs.GrouperState.{IfSlice, IsSliceUnder, open_picture_of}
+use Rattle.avc_units.specs.Grouping.{set_units, step}
 use Rattle.avc_units.specs.declared.step.Next.{Next}
 use Rattle.avc_units.specs.declared.step.Next.TheVariants.{Begins, Continues}
+use Rattle.avc_units.specs.declared.step.Step.{Step}
 use Rattle.avc_dpb.specs.declared.output.Output.{Output}
 use Rattle.avc_decoder_core.specs.History.{History, history_at_opening}
 use Rattle.avc_decoder_core.specs.SequenceState.{SequenceState, empty_sequence, current_history}
@@ -66,7 +68,8 @@ open_picture_from h sps pps (s ∷ earlier) = Some (record { before = h; sps = s
 abbrev pub phase_of : SequenceState → PhaseHere → Phase
 phase_of s Waiting = waiting
 phase_of s (Running None) = running s.history None
-phase_of s (Running (Some c)) = running s.history (open_picture_from s.history (c.decoder).sps (c.decoder).pps (c.decoder).slices)
+phase_of s (Running (Some c)) = running s.history (open_picture_from s.history (c.decoder).sps (c.decoder).pps
+    (c.decoder).slices)
 
 -- A picture is open in the sequence, and its slices so far have no fault; the last one has this header and this unit.
 pub record IsOpenIn (s : SequenceState) (c : CurrentPicture) : Type 0 where
@@ -131,7 +134,8 @@ HasOutcome old o new =
     ComesTo (old.sequence).output old.queue old.read old.table o new.sequence new.phase new.queue new.read new.table
 
 -- The history is forgotten after these events, and decoding waits.
-pub record Stops (output : Output) (q : QueueState) (more : List Event) (s' : SequenceState) (phase' : PhaseHere) (q' : QueueState) : Type 0 where
+pub record Stops (output : Output) (q : QueueState) (more : List Event) (s' : SequenceState) (phase' : PhaseHere)
+    (q' : QueueState) : Type 0 where
   pub sequence : s' ≡ empty_sequence output
   pub phase : phase' ≡ Waiting
   pub queue : q' ≡ with_events more q
@@ -139,7 +143,8 @@ pub record Stops (output : Output) (q : QueueState) (more : List Event) (s' : Se
 -- the stream's is
 abbrev pub WaitsAfter : Stream → List Event → Stream → Type 0
 WaitsAfter old more new =
-    Stops (old.sequence).output old.queue more new.sequence new.phase new.queue × (new.read ≡ old.read) × (new.table ≡ old.table)
+    Stops (old.sequence).output old.queue more new.sequence new.phase new.queue × (new.read ≡ old.read) ×
+    (new.table ≡ old.table)
 
 -- what closing the open picture gives, if there is one
 abbrev pub closed_in : Output → Phase → Outcome
@@ -147,11 +152,23 @@ closed_in output waiting = no_change waiting
 closed_in output (running h None) = no_change (running h None)
 closed_in output (running h (Some o)) = closed_picture output o
 
+-- The unit does this in the phase, and the table has what the unit puts into it; a slice leaves it as it is, and its header was read
+-- under these sets.
+pub record HasStep (table : List SetUnit) (phase : PhaseHere) (u : Piece) (what : Step)
+    (table' : List SetUnit) : Type 0 where
+  pub full : Bool
+  pub is_full : IfSome (current_in phase) (λ c. IsFull full c.decoder)
+  pub is : what ≡ step (sets_after table) (not (is_waiting_in phase)) (open_picture_of full (last_header_in phase)) u
+  pub put : table' ≡ table ++ set_units (u ∷ [])
+  pub under : IfSlice what.next (IsSliceUnder (sets_after table'))
+  pub same : IfSlice what.next (λ _. table' ≡ table)
+
 -- What comes next can be carried out: a picture begins where none is open, and a further slice is one of the open picture
 -- (7.4.1.2.4).
 abbrev pub FitsPhase : Sets → PhaseHere → Next → Type 0
 FitsPhase sets phase (Begins s) = IsSliceUnder sets s × (current_in phase ≡ None)
-FitsPhase sets phase (Continues s) = IsSliceUnder sets s × IfSome (current_in phase) (λ c. begins c.last_header s.header ≡ false)
+FitsPhase sets phase (Continues s) = IsSliceUnder sets s × IfSome (current_in phase)
+    (λ c. begins c.last_header s.header ≡ false)
 FitsPhase sets phase _ = Unit {0}
 
 -- ---- slices
@@ -184,10 +201,15 @@ IsAnswerIn phase slice a phase' = (phase' ≡ phase) × (a.answer ≡ Ok tt) × 
 
 -- the open picture with one slice more
 abbrev pub with_last : Slice → CurrentPicture → CurrentPicture
-with_last slice c = record { decoder = with_slice_more slice c.decoder; last_header = slice.header; last_unit = slice.unit }
+with_last slice c = record {
+  decoder = with_slice_more slice c.decoder;
+  last_header = slice.header;
+  last_unit = slice.unit;
+}
 
 -- One slice more was decoded, or its fault went out.
-abbrev pub Decodes : CurrentPicture → Slice → SequenceState → QueueState → PhaseHere → SequenceState → QueueState → Type 0
+abbrev pub Decodes : CurrentPicture → Slice → SequenceState → QueueState → PhaseHere → SequenceState → QueueState
+    → Type 0
 Decodes c slice s q (Running (Some c')) s' q' =
     (c' ≡ with_last slice c) × HasItsFrames s slice.header c'.decoder × HasNoFault c'.decoder × (s' ≡ s) × (q' ≡ q)
 Decodes c slice s q (Running None) s' q' = ⊥
@@ -198,7 +220,8 @@ Decodes c slice s q Waiting s' q' =
     × (q' ≡ with_events (failed_at s.output (current_history s) slice.unit f 0).events q)
 
 -- It was a slice of the open picture, if there is one; where none is open, nothing comes of it.
-abbrev pub DecodesAs : PhaseHere → Slice → SequenceState → QueueState → (read : ℕ) → PhaseHere → SequenceState → QueueState → (read' : ℕ) → Type 0
+abbrev pub DecodesAs : PhaseHere → Slice → SequenceState → QueueState → (read : ℕ) → PhaseHere → SequenceState
+    → QueueState → (read' : ℕ) → Type 0
 DecodesAs (Running (Some c)) slice s q read phase' s' q' read' =
     Decodes c slice s q phase' s' q' × (read' ≡ more_read read (read_of_slice (current_history s) c.decoder slice))
 DecodesAs phase slice s q read phase' s' q' read' = (phase' ≡ phase) × (s' ≡ s) × (q' ≡ q) × (read' ≡ read)
@@ -206,7 +229,8 @@ DecodesAs phase slice s q read phase' s' q' read' = (phase' ≡ phase) × (s' �
 -- the same of a stream
 abbrev pub DecodesIn : Stream → Slice → Stream → Type 0
 DecodesIn old slice new =
-    DecodesAs old.phase slice old.sequence old.queue old.read new.phase new.sequence new.queue new.read × (new.table ≡ old.table)
+    DecodesAs old.phase slice old.sequence old.queue old.read new.phase new.sequence new.queue new.read ×
+    (new.table ≡ old.table)
 
 -- ---- units
 
@@ -276,7 +300,8 @@ pub record IsNew (max : ℕ) (output : Output) (p : Parts max) : Type 0 where
 -- A piece more was taken, and so many macroblocks have been read.
 pub record Feeds (max : ℕ) (old : Parts max) (piece : List ℕ) (read : ℕ) (new : Parts max) : Type 0 where
   pub works : IsStream new.stream
-  pub handles : HandlesAll max (after_feed old.splitter piece) new.splitter (stream_state old.stream) (stream_state new.stream)
+  pub handles : HandlesAll max (after_feed old.splitter piece) new.splitter (stream_state old.stream)
+      (stream_state new.stream)
   pub count : read ≡ (new.stream).read
 
 -- the same where there is a decoder that goes on
@@ -305,7 +330,10 @@ next_event_in max (Some p) = slice_get ((p.stream).queue).events ((p.stream).que
 -- after it was taken, if there was one
 abbrev pub after_take_in : (max : ℕ) → Option Event → Option (Parts max) → Option (Parts max)
 after_take_in max event None = None
-after_take_in max event (Some p) = Some (record p { stream = record p.stream { queue = after_queue_take event (p.stream).queue } })
+after_take_in max event (Some p) = Some (record p {
+  stream = record p.stream
+      { queue = after_queue_take event (p.stream).queue };
+})
 
 -- All units of the bytes were handled.
 pub record IsDecoded (output : Output) (max : ℕ) (s : SplitterState) (ended : Bool) (f : StreamState) : Type 0 where

@@ -1,8 +1,9 @@
-ghost use Rattle.std.specs.Prelude.{◌≡◌, OnOk};
+ghost use Rattle.std.specs.Prelude.{◌≡◌, IfOk, IfSome, OnOk};
 ghost use Rattle.avc_decoder.specs.Events.{after_next};
-ghost use Rattle.avc_decoder.specs.States.{after_stream_end, after_unit_in_stream, new_stream, phase_of, stream_state};
-ghost use Rattle.avc_decoder.specs.States.{FitsPhase, HasOutcome, IsStream};
+ghost use Rattle.avc_decoder.specs.States.{after_stream_end, after_unit_in_stream, current_in, new_stream, phase_of, stream_state};
+ghost use Rattle.avc_decoder.specs.States.{FitsPhase, HasOutcome, HasStep, IsStream};
 ghost use Rattle.avc_params.specs.Tables.{sets_after};
+ghost use Rattle.avc_picture.specs.Decoding.{HasNoFault};
 
 use crate::close::{close, empty, fail};
 use crate::phase::Phase;
@@ -14,7 +15,7 @@ use avc_params::ParamTable;
 use avc_picture::PictureMemory;
 use avc_plane::PADDING;
 use avc_types::OutOfMemory;
-use avc_units::{HeapSlice, Next, step_of};
+use avc_units::{HeapSlice, Next, Step, step_of};
 use std::alloc::Global;
 
 /// Makes events of units. After want of memory it may be anything.
@@ -60,11 +61,11 @@ impl Stream {
         ensures works { OnOk result (IsStream self.new) }
         ensures state { OnOk result (stream_state self.new ≡ after_unit_in_stream unit.now (stream_state self.old)) }
     {
-        let step = step_of(
+        let step = step_in(
             self.alloc,
             &mut self.table,
             &mut self.over,
-            self.phase.context(),
+            &self.phase,
             unit,
         )?;
         if !(step.closes & self.phase.is_open()) {
@@ -90,6 +91,21 @@ impl Stream {
         empty(self)?;
         Ok(())
     }
+}
+
+/// What a unit does in this phase, and what it puts into the table. Where the next picture begins is decided here (7.4.1.2.4).
+fn step_in(
+    alloc: Global,
+    table: &mut ParamTable,
+    over: &mut Option<HeapSlice>,
+    phase: &Phase,
+    unit: &Unit,
+) -> Result<Step, OutOfMemory>
+    requires { IfSome (current_in phase.now) (λ c. HasNoFault c.decoder) }
+    ensures { IfOk result (λ s. HasStep table.old phase.now unit.now s table.new) }
+{
+    let step = step_of(alloc, table, over, phase.context(), unit)?;
+    Ok(step)
 }
 
 /// Does what a unit does next, once the open picture is closed where the unit closes it.

@@ -12,8 +12,11 @@ pub begin-requires : goal.begin-requires
 begin-requires c =
     let t = c.args.stream.now in
     let sets = c.sets_of-sets in
-    let opened = subst (IsOpened t.sequence sets.result.sps.now c.args.slice.now.header c.in-Ok.out.items) (sym c.keep_emptied.ensures) c.in-Ok.ensures.ok in
-    let fit = frames_fit t.sequence c.keep_emptied.new.sequence sets.result.sps.now c.args.slice.now.header c.in-Ok.out.items c.frames_for-frames.result.now opened c.frames_for-frames.ensures.value c.frames_for-frames.ensures.sized in
+    let opened = subst (IsOpened t.sequence sets.result.sps.now c.args.slice.now.header c.in-Ok.out.items)
+    (sym c.keep_emptied.ensures) c.in-Ok.ensures.ok in
+    let fit = frames_fit t.sequence c.keep_emptied.new.sequence sets.result.sps.now c.args.slice.now.header
+    c.in-Ok.out.items c.frames_for-frames.result.now opened c.frames_for-frames.ensures.value
+    c.frames_for-frames.ensures.sized in
     (omega arith, (omega arith, (omega arith, (sets.ensures.sps, (sets.ensures.pps, fit)))))
 
 pub returns-in_ok-decode_slice-in-Ok : goal.returns-in_ok-decode_slice-in-Ok
@@ -25,11 +28,16 @@ returns-in_ok-decode_slice-in-Ok c =
     let sps = sets.result.sps.now in
     let pps = sets.result.pps.now in
     let frames = c.frames_for-frames.result.now in
-    let opened = subst (IsOpened t.sequence sps slice.header c.in-Ok.out.items) (sym c.keep_emptied.ensures) c.in-Ok.ensures.ok in
+    let opened = subst (IsOpened t.sequence sps slice.header c.in-Ok.out.items)
+    (sym c.keep_emptied.ensures) c.in-Ok.ensures.ok in
     let d = c.in_ok-decode_slice-in-Ok.ensures in
-    first_slice c.missing_numbers_keep_the_order.ensures t.sequence c.keep_emptied.new.sequence t'.sequence t.queue c.show.new.self t'.queue t.read t'.read t.table t'.table sps pps frames slice c.in-Ok.out.items
-    (base_in (phase_of t.sequence t.phase)) (record { decoder = c.in_ok-begin-in-Ok.field-0; last_header = c.new.result; last_unit = slice.unit }) t'.phase
-    (base_here t.sequence t.phase c.requires.phase c.requires.rest) (sym c.get.ensures ∙ c.if-get-ne0.false) opened c.in_ok-show-in-Ok.ensures c.in_ok-begin-in-Ok.ensures d.0.0 d.0.1 d.1
+    first_slice c.missing_numbers_keep_the_order.ensures t.sequence c.keep_emptied.new.sequence t'.sequence t.queue
+    c.show.new.self t'.queue t.read t'.read t.table t'.table sps pps frames slice c.in-Ok.out.items
+    (base_in (phase_of t.sequence t.phase)) (record
+    { decoder = c.in_ok-begin-in-Ok.field-0; last_header = c.new.result; last_unit = slice.unit }) t'.phase
+    (base_here t.sequence t.phase c.requires.phase c.requires.rest)
+    (sym c.get.ensures ∙ c.if-get-ne0.false) opened c.in_ok-show-in-Ok.ensures c.in_ok-begin-in-Ok.ensures d.0.0
+    d.0.1 d.1
     sets.ensures.named (named_first (sets_after t.table) slice sps pps frames c.requires.within sets.ensures.named)
 
 pub returns-in_ok-fail-in-Err-Fault : goal.returns-in_ok-fail-in-Err-Fault
@@ -38,7 +46,11 @@ returns-in_ok-fail-in-Err-Fault c =
     let t' = c.fail-in-Err-Fault.new.stream in
     let sets = c.sets_of-sets in
     let w = c.in_ok-fail-in-Err-Fault.ensures in
-    let stops : Stops c.open.new.self.output t.queue (failed_at c.open.new.self.output (current_history c.open.new.self) c.args.slice.now.unit c.in-Err-Fault.fault 0).events t'.sequence t'.phase t'.queue = search rules in
-    first_unopened t.sequence c.open.new.self t'.sequence t.queue t'.queue t.read t'.read t.table t'.table sets.result.sps.now sets.result.pps.now c.args.slice.now (base_in (phase_of t.sequence t.phase)) t'.phase
-    c.in-Err-Fault.fault c.in-Err-Fault.field-0 (base_here t.sequence t.phase c.requires.phase c.requires.rest) (none_open t.sequence t.phase c.requires.phase c.requires.rest) (sym c.get.ensures ∙ c.if-get-ne0.false)
+    let stops : Stops c.open.new.self.output t.queue
+    (failed_at c.open.new.self.output (current_history c.open.new.self) c.args.slice.now.unit c.in-Err-Fault.fault
+    0).events t'.sequence t'.phase t'.queue = search rules in
+    first_unopened t.sequence c.open.new.self t'.sequence t.queue t'.queue t.read t'.read t.table t'.table
+    sets.result.sps.now sets.result.pps.now c.args.slice.now (base_in (phase_of t.sequence t.phase)) t'.phase
+    c.in-Err-Fault.fault c.in-Err-Fault.field-0 (base_here t.sequence t.phase c.requires.phase c.requires.rest)
+    (none_open t.sequence t.phase c.requires.phase c.requires.rest) (sym c.get.ensures ∙ c.if-get-ne0.false)
     c.in-Err-Fault.ensures.err c.in-Err-Fault.field-0-is stops w.1 w.2 sets.ensures.named

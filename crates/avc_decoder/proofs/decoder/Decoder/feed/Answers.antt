@@ -9,16 +9,22 @@ use Rattle.avc_decoder.proofs.decoder.Decoder.feed.Goals as goal
 pub invariant_of-self : goal.invariant_of-self
 invariant_of-self g c =
     let d = c.self.inside in
-    kept_refused d.output g.row.MAX d.bytes.items c.with_all-self-inside.result.items c.args.piece.now d.ended d.ended (length d.taken.items) d.running c.stop_at_refusal.new.running d.read
-    c.self.invariant (going_on d.running c.is_none.result c.is_none.ensures c.if-is_none.false) c.if-self.false c.with_all-self-inside.ensures c.in_err-self-inside.ensures.stopped
+    kept_refused d.output g.row.MAX d.bytes.items c.with_all-self-inside.result.items c.args.piece.now d.ended d.ended
+    (length d.taken.items) d.running c.stop_at_refusal.new.running d.read
+    c.self.invariant (going_on d.running c.is_none.result c.is_none.ensures c.if-is_none.false) c.if-self.false
+    c.with_all-self-inside.ensures c.in_err-self-inside.ensures.stopped
 
 pub invariant_of-self-2 : goal.invariant_of-self-2
 invariant_of-self-2 g c =
     let d = c.self.inside in
     let f = c.in_ok-self-inside in
-    let fed = ok_so (λ read. FeedsIn g.row.MAX d.running c.args.piece.now read c.feed-fed.new.running) c.feed-fed.result c.stop_at_refusal.result f.field-0 c.feed-fed.ensures c.stop_at_refusal.ensures.answer f.was in
-    kept_fed d.output g.row.MAX d.bytes.items c.with_all-self-inside.result.items c.args.piece.now d.ended (length d.taken.items) d.running c.stop_at_refusal.new.running d.read f.field-0
-    c.self.invariant c.if-self.false c.with_all-self-inside.ensures (subst (FeedsIn g.row.MAX d.running c.args.piece.now f.field-0) (sym f.ensures.kept) fed)
+    let fed = ok_so (λ read. FeedsIn g.row.MAX d.running c.args.piece.now read c.feed-fed.new.running)
+    c.feed-fed.result c.stop_at_refusal.result f.field-0 c.feed-fed.ensures c.stop_at_refusal.ensures.answer f.was
+    in
+    kept_fed d.output g.row.MAX d.bytes.items c.with_all-self-inside.result.items c.args.piece.now d.ended
+    (length d.taken.items) d.running c.stop_at_refusal.new.running d.read f.field-0
+    c.self.invariant c.if-self.false c.with_all-self-inside.ensures
+    (subst (FeedsIn g.row.MAX d.running c.args.piece.now f.field-0) (sym f.ensures.kept) fed)
 
 pub returns-in_err-self-inside : goal.returns-in_err-self-inside
 returns-in_err-self-inside g c =
@@ -33,6 +39,7 @@ returns-in_err-self-inside g c =
     let some = sym c.is_empty.ensures ∙ c.if-is_empty.false in
     let failed : is_none running ≡ true = ap is_none c.in_err-self-inside.ensures.stopped in
     subst (λ (m : Machine). IsFeedAnswer m (after_feed c.args.piece.now m) c.from_residual.result new) c.self.view_is
-    (refused_to old (after_feed c.args.piece.now old) new c.from_residual.result going c.if-self.false (some_bytes old c.args.piece.now some) refl e
+    (refused_to old (after_feed c.args.piece.now old) new c.from_residual.result going c.if-self.false
+    (some_bytes old c.args.piece.now some) refl e
     (ap (λ (bs : List ℕ). machine_of d.output bs d.ended taken (is_none running)) c.with_all-self-inside.ensures
     ∙ ap (machine_of d.output (d.bytes.items ++ c.args.piece.now) d.ended taken) failed))

@@ -7,4 +7,5 @@ returns-clause-state c =
     let t1 = c.close.new.stream in
     let t' = c.empty.new.stream in
     let w = c.in_ok-empty.ensures in
-    ends t.sequence t1.sequence t'.sequence t.phase t1.phase t'.phase t.queue t1.queue t'.queue t.read t1.read t'.read t.table t1.table t'.table c.in_ok-close.ensures w.0 w.1 w.2
+    ends t.sequence t1.sequence t'.sequence t.phase t1.phase t'.phase t.queue t1.queue t'.queue t.read t1.read t'.read
+    t.table t1.table t'.table c.in_ok-close.ensures w.0 w.1 w.2
