@@ -1,16 +1,9 @@
 -- The strength of facts is that of the picture.
-use Rattle.std.proofs.Common.{◌≡◌, ℕ, ◌<◌, Bool, true, false, List, arith, refl}
-use Rattle.std.specs.Prelude.{◌==◌, nat_abs, ◌-ℤ◌, nat_le, not, ◌||◌, if◌then◌else◌, Some}
+use Rattle.avc_deblock.proofs.Common.{◌≡◌, ℕ, ◌<◌, Bool, true, false, List, arith, refl, ◌==◌, nat_abs, ◌-ℤ◌, nat_le, not, ◌||◌}
+use Rattle.avc_deblock.proofs.Common.{if◌then◌else◌, Some, cases_eq, nat_tests, Mv, Coded, Motion, inter, Names, HasFacts, are_far}
+use Rattle.avc_deblock.proofs.Common.{inter_strength, edge_block, MbFacts}
 use Rattle.std.proofs.Math.Bool.{or_assoc}
-use Rattle.std.proofs.lemmas.Bool.{cases_eq}
-use Rattle.std.proofs.lemmas.Bool.Decides.{nat_tests}
-use Rattle.avc_types.specs.declared.vector.Mv.{Mv}
-use Rattle.avc_types.specs.Pictures.{Coded}
-use Rattle.avc_neigh.specs.declared.facts.Motion.{Motion}
-use Rattle.avc_neigh.specs.declared.facts.Motion.TheVariants.{Inter as inter}
 use Rattle.avc_deblock.specs.Edges.{picture_named, moves_differently, strength_between}
-use Rattle.avc_deblock.specs.Facts.{Names, HasFacts, are_far, inter_strength, edge_block}
-use Rattle.avc_deblock.specs.declared.facts.MbFacts.{MbFacts}
 
 -- entries are equal where the numbers are
 same_entry : (names : Names) (m n : ℕ) → m < names.count → n < names.count → (names.entry m == names.entry n) ≡ (m == n)

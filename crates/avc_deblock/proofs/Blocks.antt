@@ -1,10 +1,7 @@
 -- The lines of a block of eight rows of sixteen samples, from the rows that are put into it.
-use Rattle.std.proofs.Common.{◌≡◌, ℕ, ◌+◌, ◌*◌, ◌<◌, List, slice_index, arith, ap, ◌∙◌, sym}
-use Rattle.std.specs.Prelude.{if◌then◌else◌, ◌==◌}
-use Rattle.std.proofs.lemmas.Bool.{cases_lt, cases_eq}
-use Rattle.std.proofs.lemmas.Bool.Decides.{nat_tests}
-use Rattle.avc_deblock.specs.Line.{Setting, filtered}
-use Rattle.avc_deblock.specs.Rows.{line_of_rows, line_within, line_inside, line_across, line_down, line_near, IsTransposed, IsRowSet, IsNearSet}
+use Rattle.avc_deblock.proofs.Common.{◌≡◌, ℕ, ◌+◌, ◌*◌, ◌<◌, List, slice_index, arith, ap, ◌∙◌, sym, if◌then◌else◌, ◌==◌, cases_lt}
+use Rattle.avc_deblock.proofs.Common.{cases_eq, nat_tests, Setting, filtered, line_of_rows, line_within, line_inside, line_across}
+use Rattle.avc_deblock.proofs.Common.{line_down, line_near, IsTransposed, IsRowSet, IsNearSet}
 use Rattle.avc_deblock.proofs.Samples.{same_line, same_samples}
 
 -- a transposed block has the same lines

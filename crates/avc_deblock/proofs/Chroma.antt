@@ -1,8 +1,7 @@
 -- A line of chroma from its two new samples.
-use Rattle.std.proofs.Common.{◌≡◌, ℕ, ◌+◌, ◌*◌, ◌/◌, ◌<◌, pos, ◌+ℤ◌, ◌-ℤ◌, nat_lt, Bool, true, false, ◌&&◌, if◌then◌else◌, refl, ◌∙◌}
-use Rattle.avc_types.specs.Arithmetic.{clip1, distance}
-use Rattle.avc_deblock.specs.Line.{Setting, Line, filtered, filtered_weakly, filtered_strongly}
-use Rattle.avc_deblock.specs.Rows.{line, IsWeak, IsStrong, slope, held}
+use Rattle.avc_deblock.proofs.Common.{◌≡◌, ℕ, ◌+◌, ◌*◌, ◌/◌, ◌<◌, pos, ◌+ℤ◌, ◌-ℤ◌, nat_lt, Bool, true, false, ◌&&◌, if◌then◌else◌, refl}
+use Rattle.avc_deblock.proofs.Common.{◌∙◌, clip1, distance, Setting, Line, filtered, filtered_weakly, filtered_strongly, line, IsWeak}
+use Rattle.avc_deblock.proofs.Common.{IsStrong, slope, held}
 use Rattle.avc_deblock.proofs.Weak.{any_at, weakly, still, still_back}
 use Rattle.avc_deblock.proofs.Strong.{strongly}
 

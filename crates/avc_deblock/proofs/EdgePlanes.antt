@@ -1,17 +1,9 @@
 -- The lines of an edge at the strengths and QPs of facts are those of the picture.
-use Rattle.std.proofs.Common.{◌≡◌, ℕ, suc, ◌+◌, ◌*◌, ◌/◌, ◌%◌, ◌<◌, ◌≤◌, List, Bool, true, false, arith, refl, sym, ap, ◌∙◌}
-use Rattle.std.specs.Prelude.{◌==◌, not, if◌then◌else◌}
-use Rattle.std.proofs.lemmas.Nat.{div-mul-add, mod-mul-add}
-use Rattle.std.proofs.lemmas.Bool.Decides.{nat_tests}
-use Rattle.avc_types.specs.Pictures.{Coded}
-use Rattle.avc_neigh.specs.declared.facts.Motion.{Motion}
-use Rattle.avc_plane.specs.Plane.{Plane}
-use Rattle.avc_plane.specs.Planes.{Planes}
-use Rattle.avc_deblock.specs.Line.{Setting, setting_of}
+use Rattle.avc_deblock.proofs.Common.{◌≡◌, ℕ, suc, ◌+◌, ◌*◌, ◌/◌, ◌%◌, ◌<◌, ◌≤◌, List, Bool, true, false, arith, refl, sym, ap, ◌∙◌, ◌==◌}
+use Rattle.avc_deblock.proofs.Common.{not, if◌then◌else◌, div-mul-add, mod-mul-add, nat_tests, Coded, Motion, Plane, Planes, Setting}
+use Rattle.avc_deblock.proofs.Common.{setting_of, EdgeQp, edge_filtered, luma_setting, chroma_setting, component_edge, planes_edge}
+use Rattle.avc_deblock.proofs.Common.{lines_of_edge, HasRoom, edge_block, p_address, IsAt}
 use Rattle.avc_deblock.specs.Edges.{slice_at, strength_between, component_qp, luma_per_sample, setting_at}
-use Rattle.avc_deblock.specs.declared.thresholds.EdgeQp.{EdgeQp}
-use Rattle.avc_deblock.specs.OneEdge.{edge_filtered, luma_setting, chroma_setting, component_edge, planes_edge, lines_of_edge, HasRoom}
-use Rattle.avc_deblock.specs.Facts.{edge_block, p_address, IsAt}
 use Rattle.avc_deblock.proofs.Settings.{edge_same, edge_size, edge_none}
 use Rattle.avc_deblock.proofs.Places.{along, setting_along}
 

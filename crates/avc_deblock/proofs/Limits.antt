@@ -1,14 +1,9 @@
 -- The limits of an edge and the settings of its lines.
-use Rattle.std.proofs.Common.{◌≡◌, ℕ, zero, suc, ◌+◌, ◌-◌, ◌<◌, Bool, true, false, List, slice_index, arith, refl, sym, ap, ◌∙◌}
-use Rattle.std.specs.Prelude.{if◌then◌else◌, ◌==◌}
-use Rattle.std.proofs.lemmas.Bool.Decides.{nat_tests}
-use Rattle.avc_deblock.specs.declared.thresholds.EdgeQp.{EdgeQp}
+use Rattle.avc_deblock.proofs.Common.{◌≡◌, ℕ, zero, suc, ◌+◌, ◌-◌, ◌<◌, Bool, true, false, List, slice_index, arith, refl, sym, ap, ◌∙◌}
+use Rattle.avc_deblock.proofs.Common.{if◌then◌else◌, ◌==◌, nat_tests, EdgeQp, Four, BelowFour, Setting, setting_of, tc0_of, IsWeak}
+use Rattle.avc_deblock.proofs.Common.{IsStrong, strength_along, AreLimits, FitsWeak, tc1_of}
 use Rattle.avc_deblock.specs.declared.thresholds.QpLimits.{QpLimits}
 use Rattle.avc_deblock.specs.declared.strengths.Strengths.{Strengths}
-use Rattle.avc_deblock.specs.declared.strengths.Strengths.TheVariants.{Four, BelowFour}
-use Rattle.avc_deblock.specs.Line.{Setting, setting_of, tc0_of}
-use Rattle.avc_deblock.specs.Rows.{IsWeak, IsStrong}
-use Rattle.avc_deblock.specs.OneEdge.{strength_along, AreLimits, FitsWeak, tc1_of}
 use Rattle.avc_deblock.proofs.Tables.{no_tc0}
 
 -- ---- rows of sixteen

@@ -1,11 +1,6 @@
 -- What lines, edges and rows of macroblocks read and change of the samples of a plane.
 use Rattle.std.proofs.Common.{◌≡◌, ℕ, zero, suc, ◌+◌, ◌-◌, ◌*◌, ◌<◌, ◌≤◌, List, [], ◌∷◌, Bool, true, false, length, slice_index, arith, refl, sym, ap, ◌∙◌}
-use Rattle.std.specs.Prelude.{if◌then◌else◌}
-use Rattle.std.specs.List.{range_with_len}
-use Rattle.std.proofs.Math.Nat.{mul-le-mul_right}
-use Rattle.avc_plane.specs.Plane.{Plane}
-use Rattle.avc_deblock.specs.Line.{Line, Setting, filtered}
-use Rattle.avc_deblock.specs.OneEdge.{edge_filtered}
+use Rattle.avc_deblock.proofs.Common.{if◌then◌else◌, range_with_len, mul-le-mul_right, Plane, Line, Setting, filtered, edge_filtered}
 use Rattle.avc_deblock.proofs.Samples.{same_samples, sample_of, sample_is, chroma_kept}
 use Rattle.avc_deblock.proofs.Strided.{six_set, strided, all_set, length-sets, sets_value, sets_same}
 use Rattle.avc_deblock.proofs.OnPlane.{line_from, edge_shown}

@@ -1,21 +1,12 @@
 -- The filter of a row of macroblocks reads and changes samples of a few rows alone.
-use Rattle.std.proofs.Common.{◌≡◌, ℕ, zero, suc, ◌+◌, ◌-◌, ◌*◌, ◌/◌, ◌%◌, ◌<◌, ◌≤◌, ℤ, List, Bool, true, false, length, slice_index, arith, refl, sym, ap, subst, ◌∙◌, ⊎_elim, mul_comm}
-use Rattle.std.specs.Prelude.{if◌then◌else◌, ◌==◌, nat_lt, ◌&&◌, slice_index_or}
-use Rattle.std.proofs.lemmas.Bool.{cases_lt}
-use Rattle.std.proofs.lemmas.Bool.Decides.{nat_tests}
-use Rattle.std.proofs.lemmas.Nat.{mul-add-lt, mod_below}
-use Rattle.std.proofs.Math.Nat.{mul-le-mul_right}
-use Rattle.avc_plane.specs.Plane.{Plane, sample, with_block, is_inside}
-use Rattle.avc_plane.proofs.PlaneMaps.{length-plane_of}
+use Rattle.avc_deblock.proofs.Common.{◌≡◌, ℕ, zero, suc, ◌+◌, ◌-◌, ◌*◌, ◌/◌, ◌%◌, ◌<◌, ◌≤◌, ℤ, List, Bool, true, false, length, slice_index}
+use Rattle.avc_deblock.proofs.Common.{arith, refl, sym, ap, subst, ◌∙◌, ⊎_elim, mul_comm, if◌then◌else◌, ◌==◌, nat_lt, ◌&&◌, slice_index_or}
+use Rattle.avc_deblock.proofs.Common.{cases_lt, nat_tests, mul-add-lt, mod_below, mul-le-mul_right, Plane, sample, with_block, is_inside}
+use Rattle.avc_deblock.proofs.Common.{length-plane_of, Planes, MbFacts, filters_between, Setting, luma_setting, chroma_setting, strength_of}
+use Rattle.avc_deblock.proofs.Common.{luma_qp_of, chroma_qp_of, edge_by_facts, edges_by_facts, mb_by_facts, row_by_facts, no_facts}
 use Rattle.avc_deblock.specs.Edges.{in_component, luma_per_sample}
 use Rattle.avc_deblock.proofs.OnPlane.{with_samples, some_column, row_of, block_is}
 use Rattle.avc_deblock.proofs.Within.{inside_block, outside_block}
-use Rattle.avc_plane.specs.Planes.{Planes}
-use Rattle.avc_deblock.specs.declared.facts.MbFacts.{MbFacts}
-use Rattle.avc_deblock.specs.Facts.{filters_between}
-use Rattle.avc_deblock.specs.Line.{Setting}
-use Rattle.avc_deblock.specs.OneEdge.{luma_setting, chroma_setting}
-use Rattle.avc_deblock.specs.ByFacts.{strength_of, luma_qp_of, chroma_qp_of, edge_by_facts, edges_by_facts, mb_by_facts, row_by_facts, no_facts}
 use Rattle.avc_deblock.specs.Locality.{AgreesAbove, ChangesWithin, AgreesToRow, ChangesInRow, HasRow}
 use Rattle.avc_deblock.proofs.Local.{IsLocal, HasReach, local_none, local_then, local_if, luma_reach, chroma_reach, local_vertical, local_horizontal}
 use Rattle.avc_deblock.proofs.EdgePlanes.{edge_behind, luma_of_edge, chroma_behind, in_parts, far_enough}

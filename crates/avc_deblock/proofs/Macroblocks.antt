@@ -1,19 +1,11 @@
 -- The macroblocks of a row, one after another.
 use Rattle.std.proofs.Common.{◌≡◌, ℕ, zero, suc, ◌+◌, ◌-◌, ◌*◌, ◌<◌, ◌≤◌, List, [], ◌∷◌, ◌++◌, Bool, true, false, nat_lt, arith, refl, sym, ap, subst, ◌∙◌, append-nil, length, mul_comm}
-use Rattle.std.specs.Prelude.{◌==◌, ◌&&◌, slice_index_or}
-use Rattle.std.proofs.lemmas.Nat.{mul-add-lt}
-use Rattle.std.specs.List.{range_with_len, flat_map}
-use Rattle.std.proofs.lemmas.Bool.Decides.{nat_tests}
+use Rattle.avc_deblock.proofs.Common.{◌==◌, ◌&&◌, slice_index_or, mul-add-lt, range_with_len, flat_map, nat_tests, Coded, Motion, Planes}
+use Rattle.avc_deblock.proofs.Common.{planes_mb, MbFacts, Names, HasFacts, HaveFacts, IsAt, filters_at, filters_between}
 use Rattle.std.proofs.lemmas.Grind.{flat_map-append}
 use Rattle.avc_types.specs.declared.edges.FilteredEdges.{FilteredEdges}
 use Rattle.avc_types.specs.declared.edges.FilteredEdges.TheVariants.{All, NoEdges, WithinSlice}
-use Rattle.avc_types.specs.Pictures.{Coded}
-use Rattle.avc_neigh.specs.declared.facts.Motion.{Motion}
-use Rattle.avc_plane.specs.Planes.{Planes}
 use Rattle.avc_deblock.specs.Edges.{LineFilter, mb_at, slice_at, all_filtered, mb_lines, row_lines, filters_edge_to, filters_vertical, filters_horizontal}
-use Rattle.avc_deblock.specs.OneEdge.{planes_mb}
-use Rattle.avc_deblock.specs.declared.facts.MbFacts.{MbFacts}
-use Rattle.avc_deblock.specs.Facts.{Names, HasFacts, HaveFacts, IsAt, filters_at, filters_between}
 use Rattle.avc_deblock.proofs.Order.{all_filtered-append, mb_in_order}
 use Rattle.avc_deblock.proofs.EdgePlanes.{column_is}
 

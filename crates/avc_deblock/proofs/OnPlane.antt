@@ -1,17 +1,10 @@
 -- The lines of one edge, as a block of a plane that is changed.
-use Rattle.std.proofs.Common.{◌≡◌, ◌≢◌, ℕ, ◌+◌, ◌-◌, ◌*◌, ◌/◌, ◌%◌, ◌<◌, ◌≤◌, List, [], ◌∷◌, Bool, true, false, length, slice_index, slice_set, arith, refl, sym, ap, ◌∙◌, mul_comm}
-use Rattle.std.specs.Prelude.{if◌then◌else◌}
-use Rattle.std.specs.List.{range_with_len}
-use Rattle.std.proofs.lemmas.Bool.{cases_lt}
-use Rattle.std.proofs.Math.Nat.{div-lt_iff_lt-mul}
-use Rattle.std.proofs.lemmas.Nat.{mul-add-lt, same_from_place, mod_below}
+use Rattle.avc_deblock.proofs.Common.{◌≡◌, ◌≢◌, ℕ, ◌+◌, ◌-◌, ◌*◌, ◌/◌, ◌%◌, ◌<◌, ◌≤◌, List, [], ◌∷◌, Bool, true, false, length, slice_index}
+use Rattle.avc_deblock.proofs.Common.{slice_set, arith, refl, sym, ap, ◌∙◌, mul_comm, if◌then◌else◌, range_with_len, cases_lt}
+use Rattle.avc_deblock.proofs.Common.{div-lt_iff_lt-mul, mul-add-lt, same_from_place, mod_below, Plane, sample, with_block, is_inside}
+use Rattle.avc_deblock.proofs.Common.{by_place, Line, Setting, filtered, line_of, lines_filtered, edge_filtered}
 use Rattle.std.proofs.lemmas.List.FromFn.{fill_by_all}
-use Rattle.avc_plane.specs.Plane.{Plane, sample, with_block, is_inside}
-use Rattle.avc_plane.proofs.Rectangles.{by_place}
-use Rattle.avc_deblock.specs.Line.{Line, Setting, filtered}
-use Rattle.avc_deblock.specs.Rows.{line_of}
 use Rattle.avc_deblock.specs.Edges.{line_at, with_line}
-use Rattle.avc_deblock.specs.OneEdge.{lines_filtered, edge_filtered}
 use Rattle.avc_deblock.proofs.Samples.{same_line, same_samples, each_sample}
 use Rattle.avc_deblock.proofs.Strided.{sets, six_set, strided, all_set, length-all_set, untouched, each_line}
 

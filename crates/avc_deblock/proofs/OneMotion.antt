@@ -1,12 +1,6 @@
 -- Where all blocks of a macroblock have one motion and none has coefficients, all strengths inside it are 0.
-use Rattle.std.proofs.Common.{◌≡◌, ℕ, ◌%◌, ◌^◌, ◌<◌, true, false, slice_index, arith, ap}
-use Rattle.std.specs.Prelude.{◌==◌, slice_index_or}
-use Rattle.std.proofs.Math.Nat.{zero-div}
-use Rattle.std.proofs.lemmas.Bool.Decides.{nat_tests}
-use Rattle.avc_types.specs.declared.vector.Mv.{Mv}
-use Rattle.avc_motion.specs.Motion.{zero_vector}
-use Rattle.avc_deblock.specs.declared.facts.MbFacts.{MbFacts}
-use Rattle.avc_deblock.specs.Facts.{has_bit, are_far, inter_strength}
+use Rattle.avc_deblock.proofs.Common.{◌≡◌, ℕ, ◌%◌, ◌^◌, ◌<◌, true, false, slice_index, arith, ap, ◌==◌, slice_index_or, zero-div, nat_tests}
+use Rattle.avc_deblock.proofs.Common.{Mv, zero_vector, MbFacts, has_bit, are_far, inter_strength}
 
 no_bit : (k : ℕ) → has_bit 0 k ≡ false
 no_bit k = ap (λ n. n % 2 == 1) (zero-div (2 ^ k))

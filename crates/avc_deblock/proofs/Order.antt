@@ -1,14 +1,8 @@
 -- The lines of a macroblock in their order, as its edges one after another.
-use Rattle.std.proofs.Common.{◌≡◌, ℕ, zero, suc, ◌+◌, ◌*◌, ◌/◌, ◌%◌, List, [], ◌∷◌, ◌++◌, map, Bool, true, false, refl, ap, ◌∙◌}
-use Rattle.std.specs.Prelude.{if◌then◌else◌}
-use Rattle.std.specs.List.{range_with_len, flat_map}
-use Rattle.avc_types.specs.Pictures.{Coded}
-use Rattle.avc_neigh.specs.declared.facts.Motion.{Motion}
-use Rattle.avc_plane.specs.Plane.{Plane}
-use Rattle.avc_plane.specs.Planes.{Planes}
-use Rattle.avc_deblock.specs.Line.{Setting}
+use Rattle.avc_deblock.proofs.Common.{◌≡◌, ℕ, zero, suc, ◌+◌, ◌*◌, ◌/◌, ◌%◌, List, [], ◌∷◌, ◌++◌, map, Bool, true, false, refl, ap, ◌∙◌}
+use Rattle.avc_deblock.proofs.Common.{if◌then◌else◌, range_with_len, flat_map, Coded, Motion, Plane, Planes, Setting, lines_filtered}
+use Rattle.avc_deblock.proofs.Common.{edge_filtered, component_edge, planes_edges, planes_mb}
 use Rattle.avc_deblock.specs.Edges.{LineFilter, setting_at, line_filtered, in_component, step_filtered, all_filtered, filters_edge_to, filters_vertical, filters_horizontal, edges_below, vertical_lines, horizontal_lines, component_lines, luma_per_sample}
-use Rattle.avc_deblock.specs.OneEdge.{lines_filtered, edge_filtered, component_edge, planes_edges, planes_mb}
 
 pub all_filtered-append : (c : Coded) (motion : List (List Motion)) (s : Planes) (fs gs : List LineFilter) → all_filtered c motion s (fs ++ gs) ≡ all_filtered c motion (all_filtered c motion s fs) gs
 all_filtered-append c motion s [] gs = refl

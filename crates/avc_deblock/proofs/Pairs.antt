@@ -1,10 +1,7 @@
 -- The lines of Cb and Cr, side by side in one block.
-use Rattle.std.proofs.Common.{◌≡◌, ℕ, ◌+◌, ◌*◌, ◌<◌, ◌≤◌, List, length, slice_index, true, false, arith, refl, sym, ap, ◌∙◌}
-use Rattle.avc_plane.specs.Plane.{Plane, sample, with_block}
-use Rattle.avc_deblock.specs.declared.thresholds.EdgeQp.{EdgeQp}
-use Rattle.avc_deblock.specs.Line.{filtered}
-use Rattle.avc_deblock.specs.Rows.{line_of, line_down, line_near, IsTransposed, IsNearSet}
-use Rattle.avc_deblock.specs.OneEdge.{edge_filtered, chroma_setting}
+use Rattle.avc_deblock.proofs.Common.{◌≡◌, ℕ, ◌+◌, ◌*◌, ◌<◌, ◌≤◌, List, length, slice_index, true, false, arith, refl, sym, ap, ◌∙◌, Plane}
+use Rattle.avc_deblock.proofs.Common.{sample, with_block, EdgeQp, filtered, line_of, line_down, line_near, IsTransposed, IsNearSet}
+use Rattle.avc_deblock.proofs.Common.{edge_filtered, chroma_setting}
 use Rattle.avc_deblock.proofs.Blocks.{filtered_across, down_near}
 use Rattle.avc_deblock.proofs.Samples.{same_samples, chroma_keeps}
 use Rattle.avc_deblock.proofs.Within.{within_block}

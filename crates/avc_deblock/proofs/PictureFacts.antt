@@ -1,16 +1,10 @@
 -- The filter by the facts of a coded picture's macroblocks is that of the picture.
-use Rattle.std.proofs.Common.{◌≡◌, ◌∙◌, ℕ, ℤ, zero, suc, ◌+◌, ◌-◌, ◌*◌, ◌%◌, ◌<◌, ◌≤◌, List, length, Bool, true, false, nat_lt, arith, refl, sym, ap}
-use Rattle.std.specs.Prelude.{if◌then◌else◌, ◌==◌, ◌&&◌, ◌||◌, not, slice_index_or}
-use Rattle.std.specs.List.{range_with_len, flat_map}
-use Rattle.std.proofs.lemmas.Bool.{and_parts}
-use Rattle.avc_types.specs.Pictures.{Coded}
-use Rattle.avc_neigh.specs.declared.facts.Motion.{Motion}
-use Rattle.avc_plane.specs.Planes.{Planes}
-use Rattle.avc_deblock.specs.declared.facts.MbFacts.{MbFacts}
+use Rattle.avc_deblock.proofs.Common.{◌≡◌, ◌∙◌, ℕ, ℤ, zero, suc, ◌+◌, ◌-◌, ◌*◌, ◌%◌, ◌<◌, ◌≤◌, List, length, Bool, true, false, nat_lt}
+use Rattle.avc_deblock.proofs.Common.{arith, refl, sym, ap, if◌then◌else◌, ◌==◌, ◌&&◌, ◌||◌, not, slice_index_or, range_with_len, flat_map}
+use Rattle.avc_deblock.proofs.Common.{and_parts, Coded, Motion, Planes, MbFacts, planes_edge, planes_edges, planes_mb, HasFacts, IsAt}
+use Rattle.avc_deblock.proofs.Common.{Names, edge_block, inter_strength, p_address, filters_between, strength_of, edge_by_facts}
+use Rattle.avc_deblock.proofs.Common.{edges_by_facts, mb_by_facts, row_by_facts, no_facts, AreOfRow}
 use Rattle.avc_deblock.specs.Edges.{strength_between, all_filtered, mb_lines, row_lines, filters_edge_to, filters_horizontal}
-use Rattle.avc_deblock.specs.OneEdge.{planes_edge, planes_edges, planes_mb}
-use Rattle.avc_deblock.specs.Facts.{HasFacts, IsAt, Names, edge_block, inter_strength, p_address, filters_between}
-use Rattle.avc_deblock.specs.ByFacts.{strength_of, edge_by_facts, edges_by_facts, mb_by_facts, row_by_facts, no_facts, AreOfRow}
 use Rattle.avc_deblock.proofs.Between.{inter_between, intra_between, both_false, low_block}
 use Rattle.avc_deblock.proofs.Places.{same_mb}
 use Rattle.avc_deblock.proofs.EdgePlanes.{edge_planes}

@@ -1,13 +1,8 @@
 -- The macroblocks and blocks on both sides of a place of an edge, and the setting of its line.
-use Rattle.std.proofs.Common.{◌≡◌, ℕ, zero, suc, ◌+◌, ◌-◌, ◌*◌, ◌/◌, ◌%◌, ◌<◌, ◌≤◌, List, Bool, true, false, arith, refl, sym, ap, ◌∙◌}
-use Rattle.std.specs.Prelude.{◌==◌, not}
-use Rattle.std.proofs.lemmas.Bool.Decides.{nat_tests}
-use Rattle.avc_types.specs.Pictures.{Coded}
+use Rattle.avc_deblock.proofs.Common.{◌≡◌, ℕ, zero, suc, ◌+◌, ◌-◌, ◌*◌, ◌/◌, ◌%◌, ◌<◌, ◌≤◌, List, Bool, true, false, arith, refl, sym, ap}
+use Rattle.avc_deblock.proofs.Common.{◌∙◌, ◌==◌, not, nat_tests, Coded, Motion, Setting, setting_of, edge_block, p_address, IsAt}
 use Rattle.avc_neigh.specs.Blocks.{block_at}
-use Rattle.avc_neigh.specs.declared.facts.Motion.{Motion}
-use Rattle.avc_deblock.specs.Line.{Setting, setting_of}
 use Rattle.avc_deblock.specs.Edges.{slice_at, strength_between, address_of, component_qp, setting_at, luma_per_sample}
-use Rattle.avc_deblock.specs.Facts.{edge_block, p_address, IsAt}
 
 -- ---- addresses
 

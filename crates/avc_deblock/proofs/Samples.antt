@@ -1,10 +1,8 @@
 -- The eight samples of a line, and what a line filter leaves of them.
-use Rattle.std.proofs.Common.{◌≡◌, ℕ, zero, suc, ◌<◌, ◌≤◌, [], ◌∷◌, Bool, true, false, slice_index, arith, refl, sym, ap, ◌∙◌}
-use Rattle.std.specs.Prelude.{if◌then◌else◌, ◌==◌, ◌&&◌, ◌||◌}
-use Rattle.std.proofs.lemmas.Bool.Decides.{nat_tests}
-use Rattle.avc_neigh.proofs.Sixteen.{each_of_four}
-use Rattle.avc_deblock.specs.Line.{Line, Setting, filtered, filtered_weakly, filtered_strongly, is_filtered}
-use Rattle.avc_deblock.specs.Rows.{line, line_of}
+use Rattle.avc_deblock.proofs.Common.{◌≡◌, ℕ, zero, suc, ◌<◌, ◌≤◌, [], ◌∷◌, Bool, true, false, slice_index, arith, refl, sym, ap, ◌∙◌}
+use Rattle.avc_deblock.proofs.Common.{if◌then◌else◌, ◌==◌, ◌&&◌, ◌||◌, nat_tests, Line, Setting, filtered, filtered_weakly}
+use Rattle.avc_deblock.proofs.Common.{filtered_strongly, is_filtered, line, line_of}
+use Rattle.avc_deblock.proofs.OfFour.{each_of_four}
 
 pub same_line : (a b c d e f g h a' b' c' d' e' f' g' h' : ℕ) → a ≡ a' → b ≡ b' → c ≡ c' → d ≡ d' → e ≡ e' → f ≡ f' → g ≡ g' → h ≡ h' →
     line a b c d e f g h ≡ line a' b' c' d' e' f' g' h'

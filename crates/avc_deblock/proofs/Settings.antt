@@ -1,12 +1,7 @@
 -- Edges whose lines have equal settings, and edges of strength 0.
 use Rattle.std.proofs.Common.{◌≡◌, ℕ, zero, suc, ◌+◌, ◌*◌, ◌<◌, ◌≤◌, List, [], ◌∷◌, Bool, true, false, slice_index, arith, refl, ap, ◌∙◌}
-use Rattle.std.specs.Prelude.{◌==◌, ◌||◌}
-use Rattle.std.specs.List.{range_with_len}
-use Rattle.std.proofs.lemmas.List.{set-get_or}
-use Rattle.avc_plane.specs.Plane.{Plane}
-use Rattle.avc_deblock.specs.Line.{Line, Setting, filtered}
+use Rattle.avc_deblock.proofs.Common.{◌==◌, ◌||◌, range_with_len, set-get_or, Plane, Line, Setting, filtered, lines_filtered, edge_filtered}
 use Rattle.avc_deblock.specs.Edges.{line_filtered}
-use Rattle.avc_deblock.specs.OneEdge.{lines_filtered, edge_filtered}
 use Rattle.avc_deblock.proofs.Strided.{sets, six_set, strided, all_set}
 use Rattle.avc_deblock.proofs.Samples.{sample_is, filtered_off}
 use Rattle.avc_deblock.proofs.OnPlane.{with_samples, line_from, edge_shown}

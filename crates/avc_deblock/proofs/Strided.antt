@@ -1,10 +1,6 @@
 -- Lines of samples in a list, the samples of each at equal distances.
 use Rattle.std.proofs.Common.{◌≡◌, ◌≢◌, ℕ, zero, suc, ◌+◌, ◌*◌, ◌<◌, ◌≤◌, List, [], ◌∷◌, length, slice_index, slice_set, arith, refl, sym, ap, ◌∙◌, get_or-set_other, get_or-set_same, length-set, ⊎_elim}
-use Rattle.std.specs.List.{range_with_len}
-use Rattle.std.proofs.lemmas.Bool.{cases_lt, cases_eq}
-use Rattle.std.proofs.lemmas.Nat.{same_from_place}
-use Rattle.avc_deblock.specs.Line.{Line, Setting, filtered}
-use Rattle.avc_deblock.specs.Rows.{line_of}
+use Rattle.avc_deblock.proofs.Common.{range_with_len, cases_lt, cases_eq, same_from_place, Line, Setting, filtered, line_of}
 use Rattle.avc_deblock.proofs.Samples.{same_samples, sample_of, each_of_eight, filtered_p3, filtered_q3}
 
 -- ---- one line put into its places

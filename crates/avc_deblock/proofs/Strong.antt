@@ -1,9 +1,6 @@
 -- A line at strength 4 from its six new samples.
-use Rattle.std.proofs.Common.{◌≡◌, ℕ, Bool, true, false, nat_lt, ◌&&◌, if◌then◌else◌, arith, refl, ◌∙◌}
-use Rattle.std.proofs.lemmas.Int.{ints}
-use Rattle.avc_types.specs.Arithmetic.{distance}
-use Rattle.avc_deblock.specs.Line.{Setting, Line, mirrored, filtered, filtered_strongly, strong_p0, strong_p1, strong_p2}
-use Rattle.avc_deblock.specs.Rows.{line, IsStrong}
+use Rattle.avc_deblock.proofs.Common.{◌≡◌, ℕ, Bool, true, false, nat_lt, ◌&&◌, if◌then◌else◌, arith, refl, ◌∙◌, ints, distance, Setting}
+use Rattle.avc_deblock.proofs.Common.{Line, mirrored, filtered, filtered_strongly, strong_p0, strong_p1, strong_p2, line, IsStrong}
 use Rattle.avc_deblock.proofs.Weak.{any_at}
 
 -- the new samples, from whether the line is filtered

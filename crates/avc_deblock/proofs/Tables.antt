@@ -1,9 +1,6 @@
 -- The numbers of a table are small.
 use Rattle.std.proofs.Common.{◌≡◌, ℕ, zero, suc, ◌+◌, ◌*◌, ◌/◌, ◌%◌, ◌<◌, ◌≤◌, Bool, true, ◌&&◌, List, [], ◌∷◌, arith, refl, ap, ◌∙◌, below_more}
-use Rattle.std.specs.Prelude.{nat_le, slice_index, ◌==◌}
-use Rattle.avc_deblock.specs.Line.{alpha_of, beta_of, tc0_of}
-use Rattle.avc_deblock.specs.OneEdge.{tc1_of}
-use Rattle.std.proofs.lemmas.Bool.{and_parts, eqb-true, leb-true}
+use Rattle.avc_deblock.proofs.Common.{nat_le, slice_index, ◌==◌, alpha_of, beta_of, tc0_of, tc1_of, and_parts, eqb-true, leb-true}
 
 abbrev pub are_at_most : ℕ → List ℕ → Bool
 are_at_most n [] = true

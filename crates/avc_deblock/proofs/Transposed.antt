@@ -1,6 +1,6 @@
 -- Four riffles of sixteen rows of eight samples make eight rows of sixteen, and three more make them sixteen rows of eight again.
 use Rattle.std.proofs.Common.{◌≡◌, ℕ, zero, suc, ◌+◌, ◌*◌, ◌/◌, ◌%◌, ◌<◌, List, slice_index, arith, ap, ◌∙◌, sym}
-use Rattle.avc_neigh.proofs.Sixteen.{each_of_four}
+use Rattle.avc_deblock.proofs.OfFour.{each_of_four}
 use Rattle.avc_deblock.specs.Rows.{IsRiffled, IsTransposed}
 
 riffle_bit : (t u : List ℕ) (k b : ℕ) → IsRiffled t u → k < 64 → b < 2 → slice_index u (2 * k + b) ≡ slice_index t (64 * b + k)

@@ -1,15 +1,8 @@
 -- Two vertical edges of chroma, four columns apart, as one block of a plane that is changed.
-use Rattle.std.proofs.Common.{◌≡◌, ℕ, ◌+◌, ◌-◌, ◌*◌, ◌<◌, ◌≤◌, List, Bool, true, length, slice_index, arith, refl, sym, ap, ◌∙◌, ⊎_elim}
-use Rattle.std.specs.Prelude.{if◌then◌else◌}
-use Rattle.std.proofs.lemmas.Bool.{cases_lt}
-use Rattle.avc_plane.specs.Plane.{Plane, sample, with_block, is_inside}
-use Rattle.avc_plane.proofs.Rectangles.{by_place}
-use Rattle.avc_plane.proofs.Blocks.{plane_of_same}
-use Rattle.avc_plane.proofs.PlaneMaps.{length-plane_of}
-use Rattle.avc_neigh.proofs.Sixteen.{each_of_four}
-use Rattle.avc_deblock.specs.Line.{Setting, filtered}
-use Rattle.avc_deblock.specs.Rows.{line, line_near, IsTransposed, IsNearSet}
-use Rattle.avc_deblock.specs.OneEdge.{edge_filtered}
+use Rattle.avc_deblock.proofs.Common.{◌≡◌, ℕ, ◌+◌, ◌-◌, ◌*◌, ◌<◌, ◌≤◌, List, Bool, true, length, slice_index, arith, refl, sym, ap, ◌∙◌}
+use Rattle.avc_deblock.proofs.Common.{⊎_elim, if◌then◌else◌, cases_lt, Plane, sample, with_block, is_inside, by_place, plane_of_same}
+use Rattle.avc_deblock.proofs.Common.{length-plane_of, Setting, filtered, line, line_near, IsTransposed, IsNearSet, edge_filtered}
+use Rattle.avc_deblock.proofs.OfFour.{each_of_four}
 use Rattle.avc_deblock.proofs.Samples.{same_line, each_of_eight, sample_of}
 use Rattle.avc_deblock.proofs.Within.{inside_block, outside_block, within_block}
 use Rattle.avc_deblock.proofs.OnPlane.{vertical_block}

@@ -1,12 +1,7 @@
 -- The vertical edges of a macroblock, component by component.
-use Rattle.std.proofs.Common.{◌≡◌, ◌∙◌, ℕ, ◌+◌, ◌-◌, ◌*◌, ◌<◌, ◌≤◌, true, false, arith, refl, sym, ap, subst}
-use Rattle.std.specs.Prelude.{ℤ}
-use Rattle.avc_plane.specs.Plane.{Plane}
-use Rattle.avc_plane.specs.Planes.{Planes}
-use Rattle.avc_deblock.specs.declared.facts.MbFacts.{MbFacts}
-use Rattle.avc_deblock.specs.declared.thresholds.EdgeQp.{EdgeQp}
-use Rattle.avc_deblock.specs.OneEdge.{edge_filtered, luma_setting, chroma_setting, chroma_of_edge, HasRoom}
-use Rattle.avc_deblock.specs.ByFacts.{strength_of, luma_qp_of, chroma_qp_of, edge_by_facts, edges_by_facts}
+use Rattle.avc_deblock.proofs.Common.{◌≡◌, ◌∙◌, ℕ, ◌+◌, ◌-◌, ◌*◌, ◌<◌, ◌≤◌, true, false, arith, refl, sym, ap, subst, ℤ, Plane, Planes}
+use Rattle.avc_deblock.proofs.Common.{MbFacts, EdgeQp, edge_filtered, luma_setting, chroma_setting, chroma_of_edge, HasRoom, strength_of}
+use Rattle.avc_deblock.proofs.Common.{luma_qp_of, chroma_qp_of, edge_by_facts, edges_by_facts}
 use Rattle.avc_deblock.proofs.EdgePlanes.{luma_same, chroma_same, luma_size, chroma_size, room_kept}
 
 module _ (column row n : ℕ) (f g : ℕ → ℕ) (qp : EdgeQp) (s t : Plane) where

@@ -1,10 +1,7 @@
 -- A line at a strength below 4 from its four new samples.
-use Rattle.std.proofs.Common.{◌≡◌, ℕ, ℤ, zero, suc, ◌+◌, ◌<◌, pos, negsuc, ◌+ℤ◌, ◌-ℤ◌, nat_abs, nat_lt, ◌==◌, Bool, true, false, ◌&&◌, if◌then◌else◌, arith, refl, ◌∙◌}
-use Rattle.std.proofs.lemmas.Bool.Decides.{nat_tests}
-use Rattle.std.proofs.lemmas.Int.{ints}
-use Rattle.avc_types.specs.Arithmetic.{clip1, distance}
-use Rattle.avc_deblock.specs.Line.{Setting, Line, filtered, filtered_weakly}
-use Rattle.avc_deblock.specs.Rows.{line, IsWeak, slope, bend, held}
+use Rattle.avc_deblock.proofs.Common.{◌≡◌, ℕ, ℤ, zero, suc, ◌+◌, ◌<◌, pos, negsuc, ◌+ℤ◌, ◌-ℤ◌, nat_abs, nat_lt, ◌==◌, Bool, true, false}
+use Rattle.avc_deblock.proofs.Common.{◌&&◌, if◌then◌else◌, arith, refl, ◌∙◌, nat_tests, ints, clip1, distance, Setting, Line, filtered}
+use Rattle.avc_deblock.proofs.Common.{filtered_weakly, line, IsWeak, slope, bend, held}
 
 held_at_none : (z : ℤ) → held 0 z ≡ pos 0
 held_at_none (pos n) = grind (arith, ints, nat_tests)

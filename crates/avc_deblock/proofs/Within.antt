@@ -1,10 +1,6 @@
 -- A block of a plane of which only a part changes.
-use Rattle.std.proofs.Common.{◌≡◌, ℕ, ◌+◌, ◌-◌, ◌<◌, ◌≤◌, Bool, arith, refl, sym, ap, ◌∙◌}
-use Rattle.std.specs.Prelude.{if◌then◌else◌}
-use Rattle.avc_plane.specs.Plane.{Plane, sample, with_block, is_inside}
-use Rattle.avc_plane.proofs.Rectangles.{by_place}
-use Rattle.avc_plane.proofs.Blocks.{plane_of_same, inside}
-use Rattle.avc_plane.proofs.PlaneMaps.{sample-with_block}
+use Rattle.avc_deblock.proofs.Common.{◌≡◌, ℕ, ◌+◌, ◌-◌, ◌<◌, ◌≤◌, Bool, arith, refl, sym, ap, ◌∙◌, if◌then◌else◌, Plane, sample, with_block}
+use Rattle.avc_deblock.proofs.Common.{is_inside, by_place, plane_of_same, inside, sample-with_block}
 
 pub outside_block : (s : Plane) (left top width height : ℕ) (f : ℕ → ℕ → ℕ) (x y : ℕ) → x < s.width → y < s.height →
     (left ≤ x → x < left + width → top ≤ y → y < top + height → ⊥) → sample (with_block s left top width height f) x y ≡ sample s x y

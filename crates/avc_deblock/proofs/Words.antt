@@ -1,7 +1,7 @@
 -- Four bytes as one word.
 use Rattle.std.proofs.Common.{◌≡◌, add-zero, ℕ, ◌+◌, ◌*◌, ◌/◌, ◌%◌, ◌<◌, List, [], ◌∷◌, length, get_or, slice_index, arith, refl, ap, ◌∙◌}
 use Rattle.std.proofs.lemmas.Simd.{Each1-from_get_or, get_or_wider, get_or-chunk, length-chunk}
-use Rattle.avc_neigh.proofs.Sixteen.{each_of_four}
+use Rattle.avc_deblock.proofs.OfFour.{each_of_four}
 use lib.Lanes.{chunk, number_l, digits_l}
 
 number_of_four : (xs : List ℕ) → length xs ≡ 4 → number_l 256 xs ≡ get_or xs 0 0 + 256 * (get_or xs 1 0 + 256 * (get_or xs 2 0 + 256 * get_or xs 3 0))

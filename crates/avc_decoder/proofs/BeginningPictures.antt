@@ -1,18 +1,10 @@
 -- What the steps of units say of a picture that begins: no other is open then, and an IDR picture has the marking of one.
-use Rattle.std.specs.Prelude.{◌≡◌, Bool, true, false, not, Option, Some, None, Result, Ok, Err, refl}
-use Rattle.avc_types.specs.declared.fault.Fault.{Fault}
+use Rattle.avc_decoder.proofs.Common.{◌≡◌, Bool, true, false, not, Option, Some, None, Result, Ok, Err, refl, Fault, forbidden_zero_bit}
+use Rattle.avc_decoder.proofs.Common.{Piece, Sets, begins, HeadersKeepIdrRules, Slice, Kind, OpenPictureFacts, boundary, is_start, kind}
+use Rattle.avc_decoder.proofs.Common.{no_effect, other, partition, pps, rbsp_of, refusal_of, running_step, set_fault, slice, slice_in}
+use Rattle.avc_decoder.proofs.Common.{slice_step, sps, step, unreadable, waiting_step, Next, Refusal, FaultOfOpen, FaultOfOwn, Begins}
+use Rattle.avc_decoder.proofs.Common.{Continues, Step}
 use Rattle.avc_types.specs.declared.fault.Fault.TheVariants as faults
-use Rattle.avc_annexb.specs.Units.{forbidden_zero_bit}
-use Rattle.avc_annexb.specs.declared.unit.Unit.{Unit as Piece}
-use Rattle.avc_params.specs.Tables.{Sets}
-use Rattle.avc_slice.specs.Begins.{begins}
-use Rattle.avc_slice.specs.Laws.{HeadersKeepIdrRules}
-use Rattle.avc_slice.specs.declared.slice.Slice.{Slice}
-use Rattle.avc_units.specs.Grouping.{Kind, OpenPictureFacts, boundary, is_start, kind, no_effect, other, partition, pps, rbsp_of, refusal_of}
-use Rattle.avc_units.specs.Grouping.{running_step, set_fault, slice, slice_in, slice_step, sps, step, unreadable, waiting_step}
-use Rattle.avc_units.specs.declared.step.Next.{Next}
-use Rattle.avc_units.specs.declared.step.Next.TheVariants.{Refusal, FaultOfOpen, FaultOfOwn, Begins, Continues}
-use Rattle.avc_units.specs.declared.step.Step.{Step}
 use Rattle.avc_decoder.proofs.Histories.{HasItsMarking}
 use Rattle.avc_decoder.proofs.StartUnits.{rules_in}
 

@@ -1,16 +1,8 @@
 -- The cases of what an open picture gives: each a function of what it is by.
-use Rattle.std.specs.Prelude.{ℕ, zero, suc, Bool, true, false, List, Option, Some, None, Result, Ok, Err}
-use Rattle.avc_types.specs.declared.fault.Fault.{Fault}
+use Rattle.avc_decoder.proofs.Common.{ℕ, zero, suc, Bool, true, false, List, Option, Some, None, Result, Ok, Err, Fault, is_full, Header}
+use Rattle.avc_decoder.proofs.Common.{OpenPictureFacts, Output, History, output_pictures, Outcome, Phase, failed_at, followed_by, pictures}
+use Rattle.avc_decoder.proofs.Common.{running, OpenPicture, closed_history, progress_on, start_on, Event}
 use Rattle.avc_types.specs.declared.fault.Fault.TheVariants as faults
-use Rattle.avc_picture.specs.Slices.{is_full}
-use Rattle.avc_slice.specs.declared.header.Header.{Header}
-use Rattle.avc_units.specs.Grouping.{OpenPictureFacts}
-use Rattle.avc_dpb.specs.declared.output.Output.{Output}
-use Rattle.avc_decoder_core.specs.History.{History}
-use Rattle.avc_decoder_core.specs.Pictures.{output_pictures}
-use Rattle.avc_decoder.specs.Events.{Outcome, Phase, failed_at, followed_by, pictures, running}
-use Rattle.avc_decoder.specs.FirstFault.{OpenPicture, closed_history, progress_on, start_on}
-use Rattle.avc_decoder.specs.declared.event.Event.{Event}
 
 -- ---- by the address of its first macroblock, and by what opening gives
 

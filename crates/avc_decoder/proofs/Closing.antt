@@ -1,29 +1,13 @@
 -- What closing the open picture comes to.
-use Rattle.std.proofs.Common.{◌≡◌, ℕ, Bool, true, false, List, ◌∷◌, Option, Some, None, Result, Ok, Err, refl, ap, sym, ◌∙◌, subst}
-use Rattle.avc_types.specs.declared.fault.Fault.{Fault}
-use Rattle.avc_types.specs.declared.fault.Fault.TheVariants.{MissingMacroblocks}
-use Rattle.avc_types.specs.declared.picture_error.PictureError.{PictureError}
-use Rattle.avc_types.specs.declared.picture_error.PictureError.TheVariants.{Fault as Faulty}
-use Rattle.avc_types.specs.declared.picture.Picture.{Picture as Decoded}
-use Rattle.avc_params.specs.Limits.{height_in_mbs, width_in_mbs}
-use Rattle.avc_params.specs.declared.set_unit.SetUnit.{SetUnit}
-use Rattle.avc_plane.specs.Frames.{AreSized}
-use Rattle.avc_plane.specs.Planes.{Planes}
-use Rattle.avc_slice.specs.declared.slice.Slice.{Slice}
-use Rattle.avc_picture.specs.Slices.{is_full, progress, planes_after_slices}
-use Rattle.avc_picture.specs.Decoding.{CanStandAt, Decoding, IsFinishAnswer, end_fault, fault_at_end}
-use Rattle.avc_dpb.specs.declared.output.Output.{Output}
-use Rattle.avc_decoder_core.specs.History.{History, history_after_closing, stored_frames}
-use Rattle.avc_decoder_core.specs.Pictures.{output_at_closing}
-use Rattle.avc_decoder_core.specs.SequenceState.{AreSizedAs, Fails, IsClosed, OpenPictureStart, SequenceState, current_history}
-use Rattle.avc_decoder.specs.FirstFault.{OpenPicture, closed_history, first_header, history_of, oldest}
-use Rattle.avc_decoder.specs.Events.{Outcome, closed_outcome, closing_result, failed_at, pictures, running, waiting}
-use Rattle.avc_decoder.specs.PictureFrames.{progress_on_history, start_with}
-use Rattle.avc_decoder.specs.QueueState.{QueueState, with_events}
+use Rattle.avc_decoder.proofs.Common.{◌≡◌, ℕ, Bool, true, false, List, ◌∷◌, Option, Some, None, Result, Ok, Err, refl, ap, sym, ◌∙◌, subst}
+use Rattle.avc_decoder.proofs.Common.{Fault, MissingMacroblocks, PictureError, Faulty, Decoded, height_in_mbs, width_in_mbs, SetUnit}
+use Rattle.avc_decoder.proofs.Common.{AreSized, Planes, Slice, is_full, progress, planes_after_slices, CanStandAt, Decoding, IsFinishAnswer}
+use Rattle.avc_decoder.proofs.Common.{end_fault, fault_at_end, Output, History, history_after_closing, stored_frames, output_at_closing}
+use Rattle.avc_decoder.proofs.Common.{AreSizedAs, Fails, IsClosed, OpenPictureStart, SequenceState, current_history, OpenPicture}
+use Rattle.avc_decoder.proofs.Common.{closed_history, first_header, history_of, oldest, Outcome, closed_outcome, closing_result, failed_at}
+use Rattle.avc_decoder.proofs.Common.{pictures, running, waiting, progress_on_history, start_with, QueueState, with_events, CurrentPicture}
+use Rattle.avc_decoder.proofs.Common.{PhaseHere, Running}
 use Rattle.avc_decoder.specs.States.{ComesTo, IsOpenIn, Stops, closed_in, more_read, open_picture_from, phase_of}
-use Rattle.avc_decoder.specs.declared.phase.CurrentPicture.{CurrentPicture}
-use Rattle.avc_decoder.specs.declared.phase.Phase.{Phase as PhaseHere}
-use Rattle.avc_decoder.specs.declared.phase.Phase.TheVariants.{Running}
 use Rattle.avc_decoder.proofs.PictureFrames.{EndsWith, HasPlanes, IsFullOn, ends_with, well_on}
 use Rattle.avc_decoder.proofs.FirstFaults.{Stands, closed_ok, history_is, marking_fails, not_full}
 

@@ -1,20 +1,12 @@
 -- The units that were not taken are handled, and with them all.
 use Rattle.std.proofs.Common.{◌≡◌, ◌+◌, ◌<◌, ℕ, zero, suc, Bool, true, false, List, [], ◌∷◌, ◌++◌, length, drop, Option, Some, None, Result, Ok, Err, refl, ap, sym, ◌∙◌, arith, add-one, add-zero, add_assoc, append_assoc, append-nil, le_of_eq, le_trans, length-append, subst}
-use Rattle.std.specs.Prelude.{◌==◌, IfOk, is_none, is_some, not, slice_get}
-use Rattle.std.proofs.lemmas.Bool.Decides.{nat_tests}
-use Rattle.std.proofs.Math.Seq.{drop-append_seam}
+use Rattle.avc_decoder.proofs.Common.{◌==◌, IfOk, is_none, is_some, not, slice_get, nat_tests, drop-append_seam, saturated, units, Piece}
+use Rattle.avc_decoder.proofs.Common.{units_stay_first, Output, State, after_unit, at_end, events_from, first_state, read_from, state_after}
+use Rattle.avc_decoder.proofs.Common.{turns, state_through, Machine, IsFeedAnswer, new_machine, next_event, NoMemory}
 use Rattle.avc_annexb.specs.SplitterState.{SplitterState, after_feed, after_finish, next_unit_of, after_next_unit}
-use Rattle.avc_annexb.specs.Units.{saturated, units}
-use Rattle.avc_annexb.specs.declared.unit.Unit.{Unit as Piece}
-use Rattle.avc_annexb.proofs.Staying.{units_stay_first}
 use Rattle.avc_types.specs.declared.memory.OutOfMemory.{OutOfMemory}
-use Rattle.avc_dpb.specs.declared.output.Output.{Output}
-use Rattle.avc_decoder.specs.Events.{State, after_unit, at_end, events_from, first_state, read_from, state_after, turns}
-use Rattle.avc_decoder.specs.Laws.{state_through}
-use Rattle.avc_decoder.specs.Machine.{Machine, IsFeedAnswer, new_machine, next_event}
 use Rattle.avc_decoder.specs.Machine as machine
 use Rattle.avc_decoder.specs.declared.error.DecodeError.{DecodeError}
-use Rattle.avc_decoder.specs.declared.error.DecodeError.TheVariants.{OutOfMemory as NoMemory}
 use Rattle.avc_decoder.proofs.Growing.{events-append, read-append, turns_grow}
 use Rattle.avc_decoder.specs.States.{StreamState, EndsIn, FeedsIn, HandlesAll, IsDecoded, IsDecoderState, more_read, after_units_in_stream, after_stream_end, after_unit_in_stream, stream_state}
 use Rattle.avc_decoder.specs.declared.parts.Parts.{Parts}

@@ -1,28 +1,13 @@
 -- Early output and full output hand out the same: what goes out of a stream that has ended are the pictures of its sequences.
-use Rattle.std.specs.Prelude.{◌≡◌, ℕ, Bool, true, false, not, ◌&&◌, List, [], ◌∷◌, ◌++◌, All, Some, None, Result, Ok, Err, refl}
-use Rattle.std.proofs.Common.{ap, ap₂, sym, subst, ◌∙◌, append-nil}
-use Rattle.std.proofs.lemmas.Grind.{flat_map-append}
-use Rattle.std.proofs.lemmas.List.Elements.{All-append, All-head, All-tail}
-use Rattle.avc_types.specs.declared.fault.Fault.{Fault}
-use Rattle.avc_annexb.specs.Units.{units}
-use Rattle.avc_annexb.specs.declared.unit.Unit.{Unit as Piece}
-use Rattle.avc_params.specs.Tables.{Sets, sets_after}
-use Rattle.avc_params.specs.declared.set_unit.SetUnit.{SetUnit}
-use Rattle.avc_slice.specs.Laws.{HeadersKeepIdrRules}
-use Rattle.avc_units.specs.Grouping.{set_units, step}
-use Rattle.avc_units.specs.declared.step.Step.{Step}
-use Rattle.avc_dpb.specs.declared.output.Output.{Output}
-use Rattle.avc_dpb.specs.declared.output.Output.TheVariants.{Full, Early}
-use Rattle.avc_decoder_core.specs.History.{History}
-use Rattle.avc_decoder_core.specs.Pictures.{held_pictures, pictures_at}
-use Rattle.avc_decoder_core.specs.SequenceOrder.{EarlyOutputKeepsHistories}
+use Rattle.avc_decoder.proofs.Common.{◌≡◌, ℕ, Bool, true, false, not, ◌&&◌, List, [], ◌∷◌, ◌++◌, All, Some, None, Result, Ok, Err, refl, ap}
+use Rattle.avc_decoder.proofs.Common.{ap₂, sym, subst, ◌∙◌, append-nil, flat_map-append, All-append, All-head, All-tail, Fault, units}
+use Rattle.avc_decoder.proofs.Common.{Piece, Sets, sets_after, SetUnit, HeadersKeepIdrRules, set_units, step, Step, Output, Full, Early}
+use Rattle.avc_decoder.proofs.Common.{History, held_pictures, pictures_at, EarlyOutputKeepsHistories, Outcome, Phase, after_closing}
+use Rattle.avc_decoder.proofs.Common.{after_next, at_end, closed_outcome, closed_picture, closing_result, events_and_held, events_from}
+use Rattle.avc_decoder.proofs.Common.{followed_by, history_in, in_phase, is_running, open_facts_in, pictures, pictures_in, refusals_in}
+use Rattle.avc_decoder.proofs.Common.{running, waiting, OpenPicture, Event}
 use Rattle.avc_decoder.specs.EarlyOutput.{EarlyOutputKeepsPictures, EndedSequence, IsNotDropped, IsReorderedWithin, ended_at_closing}
 use Rattle.avc_decoder.specs.EarlyOutput.{ended_by_closing, ended_by_unit, ended_sequence, phase_after_closing, sequences, sequences_from, stopped}
-use Rattle.avc_decoder.specs.Events.{Outcome, Phase, after_closing, after_next, at_end, closed_outcome, closed_picture}
-use Rattle.avc_decoder.specs.Events.{closing_result, events_and_held, events_from, followed_by, history_in, in_phase, is_running}
-use Rattle.avc_decoder.specs.Events.{open_facts_in, pictures, pictures_in, refusals_in, running, waiting}
-use Rattle.avc_decoder.specs.FirstFault.{OpenPicture}
-use Rattle.avc_decoder.specs.declared.event.Event.{Event}
 use Rattle.avc_decoder.proofs.BeginningPictures.{Allows, Fits, Known, fits}
 use Rattle.avc_decoder.proofs.Histories.{IsClosed, IsSound, IsSoundOpen, closed_sound, gone}
 use Rattle.avc_decoder.proofs.Through.{state_of}

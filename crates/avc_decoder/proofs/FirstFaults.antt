@@ -1,11 +1,7 @@
 -- When an open picture's first fault is which.
-use Rattle.std.proofs.Common.{◌≡◌, ℕ, Bool, true, false, Some, None, Ok, Err, ap, ◌∙◌}
-use Rattle.avc_types.specs.declared.fault.Fault.{Fault}
-use Rattle.avc_types.specs.declared.fault.Fault.TheVariants.{MissingMacroblocks}
-use Rattle.avc_picture.specs.Slices.{is_full}
-use Rattle.avc_decoder_core.specs.History.{History}
-use Rattle.avc_decoder.specs.FirstFault.{OpenPicture, first_header, first_slice, history_at_opening_of, progress_on, start_on, closed_history, first_fault, history_of, read_of}
-use Rattle.avc_decoder.specs.Events.{closing_result}
+use Rattle.avc_decoder.proofs.Common.{◌≡◌, ℕ, Bool, true, false, Some, None, Ok, Err, ap, ◌∙◌, Fault, MissingMacroblocks, is_full, History}
+use Rattle.avc_decoder.proofs.Common.{OpenPicture, first_header, first_slice, history_at_opening_of, progress_on, start_on, closed_history}
+use Rattle.avc_decoder.proofs.Common.{first_fault, history_of, read_of, closing_result}
 
 -- The picture's macroblocks begin at 0, and it stands on this history.
 pub record Stands (o : OpenPicture) (h : History) : Type 0 where

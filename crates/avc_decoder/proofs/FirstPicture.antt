@@ -1,39 +1,18 @@
 -- An open IDR picture: it gives what it gives with no sequence before it, and when it is closed, or refused, what that sequence holds
 -- goes out.
-use Rattle.std.specs.Prelude.{◌≡◌, ℕ, zero, suc, ◌-◌, ◌==◌, Bool, true, false, not, ◌&&◌, All, List, [], ◌∷◌, ◌++◌, length, Option, Some, None}
-use Rattle.std.specs.Prelude.{Result, Ok, Err, IsTrue, refl, if◌then◌else◌}
-use Rattle.std.specs.List.{list_all}
-use Rattle.std.proofs.Common.{ap, ap₂, sym, subst, ◌∙◌, append_assoc}
-use Rattle.std.proofs.lemmas.List.{map-append}
-use Rattle.std.proofs.lemmas.List.Elements.{All-cons}
+use Rattle.avc_decoder.proofs.Common.{◌≡◌, ℕ, zero, suc, ◌-◌, ◌==◌, Bool, true, false, not, ◌&&◌, All, List, [], ◌∷◌, ◌++◌, length, Option}
+use Rattle.avc_decoder.proofs.Common.{Some, None, Result, Ok, Err, IsTrue, refl, if◌then◌else◌, list_all, ap, ap₂, sym, subst, ◌∙◌}
+use Rattle.avc_decoder.proofs.Common.{append_assoc, map-append, All-cons, Fault, size_in_mbs, Sets, Sps, Planes, is_idr, is_p, Header}
+use Rattle.avc_decoder.proofs.Common.{Slice, Progress, planes-other, progress-other, Next, Nothing, Refusal, FaultOfOpen, FaultOfOwn}
+use Rattle.avc_decoder.proofs.Common.{Begins, Continues, Step, Output, History, decoded_picture, earlier_in_sequence, history_after_closing}
+use Rattle.avc_decoder.proofs.Common.{marks_of, pasts, stored_frames, held_pictures, no_output_of_prior_pics, output_at_closing}
+use Rattle.avc_decoder.proofs.Common.{output_pictures, opened_idr, nothing_goes_out, OpenPicture, closed_history, first_fault, first_header}
+use Rattle.avc_decoder.proofs.Common.{first_slice, history_at_opening_of, history_of, picture_planes, progress_on, read_of, slices_of}
+use Rattle.avc_decoder.proofs.Common.{start_on, Outcome, Phase, after_closing, after_next, at_last_slice, closed_outcome, closed_picture}
+use Rattle.avc_decoder.proofs.Common.{closing_result, failed_at, in_phase, is_waiting, open_picture_facts, pictures, running, with_slice}
+use Rattle.avc_decoder.proofs.Common.{is_picture, IsISlice, Event, Picture}
 use Rattle.avc_types.specs.Results.{◌>>=◌}
-use Rattle.avc_types.specs.declared.fault.Fault.{Fault}
-use Rattle.avc_params.specs.Limits.{size_in_mbs}
-use Rattle.avc_params.specs.Tables.{Sets}
-use Rattle.avc_params.specs.declared.sps.Sps.{Sps}
-use Rattle.avc_plane.specs.Planes.{Planes}
 use Rattle.avc_poc.specs.OrderCounts.{Counts, order_counts}
-use Rattle.avc_slice.specs.Header.{is_idr, is_p}
-use Rattle.avc_slice.specs.declared.header.Header.{Header}
-use Rattle.avc_slice.specs.declared.slice.Slice.{Slice}
-use Rattle.avc_picture.specs.Slices.{Progress}
-use Rattle.avc_picture.proofs.OtherFrames.{planes-other, progress-other}
-use Rattle.avc_units.specs.declared.step.Next.{Next}
-use Rattle.avc_units.specs.declared.step.Next.TheVariants.{Nothing, Refusal, FaultOfOpen, FaultOfOwn, Begins, Continues}
-use Rattle.avc_units.specs.declared.step.Step.{Step}
-use Rattle.avc_dpb.specs.declared.output.Output.{Output}
-use Rattle.avc_decoder_core.specs.History.{History, decoded_picture, earlier_in_sequence, history_after_closing, marks_of, pasts, stored_frames}
-use Rattle.avc_decoder_core.specs.Pictures.{held_pictures, no_output_of_prior_pics, output_at_closing, output_pictures}
-use Rattle.avc_decoder_core.proofs.MissingNumbers.{opened_idr}
-use Rattle.avc_decoder_core.proofs.Outputs.{nothing_goes_out}
-use Rattle.avc_decoder.specs.FirstFault.{OpenPicture, closed_history, first_fault, first_header, first_slice, history_at_opening_of, history_of}
-use Rattle.avc_decoder.specs.FirstFault.{picture_planes, progress_on, read_of, slices_of, start_on}
-use Rattle.avc_decoder.specs.Events.{Outcome, Phase, after_closing, after_next, at_last_slice, closed_outcome, closed_picture, closing_result}
-use Rattle.avc_decoder.specs.Events.{failed_at, in_phase, is_waiting, open_picture_facts, pictures, running, with_slice}
-use Rattle.avc_decoder.specs.Laws.{is_picture}
-use Rattle.avc_decoder.specs.PictureFrames.{IsISlice}
-use Rattle.avc_decoder.specs.declared.event.Event.{Event}
-use Rattle.avc_decoder.specs.declared.event.Event.TheVariants.{Picture}
 use Rattle.avc_decoder.proofs.Cases.{by_full, chosen, facts_by, fault_by, history_by, slice_outcome, then_closing, unless_found, unless_silent}
 
 -- the same picture, where it came to this history

@@ -1,13 +1,7 @@
 -- The events of a stream's units, one after another.
-use Rattle.std.specs.Prelude.{◌≡◌, ℕ, ◌+◌, ◌≤◌, Bool, false, List, [], ◌∷◌, ◌++◌, refl}
-use Rattle.std.proofs.Common.{ap, arith, sym, ◌∙◌, add_assoc, append_assoc}
-use Rattle.avc_annexb.specs.Laws.{UnitsStay}
-use Rattle.avc_annexb.specs.Units.{units}
-use Rattle.avc_annexb.proofs.Staying.{units_stay_first}
-use Rattle.avc_annexb.specs.declared.unit.Unit.{Unit}
-use Rattle.avc_dpb.specs.declared.output.Output.{Output}
-use Rattle.avc_decoder.specs.Events.{State, after_unit, state_after, events_from, first_state, read_from, turns}
-use Rattle.avc_decoder.specs.Laws.{EventsOnlyGrow, state_through}
+use Rattle.avc_decoder.proofs.Common.{◌≡◌, ℕ, ◌+◌, ◌≤◌, Bool, false, List, [], ◌∷◌, ◌++◌, refl, ap, arith, sym, ◌∙◌, add_assoc}
+use Rattle.avc_decoder.proofs.Common.{append_assoc, UnitsStay, units, units_stay_first, Unit, Output, State, after_unit, state_after}
+use Rattle.avc_decoder.proofs.Common.{events_from, first_state, read_from, turns, EventsOnlyGrow, state_through}
 
 -- of some units and then others
 pub events-append : (s : State) (us vs : List Unit) (ended : Bool) → events_from s (us ++ vs) ended ≡ events_from s us false ++ events_from (state_through s us) vs ended

@@ -1,27 +1,12 @@
 -- What a unit does, joined from its parts: closing the open picture, and what comes next.
 use Rattle.std.proofs.Common.{◌≡◌, ℕ, Bool, true, false, not, ◌&&◌, List, [], ◌∷◌, ◌++◌, Option, Some, None, Result, Ok, Err, refl, ap, sym, ◌∙◌, append_assoc, append-nil, arith, subst}
-use Rattle.std.specs.Prelude.{is_some}
-use Rattle.avc_types.specs.declared.fault.Fault.{Fault}
-use Rattle.avc_annexb.specs.declared.unit.Unit.{Unit as Piece}
-use Rattle.avc_params.specs.Tables.{Sets, sets_after}
-use Rattle.avc_params.specs.declared.set_unit.SetUnit.{SetUnit}
-use Rattle.avc_units.specs.GrouperState.{IfSlice, IsSliceUnder, open_picture_of}
-use Rattle.avc_units.specs.Grouping.{set_units, step}
-use Rattle.avc_units.specs.declared.step.Next.{Next}
-use Rattle.avc_units.specs.declared.step.Next.TheVariants.{Begins, Continues, FaultOfOpen, FaultOfOwn, Nothing, Refusal}
-use Rattle.avc_units.specs.declared.step.Step.{Step}
-use Rattle.avc_dpb.specs.declared.output.Output.{Output}
-use Rattle.avc_decoder_core.specs.History.{History}
-use Rattle.avc_decoder_core.specs.Pictures.{held_pictures}
-use Rattle.avc_decoder_core.specs.SequenceState.{SequenceState, current_history}
-use Rattle.avc_decoder.specs.Events.{Outcome, Phase, State, after_closing, after_next, after_unit, at_end, closed_outcome, closing_result, followed_by, held_after, in_phase, is_running, is_waiting, open_facts_in, pictures, running, state_after, waiting}
-use Rattle.avc_decoder.specs.FirstFault.{OpenPicture}
-use Rattle.avc_decoder.specs.QueueState.{QueueState, with_events}
+use Rattle.avc_decoder.proofs.Common.{is_some, Fault, Piece, Sets, sets_after, SetUnit, IfSlice, IsSliceUnder, open_picture_of, set_units}
+use Rattle.avc_decoder.proofs.Common.{step, Next, Begins, Continues, FaultOfOpen, FaultOfOwn, Nothing, Refusal, Step, Output, History}
+use Rattle.avc_decoder.proofs.Common.{held_pictures, SequenceState, current_history, Outcome, Phase, State, after_closing, after_next}
+use Rattle.avc_decoder.proofs.Common.{after_unit, at_end, closed_outcome, closing_result, followed_by, held_after, in_phase, is_running}
+use Rattle.avc_decoder.proofs.Common.{is_waiting, open_facts_in, pictures, running, state_after, waiting, OpenPicture, QueueState}
+use Rattle.avc_decoder.proofs.Common.{with_events, Event, CurrentPicture, PhaseHere, Waiting, Running}
 use Rattle.avc_decoder.specs.States.{ComesTo, FitsPhase, HasStep, IsPhase, Stops, StreamState, Works, after_stream_end, after_unit_in_stream, closed_in, current_in, is_waiting_in, last_header_in, more_read, phase_of}
-use Rattle.avc_decoder.specs.declared.event.Event.{Event}
-use Rattle.avc_decoder.specs.declared.phase.CurrentPicture.{CurrentPicture}
-use Rattle.avc_decoder.specs.declared.phase.Phase.{Phase as PhaseHere}
-use Rattle.avc_decoder.specs.declared.phase.Phase.TheVariants.{Waiting, Running}
 use Rattle.avc_decoder.proofs.Keeping.{facts_are, opened_phase, runs}
 use Rattle.avc_decoder.proofs.Stepping.{Brings, BringsNext, brings_step, keeps_sets}
 

@@ -1,31 +1,16 @@
 -- What is known of a slice header that can be read, and of the unit that it stands in.
-use Rattle.std.specs.Prelude.{◌≡◌, ℕ, ◌+◌, ◌/◌, ◌%◌, Bool, true, false, not, ◌==◌, ◌&&◌, ◌||◌, nat_lt, List, Option, Some, None, Result, Ok}
-use Rattle.std.specs.Prelude.{Err, is_some, refl}
-use Rattle.std.proofs.Common.{ap, sym, subst, ◌∙◌}
+use Rattle.avc_decoder.proofs.Common.{◌≡◌, ℕ, ◌+◌, ◌/◌, ◌%◌, Bool, true, false, not, ◌==◌, ◌&&◌, ◌||◌, nat_lt, List, Option, Some, None}
+use Rattle.avc_decoder.proofs.Common.{Result, Ok, Err, is_some, refl, ap, sym, subst, ◌∙◌, eqb-true, Fault, forbidden_zero_bit}
+use Rattle.avc_decoder.proofs.Common.{nal_unit_type, Piece, size_in_mbs, Sets, Pps, Sps, begins, is_idr, is_p_type, back, coded_order}
+use Rattle.avc_decoder.proofs.Common.{filtering, found, front, header_in_rbsp, header_of, idr_pic_id, list_part, marking, numbers}
+use Rattle.avc_decoder.proofs.Common.{redundant_pic_cnt, slice_type_of, value_or_fault, Header, Slice, is_start, reads_zero, rbsp_of}
+use Rattle.avc_decoder.proofs.Common.{slice_in, with_header, ok_same, both, sets_named}
 use Rattle.std.proofs.Math.Bool.{or-true}
-use Rattle.std.proofs.lemmas.Bool.{eqb-true}
-use Rattle.avc_types.specs.declared.fault.Fault.{Fault}
 use Rattle.avc_types.specs.declared.fault.Fault.TheVariants as faults
 use Rattle.avc_bits.specs.Bits.{Bits, Read, ◌>>=◌, check, start, where_set}
 use Rattle.avc_bits.specs.Codes.{u, ue, ue_to}
-use Rattle.avc_annexb.specs.Units.{forbidden_zero_bit, nal_unit_type}
-use Rattle.avc_annexb.specs.declared.unit.Unit.{Unit as Piece}
-use Rattle.avc_params.specs.Limits.{size_in_mbs}
-use Rattle.avc_params.specs.Tables.{Sets}
-use Rattle.avc_params.specs.declared.pps.Pps.{Pps}
-use Rattle.avc_params.specs.declared.sps.Sps.{Sps}
-use Rattle.avc_slice.specs.Begins.{begins}
-use Rattle.avc_slice.specs.Header.{is_idr, is_p_type}
-use Rattle.avc_slice.specs.Reading.{back, coded_order, filtering, found, front, header_in_rbsp, header_of, idr_pic_id}
-use Rattle.avc_slice.specs.Reading.{list_part, marking, numbers, redundant_pic_cnt}
-use Rattle.avc_slice.specs.Reading.{slice_type_of, value_or_fault}
-use Rattle.avc_slice.specs.declared.header.Header.{Header}
 use Rattle.avc_slice.specs.declared.parts.Front.{Front}
 use Rattle.avc_slice.specs.declared.parts.Numbers.{Numbers}
-use Rattle.avc_slice.specs.declared.slice.Slice.{Slice}
-use Rattle.avc_units.specs.Grouping.{is_start, reads_zero, rbsp_of, slice_in, with_header}
-use Rattle.avc_decoder_core.proofs.MissingNumbers.{ok_same}
-use Rattle.avc_decoder.specs.Events.{both, sets_named}
 
 -- ---- parts that could be read
 

@@ -1,17 +1,12 @@
 -- What replies tell of the stream.
-use Rattle.std.specs.Prelude.{◌≡◌, ℕ, ◌+◌, Bool, true, false, List, [], ◌∷◌, ◌++◌, length, Some, None, Ok, Err, slice_get, refl}
-use Rattle.std.proofs.Common.{ap, sym, subst, ◌∙◌, append_assoc, append-nil, length-append}
-use Rattle.avc_dpb.specs.declared.output.Output.{Output}
-use Rattle.avc_decoder.specs.Events.{events}
+use Rattle.avc_decoder.proofs.Common.{◌≡◌, ℕ, ◌+◌, Bool, true, false, List, [], ◌∷◌, ◌++◌, length, Some, None, Ok, Err, slice_get, refl, ap}
+use Rattle.avc_decoder.proofs.Common.{sym, subst, ◌∙◌, append_assoc, append-nil, length-append, Output, events, EventsOnlyGrow, Machine}
+use Rattle.avc_decoder.proofs.Common.{new_machine, Run, IsCallAnswer, after_flush, after_take, next_event, Call, Reply, Ended, Event}
 use Rattle.avc_decoder.specs.Headline.{SinceReset, no_call, with_call, since_reset, defined_events, TakesThem, TakesAll}
-use Rattle.avc_decoder.specs.Laws.{EventsOnlyGrow}
-use Rattle.avc_decoder.specs.Machine.{Machine, new_machine, Run, IsCallAnswer, IsRefused, after_feed, after_flush, after_take, next_event}
-use Rattle.avc_decoder.specs.declared.calls.Call.{Call}
+use Rattle.avc_decoder.specs.Machine.{IsRefused, after_feed}
 use Rattle.avc_decoder.specs.declared.calls.Call.TheVariants.{Feed, Take, Flush, Reset}
-use Rattle.avc_decoder.specs.declared.calls.Reply.{Reply}
 use Rattle.avc_decoder.specs.declared.calls.Reply.TheVariants as replies
-use Rattle.avc_decoder.specs.declared.error.DecodeError.TheVariants.{OutOfMemory, Ended}
-use Rattle.avc_decoder.specs.declared.event.Event.{Event}
+use Rattle.avc_decoder.specs.declared.error.DecodeError.TheVariants.{OutOfMemory}
 
 -- a machine that was not refused memory is as the calls and replies tell
 pub record Agrees (m : Machine) (s : SinceReset) : Type 0 where

@@ -1,31 +1,17 @@
 -- What has gone out of a history as it grows, and that each of its pictures could come.
-use Rattle.std.specs.Prelude.{◌≡◌, ℕ, zero, suc, ◌<◌, Bool, true, false, List, [], ◌∷◌, ◌++◌, All, length, Option, Some, None, Result, Ok, Err, refl}
+use Rattle.avc_decoder.proofs.Common.{◌≡◌, ℕ, zero, suc, ◌<◌, Bool, true, false, List, [], ◌∷◌, ◌++◌, All, length, Option, Some, None}
+use Rattle.avc_decoder.proofs.Common.{Result, Ok, Err, refl, ap, sym, subst, ◌∙◌, append_assoc, append-nil, false≢true, flat_map-append}
+use Rattle.avc_decoder.proofs.Common.{All-cons, All-head, All-nil, All-tail, Fault, Decoded, Sps, Planes, Marks, has_idr_marking, is_idr}
+use Rattle.avc_decoder.proofs.Common.{Header, Output, Entry, History, all_held, arrival, arrivals, buffer_of, decoded_picture}
+use Rattle.avc_decoder.proofs.Common.{earlier_in_sequence, entry_at, history_after_closing, is_same_sps, marks_of, missing_frame}
+use Rattle.avc_decoder.proofs.Common.{new_output, with_missing, with_picture, entry_pictures, held_pictures, output_pictures, pictures_at}
+use Rattle.avc_decoder.proofs.Common.{CanCome, EachCanCome, output_order, ok_same, opened_by, set_at_opening, Extends, extends_itself}
+use Rattle.avc_decoder.proofs.Common.{extends_more, nothing_goes_out, output_more, pictures_stay, places_below, at_last_slice}
+use Rattle.avc_decoder.proofs.Common.{closing_result, OpenPicture, closed_history, first_fault, first_header, first_slice}
+use Rattle.avc_decoder.proofs.Common.{history_at_opening_of, history_of, picture_planes}
 use Rattle.std.specs.Result.{is_ok}
-use Rattle.std.proofs.Common.{ap, sym, subst, ◌∙◌, append_assoc, append-nil}
-use Rattle.std.proofs.lemmas.Bool.{false≢true}
-use Rattle.std.proofs.lemmas.Grind.{flat_map-append}
-use Rattle.std.proofs.lemmas.List.Elements.{All-cons, All-head, All-nil, All-tail}
-use Rattle.avc_types.specs.declared.fault.Fault.{Fault}
-use Rattle.avc_types.specs.declared.picture.Picture.{Picture as Decoded}
 use Rattle.avc_types.specs.Results.{◌>>=◌}
-use Rattle.avc_params.specs.declared.sps.Sps.{Sps}
-use Rattle.avc_plane.specs.Planes.{Planes}
-use Rattle.avc_marking.specs.Marks.{Marks}
-use Rattle.avc_slice.specs.Header.{has_idr_marking, is_idr}
-use Rattle.avc_slice.specs.declared.header.Header.{Header}
-use Rattle.avc_dpb.specs.declared.output.Output.{Output}
 use Rattle.avc_dpb.proofs.Conserved.{out_only_grows}
-use Rattle.avc_decoder_core.specs.History.{Entry, History, all_held, arrival, arrivals, buffer_of, decoded_picture, earlier_in_sequence, entry_at}
-use Rattle.avc_decoder_core.specs.History.{history_after_closing, is_same_sps, marks_of, missing_frame, new_output, with_missing}
-use Rattle.avc_decoder_core.specs.History.{with_picture}
-use Rattle.avc_decoder_core.specs.Pictures.{entry_pictures, held_pictures, output_pictures, pictures_at}
-use Rattle.avc_decoder_core.specs.SequenceOrder.{CanCome, EachCanCome, output_order}
-use Rattle.avc_decoder_core.proofs.MissingNumbers.{ok_same, opened_by, set_at_opening}
-use Rattle.avc_decoder_core.proofs.Outputs.{Extends, extends_itself, extends_more, nothing_goes_out, output_more, pictures_stay}
-use Rattle.avc_decoder_core.proofs.Outputs.{places_below}
-use Rattle.avc_decoder.specs.Events.{at_last_slice, closing_result}
-use Rattle.avc_decoder.specs.FirstFault.{OpenPicture, closed_history, first_fault, first_header, first_slice}
-use Rattle.avc_decoder.specs.FirstFault.{history_at_opening_of, history_of, picture_planes}
 use Rattle.avc_decoder.proofs.Cases.{fault_by, history_by, unless_found}
 
 -- ---- what comes of a history

@@ -1,28 +1,10 @@
 -- What the phase knows of the open picture.
-use Rattle.std.proofs.Common.{◌≡◌, ℕ, Bool, false, not, ◌∷◌, List, Option, Some, None, refl, ap, sym, ◌∙◌}
-use Rattle.std.specs.Prelude.{IfSome}
-use Rattle.avc_params.specs.Tables.{Sets}
-use Rattle.avc_params.specs.declared.pps.Pps.{Pps}
-use Rattle.avc_params.specs.declared.set_unit.SetUnit.{SetUnit}
-use Rattle.avc_params.specs.declared.sps.Sps.{Sps}
-use Rattle.avc_plane.specs.declared.frame.Frame.{Frame}
-use Rattle.avc_slice.specs.Begins.{begins}
-use Rattle.avc_slice.specs.declared.header.Header.{Header}
-use Rattle.avc_slice.specs.declared.slice.Slice.{Slice}
-use Rattle.avc_slice.specs.Header.{is_idr}
-use Rattle.avc_slice.specs.Within.{IsHeader}
-use Rattle.avc_picture.specs.Slices.{is_full, progress}
-use Rattle.avc_picture.specs.Decoding.{HasNoFault, IsFull}
-use Rattle.avc_units.specs.GrouperState.{IsSliceUnder, open_picture_of}
-use Rattle.avc_decoder_core.specs.History.{History, stored_frames}
-use Rattle.avc_decoder_core.specs.SequenceState.{SequenceState, current_history}
-use Rattle.avc_decoder.specs.Events.{base_in, history_in, is_running, open_facts_in, running, sets_named}
-use Rattle.avc_decoder.specs.PictureFrames.{CanHave, start_with}
-use Rattle.avc_decoder.specs.QueueState.{QueueState}
+use Rattle.avc_decoder.proofs.Common.{◌≡◌, ℕ, Bool, false, not, ◌∷◌, List, Option, Some, None, refl, ap, sym, ◌∙◌, IfSome, Sets, Pps}
+use Rattle.avc_decoder.proofs.Common.{SetUnit, Sps, Frame, begins, Header, Slice, is_idr, IsHeader, is_full, progress, HasNoFault, IsFull}
+use Rattle.avc_decoder.proofs.Common.{IsSliceUnder, open_picture_of, History, stored_frames, SequenceState, current_history, base_in}
+use Rattle.avc_decoder.proofs.Common.{history_in, is_running, open_facts_in, running, sets_named, CanHave, start_with, QueueState}
+use Rattle.avc_decoder.proofs.Common.{CurrentPicture, PhaseHere, Waiting, Running}
 use Rattle.avc_decoder.specs.States.{ComesTo, IsNamed, IsOpenIn, IsPhase, Works, closed_in, current_in, is_waiting_in, last_header_in, open_picture_from, phase_of, with_last}
-use Rattle.avc_decoder.specs.declared.phase.CurrentPicture.{CurrentPicture}
-use Rattle.avc_decoder.specs.declared.phase.Phase.{Phase as PhaseHere}
-use Rattle.avc_decoder.specs.declared.phase.Phase.TheVariants.{Waiting, Running}
 use Rattle.avc_decoder.proofs.Closing.{full_at, opened_as, some_is, stands_as}
 use Rattle.avc_decoder.proofs.FirstFaults.{history_is}
 use Rattle.avc_decoder.proofs.PictureFrames.{full_on, same_frames}

@@ -1,14 +1,7 @@
 -- Pictures show no unit's number.
-use Rattle.std.proofs.Common.{◌≡◌, ℕ, true, ◌&&◌, List, [], ◌∷◌, map, refl, ap, ap₂, sym, ◌∙◌}
-use Rattle.std.specs.Cmp.{first_so, second_so}
-use Rattle.std.specs.List.{list_all}
-use Rattle.avc_annexb.specs.Laws.{contents}
-use Rattle.avc_annexb.specs.declared.unit.Unit.{Unit as Piece}
-use Rattle.avc_units.specs.Laws.{SetsComeAlike}
-use Rattle.avc_decoder.specs.Events.{State, events_from, waiting}
-use Rattle.avc_decoder.specs.Laws.{PicturesNameNoUnits, is_picture}
-use Rattle.avc_decoder.specs.declared.event.Event.{Event}
-use Rattle.avc_decoder.specs.declared.event.Event.TheVariants.{Picture, Refused}
+use Rattle.avc_decoder.proofs.Common.{◌≡◌, ℕ, true, ◌&&◌, List, [], ◌∷◌, map, refl, ap, ap₂, sym, ◌∙◌, first_so, second_so, list_all}
+use Rattle.avc_decoder.proofs.Common.{contents, Piece, SetsComeAlike, State, events_from, waiting, PicturesNameNoUnits, is_picture, Event}
+use Rattle.avc_decoder.proofs.Common.{Picture, Refused}
 use Rattle.avc_decoder.proofs.Renumbering.{renumbered_event, renumbered_phase}
 use Rattle.avc_decoder.proofs.Resuming.{AreAlike, events-same}
 

@@ -1,18 +1,8 @@
 -- What one slice more is answered in the open picture.
-use Rattle.std.proofs.Common.{◌≡◌, ℕ, ◌∷◌, Some, None, Ok, Err, Result, refl, ap, sym, subst, ◌∙◌}
-use Rattle.std.specs.Prelude.{IfSome}
-use Rattle.avc_types.specs.declared.fault.Fault.{Fault}
-use Rattle.avc_slice.specs.declared.header.Header.{Header}
-use Rattle.avc_slice.specs.declared.slice.Slice.{Slice}
-use Rattle.avc_picture.specs.Decoding.{Decoding, HasNoFault, IsSliceAnswer, Refuses}
-use Rattle.avc_decoder_core.specs.SequenceState.{SequenceState, current_history}
-use Rattle.avc_decoder.specs.Events.{failed_at}
-use Rattle.avc_decoder.specs.PictureFrames.{CanHave, HasItsFrames, read_of_slice}
-use Rattle.avc_decoder.specs.QueueState.{QueueState}
+use Rattle.avc_decoder.proofs.Common.{◌≡◌, ℕ, ◌∷◌, Some, None, Ok, Err, Result, refl, ap, sym, subst, ◌∙◌, IfSome, Fault, Header, Slice}
+use Rattle.avc_decoder.proofs.Common.{Decoding, HasNoFault, IsSliceAnswer, Refuses, SequenceState, current_history, failed_at, CanHave}
+use Rattle.avc_decoder.proofs.Common.{HasItsFrames, read_of_slice, QueueState, CurrentPicture, PhaseHere, Waiting, Running}
 use Rattle.avc_decoder.specs.States.{DecodesAs, HasAnswered, IsAnswerIn, Stops, current_in, more_read, picture_answer}
-use Rattle.avc_decoder.specs.declared.phase.CurrentPicture.{CurrentPicture}
-use Rattle.avc_decoder.specs.declared.phase.Phase.{Phase as PhaseHere}
-use Rattle.avc_decoder.specs.declared.phase.Phase.TheVariants.{Waiting, Running}
 use Rattle.avc_decoder.specs.declared.slices.SliceAnswer.{SliceAnswer}
 use Rattle.avc_decoder.proofs.PictureFrames.{refused, slice_read, with_one_more}
 

@@ -1,31 +1,16 @@
 -- What a picture decoder says holds on the history of the sequence, and the frames have the picture's size.
-use Rattle.std.proofs.Common.{◌≡◌, ℕ, Bool, true, false, List, [], map, All, Option, Some, None, Ok, refl, ap, sym, subst, ◌∙◌, arith}
-use Rattle.std.proofs.lemmas.Bool.Decides.{nat_tests}
-use Rattle.std.proofs.lemmas.List.Elements.{All-cons, All-nil}
+use Rattle.avc_decoder.proofs.Common.{◌≡◌, ℕ, Bool, true, false, List, [], map, All, Option, Some, None, Ok, refl, ap, sym, subst, ◌∙◌}
+use Rattle.avc_decoder.proofs.Common.{arith, nat_tests, All-cons, All-nil, ◌+◌, ◌-◌, ◌==◌, ◌&&◌, IfSome, StandAt, Fault, Decoded}
+use Rattle.avc_decoder.proofs.Common.{height_in_mbs, width_in_mbs, Sps, AreFrames, marked_frame, stored_at, Planes, Frame, Pps, is_idr}
+use Rattle.avc_decoder.proofs.Common.{IsHeader, Header, Slice, deblocked, Progress, coded_of, is_full, planes_after_slices, progress}
+use Rattle.avc_decoder.proofs.Common.{AreFramesOf, CanStandAt, Decoding, HasNoFault, HasRead, IsFull, Refuses, end_fault, fault_at_end}
+use Rattle.avc_decoder.proofs.Common.{no_slice_yet, progress_at, start_at, with_slice_more, progress-other, History, history_at_opening}
+use Rattle.avc_decoder.proofs.Common.{is_same_sps, sequence_sps, stored_frames, opened_by, set_at_opening, AreFramesIn, AreStoredIn}
+use Rattle.avc_decoder.proofs.Common.{IsOpened, SequenceState, current_history, CanHave, HasItsFrames, IsISlice, frames_for}
+use Rattle.avc_decoder.proofs.Common.{progress_on_history, read_of_slice, start_with}
 use Rattle.std.specs.List.Sorted.{IsStrictlyIncreasing}
-use Rattle.std.specs.Prelude.{◌+◌, ◌-◌, ◌==◌, ◌&&◌, IfSome}
-use Rattle.avc_types.specs.References.{StandAt}
-use Rattle.avc_types.specs.declared.fault.Fault.{Fault}
-use Rattle.avc_types.specs.declared.picture.Picture.{Picture as Decoded}
-use Rattle.avc_params.specs.Limits.{height_in_mbs, width_in_mbs}
 use Rattle.avc_params.specs.Same.{same_constraints, same_flag, same_order, same_sps}
-use Rattle.avc_params.specs.declared.sps.Sps.{Sps}
-use Rattle.avc_plane.specs.Frames.{AreFrames, marked_frame, stored_at}
-use Rattle.avc_plane.specs.Planes.{Planes}
-use Rattle.avc_plane.specs.declared.frame.Frame.{Frame}
-use Rattle.avc_params.specs.declared.pps.Pps.{Pps}
-use Rattle.avc_slice.specs.Header.{is_idr}
-use Rattle.avc_slice.specs.Within.{IsHeader}
-use Rattle.avc_slice.specs.declared.header.Header.{Header}
-use Rattle.avc_slice.specs.declared.slice.Slice.{Slice}
-use Rattle.avc_picture.specs.Decoded.{deblocked}
-use Rattle.avc_picture.specs.Slices.{Progress, coded_of, is_full, planes_after_slices, progress}
-use Rattle.avc_picture.specs.Decoding.{AreFramesOf, CanStandAt, Decoding, HasNoFault, HasRead, IsFull, Refuses, end_fault, fault_at_end, no_slice_yet, progress_at, start_at, with_slice_more}
-use Rattle.avc_picture.proofs.OtherFrames.{progress-other}
-use Rattle.avc_decoder_core.specs.History.{History, history_at_opening, is_same_sps, sequence_sps, stored_frames}
-use Rattle.avc_decoder_core.proofs.MissingNumbers.{opened_by, set_at_opening}
-use Rattle.avc_decoder_core.specs.SequenceState.{AreFramesIn, AreStoredIn, IsOpened, SequenceState, current_history}
-use Rattle.avc_decoder.specs.PictureFrames.{CanHave, HasItsFrames, IsISlice, IsRefused, frames_for, progress_on_history, read_of_slice, start_with}
+use Rattle.avc_decoder.specs.PictureFrames.{IsRefused}
 
 -- ---- the history's frames
 

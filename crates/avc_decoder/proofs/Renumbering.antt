@@ -1,37 +1,20 @@
 -- Units with other numbers: slices, pictures and events are the same but for these.
-use Rattle.std.specs.Prelude.{◌≡◌, ℕ, zero, suc, ◌+◌, ◌-◌, Bool, true, false, not, ◌&&◌, nat_lt, List, [], ◌∷◌, ◌++◌, length, map, Option, Some}
-use Rattle.std.specs.Prelude.{None, Result, Ok, Err, refl, if◌then◌else◌}
-use Rattle.std.proofs.Common.{ap, ap₂, sym, ◌∙◌}
-use Rattle.std.proofs.lemmas.List.{map-append}
+use Rattle.avc_decoder.proofs.Common.{◌≡◌, ℕ, zero, suc, ◌+◌, ◌-◌, Bool, true, false, not, ◌&&◌, nat_lt, List, [], ◌∷◌, ◌++◌, length, map}
+use Rattle.avc_decoder.proofs.Common.{Option, Some, None, Result, Ok, Err, refl, if◌then◌else◌, ap, ap₂, sym, ◌∙◌, map-append, Fault}
+use Rattle.avc_decoder.proofs.Common.{Decoded, Reference, Sets, Pps, Sps, Header, Slice, deblocked, PictureStart, Progress, coded_of}
+use Rattle.avc_decoder.proofs.Common.{is_full, list_of, progress, read_whole, refused, with_first_fault, with_reference_list}
+use Rattle.avc_decoder.proofs.Common.{with_slice_read, with_unit, Next, Nothing, Refusal, FaultOfOpen, FaultOfOwn, Begins, Continues, Step}
+use Rattle.avc_decoder.proofs.Common.{History, history_after_closing, history_at_opening, Output, held_pictures, output_at_closing}
+use Rattle.avc_decoder.proofs.Common.{output_pictures, OpenPicture, closed_history, first_fault, first_header, first_slice}
+use Rattle.avc_decoder.proofs.Common.{history_at_opening_of, history_of, oldest, picture_planes, progress_on, read_of, start_on, Outcome}
+use Rattle.avc_decoder.proofs.Common.{Phase, after_closing, after_first_slice, after_next, after_next_slice, at_end, at_last_slice, base_in}
+use Rattle.avc_decoder.proofs.Common.{closed_outcome, closed_picture, closing_result, events_and_held, failed_at, followed_by, held_after}
+use Rattle.avc_decoder.proofs.Common.{history_in, in_phase, is_running, is_waiting, open_facts_in, open_picture_facts, pictures, running}
+use Rattle.avc_decoder.proofs.Common.{sets_named, waiting, with_slice, Event, Picture, Refused}
 use Rattle.std.specs.Option.{option_map}
-use Rattle.avc_types.specs.declared.fault.Fault.{Fault}
 use Rattle.avc_types.specs.declared.fault.Fault.TheVariants as faults
-use Rattle.avc_types.specs.declared.picture.Picture.{Picture as Decoded}
 use Rattle.avc_types.specs.Pictures.{SliceFacts}
-use Rattle.avc_types.specs.References.{Reference}
-use Rattle.avc_params.specs.Tables.{Sets}
-use Rattle.avc_params.specs.declared.pps.Pps.{Pps}
-use Rattle.avc_params.specs.declared.sps.Sps.{Sps}
 use Rattle.avc_mbsyntax.specs.SliceData.{SliceMbs}
-use Rattle.avc_slice.specs.declared.header.Header.{Header}
-use Rattle.avc_slice.specs.declared.slice.Slice.{Slice}
-use Rattle.avc_picture.specs.Decoded.{deblocked}
-use Rattle.avc_picture.specs.Slices.{PictureStart, Progress, coded_of, is_full, list_of, progress}
-use Rattle.avc_picture.specs.Slices.{read_whole, refused, with_first_fault, with_reference_list, with_slice as with_slice_read, with_unit}
-use Rattle.avc_units.specs.declared.step.Next.{Next}
-use Rattle.avc_units.specs.declared.step.Next.TheVariants.{Nothing, Refusal, FaultOfOpen, FaultOfOwn, Begins, Continues}
-use Rattle.avc_units.specs.declared.step.Step.{Step}
-use Rattle.avc_decoder_core.specs.History.{History, history_after_closing, history_at_opening}
-use Rattle.avc_dpb.specs.declared.output.Output.{Output}
-use Rattle.avc_decoder_core.specs.Pictures.{held_pictures, output_at_closing, output_pictures}
-use Rattle.avc_decoder.specs.FirstFault.{OpenPicture, closed_history, first_fault, first_header, first_slice, history_at_opening_of}
-use Rattle.avc_decoder.specs.FirstFault.{history_of, oldest, picture_planes, progress_on, read_of, start_on}
-use Rattle.avc_decoder.specs.Events.{Outcome, Phase, after_closing, after_first_slice, after_next, after_next_slice, at_end, at_last_slice}
-use Rattle.avc_decoder.specs.Events.{base_in, closed_outcome, closed_picture, closing_result, events_and_held, failed_at, followed_by}
-use Rattle.avc_decoder.specs.Events.{held_after, history_in, in_phase, is_running, is_waiting, open_facts_in, open_picture_facts}
-use Rattle.avc_decoder.specs.Events.{pictures, running, sets_named, waiting, with_slice}
-use Rattle.avc_decoder.specs.declared.event.Event.{Event}
-use Rattle.avc_decoder.specs.declared.event.Event.TheVariants.{Picture, Refused}
 use Rattle.avc_decoder.proofs.Cases.{by_full, count_by, facts_by, fault_by, found_at_closing, history_by, outcome_of, slice_outcome}
 use Rattle.avc_decoder.proofs.Cases.{then_closing, unless_found, unless_silent}
 

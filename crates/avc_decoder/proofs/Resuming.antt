@@ -1,42 +1,25 @@
 -- A stream that begins at one of its units decodes as it did there.
-use Rattle.std.specs.Prelude.{◌≡◌, ℕ, zero, suc, ◌+◌, ◌-◌, ◌^◌, ◌<◌, ◌≤◌, Bool, true, false, List, [], ◌∷◌, ◌++◌, length, map, take, drop, not, ◌&&◌}
-use Rattle.std.specs.Prelude.{Option, Some, None, Result, Ok, Err, All, slice_get, refl}
-use Rattle.std.proofs.Common.{ap, sym, ◌∙◌, arith, append_assoc, append-nil}
-use Rattle.std.proofs.Math.Seq.{drop-append_seam, take-append_seam}
-use Rattle.std.proofs.lemmas.List.{drop-map, length-append, length-map, map-append, take-append-drop, take-map}
-use Rattle.std.proofs.lemmas.List.Elements.{All-cons, All-head, All-nil, All-tail, All-weaker}
+use Rattle.avc_decoder.proofs.Common.{◌≡◌, ℕ, zero, suc, ◌+◌, ◌-◌, ◌^◌, ◌<◌, ◌≤◌, Bool, true, false, List, [], ◌∷◌, ◌++◌, length, map, take}
+use Rattle.avc_decoder.proofs.Common.{drop, not, ◌&&◌, Option, Some, None, Result, Ok, Err, All, slice_get, refl, ap, sym, ◌∙◌, arith}
+use Rattle.avc_decoder.proofs.Common.{append_assoc, append-nil, drop-append_seam, take-append_seam, drop-map, length-append, length-map}
+use Rattle.avc_decoder.proofs.Common.{map-append, take-append-drop, take-map, All-cons, All-head, All-nil, All-tail, All-weaker, Fault}
+use Rattle.avc_decoder.proofs.Common.{IsUnitOf, UnitsAreNumbered, UnitsStay, WrittenUnitsStand, contents, forbidden_zero_bit, saturated}
+use Rattle.avc_decoder.proofs.Common.{units, Piece, Sets, sets_after, SetUnit, begins, header_in_rbsp, Header, Slice, Kind, slice}
+use Rattle.avc_decoder.proofs.Common.{partition, sps, pps, boundary, other, OpenPictureFacts, ends_picture, is_start, kind, rbsp_of}
+use Rattle.avc_decoder.proofs.Common.{readable, refusal_of, running_step, set_fault, set_unit, set_units, slice_in, slice_step, step}
+use Rattle.avc_decoder.proofs.Common.{unreadable, waiting_step, with_header, IsSetOf, SetsAreInForceAgain, SetsComeAlike, SetsInForceAreFew}
+use Rattle.avc_decoder.proofs.Common.{SetsInForceAreUnits, resumed, sets_in_force, Next, Nothing, FaultOfOpen, FaultOfOwn, Begins}
+use Rattle.avc_decoder.proofs.Common.{Continues, Step, History, Outcome, Phase, State, after_closing, after_next, after_unit, at_end}
+use Rattle.avc_decoder.proofs.Common.{closed_picture, events_from, first_state, followed_by, in_phase, is_running, is_waiting, no_change}
+use Rattle.avc_decoder.proofs.Common.{open_facts_in, open_picture_facts, running, state_after, waiting, OpenPicture, CanStart}
+use Rattle.avc_decoder.proofs.Common.{HaveOwnNumbers, StartsAnew, closing_events, renumbered, state_through, Event, Output}
 use Rattle.std.specs.List.{flat_map}
-use Rattle.avc_types.specs.declared.fault.Fault.{Fault}
 use Rattle.avc_types.specs.declared.fault.Fault.TheVariants as faults
-use Rattle.avc_annexb.specs.Laws.{IsUnitOf, UnitsAreNumbered, UnitsStay, WrittenUnitsStand, contents}
-use Rattle.avc_annexb.specs.Units.{forbidden_zero_bit, saturated, units}
 use Rattle.avc_annexb.specs.Written.{start_code, written}
-use Rattle.avc_annexb.specs.declared.unit.Unit.{Unit as Piece}
-use Rattle.avc_params.specs.Tables.{Sets, sets_after}
-use Rattle.avc_params.specs.declared.set_unit.SetUnit.{SetUnit}
-use Rattle.avc_slice.specs.Begins.{begins}
-use Rattle.avc_slice.specs.Reading.{header_in_rbsp}
-use Rattle.avc_slice.specs.declared.header.Header.{Header}
-use Rattle.avc_slice.specs.declared.slice.Slice.{Slice}
-use Rattle.avc_units.specs.Grouping.{Kind, slice, partition, sps, pps, boundary, other, OpenPictureFacts, ends_picture, is_start, kind}
-use Rattle.avc_units.specs.Grouping.{rbsp_of, readable, refusal_of, running_step, set_fault, set_unit, set_units, slice_in}
-use Rattle.avc_units.specs.Grouping.{slice_step, step, unreadable, waiting_step, with_header}
-use Rattle.avc_units.specs.Laws.{IsSetOf, SetsAreInForceAgain, SetsComeAlike, SetsInForceAreFew, SetsInForceAreUnits}
-use Rattle.avc_units.specs.Resuming.{resumed, sets_in_force}
-use Rattle.avc_units.specs.declared.step.Next.{Next}
-use Rattle.avc_units.specs.declared.step.Next.TheVariants.{Nothing, FaultOfOpen, FaultOfOwn, Begins, Continues}
-use Rattle.avc_units.specs.declared.step.Step.{Step}
-use Rattle.avc_decoder_core.specs.History.{History}
-use Rattle.avc_decoder.specs.Events.{Outcome, Phase, State, after_closing, after_next, after_unit, at_end, closed_picture, events_from, first_state}
-use Rattle.avc_decoder.specs.Events.{followed_by, in_phase, is_running, is_waiting, no_change, open_facts_in, open_picture_facts, running, state_after, waiting}
-use Rattle.avc_decoder.specs.FirstFault.{OpenPicture}
-use Rattle.avc_decoder.specs.Laws.{CanStart, HaveOwnNumbers, StartsAnew, closing_events, renumbered, state_through}
-use Rattle.avc_decoder.specs.declared.event.Event.{Event}
 use Rattle.avc_decoder.proofs.Renumbering.{at_end-same, in_phase-same, open_facts-same, renumbered_event}
 use Rattle.avc_decoder.proofs.Renumbering.{renumbered_outcome, renumbered_phase, renumbered_slice, renumbered_step, running-same}
 use Rattle.avc_decoder.proofs.StartUnits.{says}
 use Rattle.avc_decoder.proofs.Through.{output_through, sets-append, sets_through}
-use Rattle.avc_dpb.specs.declared.output.Output.{Output}
 
 -- ---- what a unit with another number does
 

@@ -1,18 +1,9 @@
 -- Worked examples of whole streams.
-use Rattle.std.specs.Prelude.{◌≡◌, ℕ, zero, suc, Bool, true, false, All, List, [], ◌∷◌, ◌++◌, map, length, replicate, slice_index, take, refl}
-use Rattle.std.specs.List.{range_with_len}
-use Rattle.std.proofs.Common.{arith}
-use Rattle.avc_types.specs.declared.fault.Fault.{Fault}
+use Rattle.avc_decoder.proofs.Common.{◌≡◌, ℕ, zero, suc, Bool, true, false, All, List, [], ◌∷◌, ◌++◌, map, length, replicate, slice_index}
+use Rattle.avc_decoder.proofs.Common.{take, refl, range_with_len, arith, Fault, Output, Full, Early, units, resumed, sets_in_force, events}
+use Rattle.avc_decoder.proofs.Common.{turns, renumbered, Event, Picture, Refused}
 use Rattle.avc_types.specs.declared.fault.Fault.TheVariants as faults
-use Rattle.avc_dpb.specs.declared.output.Output.{Output}
-use Rattle.avc_dpb.specs.declared.output.Output.TheVariants.{Full, Early}
 use Rattle.avc_decoder.specs.EarlyOutput.{EndedSequence, IsNotDropped, IsReorderedWithin, sequences}
-use Rattle.avc_annexb.specs.Units.{units}
-use Rattle.avc_units.specs.Resuming.{resumed, sets_in_force}
-use Rattle.avc_decoder.specs.Events.{events, turns}
-use Rattle.avc_decoder.specs.Laws.{renumbered}
-use Rattle.avc_decoder.specs.declared.event.Event.{Event}
-use Rattle.avc_decoder.specs.declared.event.Event.TheVariants.{Picture, Refused}
 
 abbrev max : ℕ
 max = 134217728

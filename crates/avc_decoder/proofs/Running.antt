@@ -1,8 +1,5 @@
 -- A run goes on by one call.
-use Rattle.std.proofs.Common.{ℕ, List, [], ◌∷◌, ◌++◌, refl, subst}
-use Rattle.avc_decoder.specs.declared.calls.Call.{Call}
-use Rattle.avc_decoder.specs.declared.calls.Reply.{Reply}
-use Rattle.avc_decoder.specs.Machine.{Machine, Run, IsCallAnswer}
+use Rattle.avc_decoder.proofs.Common.{ℕ, List, [], ◌∷◌, ◌++◌, refl, subst, Call, Reply, Machine, Run, IsCallAnswer}
 
 pub run_more : (max : ℕ) (calls : List Call) (replies : List Reply) (old between new : Machine) (call : Call) (reply : Reply) → Run max old calls replies between → IsCallAnswer max between call reply new
     → Run max old (calls ++ call ∷ []) (replies ++ reply ∷ []) new

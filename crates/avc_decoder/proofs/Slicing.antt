@@ -1,35 +1,16 @@
 -- What one slice more comes to.
-use Rattle.std.proofs.Common.{◌≡◌, ℕ, ◌-◌, false, List, [], ◌∷◌, ◌++◌, Some, None, Ok, Err, refl, ap, sym, ◌∙◌, subst, append-nil, append_assoc}
-use Rattle.std.proofs.Math.Seq.{drop-length}
-use Rattle.std.proofs.lemmas.List.{map-append}
-use Rattle.std.specs.Prelude.{IfSome}
-use Rattle.avc_types.specs.declared.fault.Fault.{Fault}
-use Rattle.avc_types.specs.declared.picture.Picture.{Picture as Decoded}
-use Rattle.avc_types.specs.declared.picture_error.PictureError.{PictureError}
-use Rattle.avc_types.specs.declared.picture_error.PictureError.TheVariants.{Fault as Faulty}
-use Rattle.avc_params.specs.Tables.{sets_after}
-use Rattle.avc_params.specs.declared.set_unit.SetUnit.{SetUnit}
-use Rattle.avc_params.specs.declared.sps.Sps.{Sps}
-use Rattle.avc_params.specs.declared.pps.Pps.{Pps}
-use Rattle.avc_slice.specs.declared.slice.Slice.{Slice}
-use Rattle.avc_plane.specs.declared.frame.Frame.{Frame}
-use Rattle.avc_picture.specs.Slices.{progress}
-use Rattle.avc_picture.specs.Decoding.{HasNoFault, no_slice_yet, with_slice_more}
-use Rattle.avc_dpb.specs.declared.output.Output.{Output}
-use Rattle.avc_decoder_core.specs.History.{History, buffer_of, history_at_opening, stored_frames}
+use Rattle.avc_decoder.proofs.Common.{◌≡◌, ℕ, ◌-◌, false, List, [], ◌∷◌, ◌++◌, Some, None, Ok, Err, refl, ap, sym, ◌∙◌, subst, append-nil}
+use Rattle.avc_decoder.proofs.Common.{append_assoc, drop-length, map-append, IfSome, Fault, Decoded, PictureError, Faulty, sets_after}
+use Rattle.avc_decoder.proofs.Common.{SetUnit, Sps, Pps, Slice, Frame, progress, HasNoFault, no_slice_yet, with_slice_more, Output, History}
+use Rattle.avc_decoder.proofs.Common.{buffer_of, history_at_opening, stored_frames, held_pictures, pictures_at, output_pictures, Fails}
+use Rattle.avc_decoder.proofs.Common.{IsOpened, SequenceState, empty_sequence, with_open_picture, current_history, HasItsFrames}
+use Rattle.avc_decoder.proofs.Common.{read_of_slice, start_with, OpenPicture, first_fault, history_of, progress_on, read_of, Outcome}
+use Rattle.avc_decoder.proofs.Common.{after_first_slice, after_next_slice, failed_at, no_change, pictures, running, sets_named, with_slice}
+use Rattle.avc_decoder.proofs.Common.{QueueState, with_events, CurrentPicture, PhaseHere, Waiting, Running, Picture, Refused}
 use Rattle.avc_decoder_core.specs.Laws.{MissingNumbersKeepTheOrder}
-use Rattle.avc_decoder_core.specs.Pictures.{held_pictures, pictures_at, output_pictures}
-use Rattle.avc_decoder_core.specs.SequenceState.{Fails, IsOpened, SequenceState, empty_sequence, with_open_picture, current_history}
-use Rattle.avc_decoder.specs.PictureFrames.{HasItsFrames, IsRefused, read_of_slice, start_with}
-use Rattle.avc_decoder.specs.FirstFault.{OpenPicture, first_fault, history_of, progress_on, read_of}
-use Rattle.avc_decoder.specs.Events.{Outcome, after_first_slice, after_next_slice, failed_at, no_change, pictures, running, sets_named, with_slice}
-use Rattle.avc_decoder.specs.QueueState.{QueueState, with_events}
+use Rattle.avc_decoder.specs.PictureFrames.{IsRefused}
 use Rattle.avc_decoder.specs.States.{ComesTo, Decodes, DecodesAs, IsNamed, IsOpenIn, Stops, Works, current_in, more_read, open_picture_from, phase_of, with_last}
-use Rattle.avc_decoder.specs.declared.phase.CurrentPicture.{CurrentPicture}
-use Rattle.avc_decoder.specs.declared.phase.Phase.{Phase as PhaseHere}
-use Rattle.avc_decoder.specs.declared.phase.Phase.TheVariants.{Waiting, Running}
 use Rattle.avc_decoder.proofs.FirstFaults.{Stands, history_is, no_fault, read_is, slice_fault, unopened, unopened_read}
-use Rattle.avc_decoder.specs.declared.event.Event.TheVariants.{Picture, Refused}
 use Rattle.avc_decoder.proofs.Closing.{opened_as, stands_as, stops_at, well_at}
 
 -- a picture with its first slice

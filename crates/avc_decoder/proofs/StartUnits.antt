@@ -1,40 +1,18 @@
 -- A unit with which decoding could start, while it runs: what is held goes out, and then decoding goes on as from a new start.
-use Rattle.std.specs.Prelude.{◌≡◌, ℕ, Bool, true, false, ◌==◌, List, [], ◌∷◌, ◌++◌, Option, Some, None, Result, Ok, Err}
-use Rattle.std.specs.Prelude.{is_some, IsTrue, refl}
-use Rattle.std.specs.Cmp.{first_so, second_so}
-use Rattle.std.specs.List.{list_all}
-use Rattle.std.proofs.Common.{ap, ap₂, sym, subst, ◌∙◌, append_assoc, append-nil}
-use Rattle.std.proofs.lemmas.List.Elements.{All-cons, All-nil}
+use Rattle.avc_decoder.proofs.Common.{◌≡◌, ℕ, Bool, true, false, ◌==◌, List, [], ◌∷◌, ◌++◌, Option, Some, None, Result, Ok, Err, is_some}
+use Rattle.avc_decoder.proofs.Common.{IsTrue, refl, first_so, second_so, list_all, ap, ap₂, sym, subst, ◌∙◌, append_assoc, append-nil}
+use Rattle.avc_decoder.proofs.Common.{All-cons, All-nil, Fault, forbidden_zero_bit, Piece, Sets, sets_after, Pps, SetUnit, Sps, begins}
+use Rattle.avc_decoder.proofs.Common.{is_idr, Slice, HeadersKeepIdrRules, KeepsIdrRules, Kind, slice, partition, sps, pps, boundary, other}
+use Rattle.avc_decoder.proofs.Common.{OpenPictureFacts, is_start, kind, kind_of, running_step, set_units, slice_in, slice_step, step}
+use Rattle.avc_decoder.proofs.Common.{unreadable, waiting_step, Nothing, Refusal, FaultOfOpen, FaultOfOwn, Begins, Continues, Step, Output}
+use Rattle.avc_decoder.proofs.Common.{History, no_output_of_prior_pics, OpenPicture, history_of, Outcome, Phase, after_closing}
+use Rattle.avc_decoder.proofs.Common.{after_first_slice, after_next, after_unit, at_end, closed_outcome, closing_result, events_and_held}
+use Rattle.avc_decoder.proofs.Common.{events_from, failed_at, first_state, held_after, in_phase, is_running, open_picture_facts, running}
+use Rattle.avc_decoder.proofs.Common.{sets_named, waiting, StartUnitsBeginAnew, is_picture, state_through, IsISlice, Event, Refused}
 use Rattle.std.proofs.lemmas.List.Folds.{list_all-append}
-use Rattle.avc_types.specs.declared.fault.Fault.{Fault}
 use Rattle.avc_types.specs.declared.fault.Fault.TheVariants as faults
 use Rattle.avc_types.specs.declared.references.Marking.{Marking}
 use Rattle.avc_types.specs.declared.references.Marking.TheVariants.{Adaptive, Idr, SlidingWindow}
-use Rattle.avc_annexb.specs.Units.{forbidden_zero_bit}
-use Rattle.avc_annexb.specs.declared.unit.Unit.{Unit as Piece}
-use Rattle.avc_params.specs.Tables.{Sets, sets_after}
-use Rattle.avc_params.specs.declared.pps.Pps.{Pps}
-use Rattle.avc_params.specs.declared.set_unit.SetUnit.{SetUnit}
-use Rattle.avc_params.specs.declared.sps.Sps.{Sps}
-use Rattle.avc_slice.specs.Begins.{begins}
-use Rattle.avc_slice.specs.Header.{is_idr}
-use Rattle.avc_slice.specs.declared.slice.Slice.{Slice}
-use Rattle.avc_slice.specs.Laws.{HeadersKeepIdrRules, KeepsIdrRules}
-use Rattle.avc_units.specs.Grouping.{Kind, slice, partition, sps, pps, boundary, other, OpenPictureFacts, is_start, kind, kind_of}
-use Rattle.avc_units.specs.Grouping.{running_step, set_units, slice_in, slice_step, step, unreadable, waiting_step}
-use Rattle.avc_units.specs.declared.step.Next.TheVariants.{Nothing, Refusal, FaultOfOpen, FaultOfOwn, Begins, Continues}
-use Rattle.avc_units.specs.declared.step.Step.{Step}
-use Rattle.avc_dpb.specs.declared.output.Output.{Output}
-use Rattle.avc_decoder_core.specs.History.{History}
-use Rattle.avc_decoder_core.specs.Pictures.{no_output_of_prior_pics}
-use Rattle.avc_decoder.specs.FirstFault.{OpenPicture, history_of}
-use Rattle.avc_decoder.specs.Events.{Outcome, Phase, after_closing, after_first_slice, after_next, after_unit, at_end, closed_outcome}
-use Rattle.avc_decoder.specs.Events.{closing_result, events_and_held, events_from, failed_at, first_state, held_after, in_phase}
-use Rattle.avc_decoder.specs.Events.{is_running, open_picture_facts, running, sets_named, waiting}
-use Rattle.avc_decoder.specs.Laws.{StartUnitsBeginAnew, is_picture, state_through}
-use Rattle.avc_decoder.specs.PictureFrames.{IsISlice}
-use Rattle.avc_decoder.specs.declared.event.Event.{Event}
-use Rattle.avc_decoder.specs.declared.event.Event.TheVariants.{Refused}
 use Rattle.avc_decoder.proofs.FirstPicture.{Gives, IsFirst, KeepsPicture, Owed, Paid, Still, closed_first, due, facts_first, failed_first}
 use Rattle.avc_decoder.proofs.FirstPicture.{in_first, picture_on, slice_first}
 use Rattle.avc_decoder.proofs.Headers.{begins_at_zero, idr_continues, read_is, slice_of_unit, starts}

@@ -1,20 +1,9 @@
 -- What the grouper's steps bring, and when they keep the parameter sets.
-use Rattle.std.proofs.Common.{◌≡◌, ℕ, Bool, true, false, [], ◌∷◌, Option, Some, None, Result, Ok, Err, refl, sym, ◌∙◌, arith}
-use Rattle.std.proofs.lemmas.Bool.Decides.{nat_tests}
-use Rattle.std.specs.Prelude.{is_some, not, ◌==◌, ◌||◌}
-use Rattle.avc_types.specs.declared.fault.Fault.{Fault}
-use Rattle.avc_types.specs.declared.fault.Fault.TheVariants.{DataPartition, ForbiddenBit}
-use Rattle.avc_annexb.specs.Units.{forbidden_zero_bit}
-use Rattle.avc_annexb.specs.declared.unit.Unit.{Unit as Piece}
-use Rattle.avc_params.specs.Tables.{Sets}
-use Rattle.avc_slice.specs.Begins.{begins}
-use Rattle.avc_slice.specs.Header.{is_idr}
-use Rattle.avc_slice.specs.declared.header.Header.{Header}
-use Rattle.avc_slice.specs.declared.slice.Slice.{Slice}
-use Rattle.avc_units.specs.Grouping.{Kind, OpenPictureFacts, boundary, is_start, kind, other, partition, no_effect, pps, running_step, set_fault, set_units, rbsp_of, slice, slice_step, sps, step, slice_in, unreadable, waiting_step}
-use Rattle.avc_units.specs.declared.step.Next.{Next}
-use Rattle.avc_units.specs.declared.step.Next.TheVariants.{Begins, Continues, FaultOfOpen, FaultOfOwn, Refusal}
-use Rattle.avc_units.specs.declared.step.Step.{Step}
+use Rattle.avc_decoder.proofs.Common.{◌≡◌, ℕ, Bool, true, false, [], ◌∷◌, Option, Some, None, Result, Ok, Err, refl, sym, ◌∙◌, arith}
+use Rattle.avc_decoder.proofs.Common.{nat_tests, is_some, not, ◌==◌, ◌||◌, Fault, DataPartition, ForbiddenBit, forbidden_zero_bit, Piece}
+use Rattle.avc_decoder.proofs.Common.{Sets, begins, is_idr, Header, Slice, Kind, OpenPictureFacts, boundary, is_start, kind, other}
+use Rattle.avc_decoder.proofs.Common.{partition, no_effect, pps, running_step, set_fault, set_units, rbsp_of, slice, slice_step, sps, step}
+use Rattle.avc_decoder.proofs.Common.{slice_in, unreadable, waiting_step, Next, Begins, Continues, FaultOfOpen, FaultOfOwn, Refusal, Step}
 
 -- no picture is open after closing
 abbrev pub rests : (closes : Bool) → Option OpenPictureFacts → Bool

@@ -1,12 +1,6 @@
 -- What the state after some units has: the parameter sets that they bring, and the mode of output.
-use Rattle.std.specs.Prelude.{◌≡◌, List, [], ◌∷◌, ◌++◌, refl}
-use Rattle.std.proofs.Common.{ap, sym, ◌∙◌, append_assoc, append-nil}
-use Rattle.avc_annexb.specs.declared.unit.Unit.{Unit as Piece}
-use Rattle.avc_params.specs.declared.set_unit.SetUnit.{SetUnit}
-use Rattle.avc_units.specs.Grouping.{set_units}
-use Rattle.avc_dpb.specs.declared.output.Output.{Output}
-use Rattle.avc_decoder.specs.Events.{Phase, State, after_unit, state_after}
-use Rattle.avc_decoder.specs.Laws.{state_through}
+use Rattle.avc_decoder.proofs.Common.{◌≡◌, List, [], ◌∷◌, ◌++◌, refl, ap, sym, ◌∙◌, append_assoc, append-nil, Piece, SetUnit, set_units}
+use Rattle.avc_decoder.proofs.Common.{Output, Phase, State, after_unit, state_after, state_through}
 
 -- in this mode and phase, after these units with parameter sets
 abbrev pub state_of : Output → List SetUnit → Phase → State

@@ -1,30 +1,14 @@
 -- What the steps of decoding hand out, in each mode of output: the coded video sequences that end with them, and what has gone out then.
-use Rattle.std.specs.Prelude.{◌≡◌, ℕ, ◌-◌, Bool, true, false, ◌&&◌, if◌then◌else◌, List, [], ◌∷◌, ◌++◌, All, Option, Some, None}
-use Rattle.std.specs.Prelude.{Result, Ok, Err, flat_map, refl}
-use Rattle.std.proofs.Common.{ap, ap₂, sym, ◌∙◌, append_assoc, append-nil}
-use Rattle.std.proofs.lemmas.Grind.{flat_map-append}
-use Rattle.std.proofs.lemmas.List.Elements.{All-append, All-cons, All-nil}
-use Rattle.avc_types.specs.declared.fault.Fault.{Fault}
-use Rattle.avc_types.specs.declared.picture.Picture.{Picture as Decoded}
-use Rattle.avc_params.specs.Tables.{Sets}
-use Rattle.avc_params.specs.declared.pps.Pps.{Pps}
-use Rattle.avc_params.specs.declared.sps.Sps.{Sps}
-use Rattle.avc_slice.specs.Header.{is_idr}
-use Rattle.avc_slice.specs.declared.header.Header.{Header}
-use Rattle.avc_slice.specs.declared.slice.Slice.{Slice}
-use Rattle.avc_units.specs.declared.step.Next.{Next}
-use Rattle.avc_units.specs.declared.step.Next.TheVariants.{Nothing, Refusal, FaultOfOpen, FaultOfOwn, Begins, Continues}
-use Rattle.avc_dpb.specs.declared.output.Output.{Output}
-use Rattle.avc_dpb.specs.declared.output.Output.TheVariants.{Full}
-use Rattle.avc_decoder_core.specs.History.{History}
-use Rattle.avc_decoder_core.specs.Pictures.{held_pictures, no_output_of_prior_pics, output_at_closing, output_pictures}
+use Rattle.avc_decoder.proofs.Common.{◌≡◌, ℕ, ◌-◌, Bool, true, false, ◌&&◌, if◌then◌else◌, List, [], ◌∷◌, ◌++◌, All, Option, Some, None}
+use Rattle.avc_decoder.proofs.Common.{Result, Ok, Err, refl, ap, ap₂, sym, ◌∙◌, append_assoc, append-nil, flat_map-append, All-append}
+use Rattle.avc_decoder.proofs.Common.{All-cons, All-nil, Fault, Decoded, Sets, Pps, Sps, is_idr, Header, Slice, Next, Nothing, Refusal}
+use Rattle.avc_decoder.proofs.Common.{FaultOfOpen, FaultOfOwn, Begins, Continues, Output, Full, History, held_pictures}
+use Rattle.avc_decoder.proofs.Common.{no_output_of_prior_pics, output_at_closing, output_pictures, Outcome, Phase, after_first_slice}
+use Rattle.avc_decoder.proofs.Common.{after_next, closed_outcome, failed_at, followed_by, history_in, is_running, is_waiting, no_change}
+use Rattle.avc_decoder.proofs.Common.{pictures, pictures_in, refusals_in, running, sets_named, waiting, with_slice, OpenPicture}
+use Rattle.avc_decoder.proofs.Common.{first_fault, first_header, history_of, read_of, Event, Picture, Refused}
+use Rattle.std.specs.Prelude.{flat_map}
 use Rattle.avc_decoder.specs.EarlyOutput.{EndedSequence, ended_by_closing, ended_sequence, stopped}
-use Rattle.avc_decoder.specs.Events.{Outcome, Phase, after_first_slice, after_next, closed_outcome, failed_at, followed_by, history_in}
-use Rattle.avc_decoder.specs.Events.{is_running, is_waiting, no_change, pictures, pictures_in, refusals_in, running, sets_named, waiting}
-use Rattle.avc_decoder.specs.Events.{with_slice}
-use Rattle.avc_decoder.specs.FirstFault.{OpenPicture, first_fault, first_header, history_of, read_of}
-use Rattle.avc_decoder.specs.declared.event.Event.{Event}
-use Rattle.avc_decoder.specs.declared.event.Event.TheVariants.{Picture, Refused}
 use Rattle.avc_decoder.proofs.BeginningPictures.{Allows}
 use Rattle.avc_decoder.proofs.Histories.{Follows, HasItsMarking, IsClosed, IsSound, IsSoundOpen, all_of, base_grows, gone}
 use Rattle.avc_decoder.proofs.Histories.{gone_and_held, gone_later, none_sound}

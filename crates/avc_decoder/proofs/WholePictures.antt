@@ -1,40 +1,23 @@
 -- Each picture that is handed out is whole.
-use Rattle.std.specs.Prelude.{◌≡◌, ℕ, zero, suc, ◌+◌, ◌-◌, ◌*◌, ◌/◌, ◌≤◌, Bool, true, false, not, ◌&&◌, if◌then◌else◌, List, [], ◌∷◌, ◌++◌, length, Option, Some, None, Result, Ok, Err, IfSome, slice_get, refl}
-use Rattle.std.proofs.Common.{ap, sym, subst, ◌∙◌, arith}
-use Rattle.std.proofs.lemmas.List.{map-append}
+use Rattle.avc_decoder.proofs.Common.{◌≡◌, ℕ, zero, suc, ◌+◌, ◌-◌, ◌*◌, ◌/◌, ◌≤◌, Bool, true, false, not, ◌&&◌, if◌then◌else◌, List, []}
+use Rattle.avc_decoder.proofs.Common.{◌∷◌, ◌++◌, length, Option, Some, None, Result, Ok, Err, IfSome, slice_get, refl, ap, sym, subst, ◌∙◌}
+use Rattle.avc_decoder.proofs.Common.{arith, map-append, Fault, Decoded, units, StreamUnit, width_in_mbs, height_in_mbs, sets_after, Pps}
+use Rattle.avc_decoder.proofs.Common.{SetUnit, Sps, Planes, Marks, is_idr, Header, Slice, step, Next, Nothing, Refusal, FaultOfOpen}
+use Rattle.avc_decoder.proofs.Common.{FaultOfOwn, Begins, Continues, Step, Output, Entry, History, all_held, decoded_picture}
+use Rattle.avc_decoder.proofs.Common.{earlier_in_sequence, entry_at, history_after_closing, history_at_opening, marks_of, missing_frame}
+use Rattle.avc_decoder.proofs.Common.{new_output, with_missing, with_picture, crop_of, entry_pictures, held_pictures}
+use Rattle.avc_decoder.proofs.Common.{no_output_of_prior_pics, output_at_closing, output_pictures, picture_of, pictures_at, ok_same}
+use Rattle.avc_decoder.proofs.Common.{opened_by, OpenPicture, first_header, first_fault, history_at_opening_of, history_of, read_of}
+use Rattle.avc_decoder.proofs.Common.{picture_planes, closed_history, start_on, slices_of, pictures, Phase, waiting, running, State}
+use Rattle.avc_decoder.proofs.Common.{first_state, Outcome, failed_at, at_last_slice, closing_result, closed_outcome, closed_picture}
+use Rattle.avc_decoder.proofs.Common.{with_slice, sets_named, both, after_first_slice, after_next_slice, base_in, history_in, after_next}
+use Rattle.avc_decoder.proofs.Common.{is_waiting, followed_by, after_closing, in_phase, after_unit, state_after, held_after, at_end}
+use Rattle.avc_decoder.proofs.Common.{is_running, open_facts_in, events_from, events, Event, Picture, Refused, PicturesAreWhole}
 use Rattle.avc_types.specs.Whole.{IsWhole}
-use Rattle.avc_types.specs.declared.fault.Fault.{Fault}
-use Rattle.avc_types.specs.declared.picture.Picture.{Picture as Decoded}
-use Rattle.avc_annexb.specs.Units.{units}
-use Rattle.avc_annexb.specs.declared.unit.Unit.{Unit as StreamUnit}
-use Rattle.avc_params.specs.Limits.{width_in_mbs, height_in_mbs}
-use Rattle.avc_params.specs.Tables.{sets_after}
 use Rattle.avc_params.specs.Within.{IsSps, IsCropping, SpsInForceKeepsLimits}
-use Rattle.avc_params.specs.declared.pps.Pps.{Pps}
-use Rattle.avc_params.specs.declared.set_unit.SetUnit.{SetUnit}
 use Rattle.avc_params.specs.declared.sps.Cropping.{Cropping}
-use Rattle.avc_params.specs.declared.sps.Sps.{Sps}
-use Rattle.avc_plane.specs.Planes.{Planes}
-use Rattle.avc_marking.specs.Marks.{Marks}
-use Rattle.avc_slice.specs.Header.{is_idr}
-use Rattle.avc_slice.specs.declared.header.Header.{Header}
-use Rattle.avc_slice.specs.declared.slice.Slice.{Slice}
 use Rattle.avc_picture.specs.Sizes.{IsSized, PicturesAreSized}
-use Rattle.avc_units.specs.Grouping.{step}
-use Rattle.avc_units.specs.declared.step.Next.{Next}
-use Rattle.avc_units.specs.declared.step.Next.TheVariants.{Nothing, Refusal, FaultOfOpen, FaultOfOwn, Begins, Continues}
-use Rattle.avc_units.specs.declared.step.Step.{Step}
-use Rattle.avc_dpb.specs.declared.output.Output.{Output}
 use Rattle.avc_types.specs.Results.{◌>>=◌}
-use Rattle.avc_decoder_core.specs.History.{Entry, History, all_held, decoded_picture, earlier_in_sequence, entry_at, history_after_closing, history_at_opening}
-use Rattle.avc_decoder_core.specs.History.{marks_of, missing_frame, new_output, with_missing, with_picture}
-use Rattle.avc_decoder_core.specs.Pictures.{crop_of, entry_pictures, held_pictures, no_output_of_prior_pics, output_at_closing, output_pictures, picture_of, pictures_at}
-use Rattle.avc_decoder_core.proofs.MissingNumbers.{ok_same, opened_by}
-use Rattle.avc_decoder.specs.FirstFault.{OpenPicture, first_header, first_fault, history_at_opening_of, history_of, read_of, picture_planes, closed_history, start_on, slices_of}
-use Rattle.avc_decoder.specs.Events.{pictures, Phase, waiting, running, State, first_state, Outcome, failed_at, at_last_slice, closing_result, closed_outcome, closed_picture, with_slice, sets_named, both, after_first_slice, after_next_slice, base_in, history_in, after_next, is_waiting, followed_by, after_closing, in_phase, after_unit, state_after, held_after, at_end, is_running, open_facts_in, events_from, events}
-use Rattle.avc_decoder.specs.declared.event.Event.{Event}
-use Rattle.avc_decoder.specs.declared.event.Event.TheVariants.{Picture, Refused}
-use Rattle.avc_decoder.specs.Laws.{PicturesAreWhole}
 
 -- ---- histories
 

@@ -1,24 +1,10 @@
 -- An entry comes: the marks and the buffer of the longer history.
-use Rattle.std.proofs.Common.{◌≡◌, ℕ, ◌+◌, ◌<◌, true, List, [], ◌∷◌, ◌++◌, length, map, Option, Some, None, is_some, Result, Ok, refl, ap, ap₂, sym}
-use Rattle.std.proofs.Common.{◌∙◌, subst, arith, inl, inr, length-append}
-use Rattle.std.proofs.lemmas.List.{length-map}
-use Rattle.std.proofs.lemmas.Simd.{map-map}
-use Rattle.avc_types.specs.declared.fault.Fault.{Fault}
-use Rattle.avc_types.specs.declared.marked_frame.MarkedFrame.{MarkedFrame}
-use Rattle.avc_types.specs.declared.references.Mark.TheVariants.{Short}
-use Rattle.avc_types.specs.References.{Reference, reference_of, references_at}
-use Rattle.avc_plane.specs.declared.frame.Frame.{Frame}
-use Rattle.avc_plane.specs.Frames.{marked_frame}
-use Rattle.avc_marking.specs.Frames.{MarksFrame, StandBefore, marks_at, or_fault}
-use Rattle.avc_marking.specs.Laws.{IsSameFrame, IsPartUpToMarks, unmarks_all}
-use Rattle.avc_types.specs.Results.{◌>>=◌}
-use Rattle.avc_marking.specs.Marks.{Marks, current_frame, marks_after}
-use Rattle.avc_marking.proofs.KeptFrames.{adds_own_frame_alone, leaves_own_frame_alone}
-use Rattle.avc_dpb.specs.declared.output.Output.{Output}
-use Rattle.avc_dpb.specs.Bumping.{Buffer}
-use Rattle.avc_dpb.specs.Contents.{Contents, IsBuffer}
-use Rattle.avc_decoder_core.specs.Frames.{frame_of, frame_at, mark_in}
-use Rattle.avc_decoder_core.specs.FrameBufferFields.{Each, IsStateAfter, places_in}
+use Rattle.avc_decoder_core.proofs.Common.{◌≡◌, ℕ, ◌+◌, ◌<◌, true, List, [], ◌∷◌, ◌++◌, length, map, Option, Some, None, is_some, Result}
+use Rattle.avc_decoder_core.proofs.Common.{Ok, refl, ap, ap₂, sym, ◌∙◌, subst, arith, inl, inr, length-append, length-map, map-map, Fault}
+use Rattle.avc_decoder_core.proofs.Common.{MarkedFrame, Short, Reference, reference_of, references_at, Frame, marked_frame, MarksFrame}
+use Rattle.avc_decoder_core.proofs.Common.{StandBefore, marks_at, or_fault, IsSameFrame, IsPartUpToMarks, unmarks_all, ◌>>=◌, Marks}
+use Rattle.avc_decoder_core.proofs.Common.{current_frame, marks_after, adds_own_frame_alone, leaves_own_frame_alone, Output, Buffer}
+use Rattle.avc_decoder_core.proofs.Common.{Contents, IsBuffer, frame_of, frame_at, mark_in, Each, IsStateAfter, places_in}
 use Rattle.avc_decoder_core.specs.History.{Entry, decoded_picture, missing_frame, History, buffer_of, entry_at, marking_entries, marking_entry, marks_of}
 use Rattle.avc_decoder_core.proofs.Places.{each_all, each_append, each_implies, below, increasing, rise, rise_more}
 use Rattle.avc_decoder_core.proofs.References.{IsOf, each_entry, each_reference, marks_are, same_references}

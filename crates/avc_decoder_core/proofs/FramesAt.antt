@@ -1,19 +1,10 @@
 -- The frames of a history, as the buffer stores them.
-use Rattle.std.proofs.Common.{◌≡◌, ℕ, zero, suc, ◌-◌, ◌<◌, Bool, true, false, List, [], ◌∷◌, ◌++◌, length, map, Option, Some, None, is_some, refl, ap}
-use Rattle.std.proofs.Common.{ap₂, sym, ◌∙◌, arith}
-use Rattle.std.specs.Prelude.{slice_get, slice_index_or, IfSome}
-use Rattle.std.specs.Option.{option_map}
-use Rattle.std.specs.List.{cons_option, filter_map}
-use Rattle.avc_types.specs.declared.marked_frame.MarkedFrame.{MarkedFrame}
-use Rattle.avc_types.specs.declared.references.Mark.{Mark}
-use Rattle.avc_types.specs.References.{Reference, reference_of, references_at}
-use Rattle.avc_plane.specs.Frames.{marked_frame, padded_planes_of, stored_at, stored_frame, AreSized}
-use Rattle.avc_dpb.specs.Bumping.{Stored, is_reference_in}
-use Rattle.avc_dpb.specs.StoredFrame.{shown_frame}
-use Rattle.avc_decoder_core.specs.Frames.{frame_of, frame_at, mark_in}
-use Rattle.avc_decoder_core.specs.FrameBufferFields.{Each, with_marks}
+use Rattle.avc_decoder_core.proofs.Common.{◌≡◌, ℕ, zero, suc, ◌-◌, ◌<◌, Bool, true, false, List, [], ◌∷◌, ◌++◌, length, map, Option, Some}
+use Rattle.avc_decoder_core.proofs.Common.{None, is_some, refl, ap, ap₂, sym, ◌∙◌, arith, slice_get, slice_index_or, IfSome, option_map}
+use Rattle.avc_decoder_core.proofs.Common.{cons_option, filter_map, MarkedFrame, Mark, Reference, reference_of, references_at, marked_frame}
+use Rattle.avc_decoder_core.proofs.Common.{padded_planes_of, stored_at, stored_frame, AreSized, Stored, is_reference_in, shown_frame}
+use Rattle.avc_decoder_core.proofs.Common.{frame_of, frame_at, mark_in, Each, with_marks, entry_pictures, pictures_at}
 use Rattle.avc_decoder_core.specs.History.{Entry, decoded_picture, missing_frame, History, entry_at, planes_in, stored}
-use Rattle.avc_decoder_core.specs.Pictures.{entry_pictures, pictures_at}
 use Rattle.avc_decoder_core.proofs.References.{entries, is_entry, is_entry_marked}
 
 -- ---- of an entry

@@ -1,13 +1,10 @@
 -- What goes out for missing numbers, of the pictures that are held.
 use Rattle.std.proofs.Common.{◌≡◌, ℕ, List, [], ◌∷◌, ◌++◌, length, Ok, is_ok, refl, ap, sym, ◌∙◌, append_assoc}
-use Rattle.std.proofs.lemmas.Grind.{flat_map-append}
-use Rattle.avc_dpb.specs.declared.output.Output.{Output}
-use Rattle.avc_dpb.proofs.Conserved.{stands_in_decoding_order}
+use Rattle.avc_decoder_core.proofs.Common.{flat_map-append, Output, stands_in_decoding_order, Sps, entry_pictures, pictures_at}
+use Rattle.avc_decoder_core.proofs.Common.{held_pictures, output_pictures}
 use Rattle.avc_dpb.proofs.Missing.{missing_frames_keep_the_order}
-use Rattle.avc_params.specs.declared.sps.Sps.{Sps}
 use Rattle.avc_decoder_core.specs.History.{History, missing_frame, all_held, arrival, arrivals, buffer_of, entry_at, new_output, with_missing}
 use Rattle.avc_decoder_core.specs.Laws.{MissingNumbersKeepTheOrder}
-use Rattle.avc_decoder_core.specs.Pictures.{entry_pictures, pictures_at, held_pictures, output_pictures}
 use Rattle.avc_decoder_core.proofs.MissingNumbers.{first_marked, ok_same, one_stored, opened_by}
 use Rattle.avc_decoder_core.proofs.Outputs.{Extends, extends_itself, extends_more, held_below, nothing_goes_out, output_more, pictures_stay}
 

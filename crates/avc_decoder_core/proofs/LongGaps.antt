@@ -1,30 +1,16 @@
 -- The frames that a long gap leaves are those of its last numbers.
 use Rattle.std.proofs.Common.{◌≡◌, ℕ, zero, suc, ◌+◌, ◌<◌, ◌≤◌, Bool, true, false, List, [], ◌∷◌, ◌++◌, length, map, drop, Option, Some, None, Ok, is_ok, is_some, refl, ap, ap₂}
 use Rattle.std.proofs.Common.{sym, ◌∙◌, subst, arith, length-append}
-use Rattle.std.specs.Prelude.{◌==◌, ◌%◌, ◌-◌, IfSome}
-use Rattle.std.proofs.lemmas.List.{length-map, map-append, append_cancel_right}
+use Rattle.avc_decoder_core.proofs.Common.{◌==◌, ◌%◌, ◌-◌, IfSome, length-map, map-append, append_cancel_right, eq-eqb, MarkedFrame, Short}
+use Rattle.avc_decoder_core.proofs.Common.{Reference, reference_of, references_at, Frame, marked_frame, AreSized, dpb_size, max_frame_num}
+use Rattle.avc_decoder_core.proofs.Common.{reference_limit, width_in_mbs, height_in_mbs, Sps, CountFrom, StandBelow, StandFrom, Marks}
+use Rattle.avc_decoder_core.proofs.Common.{frame_nums_from, prev_ref_frame_num, Output, Buffer, Stored, Contents, IsRising, slot_of}
+use Rattle.avc_decoder_core.proofs.Common.{IsWithin, missing_stored, stands_in_decoding_order, coded_frame, frame_at, frame_of, mark_in}
+use Rattle.avc_decoder_core.proofs.Common.{Each, IsSizedAt, IsStateAfter, places_in, AreBefore, AreNotHeld, IsLongGap}
+use Rattle.avc_decoder_core.proofs.Common.{LongGapsLeaveTheirEnd, IsSettled, Staying, missing_reference, missing_references, stored_missing}
+use Rattle.avc_decoder_core.proofs.Common.{with_all_missing, output_pictures, pictures_at}
 use Rattle.std.proofs.Math.Seq.{drop-append-add, drop-length}
-use Rattle.std.proofs.lemmas.Bool.{eq-eqb}
-use Rattle.avc_types.specs.declared.marked_frame.MarkedFrame.{MarkedFrame}
-use Rattle.avc_types.specs.declared.references.Mark.TheVariants.{Short}
-use Rattle.avc_types.specs.References.{Reference, reference_of, references_at}
-use Rattle.avc_plane.specs.declared.frame.Frame.{Frame}
-use Rattle.avc_plane.specs.Frames.{marked_frame, AreSized}
-use Rattle.avc_params.specs.Limits.{dpb_size, max_frame_num, reference_limit, width_in_mbs, height_in_mbs}
-use Rattle.avc_params.specs.declared.sps.Sps.{Sps}
-use Rattle.avc_marking.specs.Laws.{CountFrom, StandBelow, StandFrom}
-use Rattle.avc_marking.specs.Marks.{Marks, frame_nums_from, prev_ref_frame_num}
-use Rattle.avc_dpb.specs.declared.output.Output.{Output}
-use Rattle.avc_dpb.specs.Bumping.{Buffer, Stored}
-use Rattle.avc_dpb.specs.Contents.{Contents, IsRising, slot_of}
-use Rattle.avc_dpb.specs.Laws.{IsWithin, missing_stored}
-use Rattle.avc_dpb.proofs.Conserved.{stands_in_decoding_order}
-use Rattle.avc_decoder_core.specs.Frames.{coded_frame, frame_at, frame_of, mark_in}
-use Rattle.avc_decoder_core.specs.FrameBufferFields.{Each, IsSizedAt, IsStateAfter, places_in}
-use Rattle.avc_decoder_core.specs.Gaps.{AreBefore, AreNotHeld, IsLongGap, LongGapsLeaveTheirEnd, IsSettled, Staying, missing_reference, missing_references, stored_missing}
 use Rattle.avc_decoder_core.specs.History.{History, arrivals, buffer_of, entry_at, marking_entries, marks_of, missing_frame, planes_in, sequence_sps, with_missing}
-use Rattle.avc_decoder_core.specs.Opening.{with_all_missing}
-use Rattle.avc_decoder_core.specs.Pictures.{output_pictures, pictures_at}
 use Rattle.avc_decoder_core.proofs.FramesAt.{entry_before, entry_newest}
 use Rattle.avc_decoder_core.proofs.MissingNumbers.{all_marked, first_marked, ok_same, set_stays}
 use Rattle.avc_decoder_core.proofs.Places.{each_append}

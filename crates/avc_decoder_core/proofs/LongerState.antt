@@ -1,28 +1,14 @@
 -- The state once an entry's frame is stored, and the pictures that go out.
-use Rattle.std.proofs.Common.{◌≡◌, ℕ, ◌<◌, ◌≤◌, Bool, true, false, List, [], ◌∷◌, ◌++◌, length, map, Option, Some, None, Ok, refl, ap, ap₂, sym, ◌∙◌}
-use Rattle.std.proofs.Common.{subst, arith}
-use Rattle.std.specs.Prelude.{IfSome, max}
-use Rattle.std.specs.List.{filter_map}
-use Rattle.std.proofs.lemmas.List.Elements.{filter_map-append}
-use Rattle.avc_types.specs.declared.picture.Picture.{Picture}
-use Rattle.avc_plane.specs.Frames.{AreSized}
-use Rattle.avc_plane.specs.Planes.{Planes}
-use Rattle.avc_params.specs.Limits.{width_in_mbs, height_in_mbs, reference_limit}
-use Rattle.avc_params.specs.declared.sps.Sps.{Sps}
-use Rattle.avc_slice.specs.Header.{is_idr}
-use Rattle.avc_slice.specs.declared.header.Header.{Header}
-use Rattle.avc_marking.specs.Marks.{Marks, limit_of, marks_after}
+use Rattle.avc_decoder_core.proofs.Common.{◌≡◌, ℕ, ◌<◌, ◌≤◌, Bool, true, false, List, [], ◌∷◌, ◌++◌, length, map, Option, Some, None, Ok}
+use Rattle.avc_decoder_core.proofs.Common.{refl, ap, ap₂, sym, ◌∙◌, subst, arith, IfSome, max, filter_map, filter_map-append, Picture}
+use Rattle.avc_decoder_core.proofs.Common.{AreSized, Planes, width_in_mbs, height_in_mbs, reference_limit, Sps, is_idr, Header, Marks}
+use Rattle.avc_decoder_core.proofs.Common.{limit_of, marks_after, Output, PriorPictures, remain, are_output, Stored, after_prior_pictures}
+use Rattle.avc_decoder_core.proofs.Common.{empty_buffer, shown_frame, goes_out_in_turn, frame_at, Each, IsSizedAt, places_in, CanFollow}
+use Rattle.avc_decoder_core.proofs.Common.{output_pictures}
 use Rattle.avc_marking.proofs.Limits.{stays-with_max_long_term_frame_idx}
-use Rattle.avc_dpb.specs.declared.output.Output.{Output}
-use Rattle.avc_dpb.specs.Bumping.{PriorPictures, remain, are_output, Stored, after_prior_pictures, empty_buffer, new_output}
-use Rattle.avc_dpb.specs.StoredFrame.{shown_frame}
-use Rattle.avc_dpb.proofs.Conserved.{goes_out_in_turn}
-use Rattle.avc_decoder_core.specs.Frames.{frame_at}
-use Rattle.avc_decoder_core.specs.FrameBufferFields.{Each, IsSizedAt, places_in}
-use Rattle.avc_decoder_core.specs.FrameBufferState.{CanFollow}
+use Rattle.avc_dpb.specs.Bumping.{new_output}
 use Rattle.avc_decoder_core.specs.History.{Entry, decoded_picture, missing_frame, History, arrival, arrivals, buffer_of, entry_at, is_same_sps}
 use Rattle.avc_decoder_core.specs.History.{marking_entry, planes_in, sequence_sps}
-use Rattle.avc_decoder_core.specs.Pictures.{output_pictures}
 use Rattle.avc_decoder_core.proofs.Places.{each_map}
 use Rattle.avc_decoder_core.proofs.FramesAt.{entry_before, entry_newest, pictures_are}
 use Rattle.avc_decoder_core.proofs.StayingFrames.{each_after_frame, each_prior}

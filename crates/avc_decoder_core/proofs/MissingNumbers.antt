@@ -1,27 +1,14 @@
 -- Missing numbers before a picture.
 use Rattle.std.proofs.Common.{◌≡◌, ℕ, zero, suc, ◌+◌, ◌%◌, ℤ, Bool, true, false, List, [], ◌∷◌, length, drop, Some, None, slice_get, Result, Ok, Err, is_ok, is_some, refl}
 use Rattle.std.proofs.Common.{ap, ap₂, sym, subst, ◌∙◌, ◌<◌, arith, rules}
-use Rattle.std.proofs.lemmas.Bool.{false≢true}
-use Rattle.std.proofs.lemmas.Option.{none-some, same_Some}
-use Rattle.std.specs.Int.{int_min}
-use Rattle.avc_types.specs.References.{result_map}
-use Rattle.avc_types.specs.declared.fault.Fault.{Fault}
+use Rattle.avc_decoder_core.proofs.Common.{false≢true, none-some, same_Some, int_min, result_map, Fault, Sps, max_frame_num, Header, is_idr}
+use Rattle.avc_decoder_core.proofs.Common.{is_reference, has_idr_marking, Counts, order_counts, picture, OrderCountState, order_count_state}
+use Rattle.avc_decoder_core.proofs.Common.{count_pair, pair, with_missing_from, SlidingWindow, slides_again, MarkingEntry, Marks}
+use Rattle.avc_decoder_core.proofs.Common.{frame_nums_from, marks_after, missing_frame_nums, prev_ref_frame_num, ◌>>=◌, CanFollow}
+use Rattle.avc_decoder_core.proofs.Common.{counts_over, missing_before, opening_on, with_all_missing, Finds, Opening}
 use Rattle.avc_types.specs.declared.fault.Fault.TheVariants as faults
-use Rattle.avc_params.specs.declared.sps.Sps.{Sps}
-use Rattle.avc_params.specs.Limits.{max_frame_num}
-use Rattle.avc_slice.specs.declared.header.Header.{Header}
-use Rattle.avc_slice.specs.Header.{is_idr, is_reference, has_idr_marking}
-use Rattle.avc_poc.specs.OrderCounts.{Counts, order_counts, picture}
-use Rattle.avc_poc.specs.OrderCountState.{OrderCountState, order_count_state, count_pair, pair, with_missing_from}
-use Rattle.avc_types.specs.declared.references.Marking.TheVariants.{SlidingWindow}
-use Rattle.avc_marking.proofs.KeptFrames.{slides_again}
-use Rattle.avc_marking.specs.Marks.{MarkingEntry, Marks, frame_nums_from, marks_after, missing_frame_nums, prev_ref_frame_num}
-use Rattle.avc_types.specs.Results.{◌>>=◌}
 use Rattle.avc_decoder_core.specs.History.{missing_frame, History, earlier_in_sequence, history_at_opening, is_same_sps, marking_entries, marking_entry, marks_of}
 use Rattle.avc_decoder_core.specs.History.{order_or_0, picture_entry, pasts, sequence_sps, with_missing, with_order_counts}
-use Rattle.avc_decoder_core.specs.FrameBufferState.{CanFollow}
-use Rattle.avc_decoder_core.specs.Opening.{counts_over, missing_before, opening_on, with_all_missing, Finds}
-use Rattle.avc_decoder_core.specs.declared.opening.Opening.{Opening}
 
 pub ok_same : {A : Type 0} (x y : A) → ◌≡◌ {A = Result A Fault} (Ok x) (Ok y) → x ≡ y
 ok_same {A = A} x y e = ap (λ (r : Result A Fault). elim r as (λ _. A) [ Ok z ↦ z | Err f ↦ x ]) e

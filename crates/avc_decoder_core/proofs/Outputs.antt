@@ -1,20 +1,12 @@
 -- What goes out entry after entry.
-use Rattle.std.proofs.Common.{◌≡◌, ℕ, zero, suc, ◌+◌, ◌-◌, ◌<◌, ◌≤◌, ◌==◌, if◌then◌else◌, Bool, true, false, List, [], ◌∷◌, ◌++◌, length, drop}
-use Rattle.std.proofs.Common.{Option, None, slice_get, refl, ap, ap₂, sym, ◌∙◌, subst, arith, append-nil, append_assoc}
-use Rattle.std.specs.Prelude.{All}
-use Rattle.std.proofs.Math.Nat.{lt_of_not-le}
-use Rattle.std.proofs.lemmas.Bool.{false≢true, eq-eqb}
-use Rattle.std.proofs.lemmas.Bool.Decides.{nat_tests}
-use Rattle.std.proofs.lemmas.Grind.{flat_map-append}
-use Rattle.std.proofs.lemmas.List.Elements.{All-nil, All-cons, All-head, All-tail}
+use Rattle.avc_decoder_core.proofs.Common.{◌≡◌, ℕ, zero, suc, ◌+◌, ◌-◌, ◌<◌, ◌≤◌, ◌==◌, if◌then◌else◌, Bool, true, false, List, [], ◌∷◌}
+use Rattle.avc_decoder_core.proofs.Common.{◌++◌, length, drop, Option, None, slice_get, refl, ap, ap₂, sym, ◌∙◌, subst, arith, append-nil}
+use Rattle.avc_decoder_core.proofs.Common.{append_assoc, All, lt_of_not-le, false≢true, eq-eqb, nat_tests, flat_map-append, All-nil}
+use Rattle.avc_decoder_core.proofs.Common.{All-cons, All-head, All-tail, Output, Arrival, occurrences, pictures, out_only_grows}
+use Rattle.avc_decoder_core.proofs.Common.{entry_pictures, pictures_at, output_pictures}
 use Rattle.std.proofs.Math.Seq.{drop-append_seam, drop-length}
-use Rattle.avc_dpb.specs.declared.output.Output.{Output}
-use Rattle.avc_dpb.specs.Bumping.{Arrival}
-use Rattle.avc_dpb.specs.Laws.{occurrences, pictures}
-use Rattle.avc_dpb.proofs.Conserved.{out_only_grows}
 use Rattle.avc_dpb.proofs.Once.{goes_out_once}
 use Rattle.avc_decoder_core.specs.History.{Entry, History, arrival, arrivals, buffer_of, entry_at, new_output, all_held}
-use Rattle.avc_decoder_core.specs.Pictures.{entry_pictures, pictures_at, output_pictures}
 
 -- ---- all places of a history are below its length
 

@@ -1,19 +1,9 @@
 -- An entry adds no reference frame but its own.
 use Rattle.std.proofs.Common.{◌≡◌, ◌⊎◌, ℕ, ◌<◌, ◌==◌, Bool, true, false, List, [], ◌∷◌, ◌++◌, length}
 use Rattle.std.proofs.Common.{Some, Result, Ok, Err, is_ok, inl, inr, refl, ap, sym, ◌∙◌, subst, arith}
-use Rattle.std.specs.List.{list_any}
-use Rattle.std.proofs.lemmas.Bool.{eqb-true, or_cases, or_left, or_right}
-use Rattle.std.proofs.lemmas.Bool.Decides.{nat_tests}
-use Rattle.avc_types.specs.declared.fault.Fault.{Fault}
-use Rattle.avc_types.specs.declared.references.Mark.TheVariants.{Short}
-use Rattle.avc_types.specs.declared.references.Marking.TheVariants.{SlidingWindow}
-use Rattle.avc_types.specs.References.{Reference}
-use Rattle.avc_types.specs.Results.{◌>>=◌}
-use Rattle.avc_params.specs.declared.sps.Sps.{Sps}
-use Rattle.avc_marking.specs.Laws.{IsPartUpToMarks, AddsOwnFrameAlone}
-use Rattle.avc_marking.specs.Marks.{MarkingEntry, Marks, after_sliding_window, current_frame, marks_after}
-use Rattle.avc_dpb.specs.Reordering.{references_after}
-use Rattle.avc_decoder_core.specs.FrameBufferFields.{Each}
+use Rattle.avc_decoder_core.proofs.Common.{list_any, eqb-true, or_cases, or_left, or_right, nat_tests, Fault, Short, SlidingWindow}
+use Rattle.avc_decoder_core.proofs.Common.{Reference, ◌>>=◌, Sps, IsPartUpToMarks, AddsOwnFrameAlone, MarkingEntry, Marks}
+use Rattle.avc_decoder_core.proofs.Common.{after_sliding_window, current_frame, marks_after, references_after, Each}
 use Rattle.avc_decoder_core.specs.History.{Entry, decoded_picture, missing_frame, History, arrival, arrivals, marking_entry, marks_of}
 use Rattle.avc_decoder_core.specs.History.{or_no_references, references_of}
 use Rattle.avc_decoder_core.proofs.Entering.{marks_then, part_each}

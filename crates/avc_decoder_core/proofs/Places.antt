@@ -1,12 +1,7 @@
 -- Places of the history that rise.
-use Rattle.std.proofs.Common.{◌≡◌, ℕ, zero, suc, ◌+◌, ◌<◌, Bool, true, false, cond, List, [], ◌∷◌, ◌++◌, length, map, ap, sym, arith, subst}
-use Rattle.std.specs.Prelude.{slice_index, All}
-use Rattle.std.proofs.lemmas.List.Elements.{All-nil, All-cons}
-use Rattle.std.specs.List.{filter}
+use Rattle.avc_decoder_core.proofs.Common.{◌≡◌, ℕ, zero, suc, ◌+◌, ◌<◌, Bool, true, false, cond, List, [], ◌∷◌, ◌++◌, length, map, ap, sym}
+use Rattle.avc_decoder_core.proofs.Common.{arith, subst, slice_index, All, All-nil, All-cons, filter, Stored, IsRising, Each}
 use Rattle.std.specs.List.Sorted.{IsStrictlyIncreasing}
-use Rattle.avc_dpb.specs.Bumping.{Stored}
-use Rattle.avc_dpb.specs.Contents.{IsRising}
-use Rattle.avc_decoder_core.specs.FrameBufferFields.{Each}
 
 pub each_implies : {A : Type 0} (P Q : A → Type 0) (xs : List A) → ((x : A) → P x → Q x) → Each P xs → Each Q xs
 each_implies P Q [] f h = h

@@ -1,15 +1,7 @@
 -- The reference frames among frames of the buffer.
-use Rattle.std.proofs.Common.{◌≡◌, ℕ, ◌<◌, Bool, true, false, cond, ◌||◌, List, [], ◌∷◌, length, map, Option, Some, None, is_some, refl, ap, ap₂, sym}
-use Rattle.std.proofs.Common.{◌∙◌, arith}
-use Rattle.std.specs.Prelude.{◌==◌}
-use Rattle.std.specs.Option.{option_map}
-use Rattle.std.specs.List.{filter, find, list_any}
-use Rattle.std.proofs.lemmas.Bool.Decides.{nat_tests}
-use Rattle.avc_types.specs.declared.references.Mark.{Mark}
-use Rattle.avc_types.specs.declared.marked_frame.MarkedFrame.{MarkedFrame}
-use Rattle.avc_types.specs.References.{Reference, reference_of, references_at}
-use Rattle.avc_decoder_core.specs.Frames.{mark_in}
-use Rattle.avc_decoder_core.specs.FrameBufferFields.{Each}
+use Rattle.avc_decoder_core.proofs.Common.{◌≡◌, ℕ, ◌<◌, Bool, true, false, cond, ◌||◌, List, [], ◌∷◌, length, map, Option, Some, None}
+use Rattle.avc_decoder_core.proofs.Common.{is_some, refl, ap, ap₂, sym, ◌∙◌, arith, ◌==◌, option_map, filter, find, list_any, nat_tests}
+use Rattle.avc_decoder_core.proofs.Common.{Mark, MarkedFrame, Reference, reference_of, references_at, mark_in, Each}
 use Rattle.avc_decoder_core.proofs.Places.{Rise}
 
 abbrev pub entries : List Reference → List ℕ

@@ -1,23 +1,13 @@
 -- Entries of one sequence have one size, and no more reference frames than its parameter set allows.
 use Rattle.std.proofs.Common.{◌≡◌, ℕ, ◌+◌, Bool, true, false, ◌&&◌, List, [], ◌∷◌, length, Option, Some, None, Ok, refl, ap, sym, ◌∙◌, Err}
-use Rattle.std.specs.Prelude.{IfSome, ◌==◌, if◌then◌else◌}
-use Rattle.std.specs.Option.{option_eq}
-use Rattle.std.proofs.lemmas.Bool.{and_parts, eqb-true, false≢true}
+use Rattle.avc_decoder_core.proofs.Common.{IfSome, ◌==◌, if◌then◌else◌, option_eq, and_parts, eqb-true, false≢true, Fault, Marking, Idr}
+use Rattle.avc_decoder_core.proofs.Common.{SlidingWindow, Adaptive, width_in_mbs, height_in_mbs, Sps, has_idr_marking, has_operation_5}
+use Rattle.avc_decoder_core.proofs.Common.{Header, unmarks_all, MarkingEntry, Marks, marks_after, PriorPictures, are_output, remain}
 use Rattle.std.specs.Result.{is_ok}
-use Rattle.avc_types.specs.declared.fault.Fault.{Fault}
-use Rattle.avc_types.specs.declared.references.Marking.{Marking}
-use Rattle.avc_types.specs.declared.references.Marking.TheVariants.{Idr, SlidingWindow, Adaptive}
 use Rattle.avc_types.specs.declared.references.Operation.{Operation}
 use Rattle.avc_types.specs.declared.references.Operation.TheVariants.{UnmarkShortTerm, UnmarkLongTerm, AssignLongTerm, MaxLongTermFrameIdx, UnmarkAll}
 use Rattle.avc_types.specs.declared.references.Operation.TheVariants.{CurrentToLongTerm}
-use Rattle.avc_params.specs.Limits.{width_in_mbs, height_in_mbs}
 use Rattle.avc_params.specs.Same.{same_constraints, same_cropping, same_flag, same_order, same_sps, same_vui}
-use Rattle.avc_params.specs.declared.sps.Sps.{Sps}
-use Rattle.avc_slice.specs.Header.{has_idr_marking, has_operation_5}
-use Rattle.avc_slice.specs.declared.header.Header.{Header}
-use Rattle.avc_marking.specs.Laws.{unmarks_all}
-use Rattle.avc_marking.specs.Marks.{MarkingEntry, Marks, marks_after}
-use Rattle.avc_dpb.specs.Bumping.{PriorPictures, are_output, remain}
 use Rattle.avc_decoder_core.specs.History.{is_same_sps, prior_pictures_of}
 
 pub wrong : {A : Type 0} → false ≡ true → A

@@ -1,30 +1,14 @@
 -- The state of a sequence as pictures are opened and closed.
 use Rattle.std.proofs.Common.{◌≡◌, ℤ, Bool, true, false, List, [], ◌∷◌, ◌++◌, Option, Some, None, Result, Ok, Err, is_ok, is_some, refl, ap, ap₂, sym, subst, ◌∙◌, rules}
-use Rattle.std.proofs.lemmas.Bool.{false≢true}
-use Rattle.std.proofs.lemmas.Option.{none-some, same_Some}
-use Rattle.std.specs.Option.{option_map}
-use Rattle.avc_types.specs.declared.fault.Fault.{Fault}
-use Rattle.avc_types.specs.declared.picture.Picture.{Picture}
-use Rattle.avc_plane.specs.Planes.{Planes}
-use Rattle.avc_plane.specs.declared.frame.Frame.{Frame}
-use Rattle.avc_params.specs.declared.sps.Sps.{Sps}
-use Rattle.avc_params.specs.Within.{IsSps}
-use Rattle.avc_slice.specs.declared.header.Header.{Header}
-use Rattle.avc_slice.specs.Header.{is_idr, is_reference, has_idr_marking}
-use Rattle.avc_marking.specs.Marks.{Marks, no_marks}
-use Rattle.avc_dpb.specs.declared.output.Output.{Output}
-use Rattle.avc_poc.specs.OrderCounts.{order_counts}
-use Rattle.avc_poc.specs.OrderCountState.{OrderCountState}
-use Rattle.avc_types.specs.Results.{◌>>=◌}
+use Rattle.avc_decoder_core.proofs.Common.{false≢true, none-some, same_Some, option_map, Fault, Picture, Planes, Frame, Sps, IsSps, Header}
+use Rattle.avc_decoder_core.proofs.Common.{is_idr, is_reference, has_idr_marking, Marks, no_marks, Output, order_counts, OrderCountState}
+use Rattle.avc_decoder_core.proofs.Common.{◌>>=◌, opening_on, set_with, IsOpening, output_at_closing, output_pictures, FrameBufferState}
+use Rattle.avc_decoder_core.proofs.Common.{BeginsSequence, CanFollow, at_sequence_of, empty_frame_buffer, OpenPictureStart, SequenceState}
+use Rattle.avc_decoder_core.proofs.Common.{current_history, or_before, IsClosed, OpenPicture, Opening}
 use Rattle.avc_decoder_core.specs.History.{Entry, decoded_picture, History, earlier_in_sequence, history_after_closing, history_at_opening, is_same_sps}
 use Rattle.avc_decoder_core.specs.History.{marks_of, order_or_0, pasts, picture_entry, sequence_sps, with_missing, with_picture}
-use Rattle.avc_decoder_core.specs.Opening.{opening_on, set_with, IsOpening}
-use Rattle.avc_decoder_core.specs.Pictures.{output_at_closing, output_pictures}
-use Rattle.avc_decoder_core.specs.FrameBufferState.{FrameBufferState, BeginsSequence, CanFollow, Stores, at_sequence_of, empty_frame_buffer}
-use Rattle.avc_decoder_core.specs.SequenceState.{OpenPictureStart, SequenceState, current_history, or_before, IsClosed}
+use Rattle.avc_decoder_core.specs.FrameBufferState.{Stores}
 use Rattle.avc_decoder_core.specs.SequenceFields.{IsStateOf, StandsOn, StandsOnIf, counted, open_picture_of}
-use Rattle.avc_decoder_core.specs.declared.open_picture.OpenPicture.{OpenPicture}
-use Rattle.avc_decoder_core.specs.declared.opening.Opening.{Opening}
 use Rattle.avc_decoder_core.proofs.MissingNumbers.{can_follow, ok_same, set_at_opening}
 use Rattle.avc_decoder_core.proofs.SameSequence.{idr_not_refused}
 

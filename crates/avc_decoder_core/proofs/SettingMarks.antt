@@ -1,11 +1,7 @@
 -- Each frame gets its new mark.
-use Rattle.std.proofs.Common.{◌≡◌, ℕ, zero, suc, ◌+◌, ◌<◌, ◌≤◌, List, [], ◌∷◌, length, take, Option, refl, ap, sym, ◌∙◌, arith}
-use Rattle.std.specs.Prelude.{slice_index_or}
-use Rattle.avc_types.specs.declared.marked_frame.MarkedFrame.{MarkedFrame}
-use Rattle.avc_types.specs.declared.references.Mark.{Mark}
-use Rattle.avc_plane.specs.declared.frame.Frame.{Frame}
-use Rattle.avc_dpb.specs.Contents.{Contents, changed_at, with_mark}
-use Rattle.avc_decoder_core.specs.FrameBufferFields.{with_marks, with_all_marks}
+use Rattle.avc_decoder_core.proofs.Common.{◌≡◌, ℕ, zero, suc, ◌+◌, ◌<◌, ◌≤◌, List, [], ◌∷◌, length, take, Option, refl, ap, sym, ◌∙◌, arith}
+use Rattle.avc_decoder_core.proofs.Common.{slice_index_or, MarkedFrame, Mark, Frame, Contents, changed_at, with_mark, with_marks}
+use Rattle.avc_decoder_core.proofs.Common.{with_all_marks}
 
 abbrev pub frame_marked : Frame 32 → Option Mark → Frame 32
 frame_marked f mark = record f { mark = mark }

@@ -1,23 +1,13 @@
 -- One more missing number in a settled window.
-use Rattle.std.proofs.Common.{◌≡◌, ℕ, zero, suc, ◌+◌, ◌<◌, ◌≤◌, Bool, true, false, cond, ◌||◌, List, [], ◌∷◌, ◌++◌, length, drop, Ok, refl, ap, ap₂}
-use Rattle.std.proofs.Common.{sym, ◌∙◌, subst, arith, length-append, append_assoc, append-nil}
-use Rattle.std.specs.Prelude.{◌==◌, ◌%◌}
-use Rattle.std.specs.List.{filter}
-use Rattle.std.proofs.lemmas.List.Elements.{filter-append}
-use Rattle.std.proofs.lemmas.Bool.{or_right}
-use Rattle.avc_types.specs.References.{Reference}
-use Rattle.avc_params.specs.Limits.{dpb_size, max_frame_num, reference_limit}
-use Rattle.avc_params.specs.declared.sps.Sps.{Sps}
-use Rattle.avc_marking.specs.Laws.{CountFrom, StandBelow, StandFrom}
-use Rattle.avc_marking.specs.Marks.{Marks, frame_nums_from}
+use Rattle.avc_decoder_core.proofs.Common.{◌≡◌, ℕ, zero, suc, ◌+◌, ◌<◌, ◌≤◌, Bool, true, false, cond, ◌||◌, List, [], ◌∷◌, ◌++◌, length}
+use Rattle.avc_decoder_core.proofs.Common.{drop, Ok, refl, ap, ap₂, sym, ◌∙◌, subst, arith, length-append, append_assoc, append-nil, ◌==◌}
+use Rattle.avc_decoder_core.proofs.Common.{◌%◌, filter, filter-append, or_right, Reference, dpb_size, max_frame_num, reference_limit, Sps}
+use Rattle.avc_decoder_core.proofs.Common.{CountFrom, StandBelow, StandFrom, Marks, frame_nums_from, Output, Buffer, Stored, after_entry}
+use Rattle.avc_decoder_core.proofs.Common.{needed_frames, missing_arrival, missing_stored, AreBefore, AreNotHeld, IsSettled, Staying}
+use Rattle.avc_decoder_core.proofs.Common.{missing_reference, missing_references, stored_missing, with_all_missing}
 use Rattle.avc_marking.proofs.FullWindow.{window_takes_the_first}
-use Rattle.avc_dpb.specs.declared.output.Output.{Output}
-use Rattle.avc_dpb.specs.Bumping.{Buffer, Stored, after_entry, needed_frames}
-use Rattle.avc_dpb.specs.Laws.{missing_arrival, missing_stored}
 use Rattle.avc_dpb.proofs.FindingRoom.{missing_frames_find_room}
-use Rattle.avc_decoder_core.specs.Gaps.{AreBefore, AreNotHeld, IsSettled, Staying, missing_reference, missing_references, stored_missing}
 use Rattle.avc_decoder_core.specs.History.{Entry, History, buffer_of, marking_entry, marks_of, missing_frame, or_no_references}
-use Rattle.avc_decoder_core.specs.Opening.{with_all_missing}
 use Rattle.avc_decoder_core.proofs.Entering.{marks_then}
 use Rattle.avc_decoder_core.proofs.References.{entries, is_entry, other_entry, other_entry_above, same_entry}
 use Rattle.avc_decoder_core.proofs.Storing.{length-arrivals}

@@ -1,33 +1,15 @@
 -- Where the buffer's frames pass the test for a settled window.
-use Rattle.std.proofs.Common.{◌≡◌, ℕ, zero, suc, ◌+◌, ◌-◌, ◌<◌, ◌≤◌, Bool, true, false, ◌&&◌, ◌||◌, cond, List, [], ◌∷◌, ◌++◌, length, map, Option, Some, None, slice_get, is_some, unwrap_or, refl, ap, ap₂, Ok}
-use Rattle.std.proofs.Common.{sym, ◌∙◌, subst, arith, length-append}
-use Rattle.std.specs.Prelude.{◌==◌, ◌%◌, nat_lt, if◌then◌else◌}
-use Rattle.std.specs.Option.{option_map}
-use Rattle.std.specs.List.{filter}
-use Rattle.std.proofs.lemmas.Bool.{eqb-true, and_parts, or_right}
-use Rattle.std.proofs.lemmas.Bool.Decides.{nat_tests}
-use Rattle.std.proofs.lemmas.Option.{slice_get-map}
-use Rattle.std.proofs.lemmas.List.{length-map}
-use Rattle.std.proofs.lemmas.Simd.{map-map}
-use Rattle.std.proofs.Math.Nat.{add-mod_right}
+use Rattle.avc_decoder_core.proofs.Common.{◌≡◌, ℕ, zero, suc, ◌+◌, ◌-◌, ◌<◌, ◌≤◌, Bool, true, false, ◌&&◌, ◌||◌, cond, List, [], ◌∷◌, ◌++◌}
+use Rattle.avc_decoder_core.proofs.Common.{length, map, Option, Some, None, slice_get, is_some, unwrap_or, refl, ap, ap₂, Ok, sym, ◌∙◌}
+use Rattle.avc_decoder_core.proofs.Common.{subst, arith, length-append, ◌==◌, ◌%◌, nat_lt, if◌then◌else◌, option_map, filter, eqb-true}
+use Rattle.avc_decoder_core.proofs.Common.{and_parts, or_right, nat_tests, slice_get-map, length-map, map-map, add-mod_right, Mark, Short}
+use Rattle.avc_decoder_core.proofs.Common.{Long, Reference, is_short, references_at, Frame, marked_frame, dpb_size, max_frame_num}
+use Rattle.avc_decoder_core.proofs.Common.{reference_limit, Sps, CountsReferences, CountFrom, StandBelow, StandFrom, frame_nums_from}
+use Rattle.avc_decoder_core.proofs.Common.{Stored, needed_frames, Contents, is_held_at, slot_of, frame_at, Each, IsStateAfter, places_in}
+use Rattle.avc_decoder_core.proofs.Common.{AreBefore, AreNotHeld, IsLongGap, has_its_place, is_leaving, is_staying, settles_at}
 use Rattle.avc_decoder_core.proofs.SameSequence.{wrong}
-use Rattle.avc_types.specs.declared.references.Mark.{Mark}
-use Rattle.avc_types.specs.declared.references.Mark.TheVariants.{Short, Long}
-use Rattle.avc_types.specs.References.{Reference, is_short, references_at}
-use Rattle.avc_plane.specs.declared.frame.Frame.{Frame}
-use Rattle.avc_plane.specs.Frames.{marked_frame}
-use Rattle.avc_params.specs.Limits.{dpb_size, max_frame_num, reference_limit}
-use Rattle.avc_params.specs.declared.sps.Sps.{Sps}
-use Rattle.avc_marking.specs.Frames.{CountsReferences}
-use Rattle.avc_marking.specs.Laws.{CountFrom, StandBelow, StandFrom}
-use Rattle.avc_marking.specs.Marks.{frame_nums_from}
 use Rattle.avc_marking.proofs.Numbers.{numbers-mod}
-use Rattle.avc_dpb.specs.Bumping.{Stored, needed_frames}
-use Rattle.avc_dpb.specs.Contents.{Contents, is_held_at, slot_of}
 use Rattle.avc_dpb.specs.declared.slot.Slot.{Slot}
-use Rattle.avc_decoder_core.specs.Frames.{frame_at}
-use Rattle.avc_decoder_core.specs.FrameBufferFields.{Each, IsStateAfter, places_in}
-use Rattle.avc_decoder_core.specs.Gaps.{AreBefore, AreNotHeld, IsLongGap, has_its_place, is_leaving, is_staying, settles_at}
 use Rattle.avc_decoder_core.specs.History.{History, buffer_of}
 use Rattle.avc_decoder_core.proofs.Places.{Rise, each_implies, increasing, rise}
 use Rattle.avc_decoder_core.proofs.References.{entries, is_entry}

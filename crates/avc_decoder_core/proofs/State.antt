@@ -1,40 +1,17 @@
 -- What the state of a frame buffer says of its frames, and the state once an entry's frame is stored.
-use Rattle.std.proofs.Common.{◌≡◌, ◌≢◌, ℕ, ◌+◌, ◌<◌, ◌≤◌, true, false, not, ◌||◌, List, [], ◌∷◌, ◌++◌, length, map, Option, Some, None, is_some, Result}
-use Rattle.std.proofs.Common.{Ok, Err, IfErr, refl, ap, ap₂, sym, ◌∙◌, subst, arith}
-use Rattle.std.proofs.lemmas.List.{length-map}
-use Rattle.std.proofs.lemmas.Simd.{map-map}
-use Rattle.std.specs.Prelude.{IfSome, max, min}
-use Rattle.std.specs.List.{filter_map}
-use Rattle.avc_types.specs.declared.marked_frame.MarkedFrame.{MarkedFrame}
-use Rattle.avc_types.specs.declared.picture.Picture.{Picture}
-use Rattle.avc_types.specs.declared.references.Marking.{Marking}
-use Rattle.avc_types.specs.declared.fault.Fault.{Fault}
-use Rattle.avc_types.specs.declared.picture_error.PictureError.{PictureError}
-use Rattle.avc_types.specs.declared.picture_error.PictureError.TheVariants.{Fault as Faulty}
-use Rattle.avc_types.specs.References.{Reference, references_at, result_map}
-use Rattle.avc_marking.specs.Frames.{or_fault}
-use Rattle.avc_plane.specs.declared.frame.Frame.{Frame}
-use Rattle.avc_plane.specs.Frames.{AreFrames, AreSized, marked_frame, padded_planes_of, stored_at}
-use Rattle.avc_params.specs.Limits.{width_in_mbs, height_in_mbs, dpb_size, reference_limit}
-use Rattle.avc_params.specs.Within.{IsSps}
-use Rattle.avc_params.specs.declared.sps.Sps.{Sps}
-use Rattle.avc_slice.specs.Header.{is_reference}
-use Rattle.avc_marking.specs.Laws.{unmarks_all}
-use Rattle.avc_marking.specs.Marks.{Marks, marks_after, no_marks, prev_ref_frame_num}
-use Rattle.avc_dpb.specs.declared.arriving_frame.ArrivingFrame.{ArrivingFrame}
-use Rattle.avc_dpb.specs.declared.output.Output.{Output}
-use Rattle.avc_dpb.specs.Bumping.{empty_buffer, remain}
-use Rattle.avc_dpb.specs.Contents.{Contents, IsBuffer, OutputsAll, OutputsSome, Stores}
-use Rattle.avc_dpb.specs.StoredFrame.{shown_frame}
-use Rattle.avc_dpb.proofs.Conserved.{all_held_go_out, holds_at_most}
-use Rattle.avc_decoder_core.specs.Frames.{frame_at, mark_in}
-use Rattle.avc_decoder_core.specs.FrameBufferFields.{history_of, Each, IsSizedAt, IsStateAfter, OutputsPrior, places_in, with_all_marks}
-use Rattle.avc_decoder_core.specs.FrameBufferState.{FrameBufferState, Refuses}
-use Rattle.avc_decoder_core.specs.declared.history_entry.HistoryEntry.{HistoryEntry}
+use Rattle.avc_decoder_core.proofs.Common.{◌≡◌, ◌≢◌, ℕ, ◌+◌, ◌<◌, ◌≤◌, true, false, not, ◌||◌, List, [], ◌∷◌, ◌++◌, length, map, Option}
+use Rattle.avc_decoder_core.proofs.Common.{Some, None, is_some, Result, Ok, Err, IfErr, refl, ap, ap₂, sym, ◌∙◌, subst, arith, length-map}
+use Rattle.avc_decoder_core.proofs.Common.{map-map, IfSome, max, min, filter_map, MarkedFrame, Picture, Marking, Fault, PictureError}
+use Rattle.avc_decoder_core.proofs.Common.{Faulty, Reference, references_at, result_map, or_fault, Frame, AreFrames, AreSized, marked_frame}
+use Rattle.avc_decoder_core.proofs.Common.{padded_planes_of, stored_at, width_in_mbs, height_in_mbs, dpb_size, reference_limit, IsSps, Sps}
+use Rattle.avc_decoder_core.proofs.Common.{is_reference, unmarks_all, Marks, marks_after, no_marks, prev_ref_frame_num, ArrivingFrame}
+use Rattle.avc_decoder_core.proofs.Common.{Output, empty_buffer, remain, Contents, IsBuffer, OutputsAll, OutputsSome, shown_frame}
+use Rattle.avc_decoder_core.proofs.Common.{all_held_go_out, holds_at_most, frame_at, mark_in, history_of, Each, IsSizedAt, IsStateAfter}
+use Rattle.avc_decoder_core.proofs.Common.{OutputsPrior, places_in, with_all_marks, FrameBufferState, Refuses, HistoryEntry, held_pictures}
+use Rattle.avc_decoder_core.proofs.Common.{output_pictures, AreFramesIn, AreStoredIn}
+use Rattle.avc_dpb.specs.Contents.{Stores}
 use Rattle.avc_decoder_core.specs.History.{Entry, decoded_picture, missing_frame, History, all_held, arrival, arrivals, buffer_of, entry_at}
 use Rattle.avc_decoder_core.specs.History.{marking_entries, marking_entry, or_no_references, sequence_sps, stored}
-use Rattle.avc_decoder_core.specs.Pictures.{held_pictures, output_pictures}
-use Rattle.avc_decoder_core.specs.SequenceState.{AreFramesIn, AreStoredIn}
 use Rattle.avc_decoder_core.proofs.Places.{below, each_all, each_implies, each_map, increasing, rise}
 use Rattle.avc_decoder_core.proofs.References.{each_entry, is_entry, other_entry}
 use Rattle.avc_decoder_core.proofs.FramesAt.{pictures_are, sized_frame, stored_are}

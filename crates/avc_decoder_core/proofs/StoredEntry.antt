@@ -1,31 +1,13 @@
 -- An entry's frame is marked and stored, in the terms of the calls that do it.
-use Rattle.std.proofs.Common.{◌≡◌, ℕ, ◌+◌, ℤ, pos, Bool, true, false, List, [], ◌∷◌, ◌++◌, length, map, Option, Some, None, is_some, Ok, refl, ap}
-use Rattle.std.proofs.Common.{ap₂, sym, ◌∙◌, arith, length-append}
-use Rattle.std.proofs.lemmas.List.{length-map}
+use Rattle.avc_decoder_core.proofs.Common.{◌≡◌, ℕ, ◌+◌, ℤ, pos, Bool, true, false, List, [], ◌∷◌, ◌++◌, length, map, Option, Some, None}
+use Rattle.avc_decoder_core.proofs.Common.{is_some, Ok, refl, ap, ap₂, sym, ◌∙◌, arith, length-append, length-map, slice_index_or}
+use Rattle.avc_decoder_core.proofs.Common.{if◌then◌else◌, filter_map, MarkedFrame, Picture, Frame, marked_frame, Planes, dpb_size, IsSps}
+use Rattle.avc_decoder_core.proofs.Common.{Sps, order_counts, is_reference, Header, MarksFrame, marks_at, Marks, frame_num_after_marking}
+use Rattle.avc_decoder_core.proofs.Common.{marks_after, prev_ref_frame_num, ArrivingFrame, Output, are_output, remain, Contents, OutputsAll}
+use Rattle.avc_decoder_core.proofs.Common.{shown_frame, frame_at, frame_of, mark_in, IsStateAfter, OutputsPrior, places_in, with_all_marks}
 use Rattle.std.proofs.Math.Seq.{drop-length}
 use Rattle.std.specs.Result.{is_ok}
-use Rattle.std.specs.Prelude.{slice_index_or, if◌then◌else◌}
-use Rattle.std.specs.List.{filter_map}
-use Rattle.avc_types.specs.declared.marked_frame.MarkedFrame.{MarkedFrame}
-use Rattle.avc_types.specs.declared.picture.Picture.{Picture}
-use Rattle.avc_plane.specs.declared.frame.Frame.{Frame}
-use Rattle.avc_plane.specs.Frames.{marked_frame}
-use Rattle.avc_plane.specs.Planes.{Planes}
-use Rattle.avc_params.specs.Limits.{dpb_size}
-use Rattle.avc_params.specs.Within.{IsSps}
-use Rattle.avc_params.specs.declared.sps.Sps.{Sps}
-use Rattle.avc_poc.specs.OrderCounts.{order_counts}
-use Rattle.avc_slice.specs.Header.{is_reference}
-use Rattle.avc_slice.specs.declared.header.Header.{Header}
-use Rattle.avc_marking.specs.Frames.{MarksFrame, marks_at}
-use Rattle.avc_marking.specs.Marks.{Marks, frame_num_after_marking, marks_after, prev_ref_frame_num}
-use Rattle.avc_dpb.specs.declared.arriving_frame.ArrivingFrame.{ArrivingFrame}
-use Rattle.avc_dpb.specs.declared.output.Output.{Output}
-use Rattle.avc_dpb.specs.Bumping.{are_output, remain}
-use Rattle.avc_dpb.specs.Contents.{Contents, OutputsAll, Stores}
-use Rattle.avc_dpb.specs.StoredFrame.{shown_frame}
-use Rattle.avc_decoder_core.specs.Frames.{frame_at, frame_of, mark_in}
-use Rattle.avc_decoder_core.specs.FrameBufferFields.{IsStateAfter, OutputsPrior, places_in, with_all_marks}
+use Rattle.avc_dpb.specs.Contents.{Stores}
 use Rattle.avc_decoder_core.specs.History.{Entry, decoded_picture, missing_frame, History, arrival, buffer_of, marking_entries, marking_entry}
 use Rattle.avc_decoder_core.specs.History.{marks_of, or_no_references, order_or_0, pasts, picture_entry, prior_pictures_of, reorder_limit}
 use Rattle.avc_decoder_core.proofs.FramesAt.{entry_newest, last_mark}

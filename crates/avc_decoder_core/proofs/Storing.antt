@@ -1,26 +1,13 @@
 -- An entry's frame is stored: the buffer of the longer history.
-use Rattle.std.proofs.Common.{◌≡◌, ℕ, suc, ◌+◌, ◌<◌, ◌≤◌, Bool, true, false, not, ◌||◌, cond, List, [], ◌∷◌, ◌++◌, length, map, Option, is_some, refl}
-use Rattle.std.proofs.Common.{ap, ap₂, sym, ◌∙◌, subst, arith, length-append}
-use Rattle.std.proofs.lemmas.List.{length-map}
-use Rattle.std.specs.Prelude.{count_by, if◌then◌else◌}
-use Rattle.std.specs.List.{filter}
-use Rattle.std.proofs.lemmas.List.Elements.{filter-append}
-use Rattle.std.proofs.lemmas.List.Sums.{length-filter}
-use Rattle.std.proofs.lemmas.Simd.{map-map}
-use Rattle.avc_types.specs.declared.marked_frame.MarkedFrame.{MarkedFrame}
-use Rattle.avc_types.specs.declared.picture.Picture.{Picture}
-use Rattle.avc_types.specs.References.{Reference, reference_of, references_at}
-use Rattle.avc_plane.specs.declared.frame.Frame.{Frame}
-use Rattle.avc_plane.specs.Frames.{marked_frame}
-use Rattle.avc_marking.specs.Marks.{Marks}
-use Rattle.avc_dpb.specs.declared.arriving_frame.ArrivingFrame.{ArrivingFrame}
-use Rattle.avc_dpb.specs.declared.output.Output.{Output}
-use Rattle.avc_dpb.specs.Bumping.{Buffer, PriorPictures, remain, are_output, after_frame, after_prior_pictures, is_reference_in}
-use Rattle.avc_dpb.specs.Contents.{Contents, HasBuffer, IsBuffer, Stores, arrival_of}
-use Rattle.avc_dpb.specs.Laws.{HasRoom, places_of_references}
+use Rattle.avc_decoder_core.proofs.Common.{◌≡◌, ℕ, suc, ◌+◌, ◌<◌, ◌≤◌, Bool, true, false, not, ◌||◌, cond, List, [], ◌∷◌, ◌++◌, length, map}
+use Rattle.avc_decoder_core.proofs.Common.{Option, is_some, refl, ap, ap₂, sym, ◌∙◌, subst, arith, length-append, length-map, count_by}
+use Rattle.avc_decoder_core.proofs.Common.{if◌then◌else◌, filter, filter-append, length-filter, map-map, MarkedFrame, Picture, Reference}
+use Rattle.avc_decoder_core.proofs.Common.{reference_of, references_at, Frame, marked_frame, Marks, ArrivingFrame, Output, Buffer}
+use Rattle.avc_decoder_core.proofs.Common.{PriorPictures, remain, are_output, after_frame, after_prior_pictures, is_reference_in, Contents}
+use Rattle.avc_decoder_core.proofs.Common.{HasBuffer, IsBuffer, arrival_of, HasRoom, places_of_references, frame_at, Each, IsStateAfter}
+use Rattle.avc_decoder_core.proofs.Common.{places_in, with_all_marks, with_marks}
+use Rattle.avc_dpb.specs.Contents.{Stores}
 use Rattle.avc_dpb.proofs.Staying.{references_stay}
-use Rattle.avc_decoder_core.specs.Frames.{frame_at}
-use Rattle.avc_decoder_core.specs.FrameBufferFields.{Each, IsStateAfter, places_in, with_all_marks, with_marks}
 use Rattle.avc_decoder_core.specs.History.{Entry, History, arrival, arrivals, buffer_of}
 use Rattle.avc_decoder_core.proofs.Places.{below, each_implies, rise}
 use Rattle.avc_decoder_core.proofs.References.{entries, filter_map_places, is_entry, no_entry, no_filter, references_by, same_filter}

@@ -1,12 +1,8 @@
 -- The frames of missing numbers are stored one after another.
 use Rattle.std.proofs.Common.{◌≡◌, ◌∷◌, ◌++◌, ◌∙◌, ◌<◌, ℕ, length, arith, List, [], drop, slice_get, Some, true, false, is_ok, ap, ap₂, sym, subst, append-nil, append_assoc}
-use Rattle.avc_types.specs.declared.picture.Picture.{Picture}
-use Rattle.avc_params.specs.declared.sps.Sps.{Sps}
-use Rattle.avc_dpb.specs.declared.output.Output.{Output}
-use Rattle.avc_decoder_core.specs.FrameBufferState.{FrameBufferState, Stores}
+use Rattle.avc_decoder_core.proofs.Common.{Picture, Sps, Output, FrameBufferState, StoresAll, with_all_missing, output_pictures}
+use Rattle.avc_decoder_core.specs.FrameBufferState.{Stores}
 use Rattle.avc_decoder_core.specs.History.{History, is_same_sps, missing_frame, sequence_sps, with_missing}
-use Rattle.avc_decoder_core.specs.Opening.{StoresAll, with_all_missing}
-use Rattle.avc_decoder_core.specs.Pictures.{output_pictures}
 use Rattle.avc_decoder_core.proofs.MissingNumbers.{is_with_all, left_after, next_number}
 use Rattle.avc_decoder_core.proofs.Outputs.{Extends, extends_itself, extends_more, nothing_goes_out, output_more}
 

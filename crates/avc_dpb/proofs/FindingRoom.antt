@@ -1,12 +1,8 @@
 -- A non-existing frame for which there is room.
-use Rattle.std.proofs.Common.{◌≡◌, ℕ, zero, suc, ◌+◌, ◌≤◌, ◌&&◌, ◌||◌, not, if◌then◌else◌, Bool, true, false, List, length, None, refl, ap, ◌∙◌, arith}
-use Rattle.std.specs.Prelude.{count_by, nat_le}
-use Rattle.std.proofs.lemmas.Bool.Decides.{nat_tests}
-use Rattle.avc_dpb.specs.declared.output.Output.{Output}
-use Rattle.avc_dpb.specs.declared.output.Output.TheVariants.{Full, Early}
+use Rattle.avc_dpb.proofs.Common.{◌≡◌, ℕ, zero, suc, ◌+◌, ◌≤◌, ◌&&◌, ◌||◌, not, if◌then◌else◌, Bool, true, false, List, length, None, refl}
+use Rattle.avc_dpb.proofs.Common.{ap, ◌∙◌, arith, count_by, nat_le, nat_tests, Output, Full, Early, MissingFramesFindRoom, missing_arrival}
 use Rattle.avc_dpb.specs.Bumping.{Buffer, needed_frames, after_bumping, after_bumping_while, are_too_many, holds_too_many, is_first, is_full, must_bump}
 use Rattle.avc_dpb.specs.Bumping.{after_placing, after_reordering, with_direct_output, with_frame, with_frame_placed}
-use Rattle.avc_dpb.specs.Laws.{MissingFramesFindRoom, missing_arrival}
 
 not_bumped : (test : Buffer → Bool) (references : List ℕ) (n : ℕ) (b : Buffer) → test b ≡ false → after_bumping_while test references n b ≡ b
 not_bumped test references zero b e = refl

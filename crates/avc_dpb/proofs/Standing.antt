@@ -1,25 +1,18 @@
 -- What slots and frames stand for while a frame is stored, or all pictures go out.
 use Rattle.std.proofs.Common.{◌≡◌, ◌≢◌, ℕ, zero, suc, ◌+◌, ◌-◌, ◌<◌, ◌==◌, ◌||◌, ◌&&◌, not, int_lt, nat_le, if◌then◌else◌, ℤ, Bool, true, false, cond, List, [], ◌∷◌, ◌++◌, length, map, get_or, slice_get, slice_set, Option, Some, None}
 use Rattle.std.proofs.Common.{refl, sym, ap, ap₂, ◌∙◌, subst, arith, append-nil, append_assoc, eq-eqb}
-use Rattle.std.specs.Prelude.{count_by}
-use Rattle.std.specs.Option.{option_map}
-use Rattle.std.specs.List.{filter, filter_map, fold, list_all, list_any, cons_option}
-use Rattle.std.proofs.lemmas.Bool.{eqb-true, false≢true, or_left, or_right}
-use Rattle.std.proofs.lemmas.Option.{none-some, same_Some, slice_get-map}
-use Rattle.std.proofs.lemmas.List.{map-append, map-set, length-map}
-use Rattle.std.proofs.lemmas.List.Elements.{filter_map-append}
+use Rattle.avc_dpb.proofs.Common.{count_by, option_map, filter, filter_map, fold, list_all, list_any, cons_option, eqb-true, false≢true}
+use Rattle.avc_dpb.proofs.Common.{or_left, or_right, none-some, same_Some, slice_get-map, map-append, map-set, length-map}
+use Rattle.avc_dpb.proofs.Common.{filter_map-append, Frame, Slot, ForRoom, ForFew, ForNone, Contents, IsBuffer, IsReferenceAmong, IsRising}
+use Rattle.avc_dpb.proofs.Common.{Stores, OutputsAll, OutputsSome, arrival_of, slot_changed_at, slot_of, are_needed, chosen}
+use Rattle.avc_dpb.proofs.Common.{first_output_from, goes_on, slot_let_go, StandFor, Become, ShowsFirst, goes_on_in, BumpsWhile, ShowsWhile}
+use Rattle.avc_dpb.proofs.Common.{PlacesFrame, is_used_for_reference, shown_frame}
 use Rattle.avc_types.specs.declared.picture.Picture.{Picture}
-use Rattle.avc_plane.specs.declared.frame.Frame.{Frame}
-use Rattle.avc_dpb.specs.declared.slot.Slot.{Slot}
 use Rattle.avc_dpb.specs.declared.arriving_frame.ArrivingFrame.{ArrivingFrame}
 use Rattle.avc_dpb.specs.declared.waiting.Bumping.{Bumping}
-use Rattle.avc_dpb.specs.declared.waiting.Bumping.TheVariants.{ForRoom, ForFew, ForNone}
 use Rattle.avc_dpb.specs.Bumping.{Stored, Buffer, are_too_many, is_reference_in, needed_frames, no_longer_held, after_bumping, after_bumping_while, after_making_room, with_all_output}
 use Rattle.avc_dpb.specs.Bumping.{is_full, with_frame, with_direct_output, with_frame_placed, after_frame}
-use Rattle.avc_dpb.specs.Contents.{Contents, IsBuffer, IsReferenceAmong, IsRising, Stores, OutputsAll, OutputsSome, arrival_of, changed_at as slot_changed_at, slot_of}
-use Rattle.avc_dpb.specs.Places.{are_needed, chosen, first_output_from, goes_on, no_longer_held as slot_let_go}
-use Rattle.avc_dpb.specs.Steps.{StandFor, Become, Bumps, ShowsFirst, goes_on_in, BumpsWhile, ShowsWhile, PlacesFrame}
-use Rattle.avc_dpb.specs.StoredFrame.{is_used_for_reference, shown_frame}
+use Rattle.avc_dpb.specs.Steps.{Bumps}
 use Rattle.avc_dpb.proofs.Held.{first_held, head_held, Agree, agree, not_held, changed_at}
 use Rattle.avc_dpb.proofs.Bumped.{bumped_none, bumped_some, still_rising, keep}
 use Rattle.avc_dpb.proofs.Rising.{filter_rising, rising_more, rising_push, same_head, same_tail}

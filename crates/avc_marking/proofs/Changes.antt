@@ -1,15 +1,10 @@
 -- What a change of frames makes of the reference frames among them.
-use Rattle.std.specs.List.{filter, refill}
+use Rattle.avc_marking.proofs.Common.{filter, refill, ◌≡◌, ℕ, zero, suc, ◌+◌, ◌<◌, Bool, true, false, not, cond, ◌&&◌, List, [], ◌∷◌, ◌++◌}
+use Rattle.avc_marking.proofs.Common.{length, take, map, refl, sym, ap, ◌∙◌, arith, slice_index, slice_index_or, slice_set, is_some, ◌==◌}
+use Rattle.avc_marking.proofs.Common.{if◌then◌else◌, drop_all, take_all, append-nil, AllPairs-from_increasing, nat_tests, MarkedFrame}
+use Rattle.avc_marking.proofs.Common.{Reference, StandAt, reference_of, references_at, reference_at, no_frame, unmarked, unmarked_if}
 use Rattle.std.specs.List.Sorted.{IsStrictlyIncreasing}
-use Rattle.std.proofs.Common.{◌≡◌, ℕ, zero, suc, ◌+◌, ◌<◌, Bool, true, false, not, cond, ◌&&◌, List, [], ◌∷◌, ◌++◌, length, take, map, refl, sym, ap, ◌∙◌, arith}
-use Rattle.std.specs.Prelude.{slice_index, slice_index_or, slice_set, is_some, ◌==◌, if◌then◌else◌}
-use Rattle.std.proofs.lemmas.List.{drop_all, take_all, append-nil}
-use Rattle.std.proofs.lemmas.List.Kept.{AllPairs-from_increasing}
-use Rattle.std.proofs.lemmas.Bool.Decides.{nat_tests}
-use Rattle.avc_types.specs.declared.marked_frame.MarkedFrame.{MarkedFrame}
-use Rattle.avc_types.specs.References.{Reference, StandAt, reference_of, references_at, reference_at, no_frame}
 use Rattle.avc_marking.specs.Marks.{without_frame}
-use Rattle.avc_marking.specs.Frames.{unmarked, unmarked_if}
 
 -- ---- rising entries
 

@@ -1,20 +1,10 @@
 -- The picture's own frame among the others, and the limit.
-use Rattle.std.specs.List.{refill}
-use Rattle.std.proofs.Common.{◌≡◌, ℕ, ◌+◌, Bool, true, false, List, [], ◌∷◌, ◌++◌, length, map, Option, None, Some, Ok, Err, sym, ap, ◌∙◌, arith}
-use Rattle.std.specs.Prelude.{slice_index, slice_index_or, slice_set, nat_le, is_some, ◌==◌, if◌then◌else◌}
-use Rattle.std.proofs.lemmas.List.{length-append, length-set, get_or_at, append-nil}
-use Rattle.avc_types.specs.declared.fault.Fault.{Fault}
-use Rattle.avc_types.specs.declared.fault.Fault.TheVariants.{TooManyReferences}
-use Rattle.avc_types.specs.declared.marked_frame.MarkedFrame.{MarkedFrame}
-use Rattle.avc_types.specs.declared.references.Mark.TheVariants.{Short}
-use Rattle.avc_types.specs.declared.references.Marking.{Marking}
-use Rattle.avc_types.specs.declared.references.Marking.TheVariants.{SlidingWindow}
-use Rattle.avc_types.specs.declared.references.Operation.{Operation}
-use Rattle.avc_types.specs.References.{Reference, reference_of, references_at, reference_at, no_frame}
-use Rattle.avc_marking.specs.declared.frame.NewFrame.{NewFrame}
-use Rattle.avc_types.specs.Results.{◌>>=◌}
+use Rattle.avc_marking.proofs.Common.{refill, ◌≡◌, ℕ, ◌+◌, Bool, true, false, List, [], ◌∷◌, ◌++◌, length, map, Option, None, Some, Ok, Err}
+use Rattle.avc_marking.proofs.Common.{sym, ap, ◌∙◌, arith, slice_index, slice_index_or, slice_set, nat_le, is_some, ◌==◌, if◌then◌else◌}
+use Rattle.avc_marking.proofs.Common.{length-append, length-set, get_or_at, append-nil, Fault, TooManyReferences, MarkedFrame, Short}
+use Rattle.avc_marking.proofs.Common.{Marking, SlidingWindow, Operation, Reference, reference_of, references_at, reference_at, no_frame}
+use Rattle.avc_marking.proofs.Common.{NewFrame, ◌>>=◌, marking_entry, marks_at, operation_state, StandWith}
 use Rattle.avc_marking.specs.Marks.{MarkingEntry, Marks, OperationState, current_frame, with_current_frame, frame_num_after_marking, after_sliding_window, limit_of, after_adaptive_marking, marks_after, within_limit, after_operations}
-use Rattle.avc_marking.specs.Frames.{marking_entry, marks_at, operation_state, StandWith}
 use Rattle.avc_marking.proofs.Changes.{refilled, references-append, references-changed}
 use Rattle.avc_marking.proofs.OperationStates.{stand_with, operations-any}
 

@@ -1,25 +1,14 @@
 -- The sliding window over short-term frames whose numbers rise.
-use Rattle.std.specs.List.{filter}
-use Rattle.std.specs.Prelude.{◌==◌, cond, if◌then◌else◌, int_lt, pos, ℤ, ◌+ℤ◌, ◌-ℤ◌, ◌≤ℤ◌, IfSome, ◌⊎◌, ◌%◌, ◌*◌, ◌/◌}
-use Rattle.std.proofs.Common.{◌≡◌, ℕ, ◌+◌, ◌<◌, ◌≤◌, nat_lt, Bool, true, false, not, ◌||◌, ◌&&◌, List, [], ◌∷◌, ◌++◌, length}
-use Rattle.std.proofs.Common.{Option, None, Some, Result, Ok, inl, inr, ◌-◌, slice_get, refl, sym, ap, ap₂, ◌∙◌, subst, arith, length-append}
-use Rattle.std.proofs.lemmas.Bool.Decides.{nat_tests}
-use Rattle.std.proofs.lemmas.List.Elements.{filter-append}
-use Rattle.std.proofs.Math.Nat.{mod-lt, div-add-mod, add-mod_right}
+use Rattle.avc_marking.proofs.Common.{filter, ◌==◌, cond, if◌then◌else◌, int_lt, pos, ℤ, ◌+ℤ◌, ◌-ℤ◌, ◌≤ℤ◌, IfSome, ◌⊎◌, ◌%◌, ◌*◌, ◌/◌, ◌≡◌}
+use Rattle.avc_marking.proofs.Common.{ℕ, ◌+◌, ◌<◌, ◌≤◌, nat_lt, Bool, true, false, not, ◌||◌, ◌&&◌, List, [], ◌∷◌, ◌++◌, length, Option}
+use Rattle.avc_marking.proofs.Common.{None, Some, Result, Ok, inl, inr, ◌-◌, slice_get, refl, sym, ap, ap₂, ◌∙◌, subst, arith}
+use Rattle.avc_marking.proofs.Common.{length-append, nat_tests, filter-append, mod-lt, div-add-mod, add-mod_right, eq-eqb, ne_eqb}
+use Rattle.avc_marking.proofs.Common.{same_number, CurrentFrameNum, Fault, TooManyReferences, Short, Long, Reference, is_short, pic_num_of}
+use Rattle.avc_marking.proofs.Common.{sorted_by, ◌>>=◌, first_in_window_of, StandBelow, StandFrom, CountFrom, WindowTakesTheFirst}
 use Rattle.std.proofs.lemmas.Nat.{mod-mul-add}
 use Rattle.std.proofs.lemmas.Int.{ints}
-use Rattle.std.proofs.lemmas.Bool.{eq-eqb, ne_eqb}
-use Rattle.avc_types.specs.Arithmetic.{◌==ℤ◌ as same_number}
-use Rattle.avc_types.specs.declared.current_frame_num.CurrentFrameNum.{CurrentFrameNum}
-use Rattle.avc_types.specs.declared.fault.Fault.{Fault}
-use Rattle.avc_types.specs.declared.fault.Fault.TheVariants.{TooManyReferences}
-use Rattle.avc_types.specs.declared.references.Mark.TheVariants.{Short, Long}
-use Rattle.avc_types.specs.References.{Reference, is_short, pic_num_of, sorted_by}
-use Rattle.avc_types.specs.Results.{◌>>=◌}
 use Rattle.avc_marking.specs.Marks.{limit_of, frame_or, without_frame, current_frame}
 use Rattle.avc_marking.specs.Marks.{precedes_in_window, first_in_window, after_sliding_window}
-use Rattle.avc_marking.specs.Frames.{first_in_window_of}
-use Rattle.avc_marking.specs.Laws.{StandBelow, StandFrom, CountFrom, WindowTakesTheFirst}
 use Rattle.avc_marking.proofs.Sliding.{first-placed}
 
 -- ---- numbers that go on past MaxFrameNum

@@ -1,26 +1,15 @@
 -- Which frames an entry leaves.
-use Rattle.std.specs.List.{filter, list_any}
+use Rattle.avc_marking.proofs.Common.{filter, list_any, nat_le, is_some, ◌==◌, if◌then◌else◌, nat_tests, All-head, All-tail, All-cons}
+use Rattle.avc_marking.proofs.Common.{All-nil, or_left, or_right, CurrentFrameNum, Fault, TooManyReferences, Mark, Short, Long, Marking}
+use Rattle.avc_marking.proofs.Common.{Idr, SlidingWindow, Adaptive, Operation, Reference, is_short, long_term_frame_idx}
+use Rattle.avc_marking.proofs.Common.{has_long_term_frame_idx, sorted_by, placed_by, ◌>>=◌, IsSameFrame, IsPartUpToMarks, AddsOwnFrameAlone}
+use Rattle.avc_marking.proofs.Common.{unmarks_all, LeavesOwnFrameAlone, SlidesAgain}
 use Rattle.std.specs.List.Sorted.{IsStrictlyIncreasing}
 use Rattle.std.specs.Result.{is_ok}
-use Rattle.std.specs.Prelude.{nat_le, is_some, ◌==◌, if◌then◌else◌}
 use Rattle.std.proofs.Common.{◌≡◌, ℕ, suc, ◌+◌, ◌<◌, nat_lt, Bool, true, false, not, cond, ◌||◌, ◌&&◌, List, [], ◌∷◌, ◌++◌, length, map, All, Option, Some, None, Result, Ok, Err, slice_get, refl, sym, ap, subst, ◌∙◌, inl, inr, arith, append-nil}
-use Rattle.std.proofs.lemmas.Bool.Decides.{nat_tests}
-use Rattle.std.proofs.lemmas.List.Elements.{All-head, All-tail, All-cons, All-nil}
 use Rattle.std.proofs.lemmas.List.Folds.{list_any-append}
-use Rattle.std.proofs.lemmas.Bool.{or_left, or_right}
-use Rattle.avc_types.specs.declared.current_frame_num.CurrentFrameNum.{CurrentFrameNum}
-use Rattle.avc_types.specs.declared.fault.Fault.{Fault}
-use Rattle.avc_types.specs.declared.fault.Fault.TheVariants.{TooManyReferences}
-use Rattle.avc_types.specs.declared.references.Mark.{Mark}
-use Rattle.avc_types.specs.declared.references.Mark.TheVariants.{Short, Long}
-use Rattle.avc_types.specs.declared.references.Marking.{Marking}
-use Rattle.avc_types.specs.declared.references.Marking.TheVariants.{Idr, SlidingWindow, Adaptive}
-use Rattle.avc_types.specs.declared.references.Operation.{Operation}
 use Rattle.avc_types.specs.declared.references.Operation.TheVariants.{UnmarkShortTerm, UnmarkLongTerm, AssignLongTerm, MaxLongTermFrameIdx, UnmarkAll, CurrentToLongTerm}
-use Rattle.avc_types.specs.References.{Reference, is_short, long_term_frame_idx, has_long_term_frame_idx, sorted_by, placed_by}
-use Rattle.avc_types.specs.Results.{◌>>=◌}
 use Rattle.avc_marking.specs.Marks.{MarkingEntry, Marks, OperationState, limit_of, frame_or, refuse_unless, without_frame, with_other_mark, without_long_term_frame_idx, with_mark, is_index_allowed, precedes_in_window, first_in_window, after_sliding_window, frame_with_pic_num_x, without_short_term, long_term_frame_or_fault, without_long_term, with_long_term, with_max_long_term_frame_idx, max_long_term_frame_idx_below, with_references, long_term_current, with_long_term_current, after_operation, after_operations, is_unmark_all, current_frame, with_current_frame, within_limit, before_operations, after_adaptive_marking, marks_after, marks}
-use Rattle.avc_marking.specs.Laws.{IsSameFrame, IsPartUpToMarks, AddsOwnFrameAlone, unmarks_all, LeavesOwnFrameAlone, SlidesAgain}
 use Rattle.avc_marking.proofs.Parts.{same-refl, part-refl, part-trans, part-append, part-none, part-filter, part-map, part-all, part-rising, rising-append, entries_of}
 
 -- ---- results

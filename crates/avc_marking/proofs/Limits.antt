@@ -1,25 +1,13 @@
 -- How many reference frames there may be.
-use Rattle.std.specs.List.{filter, list_any}
+use Rattle.avc_marking.proofs.Common.{filter, list_any, nat_le, ◌==◌, if◌then◌else◌, nat_tests, All-head, All-tail, eq-eqb, or_left}
+use Rattle.avc_marking.proofs.Common.{or_right, CurrentFrameNum, Fault, TooManyReferences, Short, Long, Marking, Idr, SlidingWindow}
+use Rattle.avc_marking.proofs.Common.{Adaptive, Reference, is_short, sorted_by, ◌>>=◌, first_in_window_of, StaysLimited, IsLimited}
 use Rattle.std.proofs.Common.{◌≡◌, ℕ, suc, ◌+◌, ◌<◌, ◌≤◌, nat_lt, Bool, true, false, not, cond, ◌||◌, List, [], ◌∷◌, ◌++◌, length, Option, Some, None, Result, Ok, Err, slice_get, refl, sym, ap, ◌∙◌, arith, length-append}
-use Rattle.std.specs.Prelude.{nat_le, ◌==◌, if◌then◌else◌}
-use Rattle.std.proofs.lemmas.Bool.Decides.{nat_tests}
-use Rattle.std.proofs.lemmas.List.Elements.{All-head, All-tail}
 use Rattle.std.proofs.lemmas.List.Sums.{length-filter, count_by-le-length}
-use Rattle.std.proofs.lemmas.Bool.{eq-eqb, or_left, or_right}
 use Rattle.avc_marking.proofs.KeptFrames.{after}
-use Rattle.avc_types.specs.declared.current_frame_num.CurrentFrameNum.{CurrentFrameNum}
-use Rattle.avc_types.specs.declared.fault.Fault.{Fault}
-use Rattle.avc_types.specs.declared.fault.Fault.TheVariants.{TooManyReferences}
-use Rattle.avc_types.specs.declared.references.Mark.TheVariants.{Short, Long}
-use Rattle.avc_types.specs.declared.references.Marking.{Marking}
-use Rattle.avc_types.specs.declared.references.Marking.TheVariants.{Idr, SlidingWindow, Adaptive}
-use Rattle.avc_types.specs.References.{Reference, is_short, sorted_by}
 use Rattle.avc_marking.specs.Marks.{first_in_window}
 use Rattle.avc_marking.specs.Marks.{precedes_in_window}
-use Rattle.avc_types.specs.Results.{◌>>=◌}
 use Rattle.avc_marking.specs.Marks.{MarkingEntry, Marks, limit_of, after_sliding_window, without_frame, current_frame, with_current_frame, within_limit, after_operations, marks_after, marks, frame_or}
-use Rattle.avc_marking.specs.Frames.{first_in_window_of}
-use Rattle.avc_marking.specs.Laws.{StaysLimited, IsLimited}
 use Rattle.avc_marking.proofs.Sliding.{first-placed}
 
 -- ---- the frame that slides is one of them

@@ -1,9 +1,6 @@
 -- Frame numbers modulo MaxFrameNum.
 use Rattle.std.proofs.Common.{◌≡◌, ℕ, zero, suc, ◌+◌, ◌-◌, ◌<◌, ◌%◌, List, [], ◌∷◌, length, drop, ap₂, Bool, true, false, Result, Ok, Err, refl, sym, ap, ◌∙◌, arith, add-zero}
-use Rattle.std.proofs.Math.Nat.{mod-add-mod, mod-eq_of_lt}
-use Rattle.std.specs.Prelude.{◌==◌, if◌then◌else◌, is_some}
-use Rattle.avc_types.specs.declared.fault.Fault.{Fault}
-use Rattle.avc_types.specs.declared.fault.Fault.TheVariants.{FrameNumRepeated, FrameNumGap}
+use Rattle.avc_marking.proofs.Common.{mod-add-mod, mod-eq_of_lt, ◌==◌, if◌then◌else◌, is_some, Fault, FrameNumRepeated, FrameNumGap}
 use Rattle.avc_marking.specs.Marks.{MarkingEntry, frame_nums_from, missing_frame_nums}
 
 -- they depend on the first one modulo MaxFrameNum alone

@@ -1,24 +1,13 @@
 -- One operation on the frames, and what it makes of the marks.
-use Rattle.std.specs.List.{filter, refill}
+use Rattle.avc_marking.proofs.Common.{filter, refill, ◌≡◌, ℕ, ◌+◌, ◌<◌, Bool, true, false, not, List, [], ◌∷◌, ◌++◌, length, Option, None}
+use Rattle.avc_marking.proofs.Common.{Some, Result, Ok, Err, nat_lt, ◌&&◌, ◌||◌, refl, sym, ap, ◌∙◌, arith, slice_index_or, slice_set}
+use Rattle.avc_marking.proofs.Common.{nat_le, is_some, if◌then◌else◌, filter_agree, get_or_append_left, length-append, Fault, MarkedFrame}
+use Rattle.avc_marking.proofs.Common.{Reference, StandAt, references_at, Mark, Short, Long, Marking, Operation, is_short}
+use Rattle.avc_marking.proofs.Common.{long_term_frame_idx, reference_at, no_frame, Index, From, NewFrame, ◌>>=◌, entries_with}
+use Rattle.avc_marking.proofs.Common.{operation_state, StandWith, StandBefore, is_to_unmark, unmarked_if, marking_entry}
 use Rattle.std.specs.List.Sorted.{IsStrictlyIncreasing}
-use Rattle.std.proofs.Common.{◌≡◌, ℕ, ◌+◌, ◌<◌, Bool, true, false, not, List, [], ◌∷◌, ◌++◌, length, Option, None, Some, Result, Ok, Err, nat_lt, ◌&&◌, ◌||◌, refl, sym, ap, ◌∙◌, arith}
-use Rattle.std.specs.Prelude.{slice_index_or, slice_set, nat_le, is_some, if◌then◌else◌}
-use Rattle.std.proofs.lemmas.List.Elements.{filter_agree}
-use Rattle.std.proofs.lemmas.List.{get_or_append_left, length-append}
-use Rattle.avc_types.specs.declared.fault.Fault.{Fault}
-use Rattle.avc_types.specs.declared.marked_frame.MarkedFrame.{MarkedFrame}
-use Rattle.avc_types.specs.References.{Reference, StandAt, references_at}
-use Rattle.avc_types.specs.declared.references.Mark.{Mark}
-use Rattle.avc_types.specs.declared.references.Mark.TheVariants.{Short, Long}
-use Rattle.avc_types.specs.declared.references.Marking.{Marking}
-use Rattle.avc_types.specs.declared.references.Operation.{Operation}
 use Rattle.avc_types.specs.declared.references.Operation.TheVariants.{UnmarkShortTerm, UnmarkLongTerm, AssignLongTerm, MaxLongTermFrameIdx, UnmarkAll, CurrentToLongTerm}
-use Rattle.avc_types.specs.References.{is_short, long_term_frame_idx, reference_at, no_frame}
-use Rattle.avc_marking.specs.declared.frame.FramesToUnmark.TheVariants.{Index, From}
-use Rattle.avc_marking.specs.declared.frame.NewFrame.{NewFrame}
-use Rattle.avc_types.specs.Results.{◌>>=◌}
 use Rattle.avc_marking.specs.Marks.{OperationState, with_references, refuse_unless, with_max_long_term_frame_idx, max_long_term_frame_idx_below, is_index_allowed, without_long_term_frame_idx, MarkingEntry, with_other_mark, with_mark, with_long_term, frame_with_pic_num_x, after_operation, after_operations}
-use Rattle.avc_marking.specs.Frames.{entries_with, operation_state, StandWith, StandBefore, is_to_unmark, unmarked_if, marking_entry}
 use Rattle.avc_marking.proofs.Changes.{refilled, references-changed}
 
 rising_front : (entries : List ℕ) (own : ℕ) → IsStrictlyIncreasing (entries ++ own ∷ []) → IsStrictlyIncreasing entries

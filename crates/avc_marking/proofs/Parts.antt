@@ -1,12 +1,8 @@
 -- A part of reference frames in their order, where only marks may differ.
-use Rattle.std.specs.List.{filter}
+use Rattle.avc_marking.proofs.Common.{filter, slice_index, All-head, All-tail, All-cons, All-nil, Reference, IsSameFrame, IsPartUpToMarks}
 use Rattle.std.specs.List.Sorted.{IsStrictlyIncreasing}
-use Rattle.std.specs.Prelude.{slice_index}
 use Rattle.std.proofs.Common.{◌≡◌, ℕ, zero, suc, ◌+◌, ◌<◌, Bool, true, false, cond, List, [], ◌∷◌, ◌++◌, length, map, All, refl, sym, ap, subst, ◌∙◌, inl, inr, arith}
-use Rattle.std.proofs.lemmas.List.Elements.{All-head, All-tail, All-cons, All-nil}
 use Rattle.avc_types.proofs.Frames.{rising_rest, below_rest}
-use Rattle.avc_types.specs.References.{Reference}
-use Rattle.avc_marking.specs.Laws.{IsSameFrame, IsPartUpToMarks}
 
 -- ---- the relation
 

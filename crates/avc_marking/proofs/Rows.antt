@@ -1,11 +1,7 @@
 -- Worked examples of marking.
-use Rattle.std.specs.Prelude.{◌≡◌, ℕ, true, false, List, [], ◌∷◌, map, Option, Some, Result, Ok, Err, refl}
-use Rattle.avc_types.specs.declared.fault.Fault.{Fault}
+use Rattle.avc_marking.proofs.Common.{◌≡◌, ℕ, true, false, List, [], ◌∷◌, map, Option, Some, Result, Ok, Err, refl, Fault, Mark, Short}
+use Rattle.avc_marking.proofs.Common.{Long, Marking, Idr, SlidingWindow, Adaptive}
 use Rattle.avc_types.specs.declared.fault.Fault.TheVariants as faults
-use Rattle.avc_types.specs.declared.references.Mark.{Mark}
-use Rattle.avc_types.specs.declared.references.Mark.TheVariants.{Short, Long}
-use Rattle.avc_types.specs.declared.references.Marking.{Marking}
-use Rattle.avc_types.specs.declared.references.Marking.TheVariants.{Idr, SlidingWindow, Adaptive}
 use Rattle.avc_types.specs.declared.references.Operation.TheVariants.{UnmarkShortTerm, UnmarkLongTerm, UnmarkAll, AssignLongTerm, MaxLongTermFrameIdx, CurrentToLongTerm}
 use Rattle.avc_marking.specs.Marks.{MarkingEntry, Marks, marks, missing_frame_nums, prev_ref_frame_num, missing_frame_entry}
 

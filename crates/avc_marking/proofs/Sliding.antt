@@ -1,18 +1,11 @@
 -- How many reference frames there are, and which goes first from the sliding window.
-use Rattle.std.specs.List.{filter}
+use Rattle.avc_marking.proofs.Common.{filter, slice_index, slice_index_or, is_some, ℤ, int_lt, option_map, AllPairs-from_increasing}
+use Rattle.avc_marking.proofs.Common.{and_parts, ◌==ℤ◌, CurrentFrameNum, MarkedFrame, Reference, StandAt, reference_of, references_at}
+use Rattle.avc_marking.proofs.Common.{reference_at, is_marked, is_short, sorted_by, placed_by, no_frame, first_in_window_of}
 use Rattle.std.proofs.Common.{◌≡◌, ℕ, suc, ◌<◌, Bool, true, false, cond, ◌&&◌, ◌||◌, List, [], ◌∷◌, length, drop, Option, Some, slice_get, refl, sym, ap, ◌∙◌, arith}
-use Rattle.std.specs.Prelude.{slice_index, slice_index_or, is_some, ℤ, int_lt}
-use Rattle.std.specs.Option.{option_map}
-use Rattle.std.proofs.lemmas.List.Kept.{AllPairs-from_increasing}
-use Rattle.std.proofs.lemmas.Bool.{and_parts}
-use Rattle.avc_types.specs.Arithmetic.{◌==ℤ◌}
-use Rattle.avc_types.specs.declared.current_frame_num.CurrentFrameNum.{CurrentFrameNum}
-use Rattle.avc_types.specs.declared.marked_frame.MarkedFrame.{MarkedFrame}
 use Rattle.avc_types.proofs.ReferencesAt.{placed_behind, placed_here, references_with, references_without}
-use Rattle.avc_types.specs.References.{Reference, StandAt, reference_of, references_at, reference_at, is_marked, is_short, sorted_by, placed_by, no_frame}
 use Rattle.avc_marking.specs.Marks.{first_in_window}
 use Rattle.avc_marking.specs.Marks.{precedes_in_window}
-use Rattle.avc_marking.specs.Frames.{first_in_window_of}
 
 pub length-references : (es : List ℕ) (fs : List MarkedFrame) → length es ≡ length fs → length (references_at es fs) ≡ length (filter {X = MarkedFrame} (λ f. is_some f.mark) fs)
 length-references [] [] same = refl

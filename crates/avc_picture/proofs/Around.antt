@@ -1,22 +1,12 @@
 -- The neighbours of the macroblock that comes next are those that are found by sample coordinates.
-use Rattle.std.specs.Prelude.{ℕ, ◌<◌, nat_lt, List, map, Bool, true, false, not, ◌&&◌, ◌||◌, ℤ, pos, negsuc, ◌+ℤ◌, ◌-ℤ◌, Option, Some, None, slice_get, if◌then◌else◌}
-use Rattle.std.specs.Option.{option_map}
-use Rattle.std.proofs.Common.{◌≡◌, ◌∙◌, refl, sym, ap, subst, arith}
-use Rattle.std.proofs.lemmas.Int.{ints}
-use Rattle.avc_types.specs.Pictures.{Coded, PicMb}
-use Rattle.avc_neigh.specs.declared.facts.NeighbourFacts.{NeighbourFacts}
+use Rattle.avc_picture.proofs.Common.{ℕ, ◌<◌, nat_lt, List, map, Bool, true, false, not, ◌&&◌, ◌||◌, ℤ, pos, negsuc, ◌+ℤ◌, ◌-ℤ◌, Option}
+use Rattle.avc_picture.proofs.Common.{Some, None, slice_get, if◌then◌else◌, option_map, ◌≡◌, ◌∙◌, refl, sym, ap, subst, arith, ints, Coded}
+use Rattle.avc_picture.proofs.Common.{PicMb, NeighbourFacts, Around, PictureFacts, around, is_intra_facts, next_address, AreAround, IsAsked}
+use Rattle.avc_picture.proofs.Common.{MotionIsAround, ModesAreAround, Location, block_at, block_x, block_y, location_at, IsNext}
+use Rattle.avc_picture.proofs.Common.{is_there_by, is_there_near, modes_before, availability_found, blocks_found, is_intra, motion_before}
+use Rattle.avc_picture.proofs.Common.{is_intra_place, is_there, sides_of, sides_near, HasNeighbourFacts}
 use Rattle.avc_neigh.specs.declared.facts.Motion.TheVariants as motions
 use Rattle.avc_neigh.specs.declared.facts.NearMode.TheVariants as near_modes
-use Rattle.avc_neigh.specs.Around.{Around, PictureFacts, around, is_intra_facts, next_address}
-use Rattle.avc_neigh.specs.BlockNear.{AreAround, IsAsked, MotionIsAround, ModesAreAround}
-use Rattle.avc_neigh.specs.Blocks.{Location, block_at, block_x, block_y, location_at}
-use Rattle.avc_neigh.specs.Laws.{IsNext, is_there_by, is_there_near}
-use Rattle.avc_neigh.specs.Modes.{modes_before}
-use Rattle.avc_neigh.proofs.Found.{availability_found, blocks_found}
-use Rattle.avc_motion.specs.Motion.{is_intra, motion_before}
-use Rattle.avc_picture_core.specs.Built.{is_intra_place, is_there, sides_of}
-use Rattle.avc_picture_core.specs.Canvas.{sides_near}
-use Rattle.avc_picture.specs.FirstMbs.{HasNeighbourFacts}
 use Rattle.avc_picture.proofs.Tells.{tells_mapped}
 
 -- Samples of the macroblock itself are looked up alike.

@@ -1,11 +1,7 @@
 -- The motion and the modes of a picture's macroblocks, over one macroblock more.
-use Rattle.std.proofs.Common.{◌≡◌, ◌∙◌, ℕ, zero, suc, ◌+◌, ◌-◌, ◌<◌, ◌≤◌, inl, inr, List, [], ◌∷◌, ◌++◌, length, refl, ap, arith, add-one}
-use Rattle.std.specs.Prelude.{Some, slice_get, slice_index_or}
-use Rattle.std.proofs.lemmas.Bool.{cases_lt}
-use Rattle.std.proofs.lemmas.List.{length-append, get_or_append_left, get_or-append_right}
-use Rattle.avc_types.specs.Pictures.{Coded, PicMb}
-use Rattle.avc_neigh.specs.Modes.{modes_before, modes_of}
-use Rattle.avc_motion.specs.Motion.{motion_before, motion_of}
+use Rattle.avc_picture.proofs.Common.{◌≡◌, ◌∙◌, ℕ, zero, suc, ◌+◌, ◌-◌, ◌<◌, ◌≤◌, inl, inr, List, [], ◌∷◌, ◌++◌, length, refl, ap, arith}
+use Rattle.avc_picture.proofs.Common.{add-one, Some, slice_get, slice_index_or, cases_lt, length-append, get_or_append_left}
+use Rattle.avc_picture.proofs.Common.{get_or-append_right, Coded, PicMb, modes_before, modes_of, motion_before, motion_of}
 
 -- Lists that grow by one entry at a time keep their entries.
 module _ {X : Type 0} (before : ℕ → List X) (last : ℕ → X) (none : before 0 ≡ [])

@@ -1,20 +1,10 @@
 -- A picture does not depend on the planes in which it began.
-use Rattle.std.specs.Prelude.{ℕ, suc, ◌+◌, ◌*◌, ◌/◌, ◌%◌, ◌<◌, ◌≤◌, List, [], ◌∷◌, length, slice_index}
-use Rattle.std.proofs.Common.{◌≡◌, ◌∙◌, sym, ap, subst, arith, mul_comm, add-one}
-use Rattle.std.proofs.Math.Nat.{add-mul, mul-le-mul_right, div-lt_iff_lt-mul}
-use Rattle.std.proofs.lemmas.List.{ext_get_or}
-use Rattle.std.proofs.lemmas.Nat.{div-add-mod', mod_below}
-use Rattle.avc_types.specs.Pictures.{Coded, PicMb}
-use Rattle.avc_neigh.specs.Modes.{modes_before}
-use Rattle.avc_neigh.specs.declared.facts.NearMode.{NearMode}
-use Rattle.avc_neigh.specs.declared.facts.Motion.{Motion}
-use Rattle.avc_motion.specs.Motion.{motion_before}
-use Rattle.avc_plane.specs.Plane.{Plane}
-use Rattle.avc_plane.specs.Planes.{Planes}
-use Rattle.avc_picture_core.specs.Built.{Place, built, built_on, place_of, planes_after}
+use Rattle.avc_picture.proofs.Common.{ℕ, suc, ◌+◌, ◌*◌, ◌/◌, ◌%◌, ◌<◌, ◌≤◌, List, [], ◌∷◌, length, slice_index, ◌≡◌, ◌∙◌, sym, ap, subst}
+use Rattle.avc_picture.proofs.Common.{arith, add-one, add-mul, mul-le-mul_right, div-lt_iff_lt-mul, ext_get_or, div-add-mod', mod_below}
+use Rattle.avc_picture.proofs.Common.{Coded, PicMb, modes_before, NearMode, Motion, motion_before, Plane, Planes, Place, built, built_on}
+use Rattle.avc_picture.proofs.Common.{place_of, planes_after, Agree, AgreeBefore, address_at, planes_agree, HasSize, IsSized}
+use Rattle.std.proofs.Common.{mul_comm}
 use Rattle.avc_picture_core.proofs.Ties.{planes_same}
-use Rattle.avc_picture_core.proofs.Earlier.{Agree, AgreeBefore, address_at, planes_agree}
-use Rattle.avc_picture.specs.Sizes.{HasSize, IsSized}
 use Rattle.avc_picture.proofs.SizesKept.{built_on_sized, empty_sized}
 
 -- ---- none, and all

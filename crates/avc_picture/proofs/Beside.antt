@@ -1,18 +1,7 @@
 -- total_coeff of the neighbours of the macroblock that comes next.
-use Rattle.std.specs.Prelude.{ℕ, ◌<◌, List, length, take}
-use Rattle.std.specs.Option.{option_map}
-use Rattle.std.proofs.Common.{◌≡◌, ◌∙◌, sym, ap, subst}
-use Rattle.std.proofs.lemmas.List.{length-take-le}
-use Rattle.avc_types.specs.Pictures.{Coded, PicMb}
-use Rattle.avc_neigh.specs.Around.{mb_a, mb_b, next_address}
-use Rattle.avc_neigh.specs.Blocks.{above, left_of}
-use Rattle.avc_neigh.specs.Laws.{TellSlices, TellTotalCoeffs}
-use Rattle.avc_neigh.specs.TotalCoeffs.{total_coeffs_of}
-use Rattle.avc_neigh.proofs.Found.{total_coeffs_found}
-use Rattle.avc_mbsyntax.specs.SliceData.{SliceStart, left_total_coeffs, up_total_coeffs}
-use Rattle.avc_deblock.specs.Facts.{Names}
-use Rattle.avc_picture.specs.FirstMbs.{HoldsFirst, MbsState}
-use Rattle.avc_picture.specs.MacroblocksState.{PartsAgree}
+use Rattle.avc_picture.proofs.Common.{ℕ, ◌<◌, List, length, take, option_map, ◌≡◌, ◌∙◌, sym, ap, subst, length-take-le, Coded, PicMb, mb_a}
+use Rattle.avc_picture.proofs.Common.{mb_b, next_address, above, left_of, TellSlices, TellTotalCoeffs, total_coeffs_of, total_coeffs_found}
+use Rattle.avc_picture.proofs.Common.{SliceStart, left_total_coeffs, up_total_coeffs, Names, HoldsFirst, MbsState, PartsAgree}
 use Rattle.avc_picture.proofs.Tells.{tells_first}
 
 module _ (c : Coded) (names : Names) (m : MbsState) (holds : HoldsFirst c names m) (kept : PartsAgree m) (s : SliceStart)

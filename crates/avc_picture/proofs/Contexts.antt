@@ -1,42 +1,26 @@
 -- What the code knows of a slice.
-use Rattle.std.specs.List.{list_any}
-use Rattle.std.specs.Option.{option_map}
-use Rattle.std.specs.Prelude.{All, IfOk, IfSome, slice_get, slice_index, slice_index_or, is_some, unwrap_or, nat_lt, ◌==◌}
+use Rattle.avc_picture.proofs.Common.{list_any, option_map, IfOk, IfSome, slice_get, slice_index, slice_index_or, is_some, unwrap_or}
+use Rattle.avc_picture.proofs.Common.{nat_lt, ◌==◌, nat_tests, ints, get_or_default, get_or_past, length-map, All-map, All-nil, All-weaker}
+use Rattle.avc_picture.proofs.Common.{get_or_from_slice_get, slice_get_within, Fault, Coded, Sps, Pps, is_p, IsChromaWeights, IsCodedWeight}
+use Rattle.avc_picture.proofs.Common.{IsEntryWeights, IsPredWeightTable, Header, frame_named, slice_facts, marked_frame, padded_planes_of}
+use Rattle.avc_picture.proofs.Common.{AreFrames, AreSized, PaddedPlanes, Names, is_picture, AreUsable, AreWeights, IsUsable, IsWeight}
+use Rattle.avc_picture.proofs.Common.{ShowsReference, ReferencePicture, AreNames, AreNumbersAt, ArePicturesAt, ArePlacesIn, FramesStandAt}
+use Rattle.avc_picture.proofs.Common.{HasPlaces, IsContextAt, IsContextOf, IsPictureAt, picture_start, planes_at, HasNumber, IsSlice}
+use Rattle.avc_picture.proofs.Common.{PictureStart, current_of, deblocking_of, frame_of, list_of, or_empty, references_in, SliceContext}
+use Rattle.std.specs.Prelude.{All}
 use Rattle.std.proofs.Common.{◌≡◌, ℕ, zero, suc, ◌^◌, ◌<◌, ◌≤◌, ◌+ℤ◌, Bool, true, false, List, [], ◌∷◌, length, map, Option, Some, None, Result, Ok, refl, ap, sym, subst, ◌∙◌, arith, lit≤}
 use Rattle.std.proofs.Math.ListN.{get_or-map}
-use Rattle.std.proofs.lemmas.Bool.Decides.{nat_tests}
-use Rattle.std.proofs.lemmas.Int.{ints}
-use Rattle.std.proofs.lemmas.List.{get_or_default, get_or_past, length-map}
-use Rattle.std.proofs.lemmas.List.Elements.{All-map, All-nil, All-weaker}
-use Rattle.std.proofs.lemmas.Option.{get_or_from_slice_get, slice_get_within}
-use Rattle.avc_types.specs.declared.fault.Fault.{Fault}
-use Rattle.avc_types.specs.Pictures.{Coded}
 use Rattle.avc_types.specs.References.{Reference, reference_at}
 use Rattle.avc_types.specs.declared.weight.Weights.{Weights}
-use Rattle.avc_params.specs.declared.sps.Sps.{Sps}
-use Rattle.avc_params.specs.declared.pps.Pps.{Pps}
-use Rattle.avc_slice.specs.Header.{is_p}
 use Rattle.avc_slice.specs.Weights.{weight_of, weights, weights_of}
-use Rattle.avc_slice.specs.Within.{IsChromaWeights, IsCodedWeight, IsEntryWeights, IsPredWeightTable}
-use Rattle.avc_slice.specs.declared.header.Header.{Header}
 use Rattle.avc_slice.specs.declared.weights.ChromaWeights.{ChromaWeights}
 use Rattle.avc_slice.specs.declared.weights.CodedWeight.{CodedWeight}
 use Rattle.avc_slice.specs.declared.weights.EntryWeights.{EntryWeights}
 use Rattle.avc_slice.specs.declared.weights.PredWeightTable.{PredWeightTable}
 use Rattle.avc_reflist.specs.Lists.{reference_list}
-use Rattle.avc_motion.specs.Motion.{frame_named, slice_facts}
-use Rattle.avc_plane.specs.Frames.{marked_frame, padded_planes_of, AreFrames, AreSized}
 use Rattle.avc_plane.specs.declared.frame.Frame.{Frame}
-use Rattle.avc_plane.specs.declared.frame.PaddedPlanes.{PaddedPlanes}
-use Rattle.avc_deblock.specs.Facts.{Names}
 use Rattle.avc_deblock.proofs.Samples.{each_of_eight}
-use Rattle.avc_picture_core.specs.Faults.{is_picture}
-use Rattle.avc_picture_core.specs.References.{AreUsable, AreWeights, IsUsable, IsWeight, ShowsReference}
-use Rattle.avc_picture_core.specs.declared.references.ReferencePicture.{ReferencePicture}
-use Rattle.avc_picture.specs.Context.{AreNames, AreNumbersAt, ArePicturesAt, ArePlacesIn, FramesStandAt, HasPlaces, IsContextAt, IsContextOf, IsPictureAt, picture_start, planes_at}
-use Rattle.avc_picture.specs.FirstMbs.{HasNumber, IsSlice}
-use Rattle.avc_picture.specs.Slices.{PictureStart, current_of, deblocking_of, facts_of, frame_of, list_of, or_empty, references_in}
-use Rattle.avc_picture.specs.declared.slice_context.SliceContext.{SliceContext}
+use Rattle.avc_picture.specs.Slices.{facts_of}
 use Rattle.avc_picture.proofs.Members.{all-listed, own-entries}
 use Rattle.avc_picture.proofs.Stored.{listed-is-marked, named-missing, named-picture, stored-references}
 

@@ -1,16 +1,7 @@
 -- What decoding a slice's data answers.
-use Rattle.std.proofs.lemmas.Int.{ints}
-use Rattle.std.proofs.Common.{◌≡◌, ℕ, ℤ, pos, nat_abs, ◌≤ℤ◌, suc, ◌+◌, ◌-◌, ◌*◌, ◌<◌, ◌≤◌, Option, Some, None, Result, Ok, Err, List, refl, ap, sym, subst, ◌∙◌, arith}
-use Rattle.avc_types.specs.declared.fault.Fault.{Fault}
-use Rattle.avc_types.specs.Pictures.{Coded}
-use Rattle.avc_mbsyntax.specs.SliceData.{SliceStart}
-use Rattle.avc_mbsyntax.specs.declared.slice_data.SliceData.{SliceData}
-use Rattle.avc_deblock.specs.Facts.{Names}
-use Rattle.avc_picture_core.specs.References.{AreUsable}
-use Rattle.avc_picture_core.specs.declared.references.ReferencePicture.{ReferencePicture}
-use Rattle.avc_picture.specs.DecoderState.{GoesOn, GoesOnFrom, IsDataAnswer, outcome_from}
-use Rattle.avc_picture.specs.FirstMbs.{HasSameSize, MbsState}
-use Rattle.avc_picture.specs.declared.slice_context.SliceContext.{SliceContext}
+use Rattle.avc_picture.proofs.Common.{ints, ◌≡◌, ℕ, ℤ, pos, nat_abs, ◌≤ℤ◌, suc, ◌+◌, ◌-◌, ◌*◌, ◌<◌, ◌≤◌, Option, Some, None, Result, Ok}
+use Rattle.avc_picture.proofs.Common.{Err, List, refl, ap, sym, subst, ◌∙◌, arith, Fault, Coded, SliceStart, SliceData, Names, AreUsable}
+use Rattle.avc_picture.proofs.Common.{ReferencePicture, GoesOn, GoesOnFrom, IsDataAnswer, outcome_from, HasSameSize, MbsState, SliceContext}
 
 pub none-of : {A : Type 0} (o : Option A) → ((x : A) → o ≡ Some x → ⊥) → o ≡ None
 none-of None h = refl

@@ -1,21 +1,8 @@
 -- One macroblock more of a slice's data.
-use Rattle.std.specs.Option.{option_map}
-use Rattle.std.specs.Prelude.{slice_get}
+use Rattle.avc_picture.proofs.Common.{option_map, slice_get, length-append, length-take-le, Fault, Mb, Coded, PicMb, IsHandedOut, rest_of}
+use Rattle.avc_picture.proofs.Common.{SliceMbs, SliceStart, after, placed, SliceData, Names, macroblock_fault, GoesOn, GoesOnFrom, first_of}
+use Rattle.avc_picture.proofs.Common.{outcome, outcome_from, HoldsFirst, IsSlice, MbsState, first_mb_fault, IsRead, SliceContext}
 use Rattle.std.proofs.Common.{◌≡◌, ℕ, suc, ◌+◌, ◌*◌, ◌<◌, List, [], ◌∷◌, ◌++◌, length, take, map, Option, Some, None, Ok, Err, refl, ap, ◌∙◌, arith, append_assoc, add-one}
-use Rattle.std.proofs.lemmas.List.{length-append, length-take-le}
-use Rattle.avc_types.specs.declared.fault.Fault.{Fault}
-use Rattle.avc_types.specs.Macroblock.{Mb}
-use Rattle.avc_types.specs.Pictures.{Coded, PicMb}
-use Rattle.avc_mbsyntax.specs.Rest.{IsHandedOut, rest_of}
-use Rattle.avc_mbsyntax.specs.SliceData.{SliceMbs, SliceStart, after, placed}
-use Rattle.avc_mbsyntax.specs.declared.slice_data.SliceData.{SliceData}
-use Rattle.avc_deblock.specs.Facts.{Names}
-use Rattle.avc_picture_core.specs.Faults.{macroblock_fault}
-use Rattle.avc_picture.specs.DecoderState.{GoesOn, GoesOnFrom, first_of, outcome, outcome_from}
-use Rattle.avc_picture.specs.FirstMbs.{HoldsFirst, IsSlice, MbsState}
-use Rattle.avc_picture.specs.Slices.{first_mb_fault}
-use Rattle.avc_picture.specs.MacroblockFacts.{IsRead}
-use Rattle.avc_picture.specs.declared.slice_context.SliceContext.{SliceContext}
 
 -- ---- lists
 

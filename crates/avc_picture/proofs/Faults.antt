@@ -1,18 +1,10 @@
 -- What refuses a macroblock, step by step.
-use Rattle.std.specs.Prelude.{ℕ, zero, suc, ◌<◌, List, [], ◌∷◌, length, Bool, true, false, not, Option, Some, None, Ok, Err, slice_get, slice_index_or, if◌then◌else◌}
-use Rattle.std.specs.List.{list_all}
-use Rattle.std.proofs.Common.{◌≡◌, ◌∙◌, refl, ap, arith}
-use Rattle.avc_types.specs.declared.fault.Fault.{Fault}
-use Rattle.avc_types.specs.declared.fault.Fault.TheVariants.{VectorRange, RefMissing}
-use Rattle.avc_types.specs.Macroblock.{MbSyntax, p_skip, i_pcm, i_nxn, i_16x16, p_inter}
-use Rattle.avc_types.specs.Pictures.{Coded, PicMb}
-use Rattle.avc_neigh.specs.declared.facts.Motion.{Motion}
-use Rattle.avc_neigh.specs.declared.facts.Motion.TheVariants.{Absent as absent}
-use Rattle.avc_neigh.specs.Modes.{modes_before}
-use Rattle.avc_motion.specs.Motion.{is_in_range, is_intra, motion_before, motion_or_fault}
-use Rattle.avc_motion.proofs.Apart.{and_first, and_second}
-use Rattle.avc_picture_core.specs.Built.{Place, place_of, reference_of}
-use Rattle.avc_picture_core.specs.Faults.{fault_at, fault_of, has_references, is_picture, macroblock_fault, refusal}
+use Rattle.avc_picture.proofs.Common.{ℕ, zero, suc, ◌<◌, List, [], ◌∷◌, length, Bool, true, false, not, Option, Some, None, Ok, Err}
+use Rattle.avc_picture.proofs.Common.{slice_get, slice_index_or, if◌then◌else◌, list_all, ◌≡◌, ◌∙◌, refl, ap, arith, Fault, VectorRange}
+use Rattle.avc_picture.proofs.Common.{RefMissing, MbSyntax, p_skip, i_pcm, i_nxn, i_16x16, p_inter, Coded, PicMb, Motion, absent}
+use Rattle.avc_picture.proofs.Common.{modes_before, is_in_range, is_intra, motion_before, motion_or_fault, and_first, and_second, Place}
+use Rattle.avc_picture.proofs.Common.{place_of, fault_at, fault_of, has_references, is_picture, macroblock_fault, refusal}
+use Rattle.avc_picture_core.specs.Built.{reference_of}
 
 pub macroblock_fault_is : (c : Coded) (a : ℕ) (m : PicMb) → slice_get c.mbs a ≡ Some m
     → macroblock_fault c a ≡ fault_of (place_of c (modes_before c (suc a)) (motion_before c (suc a)) a m)

@@ -1,22 +1,13 @@
 -- What the deblocking filter is told of the first macroblocks, over one macroblock more.
-use Rattle.std.specs.Prelude.{ℕ, ◌/◌, ◌<◌, List, [], ◌∷◌, ◌++◌, length, true, false, Some, slice_get, slice_index, slice_index_or}
-use Rattle.std.proofs.Common.{◌≡◌, ◌∙◌, refl, sym, ap, subst, arith}
-use Rattle.std.proofs.lemmas.Bool.{cases_lt}
-use Rattle.std.proofs.lemmas.List.{get_or-map, get_or_append_left, get_or-append_right, length-append}
-use Rattle.std.proofs.lemmas.Option.{get_or_from_slice_get}
-use Rattle.avc_types.specs.Macroblock.{Mb}
-use Rattle.avc_types.specs.Pictures.{Coded, PicMb, Frame}
-use Rattle.avc_neigh.specs.declared.facts.Motion.{Motion}
-use Rattle.avc_neigh.specs.declared.facts.Motion.TheVariants.{Absent as absent, Intra as intra, Inter as inter}
-use Rattle.avc_motion.specs.Motion.{frame_named, is_intra, slice_facts, vector_of, zero_vector}
-use Rattle.avc_deblock.specs.Edges.{filter_qp, has_coefficients, mb_at, picture_named}
-use Rattle.avc_deblock.specs.Facts.{Names, HasFacts, HasMotion, HaveFacts}
-use Rattle.avc_deblock.specs.declared.facts.MbFacts.{MbFacts}
+use Rattle.avc_picture.proofs.Common.{ℕ, ◌/◌, ◌<◌, List, [], ◌∷◌, ◌++◌, length, true, false, Some, slice_get, slice_index, slice_index_or}
+use Rattle.avc_picture.proofs.Common.{◌≡◌, ◌∙◌, refl, sym, ap, subst, arith, cases_lt, get_or_append_left, get_or-append_right}
+use Rattle.avc_picture.proofs.Common.{length-append, get_or_from_slice_get, Mb, Coded, PicMb, Motion, absent, intra, inter, frame_named}
+use Rattle.avc_picture.proofs.Common.{is_intra, slice_facts, vector_of, zero_vector, filter_qp, has_coefficients, mb_at, picture_named}
+use Rattle.avc_picture.proofs.Common.{Names, HasFacts, HaveFacts, MbFacts, is_picture, IsSlice, IsFilterFacts, number_of, SliceContext}
+use Rattle.std.proofs.lemmas.List.{get_or-map}
+use Rattle.avc_types.specs.Pictures.{Frame}
+use Rattle.avc_deblock.specs.Facts.{HasMotion}
 use Rattle.avc_picture_core.specs.Built.{reference_of}
-use Rattle.avc_picture_core.specs.Faults.{is_picture}
-use Rattle.avc_picture.specs.FirstMbs.{IsSlice}
-use Rattle.avc_picture.specs.MacroblockFacts.{IsFilterFacts, number_of}
-use Rattle.avc_picture.specs.declared.slice_context.SliceContext.{SliceContext}
 use Rattle.avc_picture.proofs.Quarters.{IsFrom}
 
 pub facts_more : (c : Coded) (all : List (List Motion)) (names : Names) (a : ℕ) (facts : List MbFacts) (f : MbFacts) → length facts ≡ a

@@ -1,17 +1,8 @@
 -- The planes of a picture's first macroblocks, over one macroblock more.
-use Rattle.std.proofs.Common.{◌≡◌, ◌∙◌, ℕ, suc, ◌+◌, ◌<◌, List, [], ◌∷◌, ◌++◌, length, take, refl, ap, arith}
-use Rattle.std.specs.Prelude.{Some, slice_get, slice_index_or}
-use Rattle.std.proofs.Math.Seq.{take-suc}
-use Rattle.std.proofs.lemmas.List.{length-take-le}
-use Rattle.std.proofs.lemmas.Option.{get_or_from_slice_get, slice_get_within}
-use Rattle.avc_types.specs.Pictures.{Coded, PicMb}
-use Rattle.avc_neigh.specs.declared.facts.NearMode.{NearMode}
-use Rattle.avc_neigh.specs.declared.facts.Motion.{Motion}
-use Rattle.avc_neigh.specs.Modes.{modes_before}
-use Rattle.avc_motion.specs.Motion.{motion_before}
-use Rattle.avc_plane.specs.Planes.{Planes}
-use Rattle.avc_picture_core.specs.Built.{Place, built_on, place_of, planes_after}
-use Rattle.avc_picture.specs.RowLate.{first_built}
+use Rattle.avc_picture.proofs.Common.{◌≡◌, ◌∙◌, ℕ, suc, ◌+◌, ◌<◌, List, [], ◌∷◌, ◌++◌, length, take, refl, ap, arith, Some, slice_get}
+use Rattle.avc_picture.proofs.Common.{slice_index_or, take-suc, length-take-le, get_or_from_slice_get, slice_get_within, Coded, PicMb}
+use Rattle.avc_picture.proofs.Common.{NearMode, Motion, modes_before, motion_before, Planes, Place, built_on, place_of, planes_after}
+use Rattle.avc_picture.proofs.Common.{first_built}
 use Rattle.avc_picture.proofs.Before.{modes_stay, motion_stays}
 
 -- the place of a macroblock with these modes and this motion

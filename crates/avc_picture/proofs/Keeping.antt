@@ -1,25 +1,11 @@
 -- What holds of the macroblocks so far, before the first and over one more.
-use Rattle.std.specs.Prelude.{ℕ, zero, suc, ◌+◌, ◌*◌, ◌<◌, ℤ, Bool, [], ◌∷◌, length, map, All, ◌++◌, ◌/◌, ◌≤◌}
-use Rattle.std.proofs.Common.{◌≡◌, ◌∙◌, refl, sym, ap, subst, arith}
-use Rattle.std.proofs.Math.Nat.{div-le_self}
-use Rattle.std.proofs.lemmas.List.{length-append}
-use Rattle.std.proofs.lemmas.List.Elements.{All-append}
-use Rattle.avc_types.specs.Pictures.{Coded}
-use Rattle.avc_neigh.specs.Around.{PictureFacts, no_facts, with_facts}
-use Rattle.avc_neigh.specs.Modes.{IsMode}
-use Rattle.avc_neigh.specs.declared.facts.NeighbourFacts.{NeighbourFacts}
-use Rattle.avc_deblock.specs.Facts.{Names}
-use Rattle.avc_deblock.specs.declared.facts.MbFacts.{MbFacts}
-use Rattle.avc_picture_core.specs.Canvas.{CanvasState}
-use Rattle.avc_neigh.specs.TotalCoeffs.{total_coeffs_of}
-use Rattle.avc_motion.specs.Motion.{is_intra}
-use Rattle.avc_plane.specs.Plane.{Plane}
-use Rattle.avc_plane.specs.Planes.{Planes}
-use Rattle.avc_picture.specs.FirstMbs.{HasNeighbourFacts, HoldsFirst, MbsState}
-use Rattle.avc_params.specs.Limits.{max_macroblocks}
-use Rattle.avc_picture.specs.RowLate.{filtered_rows, first_built, rows_filtered}
-use Rattle.avc_picture.specs.MacroblocksState.{HaveModes, PartsAgree}
-use Rattle.avc_picture.specs.Sizes.{HasSize, IsSized}
+use Rattle.avc_picture.proofs.Common.{ℕ, zero, suc, ◌+◌, ◌*◌, ◌<◌, ℤ, Bool, [], ◌∷◌, length, map, ◌++◌, ◌/◌, ◌≤◌, ◌≡◌, ◌∙◌, refl, sym, ap}
+use Rattle.avc_picture.proofs.Common.{subst, arith, div-le_self, length-append, All-append, Coded, PictureFacts, no_facts, IsMode}
+use Rattle.avc_picture.proofs.Common.{NeighbourFacts, Names, MbFacts, CanvasState, total_coeffs_of, is_intra, Plane, Planes}
+use Rattle.avc_picture.proofs.Common.{HasNeighbourFacts, HoldsFirst, MbsState, max_macroblocks, filtered_rows, first_built, rows_filtered}
+use Rattle.avc_picture.proofs.Common.{HaveModes, PartsAgree, HasSize, IsSized}
+use Rattle.std.specs.Prelude.{All}
+use Rattle.avc_neigh.specs.Around.{with_facts}
 
 all_of_one : (f : NeighbourFacts) → All IsMode f.modes → HaveModes (f ∷ [])
 all_of_one f h zero d below = h

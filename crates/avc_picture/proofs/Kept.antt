@@ -1,33 +1,15 @@
 -- What a picture decoder keeps from slice to slice.
-use Rattle.std.specs.List.{range_with_len}
-use Rattle.std.specs.List.Sorted.{IsStrictlyIncreasing}
-use Rattle.std.specs.Option.{option_map}
-use Rattle.std.specs.Prelude.{◌==◌}
-use Rattle.std.proofs.Common.{◌≡◌, ℕ, ◌*◌, ◌<◌, Bool, true, false, List, [], ◌∷◌, length, Option, Some, None, refl, ap, sym, subst, ◌∙◌, arith}
-use Rattle.std.proofs.lemmas.Bool.Decides.{nat_tests}
-use Rattle.std.proofs.lemmas.List.{length-map}
+use Rattle.avc_picture.proofs.Common.{range_with_len, IsStrictlyIncreasing, option_map, ◌==◌, ◌≡◌, ℕ, ◌*◌, ◌<◌, Bool, true, false, List, []}
+use Rattle.avc_picture.proofs.Common.{◌∷◌, length, Option, Some, None, refl, ap, sym, subst, ◌∙◌, arith, nat_tests, length-map, Fault}
+use Rattle.avc_picture.proofs.Common.{MissingMacroblocks, Coded, height_in_mbs, size_in_mbs, width_in_mbs, Sps, Pps, Slice, marked_frame}
+use Rattle.avc_picture.proofs.Common.{AreSized, Planes, empty_planes, samples_of, Names, FramesStandAt, picture_start, deblocked}
+use Rattle.avc_picture.proofs.Common.{IsDecoderState, IsWellSoFar, IsWellSomewhere, HasSets, HoldsFirst, MbsState, IsSized, PictureStart}
+use Rattle.avc_picture.proofs.Common.{Progress, coded_of, planes_after_slices, progress, with_slice, planes_so_far, covering_address}
+use Rattle.avc_picture.proofs.Common.{filtered_rows, row_late, rows_filtered}
 use Rattle.std.proofs.lemmas.List.FromFn.{get_or-range_with_len, length-range_with_len}
-use Rattle.avc_types.specs.declared.fault.Fault.{Fault}
-use Rattle.avc_types.specs.declared.fault.Fault.TheVariants.{MissingMacroblocks}
-use Rattle.avc_types.specs.Pictures.{Coded}
-use Rattle.avc_params.specs.Limits.{height_in_mbs, size_in_mbs, width_in_mbs}
 use Rattle.avc_params.specs.Within.{IsPps, IsSps}
-use Rattle.avc_params.specs.declared.sps.Sps.{Sps}
-use Rattle.avc_params.specs.declared.pps.Pps.{Pps}
-use Rattle.avc_slice.specs.declared.slice.Slice.{Slice}
-use Rattle.avc_plane.specs.Frames.{marked_frame, AreSized}
-use Rattle.avc_plane.specs.Planes.{Planes, empty_planes, samples_of}
 use Rattle.avc_plane.specs.declared.frame.Frame.{Frame}
-use Rattle.avc_deblock.specs.Facts.{Names}
-use Rattle.avc_picture.specs.Context.{FramesStandAt, picture_start}
-use Rattle.avc_picture.specs.Decoded.{deblocked}
 use Rattle.avc_picture.specs.Decoding.{AreFramesOf, Decoding, HasNoFault, Refuses, end_fault, fault_at_end}
-use Rattle.avc_picture.specs.DecoderState.{IsDecoderState, IsWellSoFar, IsWellSomewhere}
-use Rattle.avc_picture.specs.FirstMbs.{HasSets, HoldsFirst, MbsState}
-use Rattle.avc_picture.specs.Sizes.{IsSized}
-use Rattle.avc_picture.specs.Slices.{PictureStart, Progress, coded_of, planes_after_slices, progress, with_slice}
-use Rattle.avc_picture.specs.OpenPicture.{planes_so_far}
-use Rattle.avc_picture.specs.RowLate.{covering_address, filtered_rows, row_late, rows_filtered}
 use Rattle.avc_picture.proofs.SizesKept.{pictures_sized}
 use Rattle.avc_picture.proofs.Whole.{all_built}
 use Rattle.avc_picture.proofs.SliceGoesOn.{are-names, begins-itself, names-of}

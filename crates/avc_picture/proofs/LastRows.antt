@@ -1,21 +1,8 @@
 -- The filter of the last whole row of macroblocks, from the facts of the rows that are kept.
-use Rattle.std.specs.Prelude.{ℕ, suc, ◌+◌, ◌-◌, ◌*◌, ◌/◌, ◌<◌, ◌≤◌, ℤ, List, length}
-use Rattle.std.proofs.Common.{◌≡◌, ◌∙◌, sym, ap, subst, arith}
-use Rattle.std.proofs.lemmas.Nat.{div-mul-add}
-use Rattle.avc_types.specs.Pictures.{Coded}
-use Rattle.avc_neigh.specs.declared.facts.Motion.{Motion}
-use Rattle.avc_motion.specs.Motion.{motion_before}
-use Rattle.avc_plane.specs.Planes.{Planes}
-use Rattle.avc_plane.specs.Frames.{AreSized}
-use Rattle.avc_deblock.specs.Edges.{all_filtered, row_lines}
-use Rattle.avc_deblock.specs.Facts.{Names, HaveFacts}
-use Rattle.avc_deblock.specs.OneEdge.{HasRoom}
-use Rattle.avc_deblock.specs.ByFacts.{row_by_facts, AreOfRow}
-use Rattle.avc_deblock.specs.declared.facts.MbFacts.{MbFacts}
-use Rattle.avc_deblock.proofs.LocalRows.{row_acts}
-use Rattle.avc_deblock.proofs.PictureFacts.{row_is}
-use Rattle.avc_picture.specs.RowLate.{AreFactsOf, FilterFacts, FiltersUpTo, filtered_rows, rows_filtered}
-use Rattle.avc_picture.specs.FilterRows.{AreFrom, AreLastRows}
+use Rattle.avc_picture.proofs.Common.{ℕ, suc, ◌+◌, ◌-◌, ◌*◌, ◌/◌, ◌<◌, ◌≤◌, ℤ, List, length, ◌≡◌, ◌∙◌, sym, ap, subst, arith, div-mul-add}
+use Rattle.avc_picture.proofs.Common.{Coded, Motion, motion_before, Planes, AreSized, all_filtered, row_lines, Names, HaveFacts, HasRoom}
+use Rattle.avc_picture.proofs.Common.{row_by_facts, AreOfRow, MbFacts, row_acts, row_is, AreFactsOf, FilterFacts, FiltersUpTo}
+use Rattle.avc_picture.proofs.Common.{filtered_rows, rows_filtered, AreFrom, AreLastRows}
 
 -- the facts that are kept of a row, from those of all macroblocks
 pub part : (c : Coded) (motion : List (List Motion)) (names : Names) (all kept : List MbFacts) (address first n : ℕ) → AreFrom all address n kept

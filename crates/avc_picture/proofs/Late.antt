@@ -1,23 +1,13 @@
 -- A macroblock can be built before the filter of the rows two and more above it, or after it.
-use Rattle.std.specs.Prelude.{ℕ, zero, suc, ◌+◌, ◌-◌, ◌*◌, ◌/◌, ◌%◌, ◌<◌, ◌≤◌, ℤ, List, length, slice_index, ◌==◌, if◌then◌else◌}
-use Rattle.std.proofs.Common.{◌≡◌, ◌∙◌, refl, sym, ap, arith, ⊎_elim, mul_comm}
-use Rattle.std.proofs.lemmas.Bool.{cases_lt}
-use Rattle.std.proofs.lemmas.List.{get_or_past}
-use Rattle.std.proofs.lemmas.Nat.{mod_below}
-use Rattle.std.proofs.Math.Nat.{mul-le-mul_right}
-use Rattle.avc_types.specs.Macroblock.{MbSyntax, p_skip, i_pcm, i_nxn, i_16x16, p_inter}
-use Rattle.avc_neigh.specs.Blocks.{block_x, block_y}
-use Rattle.avc_plane.specs.Plane.{Plane, sample, with_block}
-use Rattle.avc_plane.specs.Planes.{Planes, component}
-use Rattle.avc_deblock.specs.Edges.{in_component, luma_per_sample}
-use Rattle.avc_deblock.specs.declared.facts.MbFacts.{MbFacts}
-use Rattle.avc_deblock.specs.ByFacts.{row_by_facts}
-use Rattle.avc_deblock.specs.Locality.{ChangesWithin, ChangesInRow, HasRow}
+use Rattle.avc_picture.proofs.Common.{ℕ, zero, suc, ◌+◌, ◌-◌, ◌*◌, ◌/◌, ◌%◌, ◌<◌, ◌≤◌, ℤ, List, length, slice_index, ◌==◌, if◌then◌else◌}
+use Rattle.avc_picture.proofs.Common.{◌≡◌, ◌∙◌, refl, sym, ap, arith, ⊎_elim, cases_lt, get_or_past, mod_below, mul-le-mul_right, MbSyntax}
+use Rattle.avc_picture.proofs.Common.{p_skip, i_pcm, i_nxn, i_16x16, p_inter, block_x, block_y, Plane, sample, with_block, Planes}
+use Rattle.avc_picture.proofs.Common.{component, in_component, luma_per_sample, MbFacts, row_by_facts, ChangesWithin, ChangesInRow, HasRow}
+use Rattle.avc_picture.proofs.Common.{row_changes, row_commutes, Place, chroma_after, inter_at, left_of_mb, luma_after, planes_after}
+use Rattle.avc_picture.proofs.Common.{top_of_mb, with_block4x4, with_blocks4x4, with_macroblock, size_of, IsSized}
+use Rattle.std.proofs.Common.{mul_comm}
 use Rattle.avc_deblock.proofs.OnPlane.{some_column, row_of}
-use Rattle.avc_deblock.proofs.LocalRows.{row_changes, row_commutes}
-use Rattle.avc_picture_core.specs.Built.{Place, chroma_after, inter_at, left_of_mb, luma_after, planes_after, top_of_mb, with_block4x4, with_blocks4x4, with_macroblock, size_of}
 use Rattle.avc_picture_core.proofs.Blocks.{with_block_same}
-use Rattle.avc_picture.specs.Sizes.{IsSized}
 use Rattle.avc_picture_core.proofs.IntraRows.{AgreeFrom, block_from, chroma_from, luma_from, block_same, luma_same, chroma_same}
 use Rattle.avc_picture.proofs.SizesKept.{luma_after_sized, chroma_after_sized, with_blocks4x4_sized}
 

@@ -1,28 +1,11 @@
 -- The samples of an open picture's macroblocks do not depend on the planes in which it began, where rows of them are filtered.
-use Rattle.std.specs.Prelude.{ℕ, zero, suc, ◌+◌, ◌-◌, ◌*◌, ◌/◌, ◌<◌, ◌≤◌, ℤ, List, length, take}
+use Rattle.avc_picture.proofs.Common.{ℕ, zero, suc, ◌+◌, ◌-◌, ◌*◌, ◌/◌, ◌<◌, ◌≤◌, ℤ, List, length, take, add-mul, mul-le-mul_right}
+use Rattle.avc_picture.proofs.Common.{div-lt_iff_lt-mul, div-mul-le_self, cases_lt, length-take-le, Coded, modes_before, motion_before}
+use Rattle.avc_picture.proofs.Common.{Plane, AreSized, Planes, component, empty_planes, samples_of, all_filtered, row_lines, Names}
+use Rattle.avc_picture.proofs.Common.{row_by_facts, AgreesAbove, ChangesWithin, MbFacts, row_changes, row_reads, row_is, size_of, Agree}
+use Rattle.avc_picture.proofs.Common.{AgreeBefore, address_at, HoldsFirst, MbsState, PartsAgree, AreFactsOf, FilterFacts, covering_address}
+use Rattle.avc_picture.proofs.Common.{filtered_rows, first_built, row_late, rows_filtered, IsSized}
 use Rattle.std.proofs.Common.{◌≡◌, ◌∙◌, refl, sym, ap, subst, arith, mul_comm, ⊎_elim}
-use Rattle.std.proofs.Math.Nat.{add-mul, mul-le-mul_right, div-lt_iff_lt-mul, div-mul-le_self}
-use Rattle.std.proofs.lemmas.Bool.{cases_lt}
-use Rattle.std.proofs.lemmas.List.{length-take-le}
-use Rattle.avc_types.specs.Pictures.{Coded}
-use Rattle.avc_neigh.specs.Modes.{modes_before}
-use Rattle.avc_motion.specs.Motion.{motion_before}
-use Rattle.avc_plane.specs.Plane.{Plane}
-use Rattle.avc_plane.specs.Frames.{AreSized}
-use Rattle.avc_plane.specs.Planes.{Planes, component, empty_planes, samples_of}
-use Rattle.avc_deblock.specs.Edges.{all_filtered, row_lines}
-use Rattle.avc_deblock.specs.Facts.{Names}
-use Rattle.avc_deblock.specs.ByFacts.{row_by_facts}
-use Rattle.avc_deblock.specs.Locality.{AgreesAbove, ChangesWithin}
-use Rattle.avc_deblock.specs.declared.facts.MbFacts.{MbFacts}
-use Rattle.avc_deblock.proofs.LocalRows.{row_changes, row_reads}
-use Rattle.avc_deblock.proofs.PictureFacts.{row_is}
-use Rattle.avc_picture_core.specs.Built.{size_of}
-use Rattle.avc_picture_core.proofs.Earlier.{Agree, AgreeBefore, address_at}
-use Rattle.avc_picture.specs.FirstMbs.{HoldsFirst, MbsState}
-use Rattle.avc_picture.specs.MacroblocksState.{PartsAgree}
-use Rattle.avc_picture.specs.RowLate.{AreFactsOf, FilterFacts, covering_address, filtered_rows, first_built, row_late, rows_filtered}
-use Rattle.avc_picture.specs.Sizes.{IsSized}
 use Rattle.avc_picture.proofs.Begun.{built_agrees, none_agree}
 use Rattle.avc_picture.proofs.Late.{has_row}
 use Rattle.avc_picture.proofs.LateRows.{from_long, row_facts, row_facts_are, rows_sized}

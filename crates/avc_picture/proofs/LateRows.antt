@@ -1,22 +1,10 @@
 -- The planes with a macroblock more, where all whole rows but the last are filtered.
-use Rattle.std.specs.Prelude.{ℕ, zero, suc, ◌+◌, ◌-◌, ◌*◌, ◌/◌, ◌<◌, ◌≤◌, ℤ, List, Some, length, take, drop, slice_get}
+use Rattle.avc_picture.proofs.Common.{ℕ, zero, suc, ◌+◌, ◌-◌, ◌*◌, ◌/◌, ◌<◌, ◌≤◌, ℤ, List, Some, length, take, drop, slice_get, get_or-take}
+use Rattle.avc_picture.proofs.Common.{get_or-drop, length-take-le, length-drop, mul-le-mul_right, div-lt_iff_lt-mul, div-mul-le_self, Coded}
+use Rattle.avc_picture.proofs.Common.{PicMb, modes_before, Motion, motion_before, Planes, all_filtered, row_lines, Names, row_by_facts}
+use Rattle.avc_picture.proofs.Common.{AreOfRow, MbFacts, row_is, Place, place_of, planes_after, AreFactsOf, FilterFacts, filtered_rows}
+use Rattle.avc_picture.proofs.Common.{first_built, row_late, rows_filtered, AreFrom, IsSized}
 use Rattle.std.proofs.Common.{◌≡◌, ◌∙◌, refl, sym, ap, subst, arith, mul_comm}
-use Rattle.std.proofs.lemmas.List.{get_or-take, get_or-drop, length-take-le, length-drop}
-use Rattle.std.proofs.Math.Nat.{mul-le-mul_right, div-lt_iff_lt-mul, div-mul-le_self}
-use Rattle.avc_types.specs.Pictures.{Coded, PicMb}
-use Rattle.avc_neigh.specs.Modes.{modes_before}
-use Rattle.avc_neigh.specs.declared.facts.Motion.{Motion}
-use Rattle.avc_motion.specs.Motion.{motion_before}
-use Rattle.avc_plane.specs.Planes.{Planes}
-use Rattle.avc_deblock.specs.Edges.{all_filtered, row_lines}
-use Rattle.avc_deblock.specs.Facts.{Names}
-use Rattle.avc_deblock.specs.ByFacts.{row_by_facts, AreOfRow}
-use Rattle.avc_deblock.specs.declared.facts.MbFacts.{MbFacts}
-use Rattle.avc_deblock.proofs.PictureFacts.{row_is}
-use Rattle.avc_picture_core.specs.Built.{Place, place_of, planes_after}
-use Rattle.avc_picture.specs.RowLate.{AreFactsOf, FilterFacts, filtered_rows, first_built, row_late, rows_filtered}
-use Rattle.avc_picture.specs.FilterRows.{AreFrom}
-use Rattle.avc_picture.specs.Sizes.{IsSized}
 use Rattle.avc_picture.proofs.FirstPlanes.{first_built_more}
 use Rattle.avc_picture.proofs.LastRows.{part}
 use Rattle.avc_picture.proofs.Late.{built_after}

@@ -1,14 +1,9 @@
 -- A mask that grows by a bit at its lower end.
-use Rattle.std.specs.Prelude.{◌-◌, not, ◌||◌, ℤ, pos, negsuc, List, [], ◌∷◌, nat_abs, cond, ◌&&◌}
-use Rattle.std.specs.List.{list_any, list_all}
+use Rattle.avc_picture.proofs.Common.{◌-◌, not, ◌||◌, ℤ, pos, negsuc, List, [], ◌∷◌, nat_abs, cond, ◌&&◌, list_any, list_all, total_coeff}
+use Rattle.avc_picture.proofs.Common.{ℕ, ◌≡◌, ◌∙◌, ◌+◌, ◌*◌, ◌/◌, ◌%◌, ◌^◌, ◌<◌, ◌==◌, Bool, true, false, zero, suc, arith, refl, sym, ap}
+use Rattle.avc_picture.proofs.Common.{add-one, div-div-eq-div-mul, pow-succ', nat_tests, bool_byte, has_bit}
 use Rattle.avc_types.specs.Arithmetic.{◌==ℤ◌}
-use Rattle.avc_types.specs.Macroblock.{total_coeff}
-use Rattle.std.proofs.Common.{ℕ, ◌≡◌, ◌∙◌, ◌+◌, ◌*◌, ◌/◌, ◌%◌, ◌^◌, ◌<◌, ◌==◌, Bool, true, false, zero, suc, arith, refl, sym, ap, add-one}
-use Rattle.std.proofs.Math.Nat.{div-div-eq-div-mul, pow-succ'}
-use Rattle.std.proofs.lemmas.Bool.Decides.{nat_tests}
 use Rattle.std.proofs.lemmas.List.Folds.{sum_by-zero}
-use mir.Val.{bool_byte}
-use Rattle.avc_deblock.specs.Facts.{has_bit}
 
 bit_small : (b : Bool) → bool_byte b < 2
 bit_small true = omega arith

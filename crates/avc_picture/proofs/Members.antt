@@ -1,17 +1,13 @@
 -- What holds of all reference frames holds of those that a list names (8.2.4).
-use Rattle.std.specs.List.{filter, find, list_any}
-use Rattle.std.specs.Prelude.{All, IfOk, IfSome, nat_lt, slice_get, ◌==◌, ◌||◌, if◌then◌else◌}
+use Rattle.avc_picture.proofs.Common.{filter, find, list_any, IfOk, IfSome, nat_lt, slice_get, ◌==◌, ◌||◌, if◌then◌else◌, nat_tests}
+use Rattle.avc_picture.proofs.Common.{length-map, length-take, length-replicate, length-append, All-append, All-cons, All-filter, All-head}
+use Rattle.avc_picture.proofs.Common.{All-map, All-nil, All-replicate, All-tail, All-take, All-weaker, Fault, BadRefList, find-filter}
+use Rattle.std.specs.Prelude.{All}
 use Rattle.std.proofs.Common.{◌≡◌, ℕ, ◌-◌, Bool, true, false, not, List, [], ◌∷◌, ◌++◌, length, take, map, replicate, Option, Some, None, Result, Ok, Err, refl, ap, sym, subst, arith}
-use Rattle.std.proofs.lemmas.Bool.Decides.{nat_tests}
-use Rattle.std.proofs.lemmas.List.{length-map, length-take, length-replicate, length-append}
-use Rattle.std.proofs.lemmas.List.Elements.{All-append, All-cons, All-filter, All-head, All-map, All-nil, All-replicate, All-tail, All-take, All-weaker}
 use Rattle.avc_types.specs.declared.current_frame_num.CurrentFrameNum.{CurrentFrameNum}
-use Rattle.avc_types.specs.declared.fault.Fault.{Fault}
-use Rattle.avc_types.specs.declared.fault.Fault.TheVariants.{BadRefList}
 use Rattle.avc_types.specs.declared.references.Modification.{Modification}
 use Rattle.avc_types.specs.declared.references.Modification.TheVariants.{Subtract, Add, LongTerm}
 use Rattle.avc_types.specs.References.{Reference, has_greater_pic_num, has_long_term_frame_idx, has_pic_num, is_long, is_short, long_term_frame_idx, pic_num_of, placed_by, sorted_by}
-use Rattle.avc_types.proofs.Frames.{find-filter}
 use Rattle.avc_reflist.specs.Lists.{cons_result, entries, existing_frame, existing_modification_frame, initial_list, is_in_list, list_from, modification_frame, modification_frames, pic_num_no_wrap, reference_list}
 
 -- ---- in any list

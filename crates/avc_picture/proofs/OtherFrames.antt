@@ -1,15 +1,11 @@
 -- Slices that name no reference frames are decoded the same whichever there are.
-use Rattle.std.specs.Prelude.{◌≡◌, true, false, List, [], ◌∷◌, All, Some, None, Ok, length, nat_lt, if◌then◌else◌}
-use Rattle.std.proofs.Common.{refl, ap, ◌∙◌, sym}
-use Rattle.std.proofs.lemmas.List.Elements.{All-head, All-tail}
+use Rattle.avc_picture.proofs.Common.{◌≡◌, true, false, List, [], ◌∷◌, Some, None, Ok, length, nat_lt, if◌then◌else◌, refl, ap, ◌∙◌, sym}
+use Rattle.avc_picture.proofs.Common.{All-head, All-tail, Header, Slice, is_p, StoredFrame, deblocked, PictureStart, Progress, current_of}
+use Rattle.avc_picture.proofs.Common.{references_in, or_empty, list_of, coded_of, refused, with_reference_list, with_slice, progress}
+use Rattle.avc_picture.proofs.Common.{planes_after_slices}
+use Rattle.std.specs.Prelude.{All}
 use Rattle.avc_types.specs.declared.fault.Fault.TheVariants as faults
-use Rattle.avc_slice.specs.declared.header.Header.{Header}
-use Rattle.avc_slice.specs.declared.slice.Slice.{Slice}
-use Rattle.avc_slice.specs.Header.{is_p}
 use Rattle.avc_reflist.specs.Lists.{reference_list}
-use Rattle.avc_plane.specs.Planes.{StoredFrame}
-use Rattle.avc_picture.specs.Decoded.{deblocked}
-use Rattle.avc_picture.specs.Slices.{PictureStart, Progress, current_of, references_in, or_empty, list_of, coded_of, refused, with_reference_list, with_slice, progress, planes_after_slices}
 
 pub list_of_intra : (p : PictureStart) (h : Header) → is_p h ≡ false → list_of p h ≡ Ok []
 list_of_intra p h intra =

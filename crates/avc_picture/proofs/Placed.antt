@@ -1,23 +1,13 @@
 -- RefPicList0 of a slice by the places of its frames in the buffer.
-use Rattle.std.specs.Option.{option_map}
-use Rattle.std.specs.Prelude.{IfOk, IfSome, nat_lt, slice_get, slice_index_or, unwrap_or}
+use Rattle.avc_picture.proofs.Common.{option_map, IfOk, IfSome, nat_lt, slice_get, slice_index_or, unwrap_or, nat_tests, get_or_default}
+use Rattle.avc_picture.proofs.Common.{get_or_past, length-map, get_or_from_slice_get, slice_get_within, unwrap_or-slice_get, Fault}
+use Rattle.avc_picture.proofs.Common.{max_frame_num, Sps, Pps, is_p, Header, marked_frame, ArePlacesIn, FramesStandAt, IsListAt}
+use Rattle.avc_picture.proofs.Common.{picture_start, PictureStart, current_of, list_of, or_empty, references_in}
 use Rattle.std.proofs.Common.{◌≡◌, ℕ, zero, suc, ◌<◌, ◌≤◌, Bool, true, false, List, [], length, map, replicate, Option, Some, None, Result, Ok, refl, ap, sym, subst, ◌∙◌, arith}
 use Rattle.std.proofs.Math.ListN.{get_or-map}
-use Rattle.std.proofs.lemmas.Bool.Decides.{nat_tests}
-use Rattle.std.proofs.lemmas.List.{get_or_default, get_or_past, length-map}
-use Rattle.std.proofs.lemmas.Option.{get_or_from_slice_get, slice_get_within, unwrap_or-slice_get}
-use Rattle.avc_types.specs.declared.fault.Fault.{Fault}
 use Rattle.avc_types.specs.References.{NamesFrames, Reference, reference_at}
-use Rattle.avc_params.specs.Limits.{max_frame_num}
-use Rattle.avc_params.specs.declared.sps.Sps.{Sps}
-use Rattle.avc_params.specs.declared.pps.Pps.{Pps}
-use Rattle.avc_slice.specs.Header.{is_p}
-use Rattle.avc_slice.specs.declared.header.Header.{Header}
 use Rattle.avc_reflist.specs.Lists.{AreEntriesIn, each_entry, reference_list}
-use Rattle.avc_plane.specs.Frames.{marked_frame}
 use Rattle.avc_plane.specs.declared.frame.Frame.{Frame}
-use Rattle.avc_picture.specs.Context.{ArePlacesIn, FramesStandAt, IsListAt, picture_start}
-use Rattle.avc_picture.specs.Slices.{PictureStart, current_of, list_of, or_empty, references_in}
 use Rattle.avc_picture.proofs.Members.{listed-length}
 use Rattle.avc_picture.proofs.Stored.{stored-references}
 

@@ -1,20 +1,15 @@
 -- The blocks of a quarter of a macroblock are predicted from one reference index.
-use Rattle.std.specs.Prelude.{if◌then◌else◌, ◌&&◌, slice_index, slice_index_or}
-use Rattle.std.proofs.Common.{◌≡◌, ◌<◌, ◌≤◌, ◌+◌, ◌*◌, ◌/◌, ◌%◌, ℕ, List, [], ◌∷◌, ◌++◌, Bool, true, false, refl, sym, ap, arith, nat_lt, nat_le, subst}
-use Rattle.std.proofs.lemmas.Bool.Decides.{nat_tests}
-use Rattle.std.proofs.lemmas.List.{get_or-replicate}
+use Rattle.avc_picture.proofs.Common.{if◌then◌else◌, ◌&&◌, slice_index, slice_index_or, ◌≡◌, ◌<◌, ◌≤◌, ◌+◌, ◌*◌, ◌/◌, ◌%◌, ℕ, List, [], ◌∷◌}
+use Rattle.avc_picture.proofs.Common.{◌++◌, Bool, true, false, refl, sym, ap, arith, nat_lt, nat_le, subst, nat_tests, get_or-replicate}
+use Rattle.avc_picture.proofs.Common.{P16x16, P16x8, P8x16, P8x8, P8x8Ref0, MbSyntax, p_skip, i_pcm, i_nxn, i_16x16, p_inter, parts_of}
+use Rattle.avc_picture.proofs.Common.{parts_of_quarter, parts_of_quarters, quarter_x, quarter_y, block_x, block_y, Motion, absent, intra}
+use Rattle.avc_picture.proofs.Common.{inter, Near, is_in_part, motion_by, motion_of_part, motion_of_parts, no_motion, with_part, is_intra}
+use Rattle.avc_picture.proofs.Common.{and_first, and_second}
 use Rattle.avc_types.specs.declared.macroblock.Mvd.{Mvd}
 use Rattle.avc_types.specs.declared.macroblock.Part.{Part}
 use Rattle.avc_types.specs.declared.macroblock.PMbType.{PMbType}
-use Rattle.avc_types.specs.declared.macroblock.PMbType.TheVariants.{P16x16, P16x8, P8x16, P8x8, P8x8Ref0}
 use Rattle.avc_types.specs.declared.macroblock.SubMbType.{SubMbType}
 use Rattle.avc_types.specs.declared.macroblock.SubMbType.TheVariants.{Sub8x8, Sub8x4, Sub4x8, Sub4x4}
-use Rattle.avc_types.specs.Macroblock.{MbSyntax, p_skip, i_pcm, i_nxn, i_16x16, p_inter, parts_of, parts_of_quarter, parts_of_quarters, quarter_x, quarter_y}
-use Rattle.avc_neigh.specs.Blocks.{block_x, block_y}
-use Rattle.avc_neigh.specs.declared.facts.Motion.{Motion}
-use Rattle.avc_neigh.specs.declared.facts.Motion.TheVariants.{Absent as absent, Intra as intra, Inter as inter}
-use Rattle.avc_motion.specs.Motion.{Near, is_in_part, motion_by, motion_of_part, motion_of_parts, no_motion, with_part, is_intra}
-use Rattle.avc_motion.proofs.Apart.{and_first, and_second}
 use Rattle.avc_motion.proofs.Filling.{at-with_part}
 
 -- the partition of a quarter

@@ -1,15 +1,10 @@
 -- What a macroblock that is read keeps to, as far as one function or another asks.
-use Rattle.std.specs.Prelude.{ℕ, ◌-◌, ◌%◌, ◌==◌, nat_lt, List, length, Bool, true, false, Option, Some, None, All, slice_get, if◌then◌else◌}
-use Rattle.std.proofs.Common.{◌≡◌, refl, subst}
-use Rattle.std.proofs.lemmas.Option.{get_or_from_slice_get, slice_get_within}
-use Rattle.avc_types.specs.Macroblock.{MbSyntax, p_skip, i_pcm, i_nxn, i_16x16, p_inter}
-use Rattle.avc_neigh.specs.Around.{PictureFacts, back, of_slice, mb_a, mb_b, next_address}
-use Rattle.avc_neigh.specs.BlockNear.{HasModes}
-use Rattle.avc_neigh.specs.Modes.{IsMode}
-use Rattle.avc_neigh.specs.declared.facts.NeighbourFacts.{NeighbourFacts}
+use Rattle.avc_picture.proofs.Common.{ℕ, ◌-◌, ◌%◌, ◌==◌, nat_lt, List, length, Bool, true, false, Option, Some, None, slice_get}
+use Rattle.avc_picture.proofs.Common.{if◌then◌else◌, ◌≡◌, refl, subst, get_or_from_slice_get, slice_get_within, MbSyntax, p_skip, i_pcm}
+use Rattle.avc_picture.proofs.Common.{i_nxn, i_16x16, p_inter, PictureFacts, back, of_slice, mb_a, mb_b, next_address, HasModes, IsMode}
+use Rattle.avc_picture.proofs.Common.{NeighbourFacts, IsInRange, HaveModes}
+use Rattle.std.specs.Prelude.{All}
 use Rattle.avc_mbsyntax.specs.Ranges.{IsSyntax}
-use Rattle.avc_picture_core.specs.Canvas.{IsInRange}
-use Rattle.avc_picture.specs.MacroblocksState.{HaveModes}
 
 pub in_range_of : (n : ℕ) (s : MbSyntax) → IsSyntax n s → IsInRange s
 in_range_of n p_skip is = tt

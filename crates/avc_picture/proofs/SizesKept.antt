@@ -1,21 +1,12 @@
 -- Building and filtering keep the sizes of planes.
-use Rattle.std.specs.Prelude.{ℕ, zero, suc, ◌+◌, ◌-◌, ◌*◌, Bool, true, false, if◌then◌else◌, List, [], ◌∷◌, length}
-use Rattle.std.proofs.Common.{refl, ap, ◌∙◌, length-set}
-use Rattle.avc_types.specs.Macroblock.{MbSyntax, p_skip, i_pcm, i_nxn, i_16x16, p_inter}
-use Rattle.avc_types.specs.Pictures.{Coded, PicMb}
-use Rattle.avc_params.specs.Limits.{width_in_mbs, height_in_mbs}
-use Rattle.avc_neigh.specs.declared.facts.NearMode.{NearMode}
-use Rattle.avc_neigh.specs.Modes.{modes_before}
-use Rattle.avc_neigh.specs.declared.facts.Motion.{Motion}
-use Rattle.avc_motion.specs.Motion.{motion_before}
+use Rattle.avc_picture.proofs.Common.{ℕ, zero, suc, ◌+◌, ◌-◌, ◌*◌, Bool, true, false, if◌then◌else◌, List, [], ◌∷◌, length, refl, ap, ◌∙◌}
+use Rattle.avc_picture.proofs.Common.{length-set, MbSyntax, p_skip, i_pcm, i_nxn, i_16x16, p_inter, Coded, PicMb, width_in_mbs}
+use Rattle.avc_picture.proofs.Common.{height_in_mbs, NearMode, modes_before, Motion, motion_before, Plane, sample, is_inside, plane_of}
+use Rattle.avc_picture.proofs.Common.{with_sample, with_block, Planes, empty_planes, LineFilter, line_at, with_line, line_filtered}
+use Rattle.avc_picture.proofs.Common.{setting_at, step_filtered, all_filtered, line_filters, Place, place_of, with_blocks4x4, luma_after}
+use Rattle.avc_picture.proofs.Common.{chroma_after, planes_after, built_on, built, HasSize, IsSized, PicturesAreSized, coded_of, progress}
 use Rattle.avc_plane.proofs.PlaneMaps.{length-plane_of}
-use Rattle.avc_plane.specs.Plane.{Plane, sample, is_inside, plane_of, with_sample, with_block}
-use Rattle.avc_plane.specs.Planes.{Planes, empty_planes}
 use Rattle.avc_deblock.specs.Line.{Line, Setting, filtered}
-use Rattle.avc_deblock.specs.Edges.{LineFilter, line_at, with_line, line_filtered, setting_at, step_filtered, all_filtered, line_filters}
-use Rattle.avc_picture_core.specs.Built.{Place, place_of, with_blocks4x4, luma_after, chroma_after, planes_after, built_on, built}
-use Rattle.avc_picture.specs.Sizes.{HasSize, IsSized, PicturesAreSized}
-use Rattle.avc_picture.specs.Slices.{coded_of, progress}
 
 -- ---- a plane
 

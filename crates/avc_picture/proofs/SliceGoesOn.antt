@@ -1,30 +1,17 @@
 -- One slice more of a picture.
-use Rattle.std.specs.List.Sorted.{IsStrictlyIncreasing}
-use Rattle.std.specs.Prelude.{nat_lt, slice_index, slice_index_or, if◌then◌else◌}
+use Rattle.avc_picture.proofs.Common.{IsStrictlyIncreasing, nat_lt, slice_index, slice_index_or, if◌then◌else◌, nat_tests, append-nil}
+use Rattle.avc_picture.proofs.Common.{length-append, length-map, take_at, Fault, ArbitrarySliceOrder, MissingMacroblocks, Mb, Coded}
+use Rattle.avc_picture.proofs.Common.{SliceFacts, width_in_mbs, Sps, Pps, Slice, Follows, IsHandedOut, rest_of, SliceMbs, SliceStart}
+use Rattle.avc_picture.proofs.Common.{placed, slice_data, SliceData, slice_facts, Names, AreNames, IsContextOf, picture_start, CanHaveFirst}
+use Rattle.avc_picture.proofs.Common.{GoesOn, HasFirst, IsDataAnswer, IsDataOf, IsStateOrFault, IsWellSoFar, address_fault, first_of}
+use Rattle.avc_picture.proofs.Common.{number_after, outcome, outcome_from, BeginsWith, HoldsFirst, MbsState, PictureStart, Progress}
+use Rattle.avc_picture.proofs.Common.{coded_of, data_of, first_mb_fault, list_of, read_whole, refused, start_of, with_first_fault}
+use Rattle.avc_picture.proofs.Common.{with_reference_list, with_slice, with_unit, SliceContext}
 use Rattle.std.proofs.Common.{◌≡◌, ℕ, ◌+◌, ◌*◌, ◌<◌, ◌≤◌, ◌⊎◌, inl, inr, Bool, true, false, List, [], ◌∷◌, ◌++◌, length, take, map, Option, Some, None, Result, Ok, Err, refl, ap, sym, subst, ◌∙◌, arith, append_assoc}
-use Rattle.std.proofs.lemmas.Bool.Decides.{nat_tests}
-use Rattle.std.proofs.lemmas.List.{append-nil, length-append, length-map, take_at}
 use Rattle.std.proofs.lemmas.List.Kept.{AllPairs-from_increasing}
-use Rattle.avc_types.specs.declared.fault.Fault.{Fault}
-use Rattle.avc_types.specs.declared.fault.Fault.TheVariants.{ArbitrarySliceOrder, MissingMacroblocks}
-use Rattle.avc_types.specs.Macroblock.{Mb}
-use Rattle.avc_types.specs.Pictures.{Coded, SliceFacts}
 use Rattle.avc_types.specs.References.{Reference}
-use Rattle.avc_params.specs.Limits.{width_in_mbs}
-use Rattle.avc_params.specs.declared.sps.Sps.{Sps}
-use Rattle.avc_params.specs.declared.pps.Pps.{Pps}
-use Rattle.avc_slice.specs.declared.slice.Slice.{Slice}
-use Rattle.avc_mbsyntax.specs.Rest.{Follows, IsHandedOut, rest_of}
-use Rattle.avc_mbsyntax.specs.SliceData.{SliceMbs, SliceStart, placed, slice_data}
-use Rattle.avc_mbsyntax.specs.declared.slice_data.SliceData.{SliceData}
-use Rattle.avc_motion.specs.Motion.{slice_facts}
 use Rattle.avc_plane.specs.declared.frame.Frame.{Frame}
-use Rattle.avc_deblock.specs.Facts.{Names}
-use Rattle.avc_picture.specs.Context.{AreNames, IsContextOf, picture_start}
-use Rattle.avc_picture.specs.DecoderState.{CanHaveFirst, GoesOn, HasFirst, IsDataAnswer, IsDataOf, IsStateOrFault, IsWellSoFar, address_fault, first_of, number_after, outcome, outcome_from}
-use Rattle.avc_picture.specs.FirstMbs.{BeginsWith, HoldsFirst, MbsState}
-use Rattle.avc_picture.specs.Slices.{PictureStart, Progress, coded_of, data_of, facts_of, first_mb_fault, list_of, read_whole, refused, start_of, with_facts, with_first_fault, with_reference_list, with_slice, with_unit}
-use Rattle.avc_picture.specs.declared.slice_context.SliceContext.{SliceContext}
+use Rattle.avc_picture.specs.Slices.{facts_of, with_facts}
 
 -- ---- the frames' numbers
 

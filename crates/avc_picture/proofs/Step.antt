@@ -1,32 +1,16 @@
 -- One macroblock more of a picture.
-use Rattle.std.specs.Prelude.{ℕ, suc, ◌/◌, ◌<◌, List, [], ◌∷◌, ◌++◌, length, Bool, true, false, Option, Some, None, Ok, Err, slice_get, slice_index_or, replicate, ◌*◌}
-use Rattle.std.proofs.Common.{◌≡◌, ◌∙◌, refl, sym, ap, subst, arith}
-use Rattle.std.proofs.lemmas.List.{length-append, map-append}
-use Rattle.std.proofs.lemmas.Option.{slice_get_within}
-use Rattle.avc_types.specs.declared.fault.Fault.{Fault}
-use Rattle.avc_types.specs.Macroblock.{Mb, MbSyntax, p_skip, i_pcm, i_nxn, i_16x16, p_inter}
-use Rattle.avc_types.specs.Pictures.{Coded, PicMb}
-use Rattle.avc_neigh.specs.Around.{Around, around, is_intra_facts, with_facts}
-use Rattle.avc_neigh.specs.BlockNear.{MotionIsAround, ModesAreAround}
-use Rattle.avc_neigh.specs.Modes.{modes_before, modes_of}
-use Rattle.avc_neigh.specs.TotalCoeffs.{total_coeffs_of}
-use Rattle.avc_neigh.specs.declared.facts.NeighbourFacts.{NeighbourFacts}
-use Rattle.avc_neigh.specs.declared.facts.Motion.{Motion}
-use Rattle.avc_neigh.specs.declared.facts.Motion.TheVariants.{Absent as absent, Intra as intra, Inter as inter}
-use Rattle.avc_motion.specs.Motion.{HasMotion, is_intra, motion_before, motion_of}
-use Rattle.avc_deblock.specs.Facts.{Names}
-use Rattle.avc_deblock.specs.declared.facts.MbFacts.{MbFacts}
-use Rattle.avc_plane.specs.Planes.{Planes}
-use Rattle.avc_picture_core.specs.Built.{Place, place_of, reference_of}
-use Rattle.avc_picture_core.specs.Canvas.{CanvasState, IsBuilt, IsPlaceOn, sides_near}
-use Rattle.avc_picture_core.specs.Faults.{is_picture, macroblock_fault, refusal}
-use Rattle.avc_picture_core.specs.References.{AreReferences}
-use Rattle.avc_picture_core.specs.declared.references.ReferencePicture.{ReferencePicture}
-use Rattle.avc_picture.specs.FirstMbs.{HasNeighbourFacts, HoldsFirst, IsSlice, MbsState}
-use Rattle.avc_picture.specs.RowLate.{AreFactsOf, FilterFacts, FiltersUpTo, filtered_rows, first_built}
-use Rattle.avc_picture.specs.MacroblocksState.{PartsAgree}
-use Rattle.avc_picture.specs.MacroblockFacts.{IsFilterFacts, IsNeighbourFacts}
-use Rattle.avc_picture.specs.declared.slice_context.SliceContext.{SliceContext}
+use Rattle.avc_picture.proofs.Common.{ℕ, suc, ◌/◌, ◌<◌, List, [], ◌∷◌, ◌++◌, length, Bool, true, false, Option, Some, None, Ok, Err}
+use Rattle.avc_picture.proofs.Common.{slice_get, slice_index_or, replicate, ◌*◌, ◌≡◌, ◌∙◌, refl, sym, ap, subst, arith, length-append}
+use Rattle.avc_picture.proofs.Common.{map-append, slice_get_within, Fault, Mb, MbSyntax, p_skip, i_pcm, i_nxn, i_16x16, p_inter, Coded}
+use Rattle.avc_picture.proofs.Common.{PicMb, Around, around, is_intra_facts, MotionIsAround, ModesAreAround, modes_before, modes_of}
+use Rattle.avc_picture.proofs.Common.{total_coeffs_of, NeighbourFacts, Motion, absent, intra, inter, is_intra, motion_before, motion_of}
+use Rattle.avc_picture.proofs.Common.{Names, MbFacts, Planes, Place, place_of, CanvasState, IsBuilt, IsPlaceOn, sides_near, is_picture}
+use Rattle.avc_picture.proofs.Common.{macroblock_fault, refusal, AreReferences, ReferencePicture, HasNeighbourFacts, HoldsFirst, IsSlice}
+use Rattle.avc_picture.proofs.Common.{MbsState, AreFactsOf, FilterFacts, FiltersUpTo, filtered_rows, first_built, PartsAgree, IsFilterFacts}
+use Rattle.avc_picture.proofs.Common.{IsNeighbourFacts, SliceContext}
+use Rattle.avc_neigh.specs.Around.{with_facts}
+use Rattle.avc_motion.specs.Motion.{HasMotion}
+use Rattle.avc_picture_core.specs.Built.{reference_of}
 use Rattle.avc_picture.proofs.Around.{modes_around, motion_around, sides_are}
 use Rattle.avc_picture.proofs.Before.{modes_last, modes_more, motion_last, motion_more, motion_stays}
 use Rattle.avc_picture.proofs.Faults.{has_pictures, in_range, macroblock_fault_is, motion_found, out_of_range}

@@ -1,22 +1,11 @@
 -- Frames of the buffer as the reference frames of a picture.
-use Rattle.std.specs.List.{find, list_any}
-use Rattle.std.specs.Option.{option_map}
-use Rattle.std.specs.Prelude.{slice_get, slice_index, slice_index_or, is_some, ◌==◌}
-use Rattle.std.proofs.Common.{◌≡◌, ℕ, zero, suc, ◌<◌, Bool, true, false, cond, List, [], ◌∷◌, length, map, Some, None, refl, ap, sym, ◌∙◌, arith}
-use Rattle.std.proofs.lemmas.Bool.Decides.{nat_tests}
-use Rattle.std.proofs.lemmas.List.{length-map}
-use Rattle.std.proofs.lemmas.Option.{get_or_from_slice_get, slice_get_within, slice_get-map}
-use Rattle.avc_types.specs.Pictures.{Frame as Shown}
+use Rattle.avc_picture.proofs.Common.{find, list_any, option_map, slice_get, slice_index, slice_index_or, is_some, ◌==◌, ◌≡◌, ℕ, zero, suc}
+use Rattle.avc_picture.proofs.Common.{◌<◌, Bool, true, false, cond, List, [], ◌∷◌, length, map, Some, None, refl, ap, sym, ◌∙◌, arith}
+use Rattle.avc_picture.proofs.Common.{nat_tests, length-map, get_or_from_slice_get, slice_get_within, slice_get-map, Shown, below_rest}
+use Rattle.avc_picture.proofs.Common.{seen-at, stand_rest, Sps, Pps, marked_frame, padded_planes_of, stored_at, stored_frame, StoredFrame}
+use Rattle.avc_picture.proofs.Common.{samples_of, PaddedPlanes, FramesStandAt, picture_start, frame_of}
 use Rattle.avc_types.specs.References.{no_frame, reference_at, reference_of, references_at}
-use Rattle.avc_types.proofs.Frames.{below_rest, seen-at, stand_rest}
-use Rattle.avc_params.specs.declared.sps.Sps.{Sps}
-use Rattle.avc_params.specs.declared.pps.Pps.{Pps}
-use Rattle.avc_plane.specs.Frames.{marked_frame, padded_planes_of, stored_at, stored_frame}
-use Rattle.avc_plane.specs.Planes.{StoredFrame, samples_of}
 use Rattle.avc_plane.specs.declared.frame.Frame.{Frame}
-use Rattle.avc_plane.specs.declared.frame.PaddedPlanes.{PaddedPlanes}
-use Rattle.avc_picture.specs.Context.{FramesStandAt, picture_start}
-use Rattle.avc_picture.specs.Slices.{frame_of}
 
 -- ---- which they are
 

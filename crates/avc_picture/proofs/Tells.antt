@@ -1,12 +1,7 @@
 -- What facts tell of a picture's macroblocks, over one macroblock more.
-use Rattle.std.proofs.Common.{◌≡◌, ◌∙◌, ℕ, List, [], ◌∷◌, ◌++◌, length, map, take, drop, refl, sym, ap}
-use Rattle.std.specs.Prelude.{Some, slice_get, slice_index_or}
-use Rattle.std.proofs.Math.Seq.{take-append_seam}
-use Rattle.std.proofs.lemmas.List.{append-nil, length-map, map-append, take-map}
-use Rattle.std.proofs.lemmas.Option.{same_Some}
-use Rattle.avc_types.specs.Pictures.{PicMb}
-use Rattle.avc_neigh.specs.declared.facts.NeighbourFacts.{NeighbourFacts}
-use Rattle.avc_neigh.specs.Laws.{FactsTell}
+use Rattle.avc_picture.proofs.Common.{◌≡◌, ◌∙◌, ℕ, List, [], ◌∷◌, ◌++◌, length, map, take, drop, refl, sym, ap, Some, slice_get}
+use Rattle.avc_picture.proofs.Common.{slice_index_or, take-append_seam, append-nil, length-map, map-append, take-map, same_Some, PicMb}
+use Rattle.avc_picture.proofs.Common.{NeighbourFacts, FactsTell}
 
 map_twice : {X Y Z : Type 0} (f : X → Y) (g : Y → Z) (xs : List X) → map (λ x. g (f x)) xs ≡ map g (map f xs)
 map_twice f g [] = refl

@@ -1,25 +1,11 @@
 -- A picture all of whose macroblocks are decoded.
-use Rattle.std.specs.Prelude.{ℕ, zero, suc, ◌-◌, ◌*◌, ◌/◌, ◌<◌, length}
-use Rattle.std.specs.List.{range_with_len, flat_map}
-use Rattle.std.proofs.Common.{◌≡◌, ◌∙◌, refl, ap, subst, arith}
-use Rattle.std.proofs.Math.Nat.{mul_comm, div-lt_iff_lt-mul}
-use Rattle.std.proofs.Math.Seq.{take-length}
-use Rattle.std.proofs.lemmas.Nat.{div-mul-add}
-use Rattle.avc_types.specs.Pictures.{Coded}
-use Rattle.avc_neigh.specs.Modes.{modes_before}
-use Rattle.avc_motion.specs.Motion.{motion_before}
-use Rattle.avc_plane.specs.Planes.{Planes}
-use Rattle.avc_deblock.specs.Edges.{all_filtered, line_filters, row_lines}
-use Rattle.avc_deblock.specs.Facts.{Names}
-use Rattle.avc_deblock.specs.OneEdge.{HasRoom}
+use Rattle.avc_picture.proofs.Common.{ℕ, zero, suc, ◌-◌, ◌*◌, ◌/◌, ◌<◌, length, range_with_len, flat_map, ◌≡◌, ◌∙◌, refl, ap, subst, arith}
+use Rattle.avc_picture.proofs.Common.{div-lt_iff_lt-mul, take-length, div-mul-add, Coded, modes_before, motion_before, Planes, all_filtered}
+use Rattle.avc_picture.proofs.Common.{line_filters, row_lines, Names, HasRoom, built_on, AreSized, deblocked, HoldsFirst, MbsState}
+use Rattle.avc_picture.proofs.Common.{FiltersUpTo, filtered_rows, first_built, rows_filtered, PartsAgree}
+use Rattle.std.proofs.Math.Nat.{mul_comm}
 use Rattle.avc_deblock.proofs.Macroblocks.{row_more, rows_are_all}
 use Rattle.avc_deblock.proofs.Order.{all_filtered-append}
-use Rattle.avc_picture_core.specs.Built.{built_on}
-use Rattle.avc_plane.specs.Frames.{AreSized}
-use Rattle.avc_picture.specs.Decoded.{deblocked}
-use Rattle.avc_picture.specs.FirstMbs.{HoldsFirst, MbsState}
-use Rattle.avc_picture.specs.RowLate.{FiltersUpTo, filtered_rows, first_built, rows_filtered}
-use Rattle.avc_picture.specs.MacroblocksState.{PartsAgree}
 use Rattle.avc_picture.proofs.Begun.{built_anyhow}
 
 pub all_built : (c : Coded) (s : Planes)

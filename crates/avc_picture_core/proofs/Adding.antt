@@ -1,10 +1,7 @@
 -- Which 4x4 block a sample is of, and what a residual of 0 adds.
-use Rattle.std.proofs.Common.{◌≡◌, ℕ, ◌+◌, ◌-◌, ◌*◌, ◌/◌, ◌%◌, ◌<◌, ◌≤◌, ℤ, pos, List, length, slice_index_or, arith}
+use Rattle.avc_picture_core.proofs.Common.{◌≡◌, ℕ, ◌+◌, ◌-◌, ◌*◌, ◌/◌, ◌%◌, ◌<◌, ◌≤◌, ℤ, pos, List, length, slice_index_or, arith}
+use Rattle.avc_picture_core.proofs.Common.{nat_tests, ints, block_at, block_x, block_y, sum_of}
 use Rattle.std.proofs.lemmas.Option.{get_or_from_slice_get, slice_get-get_or}
-use Rattle.std.proofs.lemmas.Bool.Decides.{nat_tests}
-use Rattle.std.proofs.lemmas.Int.{ints}
-use Rattle.avc_neigh.specs.Blocks.{block_at, block_x, block_y}
-use Rattle.avc_picture_core.specs.Built.{sum_of}
 
 -- a residual of 0 changes nothing
 pub unchanged : (v : ℕ) (z : ℤ) → v ≤ 255 → z ≡ pos 0 → sum_of v z ≡ v

@@ -1,12 +1,7 @@
 -- Blocks predicted and laid into a plane.
-use Rattle.std.proofs.Common.{◌≡◌, ℕ, ◌+◌, ◌-◌, ◌*◌, ◌<◌, ◌≤◌, Bool, true, false, slice_index, if◌then◌else◌, arith, refl, ap, ◌∙◌}
-use Rattle.std.specs.Prelude.{Some, None}
-use Rattle.std.specs.Option.{unwrap_or}
-use Rattle.avc_plane.specs.Plane.{Plane, sample, with_block, is_inside}
-use Rattle.avc_plane.proofs.PlaneMaps.{sample-plane_of}
-use Rattle.avc_plane.proofs.Blocks.{plane_of_same}
-use Rattle.avc_plane.proofs.Rectangles.{by_place}
-use Rattle.avc_intra.specs.Lines.{block4x4}
+use Rattle.avc_picture_core.proofs.Common.{◌≡◌, ℕ, ◌+◌, ◌-◌, ◌*◌, ◌<◌, ◌≤◌, Bool, true, false, slice_index, if◌then◌else◌, arith, refl, ap}
+use Rattle.avc_picture_core.proofs.Common.{◌∙◌, Some, None, unwrap_or, Plane, sample, with_block, is_inside, sample-plane_of, plane_of_same}
+use Rattle.avc_picture_core.proofs.Common.{by_place, block4x4}
 
 -- a block set to the same samples is the same
 pub with_block_same : (s : Plane) (left top w h : ℕ) (f g : ℕ → ℕ → ℕ) → ((x y : ℕ) → x < w → y < h → f x y ≡ g x y)

@@ -1,15 +1,8 @@
 -- Blocks whose levels are all 0.
 use Rattle.std.proofs.Common.{◌≡◌, ℕ, zero, suc, ◌+◌, ◌*◌, ◌/◌, ◌%◌, ◌^◌, ◌<◌, ℤ, pos, negsuc, ◌+ℤ◌, ◌*ℤ◌, false, not, cond, List, [], ◌∷◌, slice_index_or, refl, ap, ◌∙◌, arith}
 use Rattle.std.proofs.Math.IntN.{*ℤ-zero, zero-*ℤ}
-use Rattle.avc_types.specs.Arithmetic.{◌>>ℤ◌}
-use Rattle.std.specs.Prelude.{◌==◌, nat_abs}
-use Rattle.std.proofs.lemmas.List.Sums.{sum_by-append}
-use Rattle.std.proofs.lemmas.Bool.Decides.{nat_tests}
-use Rattle.std.specs.List.{sum_by}
-use Rattle.avc_types.specs.Macroblock.{total_coeff}
-use Rattle.avc_transform.specs.Residual.{level, even_scale, hadamard2, chroma_dc, chroma_dc_product, chroma_dc_scaled}
-use Rattle.avc_transform.specs.MacroblockResidual.{chroma_residual}
-use Rattle.avc_transform.proofs.NoResidual.{residual_of_dc}
+use Rattle.avc_picture_core.proofs.Common.{◌>>ℤ◌, ◌==◌, nat_abs, sum_by-append, nat_tests, sum_by, total_coeff, level, even_scale}
+use Rattle.avc_picture_core.proofs.Common.{hadamard2, chroma_dc, chroma_dc_product, chroma_dc_scaled, chroma_residual, residual_of_dc}
 
 abbrev weight : ℤ → ℕ
 weight l = cond (not (nat_abs l == 0)) 1 0

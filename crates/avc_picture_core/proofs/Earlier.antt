@@ -1,24 +1,12 @@
 -- A macroblock is built from the samples of macroblocks before it: planes that agree on these agree on it too.
 use Rattle.std.proofs.Common.{◌≡◌, ◌∙◌, ℕ, ℤ, ◌+◌, ◌-◌, ◌*◌, ◌/◌, ◌%◌, ◌<◌, ◌≤◌, zero, suc, pos, negsuc, nat_abs, ◌+ℤ◌, ◌-ℤ◌, nat_lt, Bool, true, false, if◌then◌else◌, refl, sym, ap, arith, mul_comm, inl, inr, ⊎_elim}
-use Rattle.std.specs.Prelude.{◌⊎◌, Some, None, ◌==◌, ◌&&◌, ◌||◌, not, slice_get, slice_index, slice_index_or}
-use Rattle.std.specs.Option.{unwrap_or}
-use Rattle.std.proofs.lemmas.Bool.{and_parts, cases_lt, or_cases, ltb-true}
-use Rattle.std.proofs.lemmas.Bool.Decides.{nat_tests}
-use Rattle.std.proofs.lemmas.Int.{ints}
-use Rattle.std.proofs.Math.Nat.{add-mul, mul-add, mul-le-mul_right, div-lt_iff_lt-mul}
-use Rattle.std.proofs.lemmas.Nat.{div-add-mod', div-mul-add, mod-mul-add, mod_below}
-use Rattle.avc_types.specs.Macroblock.{MbSyntax, p_skip, i_pcm, i_nxn, i_16x16, p_inter}
-use Rattle.avc_types.specs.Pictures.{Coded}
-use Rattle.avc_neigh.specs.Blocks.{Location, block_x, block_y, block_at, location_in, same_slice}
-use Rattle.avc_neigh.specs.declared.facts.NearMode.TheVariants.{Absent as absent}
-use Rattle.avc_plane.specs.Plane.{Plane, sample, with_block}
-use Rattle.avc_plane.specs.Planes.{Planes}
-use Rattle.avc_plane.proofs.PlaneMaps.{sample-with_block}
-use Rattle.avc_plane.proofs.Rectangles.{by_place}
-use Rattle.avc_intra.specs.Luma4x4.{mode4x4_of}
-use Rattle.avc_intra.specs.Luma16x16.{mode16x16_of}
-use Rattle.avc_intra.specs.Chroma.{mode_chroma_of}
-use Rattle.avc_picture_core.specs.Built.{Place, chroma_after, inter_at, is_intra_place, is_there, left_of_mb, luma_after, mode_number, planes_after, residual_at, seen_from, sides_of, sum_of, top_of_mb, with_blocks4x4}
+use Rattle.avc_picture_core.proofs.Common.{◌⊎◌, Some, None, ◌==◌, ◌&&◌, ◌||◌, not, slice_get, slice_index, slice_index_or, unwrap_or}
+use Rattle.avc_picture_core.proofs.Common.{and_parts, cases_lt, or_cases, ltb-true, nat_tests, ints, add-mul, mul-add, mul-le-mul_right}
+use Rattle.avc_picture_core.proofs.Common.{div-lt_iff_lt-mul, div-add-mod', div-mul-add, mod-mul-add, mod_below, MbSyntax, p_skip, i_pcm}
+use Rattle.avc_picture_core.proofs.Common.{i_nxn, i_16x16, p_inter, Coded, Location, block_x, block_y, block_at, location_in, same_slice}
+use Rattle.avc_picture_core.proofs.Common.{absent, Plane, sample, with_block, Planes, sample-with_block, by_place, mode4x4_of, mode16x16_of}
+use Rattle.avc_picture_core.proofs.Common.{mode_chroma_of, Place, chroma_after, inter_at, is_intra_place, is_there, left_of_mb, luma_after}
+use Rattle.avc_picture_core.proofs.Common.{mode_number, planes_after, residual_at, seen_from, sides_of, sum_of, top_of_mb, with_blocks4x4}
 use Rattle.avc_picture_core.proofs.IntraRows.{block_from, chroma_from, luma_from}
 use Rattle.avc_picture_core.proofs.IntraSides.{AgreeBeside, agree4x4, agree16x16, agree_chroma, on_each_side}
 use Rattle.avc_picture_core.proofs.PlaceOn.{sides_inside}

@@ -1,13 +1,7 @@
 -- Residuals added to a plane in place, 4x4 block by block.
-use Rattle.std.proofs.Common.{◌≡◌, ◌≢◌, ℕ, ◌+◌, ◌-◌, ◌*◌, ◌<◌, ◌≤◌, nat_lt, ℤ, pos, Bool, true, false, length, if◌then◌else◌, arith, refl, sym, ap, ◌∙◌, inl, inr}
-use Rattle.std.proofs.lemmas.Bool.{cases_lt}
-use Rattle.std.proofs.lemmas.Bool.Decides.{nat_tests}
-use Rattle.avc_plane.specs.Plane.{Plane, sample, with_block, is_inside}
-use Rattle.avc_plane.proofs.Blocks.{plane_of_same, inside, no_line}
-use Rattle.avc_plane.proofs.PlaneMaps.{sample-with_block}
-use Rattle.avc_plane.proofs.Rectangles.{by_place}
-use Rattle.avc_picture_core.specs.Built.{sum_of}
-use Rattle.avc_picture_core.specs.Residuals.{with_residual}
+use Rattle.avc_picture_core.proofs.Common.{◌≡◌, ◌≢◌, ℕ, ◌+◌, ◌-◌, ◌*◌, ◌<◌, ◌≤◌, nat_lt, ℤ, pos, Bool, true, false, length, if◌then◌else◌}
+use Rattle.avc_picture_core.proofs.Common.{arith, refl, sym, ap, ◌∙◌, inl, inr, cases_lt, nat_tests, Plane, sample, with_block, is_inside}
+use Rattle.avc_picture_core.proofs.Common.{plane_of_same, inside, no_line, sample-with_block, by_place, sum_of, with_residual}
 use Rattle.avc_picture_core.proofs.Adding.{unchanged}
 use Rattle.avc_picture_core.proofs.Blocks.{outside, with_block_same}
 

@@ -1,23 +1,13 @@
 -- Inter macroblocks: refused, or predicted into the planes, with their residual.
-use Rattle.std.proofs.Common.{◌≡◌, ℕ, zero, suc, ◌+◌, ◌*◌, ◌/◌, ◌%◌, ◌<◌, ◌≤◌, ◌-◌, ℤ, Bool, true, false, List, arith, refl, sym, ap, ◌∙◌}
-use Rattle.std.specs.Prelude.{None, Result, Err, if◌then◌else◌}
-use Rattle.std.specs.List.{list_all}
-use Rattle.avc_types.specs.declared.fault.Fault.{Fault}
-use Rattle.avc_types.specs.declared.fault.Fault.TheVariants.{RefMissing}
+use Rattle.avc_picture_core.proofs.Common.{◌≡◌, ℕ, zero, suc, ◌+◌, ◌*◌, ◌/◌, ◌%◌, ◌<◌, ◌≤◌, ◌-◌, ℤ, Bool, true, false, List, arith, refl}
+use Rattle.avc_picture_core.proofs.Common.{sym, ap, ◌∙◌, None, Result, Err, if◌then◌else◌, list_all, Fault, RefMissing, MbSyntax, Residual}
+use Rattle.avc_picture_core.proofs.Common.{p_inter, p_skip, Motion, chroma_residual, luma_residual, Plane, sample, with_block, Planes}
+use Rattle.avc_picture_core.proofs.Common.{inside, sample-with_block, Place, inter_at, planes_after, reference_of, residual_at, size_of}
+use Rattle.avc_picture_core.proofs.Common.{sum_of, has_references, has_sides, is_picture, refusal, CoverMacroblock, predicted_at, with_part}
+use Rattle.avc_picture_core.proofs.Common.{ArePlanesBuilt, IsAt, with_residual}
 use Rattle.avc_types.specs.declared.macroblock.Mvd.{Mvd}
 use Rattle.avc_types.specs.declared.macroblock.PMbType.{PMbType}
-use Rattle.avc_types.specs.Macroblock.{MbSyntax, Residual, p_inter, p_skip}
-use Rattle.avc_neigh.specs.declared.facts.Motion.{Motion}
-use Rattle.avc_transform.specs.MacroblockResidual.{chroma_residual, luma_residual, residual_of}
-use Rattle.avc_plane.specs.Plane.{Plane, sample, with_block}
-use Rattle.avc_plane.specs.Planes.{Planes}
-use Rattle.avc_plane.proofs.Blocks.{inside}
-use Rattle.avc_plane.proofs.PlaneMaps.{sample-with_block}
-use Rattle.avc_picture_core.specs.Built.{Place, inter_at, planes_after, reference_of, residual_at, size_of, sum_of}
-use Rattle.avc_picture_core.specs.Faults.{has_references, has_sides, is_picture, refusal}
-use Rattle.avc_picture_core.specs.Inter.{CoverMacroblock, predicted_at, with_part}
-use Rattle.avc_picture_core.specs.Places.{ArePlanesBuilt, IsAt}
-use Rattle.avc_picture_core.specs.Residuals.{with_residual}
+use Rattle.avc_transform.specs.MacroblockResidual.{residual_of}
 use Rattle.avc_picture_core.proofs.Adding.{unchanged}
 use Rattle.avc_picture_core.proofs.Blocks.{with_block_same}
 use Rattle.avc_picture_core.proofs.InPlace.{residual_over}

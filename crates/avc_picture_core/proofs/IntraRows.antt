@@ -1,16 +1,7 @@
 -- What an intra prediction reads lies at most one row above its block.
-use Rattle.std.proofs.Common.{◌≡◌, ℕ, ◌+◌, ◌<◌, ◌≤◌, ap, arith}
-use Rattle.std.specs.Prelude.{slice_index_or}
-use Rattle.std.specs.Option.{unwrap_or}
-use Rattle.std.proofs.lemmas.Int.{ints}
-use Rattle.avc_plane.specs.Plane.{Plane, sample}
-use Rattle.avc_intra.specs.declared.sides.Sides.{Sides}
-use Rattle.avc_intra.specs.Luma4x4.{intra4x4, mode4x4_of}
-use Rattle.avc_intra.specs.Luma16x16.{intra16x16, mode16x16_of}
-use Rattle.avc_intra.specs.Chroma.{intra_chroma, mode_chroma_of}
-use Rattle.avc_neigh.specs.Blocks.{block_x, block_y}
-use Rattle.avc_neigh.specs.declared.facts.NearMode.TheVariants.{Absent as absent}
-use Rattle.avc_picture_core.specs.Built.{Place, left_of_mb, mode_number, residual_at, seen_from, sides_of, sum_of, top_of_mb}
+use Rattle.avc_picture_core.proofs.Common.{◌≡◌, ℕ, ◌+◌, ◌<◌, ◌≤◌, ap, arith, slice_index_or, unwrap_or, ints, Plane, sample, Sides}
+use Rattle.avc_picture_core.proofs.Common.{intra4x4, mode4x4_of, intra16x16, mode16x16_of, intra_chroma, mode_chroma_of, block_x, block_y}
+use Rattle.avc_picture_core.proofs.Common.{absent, Place, left_of_mb, mode_number, residual_at, seen_from, sides_of, sum_of, top_of_mb}
 use Rattle.avc_picture_core.proofs.IntraSides.{AgreeBeside, agree4x4, agree16x16, agree_chroma, on_each_side}
 
 -- the planes have the same samples from row n on

@@ -1,22 +1,15 @@
 -- An intra prediction reads no sample but those of the sides that are available.
-use Rattle.std.proofs.Common.{◌≡◌, ◌∙◌, ℕ, zero, suc, ◌≤◌, ℤ, ◌+◌, ◌*◌, ◌/◌, ◌<◌, pos, negsuc, nat_lt, Bool, true, false, if◌then◌else◌, refl, sym, ap, arith, slice_index}
-use Rattle.std.specs.Prelude.{Some, None, ◌==◌, ◌&&◌}
+use Rattle.avc_picture_core.proofs.Common.{◌≡◌, ◌∙◌, ℕ, zero, suc, ◌≤◌, ℤ, ◌+◌, ◌*◌, ◌/◌, ◌<◌, pos, negsuc, nat_lt, Bool, true, false}
+use Rattle.avc_picture_core.proofs.Common.{if◌then◌else◌, refl, sym, ap, arith, slice_index, Some, None, ◌==◌, ◌&&◌, and_parts, cases_lt}
+use Rattle.avc_picture_core.proofs.Common.{ltb-true, nat_tests, Sides, Mode4x4, Mode16x16, ModeChroma, block4x4, intra4x4, can_predict4x4}
+use Rattle.avc_picture_core.proofs.Common.{predict4x4, extended, intra16x16, can_predict16x16, predict16x16, intra_chroma}
+use Rattle.avc_picture_core.proofs.Common.{can_predict_chroma, predict_chroma, predict_dc_chroma}
 use Rattle.std.proofs.Math.Path.{fun_ext}
-use Rattle.std.proofs.lemmas.Bool.{and_parts, cases_lt, ltb-true}
-use Rattle.std.proofs.lemmas.Bool.Decides.{nat_tests}
 use Rattle.avc_transform.proofs.BelowFour.{below_two}
-use Rattle.avc_intra.specs.declared.sides.Sides.{Sides}
-use Rattle.avc_intra.specs.declared.luma4x4.Mode4x4.{Mode4x4}
 use Rattle.avc_intra.specs.declared.luma4x4.Mode4x4.TheVariants.{Vertical, Horizontal, Dc, DiagonalDownLeft, DiagonalDownRight, VerticalRight, HorizontalDown, VerticalLeft, HorizontalUp}
-use Rattle.avc_intra.specs.declared.luma16x16.Mode16x16.{Mode16x16}
 use Rattle.avc_intra.specs.declared.luma16x16.Mode16x16.TheVariants as of16x16
-use Rattle.avc_intra.specs.declared.chroma.ModeChroma.{ModeChroma}
 use Rattle.avc_intra.specs.declared.chroma.ModeChroma.TheVariants as of_chroma
 use Rattle.avc_intra.specs.Neighbourhood.{Around}
-use Rattle.avc_intra.specs.Lines.{block4x4}
-use Rattle.avc_intra.specs.Luma4x4.{intra4x4, can_predict4x4, predict4x4, extended}
-use Rattle.avc_intra.specs.Luma16x16.{intra16x16, can_predict16x16, predict16x16}
-use Rattle.avc_intra.specs.Chroma.{intra_chroma, can_predict_chroma, predict_chroma, predict_dc_chroma}
 use Rattle.avc_picture_core.proofs.Blocks.{sample4x4}
 
 -- The sample at this place is beside a block of `size` columns and rows, on a side that is available.

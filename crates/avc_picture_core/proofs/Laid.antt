@@ -1,13 +1,8 @@
 -- Predictions laid into a plane, weighted where there are weights.
-use Rattle.std.proofs.Common.{ℕ, ◌≡◌, ◌+◌, ◌*◌, ◌/◌, ◌%◌, ◌<◌, arith, List, length, map, slice_index, ap, ◌∙◌, mul_comm}
-use Rattle.std.specs.Prelude.{Option, Some, None}
-use Rattle.std.proofs.lemmas.List.{get_or-map}
-use Rattle.std.proofs.lemmas.List.FromFn.{get_or-map-range_with_len, length-map-range_with_len}
-use Rattle.std.proofs.lemmas.Nat.{mul-add-lt, div-mul-add, mod-mul-add}
+use Rattle.avc_picture_core.proofs.Common.{ℕ, ◌≡◌, ◌+◌, ◌*◌, ◌/◌, ◌%◌, ◌<◌, arith, List, length, map, slice_index, ap, ◌∙◌, mul_comm}
+use Rattle.avc_picture_core.proofs.Common.{Option, Some, None, get_or-map, get_or-map-range_with_len, length-map-range_with_len, mul-add-lt}
+use Rattle.avc_picture_core.proofs.Common.{div-mul-add, mod-mul-add, Weight, Plane, with_block, weighted_by}
 use Rattle.avc_types.specs.Blocks.{block_of}
-use Rattle.avc_types.specs.declared.weight.Weight.{Weight}
-use Rattle.avc_plane.specs.Plane.{Plane, with_block}
-use Rattle.avc_picture_core.specs.Built.{weighted_by}
 use Rattle.avc_picture_core.proofs.Blocks.{with_block_same}
 
 pub length-block : (w h : ℕ) (f : ℕ → ℕ → ℕ) → length (block_of w h f) ≡ w * h

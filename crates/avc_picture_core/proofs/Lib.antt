@@ -1,3 +1,4 @@
+mod Common
 pub mod Surrounded
 pub mod Ties
 pub mod Sixteens

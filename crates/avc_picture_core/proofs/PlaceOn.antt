@@ -1,24 +1,13 @@
 -- A macroblock's place on a canvas, as the code knows it: what its blocks may read, and what was built of it.
 use Rattle.std.proofs.Common.{◌≡◌, ℕ, ◌+◌, ◌*◌, ◌/◌, ◌%◌, ◌≤◌, nat_lt, ℤ, pos, negsuc, Bool, true, false, not, ◌||◌, List, Option, None, Result, Ok, Err, arith, refl, sym, ap, subst, ◌∙◌}
-use Rattle.std.proofs.lemmas.Bool.{cases_lt, le-ltb, true≢false}
-use Rattle.std.proofs.lemmas.Int.{ints}
-use Rattle.avc_types.specs.declared.fault.Fault.{Fault}
-use Rattle.avc_types.specs.Macroblock.{Mb, MbSyntax}
-use Rattle.avc_types.specs.Pictures.{Coded}
-use Rattle.avc_neigh.specs.Around.{Around, is_intra_facts}
-use Rattle.avc_neigh.specs.Blocks.{Location, block_x, block_y, block_at, location_in}
+use Rattle.avc_picture_core.proofs.Common.{cases_lt, le-ltb, true≢false, ints, Fault, Mb, MbSyntax, Coded, is_intra_facts, Location}
+use Rattle.avc_picture_core.proofs.Common.{block_x, block_y, block_at, location_in, is_intra, chroma_qp, Sides, Planes, Place, is_there}
+use Rattle.avc_picture_core.proofs.Common.{sides_of, ArePlanesBuilt, IsPlaceIn, MayRead, AreInside, is_readable, readable_near}
+use Rattle.avc_picture_core.proofs.Common.{readable_sides, ReferencePicture, ReadableNeighbours}
+use Rattle.avc_neigh.specs.Around.{Around}
 use Rattle.avc_neigh.specs.Laws.{is_there_near}
 use Rattle.avc_neigh.specs.declared.facts.NeighbourFacts.{NeighbourFacts}
-use Rattle.avc_motion.specs.Motion.{is_intra}
-use Rattle.avc_transform.specs.Residual.{chroma_qp}
-use Rattle.avc_intra.specs.declared.sides.Sides.{Sides}
-use Rattle.avc_plane.specs.Planes.{Planes}
-use Rattle.avc_picture_core.specs.Built.{Place, is_there, sides_of}
 use Rattle.avc_picture_core.specs.Canvas.{CanvasState, IsBuilt, IsPlaceOn, sides_near}
-use Rattle.avc_picture_core.specs.Places.{ArePlanesBuilt, IsPlaceIn, MayRead}
-use Rattle.avc_picture_core.specs.Sides.{AreInside, is_readable, readable_near, readable_sides}
-use Rattle.avc_picture_core.specs.declared.references.ReferencePicture.{ReferencePicture}
-use Rattle.avc_picture_core.specs.declared.sides.ReadableNeighbours.{ReadableNeighbours}
 
 -- ---- what its blocks may read
 

@@ -1,25 +1,13 @@
 -- Samples that are predicted by the list of reference pictures are the predictions of every coded picture with these pictures.
-use Rattle.std.proofs.Common.{ℕ, zero, suc, ◌≡◌, ◌+◌, ◌*◌, ◌%◌, ◌<◌, arith, Bool, true, false, ◌&&◌, List, [], ◌∷◌, length, refl, sym, ap, subst, ◌∙◌, inl, inr}
-use Rattle.std.specs.Prelude.{Option, Some, None, IfSome, is_some, slice_index_or}
-use Rattle.std.specs.List.{list_all}
-use Rattle.std.proofs.lemmas.Bool.{cases_lt, false≢true}
-use Rattle.std.proofs.lemmas.List.{get_or_past}
-use Rattle.std.proofs.lemmas.List.Elements.{All-get_or}
-use Rattle.std.proofs.lemmas.List.Folds.{list_all_at}
-use Rattle.avc_types.specs.Pictures.{Coded}
-use Rattle.avc_types.specs.declared.vector.Mv.{Mv}
-use Rattle.avc_neigh.specs.Blocks.{block_at}
-use Rattle.avc_neigh.specs.declared.facts.Motion.{Motion}
+use Rattle.avc_picture_core.proofs.Common.{ℕ, zero, suc, ◌≡◌, ◌+◌, ◌*◌, ◌%◌, ◌<◌, arith, Bool, true, false, ◌&&◌, List, [], ◌∷◌, length}
+use Rattle.avc_picture_core.proofs.Common.{refl, sym, ap, subst, ◌∙◌, inl, inr, Option, Some, None, IfSome, is_some, slice_index_or}
+use Rattle.avc_picture_core.proofs.Common.{list_all, cases_lt, false≢true, get_or_past, All-get_or, list_all_at, Coded, Mv, block_at}
+use Rattle.avc_picture_core.proofs.Common.{Motion, frame_named, vector_of, Planes, padded_planes_of, size_of, luma_place, fetched}
+use Rattle.avc_picture_core.proofs.Common.{inter_predicted, reference_of, is_picture, AreUsableAt, HaveOneMotion, IsMacroblockShape}
+use Rattle.avc_picture_core.proofs.Common.{IsUsableAt, block_motion, fetched_from, have_pictures, motion_at, picture_in, predicted_at}
+use Rattle.avc_picture_core.proofs.Common.{predicted_from, predicted_in, wanted, with_part, ReferencePicture, Whole}
 use Rattle.avc_neigh.specs.declared.facts.Motion.TheVariants as motions
-use Rattle.avc_motion.specs.Motion.{frame_named, vector_of}
-use Rattle.avc_plane.specs.Planes.{Planes}
-use Rattle.avc_plane.specs.Frames.{padded_planes_of}
-use Rattle.avc_picture_core.specs.Built.{size_of, luma_place, fetched, inter_predicted, reference_of}
-use Rattle.avc_picture_core.specs.Faults.{is_picture}
 use Rattle.avc_picture_core.specs.References.{AreReferences, AreUsable, IsReference, IsUsable, ShowsReference}
-use Rattle.avc_picture_core.specs.Inter.{AreUsableAt, HaveOneMotion, IsMacroblockShape, IsUsableAt, block_motion, fetched_from, have_pictures, motion_at, picture_in, predicted_at, predicted_from, predicted_in, wanted, with_part}
-use Rattle.avc_picture_core.specs.declared.references.ReferencePicture.{ReferencePicture}
-use Rattle.avc_picture_core.specs.declared.shape.Shape.TheVariants.{Whole}
 use Rattle.avc_picture_core.proofs.Tiles.{part_same}
 use Rattle.avc_picture_core.proofs.Shapes.{bounds, whole_blocks, whole_macroblock}
 

@@ -1,14 +1,8 @@
 -- The samples around a block of a plane, in the rows that the plane lends.
-use Rattle.std.proofs.Common.{◌≡◌, ℕ, ◌+◌, ◌-◌, ◌*◌, ◌<◌, ◌≤◌, pos, negsuc, ◌+ℤ◌, List, slice_index, arith, ap, subst, sym, ◌∙◌}
-use Rattle.std.specs.Prelude.{nat_abs}
-use Rattle.std.proofs.Math.Nat.{add-mul}
-use Rattle.std.proofs.lemmas.Int.{ints}
-use Rattle.avc_plane.specs.Plane.{Plane, sample}
+use Rattle.avc_picture_core.proofs.Common.{◌≡◌, ℕ, ◌+◌, ◌-◌, ◌*◌, ◌<◌, ◌≤◌, pos, negsuc, ◌+ℤ◌, List, slice_index, arith, ap, subst, sym}
+use Rattle.avc_picture_core.proofs.Common.{◌∙◌, nat_abs, add-mul, ints, Plane, sample, Sides, seen_from, AreInside}
 use Rattle.avc_plane.specs.Padded.{HaveSamples, stored_place}
-use Rattle.avc_intra.specs.declared.sides.Sides.{Sides}
 use Rattle.avc_intra.specs.InRows.{IsSeen, IsSeen4x4}
-use Rattle.avc_picture_core.specs.Built.{seen_from}
-use Rattle.avc_picture_core.specs.Sides.{AreInside}
 
 module _ (pad left upper size first stride : ℕ) (s : Plane) (sides : Sides) (rows : List ℕ) (have : HaveSamples pad s rows)
     (columns : left + size ≤ s.width) (lines : upper + size ≤ s.height) (inside : AreInside left upper s.width sides)

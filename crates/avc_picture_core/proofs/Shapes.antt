@@ -1,15 +1,9 @@
 -- Blocks that are predicted together have one motion.
-use Rattle.std.proofs.Common.{ℕ, ◌≡◌, ◌+◌, ◌*◌, ◌/◌, ◌%◌, ◌<◌, ◌≤◌, arith, true, List, sym, ap, subst, ◌∙◌, inl, inr}
-use Rattle.std.proofs.lemmas.Bool.{cases_lt, false≢true}
-use Rattle.std.proofs.lemmas.List.{get_or-replicate}
-use Rattle.avc_neigh.specs.Blocks.{block_at}
-use Rattle.avc_neigh.specs.declared.facts.Motion.{Motion}
+use Rattle.avc_picture_core.proofs.Common.{ℕ, ◌≡◌, ◌+◌, ◌*◌, ◌/◌, ◌%◌, ◌<◌, ◌≤◌, arith, true, List, sym, ap, subst, ◌∙◌, inl, inr, cases_lt}
+use Rattle.avc_picture_core.proofs.Common.{false≢true, get_or-replicate, block_at, Motion, AreOfOneMotion, is_inside, by_place}
+use Rattle.avc_picture_core.proofs.Common.{HasWholeQuarters, HaveOneMotion, IsMacroblockShape, IsQuarterShape, block_motion, Whole}
+use Rattle.avc_picture_core.proofs.Common.{WideHalves, TallHalves}
 use Rattle.avc_neigh.specs.declared.facts.Motion.TheVariants as motions
-use Rattle.avc_motion.specs.Motion.{AreOfOneMotion}
-use Rattle.avc_plane.specs.Plane.{is_inside}
-use Rattle.avc_plane.proofs.Rectangles.{by_place}
-use Rattle.avc_picture_core.specs.Inter.{HasWholeQuarters, HaveOneMotion, IsMacroblockShape, IsQuarterShape, block_motion}
-use Rattle.avc_picture_core.specs.declared.shape.Shape.TheVariants.{Whole, WideHalves, TallHalves}
 
 -- the bounds of a place in a rectangle
 pub bounds : (left top w h x y : ℕ) → is_inside left top w h x y ≡ true → (left ≤ x) × (x < left + w) × (top ≤ y) × (y < top + h)

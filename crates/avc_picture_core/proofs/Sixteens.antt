@@ -1,11 +1,7 @@
 -- What is asked of each of sixteen blocks.
-use Rattle.std.proofs.Common.{◌≡◌, ℕ, ◌<◌, Bool, true, false, subst, sym, ◌∙◌, zero-add, List, inl, inr}
-use Rattle.std.proofs.lemmas.Bool.{cases_Bool}
-use Rattle.std.specs.List.{list_all, range_with_len}
-use Rattle.std.proofs.lemmas.List.Elements.{All-get_or, All-from_get_or}
-use Rattle.std.proofs.lemmas.List.Folds.{list_all_at}
-use Rattle.std.proofs.lemmas.List.FromFn.{get_or-range_with_len}
-use Rattle.std.proofs.lemmas.List.Sums.{AllPass-from_list_all, list_all-from_AllPass}
+use Rattle.avc_picture_core.proofs.Common.{◌≡◌, ℕ, ◌<◌, Bool, true, false, subst, sym, ◌∙◌, zero-add, List, inl, inr, cases_Bool, list_all}
+use Rattle.avc_picture_core.proofs.Common.{range_with_len, All-get_or, All-from_get_or, list_all_at, get_or-range_with_len}
+use Rattle.avc_picture_core.proofs.Common.{AllPass-from_list_all, list_all-from_AllPass}
 
 abbrev sixteen : List ℕ
 sixteen = range_with_len 0 16

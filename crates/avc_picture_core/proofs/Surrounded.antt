@@ -1,13 +1,7 @@
 -- A macroblock whose neighbours have samples: its blocks have the sides that any mode needs.
-use Rattle.std.proofs.Common.{◌≡◌, ℕ, ◌<◌, Bool, true, false, refl}
-use Rattle.std.specs.Prelude.{◌&&◌}
-use Rattle.avc_intra.specs.declared.sides.Sides.{Sides}
-use Rattle.avc_intra.specs.declared.luma4x4.Mode4x4.{Mode4x4}
+use Rattle.avc_picture_core.proofs.Common.{◌≡◌, ℕ, ◌<◌, Bool, true, false, refl, ◌&&◌, Sides, Mode4x4, can_predict4x4, has_corner_sides}
+use Rattle.avc_picture_core.proofs.Common.{readable_sides, ReadableNeighbours}
 use Rattle.avc_intra.specs.declared.luma4x4.Mode4x4.TheVariants.{Vertical, Horizontal, Dc, DiagonalDownLeft, DiagonalDownRight, VerticalRight, HorizontalDown, VerticalLeft, HorizontalUp}
-use Rattle.avc_intra.specs.Luma4x4.{can_predict4x4}
-use Rattle.avc_intra.specs.Neighbourhood.{has_corner_sides}
-use Rattle.avc_picture_core.specs.Sides.{readable_sides}
-use Rattle.avc_picture_core.specs.declared.sides.ReadableNeighbours.{ReadableNeighbours}
 use Rattle.avc_picture_core.proofs.Sixteens.{each_sixteen}
 
 abbrev sides_by : (a b c d : Bool) → ℕ → Sides

@@ -1,33 +1,17 @@
 -- What is built without a place, as the built picture has it at its place.
 use Rattle.std.proofs.Common.{arith, suc, [], slice_index_or, ◌≡◌, ℕ, ◌+◌, ◌*◌, ◌/◌, ◌%◌, ◌<◌, ◌≤◌, ℤ, Bool, true, not, ◌&&◌, List, slice_index, if◌then◌else◌, refl, sym, ap, ◌∙◌}
-use Rattle.std.specs.Prelude.{Some, None, Option}
-use Rattle.std.specs.Option.{unwrap_or}
-use Rattle.avc_types.specs.declared.fault.Fault.{Fault}
-use Rattle.avc_types.specs.declared.fault.Fault.TheVariants.{RefMissing, IntraUnavailable}
-use Rattle.avc_types.specs.Macroblock.{MbSyntax, Residual, i_16x16, i_nxn, i_pcm}
-use Rattle.avc_transform.specs.MacroblockResidual.{luma_residual, luma_residual_16x16, residual_of}
-use Rattle.avc_plane.specs.Plane.{Plane, with_block}
-use Rattle.avc_plane.specs.Planes.{Planes}
-use Rattle.avc_intra.specs.declared.sides.Sides.{Sides}
+use Rattle.avc_picture_core.proofs.Common.{Some, None, Option, unwrap_or, Fault, RefMissing, IntraUnavailable, MbSyntax, Residual, i_16x16}
+use Rattle.avc_picture_core.proofs.Common.{i_nxn, i_pcm, luma_residual, luma_residual_16x16, Plane, with_block, Planes, Sides, Mode4x4}
+use Rattle.avc_picture_core.proofs.Common.{Mode16x16, ModeChroma, can_predict4x4, intra4x4, mode4x4_of, block_x, block_y, block_at, absent}
+use Rattle.avc_picture_core.proofs.Common.{residual4x4, intra16x16, mode16x16_of, can_predict_chroma, intra_chroma, mode_chroma_of, Place}
+use Rattle.avc_picture_core.proofs.Common.{chroma_after, inter_at, left_of_mb, mode_number, top_of_mb, with_block4x4, size_of}
+use Rattle.avc_picture_core.proofs.Common.{with_macroblock, luma_after, planes_after, residual_at, seen_from, sides_of, sum_of}
+use Rattle.avc_picture_core.proofs.Common.{has_references, has_sides, refusal, IsAt, MayRead, list_all, range_with_len, ReadableNeighbours}
+use Rattle.avc_picture_core.proofs.Common.{AreInside, readable_sides, IsNxnAt}
+use Rattle.avc_transform.specs.MacroblockResidual.{residual_of}
 use Rattle.avc_intra.specs.Neighbourhood.{Around}
-use Rattle.avc_intra.specs.declared.luma4x4.Mode4x4.{Mode4x4}
-use Rattle.avc_intra.specs.declared.luma16x16.Mode16x16.{Mode16x16}
-use Rattle.avc_intra.specs.declared.chroma.ModeChroma.{ModeChroma}
-use Rattle.avc_intra.specs.Luma4x4.{can_predict4x4, intra4x4, mode4x4_of}
-use Rattle.avc_neigh.specs.Blocks.{block_x, block_y, block_at}
-use Rattle.avc_neigh.specs.declared.facts.NearMode.TheVariants.{Absent as absent}
-use Rattle.avc_transform.specs.Residual.{residual4x4}
 use Rattle.avc_picture_core.proofs.Adding.{luma_number, luma_remainders}
-use Rattle.avc_intra.specs.Luma16x16.{intra16x16, mode16x16_of}
-use Rattle.avc_intra.specs.Chroma.{can_predict_chroma, intra_chroma, mode_chroma_of}
-use Rattle.avc_picture_core.specs.Built.{Place, chroma_after, inter_at, left_of_mb, mode_number, top_of_mb, with_block4x4, size_of, with_macroblock, luma_after, planes_after, residual_at, seen_from, sides_of, sum_of}
-use Rattle.avc_picture_core.specs.Faults.{has_references, has_sides, refusal}
-use Rattle.avc_picture_core.specs.Places.{IsAt, MayRead}
-use Rattle.std.specs.List.{list_all, range_with_len}
 use Rattle.avc_neigh.specs.declared.facts.NearMode.{NearMode}
-use Rattle.avc_picture_core.specs.declared.sides.ReadableNeighbours.{ReadableNeighbours}
-use Rattle.avc_picture_core.specs.Sides.{AreInside, readable_sides}
-use Rattle.avc_picture_core.specs.Nxn.{IsNxnAt}
 use Rattle.avc_picture_core.proofs.IntraRows.{chroma_from}
 use Rattle.avc_picture_core.proofs.Sixteens.{same_sixteen}
 use Rattle.avc_picture_core.proofs.Blocks.{with_block_same}

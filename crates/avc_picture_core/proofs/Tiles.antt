@@ -1,20 +1,8 @@
 -- Rectangles of a macroblock's components, laid into the planes.
-use Rattle.std.proofs.Common.{ℕ, ◌≡◌, ◌+◌, ◌-◌, ◌*◌, ◌/◌, ◌%◌, ◌<◌, ◌≤◌, arith, Bool, true, refl, sym, ap, ◌∙◌, inl, inr}
-use Rattle.std.specs.Prelude.{if◌then◌else◌, Option}
-use Rattle.std.specs.Option.{option_map}
-use Rattle.std.proofs.lemmas.Bool.{cases_lt}
-use Rattle.avc_types.specs.declared.vector.Mv.{Mv}
-use Rattle.avc_types.specs.declared.weight.Weight.{Weight}
-use Rattle.avc_plane.specs.Plane.{Plane, sample, is_inside, with_block}
-use Rattle.avc_plane.specs.Planes.{Planes}
-use Rattle.avc_plane.proofs.Blocks.{inside, plane_of_same}
-use Rattle.avc_plane.proofs.PlaneMaps.{sample-with_block}
-use Rattle.avc_plane.proofs.Rectangles.{by_place}
-use Rattle.avc_inter.specs.Luma.{inter_luma}
-use Rattle.avc_inter.specs.Chroma.{inter_chroma}
-use Rattle.avc_picture_core.specs.Built.{size_of, luma_place, component_weight, weighted_by}
-use Rattle.avc_picture_core.specs.Inter.{predicted_from, with_part}
-use Rattle.avc_picture_core.specs.declared.references.ReferencePicture.{ReferencePicture}
+use Rattle.avc_picture_core.proofs.Common.{ℕ, ◌≡◌, ◌+◌, ◌-◌, ◌*◌, ◌/◌, ◌%◌, ◌<◌, ◌≤◌, arith, Bool, true, refl, sym, ap, ◌∙◌, inl, inr}
+use Rattle.avc_picture_core.proofs.Common.{if◌then◌else◌, Option, option_map, cases_lt, Mv, Weight, Plane, sample, is_inside, with_block}
+use Rattle.avc_picture_core.proofs.Common.{Planes, inside, plane_of_same, sample-with_block, by_place, inter_luma, inter_chroma, size_of}
+use Rattle.avc_picture_core.proofs.Common.{luma_place, component_weight, weighted_by, predicted_from, with_part, ReferencePicture}
 use Rattle.avc_picture_core.proofs.Blocks.{outside, with_block_same}
 use Rattle.avc_picture_core.proofs.Ties.{planes_same}
 

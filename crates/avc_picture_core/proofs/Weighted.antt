@@ -1,12 +1,9 @@
 -- Worked example of explicit weights: two reference indices that name one frame have each their own.
-use Rattle.std.specs.Prelude.{◌≡◌, ℤ, pos, negsuc, true, false, [], ◌∷◌, Some, refl}
-use Rattle.avc_types.specs.Pictures.{Coded, Frame, SliceFacts}
+use Rattle.avc_picture_core.proofs.Common.{◌≡◌, ℤ, pos, negsuc, true, false, [], ◌∷◌, Some, refl, Coded, Frame, SliceFacts, Mv, Weight}
+use Rattle.avc_picture_core.proofs.Common.{inter_predicted}
 use Rattle.avc_types.specs.declared.edges.FilteredEdges.TheVariants.{NoEdges}
-use Rattle.avc_types.specs.declared.vector.Mv.{Mv}
-use Rattle.avc_types.specs.declared.weight.Weight.{Weight}
 use Rattle.avc_types.specs.declared.weight.Weights.{Weights}
 use Rattle.avc_neigh.specs.declared.facts.Motion.TheVariants.{Inter as inter}
-use Rattle.avc_picture_core.specs.Built.{inter_predicted}
 
 abbrev grey : Frame
 grey = record { entry = 0; existing = true; samples = λ k x y. 128 }

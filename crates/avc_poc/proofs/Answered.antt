@@ -1,18 +1,10 @@
 -- What an answer says of the counts behind it.
 use Rattle.std.proofs.Common.{◌≡◌, ℕ, ◌^◌, ℤ, pos, ◌+ℤ◌, ◌*ℤ◌, ◌-ℤ◌, neg_ℤ, int_lt, int_le, Bool, true, false, ◌&&◌, if◌then◌else◌, Result, Ok, Err, refl, sym, ap, ◌∙◌, subst, arith}
-use Rattle.std.specs.Result.{is_ok}
-use Rattle.std.proofs.lemmas.Int.{ints}
+use Rattle.avc_poc.proofs.Common.{is_ok, ints, Fault, PocRange, Sps, OrderCount, Header, has_operation_5, Previous, Counts, both_in_32_bits}
+use Rattle.avc_poc.proofs.Common.{in_32_bits, final_counts, lowered_by_operation_5, in_range, number_in_range, counts_by, counts_0}
+use Rattle.avc_poc.proofs.Common.{counts_from, msb_of, max_lsb, lsb_of, IsNear, IsPrevious, count_pair, pair}
 use Rattle.std.proofs.lemmas.Bool.{and_parts}
-use Rattle.avc_types.specs.declared.fault.Fault.{Fault}
-use Rattle.avc_types.specs.declared.fault.Fault.TheVariants.{PocRange}
-use Rattle.avc_params.specs.declared.sps.Sps.{Sps}
-use Rattle.avc_params.specs.declared.sps.OrderCount.{OrderCount}
 use Rattle.avc_params.specs.declared.sps.OrderCount.TheVariants as orders
-use Rattle.avc_slice.specs.declared.header.Header.{Header}
-use Rattle.avc_slice.specs.Header.{has_operation_5}
-use Rattle.avc_poc.specs.declared.previous.Previous.{Previous}
-use Rattle.avc_poc.specs.OrderCounts.{Counts, both_in_32_bits, in_32_bits, final_counts, lowered_by_operation_5, in_range, number_in_range, counts_by, counts_0, counts_from, msb_of, max_lsb, lsb_of}
-use Rattle.avc_poc.specs.OrderCountState.{IsNear, IsPrevious, count_pair, pair}
 
 abbrev IsValue : Result (ℤ × ℤ) Fault → Type 0
 IsValue (Ok p) = Unit {0}

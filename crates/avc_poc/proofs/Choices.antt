@@ -1,9 +1,6 @@
 -- PicOrderCntMsb in each case of its choice.
-use Rattle.std.proofs.Common.{◌≡◌, ℤ, pos, ◌+ℤ◌, ◌-ℤ◌, ◌*ℤ◌, ◌<ℤ◌, ◌≤ℤ◌, int_lt, int_le, true, false, ap, ◌∙◌, arith, to_z, of_z, w64}
-use Rattle.std.proofs.lemmas.Int.{ints}
-use Rattle.avc_poc.specs.declared.previous.Previous.{Previous}
-use Rattle.avc_poc.specs.OrderCounts.{msb_of}
-use Rattle.avc_poc.specs.OrderCountState.{IsNear, IsPrevious}
+use Rattle.avc_poc.proofs.Common.{◌≡◌, ℤ, pos, ◌+ℤ◌, ◌-ℤ◌, ◌*ℤ◌, ◌<ℤ◌, ◌≤ℤ◌, int_lt, int_le, true, false, ap, ◌∙◌, arith, to_z, of_z, w64}
+use Rattle.avc_poc.proofs.Common.{ints, Previous, msb_of, IsNear, IsPrevious}
 use Rattle.std.specs.Int.{int_min}
 
 pub lt_yes : (a b : ℤ) → a <ℤ b → int_lt a b ≡ true

@@ -1,13 +1,9 @@
 -- The order counts after a gap in frame_num.
-use Rattle.std.proofs.Common.{◌≡◌, ℕ, zero, suc, ◌+◌, ◌-◌, ◌*◌, ◌/◌, ◌%◌, ◌<◌, ◌^◌, Bool, true, false, nat_lt, List, ◌∷◌, refl, sym, ap, ◌∙◌, arith}
-use Rattle.std.proofs.lemmas.Bool.Decides.{nat_tests}
+use Rattle.avc_poc.proofs.Common.{◌≡◌, ℕ, zero, suc, ◌+◌, ◌-◌, ◌*◌, ◌/◌, ◌%◌, ◌<◌, ◌^◌, Bool, true, false, nat_lt, List, ◌∷◌, refl, sym, ap}
+use Rattle.avc_poc.proofs.Common.{◌∙◌, arith, nat_tests, div-add-mod', div-mul-add, mod-mul-add, pow-add, pow_pos, Sps, max_frame_num}
+use Rattle.avc_poc.proofs.Common.{Previous, Past, missing, frame_num_offset, OrderCountState, order_count_state, saturated, next_offset}
+use Rattle.avc_poc.proofs.Common.{with_missing_from, after_missing_from}
 use Rattle.std.proofs.Math.Nat.{add-mul, zero-mul, div-eq_of_lt, mod-eq_of_lt, mod-lt}
-use Rattle.std.proofs.lemmas.Nat.{div-add-mod', div-mul-add, mod-mul-add, pow-add, pow_pos}
-use Rattle.avc_params.specs.declared.sps.Sps.{Sps}
-use Rattle.avc_params.specs.Limits.{max_frame_num}
-use Rattle.avc_poc.specs.declared.previous.Previous.{Previous}
-use Rattle.avc_poc.specs.OrderCounts.{Past, missing, frame_num_offset}
-use Rattle.avc_poc.specs.OrderCountState.{OrderCountState, order_count_state, saturated, next_offset, with_missing_from, after_missing_from}
 use Rattle.avc_poc.specs.Laws.{GapsCountAtOnce}
 use Rattle.avc_poc.proofs.Following.{held_more, missing_offset, previous_law}
 

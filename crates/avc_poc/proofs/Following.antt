@@ -1,17 +1,11 @@
 -- What is left by a history is all that the next order counts ask of it.
-use Rattle.std.proofs.Common.{◌≡◌, ℕ, ◌+◌, ◌^◌, Bool, true, false, nat_lt, if◌then◌else◌, List, [], ◌∷◌, Result, Err, refl, ap, ◌∙◌, arith}
-use Rattle.std.proofs.lemmas.Bool.Decides.{nat_tests}
-use Rattle.avc_types.specs.declared.fault.Fault.{Fault}
-use Rattle.avc_types.specs.declared.fault.Fault.TheVariants.{PocRange}
-use Rattle.avc_params.specs.declared.sps.Sps.{Sps}
-use Rattle.avc_params.specs.declared.sps.OrderCount.{OrderCount}
+use Rattle.avc_poc.proofs.Common.{◌≡◌, ℕ, ◌+◌, ◌^◌, Bool, true, false, nat_lt, if◌then◌else◌, List, [], ◌∷◌, Result, Err, refl, ap, ◌∙◌}
+use Rattle.avc_poc.proofs.Common.{arith, nat_tests, Fault, PocRange, Sps, OrderCount, max_frame_num, Header, is_idr, is_reference}
+use Rattle.avc_poc.proofs.Common.{has_operation_5, Previous, Past, missing, picture, frame_num_offset, previous_for, previous_of}
+use Rattle.avc_poc.proofs.Common.{number_in_range, in_range, counts_by, counts_from, order_counts, resets_order_counts, past_number}
+use Rattle.avc_poc.proofs.Common.{previous_from, no_previous, OrderCountState, order_count_state, saturated, next_offset, picture_offset}
+use Rattle.avc_poc.proofs.Common.{after_picture, previous_after, counts_after}
 use Rattle.avc_params.specs.declared.sps.OrderCount.TheVariants as orders
-use Rattle.avc_params.specs.Limits.{max_frame_num}
-use Rattle.avc_slice.specs.declared.header.Header.{Header}
-use Rattle.avc_slice.specs.Header.{is_idr, is_reference, has_operation_5}
-use Rattle.avc_poc.specs.declared.previous.Previous.{Previous}
-use Rattle.avc_poc.specs.OrderCounts.{Past, missing, picture, frame_num_offset, previous_for, previous_of, number_in_range, in_range, counts_by, counts_from, order_counts, resets_order_counts, past_number, previous_from, no_previous}
-use Rattle.avc_poc.specs.OrderCountState.{OrderCountState, order_count_state, saturated, next_offset, picture_offset, after_picture, previous_after, counts_after}
 
 none_below : (n : ℕ) → nat_lt n 0 ≡ false
 none_below n = grind (arith, nat_tests)

@@ -1,15 +1,12 @@
 -- Worked examples of order counts.
-use Rattle.std.specs.Prelude.{◌≡◌, ℕ, ℤ, pos, negsuc, true, false, [], ◌∷◌, Some, None, Ok, Err, refl}
-use Rattle.avc_types.specs.declared.fault.Fault.TheVariants.{PocRange}
+use Rattle.avc_poc.proofs.Common.{◌≡◌, ℕ, ℤ, pos, negsuc, true, false, [], ◌∷◌, Ok, Err, refl, PocRange, Sps, OrderCount, Header, Counts}
+use Rattle.avc_poc.proofs.Common.{picture, missing, order_counts}
+use Rattle.std.specs.Prelude.{Some, None}
 use Rattle.avc_types.specs.declared.references.Marking.TheVariants.{Idr, SlidingWindow, Adaptive}
 use Rattle.avc_types.specs.declared.references.Operation.TheVariants.{UnmarkAll}
-use Rattle.avc_params.specs.declared.sps.Sps.{Sps}
-use Rattle.avc_params.specs.declared.sps.OrderCount.{OrderCount}
 use Rattle.avc_params.specs.declared.sps.OrderCount.TheVariants as orders
 use Rattle.avc_slice.specs.declared.header.CodedOrder.TheVariants.{Type0, Type1}
-use Rattle.avc_slice.specs.declared.header.Header.{Header}
 use Rattle.avc_slice.specs.declared.header.SliceType.TheVariants.{AllP, AllI}
-use Rattle.avc_poc.specs.OrderCounts.{Counts, picture, missing, order_counts}
 
 abbrev sps_of : OrderCount → Sps
 sps_of order = record {

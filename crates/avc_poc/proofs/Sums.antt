@@ -1,14 +1,8 @@
 -- Sums of offsets.
 use Rattle.std.proofs.Common.{◌≡◌, ℕ, zero, suc, ◌+◌, ◌<◌, ℤ, pos, negsuc, ◌+ℤ◌, List, [], ◌∷◌, ◌++◌, length, length-drop, get_or, drop, take, refl, ap, ◌∙◌, arith, to_z, of_z, w64, sym, ◌≤◌, ◌-◌, ◌*◌, ◌/◌, ◌%◌, ◌^◌, ◌*ℤ◌, ◌==◌, false}
-use Rattle.std.proofs.lemmas.Int.{ints}
-use mir.Syntax.{w128}
-use Rattle.std.proofs.lemmas.Nat.{mul-le}
+use Rattle.avc_poc.proofs.Common.{ints, w128, mul-le, sum_ℤ, expected_order_count, IsNear, unsigned_abs-mul, nat_tests}
 use Rattle.std.proofs.lemmas.List.{drop_more, take-append-drop, take_all}
-use Rattle.avc_poc.specs.OrderCounts.{sum_ℤ, expected_order_count}
-use Rattle.avc_poc.specs.OrderCountState.{IsNear}
 use Rattle.std.specs.Int.RustNames.{unsigned_abs}
-use Rattle.std.proofs.lemmas.Int.{unsigned_abs-mul}
-use Rattle.std.proofs.lemmas.Bool.Decides.{nat_tests}
 
 pub sum_more : (xs : List ℤ) (i : ℕ) (d : ℤ) → i < length xs → sum_ℤ (drop i xs) ≡ get_or xs i d +ℤ sum_ℤ (drop (i + 1) xs)
 sum_more xs i d h = ap sum_ℤ (drop_more xs i d h)

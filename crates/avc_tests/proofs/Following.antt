@@ -1,17 +1,14 @@
 -- One macroblock more, and any slice.
-use Rattle.std.proofs.Common.{◌≡◌, ℕ, zero, suc, ◌≤◌, length, take, true, false, arith, List, [], ◌∷◌, ◌++◌, Bool, refl, ap, ◌∙◌, sym, subst}
-use Rattle.std.specs.Prelude.{◌==◌, nat_abs, replicate}
-use Rattle.avc_types.specs.Macroblock.{Mb}
+use Rattle.avc_tests.proofs.Common.{◌≡◌, ℕ, zero, suc, ◌≤◌, length, take, true, false, arith, List, [], ◌∷◌, ◌++◌, Bool, refl, ap, ◌∙◌, sym}
+use Rattle.avc_tests.proofs.Common.{subst, ◌==◌, nat_abs, replicate, Mb, qp_of, FollowOn, Stands}
 use Rattle.avc_types.specs.Pictures.{PicMb}
 use Rattle.avc_mbsyntax.specs.SliceData.{SliceStart, context, placed}
 use Rattle.avc_slice.specs.Header.{is_p, slice_qp}
 use Rattle.avc_make.specs.DataWriting.{CanFollow}
 use Rattle.avc_make.specs.HeaderWriting.{IsHeader}
-use Rattle.avc_make.specs.MbWriting.{qp_of}
 use Rattle.avc_make.specs.SliceMbs.{IsCodedSlice, earlier_mbs, own_start}
 use Rattle.avc_make.specs.VuiWriting.{Each}
 use Rattle.avc_make.specs.declared.slice.CodedSlice.{CodedSlice}
-use Rattle.avc_tests.specs.Following.{FollowOn, Stands}
 
 pub follow_more : (p : Bool) (n first last : ℕ) (ms : List Mb) (m : Mb) → FollowOn p n first last ms → Stands p n m.syntax → m.qp ≡ qp_of last m.syntax → FollowOn p n first m.qp (ms ++ m ∷ [])
 unfolding FollowOn

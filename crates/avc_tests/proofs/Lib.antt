@@ -1,2 +1,3 @@
+mod Common
 pub mod Following
 pub mod ReadUnder

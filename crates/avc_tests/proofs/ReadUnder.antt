@@ -1,6 +1,5 @@
 -- A header that was read under the sets in force is within these.
-use Rattle.std.proofs.Common.{◌≡◌, ℕ, List, Some, ap, sym, ◌∙◌}
-use Rattle.avc_params.specs.Tables.{Sets}
+use Rattle.avc_tests.proofs.Common.{◌≡◌, ℕ, List, Some, ap, sym, ◌∙◌, Sets}
 use Rattle.avc_params.specs.declared.pps.Pps.{Pps}
 use Rattle.avc_params.specs.declared.sps.Sps.{Sps}
 use Rattle.avc_slice.specs.declared.header.Header.{Header}

@@ -1,5 +1,4 @@
-use Rattle.std.proofs.Common.{◌+◌, ◌*◌, arith, ap, ◌∙◌}
-use Rattle.std.specs.Prelude.{slice_index}
+use Rattle.avc_deblock.proofs.Common.{◌+◌, ◌*◌, arith, ap, ◌∙◌, slice_index}
 use Rattle.avc_deblock.proofs.Transposed.{two_riffles, middle_row}
 use Rattle.avc_deblock.proofs.block.rows_of_middle.Goals as goal
 

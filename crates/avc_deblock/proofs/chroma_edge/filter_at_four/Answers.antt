@@ -1,6 +1,4 @@
-use Rattle.std.proofs.Common.{◌+◌, ◌*◌, ◌/◌, false, arith, refl}
-use Rattle.avc_deblock.specs.declared.strengths.Strengths.TheVariants.{Four}
-use Rattle.avc_deblock.specs.OneEdge.{chroma_setting, strength_along}
+use Rattle.avc_deblock.proofs.Common.{◌+◌, ◌*◌, ◌/◌, false, arith, refl, Four, chroma_setting, strength_along}
 use Rattle.avc_deblock.proofs.Limits.{fits_strong}
 use Rattle.avc_deblock.proofs.chroma_edge.filter_at_four.Goals as goal
 

@@ -1,7 +1,5 @@
-use Rattle.std.proofs.Common.{◌≡◌, ℕ, ◌+◌, ◌*◌, ◌/◌, ◌%◌, arith, false, refl, ap, ◌∙◌}
-use Rattle.std.specs.Prelude.{slice_index}
-use Rattle.avc_deblock.specs.declared.strengths.Strengths.TheVariants.{BelowFour}
-use Rattle.avc_deblock.specs.OneEdge.{chroma_setting, strength_along, tc1_of}
+use Rattle.avc_deblock.proofs.Common.{◌≡◌, ℕ, ◌+◌, ◌*◌, ◌/◌, ◌%◌, arith, false, refl, ap, ◌∙◌, slice_index, BelowFour, chroma_setting}
+use Rattle.avc_deblock.proofs.Common.{strength_along, tc1_of}
 use Rattle.avc_deblock.proofs.Limits.{weak_row, fits_weak}
 use Rattle.avc_deblock.proofs.chroma_edge.filter_below_four.Goals as goal
 

@@ -1,7 +1,4 @@
-use Rattle.std.proofs.Common.{arith, ap, ◌∙◌}
-use Rattle.std.specs.Prelude.{slice_index}
-use Rattle.avc_deblock.specs.declared.strengths.Strengths.TheVariants.{Four}
-use Rattle.avc_deblock.specs.OneEdge.{strength_along}
+use Rattle.avc_deblock.proofs.Common.{arith, ap, ◌∙◌, slice_index, Four, strength_along}
 use Rattle.avc_deblock.proofs.Pairs.{horizontal_part}
 use Rattle.avc_deblock.proofs.chroma_edge.strong_horizontal.Goals as goal
 

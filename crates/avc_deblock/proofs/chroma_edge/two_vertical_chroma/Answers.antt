@@ -1,6 +1,4 @@
-use Rattle.std.proofs.Common.{arith, ap, ◌∙◌}
-use Rattle.std.specs.Prelude.{slice_index}
-use Rattle.avc_deblock.specs.OneEdge.{strength_along, chroma_setting}
+use Rattle.avc_deblock.proofs.Common.{arith, ap, ◌∙◌, slice_index, strength_along, chroma_setting}
 use Rattle.avc_deblock.proofs.TwoEdges.{two_edges}
 use Rattle.avc_deblock.proofs.chroma_edge.two_vertical_chroma.Goals as goal
 

@@ -1,6 +1,4 @@
-use Rattle.std.proofs.Common.{◌+◌, true, arith, sym, ap, ◌∙◌}
-use Rattle.std.specs.Prelude.{slice_index}
-use Rattle.avc_deblock.specs.OneEdge.{strength_along, chroma_setting}
+use Rattle.avc_deblock.proofs.Common.{◌+◌, true, arith, sym, ap, ◌∙◌, slice_index, strength_along, chroma_setting}
 use Rattle.avc_deblock.proofs.Settings.{edge_off}
 use Rattle.avc_deblock.proofs.Pairs.{vertical_part}
 use Rattle.avc_deblock.proofs.chroma_edge.vertical_chroma.Goals as goal

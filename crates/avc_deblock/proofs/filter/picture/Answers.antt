@@ -1,9 +1,6 @@
-use Rattle.std.proofs.Common.{◌≡◌, ◌∙◌, ℕ, ◌+◌, ◌-◌, ◌*◌, length, w8, to_z, of_z, arith, refl, sym, ap, subst}
-use Rattle.std.specs.List.{range_with_len, flat_map}
-use Rattle.std.proofs.lemmas.Int.{to_z-of_z}
-use Rattle.avc_plane.specs.Frames.{planes_of}
+use Rattle.avc_deblock.proofs.Common.{◌≡◌, ◌∙◌, ℕ, ◌+◌, ◌-◌, ◌*◌, length, w8, to_z, of_z, arith, refl, sym, ap, subst, range_with_len}
+use Rattle.avc_deblock.proofs.Common.{flat_map, to_z-of_z, planes_of, HaveFacts}
 use Rattle.avc_deblock.specs.Edges.{all_filtered, mb_lines, row_lines}
-use Rattle.avc_deblock.specs.Facts.{HaveFacts}
 use Rattle.avc_deblock.proofs.Macroblocks.{one_row_more, part_facts, rows_are_all}
 use Rattle.avc_deblock.proofs.PictureFacts.{row_is}
 use Rattle.avc_deblock.proofs.filter.picture.Goals as goal

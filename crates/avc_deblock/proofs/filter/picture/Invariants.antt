@@ -1,11 +1,5 @@
-use Rattle.std.proofs.Common.{◌≡◌, ℕ, List}
-use Rattle.std.specs.List.{range_with_len, flat_map}
-use Rattle.avc_types.specs.Pictures.{Coded}
-use Rattle.avc_neigh.specs.declared.facts.Motion.{Motion}
-use Rattle.avc_plane.specs.Frames.{planes_of}
+use Rattle.avc_deblock.proofs.Common.{◌≡◌, ℕ, List, range_with_len, flat_map, Coded, Motion, planes_of, HasRoom, Names, HaveFacts}
 use Rattle.avc_deblock.specs.Edges.{all_filtered, row_lines}
-use Rattle.avc_deblock.specs.OneEdge.{HasRoom}
-use Rattle.avc_deblock.specs.Facts.{Names, HaveFacts}
 use Rattle.avc_deblock.proofs.filter.picture.Given as goal
 
 abbrev pub invariant-loop-y : goal.invariant-loop-y

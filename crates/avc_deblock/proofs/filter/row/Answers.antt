@@ -1,10 +1,5 @@
-use Rattle.std.proofs.Common.{◌≡◌, ◌∙◌, ℕ, suc, ◌+◌, ◌-◌, ℤ, w8, to_z, of_z, arith, refl, ap}
-use Rattle.std.specs.Prelude.{slice_index_or}
-use Rattle.std.proofs.lemmas.List.{get_or_default}
-use Rattle.avc_plane.specs.Frames.{planes_of}
-use Rattle.avc_plane.specs.Planes.{Planes}
-use Rattle.avc_deblock.specs.declared.facts.MbFacts.{MbFacts}
-use Rattle.avc_deblock.specs.ByFacts.{mb_by_facts, row_by_facts, no_facts}
+use Rattle.avc_deblock.proofs.Common.{◌≡◌, ◌∙◌, ℕ, suc, ◌+◌, ◌-◌, ℤ, w8, to_z, of_z, arith, refl, ap, slice_index_or, get_or_default}
+use Rattle.avc_deblock.proofs.Common.{planes_of, Planes, MbFacts, mb_by_facts, row_by_facts, no_facts}
 use Rattle.avc_deblock.proofs.filter.row.Goals as goal
 
 pub macroblock-requires : goal.macroblock-requires

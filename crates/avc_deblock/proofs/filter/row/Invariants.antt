@@ -1,7 +1,4 @@
-use Rattle.std.proofs.Common.{◌≡◌, ℕ}
-use Rattle.avc_plane.specs.Frames.{planes_of}
-use Rattle.avc_deblock.specs.ByFacts.{row_by_facts}
-use Rattle.avc_deblock.specs.OneEdge.{HasRoom}
+use Rattle.avc_deblock.proofs.Common.{◌≡◌, ℕ, planes_of, row_by_facts, HasRoom}
 use Rattle.avc_deblock.proofs.filter.row.Given as goal
 
 abbrev pub invariant-loop-column : goal.invariant-loop-column

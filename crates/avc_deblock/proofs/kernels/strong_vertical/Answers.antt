@@ -1,7 +1,4 @@
-use Rattle.std.proofs.Common.{◌+◌, ◌*◌, sym, ap, ◌∙◌}
-use Rattle.std.specs.Prelude.{slice_index}
-use Rattle.avc_plane.specs.Plane.{sample}
-use Rattle.avc_deblock.specs.Line.{filtered}
+use Rattle.avc_deblock.proofs.Common.{◌+◌, ◌*◌, sym, ap, ◌∙◌, slice_index, sample, filtered}
 use Rattle.avc_deblock.proofs.Blocks.{filtered_across}
 use Rattle.avc_deblock.proofs.Samples.{same_samples}
 use Rattle.avc_deblock.proofs.OnPlane.{vertical_block}

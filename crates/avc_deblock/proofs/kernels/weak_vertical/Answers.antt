@@ -1,8 +1,4 @@
-use Rattle.std.proofs.Common.{ℕ, true, ◌+◌, ◌*◌, ◌/◌, ◌≡◌, ◌<◌, arith, refl, sym, ap, ◌∙◌}
-use Rattle.std.specs.Prelude.{slice_index}
-use Rattle.avc_plane.specs.Plane.{sample}
-use Rattle.avc_deblock.specs.Line.{filtered}
-use Rattle.avc_deblock.specs.Rows.{line_of}
+use Rattle.avc_deblock.proofs.Common.{ℕ, true, ◌+◌, ◌*◌, ◌/◌, ◌≡◌, ◌<◌, arith, refl, sym, ap, ◌∙◌, slice_index, sample, filtered, line_of}
 use Rattle.avc_deblock.proofs.OnPlane.{vertical_block}
 use Rattle.avc_deblock.proofs.Samples.{same_samples, weak_keeps}
 use Rattle.avc_deblock.proofs.Within.{within_block}

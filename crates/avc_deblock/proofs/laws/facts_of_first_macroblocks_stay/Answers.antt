@@ -1,12 +1,6 @@
-use Rattle.std.proofs.Common.{◌≡◌, ◌∙◌, ◌<◌, ℕ, ◌+◌, List, [], arith, sym, ap}
-use Rattle.std.specs.Prelude.{slice_index_or, None}
-use Rattle.avc_types.specs.Pictures.{Coded, PicMb, SliceFacts}
-use Rattle.avc_neigh.specs.declared.facts.Motion.{Motion}
-use Rattle.avc_neigh.specs.declared.facts.Motion.TheVariants.{Absent as absent}
-use Rattle.avc_motion.specs.Motion.{is_intra}
+use Rattle.avc_deblock.proofs.Common.{◌≡◌, ◌∙◌, ◌<◌, ℕ, ◌+◌, List, [], arith, sym, ap, slice_index_or, None, Coded, PicMb, SliceFacts}
+use Rattle.avc_deblock.proofs.Common.{Motion, absent, is_intra, Names, HasFacts, HasMotion, MbFacts}
 use Rattle.avc_deblock.specs.Edges.{mb_at, slice_at, entry_of_frame, filter_qp, has_coefficients}
-use Rattle.avc_deblock.specs.Facts.{Names, HasFacts, HasMotion}
-use Rattle.avc_deblock.specs.declared.facts.MbFacts.{MbFacts}
 use Rattle.avc_deblock.proofs.laws.facts_of_first_macroblocks_stay.Goals as goal
 
 module _ (c d : Coded) (names : Names) (a : ℕ) (f : MbFacts) (same_mb : mb_at d a ≡ mb_at c a) (same_slice : slice_at d a ≡ slice_at c a) where

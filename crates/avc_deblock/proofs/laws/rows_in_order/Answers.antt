@@ -1,5 +1,4 @@
-use Rattle.std.proofs.Common.{◌∙◌, ℕ, sym, ap}
-use Rattle.std.specs.List.{range_with_len, flat_map}
+use Rattle.avc_deblock.proofs.Common.{◌∙◌, ℕ, sym, ap, range_with_len, flat_map}
 use Rattle.avc_deblock.specs.Edges.{mb_lines}
 use Rattle.avc_deblock.proofs.Macroblocks.{rows_are_all}
 use Rattle.avc_deblock.proofs.laws.rows_in_order.Goals as goal

@@ -1,6 +1,4 @@
-use Rattle.std.proofs.Common.{ℕ, ◌+◌, if◌then◌else◌, ap, ◌∙◌}
-use Rattle.avc_deblock.specs.Line.{Line}
-use Rattle.avc_deblock.specs.Rows.{line}
+use Rattle.avc_deblock.proofs.Common.{ℕ, ◌+◌, if◌then◌else◌, ap, ◌∙◌, Line, line}
 use Rattle.avc_deblock.proofs.Chroma.{strong_is}
 use Rattle.avc_deblock.proofs.line.strong_chroma_line.Goals as goal
 

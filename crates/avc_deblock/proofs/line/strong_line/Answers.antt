@@ -1,7 +1,4 @@
-use Rattle.std.proofs.Common.{◌≡◌, ℕ, ◌+◌, ◌/◌, Bool, nat_lt, ◌&&◌, ◌==◌, arith, sym, ap, ◌∙◌}
-use Rattle.avc_types.specs.Arithmetic.{distance}
-use Rattle.avc_deblock.specs.Line.{Line}
-use Rattle.avc_deblock.specs.Rows.{line}
+use Rattle.avc_deblock.proofs.Common.{◌≡◌, ℕ, ◌+◌, ◌/◌, Bool, nat_lt, ◌&&◌, ◌==◌, arith, sym, ap, ◌∙◌, distance, Line, line}
 use Rattle.avc_deblock.proofs.Strong.{strong_is, either_nearest, either_other, turned}
 use Rattle.avc_deblock.proofs.line.strong_line.Goals as goal
 

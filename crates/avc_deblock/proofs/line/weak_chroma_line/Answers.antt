@@ -1,7 +1,4 @@
-use Rattle.std.proofs.Common.{ℕ, ℤ, ◌+◌, pos, ◌+ℤ◌, ◌-ℤ◌, ◌==◌, if◌then◌else◌, arith, ap, ◌∙◌}
-use Rattle.avc_types.specs.Arithmetic.{clip1}
-use Rattle.avc_deblock.specs.Line.{Line}
-use Rattle.avc_deblock.specs.Rows.{line, slope, held}
+use Rattle.avc_deblock.proofs.Common.{ℕ, ℤ, ◌+◌, pos, ◌+ℤ◌, ◌-ℤ◌, ◌==◌, if◌then◌else◌, arith, ap, ◌∙◌, clip1, Line, line, slope, held}
 use Rattle.avc_deblock.proofs.Chroma.{weak_is}
 use Rattle.avc_deblock.proofs.line.weak_chroma_line.Goals as goal
 

@@ -1,7 +1,5 @@
-use Rattle.std.proofs.Common.{◌≡◌, ℕ, ℤ, ◌+◌, pos, ◌+ℤ◌, ◌-ℤ◌, Bool, nat_lt, ◌&&◌, ◌==◌, if◌then◌else◌, arith, sym, ap, ◌∙◌}
-use Rattle.avc_types.specs.Arithmetic.{clip1, distance}
-use Rattle.avc_deblock.specs.Line.{Line}
-use Rattle.avc_deblock.specs.Rows.{line, slope, held}
+use Rattle.avc_deblock.proofs.Common.{◌≡◌, ℕ, ℤ, ◌+◌, pos, ◌+ℤ◌, ◌-ℤ◌, Bool, nat_lt, ◌&&◌, ◌==◌, if◌then◌else◌, arith, sym, ap, ◌∙◌, clip1}
+use Rattle.avc_deblock.proofs.Common.{distance, Line, line, slope, held}
 use Rattle.avc_deblock.proofs.Weak.{weak_is, second_is}
 use Rattle.avc_deblock.proofs.line.weak_line.Goals as goal
 

@@ -1,6 +1,4 @@
-use Rattle.std.proofs.Common.{◌≡◌, false, ◌<◌, ◌+◌, ℕ, length, slice_index}
-use Rattle.avc_deblock.specs.Line.{Setting, filtered}
-use Rattle.avc_deblock.specs.Rows.{line_inside, IsStrong}
+use Rattle.avc_deblock.proofs.Common.{◌≡◌, false, ◌<◌, ◌+◌, ℕ, length, slice_index, Setting, filtered, line_inside, IsStrong}
 use Rattle.avc_deblock.proofs.lines.strong_chroma_lines.Given as goal
 
 abbrev pub invariant-loop-i : goal.invariant-loop-i

@@ -1,6 +1,4 @@
-use Rattle.std.proofs.Common.{◌≡◌, true, ◌<◌, ◌+◌, ℕ, length, slice_index}
-use Rattle.avc_deblock.specs.Line.{Setting, filtered}
-use Rattle.avc_deblock.specs.Rows.{line_of_rows, IsStrong}
+use Rattle.avc_deblock.proofs.Common.{◌≡◌, true, ◌<◌, ◌+◌, ℕ, length, slice_index, Setting, filtered, line_of_rows, IsStrong}
 use Rattle.avc_deblock.proofs.lines.strong_lines.Given as goal
 
 abbrev pub invariant-loop-i : goal.invariant-loop-i

@@ -1,7 +1,5 @@
-use Rattle.std.proofs.Common.{◌≡◌, false, ◌<◌, ◌+◌, ℕ, length, slice_index}
-use Rattle.std.specs.Prelude.{◌==◌, if◌then◌else◌}
-use Rattle.avc_deblock.specs.Line.{Setting, filtered}
-use Rattle.avc_deblock.specs.Rows.{line_inside, IsWeak}
+use Rattle.avc_deblock.proofs.Common.{◌≡◌, false, ◌<◌, ◌+◌, ℕ, length, slice_index, ◌==◌, if◌then◌else◌, Setting, filtered, line_inside}
+use Rattle.avc_deblock.proofs.Common.{IsWeak}
 use Rattle.avc_deblock.proofs.lines.weak_chroma_lines.Given as goal
 
 abbrev pub invariant-loop-i : goal.invariant-loop-i

@@ -1,5 +1,4 @@
-use Rattle.std.proofs.Common.{◌+◌, ◌/◌, arith, sym, subst, true, false}
-use Rattle.avc_deblock.specs.OneEdge.{luma_setting, strength_along, AreStrengths}
+use Rattle.avc_deblock.proofs.Common.{◌+◌, ◌/◌, arith, sym, subst, true, false, luma_setting, strength_along, AreStrengths}
 use Rattle.avc_deblock.proofs.Settings.{edge_off}
 use Rattle.avc_deblock.proofs.Limits.{fits_weak, fits_strong}
 use Rattle.avc_deblock.proofs.luma_edge.horizontal_luma.Goals as goal

@@ -1,8 +1,4 @@
-use Rattle.std.proofs.Common.{◌∙◌, ℕ, Bool, arith, sym, ap}
-use Rattle.std.specs.Prelude.{if◌then◌else◌}
-use Rattle.avc_plane.specs.Frames.{planes_of}
-use Rattle.avc_plane.specs.Planes.{Planes}
-use Rattle.avc_deblock.specs.ByFacts.{edge_by_facts}
+use Rattle.avc_deblock.proofs.Common.{◌∙◌, ℕ, Bool, arith, sym, ap, if◌then◌else◌, planes_of, Planes, edge_by_facts}
 use Rattle.avc_deblock.proofs.macroblock.inner_edges.Goals as goal
 
 pub edge_between-requires-then-filters : goal.edge_between-requires-then-filters

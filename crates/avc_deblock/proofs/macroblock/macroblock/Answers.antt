@@ -1,9 +1,5 @@
-use Rattle.std.proofs.Common.{◌≡◌, ◌∙◌, ◌≤◌, Bool, true, false, arith, refl, ap}
-use Rattle.std.specs.Prelude.{◌&&◌, not}
-use Rattle.avc_plane.specs.Planes.{Planes}
-use Rattle.avc_plane.specs.Frames.{planes_of}
-use Rattle.avc_deblock.specs.Facts.{filters_between}
-use Rattle.avc_deblock.specs.ByFacts.{edges_by_facts}
+use Rattle.avc_deblock.proofs.Common.{◌≡◌, ◌∙◌, ◌≤◌, Bool, true, false, arith, refl, ap, ◌&&◌, not, Planes, planes_of, filters_between}
+use Rattle.avc_deblock.proofs.Common.{edges_by_facts}
 use Rattle.avc_deblock.proofs.PictureFacts.{some}
 use Rattle.avc_deblock.proofs.StillEdges.{mb_kept}
 use Rattle.avc_deblock.proofs.macroblock.macroblock.Goals as goal

@@ -1,8 +1,5 @@
-use Rattle.std.proofs.Common.{◌≡◌, ◌∙◌, ℕ, ◌<◌, Bool, true, false, sym, ap}
-use Rattle.avc_plane.specs.Frames.{planes_of}
-use Rattle.avc_plane.specs.Planes.{Planes}
-use Rattle.avc_deblock.specs.declared.thresholds.EdgeQp.{EdgeQp}
-use Rattle.avc_deblock.specs.OneEdge.{lines_of_edge, strength_along}
+use Rattle.avc_deblock.proofs.Common.{◌≡◌, ◌∙◌, ℕ, ◌<◌, Bool, true, false, sym, ap, planes_of, Planes, EdgeQp, lines_of_edge}
+use Rattle.avc_deblock.proofs.Common.{strength_along}
 use Rattle.avc_deblock.proofs.EdgePlanes.{room_kept, same_strengths}
 use Rattle.avc_deblock.proofs.planes_edge.edge_at.Goals as goal
 

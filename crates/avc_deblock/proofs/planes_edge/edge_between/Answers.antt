@@ -1,6 +1,4 @@
-use Rattle.std.proofs.Common.{◌∙◌, sym}
-use Rattle.avc_plane.specs.Frames.{planes_of}
-use Rattle.avc_deblock.specs.ByFacts.{strength_of, luma_qp_of, chroma_qp_of}
+use Rattle.avc_deblock.proofs.Common.{◌∙◌, sym, planes_of, strength_of, luma_qp_of, chroma_qp_of}
 use Rattle.avc_deblock.proofs.EdgePlanes.{edge_zero}
 use Rattle.avc_deblock.proofs.planes_edge.edge_between.Goals as goal
 

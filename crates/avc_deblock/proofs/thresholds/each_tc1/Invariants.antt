@@ -1,5 +1,4 @@
-use Rattle.std.proofs.Common.{◌≡◌, ◌<◌, ◌≤◌, ℕ, length, slice_index}
-use Rattle.avc_deblock.specs.OneEdge.{tc1_of}
+use Rattle.avc_deblock.proofs.Common.{◌≡◌, ◌<◌, ◌≤◌, ℕ, length, slice_index, tc1_of}
 use Rattle.avc_deblock.proofs.thresholds.each_tc1.Given as goal
 
 abbrev pub invariant-loop-k : goal.invariant-loop-k

@@ -1,5 +1,4 @@
-use Rattle.std.proofs.Common.{◌∙◌, true, sym}
-use Rattle.avc_deblock.specs.ByFacts.{strength_of, chroma_qp_of}
+use Rattle.avc_deblock.proofs.Common.{◌∙◌, true, sym, strength_of, chroma_qp_of}
 use Rattle.avc_deblock.proofs.EdgePlanes.{chroma_same, chroma_zero}
 use Rattle.avc_deblock.proofs.VerticalEdges.{chroma_sized}
 use Rattle.avc_deblock.proofs.vertical_edges.chroma_between.Goals as goal

@@ -1,5 +1,4 @@
-use Rattle.std.proofs.Common.{◌∙◌, true, sym}
-use Rattle.avc_deblock.specs.ByFacts.{strength_of, luma_qp_of}
+use Rattle.avc_deblock.proofs.Common.{◌∙◌, true, sym, strength_of, luma_qp_of}
 use Rattle.avc_deblock.proofs.EdgePlanes.{luma_zero}
 use Rattle.avc_deblock.proofs.VerticalEdges.{luma_lines, luma_sized}
 use Rattle.avc_deblock.proofs.vertical_edges.luma_between.Goals as goal

@@ -1,9 +1,5 @@
-use Rattle.std.proofs.Common.{◌∙◌, ℕ, ◌+◌, ◌*◌, true, ap}
-use Rattle.avc_plane.specs.Frames.{planes_of}
-use Rattle.avc_plane.specs.Plane.{Plane}
-use Rattle.avc_plane.specs.Planes.{Planes}
-use Rattle.avc_deblock.specs.OneEdge.{edge_filtered, luma_setting}
-use Rattle.avc_deblock.specs.ByFacts.{strength_of, luma_qp_of}
+use Rattle.avc_deblock.proofs.Common.{◌∙◌, ℕ, ◌+◌, ◌*◌, true, ap, planes_of, Plane, Planes, edge_filtered, luma_setting, strength_of}
+use Rattle.avc_deblock.proofs.Common.{luma_qp_of}
 use Rattle.avc_deblock.proofs.EdgePlanes.{three}
 use Rattle.avc_deblock.proofs.VerticalEdges.{edges_room}
 use Rattle.avc_deblock.proofs.vertical_edges.vertical_edges.Goals as goal

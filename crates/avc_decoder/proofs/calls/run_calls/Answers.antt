@@ -1,5 +1,4 @@
-use Rattle.std.proofs.lemmas.List.{take_more}
-use Rattle.avc_decoder.specs.Machine.{new_machine}
+use Rattle.avc_decoder.proofs.Common.{take_more, new_machine}
 use Rattle.avc_decoder.proofs.Running.{run_more}
 use Rattle.avc_decoder.proofs.calls.run_calls.Goals as goal
 

@@ -1,5 +1,4 @@
-use Rattle.std.proofs.Common.{take}
-use Rattle.avc_decoder.specs.Machine.{new_machine, Run}
+use Rattle.avc_decoder.proofs.Common.{take, new_machine, Run}
 use Rattle.avc_decoder.proofs.calls.run_calls.Given as goal
 
 abbrev pub invariant-loop-call : goal.invariant-loop-call

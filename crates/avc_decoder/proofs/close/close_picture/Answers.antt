@@ -1,6 +1,4 @@
-use Rattle.std.specs.Prelude.{is_some}
-use Rattle.std.proofs.Common.{ap}
-use Rattle.avc_plane.specs.Frames.{padded_planes_of}
+use Rattle.avc_decoder.proofs.Common.{is_some, ap, padded_planes_of}
 use Rattle.avc_decoder.proofs.PictureFrames.{has_planes}
 use Rattle.avc_decoder.proofs.Closing.{closes_done, closes_short, closes_unmarked, ends_full, sized_as}
 use Rattle.avc_decoder.proofs.close.close_picture.Goals as goal

@@ -1,5 +1,4 @@
-use Rattle.std.proofs.Common.{◌≡◌, ◌++◌, length}
-use Rattle.avc_decoder.specs.Events.{pictures}
+use Rattle.avc_decoder.proofs.Common.{◌≡◌, ◌++◌, length, pictures}
 use Rattle.avc_decoder.proofs.queue.push_all.Given as goal
 
 abbrev pub invariant-loop-picture : goal.invariant-loop-picture

@@ -1,8 +1,5 @@
-use Rattle.std.proofs.Common.{arith, rules, subst, sym, ◌∙◌}
-use Rattle.avc_params.specs.Tables.{sets_after}
-use Rattle.avc_decoder.specs.Events.{base_in, failed_at}
+use Rattle.avc_decoder.proofs.Common.{arith, rules, subst, sym, ◌∙◌, sets_after, base_in, failed_at, IsOpened, current_history}
 use Rattle.avc_decoder.specs.States.{Stops, phase_of}
-use Rattle.avc_decoder_core.specs.SequenceState.{IsOpened, current_history}
 use Rattle.avc_decoder.proofs.Keeping.{base_here, named_first, none_open}
 use Rattle.avc_decoder.proofs.PictureFrames.{frames_fit}
 use Rattle.avc_decoder.proofs.Slicing.{first_slice, first_unopened}

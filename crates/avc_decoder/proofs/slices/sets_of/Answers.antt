@@ -1,7 +1,4 @@
-use Rattle.std.proofs.Common.{◌≡◌, None, Some, Option, ap, sym, ◌∙◌}
-use Rattle.avc_params.specs.Tables.{sets_after, sps_in_force}
-use Rattle.avc_params.specs.declared.pps.Pps.{Pps}
-use Rattle.avc_params.specs.declared.sps.Sps.{Sps}
+use Rattle.avc_decoder.proofs.Common.{◌≡◌, None, Some, Option, ap, sym, ◌∙◌, sets_after, sps_in_force, Pps, Sps}
 use Rattle.avc_decoder.proofs.Closing.{some_is}
 use Rattle.avc_decoder.proofs.Keeping.{within_named}
 use Rattle.avc_decoder.proofs.slices.sets_of.Goals as goal

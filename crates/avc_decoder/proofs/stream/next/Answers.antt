@@ -1,7 +1,4 @@
-use Rattle.std.proofs.Common.{subst}
-use Rattle.avc_params.specs.Tables.{sets_after}
-use Rattle.avc_slice.specs.declared.slice.Slice.{Slice}
-use Rattle.avc_decoder.specs.Events.{after_first_slice, base_in, sets_named}
+use Rattle.avc_decoder.proofs.Common.{subst, sets_after, Slice, after_first_slice, base_in, sets_named}
 use Rattle.avc_decoder.specs.States.{ComesTo, phase_of}
 use Rattle.avc_decoder.proofs.stream.next.Goals as goal
 

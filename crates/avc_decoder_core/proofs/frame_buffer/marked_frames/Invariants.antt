@@ -1,5 +1,4 @@
-use Rattle.std.proofs.Common.{◌≡◌, map, take}
-use Rattle.avc_plane.specs.Frames.{marked_frame}
+use Rattle.avc_decoder_core.proofs.Common.{◌≡◌, map, take, marked_frame}
 use Rattle.avc_decoder_core.proofs.frame_buffer.marked_frames.Given as goal
 
 abbrev pub invariant-loop-frame : goal.invariant-loop-frame

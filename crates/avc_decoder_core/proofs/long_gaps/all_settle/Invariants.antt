@@ -1,5 +1,4 @@
-use Rattle.std.proofs.Common.{◌≡◌, ℕ, ◌<◌, true}
-use Rattle.avc_decoder_core.specs.Gaps.{settles_at}
+use Rattle.avc_decoder_core.proofs.Common.{◌≡◌, ℕ, ◌<◌, true, settles_at}
 use Rattle.avc_decoder_core.proofs.long_gaps.all_settle.Given as goal
 
 abbrev pub invariant-loop-place : goal.invariant-loop-place

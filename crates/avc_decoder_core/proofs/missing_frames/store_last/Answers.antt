@@ -1,10 +1,6 @@
 use Rattle.std.proofs.Common.{◌≡◌, ◌∙◌, ◌+◌, ◌-◌, ◌≤◌, drop, length, Ok, ap, sym, subst, is_ok, arith}
-use Rattle.avc_decoder_core.specs.FrameBufferFields.{history_of}
-use Rattle.avc_decoder_core.specs.FrameBufferState.{FrameBufferState}
-use Rattle.avc_decoder_core.specs.Gaps.{KeepsTheSame}
+use Rattle.avc_decoder_core.proofs.Common.{history_of, FrameBufferState, KeepsTheSame, with_all_missing, output_pictures}
 use Rattle.avc_decoder_core.specs.History.{with_missing}
-use Rattle.avc_decoder_core.specs.Opening.{with_all_missing}
-use Rattle.avc_decoder_core.specs.Pictures.{output_pictures}
 use Rattle.avc_decoder_core.proofs.LongGaps.{all_of, end_marked, long_gaps_leave_their_end}
 use Rattle.avc_decoder_core.proofs.MissingNumbers.{is_with_all}
 use Rattle.avc_decoder_core.proofs.missing_frames.store_last.Goals as goal

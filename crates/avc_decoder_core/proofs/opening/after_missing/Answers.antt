@@ -1,7 +1,5 @@
-use Rattle.std.proofs.Common.{◌≡◌, ◌∷◌, ◌∙◌, ap, sym, Err, arith, rules}
-use Rattle.avc_poc.specs.OrderCountState.{order_count_state}
+use Rattle.avc_decoder_core.proofs.Common.{◌≡◌, ◌∷◌, ◌∙◌, ap, sym, Err, arith, rules, order_count_state, with_all_missing}
 use Rattle.avc_decoder_core.specs.History.{marks_of, missing_frame, pasts}
-use Rattle.avc_decoder_core.specs.Opening.{with_all_missing}
 use Rattle.avc_decoder_core.proofs.MissingNumbers.{all_counted, first_refused, is_marked}
 use Rattle.avc_decoder_core.proofs.opening.after_missing.Goals as goal
 

@@ -1,7 +1,5 @@
-use Rattle.std.proofs.Common.{◌∷◌, ◌∙◌, ap, sym}
-use Rattle.avc_poc.specs.OrderCountState.{order_count_state}
+use Rattle.avc_decoder_core.proofs.Common.{◌∷◌, ◌∙◌, ap, sym, order_count_state, with_all_missing}
 use Rattle.avc_decoder_core.specs.History.{missing_frame, pasts}
-use Rattle.avc_decoder_core.specs.Opening.{with_all_missing}
 use Rattle.avc_decoder_core.proofs.MissingNumbers.{counted_at_once, none_counted, one_counted}
 use Rattle.avc_decoder_core.proofs.opening.count_missing.Goals as goal
 

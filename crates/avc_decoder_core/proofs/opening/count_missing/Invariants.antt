@@ -1,7 +1,5 @@
-use Rattle.std.proofs.Common.{◌≡◌, List, length}
-use Rattle.avc_poc.specs.OrderCountState.{order_count_state}
+use Rattle.avc_decoder_core.proofs.Common.{◌≡◌, List, length, order_count_state, with_all_missing}
 use Rattle.avc_decoder_core.specs.History.{Entry, pasts}
-use Rattle.avc_decoder_core.specs.Opening.{with_all_missing}
 use Rattle.avc_decoder_core.proofs.opening.count_missing.Given as goal
 
 -- the rest of the numbers gives what all of them give

@@ -1,7 +1,6 @@
-use Rattle.std.proofs.Common.{◌≡◌, ◌++◌, ◌∷◌, [], ap, ◌∙◌, sym, rules, if◌then◌else◌, append-nil, to_z, of_z, w32}
-use Rattle.std.specs.List.{filter_map}
+use Rattle.avc_dpb.proofs.Common.{◌≡◌, ◌++◌, ◌∷◌, [], ap, ◌∙◌, sym, rules, if◌then◌else◌, append-nil, to_z, of_z, w32, filter_map}
+use Rattle.avc_dpb.proofs.Common.{shown_frame}
 use Rattle.avc_dpb.specs.Places.{is_full}
-use Rattle.avc_dpb.specs.StoredFrame.{shown_frame}
 use Rattle.avc_dpb.proofs.Standing.{goes_at_once, is_stored}
 use Rattle.avc_dpb.proofs.dpb.place.Goals as goal
 use Rattle.avc_dpb.proofs.dpb.place.Goals.{then-arriving+in_ok-push_picture, else-arriving}

@@ -1,9 +1,5 @@
-use Rattle.std.proofs.Common.{◌≡◌, ℕ, arith, refl}
-use Rattle.avc_types.specs.declared.marked_frame.MarkedFrame.{MarkedFrame}
-use Rattle.avc_types.specs.References.{reference_of}
+use Rattle.avc_marking.proofs.Common.{◌≡◌, ℕ, arith, refl, MarkedFrame, reference_of, Index, From, Every, is_to_unmark}
 use Rattle.avc_marking.specs.declared.frame.FramesToUnmark.{FramesToUnmark}
-use Rattle.avc_marking.specs.declared.frame.FramesToUnmark.TheVariants.{Index, From, Every}
-use Rattle.avc_marking.specs.Frames.{is_to_unmark}
 use Rattle.avc_marking.proofs.Changes.{references-unmarked_if}
 use Rattle.avc_marking.proofs.frame.unmark_frames.Goals as goal
 

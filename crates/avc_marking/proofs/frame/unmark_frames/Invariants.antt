@@ -1,7 +1,4 @@
-use Rattle.std.proofs.Common.{◌≡◌, ℕ, ◌<◌, ◌≤◌}
-use Rattle.std.specs.Prelude.{slice_index_or}
-use Rattle.avc_types.specs.References.{no_frame}
-use Rattle.avc_marking.specs.Frames.{is_to_unmark, unmarked_if}
+use Rattle.avc_marking.proofs.Common.{◌≡◌, ℕ, ◌<◌, ◌≤◌, slice_index_or, no_frame, is_to_unmark, unmarked_if}
 use Rattle.avc_marking.proofs.frame.unmark_frames.Given as goal
 
 abbrev pub invariant-loop-place : goal.invariant-loop-place

@@ -1,8 +1,5 @@
-use Rattle.std.proofs.Common.{◌≡◌, ℕ, ◌+◌, ◌-◌, ◌%◌, ◌∙◌, ap, sym, arith, false}
-use Rattle.std.specs.Prelude.{◌==◌}
-use Rattle.std.proofs.lemmas.Bool.Decides.{nat_tests}
+use Rattle.avc_marking.proofs.Common.{◌≡◌, ℕ, ◌+◌, ◌-◌, ◌%◌, ◌∙◌, ap, sym, arith, false, ◌==◌, nat_tests, marking_entry}
 use Rattle.avc_marking.specs.Marks.{missing_frame_nums}
-use Rattle.avc_marking.specs.Frames.{marking_entry}
 use Rattle.avc_marking.proofs.Numbers.{missing_frame_nums-is}
 use Rattle.avc_marking.proofs.gaps.missing_frame_nums.Goals as goal
 

@@ -1,8 +1,5 @@
-use Rattle.std.proofs.Common.{◌≡◌, ◌∙◌, ◌∷◌, [], ◌++◌, length, ap, arith, true, false}
-use Rattle.std.proofs.lemmas.Bool.Decides.{nat_tests}
-use Rattle.std.proofs.lemmas.Result.{err_from_is_err_and}
-use Rattle.avc_types.specs.References.{references_at}
-use Rattle.avc_marking.specs.Frames.{marks_at}
+use Rattle.avc_marking.proofs.Common.{◌≡◌, ◌∙◌, ◌∷◌, [], ◌++◌, length, ap, arith, true, false, nat_tests, err_from_is_err_and}
+use Rattle.avc_marking.proofs.Common.{references_at, marks_at}
 use Rattle.avc_marking.proofs.Changes.{stand_as}
 use Rattle.avc_marking.proofs.OperationStates.{stand_turned, stand_settled}
 use Rattle.avc_marking.proofs.CurrentFrame.{after_adaptive_marking-is, after_adaptive_marking-err}

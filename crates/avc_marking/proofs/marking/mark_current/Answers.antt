@@ -1,6 +1,5 @@
-use Rattle.std.proofs.Common.{◌-◌, ◌∙◌, ap, arith, true, false}
+use Rattle.avc_marking.proofs.Common.{◌-◌, ◌∙◌, ap, arith, true, false, marking_entry, operation_state, StandWith}
 use Rattle.avc_marking.specs.Marks.{with_current_frame}
-use Rattle.avc_marking.specs.Frames.{marking_entry, operation_state, StandWith}
 use Rattle.avc_marking.proofs.CurrentFrame.{settled-assigned, settled-added}
 use Rattle.avc_marking.proofs.marking.mark_current.Goals as goal
 

@@ -1,6 +1,4 @@
-use Rattle.std.proofs.Common.{◌∙◌, ◌∷◌, [], ◌++◌, Some, ap}
-use Rattle.avc_types.specs.declared.marked_frame.MarkedFrame.{MarkedFrame}
-use Rattle.avc_types.specs.References.{references_at}
+use Rattle.avc_marking.proofs.Common.{◌∙◌, ◌∷◌, [], ◌++◌, Some, ap, MarkedFrame, references_at}
 use Rattle.avc_marking.proofs.Changes.{references-added, stand_as}
 use Rattle.avc_marking.proofs.OperationStates.{stand_before, filter-nothing}
 use Rattle.avc_marking.proofs.marking.mark_idr.Goals as goal

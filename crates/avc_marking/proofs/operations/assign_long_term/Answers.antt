@@ -1,5 +1,4 @@
-use Rattle.std.proofs.Common.{sym, ◌∙◌, None}
-use Rattle.avc_marking.specs.Frames.{marking_entry}
+use Rattle.avc_marking.proofs.Common.{sym, ◌∙◌, None, marking_entry}
 use Rattle.avc_marking.proofs.OperationStates.{long-ok}
 use Rattle.avc_marking.proofs.operations.assign_long_term.Goals as goal
 

@@ -1,8 +1,4 @@
-use Rattle.std.proofs.Common.{◌∙◌, ◌∷◌, [], ◌++◌, not, Some, ap}
-use Rattle.std.specs.List.{filter}
-use Rattle.avc_types.specs.declared.marked_frame.MarkedFrame.{MarkedFrame}
-use Rattle.avc_types.specs.declared.references.Mark.TheVariants.{Long}
-use Rattle.avc_types.specs.References.{references_at, has_long_term_frame_idx}
+use Rattle.avc_marking.proofs.Common.{◌∙◌, ◌∷◌, [], ◌++◌, not, Some, ap, filter, MarkedFrame, Long, references_at, has_long_term_frame_idx}
 use Rattle.avc_marking.proofs.Changes.{references-added, stand_as}
 use Rattle.avc_marking.proofs.OperationStates.{stand_before}
 use Rattle.avc_marking.proofs.operations.current_to_long_term.Goals as goal

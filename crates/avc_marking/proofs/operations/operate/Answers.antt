@@ -1,10 +1,7 @@
-use Rattle.std.proofs.Common.{◌≡◌, ◌∙◌, ap, sym, arith, true, false, not, ◌&&◌, None}
-use Rattle.std.specs.Prelude.{nat_le}
-use Rattle.std.proofs.lemmas.Bool.Decides.{nat_tests}
+use Rattle.avc_marking.proofs.Common.{◌≡◌, ◌∙◌, ap, sym, arith, true, false, not, ◌&&◌, None, nat_le, nat_tests, err_from_is_err_and}
+use Rattle.avc_marking.proofs.Common.{marking_entry, operation_state, entries_with, StandWith}
 use Rattle.avc_types.specs.declared.references.Operation.TheVariants.{CurrentToLongTerm}
-use Rattle.std.proofs.lemmas.Result.{err_from_is_err_and}
 use Rattle.avc_marking.specs.Marks.{without_short_term, without_long_term, with_long_term, after_operation, is_index_allowed}
-use Rattle.avc_marking.specs.Frames.{marking_entry, operation_state, entries_with, StandWith}
 use Rattle.avc_marking.proofs.Changes.{stand_as}
 use Rattle.avc_marking.proofs.OperationStates.{stand_with, changed-ok, changed-err, with_max_long_term_frame_idx-ok, forgotten-ok, current-ok, not_assigned, and_fits}
 use Rattle.avc_marking.proofs.operations.operate.Goals as goal

@@ -1,7 +1,4 @@
-use Rattle.std.proofs.Common.{sym, ◌∙◌, ap, length}
-use Rattle.std.specs.List.{filter}
-use Rattle.std.specs.Prelude.{is_some}
-use Rattle.std.proofs.lemmas.List.{take_all}
+use Rattle.avc_marking.proofs.Common.{sym, ◌∙◌, ap, length, filter, is_some, take_all}
 use Rattle.avc_marking.proofs.Sliding.{length-references}
 use Rattle.avc_marking.proofs.window.count.Goals as goal
 

@@ -1,6 +1,4 @@
-use Rattle.std.proofs.Common.{◌≡◌, ◌≤◌, length, take}
-use Rattle.std.specs.List.{filter}
-use Rattle.std.specs.Prelude.{is_some}
+use Rattle.avc_marking.proofs.Common.{◌≡◌, ◌≤◌, length, take, filter, is_some}
 use Rattle.avc_marking.proofs.window.count.Given as goal
 
 abbrev pub invariant-loop-frame : goal.invariant-loop-frame

@@ -1,7 +1,4 @@
-use Rattle.std.proofs.Common.{◌≡◌, ℕ, ◌<◌, ◌≤◌, List, length, drop}
-use Rattle.std.specs.Prelude.{IfSome}
-use Rattle.std.specs.Option.{option_map}
-use Rattle.avc_types.specs.References.{StandAt, references_at, reference_at}
+use Rattle.avc_marking.proofs.Common.{◌≡◌, ℕ, ◌<◌, ◌≤◌, List, length, drop, IfSome, option_map, StandAt, references_at, reference_at}
 use Rattle.avc_marking.specs.Marks.{first_in_window}
 use Rattle.avc_marking.proofs.window.first_in_window.Given as goal
 

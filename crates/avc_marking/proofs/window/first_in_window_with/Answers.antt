@@ -1,5 +1,4 @@
-use Rattle.std.proofs.Common.{◌<◌, sym, ◌∙◌, length}
-use Rattle.avc_types.specs.References.{reference_at}
+use Rattle.avc_marking.proofs.Common.{◌<◌, sym, ◌∙◌, length, reference_at}
 use Rattle.avc_marking.proofs.Sliding.{entry_above, first-kept, first-changed}
 use Rattle.avc_marking.proofs.window.first_in_window_with.Goals as goal
 

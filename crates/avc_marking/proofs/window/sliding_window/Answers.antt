@@ -1,10 +1,4 @@
-use Rattle.std.proofs.Common.{Some}
-use Rattle.std.proofs.lemmas.Result.{err_from_is_err_and}
-use Rattle.avc_types.specs.declared.marked_frame.MarkedFrame.{MarkedFrame}
-use Rattle.avc_types.specs.declared.references.Mark.TheVariants.{Short}
-use Rattle.avc_types.specs.declared.references.Marking.TheVariants.{SlidingWindow}
-use Rattle.avc_types.specs.References.{references_at}
-use Rattle.avc_marking.specs.Frames.{marking_entry}
+use Rattle.avc_marking.proofs.Common.{Some, err_from_is_err_and, MarkedFrame, Short, SlidingWindow, references_at, marking_entry}
 use Rattle.avc_marking.proofs.Changes.{references-added, stand_as}
 use Rattle.avc_marking.proofs.OperationStates.{stand_before}
 use Rattle.avc_marking.proofs.CurrentFrame.{slides-ok, slides-err}

@@ -1,9 +1,5 @@
-use Rattle.std.specs.Prelude.{not, ◌==◌, slice_index_or}
-use Rattle.std.proofs.Common.{◌≡◌, ◌∙◌, ◌+◌, ◌-◌, ◌*◌, ℕ, [], Bool, ap, arith}
-use Rattle.std.proofs.lemmas.List.{get_or_default}
-use mir.Val.{bool_byte}
-use Rattle.avc_types.specs.Macroblock.{total_coeff}
-use Rattle.avc_deblock.specs.Facts.{has_bit}
+use Rattle.avc_picture.proofs.Common.{not, ◌==◌, slice_index_or, ◌≡◌, ◌∙◌, ◌+◌, ◌-◌, ◌*◌, ℕ, [], Bool, ap, arith, get_or_default, bool_byte}
+use Rattle.avc_picture.proofs.Common.{total_coeff, has_bit}
 use Rattle.avc_picture.proofs.Masks.{mask_small, mask_more}
 use Rattle.avc_picture.proofs.filter_facts.coded_blocks.Goals as goal
 

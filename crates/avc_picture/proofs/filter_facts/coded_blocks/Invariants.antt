@@ -1,7 +1,4 @@
-use Rattle.std.specs.Prelude.{not, ◌==◌, slice_index_or}
-use Rattle.std.proofs.Common.{◌≡◌, ◌<◌, ◌+◌, ◌-◌, ◌^◌, ℕ, []}
-use Rattle.avc_types.specs.Macroblock.{total_coeff}
-use Rattle.avc_deblock.specs.Facts.{has_bit}
+use Rattle.avc_picture.proofs.Common.{not, ◌==◌, slice_index_or, ◌≡◌, ◌<◌, ◌+◌, ◌-◌, ◌^◌, ℕ, [], total_coeff, has_bit}
 use Rattle.avc_picture.proofs.filter_facts.coded_blocks.Given as goal
 
 abbrev pub invariant-loop-i : goal.invariant-loop-i

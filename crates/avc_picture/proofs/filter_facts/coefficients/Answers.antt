@@ -1,7 +1,5 @@
-use Rattle.std.proofs.Common.{◌∙◌, sym, ap, []}
-use Rattle.std.specs.Prelude.{slice_index_or}
+use Rattle.avc_picture.proofs.Common.{◌∙◌, sym, ap, [], slice_index_or, has_coefficients}
 use Rattle.avc_types.specs.MacroblockFields.{syntax_of}
-use Rattle.avc_deblock.specs.Edges.{has_coefficients}
 use Rattle.avc_picture.proofs.Masks.{counted_or_not}
 use Rattle.avc_picture.proofs.filter_facts.coefficients.Goals as goal
 

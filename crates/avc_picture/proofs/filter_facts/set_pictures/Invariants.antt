@@ -1,7 +1,4 @@
-use Rattle.std.specs.Prelude.{slice_index, slice_index_or}
-use Rattle.std.proofs.Common.{◌≡◌, ◌<◌, ◌*◌, ℕ, length}
-use Rattle.avc_neigh.specs.declared.facts.Motion.TheVariants.{Absent as absent}
-use Rattle.avc_picture.specs.MacroblockFacts.{number_of}
+use Rattle.avc_picture.proofs.Common.{slice_index, slice_index_or, ◌≡◌, ◌<◌, ◌*◌, ℕ, length, absent, number_of}
 use Rattle.avc_picture.proofs.filter_facts.set_pictures.Given as goal
 
 abbrev pub invariant-loop-q : goal.invariant-loop-q

@@ -1,5 +1,4 @@
-use Rattle.std.proofs.Common.{◌≡◌, length, take, map}
-use Rattle.avc_motion.specs.Motion.{vector_of}
+use Rattle.avc_picture.proofs.Common.{◌≡◌, length, take, map, vector_of}
 use Rattle.avc_picture.proofs.filter_facts.set_vectors.Given as goal
 
 abbrev pub invariant-loop-k : goal.invariant-loop-k

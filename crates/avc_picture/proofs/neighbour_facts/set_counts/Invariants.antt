@@ -1,5 +1,4 @@
-use Rattle.std.proofs.Common.{◌≡◌, length, take, map}
-use Rattle.avc_types.specs.Macroblock.{total_coeff}
+use Rattle.avc_picture.proofs.Common.{◌≡◌, length, take, map, total_coeff}
 use Rattle.avc_picture.proofs.neighbour_facts.set_counts.Given as goal
 
 abbrev pub invariant-loop-k : goal.invariant-loop-k

@@ -1,5 +1,4 @@
-use Rattle.std.proofs.Common.{◌≡◌, length, map, take}
-use Rattle.avc_plane.specs.Frames.{marked_frame}
+use Rattle.avc_picture.proofs.Common.{◌≡◌, length, map, take, marked_frame}
 use Rattle.avc_picture.proofs.reference_places.marked_frames.Given as goal
 
 abbrev pub invariant-loop-frame : goal.invariant-loop-frame

@@ -1,5 +1,4 @@
-use Rattle.std.proofs.Common.{◌≡◌, length}
-use Rattle.avc_picture.specs.Context.{ArePicturesAt}
+use Rattle.avc_picture.proofs.Common.{◌≡◌, length, ArePicturesAt}
 use Rattle.avc_picture.proofs.slice_context.pictures.Given as goal
 
 abbrev pub invariant-loop-r : goal.invariant-loop-r

@@ -1,5 +1,4 @@
-use Rattle.std.proofs.Common.{◌≡◌, ◌+◌, ◌*◌, Err, sym, subst, ◌∙◌, arith, rules}
-use Rattle.avc_picture.specs.DecoderState.{IsDataAnswer, outcome_from}
+use Rattle.avc_picture.proofs.Common.{◌≡◌, ◌+◌, ◌*◌, Err, sym, subst, ◌∙◌, arith, rules, IsDataAnswer, outcome_from}
 use Rattle.avc_picture.proofs.DataAnswers.{ends-badly, ends-well, goes-further, less-left, same-area, usable-still}
 use Rattle.avc_picture.proofs.DataGoesOn.{at-end, at-fault, faulty, goes-on-from, is-read, next-mb, room, slice-is}
 use Rattle.avc_picture.proofs.slice_decoding.decode_data.Goals as goal

@@ -1,9 +1,4 @@
-use Rattle.std.proofs.Common.{◌≡◌, ◌-◌, ◌*◌, ◌≤◌}
-use Rattle.avc_mbsyntax.specs.SliceData.{SliceStart}
-use Rattle.avc_types.specs.Pictures.{Coded}
-use Rattle.avc_deblock.specs.Facts.{Names}
-use Rattle.avc_picture.specs.DecoderState.{GoesOn, GoesOnFrom}
-use Rattle.avc_picture.specs.FirstMbs.{HasSameSize}
+use Rattle.avc_picture.proofs.Common.{◌≡◌, ◌-◌, ◌*◌, ◌≤◌, SliceStart, Coded, Names, GoesOn, GoesOnFrom, HasSameSize}
 use Rattle.avc_picture.proofs.slice_decoding.decode_data.Given as goal
 
 abbrev pub invariant-macroblocks : goal.invariant-macroblocks

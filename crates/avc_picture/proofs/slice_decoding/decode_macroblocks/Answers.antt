@@ -1,5 +1,4 @@
-use Rattle.std.proofs.Common.{◌≡◌, ◌+◌, Err, sym, subst, arith, rules}
-use Rattle.avc_picture.specs.DecoderState.{IsDataAnswer, outcome_from}
+use Rattle.avc_picture.proofs.Common.{◌≡◌, ◌+◌, Err, sym, subst, arith, rules, IsDataAnswer, outcome_from}
 use Rattle.avc_picture.proofs.Contexts.{usable-pictures}
 use Rattle.avc_picture.proofs.DataAnswers.{answers-further, ends-badly, from-here, same-area, usable-still}
 use Rattle.avc_picture.proofs.DataGoesOn.{faulty, goes-on-from, is-read, next-mb, room, slice-is}

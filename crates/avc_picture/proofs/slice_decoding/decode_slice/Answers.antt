@@ -1,11 +1,6 @@
-use Rattle.std.proofs.Common.{◌≡◌, ◌*◌, ◌∙◌, Ok, Err, None, length, take, refl, ap, sym, subst, arith, rules}
-use Rattle.avc_params.specs.Limits.{size_in_mbs, width_in_mbs}
-use Rattle.avc_slice.specs.Header.{slice_qp}
-use Rattle.avc_mbsyntax.specs.Rest.{IsHandedOut, handed_out}
-use Rattle.avc_plane.specs.Frames.{AreFrames, stored_at}
-use Rattle.avc_picture.specs.Context.{IsContextAt, picture_start}
-use Rattle.avc_picture.specs.DecoderState.{IsStateOrFault, address_fault, number_after}
-use Rattle.avc_picture.specs.Slices.{start_of, with_slice}
+use Rattle.avc_picture.proofs.Common.{◌≡◌, ◌*◌, ◌∙◌, Ok, Err, None, length, take, refl, ap, sym, subst, arith, rules, size_in_mbs}
+use Rattle.avc_picture.proofs.Common.{width_in_mbs, slice_qp, IsHandedOut, handed_out, AreFrames, stored_at, IsContextAt, picture_start}
+use Rattle.avc_picture.proofs.Common.{IsStateOrFault, address_fault, number_after, start_of, with_slice}
 use Rattle.avc_picture.proofs.Contexts.{is-context}
 use Rattle.avc_picture.proofs.DataAnswers.{abs-within}
 use Rattle.avc_picture.proofs.SliceGoesOn.{can-have-first, fault-first, first-out, has-first, none-first, slice-decoded}

@@ -1,5 +1,4 @@
-use Rattle.std.proofs.Common.{sym, subst, take}
-use Rattle.avc_mbsyntax.specs.Rest.{Follows, IsHandedOut, handed_out}
+use Rattle.avc_picture.proofs.Common.{sym, subst, take, Follows, IsHandedOut, handed_out}
 use Rattle.avc_picture.proofs.slice_decoding.next_macroblock.Goals as goal
 
 pub returns-then-next_skipped : goal.returns-then-next_skipped

@@ -1,7 +1,6 @@
-use Rattle.std.proofs.Common.{ap, sym, ◌∙◌, arith}
+use Rattle.avc_picture.proofs.Common.{ap, sym, ◌∙◌, arith, start_of}
 use Rattle.avc_bits.specs.Bits.{at}
 use Rattle.avc_mbsyntax.specs.SliceData as mbs
-use Rattle.avc_picture.specs.Slices.{start_of}
 use Rattle.avc_picture.proofs.slice_decoding.slice_data.Goals as goal
 
 pub returns : goal.returns

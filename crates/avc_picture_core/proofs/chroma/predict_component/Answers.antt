@@ -1,9 +1,5 @@
-use Rattle.std.proofs.Common.{ℕ, ◌+◌, ◌*◌, ◌≤◌, subst, refl, sym, ◌∙◌, arith}
-use Rattle.std.specs.Option.{unwrap_or}
-use Rattle.avc_plane.proofs.Lending.{block_lent, room_lent}
-use Rattle.avc_intra.specs.Chroma.{can_predict_chroma, intra_chroma, predict_chroma}
-use Rattle.avc_picture_core.specs.Built.{seen_from}
-use Rattle.avc_picture_core.specs.Sides.{AreInside}
+use Rattle.avc_picture_core.proofs.Common.{ℕ, ◌+◌, ◌*◌, ◌≤◌, subst, refl, sym, ◌∙◌, arith, unwrap_or, block_lent, room_lent}
+use Rattle.avc_picture_core.proofs.Common.{can_predict_chroma, intra_chroma, predict_chroma, seen_from, AreInside}
 use Rattle.avc_picture_core.proofs.Blocks.{predicted, with_block_same}
 use Rattle.avc_picture_core.proofs.Seen.{seen}
 use Rattle.avc_picture_core.proofs.chroma.predict_component.Goals as goal

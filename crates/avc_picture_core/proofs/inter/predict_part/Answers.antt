@@ -1,7 +1,4 @@
-use Rattle.std.proofs.Common.{sym, ap, ◌∙◌}
-use Rattle.std.specs.Option.{option_copied}
-use Rattle.avc_plane.specs.Frames.{planes_of}
-use Rattle.avc_picture_core.specs.Inter.{block_motion, picture_in}
+use Rattle.avc_picture_core.proofs.Common.{sym, ap, ◌∙◌, option_copied, planes_of, block_motion, picture_in}
 use Rattle.avc_picture_core.proofs.Predicting.{part_is}
 use Rattle.avc_picture_core.proofs.inter.predict_part.Goals as goal
 

@@ -1,5 +1,4 @@
-use Rattle.std.proofs.Common.{sym, ◌∙◌}
-use Rattle.avc_plane.specs.Frames.{planes_of}
+use Rattle.avc_picture_core.proofs.Common.{sym, ◌∙◌, planes_of}
 use Rattle.avc_picture_core.proofs.Predicting.{all_predicted, pictures_shown}
 use Rattle.avc_picture_core.proofs.inter.predict_parts.Goals as goal
 

@@ -1,6 +1,4 @@
-use Rattle.std.proofs.Common.{refl}
-use Rattle.avc_plane.specs.Frames.{planes_of}
-use Rattle.avc_picture_core.specs.Inter.{wanted}
+use Rattle.avc_picture_core.proofs.Common.{refl, planes_of, wanted}
 use Rattle.avc_picture_core.proofs.Tiles.{four_parts}
 use Rattle.avc_picture_core.proofs.inter.predict_quarters.Goals as goal
 

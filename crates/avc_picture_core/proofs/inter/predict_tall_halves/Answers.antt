@@ -1,6 +1,4 @@
-use Rattle.std.proofs.Common.{arith}
-use Rattle.avc_plane.specs.Frames.{planes_of}
-use Rattle.avc_picture_core.specs.Inter.{wanted}
+use Rattle.avc_picture_core.proofs.Common.{arith, planes_of, wanted}
 use Rattle.avc_picture_core.proofs.Tiles.{two_beside}
 use Rattle.avc_picture_core.proofs.inter.predict_tall_halves.Goals as goal
 

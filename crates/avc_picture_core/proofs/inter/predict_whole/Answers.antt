@@ -1,8 +1,5 @@
-use Rattle.std.proofs.Common.{◌≡◌, arith, refl, sym, ap, ◌∙◌}
-use Rattle.std.specs.Prelude.{Some, is_some}
-use Rattle.std.specs.Option.{option_copied}
-use Rattle.avc_plane.specs.Frames.{planes_of}
-use Rattle.avc_picture_core.specs.Inter.{block_motion, picture_in}
+use Rattle.avc_picture_core.proofs.Common.{◌≡◌, arith, refl, sym, ap, ◌∙◌, Some, is_some, option_copied, planes_of, block_motion}
+use Rattle.avc_picture_core.proofs.Common.{picture_in}
 use Rattle.avc_picture_core.proofs.Predicting.{all_as_first, all_predicted, pictures_shown, usable_in, whole_is}
 use Rattle.avc_picture_core.proofs.inter.predict_whole.Goals as goal
 

@@ -1,10 +1,4 @@
-use Rattle.std.proofs.Common.{◌*◌, ap, ◌∙◌}
-use Rattle.std.specs.Option.{unwrap_or}
-use Rattle.avc_transform.specs.MacroblockResidual.{chroma_residual}
-use Rattle.avc_intra.specs.Chroma.{intra_chroma}
-use Rattle.avc_plane.specs.Plane.{Plane}
-use Rattle.avc_picture_core.specs.Built.{seen_from}
-use Rattle.avc_picture_core.specs.Residuals.{with_residual}
+use Rattle.avc_picture_core.proofs.Common.{◌*◌, ap, ◌∙◌, unwrap_or, chroma_residual, intra_chroma, Plane, seen_from, with_residual}
 use Rattle.avc_picture_core.proofs.InPlace.{residual_over}
 use Rattle.avc_picture_core.proofs.intra.build_component.Goals as goal
 

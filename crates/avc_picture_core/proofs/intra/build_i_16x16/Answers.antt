@@ -1,11 +1,6 @@
-use Rattle.std.proofs.Common.{◌≡◌, ◌+◌, ◌*◌, true, false, refl, ap, sym, subst, ◌∙◌, arith}
-use Rattle.avc_types.specs.Macroblock.{i_16x16}
+use Rattle.avc_picture_core.proofs.Common.{◌≡◌, ◌+◌, ◌*◌, true, false, refl, ap, sym, subst, ◌∙◌, arith, i_16x16, chroma_residual}
+use Rattle.avc_picture_core.proofs.Common.{planes_of, chroma_after, planes_after, sides_of, has_sides, AreInside}
 use Rattle.avc_types.specs.MacroblockFields.{residual_of}
-use Rattle.avc_transform.specs.MacroblockResidual.{chroma_residual}
-use Rattle.avc_plane.specs.Frames.{planes_of}
-use Rattle.avc_picture_core.specs.Built.{chroma_after, planes_after, sides_of}
-use Rattle.avc_picture_core.specs.Faults.{has_sides}
-use Rattle.avc_picture_core.specs.Sides.{AreInside}
 use Rattle.avc_picture_core.proofs.Ties.{chroma_intra, inside_chroma, inside_luma, luma_16x16, planes_same, refused_by}
 use Rattle.avc_picture_core.proofs.intra.build_i_16x16.Goals as goal
 

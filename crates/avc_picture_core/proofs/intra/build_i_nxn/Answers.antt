@@ -1,14 +1,7 @@
-use Rattle.std.proofs.Common.{◌≡◌, ◌+◌, ◌*◌, true, false, slice_index_or, refl, ap, sym, subst, ◌∙◌, arith, []}
-use Rattle.std.proofs.lemmas.Bool.{and_parts}
-use Rattle.avc_types.specs.Macroblock.{i_nxn}
+use Rattle.avc_picture_core.proofs.Common.{◌≡◌, ◌+◌, ◌*◌, true, false, slice_index_or, refl, ap, sym, subst, ◌∙◌, arith, [], and_parts}
+use Rattle.avc_picture_core.proofs.Common.{i_nxn, chroma_residual, absent, planes_of, can_predict4x4, mode4x4_of, can_predict_chroma}
+use Rattle.avc_picture_core.proofs.Common.{chroma_after, luma_after, mode_number, planes_after, sides_of, AreInside, readable_sides}
 use Rattle.avc_types.specs.MacroblockFields.{residual_of}
-use Rattle.avc_transform.specs.MacroblockResidual.{chroma_residual}
-use Rattle.avc_neigh.specs.declared.facts.NearMode.TheVariants.{Absent as absent}
-use Rattle.avc_plane.specs.Frames.{planes_of}
-use Rattle.avc_intra.specs.Luma4x4.{can_predict4x4, mode4x4_of}
-use Rattle.avc_intra.specs.Chroma.{can_predict_chroma}
-use Rattle.avc_picture_core.specs.Built.{chroma_after, luma_after, mode_number, planes_after, sides_of}
-use Rattle.avc_picture_core.specs.Sides.{AreInside, readable_sides}
 use Rattle.avc_picture_core.proofs.Sixteens.{each_sixteen}
 use Rattle.avc_picture_core.proofs.Ties.{chroma_intra, has_nxn, inside_chroma, nxn_at, planes_same, refused_by}
 use Rattle.avc_picture_core.proofs.intra.build_i_nxn.Goals as goal

@@ -1,11 +1,5 @@
-use Rattle.std.proofs.Common.{◌*◌, ap, ◌∙◌}
-use Rattle.std.specs.Option.{unwrap_or}
+use Rattle.avc_picture_core.proofs.Common.{◌*◌, ap, ◌∙◌, unwrap_or, luma_residual_16x16, intra16x16, Plane, seen_from, with_residual}
 use Rattle.avc_types.specs.MacroblockFields.{residual_of}
-use Rattle.avc_transform.specs.MacroblockResidual.{luma_residual_16x16}
-use Rattle.avc_intra.specs.Luma16x16.{intra16x16}
-use Rattle.avc_plane.specs.Plane.{Plane}
-use Rattle.avc_picture_core.specs.Built.{seen_from}
-use Rattle.avc_picture_core.specs.Residuals.{with_residual}
 use Rattle.avc_picture_core.proofs.InPlace.{residual_over}
 use Rattle.avc_picture_core.proofs.intra.build_luma16x16.Goals as goal
 

@@ -1,9 +1,5 @@
-use Rattle.std.proofs.Common.{ℕ, ◌+◌, ◌*◌, ◌≤◌, subst, refl, sym, ◌∙◌, arith}
-use Rattle.std.specs.Option.{unwrap_or}
-use Rattle.avc_plane.proofs.Lending.{block_lent, room_lent}
-use Rattle.avc_intra.specs.Luma16x16.{can_predict16x16, intra16x16, predict16x16}
-use Rattle.avc_picture_core.specs.Built.{seen_from}
-use Rattle.avc_picture_core.specs.Sides.{AreInside}
+use Rattle.avc_picture_core.proofs.Common.{ℕ, ◌+◌, ◌*◌, ◌≤◌, subst, refl, sym, ◌∙◌, arith, unwrap_or, block_lent, room_lent}
+use Rattle.avc_picture_core.proofs.Common.{can_predict16x16, intra16x16, predict16x16, seen_from, AreInside}
 use Rattle.avc_picture_core.proofs.Blocks.{predicted, with_block_same}
 use Rattle.avc_picture_core.proofs.Seen.{seen}
 use Rattle.avc_picture_core.proofs.luma16x16.predict_luma16x16.Goals as goal

@@ -1,10 +1,4 @@
-use Rattle.std.proofs.Common.{ap, ◌∙◌}
-use Rattle.std.specs.Option.{unwrap_or}
-use Rattle.avc_transform.specs.Residual.{residual4x4}
-use Rattle.avc_intra.specs.Luma4x4.{intra4x4}
-use Rattle.avc_plane.specs.Plane.{Plane}
-use Rattle.avc_picture_core.specs.Built.{seen_from}
-use Rattle.avc_picture_core.specs.Residuals.{with_residual}
+use Rattle.avc_picture_core.proofs.Common.{ap, ◌∙◌, unwrap_or, residual4x4, intra4x4, Plane, seen_from, with_residual}
 use Rattle.avc_picture_core.proofs.InPlace.{residual_over}
 use Rattle.avc_picture_core.proofs.luma4x4.build_block.Goals as goal
 

@@ -1,11 +1,6 @@
-use Rattle.std.proofs.Common.{◌≡◌, ◌+◌, ◌*◌, [], suc, slice_index_or, ap, sym, ◌∙◌, arith, rules}
+use Rattle.avc_picture_core.proofs.Common.{◌≡◌, ◌+◌, ◌*◌, [], suc, slice_index_or, ap, sym, ◌∙◌, arith, rules, block_x, block_y, absent}
+use Rattle.avc_picture_core.proofs.Common.{mode4x4_of, residual4x4, mode_number, with_block4x4, with_blocks4x4, AreInside}
 use Rattle.avc_types.specs.MacroblockFields.{residual_of}
-use Rattle.avc_neigh.specs.Blocks.{block_x, block_y}
-use Rattle.avc_neigh.specs.declared.facts.NearMode.TheVariants.{Absent as absent}
-use Rattle.avc_intra.specs.Luma4x4.{mode4x4_of}
-use Rattle.avc_transform.specs.Residual.{residual4x4}
-use Rattle.avc_picture_core.specs.Built.{mode_number, with_block4x4, with_blocks4x4}
-use Rattle.avc_picture_core.specs.Sides.{AreInside}
 use Rattle.avc_picture_core.proofs.Adding.{any_default}
 use Rattle.avc_picture_core.proofs.Ties.{nxn_block, nxn_residual}
 use Rattle.avc_picture_core.proofs.luma4x4.build_luma4x4.Goals as goal

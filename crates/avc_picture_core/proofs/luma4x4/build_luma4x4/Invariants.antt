@@ -1,7 +1,5 @@
-use Rattle.std.proofs.Common.{◌≡◌, [], ◌*◌}
+use Rattle.avc_picture_core.proofs.Common.{◌≡◌, [], ◌*◌, Place, with_blocks4x4, IsNxnAt}
 use Rattle.avc_types.specs.MacroblockFields.{residual_of}
-use Rattle.avc_picture_core.specs.Built.{Place, with_blocks4x4}
-use Rattle.avc_picture_core.specs.Nxn.{IsNxnAt}
 use Rattle.avc_picture_core.proofs.luma4x4.build_luma4x4.Given as goal
 
 abbrev pub invariant-loop-k : goal.invariant-loop-k

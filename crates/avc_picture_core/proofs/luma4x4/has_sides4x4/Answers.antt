@@ -1,8 +1,5 @@
-use Rattle.std.proofs.Common.{◌≡◌, slice_index_or, sym, ◌∙◌, arith, below_more}
-use Rattle.avc_neigh.specs.declared.facts.NearMode.TheVariants.{Absent as absent}
-use Rattle.avc_intra.specs.Luma4x4.{can_predict4x4, mode4x4_of}
-use Rattle.avc_picture_core.specs.Built.{mode_number}
-use Rattle.avc_picture_core.specs.Sides.{readable_sides}
+use Rattle.avc_picture_core.proofs.Common.{◌≡◌, slice_index_or, sym, ◌∙◌, arith, below_more, absent, can_predict4x4, mode4x4_of}
+use Rattle.avc_picture_core.proofs.Common.{mode_number, readable_sides}
 use Rattle.avc_picture_core.proofs.Sixteens.{all_sixteen, one_false}
 use Rattle.avc_picture_core.proofs.luma4x4.has_sides4x4.Goals as goal
 

@@ -1,8 +1,5 @@
-use Rattle.std.proofs.Common.{ℕ, ◌∙◌, refl, sym}
-use Rattle.std.specs.Option.{unwrap_or}
-use Rattle.avc_plane.proofs.Lending.{block_lent, room_lent}
-use Rattle.avc_intra.specs.Luma4x4.{can_predict4x4, extended, intra4x4, predict4x4}
-use Rattle.avc_picture_core.specs.Built.{seen_from}
+use Rattle.avc_picture_core.proofs.Common.{ℕ, ◌∙◌, refl, sym, unwrap_or, block_lent, room_lent, can_predict4x4, extended, intra4x4}
+use Rattle.avc_picture_core.proofs.Common.{predict4x4, seen_from}
 use Rattle.avc_picture_core.proofs.Blocks.{predicted, with_block_same}
 use Rattle.avc_picture_core.proofs.Seen.{seen4x4}
 use Rattle.avc_picture_core.proofs.luma4x4.predict_block.Goals as goal

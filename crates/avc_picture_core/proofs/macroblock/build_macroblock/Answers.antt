@@ -1,8 +1,5 @@
-use Rattle.std.proofs.Common.{ℕ, ap, subst, sym, length, take}
-use Rattle.avc_types.specs.Macroblock.{MbSyntax, parts_of, partitions}
-use Rattle.avc_types.specs.MacroblockFields.{syntax_of}
-use Rattle.avc_motion.specs.Motion.{is_intra}
-use Rattle.avc_picture_core.specs.Places.{IsAt, MayRead}
+use Rattle.avc_picture_core.proofs.Common.{ℕ, ap, subst, sym, length, take, MbSyntax, parts_of, partitions, syntax_of, is_intra, IsAt}
+use Rattle.avc_picture_core.proofs.Common.{MayRead}
 use Rattle.avc_picture_core.proofs.macroblock.build_macroblock.Goals as goal
 
 pub returns-in-INxN-clause-built : goal.returns-in-INxN-clause-built

@@ -1,7 +1,5 @@
-use Rattle.std.proofs.Common.{rules, ◌≡◌, [], Err, refl}
-use Rattle.avc_types.specs.Macroblock.{p_inter}
+use Rattle.avc_picture_core.proofs.Common.{rules, ◌≡◌, [], Err, refl, p_inter, planes_of}
 use Rattle.avc_types.specs.MacroblockFields.{residual_of}
-use Rattle.avc_plane.specs.Frames.{planes_of}
 use Rattle.avc_picture_core.proofs.Inters.{planes_parted, refused_inter}
 use Rattle.avc_picture_core.proofs.macroblock.build_p_inter.Goals as goal
 

@@ -1,5 +1,4 @@
-use Rattle.std.proofs.Common.{rules}
-use Rattle.avc_plane.specs.Frames.{planes_of}
+use Rattle.avc_picture_core.proofs.Common.{rules, planes_of}
 use Rattle.avc_picture_core.proofs.Inters.{planes_skip, refused_inter}
 use Rattle.avc_picture_core.proofs.macroblock.build_p_skip.Goals as goal
 

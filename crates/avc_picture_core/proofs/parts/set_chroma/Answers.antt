@@ -1,6 +1,4 @@
-use Rattle.std.proofs.Common.{◌*◌, ◌∙◌, arith}
-use Rattle.avc_plane.specs.Plane.{sample}
-use Rattle.avc_inter.specs.Chroma.{inter_chroma}
+use Rattle.avc_picture_core.proofs.Common.{◌*◌, ◌∙◌, arith, sample, inter_chroma}
 use Rattle.avc_picture_core.proofs.Laid.{laid_by, laid_weighted, length-block}
 use Rattle.avc_picture_core.proofs.parts.set_chroma.Goals as goal
 

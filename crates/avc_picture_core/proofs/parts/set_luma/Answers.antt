@@ -1,6 +1,4 @@
-use Rattle.std.proofs.Common.{◌*◌, ◌∙◌, arith}
-use Rattle.avc_plane.specs.Plane.{sample}
-use Rattle.avc_inter.specs.Luma.{inter_luma}
+use Rattle.avc_picture_core.proofs.Common.{◌*◌, ◌∙◌, arith, sample, inter_luma}
 use Rattle.avc_picture_core.proofs.Laid.{laid_by, laid_weighted, length-block}
 use Rattle.avc_picture_core.proofs.parts.set_luma.Goals as goal
 

@@ -1,12 +1,5 @@
-use Rattle.std.proofs.Common.{◌*◌, ◌/◌, sym, refl, ap, ◌∙◌}
-use Rattle.std.specs.Prelude.{Option, None}
-use Rattle.std.specs.Option.{option_map}
-use Rattle.avc_types.specs.declared.weight.Weight.{Weight}
-use Rattle.avc_plane.specs.Plane.{sample}
-use Rattle.avc_plane.specs.Frames.{planes_of}
-use Rattle.avc_inter.specs.Luma.{inter_luma}
-use Rattle.avc_inter.specs.Chroma.{inter_chroma}
-use Rattle.avc_picture_core.specs.Built.{component_weight}
+use Rattle.avc_picture_core.proofs.Common.{◌*◌, ◌/◌, sym, refl, ap, ◌∙◌, Option, None, option_map, Weight, sample, planes_of, inter_luma}
+use Rattle.avc_picture_core.proofs.Common.{inter_chroma, component_weight}
 use Rattle.avc_picture_core.proofs.Laid.{laid_by}
 use Rattle.avc_picture_core.proofs.Tiles.{part_predicted}
 use Rattle.avc_picture_core.proofs.parts.set_plain_part.Goals as goal

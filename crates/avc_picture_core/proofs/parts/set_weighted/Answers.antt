@@ -1,6 +1,4 @@
-use Rattle.std.proofs.Common.{◌∙◌}
-use Rattle.std.specs.Prelude.{Some}
-use Rattle.avc_picture_core.specs.Built.{weighted_by}
+use Rattle.avc_picture_core.proofs.Common.{◌∙◌, Some, weighted_by}
 use Rattle.avc_picture_core.proofs.Laid.{block_changed}
 use Rattle.avc_picture_core.proofs.parts.set_weighted.Goals as goal
 

@@ -1,7 +1,4 @@
-use Rattle.std.proofs.Common.{arith, ap, ◌∙◌}
-use Rattle.avc_transform.specs.Bounds.{matrix}
-use Rattle.avc_transform.specs.Residual.{residual4x4}
-use Rattle.avc_transform.proofs.NoResidual.{no_residual}
+use Rattle.avc_picture_core.proofs.Common.{arith, ap, ◌∙◌, matrix, residual4x4, no_residual}
 use Rattle.avc_picture_core.proofs.Coefficients.{no_level}
 use Rattle.avc_picture_core.proofs.InPlace.{no_residual_added, residual_same}
 use Rattle.avc_picture_core.proofs.residual.add_block4x4.Goals as goal

@@ -1,9 +1,5 @@
-use Rattle.std.proofs.Common.{◌≡◌, ℤ, pos, ◌+ℤ◌, arith, ap, ◌∙◌, sym, to_z, of_z, w32}
-use Rattle.std.proofs.lemmas.Int.{ints, to_z-of_z}
-use Rattle.avc_types.specs.Arithmetic.{◌>>ℤ◌}
-use Rattle.avc_transform.specs.Bounds.{matrix}
-use Rattle.avc_transform.specs.Residual.{residual4x4_with_dc}
-use Rattle.avc_transform.proofs.NoResidual.{residual_of_dc}
+use Rattle.avc_picture_core.proofs.Common.{◌≡◌, ℤ, pos, ◌+ℤ◌, arith, ap, ◌∙◌, sym, to_z, of_z, w32, ints, to_z-of_z, ◌>>ℤ◌, matrix}
+use Rattle.avc_picture_core.proofs.Common.{residual4x4_with_dc, residual_of_dc}
 use Rattle.avc_picture_core.proofs.Coefficients.{no_level}
 use Rattle.avc_picture_core.proofs.InPlace.{no_residual_added, residual_same}
 use Rattle.avc_picture_core.proofs.residual.add_block4x4_with_dc.Goals as goal

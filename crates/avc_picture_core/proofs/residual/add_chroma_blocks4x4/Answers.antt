@@ -1,9 +1,5 @@
-use Rattle.std.proofs.lemmas.Int.{ints}
-use Rattle.std.proofs.Common.{to_z, of_z, w32, rules, ◌≡◌, ◌+◌, ◌*◌, ◌/◌, ◌%◌, pos, [], ap, ◌∙◌, sym, slice_index_or, arith}
-use Rattle.avc_transform.specs.Residual.{residual4x4_with_dc, chroma_dc}
-use Rattle.avc_transform.specs.MacroblockResidual.{chroma_residual}
-use Rattle.avc_plane.specs.Plane.{Plane}
-use Rattle.avc_picture_core.specs.Residuals.{with_residual}
+use Rattle.avc_picture_core.proofs.Common.{ints, to_z, of_z, w32, rules, ◌≡◌, ◌+◌, ◌*◌, ◌/◌, ◌%◌, pos, [], ap, ◌∙◌, sym, slice_index_or}
+use Rattle.avc_picture_core.proofs.Common.{arith, residual4x4_with_dc, chroma_dc, chroma_residual, Plane, with_residual}
 use Rattle.avc_picture_core.proofs.Adding.{any_default, chroma_number, chroma_spot, chroma_within}
 use Rattle.avc_picture_core.proofs.InPlace.{all_before, none_before, one_more}
 use Rattle.avc_picture_core.proofs.residual.add_chroma_blocks4x4.Goals as goal

@@ -1,5 +1,4 @@
-use Rattle.std.proofs.Common.{◌≡◌, ◌*◌}
-use Rattle.avc_transform.specs.MacroblockResidual.{chroma_residual}
+use Rattle.avc_picture_core.proofs.Common.{◌≡◌, ◌*◌, chroma_residual}
 use Rattle.avc_picture_core.proofs.Adding.{chroma_number}
 use Rattle.avc_picture_core.proofs.InPlace.{with_blocks_before}
 use Rattle.avc_picture_core.proofs.residual.add_chroma_blocks4x4.Given as goal

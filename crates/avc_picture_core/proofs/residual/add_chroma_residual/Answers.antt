@@ -1,5 +1,4 @@
-use Rattle.std.proofs.Common.{◌*◌}
-use Rattle.avc_transform.specs.MacroblockResidual.{chroma_residual}
+use Rattle.avc_picture_core.proofs.Common.{◌*◌, chroma_residual}
 use Rattle.avc_picture_core.proofs.Coefficients.{no_chroma}
 use Rattle.avc_picture_core.proofs.InPlace.{no_residual_added}
 use Rattle.avc_picture_core.proofs.residual.add_chroma_residual.Goals as goal

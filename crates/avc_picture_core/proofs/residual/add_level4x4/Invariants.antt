@@ -1,5 +1,4 @@
-use Rattle.std.proofs.Common.{◌≡◌, ℕ, ◌<◌, ◌≤◌, length, slice_index}
-use Rattle.avc_picture_core.specs.Built.{sum_of}
+use Rattle.avc_picture_core.proofs.Common.{◌≡◌, ℕ, ◌<◌, ◌≤◌, length, slice_index, sum_of}
 use Rattle.avc_picture_core.proofs.residual.add_level4x4.Given as goal
 
 abbrev pub invariant-loop-i : goal.invariant-loop-i

@@ -1,10 +1,6 @@
-use Rattle.std.proofs.Common.{rules, ◌≡◌, [], ◌+◌, ◌*◌, ◌%◌, ap, ◌∙◌, sym, slice_index_or, arith}
+use Rattle.avc_picture_core.proofs.Common.{rules, ◌≡◌, [], ◌+◌, ◌*◌, ◌%◌, ap, ◌∙◌, sym, slice_index_or, arith, block_at, residual4x4}
+use Rattle.avc_picture_core.proofs.Common.{luma_residual, Plane, with_residual}
 use Rattle.avc_types.specs.MacroblockFields.{residual_of}
-use Rattle.avc_neigh.specs.Blocks.{block_at}
-use Rattle.avc_transform.specs.Residual.{residual4x4}
-use Rattle.avc_transform.specs.MacroblockResidual.{luma_residual}
-use Rattle.avc_plane.specs.Plane.{Plane}
-use Rattle.avc_picture_core.specs.Residuals.{with_residual}
 use Rattle.avc_picture_core.proofs.Adding.{any_default, luma_spot, luma_within}
 use Rattle.avc_picture_core.proofs.InPlace.{all_before, none_before, one_more}
 use Rattle.avc_picture_core.proofs.residual.add_luma_residual.Goals as goal

@@ -1,11 +1,6 @@
-use Rattle.std.proofs.lemmas.Int.{ints}
-use Rattle.std.proofs.Common.{to_z, of_z, w32, rules, ◌≡◌, ◌+◌, ◌*◌, ◌/◌, ◌%◌, pos, [], ap, ◌∙◌, sym, slice_index_or, arith}
+use Rattle.avc_picture_core.proofs.Common.{ints, to_z, of_z, w32, rules, ◌≡◌, ◌+◌, ◌*◌, ◌/◌, ◌%◌, pos, [], ap, ◌∙◌, sym, slice_index_or}
+use Rattle.avc_picture_core.proofs.Common.{arith, block_at, residual4x4_with_dc, luma_dc, luma_residual_16x16, Plane, with_residual}
 use Rattle.avc_types.specs.MacroblockFields.{residual_of}
-use Rattle.avc_neigh.specs.Blocks.{block_at}
-use Rattle.avc_transform.specs.Residual.{residual4x4_with_dc, luma_dc}
-use Rattle.avc_transform.specs.MacroblockResidual.{luma_residual_16x16}
-use Rattle.avc_plane.specs.Plane.{Plane}
-use Rattle.avc_picture_core.specs.Residuals.{with_residual}
 use Rattle.avc_picture_core.proofs.Adding.{any_default, luma_spot, luma_within}
 use Rattle.avc_picture_core.proofs.InPlace.{all_before, none_before, one_more}
 use Rattle.avc_picture_core.proofs.residual.add_luma_residual_16x16.Goals as goal

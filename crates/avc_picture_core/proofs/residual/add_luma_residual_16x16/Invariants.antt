@@ -1,7 +1,5 @@
-use Rattle.std.proofs.Common.{◌≡◌, ◌*◌}
+use Rattle.avc_picture_core.proofs.Common.{◌≡◌, ◌*◌, block_at, luma_residual_16x16}
 use Rattle.avc_types.specs.MacroblockFields.{residual_of}
-use Rattle.avc_neigh.specs.Blocks.{block_at}
-use Rattle.avc_transform.specs.MacroblockResidual.{luma_residual_16x16}
 use Rattle.avc_picture_core.proofs.InPlace.{with_blocks_before}
 use Rattle.avc_picture_core.proofs.residual.add_luma_residual_16x16.Given as goal
 

@@ -1,6 +1,4 @@
-use Rattle.std.proofs.Common.{ℕ, ◌<◌}
-use Rattle.avc_picture_core.specs.Inter.{IsQuarterShape}
-use Rattle.avc_picture_core.specs.declared.shape.Shape.TheVariants.{Whole}
+use Rattle.avc_picture_core.proofs.Common.{ℕ, ◌<◌, IsQuarterShape, Whole}
 use Rattle.avc_picture_core.proofs.shape.are_quarters_whole.Given as goal
 
 abbrev pub invariant-loop-quarter : goal.invariant-loop-quarter

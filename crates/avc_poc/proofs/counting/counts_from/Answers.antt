@@ -1,6 +1,4 @@
-use Rattle.std.proofs.Common.{ap, ◌∙◌}
-use Rattle.avc_poc.specs.OrderCounts.{counts_by, in_range, number_in_range}
-use Rattle.avc_poc.specs.OrderCountState.{count_pair, counts_of, pair}
+use Rattle.avc_poc.proofs.Common.{ap, ◌∙◌, counts_by, in_range, number_in_range, count_pair, counts_of, pair}
 use Rattle.avc_poc.proofs.Answered.{ok_is}
 use Rattle.avc_poc.proofs.counting.counts_from.Goals as goal
 

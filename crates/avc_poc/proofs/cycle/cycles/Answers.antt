@@ -1,5 +1,4 @@
-use Rattle.std.proofs.Common.{arith}
-use Rattle.std.proofs.lemmas.Int.{ints}
+use Rattle.avc_poc.proofs.Common.{arith, ints}
 use Rattle.avc_poc.proofs.Sums.{times_near, product_told}
 use Rattle.avc_poc.proofs.cycle.cycles.Goals as goal
 

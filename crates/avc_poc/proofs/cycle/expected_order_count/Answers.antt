@@ -1,8 +1,5 @@
-use Rattle.std.proofs.Common.{◌≡◌, ◌+◌, ◌-◌, ◌<◌, ◌==◌, false, ◌/◌, ◌%◌, ◌+ℤ◌, ◌*ℤ◌, ℤ, pos, length, take, ap, ◌∙◌, sym, arith, to_z, of_z, w64}
-use mir.Syntax.{w128}
-use Rattle.std.proofs.lemmas.Int.{ints}
-use Rattle.std.proofs.lemmas.Bool.Decides.{nat_tests}
-use Rattle.avc_poc.specs.OrderCounts.{sum_ℤ}
+use Rattle.avc_poc.proofs.Common.{◌≡◌, ◌+◌, ◌-◌, ◌<◌, ◌==◌, false, ◌/◌, ◌%◌, ◌+ℤ◌, ◌*ℤ◌, ℤ, pos, length, take, ap, ◌∙◌, sym, arith, to_z}
+use Rattle.avc_poc.proofs.Common.{of_z, w64, w128, ints, nat_tests, sum_ℤ}
 use Rattle.avc_poc.proofs.Sums.{sum_whole, expected_is}
 use Rattle.avc_poc.proofs.cycle.expected_order_count.Goals as goal
 

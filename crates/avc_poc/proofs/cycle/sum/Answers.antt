@@ -1,6 +1,4 @@
-use Rattle.std.proofs.Common.{◌≡◌, ◌+◌, pos, ◌+ℤ◌, ◌∙◌, get_or, drop, arith, rules, w32, SFits}
-use Rattle.std.proofs.lemmas.Int.{ints, to_z-of_z}
-use Rattle.avc_poc.specs.OrderCounts.{sum_ℤ}
+use Rattle.avc_poc.proofs.Common.{◌≡◌, ◌+◌, pos, ◌+ℤ◌, ◌∙◌, get_or, drop, arith, rules, w32, SFits, ints, to_z-of_z, sum_ℤ}
 use Rattle.avc_poc.proofs.Sums.{sum_more}
 use Rattle.avc_poc.proofs.cycle.sum.Goals as goal
 

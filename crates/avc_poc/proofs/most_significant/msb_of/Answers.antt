@@ -1,5 +1,4 @@
-use Rattle.std.proofs.Common.{◌∙◌, sym, arith}
-use Rattle.std.proofs.lemmas.Int.{ints}
+use Rattle.avc_poc.proofs.Common.{◌∙◌, sym, arith, ints}
 use Rattle.avc_poc.proofs.Choices.{msb_up, msb_below, msb_down, msb_above}
 use Rattle.avc_poc.proofs.most_significant.msb_of.Goals as goal
 

@@ -1,9 +1,5 @@
-use Rattle.std.proofs.Common.{◌≡◌, true, ap, ◌∙◌, sym, Ok, Err, if◌then◌else◌, rules, w32, SFits}
-use Rattle.std.proofs.lemmas.Int.{to_z-of_z}
-use Rattle.avc_types.specs.declared.fault.Fault.TheVariants.{PocRange}
-use Rattle.avc_slice.specs.Header.{has_operation_5}
-use Rattle.avc_poc.specs.OrderCounts.{both_in_32_bits, lowered_by_operation_5}
-use Rattle.avc_poc.specs.OrderCountState.{counts_of, pair}
+use Rattle.avc_poc.proofs.Common.{◌≡◌, true, ap, ◌∙◌, sym, Ok, Err, if◌then◌else◌, rules, w32, SFits, to_z-of_z, PocRange, has_operation_5}
+use Rattle.avc_poc.proofs.Common.{both_in_32_bits, lowered_by_operation_5, counts_of, pair}
 use Rattle.avc_poc.proofs.Answered.{both_are, ok_is, in_range_lowered}
 use Rattle.avc_poc.proofs.range.in_range.Goals as goal
 

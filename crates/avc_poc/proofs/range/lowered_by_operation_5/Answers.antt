@@ -1,5 +1,4 @@
-use Rattle.std.proofs.Common.{arith}
-use Rattle.std.proofs.lemmas.Int.{ints, clamps}
+use Rattle.avc_poc.proofs.Common.{arith, ints, clamps}
 use Rattle.avc_poc.proofs.Answered.{both_are}
 use Rattle.avc_poc.proofs.range.lowered_by_operation_5.Goals as goal
 

@@ -1,7 +1,4 @@
-use Rattle.std.proofs.Common.{◌≡◌, pos, ℤ, true, ap, ◌∙◌, sym, subst}
-use Rattle.avc_slice.specs.Header.{has_operation_5}
-use Rattle.avc_poc.specs.OrderCounts.{delta_bottom, counts_0}
-use Rattle.avc_poc.specs.OrderCountState.{IsNear}
+use Rattle.avc_poc.proofs.Common.{◌≡◌, pos, ℤ, true, ap, ◌∙◌, sym, subst, has_operation_5, delta_bottom, counts_0, IsNear}
 use Rattle.avc_poc.proofs.Choices.{msb_told, lowered_told, previous_cast}
 use Rattle.avc_poc.proofs.Answered.{msb_kept}
 use Rattle.avc_poc.proofs.type_0.previous_from.Goals as goal

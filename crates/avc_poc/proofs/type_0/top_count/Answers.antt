@@ -1,6 +1,4 @@
-use Rattle.std.proofs.Common.{◌≡◌, ◌+ℤ◌, ℤ, ap, ◌∙◌, arith, to_z, of_z, w64}
-use Rattle.std.proofs.lemmas.Int.{ints}
-use Rattle.avc_poc.specs.OrderCounts.{lsb_of, max_lsb, msb_of}
+use Rattle.avc_poc.proofs.Common.{◌≡◌, ◌+ℤ◌, ℤ, ap, ◌∙◌, arith, to_z, of_z, w64, ints, lsb_of, max_lsb, msb_of}
 use Rattle.avc_poc.proofs.Choices.{msb_told}
 use Rattle.avc_poc.proofs.type_0.top_count.Goals as goal
 

@@ -1,9 +1,5 @@
-use Rattle.std.proofs.Common.{ℕ, ◌<◌, ◌++◌, length, map, take, ap, sym, ◌∙◌}
-use Rattle.std.specs.Prelude.{All}
-use Rattle.std.specs.List.{filter}
-use Rattle.avc_reflist.specs.Order.{is_not_in_list}
-use Rattle.avc_types.specs.References.{reference_at, references_at}
-use Rattle.avc_reflist.specs.Lists.{modification_frames, initial_list}
+use Rattle.avc_reflist.proofs.Common.{ℕ, ◌<◌, ◌++◌, length, map, take, ap, sym, ◌∙◌, All, filter, is_not_in_list, reference_at}
+use Rattle.avc_reflist.proofs.Common.{references_at, modification_frames, initial_list}
 use Rattle.avc_reflist.proofs.Naming.{list_of_places, entries-within, places-within}
 use Rattle.avc_reflist.proofs.modification.reference_list.Goals as goal
 

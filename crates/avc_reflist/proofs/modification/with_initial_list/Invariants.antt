@@ -1,6 +1,4 @@
-use Rattle.std.proofs.Common.{◌≡◌, ◌≤◌, ◌++◌, length, take}
-use Rattle.std.specs.List.{filter}
-use Rattle.avc_reflist.specs.Order.{is_not_in_list}
+use Rattle.avc_reflist.proofs.Common.{◌≡◌, ◌≤◌, ◌++◌, length, take, filter, is_not_in_list}
 use Rattle.avc_reflist.proofs.modification.with_initial_list.Given as goal
 
 abbrev pub invariant-loop-place : goal.invariant-loop-place

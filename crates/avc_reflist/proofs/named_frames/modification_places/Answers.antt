@@ -1,7 +1,5 @@
-use Rattle.std.proofs.Common.{◌<◌, ◌++◌, ◌∷◌, [], length, map, ap, ◌∙◌, arith}
+use Rattle.avc_reflist.proofs.Common.{◌<◌, ◌++◌, ◌∷◌, [], length, map, ap, ◌∙◌, arith, All-take, All-push, reference_at, references_at}
 use Rattle.std.proofs.lemmas.List.{length-take}
-use Rattle.std.proofs.lemmas.List.Elements.{All-take, All-push}
-use Rattle.avc_types.specs.References.{reference_at, references_at}
 use Rattle.avc_reflist.proofs.Naming.{names-step, map-cut}
 use Rattle.avc_reflist.proofs.named_frames.modification_places.Goals as goal
 

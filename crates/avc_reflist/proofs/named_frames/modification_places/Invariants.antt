@@ -1,7 +1,5 @@
-use Rattle.std.proofs.Common.{◌≡◌, ℕ, ◌<◌, ◌≤◌, ◌++◌, List, length, map, take, drop}
-use Rattle.std.specs.Prelude.{All}
-use Rattle.avc_types.specs.References.{StandAt, references_at, reference_at, result_map}
-use Rattle.avc_reflist.specs.Lists.{modification_frames}
+use Rattle.avc_reflist.proofs.Common.{◌≡◌, ℕ, ◌<◌, ◌≤◌, ◌++◌, List, length, map, take, drop, All, StandAt, references_at, reference_at}
+use Rattle.avc_reflist.proofs.Common.{result_map, modification_frames}
 use Rattle.avc_reflist.proofs.named_frames.modification_places.Given as goal
 
 abbrev pub invariant-loop-modification : goal.invariant-loop-modification

@@ -1,7 +1,5 @@
-use Rattle.std.proofs.Common.{subst, sym}
-use Rattle.avc_types.specs.Macroblock.{Mb}
+use Rattle.avc_tests.proofs.Common.{subst, sym, Mb, FollowOn}
 use Rattle.avc_types.specs.MacroblockFields.{syntax_of}
-use Rattle.avc_tests.specs.Following.{FollowOn}
 use Rattle.avc_tests.proofs.Following.{follow_more}
 use Rattle.avc_tests.proofs.macroblock_types.add.Goals as goal
 

@@ -1,8 +1,6 @@
-use Rattle.std.proofs.Common.{arith, subst}
-use Rattle.std.proofs.lemmas.Int.{ints}
+use Rattle.avc_tests.proofs.Common.{arith, subst, ints, AreBlocks}
 use Rattle.std.specs.List.{range_with_len}
 use Rattle.avc_mbsyntax.specs.Reading.{is_coded}
-use Rattle.avc_make.specs.MbWriting.{AreBlocks}
 use Rattle.avc_tests.proofs.macroblock_types.levels.Goals as goal
 
 pub returns-clause-residual : goal.returns-clause-residual

@@ -1,9 +1,6 @@
-use Rattle.std.proofs.Common.{[], length, take, false, refl, arith, negsuc, pos, sym, subst}
-use Rattle.std.proofs.lemmas.Int.{ints}
-use Rattle.std.specs.Prelude.{replicate}
+use Rattle.avc_tests.proofs.Common.{[], length, take, false, refl, arith, negsuc, pos, sym, subst, ints, replicate, parts_of, partitions}
+use Rattle.avc_tests.proofs.Common.{IsMvd, IsRefIdx, has_ref_idx}
 use Rattle.avc_types.specs.declared.macroblock.Mvd.{Mvd}
-use Rattle.avc_types.specs.Macroblock.{parts_of, partitions}
-use Rattle.avc_make.specs.MbWriting.{IsMvd, IsRefIdx, has_ref_idx}
 use Rattle.avc_tests.proofs.Following.{each_first, each_same, taken}
 use Rattle.avc_tests.proofs.macroblock_types.p_inter.Goals as goal
 

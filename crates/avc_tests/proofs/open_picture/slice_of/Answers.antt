@@ -1,5 +1,4 @@
-use Rattle.std.proofs.Common.{rules, ◌≡◌, ℕ, Some, subst, sym}
-use Rattle.avc_params.specs.Tables.{sets_after}
+use Rattle.avc_tests.proofs.Common.{rules, ◌≡◌, ℕ, Some, subst, sym, sets_after}
 use Rattle.avc_slice.specs.Within.{IsHeader}
 use Rattle.avc_tests.proofs.ReadUnder.{within_sets}
 use Rattle.avc_tests.proofs.open_picture.slice_of.Goals as goal

@@ -1,5 +1,4 @@
-use Rattle.std.proofs.Common.{sym, subst, true, ◌∙◌}
-use Rattle.avc_tests.specs.Following.{FollowOn}
+use Rattle.avc_tests.proofs.Common.{sym, subst, true, ◌∙◌, FollowOn}
 use Rattle.avc_tests.proofs.Following.{follow_none}
 use Rattle.avc_tests.proofs.want_of_memory.slices_begin_anew.Goals as goal
 

@@ -1,5 +1,4 @@
-use Rattle.std.proofs.Common.{sym, subst, false}
-use Rattle.avc_tests.specs.Following.{FollowOn}
+use Rattle.avc_tests.proofs.Common.{sym, subst, false, FollowOn}
 use Rattle.avc_tests.proofs.Following.{follow_none}
 use Rattle.avc_tests.proofs.written_slices.each_type_of_i_slices.Goals as goal
 

@@ -1,5 +1,4 @@
-use Rattle.std.proofs.Common.{sym, subst, true, ◌∙◌}
-use Rattle.avc_tests.specs.Following.{FollowOn}
+use Rattle.avc_tests.proofs.Common.{sym, subst, true, ◌∙◌, FollowOn}
 use Rattle.avc_tests.proofs.Following.{follow_none}
 use Rattle.avc_tests.proofs.written_slices.no_macroblock_of_a_p_slice.Goals as goal
 

@@ -1,6 +1,4 @@
-use Rattle.std.proofs.Common.{◌≡◌, ◌<◌, ℕ, true}
-use Rattle.std.specs.Prelude.{slice_index_or}
-use Rattle.avc_motion.specs.Motion.{zero_vector}
+use Rattle.avc_deblock.proofs.Common.{◌≡◌, ◌<◌, ℕ, true, slice_index_or, zero_vector}
 use Rattle.avc_deblock.proofs.facts.MbFacts.has_one_vector.Given as goal
 
 abbrev pub invariant-loop-k : goal.invariant-loop-k

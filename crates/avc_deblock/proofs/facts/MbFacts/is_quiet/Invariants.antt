@@ -1,5 +1,4 @@
-use Rattle.std.proofs.Common.{◌≡◌, ◌<◌, ◌+◌, ◌%◌, ℕ, true}
-use Rattle.avc_deblock.specs.Facts.{edge_block, inter_strength}
+use Rattle.avc_deblock.proofs.Common.{◌≡◌, ◌<◌, ◌+◌, ◌%◌, ℕ, true, edge_block, inter_strength}
 use Rattle.avc_deblock.proofs.facts.MbFacts.is_quiet.Given as goal
 
 abbrev pub invariant-loop-k : goal.invariant-loop-k

@@ -1,7 +1,4 @@
-use Rattle.std.proofs.Common.{◌≡◌, ◌∙◌, true, arith, sym}
-use Rattle.std.specs.Prelude.{◌&&◌}
-use Rattle.std.proofs.lemmas.Bool.{and_parts}
-use Rattle.std.proofs.lemmas.Bool.Decides.{nat_tests}
+use Rattle.avc_deblock.proofs.Common.{◌≡◌, ◌∙◌, true, arith, sym, ◌&&◌, and_parts, nat_tests}
 use Rattle.avc_deblock.proofs.OneMotion.{one_motion}
 use Rattle.avc_deblock.proofs.facts.MbFacts.is_still.Goals as goal
 

@@ -1,8 +1,7 @@
-use Rattle.std.proofs.Common.{◌≡◌, ◌++◌, Err, List, ℕ, true, length, ap, refl, rules, subst, sym, ◌∙◌}
-use Rattle.std.specs.Prelude.{is_none}
-use Rattle.avc_decoder.specs.Machine.{Machine, IsFeedAnswer, after_feed}
+use Rattle.avc_decoder.proofs.Common.{◌≡◌, ◌++◌, Err, List, ℕ, true, length, ap, refl, rules, subst, sym, ◌∙◌, is_none, Machine}
+use Rattle.avc_decoder.proofs.Common.{IsFeedAnswer, NoMemory}
+use Rattle.avc_decoder.specs.Machine.{after_feed}
 use Rattle.avc_decoder.specs.States.{FeedsIn}
-use Rattle.avc_decoder.specs.declared.error.DecodeError.TheVariants.{OutOfMemory as NoMemory}
 use Rattle.avc_decoder.proofs.Draining.{going_on, kept_fed, kept_refused, machine_of, ok_so, refused_to, some_bytes}
 use Rattle.avc_decoder.proofs.decoder.Decoder.feed.Goals as goal
 

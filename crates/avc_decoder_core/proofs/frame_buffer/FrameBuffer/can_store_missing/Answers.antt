@@ -1,11 +1,6 @@
-use Rattle.std.proofs.Common.{◌≡◌, ◌∙◌, ◌≤◌, ◌∷◌, length, map, ap, sym, subst, false, Some}
-use Rattle.std.proofs.lemmas.List.{length-map}
-use Rattle.avc_types.specs.References.{result_map}
-use Rattle.avc_types.specs.declared.references.Marking.TheVariants.{SlidingWindow}
-use Rattle.avc_plane.specs.Frames.{marked_frame}
-use Rattle.avc_marking.specs.Frames.{marking_entry, MarksFrame}
-use Rattle.avc_marking.specs.Marks.{marks_after}
-use Rattle.avc_decoder_core.specs.FrameBufferFields.{history_of}
+use Rattle.avc_decoder_core.proofs.Common.{◌≡◌, ◌∙◌, ◌≤◌, ◌∷◌, length, map, ap, sym, subst, false, Some, length-map, result_map}
+use Rattle.avc_decoder_core.proofs.Common.{SlidingWindow, marked_frame, MarksFrame, marks_after, history_of}
+use Rattle.avc_marking.specs.Frames.{marking_entry}
 use Rattle.avc_decoder_core.specs.History.{marks_of, missing_frame}
 use Rattle.avc_decoder_core.proofs.Entering.{marked_then}
 use Rattle.avc_decoder_core.proofs.State.{answered, few_frames}

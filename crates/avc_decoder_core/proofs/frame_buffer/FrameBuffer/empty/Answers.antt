@@ -1,7 +1,4 @@
-use Rattle.std.proofs.Common.{◌≡◌, ◌≢◌, [], ◌∙◌, subst, ap, ap₂, sym, false}
-use Rattle.avc_decoder_core.specs.FrameBufferFields.{history_of}
-use Rattle.avc_decoder_core.specs.FrameBufferState.{empty_frame_buffer}
-use Rattle.avc_decoder_core.specs.Pictures.{held_pictures}
+use Rattle.avc_decoder_core.proofs.Common.{◌≡◌, ◌≢◌, [], ◌∙◌, subst, ap, ap₂, sym, false, history_of, empty_frame_buffer, held_pictures}
 use Rattle.avc_dpb.proofs.Picking.{on_err}
 use Rattle.avc_decoder_core.proofs.State.{emptied_all, empty_state, holds_some, no_buffer}
 use Rattle.avc_decoder_core.proofs.frame_buffer.FrameBuffer.empty.Goals as goal

@@ -1,6 +1,4 @@
-use Rattle.std.proofs.Common.{◌≡◌, ◌∙◌, ap, false, subst, sym}
-use Rattle.avc_decoder_core.specs.FrameBufferFields.{history_of}
-use Rattle.avc_decoder_core.specs.SequenceState.{AreFramesIn, AreStoredIn}
+use Rattle.avc_decoder_core.proofs.Common.{◌≡◌, ◌∙◌, ap, false, subst, sym, history_of, AreFramesIn, AreStoredIn}
 use Rattle.avc_decoder_core.proofs.State.{are_frames, are_stored}
 use Rattle.avc_decoder_core.proofs.frame_buffer.FrameBuffer.frames.Goals as goal
 

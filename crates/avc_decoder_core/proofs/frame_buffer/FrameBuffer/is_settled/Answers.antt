@@ -1,10 +1,5 @@
-use Rattle.std.proofs.Common.{◌≡◌, ◌∙◌, ◌+◌, ◌-◌, ◌≤◌, false, length, map, ap, sym, subst, arith}
-use Rattle.avc_plane.specs.Frames.{marked_frame}
-use Rattle.avc_params.specs.Limits.{max_frame_num}
-use Rattle.avc_marking.specs.Frames.{CountsReferences}
-use Rattle.avc_marking.specs.Marks.{frame_nums_from}
-use Rattle.avc_decoder_core.specs.FrameBufferFields.{history_of}
-use Rattle.avc_decoder_core.specs.Gaps.{IsLongGap, settles_at}
+use Rattle.avc_decoder_core.proofs.Common.{◌≡◌, ◌∙◌, ◌+◌, ◌-◌, ◌≤◌, false, length, map, ap, sym, subst, arith, marked_frame, max_frame_num}
+use Rattle.avc_decoder_core.proofs.Common.{CountsReferences, frame_nums_from, history_of, IsLongGap, settles_at}
 use Rattle.avc_decoder_core.proofs.Settling.{long_gap}
 use Rattle.avc_decoder_core.proofs.State.{few_frames}
 use Rattle.avc_decoder_core.proofs.frame_buffer.FrameBuffer.is_settled.Goals as goal

@@ -1,13 +1,7 @@
-use Rattle.std.proofs.Common.{◌≡◌, ◌∙◌, ◌≤◌, ◌∷◌, ◌+◌, ◌-◌, [], length, map, ap, ap₂, refl, sym, subst}
-use Rattle.std.proofs.Common.{false, Some, Ok, Err, arith}
-use Rattle.std.proofs.lemmas.Bool.{false≢true}
-use Rattle.std.proofs.lemmas.List.{length-map}
-use Rattle.avc_types.specs.declared.references.Marking.TheVariants.{SlidingWindow}
-use Rattle.avc_plane.specs.Frames.{marked_frame}
-use Rattle.avc_marking.specs.Frames.{marking_entry, MarksFrame}
-use Rattle.avc_marking.specs.Marks.{marks_after}
-use Rattle.avc_decoder_core.specs.FrameBufferFields.{history_of, with_all_marks, IsStateAfter}
-use Rattle.avc_decoder_core.specs.Pictures.{output_pictures}
+use Rattle.avc_decoder_core.proofs.Common.{◌≡◌, ◌∙◌, ◌≤◌, ◌∷◌, ◌+◌, ◌-◌, [], length, map, ap, ap₂, refl, sym, subst, false, Some, Ok, Err}
+use Rattle.avc_decoder_core.proofs.Common.{arith, false≢true, length-map, SlidingWindow, marked_frame, MarksFrame, marks_after, history_of}
+use Rattle.avc_decoder_core.proofs.Common.{with_all_marks, IsStateAfter, output_pictures}
+use Rattle.avc_marking.specs.Frames.{marking_entry}
 use Rattle.std.specs.Result.{is_ok}
 use Rattle.avc_decoder_core.specs.History.{Entry, is_same_sps, marks_of, missing_frame, sequence_sps}
 use Rattle.avc_decoder_core.proofs.Entering.{marked_then}

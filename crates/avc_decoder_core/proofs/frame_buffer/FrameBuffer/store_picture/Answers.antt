@@ -1,14 +1,8 @@
-use Rattle.std.proofs.Common.{◌≡◌, ◌∙◌, ◌≤◌, ◌∷◌, ◌+◌, ◌-◌, length, map, ap, ap₂, refl, rules, to_z, of_z, w32, sym, subst, OnOk}
-use Rattle.std.proofs.Common.{false, Ok, Err, arith}
-use Rattle.std.proofs.lemmas.List.{length-map}
-use Rattle.avc_types.specs.declared.picture_error.PictureError.TheVariants.{Fault as Faulty, OutOfMemory as NoMemory}
-use Rattle.avc_poc.specs.OrderCounts.{order_counts}
-use Rattle.avc_decoder_core.specs.FrameBufferState.{CanFollow}
-use Rattle.avc_plane.specs.Frames.{marked_frame, padded_planes_of}
-use Rattle.avc_marking.specs.Frames.{marking_entry, MarksFrame}
-use Rattle.avc_marking.specs.Marks.{frame_num_after_marking, marks_after}
-use Rattle.avc_decoder_core.specs.FrameBufferFields.{history_of, with_all_marks, IsStateAfter}
-use Rattle.avc_decoder_core.specs.Pictures.{output_pictures}
+use Rattle.avc_decoder_core.proofs.Common.{◌≡◌, ◌∙◌, ◌≤◌, ◌∷◌, ◌+◌, ◌-◌, length, map, ap, ap₂, refl, rules, to_z, of_z, w32, sym, subst}
+use Rattle.avc_decoder_core.proofs.Common.{OnOk, false, Ok, Err, arith, length-map, Faulty, NoMemory, order_counts, CanFollow, marked_frame}
+use Rattle.avc_decoder_core.proofs.Common.{padded_planes_of, MarksFrame, frame_num_after_marking, marks_after, history_of, with_all_marks}
+use Rattle.avc_decoder_core.proofs.Common.{IsStateAfter, output_pictures}
+use Rattle.avc_marking.specs.Frames.{marking_entry}
 use Rattle.std.specs.Result.{is_ok}
 use Rattle.avc_decoder_core.specs.History.{Entry, decoded_picture, marks_of, order_or_0, pasts, picture_entry}
 use Rattle.avc_decoder_core.proofs.Entering.{marked_then}

@@ -1,19 +1,9 @@
-use Rattle.std.proofs.Common.{◌≡◌, ◌∷◌, ◌∙◌, ap, ap₂, sym, subst, false, Err, None, Some, Option, List, to_z, of_z, w32, rules}
-use Rattle.std.specs.Option.{option_map}
-use Rattle.avc_types.specs.declared.picture_error.PictureError.{PictureError}
-use Rattle.avc_types.specs.declared.picture_error.PictureError.TheVariants.{Fault as Faulty}
-use Rattle.avc_dpb.specs.declared.output.Output.{Output}
-use Rattle.avc_plane.specs.Frames.{padded_planes_of}
-use Rattle.avc_poc.specs.OrderCountState.{order_count_state}
-use Rattle.avc_decoder_core.specs.declared.history_entry.HistoryEntry.{HistoryEntry}
-use Rattle.avc_decoder_core.specs.declared.open_picture.OpenPicture.{OpenPicture}
-use Rattle.avc_decoder_core.specs.declared.sequence.Sequence.TheInside.{Inside}
-use Rattle.avc_decoder_core.specs.FrameBufferFields.{history_of}
-use Rattle.avc_decoder_core.specs.FrameBufferState.{FrameBufferState, Refuses}
+use Rattle.avc_decoder_core.proofs.Common.{◌≡◌, ◌∷◌, ◌∙◌, ap, ap₂, sym, subst, false, Err, None, Some, Option, List, to_z, of_z, w32, rules}
+use Rattle.avc_decoder_core.proofs.Common.{option_map, PictureError, Faulty, Output, padded_planes_of, order_count_state, HistoryEntry}
+use Rattle.avc_decoder_core.proofs.Common.{OpenPicture, Inside, history_of, FrameBufferState, Refuses, output_at_closing, SequenceState}
+use Rattle.avc_decoder_core.proofs.Common.{IsClosed, OpenPictureStart}
 use Rattle.avc_decoder_core.specs.History.{History, decoded_picture, marks_of, pasts, sequence_sps, with_picture}
-use Rattle.avc_decoder_core.specs.Pictures.{output_at_closing}
 use Rattle.avc_decoder_core.specs.SequenceFields.{IsSequenceState, IsStateOf, open_picture_of}
-use Rattle.avc_decoder_core.specs.SequenceState.{SequenceState, IsClosed, OpenPictureStart}
 use Rattle.avc_decoder_core.proofs.Sequences.{CanStore, IsRefusedOn, IsStoredOn, can_store, closing_refused, current_is, is_closed, open_is, refused_on, set_then, state_with}
 use Rattle.avc_decoder_core.proofs.Sequences.{stored_on, unchanged}
 use Rattle.avc_decoder_core.proofs.sequence.Sequence.close.Goals as goal

@@ -1,11 +1,7 @@
-use Rattle.std.proofs.Common.{◌≡◌, ◌∙◌, ap, sym, subst, None, Ok, refl, false, to_z, of_z, w32, rules}
-use Rattle.std.specs.Option.{option_map}
-use Rattle.avc_decoder_core.specs.FrameBufferFields.{history_of}
+use Rattle.avc_decoder_core.proofs.Common.{◌≡◌, ◌∙◌, ap, sym, subst, None, Ok, refl, false, to_z, of_z, w32, rules, option_map, history_of}
+use Rattle.avc_decoder_core.proofs.Common.{IsOpening, SequenceState, Inside}
 use Rattle.avc_decoder_core.specs.History.{history_at_opening}
-use Rattle.avc_decoder_core.specs.Opening.{IsOpening}
 use Rattle.avc_decoder_core.specs.SequenceFields.{IsSequenceState, open_picture_of, sequence_state}
-use Rattle.avc_decoder_core.specs.SequenceState.{SequenceState}
-use Rattle.avc_decoder_core.specs.declared.sequence.Sequence.TheInside.{Inside}
 use Rattle.avc_decoder_core.proofs.Sequences.{at_rest, opened_on, opened_state}
 use Rattle.avc_decoder_core.proofs.sequence.Sequence.open.Goals as goal
 

@@ -1,16 +1,7 @@
-use Rattle.std.proofs.Common.{◌≡◌, ◌∙◌, [], ap, sym, subst, Result, Err, None, false, arith, rules}
-use Rattle.std.specs.Option.{option_map}
-use Rattle.avc_types.specs.declared.fault.Fault.{Fault}
-use Rattle.avc_params.specs.declared.sps.Sps.{Sps}
-use Rattle.avc_poc.specs.OrderCountState.{order_count_state}
-use Rattle.avc_slice.specs.declared.header.Header.{Header}
-use Rattle.avc_decoder_core.specs.FrameBufferFields.{history_of}
+use Rattle.avc_decoder_core.proofs.Common.{◌≡◌, ◌∙◌, [], ap, sym, subst, Result, Err, None, false, arith, rules, option_map, Fault, Sps}
+use Rattle.avc_decoder_core.proofs.Common.{order_count_state, Header, history_of, counts_over, Finds, Opening, SequenceState, Inside}
 use Rattle.avc_decoder_core.specs.History.{pasts, with_missing}
-use Rattle.avc_decoder_core.specs.Opening.{counts_over, Finds}
-use Rattle.avc_decoder_core.specs.declared.opening.Opening.{Opening}
 use Rattle.avc_decoder_core.specs.SequenceFields.{IsSequenceState, open_picture_of, sequence_state}
-use Rattle.avc_decoder_core.specs.SequenceState.{SequenceState}
-use Rattle.avc_decoder_core.specs.declared.sequence.Sequence.TheInside.{Inside}
 use Rattle.avc_decoder_core.proofs.MissingNumbers.{counted_over, finds_idr, finds_other, refused_missing, refused_numbers}
 use Rattle.avc_decoder_core.proofs.Sequences.{at_rest, counted_at_rest}
 use Rattle.avc_decoder_core.proofs.sequence.Sequence.opening.Goals as goal

@@ -1,5 +1,4 @@
-use Rattle.std.proofs.Common.{◌<◌, length, ap, ◌∙◌, sym, subst}
-use Rattle.avc_dpb.specs.Contents.{with_mark}
+use Rattle.avc_dpb.proofs.Common.{◌<◌, length, ap, ◌∙◌, sym, subst, with_mark}
 use Rattle.avc_dpb.proofs.Removing.{changed_read}
 use Rattle.avc_dpb.proofs.dpb.Dpb.mark.Goals as goal
 

@@ -1,7 +1,4 @@
-use Rattle.std.proofs.Common.{subst, refl, false}
-use Rattle.avc_dpb.specs.Contents.{Contents, Stores}
-use Rattle.avc_dpb.specs.Steps.{BumpsWhile}
-use Rattle.avc_dpb.specs.declared.waiting.Bumping.TheVariants.{ForRoom}
+use Rattle.avc_dpb.proofs.Common.{subst, refl, false, Contents, Stores, BumpsWhile, ForRoom}
 use Rattle.avc_dpb.proofs.Standing.{stored}
 use Rattle.avc_dpb.proofs.dpb.Dpb.store.Goals as goal
 

@@ -1,5 +1,4 @@
-use Rattle.std.proofs.Common.{◌≡◌, ◌++◌, ap, sym, subst, ◌∙◌}
-use Rattle.avc_picture.specs.DecoderState.{IsDecoderState}
+use Rattle.avc_picture.proofs.Common.{◌≡◌, ◌++◌, ap, sym, subst, ◌∙◌, IsDecoderState}
 use Rattle.avc_picture.proofs.Kept.{kept-first}
 use Rattle.avc_picture.proofs.decoder.PictureDecoder.begin.Goals as goal
 

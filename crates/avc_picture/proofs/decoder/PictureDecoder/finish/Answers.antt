@@ -1,9 +1,6 @@
-use Rattle.std.proofs.Common.{◌≡◌, None, List, ℕ, sym, subst, ◌∙◌, arith}
-use Rattle.avc_params.specs.Limits.{height_in_mbs, size_in_mbs, width_in_mbs}
-use Rattle.avc_plane.specs.Frames.{padded_planes_of, planes_of, AreSized}
+use Rattle.avc_picture.proofs.Common.{◌≡◌, None, List, ℕ, sym, subst, ◌∙◌, arith, height_in_mbs, size_in_mbs, width_in_mbs}
+use Rattle.avc_picture.proofs.Common.{padded_planes_of, planes_of, AreSized, IsDecoderState, planes_after_slices}
 use Rattle.avc_picture.specs.Decoding.{CanStandAt, Decoding, end_fault, start_at}
-use Rattle.avc_picture.specs.DecoderState.{IsDecoderState}
-use Rattle.avc_picture.specs.Slices.{planes_after_slices}
 use Rattle.avc_picture.proofs.DataAnswers.{none-of}
 use Rattle.avc_picture.proofs.Kept.{agrees, are-sized, differs, first-at-end, missing-at-end, none-at-end, planes-at-end}
 use Rattle.avc_picture.proofs.decoder.PictureDecoder.finish.Goals as goal

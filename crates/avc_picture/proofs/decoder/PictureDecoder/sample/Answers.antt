@@ -1,10 +1,6 @@
-use Rattle.std.proofs.Common.{◌≡◌, ◌<◌, ◌*◌, ℕ, List, arith, sym, subst}
-use Rattle.avc_picture_core.specs.Built.{size_of}
-use Rattle.avc_params.specs.Limits.{height_in_mbs, width_in_mbs}
-use Rattle.avc_plane.specs.Planes.{samples_of}
+use Rattle.avc_picture.proofs.Common.{◌≡◌, ◌<◌, ◌*◌, ℕ, List, arith, sym, subst, size_of, height_in_mbs, width_in_mbs, samples_of}
+use Rattle.avc_picture.proofs.Common.{IsDecoderState, IsCovered, planes_so_far}
 use Rattle.avc_picture.specs.Decoding.{CanStandAt, Decoding, HasNoFault}
-use Rattle.avc_picture.specs.DecoderState.{IsDecoderState}
-use Rattle.avc_picture.specs.OpenPicture.{IsCovered, planes_so_far}
 use Rattle.avc_picture.proofs.Kept.{covered-now, none-kept, sample-now}
 use Rattle.avc_picture.proofs.decoder.PictureDecoder.sample.Goals as goal
 

@@ -1,8 +1,5 @@
-use Rattle.std.proofs.Common.{◌≡◌, List, ap, sym, subst, ◌∙◌, arith}
-use Rattle.avc_slice.specs.Within.{IsHeader}
-use Rattle.avc_slice.specs.declared.slice.Slice.{Slice}
+use Rattle.avc_picture.proofs.Common.{◌≡◌, List, ap, sym, subst, ◌∙◌, arith, IsHeader, Slice, IsDecoderState, IsWellSomewhere}
 use Rattle.avc_picture.specs.Decoding.{AreFramesOf, Decoding, Refuses, with_slice_more}
-use Rattle.avc_picture.specs.DecoderState.{IsDecoderState, IsWellSomewhere}
 use Rattle.avc_picture.proofs.DataAnswers.{none-of}
 use Rattle.avc_picture.proofs.Kept.{refused-again, well-somewhere}
 use Rattle.avc_picture.proofs.decoder.PictureDecoder.slice.Goals as goal

@@ -1,8 +1,5 @@
-use Rattle.std.proofs.Common.{◌≡◌, ◌∙◌, ◌<◌, ◌-◌, ◌/◌, length, sym, ap, subst, arith, rules, w8, to_z, of_z}
-use Rattle.avc_plane.specs.Frames.{planes_of}
-use Rattle.avc_deblock.specs.OneEdge.{HasRoom}
-use Rattle.avc_picture.specs.RowLate.{AreFactsOf, FilterFacts, FiltersUpTo, filtered_rows}
-use Rattle.avc_plane.specs.Frames.{AreSized}
+use Rattle.avc_picture.proofs.Common.{◌≡◌, ◌∙◌, ◌<◌, ◌-◌, ◌/◌, length, sym, ap, subst, arith, rules, w8, to_z, of_z, planes_of, HasRoom}
+use Rattle.avc_picture.proofs.Common.{AreFactsOf, FilterFacts, FiltersUpTo, filtered_rows, AreSized}
 use Rattle.avc_picture.proofs.LastRows.{row_filtered, row_sized, row_of}
 use Rattle.avc_picture.proofs.filter_rows.FilterRows.filter_last_row.Goals as goal
 

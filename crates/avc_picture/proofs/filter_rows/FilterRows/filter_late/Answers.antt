@@ -1,6 +1,5 @@
-use Rattle.std.proofs.Common.{◌≡◌, ◌∙◌, ◌<◌, ◌+◌, ◌-◌, ◌/◌, suc, length, sym, ap, subst, arith, rules, w8, to_z, of_z}
-use Rattle.avc_plane.specs.Frames.{planes_of}
-use Rattle.avc_picture.specs.RowLate.{AreFactsOf, FilterFacts, FiltersUpTo, filtered_rows, rows_filtered}
+use Rattle.avc_picture.proofs.Common.{◌≡◌, ◌∙◌, ◌<◌, ◌+◌, ◌-◌, ◌/◌, suc, length, sym, ap, subst, arith, rules, w8, to_z, of_z, planes_of}
+use Rattle.avc_picture.proofs.Common.{AreFactsOf, FilterFacts, FiltersUpTo, filtered_rows, rows_filtered}
 use Rattle.avc_picture.proofs.LastRows.{row_of, same_row, next_row}
 use Rattle.avc_picture.proofs.filter_rows.FilterRows.filter_late.Goals as goal
 

@@ -1,8 +1,5 @@
-use Rattle.std.proofs.Common.{◌≡◌, ◌∙◌, ◌/◌, refl, sym, ap, subst, arith, length, rules, w8, to_z, of_z}
-use Rattle.avc_plane.specs.Frames.{planes_of}
-use Rattle.avc_picture.specs.FirstMbs.{HoldsFirst, MbsState}
-use Rattle.avc_picture.specs.RowLate.{AreFactsOf, FiltersUpTo, filtered_rows}
-use Rattle.avc_picture.specs.MacroblocksState.{state_of}
+use Rattle.avc_picture.proofs.Common.{◌≡◌, ◌∙◌, ◌/◌, refl, sym, ap, subst, arith, length, rules, w8, to_z, of_z, planes_of, HoldsFirst}
+use Rattle.avc_picture.proofs.Common.{MbsState, AreFactsOf, FiltersUpTo, filtered_rows, state_of}
 use Rattle.avc_picture.proofs.Whole.{filtered_is}
 use Rattle.avc_picture.proofs.macroblocks.Macroblocks.deblocked.Goals as goal
 

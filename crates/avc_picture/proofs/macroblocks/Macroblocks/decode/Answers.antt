@@ -1,13 +1,8 @@
-use Rattle.std.specs.Prelude.{Err, slice_get, suc, [], ◌∷◌, ◌++◌}
-use Rattle.std.proofs.Common.{◌≡◌, ◌∙◌, ◌<◌, ◌*◌, ◌+◌, ℕ, refl, sym, ap, subst, arith, rules, length, add-one, w8, to_z, of_z}
-use Rattle.avc_neigh.specs.Around.{Around, PictureFacts, facts_of, with_facts}
-use Rattle.avc_neigh.specs.BlockNear.{HasModes}
-use Rattle.avc_picture_core.specs.Faults.{macroblock_fault}
-use Rattle.avc_picture.specs.FirstMbs.{HoldsFirst, MbsState}
-use Rattle.avc_plane.specs.Frames.{planes_of}
+use Rattle.avc_picture.proofs.Common.{Err, slice_get, suc, [], ◌∷◌, ◌++◌, ◌≡◌, ◌∙◌, ◌<◌, ◌*◌, ◌+◌, ℕ, refl, sym, ap, subst, arith, rules}
+use Rattle.avc_picture.proofs.Common.{length, add-one, w8, to_z, of_z, Around, PictureFacts, HasModes, macroblock_fault, HoldsFirst}
+use Rattle.avc_picture.proofs.Common.{MbsState, planes_of, AreFactsOf, FilterFacts, FiltersUpTo, filtered_rows, PartsAgree, state_of}
+use Rattle.avc_neigh.specs.Around.{facts_of, with_facts}
 use Rattle.avc_picture_core.specs.CanvasFields.{with_planes}
-use Rattle.avc_picture.specs.RowLate.{AreFactsOf, FilterFacts, FiltersUpTo, filtered_rows}
-use Rattle.avc_picture.specs.MacroblocksState.{PartsAgree, state_of}
 use Rattle.avc_picture.proofs.Keeping.{kept_more}
 use Rattle.avc_picture.proofs.Whole.{late_room}
 use Rattle.avc_picture.proofs.Ranges.{in_range_of, modes_above, modes_left}

@@ -1,9 +1,5 @@
-use Rattle.std.specs.Option.{option_map}
-use Rattle.std.proofs.Common.{◌∙◌, sym, ap, subst, take}
-use Rattle.avc_neigh.specs.Around.{Around}
-use Rattle.avc_mbsyntax.specs.SliceData.{left_total_coeffs, up_total_coeffs}
-use Rattle.avc_picture.specs.FirstMbs.{HoldsFirst, MbsState}
-use Rattle.avc_picture.specs.MacroblocksState.{state_of}
+use Rattle.avc_picture.proofs.Common.{option_map, ◌∙◌, sym, ap, subst, take, Around, left_total_coeffs, up_total_coeffs, HoldsFirst}
+use Rattle.avc_picture.proofs.Common.{MbsState, state_of}
 use Rattle.avc_picture.proofs.Beside.{left_is, up_is}
 use Rattle.avc_picture.proofs.macroblocks.Macroblocks.left_and_above.Goals as goal
 

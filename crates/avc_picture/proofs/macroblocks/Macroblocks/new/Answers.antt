@@ -1,13 +1,5 @@
-use Rattle.std.proofs.Common.{◌≡◌, ◌∙◌, ◌≤◌, ◌*◌, refl, sym, ap, subst, arith, w8, w32, to_z, of_z}
-use Rattle.std.proofs.lemmas.Int.{ints}
-use Rattle.avc_params.specs.Limits.{max_macroblocks, height_in_mbs}
-use Rattle.avc_plane.specs.Planes.{Planes}
-use Rattle.avc_plane.specs.Frames.{planes_of}
-use Rattle.avc_picture.specs.RowLate.{FilterFacts}
-use Rattle.avc_picture_core.specs.Canvas.{CanvasState}
-use Rattle.avc_picture.specs.FirstMbs.{HoldsFirst}
-use Rattle.avc_picture.specs.MacroblocksState.{PartsAgree}
-use Rattle.avc_picture.specs.Sizes.{IsSized}
+use Rattle.avc_picture.proofs.Common.{◌≡◌, ◌∙◌, ◌≤◌, ◌*◌, refl, sym, ap, subst, arith, w8, w32, to_z, of_z, ints, max_macroblocks}
+use Rattle.avc_picture.proofs.Common.{height_in_mbs, Planes, planes_of, FilterFacts, CanvasState, HoldsFirst, PartsAgree, IsSized}
 use Rattle.avc_picture.proofs.Keeping.{holds_none, kept_none, whole_plane}
 use Rattle.avc_picture.proofs.macroblocks.Macroblocks.new.Goals as goal
 

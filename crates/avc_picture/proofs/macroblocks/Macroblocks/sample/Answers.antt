@@ -1,9 +1,5 @@
-use Rattle.std.proofs.Common.{◌∙◌, ◌<◌, ◌*◌, arith, sym, ap, subst}
-use Rattle.avc_plane.specs.Planes.{empty_planes, samples_of}
-use Rattle.avc_picture_core.specs.Built.{size_of}
-use Rattle.avc_picture.specs.FirstMbs.{HoldsFirst, MbsState}
-use Rattle.avc_picture.specs.MacroblocksState.{state_of}
-use Rattle.avc_picture.specs.RowLate.{covering_address, row_late}
+use Rattle.avc_picture.proofs.Common.{◌∙◌, ◌<◌, ◌*◌, arith, sym, ap, subst, empty_planes, samples_of, size_of, HoldsFirst, MbsState}
+use Rattle.avc_picture.proofs.Common.{state_of, covering_address, row_late}
 use Rattle.avc_picture.proofs.LateAgree.{component_columns, component_rows, sample_late}
 use Rattle.avc_picture.proofs.macroblocks.Macroblocks.sample.Goals as goal
 

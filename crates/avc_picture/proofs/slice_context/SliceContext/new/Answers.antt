@@ -1,5 +1,4 @@
-use Rattle.std.proofs.Common.{arith, w32}
-use Rattle.std.proofs.lemmas.Int.{ints}
+use Rattle.avc_picture.proofs.Common.{arith, w32, ints}
 use Rattle.avc_picture.proofs.slice_context.SliceContext.new.Goals as goal
 
 pub returns : goal.returns

@@ -1,8 +1,4 @@
-use Rattle.std.proofs.Common.{rules, refl, ◌≡◌, ◌∙◌, ℤ, w8, to_z, of_z, ap}
-use Rattle.avc_types.specs.MacroblockFields.{syntax_of}
-use Rattle.avc_neigh.specs.Around.{facts_of}
-use Rattle.avc_plane.specs.Frames.{planes_of}
-use Rattle.avc_transform.specs.Residual.{chroma_qp}
+use Rattle.avc_picture_core.proofs.Common.{rules, refl, ◌≡◌, ◌∙◌, ℤ, w8, to_z, of_z, ap, syntax_of, facts_of, planes_of, chroma_qp}
 use Rattle.avc_picture_core.specs.CanvasFields.{with_planes}
 use Rattle.avc_picture_core.proofs.PlaceOn.{canvas_built}
 use Rattle.avc_picture_core.proofs.canvas.Canvas.build.Goals as goal

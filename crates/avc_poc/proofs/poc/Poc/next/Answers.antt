@@ -1,5 +1,4 @@
-use Rattle.std.proofs.Common.{◌≡◌, ap, ◌∙◌, arith, rules}
-use Rattle.avc_poc.specs.OrderCountState.{OrderCountState, after_picture, count_pair, counts_after}
+use Rattle.avc_poc.proofs.Common.{◌≡◌, ap, ◌∙◌, arith, rules, OrderCountState, after_picture, count_pair, counts_after}
 use Rattle.avc_poc.proofs.Answered.{counted}
 use Rattle.avc_poc.proofs.Following.{after_law, counts_law}
 use Rattle.avc_poc.proofs.poc.Poc.next.Goals as goal

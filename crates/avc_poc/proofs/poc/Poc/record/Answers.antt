@@ -1,7 +1,4 @@
-use Rattle.std.proofs.Common.{◌+◌, ap, ◌∙◌}
-use Rattle.std.specs.Result.{is_ok}
-use Rattle.avc_poc.specs.OrderCounts.{counts_from, previous_for}
-use Rattle.avc_poc.specs.OrderCountState.{OrderCountState, picture_offset}
+use Rattle.avc_poc.proofs.Common.{◌+◌, ap, ◌∙◌, is_ok, counts_from, previous_for, OrderCountState, picture_offset}
 use Rattle.avc_poc.proofs.poc.Poc.record.Goals as goal
 
 pub previous_after-self-inside-requires-clause-counted : goal.previous_after-self-inside-requires-clause-counted
