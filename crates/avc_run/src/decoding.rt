@@ -48,21 +48,8 @@ pub(crate) fn run_plain<V: Watch, R: Read, W: Write>(
     run_watched(alloc, output, &I420, watch, reader, writer)
 }
 
-/// Decodes a byte stream (Annex B) in this format. Where it wants no more pictures, the bytes are not read to their end.
-pub fn run_as<F: PictureFormat, R: Read, W: Write>(
-    alloc: Global,
-    output: Output,
-    format: &F,
-    reader: &mut R,
-    writer: &mut W,
-) -> Result<Report, RunFault>
-    ensures { DecodesAs (F.format format.now) output (R.remaining reader.old) (R.remaining reader.new) (W.contents writer.old)
-        (W.contents writer.new) result }
-{
-    run_watched(alloc, output, format, &mut Unwatched, reader, writer)
-}
-
-/// The same, where `watch` is told how far the run is, after each read and at the end.
+/// Decodes a byte stream (Annex B) in this format. Where it wants no more pictures, the bytes are not read to their end. `watch` is told
+/// how far the run is, after each read and at the end.
 pub fn run_watched<F: PictureFormat, V: Watch, R: Read, W: Write>(
     alloc: Global,
     output: Output,

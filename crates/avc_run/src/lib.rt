@@ -20,7 +20,7 @@ mod tests;
 pub use avc_decoder::Output;
 pub use console::{Console, Names, Unwatched, Watch};
 pub use cutting::run_cut;
-pub use decoding::{run, run_as, run_behind, run_watched};
+pub use decoding::{run, run_behind, run_watched};
 pub use exit::{Answer, Ending, answer_status, cut_status, fault_status, status};
 pub use fault::RunFault;
 pub use format::{I420, PictureFormat};
