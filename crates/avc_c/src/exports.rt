@@ -1,5 +1,5 @@
-ghost use Rattle.std.specs.Prelude.{◌≡◌, Some, None};
-ghost use Rattle.avc_decoder.specs.Machine.{after_feed, after_flush};
+ghost use Rattle.std.specs.Prelude.{◌≡◌, Some, None, IfOk};
+ghost use Rattle.avc_decoder.specs.Machine.{after_feed, after_flush, new_machine};
 ghost use Rattle.avc_c.specs.Exports.{IsOpened, IsFed, IsReset, IsTaken, IsI420CopiedOut, IsPlaneCopiedOut, IsCounted};
 ghost use Rattle.avc_c.specs.FaultNames.{IsNamed};
 
@@ -11,7 +11,20 @@ use crate::picture::LastPicture;
 use crate::status::Status;
 use avc_decoder::laws::pictures_are_whole;
 use avc_decoder::{Decoder, Output};
+use avc_types::OutOfMemory;
 use std::alloc::Global;
+
+/// A decoder of no bytes, and with no picture.
+fn new_decoder(alloc: Global, output: Output) -> Result<Box<OpenDecoder>, OutOfMemory>
+    ensures { IfOk result (λ open_decoder. open_decoder.value ≡ record { decoder = new_machine output; picture = None }) }
+{
+    let open = OpenDecoder {
+        decoder: Decoder::new(alloc, output),
+        picture: LastPicture::none(),
+    };
+    let open = Box::new(alloc, open)?;
+    Ok(open)
+}
 
 /// Opens a decoder that is closed.
 #[unsafe(no_mangle)]
@@ -22,11 +35,7 @@ pub extern "C" fn avcdec_open(alloc: Global, decoder: &mut DecoderHandle, early:
         return Status::IsOpen.number();
     }
     let output = if early { Output::Early } else { Output::Full };
-    let open = OpenDecoder {
-        decoder: Decoder::new(alloc, output),
-        picture: LastPicture::none(),
-    };
-    match Box::new(alloc, open) {
+    match new_decoder(alloc, output) {
         Ok(open) => {
             decoder.insert(open);
             Status::Ok.number()
