@@ -1,8 +1,18 @@
 -- The cases of what an open picture gives: each a function of what it is by.
-use Rattle.avc_decoder.proofs.Common.{ℕ, zero, suc, Bool, true, false, List, Option, Some, None, Result, Ok, Err, Fault, is_full, Header}
-use Rattle.avc_decoder.proofs.Common.{OpenPictureFacts, Output, History, output_pictures, Outcome, Phase, failed_at, followed_by, pictures}
-use Rattle.avc_decoder.proofs.Common.{running, OpenPicture, closed_history, progress_on, start_on, Event}
+use Rattle.avc_decoder.proofs.Common.{if◌then◌else◌, ◌≡◌, refl, ℕ, zero, suc, Bool, true, false, List, Option, Some, None, Result, Ok, Err, Fault, is_full}
+use Rattle.avc_decoder.proofs.Common.{Header, OpenPictureFacts, Output, History, output_pictures, Outcome, Phase, failed_at, followed_by}
+use Rattle.avc_decoder.proofs.Common.{pictures, running, OpenPicture, closed_history, progress_on, start_on, Event}
 use Rattle.avc_types.specs.declared.fault.Fault.TheVariants as faults
+
+-- what holds in each case of a test
+pub either : {A : Type 0} (P : A → Type 0) (b : Bool) (x y : A) → (b ≡ true → P x) → (b ≡ false → P y)
+    → P (elim b [ true ↦ x | false ↦ y ])
+either P true x y p q = p refl
+either P false x y p q = q refl
+
+pub if_either : {A : Type 0} (P : A → Type 0) (b : Bool) (x y : A) → P x → P y → P (if b then x else y)
+if_either P true x y p q = p
+if_either P false x y p q = q
 
 -- ---- by the address of its first macroblock, and by what opening gives
 

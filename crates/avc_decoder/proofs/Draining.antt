@@ -1,8 +1,9 @@
 -- The units that were not taken are handled, and with them all.
 use Rattle.std.proofs.Common.{◌≡◌, ◌+◌, ◌<◌, ℕ, zero, suc, Bool, true, false, List, [], ◌∷◌, ◌++◌, length, drop, Option, Some, None, Result, Ok, Err, refl, ap, sym, ◌∙◌, arith, add-one, add-zero, add_assoc, append_assoc, append-nil, le_of_eq, le_trans, length-append, subst}
-use Rattle.avc_decoder.proofs.Common.{◌==◌, IfOk, is_none, is_some, not, slice_get, nat_tests, drop-append_seam, saturated, units, Piece}
-use Rattle.avc_decoder.proofs.Common.{units_stay_first, Output, State, after_unit, at_end, events_from, first_state, read_from, state_after}
-use Rattle.avc_decoder.proofs.Common.{turns, state_through, Machine, IsFeedAnswer, new_machine, next_event, NoMemory}
+use Rattle.avc_decoder.proofs.Common.{ap₂, false≢true, ◌==◌, IfOk, is_none, is_some, not, slice_get, nat_tests, drop-append_seam, saturated}
+use Rattle.avc_decoder.proofs.Common.{units, Piece, units_stay_first, Output, State, after_unit, at_end, events_from, first_state}
+use Rattle.avc_decoder.proofs.Common.{read_from, state_after, turns, state_through, Machine, IsFeedAnswer, new_machine, next_event}
+use Rattle.avc_decoder.proofs.Common.{NoMemory}
 use Rattle.avc_annexb.specs.SplitterState.{SplitterState, after_feed, after_finish, next_unit_of, after_next_unit}
 use Rattle.avc_types.specs.declared.memory.OutOfMemory.{OutOfMemory}
 use Rattle.avc_decoder.specs.Machine as machine
@@ -11,26 +12,22 @@ use Rattle.avc_decoder.proofs.Growing.{events-append, read-append, turns_grow}
 use Rattle.avc_decoder.specs.States.{StreamState, EndsIn, FeedsIn, HandlesAll, IsDecoded, IsDecoderState, more_read, after_units_in_stream, after_stream_end, after_unit_in_stream, stream_state}
 use Rattle.avc_decoder.specs.declared.parts.Parts.{Parts}
 
-drop_some : {A : Type 0} (xs : List A) (n : ℕ) (x : A) → Some x ≡ slice_get xs n → drop n xs ≡ x ∷ drop (suc n) xs
-drop_some [] n x e = cc
-drop_some (y ∷ ys) zero x e = cc
+pub drop_some : {A : Type 0} (xs : List A) (n : ℕ) (x : A) → Some x ≡ slice_get xs n → drop n xs ≡ x ∷ drop (suc n) xs
 drop_some (y ∷ ys) (suc n) x e = drop_some ys n x e
+drop_some _ _ x e = cc e
 
-drop_none : {A : Type 0} (xs : List A) (n : ℕ) → ◌≡◌ {A = Option A} None (slice_get xs n) → drop n xs ≡ []
+pub drop_none : {A : Type 0} (xs : List A) (n : ℕ) → ◌≡◌ {A = Option A} None (slice_get xs n) → drop n xs ≡ []
 drop_none [] zero e = refl
-drop_none [] (suc n) e = refl
-drop_none (y ∷ ys) zero e = cc
 drop_none (y ∷ ys) (suc n) e = drop_none ys n e
+drop_none _ _ e = cc e
 
 -- ---- want of memory
 
 -- more bytes change the machine
 pub some_bytes : (m : Machine) (piece : List ℕ) → (length piece == 0) ≡ false → machine.after_feed piece m ≡ m → ⊥
 some_bytes m piece some same =
-    let long : length (m.bytes ++ piece) ≡ length m.bytes = ap (λ (x : Machine). length x.bytes) same in
-    let sum : length (m.bytes ++ piece) ≡ length m.bytes + length piece = length-append m.bytes piece in
     let positive : 0 < length piece = grind (arith, nat_tests) in
-    absurd (omega (arith, long, sum, positive))
+    omega (arith, ap (λ (x : Machine). length x.bytes) same, length-append m.bytes piece, positive)
 
 pub refused_to : (m after new : Machine) (result : Result (Unit {0}) DecodeError) → m.failed ≡ false → m.ended ≡ false → (after ≡ m → ⊥) → after.output ≡ m.output → result ≡ Err NoMemory
     → new ≡ record after { failed = true } → IsFeedAnswer m after result new
@@ -54,9 +51,10 @@ pub record Left (max : ℕ) (first : SplitterState) (flow : StreamState) (s : Sp
 next_at : (max : ℕ) (first s : SplitterState) → s ≡ record first { taken = s.taken } → first.failed ≡ false → next_unit_of max s ≡ slice_get (units max first.bytes first.ended) s.taken
 next_at max first s e on = ap (next_unit_of max) e ∙ rw on refl
 
-pub one_more : (max : ℕ) (first : SplitterState) (flow : StreamState) (s s1 : SplitterState) (t t1 : StreamState) (u : Piece) → Left max first flow s t → Some u ≡ next_unit_of max s → s1 ≡ after_next_unit s (Some u) → t1 ≡ after_unit_in_stream u t
+pub one_more : {max : ℕ} {first : SplitterState} {flow : StreamState} {s s1 : SplitterState} {t t1 : StreamState} {u : Piece}
+    → Left max first flow s t → Some u ≡ next_unit_of max s → s1 ≡ after_next_unit s (Some u) → t1 ≡ after_unit_in_stream u t
     → Left max first flow s1 t1
-one_more max first flow s s1 t t1 u l e es et =
+one_more {max} {first} {s = s} {t = t} {u = u} l e es et =
     let all = units max first.bytes first.ended in
     let next = drop_some all s.taken u (e ∙ next_at max first s l.splitter l.going) in
     rw (es, et, add-one) (record {
@@ -67,16 +65,16 @@ one_more max first flow s s1 t t1 u l e es et =
     })
 
 -- with no further unit, all were handled
-pub no_more : (max : ℕ) (first : SplitterState) (flow : StreamState) (s s1 : SplitterState) (t : StreamState) → Left max first flow s t → None ≡ next_unit_of max s → s1 ≡ after_next_unit s None
-    → (s1 ≡ record first { taken = first.taken + length (drop first.taken (units max first.bytes first.ended)) })
-    × (t ≡ after_units_in_stream (drop first.taken (units max first.bytes first.ended)) flow)
-no_more max first flow s s1 t l e es =
+pub no_more : {max : ℕ} {first : SplitterState} {flow : StreamState} {s s1 : SplitterState} {t : StreamState} → Left max first flow s t
+    → None ≡ next_unit_of max s → s1 ≡ after_next_unit s None → HandlesAll max first s1 flow t
+no_more {max} {first} {s = s} {t = t} l e es =
     let all = units max first.bytes first.ended in
     let none : drop s.taken all ≡ [] = drop_none all s.taken (e ∙ next_at max first s l.splitter l.going) in
-    let counted : s.taken ≡ first.taken + length (drop first.taken all) = omega (arith, l.counts, ap length none) in (
-      es ∙ l.splitter ∙ ap (λ n. record first { taken = n }) counted,
-      sym (ap (λ us. after_units_in_stream us t) none) ∙ l.handles,
-    )
+    let counted : s.taken ≡ first.taken + length (drop first.taken all) = omega (arith, l.counts, ap length none) in
+    record {
+      splitter = es ∙ l.splitter ∙ ap (λ n. record first { taken = n }) counted;
+      stream = sym (ap (λ us. after_units_in_stream us t) none) ∙ l.handles;
+    }
 
 -- ---- what the handled units come to
 
@@ -115,33 +113,29 @@ handled_all (u ∷ us) f =
       read = λ n e. h.read (n + o.read) (ap (λ m. more_read m o.read) e ∙ held_more n o.read) ∙ ap saturated (add_assoc n o.read rest);
     }
 
--- of all units, so many had been handled
-pub record AllHandled (output : Output) (all : List Piece) (n : ℕ) (t2 : StreamState) (t : StreamState) : Type 0 where
-  pub counted : n + length (drop n all) ≡ length all
-  pub state : t2.state ≡ state_through (first_state output) all
-  pub events : (ended : Bool) → t2.events ++ events_from (state_through (first_state output) all) [] ended ≡ events_from (first_state output) all ended
-  pub taken : t2.taken ≡ t.taken
-  pub read : t2.read ≡ saturated (read_from (first_state output) all)
+-- of all units, so many had been handled, and then the others
+record AllHandled (output : Output) (all : List Piece) (n : ℕ) (t2 t : StreamState) : Type 0 where
+  counted : n + length (drop n all) ≡ length all
+  state : t2.state ≡ state_through (first_state output) all
+  events : t2.events ≡ events_from (first_state output) all false
+  taken : t2.taken ≡ t.taken
+  read : t2.read ≡ saturated (read_from (first_state output) all)
 
 rest_handled : (output : Output) (us more all : List Piece) (n : ℕ) (t t2 : StreamState) → all ≡ us ++ more
     → n ≡ length us → t.state ≡ state_through (first_state output) us
     → t.events ≡ events_from (first_state output) us false
     → t.read ≡ saturated (read_from (first_state output) us) → t2 ≡ after_units_in_stream (drop n all) t → AllHandled output all n t2 t
 rest_handled output us more all n t t2 e len at es er et =
-    let d : drop n all ≡ more = ap (λ m. drop m all) len ∙ ap (drop (length us)) e ∙ drop-append_seam us more in
+    let first = first_state output in
+    let d : drop n all ≡ more = ap₂ drop len e ∙ drop-append_seam us more in
     let h = handled_all more t in
     let is : t2 ≡ after_units_in_stream more t = et ∙ ap (λ ps. after_units_in_stream ps t) d in
-    let state : t2.state ≡ state_through (first_state output) all = ap (λ (f : StreamState). f.state) is ∙ h.state ∙ ap (λ x. state_through x more) at ∙ sym (state_through-append (first_state output) us more) ∙ ap (state_through (first_state output)) (sym e) in
-    let so_far : t2.events ≡ events_from (first_state output) all false =
-    ap (λ (f : StreamState). f.events) is ∙ h.events ∙ ap (λ xs. xs ++ events_from t.state more false) es ∙ ap (λ x. events_from (first_state output) us false ++ events_from x more false) at ∙ sym (events-append (first_state output) us more false)
-    ∙ ap (λ ps. events_from (first_state output) ps false) (sym e) in
     record {
-      counted = ap (λ x. n + length x) d ∙ ap (λ m. m + length more) len ∙ sym (length-append us more) ∙ ap length (sym e);
-      state = state;
-      events = λ ended. ap (λ xs. xs ++ events_from (state_through (first_state output) all) [] ended) so_far ∙ sym (events-append (first_state output) all [] ended) ∙ ap (λ ps. events_from (first_state output) ps ended) (append-nil all);
-      taken = ap (λ (f : StreamState). f.taken) is ∙ h.taken;
-      read = ap (λ (f : StreamState). f.read) is ∙ h.read (read_from (first_state output) us) er ∙ ap (λ x. saturated (read_from (first_state output) us + read_from x more)) at
-          ∙ ap saturated (sym (read-append (first_state output) us more)) ∙ ap (λ ps. saturated (read_from (first_state output) ps)) (sym e);
+      counted = omega (arith, len, ap length d, ap length e, length-append us more);
+      state = cc (is, h.state, at, state_through-append first us more, e);
+      events = cc (is, h.events, es, at, events-append first us more false, e);
+      taken = cc (is, h.taken);
+      read = cc (is, h.read (read_from first us) er, at, read-append first us more, e);
     }
 
 -- The decoder has come to this: all units are handled.
@@ -150,66 +144,57 @@ pub record Decoded (output : Output) (max : ℕ) (bytes : List ℕ) (ended : Boo
   pub bytes_are : s.bytes ≡ bytes
   pub taken_are : t.taken ≡ taken
 
-fed_at : (output : Output) (max : ℕ) (s s2 : SplitterState) (t t2 : StreamState) (piece : List ℕ) → IsDecoded output max s false t → HandlesAll max (record s { bytes = s.bytes ++ piece; ended = false }) s2 t t2 → Decoded output max (s.bytes ++ piece) false t.taken s2 t2
-fed_at output max s s2 t t2 piece d h =
-    let stay = units_stay_first max s.bytes piece false in
-    let all = units max (s.bytes ++ piece) false in
-    let r = rest_handled output (units max s.bytes false) stay.0 all s.taken t t2 stay.1 d.counted
+-- what comes behind the units, where they have ended
+record ClosesTo (ended : Bool) (t2 t3 : StreamState) : Type 0 where
+  state : ended ≡ false → t3.state ≡ t2.state
+  events : t3.events ≡ t2.events ++ events_from t2.state [] ended
+  taken : t3.taken ≡ t2.taken
+  read : t3.read ≡ t2.read
+
+-- the units of these bytes are those before, and more
+decoded_at : (output : Output) (max : ℕ) (s s2 : SplitterState) (t t2 t3 : StreamState) (bytes : List ℕ) (ended : Bool) (more : List Piece)
+    → IsDecoded output max s false t → units max bytes ended ≡ units max s.bytes false ++ more
+    → HandlesAll max (record s { bytes = bytes; ended = ended }) s2 t t2 → ClosesTo ended t2 t3
+    → Decoded output max bytes ended t.taken s2 t3
+decoded_at output max s s2 t t2 t3 bytes ended more d all h closes =
+    let r = rest_handled output (units max s.bytes false) more (units max bytes ended) s.taken t t2 all d.counted
     (d.state refl) d.events d.read h.stream in
+    let events_are = events-append (first_state output) (units max bytes ended) [] ended in
     rw h.splitter (record {
       decoded = record {
         going = d.going;
         ends = refl;
         counted = r.counted;
-        state = λ _. r.state;
-        events = sym
-            (append-nil t2.events) ∙ r.events false;
-        read = r.read;
+        state = λ off. closes.state off ∙ r.state ∙ ap (λ b. state_through (first_state output) (units max bytes b)) off;
+        events =
+            closes.events ∙ ap₂ (λ es x. es ++ events_from x [] ended) r.events r.state ∙ sym events_are
+            ∙ ap (λ us. events_from (first_state output) us ended) (append-nil (units max bytes ended));
+        read = closes.read ∙ r.read;
       };
       bytes_are = refl;
-      taken_are = r.taken;
+      taken_are = closes.taken ∙ r.taken;
     })
 
 decoded_fed : (output : Output) (max : ℕ) (ended : Bool) (s s2 : SplitterState) (t t2 : StreamState) (piece : List ℕ)
     → IsDecoded output max s ended t → ended ≡ false → HandlesAll max (after_feed s piece) s2 t t2
     → Decoded output max (s.bytes ++ piece) ended t.taken s2 t2
 decoded_fed output max true s s2 t t2 piece d e h = cc
-decoded_fed output max false s s2 t t2 piece d e h = fed_at output max s s2 t t2 piece d
-    (subst (λ x. HandlesAll max x s2 t t2) (fed_going s d.ends) h)
-  where
-    fed_going : (x : SplitterState) → x.ended ≡ false → after_feed x piece ≡ record x { bytes = x.bytes ++ piece; ended = false }
-    fed_going x off = rw off refl
-
-finished_at : (output : Output) (max : ℕ) (s s2 : SplitterState) (t t2 t3 : StreamState) → IsDecoded output max s false t → HandlesAll max (record s { ended = true }) s2 t t2 → t3 ≡ after_stream_end t2 → Decoded output max s.bytes true t.taken s2 t3
-finished_at output max s s2 t t2 t3 d h e =
-    let stay = units_stay_first max s.bytes [] true in
-    let all = units max s.bytes true in
-    let r = rest_handled output (units max s.bytes false) stay.0 all s.taken t t2
-    (ap (λ b. units max b true) (sym (append-nil s.bytes)) ∙ stay.1) d.counted
-    (d.state refl) d.events d.read h.stream in
-    rw (h.splitter, e) (record {
-      decoded = record {
-        going = d.going;
-        ends = refl;
-        counted = r.counted;
-        state = λ off. absurd_bool off;
-        events = ap
-            (λ (x : State). t2.events ++ at_end x.output x.phase) r.state ∙ r.events true;
-        read = r.read;
-      };
-      bytes_are = refl;
-      taken_are = r.taken;
-    })
-  where
-    absurd_bool : true ≡ false → (after_stream_end t2).state ≡ state_through (first_state output) (units max s.bytes false)
-    absurd_bool off = cc
+decoded_fed output max false s s2 t t2 piece d e h =
+    let stay = units_stay_first max s.bytes piece false in
+    let fed : after_feed s piece ≡ record s { bytes = s.bytes ++ piece; ended = false } = rw d.ends refl in
+    decoded_at output max s s2 t t2 t2 (s.bytes ++ piece) false stay.0 d stay.1 (subst (λ x. HandlesAll max x s2 t t2) fed h)
+    (record { state = λ _. refl; events = sym (append-nil t2.events); taken = refl; read = refl })
 
 decoded_finished : (output : Output) (max : ℕ) (ended : Bool) (s s2 : SplitterState) (t t2 t3 : StreamState)
     → IsDecoded output max s ended t → ended ≡ false → HandlesAll max (after_finish s) s2 t t2
     → t3 ≡ after_stream_end t2
     → Decoded output max s.bytes true t.taken s2 t3
 decoded_finished output max true s s2 t t2 t3 d e h f = cc
-decoded_finished output max false s s2 t t2 t3 d e h f = finished_at output max s s2 t t2 t3 d h f
+decoded_finished output max false s s2 t t2 t3 d e h f =
+    let stay = units_stay_first max s.bytes [] true in
+    let all = ap (λ b. units max b true) (sym (append-nil s.bytes)) ∙ stay.1 in
+    decoded_at output max s s2 t t2 t3 s.bytes true stay.0 d all h
+    (rw f (record { state = λ off. absurd (false≢true (sym off)); events = refl; taken = refl; read = refl }))
 
 -- ---- the same of the whole decoder
 
@@ -227,14 +212,12 @@ pub ok_so : (P : ℕ → Type 0) (answer answer' : Result ℕ OutOfMemory) (read
 ok_so P answer answer' read is same e = rw (sym same ∙ e) at is
 
 -- a piece more was handled
-pub kept_fed : (output : Output) (max : ℕ) (bytes bytes' piece : List ℕ) (ended : Bool) (taken : ℕ)
-    (running running' : Option (Parts max)) (read read' : ℕ)
+pub kept_fed : {output : Output} {max : ℕ} {bytes : List ℕ} (bytes' piece : List ℕ) {ended : Bool} {taken : ℕ}
+    (running running' : Option (Parts max)) {read read' : ℕ}
     → IsDecoderState max (machine_of output bytes ended taken (is_none running)) running read
     → ended ≡ false → bytes' ≡ bytes ++ piece → FeedsIn max running piece read' running'
     → IsDecoderState max (machine_of output bytes' ended taken (is_none running')) running' read'
-kept_fed output max bytes bytes' piece ended taken None running' read read' i unended given f = absurd f
-kept_fed output max bytes bytes' piece ended taken (Some p) None read read' i unended given f = absurd f
-kept_fed output max bytes bytes' piece ended taken (Some p) (Some p') read read' i unended given f =
+kept_fed {output} {max} bytes' piece {ended} (Some p) (Some p') i unended given f =
     let k = decoded_fed output max ended p.splitter p'.splitter (stream_state p.stream)
     (stream_state p'.stream) piece i.parts.decoded unended f.handles in
     let same : (p'.splitter).bytes ≡ bytes' = k.bytes_are ∙ ap (λ bs. bs ++ piece) i.parts.bytes ∙ sym given in
@@ -242,16 +225,15 @@ kept_fed output max bytes bytes' piece ended taken (Some p) (Some p') read read'
       count_is = f.count ∙ (k.decoded).read ∙ ap (λ bs. turns output max bs ended) same;
       parts = record { works = f.works; decoded = k.decoded; bytes = same; taken = k.taken_are ∙ i.parts.taken };
     }
+kept_fed bytes' piece _ _ i unended given f = absurd f
 
 -- the end was handled
-pub kept_flushed : (output : Output) (max : ℕ) (bytes : List ℕ) (ended : Bool) (taken : ℕ)
-    (running running' : Option (Parts max)) (read read' : ℕ)
+pub kept_flushed : {output : Output} {max : ℕ} {bytes : List ℕ} {ended : Bool} {taken : ℕ}
+    (running running' : Option (Parts max)) {read read' : ℕ}
     → IsDecoderState max (machine_of output bytes ended taken (is_none running)) running read
     → ended ≡ false → EndsIn max running read' running'
     → IsDecoderState max (machine_of output bytes true taken (is_none running')) running' read'
-kept_flushed output max bytes ended taken None running' read read' i unended f = absurd f
-kept_flushed output max bytes ended taken (Some p) None read read' i unended f = absurd f
-kept_flushed output max bytes ended taken (Some p) (Some p') read read' i unended f =
+kept_flushed {output} {max} {bytes} {ended} (Some p) (Some p') i unended f =
     let k = decoded_finished output max ended p.splitter p'.splitter (stream_state p.stream) f.before
     (stream_state p'.stream) i.parts.decoded unended f.handles f.ends in
     let same : (p'.splitter).bytes ≡ bytes = k.bytes_are ∙ i.parts.bytes in
@@ -259,17 +241,17 @@ kept_flushed output max bytes ended taken (Some p) (Some p') read read' i unende
       count_is = f.count ∙ (k.decoded).read ∙ ap (λ bs. turns output max bs true) same;
       parts = record { works = f.works; decoded = k.decoded; bytes = same; taken = k.taken_are ∙ i.parts.taken };
     }
+kept_flushed _ _ i unended f = absurd f
 
 -- memory was refused to a call with these bytes: the count is that before it
-pub kept_refused : (output : Output) (max : ℕ) (bytes bytes' piece : List ℕ) (ended ended' : Bool) (taken : ℕ)
-    (running running' : Option (Parts max)) (read : ℕ)
+pub kept_refused : {output : Output} {max : ℕ} {bytes : List ℕ} (bytes' piece : List ℕ) (ended ended' : Bool) {taken : ℕ}
+    (running running' : Option (Parts max)) {read : ℕ}
     → IsDecoderState max (machine_of output bytes ended taken (is_none running)) running read
     → is_none running ≡ false → ended ≡ false → bytes' ≡ bytes ++ piece → running' ≡ None
     → IsDecoderState max (machine_of output bytes' ended' taken (is_none running')) running' read
-kept_refused output max bytes bytes' piece ended ended' taken None running' read i going unended given none = cc
-kept_refused output max bytes bytes' piece true ended' taken (Some p) running' read i going unended given none = cc
-kept_refused output max bytes bytes' piece false ended' taken (Some p) running' read i going unended given none =
+kept_refused {output} {max} {bytes} bytes' piece false ended' (Some p) running' i going unended given none =
     rw (none, given) (record {
       count_is = le_trans (le_of_eq i.count_is) (turns_grow output max bytes piece ended');
       parts = tt;
     })
+kept_refused bytes' piece _ ended' _ running' i going unended given none = cc

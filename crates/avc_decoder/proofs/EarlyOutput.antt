@@ -8,11 +8,11 @@ use Rattle.avc_decoder.proofs.Common.{followed_by, history_in, in_phase, is_runn
 use Rattle.avc_decoder.proofs.Common.{running, waiting, OpenPicture, Event}
 use Rattle.avc_decoder.specs.EarlyOutput.{EarlyOutputKeepsPictures, EndedSequence, IsNotDropped, IsReorderedWithin, ended_at_closing}
 use Rattle.avc_decoder.specs.EarlyOutput.{ended_by_closing, ended_by_unit, ended_sequence, phase_after_closing, sequences, sequences_from, stopped}
-use Rattle.avc_decoder.proofs.BeginningPictures.{Allows, Fits, Known, fits}
+use Rattle.avc_decoder.proofs.Stepping.{Allows, Fits, brings_step, fits}
 use Rattle.avc_decoder.proofs.Histories.{IsClosed, IsSound, IsSoundOpen, closed_sound, gone}
-use Rattle.avc_decoder.proofs.Through.{state_of}
+use Rattle.avc_decoder.proofs.Growing.{state_of}
 use Rattle.avc_decoder.proofs.Turning.{Goes, IsSoundSequence, Sound, all_in, closed_goes, followed, held_go_out, in_turn, next_turns, no_refusals}
-use Rattle.avc_decoder.proofs.Turning.{pictures_in-append, refusals_in-append, shown_by, stays, stopped_sound}
+use Rattle.avc_decoder.proofs.Turning.{pictures_in-append, refusals_in-append, shown_by, stays, step as turn}
 
 -- ---- a unit
 
@@ -51,7 +51,7 @@ closing_goes sets unit what h o (Err found) s a closed = by_even what.even_after
         (closed_goes h o (Err found) s closed) (next_turns sets unit waiting what.next tt a)
     by_even false = subst (λ ss. Goes (running h (Some o)) ss failed) (sym (append-nil ended)) (closed_goes h o (Err found) s closed)
 
-unit_goes : (sets : Sets) (unit : ℕ) (what : Step) (p : Phase) → Sound p → Fits (open_facts_in p) what
+unit_goes : (sets : Sets) (unit : ℕ) (what : Step) (p : Phase) → Sound p → Fits (open_facts_in p) what.closes what.next
     → Goes p (ended_at_closing what.closes p ++ stopped (phase_after_closing Full what.closes p) (in_phase Full sets unit what p).phase)
     (λ output. in_phase output sets unit what p)
 unit_goes sets unit what waiting s fit = next_turns sets unit waiting what.next s fit
@@ -77,15 +77,11 @@ abbrev ended : Phase → Output → Outcome
 ended p output = record { events = at_end output p; phase = waiting; read = 0 }
 
 held_at_end : (h : History) → IsSound h → Goes (running h None) (ended_sequence h false) (ended (running h None))
-held_at_end h s = record {
-  same_phase = λ output. refl;
-  same_refusals = λ output. no_refusals (held_pictures output h) ∙ sym (no_refusals (held_pictures Full h));
-  hands_out = λ output.
-      ap (λ es. gone output h ++ pictures_in es) (sym (append-nil (pictures (held_pictures output h))))
-      ∙ held_go_out (running h None) [] refl output;
-  each_sound = stopped_sound (running h None) waiting s;
-  sound = tt;
-}
+held_at_end h s =
+    turn (running h None) waiting (λ output. pictures (held_pictures output h)) 0
+    (λ output. no_refusals (held_pictures output h) ∙ sym (no_refusals (held_pictures Full h)))
+    (λ output. ap (λ es. gone output h ++ pictures_in es) (sym (append-nil (pictures (held_pictures output h))))
+    ∙ held_go_out (running h None) [] refl output) s tt
 
 -- What all events up to the end give: in each mode the same refusals, and the pictures of these sequences.
 record Ends (p : Phase) (hs : List EndedSequence) (es : Output → List Event) : Type 0 where
@@ -131,9 +127,9 @@ at_end_ends (running h (Some o)) s = end_by h o (closing_result o) s (λ full e.
 
 -- ---- all units
 
-known : (p : Phase) → Known (is_running p) (open_facts_in p)
-known waiting = refl
-known (running h o) = tt
+known : (p : Phase) → is_running p ≡ false → open_facts_in p ≡ None
+known waiting e = refl
+known (running h o) e = cc
 
 -- the events of units in a mode
 abbrev events_of : (units : List SetUnit) (p : Phase) → List Piece → Output → List Event
@@ -177,7 +173,8 @@ all_end rules (u ∷ us) units p s =
     let what = step sets (is_running p) (open_facts_in p) u in
     let x : Output → Outcome = λ output. in_phase output sets u.index what p in
     let after = units ++ set_units (u ∷ []) in
-    let goes = unit_goes sets u.index what p s (fits rules sets u (is_running p) (open_facts_in p) (known p)) in
+    let brings = brings_step sets (is_running p) (open_facts_in p) u (known p) in
+    let goes = unit_goes sets u.index what p s (fits rules sets u (open_facts_in p) what.closes what.next brings.brings) in
     let hs = sequences_from (state_of Full after (x Full).phase) us in
     one_more after p us (ended_by_unit (state_of Full units p) u) hs x goes
     (all_end rules us after (x Full).phase goes.sound)

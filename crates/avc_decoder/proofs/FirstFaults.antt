@@ -1,7 +1,7 @@
 -- When an open picture's first fault is which.
 use Rattle.avc_decoder.proofs.Common.{◌≡◌, ℕ, Bool, true, false, Some, None, Ok, Err, ap, ◌∙◌, Fault, MissingMacroblocks, is_full, History}
 use Rattle.avc_decoder.proofs.Common.{OpenPicture, first_header, first_slice, history_at_opening_of, progress_on, start_on, closed_history}
-use Rattle.avc_decoder.proofs.Common.{first_fault, history_of, read_of, closing_result}
+use Rattle.avc_decoder.proofs.Common.{first_fault, history_of, read_of, closing_result, at_last_slice, Result}
 
 -- The picture's macroblocks begin at 0, and it stands on this history.
 pub record Stands (o : OpenPicture) (h : History) : Type 0 where
@@ -29,21 +29,15 @@ unopened_read o f a e = cc (a, e)
 pub no_fault : (o : OpenPicture) (h : History) → Stands o h → (progress_on o h).fault ≡ None → first_fault o false ≡ None
 no_fault o h s e = cc (s.first, s.stands, e)
 
-none_closing : (o : OpenPicture) (h h' : History) → Stands o h → (progress_on o h).fault ≡ None → is_full (start_on o h) (progress_on o h) ≡ true → closed_history o h ≡ Ok h'
-    → first_fault o true ≡ None
-none_closing o h h' s e f c = cc (s.first, s.stands, e, f, c)
-
-pub closed_ok : (o : OpenPicture) (h h' : History) → Stands o h → (progress_on o h).fault ≡ None → is_full (start_on o h) (progress_on o h) ≡ true → closed_history o h ≡ Ok h'
-    → closing_result o ≡ Ok h'
-closed_ok o h h' s e f c =
-    let none = none_closing o h h' s e f c in
-    let same : closed_history o (history_of o) ≡ Ok h' = ap (closed_history o) (history_is o h s) ∙ c in
-    cc (none, same)
-
 pub not_full : (o : OpenPicture) (h : History) → Stands o h → (progress_on o h).fault ≡ None → is_full (start_on o h) (progress_on o h) ≡ false
     → closing_result o ≡ Err ((o.last).unit, MissingMacroblocks)
 not_full o h s e f = cc (s.first, s.stands, e, f)
 
-pub marking_fails : (o : OpenPicture) (h : History) (g : Fault) → Stands o h → (progress_on o h).fault ≡ None → is_full (start_on o h) (progress_on o h) ≡ true → closed_history o h ≡ Err g
-    → closing_result o ≡ Err ((o.last).unit, g)
-marking_fails o h g s e f c = cc (s.first, s.stands, e, f, c)
+-- a full picture is closed as the history after it says
+pub closes_by : (o : OpenPicture) (h : History) (r : Result History Fault) → Stands o h → (progress_on o h).fault ≡ None → is_full (start_on o h) (progress_on o h) ≡ true → closed_history o h ≡ r
+    → closing_result o ≡ at_last_slice o r
+closes_by o h (Ok h') s e f c =
+    let none : first_fault o true ≡ None = cc (s.first, s.stands, e, f, c) in
+    let same : closed_history o (history_of o) ≡ Ok h' = ap (closed_history o) (history_is o h s) ∙ c in
+    cc (none, same)
+closes_by o h (Err g) s e f c = cc (s.first, s.stands, e, f, c)

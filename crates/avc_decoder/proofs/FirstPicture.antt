@@ -42,8 +42,7 @@ opens before o first = opened_idr o.sps (first_header o) before first.idr
 
 stands_by : (before : History) (address : ℕ) (counts : Result Counts Fault) → history_by address (opened_on counts before) before ≡ before
 stands_by before zero (Ok c) = refl
-stands_by before zero (Err f) = refl
-stands_by before (suc n) counts = refl
+stands_by before _ counts = refl
 
 -- it stands on that history
 pub stands_on : (before : History) (o : OpenPicture) → IsFirst o → history_of (picture_on before o) ≡ before
@@ -74,8 +73,7 @@ closed_same before o first =
 fault_same : (before : History) (address unit : ℕ) (counts : Result Counts Fault) (a b : History → Option (ℕ × Fault)) → a before ≡ b []
     → fault_by address unit (opened_on counts before) a ≡ fault_by address unit (opened_on counts []) b
 fault_same before zero unit (Ok c) a b e = e
-fault_same before zero unit (Err f) a b e = refl
-fault_same before (suc n) unit counts a b e = refl
+fault_same before _ unit counts a b e = refl
 
 -- by how far it is decoded, and by what closing gives
 abbrev fault_by_parts : OpenPicture → (closing : Bool) → Progress → Result History Fault → Option (ℕ × Fault)
@@ -143,8 +141,7 @@ closed_out : (output : Output) (before full : History) (idr drops : Bool) → id
     ++ output_pictures output (elim idr [ true ↦ [] | false ↦ h ]) full) in
     out before ≡ due output before ++ out []
 closed_out output before full true false e f = map-append (λ p. Picture p) (held_pictures output before) (output_pictures output [] full)
-closed_out output before full true true e f = cc
-closed_out output before full false drops e f = cc
+closed_out output before full _ _ e f = cc (e, f)
 
 closed_by : (output : Output) (before : History) (o : OpenPicture) → IsFirst o → (r : Result History (ℕ × Fault))
     → Gives (due output before) (closed_outcome output (picture_on before o) r) (closed_outcome output (picture_on [] o) r)
@@ -199,10 +196,7 @@ slice_first output before o first base' base already' already is' is =
 abbrev pub StaysInPicture : Next → Type 0
 StaysInPicture (Begins s) = ⊥
 StaysInPicture (Continues s) = (is_p s.header ≡ false) × (is_idr s.header ≡ true)
-StaysInPicture Nothing = Unit {0}
-StaysInPicture (Refusal f) = Unit {0}
-StaysInPicture (FaultOfOpen f) = Unit {0}
-StaysInPicture (FaultOfOwn f) = Unit {0}
+StaysInPicture _ = Unit {0}
 
 abbrev pub KeepsPicture : (closes : Bool) → Next → Type 0
 KeepsPicture true n = Unit {0}

@@ -1,7 +1,30 @@
--- The events of a stream's units, one after another.
+-- The events of a stream's units, one after another, and the state after them.
 use Rattle.avc_decoder.proofs.Common.{◌≡◌, ℕ, ◌+◌, ◌≤◌, Bool, false, List, [], ◌∷◌, ◌++◌, refl, ap, arith, sym, ◌∙◌, add_assoc}
-use Rattle.avc_decoder.proofs.Common.{append_assoc, UnitsStay, units, units_stay_first, Unit, Output, State, after_unit, state_after}
-use Rattle.avc_decoder.proofs.Common.{events_from, first_state, read_from, turns, EventsOnlyGrow, state_through}
+use Rattle.avc_decoder.proofs.Common.{append_assoc, append-nil, UnitsStay, units, units_stay_first, Unit, SetUnit, set_units, Output, Phase}
+use Rattle.avc_decoder.proofs.Common.{State, after_unit, state_after, events_from, first_state, read_from, turns, EventsOnlyGrow}
+use Rattle.avc_decoder.proofs.Common.{state_through}
+
+-- ---- the state
+
+-- in this mode and phase, after these units with parameter sets
+abbrev pub state_of : Output → List SetUnit → Phase → State
+state_of output units p = record { output = output; sets = units; phase = p }
+
+-- one unit's sets, and then the others'
+pub sets-append : (a b c : List SetUnit) → (a ++ (b ++ [])) ++ c ≡ a ++ (b ++ c)
+sets-append a b c = append_assoc a (b ++ []) c ∙ ap (λ m. a ++ m) (append_assoc b [] c)
+
+-- those that came, and then what the units bring
+pub sets_through : (s : State) (us : List Unit) → (state_through s us).sets ≡ s.sets ++ set_units us
+sets_through s [] = sym (append-nil s.sets)
+sets_through s (u ∷ us) = sets_through (state_after s u (after_unit s u)) us ∙ sets-append s.sets _ (set_units us)
+
+-- the mode stays
+pub output_through : (s : State) (us : List Unit) → (state_through s us).output ≡ s.output
+output_through s [] = refl
+output_through s (u ∷ us) = output_through (state_after s u (after_unit s u)) us
+
+-- ---- the events
 
 -- of some units and then others
 pub events-append : (s : State) (us vs : List Unit) (ended : Bool) → events_from s (us ++ vs) ended ≡ events_from s us false ++ events_from (state_through s us) vs ended

@@ -1,11 +1,11 @@
 -- What is known of a slice header that can be read, and of the unit that it stands in.
 use Rattle.avc_decoder.proofs.Common.{◌≡◌, ℕ, ◌+◌, ◌/◌, ◌%◌, Bool, true, false, not, ◌==◌, ◌&&◌, ◌||◌, nat_lt, List, Option, Some, None}
-use Rattle.avc_decoder.proofs.Common.{Result, Ok, Err, is_some, refl, ap, sym, subst, ◌∙◌, eqb-true, Fault, forbidden_zero_bit}
-use Rattle.avc_decoder.proofs.Common.{nal_unit_type, Piece, size_in_mbs, Sets, Pps, Sps, begins, is_idr, is_p_type, back, coded_order}
-use Rattle.avc_decoder.proofs.Common.{filtering, found, front, header_in_rbsp, header_of, idr_pic_id, list_part, marking, numbers}
-use Rattle.avc_decoder.proofs.Common.{redundant_pic_cnt, slice_type_of, value_or_fault, Header, Slice, is_start, reads_zero, rbsp_of}
-use Rattle.avc_decoder.proofs.Common.{slice_in, with_header, ok_same, both, sets_named}
-use Rattle.std.proofs.Math.Bool.{or-true}
+use Rattle.avc_decoder.proofs.Common.{first_so, second_so, Result, Ok, Err, is_some, refl, ap, sym, subst, ◌∙◌, eqb-true, Fault}
+use Rattle.avc_decoder.proofs.Common.{forbidden_zero_bit, nal_unit_type, Piece, size_in_mbs, Sets, Pps, Sps, begins, is_idr, is_p_type}
+use Rattle.avc_decoder.proofs.Common.{back, coded_order, filtering, found, front, header_in_rbsp, header_of, idr_pic_id, list_part, marking}
+use Rattle.avc_decoder.proofs.Common.{numbers, redundant_pic_cnt, slice_type_of, value_or_fault, Header, Slice, is_start, reads_zero}
+use Rattle.avc_decoder.proofs.Common.{rbsp_of, slice_in, with_header, ok_same, both, sets_named}
+use Rattle.std.proofs.lemmas.Bool.{not-true}
 use Rattle.avc_types.specs.declared.fault.Fault.TheVariants as faults
 use Rattle.avc_bits.specs.Bits.{Bits, Read, ◌>>=◌, check, start, where_set}
 use Rattle.avc_bits.specs.Codes.{u, ue, ue_to}
@@ -102,6 +102,10 @@ pub record IsRead (header : ℕ) (sets : Sets) (rbsp : List ℕ) (h : Header) : 
   pub address : reads_zero (ue (start rbsp)) ≡ true → h.first_mb_in_slice ≡ 0
   pub of_idr : (header % 32 == 5) ≡ true → is_idr h ≡ true
 
+value_is : (x : Result (Header × Bits) Fault) (h : Header) → value_or_fault x ≡ Ok h → (r : Header × Bits) × (x ≡ Ok r) × (r.0 ≡ h)
+value_is (Ok r) h e = (r, refl, ok_same r.0 h e)
+value_is (Err f) h e = cc
+
 abbrev named_in : Sets → Option Pps → Option (Pps × Sps)
 named_in sets p = elim p [ None ↦ None | Some pps ↦ both (Some pps) (sets.sps pps.seq_parameter_set_id) ]
 
@@ -110,32 +114,30 @@ named_by : (sets : Sets) (o : Option Pps) (pps : Pps) (sps : Sps) → o ≡ Some
     → is_some (named_in sets o) ≡ true
 named_by sets o pps sps e f = ap (λ p. is_some (named_in sets p)) e ∙ ap (λ s. is_some (both (Some pps) s)) f
 
+header_is : (header : ℕ) (sets : Sets) (rbsp : List ℕ) (r : Header × Bits) → header_of header sets (start rbsp) ≡ Ok r
+    → IsRead header sets rbsp r.0
+header_is header sets rbsp r is =
+    let nal_ref_idc = header / 32 % 4 in
+    let idr = header % 32 == 5 in
+    let g = are_read (front nal_ref_idc idr) _ (start rbsp) r is in
+    let pps = are_read (found (sets.pps (g.value).pic_parameter_set_id) faults.NoParameterSet) _ g.rest r g.then_read in
+    let sps = are_read (found (sets.sps (pps.value).seq_parameter_set_id) faults.NoParameterSet) _ pps.rest r pps.then_read in
+    let has = back_has nal_ref_idc idr g.value pps.value sps.value sps.rest r sps.then_read in
+    let begun = front_begins nal_ref_idc idr (start rbsp) (g.value, g.rest) g.first in
+    let pps_read = found_is (sets.pps (g.value).pic_parameter_set_id) faults.NoParameterSet g.rest (pps.value, pps.rest) pps.first in
+    let pps_there = ap sets.pps (sym has.pps_id) ∙ pps_read in
+    let sps_there = found_is (sets.sps (pps.value).seq_parameter_set_id) faults.NoParameterSet pps.rest (sps.value, sps.rest) sps.first in
+    record {
+      named = named_by sets (sets.pps (r.0).pic_parameter_set_id) pps.value sps.value pps_there sps_there;
+      address = λ zero_read. sym has.address ∙ eqb-true (g.value).first_mb_in_slice 0 (sym (ap reads_zero begun.is_read) ∙ zero_read);
+      of_idr = has.of_idr;
+    }
+
 pub read_is : (header : ℕ) (sets : Sets) (rbsp : List ℕ) (h : Header) → header_in_rbsp header sets rbsp ≡ Ok h
     → IsRead header sets rbsp h
 read_is header sets rbsp h e =
-    by_result (header_of header sets (start rbsp)) refl e
-  where
-    of_parts : (r : Header × Bits) → header_of header sets (start rbsp) ≡ Ok r → IsRead header sets rbsp r.0
-    of_parts r is =
-        let nal_ref_idc = header / 32 % 4 in
-        let idr = header % 32 == 5 in
-        let g = are_read (front nal_ref_idc idr) _ (start rbsp) r is in
-        let pps = are_read (found (sets.pps (g.value).pic_parameter_set_id) faults.NoParameterSet) _ g.rest r g.then_read in
-        let sps = are_read (found (sets.sps (pps.value).seq_parameter_set_id) faults.NoParameterSet) _ pps.rest r pps.then_read in
-        let has = back_has nal_ref_idc idr g.value pps.value sps.value sps.rest r sps.then_read in
-        let begun = front_begins nal_ref_idc idr (start rbsp) (g.value, g.rest) g.first in
-        let pps_read = found_is (sets.pps (g.value).pic_parameter_set_id) faults.NoParameterSet g.rest (pps.value, pps.rest) pps.first in
-        let pps_there = ap sets.pps (sym has.pps_id) ∙ pps_read in
-        let sps_there = found_is (sets.sps (pps.value).seq_parameter_set_id) faults.NoParameterSet pps.rest (sps.value, sps.rest) sps.first in
-        record {
-          named = named_by sets (sets.pps (r.0).pic_parameter_set_id) pps.value sps.value pps_there sps_there;
-          address = λ zero_read. sym has.address ∙ eqb-true (g.value).first_mb_in_slice 0 (sym (ap reads_zero begun.is_read) ∙ zero_read);
-          of_idr = has.of_idr;
-        }
-
-    by_result : (x : Result (Header × Bits) Fault) → header_of header sets (start rbsp) ≡ x → value_or_fault x ≡ Ok h → IsRead header sets rbsp h
-    by_result (Ok r) is e' = subst (IsRead header sets rbsp) (ok_same r.0 h e') (of_parts r is)
-    by_result (Err f) is e' = cc
+    let r = value_is (header_of header sets (start rbsp)) h e in
+    subst (IsRead header sets rbsp) r.2 (header_is header sets rbsp r.0 r.1)
 
 -- ---- the slice of a unit
 
@@ -145,22 +147,19 @@ pub record IsOfUnit (sets : Sets) (u : Piece) (s : Slice) : Type 0 where
   pub there : rbsp_of u ≡ Some rbsp
   pub is_read : header_in_rbsp u.header sets rbsp ≡ Ok s.header
 
-pub slice_of_unit : (sets : Sets) (u : Piece) (s : Slice) → slice_in sets u ≡ Ok s → IsOfUnit sets u s
-slice_of_unit sets u s e = by_rbsp (rbsp_of u) refl e
-  where
-    by_header : (bytes : List ℕ) → rbsp_of u ≡ Some bytes → (h : Result Header Fault) → header_in_rbsp u.header sets bytes ≡ h
-        → with_header u bytes h ≡ Ok s → IsOfUnit sets u s
-    by_header bytes there (Ok h) is e' =
-        record { rbsp = bytes; there = there; is_read = is ∙ ap (λ (t : Slice). Ok t.header) (ok_same _ s e') }
-    by_header bytes there (Err f) is e' = cc
+some_read : {A B : Type 0} (o : Option A) (f : Fault) (read : A → Result B Fault) (s : B)
+    → ◌≡◌ {A = Result B Fault} (elim o [ None ↦ Err f | Some a ↦ read a ]) (Ok s) → (a : A) × (o ≡ Some a) × (read a ≡ Ok s)
+some_read None f read s e = cc
+some_read (Some a) f read s e = (a, refl, e)
 
-    by_rbsp : (o : Option (List ℕ)) → rbsp_of u ≡ o
-        → ◌≡◌ {A = Result Slice Fault} (elim o [
-          | None ↦ Err faults.NalTooLong
-          | Some bytes ↦ with_header u bytes (header_in_rbsp u.header sets bytes)
-        ]) (Ok s) → IsOfUnit sets u s
-    by_rbsp None there e' = cc
-    by_rbsp (Some bytes) there e' = by_header bytes there (header_in_rbsp u.header sets bytes) refl e'
+header_read : (u : Piece) (bytes : List ℕ) (h : Result Header Fault) (s : Slice) → with_header u bytes h ≡ Ok s → h ≡ Ok s.header
+header_read u bytes (Ok h) s e = ap (λ (t : Slice). Ok t.header) (ok_same _ s e)
+header_read u bytes (Err f) s e = cc
+
+pub slice_of_unit : (sets : Sets) (u : Piece) (s : Slice) → slice_in sets u ≡ Ok s → IsOfUnit sets u s
+slice_of_unit sets u s e =
+    let some = some_read (rbsp_of u) faults.NalTooLong (λ bytes. with_header u bytes (header_in_rbsp u.header sets bytes)) s e in
+    record { rbsp = some.0; there = some.1; is_read = header_read u some.0 (header_in_rbsp u.header sets some.0) s some.2 }
 
 -- ---- a unit to start with
 
@@ -170,33 +169,17 @@ pub record Starts (u : Piece) : Type 0 where
   pub reads : (rbsp : List ℕ) → rbsp_of u ≡ Some rbsp → reads_zero (ue (start rbsp)) ≡ true
 
 pub starts : (u : Piece) → is_start u ≡ true → Starts u
-starts u e = by_test (forbidden_zero_bit u.header) refl (nal_unit_type u.header == 5) refl e
-  where
-    zero_in : Option (List ℕ) → Bool
-    zero_in o = elim o [ None ↦ false | Some bytes ↦ reads_zero (ue (start bytes)) ]
-
-    by_test : (f : Bool) → forbidden_zero_bit u.header ≡ f → (t : Bool) → (nal_unit_type u.header == 5) ≡ t
-        → (not f && t && zero_in (rbsp_of u)) ≡ true → Starts u
-    by_test true f_is t t_is e' = cc
-    by_test false f_is false t_is e' = cc
-    by_test false f_is true t_is e' =
-        record { allowed = f_is; of_idr = eqb-true (nal_unit_type u.header) 5 t_is; reads = λ rbsp there. sym (ap zero_in there) ∙ e' }
+starts u e =
+    let zero_in : Option (List ℕ) → Bool = λ o. elim o [ None ↦ false | Some bytes ↦ reads_zero (ue (start bytes)) ] in
+    let allowed = not (forbidden_zero_bit u.header) in
+    let both_so = first_so (allowed && nal_unit_type u.header == 5) (zero_in (rbsp_of u)) e in
+    record {
+      allowed = not-true (forbidden_zero_bit u.header) (first_so allowed (nal_unit_type u.header == 5) both_so);
+      of_idr = eqb-true (nal_unit_type u.header) 5 (second_so allowed (nal_unit_type u.header == 5) both_so);
+      reads = λ rbsp there. sym (ap zero_in there) ∙ second_so (allowed && nal_unit_type u.header == 5) (zero_in (rbsp_of u)) e;
+    }
 
 -- ---- slices of one picture
-
--- A slice that continues an IDR picture is one of an IDR picture.
-by_idr : (g h : Header) (a b : Option ℕ) → is_some a ≡ true
-    → begins (record g { idr_pic_id = a }) (record h { idr_pic_id = b }) ≡ false
-    → is_some b ≡ true
-by_idr g h None b i e = cc
-by_idr g h (Some a) (Some b) i e = refl
-by_idr g h (Some a) None i e = absurd_or _ e
-  where
-    absurd_or : (front : Bool) → (front || true) ≡ false → false ≡ true
-    absurd_or front e' = sym e' ∙ or-true front
-
-pub idr_continues : (g h : Header) → is_idr g ≡ true → begins g h ≡ false → is_idr h ≡ true
-idr_continues g h i e = by_idr g h g.idr_pic_id h.idr_pic_id i e
 
 -- One whose first_mb_in_slice is 0 begins a picture.
 pub begins_at_zero : (g h : Header) → h.first_mb_in_slice ≡ 0 → begins g h ≡ true

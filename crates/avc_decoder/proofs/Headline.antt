@@ -1,7 +1,9 @@
--- What replies tell of the stream.
+-- What calls and replies tell of the stream.
 use Rattle.avc_decoder.proofs.Common.{◌≡◌, ℕ, ◌+◌, Bool, true, false, List, [], ◌∷◌, ◌++◌, length, Some, None, Ok, Err, slice_get, refl, ap}
-use Rattle.avc_decoder.proofs.Common.{sym, subst, ◌∙◌, append_assoc, append-nil, length-append, Output, events, EventsOnlyGrow, Machine}
-use Rattle.avc_decoder.proofs.Common.{new_machine, Run, IsCallAnswer, after_flush, after_take, next_event, Call, Reply, Ended, Event}
+use Rattle.avc_decoder.proofs.Common.{drop, suc, drop-append_seam, sym, subst, ◌∙◌, append_assoc, append-nil, length-append, Output, events}
+use Rattle.avc_decoder.proofs.Common.{EventsOnlyGrow, Machine, new_machine, Run, IsCallAnswer, after_flush, after_take, next_event, Call}
+use Rattle.avc_decoder.proofs.Common.{Reply, Ended, Event}
+use Rattle.avc_decoder.proofs.Draining.{drop_none, drop_some}
 use Rattle.avc_decoder.specs.Headline.{SinceReset, no_call, with_call, since_reset, defined_events, TakesThem, TakesAll}
 use Rattle.avc_decoder.specs.Machine.{IsRefused, after_feed}
 use Rattle.avc_decoder.specs.declared.calls.Call.TheVariants.{Feed, Take, Flush, Reset}
@@ -26,19 +28,13 @@ pub record Tells (output : Output) (max : ℕ) (m : Machine) (s : SinceReset) : 
 -- ---- the first that were not taken
 
 next_is : {A : Type 0} (front others : List A) (x : A) → slice_get (front ++ others) (length front) ≡ Some x → (rest : List A) × (others ≡ x ∷ rest)
-next_is [] [] x e = cc
-next_is [] (y ∷ others) x e = (others, let same : y ≡ x = cc in ap (λ z. z ∷ others) same)
-next_is (y ∷ front) others x e = next_is front others x e
+next_is front others x e =
+    (drop (suc (length front)) (front ++ others), sym (drop-append_seam front others) ∙ drop_some (front ++ others) (length front) x (sym e))
 
 none_left : {A : Type 0} (front others : List A) → slice_get (front ++ others) (length front) ≡ None → others ≡ []
-none_left [] [] e = refl
-none_left [] (y ∷ others) e = cc
-none_left (y ∷ front) others e = none_left front others e
+none_left front others e = sym (drop-append_seam front others) ∙ drop_none (front ++ others) (length front) (sym e)
 
 -- ---- one call
-
-unchanged : (output : Output) (max : ℕ) (m m' : Machine) (s : SinceReset) → m' ≡ m → Tells output max m s → Tells output max m' s
-unchanged output max m m' s e t = subst (λ n. Tells output max n s) (sym e) t
 
 refused_fails : (before : Bool) (old after new : Machine) → old.failed ≡ before → new ≡ elim before [ true ↦ old | false ↦ record after { failed = true } ] → new.failed ≡ true
 refused_fails true old after new was e = ap (λ (m : Machine). m.failed) e ∙ was
@@ -101,49 +97,33 @@ taken_tells output max m s e going is t =
     }
 
 at_first : (output : Output) (max : ℕ) (m : Machine) → m ≡ new_machine output → Tells output max m no_call
-at_first output max m e = unchanged output max (new_machine output) m no_call e (record {
+at_first output max m e = rw e (record {
   agrees = λ _. record { bytes = refl; ended = refl; taken = refl };
   mode = refl;
   first = (events output max [] false, refl);
 })
 
 answered : EventsOnlyGrow → (output : Output) (max : ℕ) (m m' : Machine) (s : SinceReset) (call : Call) (reply : Reply) → Tells output max m s → IsCallAnswer max m call reply m' → Tells output max m' (with_call s call reply)
-answered grow output max m m' s (Feed piece) (replies.Fed (Ok done)) t g =
-    unchanged output max (after_feed piece m) m' (record s { bytes = s.bytes ++ piece }) g.2 (fed_tells grow output max m s piece g.0 g.1 t)
-answered grow output max m m' s (Feed piece) (replies.Fed (Err Ended)) t g = unchanged output max m m' s g.2 t
+answered grow output max m m' s (Feed piece) (replies.Fed (Ok done)) t g = rw g.2 (fed_tells grow output max m s piece g.0 g.1 t)
+answered grow output max m m' s (Feed piece) (replies.Fed (Err Ended)) t g = rw g.2 t
 answered grow output max m m' s (Feed piece) (replies.Fed (Err OutOfMemory)) t g = refused_tells output max m (after_feed piece m) m' s g g.output t
-answered grow output max m m' s (Feed piece) (replies.Taken answer) t g = absurd g
-answered grow output max m m' s (Feed piece) (replies.Flushed answer) t g = absurd g
-answered grow output max m m' s (Feed piece) replies.Reset t g = absurd g
-answered grow output max m m' s Take (replies.Taken (Ok (Some e))) t g =
-    unchanged output max (after_take (Some e) m) m' (record s { taken = s.taken ++ e ∷ [] }) g.2 (taken_tells output max m s e g.0 g.1 t)
-answered grow output max m m' s Take (replies.Taken (Ok None)) t g = unchanged output max m m' s g.2 t
-answered grow output max m m' s Take (replies.Taken (Err OutOfMemory)) t g = unchanged output max m m' s g.1 t
-answered grow output max m m' s Take (replies.Taken (Err Ended)) t g = absurd g
-answered grow output max m m' s Take (replies.Fed answer) t g = absurd g
-answered grow output max m m' s Take (replies.Flushed answer) t g = absurd g
-answered grow output max m m' s Take replies.Reset t g = absurd g
-answered grow output max m m' s Flush (replies.Flushed (Ok done)) t g =
-    unchanged output max (after_flush m) m' (record s { ended = true }) g.2 (flushed_tells grow output max m s g.0 g.1 t)
-answered grow output max m m' s Flush (replies.Flushed (Err Ended)) t g = unchanged output max m m' s g.2 t
+answered grow output max m m' s Take (replies.Taken (Ok (Some e))) t g = rw g.2 (taken_tells output max m s e g.0 g.1 t)
+answered grow output max m m' s Take (replies.Taken (Ok None)) t g = rw g.2 t
+answered grow output max m m' s Take (replies.Taken (Err OutOfMemory)) t g = rw g.1 t
+answered grow output max m m' s Flush (replies.Flushed (Ok done)) t g = rw g.2 (flushed_tells grow output max m s g.0 g.1 t)
+answered grow output max m m' s Flush (replies.Flushed (Err Ended)) t g = rw g.2 t
 answered grow output max m m' s Flush (replies.Flushed (Err OutOfMemory)) t g = refused_tells output max m (after_flush m) m' s g g.output t
-answered grow output max m m' s Flush (replies.Fed answer) t g = absurd g
-answered grow output max m m' s Flush (replies.Taken answer) t g = absurd g
-answered grow output max m m' s Flush replies.Reset t g = absurd g
 answered grow output max m m' s Reset replies.Reset t g = at_first output max m' (g ∙ ap new_machine t.mode)
-answered grow output max m m' s Reset (replies.Fed answer) t g = absurd g
-answered grow output max m m' s Reset (replies.Taken answer) t g = absurd g
-answered grow output max m m' s Reset (replies.Flushed answer) t g = absurd g
+answered grow output max m m' s call reply t g = absurd g
 
 -- ---- any calls
 
 run_tells : EventsOnlyGrow → (output : Output) (max : ℕ) (m last : Machine) (s : SinceReset) (calls : List Call) (answers : List Reply) → Tells output max m s → Run max m calls answers last →
     Tells output max last (since_reset s calls answers)
-run_tells grow output max m last s [] [] t r = unchanged output max m last s r t
+run_tells grow output max m last s [] [] t r = rw r t
 run_tells grow output max m last s (call ∷ calls) (reply ∷ answers) t r =
     run_tells grow output max r.0 last (with_call s call reply) calls answers (answered grow output max m r.0 s call reply t r.1) r.2
-run_tells grow output max m last s [] (reply ∷ answers) t r = absurd r
-run_tells grow output max m last s (call ∷ calls) [] t r = absurd r
+run_tells grow output max m last s _ _ t r = absurd r
 
 pub takes_them : EventsOnlyGrow → TakesThem
 takes_them grow output max calls answers last r = (run_tells grow output max (new_machine output) last no_call calls answers (at_first output max (new_machine output) refl) r).first
@@ -155,3 +135,11 @@ takes_all grow output max calls answers before last r none =
     let g = none.1 in
     let left = none_left s.taken t.first.0 (sym (g.1 ∙ next_by output max before s t.mode (t.agrees g.0) t.first)) in
     t.first.1 ∙ ap (λ os. s.taken ++ os) left ∙ append-nil s.taken
+
+-- ---- one call more
+
+pub run_more : (max : ℕ) (calls : List Call) (replies : List Reply) (old between new : Machine) (call : Call) (reply : Reply) → Run max old calls replies between → IsCallAnswer max between call reply new
+    → Run max old (calls ++ call ∷ []) (replies ++ reply ∷ []) new
+run_more max [] [] old between new call reply r s = (new, subst (λ (m : Machine). IsCallAnswer max m call reply new) r s, refl)
+run_more max (x ∷ xs) (y ∷ ys) old between new call reply r s = (r.0, r.1, run_more max xs ys r.0 between new call reply r.2 s)
+run_more max _ _ old between new call reply r s = absurd r

@@ -104,60 +104,58 @@ pub record Grows (h full : History) : Type 0 where
   pub follows : Follows h full
   pub sound : IsSound full
 
-unchanged : (h : History) → IsSound h → Grows h h
-unchanged h s = record { follows = record { more = []; is = refl }; sound = s }
-
-missing_grows : (sps : Sps) (numbers : List ℕ) (h full : History) → IsSound h → with_missing sps numbers h ≡ Ok full → Grows h full
-missing_grows sps [] h full s e = subst (Grows h) (ok_same h full e) (unchanged h s)
-missing_grows sps (n ∷ numbers) h full s e =
-    by_marks (marks_of (missing_frame sps n ∷ h)) refl (missing_grows sps numbers (missing_frame sps n ∷ h) full) e
+-- What holds of a history, and still with a missing frame more that can be marked, holds once missing numbers are taken in.
+missing_keeps : (P : History → Type 0) (sps : Sps)
+    → ((n : ℕ) (x : History) → P x → is_ok (marks_of (missing_frame sps n ∷ x)) ≡ true → P (missing_frame sps n ∷ x))
+    → (numbers : List ℕ) (h full : History) → P h → with_missing sps numbers h ≡ Ok full → P full
+missing_keeps P sps more [] h full p e = subst P (ok_same h full e) p
+missing_keeps P sps more (n ∷ numbers) h full p e =
+    by_marks (marks_of (missing_frame sps n ∷ h)) refl (missing_keeps P sps more numbers (missing_frame sps n ∷ h) full) e
   where
-    x : History
-    x = missing_frame sps n ∷ h
-
-    by_marks : (r : Result Marks Fault) → marks_of x ≡ r → (IsSound x → with_missing sps numbers x ≡ Ok full → Grows x full)
-        → (r >>= λ m. with_missing sps numbers x) ≡ Ok full → Grows h full
-    by_marks (Ok m) is others e' =
-        let more = others (record { each = s.each; marked = ap is_ok is }) e' in
-        record {
-          follows = record {
-            more = more.follows.more ++ missing_frame sps n ∷ [];
-            is = more.follows.is ∙ sym (append_assoc more.follows.more (missing_frame sps n ∷ []) h);
-          };
-          sound = more.sound;
-        }
+    by_marks : (r : Result Marks Fault) → marks_of (missing_frame sps n ∷ h) ≡ r
+        → (P (missing_frame sps n ∷ h) → with_missing sps numbers (missing_frame sps n ∷ h) ≡ Ok full → P full)
+        → (r >>= λ m. with_missing sps numbers (missing_frame sps n ∷ h)) ≡ Ok full → P full
+    by_marks (Ok m) is others e' = others (more n h p (ap is_ok is)) e'
     by_marks (Err f) is others e' = cc
+
+-- The same of the history before the open picture, and of that on which it stands.
+pub base_keeps : (P : History → Type 0) (o : OpenPicture)
+    → ((n : ℕ) (x : History) → P x → is_ok (marks_of (missing_frame o.sps n ∷ x)) ≡ true → P (missing_frame o.sps n ∷ x))
+    → P o.before → P (history_of o)
+base_keeps P o more p = by_address (first_header o).first_mb_in_slice (history_at_opening_of o) opening_keeps
+  where
+    opening_keeps : (h : History) → history_at_opening_of o ≡ Ok h → P h
+    opening_keeps h e =
+        let opened = opened_by o.sps (first_header o) o.before h e in
+        missing_keeps P o.sps more opened.numbers o.before h p opened.missing
+
+    by_address : (address : ℕ) (opened : Result History Fault) → ((h : History) → opened ≡ Ok h → P h)
+        → P (history_by address opened o.before)
+    by_address zero (Ok h) keeps = keeps h refl
+    by_address _ opened keeps = p
 
 -- the history on which the open picture stands
 pub base_grows : (o : OpenPicture) → IsSound o.before → Grows o.before (history_of o)
-base_grows o s = by_address (first_header o).first_mb_in_slice (history_at_opening_of o) opening_grows
-  where
-    opening_grows : (h : History) → history_at_opening_of o ≡ Ok h → Grows o.before h
-    opening_grows h e =
-        let opened = opened_by o.sps (first_header o) o.before h e in
-        missing_grows o.sps opened.numbers o.before h s opened.missing
-
-    by_address : (address : ℕ) (opened : Result History Fault) → ((h : History) → opened ≡ Ok h → Grows o.before h)
-        → Grows o.before (history_by address opened o.before)
-    by_address zero (Ok h) grows = grows h refl
-    by_address zero (Err f) grows = unchanged o.before s
-    by_address (suc n) opened grows = unchanged o.before s
+base_grows o s =
+    base_keeps (Grows o.before) o (λ n x g marked. record {
+      follows = record { more = missing_frame o.sps n ∷ g.follows.more; is = ap (λ l. missing_frame o.sps n ∷ l) g.follows.is };
+      sound = record { each = g.sound.each; marked = marked };
+    }) (record { follows = record { more = []; is = refl }; sound = s })
 
 -- ---- a picture that is closed
 
 -- The open picture has no fault, and closing gives this history.
-record HasClosed (o : OpenPicture) (full : History) : Type 0 where
-  opened : history_at_opening_of o ≡ Ok (history_of o)
-  closed : closed_history o (history_of o) ≡ Ok full
+pub record HasClosed (o : OpenPicture) (full : History) : Type 0 where
+  pub opened : history_at_opening_of o ≡ Ok (history_of o)
+  pub closed : closed_history o (history_of o) ≡ Ok full
 
 -- where no fault is found, whatever `others` looks for on the history with the missing numbers
 opens : (address : ℕ) (opened : Result History Fault) (unit : ℕ) (before : History) (others : History → Option (ℕ × Fault))
     → fault_by address unit opened others ≡ None → opened ≡ Ok (history_by address opened before)
 opens zero (Ok h) unit before others e = refl
-opens zero (Err f) unit before others e = cc
-opens (suc n) opened unit before others e = cc
+opens _ opened unit before others e = cc
 
-has_closed : (o : OpenPicture) (full : History) → closing_result o ≡ Ok full → HasClosed o full
+pub has_closed : (o : OpenPicture) (full : History) → closing_result o ≡ Ok full → HasClosed o full
 has_closed o full e = by_fault (first_fault o true) refl (closed_history o (history_of o)) refl e
   where
     opened_there : first_fault o true ≡ None → history_at_opening_of o ≡ Ok (history_of o)
@@ -170,7 +168,7 @@ has_closed o full e = by_fault (first_fault o true) refl (closed_history o (hist
     by_fault None is (Ok h) closed e' = let same : h ≡ full = cc in record { opened = opened_there is; closed = closed ∙ ap Ok same }
 
 -- the history that it gives can be marked
-closing_is : (sps : Sps) (hd : Header) (planes : Planes) (h full : History) → history_after_closing sps hd planes h ≡ Ok full
+pub closing_is : (sps : Sps) (hd : Header) (planes : Planes) (h full : History) → history_after_closing sps hd planes h ≡ Ok full
     → (full ≡ with_picture sps hd planes h) × (is_ok (marks_of full) ≡ true)
 closing_is sps hd planes h full e = by_marks (with_picture sps hd planes h) (marks_of (with_picture sps hd planes h)) refl e
   where

@@ -1,29 +1,15 @@
 -- What the phase knows of the open picture.
 use Rattle.avc_decoder.proofs.Common.{◌≡◌, ℕ, Bool, false, not, ◌∷◌, List, Option, Some, None, refl, ap, sym, ◌∙◌, IfSome, Sets, Pps}
-use Rattle.avc_decoder.proofs.Common.{SetUnit, Sps, Frame, begins, Header, Slice, is_idr, IsHeader, is_full, progress, HasNoFault, IsFull}
+use Rattle.avc_decoder.proofs.Common.{SetUnit, Sps, Frame, begins, Header, Slice, is_idr, IsHeader, is_full, progress_on, start_on, IsFull}
 use Rattle.avc_decoder.proofs.Common.{IsSliceUnder, open_picture_of, History, stored_frames, SequenceState, current_history, base_in}
 use Rattle.avc_decoder.proofs.Common.{history_in, is_running, open_facts_in, running, sets_named, CanHave, start_with, QueueState}
 use Rattle.avc_decoder.proofs.Common.{CurrentPicture, PhaseHere, Waiting, Running}
-use Rattle.avc_decoder.specs.States.{ComesTo, IsNamed, IsOpenIn, IsPhase, Works, closed_in, current_in, is_waiting_in, last_header_in, open_picture_from, phase_of, with_last}
-use Rattle.avc_decoder.proofs.Closing.{full_at, opened_as, some_is, stands_as}
+use Rattle.avc_decoder.specs.States.{IsNamed, IsOpenIn, IsPhase, Works, current_in, is_waiting_in, last_header_in, phase_of, with_last}
+use Rattle.avc_decoder.proofs.Closing.{on_open, opened_as, opened_phase, some_is, stands_as}
 use Rattle.avc_decoder.proofs.FirstFaults.{history_is}
-use Rattle.avc_decoder.proofs.PictureFrames.{full_on, same_frames}
-use Rattle.avc_decoder.proofs.Slicing.{begun_with_slice, nothing_comes}
+use Rattle.avc_decoder.proofs.PictureFrames.{same_frames}
+use Rattle.avc_decoder.proofs.Slicing.{begun_with_slice}
 use Rattle.avc_decoder.proofs.Stepping.{same_kind, same_set}
-
--- the open picture
-pub opened_phase : (s : SequenceState) (c : CurrentPicture) (w : IsOpenIn s c)
-    → phase_of s (Running (Some c)) ≡ running s.history (Some (opened_as s c.decoder w.last w.earlier))
-opened_phase s c w = ap (λ ss. running s.history (open_picture_from s.history (c.decoder).sps (c.decoder).pps ss))
-    w.slices
-
--- the history that it stands on
-pub history_here : (s : SequenceState) (p : PhaseHere) → IsPhase s p → history_in (phase_of s p) ≡ current_history s
-history_here s Waiting w = rw ((w.0).none, w.1) refl
-history_here s (Running None) w = rw w.none refl
-history_here s (Running (Some c)) w =
-    ap history_in (opened_phase s c w) ∙ history_is (opened_as s c.decoder w.last w.earlier) (current_history s)
-    (stands_as s c w)
 
 -- where none is open, a new one is decoded on that of the sequence
 pub base_here : (s : SequenceState) (p : PhaseHere) → IsPhase s p → current_in p ≡ None
@@ -37,36 +23,23 @@ none_open s Waiting w none = (w.0).none
 none_open s (Running None) w none = w.none
 none_open s (Running (Some c)) w none = cc
 
-pub well_in : (s : SequenceState) (p : PhaseHere) → IsPhase s p → IfSome (current_in p) (λ c. HasNoFault c.decoder)
-well_in s Waiting w = tt
-well_in s (Running None) w = tt
-well_in s (Running (Some c)) w = w.well
-
 -- ---- what a unit finds
-
-full_is : (s : SequenceState) (c : CurrentPicture) (full : Bool) (w : IsOpenIn s c) → IsFull full c.decoder
-    → let o = opened_as s c.decoder w.last w.earlier in
-    open_picture_of full (Some c.last_header) ≡ open_facts_in (running s.history (Some o))
-full_is s c full w f =
-    let o = opened_as s c.decoder w.last w.earlier in
-    let at = λ (h : History). is_full (start_with (stored_frames h) c.decoder)
-    (progress (start_with (stored_frames h) c.decoder) (w.last ∷ w.earlier)) in
-    let same = ap at (history_is o (current_history s) (stands_as s c w))
-    ∙ full_at s c full w (full_on s (w.last).header c.decoder full w.frames f) in
-    rw (w.header, sym same) refl
 
 pub facts_are : (s : SequenceState) (p : PhaseHere) (last : Option Header) (full : Bool) → IsPhase s p
     → last ≡ last_header_in p → IfSome (current_in p) (λ c. IsFull full c.decoder)
     → open_picture_of full last ≡ open_facts_in (phase_of s p)
-facts_are s Waiting last full w e f = rw e refl
-facts_are s (Running None) last full w e f = rw e refl
-facts_are s (Running (Some c)) last full w e f = rw e
-    (full_is s c full w f ∙ ap open_facts_in (sym (opened_phase s c w)))
+facts_are s (Running (Some c)) last full w e f =
+    let o = opened_as s c.decoder w.last w.earlier in
+    let full_at : History → Bool = λ h. is_full (start_on o h) (progress_on o h) in
+    let same = ap full_at (history_is o (current_history s) (stands_as s c w))
+    ∙ on_open s c w (λ g. is_full (start_on o (current_history s)) g ≡ full) f in
+    let here : open_picture_of full (Some c.last_header) ≡ open_facts_in (running s.history (Some o)) = rw (w.header, sym same) refl in
+    rw e (here ∙ ap open_facts_in (sym (opened_phase s c w)))
+facts_are s _ last full w e f = rw e refl
 
 pub runs : (s : SequenceState) (p : PhaseHere) → not (is_waiting_in p) ≡ is_running (phase_of s p)
-runs s Waiting = refl
-runs s (Running None) = refl
 runs s (Running (Some c)) = refl
+runs s _ = refl
 
 -- ---- a further slice
 
@@ -97,16 +70,13 @@ named_first sets slice sps pps frames t e =
 pub named_further : (sets : Sets) (p : PhaseHere) (slice : Slice) → IfSome (current_in p) (IsNamed sets)
     → IfSome (current_in p) (λ c. begins c.last_header slice.header ≡ false)
     → IfSome (current_in p) (λ c. IsNamed sets (with_last slice c))
-named_further sets Waiting slice named goes = tt
-named_further sets (Running None) slice named goes = tt
 named_further sets (Running (Some c)) slice named goes = record
     { pps = ap sets.pps (sym (same_set c.last_header slice.header goes)) ∙ named.pps; sps = named.sps }
+named_further sets _ slice named goes = tt
 
 pub can_have : (sets : Sets) (s : SequenceState) (p : PhaseHere) (slice : Slice) → Works sets s p
     → IsSliceUnder sets slice → IfSome (current_in p) (λ c. begins c.last_header slice.header ≡ false)
     → IfSome (current_in p) (λ c. CanHave s c.decoder slice)
-can_have sets s Waiting slice w t goes = tt
-can_have sets s (Running None) slice w t goes = tt
 can_have sets s (Running (Some c)) slice w t goes =
     let open' = w.stands in
     let named = named_further sets (Running (Some c)) slice w.named goes in
@@ -115,6 +85,7 @@ can_have sets s (Running (Some c)) slice w t goes =
           (ap is_idr (sym open'.header) ∙ same_kind c.last_header slice.header goes) open'.frames;
       within = within_named sets slice (c.decoder).pps (c.decoder).sps t named.pps named.sps;
     }
+can_have sets s _ slice w t goes = tt
 
 -- ---- closing
 
@@ -122,10 +93,3 @@ pub open_is : (p : PhaseHere) (c : CurrentPicture) → ◌≡◌ {A = Option Cur
     → p ≡ Running (Some c)
 open_is Waiting c e = cc
 open_is (Running o) c e = ap Running (sym e)
-
-pub closes_none : (s : SequenceState) (q : QueueState) (n : ℕ) (table : List SetUnit) (p : PhaseHere) → IsPhase s p
-    → current_in p ≡ None → ComesTo s.output q n table (closed_in s.output (phase_of s p)) s p q n table
-closes_none s q n table Waiting w none = nothing_comes s q n table Waiting (record { stands = w; named = tt })
-closes_none s q n table (Running None) w none = nothing_comes s q n table (Running None)
-    (record { stands = w; named = tt })
-closes_none s q n table (Running (Some c)) w none = cc

@@ -1,12 +1,12 @@
 -- What a picture decoder says holds on the history of the sequence, and the frames have the picture's size.
-use Rattle.avc_decoder.proofs.Common.{◌≡◌, ℕ, Bool, true, false, List, [], map, All, Option, Some, None, Ok, refl, ap, sym, subst, ◌∙◌}
-use Rattle.avc_decoder.proofs.Common.{arith, nat_tests, All-cons, All-nil, ◌+◌, ◌-◌, ◌==◌, ◌&&◌, IfSome, StandAt, Fault, Decoded}
-use Rattle.avc_decoder.proofs.Common.{height_in_mbs, width_in_mbs, Sps, AreFrames, marked_frame, stored_at, Planes, Frame, Pps, is_idr}
-use Rattle.avc_decoder.proofs.Common.{IsHeader, Header, Slice, deblocked, Progress, coded_of, is_full, planes_after_slices, progress}
-use Rattle.avc_decoder.proofs.Common.{AreFramesOf, CanStandAt, Decoding, HasNoFault, HasRead, IsFull, Refuses, end_fault, fault_at_end}
-use Rattle.avc_decoder.proofs.Common.{no_slice_yet, progress_at, start_at, with_slice_more, progress-other, History, history_at_opening}
-use Rattle.avc_decoder.proofs.Common.{is_same_sps, sequence_sps, stored_frames, opened_by, set_at_opening, AreFramesIn, AreStoredIn}
-use Rattle.avc_decoder.proofs.Common.{IsOpened, SequenceState, current_history, CanHave, HasItsFrames, IsISlice, frames_for}
+use Rattle.avc_decoder.proofs.Common.{◌≡◌, ℕ, Bool, true, false, List, [], map, All, Option, Some, None, Ok, refl, ap, ap₂, sym, subst, ◌∙◌}
+use Rattle.avc_decoder.proofs.Common.{arith, first_so, second_so, eqb-true, All-cons, All-nil, ◌+◌, ◌-◌, ◌==◌, ◌&&◌, IfSome, StandAt, Fault}
+use Rattle.avc_decoder.proofs.Common.{Decoded, height_in_mbs, width_in_mbs, Sps, AreFrames, marked_frame, stored_at, Planes, Frame, Pps}
+use Rattle.avc_decoder.proofs.Common.{is_idr, IsHeader, Header, Slice, deblocked, Progress, coded_of, is_full, planes_after_slices}
+use Rattle.avc_decoder.proofs.Common.{progress, AreFramesOf, CanStandAt, Decoding, HasNoFault, HasRead, IsFull, Refuses, end_fault}
+use Rattle.avc_decoder.proofs.Common.{fault_at_end, no_slice_yet, progress_at, start_at, with_slice_more, progress-other, History}
+use Rattle.avc_decoder.proofs.Common.{history_at_opening, is_same_sps, sequence_sps, stored_frames, opened_by, set_at_opening, AreFramesIn}
+use Rattle.avc_decoder.proofs.Common.{AreStoredIn, IsOpened, SequenceState, current_history, CanHave, HasItsFrames, IsISlice, frames_for}
 use Rattle.avc_decoder.proofs.Common.{progress_on_history, read_of_slice, start_with}
 use Rattle.std.specs.List.Sorted.{IsStrictlyIncreasing}
 use Rattle.avc_params.specs.Same.{same_constraints, same_flag, same_order, same_sps}
@@ -43,10 +43,10 @@ stands_on s h d f = stands_by (is_idr h) s d f.frames f.intra f.stored
 
 -- ---- what the picture decoder says
 
-pub well_on : (s : SequenceState) (h : Header) (d : Decoding 32) → HasItsFrames s h d → HasNoFault d → (progress_on_history (current_history s) d).fault ≡ None
-well_on s h d f well =
-    let k = stands_on s h d f in
-    ap (λ (g : Progress). g.fault) (sym k.same) ∙ well k.entries k.stand
+-- wherever it can stand, holds on the history
+pub on_history : (s : SequenceState) (h : Header) (d : Decoding 32) → HasItsFrames s h d → (Says : Progress → Type 0)
+    → ((entries : List ℕ) → CanStandAt entries d → Says (progress_at entries d)) → Says (progress_on_history (current_history s) d)
+on_history s h d f Says says = let k = stands_on s h d f in subst Says k.same (says k.entries k.stand)
 
 pub with_one_more : (s : SequenceState) (d : Decoding 32) (slice : Slice) → CanHave s d slice → HasItsFrames s slice.header (with_slice_more slice d)
 with_one_more s d slice can = record {
@@ -57,48 +57,15 @@ with_one_more s d slice can = record {
 
 pub refused : (s : SequenceState) (d : Decoding 32) (slice : Slice) (f : Fault) → CanHave s d slice → HasNoFault d → Refuses d slice f (with_slice_more slice d) → IsRefused (current_history s) (with_slice_more slice d) slice f
 refused s d slice f can well r =
-    let k = stands_on s slice.header (with_slice_more slice d) (with_one_more s d slice can) in
-    ap (λ (g : Progress). g.fault) (sym k.same) ∙ r.unit well k.entries k.stand
-
-abbrev pub IsFullOn : SequenceState → Decoding 32 → (full : Bool) → Type 0
-IsFullOn s d full = is_full (start_with (stored_frames (current_history s)) d) (progress_on_history (current_history s) d) ≡ full
-
-pub full_on : (s : SequenceState) (h : Header) (d : Decoding 32) (full : Bool) → HasItsFrames s h d → IsFull full d → IsFullOn s d full
-full_on s h d full f is =
-    let k = stands_on s h d f in
-    ap (is_full (start_with (stored_frames (current_history s)) d)) (sym k.same) ∙ is k.entries k.stand
-
--- how many macroblocks the picture decoder has read
-read_on : (s : SequenceState) (h : Header) (d : Decoding 32) (count : ℕ) → HasItsFrames s h d → HasRead count d → (progress_on_history (current_history s) d).read ≡ count
-read_on s h d count f is =
-    let k = stands_on s h d f in
-    ap (λ (g : Progress). g.read) (sym k.same) ∙ is k.entries k.stand
+    on_history s slice.header (with_slice_more slice d) (with_one_more s d slice can) (λ g. g.fault ≡ Some (slice.unit, f)) (r.unit well)
 
 pub slice_read : (s : SequenceState) (d d' : Decoding 32) (slice : Slice) (before after read : ℕ) → CanHave s d slice → d' ≡ with_slice_more slice d → HasRead before d → HasRead after d' → read ≡ after - before
     → read ≡ read_of_slice (current_history s) d slice
 slice_read s d d' slice before after read can e so_far then' is =
-    let b = read_on s slice.header d before can.frames so_far in
-    let a = read_on s slice.header (with_slice_more slice d) after (with_one_more s d slice can) (subst (HasRead after) e then') in
-    is ∙ ap (λ n. n - before) (sym a) ∙ ap (λ n. (progress_on_history (current_history s) (with_slice_more slice d)).read - n) (sym b)
-
-abbrev pub EndsWith : SequenceState → Decoding 32 → Option Fault → Type 0
-EndsWith s d fault =
-    let history = current_history s in
-    fault_at_end (progress_on_history history d).fault (is_full (start_with (stored_frames history) d) (progress_on_history history d)) ≡ fault
-
-pub ends_with : (s : SequenceState) (h : Header) (d : Decoding 32) (fault : Option Fault) → HasItsFrames s h d → ((entries : List ℕ) → CanStandAt entries d → end_fault entries d ≡ fault) → EndsWith s d fault
-ends_with s h d fault f e =
-    let k = stands_on s h d f in
-    ap (λ (g : Progress). fault_at_end g.fault (is_full (start_with (stored_frames (current_history s)) d) g)) (sym k.same) ∙ e k.entries k.stand
-
-abbrev pub HasPlanes : SequenceState → Decoding 32 → Planes → Type 0
-HasPlanes s d planes = planes ≡ planes_after_slices (start_with (stored_frames (current_history s)) d) d.slices
-
-pub has_planes : (s : SequenceState) (h : Header) (d : Decoding 32) (planes : Planes) → HasItsFrames s h d
-    → ((entries : List ℕ) → CanStandAt entries d → planes ≡ planes_after_slices (start_at entries d) d.slices) → HasPlanes s d planes
-has_planes s h d planes f e =
-    let k = stands_on s h d f in
-    e k.entries k.stand ∙ ap (λ (g : Progress). deblocked (coded_of (start_with (stored_frames (current_history s)) d) g)) k.same
+    let b = on_history s slice.header d can.frames (λ g. g.read ≡ before) so_far in
+    let a =
+    on_history s slice.header (with_slice_more slice d) (with_one_more s d slice can) (λ g. g.read ≡ after) (subst (HasRead after) e then') in
+    is ∙ ap₂ (λ m n. m - n) (sym a) (sym b)
 
 -- a slice more of a picture of the same kind
 pub same_frames : (s : SequenceState) (g h : Header) (d : Decoding 32) → is_idr g ≡ is_idr h → HasItsFrames s g d → HasItsFrames s h d
@@ -110,32 +77,21 @@ same_frames s g h d e f = record {
 
 -- ---- the frames' size
 
-and_first : (a b : Bool) → (a && b) ≡ true → a ≡ true
-and_first true b e = refl
-and_first false b e = e
-
-and_rest : (a b : Bool) → (a && b) ≡ true → b ≡ true
-and_rest true b e = e
-and_rest false b e = cc
-
-same_number : (a b : ℕ) → (a == b) ≡ true → a ≡ b
-same_number a b e = grind (arith, nat_tests, e)
-
 -- sets of the same contents give the same size
 same_size : (a b : Sps) → same_sps a b ≡ true → (width_in_mbs a ≡ width_in_mbs b) × (height_in_mbs a ≡ height_in_mbs b)
 same_size a b e =
-    let e1 = and_rest (a.profile_idc == b.profile_idc) _ e in
-    let e2 = and_rest (same_constraints a.constraint_flags b.constraint_flags) _ e1 in
-    let e3 = and_rest (a.reserved_zero_2bits == b.reserved_zero_2bits) _ e2 in
-    let e4 = and_rest (a.level_idc == b.level_idc) _ e3 in
-    let e5 = and_rest (a.seq_parameter_set_id == b.seq_parameter_set_id) _ e4 in
-    let e6 = and_rest (a.log2_max_frame_num_minus4 == b.log2_max_frame_num_minus4) _ e5 in
-    let e7 = and_rest (same_order a.order_count b.order_count) _ e6 in
-    let e8 = and_rest (a.max_num_ref_frames == b.max_num_ref_frames) _ e7 in
-    let e9 = and_rest (same_flag a.gaps_in_frame_num_value_allowed_flag b.gaps_in_frame_num_value_allowed_flag) _ e8 in
-    let e10 = and_rest (a.pic_width_in_mbs_minus1 == b.pic_width_in_mbs_minus1) _ e9 in (
-      ap (λ n. n + 1) (same_number a.pic_width_in_mbs_minus1 b.pic_width_in_mbs_minus1 (and_first (a.pic_width_in_mbs_minus1 == b.pic_width_in_mbs_minus1) _ e9)),
-      ap (λ n. n + 1) (same_number a.pic_height_in_map_units_minus1 b.pic_height_in_map_units_minus1 (and_first (a.pic_height_in_map_units_minus1 == b.pic_height_in_map_units_minus1) _ e10)),
+    let e1 = second_so (a.profile_idc == b.profile_idc) _ e in
+    let e2 = second_so (same_constraints a.constraint_flags b.constraint_flags) _ e1 in
+    let e3 = second_so (a.reserved_zero_2bits == b.reserved_zero_2bits) _ e2 in
+    let e4 = second_so (a.level_idc == b.level_idc) _ e3 in
+    let e5 = second_so (a.seq_parameter_set_id == b.seq_parameter_set_id) _ e4 in
+    let e6 = second_so (a.log2_max_frame_num_minus4 == b.log2_max_frame_num_minus4) _ e5 in
+    let e7 = second_so (same_order a.order_count b.order_count) _ e6 in
+    let e8 = second_so (a.max_num_ref_frames == b.max_num_ref_frames) _ e7 in
+    let e9 = second_so (same_flag a.gaps_in_frame_num_value_allowed_flag b.gaps_in_frame_num_value_allowed_flag) _ e8 in
+    let e10 = second_so (a.pic_width_in_mbs_minus1 == b.pic_width_in_mbs_minus1) _ e9 in (
+      ap (λ n. n + 1) (eqb-true a.pic_width_in_mbs_minus1 b.pic_width_in_mbs_minus1 (first_so (a.pic_width_in_mbs_minus1 == b.pic_width_in_mbs_minus1) _ e9)),
+      ap (λ n. n + 1) (eqb-true a.pic_height_in_map_units_minus1 b.pic_height_in_map_units_minus1 (first_so (a.pic_height_in_map_units_minus1 == b.pic_height_in_map_units_minus1) _ e10)),
     )
 
 -- before a picture that is no IDR picture the parameter set stays, whatever numbers are missing
@@ -168,20 +124,3 @@ frames_fit s s1 sps h out frames i is sized = by_idr (is_idr h) is (λ other. st
     by_idr false e stays fit =
         let k = stays refl in
         rw e (fit_set sps (sequence_sps (current_history s1)) s1.frames (ap (λ set. is_same_sps set sps) k.set ∙ k.same) (fit refl))
-
--- ---- a picture with no slice yet
-
-abbrev no_fault_yet : (sps : Sps) (pps : Pps) (frames : List (Frame 32)) → HasNoFault (no_slice_yet sps pps frames)
-no_fault_yet sps pps frames = λ entries stand. refl
-
-pub begun_well : (d : Decoding 32) (sps : Sps) (pps : Pps) (frames : List (Frame 32)) → d ≡ no_slice_yet sps pps frames → HasNoFault d
-begun_well d sps pps frames e = subst HasNoFault (sym e) (no_fault_yet sps pps frames)
-
--- it can have its first slice
-pub begun_with : (s : SequenceState) (d : Decoding 32) (sps : Sps) (pps : Pps) (frames : List (Frame 32)) (slice : Slice) → d ≡ no_slice_yet sps pps frames → frames ≡ frames_for slice.header s
-    → IsHeader sps pps slice.rbsp slice.header → s.failed ≡ false → (is_idr slice.header ≡ false → s.failed ≡ false → AreStoredIn (current_history s) s.frames) → CanHave s d slice
-begun_with s d sps pps frames slice e is within on stored =
-    subst (λ x. CanHave s x slice) (sym e) (record {
-      frames = record { frames = is; intra = λ idr. All-nil IsISlice; stored = λ other. stored other on };
-      within = within;
-    })

@@ -59,6 +59,17 @@ abbrev renumbered_result : (ℕ → ℕ) → Result History (ℕ × Fault) → R
 renumbered_result r (Ok h) = Ok h
 renumbered_result r (Err found) = Err (renumbered_fault r found)
 
+-- by a test, where it is the same in each case
+pub either-same : {A : Type 0} (f : A → A) (b : Bool) (x' x y' y : A) → x' ≡ f x → y' ≡ f y
+    → ◌≡◌ {A = A} (elim b [ true ↦ x' | false ↦ y' ]) (f (elim b [ true ↦ x | false ↦ y ]))
+either-same f true x' x y' y e g = e
+either-same f false x' x y' y e g = g
+
+if-same : {A : Type 0} (f : A → A) (b : Bool) (x' x y' y : A) → x' ≡ f x → y' ≡ f y
+    → ◌≡◌ {A = A} (if b then x' else y') (f (if b then x else y))
+if-same f true x' x y' y e g = e
+if-same f false x' x y' y e g = g
+
 -- ---- the slices of a picture
 
 unit-same : (r : ℕ → ℕ) (unit : ℕ) (f : Option Fault) → with_unit (r unit) f ≡ option_map (renumbered_fault r) (with_unit unit f)
@@ -79,20 +90,6 @@ list-same : (r : ℕ → ℕ) (p : PictureStart) (s : Slice) (before : Progress)
 list-same r p s before (Err f) = refl
 list-same r p s before (Ok list) = whole-same r s before _ _ _
 
-abbrev by_address : (ahead behind : Bool) → Progress → (unit : ℕ) → Progress → Progress
-by_address ahead behind before unit listed =
-    if ahead then refused before unit faults.MissingMacroblocks
-    else if behind then refused before unit faults.ArbitrarySliceOrder
-    else listed
-
-address-same : (r : ℕ → ℕ) (ahead behind : Bool) (before : Progress) (unit : ℕ) (listed' listed : Progress)
-    → listed' ≡ renumbered_progress r listed
-    → by_address ahead behind (renumbered_progress r before) (r unit) listed'
-    ≡ renumbered_progress r (by_address ahead behind before unit listed)
-address-same r true behind before unit listed' listed e = refl
-address-same r false true before unit listed' listed e = refl
-address-same r false false before unit listed' listed e = e
-
 abbrev unless_fault : Option (ℕ × Fault) → (before more : Progress) → Progress
 unless_fault f before more = elim f [ Some _ ↦ before | None ↦ more ]
 
@@ -107,7 +104,9 @@ slice-same : (r : ℕ → ℕ) (p : PictureStart) (s : Slice) (g : Progress)
 slice-same r p s g =
     let expected = length g.mbs in
     let first = (s.header).first_mb_in_slice in
-    unless-same r g.fault g _ _ (address-same r (nat_lt expected first) (nat_lt first expected) g s.unit _ _ (list-same r p s g (list_of p s.header)))
+    unless-same r g.fault g _ _
+    (if-same (renumbered_progress r) (nat_lt expected first) _ _ _ _ refl
+    (if-same (renumbered_progress r) (nat_lt first expected) _ _ _ _ refl (list-same r p s g (list_of p s.header))))
 
 pub progress-same : (r : ℕ → ℕ) (p : PictureStart) (slices : List Slice)
     → progress p (map (renumbered_slice r) slices) ≡ renumbered_progress r (progress p slices)
@@ -143,8 +142,7 @@ history-same r o =
 count-same : (address : ℕ) (opened : Result History Fault) (a b : History → ℕ) → ((h : History) → a h ≡ b h)
     → count_by address opened a ≡ count_by address opened b
 count-same zero (Ok h) a b e = e h
-count-same zero (Err f) a b e = refl
-count-same (suc n) opened a b e = refl
+count-same _ opened a b e = refl
 
 read-same : (r : ℕ → ℕ) (o : OpenPicture) → read_of (renumbered_picture r o) ≡ read_of o
 read-same r o =
@@ -161,9 +159,8 @@ facts-same r o =
 
 full-same : (r : ℕ → ℕ) (full : Bool) (unit : ℕ) (closed : Result History Fault)
     → by_full full (r unit) closed ≡ option_map (renumbered_fault r) (by_full full unit closed)
-full-same r false unit closed = refl
 full-same r true unit (Ok h) = refl
-full-same r true unit (Err f) = refl
+full-same r _ unit closed = refl
 
 closing-same : (r : ℕ → ℕ) (o : OpenPicture) (h : History)
     → found_at_closing (renumbered_picture r o) h ≡ option_map (renumbered_fault r) (found_at_closing o h)
@@ -175,16 +172,14 @@ closing-same r o h =
 then-same : (r : ℕ → ℕ) (f : Option (ℕ × Fault)) (closing : Bool) (c' c : Option (ℕ × Fault))
     → c' ≡ option_map (renumbered_fault r) c
     → then_closing (option_map (renumbered_fault r) f) closing c' ≡ option_map (renumbered_fault r) (then_closing f closing c)
-then-same r (Some found) closing c' c e = refl
 then-same r None true c' c e = e
-then-same r None false c' c e = refl
+then-same r f closing c' c e = refl
 
 fault-same : (r : ℕ → ℕ) (address unit : ℕ) (opened : Result History Fault) (a b : History → Option (ℕ × Fault))
     → ((h : History) → a h ≡ option_map (renumbered_fault r) (b h))
     → fault_by address (r unit) opened a ≡ option_map (renumbered_fault r) (fault_by address unit opened b)
 fault-same r zero unit (Ok h) a b e = e h
-fault-same r zero unit (Err f) a b e = refl
-fault-same r (suc n) unit opened a b e = refl
+fault-same r _ unit opened a b e = refl
 
 later-same : (r : ℕ → ℕ) (o : OpenPicture) (closing : Bool) (h : History)
     → then_closing (progress_on (renumbered_picture r o) h).fault closing (found_at_closing (renumbered_picture r o) h)
@@ -275,62 +270,48 @@ first_slice-same output r (Some named) before s =
 
 next_slice-same : (output : Output) (r : ℕ → ℕ) (p : Phase) (s : Slice)
     → after_next_slice output (renumbered_phase r p) (renumbered_slice r s) ≡ renumbered_outcome r (after_next_slice output p s)
-next_slice-same output r waiting s = refl
-next_slice-same output r (running h None) s = refl
 next_slice-same output r (running h (Some o)) s =
-    let o' = renumbered_picture r o in
     let more : OpenPicture = record o { last = s; earlier = o.last ∷ o.earlier } in
-    ap (λ b. with_slice output b (read_of o') (renumbered_picture r more)) (history-same r o)
-    ∙ ap (λ n. with_slice output (history_of o) n (renumbered_picture r more)) (read-same r o)
+    ap₂ (λ b n. with_slice output b n (renumbered_picture r more)) (history-same r o) (read-same r o)
     ∙ with_slice-same output r (history_of o) (read_of o) more
+next_slice-same output r p s = refl
 
 -- ---- a unit
 
 base-same : (r : ℕ → ℕ) (p : Phase) → base_in (renumbered_phase r p) ≡ base_in p
-base-same r waiting = refl
-base-same r (running h None) = refl
 base-same r (running h (Some o)) = refl
+base-same r p = refl
 
 history_in-same : (r : ℕ → ℕ) (p : Phase) → history_in (renumbered_phase r p) ≡ history_in p
-history_in-same r waiting = refl
-history_in-same r (running h None) = refl
 history_in-same r (running h (Some o)) = history-same r o
+history_in-same r p = refl
 
 pub running-same : (r : ℕ → ℕ) (p : Phase) → is_running (renumbered_phase r p) ≡ is_running p
-running-same r waiting = refl
-running-same r (running h None) = refl
 running-same r (running h (Some o)) = refl
+running-same r p = refl
 
 waiting-same : (r : ℕ → ℕ) (p : Phase) → is_waiting (renumbered_phase r p) ≡ is_waiting p
-waiting-same r waiting = refl
-waiting-same r (running h None) = refl
 waiting-same r (running h (Some o)) = refl
+waiting-same r p = refl
 
 pub open_facts-same : (r : ℕ → ℕ) (p : Phase) → open_facts_in (renumbered_phase r p) ≡ open_facts_in p
-open_facts-same r waiting = refl
-open_facts-same r (running h None) = refl
 open_facts-same r (running h (Some o)) = ap (λ f. Some f) (facts-same r o)
+open_facts-same r p = refl
 
 next-same : (output : Output) (r : ℕ → ℕ) (sets : Sets) (unit : ℕ) (p : Phase) (n : Next)
     → after_next output sets (r unit) (renumbered_phase r p) (renumbered_next r n) ≡ renumbered_outcome r (after_next output sets unit p n)
-next-same output r sets unit p Nothing = refl
-next-same output r sets unit p (Refusal f) = refl
 next-same output r sets unit p (FaultOfOpen f) = ap (λ h. failed_at output h (r unit) f 0) (history_in-same r p) ∙ failed-same output r (history_in p) unit f 0
 next-same output r sets unit p (FaultOfOwn f) = ap (λ h. failed_at output h (r unit) f 0) (history_in-same r p) ∙ failed-same output r (history_in p) unit f 0
 next-same output r sets unit p (Begins s) =
     let named = sets_named sets s.header in
     ap (λ h. after_first_slice output named h (renumbered_slice r s)) (base-same r p) ∙ first_slice-same output r named (base_in p) s
 next-same output r sets unit p (Continues s) = next_slice-same output r p s
+next-same output r sets unit p _ = refl
 
 followed-same : (r : ℕ → ℕ) (a b : Outcome)
     → followed_by (renumbered_outcome r a) (renumbered_outcome r b) ≡ renumbered_outcome r (followed_by a b)
 followed-same r a b =
     ap (λ es. outcome_of es (renumbered_phase r b.phase) (a.read + b.read)) (sym (map-append (renumbered_event r) a.events b.events))
-
-silent-same : (r : ℕ → ℕ) (silent : Bool) (closed next' next : Outcome) → next' ≡ renumbered_outcome r next
-    → unless_silent silent (renumbered_outcome r closed) next' ≡ renumbered_outcome r (unless_silent silent closed next)
-silent-same r true closed next' next e = refl
-silent-same r false closed next' next e = ap (followed_by (renumbered_outcome r closed)) e ∙ followed-same r closed next
 
 after_closing-same : (output : Output) (r : ℕ → ℕ) (sets : Sets) (unit : ℕ) (what : Step) (x : Outcome)
     → after_closing output sets (r unit) (renumbered_step r what) (renumbered_outcome r x)
@@ -339,22 +320,17 @@ after_closing-same output r sets unit what x =
     let x' = renumbered_outcome r x in
     ap (λ b. unless_silent (b && not what.even_after_fault) x' (after_next output sets (r unit) x'.phase (renumbered_next r what.next)))
     (waiting-same r x.phase)
-    ∙ silent-same r (is_waiting x.phase && not what.even_after_fault) x _ _ (next-same output r sets unit x.phase what.next)
-
-by_closes : (r : ℕ → ℕ) (closes : Bool) (a' a b' b : Outcome) → a' ≡ renumbered_outcome r a → b' ≡ renumbered_outcome r b
-    → ◌≡◌ {A = Outcome} (elim closes [ true ↦ a' | false ↦ b' ]) (renumbered_outcome r (elim closes [ true ↦ a | false ↦ b ]))
-by_closes r true a' a b' b e f = e
-by_closes r false a' a b' b e f = f
+    ∙ either-same (renumbered_outcome r) (is_waiting x.phase && not what.even_after_fault) _ _ _ _ refl
+    (ap (followed_by x') (next-same output r sets unit x.phase what.next) ∙ followed-same r x (after_next output sets unit x.phase what.next))
 
 pub in_phase-same : (output : Output) (r : ℕ → ℕ) (sets : Sets) (unit : ℕ) (what : Step) (p : Phase)
     → in_phase output sets (r unit) (renumbered_step r what) (renumbered_phase r p) ≡ renumbered_outcome r (in_phase output sets unit what p)
-in_phase-same output r sets unit what waiting = next-same output r sets unit waiting what.next
-in_phase-same output r sets unit what (running h None) = next-same output r sets unit (running h None) what.next
 in_phase-same output r sets unit what (running h (Some o)) =
-    by_closes r what.closes _ _ _ _
+    either-same (renumbered_outcome r) what.closes _ _ _ _
     (ap (after_closing output sets (r unit) (renumbered_step r what)) (closed_picture-same output r o)
     ∙ after_closing-same output r sets unit what (closed_picture output o))
     (next-same output r sets unit (running h (Some o)) what.next)
+in_phase-same output r sets unit what p = next-same output r sets unit p what.next
 
 -- ---- the end
 

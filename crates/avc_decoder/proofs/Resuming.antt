@@ -1,11 +1,11 @@
 -- A stream that begins at one of its units decodes as it did there.
 use Rattle.avc_decoder.proofs.Common.{◌≡◌, ℕ, zero, suc, ◌+◌, ◌-◌, ◌^◌, ◌<◌, ◌≤◌, Bool, true, false, List, [], ◌∷◌, ◌++◌, length, map, take}
-use Rattle.avc_decoder.proofs.Common.{drop, not, ◌&&◌, Option, Some, None, Result, Ok, Err, All, slice_get, refl, ap, sym, ◌∙◌, arith}
-use Rattle.avc_decoder.proofs.Common.{append_assoc, append-nil, drop-append_seam, take-append_seam, drop-map, length-append, length-map}
-use Rattle.avc_decoder.proofs.Common.{map-append, take-append-drop, take-map, All-cons, All-head, All-nil, All-tail, All-weaker, Fault}
-use Rattle.avc_decoder.proofs.Common.{IsUnitOf, UnitsAreNumbered, UnitsStay, WrittenUnitsStand, contents, forbidden_zero_bit, saturated}
-use Rattle.avc_decoder.proofs.Common.{units, Piece, Sets, sets_after, SetUnit, begins, header_in_rbsp, Header, Slice, Kind, slice}
-use Rattle.avc_decoder.proofs.Common.{partition, sps, pps, boundary, other, OpenPictureFacts, ends_picture, is_start, kind, rbsp_of}
+use Rattle.avc_decoder.proofs.Common.{drop, not, ◌&&◌, Option, Some, None, Result, Ok, Err, All, slice_get, refl, ap, sym, subst, ◌∙◌}
+use Rattle.avc_decoder.proofs.Common.{arith, append_assoc, append-nil, drop-append_seam, take-append_seam, drop-map, length-append}
+use Rattle.avc_decoder.proofs.Common.{length-map, map-append, take-append-drop, take-map, All-cons, All-head, All-nil, All-tail, All-weaker}
+use Rattle.avc_decoder.proofs.Common.{Fault, IsUnitOf, UnitsAreNumbered, UnitsStay, WrittenUnitsStand, contents, forbidden_zero_bit}
+use Rattle.avc_decoder.proofs.Common.{saturated, units, Piece, Sets, sets_after, SetUnit, begins, header_in_rbsp, Header, Slice, Kind}
+use Rattle.avc_decoder.proofs.Common.{slice, partition, sps, pps, boundary, other, OpenPictureFacts, ends_picture, is_start, kind, rbsp_of}
 use Rattle.avc_decoder.proofs.Common.{readable, refusal_of, running_step, set_fault, set_unit, set_units, slice_in, slice_step, step}
 use Rattle.avc_decoder.proofs.Common.{unreadable, waiting_step, with_header, IsSetOf, SetsAreInForceAgain, SetsComeAlike, SetsInForceAreFew}
 use Rattle.avc_decoder.proofs.Common.{SetsInForceAreUnits, resumed, sets_in_force, Next, Nothing, FaultOfOpen, FaultOfOwn, Begins}
@@ -13,13 +13,18 @@ use Rattle.avc_decoder.proofs.Common.{Continues, Step, History, Outcome, Phase, 
 use Rattle.avc_decoder.proofs.Common.{closed_picture, events_from, first_state, followed_by, in_phase, is_running, is_waiting, no_change}
 use Rattle.avc_decoder.proofs.Common.{open_facts_in, open_picture_facts, running, state_after, waiting, OpenPicture, CanStart}
 use Rattle.avc_decoder.proofs.Common.{HaveOwnNumbers, StartsAnew, closing_events, renumbered, state_through, Event, Output}
+use Rattle.std.proofs.Common.{get_or}
+use Rattle.std.proofs.lemmas.List.{take-append-le}
+use Rattle.std.proofs.lemmas.Option.{slice_get-get_or, slice_get_within}
 use Rattle.std.specs.List.{flat_map}
 use Rattle.avc_types.specs.declared.fault.Fault.TheVariants as faults
 use Rattle.avc_annexb.specs.Written.{start_code, written}
-use Rattle.avc_decoder.proofs.Renumbering.{at_end-same, in_phase-same, open_facts-same, renumbered_event}
+use Rattle.avc_decoder.proofs.Cases.{either}
+use Rattle.avc_decoder.proofs.Draining.{drop_some}
+use Rattle.avc_decoder.proofs.Renumbering.{at_end-same, either-same, in_phase-same, open_facts-same, renumbered_event}
 use Rattle.avc_decoder.proofs.Renumbering.{renumbered_outcome, renumbered_phase, renumbered_slice, renumbered_step, running-same}
 use Rattle.avc_decoder.proofs.StartUnits.{says}
-use Rattle.avc_decoder.proofs.Through.{output_through, sets-append, sets_through}
+use Rattle.avc_decoder.proofs.Growing.{output_through, sets-append, sets_through}
 
 -- ---- what a unit with another number does
 
@@ -59,19 +64,14 @@ by_rbsp r (Some bytes) a b e = e bytes
 read-same : (r : ℕ → ℕ) (sets : Sets) (u u' : Piece) → slice_in sets (moved r u u') ≡ renumbered_read r (slice_in sets u)
 read-same r sets u u' = by_rbsp r (rbsp_of u) _ _ (λ bytes. header-same r u u' bytes (header_in_rbsp u.header sets bytes))
 
-either : (r : ℕ → ℕ) (b : Bool) (x' x y' y : Step) → x' ≡ renumbered_step r x → y' ≡ renumbered_step r y
-    → ◌≡◌ {A = Step} (elim b [ true ↦ x' | false ↦ y' ]) (renumbered_step r (elim b [ true ↦ x | false ↦ y ]))
-either r true x' x y' y e f = e
-either r false x' x y' y e f = f
-
 unreadable-same : (r : ℕ → ℕ) (o : Option OpenPictureFacts) (f : Fault) → unreadable o f ≡ renumbered_step r (unreadable o f)
 unreadable-same r None f = refl
-unreadable-same r (Some o) f = either r o.full _ _ _ _ refl refl
+unreadable-same r (Some o) f = either-same (renumbered_step r) o.full _ _ _ _ refl refl
 
 readable-same : (r : ℕ → ℕ) (o : Option OpenPictureFacts) (starts : Bool) (s : Slice)
     → readable o starts (renumbered_slice r s) ≡ renumbered_step r (readable o starts s)
 readable-same r None starts s = refl
-readable-same r (Some o) starts s = either r (begins o.last s.header) _ _ _ _ refl refl
+readable-same r (Some o) starts s = either-same (renumbered_step r) (begins o.last s.header) _ _ _ _ refl refl
 
 slice_step-same : (r : ℕ → ℕ) (o : Option OpenPictureFacts) (starts : Bool) (read : Result Slice Fault)
     → slice_step o starts (renumbered_read r read) ≡ renumbered_step r (slice_step o starts read)
@@ -87,25 +87,21 @@ running_step-same : (r : ℕ → ℕ) (sets : Sets) (o : Option OpenPictureFacts
 running_step-same r sets o u u' (slice idr) =
     ap (slice_step o (is_start u)) (read-same r sets u u') ∙ slice_step-same r o (is_start u) (slice_in sets u)
 running_step-same r sets o u u' partition = unreadable-same r o faults.DataPartition
-running_step-same r sets o u u' boundary = refl
-running_step-same r sets o u u' other = refl
 running_step-same r sets o u u' sps = ends-same r (set_fault sps (rbsp_of u))
 running_step-same r sets o u u' pps = ends-same r (set_fault pps (rbsp_of u))
+running_step-same r sets o u u' _ = refl
 
 waiting_step-same : (r : ℕ → ℕ) (sets : Sets) (u u' : Piece) (k : Kind)
     → waiting_step sets (moved r u u') k ≡ renumbered_step r (waiting_step sets u k)
-waiting_step-same r sets u u' (slice idr) = either r (is_start u) _ _ _ _ (running_step-same r sets None u u' (slice idr)) refl
+waiting_step-same r sets u u' (slice idr) = either-same (renumbered_step r) (is_start u) _ _ _ _ (running_step-same r sets None u u' (slice idr)) refl
 waiting_step-same r sets u u' partition = refl
-waiting_step-same r sets u u' boundary = refl
-waiting_step-same r sets u u' other = refl
-waiting_step-same r sets u u' sps = running_step-same r sets None u u' sps
-waiting_step-same r sets u u' pps = running_step-same r sets None u u' pps
+waiting_step-same r sets u u' k = running_step-same r sets None u u' k
 
 step-same : (r : ℕ → ℕ) (sets : Sets) (runs : Bool) (o : Option OpenPictureFacts) (u u' : Piece)
     → step sets runs o (moved r u u') ≡ renumbered_step r (step sets runs o u)
 step-same r sets runs o u u' =
-    either r (forbidden_zero_bit u.header) _ _ _ _ refl
-    (either r runs _ _ _ _ (running_step-same r sets o u u' (kind u)) (waiting_step-same r sets u u' (kind u)))
+    either-same (renumbered_step r) (forbidden_zero_bit u.header) _ _ _ _ refl
+    (either-same (renumbered_step r) runs _ _ _ _ (running_step-same r sets o u u' (kind u)) (waiting_step-same r sets u u' (kind u)))
 
 -- ---- streams of such units
 
@@ -136,8 +132,6 @@ pub events-same : SetsComeAlike → (r : ℕ → ℕ) (us us' : List Piece) (s s
     → events_from s' us' ended ≡ map (renumbered_event r) (events_from s us ended)
 events-same come r [] [] s s' true o e f a = ap (λ m. at_end m s'.phase) o ∙ ap (at_end s.output) f ∙ at_end-same s.output r s.phase
 events-same come r [] [] s s' false o e f a = refl
-events-same come r [] (u' ∷ us') s s' ended o e f a = absurd a
-events-same come r (u ∷ us) [] s s' ended o e f a = absurd a
 events-same come r (u ∷ us) (u' ∷ us') s s' ended o e f a =
     let x = after_unit s u in
     let x' = renumbered_outcome r x in
@@ -147,6 +141,7 @@ events-same come r (u ∷ us) (u' ∷ us') s s' ended o e f a =
     ap (λ (y : Outcome). y.events ++ events_from (state_after s' u' y) us' ended) (after_unit-same r s s' u u' o e f a.0)
     ∙ ap (λ es. x'.events ++ es) (events-same come r us us' (state_after s u x) (state_after s' u' x') ended o sets refl a.1)
     ∙ sym (map-append (renumbered_event r) x.events (events_from (state_after s u x) us ended))
+events-same come r _ _ s s' ended o e f a = absurd a
 
 -- ---- the parameter sets in front
 
@@ -175,14 +170,8 @@ events_after_sets (u ∷ us) more s ended w n =
 
 -- ---- units with the same contents
 
-like : (r : ℕ → ℕ) (u u' : Piece) → contents u ≡ contents u' → u'.index ≡ r u.index → IsAlike r u u'
+pub like : (r : ℕ → ℕ) (u u' : Piece) → contents u ≡ contents u' → u'.index ≡ r u.index → IsAlike r u u'
 like r u u' e n = record { same_header = sym (ap (λ c. c.0) e); same_body = sym (ap (λ c. c.1) e); numbered = n }
-
-first_same : {A : Type 0} (x y : A) (xs ys : List A) → x ∷ xs ≡ y ∷ ys → x ≡ y
-first_same x y xs ys e = cc
-
-others_same : {A : Type 0} (x y : A) (xs ys : List A) → x ∷ xs ≡ y ∷ ys → xs ≡ ys
-others_same x y xs ys e = cc
 
 -- numbered from n on
 abbrev Numbered : (n : ℕ) → List Piece → Type 0
@@ -200,13 +189,11 @@ later_shifted r n n' shifts j =
 alike : (r : ℕ → ℕ) (n n' : ℕ) (us us' : List Piece) → map contents us ≡ map contents us' → Numbered n us → Numbered n' us'
     → ((j : ℕ) → r (n + j) ≡ n' + j) → AreAlike r us us'
 alike r n n' [] [] e a b shifts = tt
-alike r n n' [] (u' ∷ us') e a b shifts = cc
-alike r n n' (u ∷ us) [] e a b shifts = cc
-alike r n n' (u ∷ us) (u' ∷ us') e a b shifts =
-    let more = others_same _ _ _ _ e in (
-      like r u u' (first_same _ _ _ _ e) (b 0 u' refl ∙ sym (shifts 0) ∙ ap r (sym (a 0 u refl))),
-      alike r (suc n) (suc n') us us' more (later_numbered n u us a) (later_numbered n' u' us' b) (later_shifted r n n' shifts),
-    )
+alike r n n' (u ∷ us) (u' ∷ us') e a b shifts = (
+  like r u u' (cc e) (b 0 u' refl ∙ sym (shifts 0) ∙ ap r (sym (a 0 u refl))),
+  alike r (suc n) (suc n') us us' (cc e) (later_numbered n u us a) (later_numbered n' u' us' b) (later_shifted r n n' shifts),
+)
+alike r n n' _ _ e a b shifts = cc e
 
 -- They are taken alike, and bring the same sets.
 no_fault-like : (u u' : Piece) → contents u ≡ contents u' → NoFault u → NoFault u'
@@ -216,20 +203,17 @@ no_fault-like u u' e n sets =
 
 no_faults-like : (us us' : List Piece) → map contents us ≡ map contents us' → All NoFault us → All NoFault us'
 no_faults-like [] [] e n = All-nil NoFault
-no_faults-like [] (u' ∷ us') e n = cc
-no_faults-like (u ∷ us) [] e n = cc
 no_faults-like (u ∷ us) (u' ∷ us') e n =
-    let first = no_fault-like u u' (first_same _ _ _ _ e) (All-head NoFault u us n) in
-    All-cons NoFault u' us' first (no_faults-like us us' (others_same _ _ _ _ e) (All-tail NoFault u us n))
+    All-cons NoFault u' us' (no_fault-like u u' (cc e) (All-head NoFault u us n)) (no_faults-like us us' (cc e) (All-tail NoFault u us n))
+no_faults-like _ _ e n = cc e
 
 set-like : (u u' : Piece) → contents u ≡ contents u' → set_unit u' ≡ set_unit u
 set-like u u' e = ap set_unit (is_moved (λ _. u'.index) u u' (like (λ _. u'.index) u u' e refl))
 
 sets-like : (us us' : List Piece) → map contents us ≡ map contents us' → set_units us' ≡ set_units us
 sets-like [] [] e = refl
-sets-like [] (u' ∷ us') e = cc
-sets-like (u ∷ us) [] e = cc
-sets-like (u ∷ us) (u' ∷ us') e = cc (set-like u u' (first_same _ _ _ _ e), sets-like us us' (others_same _ _ _ _ e))
+sets-like (u ∷ us) (u' ∷ us') e = cc (set-like u u' (cc e), sets-like us us' (cc e))
+sets-like _ _ e = cc e
 
 -- ---- places
 
@@ -250,21 +234,13 @@ get-drop zero xs j = let same : j ≡ 0 + j = omega arith in ap (slice_get xs) s
 get-drop (suc n) [] j = refl
 get-drop (suc n) (x ∷ xs) j = let same : suc (n + j) ≡ suc n + j = omega arith in get-drop n xs j ∙ ap (slice_get (x ∷ xs)) same
 
-get-take : {A : Type 0} (n : ℕ) (xs : List A) (j : ℕ) (x : A) → slice_get (take n xs) j ≡ Some x → slice_get xs j ≡ Some x
-get-take zero xs j x e = cc
-get-take (suc n) [] j x e = e
-get-take (suc n) (y ∷ xs) zero x e = e
-get-take (suc n) (y ∷ xs) (suc j) x e = get-take n xs j x e
-
 get-front : {A : Type 0} (xs ys : List A) (k : ℕ) (x : A) → slice_get xs k ≡ Some x → slice_get (xs ++ ys) k ≡ Some x
 get-front [] ys k x e = cc
 get-front (y ∷ xs) ys zero x e = e
 get-front (y ∷ xs) ys (suc k) x e = get-front xs ys k x e
 
-take-front : {A : Type 0} (xs ys : List A) (k : ℕ) (x : A) → slice_get xs k ≡ Some x → take k (xs ++ ys) ≡ take k xs
-take-front [] ys k x e = cc
-take-front (y ∷ xs) ys zero x e = refl
-take-front (y ∷ xs) ys (suc k) x e = ap (λ zs. y ∷ zs) (take-front xs ys k x e)
+get-take : {A : Type 0} (n : ℕ) (xs : List A) (j : ℕ) (x : A) → slice_get (take n xs) j ≡ Some x → slice_get xs j ≡ Some x
+get-take n xs j x e = subst (λ l. slice_get l j ≡ Some x) (take-append-drop n xs) (get-front (take n xs) (drop n xs) j x e)
 
 numbered_later : (n : ℕ) (us : List Piece) → Numbered 0 us → Numbered n (drop n us)
 numbered_later n us a j u e = let same : 0 + (n + j) ≡ n + j = omega arith in a (n + j) u (sym (get-drop n us j) ∙ e) ∙ same
@@ -318,7 +294,7 @@ stands_too stay max bytes false k u e =
     let more = stay max bytes [] true in
     let all : units max bytes true ≡ units max bytes false ++ more.0 = ap (λ b. units max b true) (sym (append-nil bytes)) ∙ more.1 in
     record {
-      before_same = ap (take k) all ∙ take-front (units max bytes false) more.0 k u e;
+      before_same = ap (take k) all ∙ take-append-le k (units max bytes false) more.0 (omega (arith, slice_get_within (units max bytes false) k u e));
       there_too = ap (λ us. slice_get us k) all ∙ get-front (units max bytes false) more.0 k u e;
     }
 
@@ -352,28 +328,14 @@ numbers_are numbered max bytes ended own n j u e =
 
 -- ---- a stream of no more units
 
-get-within : {A : Type 0} (xs : List A) (n : ℕ) (x : A) → slice_get xs n ≡ Some x → n < length xs
-get-within [] n x e = cc
-get-within (y ∷ xs) zero x e = omega arith
-get-within (y ∷ xs) (suc n) x e = omega (arith, get-within xs n x e)
-
-record IsThere {A : Type 0} (xs : List A) (n : ℕ) : Type 0 where
-  item : A
-  is_there : slice_get xs n ≡ Some item
-
-within-get : {A : Type 0} (xs : List A) (n : ℕ) → n < length xs → IsThere xs n
-within-get [] n low = absurd (omega (arith, low))
-within-get (y ∷ xs) zero low = record { item = y; is_there = refl }
-within-get (y ∷ xs) (suc n) low = let later = within-get xs n (omega (arith, low)) in record { item = later.item; is_there = later.is_there }
-
 -- No number is cut off where the stream has no more units than one in which none is.
 fewer_own : UnitsAreNumbered → (max : ℕ) (bytes fewer : List ℕ) (ended : Bool)
     → length (units max fewer ended) ≤ length (units max bytes ended) → HaveOwnNumbers (units max bytes ended) → HaveOwnNumbers (units max fewer ended)
 fewer_own numbered max bytes fewer ended few own n u e =
-    let within = get-within (units max fewer ended) n u e in
-    let there = within-get (units max bytes ended) n (omega (arith, within, few)) in
-    let same : u.index ≡ (there.item).index = numbered max fewer ended n u e ∙ sym (numbered max bytes ended n there.item there.is_there) in
-    omega (arith, same, own n there.item there.is_there)
+    let there = get_or (units max bytes ended) n u in
+    let is_there = slice_get-get_or (units max bytes ended) n u (omega (arith, slice_get_within (units max fewer ended) n u e, few)) in
+    let same : u.index ≡ there.index = numbered max fewer ended n u e ∙ sym (numbered max bytes ended n there is_there) in
+    omega (arith, same, own n there is_there)
 
 -- There are so many from a unit on, behind those that brought the sets in force.
 resumed_few : SetsInForceAreFew → (all us : List Piece) (k : ℕ)
@@ -396,32 +358,15 @@ resumed_few few all us k same =
 
 -- ---- the unit that closes a faulty picture
 
--- what a slice that can be read does where a picture is open, by whether it begins another; and one that cannot, by whether that is full
-abbrev readable_by : Slice → (b : Bool) → Step
-readable_by s b = elim b [
-  | true ↦ record { closes = true; next = Begins s; even_after_fault = true }
-  | false ↦ record { closes = false; next = Continues s; even_after_fault = false }
-]
-
-abbrev unreadable_by : Fault → (b : Bool) → Step
-unreadable_by f b = elim b [
-  | true ↦ record { closes = true; next = FaultOfOwn f; even_after_fault = false }
-  | false ↦ record { closes = false; next = FaultOfOpen f; even_after_fault = false }
-]
-
-begins_by : (s : Slice) (b : Bool) → (readable_by s b).closes ≡ true → (readable_by s b).next ≡ Begins s
-begins_by s true closes = refl
-begins_by s false closes = cc
-
-never_by : (f : Fault) (b : Bool) → (unreadable_by f b).closes ≡ true → (unreadable_by f b).even_after_fault ≡ true → (unreadable_by f b).next ≡ FaultOfOwn f
-never_by f true closes even = cc
-never_by f false closes even = cc
-
 -- it begins a picture as it would where decoding waits
 begins_alike : (o : OpenPictureFacts) (read : Result Slice Fault) → (slice_step (Some o) true read).closes ≡ true
     → (slice_step (Some o) true read).even_after_fault ≡ true → (slice_step (Some o) true read).next ≡ (slice_step None true read).next
-begins_alike o (Ok s) closes even = begins_by s (begins o.last s.header) closes
-begins_alike o (Err f) closes even = never_by f o.full closes even
+begins_alike o (Ok s) =
+    either (λ (w : Step). w.closes ≡ true → w.even_after_fault ≡ true → w.next ≡ Begins s) (begins o.last s.header) _ _
+    (λ _ closes even. refl) (λ _ closes even. cc closes)
+begins_alike o (Err f) =
+    either (λ (w : Step). w.closes ≡ true → w.even_after_fault ≡ true → w.next ≡ FaultOfOwn f) o.full _ _
+    (λ _ closes even. cc even) (λ _ closes even. cc closes)
 
 next_alike : (sets : Sets) (o : OpenPictureFacts) (u : Piece) → is_start u ≡ true → (step sets true (Some o) u).closes ≡ true
     → (step sets true (Some o) u).even_after_fault ≡ true → (step sets true (Some o) u).next ≡ (step sets false None u).next
@@ -466,11 +411,6 @@ starts_in output units u us ended (running h (Some o)) e can =
     (closing_first output sets u.index what here.next h o can.0 can.1 can.2 (next_alike sets (open_picture_facts o) u e can.0 can.2))
     ∙ append_assoc closed.events y.events (rest y)
 
-drop-there : {A : Type 0} (xs : List A) (k : ℕ) (x : A) → slice_get xs k ≡ Some x → drop k xs ≡ x ∷ drop (suc k) xs
-drop-there [] k x e = cc
-drop-there (y ∷ xs) zero x e = cc
-drop-there (y ∷ xs) (suc k) x e = drop-there xs k x e
-
 pub starts_anew : UnitsStay → WrittenUnitsStand → UnitsAreNumbered → SetsAreInForceAgain → SetsInForceAreUnits → SetsInForceAreFew → SetsComeAlike
     → StartsAnew
 starts_anew stay stand numbered again are few come output max bytes ended k own starts placed =
@@ -479,7 +419,7 @@ starts_anew stay stand numbered again are few come output max bytes ended k own 
     let before = take k all in
     let state = state_through (first_state output) before in
     let later = drop (suc k) all in
-    let from_there = drop-there all k starts.unit starts.is_there in
+    let from_there = drop_some all k starts.unit (sym starts.is_there) in
     let sets : All (IsUnitOf max bytes) (sets_in_force before) =
     All-weaker (IsSetOf before) (IsUnitOf max bytes) (λ v i. set_of_stream max bytes ended k starts.unit v s i) (sets_in_force before) (are before) in
     let same : map contents (units max (resumed max bytes k) ended) ≡ map contents (sets_in_force before) ++ map contents (drop k all) =

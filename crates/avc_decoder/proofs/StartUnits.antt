@@ -1,22 +1,24 @@
 -- A unit with which decoding could start, while it runs: what is held goes out, and then decoding goes on as from a new start.
 use Rattle.avc_decoder.proofs.Common.{◌≡◌, ℕ, Bool, true, false, ◌==◌, List, [], ◌∷◌, ◌++◌, Option, Some, None, Result, Ok, Err, is_some}
-use Rattle.avc_decoder.proofs.Common.{IsTrue, refl, first_so, second_so, list_all, ap, ap₂, sym, subst, ◌∙◌, append_assoc, append-nil}
-use Rattle.avc_decoder.proofs.Common.{All-cons, All-nil, Fault, forbidden_zero_bit, Piece, Sets, sets_after, Pps, SetUnit, Sps, begins}
-use Rattle.avc_decoder.proofs.Common.{is_idr, Slice, HeadersKeepIdrRules, KeepsIdrRules, Kind, slice, partition, sps, pps, boundary, other}
-use Rattle.avc_decoder.proofs.Common.{OpenPictureFacts, is_start, kind, kind_of, running_step, set_units, slice_in, slice_step, step}
-use Rattle.avc_decoder.proofs.Common.{unreadable, waiting_step, Nothing, Refusal, FaultOfOpen, FaultOfOwn, Begins, Continues, Step, Output}
-use Rattle.avc_decoder.proofs.Common.{History, no_output_of_prior_pics, OpenPicture, history_of, Outcome, Phase, after_closing}
-use Rattle.avc_decoder.proofs.Common.{after_first_slice, after_next, after_unit, at_end, closed_outcome, closing_result, events_and_held}
-use Rattle.avc_decoder.proofs.Common.{events_from, failed_at, first_state, held_after, in_phase, is_running, open_picture_facts, running}
-use Rattle.avc_decoder.proofs.Common.{sets_named, waiting, StartUnitsBeginAnew, is_picture, state_through, IsISlice, Event, Refused}
+use Rattle.avc_decoder.proofs.Common.{open_facts_in, IsTrue, false≢true, Next, refl, first_so, second_so, list_all, ap, ap₂, sym, subst}
+use Rattle.avc_decoder.proofs.Common.{◌∙◌, append_assoc, append-nil, All-cons, All-nil, Fault, forbidden_zero_bit, Piece, Sets, sets_after}
+use Rattle.avc_decoder.proofs.Common.{Pps, SetUnit, Sps, begins, is_idr, Slice, HeadersKeepIdrRules, KeepsIdrRules, Kind, slice, partition}
+use Rattle.avc_decoder.proofs.Common.{sps, pps, boundary, other, OpenPictureFacts, is_start, kind, kind_of, running_step, set_units}
+use Rattle.avc_decoder.proofs.Common.{slice_in, slice_step, step, unreadable, waiting_step, Nothing, Refusal, FaultOfOpen, FaultOfOwn}
+use Rattle.avc_decoder.proofs.Common.{Begins, Continues, Step, Output, History, no_output_of_prior_pics, OpenPicture, history_of, Outcome}
+use Rattle.avc_decoder.proofs.Common.{Phase, after_closing, after_first_slice, after_next, after_unit, at_end, closed_outcome}
+use Rattle.avc_decoder.proofs.Common.{closing_result, events_and_held, events_from, failed_at, first_state, held_after, in_phase}
+use Rattle.avc_decoder.proofs.Common.{is_running, open_picture_facts, running, sets_named, waiting, StartUnitsBeginAnew, is_picture}
+use Rattle.avc_decoder.proofs.Common.{state_through, IsISlice, Event, Refused}
 use Rattle.std.proofs.lemmas.List.Folds.{list_all-append}
 use Rattle.avc_types.specs.declared.fault.Fault.TheVariants as faults
 use Rattle.avc_types.specs.declared.references.Marking.{Marking}
 use Rattle.avc_types.specs.declared.references.Marking.TheVariants.{Adaptive, Idr, SlidingWindow}
 use Rattle.avc_decoder.proofs.FirstPicture.{Gives, IsFirst, KeepsPicture, Owed, Paid, Still, closed_first, due, facts_first, failed_first}
 use Rattle.avc_decoder.proofs.FirstPicture.{in_first, picture_on, slice_first}
-use Rattle.avc_decoder.proofs.Headers.{begins_at_zero, idr_continues, read_is, slice_of_unit, starts}
-use Rattle.avc_decoder.proofs.Through.{output_through, sets_through, state_of}
+use Rattle.avc_decoder.proofs.Headers.{begins_at_zero, read_is, slice_of_unit, starts}
+use Rattle.avc_decoder.proofs.Stepping.{BringsNext, brings_step, idr_continues, rules_in}
+use Rattle.avc_decoder.proofs.Growing.{output_through, sets_through, state_of}
 
 -- ---- events that are pictures
 
@@ -34,52 +36,19 @@ not_refused es unit f e = back_shown es (Refused unit f ∷ []) e
 
 -- ---- what a unit says while an IDR picture is open
 
-abbrev Keeps : Step → Type 0
-Keeps what = KeepsPicture what.closes what.next
-
-unreadable_keeps : (facts : OpenPictureFacts) (f : Fault) → Keeps (unreadable (Some facts) f)
-unreadable_keeps facts f = by_full facts.full
-  where
-    by_full : (full : Bool) → Keeps (elim full [
-      | true ↦ record { closes = true; next = FaultOfOwn f; even_after_fault = false }
-      | false ↦ record { closes = false; next = FaultOfOpen f; even_after_fault = false }
-    ])
-    by_full true = tt
-    by_full false = tt
-
-slice_keeps : (facts : OpenPictureFacts) (starts : Bool) (read : Result Slice Fault) → is_idr facts.last ≡ true
-    → ((s : Slice) → read ≡ Ok s → KeepsIdrRules s.header) → Keeps (slice_step (Some facts) starts read)
-slice_keeps facts starts (Err f) idr rules = unreadable_keeps facts f
-slice_keeps facts starts (Ok s) idr rules = by_begins (begins facts.last s.header) refl
-  where
-    by_begins : (b : Bool) → begins facts.last s.header ≡ b → Keeps (elim b [
-      | true ↦ record { closes = true; next = Begins s; even_after_fault = starts }
-      | false ↦ record { closes = false; next = Continues s; even_after_fault = false }
-    ])
-    by_begins true e = tt
-    by_begins false e = ((rules s refl).intra (idr_continues facts.last s.header idr e), idr_continues facts.last s.header idr e)
-
-pub rules_in : HeadersKeepIdrRules → (sets : Sets) (u : Piece) (s : Slice) → slice_in sets u ≡ Ok s → KeepsIdrRules s.header
-rules_in rules sets u s e = let of_unit = slice_of_unit sets u s e in rules u.header sets of_unit.rbsp s.header of_unit.is_read
+keeps_by : HeadersKeepIdrRules → (sets : Sets) (u : Piece) (facts : OpenPictureFacts) → is_idr facts.last ≡ true → (closes : Bool) (n : Next)
+    → BringsNext (slice_in sets u) (Some facts) closes n → KeepsPicture closes n
+keeps_by rules sets u facts idr true n b = tt
+keeps_by rules sets u facts idr false (Begins s) b = cc b.0
+keeps_by rules sets u facts idr false (Continues s) b =
+    let continues = idr_continues facts.last s.header idr b.1 in
+    ((rules_in rules sets u s b.2).intra continues, continues)
+keeps_by rules sets u facts idr false _ b = tt
 
 step_keeps : HeadersKeepIdrRules → (sets : Sets) (facts : OpenPictureFacts) (u : Piece) → is_idr facts.last ≡ true
-    → Keeps (step sets true (Some facts) u)
-step_keeps rules sets facts u idr = by_bit (forbidden_zero_bit u.header)
-  where
-    by_kind : (k : Kind) → Keeps (running_step sets (Some facts) u k)
-    by_kind (slice of_idr) = slice_keeps facts (is_start u) (slice_in sets u) idr (rules_in rules sets u)
-    by_kind partition = unreadable_keeps facts faults.DataPartition
-    by_kind sps = tt
-    by_kind pps = tt
-    by_kind boundary = tt
-    by_kind other = tt
-
-    by_bit : (b : Bool) → Keeps (elim b [
-      | true ↦ record { closes = false; next = Refusal faults.ForbiddenBit; even_after_fault = true }
-      | false ↦ running_step sets (Some facts) u (kind u)
-    ])
-    by_bit true = tt
-    by_bit false = by_kind (kind u)
+    → let what = step sets true (Some facts) u in KeepsPicture what.closes what.next
+step_keeps rules sets facts u idr =
+    keeps_by rules sets u facts idr _ _ (brings_step sets true (Some facts) u (λ e. absurd (false≢true (sym e)))).brings
 
 -- ---- from the IDR picture on
 
@@ -145,23 +114,7 @@ pub says : (sets : Sets) (u : Piece) → is_start u ≡ true → Says sets u
 says sets u e =
     let s = starts u e in
     let kind_is : kind u ≡ slice true = ap kind_of s.of_idr in
-    record {
-      runs = λ o. ap (λ b. by_bit b (running_step sets o u (kind u))) s.allowed ∙ ap (running_step sets o u) kind_is ∙ by_start o;
-      waits =
-          ap (λ b. by_bit b (waiting_step sets u (kind u))) s.allowed
-          ∙ ap (waiting_step sets u) kind_is
-          ∙ ap (λ b. if_starts b (running_step sets None u (slice true))) e
-          ∙ by_start None;
-    }
-  where
-    by_bit : Bool → Step → Step
-    by_bit b what = elim b [ true ↦ record { closes = false; next = Refusal faults.ForbiddenBit; even_after_fault = true } | false ↦ what ]
-
-    if_starts : Bool → Step → Step
-    if_starts b what = elim b [ true ↦ what | false ↦ record { closes = false; next = Nothing; even_after_fault = false } ]
-
-    by_start : (o : Option OpenPictureFacts) → running_step sets o u (slice true) ≡ slice_step o true (slice_in sets u)
-    by_start o = ap (λ b. slice_step o b (slice_in sets u)) e
+    record { runs = λ o. cc (s.allowed, kind_is, e); waits = cc (s.allowed, kind_is, e) }
 
 -- what is known of its slice
 record IsBeginning (sets : Sets) (s : Slice) : Type 0 where
@@ -269,80 +222,65 @@ abbrev GivesIn : Output → List SetUnit → Piece → List Piece → Phase → 
 GivesIn output units u us p what here =
     AllPictures (by_step output units u us p what) → by_step output units u us p what ≡ at_end output p ++ by_step output units u us waiting here
 
-none_gives : HeadersKeepIdrRules → (output : Output) (units : List SetUnit) (u : Piece) (us : List Piece) (h : History)
-    → (read : Result Slice Fault) → ((s : Slice) → read ≡ Ok s → IsBeginning (sets_after units) s)
-    → GivesIn output units u us (running h None) (slice_step None true read) (slice_step None true read)
-none_gives rules output units u us h (Ok s) is shown =
-    closed_begins rules output (sets_after units) u.index (units ++ set_units (u ∷ [])) us s (is s refl) h shown
-none_gives rules output units u us h (Err f) is shown =
-    let after = units ++ set_units (u ∷ []) in
-    owed_gives output h us (open_gives rules output h us) after (failed_at output h u.index f 0) (failed_at output [] u.index f 0)
-    (Paid (failed_first output h u.index f 0 0)) shown
-
 -- a slice that cannot be read is refused
 abbrev refused_by : (output : Output) → (sets : Sets) (unit : ℕ) → History → OpenPicture → Step → Type 0
 refused_by output sets unit h o what = AllPictures (in_phase output sets unit what (running h (Some o))).events → false ≡ true
 
-unreadable_refused : (output : Output)
-    → (sets : Sets) (unit : ℕ) (h : History) (o : OpenPicture) (facts : OpenPictureFacts) (f : Fault)
-    → refused_by output sets unit h o (unreadable (Some facts) f)
-unreadable_refused output sets unit h o facts f = by_full facts.full
-  where
-    what : Step
-    what = record { closes = true; next = FaultOfOwn f; even_after_fault = false }
+abbrev unreadable_by : Fault → (full : Bool) → Step
+unreadable_by f full =
+    elim full [
+      | true ↦ record { closes = true; next = FaultOfOwn f; even_after_fault = false }
+      | false ↦ record { closes = false; next = FaultOfOpen f; even_after_fault = false }
+    ]
 
-    by_closed : (r : Result History (ℕ × Fault)) → AllPictures (after_closing output sets unit what (closed_outcome output o r)).events
-        → false ≡ true
+unreadable_refused : (output : Output) (sets : Sets) (unit : ℕ) (h : History) (o : OpenPicture) (f : Fault) (full : Bool)
+    → refused_by output sets unit h o (unreadable_by f full)
+unreadable_refused output sets unit h o f true shown = by_closed (closing_result o) shown
+  where
+    by_closed : (r : Result History (ℕ × Fault))
+        → AllPictures (after_closing output sets unit (unreadable_by f true) (closed_outcome output o r)).events → false ≡ true
     by_closed (Ok full) shown =
         let out = (closed_outcome output o (Ok full)).events in
         not_refused (due output full) unit f (back_shown out (due output full ++ Refused unit f ∷ []) shown)
     by_closed (Err found) shown = not_refused (due output (history_of o)) found.0 found.1 shown
+unreadable_refused output sets unit h o f false shown = not_refused (due output (history_of o)) unit f shown
 
-    by_full : (full : Bool) → refused_by output sets unit h o (elim full [
-      | true ↦ record { closes = true; next = FaultOfOwn f; even_after_fault = false }
-      | false ↦ record { closes = false; next = FaultOfOpen f; even_after_fault = false }
-    ])
-    by_full true shown = by_closed (closing_result o) shown
-    by_full false shown = not_refused (due output (history_of o)) unit f shown
-
-some_gives : HeadersKeepIdrRules → (output : Output) (units : List SetUnit) (u : Piece) (us : List Piece) (h : History) (o : OpenPicture)
+gives : HeadersKeepIdrRules → (output : Output) (units : List SetUnit) (u : Piece) (us : List Piece) (h : History) (o : Option OpenPicture)
     → (read : Result Slice Fault) → ((s : Slice) → read ≡ Ok s → IsBeginning (sets_after units) s)
-    → GivesIn output units u us (running h (Some o)) (slice_step (Some (open_picture_facts o)) true read) (slice_step None true read)
-some_gives rules output units u us h o (Ok s) is shown =
-    by_begins (begins (o.last).header s.header) (begins_at_zero (o.last).header s.header (is s refl).address) shown
-  where
-    by_begins : (b : Bool) → b ≡ true → GivesIn output units u us (running h (Some o)) (elim b [
+    → GivesIn output units u us (running h o) (slice_step (open_facts_in (running h o)) true read) (slice_step None true read)
+gives rules output units u us h None (Ok s) is shown =
+    closed_begins rules output (sets_after units) u.index (units ++ set_units (u ∷ [])) us s (is s refl) h shown
+gives rules output units u us h None (Err f) is shown =
+    let after = units ++ set_units (u ∷ []) in
+    owed_gives output h us (open_gives rules output h us) after (failed_at output h u.index f 0) (failed_at output [] u.index f 0)
+    (Paid (failed_first output h u.index f 0 0)) shown
+gives rules output units u us h (Some o) (Ok s) is shown =
+    let begun_by : Bool → Step = λ b. elim b [
       | true ↦ record { closes = true; next = Begins s; even_after_fault = true }
       | false ↦ record { closes = false; next = Continues s; even_after_fault = false }
-    ]) (slice_step None true (Ok s))
-    by_begins true e shown' =
-        closed_gives rules output (sets_after units) u.index (units ++ set_units (u ∷ [])) us s (is s refl) o (closing_result o) shown'
-    by_begins false e shown' = cc
-some_gives rules output units u us h o (Err f) is shown =
+    ] in
+    subst (λ b. GivesIn output units u us (running h (Some o)) (begun_by b) (slice_step None true (Ok s)))
+    (sym (begins_at_zero (o.last).header s.header (is s refl).address))
+    (closed_gives rules output (sets_after units) u.index (units ++ set_units (u ∷ [])) us s (is s refl) o (closing_result o)) shown
+gives rules output units u us h (Some o) (Err f) is shown =
     let sets = sets_after units in
-    let facts = open_picture_facts o in
-    let x = in_phase output sets u.index (unreadable (Some facts) f) (running h (Some o)) in
+    let full = (open_picture_facts o).full in
+    let x = in_phase output sets u.index (unreadable_by f full) (running h (Some o)) in
     let after = units ++ set_units (u ∷ []) in
     let no : false ≡ true =
-    unreadable_refused output sets u.index h o facts f (front_shown x.events (events_from (state_of output after x.phase) us true) shown) in
+    unreadable_refused output sets u.index h o f full (front_shown x.events (events_from (state_of output after x.phase) us true) shown) in
     (cc no)
 
 starts_in : HeadersKeepIdrRules → (output : Output) (units : List SetUnit) (u : Piece) (us : List Piece) → is_start u ≡ true
     → (p : Phase) → (is_running p ≡ true → LetsOut (sets_after units) u) → StartsAnewIn output units u us p
 starts_in rules output units u us e waiting lets = λ shown. refl
-starts_in rules output units u us e (running h None) lets =
+starts_in rules output units u us e (running h o) lets =
     let sets = sets_after units in
     let read = slice_in sets u in
-    subst (λ what. GivesIn output units u us (running h None) what (step sets false None u)) (sym ((says sets u e).runs None))
-    (subst (λ here. GivesIn output units u us (running h None) (slice_step None true read) here) (sym (says sets u e).waits)
-    (none_gives rules output units u us h read (beginning rules sets u e (lets refl))))
-starts_in rules output units u us e (running h (Some o)) lets =
-    let sets = sets_after units in
-    let read = slice_in sets u in
-    let facts = Some (open_picture_facts o) in
-    subst (λ what. GivesIn output units u us (running h (Some o)) what (step sets false None u)) (sym ((says sets u e).runs facts))
-    (subst (λ here. GivesIn output units u us (running h (Some o)) (slice_step facts true read) here) (sym (says sets u e).waits)
-    (some_gives rules output units u us h o read (beginning rules sets u e (lets refl))))
+    let facts = open_facts_in (running h o) in
+    subst (λ what. GivesIn output units u us (running h o) what (step sets false None u)) (sym ((says sets u e).runs facts))
+    (subst (λ here. GivesIn output units u us (running h o) (slice_step facts true read) here) (sym (says sets u e).waits)
+    (gives rules output units u us h o read (beginning rules sets u e (lets refl))))
 
 -- ---- the law
 

@@ -1,9 +1,16 @@
 -- What the grouper's steps bring, and when they keep the parameter sets.
-use Rattle.avc_decoder.proofs.Common.{◌≡◌, ℕ, Bool, true, false, [], ◌∷◌, Option, Some, None, Result, Ok, Err, refl, sym, ◌∙◌, arith}
-use Rattle.avc_decoder.proofs.Common.{nat_tests, is_some, not, ◌==◌, ◌||◌, Fault, DataPartition, ForbiddenBit, forbidden_zero_bit, Piece}
-use Rattle.avc_decoder.proofs.Common.{Sets, begins, is_idr, Header, Slice, Kind, OpenPictureFacts, boundary, is_start, kind, other}
-use Rattle.avc_decoder.proofs.Common.{partition, no_effect, pps, running_step, set_fault, set_units, rbsp_of, slice, slice_step, sps, step}
-use Rattle.avc_decoder.proofs.Common.{slice_in, unreadable, waiting_step, Next, Begins, Continues, FaultOfOpen, FaultOfOwn, Refusal, Step}
+use Rattle.avc_decoder.proofs.Common.{◌≡◌, ℕ, Bool, true, false, [], ◌∷◌, ◌++◌, Option, Some, None, Result, Ok, Err, refl, ap, sym, ◌∙◌}
+use Rattle.avc_decoder.proofs.Common.{arith, nat_tests, is_some, not, if◌then◌else◌, Fault, DataPartition, ForbiddenBit, forbidden_zero_bit}
+use Rattle.avc_decoder.proofs.Common.{Piece, Sets, begins, is_idr, Header, Slice, HeadersKeepIdrRules, KeepsIdrRules, Kind}
+use Rattle.avc_decoder.proofs.Common.{OpenPictureFacts, boundary, is_start, kind, other, partition, no_effect, pps, running_step, set_fault}
+use Rattle.avc_decoder.proofs.Common.{set_units, rbsp_of, refusal_of, ends_picture, slice, slice_step, sps, step, slice_in, unreadable}
+use Rattle.avc_decoder.proofs.Common.{waiting_step, Next, Begins, Continues, FaultOfOpen, FaultOfOwn, Refusal, Step}
+use Rattle.avc_units.specs.Grouping.{list_of, set_of}
+use Rattle.avc_decoder.proofs.Cases.{either}
+use Rattle.avc_decoder.proofs.Headers.{slice_of_unit}
+use Rattle.avc_decoder.proofs.Histories.{HasItsMarking}
+
+-- ---- what comes next
 
 -- no picture is open after closing
 abbrev pub rests : (closes : Bool) → Option OpenPictureFacts → Bool
@@ -15,148 +22,116 @@ abbrev pub GoesOn : Option OpenPictureFacts → Slice → Type 0
 GoesOn None s = ⊥
 GoesOn (Some o) s = begins o.last s.header ≡ false
 
-abbrev pub BringsNext : Option OpenPictureFacts → (closes : Bool) → Next → Type 0
-BringsNext open' closes (Begins s) = rests closes open' ≡ true
-BringsNext open' closes (Continues s) = (closes ≡ false) × GoesOn open' s
-BringsNext open' closes _ = Unit {0}
+abbrev pub BringsNext : (read : Result Slice Fault) → Option OpenPictureFacts → (closes : Bool) → Next → Type 0
+BringsNext read open' closes (Begins s) = (rests closes open' ≡ true) × (read ≡ Ok s)
+BringsNext read open' closes (Continues s) = (closes ≡ false) × GoesOn open' s × (read ≡ Ok s)
+BringsNext read open' closes _ = Unit {0}
 
--- A picture begins where none is open, and goes on where the last slice is of the same one.
-pub record Brings (open' : Option OpenPictureFacts) (w : Step) : Type 0 where
-  pub brings : BringsNext open' w.closes w.next
+-- A picture begins where none is open, and goes on where the last slice is of the same one; its slice is the one that is read.
+pub record Brings (read : Result Slice Fault) (open' : Option OpenPictureFacts) (w : Step) : Type 0 where
+  pub brings : BringsNext read open' w.closes w.next
 
-brings_readable : (b : Bool) (o : OpenPictureFacts) (starts : Bool) (s : Slice) → begins o.last s.header ≡ b → Brings (Some o) (elim b [
-  | true ↦ record { closes = true; next = Begins s; even_after_fault = starts }
-  | false ↦ record { closes = false; next = Continues s; even_after_fault = false }
-])
-brings_readable true o starts s e = record { brings = refl }
-brings_readable false o starts s e = record { brings = (refl, e) }
+brings_unreadable : (read : Result Slice Fault) (open' : Option OpenPictureFacts) (f : Fault) → Brings read open' (unreadable open' f)
+brings_unreadable read None f = record { brings = tt }
+brings_unreadable read (Some o) f =
+    either (Brings read (Some o)) o.full _ _ (λ _. record { brings = tt }) (λ _. record { brings = tt })
 
-brings_full : (b : Bool) (open' : Option OpenPictureFacts) (f : Fault) → Brings open' (elim b [
-  | true ↦ record { closes = true; next = FaultOfOwn f; even_after_fault = false }
-  | false ↦ record { closes = false; next = FaultOfOpen f; even_after_fault = false }
-])
-brings_full true open' f = record { brings = tt }
-brings_full false open' f = record { brings = tt }
+brings_slice : (open' : Option OpenPictureFacts) (starts : Bool) (read : Result Slice Fault) → Brings read open' (slice_step open' starts read)
+brings_slice None starts (Ok s) = record { brings = (refl, refl) }
+brings_slice (Some o) starts (Ok s) =
+    either (Brings (Ok s) (Some o)) (begins o.last s.header) _ _ (λ _. record { brings = (refl, refl) }) (λ e. record { brings = (refl, e, refl) })
+brings_slice open' starts (Err f) = brings_unreadable (Err f) open' f
 
-brings_unreadable : (open' : Option OpenPictureFacts) (f : Fault) → Brings open' (unreadable open' f)
-brings_unreadable None f = record { brings = tt }
-brings_unreadable (Some o) f = brings_full o.full (Some o) f
+brings_set : (read : Result Slice Fault) (open' : Option OpenPictureFacts) (f : Option Fault) → Brings read open' (ends_picture (refusal_of f))
+brings_set read open' None = record { brings = tt }
+brings_set read open' (Some f) = record { brings = tt }
 
-brings_slice : (open' : Option OpenPictureFacts) (starts : Bool) (r : Result Slice Fault) → Brings open' (slice_step open' starts r)
-brings_slice None starts (Ok s) = record { brings = refl }
-brings_slice (Some o) starts (Ok s) = brings_readable (begins o.last s.header) o starts s refl
-brings_slice open' starts (Err f) = brings_unreadable open' f
-
--- ends_picture with what a parameter set's unit says
-sps_step : (sets : Sets) (open' : Option OpenPictureFacts) (u : Piece) (f : Option Fault) → set_fault sps (rbsp_of u) ≡ f → Brings open' (running_step sets open' u sps)
-sps_step sets open' u None e = rw e (record { brings = tt })
-sps_step sets open' u (Some f) e = rw e (record { brings = tt })
-
-pps_step : (sets : Sets) (open' : Option OpenPictureFacts) (u : Piece) (f : Option Fault) → set_fault pps (rbsp_of u) ≡ f → Brings open' (running_step sets open' u pps)
-pps_step sets open' u None e = rw e (record { brings = tt })
-pps_step sets open' u (Some f) e = rw e (record { brings = tt })
-
-brings_running : (sets : Sets) (open' : Option OpenPictureFacts) (u : Piece) (k : Kind) → Brings open' (running_step sets open' u k)
+brings_running : (sets : Sets) (open' : Option OpenPictureFacts) (u : Piece) (k : Kind) → Brings (slice_in sets u) open' (running_step sets open' u k)
 brings_running sets open' u (slice idr) = brings_slice open' (is_start u) (slice_in sets u)
-brings_running sets open' u partition = brings_unreadable open' DataPartition
-brings_running sets open' u boundary = record { brings = tt }
-brings_running sets open' u other = record { brings = tt }
-brings_running sets open' u sps = sps_step sets open' u (set_fault sps (rbsp_of u)) refl
-brings_running sets open' u pps = pps_step sets open' u (set_fault pps (rbsp_of u)) refl
+brings_running sets open' u partition = brings_unreadable (slice_in sets u) open' DataPartition
+brings_running sets open' u sps = brings_set (slice_in sets u) open' (set_fault sps (rbsp_of u))
+brings_running sets open' u pps = brings_set (slice_in sets u) open' (set_fault pps (rbsp_of u))
+brings_running sets open' u _ = record { brings = tt }
 
-brings_start : (b : Bool) (sets : Sets) (u : Piece) (idr : Bool) → Brings None (elim b [ true ↦ running_step sets None u (slice idr) | false ↦ no_effect ])
-brings_start true sets u idr = brings_running sets None u (slice idr)
-brings_start false sets u idr = record { brings = tt }
-
-brings_waiting : (sets : Sets) (u : Piece) (k : Kind) → Brings None (waiting_step sets u k)
-brings_waiting sets u (slice idr) = brings_start (is_start u) sets u idr
+brings_waiting : (sets : Sets) (u : Piece) (k : Kind) → Brings (slice_in sets u) None (waiting_step sets u k)
+brings_waiting sets u (slice idr) =
+    either (Brings (slice_in sets u) None) (is_start u) _ _ (λ _. brings_running sets None u (slice idr)) (λ _. record { brings = tt })
 brings_waiting sets u partition = record { brings = tt }
-brings_waiting sets u boundary = brings_running sets None u boundary
-brings_waiting sets u other = brings_running sets None u other
-brings_waiting sets u sps = brings_running sets None u sps
-brings_waiting sets u pps = brings_running sets None u pps
+brings_waiting sets u k = brings_running sets None u k
 
-brings_by : (forbidden running : Bool) (sets : Sets) (open' : Option OpenPictureFacts) (u : Piece) → (running ≡ false → open' ≡ None) → Brings open' (elim forbidden [
-  | true ↦ record { closes = false; next = Refusal ForbiddenBit; even_after_fault = true }
-  | false ↦ elim running [ true ↦ running_step sets open' u (kind u) | false ↦ waiting_step sets u (kind u) ]
-])
-brings_by true running sets open' u w = record { brings = tt }
-brings_by false true sets open' u w = brings_running sets open' u (kind u)
-brings_by false false sets open' u w = rw (w refl) (brings_waiting sets u (kind u))
+pub brings_step : (sets : Sets) (running : Bool) (open' : Option OpenPictureFacts) (u : Piece) → (running ≡ false → open' ≡ None)
+    → Brings (slice_in sets u) open' (step sets running open' u)
+brings_step sets running open' u w =
+    either (Brings (slice_in sets u) open') (forbidden_zero_bit u.header) _ _ (λ _. record { brings = tt })
+    (λ _. either (Brings (slice_in sets u) open') running _ _ (λ _. brings_running sets open' u (kind u))
+    (λ e. rw (w e) (brings_waiting sets u (kind u))))
 
-pub brings_step : (sets : Sets) (running : Bool) (open' : Option OpenPictureFacts) (u : Piece) → (running ≡ false → open' ≡ None) → Brings open' (step sets running open' u)
-brings_step sets running open' u w = brings_by (forbidden_zero_bit u.header) running sets open' u w
+-- ---- a picture that begins
+
+-- A picture begins while none is open, and one that is an IDR picture has the marking of one.
+abbrev pub Allows : Next → (is_open : Bool) → Type 0
+Allows (Begins s) true = ⊥
+Allows (Begins s) false = HasItsMarking s.header
+Allows _ is_open = Unit {0}
+
+-- The same, once the open picture is closed where the step says so.
+abbrev pub Fits : Option OpenPictureFacts → (closes : Bool) → Next → Type 0
+Fits None closes n = Allows n false
+Fits (Some facts) closes n = Allows n (not closes)
+
+pub rules_in : HeadersKeepIdrRules → (sets : Sets) (u : Piece) (s : Slice) → slice_in sets u ≡ Ok s → KeepsIdrRules s.header
+rules_in rules sets u s e = let of_unit = slice_of_unit sets u s e in rules u.header sets of_unit.rbsp s.header of_unit.is_read
+
+pub fits : HeadersKeepIdrRules → (sets : Sets) (u : Piece) (o : Option OpenPictureFacts) (closes : Bool) (n : Next)
+    → BringsNext (slice_in sets u) o closes n → Fits o closes n
+fits rules sets u None closes (Begins s) b = (rules_in rules sets u s b.1).marking
+fits rules sets u (Some facts) true (Begins s) b = (rules_in rules sets u s b.1).marking
+fits rules sets u (Some facts) false (Begins s) b = cc b.0
+fits rules sets u None closes _ b = tt
+fits rules sets u (Some facts) closes _ b = tt
 
 -- ---- the parameter sets
-
-no_set_forbidden : (u : Piece) → forbidden_zero_bit u.header ≡ true → set_units (u ∷ []) ≡ []
-no_set_forbidden u e = cc e
-
-no_set_slice : (u : Piece) (idr : Bool) → forbidden_zero_bit u.header ≡ false → kind u ≡ slice idr → set_units (u ∷ []) ≡ []
-no_set_slice u idr e k = cc (e, k)
-
-no_set_partition : (u : Piece) → forbidden_zero_bit u.header ≡ false → kind u ≡ partition → set_units (u ∷ []) ≡ []
-no_set_partition u e k = cc (e, k)
-
-no_set_boundary : (u : Piece) → forbidden_zero_bit u.header ≡ false → kind u ≡ boundary → set_units (u ∷ []) ≡ []
-no_set_boundary u e k = cc (e, k)
-
-no_set_other : (u : Piece) → forbidden_zero_bit u.header ≡ false → kind u ≡ other → set_units (u ∷ []) ≡ []
-no_set_other u e k = cc (e, k)
 
 abbrev at_kind : Sets → Option OpenPictureFacts → Piece → (running : Bool) → Kind → Step
 at_kind sets open' u running k = elim running [ true ↦ running_step sets open' u k | false ↦ waiting_step sets u k ]
 
-abbrev at_bit : Sets → Option OpenPictureFacts → Piece → (running forbidden : Bool) → Step
-at_bit sets open' u running forbidden = elim forbidden [
-  | true ↦ record { closes = false; next = Refusal ForbiddenBit; even_after_fault = true }
-  | false ↦ at_kind sets open' u running (kind u)
-]
+abbrev at_bit : (forbidden : Bool) → Step → Step
+at_bit forbidden w =
+    elim forbidden [ true ↦ record { closes = false; next = Refusal ForbiddenBit; even_after_fault = true } | false ↦ w ]
 
-sps_closes : (running : Bool) (sets : Sets) (open' : Option OpenPictureFacts) (u : Piece) → (at_kind sets open' u running sps).closes ≡ true
-sps_closes true sets open' u = refl
-sps_closes false sets open' u = refl
-
-pps_closes : (running : Bool) (sets : Sets) (open' : Option OpenPictureFacts) (u : Piece) → (at_kind sets open' u running pps).closes ≡ true
-pps_closes true sets open' u = refl
-pps_closes false sets open' u = refl
-
-keeps_by_kind : (k : Kind) (running : Bool) (sets : Sets) (open' : Option OpenPictureFacts) (u : Piece) → forbidden_zero_bit u.header ≡ false → kind u ≡ k
-    → (at_kind sets open' u running k).closes ≡ false → set_units (u ∷ []) ≡ []
-keeps_by_kind (slice idr) running sets open' u e k h = no_set_slice u idr e k
-keeps_by_kind partition running sets open' u e k h = no_set_partition u e k
-keeps_by_kind boundary running sets open' u e k h = no_set_boundary u e k
-keeps_by_kind other running sets open' u e k h = no_set_other u e k
-keeps_by_kind sps running sets open' u e k h = let differ = sym (sps_closes running sets open' u) ∙ h in cc
-keeps_by_kind pps running sets open' u e k h = let differ = sym (pps_closes running sets open' u) ∙ h in cc
-
-keeps_by : (forbidden running : Bool) (sets : Sets) (open' : Option OpenPictureFacts) (u : Piece) → forbidden_zero_bit u.header ≡ forbidden → (at_bit sets open' u running forbidden).closes ≡ false → set_units (u ∷ []) ≡ []
-keeps_by true running sets open' u e h = no_set_forbidden u e
-keeps_by false running sets open' u e h = keeps_by_kind (kind u) running sets open' u e refl h
+keeps_by_kind : (k : Kind) (running : Bool) (sets : Sets) (open' : Option OpenPictureFacts) (u : Piece)
+    → (at_kind sets open' u running k).closes ≡ false → set_of k (rbsp_of u) ≡ None
+keeps_by_kind sps true sets open' u h = cc
+keeps_by_kind sps false sets open' u h = cc
+keeps_by_kind pps true sets open' u h = cc
+keeps_by_kind pps false sets open' u h = cc
+keeps_by_kind _ running sets open' u h = refl
 
 -- a unit that does not end the open picture brings none
-pub keeps_sets : (sets : Sets) (running : Bool) (open' : Option OpenPictureFacts) (u : Piece) → (step sets running open' u).closes ≡ false → set_units (u ∷ []) ≡ []
-keeps_sets sets running open' u h = keeps_by (forbidden_zero_bit u.header) running sets open' u refl h
+pub keeps_sets : (sets : Sets) (running : Bool) (open' : Option OpenPictureFacts) (u : Piece) → (step sets running open' u).closes ≡ false
+    → set_units (u ∷ []) ≡ []
+keeps_sets sets running open' u = by_bit (forbidden_zero_bit u.header)
+  where
+    by_bit : (b : Bool) → (at_bit b (at_kind sets open' u running (kind u))).closes ≡ false
+        → list_of (if b then None else set_of (kind u) (rbsp_of u)) ++ [] ≡ []
+    by_bit true h = refl
+    by_bit false h = ap (λ s. list_of s ++ []) (keeps_by_kind (kind u) running sets open' u h)
 
 -- ---- a further slice
-
-both_false : (a b : Bool) → (a || b) ≡ false → (a ≡ false) × (b ≡ false)
-both_false true b h = cc
-both_false false b h = (refl, h)
-
-same_number : (a b : ℕ) → not (a == b) ≡ false → a ≡ b
-same_number a b h = grind (arith, nat_tests)
 
 -- it names the picture parameter set that the slice before it names
 pub same_set : (g h : Header) → begins g h ≡ false → g.pic_parameter_set_id ≡ h.pic_parameter_set_id
 same_set g h e = grind (arith, nat_tests, e)
 
 same_some : (g h : Header) (a b : Option ℕ) → begins (record g { idr_pic_id = a }) (record h { idr_pic_id = b }) ≡ false → is_some a ≡ is_some b
-same_some g h (Some a) (Some b) e = refl
-same_some g h None None e = refl
 same_some g h (Some a) None e = grind (arith, e)
 same_some g h None (Some b) e = grind (arith, e)
+same_some g h _ _ e = refl
 
 -- it is one of an IDR picture where the slice before it is
 pub same_kind : (g h : Header) → begins g h ≡ false → is_idr g ≡ is_idr h
 same_kind g h e = same_some g h g.idr_pic_id h.idr_pic_id e
+
+-- One that continues an IDR picture is one of an IDR picture.
+pub idr_continues : (g h : Header) → is_idr g ≡ true → begins g h ≡ false → is_idr h ≡ true
+idr_continues g h i e = sym (same_kind g h e) ∙ i

@@ -9,7 +9,8 @@ use Rattle.avc_decoder.proofs.Common.{pictures, pictures_in, refusals_in, runnin
 use Rattle.avc_decoder.proofs.Common.{first_fault, first_header, history_of, read_of, Event, Picture, Refused}
 use Rattle.std.specs.Prelude.{flat_map}
 use Rattle.avc_decoder.specs.EarlyOutput.{EndedSequence, ended_by_closing, ended_sequence, stopped}
-use Rattle.avc_decoder.proofs.BeginningPictures.{Allows}
+use Rattle.avc_decoder.proofs.Stepping.{Allows}
+use Rattle.avc_decoder.proofs.Cases.{either, if_either, slice_outcome}
 use Rattle.avc_decoder.proofs.Histories.{Follows, HasItsMarking, IsClosed, IsSound, IsSoundOpen, all_of, base_grows, gone}
 use Rattle.avc_decoder.proofs.Histories.{gone_and_held, gone_later, none_sound}
 
@@ -75,11 +76,8 @@ sound_in (running h None) s = s
 sound_in (running h (Some o)) s = (base_grows o s.before).sound
 
 pub stopped_sound : (p q : Phase) → Sound p → All IsSoundSequence (stopped p q)
-stopped_sound p q s = by_test (is_running p && is_waiting q)
-  where
-    by_test : (b : Bool) → All IsSoundSequence (if b then ended_sequence (history_in p) false else [])
-    by_test true = ended_sound (history_in p) false (sound_in p s)
-    by_test false = All-nil IsSoundSequence
+stopped_sound p q s =
+    if_either (All IsSoundSequence) (is_running p && is_waiting q) _ [] (ended_sound (history_in p) false (sound_in p s)) (All-nil IsSoundSequence)
 
 -- From this phase these sequences end with a step with these outcomes, one in each mode. The phase and the refusals are the same
 -- in each mode. What had gone out of the phase's history, and then what goes out with the step, is what the sequences hand out that
@@ -125,18 +123,19 @@ followed p q hs hs' x y is g k = record {
 
 -- ---- what a step may be
 
+-- these events, which bring the same refusals in each mode, and then this phase
+pub step : (p q : Phase) (events : Output → List Event) (read : ℕ) → ((output : Output) → refusals_in (events output) ≡ refusals_in (events Full))
+    → ((output : Output) → gone output (history_in p) ++ pictures_in (events output) ≡ all_in output (stopped p q) ++ gone output (history_in q))
+    → Sound p → Sound q → Turns p (λ output. record { events = events output; phase = q; read = read })
+step p q events read refusals out s t =
+    record { same_phase = λ output. refl; same_refusals = refusals; hands_out = out; each_sound = stopped_sound p q s; sound = t }
+
 -- nothing goes out, and the history stays
 pub still : (p q : Phase) → stopped p q ≡ [] → history_in q ≡ history_in p → Sound p → Sound q → Turns p (λ output. no_change q)
-still p q none same s t = record {
-  same_phase = λ output. refl;
-  same_refusals = λ output. refl;
-  hands_out = λ output.
-      append-nil (gone output (history_in p))
-      ∙ ap (gone output) (sym same)
-      ∙ ap (λ hs. all_in output hs ++ gone output (history_in q)) (sym none);
-  each_sound = stopped_sound p q s;
-  sound = t;
-}
+still p q none same =
+    step p q (λ _. []) 0 (λ _. refl)
+    (λ output. append-nil (gone output (history_in p)) ∙ ap (gone output) (sym same)
+    ∙ ap (λ hs. all_in output hs ++ gone output (history_in q)) (sym none))
 
 not_stopped : (p : Phase) → stopped p p ≡ []
 not_stopped waiting = refl
@@ -151,13 +150,7 @@ stays p s = still p p (not_stopped p) refl s s
 
 refused : (p : Phase) (unit : ℕ) (f : Fault) → Sound p
     → Turns p (λ output. record { events = Refused unit f ∷ []; phase = p; read = 0 })
-refused p unit f s = record {
-  same_phase = λ output. refl;
-  same_refusals = λ output. refl;
-  hands_out = (stays p s).hands_out;
-  each_sound = stopped_sound p p s;
-  sound = s;
-}
+refused p unit f s = step p p (λ _. Refused unit f ∷ []) 0 (λ _. refl) (stays p s).hands_out s s
 
 -- all that is held goes out, and then these events
 pub held_go_out : (p : Phase) (es : List Event) → pictures_in es ≡ [] → (output : Output)
@@ -181,15 +174,11 @@ held_go_out p es none output =
 
 -- a fault
 failed : (p : Phase) (unit : ℕ) (f : Fault) (read : ℕ) → Sound p → Turns p (λ output. failed_at output (history_in p) unit f read)
-failed p unit f read s = record {
-  same_phase = λ output. refl;
-  same_refusals = λ output.
-      refusals_after (held_pictures output (history_in p)) (Refused unit f ∷ [])
-      ∙ sym (refusals_after (held_pictures Full (history_in p)) (Refused unit f ∷ []));
-  hands_out = held_go_out p (Refused unit f ∷ []) refl;
-  each_sound = stopped_sound p waiting s;
-  sound = tt;
-}
+failed p unit f read s =
+    step p waiting (λ output. (failed_at output (history_in p) unit f read).events) read
+    (λ output. refusals_after (held_pictures output (history_in p)) (Refused unit f ∷ [])
+    ∙ sym (refusals_after (held_pictures Full (history_in p)) (Refused unit f ∷ [])))
+    (held_go_out p (Refused unit f ∷ []) refl) s tt
 
 -- pictures go out, and decoding goes on
 shown : (p : Phase) (h : History) (o : Option OpenPicture) (read : ℕ) → Sound p → Sound (running h o)
@@ -202,29 +191,16 @@ shown : (p : Phase) (h : History) (o : Option OpenPicture) (read : ℕ) → Soun
 shown p h o read s t f =
     let old = history_in p in
     let new = history_in (running h o) in
-    record {
-      same_phase = λ output. refl;
-      same_refusals = λ output. no_refusals (output_pictures output old new) ∙ sym (no_refusals (output_pictures Full old new));
-      hands_out = λ output.
-          ap (λ l. gone output old ++ l) (pictures_alone (output_pictures output old new))
-          ∙ gone_later output old new f
-          ∙ ap (λ hs. all_in output hs ++ gone output new) (sym (going_on p h o));
-      each_sound = stopped_sound p (running h o) s;
-      sound = t;
-    }
+    step p (running h o) (λ output. pictures (output_pictures output old new)) read
+    (λ output. no_refusals (output_pictures output old new) ∙ sym (no_refusals (output_pictures Full old new)))
+    (λ output. ap (λ l. gone output old ++ l) (pictures_alone (output_pictures output old new)) ∙ gone_later output old new f
+    ∙ ap (λ hs. all_in output hs ++ gone output new) (sym (going_on p h o))) s t
 
 one_slice : (p : Phase) (already : ℕ) (o : OpenPicture) → Sound p → IsSoundOpen o → Follows (history_in p) (history_of o)
     → Turns p (λ output. with_slice output (history_in p) already o)
 one_slice p already o s t f = by_fault (first_fault o false)
   where
-    by_fault : (found : Option (ℕ × Fault)) → Turns p (λ output. elim found [
-      | Some found ↦ failed_at output (history_in p) found.0 found.1 (read_of o - already)
-      | None ↦ record {
-        events = pictures (output_pictures output (history_in p) (history_of o));
-        phase = running o.before (Some o);
-        read = read_of o - already;
-      }
-    ])
+    by_fault : (found : Option (ℕ × Fault)) → Turns p (λ output. slice_outcome output found (history_in p) o (history_of o) (read_of o - already))
     by_fault (Some found) = failed p found.0 found.1 (read_of o - already) s
     by_fault None = shown p o.before (Some o) (read_of o - already) s t f
 
@@ -253,11 +229,10 @@ next_turns sets unit p (FaultOfOwn f) s a = failed p unit f 0 s
 next_turns sets unit waiting (Begins t) s a = first_of_picture waiting (sets_named sets t.header) t s a
 next_turns sets unit (running h None) (Begins t) s a = first_of_picture (running h None) (sets_named sets t.header) t s a
 next_turns sets unit (running h (Some o)) (Begins t) s a = absurd a
-next_turns sets unit waiting (Continues t) s a = stays waiting s
-next_turns sets unit (running h None) (Continues t) s a = stays (running h None) s
 next_turns sets unit (running h (Some o)) (Continues t) s a =
     one_slice (running h (Some o)) (read_of o) (record o { last = t; earlier = o.last ∷ o.earlier }) s
     (record { before = s.before; idr = s.idr }) (record { more = []; is = refl })
+next_turns sets unit p (Continues t) s a = stays p s
 
 -- where the open picture is closed
 pub closed_goes : (h : History) (o : OpenPicture) (r : Result History (ℕ × Fault)) → IsSoundOpen o
@@ -270,7 +245,8 @@ closed_goes h o (Ok full) s closed = record {
   hands_out = λ output.
       ap (λ l. gone output base ++ l) (pictures_alone (out output))
       ∙ goes_out output (is_idr hd) (no_output_of_prior_pics hd.marking) (closed full refl).follows;
-  each_sound = by_idr (is_idr hd);
+  each_sound =
+      either (All IsSoundSequence) (is_idr hd) _ [] (λ _. ended_sound base _ (base_grows o s.before).sound) (λ _. All-nil IsSoundSequence);
   sound = (closed full refl).sound;
 }
   where
@@ -286,10 +262,6 @@ closed_goes h o (Ok full) s closed = record {
     -- by whether it is an IDR picture, and drops what is held
     ended : (idr drops : Bool) → List EndedSequence
     ended idr drops = elim idr [ true ↦ ended_sequence base drops | false ↦ [] ]
-
-    by_idr : (idr : Bool) → All IsSoundSequence (ended idr (no_output_of_prior_pics hd.marking))
-    by_idr true = ended_sound base _ (base_grows o s.before).sound
-    by_idr false = All-nil IsSoundSequence
 
     by_drops : (output : Output) (drops : Bool) → gone output base ++ (if drops then [] else held_pictures output base) ≡ shown_by output base drops
     by_drops output true = append-nil (gone output base)

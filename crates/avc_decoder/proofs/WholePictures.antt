@@ -1,8 +1,8 @@
 -- Each picture that is handed out is whole.
 use Rattle.avc_decoder.proofs.Common.{◌≡◌, ℕ, zero, suc, ◌+◌, ◌-◌, ◌*◌, ◌/◌, ◌≤◌, Bool, true, false, not, ◌&&◌, if◌then◌else◌, List, []}
-use Rattle.avc_decoder.proofs.Common.{◌∷◌, ◌++◌, length, Option, Some, None, Result, Ok, Err, IfSome, slice_get, refl, ap, sym, subst, ◌∙◌}
-use Rattle.avc_decoder.proofs.Common.{arith, map-append, Fault, Decoded, units, StreamUnit, width_in_mbs, height_in_mbs, sets_after, Pps}
-use Rattle.avc_decoder.proofs.Common.{SetUnit, Sps, Planes, Marks, is_idr, Header, Slice, step, Next, Nothing, Refusal, FaultOfOpen}
+use Rattle.avc_decoder.proofs.Common.{◌∷◌, ◌++◌, length, Option, Some, None, Result, Ok, Err, IfSome, slice_get, refl, ap, ap₂, sym, subst}
+use Rattle.avc_decoder.proofs.Common.{◌∙◌, arith, map-append, Fault, Decoded, units, StreamUnit, width_in_mbs, height_in_mbs, sets_after}
+use Rattle.avc_decoder.proofs.Common.{Pps, SetUnit, Sps, Planes, Marks, is_idr, Header, Slice, step, Next, Nothing, Refusal, FaultOfOpen}
 use Rattle.avc_decoder.proofs.Common.{FaultOfOwn, Begins, Continues, Step, Output, Entry, History, all_held, decoded_picture}
 use Rattle.avc_decoder.proofs.Common.{earlier_in_sequence, entry_at, history_after_closing, history_at_opening, marks_of, missing_frame}
 use Rattle.avc_decoder.proofs.Common.{new_output, with_missing, with_picture, crop_of, entry_pictures, held_pictures}
@@ -17,7 +17,8 @@ use Rattle.avc_types.specs.Whole.{IsWhole}
 use Rattle.avc_params.specs.Within.{IsSps, IsCropping, SpsInForceKeepsLimits}
 use Rattle.avc_params.specs.declared.sps.Cropping.{Cropping}
 use Rattle.avc_picture.specs.Sizes.{IsSized, PicturesAreSized}
-use Rattle.avc_types.specs.Results.{◌>>=◌}
+use Rattle.avc_decoder.proofs.Cases.{either, if_either, slice_outcome}
+use Rattle.avc_decoder.proofs.Histories.{base_keeps, closing_is, has_closed}
 
 -- ---- histories
 
@@ -30,30 +31,8 @@ abbrev AllGood : History → Type 0
 AllGood [] = Unit {0}
 AllGood (e ∷ h) = Good e × AllGood h
 
-good_missing : (sps : Sps) (numbers : List ℕ) (h h' : History) → AllGood h → with_missing sps numbers h ≡ Ok h' → AllGood h'
-good_missing sps [] h h' g e = subst AllGood (ok_same h h' e) g
-good_missing sps (n ∷ numbers) h h' g e = by_marks (marks_of (missing_frame sps n ∷ h)) (good_missing sps numbers (missing_frame sps n ∷ h) h' (tt, g)) e
-  where
-    by_marks : (r : Result Marks Fault) → (with_missing sps numbers (missing_frame sps n ∷ h) ≡ Ok h' → AllGood h') → (r >>= λ m. with_missing sps numbers (missing_frame sps n ∷ h)) ≡ Ok h' → AllGood h'
-    by_marks (Ok m) then' e' = then' e'
-    by_marks (Err f) then' e' = cc
-
-good_opened : (sps : Sps) (hd : Header) (h h' : History) → AllGood h → history_at_opening sps hd h ≡ Ok h' → AllGood h'
-good_opened sps hd h h' g e = let opened = opened_by sps hd h h' e in good_missing sps opened.numbers h h' g opened.missing
-
 good_earlier : (hd : Header) (h : History) → AllGood h → AllGood (earlier_in_sequence hd h)
-good_earlier hd h g = by_idr (is_idr hd)
-  where
-    by_idr : (idr : Bool) → AllGood (elim idr [ true ↦ [] | false ↦ h ])
-    by_idr true = tt
-    by_idr false = g
-
-good_closed_by : (sps : Sps) (hd : Header) (planes : Planes) (h h' : History) → Good (decoded_picture sps hd planes) → AllGood h → history_after_closing sps hd planes h ≡ Ok h' → AllGood h'
-good_closed_by sps hd planes h h' new g e = by_marks (marks_of (with_picture sps hd planes h)) e
-  where
-    by_marks : (r : Result Marks Fault) → (r >>= λ m. Ok (with_picture sps hd planes h)) ≡ Ok h' → AllGood h'
-    by_marks (Ok m) e' = subst AllGood (ok_same (with_picture sps hd planes h) h' e') (new, good_earlier hd h g)
-    by_marks (Err f) e' = cc
+good_earlier hd h g = either AllGood (is_idr hd) [] h (λ _. tt) (λ _. g)
 
 -- ---- pictures
 
@@ -72,24 +51,21 @@ whole-append (e ∷ a) b w v = (w.0, whole-append a b w.1 v)
 half : (n : ℕ) → 16 * n / 2 ≡ 8 * n
 half n = omega arith
 
-columns_fit : (width height : ℕ) (c : Option Cropping) → IfSome c (IsCropping width height) → (crop_of c).left + (crop_of c).right ≤ width
-columns_fit width height None w = omega arith
-columns_fit width height (Some c) w = omega (arith, w.columns)
-
-rows_fit : (width height : ℕ) (c : Option Cropping) → IfSome c (IsCropping width height) → (crop_of c).top + (crop_of c).bottom ≤ height
-rows_fit width height None w = omega arith
-rows_fit width height (Some c) w = omega (arith, w.rows)
+crop_fits : (width height : ℕ) (c : Option Cropping) → IfSome c (IsCropping width height)
+    → ((crop_of c).left + (crop_of c).right ≤ width) × ((crop_of c).top + (crop_of c).bottom ≤ height)
+crop_fits width height None w = (omega arith, omega arith)
+crop_fits width height (Some c) w = (omega (arith, w.columns), omega (arith, w.rows))
 
 picture_whole : (sps : Sps) (planes : Planes) → IsSps sps → IsSized (width_in_mbs sps) (height_in_mbs sps) planes → IsWhole (picture_of sps planes)
 picture_whole sps planes is s =
-    let halves : (8 * width_in_mbs sps) * (8 * height_in_mbs sps) ≡ (16 * width_in_mbs sps / 2) * (16 * height_in_mbs sps / 2) =
-    sym (ap (λ m. m * (16 * height_in_mbs sps / 2)) (half (width_in_mbs sps)) ∙ ap (λ m. (8 * width_in_mbs sps) * m) (half (height_in_mbs sps))) in
+    let halves = ap₂ (λ m n. m * n) (sym (half (width_in_mbs sps))) (sym (half (height_in_mbs sps))) in
+    let fits = crop_fits (16 * width_in_mbs sps) (16 * height_in_mbs sps) sps.frame_cropping is.crop in
     record {
       luma = s.luma.all;
       cb = s.cb.all ∙ halves;
       cr = s.cr.all ∙ halves;
-      columns = columns_fit (16 * width_in_mbs sps) (16 * height_in_mbs sps) sps.frame_cropping is.crop;
-      rows = rows_fit (16 * width_in_mbs sps) (16 * height_in_mbs sps) sps.frame_cropping is.crop;
+      columns = fits.0;
+      rows = fits.1;
     }
 
 abbrev GoodAt : Option Entry → Type 0
@@ -110,8 +86,7 @@ good_at h place g = by_difference (length h - place)
 
 shown_whole : (e : Option Entry) (more : List Decoded) → GoodAt e → AllWhole (pictures more) → AllWhole (pictures (entry_pictures e ++ more))
 shown_whole (Some (decoded_picture sps h planes)) more g w = (picture_whole sps planes g.0 g.1, w)
-shown_whole (Some (missing_frame sps frame_num)) more g w = w
-shown_whole None more g w = w
+shown_whole _ more g w = w
 
 pictures_whole : (h : History) (places : List ℕ) → AllGood h → AllWhole (pictures (pictures_at h places))
 pictures_whole h [] g = tt
@@ -123,29 +98,14 @@ abbrev GoodOpen : OpenPicture → Type 0
 GoodOpen o = AllGood o.before × IsSps o.sps
 
 good_history_of : (o : OpenPicture) → GoodOpen o → AllGood (history_of o)
-good_history_of o g = by_address (first_header o).first_mb_in_slice
-  where
-    by_opened : (r : Result History Fault) → ((h : History) → r ≡ Ok h → AllGood h) → AllGood (elim r [ Err f ↦ o.before | Ok history ↦ history ])
-    by_opened (Ok h) good = good h refl
-    by_opened (Err f) good = g.0
-
-    by_address : (n : ℕ) → AllGood (elim n [ suc _ ↦ o.before | zero ↦ elim (history_at_opening_of o) [ Err f ↦ o.before | Ok history ↦ history ] ])
-    by_address zero = by_opened (history_at_opening_of o) (λ h same. good_opened o.sps (first_header o) o.before h g.0 same)
-    by_address (suc n) = g.0
+good_history_of o g = base_keeps AllGood o (λ n x p marked. (tt, p)) g.0
 
 good_closing : PicturesAreSized → (o : OpenPicture) → GoodOpen o → (h : History) → closing_result o ≡ Ok h → AllGood h
-good_closing sized o g h e = by_fault (first_fault o true) e
-  where
-    by_last : (r : Result History Fault) → ((h' : History) → r ≡ Ok h' → AllGood h') → at_last_slice o r ≡ Ok h → AllGood h
-    by_last (Ok h') good e' = good h (let same : h' ≡ h = cc in ap (λ x. Ok x) same)
-    by_last (Err f) good e' = cc
-
-    by_fault : (f : Option (ℕ × Fault)) → ◌≡◌ {A = Result History (ℕ × Fault)} (elim f [ Some found ↦ Err found | None ↦ at_last_slice o (closed_history o (history_of o)) ]) (Ok h) → AllGood h
-    by_fault (Some found) e' = cc
-    by_fault None e' =
-        by_last (closed_history o (history_of o))
-        (λ h' same. good_closed_by o.sps (first_header o) (picture_planes o (history_of o)) (history_of o) h' (g.1, sized (start_on o (history_of o)) (slices_of o)) (good_history_of o g) same)
-        e'
+good_closing sized o g h e =
+    let base = history_of o in
+    let closed = closing_is o.sps (first_header o) (picture_planes o base) base h (has_closed o h e).closed in
+    subst AllGood (sym closed.0)
+    ((g.1, sized (start_on o base) (slices_of o)), good_earlier (first_header o) base (good_history_of o g))
 
 abbrev GoodPhase : Phase → Type 0
 GoodPhase waiting = Unit {0}
@@ -159,15 +119,14 @@ failed_good : (output : Output) (h : History) (unit : ℕ) (f : Fault) (read : �
 failed_good output h unit f read g = (whole-append (pictures (held_pictures output h)) (Refused unit f ∷ []) (pictures_whole h (all_held output h) g) (tt, tt), tt)
 
 closed_whole : (output : Output) (hd : Header) (base h : History) → AllGood base → AllGood h → AllWhole (pictures (output_at_closing output hd base h))
-closed_whole output hd base h b g = by_idr (is_idr hd) (no_output_of_prior_pics hd.marking) (new_output output (earlier_in_sequence hd base) h)
-  where
-    by_idr : (idr drops : Bool) (places : List ℕ) → AllWhole (pictures (elim idr [ true ↦ (if drops then [] else held_pictures output base) | false ↦ [] ] ++ pictures_at h places))
-    by_idr true false places =
-        let held = held_pictures output base in
-        subst AllWhole (sym (map-append (λ p. Picture p) held (pictures_at h places)))
-        (whole-append (pictures held) (pictures (pictures_at h places)) (pictures_whole base (all_held output base) b) (pictures_whole h places g))
-    by_idr true true places = pictures_whole h places g
-    by_idr false drops places = pictures_whole h places g
+closed_whole output hd base h b g =
+    let Whole : List Decoded → Type 0 = λ out. AllWhole (pictures out) in
+    let held = held_pictures output base in
+    let dropped : Whole (if no_output_of_prior_pics hd.marking then [] else held) =
+    if_either Whole (no_output_of_prior_pics hd.marking) [] held tt (pictures_whole base (all_held output base) b) in
+    let first = either Whole (is_idr hd) (if no_output_of_prior_pics hd.marking then [] else held) [] (λ _. dropped) (λ _. tt) in
+    let places = new_output output (earlier_in_sequence hd base) h in
+    subst AllWhole (sym (map-append (λ p. Picture p) _ (pictures_at h places))) (whole-append _ _ first (pictures_whole h places g))
 
 closed_good : PicturesAreSized → (output : Output) (o : OpenPicture) → GoodOpen o → GoodOutcome (closed_picture output o)
 closed_good sized output o g = by_closing (closing_result o) (good_closing sized o g)
@@ -179,10 +138,7 @@ closed_good sized output o g = by_closing (closing_result o) (good_closing sized
 with_slice_good : (output : Output) (before : History) (already : ℕ) (o : OpenPicture) → AllGood before → GoodOpen o → GoodOutcome (with_slice output before already o)
 with_slice_good output before already o b g = by_fault (first_fault o false)
   where
-    by_fault : (f : Option (ℕ × Fault)) → GoodOutcome (elim f [
-      | Some found ↦ failed_at output before found.0 found.1 (read_of o - already)
-      | None ↦ record { events = pictures (output_pictures output before (history_of o)); phase = running o.before (Some o); read = read_of o - already }
-    ])
+    by_fault : (f : Option (ℕ × Fault)) → GoodOutcome (slice_outcome output f before o (history_of o) (read_of o - already))
     by_fault (Some found) = failed_good output before found.0 found.1 (read_of o - already) b
     by_fault None = (pictures_whole (history_of o) (new_output output before (history_of o)) (good_history_of o g), (g.0, g))
 
@@ -209,20 +165,17 @@ begun_good output (Some named) before s n b =
     with_slice_good output before 0 (record { before = before; sps = named.1; pps = named.0; last = s; earlier = [] }) b (b, n)
 
 good_base : (p : Phase) → GoodPhase p → AllGood (base_in p)
-good_base waiting g = tt
-good_base (running h None) g = g
 good_base (running h (Some o)) g = g.0
+good_base p g = g
 
 good_history_in : (p : Phase) → GoodPhase p → AllGood (history_in p)
-good_history_in waiting g = tt
-good_history_in (running h None) g = g
 good_history_in (running h (Some o)) g = good_history_of o g.1
+good_history_in p g = g
 
 continued_good : (output : Output) (p : Phase) (s : Slice) → GoodPhase p → GoodOutcome (after_next_slice output p s)
-continued_good output waiting s g = (tt, g)
-continued_good output (running h None) s g = (tt, g)
 continued_good output (running h (Some o)) s g =
     with_slice_good output (history_of o) (read_of o) (record o { last = s; earlier = o.last ∷ o.earlier }) (good_history_of o g.1) g.1
+continued_good output p s g = (tt, g)
 
 after_next_good : SpsInForceKeepsLimits → (output : Output) (units : List SetUnit) (unit : ℕ) (p : Phase) (next : Next) → GoodPhase p → GoodOutcome (after_next output (sets_after units) unit p next)
 after_next_good keeps output units unit p Nothing g = (tt, g)
@@ -232,34 +185,23 @@ after_next_good keeps output units unit p (FaultOfOwn f) g = failed_good output 
 after_next_good keeps output units unit p (Begins s) g = begun_good output (sets_named (sets_after units) s.header) (base_in p) s (good_named keeps units s.header) (good_base p g)
 after_next_good keeps output units unit p (Continues s) g = continued_good output p s g
 
-then_good : (a b : Outcome) → GoodOutcome a → GoodOutcome b → GoodOutcome (followed_by a b)
-then_good a b g h = (whole-append a.events b.events g.0 h.0, h.1)
-
 after_closing_good : SpsInForceKeepsLimits → (output : Output) (units : List SetUnit) (unit : ℕ) (what : Step) (o : Outcome) → GoodOutcome o → GoodOutcome (after_closing output (sets_after units) unit what o)
-after_closing_good keeps output units unit what o g = by_test (is_waiting o.phase && not what.even_after_fault)
-  where
-    by_test : (b : Bool) → GoodOutcome (elim b [ true ↦ o | false ↦ followed_by o (after_next output (sets_after units) unit o.phase what.next) ])
-    by_test true = g
-    by_test false = then_good o (after_next output (sets_after units) unit o.phase what.next) g (after_next_good keeps output units unit o.phase what.next g.1)
+after_closing_good keeps output units unit what o g =
+    let next = after_next_good keeps output units unit o.phase what.next g.1 in
+    either GoodOutcome (is_waiting o.phase && not what.even_after_fault) _ _ (λ _. g) (λ _. (whole-append o.events _ g.0 next.0, next.1))
 
 in_phase_good : PicturesAreSized → SpsInForceKeepsLimits → (output : Output) (units : List SetUnit) (unit : ℕ) (what : Step) (p : Phase) → GoodPhase p → GoodOutcome (in_phase output (sets_after units) unit what p)
-in_phase_good sized keeps output units unit what waiting g = after_next_good keeps output units unit waiting what.next g
-in_phase_good sized keeps output units unit what (running h None) g = after_next_good keeps output units unit (running h None) what.next g
-in_phase_good sized keeps output units unit what (running h (Some o)) g = by_test what.closes
-  where
-    by_test : (b : Bool) → GoodOutcome (elim b [
-      | true ↦ after_closing output (sets_after units) unit what (closed_picture output o)
-      | false ↦ after_next output (sets_after units) unit (running h (Some o)) what.next
-    ])
-    by_test true = after_closing_good keeps output units unit what (closed_picture output o) (closed_good sized output o g.1)
-    by_test false = after_next_good keeps output units unit (running h (Some o)) what.next g
+in_phase_good sized keeps output units unit what (running h (Some o)) g =
+    either GoodOutcome what.closes _ _
+    (λ _. after_closing_good keeps output units unit what (closed_picture output o) (closed_good sized output o g.1))
+    (λ _. after_next_good keeps output units unit (running h (Some o)) what.next g)
+in_phase_good sized keeps output units unit what p g = after_next_good keeps output units unit p what.next g
 
 -- ---- all units
 
 held_after_whole : (output : Output) (p : Phase) → GoodPhase p → AllWhole (held_after output p)
 held_after_whole output waiting g = tt
-held_after_whole output (running h None) g = pictures_whole h (all_held output h) g
-held_after_whole output (running h (Some o)) g = pictures_whole h (all_held output h) g.0
+held_after_whole output (running h o) g = pictures_whole h (all_held output h) (good_base (running h o) g)
 
 at_end_whole : PicturesAreSized → (output : Output) (p : Phase) → GoodPhase p → AllWhole (at_end output p)
 at_end_whole sized output waiting g = tt

@@ -46,8 +46,7 @@ returns-in_ok-fail-in-Err-Fault c =
     let stops : Stops c.open.new.self.output t.queue
     (failed_at c.open.new.self.output (current_history c.open.new.self) c.args.slice.now.unit c.in-Err-Fault.fault
     0).events t'.sequence t'.phase t'.queue = search rules in
-    first_unopened t.sequence c.open.new.self t'.sequence t.queue t'.queue t.read t'.read t.table t'.table
-    sets.result.sps.now sets.result.pps.now c.args.slice.now (base_in (phase_of t.sequence t.phase)) t'.phase
-    c.in-Err-Fault.fault c.in-Err-Fault.field-0 (base_here t.sequence t.phase c.requires.phase c.requires.rest)
+    first_unopened t t' c.open.new.self sets.result.sps.now sets.result.pps.now c.args.slice.now
+    (base_in (phase_of t.sequence t.phase)) (base_here t.sequence t.phase c.requires.phase c.requires.rest)
     (none_open t.sequence t.phase c.requires.phase c.requires.rest) (sym c.get.ensures ∙ c.if-get-ne0.false)
-    c.in-Err-Fault.ensures.err c.in-Err-Fault.field-0-is stops w.1 w.2 sets.ensures.named
+    c.in-Err-Fault.ensures.err c.in-Err-Fault.field-0-is (stops, w.1, w.2) sets.ensures.named

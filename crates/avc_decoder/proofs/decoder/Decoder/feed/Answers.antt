@@ -8,8 +8,7 @@ use Rattle.avc_decoder.proofs.decoder.Decoder.feed.Goals as goal
 pub invariant_of-self : goal.invariant_of-self
 invariant_of-self g c =
     let d = c.self.inside in
-    kept_refused d.output g.row.MAX d.bytes.items c.with_all-self-inside.result.items c.args.piece.now d.ended d.ended
-    (length d.taken.items) d.running c.stop_at_refusal.new.running d.read
+    kept_refused c.with_all-self-inside.result.items c.args.piece.now d.ended d.ended d.running c.stop_at_refusal.new.running
     c.self.invariant (going_on d.running c.is_none.result c.is_none.ensures c.if-is_none.false) c.if-self.false
     c.with_all-self-inside.ensures c.in_err-self-inside.ensures.stopped
 
@@ -20,8 +19,7 @@ invariant_of-self-2 g c =
     let fed = ok_so (λ read. FeedsIn g.row.MAX d.running c.args.piece.now read c.feed-fed.new.running)
     c.feed-fed.result c.stop_at_refusal.result f.field-0 c.feed-fed.ensures c.stop_at_refusal.ensures.answer f.was
     in
-    kept_fed d.output g.row.MAX d.bytes.items c.with_all-self-inside.result.items c.args.piece.now d.ended
-    (length d.taken.items) d.running c.stop_at_refusal.new.running d.read f.field-0
+    kept_fed c.with_all-self-inside.result.items c.args.piece.now d.running c.stop_at_refusal.new.running
     c.self.invariant c.if-self.false c.with_all-self-inside.ensures
     (subst (FeedsIn g.row.MAX d.running c.args.piece.now f.field-0) (sym f.ensures.kept) fed)
 
