@@ -19,6 +19,10 @@ pub each_map : {A B : Type 0} (P : B → Type 0) (f : A → B) (xs : List A) →
 each_map P f [] h = tt
 each_map P f (x ∷ xs) h = (h.0, each_map P f xs h.1)
 
+pub each_from_map : {A B : Type 0} (P : B → Type 0) (f : A → B) (xs : List A) → Each P (map f xs) → Each (λ x. P (f x)) xs
+each_from_map P f [] h = tt
+each_from_map P f (x ∷ xs) h = (h.0, each_from_map P f xs h.1)
+
 each_kept : {A : Type 0} (P : A → Type 0) (b : Bool) (x : A) (xs : List A) → P x → Each P xs → Each P (cond b (x ∷ xs) xs)
 each_kept P true x xs first rest = (first, rest)
 each_kept P false x xs first rest = rest

@@ -1,5 +1,5 @@
 -- The state of a sequence as pictures are opened and closed.
-use Rattle.std.proofs.Common.{◌≡◌, ℤ, Bool, true, false, List, [], ◌∷◌, ◌++◌, Option, Some, None, Result, Ok, Err, is_ok, is_some, refl, ap, ap₂, sym, subst, ◌∙◌, rules}
+use Rattle.std.proofs.Common.{◌≡◌, ℤ, Bool, true, false, List, [], ◌∷◌, ◌++◌, Option, Some, None, Result, Ok, Err, is_ok, is_some, refl, ap, ap₂, sym, subst, ◌∙◌, arith}
 use Rattle.avc_decoder_core.proofs.Common.{false≢true, none-some, same_Some, option_map, Fault, Picture, Planes, Frame, Sps, IsSps, Header}
 use Rattle.avc_decoder_core.proofs.Common.{is_idr, is_reference, has_idr_marking, Marks, no_marks, Output, order_counts, OrderCountState}
 use Rattle.avc_decoder_core.proofs.Common.{◌>>=◌, opening_on, set_with, IsOpening, output_at_closing, output_pictures, FrameBufferState}
@@ -9,7 +9,7 @@ use Rattle.avc_decoder_core.specs.History.{Entry, decoded_picture, History, earl
 use Rattle.avc_decoder_core.specs.History.{marks_of, order_or_0, pasts, picture_entry, sequence_sps, with_missing, with_picture}
 use Rattle.avc_decoder_core.specs.FrameBufferState.{Stores}
 use Rattle.avc_decoder_core.specs.SequenceFields.{IsStateOf, StandsOn, StandsOnIf, counted, open_picture_of}
-use Rattle.avc_decoder_core.proofs.MissingNumbers.{can_follow, ok_same, set_at_opening}
+use Rattle.avc_decoder_core.proofs.MissingNumbers.{can_follow, fault_stays, follows, ok_same, set_at_opening}
 use Rattle.avc_decoder_core.proofs.SameSequence.{idr_not_refused}
 
 -- ---- with no open picture
@@ -59,25 +59,13 @@ opened_state sps h closed history o buffer set limits marking reference going re
 
 -- what an IDR picture finds
 history_there : (h : Header) (b : FrameBufferState) → (at_sequence_of h b).history ≡ earlier_in_sequence h b.history
-history_there h b = by (is_idr h)
-  where
-    by : (idr : Bool) → (elim idr as (λ _. FrameBufferState) [ true ↦ empty_frame_buffer b.output | false ↦ b ]).history ≡ elim idr as (λ _. History) [ true ↦ [] | false ↦ b.history ]
-    by true = refl
-    by false = refl
+history_there h b = grind arith
 
 output_there : (h : Header) (b : FrameBufferState) → (at_sequence_of h b).output ≡ b.output
-output_there h b = by (is_idr h)
-  where
-    by : (idr : Bool) → (elim idr as (λ _. FrameBufferState) [ true ↦ empty_frame_buffer b.output | false ↦ b ]).output ≡ b.output
-    by true = refl
-    by false = refl
+output_there h b = grind arith
 
 going_there : (h : Header) (b : FrameBufferState) → b.failed ≡ false → (at_sequence_of h b).failed ≡ false
-going_there h b going = by (is_idr h)
-  where
-    by : (idr : Bool) → (elim idr as (λ _. FrameBufferState) [ true ↦ empty_frame_buffer b.output | false ↦ b ]).failed ≡ false
-    by true = refl
-    by false = going
+going_there h b going = grind arith
 
 -- The picture can be stored there.
 pub record CanStore (sps : Sps) (h : Header) (b : FrameBufferState) (order : ℤ) : Type 0 where
@@ -87,10 +75,10 @@ pub record CanStore (sps : Sps) (h : Header) (b : FrameBufferState) (order : ℤ
   pub first : is_idr h ≡ true → b.history ≡ []
 
 none_before : (h : Header) (before : History) → is_idr h ≡ true → earlier_in_sequence h before ≡ []
-none_before h before idr = ap (λ b. elim b as (λ _. History) [ true ↦ [] | false ↦ before ]) idr
+none_before h before idr = grind arith
 
 all_before : (h : Header) (before : History) → is_idr h ≡ false → earlier_in_sequence h before ≡ before
-all_before h before other = ap (λ b. elim b as (λ _. History) [ true ↦ [] | false ↦ before ]) other
+all_before h before other = grind arith
 
 pub can_store : (closed : History) (p : OpenPicture) (b there : FrameBufferState) (prior : List Picture) → b.failed ≡ false → StandsOn closed b.history p
     → BeginsSequence b p.header prior there → CanStore p.sps p.header there p.order
@@ -149,27 +137,14 @@ refused_on sps h planes b there after prior f marking begins same refused = by (
         absurd (idr_not_refused h (picture_entry sps h) 0 no_marks f (marking idr)
         (sym (ap (λ l. marks_of (e ∷ l)) (is ∙ none_before h b.history idr)) ∙ refused))
     by false idr = record {
-      same = same ∙ begins.state ∙ ap (λ b'. elim b' as (λ _. FrameBufferState) [ true ↦ empty_frame_buffer b.output | false ↦ b ]) idr;
+      same = grind (arith, same, begins.state, idr);
       refused = ap (λ l. marks_of (e ∷ l)) (sym is) ∙ refused;
     }
 
 -- the parameter set of the sequence then
 pub set_then : (sps : Sps) (h : Header) (planes : Planes) (before : History) (set : Option Sps) → set ≡ sequence_sps before
     → set_with sps h set ≡ sequence_sps (with_picture sps h planes before)
-set_then sps h planes before set is = by (is_idr h)
-  where
-    by : (idr : Bool) → elim idr as (λ _. Option Sps) [ true ↦ Some sps | false ↦ set ]
-        ≡ elim idr as (λ _. Option Sps) [ true ↦ Some sps | false ↦ sequence_sps (elim idr as (λ _. History) [ true ↦ [] | false ↦ before ]) ]
-    by true = refl
-    by false = is
-
--- the marks of an entry let it come
-closes_by : (history : History) → is_ok (marks_of history) ≡ true → (marks_of history >>= λ m. Ok history) ≡ Ok history
-closes_by history marked = by (marks_of history) marked
-  where
-    by : (r : Result Marks Fault) → is_ok r ≡ true → (r >>= λ m. Ok history) ≡ Ok history
-    by (Ok m) t = refl
-    by (Err f) t = absurd (false≢true t)
+set_then sps h planes before set is = grind arith
 
 pub is_closed : (old new : SequenceState) (o : OpenPictureStart) (planes : Planes) (frames : List (Frame 32)) (history : History) (out : List Picture) → old.failed ≡ false
     → current_history old ≡ history → is_ok (marks_of (with_picture o.sps o.header planes history)) ≡ true
@@ -179,7 +154,7 @@ is_closed old new o planes frames history out going current marked state picture
     rw state (record {
       going = going;
       state = refl;
-      closes = ap (history_after_closing o.sps o.header planes) current ∙ closes_by (with_picture o.sps o.header planes history) marked;
+      closes = ap (history_after_closing o.sps o.header planes) current ∙ follows (marks_of (with_picture o.sps o.header planes history)) (Ok (with_picture o.sps o.header planes history)) marked;
       pictures = pictures ∙ ap (λ h. output_at_closing old.output o.header h (with_picture o.sps o.header planes history)) (sym current);
     })
 
@@ -188,27 +163,16 @@ pub open_is : (p : OpenPicture) (opened : Option OpenPicture) (o : OpenPictureSt
     → s.open_picture ≡ Some o → open_picture_of p ≡ o
 open_is p opened o s is seen told = same_Some (open_picture_of p) o (ap (option_map open_picture_of) (sym is) ∙ seen ∙ told)
 
-refused_by : (history : History) (f : Fault) → marks_of history ≡ Err f → (marks_of history >>= λ m. Ok history) ≡ Err f
-refused_by history f told = by (marks_of history) told
-  where
-    by : (r : Result Marks Fault) → r ≡ Err f → (r >>= λ m. Ok history) ≡ Err f
-    by (Ok m) t = search rules
-    by (Err g) t = search rules
-
 -- it can't be closed
 pub closing_refused : (o : OpenPictureStart) (planes : Planes) (s : SequenceState) (history : History) (f : Fault) → current_history s ≡ history
     → marks_of (with_picture o.sps o.header planes history) ≡ Err f → history_after_closing o.sps o.header planes (current_history s) ≡ Err f
 closing_refused o planes s history f current told =
-    ap (history_after_closing o.sps o.header planes) current ∙ refused_by (with_picture o.sps o.header planes history) f told
+    ap (history_after_closing o.sps o.header planes) current ∙ fault_stays (marks_of (with_picture o.sps o.header planes history)) f _ told
 
 pub unchanged : (closed : History) (o o' : Option OpenPicture) (frames frames' : List (Frame 32)) (output output' : Output) (failed : Bool) (s : SequenceState) → o ≡ o' → frames' ≡ frames → output' ≡ output → failed ≡ false
     → record { history = closed; open_picture = option_map open_picture_of o; frames = frames; output = output; failed = failed } ≡ s
     → record { history = closed; open_picture = option_map open_picture_of o'; frames = frames'; output = output'; failed = false } ≡ s
-unchanged closed o o' frames frames' output output' failed s same_open same_frames same_output going seen =
-    ap (λ p. record { history = closed; open_picture = option_map open_picture_of p; frames = frames'; output = output'; failed = false }) (sym same_open)
-    ∙ ap₂ (λ (l : List (Frame 32)) (m : Output). record { history = closed; open_picture = option_map open_picture_of o; frames = l; output = m; failed = false }) same_frames same_output
-    ∙ ap (λ b. record { history = closed; open_picture = option_map open_picture_of o; frames = frames; output = output; failed = b }) (sym going)
-    ∙ seen
+unchanged closed o o' frames frames' output output' failed s same_open same_frames same_output going seen = cc
 
 -- the state with the open picture
 pub state_with : (closed : History) (o : Option OpenPicture) (p : OpenPicture) (b : FrameBufferState) (counts : OrderCountState) (set : Option Sps)

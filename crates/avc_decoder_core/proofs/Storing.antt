@@ -13,6 +13,7 @@ use Rattle.avc_decoder_core.proofs.Places.{below, each_implies, rise}
 use Rattle.avc_decoder_core.proofs.References.{entries, filter_map_places, is_entry, no_entry, no_filter, references_by, same_filter}
 use Rattle.avc_decoder_core.proofs.FramesAt.{marked_again, referenced_are, referenced_is}
 use Rattle.avc_decoder_core.proofs.Entering.{IsMarked}
+use Rattle.avc_decoder_core.proofs.Outputs.{length-arrivals}
 
 -- the stored frames once they are marked
 pub marked_buffer : (e : Entry) (h : History) (c : Contents) (idx : Option ℕ) (previous : ℕ) (s : IsStateAfter h c idx previous) (m : Marks) (marked : List MarkedFrame) →
@@ -49,10 +50,6 @@ kept rs n b remain true alone stays low = kept_remain rs b
 kept rs n b are_output true alone stays low = kept_alone rs n (places_in b) (alone refl) low
 
 -- ---- the entry's own
-
-pub length-arrivals : (h : History) → length (arrivals h) ≡ length h
-length-arrivals [] = refl
-length-arrivals (e ∷ h) = ap suc (length-arrivals h)
 
 -- the call knows of the arriving frame what the history says of the entry
 abbrev pub Arrives : Entry → History → ArrivingFrame → Marks → Type 0
@@ -109,8 +106,7 @@ room output e h m marked is b same own =
     ∙ sym (ap length (is.references ∙ by_places (e ∷ h) rs (ps ++ n ∷ [])))
 
 last_own : (t : Bool) (n : ℕ) → (if t then n ∷ [] else []) ≡ cond t (n ∷ []) []
-last_own true n = refl
-last_own false n = refl
+last_own t n = grind arith
 
 -- The buffer has the reference frames of the longer history.
 pub stored_references : (output : Output) (e : Entry) (h : History) (arriving : ArrivingFrame) (m : Marks) (marked : List MarkedFrame) → Arrives e h arriving m → IsMarked output e h m marked →
