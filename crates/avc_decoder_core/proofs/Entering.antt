@@ -13,9 +13,7 @@ use Rattle.avc_decoder_core.proofs.FramesAt.{entry_before, entry_newest, mark_is
 -- ---- the marks
 
 pub marks_then : (e : Entry) (h : History) (m : Marks) → marks_of h ≡ Ok m → marks_of (e ∷ h) ≡ marks_after (marking_entry e) (length h) (marking_entry e).marking m
-marks_then e h m is =
-    ap (λ r. r >>= λ m. marks_after (marking_entry e) (length (marking_entries h)) (marking_entry e).marking m) is
-    ∙ ap (λ n. marks_after (marking_entry e) n (marking_entry e).marking m) (length-map h marking_entry)
+marks_then e h m is = grind (arith, length-map)
 
 stand_before : (h : History) (c : Contents) (b : Buffer) (frame : ℕ → Frame 32) (old : List MarkedFrame) → IsBuffer c b (length h) frame →
     old ≡ map marked_frame c.frames → StandBefore (places_in b) (length h) old
@@ -29,12 +27,7 @@ pub marked_then : (e : Entry) (h : History) (c : Contents) (idx : Option ℕ) (p
     (old new : List MarkedFrame) (r : Result (Unit {0}) Fault) (new_idx : Option ℕ) → old ≡ map marked_frame c.frames →
     MarksFrame (λ entry. marks_after (marking_entry e) entry (marking_entry e).marking) old idx r new new_idx →
     marks_of (e ∷ h) ≡ or_fault r (marks_at (places_in (buffer_of c.output h) ++ length h ∷ []) new new_idx)
-marked_then e h c idx previous s old new r new_idx is marks =
-    let ps = places_in (buffer_of c.output h) in
-    let same : marks_at ps old idx ≡ s.marks = ap₂ (λ references i. record { references = references; max_long_term_frame_idx = i }) (ap (references_at ps) is ∙ s.references) s.idx_is in
-    marks_then e h s.marks s.marked
-    ∙ ap (marks_after (marking_entry e) (length h) (marking_entry e).marking) (sym same)
-    ∙ marks ps (length h) (stand_before h c (buffer_of c.output h) (frame_at h (s.marks).references) old s.buffer is)
+marked_then e h c idx previous s old new r new_idx is marks = grind (arith, marks_then, stand_before)
 
 -- The marks with the entry, where `marked` are the frames of the buffer and the entry's own.
 pub record IsMarked (output : Output) (e : Entry) (h : History) (m : Marks) (marked : List MarkedFrame) : Type 0 where
@@ -52,18 +45,13 @@ part_each Q same (r ∷ new) (s ∷ old) (inl both) h = (same r s both.0 h.0, pa
 part_each Q same (r ∷ new) (s ∷ old) (inr part) h = part_each Q same (r ∷ new) old part h.1
 
 number_of_own : (e : Entry) → (frame_of (Some e) None).frame_num ≡ (current_frame (marking_entry e) 0 Short).frame_num
-number_of_own (decoded_picture sps header planes) = refl
-number_of_own (missing_frame sps frame_num) = refl
+number_of_own e = grind arith
 
 existing_of_own : (e : Entry) → is_some (frame_of (Some e) None).planes ≡ (marking_entry e).existing
-existing_of_own (decoded_picture sps header planes) = refl
-existing_of_own (missing_frame sps frame_num) = refl
+existing_of_own e = grind arith
 
 same_of : (frame : ℕ → MarkedFrame) (r s : Reference) → IsSameFrame r s → IsOf frame s → IsOf frame r
-same_of frame r s same h = record {
-  frame_num = same.same_frame_num ∙ h.frame_num ∙ ap (λ p. (frame p).frame_num) (sym same.same_entry);
-  existing = same.same_existing ∙ h.existing ∙ ap (λ p. (frame p).existing) (sym same.same_entry);
-}
+same_of frame r s same h = grind arith
 
 pub is_marked : (e : Entry) (h : History) (c : Contents) (idx : Option ℕ) (previous : ℕ) (s : IsStateAfter h c idx previous)
     (m : Marks) (new : List MarkedFrame) → length new ≡ length c.frames + 1 → marks_of (e ∷ h) ≡ Ok m →

@@ -37,15 +37,10 @@ abbrev pub entry_from : History → ℕ → Option Entry
 entry_from h d = elim d [ zero ↦ None | suc n ↦ slice_get h n ]
 
 pub entry_before : (e : Entry) (h : History) (p : ℕ) → p < length h → entry_at (e ∷ h) p ≡ entry_at h p
-entry_before e h p low =
-    let more : suc (length h) - p ≡ suc (suc (length h - p - 1)) = omega (arith, low) in
-    let here : length h - p ≡ suc (length h - p - 1) = omega (arith, low) in
-    ap (entry_from (e ∷ h)) more ∙ sym (ap (entry_from h) here)
+entry_before e h p low = grind arith
 
 pub entry_newest : (e : Entry) (h : History) → entry_at (e ∷ h) (length h) ≡ Some e
-entry_newest e h =
-    let one : suc (length h) - length h ≡ suc zero = omega arith in
-    ap (entry_from (e ∷ h)) one
+entry_newest e h = grind arith
 
 -- ---- the frames at places
 
@@ -66,8 +61,7 @@ referenced_are h references (s ∷ frames) = ap₂ (λ b bs. b ∷ bs) (referenc
 
 -- the reference frames with their planes
 stored_one : (h : History) (references : List Reference) (p : ℕ) → stored_frame p (frame_at h references p) ≡ stored h (reference_of p (marked_frame (frame_at h references p)))
-stored_one h references p =
-    ap (λ planes. record { reference = reference_of p (marked_frame (frame_at h references p)); planes = planes }) (planes_are (entry_at h p) (mark_in references p))
+stored_one h references p = grind (arith, planes_are)
 
 pub stored_are : (h : History) (references : List Reference) (ps : List ℕ) →
     stored_at ps (map (frame_at h references) ps) ≡ map (stored h) (references_at ps (map (λ p. marked_frame (frame_at h references p)) ps))

@@ -302,14 +302,12 @@ within_longer sps (n ∷ numbers) others h some i = let both = within_parts sps 
 
 nothing_out : (output : Output) (sps : Sps) (h H : History) (low number place t q w : ℕ) (stays : Staying) (shorts : List Reference) (lasts : List Stored) →
     IsSettled output sps h low number place stays shorts lasts → EndsIn output sps h H t q w place stays → output_pictures output h H ≡ []
-nothing_out output sps h H low number place t q w stays shorts lasts s x =
-    ap (pictures_at H) (ap₂ (λ (b b' : Buffer). drop (length b.out) b'.out) s.buffer (x.settled).buffer ∙ drop-length stays.out)
+nothing_out output sps h H low number place t q w stays shorts lasts s x = grind (arith, drop-length)
 
 -- the numbers of a long gap but for the first ones
 left_over : (output : Output) (sps : Sps) (h : History) (numbers : List ℕ) (skipped n : ℕ) (g : IsLongGap output sps h numbers) → length numbers ≡ skipped + n →
     drop skipped numbers ≡ frame_nums_from (max_frame_num sps) (g.number + skipped) n
-left_over output sps h numbers skipped n g long =
-    ap (drop skipped) g.numbers_are ∙ numbers_from (max_frame_num sps) skipped n (length numbers) g.number long
+left_over output sps h numbers skipped n g long = grind (arith, numbers_from)
 
 pub long_gaps_leave_their_end : LongGapsLeaveTheirEnd
 long_gaps_leave_their_end output sps h numbers skipped g far = record {

@@ -29,8 +29,7 @@ sps_of (missing_frame sps frame_num) = sps
 -- ---- no more reference frames than there may be
 
 own_limit : (e : Entry) → limit_of (marking_entry e) ≡ reference_limit (sps_of e)
-own_limit (decoded_picture sps header planes) = refl
-own_limit (missing_frame sps frame_num) = refl
+own_limit e = grind arith
 
 abbrev pub AreFew : Marks → Sps → Type 0
 AreFew m sps = length m.references ≤ reference_limit sps
@@ -83,10 +82,7 @@ old_sized output e h sps low sized =
 
 -- nothing is in the buffer before the first entry
 none_emptied : (output : Output) (e : Entry) (h : History) → h ≡ [] → (emptied output e h).frames ≡ []
-none_emptied output e h none = ap (λ l. (emptied output e l).frames) none ∙ by (arrival e []).prior_pictures
-  where
-    by : (prior : PriorPictures) → (after_prior_pictures prior empty_buffer).frames ≡ []
-    by prior = grind arith
+none_emptied output e h none = grind arith
 
 abbrev IsSized : Output → History → Sps → Type 0
 IsSized output h sps = Each (IsSizedAt h sps) (places_in (buffer_of output h))

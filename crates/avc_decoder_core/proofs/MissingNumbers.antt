@@ -53,9 +53,7 @@ one_counted sps numbers n reached full e is = ap (λ l. with_all_missing sps l r
 -- of these numbers the first can be marked, and then the others are left
 pub left_after : (sps : Sps) (numbers : List ℕ) (n : ℕ) (history : History) → slice_get numbers 0 ≡ Some n → is_ok (with_missing sps numbers history) ≡ true
     → with_missing sps (drop 1 numbers) (missing_frame sps n ∷ history) ≡ with_missing sps numbers history
-left_after sps numbers n history e marked =
-    let is = ap (λ l. with_missing sps l history) (next_number numbers n e) in
-    sym (is ∙ one_stored sps n (drop 1 numbers) history (first_marked sps n (drop 1 numbers) history (ap is_ok (sym is) ∙ marked)))
+left_after sps numbers n history e marked = grind (arith, next_number, one_stored, first_marked)
 
 pub is_with_all : (sps : Sps) (numbers : List ℕ) (history full : History) → with_missing sps numbers history ≡ Ok full → full ≡ with_all_missing sps numbers history
 is_with_all sps [] history full e = sym (ok_same history full e)
@@ -74,12 +72,7 @@ same_set sps numbers history full e = ap sequence_sps (is_with_all sps numbers h
 
 window_again : (s s' : MarkingEntry) (place place' : ℕ) (r : Result Marks Fault) → is_ok (r >>= marks_after s place (Some SlidingWindow)) ≡ true →
     is_ok (r >>= marks_after s place (Some SlidingWindow) >>= marks_after s' place' (Some SlidingWindow)) ≡ true
-window_again s s' place place' (Ok m) e = by (marks_after s place (Some SlidingWindow) m) refl e
-  where
-    by : (r : Result Marks Fault) → marks_after s place (Some SlidingWindow) m ≡ r → is_ok r ≡ true → is_ok (r >>= marks_after s' place' (Some SlidingWindow)) ≡ true
-    by (Ok m') told e = slides_again s s' place place' m m' told
-    by (Err f) told e = cc
-window_again s s' place place' (Err f) e = cc
+window_again s s' place place' r e = grind (arith, slides_again)
 
 next_marked : (sps : Sps) (n k : ℕ) (history : History) → is_ok (marks_of (missing_frame sps n ∷ history)) ≡ true
     → is_ok (marks_of (missing_frame sps k ∷ missing_frame sps n ∷ history)) ≡ true
@@ -114,8 +107,7 @@ pub all_counted : (sps : Sps) (numbers : List ℕ) (n : ℕ) (history : History)
     → is_ok (marks_of (missing_frame sps n ∷ history)) ≡ true
     → counts ≡ order_count_state (pasts (with_all_missing sps (drop 1 numbers) (missing_frame sps n ∷ history)))
     → Ok counts ≡ counts_over (with_missing sps numbers history)
-all_counted sps numbers n history counts e marked told =
-    ap Ok told ∙ sym (ap (λ l. counts_over (with_missing sps l history)) (next_number numbers n e) ∙ ap counts_over (all_marked sps n (drop 1 numbers) history marked))
+all_counted sps numbers n history counts e marked told = grind (arith, next_number, all_marked)
 
 -- the order count of the picture
 pub counted_next : (sps : Sps) (h : Header) (missing : List ℕ) (history : History) (top bottom order : ℤ) (counts : OrderCountState) → order ≡ int_min top bottom
@@ -162,10 +154,7 @@ with_numbers sps h full (Err f) e = cc
 
 same_set_known : (sps : Sps) (h : Header) (history : History) (numbers : List ℕ) → missing_before sps h history ≡ Ok numbers
     → is_same_sps (sequence_sps history) sps ≡ true
-same_set_known sps h history numbers known = by (is_same_sps (sequence_sps history) sps) _ known
-  where
-    by : (b : Bool) (r : Result (List ℕ) Fault) → elim b as (λ _. Result (List ℕ) Fault) [ false ↦ Err faults.ParameterSetChanged | true ↦ r ] ≡ Ok numbers → b ≡ true
-    by b r e = grind arith
+same_set_known sps h history numbers known = grind arith
 
 by_numbers : (sps : Sps) (h : Header) (history full : History) (r : Result (List ℕ) Fault) → missing_before sps h history ≡ r
     → (r >>= λ numbers. with_missing sps numbers history >>= λ full. with_order_counts sps h full) ≡ Ok full → IsOpenedBy sps h history full
@@ -191,23 +180,17 @@ pub set_at_opening : (sps : Sps) (h : Header) (history full : History) → histo
 set_at_opening sps h history full e = let o = opened_by sps h history full e in same_set sps o.numbers history full o.missing
 
 pub can_follow : (sps : Sps) (h : Header) (history full : History) → (is_idr h ≡ true → has_idr_marking h ≡ true) → is_some h.marking ≡ is_reference h → history_at_opening sps h history ≡ Ok full → CanFollow full sps h
-can_follow sps h history full marking reference e = record {
-  idr = marking;
-  same = λ other. ap (λ set. is_same_sps set sps) (set_at_opening sps h history full e) ∙ (opened_by sps h history full e).same other;
-  reference = reference;
-}
+can_follow sps h history full marking reference e = grind (arith, set_at_opening, opened_by)
 
 -- ---- how opening ends
 
 -- where the missing numbers are known
 other_opened : (sps : Sps) (h : Header) (history : History) (numbers : List ℕ) → is_idr h ≡ false → Ok numbers ≡ missing_before sps h history
     → history_at_opening sps h history ≡ (with_missing sps numbers history >>= λ full. with_order_counts sps h full)
-other_opened sps h history numbers idr known =
-    opened_other sps h history idr ∙ ap (λ r. r >>= λ numbers. with_missing sps numbers history >>= λ full. with_order_counts sps h full) (sym known)
+other_opened sps h history numbers idr known = grind (arith, opened_other)
 
 pub refused_numbers : (sps : Sps) (h : Header) (history : History) (f : Fault) → is_idr h ≡ false → Err f ≡ missing_before sps h history → history_at_opening sps h history ≡ Err f
-refused_numbers sps h history f idr e =
-    opened_other sps h history idr ∙ fault_stays (missing_before sps h history) f (λ numbers. with_missing sps numbers history >>= λ full. with_order_counts sps h full) (sym e)
+refused_numbers sps h history f idr e = grind (arith, opened_other, fault_stays)
 
 pub refused_missing : (sps : Sps) (h : Header) (history : History) (numbers : List ℕ) (f : Fault) → is_idr h ≡ false → Ok numbers ≡ missing_before sps h history
     → Err f ≡ counts_over (with_missing sps numbers history) → history_at_opening sps h history ≡ Err f
@@ -223,27 +206,18 @@ pub record IsCountedOver (r : Result History Fault) (counts : OrderCountState) :
   pub state : counts ≡ order_count_state (pasts full)
 
 pub counted_over : (r : Result History Fault) (counts : OrderCountState) → Ok counts ≡ counts_over r → IsCountedOver r counts
-counted_over (Ok full) counts e = record { full = full; is = refl; state = ok_same counts (order_count_state (pasts full)) e }
-counted_over (Err f) counts e = cc
+counted_over r counts e = grind (arith, ok_same)
 
 pub opened_over : (sps : Sps) (h : Header) (history full : History) (numbers : List ℕ) → is_idr h ≡ false → Ok numbers ≡ missing_before sps h history
     → with_missing sps numbers history ≡ Ok full → history_at_opening sps h history ≡ with_order_counts sps h full
-opened_over sps h history full numbers idr known is =
-    other_opened sps h history numbers idr known ∙ ap (λ r. r >>= λ full. with_order_counts sps h full) is
+opened_over sps h history full numbers idr known is = grind (arith, other_opened)
 
 -- what opening finds, where the missing numbers are known and the history `on` on which the picture is counted
 finds : (sps : Sps) (h : Header) (history on full : History) (numbers : List ℕ) (counts : Result Counts Fault) (r : Result Opening Fault)
     → on ≡ earlier_in_sequence h full → history_at_opening sps h history ≡ (counts >>= λ c. Ok full) → with_missing sps numbers history ≡ Ok full
     → (0 < length numbers → is_same_sps (sequence_sps history) sps ≡ true) → r ≡ result_map (opening_on sps h numbers) (counts >>= λ c. Ok on)
     → Finds sps h history r
-finds sps h history on full numbers (Ok c) r alone opens missing same is = subst (Finds sps h history) (sym is) (record {
-  full = full;
-  opens = opens;
-  missing = missing;
-  same = same;
-  counted = ap (opening_on sps h numbers) alone;
-})
-finds sps h history on full numbers (Err f) r alone opens missing same is = subst (Finds sps h history) (sym is) opens
+finds sps h history on full numbers counts r alone opens missing same is = grind arith
 
 -- an IDR picture has no missing numbers before it, and is counted alone
 pub finds_idr : (sps : Sps) (h : Header) (history : History) (numbers : List ℕ) (r : Result Opening Fault) → is_idr h ≡ true → numbers ≡ []
@@ -278,7 +252,4 @@ counts_from sps first (suc n) history = counts_from sps (first + 1) n (missing_f
 pub counted_at_once : (sps : Sps) (numbers : List ℕ) (max first n : ℕ) (counts : OrderCountState) (history : History) → max ≡ max_frame_num sps
     → n ≡ length numbers → numbers ≡ frame_nums_from max first (length numbers) → counts ≡ order_count_state (with_missing_from sps first n (pasts history))
     → counts ≡ order_count_state (pasts (with_all_missing sps numbers history))
-counted_at_once sps numbers max first n counts history max_is n_is numbers_are told =
-    let same : frame_nums_from (max_frame_num sps) first n ≡ numbers =
-    ap (λ (m : ℕ). frame_nums_from m first n) (sym max_is) ∙ ap (frame_nums_from max first) n_is ∙ sym numbers_are in
-    told ∙ counts_from sps first n history ∙ ap (λ (l : List ℕ). order_count_state (pasts (with_all_missing sps l history))) same
+counted_at_once sps numbers max first n counts history max_is n_is numbers_are told = grind (arith, counts_from)

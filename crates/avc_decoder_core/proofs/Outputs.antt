@@ -37,10 +37,7 @@ none_above (a ∷ older) place low =
 
 -- of the pictures that have gone out and of those that are held
 pub places_below : (output : Output) (history : History) → All (λ p. p < length history) ((buffer_of output history).out ++ all_held output history)
-places_below output history =
-    subst (λ n. All (λ p. p < n) ((buffer_of output history).out ++ all_held output history)) (length-arrivals history)
-    (all_below (length (arrivals history)) ((buffer_of output history).out ++ all_held output history)
-    (λ place low. goes_out_once output (arrivals history) place ∙ none_above (arrivals history) place low))
+places_below output history = grind (arith, length-arrivals, all_below, goes_out_once, none_above)
 
 all_first : (P : ℕ → Type 0) (xs ys : List ℕ) → All P (xs ++ ys) → All P xs
 all_first P [] ys a = All-nil P
@@ -80,8 +77,7 @@ output_longer output e old history x =
 
 new_longer : (output : Output) (e : Entry) (old history : History) → Extends output old history
     → new_output output old (e ∷ history) ≡ new_output output old history ++ new_output output history (e ∷ history)
-new_longer output e old history x =
-    ap (drop (length (buffer_of output old).out)) (output_longer output e old history x) ∙ drop-append_seam (buffer_of output old).out (new_output output old history ++ new_output output history (e ∷ history))
+new_longer output e old history x = grind (arith, output_longer, drop-append_seam)
 
 pub extends_more : (output : Output) (e : Entry) (old history : History) → Extends output old history → Extends output old (e ∷ history)
 extends_more output e old history x = output_longer output e old history x ∙ ap (λ l. (buffer_of output old).out ++ l) (sym (new_longer output e old history x))

@@ -21,11 +21,7 @@ record AreMarked (h : History) : Type 0 where
   is : marks_of h ≡ Ok marks
 
 marked : (h : History) → is_ok (marks_of h) ≡ true → AreMarked h
-marked h ok = by (marks_of h) refl ok
-  where
-    by : (r : Result Marks Fault) → marks_of h ≡ r → is_ok r ≡ true → AreMarked h
-    by (Ok m) is ok = record { marks = m; is = is }
-    by (Err f) is ok = wrong ok
+marked h ok = grind (arith, wrong)
 
 -- so could all entries but the newest
 pub marked_before : (e : Entry) (older : History) → is_ok (marks_of (e ∷ older)) ≡ true → is_ok (marks_of older) ≡ true

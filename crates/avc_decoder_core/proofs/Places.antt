@@ -24,8 +24,7 @@ each_from_map P f [] h = tt
 each_from_map P f (x ∷ xs) h = (h.0, each_from_map P f xs h.1)
 
 each_kept : {A : Type 0} (P : A → Type 0) (b : Bool) (x : A) (xs : List A) → P x → Each P xs → Each P (cond b (x ∷ xs) xs)
-each_kept P true x xs first rest = (first, rest)
-each_kept P false x xs first rest = rest
+each_kept P b x xs first rest = grind arith
 
 pub each_filter : {A : Type 0} (P : A → Type 0) (test : A → Bool) (xs : List A) → Each P xs → Each P (filter test xs)
 each_filter P test [] h = tt

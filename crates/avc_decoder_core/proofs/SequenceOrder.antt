@@ -57,11 +57,7 @@ limit_in_sequence (missing_frame set frame_num ∷ older) come sps same = limit_
 -- the limit before a picture is its own, where it is not the first
 limit_before : (sps : Sps) (h : Header) (older : History) → EachCanCome older → CanCome sps h older →
     (arrivals older ≡ []) ⊎ (reorder_limit sps ≡ limit_after (arrivals older))
-limit_before sps h older each come = by (is_idr h) refl
-  where
-    by : (idr : Bool) → is_idr h ≡ idr → (arrivals older ≡ []) ⊎ (reorder_limit sps ≡ limit_after (arrivals older))
-    by true is = inl (ap arrivals (come.first is))
-    by false is = inr (limit_in_sequence older each sps (come.same is))
+limit_before sps h older each come = grind (arith, limit_in_sequence)
 
 -- ---- the pictures that go out late
 
@@ -108,8 +104,7 @@ can_go_out_early law order (missing_frame sps frame_num) older come ok within = 
 }
 
 come_before : (e : Entry) (older : History) → EachCanCome (e ∷ older) → EachCanCome older
-come_before (decoded_picture sps h planes) older come = come.1
-come_before (missing_frame sps frame_num) older come = come
+come_before e older come = grind arith
 
 all_can_go_out_early : AddsOwnFrameAlone → (order : List ℕ) (h : History) → EachCanCome h → is_ok (marks_of h) ≡ true →
     EachIsWithin order h → AllCanGoOutEarly order (arrivals h)
@@ -120,5 +115,4 @@ all_can_go_out_early law order (e ∷ older) come ok within = (
 )
 
 pub early_output_keeps_histories : EarlyOutputKeepsTheOrder → AddsOwnFrameAlone → EarlyOutputKeepsHistories
-early_output_keeps_histories early law h come ok within =
-    early (arrivals h) (all_can_go_out_early law (output_order Full h) h come ok within)
+early_output_keeps_histories early law h come ok within = grind (arith, all_can_go_out_early)

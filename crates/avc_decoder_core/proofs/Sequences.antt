@@ -15,19 +15,16 @@ use Rattle.avc_decoder_core.proofs.SameSequence.{idr_not_refused}
 -- ---- with no open picture
 
 pub at_rest : (closed history : History) (o : Option OpenPicture) → option_map open_picture_of o ≡ None → StandsOnIf closed history o → closed ≡ history
-at_rest closed history None e s = s
-at_rest closed history (Some o) e s = absurd (none-some (open_picture_of o) (sym e))
+at_rest closed history o e s = grind (arith, none-some)
 
 pub counted_at_rest : (history : History) (o : Option OpenPicture) → option_map open_picture_of o ≡ None → counted history o ≡ pasts history
-counted_at_rest history None e = refl
-counted_at_rest history (Some o) e = absurd (none-some (open_picture_of o) (sym e))
+counted_at_rest history o e = grind (arith, none-some)
 
 -- ---- the history that the open picture stands on
 
 pub current_is : (closed history : History) (o : Option OpenPicture) (frames : List (Frame 32)) (output : Output) (failed : Bool) (s : SequenceState) → StandsOnIf closed history o
     → record { history = closed; open_picture = option_map open_picture_of o; frames = frames; output = output; failed = failed } ≡ s → current_history s ≡ history
-current_is closed history None frames output failed s stands e = ap current_history (sym e) ∙ stands
-current_is closed history (Some o) frames output failed s stands e = ap current_history (sym e) ∙ ap (or_before closed) stands.opened
+current_is closed history o frames output failed s stands e = grind arith
 
 -- ---- a picture is opened
 
@@ -39,21 +36,7 @@ pub opened_state : (sps : Sps) (h : Header) (closed history : History) (o : Open
     → IsSps sps → (is_idr h ≡ true → has_idr_marking h ≡ true) → is_some h.marking ≡ is_reference h → buffer.failed ≡ false → closed ≡ history → set ≡ sequence_sps history
     → IsOpening sps h closed o → with_missing sps o.missing history ≡ Ok buffer.history
     → IsStateOf closed (Some (record { sps = sps; header = h; order = o.order })) buffer o.poc set
-opened_state sps h closed history o buffer set limits marking reference going rest is_set found stored =
-    let opens = opened_on sps h closed history o buffer.history rest found stored in
-    let counted : o ≡ opening_on sps h o.missing (earlier_in_sequence h buffer.history) =
-    found.counted ∙ ap (λ l. opening_on sps h o.missing (earlier_in_sequence h l)) (ok_same found.full buffer.history (sym found.opens ∙ opens)) in
-    record {
-      going = going;
-      stands = record {
-        limits = limits;
-        opened = opens;
-        follows = can_follow sps h closed buffer.history marking reference opens;
-        order = ap (λ (o : Opening). o.order) counted;
-      };
-      counts = ap (λ (o : Opening). o.poc) counted;
-      set = is_set ∙ ap sequence_sps (sym rest) ∙ sym (set_at_opening sps h closed buffer.history opens);
-    }
+opened_state sps h closed history o buffer set limits marking reference going rest is_set found stored = grind (arith, opened_on, counted, ok_same, follows, can_follow, set_at_opening)
 
 -- ---- a picture is closed
 
@@ -82,18 +65,7 @@ all_before h before other = grind arith
 
 pub can_store : (closed : History) (p : OpenPicture) (b there : FrameBufferState) (prior : List Picture) → b.failed ≡ false → StandsOn closed b.history p
     → BeginsSequence b p.header prior there → CanStore p.sps p.header there p.order
-can_store closed p b there prior going stands begins =
-    let is : there.history ≡ earlier_in_sequence p.header b.history = ap (λ (v : FrameBufferState). v.history) begins.state ∙ history_there p.header b in
-    record {
-      going = ap (λ (v : FrameBufferState). v.failed) begins.state ∙ going_there p.header b going;
-      follows = record {
-        idr = (stands.follows).idr;
-        same = λ other. ap (λ l. is_same_sps (sequence_sps l) p.sps) (is ∙ all_before p.header b.history other) ∙ (stands.follows).same other;
-        reference = (stands.follows).reference;
-      };
-      order_is = stands.order ∙ ap (λ l. order_or_0 (order_counts p.sps p.header (pasts l))) (sym is);
-      first = λ idr. is ∙ none_before p.header b.history idr;
-    }
+can_store closed p b there prior going stands begins = grind (arith, history_there, going_there, follows, all_before, none_before)
 
 -- It was stored, and these pictures go out.
 pub record IsStoredOn (sps : Sps) (h : Header) (planes : Planes) (b : FrameBufferState) (out : List Picture) (after : FrameBufferState) : Type 0 where
@@ -124,22 +96,7 @@ pub record IsRefusedOn (sps : Sps) (h : Header) (planes : Planes) (b : FrameBuff
 
 pub refused_on : (sps : Sps) (h : Header) (planes : Planes) (b there after : FrameBufferState) (prior : List Picture) (f : Fault) → (is_idr h ≡ true → has_idr_marking h ≡ true)
     → BeginsSequence b h prior there → after ≡ there → marks_of (decoded_picture sps h planes ∷ there.history) ≡ Err f → IsRefusedOn sps h planes b f after
-refused_on sps h planes b there after prior f marking begins same refused = by (is_idr h) refl
-  where
-    e : Entry
-    e = decoded_picture sps h planes
-
-    is : there.history ≡ earlier_in_sequence h b.history
-    is = ap (λ (v : FrameBufferState). v.history) begins.state ∙ history_there h b
-
-    by : (idr : Bool) → is_idr h ≡ idr → IsRefusedOn sps h planes b f after
-    by true idr =
-        absurd (idr_not_refused h (picture_entry sps h) 0 no_marks f (marking idr)
-        (sym (ap (λ l. marks_of (e ∷ l)) (is ∙ none_before h b.history idr)) ∙ refused))
-    by false idr = record {
-      same = grind (arith, same, begins.state, idr);
-      refused = ap (λ l. marks_of (e ∷ l)) (sym is) ∙ refused;
-    }
+refused_on sps h planes b there after prior f marking begins same refused = grind (arith, history_there, idr_not_refused, none_before)
 
 -- the parameter set of the sequence then
 pub set_then : (sps : Sps) (h : Header) (planes : Planes) (before : History) (set : Option Sps) → set ≡ sequence_sps before
@@ -166,15 +123,9 @@ open_is p opened o s is seen told = same_Some (open_picture_of p) o (ap (option_
 -- it can't be closed
 pub closing_refused : (o : OpenPictureStart) (planes : Planes) (s : SequenceState) (history : History) (f : Fault) → current_history s ≡ history
     → marks_of (with_picture o.sps o.header planes history) ≡ Err f → history_after_closing o.sps o.header planes (current_history s) ≡ Err f
-closing_refused o planes s history f current told =
-    ap (history_after_closing o.sps o.header planes) current ∙ fault_stays (marks_of (with_picture o.sps o.header planes history)) f _ told
+closing_refused o planes s history f current told = grind (arith, fault_stays)
 
 pub unchanged : (closed : History) (o o' : Option OpenPicture) (frames frames' : List (Frame 32)) (output output' : Output) (failed : Bool) (s : SequenceState) → o ≡ o' → frames' ≡ frames → output' ≡ output → failed ≡ false
     → record { history = closed; open_picture = option_map open_picture_of o; frames = frames; output = output; failed = failed } ≡ s
     → record { history = closed; open_picture = option_map open_picture_of o'; frames = frames'; output = output'; failed = false } ≡ s
 unchanged closed o o' frames frames' output output' failed s same_open same_frames same_output going seen = cc
-
--- the state with the open picture
-pub state_with : (closed : History) (o : Option OpenPicture) (p : OpenPicture) (b : FrameBufferState) (counts : OrderCountState) (set : Option Sps)
-    → IsStateOf closed o b counts set → o ≡ Some p → IsStateOf closed (Some p) b counts set
-state_with closed o p b counts set state is = subst (λ o. IsStateOf closed o b counts set) is state

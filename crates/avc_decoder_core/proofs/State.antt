@@ -13,6 +13,8 @@ use Rattle.std.specs.Result.{is_ok}
 use Rattle.avc_dpb.specs.Contents.{Stores}
 use Rattle.avc_decoder_core.specs.History.{Entry, decoded_picture, missing_frame, History, all_held, arrival, arrivals, buffer_of, entry_at}
 use Rattle.avc_decoder_core.specs.History.{marking_entries, marking_entry, marks_of, or_no_references, sequence_sps, stored}
+use Rattle.avc_decoder_core.specs.FrameBufferFields.{IsFrameBufferState}
+use Rattle.avc_decoder_core.specs.declared.frame_buffer.FrameBuffer.TheInside.{Inside as FrameBuffer}
 use Rattle.avc_decoder_core.proofs.Places.{below, each_all, each_implies, each_map, increasing, rise}
 use Rattle.avc_decoder_core.proofs.References.{each_entry, is_entry}
 use Rattle.avc_decoder_core.proofs.FramesAt.{entry_newest, last_mark, pictures_are, sized_frame, stored_are}
@@ -24,9 +26,15 @@ use Rattle.avc_decoder_core.proofs.Storing.{Arrives, marked_buffer, stored_buffe
 -- ---- the frames of a state
 
 pub few_frames : (h : History) (c : Contents) (idx : Option ℕ) (previous : ℕ) → IsStateAfter h c idx previous → length c.frames ≤ 16
-few_frames h c idx previous s =
-    let long : length c.frames ≡ length (buffer_of c.output h).frames = ap length (s.buffer).frames ∙ length-map (buffer_of c.output h).frames (λ t. frame_at h (s.marks).references t.entry) in
-    omega (arith, long, holds_at_most c.output 16 (arrivals h) s.within)
+few_frames h c idx previous s = grind (arith, length-map, holds_at_most)
+
+-- a frame buffer that works holds no more, and no more are marked
+pub few_held : (i : FrameBuffer) → IsFrameBufferState i → i.failed ≡ false → length i.dpb.frames ≤ 16
+few_held i invariant on = few_frames (history_of i.history.items) i.dpb i.max_long_term_frame_idx i.prev_ref_frame_num (invariant on)
+
+pub few_marked : (i : FrameBuffer) (frames : List (Frame 32)) (marked : List MarkedFrame) → IsFrameBufferState i → i.failed ≡ false → frames ≡ i.dpb.frames →
+    marked ≡ map marked_frame frames → (length frames ≤ 16) × (length marked ≤ 16)
+few_marked i frames marked invariant on is marked_is = rw (marked_is, length-map, is) (few_held i invariant on, few_held i invariant on)
 
 frames_are : (h : History) (c : Contents) (idx : Option ℕ) (previous : ℕ) (s : IsStateAfter h c idx previous) → c.frames ≡ map (frame_at h (s.marks).references) (places_in (buffer_of c.output h))
 frames_are h c idx previous s = (s.buffer).frames ∙ sym (map-map (frame_at h (s.marks).references) (λ t. t.entry) (buffer_of c.output h).frames)
@@ -67,20 +75,13 @@ are_frames h c idx previous s =
 -- ---- what the arriving frame is
 
 capacity_of : (sps : Sps) → sps.max_num_ref_frames ≤ 16 → dpb_size sps ≤ 16
-capacity_of sps few = by sps.max_num_ref_frames _ few
-  where
-    by : (r x : ℕ) → r ≤ 16 → max 1 (max r (min 16 x)) ≤ 16
-    by r x few = omega (arith, few)
+capacity_of sps few = grind arith
 
 room_of : (sps : Sps) → reference_limit sps ≤ dpb_size sps
-room_of sps = by sps.max_num_ref_frames _
-  where
-    by : (r x : ℕ) → max r 1 ≤ max 1 (max r (min 16 x))
-    by r x = omega arith
+room_of sps = grind arith
 
 capacity_is : (e : Entry) (h : History) → (arrival e h).capacity ≡ dpb_size (sps_of e)
-capacity_is (decoded_picture sps header planes) h = refl
-capacity_is (missing_frame sps frame_num) h = refl
+capacity_is e h = grind arith
 
 not_entry : (rs : List Reference) (n : ℕ) → Each (λ r. r.entry < n) rs → is_entry rs n ≡ false
 not_entry [] n h = refl
@@ -103,19 +104,14 @@ stored_by (decoded_picture sps header planes) h m m' follows low after own = ap 
         wrong (sym (not_entry m.references (length h) low) ∙ ap (λ rs. is_entry rs (length h)) same ∙ own)
 
 prior_stays : (e : Entry) (h : History) → unmarks_all (marking_entry e).marking ≡ false → (arrival e h).prior_pictures ≡ remain
-prior_stays (decoded_picture sps header planes) h none = prior_remains header none
-prior_stays (missing_frame sps frame_num) h none = refl
+prior_stays e h none = grind (arith, prior_remains)
 
 -- ---- an entry's frame is stored
 
 -- The frame of the entry is made of the last mark.
 own_frame : (output : Output) (e : Entry) (h : History) (m : Marks) (marked : List MarkedFrame) → IsMarked output e h m marked → (k : ℕ) (d : MarkedFrame) → k + 1 ≡ length marked →
     frame_at (e ∷ h) m.references (length h) ≡ frame_of (Some e) (slice_index_or marked k d).mark
-own_frame output e h m marked is k d last =
-    let ps = places_in (buffer_of output h) in
-    let long : length ps + 1 ≡ length marked =
-    sym (length-append ps (length h ∷ [])) ∙ sym (length-map (ps ++ length h ∷ []) (mark_in m.references)) ∙ ap length is.marks ∙ length-map marked (λ f. f.mark) in
-    ap₂ frame_of (entry_newest e h) (sym (last_mark m.references ps (length h) k marked d (omega (arith, last, long)) is.marks))
+own_frame output e h m marked is k d last = grind (arith, length-append, length-map, entry_newest, last_mark)
 
 -- An entry was marked and its frame stored.
 pub record IsTaken (output : Output) (e : Entry) (h : History) (c : Contents) (idx : Option ℕ) (previous : ℕ) (prior out : List Picture) : Type 0 where

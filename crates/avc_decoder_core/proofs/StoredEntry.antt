@@ -34,9 +34,7 @@ missing_arrival capacity = record { order = pos 0; existing = false; is_referenc
 
 pub missing_arrives : (sps : Sps) (frame_num : ℕ) (h : History) (capacity : ℕ) → capacity ≡ dpb_size sps → (m : Marks) → marks_of (missing_frame sps frame_num ∷ h) ≡ Ok m →
     Arrives (missing_frame sps frame_num) h (missing_arrival capacity) m
-missing_arrives sps frame_num h capacity is m marked =
-    ap₂ (λ k rs. record { order = pos 0; existing = false; is_reference = true; prior_pictures = remain; capacity = k; max_num_reorder_frames = None; references = rs })
-    (sym is) (ap (λ r. map (λ r. r.entry) (or_no_references r)) marked)
+missing_arrives sps frame_num h capacity is m marked = grind arith
 
 -- ---- of a picture
 
@@ -46,18 +44,9 @@ picture_arrival order reference capacity limit = record { order = order; existin
 pub picture_arrives : (sps : Sps) (header : Header) (planes : Planes) (h : History) (order : ℤ) (reference : Bool) (capacity : ℕ) (limit : Option ℕ) → order ≡ order_or_0 (order_counts sps header (pasts h)) →
     reference ≡ is_reference header → capacity ≡ dpb_size sps → limit ≡ reorder_limit sps → (m : Marks) → marks_of (decoded_picture sps header planes ∷ h) ≡ Ok m →
     Arrives (decoded_picture sps header planes) h (picture_arrival order reference capacity limit) m
-picture_arrives sps header planes h order reference capacity limit order_is reference_is is limit_is m marked =
-    ap (λ o. record (arrival (decoded_picture sps header planes) h) { order = o }) (sym order_is)
-    ∙ ap₂ (λ r k. record (arrival (decoded_picture sps header planes) h) { order = order; is_reference = r; capacity = k }) (sym reference_is) (sym is)
-    ∙ ap (λ l. record (arrival (decoded_picture sps header planes) h) { order = order; is_reference = reference; capacity = capacity; max_num_reorder_frames = l }) (sym limit_is)
-    ∙ ap (λ r. record { order = order; existing = true; is_reference = reference; prior_pictures = prior_pictures_of header; capacity = capacity; max_num_reorder_frames = limit; references = map (λ r. r.entry) (or_no_references r) }) marked
+picture_arrives sps header planes h order reference capacity limit order_is reference_is is limit_is m marked = grind arith
 
 pub picture_previous : (sps : Sps) (header : Header) (planes : Planes) (h : History) (previous frame_num new_previous : ℕ) → previous ≡ prev_ref_frame_num (marking_entries h) →
     frame_num ≡ frame_num_after_marking (picture_entry sps header) → new_previous ≡ (if is_some header.marking then frame_num else previous) →
     new_previous ≡ prev_ref_frame_num (marking_entries (decoded_picture sps header planes ∷ h))
-picture_previous sps header planes h previous frame_num new_previous previous_is number is =
-    is ∙ ap₂ (λ a b. if is_some header.marking then a else b) number previous_is
-    ∙ by (is_some header.marking) (frame_num_after_marking (picture_entry sps header)) (prev_ref_frame_num (marking_entries h))
-  where
-    by : (t : Bool) (a b : ℕ) → (if t then a else b) ≡ elim t [ true ↦ a | false ↦ b ]
-    by t a b = grind arith
+picture_previous sps header planes h previous frame_num new_previous previous_is number is = grind arith

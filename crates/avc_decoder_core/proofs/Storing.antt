@@ -45,9 +45,7 @@ kept_alone rs n ps alone low = sym (no_filter (is_entry rs) ps (each_implies (λ
 -- they are in the buffer once the pictures before have gone out, or are none
 pub kept : (rs : List Reference) (n : ℕ) (b : Buffer) (prior : PriorPictures) (all : Bool) → (all ≡ true → Each (λ r. r.entry ≡ n) rs) → (all ≡ false → prior ≡ remain) →
     Each (λ p. p < n) (places_in b) → places_of_references (entries rs) (after_prior_pictures prior b) ≡ filter (is_entry rs) (places_in b)
-kept rs n b prior false alone stays low = subst (λ p. places_of_references (entries rs) (after_prior_pictures p b) ≡ filter (is_entry rs) (places_in b)) (sym (stays refl)) (kept_remain rs b)
-kept rs n b remain true alone stays low = kept_remain rs b
-kept rs n b are_output true alone stays low = kept_alone rs n (places_in b) (alone refl) low
+kept rs n b prior all alone stays low = grind (arith, kept_remain, kept_alone)
 
 -- ---- the entry's own
 
@@ -83,9 +81,7 @@ stored_buffer output e h arriving m arrives old new frame out is same own stores
 -- they are those of the places
 by_places : (h : History) (rs : List Reference) (qs : List ℕ) →
     references_at qs (map (λ p. marked_frame (frame_at h rs p)) qs) ≡ map (λ p. reference_of p (marked_frame (frame_at h rs p))) (filter (is_entry rs) qs)
-by_places h rs qs =
-    references_by (λ p. marked_frame (frame_at h rs p)) qs
-    ∙ ap (map (λ p. reference_of p (marked_frame (frame_at h rs p)))) (same_filter (λ p. is_some (frame_at h rs p).mark) (is_entry rs) qs (referenced_is h rs))
+by_places h rs qs = grind (arith, references_by, same_filter, referenced_is)
 
 -- there is room for the entry's own
 room : (output : Output) (e : Entry) (h : History) (m : Marks) (marked : List MarkedFrame) → IsMarked output e h m marked → (b : Buffer) →

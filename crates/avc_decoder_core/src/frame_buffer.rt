@@ -253,6 +253,7 @@ impl FrameBuffer {
     }
 
     /// Whether a frame can be marked that stands for a missing number, or TooManyReferences (8.2.5.3).
+    #[tactic(auto, using(crate::proofs::State::few_held))]
     pub fn can_store_missing(&self, sps: &Sps, frame_num: u32) -> Result<(), Fault>
         requires going { self.now.failed ≡ false }
         requires sps { IsSps sps.now }

@@ -1,15 +1,11 @@
-use Rattle.avc_decoder_core.proofs.Common.{◌≡◌, ◌∙◌, ◌+◌, ◌-◌, ◌≤◌, false, length, map, ap, sym, subst, arith, marked_frame, max_frame_num}
+use Rattle.avc_decoder_core.proofs.Common.{◌≡◌, refl, ◌∙◌, ◌+◌, ◌-◌, ◌≤◌, false, length, map, ap, sym, subst, arith, marked_frame, max_frame_num}
 use Rattle.avc_decoder_core.proofs.Common.{CountsReferences, frame_nums_from, history_of, IsLongGap, settles_at}
 use Rattle.avc_decoder_core.proofs.Settling.{long_gap}
-use Rattle.avc_decoder_core.proofs.State.{few_frames}
+use Rattle.avc_decoder_core.proofs.State.{few_frames, few_marked}
 use Rattle.avc_decoder_core.proofs.frame_buffer.FrameBuffer.is_settled.Goals as goal
 
 pub marked_frames-marked-requires : goal.marked_frames-marked-requires
-marked_frames-marked-requires c =
-    let i = c.self.inside in
-    let on : i.failed ≡ false = ap (λ v. v.failed) c.self.view_is ∙ c.requires.going in
-    subst (λ fs. length fs ≤ 16) (sym c.frames-frames.ensures)
-    (few_frames (history_of i.history.items) i.dpb i.max_long_term_frame_idx i.prev_ref_frame_num (c.self.invariant on))
+marked_frames-marked-requires c = (few_marked c.self.inside _ _ c.self.invariant (ap (λ v. v.failed) c.self.view_is ∙ c.requires.going) c.frames-frames.ensures refl).0
 
 pub returns : goal.returns
 returns c = λ settles.
