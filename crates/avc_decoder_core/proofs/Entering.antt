@@ -8,7 +8,7 @@ use Rattle.avc_decoder_core.proofs.Common.{Contents, IsBuffer, frame_of, frame_a
 use Rattle.avc_decoder_core.specs.History.{Entry, decoded_picture, missing_frame, History, buffer_of, entry_at, marking_entries, marking_entry, marks_of}
 use Rattle.avc_decoder_core.proofs.Places.{each_all, each_append, each_implies, below, increasing, rise, rise_more}
 use Rattle.avc_decoder_core.proofs.References.{IsOf, each_entry, each_reference, marks_are, same_references}
-use Rattle.avc_decoder_core.proofs.FramesAt.{entry_before, entry_newest, mark_is, same_number, same_planes}
+use Rattle.avc_decoder_core.proofs.FramesAt.{entry_before, entry_newest, mark_is}
 
 -- ---- the marks
 
@@ -41,14 +41,16 @@ pub record IsMarked (output : Output) (e : Entry) (h : History) (m : Marks) (mar
 pub part_each : (Q : Reference → Type 0) → ((r s : Reference) → IsSameFrame r s → Q s → Q r) → (new old : List Reference) → IsPartUpToMarks new old → Each Q old → Each Q new
 part_each Q same [] old part h = tt
 part_each Q same (r ∷ new) [] part h = absurd part
-part_each Q same (r ∷ new) (s ∷ old) (inl both) h = (same r s both.0 h.0, part_each Q same new old both.1 h.1)
-part_each Q same (r ∷ new) (s ∷ old) (inr part) h = part_each Q same (r ∷ new) old part h.1
+part_each Q same (r ∷ new) (s ∷ old) part h = grind (arith, same, part_each Q same new old, part_each Q same (r ∷ new) old)
 
-number_of_own : (e : Entry) → (frame_of (Some e) None).frame_num ≡ (current_frame (marking_entry e) 0 Short).frame_num
-number_of_own e = grind arith
+-- the frame at a place is that of its reference frame, which had this number before
+own_is_of : (e : Entry) (h : History) (rs : List Reference) →
+    IsOf (λ p. marked_frame (frame_at (e ∷ h) rs p)) (current_frame (marking_entry e) (length h) Short)
+own_is_of e h rs = let at = entry_newest e h in grind (arith, at)
 
-existing_of_own : (e : Entry) → is_some (frame_of (Some e) None).planes ≡ (marking_entry e).existing
-existing_of_own e = grind arith
+old_is_of : (e : Entry) (h : History) (rs old : List Reference) (p : ℕ) → p < length h →
+    IsOf (λ p. marked_frame (frame_at (e ∷ h) rs p)) (reference_of p (marked_frame (frame_at h old p)))
+old_is_of e h rs old p low = let at = entry_before e h p low in grind (arith, at)
 
 same_of : (frame : ℕ → MarkedFrame) (r s : Reference) → IsSameFrame r s → IsOf frame s → IsOf frame r
 same_of frame r s same h = grind arith
@@ -76,16 +78,8 @@ is_marked e h c idx previous s m new long is references =
     let part = adds_own_frame_alone (marking_entry e) n s.marks m (each_all (λ r. r.entry < n) (s.marks).references entries_below) after in
     let of_old : Each (IsOf frame) (s.marks).references =
     subst (Each (IsOf frame)) old (each_reference (IsOf frame) before ps
-    (each_implies (λ p. p < n) (λ p. IsOf frame (reference_of p (before p))) ps
-    (λ p low. record {
-      frame_num = same_number (entry_at h p) (mark_in (s.marks).references p) (mark_in m.references p) ∙ ap (λ o. (frame_of o (mark_in m.references p)).frame_num) (sym (entry_before e h p low));
-      existing = ap is_some (same_planes (entry_at h p) (mark_in (s.marks).references p) (mark_in m.references p)) ∙ ap (λ o. is_some (frame_of o (mark_in m.references p)).planes) (sym (entry_before e h p low));
-    })
-    (below ps n rising))) in
-    let of_own : IsOf frame own = record {
-      frame_num = sym (number_of_own e) ∙ same_number (Some e) None (mark_in m.references n) ∙ ap (λ o. (frame_of o (mark_in m.references n)).frame_num) (sym (entry_newest e h));
-      existing = sym (existing_of_own e) ∙ ap is_some (same_planes (Some e) None (mark_in m.references n)) ∙ ap (λ o. is_some (frame_of o (mark_in m.references n)).planes) (sym (entry_newest e h));
-    } in
+    (each_implies (λ p. p < n) (λ p. IsOf frame (reference_of p (before p))) ps (old_is_of e h m.references (s.marks).references) (below ps n rising))) in
+    let of_own : IsOf frame own = own_is_of e h m.references in
     let of : Each (IsOf frame) m.references = part_each (IsOf frame) (same_of frame) m.references ((s.marks).references ++ own ∷ []) part (each_append (IsOf frame) (s.marks).references (own ∷ []) of_old (of_own, tt)) in
     let near : Each (λ r. r.entry < n + 1) (s.marks).references = each_implies (λ r. r.entry < n) (λ r. r.entry < n + 1) (s.marks).references (λ r low. omega (arith, low)) entries_below in
     record {

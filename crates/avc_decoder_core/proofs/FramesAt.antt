@@ -15,12 +15,6 @@ mark_is e m = grind arith
 pub remarked : (e : Option Entry) (m n : Option Mark) → record (frame_of e m) { mark = n } ≡ frame_of e n
 remarked e m n = grind arith
 
-pub same_number : (e : Option Entry) (m n : Option Mark) → (frame_of e m).frame_num ≡ (frame_of e n).frame_num
-same_number e m n = grind arith
-
-pub same_planes : (e : Option Entry) (m n : Option Mark) → (frame_of e m).planes ≡ (frame_of e n).planes
-same_planes e m n = grind arith
-
 planes_are : (e : Option Entry) (m : Option Mark) → option_map padded_planes_of (frame_of e m).planes ≡ planes_in e
 planes_are e m = grind arith
 
@@ -32,9 +26,6 @@ shown_one : (e : Option Entry) (m : Option Mark) → (l : List _) → cons_optio
 shown_one e m l = grind arith
 
 -- ---- the entries of a history with one entry more
-
-abbrev pub entry_from : History → ℕ → Option Entry
-entry_from h d = elim d [ zero ↦ None | suc n ↦ slice_get h n ]
 
 pub entry_before : (e : Entry) (h : History) (p : ℕ) → p < length h → entry_at (e ∷ h) p ≡ entry_at h p
 entry_before e h p low = grind arith

@@ -76,9 +76,7 @@ window_again s s' place place' r e = grind (arith, slides_again)
 
 next_marked : (sps : Sps) (n k : ℕ) (history : History) → is_ok (marks_of (missing_frame sps n ∷ history)) ≡ true
     → is_ok (marks_of (missing_frame sps k ∷ missing_frame sps n ∷ history)) ≡ true
-next_marked sps n k history e =
-    window_again (marking_entry (missing_frame sps n)) (marking_entry (missing_frame sps k))
-    (length (marking_entries history)) (length (marking_entries (missing_frame sps n ∷ history))) (marks_of history) e
+next_marked sps n k history e = search (window_again, arith)
 
 pub all_marked : (sps : Sps) (n : ℕ) (numbers : List ℕ) (history : History) → is_ok (marks_of (missing_frame sps n ∷ history)) ≡ true
     → with_missing sps (n ∷ numbers) history ≡ Ok (with_all_missing sps (n ∷ numbers) history)
@@ -94,10 +92,7 @@ unit_of r = result_map (λ _. tt) r
 -- the first can't be marked
 pub first_refused : (sps : Sps) (numbers : List ℕ) (n : ℕ) (history : History) (f : Fault) → slice_get numbers 0 ≡ Some n
     → Err f ≡ unit_of (marks_of (missing_frame sps n ∷ history)) → Err f ≡ counts_over (with_missing sps numbers history)
-first_refused sps numbers n history f e told = rw (next_number numbers n e) (by (marks_of (missing_frame sps n ∷ history)) _ told)
-  where
-    by : (r : Result Marks Fault) (g : Marks → Result History Fault) → Err f ≡ unit_of r → Err f ≡ counts_over (r >>= g)
-    by r g t = grind arith
+first_refused sps numbers n history f e told = rw (next_number numbers n e) (grind arith)
 
 pub is_marked : (r : Result Marks Fault) (x : Unit {0}) → Ok x ≡ unit_of r → is_ok r ≡ true
 is_marked r x t = grind arith

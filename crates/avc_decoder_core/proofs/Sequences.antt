@@ -107,13 +107,7 @@ pub is_closed : (old new : SequenceState) (o : OpenPictureStart) (planes : Plane
     → current_history old ≡ history → is_ok (marks_of (with_picture o.sps o.header planes history)) ≡ true
     → new ≡ record { history = with_picture o.sps o.header planes history; open_picture = None; frames = frames; output = old.output; failed = false }
     → out ≡ output_at_closing old.output o.header history (with_picture o.sps o.header planes history) → IsClosed old o planes out new
-is_closed old new o planes frames history out going current marked state pictures =
-    rw state (record {
-      going = going;
-      state = refl;
-      closes = ap (history_after_closing o.sps o.header planes) current ∙ follows (marks_of (with_picture o.sps o.header planes history)) (Ok (with_picture o.sps o.header planes history)) marked;
-      pictures = pictures ∙ ap (λ h. output_at_closing old.output o.header h (with_picture o.sps o.header planes history)) (sym current);
-    })
+is_closed old new o planes frames history out going current marked state pictures = search (follows, arith)
 
 -- `o` is the open picture
 pub open_is : (p : OpenPicture) (opened : Option OpenPicture) (o : OpenPictureStart) (s : SequenceState) → opened ≡ Some p → option_map open_picture_of opened ≡ s.open_picture
