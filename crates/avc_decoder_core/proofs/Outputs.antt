@@ -23,29 +23,22 @@ all_below n [] f = All-nil (λ p. p < n)
 all_below n (x ∷ xs) f =
     All-cons (λ p. p < n) x xs (below_unless n x xs (f x)) (all_below n xs (λ place low. let none = f place low in omega (arith, none)))
 
-occurrences-append : (place : ℕ) (xs ys : List ℕ) → occurrences place xs ≡ 0 → occurrences place ys ≡ 0 → occurrences place (xs ++ ys) ≡ 0
-occurrences-append place [] ys e f = f
-occurrences-append place (x ∷ xs) ys e f = let rest = occurrences-append place xs ys (omega arith) f in omega (arith, e, rest)
-
-other_place : (place n : ℕ) (b : Bool) → n < place → occurrences place (if b then n ∷ [] else []) ≡ 0
-other_place place n b low = grind (arith, nat_tests)
+occurrences-append : (place : ℕ) (xs ys : List ℕ) → occurrences place (xs ++ ys) ≡ occurrences place xs + occurrences place ys
+occurrences-append place [] ys = omega arith
+occurrences-append place (x ∷ xs) ys = grind (arith, occurrences-append place xs ys)
 
 none_above : (history : List Arrival) (place : ℕ) → length history ≤ place → occurrences place (pictures history) ≡ 0
 none_above [] place low = refl
-none_above (a ∷ older) place low =
-    occurrences-append place (pictures older) _ (none_above older place (omega arith)) (other_place place (length older) a.existing (omega arith))
+none_above (a ∷ older) place low = let none = none_above older place (omega arith) in grind (arith, nat_tests, occurrences-append, none)
 
 -- of the pictures that have gone out and of those that are held
 pub places_below : (output : Output) (history : History) → All (λ p. p < length history) ((buffer_of output history).out ++ all_held output history)
 places_below output history = grind (arith, length-arrivals, all_below, goes_out_once, none_above)
 
-all_first : (P : ℕ → Type 0) (xs ys : List ℕ) → All P (xs ++ ys) → All P xs
-all_first P [] ys a = All-nil P
-all_first P (x ∷ xs) ys a = All-cons P x xs (All-head P x (xs ++ ys) a) (all_first P xs ys (All-tail P x (xs ++ ys) a))
-
-all_last : (P : ℕ → Type 0) (xs ys : List ℕ) → All P (xs ++ ys) → All P ys
-all_last P [] ys a = a
-all_last P (x ∷ xs) ys a = all_last P xs ys (All-tail P x (xs ++ ys) a)
+all_parts : (P : ℕ → Type 0) (xs ys : List ℕ) → All P (xs ++ ys) → All P xs × All P ys
+all_parts P [] ys a = (All-nil P, a)
+all_parts P (x ∷ xs) ys a =
+    let rest = all_parts P xs ys (All-tail P x (xs ++ ys) a) in (All-cons P x xs (All-head P x (xs ++ ys) a) rest.0, rest.1)
 
 pub pictures_stay : (e : Entry) (history : History) (places : List ℕ) → All (λ p. p < length history) places → pictures_at (e ∷ history) places ≡ pictures_at history places
 pictures_stay e history [] a = refl
@@ -84,11 +77,11 @@ extends_more output e old history x = output_longer output e old history x ∙ a
 
 out_below : (output : Output) (old history : History) → Extends output old history → All (λ p. p < length history) (new_output output old history)
 out_below output old history x =
-    all_last (λ p. p < length history) (buffer_of output old).out (new_output output old history)
-    (subst (All (λ p. p < length history)) x (all_first (λ p. p < length history) (buffer_of output history).out (all_held output history) (places_below output history)))
+    let out = (all_parts (λ p. p < length history) (buffer_of output history).out (all_held output history) (places_below output history)).0 in
+    (all_parts (λ p. p < length history) (buffer_of output old).out (new_output output old history) (subst (All (λ p. p < length history)) x out)).1
 
 pub held_below : (output : Output) (history : History) → All (λ p. p < length history) (all_held output history)
-held_below output history = all_last (λ p. p < length history) (buffer_of output history).out (all_held output history) (places_below output history)
+held_below output history = (all_parts (λ p. p < length history) (buffer_of output history).out (all_held output history) (places_below output history)).1
 
 -- what goes out with one entry more
 pub output_more : (output : Output) (e : Entry) (old history : History) → Extends output old history

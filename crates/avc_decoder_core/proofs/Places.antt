@@ -60,10 +60,7 @@ increasing-cons p (q ∷ qs) h rising = by_place
   where
     by_place : (k : ℕ) → k + 1 < length (p ∷ q ∷ qs) → slice_index (p ∷ q ∷ qs) k < slice_index (p ∷ q ∷ qs) (k + 1)
     by_place zero within = h.0
-    by_place (suc k) within =
-        let n : suc k + 1 ≡ suc (k + 1) = omega arith in
-        let same : slice_index (p ∷ q ∷ qs) (suc k + 1) ≡ slice_index (p ∷ q ∷ qs) (suc (k + 1)) = ap (slice_index (p ∷ q ∷ qs)) n in
-        subst (λ m. slice_index (q ∷ qs) k < m) (sym same) (rising k (omega (arith, within)))
+    by_place (suc k) within = let more = rising k (omega (arith, within)) in grind (arith, more)
 
 pub increasing : (ps : List ℕ) (n : ℕ) → Rise ps n → IsStrictlyIncreasing ps
 increasing [] n h = λ k within. absurd (omega (arith, within))

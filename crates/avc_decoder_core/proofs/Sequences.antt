@@ -77,17 +77,7 @@ pub record IsStoredOn (sps : Sps) (h : Header) (planes : Planes) (b : FrameBuffe
 
 pub stored_on : (sps : Sps) (h : Header) (planes : Planes) (b there after : FrameBufferState) (prior more out : List Picture) → BeginsSequence b h prior there
     → Stores there (decoded_picture sps h planes) more after → out ≡ prior ++ more → IsStoredOn sps h planes b out after
-stored_on sps h planes b there after prior more out begins stores all =
-    let e = decoded_picture sps h planes in
-    let is : there.history ≡ earlier_in_sequence h b.history = ap (λ (v : FrameBufferState). v.history) begins.state ∙ history_there h b in
-    let output : there.output ≡ b.output = ap (λ (v : FrameBufferState). v.output) begins.state ∙ output_there h b in
-    record {
-      going = ap (λ (v : FrameBufferState). v.failed) stores.state;
-      history = ap (λ (v : FrameBufferState). v.history) stores.state ∙ ap (λ l. e ∷ l) is;
-      output = ap (λ (v : FrameBufferState). v.output) stores.state ∙ output;
-      marked = ap (λ l. is_ok (marks_of (e ∷ l))) (sym is) ∙ stores.marked;
-      pictures = all ∙ ap₂ (λ l r. l ++ r) begins.pictures (stores.pictures ∙ ap₂ (λ o l. output_pictures o l (e ∷ l)) output is);
-    }
+stored_on sps h planes b there after prior more out begins stores all = grind (arith, history_there, output_there)
 
 -- Nothing changed, and it could not be marked.
 pub record IsRefusedOn (sps : Sps) (h : Header) (planes : Planes) (b : FrameBufferState) (f : Fault) (after : FrameBufferState) : Type 0 where

@@ -4,9 +4,6 @@ use Rattle.avc_decoder_core.proofs.Settling.{long_gap}
 use Rattle.avc_decoder_core.proofs.State.{few_frames, few_marked}
 use Rattle.avc_decoder_core.proofs.frame_buffer.FrameBuffer.is_settled.Goals as goal
 
-pub marked_frames-marked-requires : goal.marked_frames-marked-requires
-marked_frames-marked-requires c = (few_marked c.self.inside _ _ c.self.invariant (ap (λ v. v.failed) c.self.view_is ∙ c.requires.going) c.frames-frames.ensures refl).0
-
 pub returns : goal.returns
 returns c = λ settles.
     let i = c.self.inside in

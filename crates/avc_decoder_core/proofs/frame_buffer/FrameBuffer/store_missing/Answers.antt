@@ -9,9 +9,6 @@ use Rattle.avc_decoder_core.proofs.State.{IsTaken, few_marked, taken}
 use Rattle.avc_decoder_core.proofs.StoredEntry.{frame_made, missing_arrival, missing_arrives, outputs_none}
 use Rattle.avc_decoder_core.proofs.frame_buffer.FrameBuffer.store_missing.Goals as goal
 
-pub marked_frames-marked-requires : goal.marked_frames-marked-requires
-marked_frames-marked-requires c = (few_marked c.self.inside _ _ c.self.invariant (ap (λ v. v.failed) c.self.view_is ∙ c.requires.going) c.frames.ensures refl).0
-
 pub sliding_window-requires : goal.sliding_window-requires
 sliding_window-requires c = (few_marked c.self.inside _ _ c.self.invariant (ap (λ v. v.failed) c.self.view_is ∙ c.requires.going) c.frames.ensures c.marked_frames-marked.ensures).1
 

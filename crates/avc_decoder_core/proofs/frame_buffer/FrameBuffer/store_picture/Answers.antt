@@ -10,9 +10,6 @@ use Rattle.avc_decoder_core.proofs.State.{IsTaken, few_marked, refused, taken}
 use Rattle.avc_decoder_core.proofs.StoredEntry.{frame_made, picture_arrival, picture_arrives, picture_previous}
 use Rattle.avc_decoder_core.proofs.frame_buffer.FrameBuffer.store_picture.Goals as goal
 
-pub marked_frames-marked-requires : goal.marked_frames-marked-requires
-marked_frames-marked-requires c = (few_marked c.self.inside _ _ c.self.invariant (ap (λ v. v.failed) c.self.view_is ∙ c.requires.going) c.frames.ensures refl).0
-
 pub mark-requires : goal.mark-requires
 mark-requires c = (few_marked c.self.inside _ _ c.self.invariant (ap (λ v. v.failed) c.self.view_is ∙ c.requires.going) c.frames.ensures c.marked_frames-marked.ensures).1
 
