@@ -8,14 +8,12 @@ use Rattle.avc_decoder_core.proofs.Common.{Contents, IsBuffer, frame_of, frame_a
 use Rattle.avc_decoder_core.specs.History.{Entry, decoded_picture, missing_frame, History, buffer_of, entry_at, marking_entries, marking_entry, marks_of}
 use Rattle.avc_decoder_core.proofs.Places.{each_all, each_append, each_implies, below, increasing, rise, rise_more}
 use Rattle.avc_decoder_core.proofs.References.{IsOf, each_entry, each_reference, marks_are, same_references}
-use Rattle.avc_decoder_core.proofs.FramesAt.{entry_before, entry_newest, mark_is, same_number, same_planes}
+use Rattle.avc_decoder_core.proofs.FramesAt.{entry_before, entry_newest, mark_is}
 
 -- ---- the marks
 
 pub marks_then : (e : Entry) (h : History) (m : Marks) → marks_of h ≡ Ok m → marks_of (e ∷ h) ≡ marks_after (marking_entry e) (length h) (marking_entry e).marking m
-marks_then e h m is =
-    ap (λ r. r >>= λ m. marks_after (marking_entry e) (length (marking_entries h)) (marking_entry e).marking m) is
-    ∙ ap (λ n. marks_after (marking_entry e) n (marking_entry e).marking m) (length-map h marking_entry)
+marks_then e h m is = grind (arith, length-map)
 
 stand_before : (h : History) (c : Contents) (b : Buffer) (frame : ℕ → Frame 32) (old : List MarkedFrame) → IsBuffer c b (length h) frame →
     old ≡ map marked_frame c.frames → StandBefore (places_in b) (length h) old
@@ -29,12 +27,7 @@ pub marked_then : (e : Entry) (h : History) (c : Contents) (idx : Option ℕ) (p
     (old new : List MarkedFrame) (r : Result (Unit {0}) Fault) (new_idx : Option ℕ) → old ≡ map marked_frame c.frames →
     MarksFrame (λ entry. marks_after (marking_entry e) entry (marking_entry e).marking) old idx r new new_idx →
     marks_of (e ∷ h) ≡ or_fault r (marks_at (places_in (buffer_of c.output h) ++ length h ∷ []) new new_idx)
-marked_then e h c idx previous s old new r new_idx is marks =
-    let ps = places_in (buffer_of c.output h) in
-    let same : marks_at ps old idx ≡ s.marks = ap₂ (λ references i. record { references = references; max_long_term_frame_idx = i }) (ap (references_at ps) is ∙ s.references) s.idx_is in
-    marks_then e h s.marks s.marked
-    ∙ ap (marks_after (marking_entry e) (length h) (marking_entry e).marking) (sym same)
-    ∙ marks ps (length h) (stand_before h c (buffer_of c.output h) (frame_at h (s.marks).references) old s.buffer is)
+marked_then e h c idx previous s old new r new_idx is marks = grind (arith, marks_then, stand_before)
 
 -- The marks with the entry, where `marked` are the frames of the buffer and the entry's own.
 pub record IsMarked (output : Output) (e : Entry) (h : History) (m : Marks) (marked : List MarkedFrame) : Type 0 where
@@ -48,22 +41,19 @@ pub record IsMarked (output : Output) (e : Entry) (h : History) (m : Marks) (mar
 pub part_each : (Q : Reference → Type 0) → ((r s : Reference) → IsSameFrame r s → Q s → Q r) → (new old : List Reference) → IsPartUpToMarks new old → Each Q old → Each Q new
 part_each Q same [] old part h = tt
 part_each Q same (r ∷ new) [] part h = absurd part
-part_each Q same (r ∷ new) (s ∷ old) (inl both) h = (same r s both.0 h.0, part_each Q same new old both.1 h.1)
-part_each Q same (r ∷ new) (s ∷ old) (inr part) h = part_each Q same (r ∷ new) old part h.1
+part_each Q same (r ∷ new) (s ∷ old) part h = grind (arith, same, part_each Q same new old, part_each Q same (r ∷ new) old)
 
-number_of_own : (e : Entry) → (frame_of (Some e) None).frame_num ≡ (current_frame (marking_entry e) 0 Short).frame_num
-number_of_own (decoded_picture sps header planes) = refl
-number_of_own (missing_frame sps frame_num) = refl
+-- the frame at a place is that of its reference frame, which had this number before
+own_is_of : (e : Entry) (h : History) (rs : List Reference) →
+    IsOf (λ p. marked_frame (frame_at (e ∷ h) rs p)) (current_frame (marking_entry e) (length h) Short)
+own_is_of e h rs = let at = entry_newest e h in grind (arith, at)
 
-existing_of_own : (e : Entry) → is_some (frame_of (Some e) None).planes ≡ (marking_entry e).existing
-existing_of_own (decoded_picture sps header planes) = refl
-existing_of_own (missing_frame sps frame_num) = refl
+old_is_of : (e : Entry) (h : History) (rs old : List Reference) (p : ℕ) → p < length h →
+    IsOf (λ p. marked_frame (frame_at (e ∷ h) rs p)) (reference_of p (marked_frame (frame_at h old p)))
+old_is_of e h rs old p low = let at = entry_before e h p low in grind (arith, at)
 
 same_of : (frame : ℕ → MarkedFrame) (r s : Reference) → IsSameFrame r s → IsOf frame s → IsOf frame r
-same_of frame r s same h = record {
-  frame_num = same.same_frame_num ∙ h.frame_num ∙ ap (λ p. (frame p).frame_num) (sym same.same_entry);
-  existing = same.same_existing ∙ h.existing ∙ ap (λ p. (frame p).existing) (sym same.same_entry);
-}
+same_of frame r s same h = grind arith
 
 pub is_marked : (e : Entry) (h : History) (c : Contents) (idx : Option ℕ) (previous : ℕ) (s : IsStateAfter h c idx previous)
     (m : Marks) (new : List MarkedFrame) → length new ≡ length c.frames + 1 → marks_of (e ∷ h) ≡ Ok m →
@@ -88,16 +78,8 @@ is_marked e h c idx previous s m new long is references =
     let part = adds_own_frame_alone (marking_entry e) n s.marks m (each_all (λ r. r.entry < n) (s.marks).references entries_below) after in
     let of_old : Each (IsOf frame) (s.marks).references =
     subst (Each (IsOf frame)) old (each_reference (IsOf frame) before ps
-    (each_implies (λ p. p < n) (λ p. IsOf frame (reference_of p (before p))) ps
-    (λ p low. record {
-      frame_num = same_number (entry_at h p) (mark_in (s.marks).references p) (mark_in m.references p) ∙ ap (λ o. (frame_of o (mark_in m.references p)).frame_num) (sym (entry_before e h p low));
-      existing = ap is_some (same_planes (entry_at h p) (mark_in (s.marks).references p) (mark_in m.references p)) ∙ ap (λ o. is_some (frame_of o (mark_in m.references p)).planes) (sym (entry_before e h p low));
-    })
-    (below ps n rising))) in
-    let of_own : IsOf frame own = record {
-      frame_num = sym (number_of_own e) ∙ same_number (Some e) None (mark_in m.references n) ∙ ap (λ o. (frame_of o (mark_in m.references n)).frame_num) (sym (entry_newest e h));
-      existing = sym (existing_of_own e) ∙ ap is_some (same_planes (Some e) None (mark_in m.references n)) ∙ ap (λ o. is_some (frame_of o (mark_in m.references n)).planes) (sym (entry_newest e h));
-    } in
+    (each_implies (λ p. p < n) (λ p. IsOf frame (reference_of p (before p))) ps (old_is_of e h m.references (s.marks).references) (below ps n rising))) in
+    let of_own : IsOf frame own = own_is_of e h m.references in
     let of : Each (IsOf frame) m.references = part_each (IsOf frame) (same_of frame) m.references ((s.marks).references ++ own ∷ []) part (each_append (IsOf frame) (s.marks).references (own ∷ []) of_old (of_own, tt)) in
     let near : Each (λ r. r.entry < n + 1) (s.marks).references = each_implies (λ r. r.entry < n) (λ r. r.entry < n + 1) (s.marks).references (λ r low. omega (arith, low)) entries_below in
     record {

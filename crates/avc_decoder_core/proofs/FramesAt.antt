@@ -10,56 +10,28 @@ use Rattle.avc_decoder_core.proofs.References.{entries, is_entry, is_entry_marke
 -- ---- of an entry
 
 pub mark_is : (e : Option Entry) (m : Option Mark) → (frame_of e m).mark ≡ m
-mark_is None m = refl
-mark_is (Some (decoded_picture sps h planes)) m = refl
-mark_is (Some (missing_frame sps frame_num)) m = refl
+mark_is e m = grind arith
 
 pub remarked : (e : Option Entry) (m n : Option Mark) → record (frame_of e m) { mark = n } ≡ frame_of e n
-remarked None m n = refl
-remarked (Some (decoded_picture sps h planes)) m n = refl
-remarked (Some (missing_frame sps frame_num)) m n = refl
-
-pub same_number : (e : Option Entry) (m n : Option Mark) → (frame_of e m).frame_num ≡ (frame_of e n).frame_num
-same_number None m n = refl
-same_number (Some (decoded_picture sps h planes)) m n = refl
-same_number (Some (missing_frame sps frame_num)) m n = refl
-
-pub same_planes : (e : Option Entry) (m n : Option Mark) → (frame_of e m).planes ≡ (frame_of e n).planes
-same_planes None m n = refl
-same_planes (Some (decoded_picture sps h planes)) m n = refl
-same_planes (Some (missing_frame sps frame_num)) m n = refl
+remarked e m n = grind arith
 
 planes_are : (e : Option Entry) (m : Option Mark) → option_map padded_planes_of (frame_of e m).planes ≡ planes_in e
-planes_are None m = refl
-planes_are (Some (decoded_picture sps h planes)) m = refl
-planes_are (Some (missing_frame sps frame_num)) m = refl
+planes_are e m = grind arith
 
 pub sized_frame : (width height : ℕ) (e : Option Entry) (m : Option Mark) → IfSome (planes_in e) (AreSized width height) →
     IfSome (frame_of e m).planes (λ p. AreSized width height (padded_planes_of p))
-sized_frame width height None m h = h
-sized_frame width height (Some (decoded_picture sps header planes)) m h = h
-sized_frame width height (Some (missing_frame sps frame_num)) m h = h
+sized_frame width height e m h = grind arith
 
 shown_one : (e : Option Entry) (m : Option Mark) → (l : List _) → cons_option (shown_frame (frame_of e m)) l ≡ entry_pictures e ++ l
-shown_one None m l = refl
-shown_one (Some (decoded_picture sps h planes)) m l = refl
-shown_one (Some (missing_frame sps frame_num)) m l = refl
+shown_one e m l = grind arith
 
 -- ---- the entries of a history with one entry more
 
-abbrev pub entry_from : History → ℕ → Option Entry
-entry_from h d = elim d [ zero ↦ None | suc n ↦ slice_get h n ]
-
 pub entry_before : (e : Entry) (h : History) (p : ℕ) → p < length h → entry_at (e ∷ h) p ≡ entry_at h p
-entry_before e h p low =
-    let more : suc (length h) - p ≡ suc (suc (length h - p - 1)) = omega (arith, low) in
-    let here : length h - p ≡ suc (length h - p - 1) = omega (arith, low) in
-    ap (entry_from (e ∷ h)) more ∙ sym (ap (entry_from h) here)
+entry_before e h p low = grind arith
 
 pub entry_newest : (e : Entry) (h : History) → entry_at (e ∷ h) (length h) ≡ Some e
-entry_newest e h =
-    let one : suc (length h) - length h ≡ suc zero = omega arith in
-    ap (entry_from (e ∷ h)) one
+entry_newest e h = grind arith
 
 -- ---- the frames at places
 
@@ -80,19 +52,12 @@ referenced_are h references (s ∷ frames) = ap₂ (λ b bs. b ∷ bs) (referenc
 
 -- the reference frames with their planes
 stored_one : (h : History) (references : List Reference) (p : ℕ) → stored_frame p (frame_at h references p) ≡ stored h (reference_of p (marked_frame (frame_at h references p)))
-stored_one h references p =
-    ap (λ planes. record { reference = reference_of p (marked_frame (frame_at h references p)); planes = planes }) (planes_are (entry_at h p) (mark_in references p))
+stored_one h references p = grind (arith, planes_are)
 
 pub stored_are : (h : History) (references : List Reference) (ps : List ℕ) →
     stored_at ps (map (frame_at h references) ps) ≡ map (stored h) (references_at ps (map (λ p. marked_frame (frame_at h references p)) ps))
 stored_are h references [] = refl
-stored_are h references (p ∷ ps) = by_mark (is_some (frame_at h references p).mark) (stored_are h references ps)
-  where
-    by_mark : (b : Bool) → stored_at ps (map (frame_at h references) ps) ≡ map (stored h) (references_at ps (map (λ p. marked_frame (frame_at h references p)) ps)) →
-        elim b [ true ↦ stored_frame p (frame_at h references p) ∷ stored_at ps (map (frame_at h references) ps) | false ↦ stored_at ps (map (frame_at h references) ps) ]
-        ≡ map (stored h) (elim b [ true ↦ reference_of p (marked_frame (frame_at h references p)) ∷ references_at ps (map (λ p. marked_frame (frame_at h references p)) ps) | false ↦ references_at ps (map (λ p. marked_frame (frame_at h references p)) ps) ])
-    by_mark true rest = ap₂ (λ f fs. f ∷ fs) (stored_one h references p) rest
-    by_mark false rest = rest
+stored_are h references (p ∷ ps) = grind (arith, stored_one h references p, stored_are h references ps)
 
 -- ---- new marks
 
@@ -100,28 +65,20 @@ stored_are h references (p ∷ ps) = by_mark (is_some (frame_at h references p).
 pub marked_again : (e : Entry) (h : History) (old new : List Reference) (ps later : List ℕ) (marked : List MarkedFrame) → Each (λ p. p < length h) ps →
     map (mark_in new) (ps ++ later) ≡ map (λ f. f.mark) marked → with_marks (map (frame_at h old) ps) marked ≡ map (frame_at (e ∷ h) new) ps
 marked_again e h old new [] later marked low marks = refl
-marked_again e h old new (p ∷ ps) later [] low marks = absurd (omega (arith, ap length marks))
+marked_again e h old new (p ∷ ps) later [] low marks = cc
 marked_again e h old new (p ∷ ps) later (m ∷ marked) low marks =
+    let first : mark_in new p ≡ m.mark = cc in
+    let rest : map (mark_in new) (ps ++ later) ≡ map (λ f. f.mark) marked = cc in
     ap₂ (λ f fs. f ∷ fs)
-    (remarked (entry_at h p) (mark_in old p) m.mark ∙ ap₂ frame_of (sym (entry_before e h p low.0)) (sym (head marks)))
-    (marked_again e h old new ps later marked low.1 (tail marks))
-  where
-    head : {A : Type 0} {x y : A} {xs ys : List A} → x ∷ xs ≡ y ∷ ys → x ≡ y
-    head {A} {x} e = ap (λ l. elim l as (λ _. A) [ [] ↦ x | z ∷ zs ↦ z ]) e
-
-    tail : {A : Type 0} {x y : A} {xs ys : List A} → x ∷ xs ≡ y ∷ ys → xs ≡ ys
-    tail {A} e = ap (λ l. elim l as (λ _. List A) [ [] ↦ [] | z ∷ zs ↦ zs ]) e
+    (remarked (entry_at h p) (mark_in old p) m.mark ∙ ap₂ frame_of (sym (entry_before e h p low.0)) (sym first))
+    (marked_again e h old new ps later marked low.1 rest)
 
 -- the mark of the frame that has come last
 pub last_mark : (new : List Reference) (ps : List ℕ) (n k : ℕ) (marked : List MarkedFrame) (d : MarkedFrame) → k ≡ length ps →
     map (mark_in new) (ps ++ n ∷ []) ≡ map (λ f. f.mark) marked → (slice_index_or marked k d).mark ≡ mark_in new n
-last_mark new ps n k [] d last marks = absurd (long ps marks)
-  where
-    long : (ps : List ℕ) → map (mark_in new) (ps ++ n ∷ []) ≡ [] → ⊥
-    long [] e = omega (arith, ap length e)
-    long (p ∷ ps) e = omega (arith, ap length e)
-last_mark new [] n zero (m ∷ marked) d last marks = sym (ap (λ l. elim l as (λ _. Option Mark) [ [] ↦ None | z ∷ zs ↦ z ]) marks)
+last_mark new [] n k [] d last marks = cc
+last_mark new (p ∷ ps) n k [] d last marks = cc
+last_mark new [] n zero (m ∷ marked) d last marks = cc
 last_mark new [] n (suc k) (m ∷ marked) d last marks = absurd (omega (arith, last))
 last_mark new (p ∷ ps) n zero (m ∷ marked) d last marks = absurd (omega (arith, last))
-last_mark new (p ∷ ps) n (suc k) (m ∷ marked) d last marks =
-    last_mark new ps n k marked d (omega (arith, last)) (ap (λ l. elim l as (λ _. List (Option Mark)) [ [] ↦ [] | z ∷ zs ↦ zs ]) marks)
+last_mark new (p ∷ ps) n (suc k) (m ∷ marked) d last marks = last_mark new ps n k marked d (omega (arith, last)) (cc)

@@ -2,6 +2,7 @@ mod Common
 pub mod Places
 pub mod References
 pub mod FramesAt
+pub mod Outputs
 pub mod StayingFrames
 pub mod Entering
 pub mod Storing
@@ -10,7 +11,6 @@ pub mod LongerState
 pub mod State
 pub mod StoredEntry
 pub mod SettingMarks
-pub mod Outputs
 pub mod MissingNumbers
 pub mod Held
 pub mod Sequences

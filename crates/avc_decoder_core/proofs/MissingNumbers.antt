@@ -11,34 +11,27 @@ use Rattle.avc_decoder_core.specs.History.{missing_frame, History, earlier_in_se
 use Rattle.avc_decoder_core.specs.History.{order_or_0, picture_entry, pasts, sequence_sps, with_missing, with_order_counts}
 
 pub ok_same : {A : Type 0} (x y : A) → ◌≡◌ {A = Result A Fault} (Ok x) (Ok y) → x ≡ y
-ok_same {A = A} x y e = ap (λ (r : Result A Fault). elim r as (λ _. A) [ Ok z ↦ z | Err f ↦ x ]) e
-
-ok_err : {A : Type 0} (x : A) (f : Fault) → ◌≡◌ {A = Result A Fault} (Ok x) (Err f) → ⊥
-ok_err {A = A} x f e = false≢true (ap (λ (r : Result A Fault). elim r as (λ _. Bool) [ Ok z ↦ false | Err f ↦ true ]) e)
+ok_same x y e = cc
 
 -- ---- one number after another
 
 pub next_number : (numbers : List ℕ) (n : ℕ) → slice_get numbers 0 ≡ Some n → numbers ≡ n ∷ drop 1 numbers
-next_number [] n e = absurd (none-some n e)
-next_number (m ∷ numbers) n e = ap (λ x. x ∷ numbers) (same_Some m n e)
+next_number numbers n e = grind arith
 
 pub no_number : (numbers : List ℕ) → slice_get numbers 0 ≡ None → numbers ≡ []
 no_number [] e = refl
-no_number (m ∷ numbers) e = absurd (none-some m (sym e))
+no_number (m ∷ numbers) e = cc
 
 -- ---- the history with all of them
 
-unless_fault : {A B : Type 0} (r : Result A Fault) (f : A → Result B Fault) → is_ok (r >>= f) ≡ true → is_ok r ≡ true
-unless_fault (Ok x) f e = refl
-unless_fault (Err g) f e = e
+pub unless_fault : {A B : Type 0} (r : Result A Fault) (f : A → Result B Fault) → is_ok (r >>= f) ≡ true → is_ok r ≡ true
+unless_fault r f e = grind arith
 
-follows : {A B : Type 0} (r : Result A Fault) (f : Result B Fault) → is_ok r ≡ true → (r >>= λ _. f) ≡ f
-follows (Ok x) f e = refl
-follows (Err g) f e = absurd (false≢true e)
+pub follows : {A B : Type 0} (r : Result A Fault) (f : Result B Fault) → is_ok r ≡ true → (r >>= λ _. f) ≡ f
+follows r f e = grind arith
 
-fault_stays : {A B : Type 0} (r : Result A Fault) (g : Fault) (f : A → Result B Fault) → r ≡ Err g → (r >>= f) ≡ Err g
-fault_stays (Ok x) g f e = absurd (ok_err x g e)
-fault_stays (Err h) g f e = search rules
+pub fault_stays : {A B : Type 0} (r : Result A Fault) (g : Fault) (f : A → Result B Fault) → r ≡ Err g → (r >>= f) ≡ Err g
+fault_stays r g f e = rw e
 
 -- the first can be marked where all can
 pub first_marked : (sps : Sps) (n : ℕ) (numbers : List ℕ) (history : History) → is_ok (with_missing sps (n ∷ numbers) history) ≡ true
@@ -60,9 +53,7 @@ one_counted sps numbers n reached full e is = ap (λ l. with_all_missing sps l r
 -- of these numbers the first can be marked, and then the others are left
 pub left_after : (sps : Sps) (numbers : List ℕ) (n : ℕ) (history : History) → slice_get numbers 0 ≡ Some n → is_ok (with_missing sps numbers history) ≡ true
     → with_missing sps (drop 1 numbers) (missing_frame sps n ∷ history) ≡ with_missing sps numbers history
-left_after sps numbers n history e marked =
-    let is = ap (λ l. with_missing sps l history) (next_number numbers n e) in
-    sym (is ∙ one_stored sps n (drop 1 numbers) history (first_marked sps n (drop 1 numbers) history (ap is_ok (sym is) ∙ marked)))
+left_after sps numbers n history e marked = grind (arith, next_number, one_stored, first_marked)
 
 pub is_with_all : (sps : Sps) (numbers : List ℕ) (history full : History) → with_missing sps numbers history ≡ Ok full → full ≡ with_all_missing sps numbers history
 is_with_all sps [] history full e = sym (ok_same history full e)
@@ -79,23 +70,13 @@ same_set sps numbers history full e = ap sequence_sps (is_with_all sps numbers h
 
 -- ---- once the first can be marked, all can (8.2.5.3)
 
-abbrev by_window : MarkingEntry → ℕ → Result Marks Fault → Result Marks Fault
-by_window s place r = r >>= λ m. marks_after s place (Some SlidingWindow) m
-
-window_once : (s s' : MarkingEntry) (place place' : ℕ) (m : Marks) (r : Result Marks Fault) → marks_after s place (Some SlidingWindow) m ≡ r → is_ok r ≡ true
-    → is_ok (by_window s' place' r) ≡ true
-window_once s s' place place' m (Ok m') told e = slides_again s s' place place' m m' told
-window_once s s' place place' m (Err f) told e = absurd (false≢true e)
-
-window_again : (s s' : MarkingEntry) (place place' : ℕ) (r : Result Marks Fault) → is_ok (by_window s place r) ≡ true → is_ok (by_window s' place' (by_window s place r)) ≡ true
-window_again s s' place place' (Ok m) e = window_once s s' place place' m (marks_after s place (Some SlidingWindow) m) refl e
-window_again s s' place place' (Err f) e = absurd (false≢true e)
+window_again : (s s' : MarkingEntry) (place place' : ℕ) (r : Result Marks Fault) → is_ok (r >>= marks_after s place (Some SlidingWindow)) ≡ true →
+    is_ok (r >>= marks_after s place (Some SlidingWindow) >>= marks_after s' place' (Some SlidingWindow)) ≡ true
+window_again s s' place place' r e = grind (arith, slides_again)
 
 next_marked : (sps : Sps) (n k : ℕ) (history : History) → is_ok (marks_of (missing_frame sps n ∷ history)) ≡ true
     → is_ok (marks_of (missing_frame sps k ∷ missing_frame sps n ∷ history)) ≡ true
-next_marked sps n k history e =
-    window_again (marking_entry (missing_frame sps n)) (marking_entry (missing_frame sps k))
-    (length (marking_entries history)) (length (marking_entries (missing_frame sps n ∷ history))) (marks_of history) e
+next_marked sps n k history e = search (window_again, arith)
 
 pub all_marked : (sps : Sps) (n : ℕ) (numbers : List ℕ) (history : History) → is_ok (marks_of (missing_frame sps n ∷ history)) ≡ true
     → with_missing sps (n ∷ numbers) history ≡ Ok (with_all_missing sps (n ∷ numbers) history)
@@ -111,25 +92,17 @@ unit_of r = result_map (λ _. tt) r
 -- the first can't be marked
 pub first_refused : (sps : Sps) (numbers : List ℕ) (n : ℕ) (history : History) (f : Fault) → slice_get numbers 0 ≡ Some n
     → Err f ≡ unit_of (marks_of (missing_frame sps n ∷ history)) → Err f ≡ counts_over (with_missing sps numbers history)
-first_refused sps numbers n history f e told =
-    sym (ap (λ l. counts_over (with_missing sps l history)) (next_number numbers n e)
-    ∙ ap counts_over (fault_stays (marks_of (missing_frame sps n ∷ history)) f (λ m. with_missing sps (drop 1 numbers) (missing_frame sps n ∷ history)) (refused (marks_of (missing_frame sps n ∷ history)) told)))
-  where
-    refused : (r : Result Marks Fault) → Err f ≡ unit_of r → r ≡ Err f
-    refused (Ok m) t = search rules
-    refused (Err g) t = search rules
+first_refused sps numbers n history f e told = rw (next_number numbers n e) (grind arith)
 
 pub is_marked : (r : Result Marks Fault) (x : Unit {0}) → Ok x ≡ unit_of r → is_ok r ≡ true
-is_marked (Ok m) x t = refl
-is_marked (Err f) x t = search rules
+is_marked r x t = grind arith
 
 -- all were counted
 pub all_counted : (sps : Sps) (numbers : List ℕ) (n : ℕ) (history : History) (counts : OrderCountState) → slice_get numbers 0 ≡ Some n
     → is_ok (marks_of (missing_frame sps n ∷ history)) ≡ true
     → counts ≡ order_count_state (pasts (with_all_missing sps (drop 1 numbers) (missing_frame sps n ∷ history)))
     → Ok counts ≡ counts_over (with_missing sps numbers history)
-all_counted sps numbers n history counts e marked told =
-    ap Ok told ∙ sym (ap (λ l. counts_over (with_missing sps l history)) (next_number numbers n e) ∙ ap counts_over (all_marked sps n (drop 1 numbers) history marked))
+all_counted sps numbers n history counts e marked told = grind (arith, next_number, all_marked)
 
 -- the order count of the picture
 pub counted_next : (sps : Sps) (h : Header) (missing : List ℕ) (history : History) (top bottom order : ℤ) (counts : OrderCountState) → order ≡ int_min top bottom
@@ -143,44 +116,23 @@ counted_next sps h missing history top bottom order counts least told after = by
         let pairs = ok_same (top, bottom) (pair c) (told ∙ ap count_pair is) in
         ap₂ (λ (n : ℤ) (kept : OrderCountState). Ok (record { missing = missing; order = n; poc = kept }))
         (least ∙ ap (λ (p : ℤ × ℤ). int_min p.0 p.1) pairs ∙ sym (ap order_or_0 is)) after
-    by (Err f) is = absurd (ok_err (top, bottom) f (told ∙ ap count_pair is))
+    by (Err f) is = let fault = told ∙ ap count_pair is in cc
 
 pub not_counted : (sps : Sps) (h : Header) (missing : List ℕ) (history : History) (f : Fault) → Err f ≡ count_pair (order_counts sps h (pasts history))
     → Err f ≡ result_map (opening_on sps h missing) (with_order_counts sps h history)
-not_counted sps h missing history f told = sym (ap (result_map (opening_on sps h missing)) (refused (order_counts sps h (pasts history)) told))
+not_counted sps h missing history f told = by (order_counts sps h (pasts history)) told
   where
-    refused : (r : Result Counts Fault) → Err f ≡ count_pair r → (r >>= λ c. Ok history) ≡ Err f
-    refused (Ok c) t = absurd (ok_err (pair c) f (sym t))
-    refused (Err g) t = search rules
+    by : (r : Result Counts Fault) → Err f ≡ count_pair r → Err f ≡ result_map (opening_on sps h missing) (r >>= λ c. Ok history)
+    by r t = grind arith
 
 -- ---- what opening makes of the history
 
-abbrev choose : {A : Type 0} → Bool → A → A → A
-choose b x y = elim b [ true ↦ x | false ↦ y ]
-
-on_true : {A : Type 0} (b : Bool) (x y : A) → b ≡ true → choose b x y ≡ x
-on_true true x y e = refl
-on_true false x y e = absurd (false≢true e)
-
-on_false : {A : Type 0} (b : Bool) (x y : A) → b ≡ false → choose b x y ≡ y
-on_false true x y e = absurd (false≢true (sym e))
-on_false false x y e = refl
-
 pub opened_idr : (sps : Sps) (h : Header) (history : History) → is_idr h ≡ true → history_at_opening sps h history ≡ (with_order_counts sps h [] >>= λ none. Ok history)
-opened_idr sps h history e = on_true (is_idr h) _ _ e
-
-spread : {A B : Type 0} (b : Bool) (g : Fault) (r : Result A Fault) (f : A → Result B Fault)
-    → choose b (r >>= f) (Err g) ≡ (choose b r (Err g) >>= f)
-spread true g r f = refl
-spread false g r f = refl
+opened_idr sps h history e = grind arith
 
 pub opened_other : (sps : Sps) (h : Header) (history : History) → is_idr h ≡ false
     → history_at_opening sps h history ≡ (missing_before sps h history >>= λ numbers. with_missing sps numbers history >>= λ full. with_order_counts sps h full)
-opened_other sps h history e =
-    on_false (is_idr h) _ _ e
-    ∙ spread (is_same_sps (sequence_sps history) sps) faults.ParameterSetChanged
-    (missing_frame_nums (prev_ref_frame_num (marking_entries history)) sps.gaps_in_frame_num_value_allowed_flag (picture_entry sps h))
-    (λ numbers. with_missing sps numbers history >>= λ full. with_order_counts sps h full)
+opened_other sps h history e = grind arith
 
 -- a picture that can be opened has these numbers before it
 pub record IsOpenedBy (sps : Sps) (h : Header) (history full : History) : Type 0 where
@@ -189,22 +141,15 @@ pub record IsOpenedBy (sps : Sps) (h : Header) (history full : History) : Type 0
   pub same : is_idr h ≡ false → is_same_sps (sequence_sps history) sps ≡ true
 
 with_counts : {A : Type 0} (r : Result A Fault) (x full : History) → (r >>= λ c. Ok x) ≡ Ok full → x ≡ full
-with_counts (Ok c) x full e = ok_same x full e
-with_counts (Err f) x full e = absurd (ok_err full f (sym e))
+with_counts r x full e = grind arith
 
 with_numbers : (sps : Sps) (h : Header) (full : History) (r : Result History Fault) → (r >>= λ full. with_order_counts sps h full) ≡ Ok full → r ≡ Ok full
 with_numbers sps h full (Ok x) e = ap Ok (with_counts (order_counts sps h (pasts x)) x full e)
-with_numbers sps h full (Err f) e = absurd (ok_err full f (sym e))
-
-is_same : {A : Type 0} (b : Bool) (g : Fault) (r : Result A Fault) (x : A) → choose b r (Err g) ≡ Ok x → b ≡ true
-is_same true g r x e = refl
-is_same false g r x e = absurd (ok_err x g (sym e))
+with_numbers sps h full (Err f) e = cc
 
 same_set_known : (sps : Sps) (h : Header) (history : History) (numbers : List ℕ) → missing_before sps h history ≡ Ok numbers
     → is_same_sps (sequence_sps history) sps ≡ true
-same_set_known sps h history numbers known =
-    is_same (is_same_sps (sequence_sps history) sps) faults.ParameterSetChanged
-    (missing_frame_nums (prev_ref_frame_num (marking_entries history)) sps.gaps_in_frame_num_value_allowed_flag (picture_entry sps h)) numbers known
+same_set_known sps h history numbers known = grind arith
 
 by_numbers : (sps : Sps) (h : Header) (history full : History) (r : Result (List ℕ) Fault) → missing_before sps h history ≡ r
     → (r >>= λ numbers. with_missing sps numbers history >>= λ full. with_order_counts sps h full) ≡ Ok full → IsOpenedBy sps h history full
@@ -213,7 +158,7 @@ by_numbers sps h history full (Ok numbers) known e = record {
   missing = with_numbers sps h full (with_missing sps numbers history) e;
   same = λ _. same_set_known sps h history numbers known;
 }
-by_numbers sps h history full (Err f) known e = absurd (ok_err full f (sym e))
+by_numbers sps h history full (Err f) known e = cc
 
 pub opened_by : (sps : Sps) (h : Header) (history full : History) → history_at_opening sps h history ≡ Ok full → IsOpenedBy sps h history full
 opened_by sps h history full e = by (is_idr h) refl
@@ -222,7 +167,7 @@ opened_by sps h history full e = by (is_idr h) refl
     by true idr = record {
       numbers = [];
       missing = ap Ok (with_counts (with_order_counts sps h []) history full (sym (opened_idr sps h history idr) ∙ e));
-      same = λ other. absurd (false≢true (sym other ∙ idr));
+      same = λ other. cc;
     }
     by false idr = by_numbers sps h history full (missing_before sps h history) refl (sym (opened_other sps h history idr) ∙ e)
 
@@ -230,33 +175,24 @@ pub set_at_opening : (sps : Sps) (h : Header) (history full : History) → histo
 set_at_opening sps h history full e = let o = opened_by sps h history full e in same_set sps o.numbers history full o.missing
 
 pub can_follow : (sps : Sps) (h : Header) (history full : History) → (is_idr h ≡ true → has_idr_marking h ≡ true) → is_some h.marking ≡ is_reference h → history_at_opening sps h history ≡ Ok full → CanFollow full sps h
-can_follow sps h history full marking reference e = record {
-  idr = marking;
-  same = λ other. ap (λ set. is_same_sps set sps) (set_at_opening sps h history full e) ∙ (opened_by sps h history full e).same other;
-  reference = reference;
-}
+can_follow sps h history full marking reference e = grind (arith, set_at_opening, opened_by)
 
 -- ---- how opening ends
-
-mapped_fault : {A B : Type 0} (g : A → B) (r : Result A Fault) (f : Fault) → Err f ≡ result_map g r → r ≡ Err f
-mapped_fault g (Ok x) f e = search rules
-mapped_fault g (Err h) f e = search rules
 
 -- where the missing numbers are known
 other_opened : (sps : Sps) (h : Header) (history : History) (numbers : List ℕ) → is_idr h ≡ false → Ok numbers ≡ missing_before sps h history
     → history_at_opening sps h history ≡ (with_missing sps numbers history >>= λ full. with_order_counts sps h full)
-other_opened sps h history numbers idr known =
-    opened_other sps h history idr ∙ ap (λ r. r >>= λ numbers. with_missing sps numbers history >>= λ full. with_order_counts sps h full) (sym known)
+other_opened sps h history numbers idr known = grind (arith, opened_other)
 
 pub refused_numbers : (sps : Sps) (h : Header) (history : History) (f : Fault) → is_idr h ≡ false → Err f ≡ missing_before sps h history → history_at_opening sps h history ≡ Err f
-refused_numbers sps h history f idr e =
-    opened_other sps h history idr ∙ fault_stays (missing_before sps h history) f (λ numbers. with_missing sps numbers history >>= λ full. with_order_counts sps h full) (sym e)
+refused_numbers sps h history f idr e = grind (arith, opened_other, fault_stays)
 
 pub refused_missing : (sps : Sps) (h : Header) (history : History) (numbers : List ℕ) (f : Fault) → is_idr h ≡ false → Ok numbers ≡ missing_before sps h history
     → Err f ≡ counts_over (with_missing sps numbers history) → history_at_opening sps h history ≡ Err f
-refused_missing sps h history numbers f idr known e =
-    other_opened sps h history numbers idr known
-    ∙ fault_stays (with_missing sps numbers history) f (λ full. with_order_counts sps h full) (mapped_fault (λ full. order_count_state (pasts full)) (with_missing sps numbers history) f e)
+refused_missing sps h history numbers f idr known e = other_opened sps h history numbers idr known ∙ by (with_missing sps numbers history) e
+  where
+    by : (r : Result History Fault) → Err f ≡ counts_over r → (r >>= λ full. with_order_counts sps h full) ≡ Err f
+    by r e = grind arith
 
 -- the order counts are those of the full history
 pub record IsCountedOver (r : Result History Fault) (counts : OrderCountState) : Type 0 where
@@ -265,33 +201,24 @@ pub record IsCountedOver (r : Result History Fault) (counts : OrderCountState) :
   pub state : counts ≡ order_count_state (pasts full)
 
 pub counted_over : (r : Result History Fault) (counts : OrderCountState) → Ok counts ≡ counts_over r → IsCountedOver r counts
-counted_over (Ok full) counts e = record { full = full; is = refl; state = ok_same counts (order_count_state (pasts full)) e }
-counted_over (Err f) counts e = absurd (ok_err counts f e)
+counted_over r counts e = grind (arith, ok_same)
 
 pub opened_over : (sps : Sps) (h : Header) (history full : History) (numbers : List ℕ) → is_idr h ≡ false → Ok numbers ≡ missing_before sps h history
     → with_missing sps numbers history ≡ Ok full → history_at_opening sps h history ≡ with_order_counts sps h full
-opened_over sps h history full numbers idr known is =
-    other_opened sps h history numbers idr known ∙ ap (λ r. r >>= λ full. with_order_counts sps h full) is
+opened_over sps h history full numbers idr known is = grind (arith, other_opened)
 
 -- what opening finds, where the missing numbers are known and the history `on` on which the picture is counted
 finds : (sps : Sps) (h : Header) (history on full : History) (numbers : List ℕ) (counts : Result Counts Fault) (r : Result Opening Fault)
     → on ≡ earlier_in_sequence h full → history_at_opening sps h history ≡ (counts >>= λ c. Ok full) → with_missing sps numbers history ≡ Ok full
     → (0 < length numbers → is_same_sps (sequence_sps history) sps ≡ true) → r ≡ result_map (opening_on sps h numbers) (counts >>= λ c. Ok on)
     → Finds sps h history r
-finds sps h history on full numbers (Ok c) r alone opens missing same is = subst (Finds sps h history) (sym is) (record {
-  full = full;
-  opens = opens;
-  missing = missing;
-  same = same;
-  counted = ap (opening_on sps h numbers) alone;
-})
-finds sps h history on full numbers (Err f) r alone opens missing same is = subst (Finds sps h history) (sym is) opens
+finds sps h history on full numbers counts r alone opens missing same is = grind arith
 
 -- an IDR picture has no missing numbers before it, and is counted alone
 pub finds_idr : (sps : Sps) (h : Header) (history : History) (numbers : List ℕ) (r : Result Opening Fault) → is_idr h ≡ true → numbers ≡ []
     → r ≡ result_map (opening_on sps h numbers) (with_order_counts sps h []) → Finds sps h history r
 finds_idr sps h history numbers r idr none is =
-    finds sps h history [] history numbers (order_counts sps h []) r (sym (on_true (is_idr h) [] history idr))
+    finds sps h history [] history numbers (order_counts sps h []) r (grind arith)
     (opened_idr sps h history idr ∙ then_ok (order_counts sps h []))
     (ap (λ l. with_missing sps l history) none) (λ some. absurd (omega (arith, ap length none, some))) is
   where
@@ -299,15 +226,14 @@ finds_idr sps h history numbers r idr none is =
     empty = []
 
     then_ok : (r : Result Counts Fault) → ((r >>= λ c. Ok empty) >>= λ none. Ok history) ≡ (r >>= λ c. Ok history)
-    then_ok (Ok c) = refl
-    then_ok (Err f) = refl
+    then_ok r = grind arith
 
 -- another picture is counted on the whole history
 pub finds_other : (sps : Sps) (h : Header) (history full : History) (numbers : List ℕ) (r : Result Opening Fault) → is_idr h ≡ false
     → Ok numbers ≡ missing_before sps h history → with_missing sps numbers history ≡ Ok full
     → r ≡ result_map (opening_on sps h numbers) (with_order_counts sps h full) → Finds sps h history r
 finds_other sps h history full numbers r idr known missing is =
-    finds sps h history full full numbers (order_counts sps h (pasts full)) r (sym (on_false (is_idr h) [] full idr))
+    finds sps h history full full numbers (order_counts sps h (pasts full)) r (grind arith)
     (opened_over sps h history full numbers idr known missing) missing
     (λ some. same_set_known sps h history numbers (sym known)) is
 
@@ -321,7 +247,4 @@ counts_from sps first (suc n) history = counts_from sps (first + 1) n (missing_f
 pub counted_at_once : (sps : Sps) (numbers : List ℕ) (max first n : ℕ) (counts : OrderCountState) (history : History) → max ≡ max_frame_num sps
     → n ≡ length numbers → numbers ≡ frame_nums_from max first (length numbers) → counts ≡ order_count_state (with_missing_from sps first n (pasts history))
     → counts ≡ order_count_state (pasts (with_all_missing sps numbers history))
-counted_at_once sps numbers max first n counts history max_is n_is numbers_are told =
-    let same : frame_nums_from (max_frame_num sps) first n ≡ numbers =
-    ap (λ (m : ℕ). frame_nums_from m first n) (sym max_is) ∙ ap (frame_nums_from max first) n_is ∙ sym numbers_are in
-    told ∙ counts_from sps first n history ∙ ap (λ (l : List ℕ). order_count_state (pasts (with_all_missing sps l history))) same
+counted_at_once sps numbers max first n counts history max_is n_is numbers_are told = grind (arith, counts_from)

@@ -6,79 +6,44 @@ use Rattle.avc_decoder_core.proofs.Common.{All-cons, All-head, All-tail, Output,
 use Rattle.avc_decoder_core.proofs.Common.{entry_pictures, pictures_at, output_pictures}
 use Rattle.std.proofs.Math.Seq.{drop-append_seam, drop-length}
 use Rattle.avc_dpb.proofs.Once.{goes_out_once}
+use Rattle.avc_decoder_core.proofs.FramesAt.{entry_before}
 use Rattle.avc_decoder_core.specs.History.{Entry, History, arrival, arrivals, buffer_of, entry_at, new_output, all_held}
 
 -- ---- all places of a history are below its length
 
-pub length_arrivals : (history : History) → length (arrivals history) ≡ length history
-length_arrivals [] = refl
-length_arrivals (e ∷ older) = ap suc (length_arrivals older)
-
-clash : (b : Bool) (m : ℕ) → b ≡ true → (if b then 1 else 0) + m ≡ 0 → ⊥
-clash true m e z = omega (arith, z)
-clash false m e z = false≢true e
+pub length-arrivals : (history : History) → length (arrivals history) ≡ length history
+length-arrivals [] = refl
+length-arrivals (e ∷ older) = ap suc (length-arrivals older)
 
 below_unless : (n x : ℕ) (xs : List ℕ) → (n ≤ x → occurrences x (x ∷ xs) ≡ 0) → x < n
-below_unless n x xs f = lt_of_not-le (λ low. clash (x == x) (occurrences x xs) (eq-eqb x x refl) (f low))
-
-occurs_later : (place x : ℕ) (xs : List ℕ) → occurrences place (x ∷ xs) ≡ 0 → occurrences place xs ≡ 0
-occurs_later place x xs e = by (if x == place then 1 else 0) (occurrences place xs) e
-  where
-    by : (a b : ℕ) → a + b ≡ 0 → b ≡ 0
-    by a b e = omega (arith, e)
+below_unless n x xs f = grind (arith, nat_tests)
 
 all_below : (n : ℕ) (xs : List ℕ) → ((place : ℕ) → n ≤ place → occurrences place xs ≡ 0) → All (λ p. p < n) xs
 all_below n [] f = All-nil (λ p. p < n)
 all_below n (x ∷ xs) f =
-    All-cons (λ p. p < n) x xs (below_unless n x xs (f x)) (all_below n xs (λ place low. occurs_later place x xs (f place low)))
+    All-cons (λ p. p < n) x xs (below_unless n x xs (f x)) (all_below n xs (λ place low. let none = f place low in omega (arith, none)))
 
-occurrences-append : (place : ℕ) (xs ys : List ℕ) → occurrences place xs ≡ 0 → occurrences place ys ≡ 0 → occurrences place (xs ++ ys) ≡ 0
-occurrences-append place [] ys e f = f
-occurrences-append place (x ∷ xs) ys e f =
-    joined (if x == place then 1 else 0) (occurrences place xs) (occurrences place (xs ++ ys)) e
-    (occurrences-append place xs ys (occurs_later place x xs e) f)
-  where
-    joined : (a b c : ℕ) → a + b ≡ 0 → c ≡ 0 → a + c ≡ 0
-    joined a b c e f = omega (arith, e, f)
-
-other_place : (place n : ℕ) (b : Bool) → n < place → occurrences place (if b then n ∷ [] else []) ≡ 0
-other_place place n true low = let e : (n == place) ≡ false = grind (arith, nat_tests) in ap (λ t. (if t then 1 else 0) + 0) e
-other_place place n false low = refl
+occurrences-append : (place : ℕ) (xs ys : List ℕ) → occurrences place (xs ++ ys) ≡ occurrences place xs + occurrences place ys
+occurrences-append place [] ys = omega arith
+occurrences-append place (x ∷ xs) ys = grind (arith, occurrences-append place xs ys)
 
 none_above : (history : List Arrival) (place : ℕ) → length history ≤ place → occurrences place (pictures history) ≡ 0
 none_above [] place low = refl
-none_above (a ∷ older) place low =
-    occurrences-append place (pictures older) _ (none_above older place (omega arith)) (other_place place (length older) a.existing (omega arith))
+none_above (a ∷ older) place low = let none = none_above older place (omega arith) in grind (arith, nat_tests, occurrences-append, none)
 
 -- of the pictures that have gone out and of those that are held
 pub places_below : (output : Output) (history : History) → All (λ p. p < length history) ((buffer_of output history).out ++ all_held output history)
-places_below output history =
-    subst (λ n. All (λ p. p < n) ((buffer_of output history).out ++ all_held output history)) (length_arrivals history)
-    (all_below (length (arrivals history)) ((buffer_of output history).out ++ all_held output history)
-    (λ place low. goes_out_once output (arrivals history) place ∙ none_above (arrivals history) place low))
+places_below output history = grind (arith, length-arrivals, all_below, goes_out_once, none_above)
 
-all_first : (P : ℕ → Type 0) (xs ys : List ℕ) → All P (xs ++ ys) → All P xs
-all_first P [] ys a = All-nil P
-all_first P (x ∷ xs) ys a = All-cons P x xs (All-head P x (xs ++ ys) a) (all_first P xs ys (All-tail P x (xs ++ ys) a))
-
-all_last : (P : ℕ → Type 0) (xs ys : List ℕ) → All P (xs ++ ys) → All P ys
-all_last P [] ys a = a
-all_last P (x ∷ xs) ys a = all_last P xs ys (All-tail P x (xs ++ ys) a)
-
--- ---- entries keep their places
-
-entry_stays : (e : Entry) (history : History) (place : ℕ) → place < length history → entry_at (e ∷ history) place ≡ entry_at history place
-entry_stays e history place low =
-    let n = length history - place - 1 in
-    let more : length (e ∷ history) - place ≡ suc (suc n) = omega arith in
-    let before : length history - place ≡ suc n = omega arith in
-    ap (λ (d : ℕ). elim d as (λ _. Option Entry) [ zero ↦ None | suc k ↦ slice_get (e ∷ history) k ]) more
-    ∙ sym (ap (λ (d : ℕ). elim d as (λ _. Option Entry) [ zero ↦ None | suc k ↦ slice_get history k ]) before)
+all_parts : (P : ℕ → Type 0) (xs ys : List ℕ) → All P (xs ++ ys) → All P xs × All P ys
+all_parts P [] ys a = (All-nil P, a)
+all_parts P (x ∷ xs) ys a =
+    let rest = all_parts P xs ys (All-tail P x (xs ++ ys) a) in (All-cons P x xs (All-head P x (xs ++ ys) a) rest.0, rest.1)
 
 pub pictures_stay : (e : Entry) (history : History) (places : List ℕ) → All (λ p. p < length history) places → pictures_at (e ∷ history) places ≡ pictures_at history places
 pictures_stay e history [] a = refl
 pictures_stay e history (p ∷ places) a =
-    ap₂ (λ x rest. entry_pictures x ++ rest) (entry_stays e history p (All-head (λ p. p < length history) p places a))
+    ap₂ (λ x rest. entry_pictures x ++ rest) (entry_before e history p (All-head (λ p. p < length history) p places a))
     (pictures_stay e history places (All-tail (λ p. p < length history) p places a))
 
 -- ---- what goes out over several entries
@@ -105,19 +70,18 @@ output_longer output e old history x =
 
 new_longer : (output : Output) (e : Entry) (old history : History) → Extends output old history
     → new_output output old (e ∷ history) ≡ new_output output old history ++ new_output output history (e ∷ history)
-new_longer output e old history x =
-    ap (drop (length (buffer_of output old).out)) (output_longer output e old history x) ∙ drop-append_seam (buffer_of output old).out (new_output output old history ++ new_output output history (e ∷ history))
+new_longer output e old history x = grind (arith, output_longer, drop-append_seam)
 
 pub extends_more : (output : Output) (e : Entry) (old history : History) → Extends output old history → Extends output old (e ∷ history)
 extends_more output e old history x = output_longer output e old history x ∙ ap (λ l. (buffer_of output old).out ++ l) (sym (new_longer output e old history x))
 
 out_below : (output : Output) (old history : History) → Extends output old history → All (λ p. p < length history) (new_output output old history)
 out_below output old history x =
-    all_last (λ p. p < length history) (buffer_of output old).out (new_output output old history)
-    (subst (All (λ p. p < length history)) x (all_first (λ p. p < length history) (buffer_of output history).out (all_held output history) (places_below output history)))
+    let out = (all_parts (λ p. p < length history) (buffer_of output history).out (all_held output history) (places_below output history)).0 in
+    (all_parts (λ p. p < length history) (buffer_of output old).out (new_output output old history) (subst (All (λ p. p < length history)) x out)).1
 
 pub held_below : (output : Output) (history : History) → All (λ p. p < length history) (all_held output history)
-held_below output history = all_last (λ p. p < length history) (buffer_of output history).out (all_held output history) (places_below output history)
+held_below output history = (all_parts (λ p. p < length history) (buffer_of output history).out (all_held output history) (places_below output history)).1
 
 -- what goes out with one entry more
 pub output_more : (output : Output) (e : Entry) (old history : History) → Extends output old history

@@ -7,7 +7,8 @@ use Rattle.avc_decoder_core.proofs.Common.{after_sliding_window, current_frame, 
 use Rattle.avc_decoder_core.specs.History.{Entry, decoded_picture, missing_frame, History, arrival, arrivals, marking_entry, marks_of}
 use Rattle.avc_decoder_core.specs.History.{or_no_references, references_of}
 use Rattle.avc_decoder_core.proofs.Entering.{marks_then, part_each}
-use Rattle.avc_decoder_core.proofs.Outputs.{length_arrivals}
+use Rattle.avc_decoder_core.proofs.MissingNumbers.{unless_fault}
+use Rattle.avc_decoder_core.proofs.Outputs.{length-arrivals}
 use Rattle.avc_decoder_core.proofs.Places.{each_all, each_append, each_implies}
 use Rattle.avc_decoder_core.proofs.References.{entries, is_entry}
 use Rattle.avc_decoder_core.proofs.SameSequence.{wrong}
@@ -20,19 +21,11 @@ record AreMarked (h : History) : Type 0 where
   is : marks_of h ≡ Ok marks
 
 marked : (h : History) → is_ok (marks_of h) ≡ true → AreMarked h
-marked h ok = by (marks_of h) refl ok
-  where
-    by : (r : Result Marks Fault) → marks_of h ≡ r → is_ok r ≡ true → AreMarked h
-    by (Ok m) is ok = record { marks = m; is = is }
-    by (Err f) is ok = wrong ok
-
-marked_first : (r : Result Marks Fault) (f : Marks → Result Marks Fault) → is_ok (r >>= f) ≡ true → is_ok r ≡ true
-marked_first (Ok m) f ok = refl
-marked_first (Err e) f ok = ok
+marked h ok = grind (arith, wrong)
 
 -- so could all entries but the newest
 pub marked_before : (e : Entry) (older : History) → is_ok (marks_of (e ∷ older)) ≡ true → is_ok (marks_of older) ≡ true
-marked_before e older ok = marked_first (marks_of older) _ ok
+marked_before e older ok = unless_fault (marks_of older) _ ok
 
 -- the newest entry is marked after the others
 marked_after : (e : Entry) (older : History) (a : AreMarked older) (b : AreMarked (e ∷ older)) →
@@ -67,35 +60,13 @@ marked_below law (e ∷ older) ok b =
 place_of_part : (place : ℕ) (new old : List Reference) → IsPartUpToMarks new old → is_entry new place ≡ true → is_entry old place ≡ true
 place_of_part place [] old part here = wrong here
 place_of_part place (r ∷ new) [] part here = absurd part
-place_of_part place (r ∷ new) (s ∷ old) (inl both) here =
-    by (or_cases (r.entry == place) (is_entry new place) here) (place_of_part place new old both.1)
-  where
-    by : ((r.entry == place) ≡ true) ⊎ (is_entry new place ≡ true) → (is_entry new place ≡ true → is_entry old place ≡ true) →
-        is_entry (s ∷ old) place ≡ true
-    by (inl first) rest = or_left (s.entry == place) (is_entry old place) (ap (λ n. n == place) (sym (both.0).same_entry) ∙ first)
-    by (inr later) rest = or_right (s.entry == place) (is_entry old place) (rest later)
-place_of_part place (r ∷ new) (s ∷ old) (inr part) here =
-    or_right (s.entry == place) (is_entry old place) (place_of_part place (r ∷ new) old part here)
+place_of_part place (r ∷ new) (s ∷ old) (inl both) here = grind (arith, nat_tests, both, place_of_part place new old both.1)
+place_of_part place (r ∷ new) (s ∷ old) (inr part) here = grind (arith, place_of_part place (r ∷ new) old part here)
 
 own_or_other : (place : ℕ) (old : List Reference) (own : Reference) → is_entry (old ++ own ∷ []) place ≡ true →
     (place ≡ own.entry) ⊎ (is_entry old place ≡ true)
-own_or_other place [] own here = by (or_cases (own.entry == place) false here)
-  where
-    by : ((own.entry == place) ≡ true) ⊎ (false ≡ true) → (place ≡ own.entry) ⊎ (is_entry [] place ≡ true)
-    by (inl first) = inl (sym (eqb-true own.entry place first))
-    by (inr none) = wrong none
-own_or_other place (s ∷ old) own here =
-    by (or_cases (s.entry == place) (is_entry (old ++ own ∷ []) place) here) (λ there. later (own_or_other place old own there))
-  where
-    later : (place ≡ own.entry) ⊎ (is_entry old place ≡ true) → (place ≡ own.entry) ⊎ (is_entry (s ∷ old) place ≡ true)
-    later (inl is) = inl is
-    later (inr there) = inr (or_right (s.entry == place) (is_entry old place) there)
-
-    by : ((s.entry == place) ≡ true) ⊎ (is_entry (old ++ own ∷ []) place ≡ true) →
-        (is_entry (old ++ own ∷ []) place ≡ true → (place ≡ own.entry) ⊎ (is_entry (s ∷ old) place ≡ true)) →
-        (place ≡ own.entry) ⊎ (is_entry (s ∷ old) place ≡ true)
-    by (inl first) rest = inr (or_left (s.entry == place) (is_entry old place) first)
-    by (inr there) rest = rest there
+own_or_other place [] own here = grind (arith, nat_tests)
+own_or_other place (s ∷ old) own here = grind (arith, nat_tests, own_or_other place old own)
 
 arriving_references : (e : Entry) (older : History) → (arrival e older).references ≡ entries (references_of (e ∷ older))
 arriving_references (decoded_picture sps h planes) older = refl
@@ -127,24 +98,21 @@ pub adds_own_place : AddsOwnFrameAlone → (e : Entry) (older : History) → is_
     (place ≡ length (arrivals older)) ⊎ (list_any (λ p. p == place) (references_after (arrivals older)) ≡ true)
 adds_own_place law e older ok place here =
     let now : is_reference_place (e ∷ older) place ≡ true = sym (ap (list_any (λ p. p == place)) (arriving_references e older)) ∙ here in
-    subst (λ n. (place ≡ n) ⊎ (list_any (λ p. p == place) (references_after (arrivals older)) ≡ true)) (sym (length_arrivals older))
+    subst (λ n. (place ≡ n) ⊎ (list_any (λ p. p == place) (references_after (arrivals older)) ≡ true)) (sym (length-arrivals older))
     (subst (λ ps. (place ≡ length older) ⊎ (list_any (λ p. p == place) ps ≡ true)) (sym (references_before older))
     (adds_own law e older ok place now))
 
 -- ---- a non-existing frame is a reference frame
 
 own_is_entry : (old : List Reference) (own : Reference) → is_entry (old ++ own ∷ []) own.entry ≡ true
-own_is_entry [] own = or_left (own.entry == own.entry) false (grind (arith, nat_tests))
-own_is_entry (s ∷ old) own = or_right (s.entry == own.entry) (is_entry (old ++ own ∷ []) own.entry) (own_is_entry old own)
-
-slid_by : (s : MarkingEntry) (n : ℕ) (m m' : Marks) (r : Result (List Reference) Fault) →
-    (r >>= λ references. Ok (record m { references = references ++ current_frame s n Short ∷ [] })) ≡ Ok m' → is_entry m'.references n ≡ true
-slid_by s n m m' (Ok references) is =
-    sym (ap (λ r. is_entry (or_no_references r) n) is) ∙ own_is_entry references (current_frame s n Short)
-slid_by s n m m' (Err f) is = wrong (ap is_ok is)
+own_is_entry [] own = grind (arith, nat_tests)
+own_is_entry (s ∷ old) own = grind (arith, own_is_entry old own)
 
 slid : (s : MarkingEntry) (n : ℕ) (m m' : Marks) → marks_after s n (Some SlidingWindow) m ≡ Ok m' → is_entry m'.references n ≡ true
-slid s n m m' is = slid_by s n m m' (after_sliding_window s m.references) is
+slid s n m m' is = by (after_sliding_window s m.references) is
+  where
+    by : (r : Result (List Reference) Fault) → (r >>= λ references. Ok (record m { references = references ++ current_frame s n Short ∷ [] })) ≡ Ok m' → is_entry m'.references n ≡ true
+    by r is = let own = λ (rs : List Reference). own_is_entry rs (current_frame s n Short) in grind (arith, own)
 
 pub missing_is_reference : (sps : Sps) (frame_num : ℕ) (older : History) → is_ok (marks_of (missing_frame sps frame_num ∷ older)) ≡ true →
     list_any (λ p. p == length (arrivals older)) (arrival (missing_frame sps frame_num) older).references ≡ true
@@ -152,6 +120,6 @@ missing_is_reference sps frame_num older ok =
     let e = missing_frame sps frame_num in
     let a = marked older (marked_before e older ok) in
     let b = marked (e ∷ older) ok in
-    subst (λ n. is_reference_place (e ∷ older) n ≡ true) (sym (length_arrivals older))
+    subst (λ n. is_reference_place (e ∷ older) n ≡ true) (sym (length-arrivals older))
     (ap (λ r. is_entry (or_no_references r) (length older)) b.is
     ∙ slid (marking_entry e) (length older) a.marks b.marks (marked_after e older a b))

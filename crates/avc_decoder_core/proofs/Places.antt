@@ -19,9 +19,12 @@ pub each_map : {A B : Type 0} (P : B → Type 0) (f : A → B) (xs : List A) →
 each_map P f [] h = tt
 each_map P f (x ∷ xs) h = (h.0, each_map P f xs h.1)
 
+pub each_from_map : {A B : Type 0} (P : B → Type 0) (f : A → B) (xs : List A) → Each P (map f xs) → Each (λ x. P (f x)) xs
+each_from_map P f [] h = tt
+each_from_map P f (x ∷ xs) h = (h.0, each_from_map P f xs h.1)
+
 each_kept : {A : Type 0} (P : A → Type 0) (b : Bool) (x : A) (xs : List A) → P x → Each P xs → Each P (cond b (x ∷ xs) xs)
-each_kept P true x xs first rest = (first, rest)
-each_kept P false x xs first rest = rest
+each_kept P b x xs first rest = grind arith
 
 pub each_filter : {A : Type 0} (P : A → Type 0) (test : A → Bool) (xs : List A) → Each P xs → Each P (filter test xs)
 each_filter P test [] h = tt
@@ -57,10 +60,7 @@ increasing-cons p (q ∷ qs) h rising = by_place
   where
     by_place : (k : ℕ) → k + 1 < length (p ∷ q ∷ qs) → slice_index (p ∷ q ∷ qs) k < slice_index (p ∷ q ∷ qs) (k + 1)
     by_place zero within = h.0
-    by_place (suc k) within =
-        let n : suc k + 1 ≡ suc (k + 1) = omega arith in
-        let same : slice_index (p ∷ q ∷ qs) (suc k + 1) ≡ slice_index (p ∷ q ∷ qs) (suc (k + 1)) = ap (slice_index (p ∷ q ∷ qs)) n in
-        subst (λ m. slice_index (q ∷ qs) k < m) (sym same) (rising k (omega (arith, within)))
+    by_place (suc k) within = let more = rising k (omega (arith, within)) in grind (arith, more)
 
 pub increasing : (ps : List ℕ) (n : ℕ) → Rise ps n → IsStrictlyIncreasing ps
 increasing [] n h = λ k within. absurd (omega (arith, within))

@@ -1,5 +1,5 @@
 -- The state of a sequence as pictures are opened and closed.
-use Rattle.std.proofs.Common.{◌≡◌, ℤ, Bool, true, false, List, [], ◌∷◌, ◌++◌, Option, Some, None, Result, Ok, Err, is_ok, is_some, refl, ap, ap₂, sym, subst, ◌∙◌, rules}
+use Rattle.std.proofs.Common.{◌≡◌, ℤ, Bool, true, false, List, [], ◌∷◌, ◌++◌, Option, Some, None, Result, Ok, Err, is_ok, is_some, refl, ap, ap₂, sym, subst, ◌∙◌, arith}
 use Rattle.avc_decoder_core.proofs.Common.{false≢true, none-some, same_Some, option_map, Fault, Picture, Planes, Frame, Sps, IsSps, Header}
 use Rattle.avc_decoder_core.proofs.Common.{is_idr, is_reference, has_idr_marking, Marks, no_marks, Output, order_counts, OrderCountState}
 use Rattle.avc_decoder_core.proofs.Common.{◌>>=◌, opening_on, set_with, IsOpening, output_at_closing, output_pictures, FrameBufferState}
@@ -9,25 +9,22 @@ use Rattle.avc_decoder_core.specs.History.{Entry, decoded_picture, History, earl
 use Rattle.avc_decoder_core.specs.History.{marks_of, order_or_0, pasts, picture_entry, sequence_sps, with_missing, with_picture}
 use Rattle.avc_decoder_core.specs.FrameBufferState.{Stores}
 use Rattle.avc_decoder_core.specs.SequenceFields.{IsStateOf, StandsOn, StandsOnIf, counted, open_picture_of}
-use Rattle.avc_decoder_core.proofs.MissingNumbers.{can_follow, ok_same, set_at_opening}
+use Rattle.avc_decoder_core.proofs.MissingNumbers.{can_follow, fault_stays, follows, ok_same, set_at_opening}
 use Rattle.avc_decoder_core.proofs.SameSequence.{idr_not_refused}
 
 -- ---- with no open picture
 
 pub at_rest : (closed history : History) (o : Option OpenPicture) → option_map open_picture_of o ≡ None → StandsOnIf closed history o → closed ≡ history
-at_rest closed history None e s = s
-at_rest closed history (Some o) e s = absurd (none-some (open_picture_of o) (sym e))
+at_rest closed history o e s = grind (arith, none-some)
 
 pub counted_at_rest : (history : History) (o : Option OpenPicture) → option_map open_picture_of o ≡ None → counted history o ≡ pasts history
-counted_at_rest history None e = refl
-counted_at_rest history (Some o) e = absurd (none-some (open_picture_of o) (sym e))
+counted_at_rest history o e = grind (arith, none-some)
 
 -- ---- the history that the open picture stands on
 
 pub current_is : (closed history : History) (o : Option OpenPicture) (frames : List (Frame 32)) (output : Output) (failed : Bool) (s : SequenceState) → StandsOnIf closed history o
     → record { history = closed; open_picture = option_map open_picture_of o; frames = frames; output = output; failed = failed } ≡ s → current_history s ≡ history
-current_is closed history None frames output failed s stands e = ap current_history (sym e) ∙ stands
-current_is closed history (Some o) frames output failed s stands e = ap current_history (sym e) ∙ ap (or_before closed) stands.opened
+current_is closed history o frames output failed s stands e = grind arith
 
 -- ---- a picture is opened
 
@@ -39,45 +36,19 @@ pub opened_state : (sps : Sps) (h : Header) (closed history : History) (o : Open
     → IsSps sps → (is_idr h ≡ true → has_idr_marking h ≡ true) → is_some h.marking ≡ is_reference h → buffer.failed ≡ false → closed ≡ history → set ≡ sequence_sps history
     → IsOpening sps h closed o → with_missing sps o.missing history ≡ Ok buffer.history
     → IsStateOf closed (Some (record { sps = sps; header = h; order = o.order })) buffer o.poc set
-opened_state sps h closed history o buffer set limits marking reference going rest is_set found stored =
-    let opens = opened_on sps h closed history o buffer.history rest found stored in
-    let counted : o ≡ opening_on sps h o.missing (earlier_in_sequence h buffer.history) =
-    found.counted ∙ ap (λ l. opening_on sps h o.missing (earlier_in_sequence h l)) (ok_same found.full buffer.history (sym found.opens ∙ opens)) in
-    record {
-      going = going;
-      stands = record {
-        limits = limits;
-        opened = opens;
-        follows = can_follow sps h closed buffer.history marking reference opens;
-        order = ap (λ (o : Opening). o.order) counted;
-      };
-      counts = ap (λ (o : Opening). o.poc) counted;
-      set = is_set ∙ ap sequence_sps (sym rest) ∙ sym (set_at_opening sps h closed buffer.history opens);
-    }
+opened_state sps h closed history o buffer set limits marking reference going rest is_set found stored = grind (arith, opened_on, counted, ok_same, follows, can_follow, set_at_opening)
 
 -- ---- a picture is closed
 
 -- what an IDR picture finds
 history_there : (h : Header) (b : FrameBufferState) → (at_sequence_of h b).history ≡ earlier_in_sequence h b.history
-history_there h b = by (is_idr h)
-  where
-    by : (idr : Bool) → (elim idr as (λ _. FrameBufferState) [ true ↦ empty_frame_buffer b.output | false ↦ b ]).history ≡ elim idr as (λ _. History) [ true ↦ [] | false ↦ b.history ]
-    by true = refl
-    by false = refl
+history_there h b = grind arith
 
 output_there : (h : Header) (b : FrameBufferState) → (at_sequence_of h b).output ≡ b.output
-output_there h b = by (is_idr h)
-  where
-    by : (idr : Bool) → (elim idr as (λ _. FrameBufferState) [ true ↦ empty_frame_buffer b.output | false ↦ b ]).output ≡ b.output
-    by true = refl
-    by false = refl
+output_there h b = grind arith
 
 going_there : (h : Header) (b : FrameBufferState) → b.failed ≡ false → (at_sequence_of h b).failed ≡ false
-going_there h b going = by (is_idr h)
-  where
-    by : (idr : Bool) → (elim idr as (λ _. FrameBufferState) [ true ↦ empty_frame_buffer b.output | false ↦ b ]).failed ≡ false
-    by true = refl
-    by false = going
+going_there h b going = grind arith
 
 -- The picture can be stored there.
 pub record CanStore (sps : Sps) (h : Header) (b : FrameBufferState) (order : ℤ) : Type 0 where
@@ -87,25 +58,14 @@ pub record CanStore (sps : Sps) (h : Header) (b : FrameBufferState) (order : ℤ
   pub first : is_idr h ≡ true → b.history ≡ []
 
 none_before : (h : Header) (before : History) → is_idr h ≡ true → earlier_in_sequence h before ≡ []
-none_before h before idr = ap (λ b. elim b as (λ _. History) [ true ↦ [] | false ↦ before ]) idr
+none_before h before idr = grind arith
 
 all_before : (h : Header) (before : History) → is_idr h ≡ false → earlier_in_sequence h before ≡ before
-all_before h before other = ap (λ b. elim b as (λ _. History) [ true ↦ [] | false ↦ before ]) other
+all_before h before other = grind arith
 
 pub can_store : (closed : History) (p : OpenPicture) (b there : FrameBufferState) (prior : List Picture) → b.failed ≡ false → StandsOn closed b.history p
     → BeginsSequence b p.header prior there → CanStore p.sps p.header there p.order
-can_store closed p b there prior going stands begins =
-    let is : there.history ≡ earlier_in_sequence p.header b.history = ap (λ (v : FrameBufferState). v.history) begins.state ∙ history_there p.header b in
-    record {
-      going = ap (λ (v : FrameBufferState). v.failed) begins.state ∙ going_there p.header b going;
-      follows = record {
-        idr = (stands.follows).idr;
-        same = λ other. ap (λ l. is_same_sps (sequence_sps l) p.sps) (is ∙ all_before p.header b.history other) ∙ (stands.follows).same other;
-        reference = (stands.follows).reference;
-      };
-      order_is = stands.order ∙ ap (λ l. order_or_0 (order_counts p.sps p.header (pasts l))) (sym is);
-      first = λ idr. is ∙ none_before p.header b.history idr;
-    }
+can_store closed p b there prior going stands begins = grind (arith, history_there, going_there, follows, all_before, none_before)
 
 -- It was stored, and these pictures go out.
 pub record IsStoredOn (sps : Sps) (h : Header) (planes : Planes) (b : FrameBufferState) (out : List Picture) (after : FrameBufferState) : Type 0 where
@@ -117,17 +77,7 @@ pub record IsStoredOn (sps : Sps) (h : Header) (planes : Planes) (b : FrameBuffe
 
 pub stored_on : (sps : Sps) (h : Header) (planes : Planes) (b there after : FrameBufferState) (prior more out : List Picture) → BeginsSequence b h prior there
     → Stores there (decoded_picture sps h planes) more after → out ≡ prior ++ more → IsStoredOn sps h planes b out after
-stored_on sps h planes b there after prior more out begins stores all =
-    let e = decoded_picture sps h planes in
-    let is : there.history ≡ earlier_in_sequence h b.history = ap (λ (v : FrameBufferState). v.history) begins.state ∙ history_there h b in
-    let output : there.output ≡ b.output = ap (λ (v : FrameBufferState). v.output) begins.state ∙ output_there h b in
-    record {
-      going = ap (λ (v : FrameBufferState). v.failed) stores.state;
-      history = ap (λ (v : FrameBufferState). v.history) stores.state ∙ ap (λ l. e ∷ l) is;
-      output = ap (λ (v : FrameBufferState). v.output) stores.state ∙ output;
-      marked = ap (λ l. is_ok (marks_of (e ∷ l))) (sym is) ∙ stores.marked;
-      pictures = all ∙ ap₂ (λ l r. l ++ r) begins.pictures (stores.pictures ∙ ap₂ (λ o l. output_pictures o l (e ∷ l)) output is);
-    }
+stored_on sps h planes b there after prior more out begins stores all = grind (arith, history_there, output_there)
 
 -- Nothing changed, and it could not be marked.
 pub record IsRefusedOn (sps : Sps) (h : Header) (planes : Planes) (b : FrameBufferState) (f : Fault) (after : FrameBufferState) : Type 0 where
@@ -136,81 +86,30 @@ pub record IsRefusedOn (sps : Sps) (h : Header) (planes : Planes) (b : FrameBuff
 
 pub refused_on : (sps : Sps) (h : Header) (planes : Planes) (b there after : FrameBufferState) (prior : List Picture) (f : Fault) → (is_idr h ≡ true → has_idr_marking h ≡ true)
     → BeginsSequence b h prior there → after ≡ there → marks_of (decoded_picture sps h planes ∷ there.history) ≡ Err f → IsRefusedOn sps h planes b f after
-refused_on sps h planes b there after prior f marking begins same refused = by (is_idr h) refl
-  where
-    e : Entry
-    e = decoded_picture sps h planes
-
-    is : there.history ≡ earlier_in_sequence h b.history
-    is = ap (λ (v : FrameBufferState). v.history) begins.state ∙ history_there h b
-
-    by : (idr : Bool) → is_idr h ≡ idr → IsRefusedOn sps h planes b f after
-    by true idr =
-        absurd (idr_not_refused h (picture_entry sps h) 0 no_marks f (marking idr)
-        (sym (ap (λ l. marks_of (e ∷ l)) (is ∙ none_before h b.history idr)) ∙ refused))
-    by false idr = record {
-      same = same ∙ begins.state ∙ ap (λ b'. elim b' as (λ _. FrameBufferState) [ true ↦ empty_frame_buffer b.output | false ↦ b ]) idr;
-      refused = ap (λ l. marks_of (e ∷ l)) (sym is) ∙ refused;
-    }
+refused_on sps h planes b there after prior f marking begins same refused = grind (arith, history_there, idr_not_refused, none_before)
 
 -- the parameter set of the sequence then
 pub set_then : (sps : Sps) (h : Header) (planes : Planes) (before : History) (set : Option Sps) → set ≡ sequence_sps before
     → set_with sps h set ≡ sequence_sps (with_picture sps h planes before)
-set_then sps h planes before set is = by (is_idr h)
-  where
-    by : (idr : Bool) → elim idr as (λ _. Option Sps) [ true ↦ Some sps | false ↦ set ]
-        ≡ elim idr as (λ _. Option Sps) [ true ↦ Some sps | false ↦ sequence_sps (elim idr as (λ _. History) [ true ↦ [] | false ↦ before ]) ]
-    by true = refl
-    by false = is
-
--- the marks of an entry let it come
-closes_by : (history : History) → is_ok (marks_of history) ≡ true → (marks_of history >>= λ m. Ok history) ≡ Ok history
-closes_by history marked = by (marks_of history) marked
-  where
-    by : (r : Result Marks Fault) → is_ok r ≡ true → (r >>= λ m. Ok history) ≡ Ok history
-    by (Ok m) t = refl
-    by (Err f) t = absurd (false≢true t)
+set_then sps h planes before set is = grind arith
 
 pub is_closed : (old new : SequenceState) (o : OpenPictureStart) (planes : Planes) (frames : List (Frame 32)) (history : History) (out : List Picture) → old.failed ≡ false
     → current_history old ≡ history → is_ok (marks_of (with_picture o.sps o.header planes history)) ≡ true
     → new ≡ record { history = with_picture o.sps o.header planes history; open_picture = None; frames = frames; output = old.output; failed = false }
     → out ≡ output_at_closing old.output o.header history (with_picture o.sps o.header planes history) → IsClosed old o planes out new
-is_closed old new o planes frames history out going current marked state pictures =
-    rw state (record {
-      going = going;
-      state = refl;
-      closes = ap (history_after_closing o.sps o.header planes) current ∙ closes_by (with_picture o.sps o.header planes history) marked;
-      pictures = pictures ∙ ap (λ h. output_at_closing old.output o.header h (with_picture o.sps o.header planes history)) (sym current);
-    })
+is_closed old new o planes frames history out going current marked state pictures = search (follows, arith)
 
 -- `o` is the open picture
 pub open_is : (p : OpenPicture) (opened : Option OpenPicture) (o : OpenPictureStart) (s : SequenceState) → opened ≡ Some p → option_map open_picture_of opened ≡ s.open_picture
     → s.open_picture ≡ Some o → open_picture_of p ≡ o
 open_is p opened o s is seen told = same_Some (open_picture_of p) o (ap (option_map open_picture_of) (sym is) ∙ seen ∙ told)
 
-refused_by : (history : History) (f : Fault) → marks_of history ≡ Err f → (marks_of history >>= λ m. Ok history) ≡ Err f
-refused_by history f told = by (marks_of history) told
-  where
-    by : (r : Result Marks Fault) → r ≡ Err f → (r >>= λ m. Ok history) ≡ Err f
-    by (Ok m) t = search rules
-    by (Err g) t = search rules
-
 -- it can't be closed
 pub closing_refused : (o : OpenPictureStart) (planes : Planes) (s : SequenceState) (history : History) (f : Fault) → current_history s ≡ history
     → marks_of (with_picture o.sps o.header planes history) ≡ Err f → history_after_closing o.sps o.header planes (current_history s) ≡ Err f
-closing_refused o planes s history f current told =
-    ap (history_after_closing o.sps o.header planes) current ∙ refused_by (with_picture o.sps o.header planes history) f told
+closing_refused o planes s history f current told = grind (arith, fault_stays)
 
 pub unchanged : (closed : History) (o o' : Option OpenPicture) (frames frames' : List (Frame 32)) (output output' : Output) (failed : Bool) (s : SequenceState) → o ≡ o' → frames' ≡ frames → output' ≡ output → failed ≡ false
     → record { history = closed; open_picture = option_map open_picture_of o; frames = frames; output = output; failed = failed } ≡ s
     → record { history = closed; open_picture = option_map open_picture_of o'; frames = frames'; output = output'; failed = false } ≡ s
-unchanged closed o o' frames frames' output output' failed s same_open same_frames same_output going seen =
-    ap (λ p. record { history = closed; open_picture = option_map open_picture_of p; frames = frames'; output = output'; failed = false }) (sym same_open)
-    ∙ ap₂ (λ (l : List (Frame 32)) (m : Output). record { history = closed; open_picture = option_map open_picture_of o; frames = l; output = m; failed = false }) same_frames same_output
-    ∙ ap (λ b. record { history = closed; open_picture = option_map open_picture_of o; frames = frames; output = output; failed = b }) (sym going)
-    ∙ seen
-
--- the state with the open picture
-pub state_with : (closed : History) (o : Option OpenPicture) (p : OpenPicture) (b : FrameBufferState) (counts : OrderCountState) (set : Option Sps)
-    → IsStateOf closed o b counts set → o ≡ Some p → IsStateOf closed (Some p) b counts set
-state_with closed o p b counts set state is = subst (λ o. IsStateOf closed o b counts set) is state
+unchanged closed o o' frames frames' output output' failed s same_open same_frames same_output going seen = cc

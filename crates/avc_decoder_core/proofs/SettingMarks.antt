@@ -34,8 +34,7 @@ marks_more c ms i d now new low low' is set =
 
 all_marks : (fs : List (Frame 32)) (ms : List MarkedFrame) (n : ℕ) → length fs ≤ n → with_marks fs (take n ms) ≡ with_marks fs ms
 all_marks [] ms n all = refl
-all_marks (f ∷ fs) [] zero all = absurd (omega (arith, all))
-all_marks (f ∷ fs) (m ∷ ms) zero all = absurd (omega (arith, all))
+all_marks (f ∷ fs) ms zero all = absurd (omega (arith, all))
 all_marks (f ∷ fs) [] (suc n) all = refl
 all_marks (f ∷ fs) (m ∷ ms) (suc n) all = ap (λ l. frame_marked f m.mark ∷ l) (all_marks fs ms n (omega (arith, all)))
 

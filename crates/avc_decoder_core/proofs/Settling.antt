@@ -20,13 +20,9 @@ use Rattle.avc_decoder_core.proofs.References.{entries, is_entry}
 abbrev references_in : (at : ℕ → Frame 32) → List Stored → List Reference
 references_in at ts = references_at (map (λ s. s.entry) ts) (map (λ s. marked_frame (at s.entry)) ts)
 
--- the frame as a reference frame with this mark
-abbrev reference_with : (at : ℕ → Frame 32) → Stored → Mark → Reference
-reference_with at s mark = record { entry = s.entry; frame_num = (at s.entry).frame_num; existing = is_some (at s.entry).planes; mark = mark }
-
--- those with this frame in front, which has this mark
-abbrev with_mark_in_front : (at : ℕ → Frame 32) → Stored → Option Mark → List Reference → List Reference
-with_mark_in_front at s mark rest = elim (is_some mark) as (λ _. List Reference) [ true ↦ reference_with at s (unwrap_or mark Short) ∷ rest | false ↦ rest ]
+references_apart : (at : ℕ → Frame 32) (ts us : List Stored) → references_in at (ts ++ us) ≡ references_in at ts ++ references_in at us
+references_apart at [] us = refl
+references_apart at (s ∷ ts) us = grind (arith, references_apart at ts us)
 
 -- ---- what the test says of each frame
 
@@ -42,88 +38,62 @@ record IsLeaving (low max : ℕ) (held : Bool) (f : Frame 32) : Type 0 where
   not_held : held ≡ false
   number : f.frame_num ≡ low % max
 
-leaving_by : (m : Option Mark) (held : Bool) → is_leaving held m ≡ true → (m ≡ Some Short) × (held ≡ false)
-leaving_by None held e = wrong e
-leaving_by (Some Short) false e = (refl, refl)
-leaving_by (Some Short) true e = wrong e
-leaving_by (Some (Long index)) held e = wrong e
-
 leaving : (low max : ℕ) (held : Bool) (f : Frame 32) → has_its_place 0 low max 0 held f ≡ true → IsLeaving low max held f
-leaving low max held f e =
-    let both : (is_leaving held f.mark && f.frame_num == (low + (0 - 0)) % max) ≡ true = sym (ap (λ b. if b then is_staying held f.mark else is_leaving held f.mark && f.frame_num == (low + (0 - 0)) % max) none) ∙ e in
-    let split = and_parts (is_leaving held f.mark) (f.frame_num == (low + (0 - 0)) % max) both in
-    let parts = leaving_by f.mark held split.0 in
-    record {
-      short = parts.0;
-      not_held = parts.1;
-      number = eqb-true f.frame_num ((low + (0 - 0)) % max) split.1
-          ∙ ap (λ x. x % max) (let z : low + (0 - 0) ≡ low = omega arith in z);
-    }
-  where
-    none : nat_lt 0 0 ≡ false
-    none = grind (arith, nat_tests)
-
-staying : (first low max : ℕ) (held : Bool) (f : Frame 32) → has_its_place (suc first) low max 0 held f ≡ true → is_staying held f.mark ≡ true
-staying first low max held f e =
-    sym (ap (λ b. if b then is_staying held f.mark else is_leaving held f.mark && f.frame_num == (low + (0 - suc first)) % max) some) ∙ e
-  where
-    some : nat_lt 0 (suc first) ≡ true
-    some = grind (arith, nat_tests)
+leaving low max held f e = grind (arith, nat_tests)
 
 -- the others
 rest_leaving : (at : ℕ → Frame 32) (low max : ℕ) (s : Stored) (ts : List Stored) → AllPass at 0 low max (s ∷ ts) → AllPass at 0 (low + 1) max ts
-rest_leaving at low max s ts all = λ p within. by (slice_get ts p) p (all (suc p) (omega (arith, within)))
-  where
-    by : (o : Option Stored) (p : ℕ) → test_of at 0 low max (suc p) o ≡ true → test_of at 0 (low + 1) max p o ≡ true
-    by None p e = e
-    by (Some t) p e =
-        let one : nat_lt p 0 ≡ nat_lt (suc p) 0 = let a : nat_lt p 0 ≡ false = grind (arith, nat_tests) in let b : nat_lt (suc p) 0 ≡ false = grind (arith, nat_tests) in a ∙ sym b in
-        let z : (low + 1) + (p - 0) ≡ low + (suc p - 0) = omega arith in
-        ap₂ (λ b n. if b then is_staying t.held (at t.entry).mark else is_leaving t.held (at t.entry).mark && (at t.entry).frame_num == n % max) one z ∙ e
+rest_leaving at low max s ts all = λ p within. let h = all (suc p) (omega (arith, within)) in grind (arith, nat_tests, h)
 
 rest_staying : (at : ℕ → Frame 32) (first low max : ℕ) (s : Stored) (ts : List Stored) → AllPass at (suc first) low max (s ∷ ts) → AllPass at first low max ts
-rest_staying at first low max s ts all = λ p within. by (slice_get ts p) p (all (suc p) (omega (arith, within)))
-  where
-    by : (o : Option Stored) (p : ℕ) → test_of at (suc first) low max (suc p) o ≡ true → test_of at first low max p o ≡ true
-    by None p e = e
-    by (Some t) p e =
-        let one : nat_lt p first ≡ nat_lt (suc p) (suc first) = grind (arith, nat_tests) in
-        let z : low + (p - first) ≡ low + (suc p - suc first) = omega arith in
-        ap₂ (λ b n. if b then is_staying t.held (at t.entry).mark else is_leaving t.held (at t.entry).mark && (at t.entry).frame_num == n % max) one z ∙ e
+rest_staying at first low max s ts all = λ p within. let h = all (suc p) (omega (arith, within)) in grind (arith, nat_tests, h)
 
 -- ---- the frames that leave
 
-record AreLeaving (at : ℕ → Frame 32) (max low lower next : ℕ) (ts : List Stored) : Type 0 where
-  shorts : List Reference
-  references : references_in at ts ≡ shorts
-  places : StandFrom lower next shorts
-  counts : CountFrom max low (low + length ts) shorts
+record AreLeaving (max low number place next : ℕ) (shorts : List Reference) (ts : List Stored) : Type 0 where
+  places : StandFrom place next shorts
+  counts : CountFrom max low number shorts
   not_held : AreNotHeld shorts ts
   many : length shorts ≡ length ts
 
-are_leaving : (at : ℕ → Frame 32) (max low lower next : ℕ) (ts : List Stored) → lower ≤ next → Each (λ p. lower ≤ p) (map (λ s. s.entry) ts) → Rise (map (λ s. s.entry) ts) next →
-    AllPass at 0 low max ts → AreLeaving at max low lower next ts
-are_leaving at max low lower next [] less above rises all = record {
-  shorts = [];
-  references = refl;
-  places = less;
-  counts = omega arith;
-  not_held = tt;
-  many = refl;
-}
-are_leaving at max low lower next (s ∷ ts) less above rises all =
+are_leaving : (at : ℕ → Frame 32) (max low number place next : ℕ) (ts : List Stored) → low + length ts ≡ number → place ≤ next →
+    Each (λ p. place ≤ p) (map (λ s. s.entry) ts) → Rise (map (λ s. s.entry) ts) next →
+    AllPass at 0 low max ts → AreLeaving max low number place next (references_in at ts) ts
+are_leaving at max low number place next [] last less above rises all = record { places = less; counts = omega arith; not_held = tt; many = refl }
+are_leaving at max low number place next (s ∷ ts) last less above rises all =
     let here = leaving low max s.held (at s.entry) (all 0 (omega arith)) in
-    let rest = are_leaving at max (low + 1) (s.entry + 1) next ts (omega (arith, rises.0))
+    let rest = are_leaving at max (low + 1) number (s.entry + 1) next ts (omega (arith, last)) (omega (arith, rises.0))
     (each_implies (λ p. s.entry < p) (λ p. s.entry + 1 ≤ p) (map (λ s. s.entry) ts) (λ p l. omega (arith, l)) rises.1) rises.2 (rest_leaving at low max s ts all) in
-    let z : (low + 1) + length ts ≡ low + suc (length ts) = omega arith in
-    record {
-      shorts = reference_with at s Short ∷ rest.shorts;
-      references = ap (λ m. with_mark_in_front at s m (references_in at ts)) here.short ∙ ap (λ l. reference_with at s Short ∷ l) rest.references;
+    let own : Reference = record { entry = s.entry; frame_num = (at s.entry).frame_num; existing = is_some (at s.entry).planes; mark = Short } in
+    let first : references_in at (s ∷ ts) ≡ own ∷ references_in at ts = grind (arith, here) in
+    subst (λ rs. AreLeaving max low number place next rs (s ∷ ts)) (sym first) (record {
       places = (above.0, rest.places);
-      counts = (low, (omega arith, record { frame_num = here.number; short = refl }, subst (λ n. CountFrom max (low + 1) n rest.shorts) z rest.counts));
+      counts = (low, (omega arith, record { frame_num = here.number; short = refl }, rest.counts));
       not_held = (refl, here.not_held, rest.not_held);
       many = ap suc rest.many;
-    }
+    })
+
+-- ---- the frames that stay
+
+abbrev AreStaying : (at : ℕ → Frame 32) → List Stored → Type 0
+AreStaying at ts = Each (λ s. is_staying s.held (at s.entry).mark ≡ true) ts
+
+no_shorts : (at : ℕ → Frame 32) (ts : List Stored) → AreStaying at ts → filter is_short (references_in at ts) ≡ []
+no_shorts at [] h = refl
+no_shorts at (s ∷ ts) h = grind (arith, no_shorts at ts h.1)
+
+longs_before : (at : ℕ → Frame 32) (place : ℕ) (ts : List Stored) → AreBefore place ts → StandBelow place (references_in at ts)
+longs_before at place [] h = tt
+longs_before at place (s ∷ ts) h = grind (arith, longs_before at place ts h.1)
+
+-- they are held, or among these reference frames
+all_needed : (at : ℕ → Frame 32) (longs : List Reference) (ts : List Stored) → AreStaying at ts →
+    ((p : ℕ) → is_entry (references_in at ts) p ≡ true → is_entry longs p ≡ true) → needed_frames (entries longs) ts ≡ ts
+all_needed at longs [] h among = refl
+all_needed at longs (s ∷ ts) h among =
+    let rest = all_needed at longs ts h.1 (λ p here. let there = among p in grind (arith, there)) in
+    let own = among s.entry in
+    grind (arith, nat_tests, rest, own)
 
 -- ---- all frames
 
@@ -131,126 +101,51 @@ record AreParts (at : ℕ → Frame 32) (max low first next : ℕ) (ts : List St
   place : ℕ
   frames : List Stored
   lasts : List Stored
-  longs : List Reference
-  shorts : List Reference
   all : ts ≡ frames ++ lasts
-  references : references_in at ts ≡ longs ++ shorts
-  long : filter is_short longs ≡ []
-  above : (l : ℕ) → Each (λ q. l < q) (map (λ s. s.entry) ts) → l < place
-  places : StandFrom place next shorts
-  longs_before : StandBelow place longs
+  stay : AreStaying at frames
   before : AreBefore place frames
-  counts : CountFrom max low (low + length shorts) shorts
-  not_held : AreNotHeld shorts lasts
-  needed : Each (λ s. (s.held || is_entry longs s.entry) ≡ true) frames
-  many : length shorts + first ≡ length ts
+  above : (l : ℕ) → Each (λ q. l < q) (map (λ s. s.entry) ts) → l < place
+  leave : AreLeaving max low (low + length lasts) place next (references_in at lasts) lasts
+  many : length lasts + first ≡ length ts
 
 are_parts : (at : ℕ → Frame 32) (max low first next : ℕ) (ts : List Stored) → first < length ts → Rise (map (λ s. s.entry) ts) next → AllPass at first low max ts → AreParts at max low first next ts
 are_parts at max low first next [] some rises all = absurd (omega (arith, some))
-are_parts at max low zero next (s ∷ ts) some rises all =
-    let l = are_leaving at max low s.entry next (s ∷ ts) (omega (arith, rises.0))
-    (omega arith, each_implies (λ p. s.entry < p) (λ p. s.entry ≤ p) (map (λ s. s.entry) ts) (λ p l. omega (arith, l)) rises.1) rises all in
-    record {
-      place = s.entry;
-      frames = [];
-      lasts = s ∷ ts;
-      longs = [];
-      shorts = l.shorts;
-      all = refl;
-      references = l.references;
-      long = refl;
-      above = λ low each. each.0;
-      places = l.places;
-      longs_before = tt;
-      before = tt;
-      counts = subst (λ n. CountFrom max low (low + n) l.shorts) (sym l.many) l.counts;
-      not_held = l.not_held;
-      needed = tt;
-      many = let m = l.many in omega (arith, m);
-    }
+are_parts at max low zero next (s ∷ ts) some rises all = record {
+  place = s.entry;
+  frames = [];
+  lasts = s ∷ ts;
+  all = refl;
+  stay = tt;
+  before = tt;
+  above = λ low each. each.0;
+  leave = are_leaving at max low (low + length (s ∷ ts)) s.entry next (s ∷ ts) refl (omega (arith, rises.0))
+      (omega arith, each_implies (λ p. s.entry < p) (λ p. s.entry ≤ p) (map (λ s. s.entry) ts) (λ p l. omega (arith, l)) rises.1) rises all;
+  many = omega arith;
+}
 are_parts at max low (suc first) next (s ∷ ts) some rises all =
-    by (at s.entry).mark refl (staying first low max s.held (at s.entry) (all 0 (omega arith)))
-    (are_parts at max low first next ts (omega (arith, some)) rises.2 (rest_staying at first low max s ts all))
-  where
-    by : (m : Option Mark) → (at s.entry).mark ≡ m → is_staying s.held m ≡ true → AreParts at max low first next ts → AreParts at max low (suc first) next (s ∷ ts)
-    by None e held r = record {
+    let r = are_parts at max low first next ts (omega (arith, some)) rises.2 (rest_staying at first low max s ts all) in
+    let here = all 0 (omega arith) in
+    record {
       place = r.place;
       frames = s ∷ r.frames;
       lasts = r.lasts;
-      longs = r.longs;
-      shorts = r.shorts;
       all = ap (λ l. s ∷ l) r.all;
-      references = ap (λ m. with_mark_in_front at s m (references_in at ts)) e ∙ r.references;
-      long = r.long;
-      above = λ l each. r.above l each.1;
-      places = r.places;
-      longs_before = r.longs_before;
+      stay = (grind (arith, nat_tests, here), r.stay);
       before = (r.above s.entry rises.1, r.before);
-      counts = r.counts;
-      not_held = r.not_held;
-      needed = (ap (λ b. b || is_entry r.longs s.entry) held, r.needed);
-      many = let m = r.many in omega (arith, m);
-    }
-    by (Some Short) e held r = wrong held
-    by (Some (Long index)) e held r = record {
-      place = r.place;
-      frames = s ∷ r.frames;
-      lasts = r.lasts;
-      longs = reference_with at s (Long index) ∷ r.longs;
-      shorts = r.shorts;
-      all = ap (λ l. s ∷ l) r.all;
-      references = ap (λ m. with_mark_in_front at s m (references_in at ts)) e ∙ ap (λ l. reference_with at s (Long index) ∷ l) r.references;
-      long = r.long;
       above = λ l each. r.above l each.1;
-      places = r.places;
-      longs_before = (r.above s.entry rises.1, r.longs_before);
-      before = (r.above s.entry rises.1, r.before);
-      counts = r.counts;
-      not_held = r.not_held;
-      needed = (
-        ap (λ b. s.held || (b || is_entry r.longs s.entry)) (let z : (s.entry == s.entry) ≡ true = grind (arith, nat_tests) in z) ∙ or_right s.held true refl,
-        each_implies (λ t. (t.held || is_entry r.longs t.entry) ≡ true) (λ t. (t.held || ((s.entry == t.entry) || is_entry r.longs t.entry)) ≡ true) r.frames
-            (λ t h. wider t.held (s.entry == t.entry) (is_entry r.longs t.entry) h) r.needed,
-      );
-      many = let m = r.many in omega (arith, m);
+      leave = r.leave;
+      many = omega (arith, r.many);
     }
-      where
-        wider : (a b c : Bool) → (a || c) ≡ true → (a || (b || c)) ≡ true
-        wider true b c h = refl
-        wider false b c h = ap (λ x. b || x) h ∙ or_right b true refl
-
-all_needed : (longs : List Reference) (frames : List Stored) → Each (λ s. (s.held || is_entry longs s.entry) ≡ true) frames → needed_frames (entries longs) frames ≡ frames
-all_needed longs [] h = refl
-all_needed longs (s ∷ frames) h =
-    ap (λ b. cond b (s ∷ needed_frames (entries longs) frames) (needed_frames (entries longs) frames)) h.0 ∙ ap (λ l. s ∷ l) (all_needed longs frames h.1)
 
 -- ---- from the contents
 
-abbrev held_of : Option Stored → Bool
-held_of None = false
-held_of (Some s) = s.held
-
-held_same : (slots : List Slot) (ts : List Stored) → slots ≡ map slot_of ts → (p : ℕ) → is_held_at slots p ≡ held_of (slice_get ts p)
-held_same slots ts same p = ap (λ l. is_held_at l p) same ∙ ap of (slice_get-map slot_of ts p) ∙ by (slice_get ts p)
-  where
-    of : Option Slot → Bool
-    of o = elim o [ None ↦ false | Some s ↦ s.held ]
-
-    by : (o : Option Stored) → of (option_map slot_of o) ≡ held_of o
-    by None = refl
-    by (Some s) = refl
-
 passes : (at : ℕ → Frame 32) (first low max : ℕ) (c : Contents) (ts : List Stored) → c.frames ≡ map (λ s. at s.entry) ts → c.slots ≡ map slot_of ts →
     ((p : ℕ) → p < length c.frames → settles_at c first low max p ≡ true) → AllPass at first low max ts
-passes at first low max c ts frames held all = λ p within.
-    sym (by p (slice_get ts p) (slice_get c.frames p) (is_held_at c.slots p) (ap (λ l. slice_get l p) frames ∙ slice_get-map (λ s. at s.entry) ts p) (held_same c.slots ts held p))
-    ∙ all p (let l = ap length frames ∙ length-map ts (λ (s : Stored). at s.entry) in omega (arith, within, l))
-  where
-    by : (p : ℕ) (o : Option Stored) (f : Option (Frame 32)) (h : Bool) → f ≡ option_map (λ s. at s.entry) o → h ≡ held_of o →
-        (elim f as (λ _. Bool) [ None ↦ false | Some g ↦ has_its_place first low max p h g ]) ≡ test_of at first low max p o
-    by p None f h e k = ap (λ f. elim f as (λ _. Bool) [ None ↦ false | Some g ↦ has_its_place first low max p h g ]) e
-    by p (Some s) f h e k =
-        ap₂ (λ f h. elim f as (λ _. Bool) [ None ↦ false | Some g ↦ has_its_place first low max p h g ]) e k
+passes at first low max c ts frames slots all = λ p within.
+    let frame = ap (λ l. slice_get l p) frames ∙ slice_get-map (λ s. at s.entry) ts p in
+    let slot = ap (λ l. slice_get l p) slots ∙ slice_get-map slot_of ts p in
+    let test = all p (let l = ap length frames ∙ length-map ts (λ (s : Stored). at s.entry) in omega (arith, within, l)) in
+    grind (arith, frame, slot, test)
 
 -- The test finds a long gap.
 pub long_gap : (h : History) (c : Contents) (idx : Option ℕ) (previous : ℕ) (state : IsStateAfter h c idx previous) (sps : Sps) (numbers : List ℕ) (number shorts first low count : ℕ) →
@@ -261,26 +156,26 @@ long_gap h c idx previous state sps numbers number shorts first low count from' 
   low = low;
   number = number + max;
   place = parts.place;
-  stays = record { longs = parts.longs; max_long_term_frame_idx = (state.marks).max_long_term_frame_idx; frames = parts.frames; out = (buffer_of c.output h).out };
-  shorts = parts.shorts;
+  stays = record { longs = longs; max_long_term_frame_idx = (state.marks).max_long_term_frame_idx; frames = parts.frames; out = (buffer_of c.output h).out };
+  shorts = shorts_in;
   lasts = parts.lasts;
   settled = record {
-    marked = state.marked ∙ ap (λ l. Ok (record { references = l; max_long_term_frame_idx = (state.marks).max_long_term_frame_idx })) (sym references ∙ parts.references);
+    marked = state.marked ∙ ap (λ l. Ok (record { references = l; max_long_term_frame_idx = (state.marks).max_long_term_frame_idx })) (sym references ∙ apart);
     buffer = ap (λ l. record { frames = l; out = (buffer_of c.output h).out }) parts.all;
     window = record {
-      long = parts.long;
-      full = sym (length-append parts.longs parts.shorts) ∙ ap length (sym parts.references) ∙ sym counted ∙ full;
-      places = parts.places;
-      longs_before = parts.longs_before;
+      long = no_shorts at parts.frames parts.stay;
+      full = sym (length-append longs shorts_in) ∙ ap length (sym apart) ∙ sym counted ∙ full;
+      places = (parts.leave).places;
+      longs_before = longs_before at parts.place parts.frames parts.before;
     };
-    counts = subst (λ n. CountFrom max low n parts.shorts) (let m = parts.many in let z : low + length parts.shorts ≡ number + max = omega (arith, m, many, low_is, long) in z) parts.counts;
-    not_held = parts.not_held;
-    needed = all_needed parts.longs parts.frames parts.needed;
+    counts = subst (λ n. CountFrom max low n shorts_in) (omega (arith, parts.many, many, low_is, long)) (parts.leave).counts;
+    not_held = (parts.leave).not_held;
+    needed = all_needed at longs parts.frames parts.stay (λ p here. here);
     before = parts.before;
     room = let l = sym (length-append parts.frames parts.lasts) ∙ ap length (sym parts.all) in omega (arith, l, room, long);
   };
-  some_short = let m = parts.many in omega (arith, m, some, many, long);
-  few_shorts = let m = parts.many in omega (arith, m, few, long);
+  some_short = omega (arith, (parts.leave).many, parts.many, some, many, long);
+  few_shorts = omega (arith, (parts.leave).many, parts.many, few, long);
   numbers_are =
       from' ∙ sym (numbers-mod max number (length numbers)) ∙ ap (λ x. frame_nums_from max x (length numbers)) (sym (add-mod_right number max))
       ∙ numbers-mod max (number + max) (length numbers);
@@ -304,6 +199,15 @@ long_gap h c idx previous state sps numbers number shorts first low count from' 
 
     parts : AreParts at max low first (length h) ts
     parts = are_parts at max low first (length h) ts (omega (arith, some, many, long)) rises (passes at first low max c ts (state.buffer).frames (state.buffer).slots all)
+
+    longs : List Reference
+    longs = references_in at parts.frames
+
+    shorts_in : List Reference
+    shorts_in = references_in at parts.lasts
+
+    apart : references_in at ts ≡ longs ++ shorts_in
+    apart = ap (references_in at) parts.all ∙ references_apart at parts.frames parts.lasts
 
     marked : map marked_frame c.frames ≡ map (λ s. marked_frame (at s.entry)) ts
     marked = ap (map marked_frame) (state.buffer).frames ∙ map-map marked_frame (λ (s : Stored). at s.entry) ts

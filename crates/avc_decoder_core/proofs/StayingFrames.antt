@@ -1,7 +1,7 @@
 -- The frames that are in the buffer once an entry has come were there before, but for its own.
 use Rattle.avc_decoder_core.proofs.Common.{◌≡◌, ℕ, zero, suc, Bool, true, false, List, [], ◌∷◌, ◌++◌, map, Option, Some, None, refl, sym}
 use Rattle.avc_decoder_core.proofs.Common.{subst, ◌==◌, count_by, slice_get, if◌then◌else◌, Output, Arrival, Stored, Buffer, PriorPictures}
-use Rattle.avc_decoder_core.proofs.Common.{remain, are_output, needed_frames, no_longer_held, held_in_output_order, after_bumping}
+use Rattle.avc_decoder_core.proofs.Common.{arith, remain, are_output, needed_frames, no_longer_held, held_in_output_order, after_bumping}
 use Rattle.avc_decoder_core.proofs.Common.{after_bumping_while, after_making_room, must_bump, with_frame, with_direct_output, is_full}
 use Rattle.avc_decoder_core.proofs.Common.{after_placing, holds_too_many, after_frame, after_prior_pictures, Each}
 use Rattle.avc_decoder_core.proofs.Places.{each_append, each_filter}
@@ -9,33 +9,16 @@ use Rattle.avc_decoder_core.proofs.Places.{each_append, each_filter}
 abbrev Stored_each : (ℕ → Type 0) → List Stored → Type 0
 Stored_each P frames = Each (λ s. P s.entry) frames
 
-same_place : (b : Bool) (s : Stored) → (if b then record s { held = false } else s).entry ≡ s.entry
-same_place true s = refl
-same_place false s = refl
-
 each_not_held : (P : ℕ → Type 0) (first : Stored) (frames : List Stored) → Stored_each P frames → Stored_each P (map (no_longer_held first) frames)
 each_not_held P first [] h = tt
-each_not_held P first (s ∷ frames) h = (subst P (sym (same_place (s.entry == first.entry) s)) h.0, each_not_held P first frames h.1)
-
-bumped_by : (P : ℕ → Type 0) (references : List ℕ) (b : Buffer) (o : Option Stored) → Stored_each P b.frames →
-    Stored_each P (elim o as (λ _. Buffer) [
-      | None ↦ b
-      | Some first ↦ record { frames = needed_frames references (map (no_longer_held first) b.frames); out = b.out ++ first.entry ∷ [] }
-    ]).frames
-bumped_by P references b None h = h
-bumped_by P references b (Some first) h = each_filter (λ s. P s.entry) _ (map (no_longer_held first) b.frames) (each_not_held P first b.frames h)
+each_not_held P first (s ∷ frames) h = grind (arith, each_not_held P first frames h.1)
 
 bumped : (P : ℕ → Type 0) (references : List ℕ) (b : Buffer) → Stored_each P b.frames → Stored_each P (after_bumping references b).frames
-bumped P references b h = bumped_by P references b (slice_get (held_in_output_order b.frames) 0) h
-
-on_by : (P : ℕ → Type 0) (t : Bool) (b c : Buffer) → Stored_each P b.frames → Stored_each P c.frames → Stored_each P (elim t as (λ _. Buffer) [ true ↦ c | false ↦ b ]).frames
-on_by P true b c h g = g
-on_by P false b c h g = h
+bumped P references b h = grind (arith, each_filter, each_not_held)
 
 bumped_while : (P : ℕ → Type 0) (test : Buffer → Bool) (references : List ℕ) (n : ℕ) (b : Buffer) → Stored_each P b.frames → Stored_each P (after_bumping_while test references n b).frames
 bumped_while P test references zero b h = h
-bumped_while P test references (suc n) b h =
-    on_by P (test b) b (after_bumping_while test references n (after_bumping references b)) h (bumped_while P test references n (after_bumping references b) (bumped P references b h))
+bumped_while P test references (suc n) b h = grind (arith, bumped_while P test references n (after_bumping references b) (bumped P references b h))
 
 placed_by_room : (P : ℕ → Type 0) (t : Bool) (entry : ℕ) (a : Arrival) (b : Buffer) → P entry → Stored_each P b.frames →
     Stored_each P (if t then with_direct_output entry a b else with_frame entry a b).frames

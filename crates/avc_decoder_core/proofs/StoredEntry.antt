@@ -10,60 +10,13 @@ use Rattle.std.specs.Result.{is_ok}
 use Rattle.avc_dpb.specs.Contents.{Stores}
 use Rattle.avc_decoder_core.specs.History.{Entry, decoded_picture, missing_frame, History, arrival, buffer_of, marking_entries, marking_entry}
 use Rattle.avc_decoder_core.specs.History.{marks_of, or_no_references, order_or_0, pasts, picture_entry, prior_pictures_of, reorder_limit}
-use Rattle.avc_decoder_core.proofs.FramesAt.{entry_newest, last_mark}
-use Rattle.avc_decoder_core.proofs.Entering.{IsMarked, is_marked, marked_then}
-use Rattle.avc_decoder_core.proofs.LongerState.{Follows, sps_of}
-use Rattle.avc_decoder_core.proofs.State.{IsLonger, stored_entry}
 use Rattle.avc_decoder_core.proofs.SameSequence.{wrong}
 use Rattle.avc_decoder_core.proofs.Storing.{Arrives}
 
-own_frame : (output : Output) (e : Entry) (h : History) (m : Marks) (marked : List MarkedFrame) → IsMarked output e h m marked → (k : ℕ) (d : MarkedFrame) → k + 1 ≡ length marked →
-    frame_at (e ∷ h) m.references (length h) ≡ frame_of (Some e) (slice_index_or marked k d).mark
-own_frame output e h m marked is k d last =
-    let ps = places_in (buffer_of output h) in
-    let long : length ps + 1 ≡ length marked =
-    sym (length-append ps (length h ∷ [])) ∙ sym (length-map (ps ++ length h ∷ []) (mark_in m.references)) ∙ ap length is.marks ∙ length-map marked (λ f. f.mark) in
-    ap₂ frame_of (entry_newest e h) (sym (last_mark m.references ps (length h) k marked d (omega (arith, last, long)) is.marks))
-
 -- the frame that was made of the entry and its mark
-pub record IsFrameMade (e : Entry) (marked : List MarkedFrame) (frame : Frame 32) : Type 0 where
-  pub place : ℕ
-  pub other : MarkedFrame
-  pub last : place + 1 ≡ length marked
-  pub made : frame ≡ frame_of (Some e) (slice_index_or marked place other).mark
-
-pub frame_made : (e made_of : Entry) (marked there : List MarkedFrame) (frame : Frame 32) (k : ℕ) (d : MarkedFrame) → made_of ≡ e → there ≡ marked → k + 1 ≡ length marked →
-    frame ≡ frame_of (Some made_of) (slice_index_or there k d).mark → IsFrameMade e marked frame
-frame_made e made_of marked there frame k d same is last made = record {
-  place = k;
-  other = d;
-  last = last;
-  made = made ∙ ap₂ (λ e ms. frame_of (Some e) (slice_index_or ms k d).mark) same is;
-}
-
--- An entry was marked and its frame stored.
-pub record IsTaken (output : Output) (e : Entry) (h : History) (c : Contents) (idx : Option ℕ) (previous : ℕ) (prior out : List Picture) : Type 0 where
-  pub longer : IsLonger output e h c idx previous prior out
-  pub ok : is_ok (marks_of (e ∷ h)) ≡ true
-
-pub taken : (e : Entry) (h : History) (c : Contents) (idx : Option ℕ) (previous : ℕ) → IsStateAfter h c idx previous → Follows e h → IsSps (sps_of e) →
-    (old new : List MarkedFrame) (new_idx : Option ℕ) → old ≡ map marked_frame c.frames → length new ≡ length old + 1 →
-    MarksFrame (λ entry. marks_after (marking_entry e) entry (marking_entry e).marking) old idx (Ok tt) new new_idx →
-    (after_marks after_prior after_store : Contents) → after_marks ≡ with_all_marks c new →
-    (prior out : List Picture) → OutputsPrior (arrival e h).prior_pictures after_marks prior after_prior → after_prior.output ≡ after_marks.output →
-    (frame : Frame 32) → IsFrameMade e new frame → (arriving : ArrivingFrame) →
-    ((m : Marks) → marks_of (e ∷ h) ≡ Ok m → Arrives e h arriving m) →
-    Stores after_prior frame arriving out after_store → after_store.output ≡ after_prior.output →
-    (new_previous : ℕ) → new_previous ≡ prev_ref_frame_num (marking_entries (e ∷ h)) → IsTaken c.output e h after_store new_idx new_previous prior out
-taken e h c idx previous s follows limits old new new_idx old_is long marks after_marks after_prior after_store set prior out outputs kept frame made arriving arrives stores kept' new_previous previous_is =
-    let m = marks_at (places_in (buffer_of c.output h) ++ length h ∷ []) new new_idx in
-    let marked : marks_of (e ∷ h) ≡ Ok m = marked_then e h c idx previous s old new (Ok tt) new_idx old_is marks in
-    let is : IsMarked c.output e h m new = is_marked e h c idx previous s m new (long ∙ ap (λ l. length l + 1) old_is ∙ ap (λ n. n + 1) (length-map c.frames marked_frame)) marked refl in
-    record {
-      longer = stored_entry e h c idx previous s follows limits m new is after_marks after_prior after_store set prior out outputs kept frame
-          (own_frame c.output e h m new is made.place made.other made.last ∙ sym made.made) arriving (arrives m marked) stores kept' new_idx refl new_previous previous_is;
-      ok = ap is_ok marked;
-    }
+pub frame_made : (e made_of : Entry) (marked there : List MarkedFrame) (frame : Frame 32) (k : ℕ) (d : MarkedFrame) → made_of ≡ e → there ≡ marked →
+    frame ≡ frame_of (Some made_of) (slice_index_or there k d).mark → frame ≡ frame_of (Some e) (slice_index_or marked k d).mark
+frame_made e made_of marked there frame k d same is made = made ∙ ap₂ (λ e ms. frame_of (Some e) (slice_index_or ms k d).mark) same is
 
 -- ---- of a missing number
 
@@ -81,9 +34,7 @@ missing_arrival capacity = record { order = pos 0; existing = false; is_referenc
 
 pub missing_arrives : (sps : Sps) (frame_num : ℕ) (h : History) (capacity : ℕ) → capacity ≡ dpb_size sps → (m : Marks) → marks_of (missing_frame sps frame_num ∷ h) ≡ Ok m →
     Arrives (missing_frame sps frame_num) h (missing_arrival capacity) m
-missing_arrives sps frame_num h capacity is m marked =
-    ap₂ (λ k rs. record { order = pos 0; existing = false; is_reference = true; prior_pictures = remain; capacity = k; max_num_reorder_frames = None; references = rs })
-    (sym is) (ap (λ r. map (λ r. r.entry) (or_no_references r)) marked)
+missing_arrives sps frame_num h capacity is m marked = grind arith
 
 -- ---- of a picture
 
@@ -93,19 +44,9 @@ picture_arrival order reference capacity limit = record { order = order; existin
 pub picture_arrives : (sps : Sps) (header : Header) (planes : Planes) (h : History) (order : ℤ) (reference : Bool) (capacity : ℕ) (limit : Option ℕ) → order ≡ order_or_0 (order_counts sps header (pasts h)) →
     reference ≡ is_reference header → capacity ≡ dpb_size sps → limit ≡ reorder_limit sps → (m : Marks) → marks_of (decoded_picture sps header planes ∷ h) ≡ Ok m →
     Arrives (decoded_picture sps header planes) h (picture_arrival order reference capacity limit) m
-picture_arrives sps header planes h order reference capacity limit order_is reference_is is limit_is m marked =
-    ap (λ o. record (arrival (decoded_picture sps header planes) h) { order = o }) (sym order_is)
-    ∙ ap₂ (λ r k. record (arrival (decoded_picture sps header planes) h) { order = order; is_reference = r; capacity = k }) (sym reference_is) (sym is)
-    ∙ ap (λ l. record (arrival (decoded_picture sps header planes) h) { order = order; is_reference = reference; capacity = capacity; max_num_reorder_frames = l }) (sym limit_is)
-    ∙ ap (λ r. record { order = order; existing = true; is_reference = reference; prior_pictures = prior_pictures_of header; capacity = capacity; max_num_reorder_frames = limit; references = map (λ r. r.entry) (or_no_references r) }) marked
-
-previous_by : (t : Bool) (a b : ℕ) → (if t then a else b) ≡ elim t [ true ↦ a | false ↦ b ]
-previous_by true a b = refl
-previous_by false a b = refl
+picture_arrives sps header planes h order reference capacity limit order_is reference_is is limit_is m marked = grind arith
 
 pub picture_previous : (sps : Sps) (header : Header) (planes : Planes) (h : History) (previous frame_num new_previous : ℕ) → previous ≡ prev_ref_frame_num (marking_entries h) →
     frame_num ≡ frame_num_after_marking (picture_entry sps header) → new_previous ≡ (if is_some header.marking then frame_num else previous) →
     new_previous ≡ prev_ref_frame_num (marking_entries (decoded_picture sps header planes ∷ h))
-picture_previous sps header planes h previous frame_num new_previous previous_is number is =
-    is ∙ ap₂ (λ a b. if is_some header.marking then a else b) number previous_is
-    ∙ previous_by (is_some header.marking) (frame_num_after_marking (picture_entry sps header)) (prev_ref_frame_num (marking_entries h))
+picture_previous sps header planes h previous frame_num new_previous previous_is number is = grind arith

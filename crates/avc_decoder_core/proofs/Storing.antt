@@ -13,6 +13,7 @@ use Rattle.avc_decoder_core.proofs.Places.{below, each_implies, rise}
 use Rattle.avc_decoder_core.proofs.References.{entries, filter_map_places, is_entry, no_entry, no_filter, references_by, same_filter}
 use Rattle.avc_decoder_core.proofs.FramesAt.{marked_again, referenced_are, referenced_is}
 use Rattle.avc_decoder_core.proofs.Entering.{IsMarked}
+use Rattle.avc_decoder_core.proofs.Outputs.{length-arrivals}
 
 -- the stored frames once they are marked
 pub marked_buffer : (e : Entry) (h : History) (c : Contents) (idx : Option ℕ) (previous : ℕ) (s : IsStateAfter h c idx previous) (m : Marks) (marked : List MarkedFrame) →
@@ -44,15 +45,9 @@ kept_alone rs n ps alone low = sym (no_filter (is_entry rs) ps (each_implies (λ
 -- they are in the buffer once the pictures before have gone out, or are none
 pub kept : (rs : List Reference) (n : ℕ) (b : Buffer) (prior : PriorPictures) (all : Bool) → (all ≡ true → Each (λ r. r.entry ≡ n) rs) → (all ≡ false → prior ≡ remain) →
     Each (λ p. p < n) (places_in b) → places_of_references (entries rs) (after_prior_pictures prior b) ≡ filter (is_entry rs) (places_in b)
-kept rs n b prior false alone stays low = subst (λ p. places_of_references (entries rs) (after_prior_pictures p b) ≡ filter (is_entry rs) (places_in b)) (sym (stays refl)) (kept_remain rs b)
-kept rs n b remain true alone stays low = kept_remain rs b
-kept rs n b are_output true alone stays low = kept_alone rs n (places_in b) (alone refl) low
+kept rs n b prior all alone stays low = grind (arith, kept_remain, kept_alone)
 
 -- ---- the entry's own
-
-pub length-arrivals : (h : History) → length (arrivals h) ≡ length h
-length-arrivals [] = refl
-length-arrivals (e ∷ h) = ap suc (length-arrivals h)
 
 -- the call knows of the arriving frame what the history says of the entry
 abbrev pub Arrives : Entry → History → ArrivingFrame → Marks → Type 0
@@ -86,9 +81,7 @@ stored_buffer output e h arriving m arrives old new frame out is same own stores
 -- they are those of the places
 by_places : (h : History) (rs : List Reference) (qs : List ℕ) →
     references_at qs (map (λ p. marked_frame (frame_at h rs p)) qs) ≡ map (λ p. reference_of p (marked_frame (frame_at h rs p))) (filter (is_entry rs) qs)
-by_places h rs qs =
-    references_by (λ p. marked_frame (frame_at h rs p)) qs
-    ∙ ap (map (λ p. reference_of p (marked_frame (frame_at h rs p)))) (same_filter (λ p. is_some (frame_at h rs p).mark) (is_entry rs) qs (referenced_is h rs))
+by_places h rs qs = grind (arith, references_by, same_filter, referenced_is)
 
 -- there is room for the entry's own
 room : (output : Output) (e : Entry) (h : History) (m : Marks) (marked : List MarkedFrame) → IsMarked output e h m marked → (b : Buffer) →
@@ -109,8 +102,7 @@ room output e h m marked is b same own =
     ∙ sym (ap length (is.references ∙ by_places (e ∷ h) rs (ps ++ n ∷ [])))
 
 last_own : (t : Bool) (n : ℕ) → (if t then n ∷ [] else []) ≡ cond t (n ∷ []) []
-last_own true n = refl
-last_own false n = refl
+last_own t n = grind arith
 
 -- The buffer has the reference frames of the longer history.
 pub stored_references : (output : Output) (e : Entry) (h : History) (arriving : ArrivingFrame) (m : Marks) (marked : List MarkedFrame) → Arrives e h arriving m → IsMarked output e h m marked →

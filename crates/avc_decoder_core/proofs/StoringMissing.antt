@@ -36,16 +36,6 @@ stored_one sps numbers from' rest now out n rest' new more out' h marked first r
           ∙ sym (output_more from'.output entry from'.history now.history h.extends) ∙ ap (output_pictures from'.output from'.history) (sym after);
     }
 
--- all are stored
-pub stored_all : (sps : Sps) (numbers : List ℕ) (from' : FrameBufferState) (rest : List ℕ) (now : FrameBufferState) (out : List Picture) →
-    HasStored sps numbers from' rest now out → rest ≡ [] → StoresAll from' (with_missing sps numbers from'.history) out now
-stored_all sps numbers from' rest now out h none = record {
-  going = h.going;
-  history = sym h.left ∙ ap (λ l. with_missing sps l now.history) none;
-  output = h.output;
-  pictures = h.pictures;
-}
-
 outputs_on : (output : Output) (sps : Sps) (numbers : List ℕ) (old mid : History) → Extends output old mid →
     output_pictures output old (with_all_missing sps numbers mid) ≡ output_pictures output old mid ++ output_pictures output mid (with_all_missing sps numbers mid)
 outputs_on output sps [] old mid x = sym (ap (λ l. output_pictures output old mid ++ l) (sym (nothing_goes_out output mid)) ∙ append-nil (output_pictures output old mid))

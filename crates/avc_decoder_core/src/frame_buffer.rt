@@ -253,6 +253,7 @@ impl FrameBuffer {
     }
 
     /// Whether a frame can be marked that stands for a missing number, or TooManyReferences (8.2.5.3).
+    #[tactic(auto, using(crate::proofs::State::few_held))]
     pub fn can_store_missing(&self, sps: &Sps, frame_num: u32) -> Result<(), Fault>
         requires going { self.now.failed ≡ false }
         requires sps { IsSps sps.now }
@@ -263,6 +264,7 @@ impl FrameBuffer {
     }
 
     /// Stores a frame that stands for a missing number (8.2.5.2), which can be marked. Answers the pictures that go out.
+    #[tactic(auto, using(crate::proofs::State::few_held))]
     pub fn store_missing(&mut self, sps: &Sps, frame_num: u32) -> Result<Vec<Picture>, OutOfMemory>
         requires going { self.old.failed ≡ false }
         requires sps { IsSps sps.now }
@@ -299,6 +301,7 @@ impl FrameBuffer {
 
     /// Whether only the last of these missing numbers matter: the sliding window is full, and takes only frames that are not held. A
     /// window is so after at most twice as many missing numbers as it has frames.
+    #[tactic(auto, using(crate::proofs::State::few_held))]
     pub fn is_settled(&self, sps: &Sps, numbers: &MissingFrameNums) -> bool
         requires going { self.now.failed ≡ false }
         requires sps { IsSps sps.now }
@@ -373,6 +376,7 @@ impl FrameBuffer {
 
     /// Marks a decoded picture (8.2.5.1) with this PicOrderCnt and stores it. `closed` becomes the history with it. Answers the
     /// pictures that go out.
+    #[tactic(auto, using(crate::proofs::State::few_held))]
     pub fn store_picture(
         &mut self,
         sps: &Sps,

@@ -3,21 +3,12 @@ use Rattle.avc_decoder_core.proofs.Common.{SlidingWindow, marked_frame, MarksFra
 use Rattle.avc_marking.specs.Frames.{marking_entry}
 use Rattle.avc_decoder_core.specs.History.{marks_of, missing_frame}
 use Rattle.avc_decoder_core.proofs.Entering.{marked_then}
-use Rattle.avc_decoder_core.proofs.State.{answered, few_frames}
+use Rattle.avc_decoder_core.proofs.State.{answered, few_marked}
 use Rattle.avc_decoder_core.proofs.frame_buffer.FrameBuffer.can_store_missing.Goals as goal
-
-pub marked_frames-marked-requires : goal.marked_frames-marked-requires
-marked_frames-marked-requires c =
-    let i = c.self.inside in
-    let on : i.failed ≡ false = ap (λ v. v.failed) c.self.view_is ∙ c.requires.going in
-    subst (λ fs. length fs ≤ 16) (sym c.frames.ensures) (few_frames (history_of i.history.items) i.dpb i.max_long_term_frame_idx i.prev_ref_frame_num (c.self.invariant on))
 
 pub sliding_window-requires : goal.sliding_window-requires
 sliding_window-requires c =
-    let i = c.self.inside in
-    let on : i.failed ≡ false = ap (λ v. v.failed) c.self.view_is ∙ c.requires.going in
-    let few = few_frames (history_of i.history.items) i.dpb i.max_long_term_frame_idx i.prev_ref_frame_num (c.self.invariant on) in
-    subst (λ n. n ≤ 16) (sym (ap length c.marked_frames-marked.ensures ∙ length-map c.frames.result.now marked_frame ∙ ap length c.frames.ensures)) few
+    (few_marked c.self.inside _ _ c.self.invariant (ap (λ v. v.failed) c.self.view_is ∙ c.requires.going) c.frames.ensures c.marked_frames-marked.ensures).1
 
 pub returns : goal.returns
 returns c =

@@ -1,15 +1,8 @@
-use Rattle.avc_decoder_core.proofs.Common.{◌≡◌, ◌∙◌, ◌+◌, ◌-◌, ◌≤◌, false, length, map, ap, sym, subst, arith, marked_frame, max_frame_num}
+use Rattle.avc_decoder_core.proofs.Common.{◌≡◌, refl, ◌∙◌, ◌+◌, ◌-◌, ◌≤◌, false, length, map, ap, sym, subst, arith, marked_frame, max_frame_num}
 use Rattle.avc_decoder_core.proofs.Common.{CountsReferences, frame_nums_from, history_of, IsLongGap, settles_at}
 use Rattle.avc_decoder_core.proofs.Settling.{long_gap}
-use Rattle.avc_decoder_core.proofs.State.{few_frames}
+use Rattle.avc_decoder_core.proofs.State.{few_frames, few_marked}
 use Rattle.avc_decoder_core.proofs.frame_buffer.FrameBuffer.is_settled.Goals as goal
-
-pub marked_frames-marked-requires : goal.marked_frames-marked-requires
-marked_frames-marked-requires c =
-    let i = c.self.inside in
-    let on : i.failed ≡ false = ap (λ v. v.failed) c.self.view_is ∙ c.requires.going in
-    subst (λ fs. length fs ≤ 16) (sym c.frames-frames.ensures)
-    (few_frames (history_of i.history.items) i.dpb i.max_long_term_frame_idx i.prev_ref_frame_num (c.self.invariant on))
 
 pub returns : goal.returns
 returns c = λ settles.
@@ -25,8 +18,6 @@ returns c = λ settles.
     let low = (c.from-2.result + c.from-max.result) - shorts in
     let max_is : c.from-max.result ≡ max_frame_num sps = c.from-max.ensures ∙ c.max_frame_num-2.ensures in
     let long : length c.frames-frames.result.now ≡ length i.dpb.frames = ap length frames in
-    let near : length numbers + shorts ≤ c.from-max.result = omega arith in
-    let together : low + shorts ≡ c.in-Some.number + c.from-max.result = omega arith in
     let full : c.count.result ≡ c.reference_limit.result = omega arith in
     let room : length i.dpb.frames ≤ c.dpb_size.result = omega arith in
     subst (λ v. IsLongGap v.output sps v.history numbers) c.self.view_is
@@ -34,8 +25,8 @@ returns c = λ settles.
     (c.in-Some.ensures ∙ ap (λ m. frame_nums_from m c.in-Some.number (length numbers)) c.max_frame_num.ensures)
     (omega arith)
     (let z : first + shorts ≡ length i.dpb.frames = omega arith in z)
-    (together ∙ ap (λ m. c.in-Some.number + m) max_is)
-    (subst (λ m. length numbers + shorts ≤ m) max_is near)
+    (omega arith)
+    (omega arith)
     (few_frames h i.dpb i.max_long_term_frame_idx i.prev_ref_frame_num state)
     (subst (λ l. CountsReferences l c.count.result) (c.as_slice.ensures.value ∙ c.marked_frames-marked.ensures ∙ ap (map marked_frame) frames) c.count.ensures.references)
     (full ∙ c.reference_limit.ensures)

@@ -5,23 +5,12 @@ use Rattle.avc_marking.specs.Frames.{marking_entry}
 use Rattle.std.specs.Result.{is_ok}
 use Rattle.avc_decoder_core.specs.History.{Entry, is_same_sps, marks_of, missing_frame, sequence_sps}
 use Rattle.avc_decoder_core.proofs.Entering.{marked_then}
-use Rattle.avc_decoder_core.proofs.State.{few_frames}
-use Rattle.avc_decoder_core.proofs.StoredEntry.{IsTaken, frame_made, missing_arrival, missing_arrives, outputs_none, taken}
+use Rattle.avc_decoder_core.proofs.State.{IsTaken, few_marked, taken}
+use Rattle.avc_decoder_core.proofs.StoredEntry.{frame_made, missing_arrival, missing_arrives, outputs_none}
 use Rattle.avc_decoder_core.proofs.frame_buffer.FrameBuffer.store_missing.Goals as goal
 
-pub marked_frames-marked-requires : goal.marked_frames-marked-requires
-marked_frames-marked-requires c =
-    let i = c.self.inside in
-    let on : i.failed ≡ false = ap (λ v. v.failed) c.self.view_is ∙ c.requires.going in
-    subst (λ fs. length fs ≤ 16) (sym c.frames.ensures)
-    (few_frames (history_of i.history.items) i.dpb i.max_long_term_frame_idx i.prev_ref_frame_num (c.self.invariant on))
-
 pub sliding_window-requires : goal.sliding_window-requires
-sliding_window-requires c =
-    let i = c.self.inside in
-    let on : i.failed ≡ false = ap (λ v. v.failed) c.self.view_is ∙ c.requires.going in
-    let few = few_frames (history_of i.history.items) i.dpb i.max_long_term_frame_idx i.prev_ref_frame_num (c.self.invariant on) in
-    subst (λ n. n ≤ 16) (sym (ap length c.marked_frames-marked.ensures ∙ length-map c.frames.result.now marked_frame ∙ ap length c.frames.ensures)) few
+sliding_window-requires c = (few_marked c.self.inside _ _ c.self.invariant (ap (λ v. v.failed) c.self.view_is ∙ c.requires.going) c.frames.ensures c.marked_frames-marked.ensures).1
 
 pub unreachable-requires : goal.unreachable-requires
 unreachable-requires c =
@@ -68,7 +57,7 @@ stored c =
     let last : (c.len.result - 1) + 1 ≡ length new = omega (arith, c.len.ensures.value, c.in-Ok.ensures.length) in
     let made =
     frame_made e _ new c.deref.result.now c.entry_frame-frame.result (c.len.result - 1) _
-    (ap (λ s. missing_frame s frame_num) c.copied.ensures) c.deref.ensures.0 last c.entry_frame-frame.ensures in
+    (ap (λ s. missing_frame s frame_num) c.copied.ensures) c.deref.ensures.0 c.entry_frame-frame.ensures in
     let follows = ap (λ v. is_same_sps (sequence_sps v.history) sps) c.self.view_is ∙ c.requires.same in
     record {
       history = ap history_of c.with_newest-history.ensures ∙ ap (λ s. missing_frame s frame_num ∷ h) c.copied.ensures;
@@ -77,7 +66,7 @@ stored c =
           (c.marked_frames-marked.ensures ∙ ap (map marked_frame) c.frames.ensures) c.in-Ok.ensures.length marks
           c.set_marks.new.dpb c.set_marks.new.dpb c.store.new.self set
           [] c.in_ok-out.out.items (outputs_none c.set_marks.new.dpb) refl
-          c.entry_frame-frame.result made
+          c.entry_frame-frame.result (c.len.result - 1) _ last made
           (missing_arrival c.dpb_size.result) (missing_arrives sps frame_num h c.dpb_size.result c.dpb_size.ensures)
           c.in_ok-out.ensures.ok c.in_ok-out.ensures.kept frame_num refl;
     }
@@ -85,7 +74,7 @@ stored c =
 pub invariant_of-self-2 : goal.invariant_of-self-2
 invariant_of-self-2 c = λ going.
     let s = stored c in
-    subst (λ h. IsStateAfter h c.store.new.self c.self.inside.max_long_term_frame_idx c.args.frame_num) (sym s.history) (s.taken).longer.state
+    subst (λ h. IsStateAfter h c.store.new.self c.self.inside.max_long_term_frame_idx c.args.frame_num) (sym s.history) (s.taken).state
 
 pub returns-clause-ok : goal.returns-clause-ok
 returns-clause-ok c =
@@ -98,7 +87,7 @@ returns-clause-ok c =
       going = c.requires.going;
       state =
           ap₂ (λ h o. record { history = h; frames = (c.store.new.self).frames; output = o; failed = false })
-          (s.history ∙ ap (λ h. e ∷ h) before) ((s.taken).longer.kept ∙ output);
+          (s.history ∙ ap (λ h. e ∷ h) before) ((s.taken).kept ∙ output);
       marked = ap (λ h. is_ok (marks_of (e ∷ h))) (sym before) ∙ (s.taken).ok;
-      pictures = (s.taken).longer.pictures ∙ ap₂ (λ o h. output_pictures o h (e ∷ h)) output before;
+      pictures = (s.taken).pictures ∙ ap₂ (λ o h. output_pictures o h (e ∷ h)) output before;
     }

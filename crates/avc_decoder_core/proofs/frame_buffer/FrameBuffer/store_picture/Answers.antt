@@ -6,23 +6,12 @@ use Rattle.avc_marking.specs.Frames.{marking_entry}
 use Rattle.std.specs.Result.{is_ok}
 use Rattle.avc_decoder_core.specs.History.{Entry, decoded_picture, marks_of, order_or_0, pasts, picture_entry}
 use Rattle.avc_decoder_core.proofs.Entering.{marked_then}
-use Rattle.avc_decoder_core.proofs.State.{few_frames, refused}
-use Rattle.avc_decoder_core.proofs.StoredEntry.{IsTaken, frame_made, picture_arrival, picture_arrives, picture_previous, taken}
+use Rattle.avc_decoder_core.proofs.State.{IsTaken, few_marked, refused, taken}
+use Rattle.avc_decoder_core.proofs.StoredEntry.{frame_made, picture_arrival, picture_arrives, picture_previous}
 use Rattle.avc_decoder_core.proofs.frame_buffer.FrameBuffer.store_picture.Goals as goal
 
-pub marked_frames-marked-requires : goal.marked_frames-marked-requires
-marked_frames-marked-requires c =
-    let i = c.self.inside in
-    let on : i.failed ≡ false = ap (λ v. v.failed) c.self.view_is ∙ c.requires.going in
-    subst (λ fs. length fs ≤ 16) (sym c.frames.ensures)
-    (few_frames (history_of i.history.items) i.dpb i.max_long_term_frame_idx i.prev_ref_frame_num (c.self.invariant on))
-
 pub mark-requires : goal.mark-requires
-mark-requires c =
-    let i = c.self.inside in
-    let on : i.failed ≡ false = ap (λ v. v.failed) c.self.view_is ∙ c.requires.going in
-    let few = few_frames (history_of i.history.items) i.dpb i.max_long_term_frame_idx i.prev_ref_frame_num (c.self.invariant on) in
-    subst (λ n. n ≤ 16) (sym (ap length c.marked_frames-marked.ensures ∙ length-map c.frames.result.now marked_frame ∙ ap length c.frames.ensures)) few
+mark-requires c = (few_marked c.self.inside _ _ c.self.invariant (ap (λ v. v.failed) c.self.view_is ∙ c.requires.going) c.frames.ensures c.marked_frames-marked.ensures).1
 
 pub returns-in_err-mark-clause-err : goal.returns-in_err-mark-clause-err
 returns-in_err-mark-clause-err c =
@@ -92,7 +81,7 @@ stored c =
     ap₂ (λ s t. decoded_picture s t planes) c.copied.ensures c.copied-2.ensures in
     let made =
     frame_made e _ new c.deref.result.now c.entry_frame-frame.result (c.len.result - 1) _ same
-    c.deref.ensures.0 last c.entry_frame-frame.ensures in
+    c.deref.ensures.0 c.entry_frame-frame.ensures in
     let follows = subst (λ h. CanFollow h sps header) (sym before) c.requires.follows in
     let count = to_z w32 (of_z w32 c.args.order) in
     let back : count ≡ c.args.order = search rules in
@@ -105,7 +94,7 @@ stored c =
           (c.marked_frames-marked.ensures ∙ ap (map marked_frame) c.frames.ensures) c.in_ok-mark.ensures.length marks
           c.set_marks.new.dpb c.output_prior_pictures.new.dpb c.store.new.self set
           c.in_ok-prior.prior.items c.in_ok-more.more.items c.in_ok-prior.ensures.ok c.in_ok-prior.ensures.kept
-          c.entry_frame-frame.result made
+          c.entry_frame-frame.result (c.len.result - 1) _ last made
           (picture_arrival count c.is_reference.result c.dpb_size.result c.reorder_limit.result)
           (picture_arrives sps header planes h count c.is_reference.result c.dpb_size.result c.reorder_limit.result
           order c.is_reference.ensures c.dpb_size.ensures c.reorder_limit.ensures)
@@ -119,7 +108,7 @@ pub invariant_of-self-2 : goal.invariant_of-self-2
 invariant_of-self-2 c = λ going.
     let s = stored c in
     subst (λ h. IsStateAfter h c.store.new.self c.mark.new.max_long_term_frame_idx c.prev_ref_frame_num_after-self-inside.result)
-    (sym s.history) (s.taken).longer.state
+    (sym s.history) (s.taken).state
 
 pub returns-clause-ok : goal.returns-clause-ok
 returns-clause-ok c =
@@ -132,7 +121,7 @@ returns-clause-ok c =
       going = c.requires.going;
       state =
           ap₂ (λ h o. record { history = h; frames = (c.store.new.self).frames; output = o; failed = false })
-          (s.history ∙ ap (λ h. e ∷ h) before) ((s.taken).longer.kept ∙ output);
+          (s.history ∙ ap (λ h. e ∷ h) before) ((s.taken).kept ∙ output);
       marked = ap (λ h. is_ok (marks_of (e ∷ h))) (sym before) ∙ (s.taken).ok;
-      pictures = c.in_ok-out.ensures ∙ (s.taken).longer.pictures ∙ ap₂ (λ o h. output_pictures o h (e ∷ h)) output before;
+      pictures = c.in_ok-out.ensures ∙ (s.taken).pictures ∙ ap₂ (λ o h. output_pictures o h (e ∷ h)) output before;
     }

@@ -4,22 +4,14 @@ use Rattle.avc_decoder_core.proofs.Common.{OpenPicture, Inside, history_of, Fram
 use Rattle.avc_decoder_core.proofs.Common.{IsClosed, OpenPictureStart}
 use Rattle.avc_decoder_core.specs.History.{History, decoded_picture, marks_of, pasts, sequence_sps, with_picture}
 use Rattle.avc_decoder_core.specs.SequenceFields.{IsSequenceState, IsStateOf, open_picture_of}
-use Rattle.avc_decoder_core.proofs.Sequences.{CanStore, IsRefusedOn, IsStoredOn, can_store, closing_refused, current_is, is_closed, open_is, refused_on, set_then, state_with}
+use Rattle.avc_decoder_core.proofs.Sequences.{CanStore, IsRefusedOn, IsStoredOn, can_store, closing_refused, current_is, is_closed, open_is, refused_on, set_then}
 use Rattle.avc_decoder_core.proofs.Sequences.{stored_on, unchanged}
 use Rattle.avc_decoder_core.proofs.sequence.Sequence.close.Goals as goal
 
 -- the state on which the picture stands
 kept : (s : Inside) (p : OpenPicture) → IsSequenceState s → s.failed ≡ false → s.open_picture ≡ Some p
     → IsStateOf (history_of s.closed.items) (Some p) s.buffer s.poc s.sps
-kept s p invariant going opened = state_with (history_of s.closed.items) s.open_picture p s.buffer s.poc s.sps (invariant going) opened
-
--- what the picture finds
-begun : (c : goal.After-store_picture-arg-4-1) → CanStore c.in-Some.open_picture.sps c.in-Some.open_picture.header c.begin_sequence.new.self c.in-Some.open_picture.order
-begun c =
-    let s = c.self.inside in
-    let p = c.in-Some.open_picture in
-    let state = kept s p c.self.invariant c.if-self.false (sym c.take.ensures.value ∙ c.in-Some.is) in
-    can_store (history_of s.closed.items) p s.buffer c.begin_sequence.new.self c.in_ok-prior.prior.items state.going state.stands c.in_ok-prior.ensures.ok
+kept s p invariant going opened = subst (λ o. IsStateOf (history_of s.closed.items) o s.buffer s.poc s.sps) opened (invariant going)
 
 pub store_picture-requires : goal.store_picture-requires
 store_picture-requires c =
@@ -27,7 +19,7 @@ store_picture-requires c =
     let p = c.in-Some.open_picture in
     let opened : s.open_picture ≡ Some p = sym c.take.ensures.value ∙ c.in-Some.is in
     let state = kept s p c.self.invariant c.if-self.false opened in
-    let can = begun c in
+    let can = can_store (history_of s.closed.items) p s.buffer c.begin_sequence.new.self c.in_ok-prior.prior.items state.going state.stands c.in_ok-prior.ensures.ok in
     let back : to_z w32 (of_z w32 p.order) ≡ p.order = search rules in
     record {
       going = can.going;
@@ -71,17 +63,10 @@ returns-in-Ok-clause-ok c o told =
     let done = stored c in
     let output : s.buffer.output ≡ old.output = ap (λ (v : SequenceState). v.output) c.self.view_is in
     let current = current_is (history_of s.closed.items) s.buffer.history s.open_picture s.buffer.frames s.buffer.output s.failed old (c.self.invariant c.if-self.false).stands c.self.view_is in
+    let same = open_is picture s.open_picture o old opened (ap (λ (v : SequenceState). v.open_picture) c.self.view_is) told in
     let after = with_picture picture.sps picture.header planes s.buffer.history in
-    let new : SequenceState = record {
-      history = history_of c.store_picture.new.closed.items;
-      open_picture = option_map open_picture_of c.take.new.self;
-      frames = c.store_picture.new.self.frames;
-      output = c.store_picture.new.self.output;
-      failed = false;
-    } in
-    subst (λ (p : OpenPictureStart). IsClosed old p planes c.in_ok-out-in-Ok.out.items new)
-    (open_is picture s.open_picture o old opened (ap (λ (v : SequenceState). v.open_picture) c.self.view_is) told)
-    (is_closed old new (open_picture_of picture) planes c.store_picture.new.self.frames s.buffer.history c.in_ok-out-in-Ok.out.items
+    rw (← same)
+    (is_closed old _ (open_picture_of picture) planes c.store_picture.new.self.frames s.buffer.history c.in_ok-out-in-Ok.out.items
     (sym (ap (λ (v : SequenceState). v.failed) c.self.view_is) ∙ c.if-self.false) current done.marked
     (ap₂ (λ (h : History) (p : Option OpenPicture). record { history = h; open_picture = option_map open_picture_of p; frames = c.store_picture.new.self.frames; output = c.store_picture.new.self.output; failed = false })
     (c.in-Ok.ensures.closed ∙ done.history) c.take.ensures.after
