@@ -7,7 +7,7 @@ use Rattle.avc_tools.proofs.Common.{is_picture, state_through, Event, piece_unit
 use Rattle.avc_decoder.specs.Events.{State, after_unit, at_end, events, events_from, first_state, state_after, waiting}
 use Rattle.avc_tools.proofs.PieceEvents.{piece_events, segment, segment_alike}
 use Rattle.avc_tools.proofs.PiecesWithin.{IsAccepted, IsSilent}
-use Rattle.avc_tools.proofs.Shown.{set_units-append}
+use Rattle.avc_units.proofs.Deciding.{set_units-append}
 use Rattle.avc_tools.proofs.Refusals.{ArePictures, all_accepted, events_of_pieces, pictures_before, pictures_behind, pieces_of_pictures, silent_units}
 
 -- the units before the next start

@@ -7,7 +7,7 @@ use Rattle.avc_tools.proofs.Common.{rbsp_of, set_of, set_unit, set_units, slice,
 use Rattle.avc_tools.proofs.Common.{SetsInForceAreUnits, sets_in_force, Nothing, Step, after_slices, leads}
 use Rattle.avc_decoder.specs.Events.{Outcome, State, after_next, after_unit, events_from, in_phase, is_running, no_change, open_facts_in, state_after, waiting}
 use Rattle.avc_tools.proofs.PiecesWithin.{IsAccepted}
-use Rattle.avc_tools.proofs.Shown.{set_units-append}
+use Rattle.avc_units.proofs.Deciding.{set_units-append}
 use Rattle.avc_tools.proofs.Joining.{Ends, IsBetween, between_after, ends}
 
 -- Where decoding waits, the unit does nothing more.

@@ -1,11 +1,11 @@
 -- A piece whose stream comes is written as far as it is settled.
 use Rattle.std.proofs.Common.{◌≡◌, ◌≤◌, ℕ, Bool, true, false, if◌then◌else◌, List, [], ◌∷◌, ◌++◌, length, is_some, refl, ap, sym, subst, ◌∙◌, arith, append_assoc, append-nil, ◌⊎◌}
-use Rattle.avc_tools.proofs.Common.{SplitterState, after_feed, units, Unit, bytes_of, numbered_piece, piece_text, piece_is_over}
+use Rattle.avc_tools.proofs.Common.{SplitterState, after_feed, units, Unit, numbered_piece, piece_text, piece_is_over}
 use Rattle.avc_tools.proofs.Common.{StreamSoFar, after_end, after_piece, after_units_left, units_left, Cutter, CutPhase}
 use Rattle.avc_tools.specs.Stages.{IsCutOff, IsCutOn, IsCutting, Stage, StandsAt, next, phase_of, piece_of, stage_after, stage_of, text_of, waiting}
 use Rattle.avc_tools.specs.declared.cutter.CutPhase.TheVariants as phases
 use Rattle.avc_tools.proofs.Growing.{AreLeft, drained}
-use Rattle.avc_tools.proofs.Stages.{after-append, is_over, numbered_is, over_is}
+use Rattle.avc_tools.proofs.Stages.{after-append, is_over, numbered_is, over_is, text_behind}
 
 -- ---- unit by unit
 
@@ -45,39 +45,40 @@ cutting_again max number old mid new before ended c now piece h left is end_is c
 pub feed_keeps_end : (s new : SplitterState) (piece : List ℕ) → new ≡ after_feed s piece → s.ended ≡ new.ended
 feed_keeps_end s new piece is = rw is (grind arith)
 
-pub text_added : (max number : ℕ) (old mid new : SplitterState) (before : StreamSoFar) (ended : Bool) (c now : Cutter) (part more added : List ℕ) → IsCutting max number old ended c → ended ≡ false → AreLeft max old mid
-    → new ≡ after_units_left max mid → before.bytes ≡ old.bytes → before.ended ≡ old.ended → IsCutFrom c now part (units_left max mid)
-    → text_of (stage_of max number new) new.ended ≡ text_of (stage_of max number new) false ++ more → added ≡ part ++ more → length new.bytes ≤ max
-    → piece_text number new.bytes new.ended ≡ piece_text number before.bytes before.ended ++ added
-text_added max number old mid new before ended c now part more added h open_end left is bytes end_is cut last sum short =
+-- After some units that were left the text has what these bring, and then what is added there.
+text_added : (max number : ℕ) (old mid new : SplitterState) (ended : Bool) (c now : Cutter) (part more : List ℕ) (t : Stage) → IsCutting max number old ended c
+    → ended ≡ false → AreLeft max old mid → new ≡ after_units_left max mid → IsCutFrom c now part (units_left max mid) → length new.bytes ≤ max
+    → t ≡ stage_after (stage_of max number old) (units_left max mid) → text_of t mid.ended ≡ text_of t false ++ more
+    → piece_text number new.bytes new.ended ≡ piece_text number old.bytes old.ended ++ (part ++ more)
+text_added max number old mid new ended c now part more t h open_end left is cut short t_is adds =
     let same = ap (λ (s : SplitterState). length s.bytes) is in
-    let short_before : length old.bytes ≤ max = omega (arith, same, short, left.no_fewer) in
-    let made = cut (stage_of max number old) h.stands in
-    let old_open : old.ended ≡ false = sym h.end_is ∙ open_end in
-    ap bytes_of (numbered_is max number new.bytes new.ended short)
-    ∙ last
-    ∙ ap (λ s. text_of s false ++ more) (sym (stage_is max number old mid new left is))
-    ∙ ap (λ t. t ++ more) (made.defined ∙ ap (λ t. text_of (stage_of max number old) false ++ t) (sym made.written_on))
-    ∙ append_assoc (text_of (stage_of max number old) false) part more
-    ∙ ap (λ t. text_of (stage_of max number old) false ++ t) (sym sum)
-    ∙ ap (λ e. text_of (stage_of max number old) e ++ added) (sym old_open)
-    ∙ ap (λ p. bytes_of p ++ added) (sym (numbered_is max number old.bytes old.ended short_before))
-    ∙ ap (λ bs. piece_text number bs old.ended ++ added) (sym bytes)
-    ∙ ap (λ e. piece_text number before.bytes e ++ added) (sym end_is)
+    let s = stage_of max number old in
+    let made = cut s h.stands in
+    rw is
+    (text_behind max number mid.bytes old.bytes mid.ended old.ended (units_left max mid) (part ++ more)
+    (omega (arith, same, short)) (omega (arith, same, short, left.no_fewer)) (sym h.end_is ∙ open_end) left.all
+    (ap (λ u. text_of u mid.ended) (sym t_is) ∙ adds ∙ ap (λ u. text_of u false ++ more) t_is
+    ∙ ap (λ l. l ++ more) (made.defined ∙ ap (λ l. text_of s false ++ l) (sym made.written_on)) ∙ append_assoc (text_of s false) part more))
 
-pub no_more_at : (s : Stage) (ended : Bool) → ended ≡ false → text_of s ended ≡ text_of s false ++ []
-no_more_at s ended e = ap (text_of s) e ∙ sym (append-nil (text_of s false))
+-- by a piece
+pub text_fed : (max number : ℕ) (old mid new : SplitterState) (ended : Bool) (c now : Cutter) (part : List ℕ) → IsCutting max number old ended c
+    → ended ≡ false → AreLeft max old mid → new ≡ after_units_left max mid → mid.ended ≡ false → IsCutFrom c now part (units_left max mid)
+    → length new.bytes ≤ max → piece_text number new.bytes new.ended ≡ piece_text number old.bytes old.ended ++ part
+text_fed max number old mid new ended c now part h open_end left is goes_on cut short =
+    let t = stage_after (stage_of max number old) (units_left max mid) in
+    text_added max number old mid new ended c now part [] t h open_end left is cut short refl (ap (text_of t) goes_on ∙ sym (append-nil (text_of t false)))
+    ∙ ap (λ l. piece_text number old.bytes old.ended ++ l) (append-nil part)
 
 -- at the end
-pub text_ended : (max number : ℕ) (old mid new : SplitterState) (before : StreamSoFar) (ended : Bool) (c now : Cutter) (part added : List ℕ) → IsCutting max number old ended c → ended ≡ false → AreLeft max old mid
-    → new ≡ after_units_left max mid → before.bytes ≡ old.bytes → before.ended ≡ old.ended → mid.ended ≡ true → IsCutFrom c now part (units_left max mid)
-    → ((s : Stage) → StandsAt s now → IsCutOff s part added) → length new.bytes ≤ max
-    → piece_text number new.bytes new.ended ≡ piece_text number before.bytes before.ended ++ added
-text_ended max number old mid new before ended c now part added h open_end left is bytes end_is over_there cut rest short =
-    let there = cutting_again max number old mid new ended mid.ended c now part h left is refl cut in
-    let off = rest (stage_of max number new) there.stands in
-    let at_end : new.ended ≡ true = ap (λ s. s.ended) is ∙ over_there in
-    text_added max number old mid new before ended c now part off.added added h open_end left is bytes end_is cut (ap (text_of (stage_of max number new)) at_end ∙ off.defined) off.written_on short
+pub text_ended : (max number : ℕ) (old mid new : SplitterState) (ended : Bool) (c now : Cutter) (part all : List ℕ) → IsCutting max number old ended c
+    → ended ≡ false → AreLeft max old mid → new ≡ after_units_left max mid → mid.ended ≡ true → IsCutFrom c now part (units_left max mid)
+    → ((s : Stage) → StandsAt s now → IsCutOff s part all) → length new.bytes ≤ max
+    → piece_text number new.bytes new.ended ≡ piece_text number old.bytes old.ended ++ all
+text_ended max number old mid new ended c now part all h open_end left is at_end cut rest short =
+    let t = stage_after (stage_of max number old) (units_left max mid) in
+    let off = rest t (cut (stage_of max number old) h.stands).stands in
+    text_added max number old mid new ended c now part off.added t h open_end left is cut short refl (ap (text_of t) at_end ∙ off.defined)
+    ∙ ap (λ l. piece_text number old.bytes old.ended ++ l) (sym off.written_on)
 
 -- past the end
 pub stays_by_piece : (s : StreamSoFar) (piece : List ℕ) → s.ended ≡ true → s ≡ after_piece s piece

@@ -4,7 +4,7 @@ use Rattle.avc_tools.proofs.Common.{Option, Some, None, is_some, if◌then◌els
 use Rattle.avc_tools.proofs.Common.{prefix_len, range_with_len, take_while, option_map, length-map, drop-map, map-append, reverse-append}
 use Rattle.avc_tools.proofs.Common.{All-nil, All-cons, All-head, All-tail, All-append, All-take, All-drop, All-same, All-push, All-filter}
 use Rattle.avc_tools.proofs.Common.{take_while-cons, Unit, unit_within, written, is_pps, is_sps, last, pps_in_force, sps_in_force, SetUnit}
-use Rattle.avc_tools.proofs.Common.{is_start, list_of, set_unit, set_units, deciding_unit, satisfies, sets_in_force, unit_list, piece_units}
+use Rattle.avc_tools.proofs.Common.{is_start, list_of, set_unit, set_units, deciding_unit, satisfies, sets_in_force, unit_list, piece_units, pps_unit, sps_unit}
 use Rattle.avc_tools.proofs.Common.{after_slices, is_left_out, is_slice, leads, piece, pieces_from, rest_of_piece, through_slices}
 use Rattle.std.proofs.Common.{cond}
 
@@ -56,11 +56,8 @@ module _ (P : Unit → Type 0) where
 
   all_sets : (us : List Unit) → All P us → All P (sets_in_force us)
   all_sets us h =
-      All-append P _ _
-      (all_flat P (λ id. deciding_unit (is_some (sps_in_force (set_units us) id)) (is_sps id) us) (range_with_len 0 32)
-      (λ id. all_deciding (is_some (sps_in_force (set_units us) id)) (is_sps id) us h))
-      (all_flat P (λ id. deciding_unit (is_some (pps_in_force (set_units us) id)) (is_pps id) us) (range_with_len 0 256)
-      (λ id. all_deciding (is_some (pps_in_force (set_units us) id)) (is_pps id) us h))
+      All-append P _ _ (all_flat P (sps_unit us) (range_with_len 0 32) (λ id. all_deciding (is_some (sps_in_force (set_units us) id)) (is_sps id) us h))
+      (all_flat P (pps_unit us) (range_with_len 0 256) (λ id. all_deciding (is_some (pps_in_force (set_units us) id)) (is_pps id) us h))
 
   pub all_after_slices : (us : List Unit) → All P us → All P (after_slices us)
   all_after_slices us h = all_reversed P (take_while (λ u. not (is_slice u)) (reverse us)) (all_taken P (λ u. not (is_slice u)) (reverse us) (all_reversed P us h))
@@ -202,15 +199,11 @@ module _ (max : ℕ) where
   sets-cut us same =
       let all = set_units-cut us same in
       ap₂ (λ a b. a ++ b)
-      (flat_map-map (unit_within max) (λ id. deciding_unit (is_some (sps_in_force (set_units (cut us)) id)) (is_sps id) (cut us))
-      (λ id. deciding_unit (is_some (sps_in_force (set_units us) id)) (is_sps id) us)
-      (λ id. ap (λ s. deciding_unit (is_some (sps_in_force s id)) (is_sps id) (cut us)) all
-      ∙ deciding-cut (is_some (sps_in_force (set_units us) id)) (is_sps id) us same) (range_with_len 0 32))
-      (flat_map-map (unit_within max) (λ id. deciding_unit (is_some (pps_in_force (set_units (cut us)) id)) (is_pps id) (cut us))
-      (λ id. deciding_unit (is_some (pps_in_force (set_units us) id)) (is_pps id) us)
-      (λ id. ap (λ s. deciding_unit (is_some (pps_in_force s id)) (is_pps id) (cut us)) all
-      ∙ deciding-cut (is_some (pps_in_force (set_units us) id)) (is_pps id) us same) (range_with_len 0 256))
-      ∙ sym (map-append (unit_within max) (flat_map (λ id. deciding_unit (is_some (sps_in_force (set_units us) id)) (is_sps id) us) (range_with_len 0 32)) _)
+      (flat_map-map (unit_within max) (sps_unit (cut us)) (sps_unit us)
+      (λ id. ap (λ s. deciding_unit (is_some (sps_in_force s id)) (is_sps id) (cut us)) all ∙ deciding-cut (is_some (sps_in_force (set_units us) id)) (is_sps id) us same) (range_with_len 0 32))
+      (flat_map-map (unit_within max) (pps_unit (cut us)) (pps_unit us)
+      (λ id. ap (λ s. deciding_unit (is_some (pps_in_force s id)) (is_pps id) (cut us)) all ∙ deciding-cut (is_some (pps_in_force (set_units us) id)) (is_pps id) us same) (range_with_len 0 256))
+      ∙ sym (map-append (unit_within max) (flat_map (sps_unit us) (range_with_len 0 32)) _)
 
   piece-cut : (before after : List Unit) (u : Unit) → All (SameSet max) before → All (SameStart max) after →
       piece (cut before) (unit_within max u) (cut after) ≡ cut (piece before u after)

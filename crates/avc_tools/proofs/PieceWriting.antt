@@ -1,6 +1,6 @@
 -- Pieces, one after the other.
-use Rattle.std.proofs.Common.{◌≡◌, ◌+◌, ◌-◌, ◌<◌, ◌≤◌, ℕ, Bool, true, false, List, [], ◌∷◌, ◌++◌, length, map, take, drop, get_or, refl, ap, sym, ◌∙◌, arith, append_assoc, append-nil}
-use Rattle.avc_tools.proofs.Common.{flat_map-append, drop-map, drop_all, drop_more, length-map, take_more, filter, flat_map, Unit, is_start}
+use Rattle.std.proofs.Common.{◌≡◌, ◌+◌, ◌-◌, ◌<◌, ℕ, Bool, true, false, List, [], ◌∷◌, ◌++◌, length, map, take, drop, get_or, refl, ap, sym, ◌∙◌, arith, append_assoc}
+use Rattle.avc_tools.proofs.Common.{flat_map-append, drop-map, drop_more, length-map, take_more, filter, flat_map, Unit, is_start}
 use Rattle.avc_tools.proofs.Common.{written, sets_in_force, HasSets, kept_bytes, piece_at, piece_in, pieces_at, pieces_in, after_slices}
 use Rattle.avc_tools.proofs.Common.{leads, piece, pieces_from, rest_of_piece, through_slices, SetsInForce}
 use Rattle.avc_tools.proofs.SetsInForce.{sets_written}
@@ -49,9 +49,6 @@ pieces_more us i u all more low at sum is =
     let here : drop i us ≡ u ∷ drop (i + 1) us = drop_more us i u low ∙ ap (λ v. v ∷ drop (i + 1) us) (sym at) in
     let front : take (i + 1) us ≡ take i us ++ u ∷ [] = take_more us i u low ∙ ap (λ y. take i us ++ y ∷ []) (sym at) in
     rw (is, front, append_assoc, here) (rw (here, pieces_first (take i us) u (drop (i + 1) us)) at sum)
-
-pub pieces_all : (us : List Unit) (i : ℕ) (all : List (List ℕ)) → length us ≤ i → all ++ pieces_from (take i us) (drop i us) ≡ pieces_from [] us → all ≡ pieces_from [] us
-pieces_all us i all low sum = sym (append-nil all) ∙ ap (λ t. all ++ pieces_from (take i us) t) (sym (drop_all i us low)) ∙ sum
 
 one_piece : (before here : List Unit) (starts : List Bool) (b : Bool) → b ∷ starts ≡ map is_start here → pieces_in before here ≡ elim b [ true ↦ piece_in before here ∷ [] | false ↦ [] ]
 one_piece before [] starts b e = cc

@@ -1,20 +1,20 @@
 -- The units whose parameter sets are in force, after one unit more.
 use Rattle.std.proofs.Common.{◌≡◌, ◌+◌, ◌<◌, ℕ, suc, Bool, true, false, List, [], ◌∷◌, ◌++◌, length, Option, Some, None, is_some, Result, Ok, Err, if◌then◌else◌, refl, ap, sym, subst, ◌∙◌, arith, append-nil, take, get_or}
 use Rattle.avc_tools.proofs.Common.{replicate, eq-eqb, filter-append, flat_map-append, get_or-replicate, length-replicate, take_more}
-use Rattle.avc_tools.proofs.Common.{option_map, filter, flat_map, range_with_len, Fault, forbidden_zero_bit, Unit, Bits, Read, ◌>>=◌, start}
+use Rattle.avc_tools.proofs.Common.{option_map, filter, flat_map, range_with_len, Fault, Unit, Bits, Read, ◌>>=◌, start}
 use Rattle.avc_tools.proofs.Common.{ue_to, accepted, is_id, is_pps, is_sps, last, pps_in_force, pps_record, sps_in_force, sps_record, Pps}
-use Rattle.avc_tools.proofs.Common.{SetUnit, Sps, kind, list_of, pps, rbsp_of, set_unit, set_units, sps, written, deciding_unit, satisfies}
+use Rattle.avc_tools.proofs.Common.{SetUnit, Sps, kind, list_of, pps, set_unit, set_units, sps, written, deciding_unit, satisfies}
 use Rattle.avc_tools.proofs.Common.{sets_in_force, unit_list, AreKept, AreReplaced, HasSets, kept_bytes, pps_unit, replaced, sps_unit}
 use Rattle.avc_tools.proofs.Common.{SetsInForce}
 use Rattle.std.proofs.Math.Bool.{cond}
-use Rattle.avc_params.specs.PpsReading.{pps as pps_part, pps_after}
+use Rattle.avc_params.specs.PpsReading.{pps_after}
 use Rattle.avc_params.specs.Reading.{pps_id, pps_of, read_value, sps_id, sps_of, whole}
-use Rattle.avc_params.specs.SpsReading.{identity, sps as sps_part, sps_after}
+use Rattle.avc_params.specs.SpsReading.{identity, sps_after}
 use Rattle.avc_params.specs.Stored.{stored}
 use Rattle.avc_params.specs.Within.{PpsInForceKeepsLimits, SpsInForceKeepsLimits}
 use Rattle.avc_params.specs.declared.set_fault.SetFault.{SetFault}
 use Rattle.avc_params.specs.declared.set_unit.SetUnit.TheVariants.{OfPps, OfSps}
-use Rattle.avc_tools.proofs.Shown.{set_units-append}
+use Rattle.avc_units.proofs.Deciding.{set_units-append}
 
 -- ---- ids
 
@@ -36,14 +36,14 @@ sps_alone rbsp id e = ap sps_record (alone (is_sps id) (OfSps rbsp) (ap (is_id i
 pps_alone : (rbsp : List ℕ) (id : ℕ) → pps_id rbsp ≡ Some id → pps_in_force (OfPps rbsp ∷ []) id ≡ accepted (pps_of rbsp)
 pps_alone rbsp id e = ap pps_record (alone (is_pps id) (OfPps rbsp) (ap (is_id id) e ∙ is_id-self id))
 
-sps_id_is : SpsInForceKeepsLimits → (rbsp : List ℕ) (set : Sps) → sps_of rbsp ≡ Ok set → sps_id rbsp ≡ Some set.seq_parameter_set_id
+pub sps_id_is : SpsInForceKeepsLimits → (rbsp : List ℕ) (set : Sps) → sps_of rbsp ≡ Ok set → sps_id rbsp ≡ Some set.seq_parameter_set_id
 sps_id_is law rbsp set is =
     let head = first_by identity sps_after (sps_id rbsp) (start rbsp) set _ refl is in
     let id : sps_id rbsp ≡ Some head.0.seq_parameter_set_id = ap (option_map (λ h. h.seq_parameter_set_id)) head.1 in
     let kept = law (OfSps rbsp ∷ []) head.0.seq_parameter_set_id set (sps_alone rbsp head.0.seq_parameter_set_id id ∙ ap accepted is) in
     id ∙ ap Some (sym kept.id_is)
 
-pps_id_is : PpsInForceKeepsLimits → (rbsp : List ℕ) (set : Pps) → pps_of rbsp ≡ Ok set → pps_id rbsp ≡ Some set.pic_parameter_set_id
+pub pps_id_is : PpsInForceKeepsLimits → (rbsp : List ℕ) (set : Pps) → pps_of rbsp ≡ Ok set → pps_id rbsp ≡ Some set.pic_parameter_set_id
 pps_id_is law rbsp set is =
     let head = first_by (ue_to 255) pps_after (pps_id rbsp) (start rbsp) set _ refl is in
     let kept = law (OfPps rbsp ∷ []) head.0 set (pps_alone rbsp head.0 head.1 ∙ ap accepted is) in
@@ -57,13 +57,13 @@ refused_by : {A : Type 0} (part : Read A) (id : Option ℕ) (b : Bits) (why : Se
 refused_by part id b why (Ok r) e f = let wrong = rw (whole, e) at f in cc
 refused_by part id b why (Err fault) e f = let g = rw (whole, e) at f in ap (id_in why) g
 
-refused_id : {A : Type 0} (part : Read A) (id : Option ℕ) (b : Bits) (why : SetFault) → whole part id b ≡ Err why → id ≡ why.id
+pub refused_id : {A : Type 0} (part : Read A) (id : Option ℕ) (b : Bits) (why : SetFault) → whole part id b ≡ Err why → id ≡ why.id
 refused_id part id b why f = refused_by part id b why (part b) refl f
 
 -- ---- one set is put
 
 -- by one of either kind, which has this id and was accepted or not
-put_by : {A : Type 0} (has_id : ℕ → SetUnit → Bool) (record_of : Option SetUnit → Option A) (s : SetUnit) (id : Option ℕ) (accepted_so : Bool) (unit : List ℕ) (old new : List (Option (List ℕ)))
+pub put_by : {A : Type 0} (has_id : ℕ → SetUnit → Bool) (record_of : Option SetUnit → Option A) (s : SetUnit) (id : Option ℕ) (accepted_so : Bool) (unit : List ℕ) (old new : List (Option (List ℕ)))
     → ((k : ℕ) → has_id k s ≡ is_id k id) → is_some (record_of (Some s)) ≡ accepted_so → length new ≡ length old
     → ((k : ℕ) → k < length old → stored new k ≡ (if is_id k id then (if accepted_so then Some unit else None) else stored old k))
     → AreReplaced has_id record_of (Some s) unit old new
@@ -74,38 +74,6 @@ put_by has_id record_of s id accepted_so unit old new same is long put = record 
   where
     by : (hit accepted_so : Bool) (old : Option (List ℕ)) → (if hit then (if accepted_so then Some unit else None) else old) ≡ replaced hit accepted_so unit old
     by hit accepted_so old = grind arith
-
-pub sps_put : SpsInForceKeepsLimits → (rbsp : List ℕ) (set : Sps) (unit : List ℕ) (old new : List (Option (List ℕ))) → sps_of rbsp ≡ Ok set → length new ≡ length old
-    → ((k : ℕ) → k < length old → stored new k ≡ (if is_id k (Some set.seq_parameter_set_id) then Some unit else stored old k))
-    → AreReplaced is_sps sps_record (Some (OfSps rbsp)) unit old new
-sps_put law rbsp set unit old new is =
-    put_by is_sps sps_record (OfSps rbsp) (Some set.seq_parameter_set_id) true unit old new (λ k. ap (is_id k) (sps_id_is law rbsp set is)) (ap (λ r. is_some (accepted r)) is)
-
-pub sps_erased : (rbsp : List ℕ) (why : SetFault) (unit : List ℕ) (old new : List (Option (List ℕ))) → sps_of rbsp ≡ Err why → length new ≡ length old
-    → ((k : ℕ) → k < length old → stored new k ≡ (if is_id k why.id then None else stored old k))
-    → AreReplaced is_sps sps_record (Some (OfSps rbsp)) unit old new
-sps_erased rbsp why unit old new is =
-    put_by is_sps sps_record (OfSps rbsp) why.id false unit old new (λ k. ap (is_id k) (refused_id sps_part (sps_id rbsp) (start rbsp) why is)) (ap (λ r. is_some (accepted r)) is)
-
-pub pps_put : PpsInForceKeepsLimits → (rbsp : List ℕ) (set : Pps) (unit : List ℕ) (old new : List (Option (List ℕ))) → pps_of rbsp ≡ Ok set → length new ≡ length old
-    → ((k : ℕ) → k < length old → stored new k ≡ (if is_id k (Some set.pic_parameter_set_id) then Some unit else stored old k))
-    → AreReplaced is_pps pps_record (Some (OfPps rbsp)) unit old new
-pps_put law rbsp set unit old new is =
-    put_by is_pps pps_record (OfPps rbsp) (Some set.pic_parameter_set_id) true unit old new (λ k. ap (is_id k) (pps_id_is law rbsp set is)) (ap (λ r. is_some (accepted r)) is)
-
-pub pps_erased : (rbsp : List ℕ) (why : SetFault) (unit : List ℕ) (old new : List (Option (List ℕ))) → pps_of rbsp ≡ Err why → length new ≡ length old
-    → ((k : ℕ) → k < length old → stored new k ≡ (if is_id k why.id then None else stored old k))
-    → AreReplaced is_pps pps_record (Some (OfPps rbsp)) unit old new
-pps_erased rbsp why unit old new is =
-    put_by is_pps pps_record (OfPps rbsp) why.id false unit old new (λ k. ap (is_id k) (refused_id pps_part (pps_id rbsp) (start rbsp) why is)) (ap (λ r. is_some (accepted r)) is)
-
--- ---- what a unit brings
-
-pub brings_sps : (u : Unit) (bytes : List ℕ) → forbidden_zero_bit u.header ≡ false → kind u ≡ sps → rbsp_of u ≡ Some bytes → set_unit u ≡ Some (OfSps bytes)
-brings_sps u bytes allowed is read = rw (set_unit, allowed, is, read) refl
-
-pub brings_pps : (u : Unit) (bytes : List ℕ) → forbidden_zero_bit u.header ≡ false → kind u ≡ pps → rbsp_of u ≡ Some bytes → set_unit u ≡ Some (OfPps bytes)
-brings_pps u bytes allowed is read = rw (set_unit, allowed, is, read) refl
 
 -- ---- one unit more
 

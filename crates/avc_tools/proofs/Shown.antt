@@ -1,25 +1,15 @@
 -- Headers, one line after the other.
-use Rattle.std.proofs.Common.{◌≡◌, ◌^◌, ◌≤◌, ℕ, Bool, true, false, List, [], ◌∷◌, ◌++◌, length, Option, Some, None, Ok, Err, refl, ap, sym, ◌∙◌, arith, append_assoc, append-nil, length-append}
-use Rattle.avc_tools.proofs.Common.{Fault, UnitsStay, SplitterState, forbidden_zero_bit, units, Unit, Sets, sets_after, SetUnit, Kind, kind}
-use Rattle.avc_tools.proofs.Common.{list_of, rbsp_of, set_unit, set_units, slice_in, with_header, AreShown, header_lines_under, OnlyGrows}
-use Rattle.avc_tools.proofs.Common.{StreamSoFar, after_units_left, units_left, header_line, header_lines_from, header_lines_so_far}
-use Rattle.avc_tools.proofs.Common.{header_text, line_of, refused_text, slice_text}
+use Rattle.std.proofs.Common.{◌≡◌, ◌^◌, ◌≤◌, ℕ, Bool, false, List, [], ◌∷◌, ◌++◌, length, Option, Some, None, Ok, Err, refl, ap, sym, ◌∙◌, arith, append_assoc, append-nil, length-append}
+use Rattle.avc_tools.proofs.Common.{UnitsStay, SplitterState, units, Unit, Sets, sets_after, SetUnit}
+use Rattle.avc_tools.proofs.Common.{rbsp_of, set_units, slice_in, with_header, AreShown, header_lines_under, OnlyGrows}
+use Rattle.avc_tools.proofs.Common.{after_units_left, units_left, header_line, header_lines_from, header_lines_so_far}
+use Rattle.avc_tools.proofs.Common.{header_text, slice_text}
 use Rattle.avc_types.specs.declared.fault.Fault.TheVariants as faults
 use Rattle.avc_slice.specs.declared.header.Header.{Header}
 use Rattle.avc_slice.specs.Reading.{header_in_rbsp}
+pub use Rattle.avc_units.proofs.Deciding.{set_units-append, sets_then}
 use Rattle.avc_tools.proofs.Growing.{AreLeft, drained}
 use Rattle.avc_tools.proofs.Lengths.{whole_units}
-use Rattle.avc_tools.specs.Lines.{text_of}
-
-pub set_units-append : (us vs : List Unit) → set_units (us ++ vs) ≡ set_units us ++ set_units vs
-set_units-append [] vs = refl
-set_units-append (u ∷ us) vs = ap (λ l. list_of (set_unit u) ++ l) (set_units-append us vs) ∙ sym (append_assoc (list_of (set_unit u)) (set_units us) (set_units vs))
-
--- one unit's sets in front
-pub sets_then : (sets : List SetUnit) (u : Unit) (us : List Unit) → (sets ++ set_units (u ∷ [])) ++ set_units us ≡ sets ++ set_units (u ∷ us)
-sets_then sets u us =
-    append_assoc sets (set_units (u ∷ [])) (set_units us)
-    ∙ ap (λ l. sets ++ (l ++ set_units us)) (append-nil (list_of (set_unit u)))
 
 under-append : (sets : List SetUnit) (us vs : List Unit) → header_lines_under sets (us ++ vs) ≡ header_lines_under sets us ++ header_lines_under (sets ++ set_units us) vs
 under-append sets [] vs = rw (append-nil sets) refl
@@ -35,9 +25,6 @@ from_under before (u ∷ us) =
 pub record IsShown (before now : List SetUnit) (text : List ℕ) (done : List Unit) : Type 0 where
   pub sets : now ≡ before ++ set_units done
   pub lines : text ≡ header_lines_under before done
-
-pub shown_none : (before : List SetUnit) (text : List ℕ) → text ≡ [] → IsShown before before text []
-shown_none before text none = record { sets = sym (append-nil before); lines = none }
 
 pub shown_more : (before old new : List SetUnit) (text more : List ℕ) (u : Unit) → new ≡ old ++ set_units (u ∷ []) → more ≡ text ++ header_line (sets_after old) u
     → (done : List Unit) → IsShown before old text done → IsShown before new more (done ++ u ∷ [])
@@ -64,44 +51,27 @@ shown_again max old mid new sets now h left is put = record {
       ∙ ap (λ s. set_units (units max s.bytes s.ended)) (sym is);
 }
 
-pub header_lines_added : (max : ℕ) (old mid new : SplitterState) (before : StreamSoFar) (sets : List SetUnit) (added : List ℕ) → AreShown max old sets → AreLeft max old mid
-    → new ≡ after_units_left max mid → before.bytes ≡ old.bytes → before.ended ≡ old.ended → added ≡ header_lines_under sets (units_left max mid) → length new.bytes ≤ max
-    → header_lines_so_far new.bytes new.ended ≡ header_lines_so_far before.bytes before.ended ++ added
-header_lines_added max old mid new before sets added h left is bytes ended lines short =
+-- The lines of units that come to others come behind theirs.
+lines_behind : (max : ℕ) (bytes front : List ℕ) (ended front_ended : Bool) (others : List Unit) → length bytes ≤ max → length front ≤ max
+    → units max bytes ended ≡ units max front front_ended ++ others
+    → header_lines_so_far bytes ended ≡ header_lines_so_far front front_ended ++ header_lines_under (set_units (units max front front_ended)) others
+lines_behind max bytes front ended front_ended others short front_short is =
+    sym (header_lines_are max bytes ended short) ∙ ap (header_lines_under []) is ∙ under-append [] (units max front front_ended) others
+    ∙ ap (λ l. l ++ header_lines_under (set_units (units max front front_ended)) others) (header_lines_are max front front_ended front_short)
+
+pub header_lines_added : (max : ℕ) (old mid new : SplitterState) (sets : List SetUnit) (added : List ℕ) → AreShown max old sets → AreLeft max old mid
+    → new ≡ after_units_left max mid → added ≡ header_lines_under sets (units_left max mid) → length new.bytes ≤ max
+    → header_lines_so_far new.bytes new.ended ≡ header_lines_so_far old.bytes old.ended ++ added
+header_lines_added max old mid new sets added h left is lines short =
     let same = ap (λ (s : SplitterState). length s.bytes) is in
-    let short_before : length old.bytes ≤ max = omega (arith, same, short, left.no_fewer) in
-    sym (header_lines_are max new.bytes new.ended short)
-    ∙ ap (λ s. header_lines_under [] (units max s.bytes s.ended)) is
-    ∙ ap (λ us. header_lines_under [] us) left.all
-    ∙ under-append [] (units max old.bytes old.ended) (units_left max mid)
-    ∙ ap (λ l. l ++ header_lines_under (set_units (units max old.bytes old.ended)) (units_left max mid)) (header_lines_are max old.bytes old.ended short_before)
-    ∙ ap (λ l. header_lines_so_far old.bytes old.ended ++ header_lines_under l (units_left max mid)) (sym h.sets_are)
-    ∙ ap (λ l. header_lines_so_far old.bytes old.ended ++ l) (sym lines)
-    ∙ ap (λ bs. header_lines_so_far bs old.ended ++ added) (sym bytes)
-    ∙ ap (λ e. header_lines_so_far before.bytes e ++ added) (sym ended)
+    rw (is, lines, h.sets_are)
+    (lines_behind max mid.bytes old.bytes mid.ended old.ended (units_left max mid)
+    (omega (arith, same, short)) (omega (arith, same, short, left.no_fewer)) left.all)
 
 pub header_lines_grow : UnitsStay → OnlyGrows header_lines_so_far
 header_lines_grow stay bytes more ended short =
-    let max = 2 ^ 64 in
-    let later = stay max bytes more ended in
-    let front : length bytes ≤ max = omega (arith, short, length-append bytes more) in
-    let all : length (bytes ++ more) ≤ max = omega (arith, short) in (
-      header_lines_under (set_units (units max bytes false)) later.0,
-      sym (header_lines_are max (bytes ++ more) ended all) ∙ ap (λ us. header_lines_under [] us) later.1
-          ∙ under-append [] (units max bytes false) later.0
-          ∙ ap (λ l. l ++ header_lines_under (set_units (units max bytes false)) later.0) (header_lines_are max bytes false front),
-    )
-
--- the line of a unit whose forbidden_zero_bit is 0
-abbrev line_by : Sets → Unit → Bool → Kind → Option (List ℕ) → List ℕ
-line_by sets u forbidden k read = line_of u.index (elim forbidden [ true ↦ Some (refused_text faults.ForbiddenBit) | false ↦ text_of sets u k read ])
-
-pub line_allowed : (sets : Sets) (u : Unit) (k : Kind) (read : Option (List ℕ)) → forbidden_zero_bit u.header ≡ false → k ≡ kind u → read ≡ rbsp_of u
-    → line_of u.index (text_of sets u k read) ≡ header_line sets u
-line_allowed sets u k read allowed is same = rw (is, same) (ap (λ x. line_by sets u x (kind u) (rbsp_of u)) (sym allowed))
-
-pub line_forbidden : (sets : Sets) (u : Unit) → forbidden_zero_bit u.header ≡ true → line_of u.index (Some (refused_text faults.ForbiddenBit)) ≡ header_line sets u
-line_forbidden sets u forbidden = ap (λ x. line_by sets u x (kind u) (rbsp_of u)) (sym forbidden)
+    let later = stay (2 ^ 64) bytes more ended in
+    (_, lines_behind (2 ^ 64) (bytes ++ more) bytes ended false later.0 (omega (arith, short)) (omega (arith, short, length-append bytes more)) later.1)
 
 -- the text of a slice's unit, by what its header reads as
 abbrev header_by : Sets → Unit → Option (List ℕ) → List ℕ
@@ -110,11 +80,6 @@ header_by sets u read = header_text sets (elim read [ None ↦ Err faults.NalToo
 pub header_read : (sets : Sets) (u : Unit) (bytes : List ℕ) (h : Header) → rbsp_of u ≡ Some bytes → Ok h ≡ header_in_rbsp u.header sets bytes
     → slice_text sets h ≡ header_text sets (slice_in sets u)
 header_read sets u bytes h read is =
-    ap (λ r. header_text sets (with_header u bytes r)) is ∙ ap (header_by sets u) (sym read)
-
-pub header_refused : (sets : Sets) (u : Unit) (bytes : List ℕ) (f : Fault) → rbsp_of u ≡ Some bytes → Err f ≡ header_in_rbsp u.header sets bytes
-    → refused_text f ≡ header_text sets (slice_in sets u)
-header_refused sets u bytes f read is =
     ap (λ r. header_text sets (with_header u bytes r)) is ∙ ap (header_by sets u) (sym read)
 
 -- a line of three parts, with a number in front and its end

@@ -74,9 +74,6 @@ pub front_before_start : (us : List Unit) → take_while goes_before us ≡ take
 front_before_start [] = refl
 front_before_start (u ∷ us) = rw (take_while-cons goes_before u us, by_flag us u (is_start u) refl) (grind (arith, front_before_start us))
 
-pub any_by : (us : List Unit) (u : Unit) (b : Bool) → is_start u ≡ b → list_any is_start (u ∷ us) ≡ cond b true (list_any is_start us)
-any_by us u b e = grind arith
-
 one_starts : (us : List Unit) → before_start us < length us → list_any is_start us ≡ true
 one_starts [] low = absurd (omega (arith, low))
 one_starts (u ∷ us) low = grind (arith, by_flag us u, one_starts us)

@@ -18,10 +18,6 @@ over_stays : (before : List Unit) (c : Unit) (after us : List Unit) → stage_af
 over_stays before c after [] = refl
 over_stays before c after (u ∷ us) = over_stays before c after us
 
--- the next units, by whether the first is a cut point
-abbrev writing_next : (starts : Bool) → (before : List Unit) (c : Unit) (after : List Unit) (u : Unit) → Stage
-writing_next starts before c after u = if starts then over before c after else writing before c (after ++ u ∷ [])
-
 abbrev waiting_next : (starts : Bool) → (left : ℕ) (before : List Unit) (u : Unit) → Stage
 waiting_next starts left before u = if starts then begun left before u else waiting left (before ++ u ∷ [])
 
@@ -173,19 +169,25 @@ grows (waiting left before) us ended = (text_of (stage_after (waiting left befor
 grows (writing before c a) us ended = grows_written before c a us ended
 grows (over before c a) us ended = ([], ap (λ s. text_of s ended) (over_stays before c a us) ∙ sym (append-nil (text_of (over before c a) false)))
 
+-- What units add that come to others comes behind what these brought.
+pub text_behind : (max number : ℕ) (bytes front : List ℕ) (ended front_ended : Bool) (more : List Unit) (added : List ℕ)
+    → length bytes ≤ max → length front ≤ max → front_ended ≡ false → units max bytes ended ≡ units max front front_ended ++ more
+    → text_of (stage_after (stage_at max number front front_ended) more) ended ≡ text_of (stage_at max number front front_ended) false ++ added
+    → piece_text number bytes ended ≡ piece_text number front front_ended ++ added
+text_behind max number bytes front ended front_ended more added short front_short going is adds =
+    ap bytes_of (numbered_is max number bytes ended short)
+    ∙ ap (λ us. text_of (stage_after (waiting number []) us) ended) is
+    ∙ ap (λ t. text_of t ended) (after-append (waiting number []) (units max front front_ended) more)
+    ∙ adds ∙ ap (λ e. text_of (stage_at max number front front_ended) e ++ added) (sym going)
+    ∙ ap (λ p. bytes_of p ++ added) (sym (numbered_is max number front front_ended front_short))
+
 pub piece_text_grows : UnitsStay → (number : ℕ) → OnlyGrows (piece_text number)
 piece_text_grows stay number bytes more ended short =
     let max = length (bytes ++ more) in
     let later = stay max bytes more ended in
-    let s = stage_at max number bytes false in
-    let rest = grows s later.0 ended in (
-      rest.0,
-      ap bytes_of (numbered_is max number (bytes ++ more) ended (omega arith))
-          ∙ ap (λ us. text_of (stage_after (waiting number []) us) ended) later.1
-          ∙ ap (λ t. text_of t ended) (after-append (waiting number []) (units max bytes false) later.0)
-          ∙ rest.1
-          ∙ ap (λ p. bytes_of p ++ rest.0) (sym (numbered_is max number bytes false (omega (arith, length-append bytes more)))),
-    )
+    let rest = grows (stage_at max number bytes false) later.0 ended in
+    let fits : length bytes ≤ max = omega (arith, length-append bytes more) in
+    (rest.0, text_behind max number (bytes ++ more) bytes ended false later.0 rest.0 (omega arith) fits refl later.1 rest.1)
 
 -- ---- laws of pieces
 

@@ -1,5 +1,5 @@
 -- One unit more is taken into a piece.
-use Rattle.std.proofs.Common.{◌≡◌, ◌+◌, ℕ, suc, Bool, true, false, not, List, [], ◌∷◌, ◌++◌, if◌then◌else◌, None, refl, ap, sym, subst, ◌∙◌, arith, append_assoc, append-nil, inl, inr, ◌⊎◌}
+use Rattle.std.proofs.Common.{◌≡◌, ◌+◌, ℕ, suc, Bool, true, false, not, List, [], ◌∷◌, ◌++◌, if◌then◌else◌, None, refl, ap, sym, subst, ◌∙◌, arith, append_assoc, append-nil, ◌⊎◌}
 use Rattle.avc_tools.proofs.Common.{flat_map-append, filter-append, replicate, filter, flat_map, written, Unit, is_pps, is_sps, pps_record}
 use Rattle.avc_tools.proofs.Common.{sps_record, is_start, set_unit, sets_in_force, AreReplaced, kept_bytes, after_slices, is_left_out}
 use Rattle.avc_tools.proofs.Common.{is_slice, leads, through_slices, Cutter, CutPhase}
@@ -60,8 +60,7 @@ waits_on (waiting left before) u b old new piece h is e passed phase sps pps hel
     subst (λ t. IsCutOn (waiting left before) t new piece piece)
     (sym (next_passed left new.left before u b e (subst (λ n. Passed n new.left b) h.holds.left_is passed)))
     (waited left before u b old new piece h.holds e passed phase sps pps held)
-waits_on (writing before c after) u b old new piece h is e passed phase sps pps held = let wrong : phases.Writing ≡ phases.Waiting = sym h.phase ∙ is in cc
-waits_on (over before c after) u b old new piece h is e passed phase sps pps held = let wrong : phases.Over ≡ phases.Waiting = sym h.phase ∙ is in cc
+waits_on _ u b old new piece h is e passed phase sps pps held = cc
 
 -- ---- the piece begins
 
@@ -93,8 +92,7 @@ begins (waiting left before) u old new piece more h is none e phase held stay ma
       defined = refl;
       written_on = made_is before here;
     })
-begins (writing before c after) u old new piece more h is none e phase held stay made_is = let wrong : phases.Writing ≡ phases.Waiting = sym h.phase ∙ is in cc
-begins (over before c after) u old new piece more h is none e phase held stay made_is = let wrong : phases.Over ≡ phases.Waiting = sym h.phase ∙ is in cc
+begins _ u old new piece more h is none e phase held stay made_is = cc
 
 -- ---- the piece goes on
 
@@ -109,8 +107,7 @@ ends_by (writing before c after) u old new piece more h is e phase added =
       defined = added_by_next before c after;
       written_on = added ∙ ap (λ t. piece ++ t) h.holds.stay;
     })
-ends_by (waiting left before) u old new piece more h is e phase added = let wrong : phases.Waiting ≡ phases.Writing = sym h.phase ∙ is in cc
-ends_by (over before c after) u old new piece more h is e phase added = let wrong : phases.Over ≡ phases.Writing = sym h.phase ∙ is in cc
+ends_by _ u old new piece more h is e phase added = cc
 
 pub goes_on_by_slice : (s : Stage) (u : Unit) (old new : Cutter) (piece one more : List ℕ) → StandsAt s old → old.phase ≡ phases.Writing → is_start u ≡ false → is_slice u ≡ true → new.phase ≡ phases.Writing
     → new.held.items ≡ [] → new.staying.items ≡ [] → one ≡ piece ++ old.held.items → more ≡ one ++ written u → IsCutOn s (next s u) new piece more
@@ -131,8 +128,7 @@ goes_on_by_slice (writing before c after) u old new piece one more h is e slice 
           ∙ ap (λ t. piece ++ (t ++ written u)) h.holds.all
           ∙ ap (λ t. piece ++ (flat_map written (after_slices after) ++ t)) (sym (append-nil (written u)));
     })
-goes_on_by_slice (waiting left before) u old new piece one more h is e slice phase held stay first second = let wrong : phases.Waiting ≡ phases.Writing = sym h.phase ∙ is in cc
-goes_on_by_slice (over before c after) u old new piece one more h is e slice phase held stay first second = let wrong : phases.Over ≡ phases.Writing = sym h.phase ∙ is in cc
+goes_on_by_slice _ u old new piece one more h is e slice phase held stay first second = cc
 
 pub goes_on : (s : Stage) (u : Unit) (old new : Cutter) (piece : List ℕ) → StandsAt s old → old.phase ≡ phases.Writing → is_start u ≡ false → is_slice u ≡ false → new.phase ≡ phases.Writing
     → new.held.items ≡ old.held.items ++ written u → new.staying.items ≡ old.staying.items ++ (if not (is_left_out u) then written u else []) → IsCutOn s (next s u) new piece piece
@@ -157,21 +153,18 @@ goes_on (writing before c after) u old new piece h is e slice phase held stay =
       defined = ap (made before c) (through_other after u slice) ∙ sym (append-nil (made before c (through_slices after)));
       written_on = sym (append-nil piece);
     })
-goes_on (waiting left before) u old new piece h is e slice phase held stay = let wrong : phases.Waiting ≡ phases.Writing = sym h.phase ∙ is in cc
-goes_on (over before c after) u old new piece h is e slice phase held stay = let wrong : phases.Over ≡ phases.Writing = sym h.phase ∙ is in cc
+goes_on _ u old new piece h is e slice phase held stay = cc
 
 -- ---- after it
 
 pub stays_as_it_is : (s : Stage) (u : Unit) (c : Cutter) (piece : List ℕ) → StandsAt s c → c.phase ≡ phases.Over → IsCutOn s (next s u) c piece piece
 stays_as_it_is (over before cut after) u c piece h is = record { stands = h; added = []; defined = sym (append-nil (text_of (over before cut after) false)); written_on = sym (append-nil piece) }
-stays_as_it_is (waiting left before) u c piece h is = let wrong : phases.Waiting ≡ phases.Over = sym h.phase ∙ is in cc
-stays_as_it_is (writing before cut after) u c piece h is = let wrong : phases.Writing ≡ phases.Over = sym h.phase ∙ is in cc
+stays_as_it_is _ u c piece h is = cc
 
 -- ---- the end
 
 no_writing : (x : CutPhase) → x ≡ phases.Writing → (x ≡ phases.Waiting) ⊎ (x ≡ phases.Over) → ⊥
-no_writing x e (inl f) = let wrong : phases.Writing ≡ phases.Waiting = sym e ∙ f in cc
-no_writing x e (inr f) = let wrong : phases.Writing ≡ phases.Over = sym e ∙ f in cc
+no_writing x e h = grind arith
 
 pub nothing_held : (s : Stage) (c : Cutter) (piece : List ℕ) → StandsAt s c → (c.phase ≡ phases.Waiting) ⊎ (c.phase ≡ phases.Over) → IsCutOff s piece piece
 nothing_held (waiting left before) c piece h w = record { added = []; defined = refl; written_on = sym (append-nil piece) }
@@ -184,5 +177,4 @@ held_written (writing before cut after) c piece more h is added = record {
   defined = added_at_end before cut after;
   written_on = added ∙ ap (λ t. piece ++ t) h.holds.all;
 }
-held_written (waiting left before) c piece more h is added = let wrong : phases.Waiting ≡ phases.Writing = sym h.phase ∙ is in cc
-held_written (over before cut after) c piece more h is added = let wrong : phases.Over ≡ phases.Writing = sym h.phase ∙ is in cc
+held_written _ c piece more h is added = cc

@@ -1,10 +1,12 @@
 -- The names that the proofs cite of std, of the crates below and of the definitions here, passed on from one place. Declares nothing.
 pub use Rattle.std.proofs.Common.{◌≡◌, ◌==◌, ◌<◌, ℕ, Bool, true, false, cond, if◌then◌else◌, List, [], ◌∷◌, ◌++◌, Option, Some, None}
 pub use Rattle.std.proofs.Common.{is_some, Result, Ok, Err, IsTrue, All, filter, refl, ap, sym, ◌∙◌, arith, ◌&&◌, IfOk, ◌||◌, ◌+◌, ◌≤◌}
-pub use Rattle.std.proofs.Common.{zero, suc, slice_get, append_assoc, length, length-append, OnErr}
+pub use Rattle.std.proofs.Common.{zero, suc, slice_get, append_assoc, append-nil, length, length-append, map, nat_le, nat_lt, OnErr}
 pub use Rattle.std.proofs.lemmas.Bool.{eq-eqb, eqb-true}
-pub use Rattle.std.proofs.lemmas.List.Elements.{All-append, All-cons, All-nil, filter-append}
+pub use Rattle.std.proofs.lemmas.Bool.Decides.{nat_tests}
+pub use Rattle.std.proofs.lemmas.List.Elements.{All-append, All-cons, All-filter, All-head, All-nil, All-tail, All-weaker, filter-append, filter_passes}
 pub use Rattle.std.specs.List.{flat_map, range_with_len}
+pub use Rattle.std.specs.Option.{option_map}
 pub use Rattle.avc_annexb.specs.Units.{forbidden_zero_bit, nal_unit_type}
 pub use Rattle.avc_annexb.specs.declared.unit.Unit.{Unit}
 pub use Rattle.avc_params.specs.Reading.{pps_id, pps_of, sps_id, sps_of}

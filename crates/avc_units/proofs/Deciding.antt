@@ -1,64 +1,63 @@
 -- The unit that decides which parameter set of an id is in force.
-use Rattle.avc_units.proofs.Common.{◌≡◌, ◌==◌, ◌||◌, ◌+◌, ◌<◌, ◌≤◌, ℕ, zero, suc, Bool, true, false, cond, List, [], ◌∷◌, ◌++◌, Option}
-use Rattle.avc_units.proofs.Common.{Some, None, filter, slice_get, refl, ap, sym, ◌∙◌, append_assoc, arith, eq-eqb, filter-append, flat_map}
+use Rattle.avc_units.proofs.Common.{◌≡◌, ◌+◌, ◌<◌, ◌≤◌, ℕ, zero, suc, Bool, true, false, cond, List, [], ◌∷◌, ◌++◌, map, Option, All}
+use Rattle.avc_units.proofs.Common.{Some, None, filter, refl, ap, sym, ◌∙◌, append_assoc, append-nil, arith, filter-append, filter_passes, flat_map}
+use Rattle.avc_units.proofs.Common.{option_map, All-head, All-tail, All-nil, All-append, All-weaker, length, nat_le, nat_lt, ◌&&◌, nat_tests}
 use Rattle.avc_units.proofs.Common.{range_with_len, Unit, last, SetUnit, list_of, set_unit, set_units, deciding_unit, satisfies, unit_list}
 
 -- ---- the last of a list
 
--- the last of two lists, by the last of each
-abbrev pub later : {A : Type 0} → Option A → Option A → Option A
-later old None = old
-later old (Some x) = Some x
+pub last-map : {X Y : Type 0} (f : X → Y) (xs : List X) → last (map f xs) ≡ option_map f (last xs)
+last-map f [] = refl
+last-map f (x ∷ []) = refl
+last-map f (x ∷ y ∷ xs) = last-map f (y ∷ xs)
 
-pub later-none : {A : Type 0} (o : Option A) → later None o ≡ o
-later-none None = refl
-later-none (Some x) = refl
+pub last_behind : {A : Type 0} (xs : List A) (z : A) (zs : List A) → last (xs ++ z ∷ zs) ≡ last (z ∷ zs)
+last_behind [] z zs = refl
+last_behind (x ∷ []) z zs = refl
+last_behind (x ∷ y ∷ xs) z zs = last_behind (y ∷ xs) z zs
 
-later-assoc : {A : Type 0} (o p q : Option A) → later o (later p q) ≡ later (later o p) q
-later-assoc o p None = refl
-later-assoc o p (Some x) = refl
+pub last_of_list : (o : Option Unit) → last (unit_list o) ≡ o
+last_of_list None = refl
+last_of_list (Some u) = refl
 
-later-some : {A : Type 0} (x y : A) (o : Option A) → later (Some y) o ≡ later (Some x) (later (Some y) o)
-later-some x y None = refl
-later-some x y (Some z) = refl
+pub all_last : (P : Unit → Type 0) (us : List Unit) → All P us → All P (unit_list (last us))
+all_last P [] h = All-nil P
+all_last P (u ∷ []) h = h
+all_last P (u ∷ v ∷ us) h = all_last P (v ∷ us) (All-tail P u (v ∷ us) h)
 
-last-cons : {A : Type 0} (x : A) (xs : List A) → last (x ∷ xs) ≡ later (Some x) (last xs)
-last-cons x [] = refl
-last-cons x (y ∷ ys) = last-cons y ys ∙ later-some x y (last ys) ∙ ap (later (Some x)) (sym (last-cons y ys))
+-- ---- lists that are filtered
 
-last-append : {A : Type 0} (xs ys : List A) → last (xs ++ ys) ≡ later (last xs) (last ys)
-last-append [] ys = sym (later-none (last ys))
-last-append (x ∷ xs) ys =
-    last-cons x (xs ++ ys)
-    ∙ ap (later (Some x)) (last-append xs ys)
-    ∙ later-assoc (Some x) (last xs) (last ys)
-    ∙ ap (λ o. later o (last ys)) (sym (last-cons x xs))
+-- all pass, or none
+filtered : {A : Type 0} (p : A → Bool) (b : Bool) (xs : List A) → All (λ x. p x ≡ b) xs → filter p xs ≡ cond b xs []
+filtered p b [] h = grind arith
+filtered p b (x ∷ xs) h =
+    let here = All-head (λ y. p y ≡ b) x xs h in
+    let others = filtered p b xs (All-tail (λ y. p y ≡ b) x xs h) in
+    grind (arith, here, others)
 
-pub last_of_both : {A : Type 0} (test : A → Bool) (xs ys : List A) → last (filter test (xs ++ ys)) ≡ later (last (filter test xs)) (last (filter test ys))
-last_of_both test xs ys = ap last (filter-append test xs ys) ∙ last-append (filter test xs) (filter test ys)
+pub filter-flat_map : {N A : Type 0} (p : A → Bool) (f : N → List A) (ns : List N) → filter p (flat_map f ns) ≡ flat_map (λ n. filter p (f n)) ns
+filter-flat_map p f [] = refl
+filter-flat_map p f (n ∷ ns) = filter-append p (f n) (flat_map f ns) ∙ ap (λ t. filter p (f n) ++ t) (filter-flat_map p f ns)
 
--- ---- the last that passes stands in the list
+pub flat_map_none : {N A : Type 0} (f : N → List A) (ns : List N) → ((n : N) → f n ≡ []) → flat_map f ns ≡ []
+flat_map_none f [] none = refl
+flat_map_none f (n ∷ ns) none = rw (none n) (flat_map_none f ns none)
 
-pub record IsFound (test : Unit → Bool) (us : List Unit) (u : Unit) : Type 0 where
-  pub place : ℕ
-  pub is_there : slice_get us place ≡ Some u
-  pub passes : test u ≡ true
+pub all_flat : {N A : Type 0} (P : A → Type 0) (f : N → List A) (ns : List N) → ((n : N) → All P (f n)) → All P (flat_map f ns)
+all_flat P f [] each = All-nil P
+all_flat P f (n ∷ ns) each = All-append P (f n) (flat_map f ns) (each n) (all_flat P f ns each)
 
-found_here : (test : Unit → Bool) (v : Unit) (us : List Unit) (u : Unit) (o : Option Unit) → test v ≡ true → later (Some v) o ≡ Some u
-    → (o ≡ Some u → IsFound test us u) → IsFound test (v ∷ us) u
-found_here test v us u None passes is rest =
-    let same : v ≡ u = cc in
-    record { place = 0; is_there = ap Some same; passes = ap test (sym same) ∙ passes }
-found_here test v us u (Some w) passes is rest = let f = rest is in record { place = suc f.place; is_there = f.is_there; passes = f.passes }
+-- Of a range of numbers only one has items.
+module _ {A : Type 0} (f : ℕ → List A) (one : ℕ) (none : (n : ℕ) → (n ≡ one → ⊥) → f n ≡ []) where
+  in_range : (first count : ℕ) → flat_map f (range_with_len first count) ≡ cond (nat_le first one && nat_lt one (first + count)) (f one) []
+  in_range first zero = grind (arith, nat_tests)
+  in_range first (suc count) = grind (arith, nat_tests, append-nil, none first, in_range (first + 1) count)
 
-found_by : (test : Unit → Bool) (v : Unit) (us : List Unit) (u : Unit) (hit : Bool) → test v ≡ hit
-    → last (cond hit (v ∷ filter test us) (filter test us)) ≡ Some u → (last (filter test us) ≡ Some u → IsFound test us u) → IsFound test (v ∷ us) u
-found_by test v us u true passes is rest = found_here test v us u (last (filter test us)) passes (sym (last-cons v (filter test us)) ∙ is) rest
-found_by test v us u false misses is rest = let f = rest is in record { place = suc f.place; is_there = f.is_there; passes = f.passes }
+  pub only_one : (count : ℕ) → (count ≤ one → f one ≡ []) → flat_map f (range_with_len 0 count) ≡ f one
+  only_one count past = grind (arith, nat_tests, in_range 0 count)
 
-pub found : (test : Unit → Bool) (us : List Unit) (u : Unit) → last (filter test us) ≡ Some u → IsFound test us u
-found test [] u is = cc
-found test (v ∷ us) u is = found_by test v us u (test v) refl is (found test us u)
+  pub no_more_than_one : (count : ℕ) → length (flat_map f (range_with_len 0 count)) ≤ length (f one)
+  no_more_than_one count = grind (arith, in_range 0 count)
 
 -- ---- the unit that decides
 
@@ -73,15 +72,6 @@ abbrev pub set_in : Option Unit → Option SetUnit
 set_in (Some u) = set_unit u
 set_in None = None
 
-pub record IsBrought (test : SetUnit → Bool) (o : Option SetUnit) : Type 0 where
-  pub set : SetUnit
-  pub is : o ≡ Some set
-  pub passes : test set ≡ true
-
-pub brought : (test : SetUnit → Bool) (o : Option SetUnit) → satisfies test o ≡ true → IsBrought test o
-brought test None is = cc
-brought test (Some s) is = record { set = s; is = refl; passes = is }
-
 pub set_units-append : (us vs : List Unit) → set_units (us ++ vs) ≡ set_units us ++ set_units vs
 set_units-append [] vs = refl
 set_units-append (u ∷ us) vs =
@@ -92,119 +82,47 @@ set_units-append (u ∷ us) vs =
 pub sets_then : (sets : List SetUnit) (u : Unit) (us : List Unit) → (sets ++ set_units (u ∷ [])) ++ set_units us ≡ sets ++ set_units (u ∷ us)
 sets_then sets u us = append_assoc sets (set_units (u ∷ [])) (set_units us) ∙ ap (λ l. sets ++ l) (sym (set_units-append (u ∷ []) us))
 
-pub decides-append : (test : SetUnit → Bool) (us vs : List Unit) → decides test (us ++ vs) ≡ later (decides test us) (decides test vs)
-decides-append test us vs = ap (λ l. last (filter test l)) (set_units-append us vs) ∙ last_of_both test (set_units us) (set_units vs)
+first_set : (test : SetUnit → Bool) (u : Unit) (o : Option SetUnit) (sets : List SetUnit) (us : List Unit) → set_unit u ≡ o → map Some (filter test sets) ≡ map set_unit us
+    → map Some (filter test (list_of o ++ sets)) ≡ map set_unit (cond (satisfies test o) (u ∷ us) us)
+first_set test u o sets us is others = grind arith
 
--- what one set decides
-abbrev decided_by : (SetUnit → Bool) → Option SetUnit → Option SetUnit
-decided_by test o = last (filter test (list_of o ++ []))
+-- The sets that pass are those of the units that bring one that passes.
+passing_sets : (test : SetUnit → Bool) (us : List Unit) → map Some (filter test (set_units us)) ≡ map set_unit (filter (brings test) us)
+passing_sets test [] = refl
+passing_sets test (u ∷ us) = first_set test u (set_unit u) (set_units us) (filter (brings test) us) refl (passing_sets test us)
 
-decided_by-passing : (test : SetUnit → Bool) (o : Option SetUnit) → satisfies test o ≡ true → decided_by test o ≡ o
-decided_by-passing test None is = refl
-decided_by-passing test (Some s) is = rw is refl
-
-decided_by-missing : (test : SetUnit → Bool) (o : Option SetUnit) → satisfies test o ≡ false → decided_by test o ≡ None
-decided_by-missing test None is = refl
-decided_by-missing test (Some s) is = rw is refl
-
-chosen_here : (test : SetUnit → Bool) (u : Unit) (us : List Unit) (o : Option Unit) → last (filter (brings test) us) ≡ o
-    → later (set_unit u) (set_in o) ≡ set_in (later (Some u) o)
-chosen_here test u us None is = refl
-chosen_here test u us (Some v) is =
-    let b = brought test (set_unit v) (found (brings test) us v is).passes in
-    ap (later (set_unit u)) b.is ∙ sym b.is
-
-chosen_by : (test : SetUnit → Bool) (u : Unit) (us : List Unit) (hit : Bool) → brings test u ≡ hit
-    → later (decided_by test (set_unit u)) (set_in (last (filter (brings test) us)))
-    ≡ set_in (last (cond hit (u ∷ filter (brings test) us) (filter (brings test) us)))
-chosen_by test u us true is =
-    ap (λ o. later o (set_in (last (filter (brings test) us)))) (decided_by-passing test (set_unit u) is)
-    ∙ chosen_here test u us (last (filter (brings test) us)) refl
-    ∙ ap set_in (sym (last-cons u (filter (brings test) us)))
-chosen_by test u us false is =
-    ap (λ o. later o (set_in (last (filter (brings test) us)))) (decided_by-missing test (set_unit u) is)
-    ∙ later-none (set_in (last (filter (brings test) us)))
+one_set : (set : Option SetUnit) (o : Option Unit) → option_map Some set ≡ option_map set_unit o → set ≡ set_in o
+one_set set o is = grind arith
 
 -- The set that decides is that of the last unit which brings one that passes.
 pub chosen : (test : SetUnit → Bool) (us : List Unit) → decides test us ≡ set_in (last (filter (brings test) us))
-chosen test [] = refl
-chosen test (u ∷ us) =
-    decides-append test (u ∷ []) us
-    ∙ ap (later (decides test (u ∷ []))) (chosen test us)
-    ∙ chosen_by test u us (brings test u) refl
+chosen test us =
+    one_set (decides test us) (last (filter (brings test) us))
+    (sym (last-map Some (filter test (set_units us))) ∙ ap last (passing_sets test us) ∙ last-map set_unit (filter (brings test) us))
 
--- ---- that unit alone
+-- What holds of all units that bring a set that passes holds of the one that decides.
+pub all_deciding : (P : Unit → Type 0) (in_force : Bool) (test : SetUnit → Bool) (us : List Unit) → All P (filter (brings test) us)
+    → All P (deciding_unit in_force test us)
+all_deciding P true test us h = all_last P (filter (brings test) us) h
+all_deciding P false test us h = All-nil P
 
-hit_by : (test : SetUnit → Bool) (us : List Unit) (o : Option Unit) → last (filter (brings test) us) ≡ o → decides test (unit_list o) ≡ set_in o
-hit_by test us None is = refl
-hit_by test us (Some u) is = decided_by-passing test (set_unit u) (found (brings test) us u is).passes
+deciding_brings : (in_force : Bool) (test : SetUnit → Bool) (us : List Unit) → All (λ u. brings test u ≡ true) (deciding_unit in_force test us)
+deciding_brings in_force test us = all_deciding (λ u. brings test u ≡ true) in_force test us (filter_passes (brings test) us)
 
--- It decides alone as it did among the others, where its set was accepted.
-pub decides-again : (test : SetUnit → Bool) (in_force : Bool) (us : List Unit)
-    → decides test (deciding_unit in_force test us) ≡ cond in_force (decides test us) None
-decides-again test true us = hit_by test us (last (filter (brings test) us)) refl ∙ sym (chosen test us)
-decides-again test false us = refl
+pub own_unit : (in_force : Bool) (test : SetUnit → Bool) (us : List Unit) → filter (brings test) (deciding_unit in_force test us) ≡ deciding_unit in_force test us
+own_unit in_force test us = filtered (brings test) true (deciding_unit in_force test us) (deciding_brings in_force test us)
 
 -- no set passes both tests
 abbrev pub AreApart : (test other : SetUnit → Bool) → Type 0
 AreApart test other = (s : SetUnit) → other s ≡ true → test s ≡ false
 
-miss_by : (test other : SetUnit → Bool) → AreApart test other → (us : List Unit) (o : Option Unit) → last (filter (brings other) us) ≡ o
-    → decides test (unit_list o) ≡ None
-miss_by test other apart us None is = refl
-miss_by test other apart us (Some u) is =
-    let b = brought other (set_unit u) (found (brings other) us u is).passes in
-    decided_by-missing test (set_unit u) (ap (satisfies test) b.is ∙ apart b.set b.passes)
+missing : (test other : SetUnit → Bool) → AreApart test other → (o : Option SetUnit) → satisfies other o ≡ true → satisfies test o ≡ false
+missing test other apart None passes = refl
+missing test other apart (Some s) passes = apart s passes
 
--- It does not decide for another id, nor for the other kind of set.
-pub decides-other : (test other : SetUnit → Bool) → AreApart test other → (in_force : Bool) (us : List Unit)
-    → decides test (deciding_unit in_force other us) ≡ None
-decides-other test other apart true us = miss_by test other apart us (last (filter (brings other) us)) refl
-decides-other test other apart false us = refl
-
--- ---- the units of some ids
-
-abbrev pub is_among : ℕ → List ℕ → Bool
-is_among id [] = false
-is_among id (j ∷ js) = (j == id) || is_among id js
-
-one_or_other : {A : Type 0} (first others : Bool) (o : Option A) → later (cond first o None) (cond others o None) ≡ cond (first || others) o None
-one_or_other true true None = refl
-one_or_other true true (Some x) = refl
-one_or_other true false o = refl
-one_or_other false true o = later-none o
-one_or_other false false o = refl
-
-pub decides-of_each : (test : SetUnit → Bool) (units_of : ℕ → List Unit) (id : ℕ) (set : Option SetUnit) (ids : List ℕ)
-    → ((j : ℕ) → decides test (units_of j) ≡ cond (j == id) set None)
-    → decides test (flat_map units_of ids) ≡ cond (is_among id ids) set None
-decides-of_each test units_of id set [] each = refl
-decides-of_each test units_of id set (j ∷ js) each =
-    decides-append test (units_of j) (flat_map units_of js)
-    ∙ ap (λ o. later o (decides test (flat_map units_of js))) (each j)
-    ∙ ap (later (cond (j == id) set None)) (decides-of_each test units_of id set js each)
-    ∙ one_or_other (j == id) (is_among id js) set
-
-pub decides-of_none : (test : SetUnit → Bool) (units_of : ℕ → List Unit) (ids : List ℕ) → ((j : ℕ) → decides test (units_of j) ≡ None)
-    → decides test (flat_map units_of ids) ≡ None
-decides-of_none test units_of [] each = refl
-decides-of_none test units_of (j ∷ js) each =
-    decides-append test (units_of j) (flat_map units_of js)
-    ∙ ap (λ o. later o (decides test (flat_map units_of js))) (each j)
-    ∙ ap (later None) (decides-of_none test units_of js each)
-
-among_next : (id first : ℕ) (others here : Bool) → (first == id) ≡ here → first ≤ id → (first + 1 ≤ id → others ≡ true) → (here || others) ≡ true
-among_next id first others true is low rest = refl
-among_next id first others false is low rest = rest (omega (arith, low, differ))
-  where
-    differ : first ≡ id → ⊥
-    differ same = let yes = eq-eqb first id same in cc
-
-among_range : (id first count : ℕ) → first ≤ id → id < first + count → is_among id (range_with_len first count) ≡ true
-among_range id first zero low high = absurd (omega (arith, low, high))
-among_range id first (suc count) low high =
-    among_next id first (is_among id (range_with_len (first + 1) count)) (first == id) refl low
-    (λ next. among_range id (first + 1) count next (omega (arith, high)))
-
-pub among_first : (id count : ℕ) → id < count → is_among id (range_with_len 0 count) ≡ true
-among_first id count low = among_range id 0 count (omega arith) (omega (arith, low))
+-- It brings none for another id, nor of the other kind.
+pub other_unit : (test other : SetUnit → Bool) → AreApart test other → (in_force : Bool) (us : List Unit)
+    → filter (brings test) (deciding_unit in_force other us) ≡ []
+other_unit test other apart in_force us =
+    filtered (brings test) false (deciding_unit in_force other us)
+    (All-weaker (λ u. brings other u ≡ true) (λ u. brings test u ≡ false) (λ u. missing test other apart (set_unit u)) _ (deciding_brings in_force other us))

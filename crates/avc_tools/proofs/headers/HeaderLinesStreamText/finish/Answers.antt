@@ -1,4 +1,4 @@
-use Rattle.avc_tools.proofs.Common.{ap, sym, ◌∙◌, arith, max_unit}
+use Rattle.avc_tools.proofs.Common.{ap, ◌∙◌, arith, max_unit}
 use Rattle.avc_tools.proofs.Growing.{left_by_finish}
 use Rattle.avc_tools.proofs.Shown.{header_lines_added, shown_again}
 use Rattle.avc_tools.proofs.headers.HeaderLinesStreamText.finish.Goals as goal
@@ -13,7 +13,6 @@ pub returns-clause-added : goal.returns-clause-added
 returns-clause-added c =
     let shown = c.self.invariant c.if-self.false in
     let left = left_by_finish c.units_stay.ensures max_unit _ _ shown.drained c.in_ok-finish.ensures.ok in
-    λ short.
-    header_lines_added max_unit _ _ _ c.args.self.now _ _ shown left c.in_ok-lines.ensures.taken
-    (ap (λ v. v.bytes) (sym c.self.view_is)) (ap (λ v. v.ended) (sym c.self.view_is)) (ap (λ v. v.items) c.into_bytes.ensures.value ∙ c.in_ok-lines.ensures.text)
-    (omega (arith, short))
+    rw (← c.self.view_is)
+    (λ short. header_lines_added max_unit _ _ _ _ _ shown left c.in_ok-lines.ensures.taken
+    (ap (λ v. v.items) c.into_bytes.ensures.value ∙ c.in_ok-lines.ensures.text) (omega (arith, short)))

@@ -1,7 +1,6 @@
-use Rattle.avc_tools.proofs.Common.{◌≡◌, ◌++◌, [], ap, sym, subst, ◌∙◌, arith, append-nil, max_unit, PieceSoFar, piece_text}
-use Rattle.avc_tools.specs.Stages.{stage_of}
+use Rattle.avc_tools.proofs.Common.{◌++◌, ap, sym, ◌∙◌, arith, append-nil, max_unit, piece_text}
 use Rattle.avc_tools.proofs.Growing.{left_by_feed}
-use Rattle.avc_tools.proofs.PieceTexts.{cutting_again, feed_keeps_end, no_more_at, stays_by_piece, text_added}
+use Rattle.avc_tools.proofs.PieceTexts.{cutting_again, feed_keeps_end, stays_by_piece, text_fed}
 use Rattle.avc_tools.proofs.piece_text.PieceTextStreamText.feed.Goals as goal
 
 pub invariant_of-self-2 : goal.invariant_of-self-2
@@ -17,20 +16,14 @@ returns-clause-added c =
     let h = c.self.invariant c.if-self.false in
     let fed = c.in_ok-feed.ensures.ok in
     let left = left_by_feed c.units_stay.ensures max_unit _ _ c.args.piece.now h.drained fed in
-    let new = c.cut_units_left.new.splitter in
-    let before = c.args.self.now.stream in
-    let added = c.in_ok-added.added.items in
-    λ short.
-    subst (λ n. piece_text n new.bytes new.ended ≡ piece_text n before.bytes before.ended ++ added) (ap (λ (v : PieceSoFar). v.number) c.self.view_is)
-    (text_added max_unit c.self.inside.number _ _ _ before _ _ _ added [] added h c.if-self-2.false left c.in_ok-added.ensures.taken
-    (ap (λ (v : PieceSoFar). v.stream.bytes) (sym c.self.view_is)) (ap (λ (v : PieceSoFar). v.stream.ended) (sym c.self.view_is)) c.in_ok-added.ensures.piece
-    (no_more_at (stage_of max_unit c.self.inside.number new) new.ended (ap (λ s. s.ended) c.in_ok-added.ensures.taken ∙ sym (feed_keeps_end _ _ c.args.piece.now fed) ∙ sym h.end_is ∙ c.if-self-2.false))
-    (sym (append-nil added)) (omega (arith, short)))
+    rw (← c.self.view_is)
+    (λ short. text_fed max_unit c.self.inside.number _ _ _ _ _ _ c.in_ok-added.added.items h c.if-self-2.false left c.in_ok-added.ensures.taken
+    (sym (feed_keeps_end _ _ c.args.piece.now fed) ∙ sym h.end_is ∙ c.if-self-2.false) c.in_ok-added.ensures.piece (omega (arith, short)))
 
 pub returns-then-self-2-clause-so_far : goal.returns-then-self-2-clause-so_far
 returns-then-self-2-clause-so_far c =
     let h = c.self.invariant c.if-self.false in
-    stays_by_piece c.args.self.now.stream c.args.piece.now (ap (λ (v : PieceSoFar). v.stream.ended) (sym c.self.view_is) ∙ sym h.end_is ∙ c.if-self-2.true)
+    rw (← c.self.view_is) (stays_by_piece _ c.args.piece.now (sym h.end_is ∙ c.if-self-2.true))
 
 pub returns-then-self-2-clause-added : goal.returns-then-self-2-clause-added
 returns-then-self-2-clause-added c =

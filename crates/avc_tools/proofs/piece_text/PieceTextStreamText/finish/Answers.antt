@@ -1,4 +1,4 @@
-use Rattle.avc_tools.proofs.Common.{◌≡◌, ◌++◌, true, ap, sym, subst, ◌∙◌, arith, append-nil, max_unit, PieceSoFar, piece_text}
+use Rattle.avc_tools.proofs.Common.{◌++◌, true, ap, sym, ◌∙◌, arith, append-nil, max_unit, piece_text}
 use Rattle.avc_tools.proofs.Growing.{left_by_finish}
 use Rattle.avc_tools.proofs.PieceTexts.{cutting_again, stays_by_end, text_ended}
 use Rattle.avc_tools.proofs.piece_text.PieceTextStreamText.finish.Goals as goal
@@ -15,19 +15,14 @@ pub returns-clause-added : goal.returns-clause-added
 returns-clause-added c =
     let h = c.self.invariant c.if-self.false in
     let left = left_by_finish c.units_stay.ensures max_unit _ _ h.drained c.in_ok-finish.ensures.ok in
-    let new = c.cut_units_left.new.splitter in
-    let before = c.args.self.now.stream in
-    let added = c.write_held.new.piece.items in
-    λ short.
-    subst (λ n. piece_text n new.bytes new.ended ≡ piece_text n before.bytes before.ended ++ added) (ap (λ (v : PieceSoFar). v.number) c.self.view_is)
-    (text_ended max_unit c.self.inside.number _ _ _ before _ _ _ c.in_ok-added.added.items added h c.if-self-2.false left c.in_ok-added.ensures.taken
-    (ap (λ (v : PieceSoFar). v.stream.bytes) (sym c.self.view_is)) (ap (λ (v : PieceSoFar). v.stream.ended) (sym c.self.view_is))
-    (ap (λ s. s.ended) c.in_ok-finish.ensures.ok) c.in_ok-added.ensures.piece c.in_ok-write_held.ensures (omega (arith, short)))
+    rw (← c.self.view_is)
+    (λ short. text_ended max_unit c.self.inside.number _ _ _ _ _ _ c.in_ok-added.added.items c.write_held.new.piece.items h c.if-self-2.false left
+    c.in_ok-added.ensures.taken (ap (λ s. s.ended) c.in_ok-finish.ensures.ok) c.in_ok-added.ensures.piece c.in_ok-write_held.ensures (omega (arith, short)))
 
 pub returns-then-self-2-clause-so_far : goal.returns-then-self-2-clause-so_far
 returns-then-self-2-clause-so_far c =
     let h = c.self.invariant c.if-self.false in
-    stays_by_end c.args.self.now.stream (ap (λ (v : PieceSoFar). v.stream.ended) (sym c.self.view_is) ∙ sym h.end_is ∙ c.if-self-2.true)
+    rw (← c.self.view_is) (stays_by_end _ (sym h.end_is ∙ c.if-self-2.true))
 
 pub returns-then-self-2-clause-added : goal.returns-then-self-2-clause-added
 returns-then-self-2-clause-added c =

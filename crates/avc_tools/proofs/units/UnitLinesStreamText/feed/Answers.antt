@@ -1,4 +1,4 @@
-use Rattle.std.proofs.Common.{ap, sym, ◌∙◌}
+use Rattle.std.proofs.Common.{ap, ◌∙◌}
 use Rattle.avc_tools.proofs.Growing.{drained, left_by_feed, unit_lines_added}
 use Rattle.avc_tools.proofs.units.UnitLinesStreamText.feed.Goals as goal
 
@@ -10,6 +10,5 @@ invariant_of-self-2 c =
 pub returns-clause-added : goal.returns-clause-added
 returns-clause-added c =
     let left = left_by_feed c.units_stay.ensures 1 _ _ c.args.piece.now (c.self.invariant c.if-self.false) c.in_ok-feed.ensures.ok in
-    λ _.
-    unit_lines_added _ _ _ c.args.self.now _ left c.in_ok-lines.ensures.taken
-    (ap (λ v. v.bytes) (sym c.self.view_is)) (ap (λ v. v.ended) (sym c.self.view_is)) (ap (λ v. v.items) c.into_bytes.ensures.value ∙ c.in_ok-lines.ensures.text)
+    rw (← c.self.view_is)
+    (λ _. unit_lines_added _ _ _ _ left c.in_ok-lines.ensures.taken (ap (λ v. v.items) c.into_bytes.ensures.value ∙ c.in_ok-lines.ensures.text))
