@@ -1,6 +1,6 @@
 -- What a change of frames makes of the reference frames among them.
 use Rattle.avc_marking.proofs.Common.{filter, refill, ◌≡◌, ℕ, zero, suc, ◌+◌, ◌<◌, Bool, true, false, not, cond, ◌&&◌, List, [], ◌∷◌, ◌++◌}
-use Rattle.avc_marking.proofs.Common.{length, take, map, refl, sym, ap, ◌∙◌, arith, slice_index, slice_index_or, slice_set, is_some, ◌==◌}
+use Rattle.avc_marking.proofs.Common.{length, map, refl, sym, ap, ◌∙◌, arith, slice_index, slice_index_or, slice_set, is_some, ◌==◌}
 use Rattle.avc_marking.proofs.Common.{if◌then◌else◌, drop_all, take_all, append-nil, AllPairs-from_increasing, nat_tests, MarkedFrame}
 use Rattle.avc_marking.proofs.Common.{Reference, StandAt, reference_of, references_at, reference_at, no_frame, unmarked, unmarked_if}
 use Rattle.std.specs.List.Sorted.{IsStrictlyIncreasing}
@@ -26,13 +26,7 @@ pub references-append : (es : List ℕ) (fs : List MarkedFrame) (e : ℕ) (f : M
 references-append [] [] e f same = refl
 references-append [] (g ∷ fs) e f same = absurd (omega (arith, same))
 references-append (d ∷ es) [] e f same = absurd (omega (arith, same))
-references-append (d ∷ es) (g ∷ fs) e f same = by_mark (is_some g.mark) (references-append es fs e f (omega (arith, same)))
-  where
-    by_mark : (b : Bool) → references_at (es ++ e ∷ []) (fs ++ f ∷ []) ≡ references_at es fs ++ references_at (e ∷ []) (f ∷ []) →
-        elim b [ true ↦ reference_of d g ∷ references_at (es ++ e ∷ []) (fs ++ f ∷ []) | false ↦ references_at (es ++ e ∷ []) (fs ++ f ∷ []) ]
-        ≡ elim b [ true ↦ reference_of d g ∷ references_at es fs | false ↦ references_at es fs ] ++ references_at (e ∷ []) (f ∷ [])
-    by_mark true h = ap (λ rs. reference_of d g ∷ rs) h
-    by_mark false h = h
+references-append (d ∷ es) (g ∷ fs) e f same = grind (arith, (references-append es fs e f (omega (arith, same))))
 
 -- ---- frames become unused
 
@@ -156,15 +150,11 @@ references-changed change (e ∷ es) (f ∷ fs) (suc p) g stand within marked sa
 -- ---- frames that are changed through a slice of them: `zs` is the slice as it was, `ws` as it was left
 
 pub refilled : {A : Type 0} (xs ws : List A) → length ws ≡ length xs → refill (length xs) xs ws ≡ ws
-refilled xs ws same =
-    ap (λ rest. take (length xs) (ws ++ rest)) (drop_all (length ws) xs (omega arith)) ∙ ap (take (length xs)) (append-nil ws) ∙ take_all (length xs) ws (omega arith)
+refilled xs ws same = grind (arith, drop_all, append-nil, take_all)
 
 pub stand_as : (es : List ℕ) (xs zs : List MarkedFrame) → zs ≡ xs → StandAt es xs → StandAt es zs
 stand_as es xs zs same stand = record { each = omega (arith, stand.each, ap length same); rising = stand.rising }
 
 pub references-added : (es : List ℕ) (own : ℕ) (xs zs ws new : List MarkedFrame) (f : MarkedFrame) → zs ≡ xs → length ws ≡ length zs → length es ≡ length xs →
     new ≡ refill (length xs) xs ws ++ f ∷ [] → references_at (es ++ own ∷ []) new ≡ references_at es ws ++ references_at (own ∷ []) (f ∷ [])
-references-added es own xs zs ws new f same kept each added =
-    ap (references_at (es ++ own ∷ [])) added
-    ∙ ap (λ fs. references_at (es ++ own ∷ []) (fs ++ f ∷ [])) (refilled xs ws (omega (arith, ap length same)))
-    ∙ references-append es ws own f (omega (arith, ap length same))
+references-added es own xs zs ws new f same kept each added = grind (arith, refilled, references-append)

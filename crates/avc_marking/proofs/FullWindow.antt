@@ -1,14 +1,14 @@
 -- The sliding window over short-term frames whose numbers rise.
-use Rattle.avc_marking.proofs.Common.{filter, ◌==◌, cond, if◌then◌else◌, int_lt, pos, ℤ, ◌+ℤ◌, ◌-ℤ◌, ◌≤ℤ◌, IfSome, ◌⊎◌, ◌%◌, ◌*◌, ◌/◌, ◌≡◌}
-use Rattle.avc_marking.proofs.Common.{ℕ, ◌+◌, ◌<◌, ◌≤◌, nat_lt, Bool, true, false, not, ◌||◌, ◌&&◌, List, [], ◌∷◌, ◌++◌, length, Option}
-use Rattle.avc_marking.proofs.Common.{None, Some, Result, Ok, inl, inr, ◌-◌, slice_get, refl, sym, ap, ap₂, ◌∙◌, subst, arith}
+use Rattle.avc_marking.proofs.Common.{filter, if◌then◌else◌, int_lt, pos, ℤ, ◌+ℤ◌, ◌-ℤ◌, ◌≤ℤ◌, IfSome, ◌⊎◌, ◌%◌, ◌*◌, ◌/◌, ◌≡◌}
+use Rattle.avc_marking.proofs.Common.{ℕ, ◌+◌, ◌<◌, ◌≤◌, nat_lt, Bool, true, false, ◌||◌, ◌&&◌, List, [], ◌∷◌, ◌++◌, Option}
+use Rattle.avc_marking.proofs.Common.{None, Some, inl, inr, ◌-◌, slice_get, refl, sym, ap, ap₂, ◌∙◌, subst, arith}
 use Rattle.avc_marking.proofs.Common.{length-append, nat_tests, filter-append, mod-lt, div-add-mod, add-mod_right, eq-eqb, ne_eqb}
-use Rattle.avc_marking.proofs.Common.{same_number, CurrentFrameNum, Fault, TooManyReferences, Short, Long, Reference, is_short, pic_num_of}
-use Rattle.avc_marking.proofs.Common.{sorted_by, ◌>>=◌, first_in_window_of, StandBelow, StandFrom, CountFrom, WindowTakesTheFirst}
+use Rattle.avc_marking.proofs.Common.{same_number, CurrentFrameNum, Reference, is_short, pic_num_of}
+use Rattle.avc_marking.proofs.Common.{sorted_by, first_in_window_of, StandBelow, StandFrom, CountFrom, WindowTakesTheFirst}
 use Rattle.std.proofs.lemmas.Nat.{mod-mul-add}
 use Rattle.std.proofs.lemmas.Int.{ints}
-use Rattle.avc_marking.specs.Marks.{limit_of, frame_or, without_frame, current_frame}
-use Rattle.avc_marking.specs.Marks.{precedes_in_window, first_in_window, after_sliding_window}
+use Rattle.avc_marking.specs.Marks.{without_frame}
+use Rattle.avc_marking.specs.Marks.{precedes_in_window}
 use Rattle.avc_marking.proofs.Sliding.{first-placed}
 
 -- ---- numbers that go on past MaxFrameNum
@@ -96,12 +96,7 @@ sorted_head current r (s ∷ rs) h =
 
 goes_first : (current : CurrentFrameNum) (r : Reference) (rs : List Reference) → NoneBefore current r rs →
     slice_get (sorted_by (precedes_in_window current) (r ∷ rs)) 0 ≡ Some r
-goes_first current r rs h =
-    first-placed current r (sorted_by (precedes_in_window current) rs) ∙ by_first (slice_get (sorted_by (precedes_in_window current) rs) 0) (sorted_head current r rs h)
-  where
-    by_first : (o : Option Reference) → IfSome o (λ t. precedes_in_window current t r ≡ false) → first_in_window_of current r o ≡ Some r
-    by_first None k = refl
-    by_first (Some t) k = ap (λ b. elim b as (λ _. Option Reference) [ true ↦ Some t | false ↦ Some r ]) k
+goes_first current r rs h = grind (arith, first-placed, sorted_head)
 
 lt_no : (a b : ℤ) → b ≤ℤ a → int_lt a b ≡ false
 lt_no a b h = grind (arith, ints)
@@ -149,61 +144,19 @@ none_before max number v low next lower r (s ∷ rs) is before near counts behin
 
 all_short : (max low next : ℕ) (rs : List Reference) → CountFrom max low next rs → filter is_short rs ≡ rs
 all_short max low next [] h = refl
-all_short max low next (r ∷ rs) h =
-    ap (λ m. cond (elim m as (λ _. Bool) [ Short ↦ true | Long index ↦ false ]) (r ∷ filter is_short rs) (filter is_short rs)) ((h.1).1).short
-    ∙ ap (λ l. r ∷ l) (all_short max (h.0 + 1) next rs (h.1).2)
+all_short max low next (r ∷ rs) h = grind (arith, (all_short max (h.0 + 1) next rs (h.1).2))
 
 kept_below : (r : Reference) (place : ℕ) (rs : List Reference) → place ≤ r.entry → StandBelow place rs → without_frame r rs ≡ rs
 kept_below r place [] low h = refl
-kept_below r place (s ∷ rs) low h =
-    ap (λ b. cond (not b) (s ∷ without_frame r rs) (without_frame r rs)) (ne_eqb s.entry r.entry (λ e. omega (arith, e, low, h.0)))
-    ∙ ap (λ l. s ∷ l) (kept_below r place rs low h.1)
+kept_below r place (s ∷ rs) low h = grind (arith, ne_eqb, (kept_below r place rs low h.1))
 
 kept_above : (r : Reference) (low next : ℕ) (rs : List Reference) → r.entry < low → StandFrom low next rs → without_frame r rs ≡ rs
 kept_above r low next [] before h = refl
-kept_above r low next (s ∷ rs) before h =
-    ap (λ b. cond (not b) (s ∷ without_frame r rs) (without_frame r rs)) (ne_eqb s.entry r.entry (λ e. omega (arith, e, before, h.0)))
-    ∙ ap (λ l. s ∷ l) (kept_above r (s.entry + 1) next rs (omega (arith, before, h.0)) h.1)
+kept_above r low next (s ∷ rs) before h = grind (arith, ne_eqb, (kept_above r (s.entry + 1) next rs (omega (arith, before, h.0)) h.1))
 
 without_first : (longs shorts : List Reference) (first : Reference) (place next : ℕ) → StandBelow place longs → StandFrom place next (first ∷ shorts) →
     without_frame first (longs ++ first ∷ shorts) ≡ longs ++ shorts
-without_first longs shorts first place next below places =
-    filter-append (λ s. not (s.entry == first.entry)) longs (first ∷ shorts)
-    ∙ ap₂ (λ l r. l ++ r) (kept_below first place longs places.0 below)
-    (ap (λ b. cond (not b) (first ∷ without_frame first shorts) (without_frame first shorts)) (eq-eqb first.entry first.entry refl)
-    ∙ kept_above first (first.entry + 1) next shorts (omega arith) places.1)
+without_first longs shorts first place next below places = grind (arith, filter-append, kept_below, eq-eqb, kept_above)
 
 pub window_takes_the_first : WindowTakesTheFirst
-window_takes_the_first s entry max low number place longs shorts first m current full counts near is =
-    ap (λ r. r >>= λ references. Ok (record m { references = references ++ current_frame s entry Short ∷ [] })) slid
-  where
-    v : ℕ
-    v = counts.0
-
-    at : CurrentFrameNum
-    at = record { frame_num = number % max; max_frame_num = max }
-
-    all : List Reference
-    all = longs ++ first ∷ shorts
-
-    shorts_are : filter is_short all ≡ first ∷ shorts
-    shorts_are =
-        filter-append is_short longs (first ∷ shorts)
-        ∙ ap₂ (λ l r. l ++ r) full.long (all_short max low number (first ∷ shorts) counts)
-
-    taken : first_in_window s.current all ≡ Some first
-    taken =
-        ap₂ (λ c l. slice_get (sorted_by (precedes_in_window c) l) 0) current shorts_are
-        ∙ goes_first at first shorts
-        (none_before max number v (v + 1) entry (first.entry + 1) first shorts ((counts.1).1).frame_num (omega arith) (omega (arith, near, (counts.1).0))
-        (counts.1).2 (omega arith) (full.places).1)
-
-    as_many : nat_lt (length all) (limit_of s) ≡ false
-    as_many = let e : length all ≡ limit_of s = length-append longs (first ∷ shorts) ∙ full.full in grind (arith, nat_tests, e)
-
-    slid : after_sliding_window s m.references ≡ Ok (longs ++ shorts)
-    slid =
-        ap (after_sliding_window s) is
-        ∙ ap (λ b. elim b as (λ _. Result (List Reference) Fault) [ true ↦ Ok all | false ↦ (frame_or TooManyReferences (first_in_window s.current all) >>= λ least. Ok (without_frame least all)) ]) as_many
-        ∙ ap (λ o. frame_or TooManyReferences o >>= λ least. Ok (without_frame least all)) taken
-        ∙ ap Ok (without_first longs shorts first place entry full.longs_before full.places)
+window_takes_the_first s entry max low number place longs shorts first m current full counts near is = grind (arith, ℕ, filter-append, all_short, goes_first, none_before, nat_lt, length-append, nat_tests, without_first)

@@ -1,8 +1,8 @@
 -- How many reference frames there may be.
-use Rattle.avc_marking.proofs.Common.{filter, list_any, nat_le, ◌==◌, if◌then◌else◌, nat_tests, All-head, All-tail, eq-eqb, or_left}
+use Rattle.avc_marking.proofs.Common.{filter, list_any, ◌==◌, nat_tests, All-head, All-tail, eq-eqb, or_left}
 use Rattle.avc_marking.proofs.Common.{or_right, CurrentFrameNum, Fault, TooManyReferences, Short, Long, Marking, Idr, SlidingWindow}
-use Rattle.avc_marking.proofs.Common.{Adaptive, Reference, is_short, sorted_by, ◌>>=◌, first_in_window_of, StaysLimited, IsLimited}
-use Rattle.std.proofs.Common.{◌≡◌, ℕ, suc, ◌+◌, ◌<◌, ◌≤◌, nat_lt, Bool, true, false, not, cond, ◌||◌, List, [], ◌∷◌, ◌++◌, length, Option, Some, None, Result, Ok, Err, slice_get, refl, sym, ap, ◌∙◌, arith, length-append}
+use Rattle.avc_marking.proofs.Common.{Adaptive, Reference, is_short, sorted_by, ◌>>=◌, StaysLimited, IsLimited}
+use Rattle.std.proofs.Common.{◌≡◌, ℕ, ◌+◌, ◌<◌, ◌≤◌, nat_lt, Bool, true, false, ◌||◌, List, [], ◌∷◌, ◌++◌, length, Option, Some, None, Result, Ok, slice_get, refl, ap, arith, length-append}
 use Rattle.std.proofs.lemmas.List.Sums.{length-filter, count_by-le-length}
 use Rattle.avc_marking.proofs.KeptFrames.{after}
 use Rattle.avc_marking.specs.Marks.{first_in_window}
@@ -20,41 +20,16 @@ later_too true b c h k = refl
 later_too false b c h k = h k
 
 there-filter : (p : Reference → Bool) (r : Reference) (xs : List Reference) → is_there r (filter p xs) ≡ true → is_there r xs ≡ true
-there-filter p r [] h = h
-there-filter p r (x ∷ xs) h = by_test (p x) h (there-filter p r xs)
-  where
-    by_test : (passes : Bool) → is_there r (cond passes (x ∷ filter p xs) (filter p xs)) ≡ true → (is_there r (filter p xs) ≡ true → is_there r xs ≡ true) → ((x.entry == r.entry) || is_there r xs) ≡ true
-    by_test true k more = later_too (x.entry == r.entry) (is_there r (filter p xs)) (is_there r xs) more k
-    by_test false k more = or_right (x.entry == r.entry) (is_there r xs) (more k)
+there-filter p r [] h = grind arith
+there-filter p r (x ∷ xs) h = grind (arith, later_too, or_right, (there-filter p r xs))
 
 there-sorted : (current : CurrentFrameNum) (r : Reference) (xs : List Reference) → slice_get (sorted_by (precedes_in_window current) xs) 0 ≡ Some r → is_there r xs ≡ true
 there-sorted current r [] h = cc
-there-sorted current r (x ∷ xs) h =
-    by_first (slice_get (sorted_by (precedes_in_window current) xs) 0) (sym (first-placed current x (sorted_by (precedes_in_window current) xs)) ∙ h)
-    (there-sorted current r xs)
-  where
-    here : x ≡ r → ((x.entry == r.entry) || is_there r xs) ≡ true
-    here e = or_left (x.entry == r.entry) (is_there r xs) (eq-eqb x.entry r.entry (ap (λ y. y.entry) e))
-
-    by_first : (o : Option Reference) → first_in_window_of current x o ≡ Some r → (o ≡ Some r → is_there r xs ≡ true) → ((x.entry == r.entry) || is_there r xs) ≡ true
-    by_first None k more = here cc
-    by_first (Some y) k more = by_test (precedes_in_window current y x) k
-      where
-        by_test : (b : Bool) → ◌≡◌ {A = Option Reference} (elim b [ true ↦ Some y | false ↦ Some x ]) (Some r) → ((x.entry == r.entry) || is_there r xs) ≡ true
-        by_test true e = or_right (x.entry == r.entry) (is_there r xs) (more e)
-        by_test false e = here cc
+there-sorted current r (x ∷ xs) h = grind (arith, first-placed, or_left, eq-eqb, or_right, (there-sorted current r xs))
 
 fewer : (r : Reference) (xs : List Reference) → is_there r xs ≡ true → length (without_frame r xs) + 1 ≤ length xs
 fewer r [] h = cc
-fewer r (x ∷ xs) h = by_test (x.entry == r.entry) h (at_most r xs) (fewer r xs)
-  where
-    at_most : (s : Reference) (ys : List Reference) → length (without_frame s ys) ≤ length ys
-    at_most s ys = omega (arith, length-filter (λ t. not (t.entry == s.entry)) ys, count_by-le-length (λ t. not (t.entry == s.entry)) ys)
-
-    by_test : (same : Bool) → (same || is_there r xs) ≡ true → length (without_frame r xs) ≤ length xs → (is_there r xs ≡ true → length (without_frame r xs) + 1 ≤ length xs) →
-        length {A = Reference} (cond (not same) (x ∷ without_frame r xs) (without_frame r xs)) + 1 ≤ suc (length xs)
-    by_test true k most more = omega (arith, most)
-    by_test false k most more = omega (arith, more k)
+fewer r (x ∷ xs) h = grind (arith, length-filter, count_by-le-length, (fewer r xs))
 
 -- ---- one entry
 
@@ -79,14 +54,7 @@ after_sliding_window-fewer n s xs ys most few h = by_test (nat_lt (length xs) (l
     by_test false t k = by_first first refl k
 
 within-limit : (n : ℕ) (s : MarkingEntry) (m m' : Marks) → limit_of s ≤ n → within_limit s m ≡ Ok m' → length m'.references ≤ n
-within-limit n s m m' most h = by_test (nat_le (length m.references) (limit_of s)) refl h
-  where
-    by_test : (b : Bool) → nat_le (length m.references) (limit_of s) ≡ b → (if b then Ok m else Err TooManyReferences) ≡ Ok m' → length m'.references ≤ n
-    by_test true t k =
-        let same : m ≡ m' = cc in
-        let less : length m.references ≤ limit_of s = grind (arith, nat_tests) in
-        omega (arith, ap (λ x. length x.references) same)
-    by_test false t k = cc
+within-limit n s m m' most h = grind (arith, nat_tests)
 
 pub stays-with_max_long_term_frame_idx : StaysLimited
 stays-with_max_long_term_frame_idx n s entry m m' most few h = by_marking s.marking h

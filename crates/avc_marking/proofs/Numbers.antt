@@ -1,6 +1,6 @@
 -- Frame numbers modulo MaxFrameNum.
-use Rattle.std.proofs.Common.{◌≡◌, ℕ, zero, suc, ◌+◌, ◌-◌, ◌<◌, ◌%◌, List, [], ◌∷◌, length, drop, ap₂, Bool, true, false, Result, Ok, Err, refl, sym, ap, ◌∙◌, arith, add-zero}
-use Rattle.avc_marking.proofs.Common.{mod-add-mod, mod-eq_of_lt, ◌==◌, if◌then◌else◌, is_some, Fault, FrameNumRepeated, FrameNumGap}
+use Rattle.std.proofs.Common.{◌≡◌, ℕ, zero, suc, ◌+◌, ◌-◌, ◌<◌, ◌%◌, List, ◌∷◌, length, drop, ap₂, true, false, Result, Ok, refl, sym, ap, ◌∙◌, arith, add-zero}
+use Rattle.avc_marking.proofs.Common.{mod-add-mod, mod-eq_of_lt, ◌==◌, Fault}
 use Rattle.avc_marking.specs.Marks.{MarkingEntry, frame_nums_from, missing_frame_nums}
 
 -- they depend on the first one modulo MaxFrameNum alone
@@ -29,30 +29,10 @@ numbers-skipped max (suc k) n a =
 
 pub numbers-next : (max next after left : ℕ) → next < max → 0 < left → after ≡ (next + 1) % max →
     frame_nums_from max next left ≡ next ∷ frame_nums_from max after (left - 1)
-numbers-next max next after left below more moved =
-    let one : left ≡ suc (left - 1) = omega arith in
-    ap (frame_nums_from max next) one
-    ∙ ap (λ x. x ∷ frame_nums_from max (next + 1) (left - 1)) (mod-eq_of_lt below)
-    ∙ ap (λ xs. next ∷ xs) (sym (ap (λ x. frame_nums_from max x (left - 1)) moved ∙ numbers-mod max (next + 1) (left - 1)))
+numbers-next max next after left below more moved = grind (arith, mod-eq_of_lt, numbers-mod)
 
 -- where numbers are missing and may be
 pub missing_frame_nums-is : (previous : ℕ) (s : MarkingEntry) (first left : ℕ) → (s.current.frame_num == previous) ≡ false → (s.current.frame_num == (previous + 1) % s.current.max_frame_num) ≡ false →
     first ≡ (previous + 1) % s.current.max_frame_num → left ≡ (s.current.frame_num + s.current.max_frame_num - previous - 1) % s.current.max_frame_num →
     ◌≡◌ {A = Result (List ℕ) Fault} (Ok (frame_nums_from s.current.max_frame_num first left)) (missing_frame_nums previous true s)
-missing_frame_nums-is previous s first left other not_next is_first is_left =
-    let n = (s.current.frame_num + s.current.max_frame_num - previous - 1) % s.current.max_frame_num in
-    let tested : missing_frame_nums previous true s ≡ Ok (frame_nums_from s.current.max_frame_num (previous + 1) ((s.current.frame_num + s.current.max_frame_num - previous - 1) % s.current.max_frame_num)) =
-    ap (λ b. tests b (s.current.frame_num == (previous + 1) % s.current.max_frame_num)) other ∙ ap (λ b. tests false b) not_next in
-    sym (tested
-    ∙ ap Ok (sym (ap (λ a. frame_nums_from s.current.max_frame_num a left) is_first ∙ ap (λ m. frame_nums_from s.current.max_frame_num ((previous + 1) % s.current.max_frame_num) m) is_left ∙ numbers-mod s.current.max_frame_num (previous + 1) n)))
-  where
-    tests : (same next : Bool) → Result (List ℕ) Fault
-    tests same next = elim same [
-      | true ↦ (if is_some s.marking then Err FrameNumRepeated else Ok [])
-      | false ↦ elim next [
-        | true ↦ Ok []
-        | false ↦ (if true
-            then Ok (frame_nums_from s.current.max_frame_num (previous + 1) ((s.current.frame_num + s.current.max_frame_num - previous - 1) % s.current.max_frame_num))
-            else Err FrameNumGap)
-      ]
-    ]
+missing_frame_nums-is previous s first left other not_next is_first is_left = grind (arith, numbers-mod, ℕ)

@@ -1,9 +1,9 @@
 -- One operation on the frames, and what it makes of the marks.
 use Rattle.avc_marking.proofs.Common.{filter, refill, ◌≡◌, ℕ, ◌+◌, ◌<◌, Bool, true, false, not, List, [], ◌∷◌, ◌++◌, length, Option, None}
-use Rattle.avc_marking.proofs.Common.{Some, Result, Ok, Err, nat_lt, ◌&&◌, ◌||◌, refl, sym, ap, ◌∙◌, arith, slice_index_or, slice_set}
+use Rattle.avc_marking.proofs.Common.{Some, Result, Ok, Err, nat_lt, ◌&&◌, refl, sym, ap, ◌∙◌, arith, slice_index_or, slice_set}
 use Rattle.avc_marking.proofs.Common.{nat_le, is_some, if◌then◌else◌, filter_agree, get_or_append_left, length-append, Fault, MarkedFrame}
-use Rattle.avc_marking.proofs.Common.{Reference, StandAt, references_at, Mark, Short, Long, Marking, Operation, is_short}
-use Rattle.avc_marking.proofs.Common.{long_term_frame_idx, reference_at, no_frame, Index, From, NewFrame, ◌>>=◌, entries_with}
+use Rattle.avc_marking.proofs.Common.{Reference, StandAt, references_at, Mark, Short, Long, Marking, Operation}
+use Rattle.avc_marking.proofs.Common.{reference_at, no_frame, Index, From, NewFrame, ◌>>=◌, entries_with}
 use Rattle.avc_marking.proofs.Common.{operation_state, StandWith, StandBefore, is_to_unmark, unmarked_if, marking_entry}
 use Rattle.std.specs.List.Sorted.{IsStrictlyIncreasing}
 use Rattle.avc_types.specs.declared.references.Operation.TheVariants.{UnmarkShortTerm, UnmarkLongTerm, AssignLongTerm, MaxLongTermFrameIdx, UnmarkAll, CurrentToLongTerm}
@@ -11,9 +11,7 @@ use Rattle.avc_marking.specs.Marks.{OperationState, with_references, refuse_unle
 use Rattle.avc_marking.proofs.Changes.{refilled, references-changed}
 
 rising_front : (entries : List ℕ) (own : ℕ) → IsStrictlyIncreasing (entries ++ own ∷ []) → IsStrictlyIncreasing entries
-rising_front entries own rising = λ k h.
-    let step = rising k (omega (arith, length-append entries (own ∷ []))) in
-    omega (arith, rising k (omega (arith, length-append entries (own ∷ []))), get_or_append_left entries (own ∷ []) 0 k (omega arith), get_or_append_left entries (own ∷ []) 0 (k + 1) h)
+rising_front entries own rising = grind (arith, length-append, get_or_append_left)
 
 pub stand_with : (assigned : Bool) (entries : List ℕ) (own : ℕ) (fs : List MarkedFrame) → StandWith assigned entries own fs → StandAt (entries_with assigned entries own) fs
 stand_with true entries own fs s = record { each = s.each; rising = s.rising }
@@ -49,14 +47,7 @@ pub with_max_long_term_frame_idx-ok : (assigned : Bool) (entries : List ℕ) (ow
     references_at (entries_with assigned entries own) ws ≡ filter (λ r. not (is_to_unmark (From plus1) r)) (references_at (entries_with assigned entries own) zs) →
     refuse_unless (nat_le plus1 max) (record (operation_state entries own xs max_long_term_frame_idx assigned) { references = with_max_long_term_frame_idx plus1 (references_at (entries_with assigned entries own) xs); max_long_term_frame_idx = max_long_term_frame_idx_below plus1 })
     ≡ Ok (operation_state entries own (refill (length xs) xs ws) max_long_term_frame_idx' assigned)
-with_max_long_term_frame_idx-ok assigned entries own max_long_term_frame_idx max_long_term_frame_idx' xs zs ws plus1 max same kept fits below left =
-    let es = entries_with assigned entries own in
-    let agree = filter_agree (λ r. not (is_to_unmark (From plus1) r)) (λ r. is_short r || nat_lt (long_term_frame_idx r) plus1) (λ r. not-not (is_short r || nat_lt (long_term_frame_idx r) plus1)) (references_at es zs) in
-    let all : references_at (entries_with assigned entries own) ws ≡ with_max_long_term_frame_idx plus1 (references_at (entries_with assigned entries own) xs) = left ∙ agree ∙ ap (λ fs. with_max_long_term_frame_idx plus1 (references_at es fs)) same in
-    ap (λ b. refuse_unless b (record (operation_state entries own xs max_long_term_frame_idx assigned) { references = with_max_long_term_frame_idx plus1 (references_at es xs); max_long_term_frame_idx = max_long_term_frame_idx_below plus1 })) fits
-    ∙ ap (λ rs. Ok (record (operation_state entries own xs max_long_term_frame_idx assigned) { references = rs; max_long_term_frame_idx = max_long_term_frame_idx_below plus1 })) (sym all)
-    ∙ ap (λ g. Ok (operation_state entries own ws g assigned)) (sym below)
-    ∙ ap (λ fs. Ok (operation_state entries own fs max_long_term_frame_idx' assigned)) (sym (refilled xs ws (omega (arith, ap length same))))
+with_max_long_term_frame_idx-ok assigned entries own max_long_term_frame_idx max_long_term_frame_idx' xs zs ws plus1 max same kept fits below left = grind (arith, filter_agree, nat_lt, not-not, refilled)
 
 pub filter-nothing : {A : Type 0} (xs : List A) → filter (λ x. false) xs ≡ []
 filter-nothing [] = refl
@@ -65,10 +56,7 @@ filter-nothing (x ∷ xs) = filter-nothing xs
 pub forgotten-ok : (assigned : Bool) (entries : List ℕ) (own : ℕ) (max_long_term_frame_idx : Option ℕ) (xs zs ws : List MarkedFrame) → zs ≡ xs → length ws ≡ length zs →
     references_at (entries_with assigned entries own) ws ≡ filter (λ r. false) (references_at (entries_with assigned entries own) zs) →
     ◌≡◌ {A = Result OperationState Fault} (Ok (record (operation_state entries own xs max_long_term_frame_idx assigned) { references = []; max_long_term_frame_idx = None })) (Ok (operation_state entries own (refill (length xs) xs ws) None assigned))
-forgotten-ok assigned entries own max_long_term_frame_idx xs zs ws same kept left =
-    let es = entries_with assigned entries own in
-    ap (λ rs. Ok (record (operation_state entries own xs max_long_term_frame_idx assigned) { references = rs; max_long_term_frame_idx = None })) (sym (left ∙ filter-nothing (references_at es zs)))
-    ∙ ap (λ fs. Ok (operation_state entries own fs None assigned)) (sym (refilled xs ws (omega (arith, ap length same))))
+forgotten-ok assigned entries own max_long_term_frame_idx xs zs ws same kept left = grind (arith, filter-nothing, refilled)
 
 pub not_assigned : (assigned fits : Bool) → (not assigned && fits) ≡ true → assigned ≡ false
 not_assigned false fits h = refl
@@ -83,9 +71,7 @@ pub current-ok : (new : NewFrame) (entries : List ℕ) (own : ℕ) (max_long_ter
     refuse_unless (true && is_index_allowed index max_long_term_frame_idx)
     (record (operation_state entries own xs max_long_term_frame_idx false) { references = without_long_term_frame_idx index (references_at entries xs) ++ record { entry = own; frame_num = new.current.frame_num; existing = new.existing; mark = Long index } ∷ []; assigned = true })
     ≡ Ok (operation_state entries own ws max_long_term_frame_idx true)
-current-ok new entries own max_long_term_frame_idx index xs ws fits left =
-    ap (λ b. refuse_unless b (record (operation_state entries own xs max_long_term_frame_idx false) { references = without_long_term_frame_idx index (references_at entries xs) ++ record { entry = own; frame_num = new.current.frame_num; existing = new.existing; mark = Long index } ∷ []; assigned = true })) fits
-    ∙ ap (λ rs. Ok (record (operation_state entries own xs max_long_term_frame_idx false) { references = rs; assigned = true })) (sym left)
+current-ok new entries own max_long_term_frame_idx index xs ws fits left = grind arith
 
 -- ---- operation 3
 
