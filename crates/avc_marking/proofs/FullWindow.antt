@@ -159,4 +159,4 @@ without_first : (longs shorts : List Reference) (first : Reference) (place next 
 without_first longs shorts first place next below places = grind (arith, filter-append, kept_below, eq-eqb, kept_above)
 
 pub window_takes_the_first : WindowTakesTheFirst
-window_takes_the_first s entry max low number place longs shorts first m current full counts near is = grind (arith, ℕ, filter-append, all_short, goes_first, none_before, nat_lt, length-append, nat_tests, without_first)
+window_takes_the_first s entry max low number place longs shorts first m current full counts near is = grind (arith, filter-append, all_short, goes_first, none_before, length-append, nat_tests, without_first)

@@ -35,4 +35,4 @@ numbers-next max next after left below more moved = grind (arith, mod-eq_of_lt, 
 pub missing_frame_nums-is : (previous : ℕ) (s : MarkingEntry) (first left : ℕ) → (s.current.frame_num == previous) ≡ false → (s.current.frame_num == (previous + 1) % s.current.max_frame_num) ≡ false →
     first ≡ (previous + 1) % s.current.max_frame_num → left ≡ (s.current.frame_num + s.current.max_frame_num - previous - 1) % s.current.max_frame_num →
     ◌≡◌ {A = Result (List ℕ) Fault} (Ok (frame_nums_from s.current.max_frame_num first left)) (missing_frame_nums previous true s)
-missing_frame_nums-is previous s first left other not_next is_first is_left = grind (arith, numbers-mod, ℕ)
+missing_frame_nums-is previous s first left other not_next is_first is_left = grind (arith, numbers-mod)

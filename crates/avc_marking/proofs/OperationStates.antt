@@ -1,6 +1,6 @@
 -- One operation on the frames, and what it makes of the marks.
 use Rattle.avc_marking.proofs.Common.{filter, refill, ◌≡◌, ℕ, ◌+◌, ◌<◌, Bool, true, false, not, List, [], ◌∷◌, ◌++◌, length, Option, None}
-use Rattle.avc_marking.proofs.Common.{Some, Result, Ok, Err, nat_lt, ◌&&◌, refl, sym, ap, ◌∙◌, arith, slice_index_or, slice_set}
+use Rattle.avc_marking.proofs.Common.{Some, Result, Ok, Err, ◌&&◌, refl, sym, ap, ◌∙◌, arith, slice_index_or, slice_set}
 use Rattle.avc_marking.proofs.Common.{nat_le, is_some, if◌then◌else◌, filter_agree, get_or_append_left, length-append, Fault, MarkedFrame}
 use Rattle.avc_marking.proofs.Common.{Reference, StandAt, references_at, Mark, Short, Long, Marking, Operation}
 use Rattle.avc_marking.proofs.Common.{reference_at, no_frame, Index, From, NewFrame, ◌>>=◌, entries_with}
@@ -47,7 +47,7 @@ pub with_max_long_term_frame_idx-ok : (assigned : Bool) (entries : List ℕ) (ow
     references_at (entries_with assigned entries own) ws ≡ filter (λ r. not (is_to_unmark (From plus1) r)) (references_at (entries_with assigned entries own) zs) →
     refuse_unless (nat_le plus1 max) (record (operation_state entries own xs max_long_term_frame_idx assigned) { references = with_max_long_term_frame_idx plus1 (references_at (entries_with assigned entries own) xs); max_long_term_frame_idx = max_long_term_frame_idx_below plus1 })
     ≡ Ok (operation_state entries own (refill (length xs) xs ws) max_long_term_frame_idx' assigned)
-with_max_long_term_frame_idx-ok assigned entries own max_long_term_frame_idx max_long_term_frame_idx' xs zs ws plus1 max same kept fits below left = grind (arith, filter_agree, nat_lt, not-not, refilled)
+with_max_long_term_frame_idx-ok assigned entries own max_long_term_frame_idx max_long_term_frame_idx' xs zs ws plus1 max same kept fits below left = grind (arith, filter_agree, not-not, refilled)
 
 pub filter-nothing : {A : Type 0} (xs : List A) → filter (λ x. false) xs ≡ []
 filter-nothing [] = refl

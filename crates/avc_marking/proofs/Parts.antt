@@ -34,6 +34,13 @@ part-append (x ∷ xs) [] us vs h k = absurd h
 part-append (x ∷ xs) (y ∷ ys) us vs (inl h) k = inl (h.0, part-append xs ys us vs h.1 k)
 part-append (x ∷ xs) (y ∷ ys) us vs (inr h) k = inr (part-append (x ∷ xs) ys us vs h k)
 
+pub part-own : (xs ys : List Reference) (own : Reference) → IsPartUpToMarks xs ys → IsPartUpToMarks (xs ++ own ∷ []) (ys ++ own ∷ [])
+part-own xs ys own h = part-append xs ys (own ∷ []) (own ∷ []) h (part-refl (own ∷ []))
+
+pub part-front : (xs ys : List Reference) → IsPartUpToMarks xs (xs ++ ys)
+part-front [] ys = tt
+part-front (x ∷ xs) ys = inl (same-refl x, part-front xs ys)
+
 -- a part of no frames has none
 pub part-none : (xs : List Reference) → IsPartUpToMarks xs [] → xs ≡ []
 part-none [] h = refl
