@@ -2,7 +2,7 @@
 pub use Rattle.std.proofs.Common.{◌≡◌, ℕ, zero, suc, ◌+◌, ◌<◌, Bool, true, false, not, cond, ◌&&◌, List, [], ◌∷◌, ◌++◌, length, take, map}
 pub use Rattle.std.proofs.Common.{refl, sym, ap, ◌∙◌, arith, append-nil, Option, None, Some, Ok, Err, length-append, ◌%◌, ◌≤◌, nat_lt, ◌||◌}
 pub use Rattle.std.proofs.Common.{Result, inl, inr, ◌-◌, slice_get, ap₂, subst, drop}
-pub use Rattle.std.proofs.Math.Nat.{mod-lt, div-add-mod, add-mod_right, mod-add-mod, mod-eq_of_lt}
+pub use Rattle.std.proofs.Math.Nat.{mod-mod, mod-lt, div-add-mod, add-mod_right, mod-add-mod, mod-eq_of_lt}
 pub use Rattle.std.proofs.lemmas.Bool.{eq-eqb, ne_eqb, or_left, or_right, and_parts}
 pub use Rattle.std.proofs.lemmas.Bool.Decides.{nat_tests}
 pub use Rattle.std.proofs.lemmas.List.{drop_all, take_all, length-set, get_or_at, get_or_append_left}

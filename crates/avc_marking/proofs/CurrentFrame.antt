@@ -18,19 +18,8 @@ settled-assigned s entries entry max_long_term_frame_idx xs zs ys last kept same
     let es = entries ++ entry ∷ [] in
     let g : MarkedFrame = record { frame_num = kept; existing = s.existing; mark = (slice_index_or ys last no_frame).mark } in
     let here : slice_index (entries ++ entry ∷ []) last ≡ entry = get_or_at entries entry [] 0 last (omega (arith, stand.each, place, length-append entries (entry ∷ []))) in
-    let still : (slice_index_or ys last no_frame).mark ≡ (slice_index_or xs last no_frame).mark = ap (λ fs. (slice_index_or fs last no_frame).mark) same' in
-    let becomes : reference_of (slice_index (entries ++ entry ∷ []) last) g ≡ current_frame s entry (reference_at (entries ++ entry ∷ []) xs last).mark =
-    ap (λ e. reference_of e g) here
-    ∙ ap (λ k. reference_of entry (record { frame_num = k; existing = s.existing; mark = (slice_index_or ys last no_frame).mark })) number
-    ∙ ap (λ m. reference_of entry (record { frame_num = frame_num_after_marking s; existing = s.existing; mark = m })) still in
-    let changed = references-changed (λ r. current_frame s entry r.mark) es xs last g (stand_with true entries entry xs stand) (omega (arith, place)) (ap is_some still) becomes in
-    ap (λ e. marks_of_list (map (λ r. if r.entry == e then current_frame s entry r.mark else r) (references_at es xs))) (sym here)
-    ∙ ap marks_of_list (sym changed)
-    ∙ ap (λ fs. marks_at es (slice_set fs last g) max_long_term_frame_idx) (sym same)
-    ∙ ap (λ fs. marks_at es fs max_long_term_frame_idx) (sym (refilled xs (slice_set zs last g) (length-set zs last g ∙ ap length same)))
-  where
-    marks_of_list : List Reference → Marks
-    marks_of_list rs = record { references = rs; max_long_term_frame_idx = max_long_term_frame_idx }
+    let changed = references-changed (λ r. current_frame s entry r.mark) es xs last g (stand_with true entries entry xs stand) (omega (arith, place)) (cc) (cc) in
+    grind (arith, changed, refilled, length-set)
 
 pub settled-added : (s : MarkingEntry) (entries : List ℕ) (entry : ℕ) (max_long_term_frame_idx : Option ℕ) (xs new : List MarkedFrame) (kept : ℕ) → StandWith false entries entry xs → kept ≡ frame_num_after_marking s →
     new ≡ xs ++ record { frame_num = kept; existing = s.existing; mark = Some Short } ∷ [] →

@@ -1,31 +1,22 @@
 -- Frame numbers modulo MaxFrameNum.
-use Rattle.std.proofs.Common.{◌≡◌, ℕ, zero, suc, ◌+◌, ◌-◌, ◌<◌, ◌%◌, List, ◌∷◌, length, drop, ap₂, true, false, Result, Ok, refl, sym, ap, ◌∙◌, arith, add-zero}
-use Rattle.avc_marking.proofs.Common.{mod-add-mod, mod-eq_of_lt, ◌==◌, Fault}
+use Rattle.std.proofs.Common.{◌≡◌, ℕ, zero, suc, ◌+◌, ◌-◌, ◌<◌, ◌≤◌, ◌%◌, List, ◌∷◌, length, drop, ap₂, true, false, Result, Ok, refl, sym, ap, ◌∙◌, arith, add-zero}
+use Rattle.avc_marking.proofs.Common.{mod-mod, mod-add-mod, mod-eq_of_lt, ◌==◌, Fault}
 use Rattle.avc_marking.specs.Marks.{MarkingEntry, frame_nums_from, missing_frame_nums}
 
 -- they depend on the first one modulo MaxFrameNum alone
 pub numbers-mod : (max a n : ℕ) → frame_nums_from max (a % max) n ≡ frame_nums_from max a n
 numbers-mod max a zero = refl
-numbers-mod max a (suc n) =
-    let head : a % max % max ≡ a % max = ap (λ x. x % max) (sym (add-zero (a % max))) ∙ mod-add-mod a max 0 ∙ ap (λ x. x % max) (add-zero a) in
-    let tail : frame_nums_from max (a % max + 1) n ≡ frame_nums_from max (a + 1) n =
-    sym (numbers-mod max (a % max + 1) n) ∙ ap (λ x. frame_nums_from max x n) (mod-add-mod a max 1) ∙ numbers-mod max (a + 1) n in
-    ap (λ x. x ∷ frame_nums_from max (a % max + 1) n) head ∙ ap (λ xs. a % max ∷ xs) tail
+numbers-mod max a (suc n) = cc (mod-mod a max, mod-add-mod a max 1, numbers-mod max (a % max + 1) n, numbers-mod max (a + 1) n)
 
 pub length-numbers : (max n a : ℕ) → length (frame_nums_from max a n) ≡ n
 length-numbers max zero a = refl
 length-numbers max (suc n) a = ap suc (length-numbers max n (a + 1))
 
 -- all but the first k
-pub numbers-skipped : (max k n a : ℕ) → drop k (frame_nums_from max a (k + n)) ≡ frame_nums_from max (a + k) n
-numbers-skipped max zero n a =
-    let z : a ≡ a + 0 = omega arith in
-    let y : 0 + n ≡ n = omega arith in
-    ap₂ (λ x m. frame_nums_from max x m) z y
-numbers-skipped max (suc k) n a =
-    let z : (a + 1) + k ≡ a + suc k = omega arith in
-    let y : suc k + n ≡ suc (k + n) = omega arith in
-    ap (λ m. drop (suc k) (frame_nums_from max a m)) y ∙ numbers-skipped max k n (a + 1) ∙ ap (λ x. frame_nums_from max x n) z
+pub numbers-skipped : (max k left a : ℕ) → k ≤ left → drop k (frame_nums_from max a left) ≡ frame_nums_from max (a + k) (left - k)
+numbers-skipped max zero left a h = grind arith
+numbers-skipped max (suc k) zero a h = absurd (omega (arith, h))
+numbers-skipped max (suc k) (suc left) a h = grind (arith, numbers-skipped max k left (a + 1) (omega (arith, h)))
 
 pub numbers-next : (max next after left : ℕ) → next < max → 0 < left → after ≡ (next + 1) % max →
     frame_nums_from max next left ≡ next ∷ frame_nums_from max after (left - 1)

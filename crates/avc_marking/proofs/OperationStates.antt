@@ -26,15 +26,10 @@ module _ (X : List Reference → Result (List Reference) Fault) (assigned : Bool
 
   pub changed-ok : (ws : List MarkedFrame) → length ws ≡ length zs → X (references_at es zs) ≡ Ok (references_at es ws) →
       with_references (operation_state entries own xs max_long_term_frame_idx assigned) (X (references_at es xs)) ≡ Ok (operation_state entries own (refill (length xs) xs ws) max_long_term_frame_idx assigned)
-  changed-ok ws kept h =
-      ap (λ fs. with_references (operation_state entries own xs max_long_term_frame_idx assigned) (X (references_at es fs))) (sym same)
-      ∙ ap (with_references (operation_state entries own xs max_long_term_frame_idx assigned)) h
-      ∙ ap (λ fs. Ok (operation_state entries own fs max_long_term_frame_idx assigned)) (sym (refilled xs ws (omega (arith, ap length same))))
+  changed-ok ws kept h = grind (arith, refilled)
 
   pub changed-err : (f : Fault) → X (references_at es zs) ≡ Err f → with_references (operation_state entries own xs max_long_term_frame_idx assigned) (X (references_at es xs)) ≡ Err f
-  changed-err f h =
-      ap (λ fs. with_references (operation_state entries own xs max_long_term_frame_idx assigned) (X (references_at es fs))) (sym same)
-      ∙ ap (with_references (operation_state entries own xs max_long_term_frame_idx assigned)) h
+  changed-err f h = grind arith
 
 -- ---- operations 4, 5 and 6
 
@@ -59,12 +54,10 @@ pub forgotten-ok : (assigned : Bool) (entries : List ℕ) (own : ℕ) (max_long_
 forgotten-ok assigned entries own max_long_term_frame_idx xs zs ws same kept left = grind (arith, filter-nothing, refilled)
 
 pub not_assigned : (assigned fits : Bool) → (not assigned && fits) ≡ true → assigned ≡ false
-not_assigned false fits h = refl
-not_assigned true fits h = cc
+not_assigned assigned fits h = grind arith
 
 pub and_fits : (assigned fits : Bool) → (not assigned && fits) ≡ true → fits ≡ true
-and_fits false fits h = h
-and_fits true fits h = cc
+and_fits assigned fits h = grind arith
 
 pub current-ok : (new : NewFrame) (entries : List ℕ) (own : ℕ) (max_long_term_frame_idx : Option ℕ) (index : ℕ) (xs ws : List MarkedFrame) → is_index_allowed index max_long_term_frame_idx ≡ true →
     references_at (entries ++ own ∷ []) ws ≡ without_long_term_frame_idx index (references_at entries xs) ++ record { entry = own; frame_num = new.current.frame_num; existing = new.existing; mark = Long index } ∷ [] →
@@ -77,9 +70,7 @@ current-ok new entries own max_long_term_frame_idx index xs ws fits left = grind
 
 short-stays : (index n : ℕ) (x : Bool) (m : Option Mark) → m ≡ Some Short →
     ◌≡◌ {A = MarkedFrame} (unmarked_if (is_to_unmark (Index index)) (record { frame_num = n; existing = x; mark = m })) (record { frame_num = n; existing = x; mark = m })
-short-stays index n x None h = cc
-short-stays index n x (Some Short) h = refl
-short-stays index n x (Some (Long j)) h = cc
+short-stays index n x m h = grind arith
 
 pub long-ok : (s : MarkingEntry) (d index : ℕ) (max_long_term_frame_idx : Option ℕ) (es : List ℕ) (xs ws : List MarkedFrame) (place : ℕ) → StandAt es xs → place < length xs → length ws ≡ length xs →
     (slice_index_or xs place no_frame).mark ≡ Some Short → frame_with_pic_num_x s d (references_at es xs) ≡ Ok (reference_at es xs place) →
@@ -88,15 +79,10 @@ pub long-ok : (s : MarkingEntry) (d index : ℕ) (max_long_term_frame_idx : Opti
     references_at es ws ≡ without_long_term_frame_idx index (references_at es xs) →
     with_long_term s d index max_long_term_frame_idx (references_at es xs) ≡ Ok (references_at es (slice_set ws place (record (slice_index_or ws place no_frame) { mark = Some (Long index) })))
 long-ok s d index max_long_term_frame_idx es xs ws place stand within kept short named fits each left =
-    let f = slice_index_or xs place no_frame in
-    let r = reference_at es xs place in
-    let same : slice_index_or ws place no_frame ≡ slice_index_or xs place no_frame = each ∙ short-stays index f.frame_num f.existing f.mark short in
-    let marked_before : true ≡ is_some (slice_index_or ws place no_frame).mark = sym (ap (λ g. is_some g.mark) same ∙ ap is_some short) in
     let stand' : StandAt es ws = record { each = omega (arith, stand.each); rising = stand.rising } in
-    ap (λ o. o >>= λ r'. refuse_unless (r'.existing && is_index_allowed index max_long_term_frame_idx) (with_mark r' (Long index) (without_long_term_frame_idx index (references_at es xs)))) named
-    ∙ ap (λ b. refuse_unless b (with_mark r (Long index) (without_long_term_frame_idx index (references_at es xs)))) fits
-    ∙ ap (λ rs. Ok (with_mark r (Long index) rs)) (sym left)
-    ∙ ap Ok (sym (references-changed (λ t. with_other_mark t (Long index)) es ws place (record (slice_index_or ws place no_frame) { mark = Some (Long index) }) stand' (omega arith) marked_before refl))
+    let same : slice_index_or ws place no_frame ≡ slice_index_or xs place no_frame = grind (arith, short-stays) in
+    let f : MarkedFrame = record (slice_index_or ws place no_frame) { mark = Some (Long index) } in
+    grind (arith, references-changed (λ t. with_other_mark t (Long index)) es ws place f stand' (omega arith) (grind arith) refl)
 
 -- ---- all operations
 
@@ -106,25 +92,12 @@ stand_turned false entries own xs ys stand h = record { each = omega (arith, sta
 
 -- an operation does not read the marking
 operation-any : (new : NewFrame) (m n : Option Marking) (own : ℕ) (t : OperationState) (o : Operation) → after_operation (marking_entry new m) own t o ≡ after_operation (marking_entry new n) own t o
-operation-any new m n own t (UnmarkShortTerm d) = refl
-operation-any new m n own t (UnmarkLongTerm index) = refl
-operation-any new m n own t (AssignLongTerm d index) = refl
-operation-any new m n own t (MaxLongTermFrameIdx plus1) = refl
-operation-any new m n own t UnmarkAll = refl
-operation-any new m n own t (CurrentToLongTerm index) = refl
+operation-any new m n own t o = grind arith
 
 pub operations-any : (new : NewFrame) (m n : Option Marking) (own : ℕ) (t : OperationState) (os : List Operation) → after_operations (marking_entry new m) own t os ≡ after_operations (marking_entry new n) own t os
 operations-any new m n own t [] = refl
-operations-any new m n own t (o ∷ os) =
-    ap (λ r. r >>= λ u. after_operations (marking_entry new m) own u os) (operation-any new m n own t o)
-    ∙ by_result (after_operation (marking_entry new n) own t o) (λ u. operations-any new m n own u os)
-  where
-    by_result : (r : Result OperationState Fault) → ((u : OperationState) → after_operations (marking_entry new m) own u os ≡ after_operations (marking_entry new n) own u os) →
-        (r >>= λ u. after_operations (marking_entry new m) own u os) ≡ (r >>= λ u. after_operations (marking_entry new n) own u os)
-    by_result (Ok u) h = h u
-    by_result (Err f) h = refl
+operations-any new m n own t (o ∷ os) = grind (arith, operation-any, (λ (u : OperationState). operations-any new m n own u os))
 
 pub stand_settled : (assigned : Bool) (entries : List ℕ) (own : ℕ) (xs ys zs : List MarkedFrame) → StandBefore entries own xs → length ys ≡ length xs + (if assigned then 1 else 0) →
     length zs + (if assigned then 1 else 0) ≡ length ys + 1 → StandAt (entries ++ own ∷ []) zs
-stand_settled true entries own xs ys zs stand h k = record { each = omega (arith, stand.each, h, k, length-append entries (own ∷ [])); rising = stand.rising }
-stand_settled false entries own xs ys zs stand h k = record { each = omega (arith, stand.each, h, k, length-append entries (own ∷ [])); rising = stand.rising }
+stand_settled assigned entries own xs ys zs stand h k = record { each = grind (arith, length-append); rising = stand.rising }

@@ -11,11 +11,4 @@ overflow_sub-result c =
 pub returns : goal.returns
 returns c =
     let i = c.self.inside in
-    let k = c.args.count in
-    let many = sym (length-numbers i.max_frame_num i.left i.next) ∙ ap length c.self.view_is in
-    let all : i.left ≡ k + (i.left - k) = omega (arith, c.requires, many) in
-    ap₂ (λ x m. frame_nums_from i.max_frame_num (x % m) (i.left - k)) (ap₂ (λ x y. x + y) c.from.ensures c.from-2.ensures) c.from-3.ensures
-    ∙ numbers-mod i.max_frame_num (i.next + k) (i.left - k)
-    ∙ sym (numbers-skipped i.max_frame_num k (i.left - k) i.next)
-    ∙ ap (λ n. drop k (frame_nums_from i.max_frame_num i.next n)) (sym all)
-    ∙ ap (drop k) c.self.view_is
+    grind (arith, numbers-mod i.max_frame_num (i.next + c.args.count) (i.left - c.args.count), numbers-skipped i.max_frame_num c.args.count i.left i.next, length-numbers i.max_frame_num i.left i.next)
