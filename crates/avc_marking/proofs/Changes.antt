@@ -1,9 +1,8 @@
 -- What a change of frames makes of the reference frames among them.
-use Rattle.avc_marking.proofs.Common.{filter, refill, ◌≡◌, ℕ, zero, suc, ◌+◌, ◌<◌, Bool, true, false, not, cond, ◌&&◌, List, [], ◌∷◌, ◌++◌}
-use Rattle.avc_marking.proofs.Common.{length, map, refl, sym, ap, ◌∙◌, arith, slice_index, slice_index_or, slice_set, is_some, ◌==◌}
-use Rattle.avc_marking.proofs.Common.{if◌then◌else◌, drop_all, take_all, append-nil, AllPairs-from_increasing, nat_tests, MarkedFrame}
+use Rattle.avc_marking.proofs.Common.{filter, refill, ◌≡◌, ℕ, zero, suc, ◌<◌, Bool, not, List, [], ◌∷◌, ◌++◌}
+use Rattle.avc_marking.proofs.Common.{length, map, refl, ap, arith, slice_index, slice_index_or, slice_set, is_some, ◌==◌}
+use Rattle.avc_marking.proofs.Common.{if◌then◌else◌, drop_all, take_all, append-nil, nat_tests, MarkedFrame}
 use Rattle.avc_marking.proofs.Common.{Reference, StandAt, reference_of, references_at, reference_at, no_frame, unmarked, unmarked_if}
-use Rattle.std.specs.List.Sorted.{IsStrictlyIncreasing}
 use Rattle.avc_types.proofs.Frames.{rising_rest, below_rest}
 use Rattle.avc_marking.specs.Marks.{without_frame}
 
@@ -77,7 +76,3 @@ refilled xs ws same = grind (arith, drop_all, append-nil, take_all)
 
 pub stand_as : (es : List ℕ) (xs zs : List MarkedFrame) → zs ≡ xs → StandAt es xs → StandAt es zs
 stand_as es xs zs same stand = record { each = omega (arith, stand.each, ap length same); rising = stand.rising }
-
-pub references-added : (es : List ℕ) (own : ℕ) (xs zs ws new : List MarkedFrame) (f : MarkedFrame) → zs ≡ xs → length ws ≡ length zs → length es ≡ length xs →
-    new ≡ refill (length xs) xs ws ++ f ∷ [] → references_at (es ++ own ∷ []) new ≡ references_at es ws ++ references_at (own ∷ []) (f ∷ [])
-references-added es own xs zs ws new f same kept each added = grind (arith, refilled, references-append)

@@ -1,14 +1,13 @@
 -- Which frames an entry leaves.
-use Rattle.avc_marking.proofs.Common.{list_any, filter, ◌⊎◌, nat_le, is_some, ◌==◌, if◌then◌else◌, nat_tests, All-head, All-tail}
-use Rattle.avc_marking.proofs.Common.{All-nil, or_left, or_right, CurrentFrameNum, Fault, TooManyReferences, Mark, Short, Long, Marking}
-use Rattle.avc_marking.proofs.Common.{Idr, SlidingWindow, Adaptive, Operation, Reference, is_short, long_term_frame_idx}
+use Rattle.avc_marking.proofs.Common.{list_any, filter, ◌⊎◌, is_some, ◌==◌, if◌then◌else◌, nat_tests, All-head, All-tail}
+use Rattle.avc_marking.proofs.Common.{All-nil, CurrentFrameNum, Fault, Mark, Short, Long, Marking}
+use Rattle.avc_marking.proofs.Common.{Idr, SlidingWindow, Adaptive, Operation, Reference, is_short}
 use Rattle.avc_marking.proofs.Common.{has_long_term_frame_idx, placed_by, ◌>>=◌, IsSameFrame, IsPartUpToMarks, AddsOwnFrameAlone}
 use Rattle.avc_marking.proofs.Common.{unmarks_all, LeavesOwnFrameAlone, SlidesAgain}
 use Rattle.std.specs.Result.{is_ok}
-use Rattle.std.proofs.Common.{◌≡◌, ℕ, ◌<◌, Bool, true, false, not, ◌||◌, ◌&&◌, List, [], ◌∷◌, ◌++◌, length, map, All, Option, Some, None, Result, Ok, Err, slice_get, refl, sym, subst, ◌∙◌, inl, inr, arith, append-nil}
+use Rattle.std.proofs.Common.{◌≡◌, ℕ, ◌<◌, Bool, true, false, not, ◌||◌, ◌&&◌, List, [], ◌∷◌, ◌++◌, map, All, Option, Some, None, Result, Ok, Err, slice_get, refl, inl, inr, arith, append-nil}
 use Rattle.std.proofs.lemmas.List.Folds.{list_any-append}
-use Rattle.avc_types.specs.declared.references.Operation.TheVariants.{UnmarkShortTerm, UnmarkLongTerm, AssignLongTerm, MaxLongTermFrameIdx, UnmarkAll, CurrentToLongTerm}
-use Rattle.avc_marking.specs.Marks.{MarkingEntry, Marks, OperationState, limit_of, frame_or, refuse_unless, without_frame, without_long_term_frame_idx, with_mark, is_index_allowed, first_in_window, after_sliding_window, frame_with_pic_num_x, without_short_term, long_term_frame_or_fault, without_long_term, with_long_term, with_max_long_term_frame_idx, max_long_term_frame_idx_below, with_references, long_term_current, with_long_term_current, after_operation, after_operations, is_unmark_all, current_frame, with_current_frame, within_limit, before_operations, after_adaptive_marking, marks_after}
+use Rattle.avc_marking.specs.Marks.{MarkingEntry, Marks, OperationState, refuse_unless, without_frame, without_long_term_frame_idx, with_mark, is_index_allowed, first_in_window, after_sliding_window, with_references, long_term_current, with_long_term_current, after_operation, after_operations, is_unmark_all, current_frame, with_current_frame, within_limit, before_operations, marks_after}
 use Rattle.avc_marking.proofs.Parts.{same-refl, part-refl, part-trans, part-append, part-none, part-filter, part-map, part-front, part-own}
 
 -- ---- results

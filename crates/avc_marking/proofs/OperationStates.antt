@@ -1,14 +1,13 @@
 -- One operation on the frames, and what it makes of the marks.
-use Rattle.avc_marking.proofs.Common.{filter, refill, ◌≡◌, ℕ, ◌+◌, ◌<◌, Bool, true, false, not, List, [], ◌∷◌, ◌++◌, length, Option, None}
-use Rattle.avc_marking.proofs.Common.{Some, Result, Ok, Err, ◌&&◌, refl, sym, ap, ◌∙◌, arith, slice_index_or, slice_set}
-use Rattle.avc_marking.proofs.Common.{nat_le, is_some, if◌then◌else◌, filter_agree, get_or_append_left, length-append, Fault, MarkedFrame}
+use Rattle.avc_marking.proofs.Common.{filter, ◌≡◌, ℕ, ◌+◌, ◌<◌, Bool, true, false, not, List, [], ◌∷◌, ◌++◌, length, Option}
+use Rattle.avc_marking.proofs.Common.{Some, Result, Ok, Err, ◌&&◌, refl, arith, slice_index_or, slice_set}
+use Rattle.avc_marking.proofs.Common.{if◌then◌else◌, get_or_append_left, length-append, Fault, MarkedFrame}
 use Rattle.avc_marking.proofs.Common.{Reference, StandAt, references_at, Mark, Short, Long, Marking, Operation}
-use Rattle.avc_marking.proofs.Common.{reference_at, no_frame, Index, From, NewFrame, ◌>>=◌, entries_with}
+use Rattle.avc_marking.proofs.Common.{reference_at, no_frame, Index, NewFrame, entries_with}
 use Rattle.avc_marking.proofs.Common.{operation_state, StandWith, StandBefore, is_to_unmark, unmarked_if, marking_entry}
 use Rattle.std.specs.List.Sorted.{IsStrictlyIncreasing}
-use Rattle.avc_types.specs.declared.references.Operation.TheVariants.{UnmarkShortTerm, UnmarkLongTerm, AssignLongTerm, MaxLongTermFrameIdx, UnmarkAll, CurrentToLongTerm}
-use Rattle.avc_marking.specs.Marks.{OperationState, with_references, refuse_unless, with_max_long_term_frame_idx, max_long_term_frame_idx_below, is_index_allowed, without_long_term_frame_idx, MarkingEntry, with_other_mark, with_mark, with_long_term, frame_with_pic_num_x, after_operation, after_operations}
-use Rattle.avc_marking.proofs.Changes.{refilled, references-changed}
+use Rattle.avc_marking.specs.Marks.{OperationState, with_references, refuse_unless, is_index_allowed, without_long_term_frame_idx, MarkingEntry, with_other_mark, with_long_term, frame_with_pic_num_x, after_operation, after_operations}
+use Rattle.avc_marking.proofs.Changes.{references-changed}
 
 rising_front : (entries : List ℕ) (own : ℕ) → IsStrictlyIncreasing (entries ++ own ∷ []) → IsStrictlyIncreasing entries
 rising_front entries own rising = grind (arith, length-append, get_or_append_left)
@@ -24,34 +23,18 @@ module _ (X : List Reference → Result (List Reference) Fault) (assigned : Bool
   abbrev es : List ℕ
   es = entries_with assigned entries own
 
-  pub changed-ok : (ws : List MarkedFrame) → length ws ≡ length zs → X (references_at es zs) ≡ Ok (references_at es ws) →
-      with_references (operation_state entries own xs max_long_term_frame_idx assigned) (X (references_at es xs)) ≡ Ok (operation_state entries own (refill (length xs) xs ws) max_long_term_frame_idx assigned)
-  changed-ok ws kept h = grind (arith, refilled)
-
   pub changed-err : (f : Fault) → X (references_at es zs) ≡ Err f → with_references (operation_state entries own xs max_long_term_frame_idx assigned) (X (references_at es xs)) ≡ Err f
   changed-err f h = grind arith
 
 -- ---- operations 4, 5 and 6
 
-not-not : (b : Bool) → not (not b) ≡ b
+pub not-not : (b : Bool) → not (not b) ≡ b
 not-not true = refl
 not-not false = refl
-
-pub with_max_long_term_frame_idx-ok : (assigned : Bool) (entries : List ℕ) (own : ℕ) (max_long_term_frame_idx max_long_term_frame_idx' : Option ℕ) (xs zs ws : List MarkedFrame) (plus1 max : ℕ) → zs ≡ xs → length ws ≡ length zs →
-    nat_le plus1 max ≡ true → max_long_term_frame_idx' ≡ max_long_term_frame_idx_below plus1 →
-    references_at (entries_with assigned entries own) ws ≡ filter (λ r. not (is_to_unmark (From plus1) r)) (references_at (entries_with assigned entries own) zs) →
-    refuse_unless (nat_le plus1 max) (record (operation_state entries own xs max_long_term_frame_idx assigned) { references = with_max_long_term_frame_idx plus1 (references_at (entries_with assigned entries own) xs); max_long_term_frame_idx = max_long_term_frame_idx_below plus1 })
-    ≡ Ok (operation_state entries own (refill (length xs) xs ws) max_long_term_frame_idx' assigned)
-with_max_long_term_frame_idx-ok assigned entries own max_long_term_frame_idx max_long_term_frame_idx' xs zs ws plus1 max same kept fits below left = grind (arith, filter_agree, not-not, refilled)
 
 pub filter-nothing : {A : Type 0} (xs : List A) → filter (λ x. false) xs ≡ []
 filter-nothing [] = refl
 filter-nothing (x ∷ xs) = filter-nothing xs
-
-pub forgotten-ok : (assigned : Bool) (entries : List ℕ) (own : ℕ) (max_long_term_frame_idx : Option ℕ) (xs zs ws : List MarkedFrame) → zs ≡ xs → length ws ≡ length zs →
-    references_at (entries_with assigned entries own) ws ≡ filter (λ r. false) (references_at (entries_with assigned entries own) zs) →
-    ◌≡◌ {A = Result OperationState Fault} (Ok (record (operation_state entries own xs max_long_term_frame_idx assigned) { references = []; max_long_term_frame_idx = None })) (Ok (operation_state entries own (refill (length xs) xs ws) None assigned))
-forgotten-ok assigned entries own max_long_term_frame_idx xs zs ws same kept left = grind (arith, filter-nothing, refilled)
 
 pub not_assigned : (assigned fits : Bool) → (not assigned && fits) ≡ true → assigned ≡ false
 not_assigned assigned fits h = grind arith

@@ -2,7 +2,7 @@
 use Rattle.avc_marking.proofs.Common.{filter, slice_index, slice_index_or, is_some, option_map, AllPairs-from_increasing}
 use Rattle.avc_marking.proofs.Common.{and_parts, CurrentFrameNum, MarkedFrame, Reference, StandAt, references_at}
 use Rattle.avc_marking.proofs.Common.{reference_at, is_marked, is_short, placed_by, no_frame, first_in_window_of}
-use Rattle.std.proofs.Common.{◌≡◌, ℕ, suc, ◌<◌, Bool, true, false, List, [], ◌∷◌, length, drop, Option, Some, slice_get, refl, sym, ap, ◌∙◌, arith}
+use Rattle.std.proofs.Common.{◌≡◌, ℕ, suc, ◌<◌, Bool, true, false, List, [], ◌∷◌, length, drop, Option, slice_get, refl, sym, ap, ◌∙◌, arith}
 use Rattle.avc_types.proofs.ReferencesAt.{placed_behind, placed_here, references_with, references_without}
 use Rattle.avc_marking.specs.Marks.{first_in_window}
 use Rattle.avc_marking.specs.Marks.{precedes_in_window}
@@ -32,14 +32,6 @@ first-without_frame current es fs p n e same within h = grind (arith, references
 
 pub entry_above : (es : List ℕ) (fs : List MarkedFrame) (p q : ℕ) → StandAt es fs → p < q → q < length fs → slice_index es p < slice_index es q
 entry_above es fs p q stand h within = AllPairs-from_increasing es stand.rising p q 0 h (omega (arith, within, stand.each))
-
-pub first-kept : (current : CurrentFrameNum) (ref : ℕ → Reference) (p q : ℕ) (later : Option ℕ) → later ≡ Some q → precedes_in_window current (ref q) (ref p) ≡ true →
-    Some (ref q) ≡ first_in_window_of current (ref p) (option_map ref later)
-first-kept current ref p q later e h = grind arith
-
-pub first-changed : (current : CurrentFrameNum) (ref : ℕ → Reference) (p q : ℕ) (later : Option ℕ) → later ≡ Some q → precedes_in_window current (ref q) (ref p) ≡ false →
-    Some (ref p) ≡ first_in_window_of current (ref p) (option_map ref later)
-first-changed current ref p q later e h = grind arith
 
 pub first-step : (current : CurrentFrameNum) (es : List ℕ) (fs : List MarkedFrame) (p n : ℕ) (first before : Option ℕ) → n ≡ suc p → StandAt es fs → p < length fs →
     (is_marked is_short (slice_index_or fs p no_frame) ≡ false → first ≡ before) →
