@@ -41,14 +41,14 @@ others-kept x [] fs above = refl
 others-kept x (e ∷ es) [] above = refl
 others-kept x (e ∷ es) (f ∷ fs) above = grind (arith, nat_tests, above 0 (omega arith), others-kept x es fs (λ k h. above (suc k) (omega arith)))
 
-pub references-forgotten : (es : List ℕ) (fs : List MarkedFrame) (p : ℕ) → StandAt es fs → p < length fs →
+pub references_forgotten : (es : List ℕ) (fs : List MarkedFrame) (p : ℕ) → StandAt es fs → p < length fs →
     references_at es (slice_set fs p (unmarked (slice_index_or fs p no_frame))) ≡ without_frame (reference_at es fs p) (references_at es fs)
-references-forgotten [] fs p stand within = absurd (omega (arith, stand.each))
-references-forgotten (e ∷ es) [] p stand within = absurd (omega (arith, within))
-references-forgotten (e ∷ es) (f ∷ fs) zero stand within = grind (arith, nat_tests, others-kept e es fs (λ k h. below_rest e es k stand.rising h))
-references-forgotten (e ∷ es) (f ∷ fs) (suc p) stand within =
+references_forgotten [] fs p stand within = absurd (omega (arith, stand.each))
+references_forgotten (e ∷ es) [] p stand within = absurd (omega (arith, within))
+references_forgotten (e ∷ es) (f ∷ fs) zero stand within = grind (arith, nat_tests, others-kept e es fs (λ k h. below_rest e es k stand.rising h))
+references_forgotten (e ∷ es) (f ∷ fs) (suc p) stand within =
     let below : e < slice_index es p = below_rest e es p stand.rising (omega (arith, stand.each, within)) in
-    grind (arith, nat_tests, references-forgotten es fs p (stand_rest e es f fs stand) (omega arith))
+    grind (arith, nat_tests, references_forgotten es fs p (stand_rest e es f fs stand) (omega arith))
 
 -- ---- one frame is changed
 

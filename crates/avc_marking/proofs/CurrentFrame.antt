@@ -25,7 +25,7 @@ settled-assigned s entries entry max_long_term_frame_idx xs zs ys last kept same
 
 -- ---- no reference picture
 
-pub unmarked-added : (new : NewFrame) (marking : Option Marking) (entries : List ℕ) (entry : ℕ) (max_long_term_frame_idx : Option ℕ) (xs ys : List MarkedFrame) → marking ≡ None → length entries ≡ length xs →
+pub unmarked_added : (new : NewFrame) (marking : Option Marking) (entries : List ℕ) (entry : ℕ) (max_long_term_frame_idx : Option ℕ) (xs ys : List MarkedFrame) → marking ≡ None → length entries ≡ length xs →
     ys ≡ xs ++ record { frame_num = new.current.frame_num; existing = new.existing; mark = None } ∷ [] →
     marks_after (marking_entry new marking) entry marking (marks_at entries xs max_long_term_frame_idx) ≡ Ok (marks_at (entries ++ entry ∷ []) ys max_long_term_frame_idx)
-unmarked-added new marking entries entry max_long_term_frame_idx xs ys is each added = grind (arith, references-append, append-nil)
+unmarked_added new marking entries entry max_long_term_frame_idx xs ys is each added = grind (arith, references-append, append-nil)

@@ -7,11 +7,11 @@ use Rattle.avc_types.proofs.ReferencesAt.{placed_behind, placed_here, references
 use Rattle.avc_marking.specs.Marks.{first_in_window}
 use Rattle.avc_marking.specs.Marks.{precedes_in_window}
 
-pub length-references : (es : List ℕ) (fs : List MarkedFrame) → length es ≡ length fs → length (references_at es fs) ≡ length (filter {X = MarkedFrame} (λ f. is_some f.mark) fs)
-length-references [] [] same = refl
-length-references [] (f ∷ fs) same = absurd (omega (arith, same))
-length-references (e ∷ es) [] same = refl
-length-references (e ∷ es) (f ∷ fs) same = grind (arith, (length-references es fs (omega (arith, same))))
+pub length_references : (es : List ℕ) (fs : List MarkedFrame) → length es ≡ length fs → length (references_at es fs) ≡ length (filter {X = MarkedFrame} (λ f. is_some f.mark) fs)
+length_references [] [] same = refl
+length_references [] (f ∷ fs) same = absurd (omega (arith, same))
+length_references (e ∷ es) [] same = refl
+length_references (e ∷ es) (f ∷ fs) same = grind (arith, (length_references es fs (omega (arith, same))))
 
 -- ---- of two
 

@@ -1,9 +1,9 @@
 use Rattle.std.proofs.Common.{arith}
-use Rattle.avc_marking.proofs.Numbers.{length-numbers, numbers-mod, numbers-skipped}
+use Rattle.avc_marking.proofs.Numbers.{length_numbers, numbers-mod, numbers_skipped}
 use Rattle.avc_marking.proofs.gaps.MissingFrameNums.skip.Goals as goal
 
 pub overflow_sub-result : goal.overflow_sub-result
-overflow_sub-result c = grind (arith, length-numbers)
+overflow_sub-result c = grind (arith, length_numbers)
 
 pub returns : goal.returns
-returns c = grind (arith, length-numbers, numbers-mod, numbers-skipped)
+returns c = grind (arith, length_numbers, numbers-mod, numbers_skipped)
