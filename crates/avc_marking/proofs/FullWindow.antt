@@ -13,9 +13,9 @@ use Rattle.avc_marking.proofs.Sliding.{first-placed}
 
 -- ---- numbers that go on past MaxFrameNum
 
--- a number that comes d later
-ahead : (max v d : ℕ) → d < max → ((v + d) % max ≡ v % max + d) ⊎ ((v + d) % max + max ≡ v % max + d)
-ahead max v d low = by_test (nat_lt (v % max + d) max) refl
+-- one that comes less than max later
+ahead : (max v number : ℕ) → v ≤ number → number < v + max → (number % max ≡ v % max + (number - v)) ⊎ (number % max + max ≡ v % max + (number - v))
+ahead max v number low high = by_test (nat_lt (v % max + (number - v)) max) refl
   where
     q : ℕ
     q = v / max
@@ -23,53 +23,25 @@ ahead max v d low = by_test (nat_lt (v % max + d) max) refl
     parts : v ≡ q * max + v % max
     parts = omega (arith, div-add-mod v max)
 
-    below : v % max < max
-    below = mod-lt v (omega (arith, low))
-
-    by_test : (b : Bool) → nat_lt (v % max + d) max ≡ b → ((v + d) % max ≡ v % max + d) ⊎ ((v + d) % max + max ≡ v % max + d)
+    by_test : (b : Bool) → nat_lt (v % max + (number - v)) max ≡ b → (number % max ≡ v % max + (number - v)) ⊎ (number % max + max ≡ v % max + (number - v))
     by_test true e =
-        let less : v % max + d < max = grind (arith, nat_tests, e) in
-        let is : v + d ≡ q * max + (v % max + d) = omega (arith, parts) in
-        inl (ap (λ n. n % max) is ∙ mod-mul-add q max (v % max + d) less)
+        let less : v % max + (number - v) < max = grind (arith, nat_tests, e) in
+        let is : number ≡ q * max + (v % max + (number - v)) = omega (arith, parts) in
+        inl (ap (λ n. n % max) is ∙ mod-mul-add q max (v % max + (number - v)) less)
     by_test false e =
-        let more : max ≤ v % max + d = grind (arith, nat_tests, e) in
-        let k : ℕ = (v % max + d) - max in
-        let k_is : k + max ≡ v % max + d = omega (arith, more) in
-        let less : k < max = omega (arith, k_is, below, low) in
-        let is : v + d ≡ (q * max + k) + max = omega (arith, parts, k_is) in
-        let left : (v + d) % max ≡ k = ap (λ n. n % max) is ∙ add-mod_right (q * max + k) max ∙ mod-mul-add q max k less in
-        inr (ap (λ n. n + max) left ∙ k_is)
+        let k : ℕ = (v % max + (number - v)) - max in
+        let k_is : k + max ≡ v % max + (number - v) = grind (arith, nat_tests, e) in
+        let below : v % max < max = mod-lt v (omega (arith, low, high)) in
+        let less : k < max = omega (arith, k_is, below, high) in
+        let is : number ≡ (q * max + k) + max = omega (arith, parts, k_is) in
+        inr (ap (λ n. n % max + max) is ∙ ap (λ n. n + max) (add-mod_right (q * max + k) max ∙ mod-mul-add q max k less) ∙ k_is)
 
 -- FrameNumWrap of a number before the current one
 seen : (max number v : ℕ) → v < number → number < v + max →
     (pic_num_of (record { frame_num = number % max; max_frame_num = max }) (v % max) +ℤ pos number) ≡ (pos v +ℤ pos (number % max))
-seen max number v low high = by_side (ahead max v d near)
-  where
-    d : ℕ
-    d = number - v
-
-    is : v + d ≡ number
-    is = omega (arith, low)
-
-    near : d < max
-    near = omega (arith, is, high)
-
-    c : ℕ
-    c = number % max
-
-    by_test : (b : Bool) → nat_lt c (v % max) ≡ b → (b ≡ true → c + max ≡ v % max + d) → (b ≡ false → c ≡ v % max + d) →
-        ((if b then pos (v % max) -ℤ pos max else pos (v % max)) +ℤ pos number) ≡ (pos v +ℤ pos c)
-    by_test true e far close = let f = far refl in omega (arith, ints, f, is)
-    by_test false e far close = let f = close refl in omega (arith, ints, f, is)
-
-    by_side : ((v + d) % max ≡ v % max + d) ⊎ ((v + d) % max + max ≡ v % max + d) →
-        (pic_num_of (record { frame_num = c; max_frame_num = max }) (v % max) +ℤ pos number) ≡ (pos v +ℤ pos c)
-    by_side (inl e) =
-        let f : c ≡ v % max + d = ap (λ n. n % max) (sym is) ∙ e in
-        by_test (nat_lt c (v % max)) refl (λ t. let less : c < v % max = grind (arith, nat_tests, t) in absurd (omega (arith, less, f))) (λ _. f)
-    by_side (inr e) =
-        let f : c + max ≡ v % max + d = ap (λ n. n % max + max) (sym is) ∙ e in
-        by_test (nat_lt c (v % max)) refl (λ _. f) (λ t. let more : v % max ≤ c = grind (arith, nat_tests, t) in absurd (omega (arith, more, f, near)))
+seen max number v low high =
+    let behind = ahead max v number (omega (arith, low)) high in
+    grind (arith, ints, nat_tests)
 
 -- ---- which goes first
 
@@ -78,21 +50,19 @@ abbrev NoneBefore : CurrentFrameNum → Reference → List Reference → Type 0
 NoneBefore current r [] = Unit {0}
 NoneBefore current r (s ∷ rs) = (precedes_in_window current s r ≡ false) × NoneBefore current r rs
 
+kept_first : (current : CurrentFrameNum) (r s : Reference) (first : Option Reference) → precedes_in_window current s r ≡ false →
+    IfSome first (λ t. precedes_in_window current t r ≡ false) → IfSome (first_in_window_of current s first) (λ t. precedes_in_window current t r ≡ false)
+kept_first current r s None h k = h
+kept_first current r s (Some t) h k = by_test (precedes_in_window current t s)
+  where
+    by_test : (b : Bool) → IfSome (elim b as (λ _. Option Reference) [ true ↦ Some t | false ↦ Some s ]) (λ t. precedes_in_window current t r ≡ false)
+    by_test true = k
+    by_test false = h
+
 sorted_head : (current : CurrentFrameNum) (r : Reference) (rs : List Reference) → NoneBefore current r rs →
     IfSome (slice_get (sorted_by (precedes_in_window current) rs) 0) (λ s. precedes_in_window current s r ≡ false)
 sorted_head current r [] h = tt
-sorted_head current r (s ∷ rs) h =
-    subst (λ o. IfSome o (λ t. precedes_in_window current t r ≡ false)) (sym (first-placed current s (sorted_by (precedes_in_window current) rs)))
-    (by_first (slice_get (sorted_by (precedes_in_window current) rs) 0) (sorted_head current r rs h.1))
-  where
-    by_first : (o : Option Reference) → IfSome o (λ t. precedes_in_window current t r ≡ false) →
-        IfSome (first_in_window_of current s o) (λ t. precedes_in_window current t r ≡ false)
-    by_first None k = h.0
-    by_first (Some t) k = by_test (precedes_in_window current t s)
-      where
-        by_test : (b : Bool) → IfSome (elim b as (λ _. Option Reference) [ true ↦ Some t | false ↦ Some s ]) (λ t. precedes_in_window current t r ≡ false)
-        by_test true = k
-        by_test false = h.0
+sorted_head current r (s ∷ rs) h = rw (first-placed current s (sorted_by (precedes_in_window current) rs)) (kept_first current r s _ h.0 (sorted_head current r rs h.1))
 
 goes_first : (current : CurrentFrameNum) (r : Reference) (rs : List Reference) → NoneBefore current r rs →
     slice_get (sorted_by (precedes_in_window current) (r ∷ rs)) 0 ≡ Some r
@@ -102,28 +72,16 @@ lt_no : (a b : ℤ) → b ≤ℤ a → int_lt a b ≡ false
 lt_no a b h = grind (arith, ints)
 
 -- a later number that was decoded later
+abbrev at : (number max : ℕ) → CurrentFrameNum
+at number max = record { frame_num = number % max; max_frame_num = max }
+
 not_before : (max number v w : ℕ) (r s : Reference) → r.frame_num ≡ v % max → s.frame_num ≡ w % max → v < w → w < number → number < v + max → r.entry < s.entry →
     precedes_in_window (record { frame_num = number % max; max_frame_num = max }) s r ≡ false
 not_before max number v w r s r_is s_is low high near later =
-    ap₂ (λ a b. int_lt b a || (same_number a b && nat_lt s.entry r.entry)) (ap (pic_num_of current) r_is) (ap (pic_num_of current) s_is)
-    ∙ ap₂ (λ a b. a || (same_number (pic_num_of current (v % max)) (pic_num_of current (w % max)) && b)) less behind
-    ∙ never (same_number (pic_num_of current (v % max)) (pic_num_of current (w % max)))
-  where
-    current : CurrentFrameNum
-    current = record { frame_num = number % max; max_frame_num = max }
-
-    less : int_lt (pic_num_of current (w % max)) (pic_num_of current (v % max)) ≡ false
-    less =
-        let one = seen max number v (omega (arith, low, high)) near in
-        let other = seen max number w high (omega (arith, low, near)) in
-        lt_no (pic_num_of current (w % max)) (pic_num_of current (v % max)) (omega (arith, ints, one, other, low))
-
-    behind : nat_lt s.entry r.entry ≡ false
-    behind = grind (arith, nat_tests, later)
-
-    never : (b : Bool) → (false || (b && false)) ≡ false
-    never true = refl
-    never false = refl
+    let one = seen max number v (omega (arith, low, high)) near in
+    let other = seen max number w high (omega (arith, low, near)) in
+    let less : int_lt (pic_num_of (at number max) (w % max)) (pic_num_of (at number max) (v % max)) ≡ false = grind (arith, ints) in
+    grind (arith, nat_tests)
 
 none_before : (max number v low next lower : ℕ) (r : Reference) (rs : List Reference) → r.frame_num ≡ v % max → v < low → number < v + max →
     CountFrom max low number rs → r.entry < lower → StandFrom lower next rs →

@@ -43,15 +43,7 @@ within-limit : (n : ℕ) (s : MarkingEntry) (m m' : Marks) → limit_of s ≤ n 
 within-limit n s m m' most h = grind (arith, nat_tests)
 
 pub stays-with_max_long_term_frame_idx : StaysLimited
-stays-with_max_long_term_frame_idx n s entry m m' most few h = by_marking s.marking h
-  where
-    by_marking : (marking : Option Marking) → marks_after s entry marking m ≡ Ok m' → length m'.references ≤ n
-    by_marking None k = grind arith
-    by_marking (Some (Idr no_output false)) k = grind arith
-    by_marking (Some (Idr no_output true)) k = grind arith
-    by_marking (Some SlidingWindow) k =
-        after k (λ references e e'. grind (arith, length-append references (current_frame s entry Short ∷ []), after_sliding_window-fewer n s m.references references most few e))
-    by_marking (Some (Adaptive operations)) k = after k (λ t e. within-limit n s (with_current_frame s entry t) m' most)
+stays-with_max_long_term_frame_idx n s entry m m' most few h = grind (arith, after_sliding_window-fewer n s m.references, within-limit n s, length-append)
 
 pub is-with_max_long_term_frame_idx : IsLimited
 is-with_max_long_term_frame_idx n [] m all h = grind arith
