@@ -1,7 +1,7 @@
 -- What slots and frames stand for while a frame is stored, or all pictures go out.
 use Rattle.std.proofs.Common.{◌≡◌, ◌≢◌, ℕ, zero, suc, ◌+◌, ◌-◌, ◌<◌, ◌==◌, ◌||◌, ◌&&◌, not, int_lt, nat_le, if◌then◌else◌, ℤ, Bool, true, false, cond, List, [], ◌∷◌, ◌++◌, length, map, get_or, slice_get, slice_set, Option, Some, None}
 use Rattle.std.proofs.Common.{refl, sym, ap, ap₂, ◌∙◌, subst, arith, append-nil, append_assoc, eq-eqb}
-use Rattle.avc_dpb.proofs.Common.{count_by, option_map, filter, filter_map, fold, list_all, list_any, cons_option, eqb-true, false≢true}
+use Rattle.avc_dpb.proofs.Common.{count_by, option_map, filter, filter_map, fold, list_all, list_any}
 use Rattle.avc_dpb.proofs.Common.{or_left, or_right, none-some, same_Some, slice_get-map, map-append, map-set, length-map}
 use Rattle.avc_dpb.proofs.Common.{filter_map-append, Frame, Slot, ForRoom, ForFew, ForNone, Contents, IsBuffer, IsReferenceAmong, IsRising}
 use Rattle.avc_dpb.proofs.Common.{Stores, OutputsAll, OutputsSome, arrival_of, slot_changed_at, slot_of, are_needed, chosen}
@@ -14,13 +14,15 @@ use Rattle.avc_dpb.specs.Bumping.{Stored, Buffer, is_reference_in, needed_frames
 use Rattle.avc_dpb.specs.Bumping.{is_full, after_frame}
 use Rattle.avc_dpb.specs.Steps.{Bumps}
 use Rattle.avc_dpb.proofs.Held.{first_held, head_held, Agree, agree, not_held, changed_at}
-use Rattle.avc_dpb.proofs.Bumped.{bumped_none, bumped_some, still_rising, keep}
+use Rattle.avc_dpb.proofs.Bumped.{bumped_none, bumped_some, keep}
 use Rattle.avc_dpb.proofs.Rising.{filter_rising, rising_more, rising_push, same_head, same_tail}
 use Rattle.avc_dpb.proofs.Early.{Each, each_filter, each_unheld, each_push, one_more, stops}
 use Rattle.avc_dpb.proofs.BumpingTimes.{each_also}
 use Rattle.avc_dpb.proofs.Conserved.{grows_while, grown}
 use Rattle.avc_dpb.proofs.Least.{all_go_out_by_bumping}
 use Rattle.avc_dpb.proofs.Picking.{nil_middle}
+use Rattle.avc_dpb.proofs.Rising.{unheld_rising}
+use Rattle.avc_dpb.proofs.Common.{nat_tests}
 
 -- ---- the marks of all frames
 
@@ -84,14 +86,10 @@ needless_leave {slots} {frames} {references} {b} {next} {frame_of} slots' frames
 
 find_by : (frames : List Stored) (k : ℕ) (o : Option Stored) (p : Option (ℕ × ℤ)) → Agree frames 0 o p → Some k ≡ option_map (λ (p : ℕ × ℤ). p.0) p
     → (s : Stored) × (o ≡ Some s) × (slice_get frames k ≡ Some s)
-find_by frames k o None a e = absurd (none-some k (sym e))
-find_by frames k None (Some p) a e = absurd a
-find_by frames k (Some s) (Some p) a e = grind (arith, same_Some)
+find_by frames k o p s e = grind (arith, none-some, same_Some)
 
 find_none : (frames : List Stored) (o : Option Stored) (p : Option (ℕ × ℤ)) → Agree frames 0 o p → None ≡ option_map (λ (p : ℕ × ℤ). p.0) p → o ≡ None
-find_none frames None p a e = refl
-find_none frames (Some s) None a e = absurd a
-find_none frames (Some s) (Some p) a e = absurd (none-some p.0 e)
+find_none frames o p a e = grind (arith, none-some)
 
 unheld_entries : {A : Type 0} (g : ℕ → A) (first : Stored) (fs : List Stored) → map (λ s. g s.entry) (map (no_longer_held first) fs) ≡ map (λ s. g s.entry) fs
 unheld_entries g first [] = refl
@@ -142,7 +140,7 @@ bumped slots slots1 slots' frames frames' out out' k f is f_is set slots_is fram
     ∙ sym (map-set slot_of b.frames k (not_held first)) ∙ ap (map slot_of) (sym changed) in
     let stands = stand_for slots1 frames references mid next frame_of slots_are (h.frames_are ∙ sym (unheld_entries frame_of first b.frames))
     (each_unheld (Tells frame_of references) first b.frames (told h))
-    (subst (λ l. IsRising l next) (sym changed) (still_rising b.frames next k first o.there h.rising)) in
+    (unheld_rising first b.frames next h.rising) in
     record {
       since = first.entry ∷ [];
       grows = ap (λ c. c.out) o.after;
@@ -182,9 +180,7 @@ first_slots order [] = refl
 first_slots order (s ∷ fs) = ap (λ t. (not s.held || int_lt order s.order) && t) (first_slots order fs)
 
 same_test : (bumping : Bumping) (references : List ℕ) (slots : List Slot) (b : Buffer) → slots ≡ map slot_of b.frames → goes_on bumping slots ≡ goes_on_in bumping references b
-same_test (ForRoom a) references slots b is = grind (arith, ℕ, nat_le, length-map, first_slots)
-same_test (ForFew output a) references slots b is = grind (arith, count_slots)
-same_test ForNone references slots b is = refl
+same_test bumping references slots b is = grind (arith, ℕ, nat_le, length-map, first_slots, count_slots)
 
 -- So many bumpings were made of those that may be; `now` is the buffer after them.
 pub record IsSoFar (bumping : Bumping) (held turn : ℕ) (slots : List Slot) (frames : List (Frame 32)) (references : List ℕ) (b : Buffer) (next : ℕ)
@@ -274,8 +270,7 @@ shows_while bumping held turn slots0 slots frames0 frames out0 out count low goe
 
 shown_if : (frame_of : ℕ → Frame 32) (next : ℕ) (frame : Frame 32) (b : Bool) → frame_of next ≡ frame
     → (if b then filter_map shown_frame (frame ∷ []) else []) ≡ filter_map (λ e. shown_frame (frame_of e)) (if b then next ∷ [] else [])
-shown_if frame_of next frame true is = ap (λ f. cons_option (shown_frame f) []) (sym is)
-shown_if frame_of next frame false is = refl
+shown_if frame_of next frame b is = grind arith
 
 full_is : (capacity : ℕ) (slots : List Slot) (b : Buffer) → slots ≡ map slot_of b.frames → nat_le capacity (length slots) ≡ is_full capacity b
 full_is capacity slots b is = ap (nat_le capacity) (ap length is ∙ length-map b.frames slot_of)
@@ -316,29 +311,16 @@ stored c new a frame slots1 slots2 slots3 slots4 frames1 frames2 frames3 frames4
 abbrev stands_in : List ℕ → ℕ → Bool
 stands_in es e = list_any (λ r. r == e) es
 
+filtered_one : (p : ℕ → Bool) (e x : ℕ) (kept es : List ℕ) → stands_in kept e ≡ (p e && stands_in es e)
+    → stands_in (cond (p x) (x ∷ kept) kept) e ≡ (p e && stands_in (x ∷ es) e)
+filtered_one p e x kept es more = grind (arith, nat_tests)
+
+among_filtered : (p : ℕ → Bool) (e : ℕ) (es : List ℕ) → stands_in (filter p es) e ≡ (p e && stands_in es e)
+among_filtered p e [] = grind arith
+among_filtered p e (x ∷ es) = filtered_one p e x (filter p es) es (among_filtered p e es)
+
 stands_filtered : (p : ℕ → Bool) (e : ℕ) (es : List ℕ) → stands_in es e ≡ true → stands_in (filter p es) e ≡ p e
-stands_filtered p e es h = all es ∙ ap (λ b. p e && b) h ∙ both (p e)
-  where
-    both : (b : Bool) → (b && true) ≡ b
-    both true = refl
-    both false = refl
-
-    none : (b : Bool) → false ≡ (b && false)
-    none true = refl
-    none false = refl
-
-    by : (x : ℕ) (es : List ℕ) (t q r : Bool) → (x == e) ≡ t → p x ≡ q → p e ≡ r → stands_in (filter p es) e ≡ (p e && stands_in es e)
-        → stands_in (cond q (x ∷ filter p es) (filter p es)) e ≡ (p e && ((x == e) || stands_in es e))
-    by x es true true true t q r more = rw (t, r) refl
-    by x es true true false t q r more = absurd (false≢true (sym r ∙ ap p (sym (eqb-true x e t)) ∙ q))
-    by x es true false true t q r more = absurd (false≢true (sym q ∙ ap p (eqb-true x e t) ∙ r))
-    by x es true false false t q r more = rw r (more ∙ rw r refl)
-    by x es false true r' t q r more = rw t more
-    by x es false false r' t q r more = rw t more
-
-    all : (es : List ℕ) → stands_in (filter p es) e ≡ (p e && stands_in es e)
-    all [] = none (p e)
-    all (x ∷ es) = by x es (x == e) (p x) (p e) refl refl refl (all es)
+stands_filtered p e es h = grind (arith, among_filtered p e es)
 
 each_among : (es : List ℕ) (frames : List Stored) → ((e : ℕ) → stands_in (map (λ s. s.entry) frames) e ≡ true → stands_in es e ≡ true)
     → Each (λ e. stands_in es e ≡ true) frames
