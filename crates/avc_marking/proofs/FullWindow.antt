@@ -1,9 +1,9 @@
 -- The sliding window over short-term frames whose numbers rise.
-use Rattle.avc_marking.proofs.Common.{filter, if◌then◌else◌, int_lt, pos, ℤ, ◌+ℤ◌, ◌-ℤ◌, ◌≤ℤ◌, IfSome, ◌⊎◌, ◌%◌, ◌*◌, ◌/◌, ◌≡◌}
-use Rattle.avc_marking.proofs.Common.{ℕ, ◌+◌, ◌<◌, ◌≤◌, nat_lt, Bool, true, false, ◌||◌, ◌&&◌, List, [], ◌∷◌, ◌++◌, Option}
-use Rattle.avc_marking.proofs.Common.{None, Some, inl, inr, ◌-◌, slice_get, refl, sym, ap, ap₂, ◌∙◌, subst, arith}
+use Rattle.avc_marking.proofs.Common.{filter, int_lt, pos, ℤ, ◌+ℤ◌, ◌≤ℤ◌, IfSome, ◌⊎◌, ◌%◌, ◌*◌, ◌/◌, ◌≡◌}
+use Rattle.avc_marking.proofs.Common.{ℕ, ◌+◌, ◌<◌, ◌≤◌, nat_lt, Bool, true, false, List, [], ◌∷◌, ◌++◌, Option}
+use Rattle.avc_marking.proofs.Common.{None, Some, inl, inr, ◌-◌, slice_get, refl, ap, ◌∙◌, arith}
 use Rattle.avc_marking.proofs.Common.{length-append, nat_tests, filter-append, mod-lt, div-add-mod, add-mod_right, eq-eqb, ne_eqb}
-use Rattle.avc_marking.proofs.Common.{same_number, CurrentFrameNum, Reference, is_short, pic_num_of}
+use Rattle.avc_marking.proofs.Common.{CurrentFrameNum, Reference, is_short, pic_num_of}
 use Rattle.avc_marking.proofs.Common.{sorted_by, first_in_window_of, StandBelow, StandFrom, CountFrom, WindowTakesTheFirst}
 use Rattle.std.proofs.lemmas.Nat.{mod-mul-add}
 use Rattle.std.proofs.lemmas.Int.{ints}

@@ -1,13 +1,13 @@
 -- How many reference frames there may be.
 use Rattle.avc_marking.proofs.Common.{filter, list_any, ◌==◌, nat_tests, All-head, All-tail, eq-eqb, or_left}
-use Rattle.avc_marking.proofs.Common.{or_right, CurrentFrameNum, Short, Marking, Idr, SlidingWindow}
-use Rattle.avc_marking.proofs.Common.{Adaptive, Reference, is_short, sorted_by, StaysLimited, IsLimited}
-use Rattle.std.proofs.Common.{◌≡◌, ℕ, ◌+◌, ◌≤◌, Bool, true, false, ◌||◌, List, [], ◌∷◌, length, Option, Some, None, Ok, slice_get, refl, arith, length-append}
+use Rattle.avc_marking.proofs.Common.{or_right, CurrentFrameNum}
+use Rattle.avc_marking.proofs.Common.{Reference, is_short, sorted_by, StaysLimited, IsLimited}
+use Rattle.std.proofs.Common.{◌≡◌, ℕ, ◌+◌, ◌≤◌, Bool, true, false, ◌||◌, List, [], ◌∷◌, length, Some, Ok, slice_get, refl, arith, length-append}
 use Rattle.std.proofs.lemmas.List.Sums.{length-filter, count_by-le-length}
 use Rattle.avc_marking.proofs.KeptFrames.{after}
 use Rattle.avc_marking.specs.Marks.{first_in_window}
 use Rattle.avc_marking.specs.Marks.{precedes_in_window}
-use Rattle.avc_marking.specs.Marks.{MarkingEntry, Marks, limit_of, after_sliding_window, without_frame, current_frame, with_current_frame, within_limit, marks_after}
+use Rattle.avc_marking.specs.Marks.{MarkingEntry, Marks, limit_of, after_sliding_window, without_frame, within_limit}
 use Rattle.avc_marking.proofs.Sliding.{first-placed}
 
 -- ---- the frame that slides is one of them
