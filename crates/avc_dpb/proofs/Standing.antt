@@ -283,7 +283,8 @@ goes_at_once slots frames out out' frame a full out_is = grind (arith, full_is, 
 pub is_stored : (slots slots' : List Slot) (frames frames' : List (Frame 32)) (out : List Picture) (frame : Frame 32) (a : ArrivingFrame)
     → nat_le a.capacity (length slots) ≡ false → slots' ≡ slots ++ record { order = a.order; held = a.existing } ∷ [] → frames' ≡ frames ++ frame ∷ []
     → PlacesFrame slots frames out frame a slots' frames' out
-is_stored slots slots' frames frames' out frame a full slots_is frames_is = grind (arith, full_is, append-nil, stand_for, map-append, each_push, told, rising_push)
+is_stored slots slots' frames frames' out frame a full slots_is frames_is =
+    grind (arith, full_is, append-nil, stand_for, map-append, each_push, told, rising_push)
 
 -- ---- a frame is stored
 
@@ -325,7 +326,9 @@ stands_filtered p e es h = grind (arith, among_filtered p e es)
 each_among : (es : List ℕ) (frames : List Stored) → ((e : ℕ) → stands_in (map (λ s. s.entry) frames) e ≡ true → stands_in es e ≡ true)
     → Each (λ e. stands_in es e ≡ true) frames
 each_among es [] up = tt
-each_among es (s ∷ frames) up = grind (arith, or_left, eq-eqb, or_right, (each_among es frames (λ e h. up e (or_right (s.entry == e) (stands_in (map (λ s. s.entry) frames) e) h))))
+each_among es (s ∷ frames) up =
+    let later = each_among es frames (λ e h. up e (or_right (s.entry == e) (stands_in (map (λ s. s.entry) frames) e) h)) in
+    grind (arith, or_left, eq-eqb, later)
 
 -- the reference frames that the marks tell of
 record HasReferences (c : Contents) (b : Buffer) (next : ℕ) (frame_of : ℕ → Frame 32) : Type 0 where

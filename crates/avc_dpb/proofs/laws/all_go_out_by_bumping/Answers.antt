@@ -1,0 +1,5 @@
+use Rattle.avc_dpb.proofs.Least.{all_go_out_by_bumping}
+use Rattle.avc_dpb.proofs.laws.all_go_out_by_bumping.Goals as goal
+
+pub returns : goal.returns
+returns c = all_go_out_by_bumping
