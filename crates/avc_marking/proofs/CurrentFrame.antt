@@ -1,9 +1,7 @@
 -- The picture's own frame among the others, and the limit.
 use Rattle.avc_marking.proofs.Common.{refill, ◌≡◌, ℕ, ◌+◌, true, List, [], ◌∷◌, ◌++◌, length, Option, None, Ok}
-use Rattle.avc_marking.proofs.Common.{arith, slice_index, slice_index_or, slice_set}
-use Rattle.avc_marking.proofs.Common.{length-append, length-set, get_or_at, append-nil, MarkedFrame}
-use Rattle.avc_marking.proofs.Common.{Marking, no_frame}
-use Rattle.avc_marking.proofs.Common.{NewFrame, marking_entry, marks_at, operation_state, StandWith}
+use Rattle.avc_marking.proofs.Common.{arith, slice_index, slice_index_or, slice_set, length-append, length-set, get_or_at, append-nil, MarkedFrame}
+use Rattle.avc_marking.proofs.Common.{Marking, no_frame, NewFrame, marking_entry, marks_at, operation_state, StandWith}
 use Rattle.avc_marking.specs.Marks.{MarkingEntry, current_frame, with_current_frame, frame_num_after_marking, marks_after}
 use Rattle.avc_marking.proofs.Changes.{refilled, references-append, references-changed}
 use Rattle.avc_marking.proofs.OperationStates.{stand_with}
@@ -18,7 +16,8 @@ settled-assigned s entries entry max_long_term_frame_idx xs zs ys last kept same
     let es = entries ++ entry ∷ [] in
     let g : MarkedFrame = record { frame_num = kept; existing = s.existing; mark = (slice_index_or ys last no_frame).mark } in
     let here : slice_index (entries ++ entry ∷ []) last ≡ entry = get_or_at entries entry [] 0 last (omega (arith, stand.each, place, length-append entries (entry ∷ []))) in
-    let changed = references-changed (λ r. current_frame s entry r.mark) es xs last g (stand_with true entries entry xs stand) (omega (arith, place)) (cc) (cc) in
+    let changed =
+    references-changed (λ r. current_frame s entry r.mark) es xs last g (stand_with true entries entry xs stand) (omega (arith, place)) (cc) (cc) in
     grind (arith, changed, refilled, length-set)
 
 -- ---- the sliding window

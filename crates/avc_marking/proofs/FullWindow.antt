@@ -7,8 +7,7 @@ use Rattle.avc_marking.proofs.Common.{CurrentFrameNum, Reference, is_short, pic_
 use Rattle.avc_marking.proofs.Common.{sorted_by, first_in_window_of, StandBelow, StandFrom, CountFrom, WindowTakesTheFirst}
 use Rattle.std.proofs.lemmas.Nat.{mod-mul-add}
 use Rattle.std.proofs.lemmas.Int.{ints}
-use Rattle.avc_marking.specs.Marks.{without_frame}
-use Rattle.avc_marking.specs.Marks.{precedes_in_window}
+use Rattle.avc_marking.specs.Marks.{without_frame, precedes_in_window}
 use Rattle.avc_marking.proofs.Sliding.{first-placed}
 
 -- ---- numbers that go on past MaxFrameNum
@@ -62,7 +61,8 @@ kept_first current r s (Some t) h k = by_test (precedes_in_window current t s)
 sorted_head : (current : CurrentFrameNum) (r : Reference) (rs : List Reference) → NoneBefore current r rs →
     IfSome (slice_get (sorted_by (precedes_in_window current) rs) 0) (λ s. precedes_in_window current s r ≡ false)
 sorted_head current r [] h = tt
-sorted_head current r (s ∷ rs) h = rw (first-placed current s (sorted_by (precedes_in_window current) rs)) (kept_first current r s _ h.0 (sorted_head current r rs h.1))
+sorted_head current r (s ∷ rs) h =
+    rw (first-placed current s (sorted_by (precedes_in_window current) rs)) (kept_first current r s _ h.0 (sorted_head current r rs h.1))
 
 goes_first : (current : CurrentFrameNum) (r : Reference) (rs : List Reference) → NoneBefore current r rs →
     slice_get (sorted_by (precedes_in_window current) (r ∷ rs)) 0 ≡ Some r
@@ -117,4 +117,5 @@ without_first : (longs shorts : List Reference) (first : Reference) (place next 
 without_first longs shorts first place next below places = grind (arith, filter-append, kept_below, eq-eqb, kept_above)
 
 pub window_takes_the_first : WindowTakesTheFirst
-window_takes_the_first s entry max low number place longs shorts first m current full counts near is = grind (arith, filter-append, all_short, goes_first, none_before, length-append, nat_tests, without_first)
+window_takes_the_first s entry max low number place longs shorts first m current full counts near is =
+    grind (arith, filter-append, all_short, goes_first, none_before, length-append, nat_tests, without_first)

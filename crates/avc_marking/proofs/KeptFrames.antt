@@ -61,7 +61,8 @@ left-changed s entry ys t t' (Err f) part left h = cc
 left-own : (s : MarkingEntry) (entry index : ℕ) (ys xs : List Reference) → IsPartUpToMarks xs (ys ++ []) →
     IsPartUpToMarks (with_long_term_current s index entry xs) (ys ++ long_term_current s entry 0 ∷ [])
 left-own s entry index ys xs h =
-    part-append _ _ _ _ (part-trans _ _ _ (part-filter (λ t. not (has_long_term_frame_idx index t)) xs) (rw append-nil at h)) (inl (record { same_entry = refl; same_frame_num = refl; same_existing = refl }, tt))
+    part-append _ _ _ _ (part-trans _ _ _ (part-filter (λ t. not (has_long_term_frame_idx index t)) xs) (rw append-nil at h))
+    (inl (record { same_entry = refl; same_frame_num = refl; same_existing = refl }, tt))
 
 left-filtered : (s : MarkingEntry) (entry : ℕ) (ys : List Reference) (t : OperationState) (keep : Reference → Bool) → IsLeft s entry ys t →
     IsPartUpToMarks (filter keep t.references) (ys ++ own_frame s entry t.assigned)
@@ -75,7 +76,8 @@ left-operations s entry ys t t' [] left h = grind arith
 left-operations s entry ys t t' (o ∷ os) left h = after h (λ u e k. left-operations s entry ys u t' os (left-operation s entry ys t u o left e) k)
 
 -- operation 5 leaves none of the frames before it
-unmarks-or-later : (s : MarkingEntry) (entry : ℕ) (t u : OperationState) (o : Operation) (later : Bool) → (is_unmark_all o || later) ≡ true → after_operation s entry t o ≡ Ok u →
+unmarks-or-later : (s : MarkingEntry) (entry : ℕ) (t u : OperationState) (o : Operation) (later : Bool) → (is_unmark_all o || later) ≡ true →
+    after_operation s entry t o ≡ Ok u →
     IsLeft s entry [] u ⊎ (later ≡ true)
 unmarks-or-later s entry t u o later any h = grind arith
 
@@ -131,7 +133,8 @@ adds_own_frame_alone s entry m m' all h = by_marking s.marking h
     by_marking (Some (Idr no_output true)) k = grind (arith, own-part s entry (Long 0) m.references)
     by_marking (Some SlidingWindow) k = grind (arith, window-part, part-own)
     by_marking (Some (Adaptive operations)) k =
-        after k (λ t e. adaptive-part s entry m' t m.references all (left-operations s entry m.references (before_operations m) t operations (rw append-nil (part-refl m.references)) e))
+        after k (λ t e. adaptive-part s entry m' t m.references all
+        (left-operations s entry m.references (before_operations m) t operations (rw append-nil (part-refl m.references)) e))
 
 pub leaves_own_frame_alone : LeavesOwnFrameAlone
 leaves_own_frame_alone s entry m m' emptied h = by_marking s.marking emptied h

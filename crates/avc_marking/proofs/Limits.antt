@@ -1,12 +1,10 @@
 -- How many reference frames there may be.
-use Rattle.avc_marking.proofs.Common.{filter, list_any, ◌==◌, nat_tests, All-head, All-tail, eq-eqb, or_left}
-use Rattle.avc_marking.proofs.Common.{or_right, CurrentFrameNum}
+use Rattle.avc_marking.proofs.Common.{filter, list_any, ◌==◌, nat_tests, All-head, All-tail, eq-eqb, or_left, or_right, CurrentFrameNum}
 use Rattle.avc_marking.proofs.Common.{Reference, is_short, sorted_by, StaysLimited, IsLimited}
 use Rattle.std.proofs.Common.{◌≡◌, ℕ, ◌+◌, ◌≤◌, Bool, true, false, ◌||◌, List, [], ◌∷◌, length, Some, Ok, slice_get, refl, arith, length-append}
 use Rattle.std.proofs.lemmas.List.Sums.{length-filter, count_by-le-length}
 use Rattle.avc_marking.proofs.KeptFrames.{after}
-use Rattle.avc_marking.specs.Marks.{first_in_window}
-use Rattle.avc_marking.specs.Marks.{precedes_in_window}
+use Rattle.avc_marking.specs.Marks.{first_in_window, precedes_in_window}
 use Rattle.avc_marking.specs.Marks.{MarkingEntry, Marks, limit_of, after_sliding_window, without_frame, within_limit}
 use Rattle.avc_marking.proofs.Sliding.{first-placed}
 
@@ -31,7 +29,8 @@ fewer : (r : Reference) (xs : List Reference) → is_there r xs ≡ true → len
 fewer r [] h = cc
 fewer r (x ∷ xs) h = grind (arith, length-filter, count_by-le-length, (fewer r xs))
 
-slides-fewer : (current : CurrentFrameNum) (xs : List Reference) (r : Reference) → first_in_window current xs ≡ Some r → length (without_frame r xs) + 1 ≤ length xs
+slides-fewer : (current : CurrentFrameNum) (xs : List Reference) (r : Reference) → first_in_window current xs ≡ Some r →
+    length (without_frame r xs) + 1 ≤ length xs
 slides-fewer current xs r h = fewer r xs (there-filter is_short r xs (there-sorted current r (filter is_short xs) h))
 
 -- ---- one entry
@@ -48,4 +47,5 @@ stays-with_max_long_term_frame_idx n s entry m m' most few h = grind (arith, aft
 pub is-with_max_long_term_frame_idx : IsLimited
 is-with_max_long_term_frame_idx n [] m all h = grind arith
 is-with_max_long_term_frame_idx n (s ∷ older) m all h =
-    after h (λ before e. stays-with_max_long_term_frame_idx n s (length older) before m (All-head (λ t. limit_of t ≤ n) s older all) (is-with_max_long_term_frame_idx n older before (All-tail (λ t. limit_of t ≤ n) s older all) e))
+    after h (λ before e. stays-with_max_long_term_frame_idx n s (length older) before m (All-head (λ t. limit_of t ≤ n) s older all)
+    (is-with_max_long_term_frame_idx n older before (All-tail (λ t. limit_of t ≤ n) s older all) e))

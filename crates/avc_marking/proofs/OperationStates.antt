@@ -1,12 +1,12 @@
 -- One operation on the frames, and what it makes of the marks.
 use Rattle.avc_marking.proofs.Common.{filter, ◌≡◌, ℕ, ◌+◌, ◌<◌, Bool, true, false, not, List, [], ◌∷◌, ◌++◌, length, Option}
-use Rattle.avc_marking.proofs.Common.{Some, Result, Ok, Err, ◌&&◌, refl, arith, slice_index_or, slice_set}
-use Rattle.avc_marking.proofs.Common.{if◌then◌else◌, get_or_append_left, length-append, Fault, MarkedFrame}
-use Rattle.avc_marking.proofs.Common.{Reference, StandAt, references_at, Mark, Short, Long, Marking, Operation}
+use Rattle.avc_marking.proofs.Common.{Some, Ok, ◌&&◌, refl, arith, slice_index_or, slice_set}
+use Rattle.avc_marking.proofs.Common.{if◌then◌else◌, get_or_append_left, length-append, MarkedFrame}
+use Rattle.avc_marking.proofs.Common.{StandAt, references_at, Mark, Short, Long, Marking, Operation}
 use Rattle.avc_marking.proofs.Common.{reference_at, no_frame, Index, NewFrame, entries_with}
-use Rattle.avc_marking.proofs.Common.{operation_state, StandWith, StandBefore, is_to_unmark, unmarked_if, marking_entry}
+use Rattle.avc_marking.proofs.Common.{StandWith, StandBefore, is_to_unmark, unmarked_if, marking_entry}
 use Rattle.std.specs.List.Sorted.{IsStrictlyIncreasing}
-use Rattle.avc_marking.specs.Marks.{OperationState, with_references, refuse_unless, is_index_allowed, without_long_term_frame_idx, MarkingEntry, with_other_mark, with_long_term, frame_with_pic_num_x, after_operation, after_operations}
+use Rattle.avc_marking.specs.Marks.{OperationState, is_index_allowed, without_long_term_frame_idx, MarkingEntry, with_other_mark, with_long_term, frame_with_pic_num_x, after_operation, after_operations}
 use Rattle.avc_marking.proofs.Changes.{references-changed}
 
 rising_front : (entries : List ℕ) (own : ℕ) → IsStrictlyIncreasing (entries ++ own ∷ []) → IsStrictlyIncreasing entries
@@ -18,13 +18,6 @@ stand_with false entries own fs s = record { each = s.each; rising = rising_fron
 
 pub stand_before : (entries : List ℕ) (own : ℕ) (fs : List MarkedFrame) → StandBefore entries own fs → StandAt entries fs
 stand_before entries own fs s = record { each = s.each; rising = rising_front entries own s.rising }
-
-module _ (X : List Reference → Result (List Reference) Fault) (assigned : Bool) (entries : List ℕ) (own : ℕ) (max_long_term_frame_idx : Option ℕ) (xs zs : List MarkedFrame) (same : zs ≡ xs) where
-  abbrev es : List ℕ
-  es = entries_with assigned entries own
-
-  pub changed-err : (f : Fault) → X (references_at es zs) ≡ Err f → with_references (operation_state entries own xs max_long_term_frame_idx assigned) (X (references_at es xs)) ≡ Err f
-  changed-err f h = grind arith
 
 -- ---- operations 4, 5 and 6
 
@@ -41,13 +34,6 @@ not_assigned assigned fits h = grind arith
 
 pub and_fits : (assigned fits : Bool) → (not assigned && fits) ≡ true → fits ≡ true
 and_fits assigned fits h = grind arith
-
-pub current-ok : (new : NewFrame) (entries : List ℕ) (own : ℕ) (max_long_term_frame_idx : Option ℕ) (index : ℕ) (xs ws : List MarkedFrame) → is_index_allowed index max_long_term_frame_idx ≡ true →
-    references_at (entries ++ own ∷ []) ws ≡ without_long_term_frame_idx index (references_at entries xs) ++ record { entry = own; frame_num = new.current.frame_num; existing = new.existing; mark = Long index } ∷ [] →
-    refuse_unless (true && is_index_allowed index max_long_term_frame_idx)
-    (record (operation_state entries own xs max_long_term_frame_idx false) { references = without_long_term_frame_idx index (references_at entries xs) ++ record { entry = own; frame_num = new.current.frame_num; existing = new.existing; mark = Long index } ∷ []; assigned = true })
-    ≡ Ok (operation_state entries own ws max_long_term_frame_idx true)
-current-ok new entries own max_long_term_frame_idx index xs ws fits left = grind arith
 
 -- ---- operation 3
 

@@ -4,10 +4,10 @@ use Rattle.avc_marking.proofs.Common.{and_parts, CurrentFrameNum, MarkedFrame, R
 use Rattle.avc_marking.proofs.Common.{reference_at, is_marked, is_short, placed_by, no_frame, first_in_window_of}
 use Rattle.std.proofs.Common.{◌≡◌, ℕ, suc, ◌<◌, Bool, true, false, List, [], ◌∷◌, length, drop, Option, slice_get, refl, sym, ap, ◌∙◌, arith}
 use Rattle.avc_types.proofs.ReferencesAt.{placed_behind, placed_here, references_with, references_without}
-use Rattle.avc_marking.specs.Marks.{first_in_window}
-use Rattle.avc_marking.specs.Marks.{precedes_in_window}
+use Rattle.avc_marking.specs.Marks.{first_in_window, precedes_in_window}
 
-pub length_references : (es : List ℕ) (fs : List MarkedFrame) → length es ≡ length fs → length (references_at es fs) ≡ length (filter {X = MarkedFrame} (λ f. is_some f.mark) fs)
+pub length_references : (es : List ℕ) (fs : List MarkedFrame) → length es ≡ length fs →
+    length (references_at es fs) ≡ length (filter {X = MarkedFrame} (λ f. is_some f.mark) fs)
 length_references [] [] same = refl
 length_references [] (f ∷ fs) same = absurd (omega (arith, same))
 length_references (e ∷ es) [] same = refl

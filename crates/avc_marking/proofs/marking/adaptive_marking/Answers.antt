@@ -1,7 +1,6 @@
-use Rattle.avc_marking.proofs.OperationStates.{operations-any}
+use Rattle.avc_marking.proofs.OperationStates.{operations-any, stand_turned, stand_settled}
 use Rattle.avc_marking.proofs.Common.{arith, nat_tests}
 use Rattle.avc_marking.proofs.Changes.{stand_as}
-use Rattle.avc_marking.proofs.OperationStates.{stand_turned, stand_settled}
 use Rattle.avc_marking.proofs.marking.adaptive_marking.Goals as goal
 
 pub returns-in_err-assigned-clause-marks : goal.returns-in_err-assigned-clause-marks
@@ -12,11 +11,13 @@ returns-then-count-limit-clause-marks c = λ entries entry stand.
     let turned = stand_turned c.in_ok-assigned.assigned entries entry c.args.frames.now.items c.operate_all.new.frames.items stand c.in_ok-assigned.ensures.length in
     let settled = stand_settled c.in_ok-assigned.assigned entries entry _ _ _ stand c.in_ok-assigned.ensures.length c.mark_current.ensures.length in
     let counted = c.count.ensures.references _ (stand_as _ _ _ c.as_slice.ensures.value settled) in
-    grind (arith, nat_tests, operations-any, c.in_ok-assigned.ensures.turn entries entry stand, c.mark_current.ensures.marks entries entry c.operate_all.new.max_long_term_frame_idx turned, counted)
+    let marked = c.mark_current.ensures.marks entries entry c.operate_all.new.max_long_term_frame_idx turned in
+    grind (arith, nat_tests, operations-any, c.in_ok-assigned.ensures.turn entries entry stand, marked, counted)
 
 pub returns-else-count-limit-clause-marks : goal.returns-else-count-limit-clause-marks
 returns-else-count-limit-clause-marks c = λ entries entry stand.
     let turned = stand_turned c.in_ok-assigned.assigned entries entry c.args.frames.now.items c.operate_all.new.frames.items stand c.in_ok-assigned.ensures.length in
     let settled = stand_settled c.in_ok-assigned.assigned entries entry _ _ _ stand c.in_ok-assigned.ensures.length c.mark_current.ensures.length in
     let counted = c.count.ensures.references _ (stand_as _ _ _ c.as_slice.ensures.value settled) in
-    grind (arith, nat_tests, operations-any, c.in_ok-assigned.ensures.turn entries entry stand, c.mark_current.ensures.marks entries entry c.operate_all.new.max_long_term_frame_idx turned, counted)
+    let marked = c.mark_current.ensures.marks entries entry c.operate_all.new.max_long_term_frame_idx turned in
+    grind (arith, nat_tests, operations-any, c.in_ok-assigned.ensures.turn entries entry stand, marked, counted)

@@ -7,7 +7,8 @@ pub returns-then-assigned-clause-marks : goal.returns-then-assigned-clause-marks
 returns-then-assigned-clause-marks c = λ entries entry idx stand.
     let s = marking_entry c.args.new c.args.marking.now in
     let place : c.len-last.result - 1 + 1 ≡ length c.args.frames.now.items = omega (arith, c.len-last.ensures.value, c.requires.own c.if-assigned.true) in
-    grind (arith, settled-assigned s entries entry idx _ _ _ (c.len-last.result - 1) _ c.deref_mut.ensures.value c.deref.ensures.0 (rw c.if-assigned.true at stand) place c.frame_num_after_marking-frame_num.ensures)
+    let settled = settled-assigned s entries entry idx _ _ _ (c.len-last.result - 1) c.frame_num_after_marking-frame_num.result c.deref_mut.ensures.value c.deref.ensures.0 in
+    grind (arith, settled (rw c.if-assigned.true at stand) place c.frame_num_after_marking-frame_num.ensures)
 
 pub returns-else-assigned-clause-marks : goal.returns-else-assigned-clause-marks
 returns-else-assigned-clause-marks c = grind (arith, references-append)

@@ -1,9 +1,9 @@
-use Rattle.avc_marking.proofs.Changes.{refilled, references-append}
+use Rattle.avc_marking.proofs.Changes.{refilled, references-append, stand_as}
 use Rattle.std.proofs.Common.{arith}
-use Rattle.avc_marking.proofs.Changes.{stand_as}
 use Rattle.avc_marking.proofs.OperationStates.{stand_before}
 use Rattle.avc_marking.proofs.operations.current_to_long_term.Goals as goal
 
 pub returns-clause-references : goal.returns-clause-references
 returns-clause-references c = λ entries own stand.
-    grind (arith, refilled, references-append, c.unmark_frames.ensures.references entries (stand_as entries _ _ c.as_mut_slice.ensures.value (stand_before entries own _ stand)))
+    let left = c.unmark_frames.ensures.references entries (stand_as entries _ _ c.as_mut_slice.ensures.value (stand_before entries own _ stand)) in
+    grind (arith, refilled, references-append, left)

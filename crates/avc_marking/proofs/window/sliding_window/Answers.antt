@@ -1,6 +1,5 @@
-use Rattle.avc_marking.proofs.Changes.{refilled, references-append}
+use Rattle.avc_marking.proofs.Changes.{refilled, references-append, stand_as}
 use Rattle.std.proofs.Common.{arith}
-use Rattle.avc_marking.proofs.Changes.{stand_as}
 use Rattle.avc_marking.proofs.OperationStates.{stand_before}
 use Rattle.avc_marking.proofs.window.sliding_window.Goals as goal
 
@@ -10,4 +9,5 @@ returns-in_err-free_a_frame-clause-marks c = λ idx entries entry stand.
 
 pub returns-clause-marks : goal.returns-clause-marks
 returns-clause-marks c = λ idx entries entry stand.
-    grind (arith, refilled, references-append, c.in_ok-free_a_frame.ensures entries (stand_as entries _ _ c.as_mut_slice.ensures.value (stand_before entries entry _ stand)))
+    let freed = c.in_ok-free_a_frame.ensures entries (stand_as entries _ _ c.as_mut_slice.ensures.value (stand_before entries entry _ stand)) in
+    grind (arith, refilled, references-append, freed)
