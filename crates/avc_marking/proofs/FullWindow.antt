@@ -52,11 +52,7 @@ NoneBefore current r (s ∷ rs) = (precedes_in_window current s r ≡ false) × 
 kept_first : (current : CurrentFrameNum) (r s : Reference) (first : Option Reference) → precedes_in_window current s r ≡ false →
     IfSome first (λ t. precedes_in_window current t r ≡ false) → IfSome (first_in_window_of current s first) (λ t. precedes_in_window current t r ≡ false)
 kept_first current r s None h k = h
-kept_first current r s (Some t) h k = by_test (precedes_in_window current t s)
-  where
-    by_test : (b : Bool) → IfSome (elim b as (λ _. Option Reference) [ true ↦ Some t | false ↦ Some s ]) (λ t. precedes_in_window current t r ≡ false)
-    by_test true = k
-    by_test false = h
+kept_first current r s (Some t) h k = search arith
 
 sorted_head : (current : CurrentFrameNum) (r : Reference) (rs : List Reference) → NoneBefore current r rs →
     IfSome (slice_get (sorted_by (precedes_in_window current) rs) 0) (λ s. precedes_in_window current s r ≡ false)

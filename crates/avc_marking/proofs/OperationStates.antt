@@ -29,12 +29,6 @@ pub filter-nothing : {A : Type 0} (xs : List A) → filter (λ x. false) xs ≡ 
 filter-nothing [] = refl
 filter-nothing (x ∷ xs) = filter-nothing xs
 
-pub not_assigned : (assigned fits : Bool) → (not assigned && fits) ≡ true → assigned ≡ false
-not_assigned assigned fits h = grind arith
-
-pub and_fits : (assigned fits : Bool) → (not assigned && fits) ≡ true → fits ≡ true
-and_fits assigned fits h = grind arith
-
 -- ---- operation 3
 
 short-stays : (index n : ℕ) (x : Bool) (m : Option Mark) → m ≡ Some Short →

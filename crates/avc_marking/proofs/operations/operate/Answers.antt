@@ -1,7 +1,7 @@
 use Rattle.avc_marking.proofs.Common.{arith, nat_tests, err_from_is_err_and, entries_with, references_at}
 use Rattle.std.proofs.lemmas.List.Elements.{filter_agree}
 use Rattle.avc_marking.proofs.Changes.{refilled, stand_as}
-use Rattle.avc_marking.proofs.OperationStates.{not-not, filter-nothing, stand_with, not_assigned, and_fits}
+use Rattle.avc_marking.proofs.OperationStates.{not-not, filter-nothing, stand_with}
 use Rattle.avc_marking.proofs.operations.operate.Goals as goal
 
 pub returns-in_err-unmark_short_term-in-UnmarkShortTerm-clause-turn : goal.returns-in_err-unmark_short_term-in-UnmarkShortTerm-clause-turn
@@ -32,7 +32,7 @@ returns-in-UnmarkAll-clause-turn c = λ entries own stand.
     grind (arith, refilled, none, c.unmark_frames-in-UnmarkAll.ensures.references _ stands)
 
 pub current_to_long_term-requires : goal.current_to_long_term-requires
-current_to_long_term-requires c = grind (arith, not_assigned)
+current_to_long_term-requires c = grind arith
 
 pub returns-else-not-may_current_be_long_term-clause-turn : goal.returns-else-not-may_current_be_long_term-clause-turn
-returns-else-not-may_current_be_long_term-clause-turn c = grind (arith, not_assigned, and_fits)
+returns-else-not-may_current_be_long_term-clause-turn c = grind arith
