@@ -1,7 +1,7 @@
 -- What slots and frames stand for while a frame is stored, or all pictures go out.
 use Rattle.std.proofs.Common.{◌≡◌, ◌≢◌, ℕ, zero, suc, ◌+◌, ◌-◌, ◌<◌, ◌==◌, ◌||◌, ◌&&◌, not, int_lt, nat_le, if◌then◌else◌, ℤ, Bool, true, false, cond, List, [], ◌∷◌, ◌++◌, length, map, get_or, slice_get, slice_set, Option, Some, None}
 use Rattle.std.proofs.Common.{refl, sym, ap, ap₂, ◌∙◌, subst, arith, append-nil, append_assoc, eq-eqb}
-use Rattle.avc_dpb.proofs.Common.{count_by, option_map, filter, filter_map, fold, list_all, list_any, cons_option, eqb-true, false≢true}
+use Rattle.avc_dpb.proofs.Common.{count_by, option_map, filter, filter_map, fold, list_all, list_any}
 use Rattle.avc_dpb.proofs.Common.{or_left, or_right, none-some, same_Some, slice_get-map, map-append, map-set, length-map}
 use Rattle.avc_dpb.proofs.Common.{filter_map-append, Frame, Slot, ForRoom, ForFew, ForNone, Contents, IsBuffer, IsReferenceAmong, IsRising}
 use Rattle.avc_dpb.proofs.Common.{Stores, OutputsAll, OutputsSome, arrival_of, slot_changed_at, slot_of, are_needed, chosen}
@@ -10,17 +10,19 @@ use Rattle.avc_dpb.proofs.Common.{PlacesFrame, is_used_for_reference, shown_fram
 use Rattle.avc_types.specs.declared.picture.Picture.{Picture}
 use Rattle.avc_dpb.specs.declared.arriving_frame.ArrivingFrame.{ArrivingFrame}
 use Rattle.avc_dpb.specs.declared.waiting.Bumping.{Bumping}
-use Rattle.avc_dpb.specs.Bumping.{Stored, Buffer, are_too_many, is_reference_in, needed_frames, no_longer_held, after_bumping, after_bumping_while, after_making_room, with_all_output}
-use Rattle.avc_dpb.specs.Bumping.{is_full, with_frame, with_direct_output, with_frame_placed, after_frame}
+use Rattle.avc_dpb.specs.Bumping.{Stored, Buffer, is_reference_in, needed_frames, no_longer_held, after_bumping, after_bumping_while, after_making_room, with_all_output}
+use Rattle.avc_dpb.specs.Bumping.{is_full, after_frame}
 use Rattle.avc_dpb.specs.Steps.{Bumps}
 use Rattle.avc_dpb.proofs.Held.{first_held, head_held, Agree, agree, not_held, changed_at}
-use Rattle.avc_dpb.proofs.Bumped.{bumped_none, bumped_some, still_rising, keep}
+use Rattle.avc_dpb.proofs.Bumped.{bumped_none, bumped_some, keep}
 use Rattle.avc_dpb.proofs.Rising.{filter_rising, rising_more, rising_push, same_head, same_tail}
 use Rattle.avc_dpb.proofs.Early.{Each, each_filter, each_unheld, each_push, one_more, stops}
 use Rattle.avc_dpb.proofs.BumpingTimes.{each_also}
 use Rattle.avc_dpb.proofs.Conserved.{grows_while, grown}
 use Rattle.avc_dpb.proofs.Least.{all_go_out_by_bumping}
 use Rattle.avc_dpb.proofs.Picking.{nil_middle}
+use Rattle.avc_dpb.proofs.Rising.{unheld_rising}
+use Rattle.avc_dpb.proofs.Common.{nat_tests}
 
 -- ---- the marks of all frames
 
@@ -39,53 +41,29 @@ each_tells frame_of references (s ∷ frames) h = ap₂ (λ x l. x ∷ l) h.0 (e
 
 told : {slots : List Slot} {frames : List (Frame 32)} {references : List ℕ} {b : Buffer} {next : ℕ} {frame_of : ℕ → Frame 32}
     → StandFor slots frames references b next frame_of → Each (Tells frame_of references) b.frames
-told {frames = frames} {references = references} {b = b} {frame_of = frame_of} h =
-    tells_each frame_of references b.frames (ap (map is_used_for_reference) (sym h.frames_are) ∙ h.marks)
+told {frames = frames} {references = references} {b = b} {frame_of = frame_of} h = grind (arith, tells_each)
 
 stand_for : (slots : List Slot) (frames : List (Frame 32)) (references : List ℕ) (b : Buffer) (next : ℕ) (frame_of : ℕ → Frame 32)
     → slots ≡ map slot_of b.frames → frames ≡ map (λ s. frame_of s.entry) b.frames → Each (Tells frame_of references) b.frames → IsRising b.frames next
     → StandFor slots frames references b next frame_of
-stand_for slots frames references b next frame_of slots_are frames_are tells rising = record {
-  slots_are = slots_are;
-  frames_are = frames_are;
-  marks = ap (map is_used_for_reference) frames_are ∙ each_tells frame_of references b.frames tells;
-  rising = rising;
-}
+stand_for slots frames references b next frame_of slots_are frames_are tells rising = grind (arith, each_tells)
 
 -- one after the other
 in_turn : {slots slots' : List Slot} {frames frames' : List (Frame 32)} {references : List ℕ} {b c d : Buffer} {next next' : ℕ} {frame_of : ℕ → Frame 32}
     {out out' out'' : List Picture} → Become slots frames references b c next frame_of out out' → Become slots' frames' references c d next' frame_of out' out''
     → Become slots' frames' references b d next' frame_of out out''
-in_turn {b = b} {frame_of = frame_of} {out = out} h k = record {
-  since = h.since ++ k.since;
-  grows = k.grows ∙ ap (λ l. l ++ k.since) h.grows ∙ append_assoc b.out h.since k.since;
-  stand = k.stand;
-  pictures = k.pictures ∙ ap (λ l. l ++ filter_map (λ e. shown_frame (frame_of e)) k.since) h.pictures
-      ∙ append_assoc out (filter_map (λ e. shown_frame (frame_of e)) h.since) (filter_map (λ e. shown_frame (frame_of e)) k.since)
-      ∙ ap (λ l. out ++ l) (sym (filter_map-append (λ e. shown_frame (frame_of e)) h.since k.since));
-}
+in_turn {b = b} {frame_of = frame_of} {out = out} h k = grind (arith, append_assoc, filter_map-append)
 
 -- nothing goes out
 same_buffer : {slots : List Slot} {frames : List (Frame 32)} {references : List ℕ} {b : Buffer} {next : ℕ} {frame_of : ℕ → Frame 32} (c : Buffer) (out : List Picture)
     → c ≡ b → StandFor slots frames references b next frame_of → Become slots frames references b c next frame_of out out
-same_buffer {slots} {frames} {references} {b} {next} {frame_of} c out is h = record {
-  since = [];
-  grows = ap (λ c. c.out) is ∙ sym (append-nil b.out);
-  stand = subst (λ c. StandFor slots frames references c next frame_of) (sym is) h;
-  pictures = sym (append-nil out);
-}
+same_buffer {slots} {frames} {references} {b} {next} {frame_of} c out is h = grind (arith, append-nil)
 
 -- ---- frames that are needless leave
 
 chosen_map : {A : Type 0} (p : Stored → Bool) (f : Stored → A) (fs : List Stored) → chosen (map p fs) (map f fs) ≡ map f (filter p fs)
 chosen_map p f [] = refl
-chosen_map {A} p f (x ∷ fs) = by (p x) (chosen_map p f fs)
-  where
-    by : (b : Bool) → chosen (map p fs) (map f fs) ≡ map f (filter p fs)
-        → (elim b as (λ _. List A) [ true ↦ f x ∷ chosen (map p fs) (map f fs) | false ↦ chosen (map p fs) (map f fs) ])
-        ≡ map f (cond b (x ∷ filter p fs) (filter p fs))
-    by true e = ap (λ l. f x ∷ l) e
-    by false e = e
+chosen_map {A} p f (x ∷ fs) = grind (arith, (chosen_map p f fs))
 
 needed_are : (references : List ℕ) (frame_of : ℕ → Frame 32) (fs : List Stored) → Each (Tells frame_of references) fs
     → are_needed (map slot_of fs) (map (λ s. frame_of s.entry) fs) ≡ map (keep references) fs
@@ -108,24 +86,14 @@ needless_leave {slots} {frames} {references} {b} {next} {frame_of} slots' frames
 
 find_by : (frames : List Stored) (k : ℕ) (o : Option Stored) (p : Option (ℕ × ℤ)) → Agree frames 0 o p → Some k ≡ option_map (λ (p : ℕ × ℤ). p.0) p
     → (s : Stored) × (o ≡ Some s) × (slice_get frames k ≡ Some s)
-find_by frames k o None a e = absurd (none-some k (sym e))
-find_by frames k None (Some p) a e = absurd a
-find_by frames k (Some s) (Some p) a e =
-    let place : k ≡ a.0 = omega (arith, same_Some k p.0 e, a.1) in
-    (s, refl, ap (slice_get frames) place ∙ a.3)
+find_by frames k o p s e = grind (arith, none-some, same_Some)
 
 find_none : (frames : List Stored) (o : Option Stored) (p : Option (ℕ × ℤ)) → Agree frames 0 o p → None ≡ option_map (λ (p : ℕ × ℤ). p.0) p → o ≡ None
-find_none frames None p a e = refl
-find_none frames (Some s) None a e = absurd a
-find_none frames (Some s) (Some p) a e = absurd (none-some p.0 e)
+find_none frames o p a e = grind (arith, none-some)
 
 unheld_entries : {A : Type 0} (g : ℕ → A) (first : Stored) (fs : List Stored) → map (λ s. g s.entry) (map (no_longer_held first) fs) ≡ map (λ s. g s.entry) fs
 unheld_entries g first [] = refl
-unheld_entries g first (s ∷ fs) = ap₂ (λ x l. x ∷ l) (by (s.entry == first.entry)) (unheld_entries g first fs)
-  where
-    by : (b : Bool) → g (if b then not_held s else s).entry ≡ g s.entry
-    by true = refl
-    by false = refl
+unheld_entries g first (s ∷ fs) = grind (arith, not_held, (unheld_entries g first fs))
 
 read_at : {A : Type 0} (xs : List A) (k : ℕ) (d x : A) → slice_get xs k ≡ Some x → get_or xs k d ≡ x
 read_at [] k d x e = absurd (none-some x e)
@@ -172,7 +140,7 @@ bumped slots slots1 slots' frames frames' out out' k f is f_is set slots_is fram
     ∙ sym (map-set slot_of b.frames k (not_held first)) ∙ ap (map slot_of) (sym changed) in
     let stands = stand_for slots1 frames references mid next frame_of slots_are (h.frames_are ∙ sym (unheld_entries frame_of first b.frames))
     (each_unheld (Tells frame_of references) first b.frames (told h))
-    (subst (λ l. IsRising l next) (sym changed) (still_rising b.frames next k first o.there h.rising)) in
+    (unheld_rising first b.frames next h.rising) in
     record {
       since = first.entry ∷ [];
       grows = ap (λ c. c.out) o.after;
@@ -212,12 +180,7 @@ first_slots order [] = refl
 first_slots order (s ∷ fs) = ap (λ t. (not s.held || int_lt order s.order) && t) (first_slots order fs)
 
 same_test : (bumping : Bumping) (references : List ℕ) (slots : List Slot) (b : Buffer) → slots ≡ map slot_of b.frames → goes_on bumping slots ≡ goes_on_in bumping references b
-same_test (ForRoom a) references slots b is =
-    ap (goes_on (ForRoom a)) is
-    ∙ ap₂ (λ (n : ℕ) (first : Bool). nat_le a.capacity n && (a.is_reference || not a.existing || not first)) (length-map b.frames slot_of) (first_slots a.order b.frames)
-same_test (ForFew output a) references slots b is =
-    ap (goes_on (ForFew output a)) is ∙ ap (are_too_many output a.max_num_reorder_frames) (count_slots b.frames)
-same_test ForNone references slots b is = refl
+same_test bumping references slots b is = grind (arith, ℕ, nat_le, length-map, first_slots, count_slots)
 
 -- So many bumpings were made of those that may be; `now` is the buffer after them.
 pub record IsSoFar (bumping : Bumping) (held turn : ℕ) (slots : List Slot) (frames : List (Frame 32)) (references : List ℕ) (b : Buffer) (next : ℕ)
@@ -233,11 +196,7 @@ SoFar bumping held turn slots frames out slots' frames' out' =
     → IsSoFar bumping held turn slots' frames' references b next frame_of out out'
 
 pub at_start : (bumping : Bumping) (held : ℕ) (slots : List Slot) (frames : List (Frame 32)) (out : List Picture) → SoFar bumping held 0 slots frames out slots frames out
-at_start bumping held slots frames out = λ b next frame_of references h. record {
-  now = b;
-  become = same_buffer b out refl h;
-  left = ap (λ n. after_bumping_while (goes_on_in bumping references) references n b) (let z : held - 0 ≡ held = omega arith in z);
-}
+at_start bumping held slots frames out = grind (arith, same_buffer)
 
 goes_more : (bumping : Bumping) (references : List ℕ) (held turn : ℕ) (slots : List Slot) (b : Buffer) → turn < held → goes_on bumping slots ≡ true → slots ≡ map slot_of b.frames
     → after_bumping_while (goes_on_in bumping references) references (held - (turn + 1)) (after_bumping references b)
@@ -261,8 +220,7 @@ one_so_far bumping held turn slots0 slots slots' frames0 frames frames' out0 out
 -- all that may be are as many as are held
 all_are : (bumping : Bumping) (references : List ℕ) (held : ℕ) (slots : List Slot) (b : Buffer) → held ≡ count_by (λ s. s.held) slots → slots ≡ map slot_of b.frames
     → after_bumping_while (goes_on_in bumping references) references held b ≡ after_making_room (goes_on_in bumping references) references b
-all_are bumping references held slots b count is =
-    ap (λ n. after_bumping_while (goes_on_in bumping references) references n b) (count ∙ ap (count_by (λ s. s.held)) is ∙ count_slots b.frames)
+all_are bumping references held slots b count is = grind (arith, count_slots)
 
 ended : (bumping : Bumping) (held turn : ℕ) (slots0 slots : List Slot) (frames0 frames : List (Frame 32)) (out0 out : List Picture)
     → held ≡ count_by (λ s. s.held) slots0 → SoFar bumping held turn slots0 frames0 out0 slots frames out
@@ -312,8 +270,7 @@ shows_while bumping held turn slots0 slots frames0 frames out0 out count low goe
 
 shown_if : (frame_of : ℕ → Frame 32) (next : ℕ) (frame : Frame 32) (b : Bool) → frame_of next ≡ frame
     → (if b then filter_map shown_frame (frame ∷ []) else []) ≡ filter_map (λ e. shown_frame (frame_of e)) (if b then next ∷ [] else [])
-shown_if frame_of next frame true is = ap (λ f. cons_option (shown_frame f) []) (sym is)
-shown_if frame_of next frame false is = refl
+shown_if frame_of next frame b is = grind arith
 
 full_is : (capacity : ℕ) (slots : List Slot) (b : Buffer) → slots ≡ map slot_of b.frames → nat_le capacity (length slots) ≡ is_full capacity b
 full_is capacity slots b is = ap (nat_le capacity) (ap length is ∙ length-map b.frames slot_of)
@@ -321,35 +278,13 @@ full_is capacity slots b is = ap (nat_le capacity) (ap length is ∙ length-map 
 pub goes_at_once : (slots : List Slot) (frames : List (Frame 32)) (out out' : List Picture) (frame : Frame 32) (a : ArrivingFrame)
     → nat_le a.capacity (length slots) ≡ true → out' ≡ out ++ (if a.existing then filter_map shown_frame (frame ∷ []) else [])
     → PlacesFrame slots frames out frame a slots frames out'
-goes_at_once slots frames out out' frame a full out_is = λ b next frame_of references h is own.
-    let arrival = arrival_of a references in
-    let placed : with_frame_placed next arrival b ≡ with_direct_output next arrival b =
-    ap (λ f. if f then with_direct_output next arrival b else with_frame next arrival b) (sym (full_is a.capacity slots b h.slots_are) ∙ full) in
-    subst (λ c. Become slots frames references b c (next + 1) frame_of out out') (sym placed) (record {
-      since = if a.existing then next ∷ [] else [];
-      grows = refl;
-      stand = record { slots_are = h.slots_are; frames_are = h.frames_are; marks = h.marks; rising = rising_more b.frames next h.rising };
-      pictures = out_is ∙ ap (λ l. out ++ l) (shown_if frame_of next frame a.existing is);
-    })
+goes_at_once slots frames out out' frame a full out_is = grind (arith, full_is, rising_more, shown_if)
 
 pub is_stored : (slots slots' : List Slot) (frames frames' : List (Frame 32)) (out : List Picture) (frame : Frame 32) (a : ArrivingFrame)
     → nat_le a.capacity (length slots) ≡ false → slots' ≡ slots ++ record { order = a.order; held = a.existing } ∷ [] → frames' ≡ frames ++ frame ∷ []
     → PlacesFrame slots frames out frame a slots' frames' out
-is_stored slots slots' frames frames' out frame a full slots_is frames_is = λ b next frame_of references h is own.
-    let arrival = arrival_of a references in
-    let s : Stored = record { entry = next; order = a.order; held = a.existing } in
-    let placed : with_frame_placed next arrival b ≡ with_frame next arrival b =
-    ap (λ f. if f then with_direct_output next arrival b else with_frame next arrival b) (sym (full_is a.capacity slots b h.slots_are) ∙ full) in
-    subst (λ c. Become slots' frames' references b c (next + 1) frame_of out out) (sym placed) (record {
-      since = [];
-      grows = sym (append-nil b.out);
-      stand = stand_for slots' frames' references (with_frame next arrival b) (next + 1) frame_of
-          (slots_is ∙ ap (λ l. l ++ slot_of s ∷ []) h.slots_are ∙ sym (map-append slot_of b.frames (s ∷ [])))
-          (frames_is ∙ ap₂ (λ l f. l ++ f ∷ []) h.frames_are (sym is) ∙ sym (map-append (λ s. frame_of s.entry) b.frames (s ∷ [])))
-          (each_push (Tells frame_of references) b.frames s (told h) (ap is_used_for_reference is ∙ own))
-          (rising_push b.frames next s refl h.rising);
-      pictures = sym (append-nil out);
-    })
+is_stored slots slots' frames frames' out frame a full slots_is frames_is =
+    grind (arith, full_is, append-nil, stand_for, map-append, each_push, told, rising_push)
 
 -- ---- a frame is stored
 
@@ -377,37 +312,23 @@ stored c new a frame slots1 slots2 slots3 slots4 frames1 frames2 frames3 frames4
 abbrev stands_in : List ℕ → ℕ → Bool
 stands_in es e = list_any (λ r. r == e) es
 
+filtered_one : (p : ℕ → Bool) (e x : ℕ) (kept es : List ℕ) → stands_in kept e ≡ (p e && stands_in es e)
+    → stands_in (cond (p x) (x ∷ kept) kept) e ≡ (p e && stands_in (x ∷ es) e)
+filtered_one p e x kept es more = grind (arith, nat_tests)
+
+among_filtered : (p : ℕ → Bool) (e : ℕ) (es : List ℕ) → stands_in (filter p es) e ≡ (p e && stands_in es e)
+among_filtered p e [] = grind arith
+among_filtered p e (x ∷ es) = filtered_one p e x (filter p es) es (among_filtered p e es)
+
 stands_filtered : (p : ℕ → Bool) (e : ℕ) (es : List ℕ) → stands_in es e ≡ true → stands_in (filter p es) e ≡ p e
-stands_filtered p e es h = all es ∙ ap (λ b. p e && b) h ∙ both (p e)
-  where
-    both : (b : Bool) → (b && true) ≡ b
-    both true = refl
-    both false = refl
-
-    none : (b : Bool) → false ≡ (b && false)
-    none true = refl
-    none false = refl
-
-    by : (x : ℕ) (es : List ℕ) (t q r : Bool) → (x == e) ≡ t → p x ≡ q → p e ≡ r → stands_in (filter p es) e ≡ (p e && stands_in es e)
-        → stands_in (cond q (x ∷ filter p es) (filter p es)) e ≡ (p e && ((x == e) || stands_in es e))
-    by x es true true true t q r more = rw (t, r) refl
-    by x es true true false t q r more = absurd (false≢true (sym r ∙ ap p (sym (eqb-true x e t)) ∙ q))
-    by x es true false true t q r more = absurd (false≢true (sym q ∙ ap p (eqb-true x e t) ∙ r))
-    by x es true false false t q r more = rw r (more ∙ rw r refl)
-    by x es false true r' t q r more = rw t more
-    by x es false false r' t q r more = rw t more
-
-    all : (es : List ℕ) → stands_in (filter p es) e ≡ (p e && stands_in es e)
-    all [] = none (p e)
-    all (x ∷ es) = by x es (x == e) (p x) (p e) refl refl refl (all es)
+stands_filtered p e es h = grind (arith, among_filtered p e es)
 
 each_among : (es : List ℕ) (frames : List Stored) → ((e : ℕ) → stands_in (map (λ s. s.entry) frames) e ≡ true → stands_in es e ≡ true)
     → Each (λ e. stands_in es e ≡ true) frames
 each_among es [] up = tt
-each_among es (s ∷ frames) up = (
-  up s.entry (or_left (s.entry == s.entry) (stands_in (map (λ s. s.entry) frames) s.entry) (eq-eqb s.entry s.entry refl)),
-  each_among es frames (λ e h. up e (or_right (s.entry == e) (stands_in (map (λ s. s.entry) frames) e) h)),
-)
+each_among es (s ∷ frames) up =
+    let later = each_among es frames (λ e h. up e (or_right (s.entry == e) (stands_in (map (λ s. s.entry) frames) e) h)) in
+    grind (arith, or_left, eq-eqb, later)
 
 -- the reference frames that the marks tell of
 record HasReferences (c : Contents) (b : Buffer) (next : ℕ) (frame_of : ℕ → Frame 32) : Type 0 where

@@ -1,12 +1,10 @@
 -- The picture's own frame among the others, and the limit.
-use Rattle.avc_marking.proofs.Common.{refill, ◌≡◌, ℕ, ◌+◌, Bool, true, false, List, [], ◌∷◌, ◌++◌, length, map, Option, None, Some, Ok, Err}
-use Rattle.avc_marking.proofs.Common.{sym, ap, ◌∙◌, arith, slice_index, slice_index_or, slice_set, nat_le, is_some, ◌==◌, if◌then◌else◌}
-use Rattle.avc_marking.proofs.Common.{length-append, length-set, get_or_at, append-nil, Fault, TooManyReferences, MarkedFrame, Short}
-use Rattle.avc_marking.proofs.Common.{Marking, SlidingWindow, Operation, Reference, reference_of, references_at, reference_at, no_frame}
-use Rattle.avc_marking.proofs.Common.{NewFrame, ◌>>=◌, marking_entry, marks_at, operation_state, StandWith}
-use Rattle.avc_marking.specs.Marks.{MarkingEntry, Marks, OperationState, current_frame, with_current_frame, frame_num_after_marking, after_sliding_window, limit_of, after_adaptive_marking, marks_after, within_limit, after_operations}
+use Rattle.avc_marking.proofs.Common.{refill, ◌≡◌, ℕ, ◌+◌, true, List, [], ◌∷◌, ◌++◌, length, Option, None, Ok}
+use Rattle.avc_marking.proofs.Common.{arith, slice_index, slice_index_or, slice_set, length-append, length-set, get_or_at, append-nil, MarkedFrame}
+use Rattle.avc_marking.proofs.Common.{Marking, no_frame, NewFrame, marking_entry, marks_at, operation_state, StandWith}
+use Rattle.avc_marking.specs.Marks.{MarkingEntry, current_frame, with_current_frame, frame_num_after_marking, marks_after}
 use Rattle.avc_marking.proofs.Changes.{refilled, references-append, references-changed}
-use Rattle.avc_marking.proofs.OperationStates.{stand_with, operations-any}
+use Rattle.avc_marking.proofs.OperationStates.{stand_with}
 
 -- ---- after the operations
 
@@ -18,70 +16,15 @@ settled-assigned s entries entry max_long_term_frame_idx xs zs ys last kept same
     let es = entries ++ entry ∷ [] in
     let g : MarkedFrame = record { frame_num = kept; existing = s.existing; mark = (slice_index_or ys last no_frame).mark } in
     let here : slice_index (entries ++ entry ∷ []) last ≡ entry = get_or_at entries entry [] 0 last (omega (arith, stand.each, place, length-append entries (entry ∷ []))) in
-    let still : (slice_index_or ys last no_frame).mark ≡ (slice_index_or xs last no_frame).mark = ap (λ fs. (slice_index_or fs last no_frame).mark) same' in
-    let becomes : reference_of (slice_index (entries ++ entry ∷ []) last) g ≡ current_frame s entry (reference_at (entries ++ entry ∷ []) xs last).mark =
-    ap (λ e. reference_of e g) here
-    ∙ ap (λ k. reference_of entry (record { frame_num = k; existing = s.existing; mark = (slice_index_or ys last no_frame).mark })) number
-    ∙ ap (λ m. reference_of entry (record { frame_num = frame_num_after_marking s; existing = s.existing; mark = m })) still in
-    let changed = references-changed (λ r. current_frame s entry r.mark) es xs last g (stand_with true entries entry xs stand) (omega (arith, place)) (ap is_some still) becomes in
-    ap (λ e. marks_of_list (map (λ r. if r.entry == e then current_frame s entry r.mark else r) (references_at es xs))) (sym here)
-    ∙ ap marks_of_list (sym changed)
-    ∙ ap (λ fs. marks_at es (slice_set fs last g) max_long_term_frame_idx) (sym same)
-    ∙ ap (λ fs. marks_at es fs max_long_term_frame_idx) (sym (refilled xs (slice_set zs last g) (length-set zs last g ∙ ap length same)))
-  where
-    marks_of_list : List Reference → Marks
-    marks_of_list rs = record { references = rs; max_long_term_frame_idx = max_long_term_frame_idx }
-
-pub settled-added : (s : MarkingEntry) (entries : List ℕ) (entry : ℕ) (max_long_term_frame_idx : Option ℕ) (xs new : List MarkedFrame) (kept : ℕ) → StandWith false entries entry xs → kept ≡ frame_num_after_marking s →
-    new ≡ xs ++ record { frame_num = kept; existing = s.existing; mark = Some Short } ∷ [] →
-    with_current_frame s entry (operation_state entries entry xs max_long_term_frame_idx false) ≡ marks_at (entries ++ entry ∷ []) new max_long_term_frame_idx
-settled-added s entries entry max_long_term_frame_idx xs new kept stand number added =
-    let f : MarkedFrame = record { frame_num = kept; existing = s.existing; mark = Some Short } in
-    let all : references_at (entries ++ entry ∷ []) new ≡ references_at entries xs ++ current_frame s entry Short ∷ [] =
-    ap (references_at (entries ++ entry ∷ [])) added ∙ references-append entries xs entry f stand.each
-    ∙ ap (λ k. references_at entries xs ++ record { entry = entry; frame_num = k; existing = s.existing; mark = Short } ∷ []) number in
-    ap (λ rs. record { references = rs; max_long_term_frame_idx = max_long_term_frame_idx }) (sym all)
-
-pub after_adaptive_marking-is : (new : NewFrame) (marking : Option Marking) (entry : ℕ) (operations : List Operation) (m m' : Marks) (t : OperationState) (fits : Bool) →
-    after_operations (marking_entry new None) entry (record { references = m.references; max_long_term_frame_idx = m.max_long_term_frame_idx; assigned = false }) operations ≡ Ok t →
-    with_current_frame (marking_entry new marking) entry t ≡ m' → nat_le (length m'.references) (limit_of (marking_entry new marking)) ≡ fits →
-    after_adaptive_marking (marking_entry new marking) entry m operations ≡ (if fits then Ok m' else Err TooManyReferences)
-after_adaptive_marking-is new marking entry operations m m' t fits done settled few =
-    let s = marking_entry new marking in
-    ap (λ r. r >>= λ u. within_limit s (with_current_frame s entry u)) (operations-any new marking None entry (record { references = m.references; max_long_term_frame_idx = m.max_long_term_frame_idx; assigned = false }) operations ∙ done)
-    ∙ ap (within_limit s) settled
-    ∙ ap (λ b. if b then Ok m' else Err TooManyReferences) few
-
-pub after_adaptive_marking-err : (new : NewFrame) (marking : Option Marking) (entry : ℕ) (operations : List Operation) (m : Marks) (f : Fault) →
-    after_operations (marking_entry new None) entry (record { references = m.references; max_long_term_frame_idx = m.max_long_term_frame_idx; assigned = false }) operations ≡ Err f →
-    after_adaptive_marking (marking_entry new marking) entry m operations ≡ Err f
-after_adaptive_marking-err new marking entry operations m f done =
-    let s = marking_entry new marking in
-    ap (λ r. r >>= λ u. within_limit s (with_current_frame s entry u)) (operations-any new marking None entry (record { references = m.references; max_long_term_frame_idx = m.max_long_term_frame_idx; assigned = false }) operations ∙ done)
+    let changed =
+    references-changed (λ r. current_frame s entry r.mark) es xs last g (stand_with true entries entry xs stand) (omega (arith, place)) (cc) (cc) in
+    grind (arith, changed, refilled, length-set)
 
 -- ---- the sliding window
 
-pub slides-ok : (s : MarkingEntry) (entries : List ℕ) (entry : ℕ) (max_long_term_frame_idx : Option ℕ) (xs zs new : List MarkedFrame) (left : List Reference) → zs ≡ xs →
-    after_sliding_window s (references_at entries zs) ≡ Ok left → references_at (entries ++ entry ∷ []) new ≡ left ++ current_frame s entry Short ∷ [] →
-    marks_after s entry (Some SlidingWindow) (marks_at entries xs max_long_term_frame_idx) ≡ Ok (marks_at (entries ++ entry ∷ []) new max_long_term_frame_idx)
-slides-ok s entries entry max_long_term_frame_idx xs zs new left same h all =
-    ap (λ fs. marks_after s entry (Some SlidingWindow) (marks_at entries fs max_long_term_frame_idx)) (sym same)
-    ∙ ap (λ r. r >>= λ references. Ok (record { references = references ++ current_frame s entry Short ∷ []; max_long_term_frame_idx = max_long_term_frame_idx })) h
-    ∙ ap (λ rs. Ok (record { references = rs; max_long_term_frame_idx = max_long_term_frame_idx })) (sym all)
-
-pub slides-err : (s : MarkingEntry) (entries : List ℕ) (entry : ℕ) (max_long_term_frame_idx : Option ℕ) (xs zs : List MarkedFrame) (f : Fault) → zs ≡ xs →
-    after_sliding_window s (references_at entries zs) ≡ Err f → marks_after s entry (Some SlidingWindow) (marks_at entries xs max_long_term_frame_idx) ≡ Err f
-slides-err s entries entry max_long_term_frame_idx xs zs f same h =
-    ap (λ fs. marks_after s entry (Some SlidingWindow) (marks_at entries fs max_long_term_frame_idx)) (sym same)
-    ∙ ap (λ r. r >>= λ references. Ok (record { references = references ++ current_frame s entry Short ∷ []; max_long_term_frame_idx = max_long_term_frame_idx })) h
-
 -- ---- no reference picture
 
-pub unmarked-added : (new : NewFrame) (marking : Option Marking) (entries : List ℕ) (entry : ℕ) (max_long_term_frame_idx : Option ℕ) (xs ys : List MarkedFrame) → marking ≡ None → length entries ≡ length xs →
+pub unmarked_added : (new : NewFrame) (marking : Option Marking) (entries : List ℕ) (entry : ℕ) (max_long_term_frame_idx : Option ℕ) (xs ys : List MarkedFrame) → marking ≡ None → length entries ≡ length xs →
     ys ≡ xs ++ record { frame_num = new.current.frame_num; existing = new.existing; mark = None } ∷ [] →
     marks_after (marking_entry new marking) entry marking (marks_at entries xs max_long_term_frame_idx) ≡ Ok (marks_at (entries ++ entry ∷ []) ys max_long_term_frame_idx)
-unmarked-added new marking entries entry max_long_term_frame_idx xs ys is each added =
-    let f : MarkedFrame = record { frame_num = new.current.frame_num; existing = new.existing; mark = None } in
-    let all : references_at (entries ++ entry ∷ []) ys ≡ references_at entries xs =
-    ap (references_at (entries ++ entry ∷ [])) added ∙ references-append entries xs entry f each ∙ append-nil (references_at entries xs) in
-    ap (λ m. marks_after (marking_entry new m) entry m (marks_at entries xs max_long_term_frame_idx)) is ∙ ap (λ rs. Ok (record { references = rs; max_long_term_frame_idx = max_long_term_frame_idx })) (sym all)
+unmarked_added new marking entries entry max_long_term_frame_idx xs ys is each added = grind (arith, references-append, append-nil)

@@ -1,21 +1,20 @@
 -- The sliding window over short-term frames whose numbers rise.
-use Rattle.avc_marking.proofs.Common.{filter, ◌==◌, cond, if◌then◌else◌, int_lt, pos, ℤ, ◌+ℤ◌, ◌-ℤ◌, ◌≤ℤ◌, IfSome, ◌⊎◌, ◌%◌, ◌*◌, ◌/◌, ◌≡◌}
-use Rattle.avc_marking.proofs.Common.{ℕ, ◌+◌, ◌<◌, ◌≤◌, nat_lt, Bool, true, false, not, ◌||◌, ◌&&◌, List, [], ◌∷◌, ◌++◌, length, Option}
-use Rattle.avc_marking.proofs.Common.{None, Some, Result, Ok, inl, inr, ◌-◌, slice_get, refl, sym, ap, ap₂, ◌∙◌, subst, arith}
+use Rattle.avc_marking.proofs.Common.{filter, int_lt, pos, ℤ, ◌+ℤ◌, ◌≤ℤ◌, IfSome, ◌⊎◌, ◌%◌, ◌*◌, ◌/◌, ◌≡◌}
+use Rattle.avc_marking.proofs.Common.{ℕ, ◌+◌, ◌<◌, ◌≤◌, nat_lt, Bool, true, false, List, [], ◌∷◌, ◌++◌, Option}
+use Rattle.avc_marking.proofs.Common.{None, Some, inl, inr, ◌-◌, slice_get, refl, ap, ◌∙◌, arith}
 use Rattle.avc_marking.proofs.Common.{length-append, nat_tests, filter-append, mod-lt, div-add-mod, add-mod_right, eq-eqb, ne_eqb}
-use Rattle.avc_marking.proofs.Common.{same_number, CurrentFrameNum, Fault, TooManyReferences, Short, Long, Reference, is_short, pic_num_of}
-use Rattle.avc_marking.proofs.Common.{sorted_by, ◌>>=◌, first_in_window_of, StandBelow, StandFrom, CountFrom, WindowTakesTheFirst}
+use Rattle.avc_marking.proofs.Common.{CurrentFrameNum, Reference, is_short, pic_num_of}
+use Rattle.avc_marking.proofs.Common.{sorted_by, first_in_window_of, StandBelow, StandFrom, CountFrom, WindowTakesTheFirst}
 use Rattle.std.proofs.lemmas.Nat.{mod-mul-add}
 use Rattle.std.proofs.lemmas.Int.{ints}
-use Rattle.avc_marking.specs.Marks.{limit_of, frame_or, without_frame, current_frame}
-use Rattle.avc_marking.specs.Marks.{precedes_in_window, first_in_window, after_sliding_window}
+use Rattle.avc_marking.specs.Marks.{without_frame, precedes_in_window}
 use Rattle.avc_marking.proofs.Sliding.{first-placed}
 
 -- ---- numbers that go on past MaxFrameNum
 
--- a number that comes d later
-ahead : (max v d : ℕ) → d < max → ((v + d) % max ≡ v % max + d) ⊎ ((v + d) % max + max ≡ v % max + d)
-ahead max v d low = by_test (nat_lt (v % max + d) max) refl
+-- one that comes less than max later
+ahead : (max v number : ℕ) → v ≤ number → number < v + max → (number % max ≡ v % max + (number - v)) ⊎ (number % max + max ≡ v % max + (number - v))
+ahead max v number low high = by_test (nat_lt (v % max + (number - v)) max) refl
   where
     q : ℕ
     q = v / max
@@ -23,53 +22,25 @@ ahead max v d low = by_test (nat_lt (v % max + d) max) refl
     parts : v ≡ q * max + v % max
     parts = omega (arith, div-add-mod v max)
 
-    below : v % max < max
-    below = mod-lt v (omega (arith, low))
-
-    by_test : (b : Bool) → nat_lt (v % max + d) max ≡ b → ((v + d) % max ≡ v % max + d) ⊎ ((v + d) % max + max ≡ v % max + d)
+    by_test : (b : Bool) → nat_lt (v % max + (number - v)) max ≡ b → (number % max ≡ v % max + (number - v)) ⊎ (number % max + max ≡ v % max + (number - v))
     by_test true e =
-        let less : v % max + d < max = grind (arith, nat_tests, e) in
-        let is : v + d ≡ q * max + (v % max + d) = omega (arith, parts) in
-        inl (ap (λ n. n % max) is ∙ mod-mul-add q max (v % max + d) less)
+        let less : v % max + (number - v) < max = grind (arith, nat_tests, e) in
+        let is : number ≡ q * max + (v % max + (number - v)) = omega (arith, parts) in
+        inl (ap (λ n. n % max) is ∙ mod-mul-add q max (v % max + (number - v)) less)
     by_test false e =
-        let more : max ≤ v % max + d = grind (arith, nat_tests, e) in
-        let k : ℕ = (v % max + d) - max in
-        let k_is : k + max ≡ v % max + d = omega (arith, more) in
-        let less : k < max = omega (arith, k_is, below, low) in
-        let is : v + d ≡ (q * max + k) + max = omega (arith, parts, k_is) in
-        let left : (v + d) % max ≡ k = ap (λ n. n % max) is ∙ add-mod_right (q * max + k) max ∙ mod-mul-add q max k less in
-        inr (ap (λ n. n + max) left ∙ k_is)
+        let k : ℕ = (v % max + (number - v)) - max in
+        let k_is : k + max ≡ v % max + (number - v) = grind (arith, nat_tests, e) in
+        let below : v % max < max = mod-lt v (omega (arith, low, high)) in
+        let less : k < max = omega (arith, k_is, below, high) in
+        let is : number ≡ (q * max + k) + max = omega (arith, parts, k_is) in
+        inr (ap (λ n. n % max + max) is ∙ ap (λ n. n + max) (add-mod_right (q * max + k) max ∙ mod-mul-add q max k less) ∙ k_is)
 
 -- FrameNumWrap of a number before the current one
 seen : (max number v : ℕ) → v < number → number < v + max →
     (pic_num_of (record { frame_num = number % max; max_frame_num = max }) (v % max) +ℤ pos number) ≡ (pos v +ℤ pos (number % max))
-seen max number v low high = by_side (ahead max v d near)
-  where
-    d : ℕ
-    d = number - v
-
-    is : v + d ≡ number
-    is = omega (arith, low)
-
-    near : d < max
-    near = omega (arith, is, high)
-
-    c : ℕ
-    c = number % max
-
-    by_test : (b : Bool) → nat_lt c (v % max) ≡ b → (b ≡ true → c + max ≡ v % max + d) → (b ≡ false → c ≡ v % max + d) →
-        ((if b then pos (v % max) -ℤ pos max else pos (v % max)) +ℤ pos number) ≡ (pos v +ℤ pos c)
-    by_test true e far close = let f = far refl in omega (arith, ints, f, is)
-    by_test false e far close = let f = close refl in omega (arith, ints, f, is)
-
-    by_side : ((v + d) % max ≡ v % max + d) ⊎ ((v + d) % max + max ≡ v % max + d) →
-        (pic_num_of (record { frame_num = c; max_frame_num = max }) (v % max) +ℤ pos number) ≡ (pos v +ℤ pos c)
-    by_side (inl e) =
-        let f : c ≡ v % max + d = ap (λ n. n % max) (sym is) ∙ e in
-        by_test (nat_lt c (v % max)) refl (λ t. let less : c < v % max = grind (arith, nat_tests, t) in absurd (omega (arith, less, f))) (λ _. f)
-    by_side (inr e) =
-        let f : c + max ≡ v % max + d = ap (λ n. n % max + max) (sym is) ∙ e in
-        by_test (nat_lt c (v % max)) refl (λ _. f) (λ t. let more : v % max ≤ c = grind (arith, nat_tests, t) in absurd (omega (arith, more, f, near)))
+seen max number v low high =
+    let behind = ahead max v number (omega (arith, low)) high in
+    grind (arith, ints, nat_tests)
 
 -- ---- which goes first
 
@@ -78,57 +49,35 @@ abbrev NoneBefore : CurrentFrameNum → Reference → List Reference → Type 0
 NoneBefore current r [] = Unit {0}
 NoneBefore current r (s ∷ rs) = (precedes_in_window current s r ≡ false) × NoneBefore current r rs
 
+kept_first : (current : CurrentFrameNum) (r s : Reference) (first : Option Reference) → precedes_in_window current s r ≡ false →
+    IfSome first (λ t. precedes_in_window current t r ≡ false) → IfSome (first_in_window_of current s first) (λ t. precedes_in_window current t r ≡ false)
+kept_first current r s None h k = h
+kept_first current r s (Some t) h k = search arith
+
 sorted_head : (current : CurrentFrameNum) (r : Reference) (rs : List Reference) → NoneBefore current r rs →
     IfSome (slice_get (sorted_by (precedes_in_window current) rs) 0) (λ s. precedes_in_window current s r ≡ false)
 sorted_head current r [] h = tt
 sorted_head current r (s ∷ rs) h =
-    subst (λ o. IfSome o (λ t. precedes_in_window current t r ≡ false)) (sym (first-placed current s (sorted_by (precedes_in_window current) rs)))
-    (by_first (slice_get (sorted_by (precedes_in_window current) rs) 0) (sorted_head current r rs h.1))
-  where
-    by_first : (o : Option Reference) → IfSome o (λ t. precedes_in_window current t r ≡ false) →
-        IfSome (first_in_window_of current s o) (λ t. precedes_in_window current t r ≡ false)
-    by_first None k = h.0
-    by_first (Some t) k = by_test (precedes_in_window current t s)
-      where
-        by_test : (b : Bool) → IfSome (elim b as (λ _. Option Reference) [ true ↦ Some t | false ↦ Some s ]) (λ t. precedes_in_window current t r ≡ false)
-        by_test true = k
-        by_test false = h.0
+    rw (first-placed current s (sorted_by (precedes_in_window current) rs)) (kept_first current r s _ h.0 (sorted_head current r rs h.1))
 
 goes_first : (current : CurrentFrameNum) (r : Reference) (rs : List Reference) → NoneBefore current r rs →
     slice_get (sorted_by (precedes_in_window current) (r ∷ rs)) 0 ≡ Some r
-goes_first current r rs h =
-    first-placed current r (sorted_by (precedes_in_window current) rs) ∙ by_first (slice_get (sorted_by (precedes_in_window current) rs) 0) (sorted_head current r rs h)
-  where
-    by_first : (o : Option Reference) → IfSome o (λ t. precedes_in_window current t r ≡ false) → first_in_window_of current r o ≡ Some r
-    by_first None k = refl
-    by_first (Some t) k = ap (λ b. elim b as (λ _. Option Reference) [ true ↦ Some t | false ↦ Some r ]) k
+goes_first current r rs h = grind (arith, first-placed, sorted_head)
 
 lt_no : (a b : ℤ) → b ≤ℤ a → int_lt a b ≡ false
 lt_no a b h = grind (arith, ints)
 
 -- a later number that was decoded later
+abbrev at : (number max : ℕ) → CurrentFrameNum
+at number max = record { frame_num = number % max; max_frame_num = max }
+
 not_before : (max number v w : ℕ) (r s : Reference) → r.frame_num ≡ v % max → s.frame_num ≡ w % max → v < w → w < number → number < v + max → r.entry < s.entry →
     precedes_in_window (record { frame_num = number % max; max_frame_num = max }) s r ≡ false
 not_before max number v w r s r_is s_is low high near later =
-    ap₂ (λ a b. int_lt b a || (same_number a b && nat_lt s.entry r.entry)) (ap (pic_num_of current) r_is) (ap (pic_num_of current) s_is)
-    ∙ ap₂ (λ a b. a || (same_number (pic_num_of current (v % max)) (pic_num_of current (w % max)) && b)) less behind
-    ∙ never (same_number (pic_num_of current (v % max)) (pic_num_of current (w % max)))
-  where
-    current : CurrentFrameNum
-    current = record { frame_num = number % max; max_frame_num = max }
-
-    less : int_lt (pic_num_of current (w % max)) (pic_num_of current (v % max)) ≡ false
-    less =
-        let one = seen max number v (omega (arith, low, high)) near in
-        let other = seen max number w high (omega (arith, low, near)) in
-        lt_no (pic_num_of current (w % max)) (pic_num_of current (v % max)) (omega (arith, ints, one, other, low))
-
-    behind : nat_lt s.entry r.entry ≡ false
-    behind = grind (arith, nat_tests, later)
-
-    never : (b : Bool) → (false || (b && false)) ≡ false
-    never true = refl
-    never false = refl
+    let one = seen max number v (omega (arith, low, high)) near in
+    let other = seen max number w high (omega (arith, low, near)) in
+    let less : int_lt (pic_num_of (at number max) (w % max)) (pic_num_of (at number max) (v % max)) ≡ false = grind (arith, ints) in
+    grind (arith, nat_tests)
 
 none_before : (max number v low next lower : ℕ) (r : Reference) (rs : List Reference) → r.frame_num ≡ v % max → v < low → number < v + max →
     CountFrom max low number rs → r.entry < lower → StandFrom lower next rs →
@@ -149,61 +98,20 @@ none_before max number v low next lower r (s ∷ rs) is before near counts behin
 
 all_short : (max low next : ℕ) (rs : List Reference) → CountFrom max low next rs → filter is_short rs ≡ rs
 all_short max low next [] h = refl
-all_short max low next (r ∷ rs) h =
-    ap (λ m. cond (elim m as (λ _. Bool) [ Short ↦ true | Long index ↦ false ]) (r ∷ filter is_short rs) (filter is_short rs)) ((h.1).1).short
-    ∙ ap (λ l. r ∷ l) (all_short max (h.0 + 1) next rs (h.1).2)
+all_short max low next (r ∷ rs) h = grind (arith, (all_short max (h.0 + 1) next rs (h.1).2))
 
 kept_below : (r : Reference) (place : ℕ) (rs : List Reference) → place ≤ r.entry → StandBelow place rs → without_frame r rs ≡ rs
 kept_below r place [] low h = refl
-kept_below r place (s ∷ rs) low h =
-    ap (λ b. cond (not b) (s ∷ without_frame r rs) (without_frame r rs)) (ne_eqb s.entry r.entry (λ e. omega (arith, e, low, h.0)))
-    ∙ ap (λ l. s ∷ l) (kept_below r place rs low h.1)
+kept_below r place (s ∷ rs) low h = grind (arith, ne_eqb, (kept_below r place rs low h.1))
 
 kept_above : (r : Reference) (low next : ℕ) (rs : List Reference) → r.entry < low → StandFrom low next rs → without_frame r rs ≡ rs
 kept_above r low next [] before h = refl
-kept_above r low next (s ∷ rs) before h =
-    ap (λ b. cond (not b) (s ∷ without_frame r rs) (without_frame r rs)) (ne_eqb s.entry r.entry (λ e. omega (arith, e, before, h.0)))
-    ∙ ap (λ l. s ∷ l) (kept_above r (s.entry + 1) next rs (omega (arith, before, h.0)) h.1)
+kept_above r low next (s ∷ rs) before h = grind (arith, ne_eqb, (kept_above r (s.entry + 1) next rs (omega (arith, before, h.0)) h.1))
 
 without_first : (longs shorts : List Reference) (first : Reference) (place next : ℕ) → StandBelow place longs → StandFrom place next (first ∷ shorts) →
     without_frame first (longs ++ first ∷ shorts) ≡ longs ++ shorts
-without_first longs shorts first place next below places =
-    filter-append (λ s. not (s.entry == first.entry)) longs (first ∷ shorts)
-    ∙ ap₂ (λ l r. l ++ r) (kept_below first place longs places.0 below)
-    (ap (λ b. cond (not b) (first ∷ without_frame first shorts) (without_frame first shorts)) (eq-eqb first.entry first.entry refl)
-    ∙ kept_above first (first.entry + 1) next shorts (omega arith) places.1)
+without_first longs shorts first place next below places = grind (arith, filter-append, kept_below, eq-eqb, kept_above)
 
 pub window_takes_the_first : WindowTakesTheFirst
 window_takes_the_first s entry max low number place longs shorts first m current full counts near is =
-    ap (λ r. r >>= λ references. Ok (record m { references = references ++ current_frame s entry Short ∷ [] })) slid
-  where
-    v : ℕ
-    v = counts.0
-
-    at : CurrentFrameNum
-    at = record { frame_num = number % max; max_frame_num = max }
-
-    all : List Reference
-    all = longs ++ first ∷ shorts
-
-    shorts_are : filter is_short all ≡ first ∷ shorts
-    shorts_are =
-        filter-append is_short longs (first ∷ shorts)
-        ∙ ap₂ (λ l r. l ++ r) full.long (all_short max low number (first ∷ shorts) counts)
-
-    taken : first_in_window s.current all ≡ Some first
-    taken =
-        ap₂ (λ c l. slice_get (sorted_by (precedes_in_window c) l) 0) current shorts_are
-        ∙ goes_first at first shorts
-        (none_before max number v (v + 1) entry (first.entry + 1) first shorts ((counts.1).1).frame_num (omega arith) (omega (arith, near, (counts.1).0))
-        (counts.1).2 (omega arith) (full.places).1)
-
-    as_many : nat_lt (length all) (limit_of s) ≡ false
-    as_many = let e : length all ≡ limit_of s = length-append longs (first ∷ shorts) ∙ full.full in grind (arith, nat_tests, e)
-
-    slid : after_sliding_window s m.references ≡ Ok (longs ++ shorts)
-    slid =
-        ap (after_sliding_window s) is
-        ∙ ap (λ b. elim b as (λ _. Result (List Reference) Fault) [ true ↦ Ok all | false ↦ (frame_or TooManyReferences (first_in_window s.current all) >>= λ least. Ok (without_frame least all)) ]) as_many
-        ∙ ap (λ o. frame_or TooManyReferences o >>= λ least. Ok (without_frame least all)) taken
-        ∙ ap Ok (without_first longs shorts first place entry full.longs_before full.places)
+    grind (arith, filter-append, all_short, goes_first, none_before, length-append, nat_tests, without_first)

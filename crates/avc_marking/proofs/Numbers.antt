@@ -1,58 +1,23 @@
 -- Frame numbers modulo MaxFrameNum.
-use Rattle.std.proofs.Common.{◌≡◌, ℕ, zero, suc, ◌+◌, ◌-◌, ◌<◌, ◌%◌, List, [], ◌∷◌, length, drop, ap₂, Bool, true, false, Result, Ok, Err, refl, sym, ap, ◌∙◌, arith, add-zero}
-use Rattle.avc_marking.proofs.Common.{mod-add-mod, mod-eq_of_lt, ◌==◌, if◌then◌else◌, is_some, Fault, FrameNumRepeated, FrameNumGap}
-use Rattle.avc_marking.specs.Marks.{MarkingEntry, frame_nums_from, missing_frame_nums}
+use Rattle.std.proofs.Common.{◌≡◌, ℕ, zero, suc, ◌+◌, ◌-◌, ◌<◌, ◌≤◌, ◌%◌, ◌∷◌, length, drop, refl, ap, arith}
+use Rattle.avc_marking.proofs.Common.{mod-mod, mod-add-mod, mod-eq_of_lt}
+use Rattle.avc_marking.specs.Marks.{frame_nums_from}
 
 -- they depend on the first one modulo MaxFrameNum alone
 pub numbers-mod : (max a n : ℕ) → frame_nums_from max (a % max) n ≡ frame_nums_from max a n
 numbers-mod max a zero = refl
-numbers-mod max a (suc n) =
-    let head : a % max % max ≡ a % max = ap (λ x. x % max) (sym (add-zero (a % max))) ∙ mod-add-mod a max 0 ∙ ap (λ x. x % max) (add-zero a) in
-    let tail : frame_nums_from max (a % max + 1) n ≡ frame_nums_from max (a + 1) n =
-    sym (numbers-mod max (a % max + 1) n) ∙ ap (λ x. frame_nums_from max x n) (mod-add-mod a max 1) ∙ numbers-mod max (a + 1) n in
-    ap (λ x. x ∷ frame_nums_from max (a % max + 1) n) head ∙ ap (λ xs. a % max ∷ xs) tail
+numbers-mod max a (suc n) = cc (mod-mod a max, mod-add-mod a max 1, numbers-mod max (a % max + 1) n, numbers-mod max (a + 1) n)
 
-pub length-numbers : (max n a : ℕ) → length (frame_nums_from max a n) ≡ n
-length-numbers max zero a = refl
-length-numbers max (suc n) a = ap suc (length-numbers max n (a + 1))
+pub length_numbers : (max n a : ℕ) → length (frame_nums_from max a n) ≡ n
+length_numbers max zero a = refl
+length_numbers max (suc n) a = ap suc (length_numbers max n (a + 1))
 
 -- all but the first k
-pub numbers-skipped : (max k n a : ℕ) → drop k (frame_nums_from max a (k + n)) ≡ frame_nums_from max (a + k) n
-numbers-skipped max zero n a =
-    let z : a ≡ a + 0 = omega arith in
-    let y : 0 + n ≡ n = omega arith in
-    ap₂ (λ x m. frame_nums_from max x m) z y
-numbers-skipped max (suc k) n a =
-    let z : (a + 1) + k ≡ a + suc k = omega arith in
-    let y : suc k + n ≡ suc (k + n) = omega arith in
-    ap (λ m. drop (suc k) (frame_nums_from max a m)) y ∙ numbers-skipped max k n (a + 1) ∙ ap (λ x. frame_nums_from max x n) z
+pub numbers_skipped : (max k left a : ℕ) → k ≤ left → drop k (frame_nums_from max a left) ≡ frame_nums_from max (a + k) (left - k)
+numbers_skipped max zero left a h = grind arith
+numbers_skipped max (suc k) zero a h = absurd (omega (arith, h))
+numbers_skipped max (suc k) (suc left) a h = grind (arith, numbers_skipped max k left (a + 1) (omega (arith, h)))
 
-pub numbers-next : (max next after left : ℕ) → next < max → 0 < left → after ≡ (next + 1) % max →
+pub numbers_next : (max next after left : ℕ) → next < max → 0 < left → after ≡ (next + 1) % max →
     frame_nums_from max next left ≡ next ∷ frame_nums_from max after (left - 1)
-numbers-next max next after left below more moved =
-    let one : left ≡ suc (left - 1) = omega arith in
-    ap (frame_nums_from max next) one
-    ∙ ap (λ x. x ∷ frame_nums_from max (next + 1) (left - 1)) (mod-eq_of_lt below)
-    ∙ ap (λ xs. next ∷ xs) (sym (ap (λ x. frame_nums_from max x (left - 1)) moved ∙ numbers-mod max (next + 1) (left - 1)))
-
--- where numbers are missing and may be
-pub missing_frame_nums-is : (previous : ℕ) (s : MarkingEntry) (first left : ℕ) → (s.current.frame_num == previous) ≡ false → (s.current.frame_num == (previous + 1) % s.current.max_frame_num) ≡ false →
-    first ≡ (previous + 1) % s.current.max_frame_num → left ≡ (s.current.frame_num + s.current.max_frame_num - previous - 1) % s.current.max_frame_num →
-    ◌≡◌ {A = Result (List ℕ) Fault} (Ok (frame_nums_from s.current.max_frame_num first left)) (missing_frame_nums previous true s)
-missing_frame_nums-is previous s first left other not_next is_first is_left =
-    let n = (s.current.frame_num + s.current.max_frame_num - previous - 1) % s.current.max_frame_num in
-    let tested : missing_frame_nums previous true s ≡ Ok (frame_nums_from s.current.max_frame_num (previous + 1) ((s.current.frame_num + s.current.max_frame_num - previous - 1) % s.current.max_frame_num)) =
-    ap (λ b. tests b (s.current.frame_num == (previous + 1) % s.current.max_frame_num)) other ∙ ap (λ b. tests false b) not_next in
-    sym (tested
-    ∙ ap Ok (sym (ap (λ a. frame_nums_from s.current.max_frame_num a left) is_first ∙ ap (λ m. frame_nums_from s.current.max_frame_num ((previous + 1) % s.current.max_frame_num) m) is_left ∙ numbers-mod s.current.max_frame_num (previous + 1) n)))
-  where
-    tests : (same next : Bool) → Result (List ℕ) Fault
-    tests same next = elim same [
-      | true ↦ (if is_some s.marking then Err FrameNumRepeated else Ok [])
-      | false ↦ elim next [
-        | true ↦ Ok []
-        | false ↦ (if true
-            then Ok (frame_nums_from s.current.max_frame_num (previous + 1) ((s.current.frame_num + s.current.max_frame_num - previous - 1) % s.current.max_frame_num))
-            else Err FrameNumGap)
-      ]
-    ]
+numbers_next max next after left below more moved = grind (arith, mod-eq_of_lt, numbers-mod)

@@ -1,19 +1,16 @@
 -- One operation on the frames, and what it makes of the marks.
-use Rattle.avc_marking.proofs.Common.{filter, refill, ◌≡◌, ℕ, ◌+◌, ◌<◌, Bool, true, false, not, List, [], ◌∷◌, ◌++◌, length, Option, None}
-use Rattle.avc_marking.proofs.Common.{Some, Result, Ok, Err, nat_lt, ◌&&◌, ◌||◌, refl, sym, ap, ◌∙◌, arith, slice_index_or, slice_set}
-use Rattle.avc_marking.proofs.Common.{nat_le, is_some, if◌then◌else◌, filter_agree, get_or_append_left, length-append, Fault, MarkedFrame}
-use Rattle.avc_marking.proofs.Common.{Reference, StandAt, references_at, Mark, Short, Long, Marking, Operation, is_short}
-use Rattle.avc_marking.proofs.Common.{long_term_frame_idx, reference_at, no_frame, Index, From, NewFrame, ◌>>=◌, entries_with}
-use Rattle.avc_marking.proofs.Common.{operation_state, StandWith, StandBefore, is_to_unmark, unmarked_if, marking_entry}
+use Rattle.avc_marking.proofs.Common.{filter, ◌≡◌, ℕ, ◌+◌, ◌<◌, Bool, true, false, not, List, [], ◌∷◌, ◌++◌, length, Option}
+use Rattle.avc_marking.proofs.Common.{Some, Ok, ◌&&◌, refl, arith, slice_index_or, slice_set}
+use Rattle.avc_marking.proofs.Common.{if◌then◌else◌, get_or_append_left, length-append, MarkedFrame}
+use Rattle.avc_marking.proofs.Common.{StandAt, references_at, Mark, Short, Long, Marking, Operation}
+use Rattle.avc_marking.proofs.Common.{reference_at, no_frame, Index, NewFrame, entries_with}
+use Rattle.avc_marking.proofs.Common.{StandWith, StandBefore, is_to_unmark, unmarked_if, marking_entry}
 use Rattle.std.specs.List.Sorted.{IsStrictlyIncreasing}
-use Rattle.avc_types.specs.declared.references.Operation.TheVariants.{UnmarkShortTerm, UnmarkLongTerm, AssignLongTerm, MaxLongTermFrameIdx, UnmarkAll, CurrentToLongTerm}
-use Rattle.avc_marking.specs.Marks.{OperationState, with_references, refuse_unless, with_max_long_term_frame_idx, max_long_term_frame_idx_below, is_index_allowed, without_long_term_frame_idx, MarkingEntry, with_other_mark, with_mark, with_long_term, frame_with_pic_num_x, after_operation, after_operations}
-use Rattle.avc_marking.proofs.Changes.{refilled, references-changed}
+use Rattle.avc_marking.specs.Marks.{OperationState, is_index_allowed, without_long_term_frame_idx, MarkingEntry, with_other_mark, with_long_term, frame_with_pic_num_x, after_operation, after_operations}
+use Rattle.avc_marking.proofs.Changes.{references-changed}
 
 rising_front : (entries : List ℕ) (own : ℕ) → IsStrictlyIncreasing (entries ++ own ∷ []) → IsStrictlyIncreasing entries
-rising_front entries own rising = λ k h.
-    let step = rising k (omega (arith, length-append entries (own ∷ []))) in
-    omega (arith, rising k (omega (arith, length-append entries (own ∷ []))), get_or_append_left entries (own ∷ []) 0 k (omega arith), get_or_append_left entries (own ∷ []) 0 (k + 1) h)
+rising_front entries own rising = grind (arith, length-append, get_or_append_left)
 
 pub stand_with : (assigned : Bool) (entries : List ℕ) (own : ℕ) (fs : List MarkedFrame) → StandWith assigned entries own fs → StandAt (entries_with assigned entries own) fs
 stand_with true entries own fs s = record { each = s.each; rising = s.rising }
@@ -22,78 +19,21 @@ stand_with false entries own fs s = record { each = s.each; rising = rising_fron
 pub stand_before : (entries : List ℕ) (own : ℕ) (fs : List MarkedFrame) → StandBefore entries own fs → StandAt entries fs
 stand_before entries own fs s = record { each = s.each; rising = rising_front entries own s.rising }
 
-module _ (X : List Reference → Result (List Reference) Fault) (assigned : Bool) (entries : List ℕ) (own : ℕ) (max_long_term_frame_idx : Option ℕ) (xs zs : List MarkedFrame) (same : zs ≡ xs) where
-  abbrev es : List ℕ
-  es = entries_with assigned entries own
-
-  pub changed-ok : (ws : List MarkedFrame) → length ws ≡ length zs → X (references_at es zs) ≡ Ok (references_at es ws) →
-      with_references (operation_state entries own xs max_long_term_frame_idx assigned) (X (references_at es xs)) ≡ Ok (operation_state entries own (refill (length xs) xs ws) max_long_term_frame_idx assigned)
-  changed-ok ws kept h =
-      ap (λ fs. with_references (operation_state entries own xs max_long_term_frame_idx assigned) (X (references_at es fs))) (sym same)
-      ∙ ap (with_references (operation_state entries own xs max_long_term_frame_idx assigned)) h
-      ∙ ap (λ fs. Ok (operation_state entries own fs max_long_term_frame_idx assigned)) (sym (refilled xs ws (omega (arith, ap length same))))
-
-  pub changed-err : (f : Fault) → X (references_at es zs) ≡ Err f → with_references (operation_state entries own xs max_long_term_frame_idx assigned) (X (references_at es xs)) ≡ Err f
-  changed-err f h =
-      ap (λ fs. with_references (operation_state entries own xs max_long_term_frame_idx assigned) (X (references_at es fs))) (sym same)
-      ∙ ap (with_references (operation_state entries own xs max_long_term_frame_idx assigned)) h
-
 -- ---- operations 4, 5 and 6
 
-not-not : (b : Bool) → not (not b) ≡ b
+pub not-not : (b : Bool) → not (not b) ≡ b
 not-not true = refl
 not-not false = refl
-
-pub with_max_long_term_frame_idx-ok : (assigned : Bool) (entries : List ℕ) (own : ℕ) (max_long_term_frame_idx max_long_term_frame_idx' : Option ℕ) (xs zs ws : List MarkedFrame) (plus1 max : ℕ) → zs ≡ xs → length ws ≡ length zs →
-    nat_le plus1 max ≡ true → max_long_term_frame_idx' ≡ max_long_term_frame_idx_below plus1 →
-    references_at (entries_with assigned entries own) ws ≡ filter (λ r. not (is_to_unmark (From plus1) r)) (references_at (entries_with assigned entries own) zs) →
-    refuse_unless (nat_le plus1 max) (record (operation_state entries own xs max_long_term_frame_idx assigned) { references = with_max_long_term_frame_idx plus1 (references_at (entries_with assigned entries own) xs); max_long_term_frame_idx = max_long_term_frame_idx_below plus1 })
-    ≡ Ok (operation_state entries own (refill (length xs) xs ws) max_long_term_frame_idx' assigned)
-with_max_long_term_frame_idx-ok assigned entries own max_long_term_frame_idx max_long_term_frame_idx' xs zs ws plus1 max same kept fits below left =
-    let es = entries_with assigned entries own in
-    let agree = filter_agree (λ r. not (is_to_unmark (From plus1) r)) (λ r. is_short r || nat_lt (long_term_frame_idx r) plus1) (λ r. not-not (is_short r || nat_lt (long_term_frame_idx r) plus1)) (references_at es zs) in
-    let all : references_at (entries_with assigned entries own) ws ≡ with_max_long_term_frame_idx plus1 (references_at (entries_with assigned entries own) xs) = left ∙ agree ∙ ap (λ fs. with_max_long_term_frame_idx plus1 (references_at es fs)) same in
-    ap (λ b. refuse_unless b (record (operation_state entries own xs max_long_term_frame_idx assigned) { references = with_max_long_term_frame_idx plus1 (references_at es xs); max_long_term_frame_idx = max_long_term_frame_idx_below plus1 })) fits
-    ∙ ap (λ rs. Ok (record (operation_state entries own xs max_long_term_frame_idx assigned) { references = rs; max_long_term_frame_idx = max_long_term_frame_idx_below plus1 })) (sym all)
-    ∙ ap (λ g. Ok (operation_state entries own ws g assigned)) (sym below)
-    ∙ ap (λ fs. Ok (operation_state entries own fs max_long_term_frame_idx' assigned)) (sym (refilled xs ws (omega (arith, ap length same))))
 
 pub filter-nothing : {A : Type 0} (xs : List A) → filter (λ x. false) xs ≡ []
 filter-nothing [] = refl
 filter-nothing (x ∷ xs) = filter-nothing xs
 
-pub forgotten-ok : (assigned : Bool) (entries : List ℕ) (own : ℕ) (max_long_term_frame_idx : Option ℕ) (xs zs ws : List MarkedFrame) → zs ≡ xs → length ws ≡ length zs →
-    references_at (entries_with assigned entries own) ws ≡ filter (λ r. false) (references_at (entries_with assigned entries own) zs) →
-    ◌≡◌ {A = Result OperationState Fault} (Ok (record (operation_state entries own xs max_long_term_frame_idx assigned) { references = []; max_long_term_frame_idx = None })) (Ok (operation_state entries own (refill (length xs) xs ws) None assigned))
-forgotten-ok assigned entries own max_long_term_frame_idx xs zs ws same kept left =
-    let es = entries_with assigned entries own in
-    ap (λ rs. Ok (record (operation_state entries own xs max_long_term_frame_idx assigned) { references = rs; max_long_term_frame_idx = None })) (sym (left ∙ filter-nothing (references_at es zs)))
-    ∙ ap (λ fs. Ok (operation_state entries own fs None assigned)) (sym (refilled xs ws (omega (arith, ap length same))))
-
-pub not_assigned : (assigned fits : Bool) → (not assigned && fits) ≡ true → assigned ≡ false
-not_assigned false fits h = refl
-not_assigned true fits h = cc
-
-pub and_fits : (assigned fits : Bool) → (not assigned && fits) ≡ true → fits ≡ true
-and_fits false fits h = h
-and_fits true fits h = cc
-
-pub current-ok : (new : NewFrame) (entries : List ℕ) (own : ℕ) (max_long_term_frame_idx : Option ℕ) (index : ℕ) (xs ws : List MarkedFrame) → is_index_allowed index max_long_term_frame_idx ≡ true →
-    references_at (entries ++ own ∷ []) ws ≡ without_long_term_frame_idx index (references_at entries xs) ++ record { entry = own; frame_num = new.current.frame_num; existing = new.existing; mark = Long index } ∷ [] →
-    refuse_unless (true && is_index_allowed index max_long_term_frame_idx)
-    (record (operation_state entries own xs max_long_term_frame_idx false) { references = without_long_term_frame_idx index (references_at entries xs) ++ record { entry = own; frame_num = new.current.frame_num; existing = new.existing; mark = Long index } ∷ []; assigned = true })
-    ≡ Ok (operation_state entries own ws max_long_term_frame_idx true)
-current-ok new entries own max_long_term_frame_idx index xs ws fits left =
-    ap (λ b. refuse_unless b (record (operation_state entries own xs max_long_term_frame_idx false) { references = without_long_term_frame_idx index (references_at entries xs) ++ record { entry = own; frame_num = new.current.frame_num; existing = new.existing; mark = Long index } ∷ []; assigned = true })) fits
-    ∙ ap (λ rs. Ok (record (operation_state entries own xs max_long_term_frame_idx false) { references = rs; assigned = true })) (sym left)
-
 -- ---- operation 3
 
 short-stays : (index n : ℕ) (x : Bool) (m : Option Mark) → m ≡ Some Short →
     ◌≡◌ {A = MarkedFrame} (unmarked_if (is_to_unmark (Index index)) (record { frame_num = n; existing = x; mark = m })) (record { frame_num = n; existing = x; mark = m })
-short-stays index n x None h = cc
-short-stays index n x (Some Short) h = refl
-short-stays index n x (Some (Long j)) h = cc
+short-stays index n x m h = grind arith
 
 pub long-ok : (s : MarkingEntry) (d index : ℕ) (max_long_term_frame_idx : Option ℕ) (es : List ℕ) (xs ws : List MarkedFrame) (place : ℕ) → StandAt es xs → place < length xs → length ws ≡ length xs →
     (slice_index_or xs place no_frame).mark ≡ Some Short → frame_with_pic_num_x s d (references_at es xs) ≡ Ok (reference_at es xs place) →
@@ -102,15 +42,10 @@ pub long-ok : (s : MarkingEntry) (d index : ℕ) (max_long_term_frame_idx : Opti
     references_at es ws ≡ without_long_term_frame_idx index (references_at es xs) →
     with_long_term s d index max_long_term_frame_idx (references_at es xs) ≡ Ok (references_at es (slice_set ws place (record (slice_index_or ws place no_frame) { mark = Some (Long index) })))
 long-ok s d index max_long_term_frame_idx es xs ws place stand within kept short named fits each left =
-    let f = slice_index_or xs place no_frame in
-    let r = reference_at es xs place in
-    let same : slice_index_or ws place no_frame ≡ slice_index_or xs place no_frame = each ∙ short-stays index f.frame_num f.existing f.mark short in
-    let marked_before : true ≡ is_some (slice_index_or ws place no_frame).mark = sym (ap (λ g. is_some g.mark) same ∙ ap is_some short) in
     let stand' : StandAt es ws = record { each = omega (arith, stand.each); rising = stand.rising } in
-    ap (λ o. o >>= λ r'. refuse_unless (r'.existing && is_index_allowed index max_long_term_frame_idx) (with_mark r' (Long index) (without_long_term_frame_idx index (references_at es xs)))) named
-    ∙ ap (λ b. refuse_unless b (with_mark r (Long index) (without_long_term_frame_idx index (references_at es xs)))) fits
-    ∙ ap (λ rs. Ok (with_mark r (Long index) rs)) (sym left)
-    ∙ ap Ok (sym (references-changed (λ t. with_other_mark t (Long index)) es ws place (record (slice_index_or ws place no_frame) { mark = Some (Long index) }) stand' (omega arith) marked_before refl))
+    let same : slice_index_or ws place no_frame ≡ slice_index_or xs place no_frame = grind (arith, short-stays) in
+    let f : MarkedFrame = record (slice_index_or ws place no_frame) { mark = Some (Long index) } in
+    grind (arith, references-changed (λ t. with_other_mark t (Long index)) es ws place f stand' (omega arith) (grind arith) refl)
 
 -- ---- all operations
 
@@ -120,25 +55,12 @@ stand_turned false entries own xs ys stand h = record { each = omega (arith, sta
 
 -- an operation does not read the marking
 operation-any : (new : NewFrame) (m n : Option Marking) (own : ℕ) (t : OperationState) (o : Operation) → after_operation (marking_entry new m) own t o ≡ after_operation (marking_entry new n) own t o
-operation-any new m n own t (UnmarkShortTerm d) = refl
-operation-any new m n own t (UnmarkLongTerm index) = refl
-operation-any new m n own t (AssignLongTerm d index) = refl
-operation-any new m n own t (MaxLongTermFrameIdx plus1) = refl
-operation-any new m n own t UnmarkAll = refl
-operation-any new m n own t (CurrentToLongTerm index) = refl
+operation-any new m n own t o = grind arith
 
 pub operations-any : (new : NewFrame) (m n : Option Marking) (own : ℕ) (t : OperationState) (os : List Operation) → after_operations (marking_entry new m) own t os ≡ after_operations (marking_entry new n) own t os
 operations-any new m n own t [] = refl
-operations-any new m n own t (o ∷ os) =
-    ap (λ r. r >>= λ u. after_operations (marking_entry new m) own u os) (operation-any new m n own t o)
-    ∙ by_result (after_operation (marking_entry new n) own t o) (λ u. operations-any new m n own u os)
-  where
-    by_result : (r : Result OperationState Fault) → ((u : OperationState) → after_operations (marking_entry new m) own u os ≡ after_operations (marking_entry new n) own u os) →
-        (r >>= λ u. after_operations (marking_entry new m) own u os) ≡ (r >>= λ u. after_operations (marking_entry new n) own u os)
-    by_result (Ok u) h = h u
-    by_result (Err f) h = refl
+operations-any new m n own t (o ∷ os) = grind (arith, operation-any, (λ (u : OperationState). operations-any new m n own u os))
 
 pub stand_settled : (assigned : Bool) (entries : List ℕ) (own : ℕ) (xs ys zs : List MarkedFrame) → StandBefore entries own xs → length ys ≡ length xs + (if assigned then 1 else 0) →
     length zs + (if assigned then 1 else 0) ≡ length ys + 1 → StandAt (entries ++ own ∷ []) zs
-stand_settled true entries own xs ys zs stand h k = record { each = omega (arith, stand.each, h, k, length-append entries (own ∷ [])); rising = stand.rising }
-stand_settled false entries own xs ys zs stand h k = record { each = omega (arith, stand.each, h, k, length-append entries (own ∷ [])); rising = stand.rising }
+stand_settled assigned entries own xs ys zs stand h k = record { each = grind (arith, length-append); rising = stand.rising }
