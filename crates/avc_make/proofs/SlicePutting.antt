@@ -1,9 +1,10 @@
 -- The macroblocks of a slice put one after another.
 use Rattle.std.proofs.Common.{◌≡◌, ℕ, ◌+◌, ◌<◌, ◌≤◌, List, [], ◌∷◌, ◌++◌, length, drop, get_or, take, Bool, false, refl, ap, ◌∙◌, sym, subst, arith, length-append, append_assoc, append-nil}
-use Rattle.avc_make.proofs.Common.{drop_more, length-map, map-append, take_more, map, Option, option_map, Mb, MbSyntax, PicMb}
+use Rattle.avc_make.proofs.Common.{length-map, map-append, take_more, map, Option, option_map, Mb, MbSyntax, PicMb}
 use Rattle.avc_make.proofs.Common.{total_coeffs_of, Context, CanFollow, CanStand, data_bits, i_data_bits, p_data_bits, Made, nothing}
 use Rattle.avc_make.proofs.Common.{with_bits, qp_of, IsOf, AreFactsOf, last_run_bits_where, own_bits, rest_bits, run_after, some_bits}
 use Rattle.avc_make.proofs.Common.{IsCodedSlice, coded_slice_bits, earlier_mbs, own_start, IsUnit}
+use Rattle.avc_make.proofs.BlockPutting.{at_place}
 use Rattle.avc_neigh.specs.declared.facts.NeighbourFacts.{NeighbourFacts}
 use Rattle.avc_neigh.specs.declared.facts.TotalCoeffs.{TotalCoeffs}
 use Rattle.avc_neigh.specs.Around.{PictureFacts, mb_a, mb_b, with_facts}
@@ -112,10 +113,7 @@ pub record IsAt (ms : List Mb) (i : ℕ) (m : Mb) : Type 0 where
   pub last : take (i + 1) ms ≡ take i ms ++ m ∷ []
 
 pub is_at : (ms : List Mb) (i : ℕ) (m : Mb) → i < length ms → m ≡ get_or ms i m → IsAt ms i m
-is_at ms i m within is = record {
-  first = drop_more ms i m within ∙ ap (λ x. x ∷ drop (i + 1) ms) (sym is);
-  last = take_more ms i m within ∙ ap (λ x. take i ms ++ x ∷ []) (sym is);
-}
+is_at ms i m within is = record { first = at_place ms i m m within is; last = take_more ms i m within ∙ ap (λ x. take i ms ++ x ∷ []) (sym is) }
 
 before_more : (c : CodedSlice) (i : ℕ) (m : Mb) → IsAt c.macroblocks i m → before_of c i ++ placed (own_start c) m ∷ [] ≡ before_of c (i + 1)
 before_more c i m here =
