@@ -136,20 +136,6 @@ back-i_nxn c modes chroma_mode r is =
     back-bind _ (back-times 16 is.all back-mode is.modes_fit) (back-bind _ (back-ue_to 3 refl is.chroma)
     (back-bind _ (back-coded_block_pattern true (pattern_small r is.pattern)) (back-last _ (back-after_pattern c r is.pattern))))
 
--- Intra 16x16 with its mode and its patterns
-abbrev mb_16x16 : Context → (mode luma chroma : ℕ) → Read Mb
-mb_16x16 c mode luma chroma = do
-  chroma_mode ← ue_to 3
-  delta ← qp_delta
-  r ← residual c true luma chroma delta
-  give (mb_of c r (i_16x16 mode chroma_mode r))
-
-back-mb_16x16 : (c : Context) (mode chroma_mode : ℕ) (r : Residual) → IsI16x16 mode chroma_mode r →
-    GivesBack (mb_16x16 c mode r.luma_pattern r.chroma_pattern) (i_16x16_bits c chroma_mode r) (mb_of c r (i_16x16 mode chroma_mode r))
-back-mb_16x16 c mode chroma_mode r is =
-    let all = is.residual in
-    back-bind _ (back-ue_to 3 refl is.chroma) (back-bind _ (back-qp_delta all.least all.most) (back-last _ (back-residual c true r all)))
-
 -- what mb_type says of Intra 16x16
 record Is16x16 (n mode luma chroma : ℕ) : Type 0 where
   few : n ≤ 23
@@ -164,11 +150,13 @@ type_says mode luma chroma none m ch is = grind (arith, nat_tests)
 back-i_16x16 : (c : Context) (mode chroma_mode n : ℕ) (r : Residual) → Is16x16 n mode r.luma_pattern r.chroma_pattern → IsI16x16 mode chroma_mode r →
     GivesBack (i_mb c (suc n)) (i_16x16_bits c chroma_mode r) (mb_of c r (i_16x16 mode chroma_mode r))
 back-i_16x16 c mode chroma_mode n r says is =
+    let all = is.residual in
     let other : (n == 24) ≡ false = ne_eqb n 24 (λ e. omega (arith, says.few, e)) in
     let mode_is = says.mode_is in
     let chroma_is = says.chroma_is in
     let luma_is = says.luma_is in
-    rw (i_mb, other, mode_is, chroma_is, luma_is) (back-mb_16x16 c mode chroma_mode r is)
+    rw (i_mb, other, mode_is, chroma_is, luma_is)
+    (back-bind _ (back-ue_to 3 refl is.chroma) (back-bind _ (back-qp_delta all.least all.most) (back-last _ (back-residual c true r all))))
 
 back-byte : GivesEach (u 8) (bits_of 8) (λ v. v < 256)
 back-byte = record { each = λ v fits. back-u 8 fits }

@@ -25,10 +25,8 @@ pub escaped_more : (out out' bytes all : List ℕ) (i count count' : ℕ) → i 
     out ++ escaped_after count (drop i bytes) ≡ all → out' ++ escaped_after count' (drop (i + 1) bytes) ≡ all
 unfolding escaped_after
 escaped_more out out' bytes all i count count' within is_out is_count sum =
-    let b = get_or bytes i 0 in
-    let rest = drop (i + 1) bytes in
-    ap (λ t. t ++ escaped_after count' rest) is_out ∙ append_assoc out (escaped_byte count b) (escaped_after count' rest)
-    ∙ ap (λ k. out ++ (escaped_byte count b ++ escaped_after k rest)) is_count ∙ ap (λ l. out ++ escaped_after count l) (sym (drop_more bytes i 0 within)) ∙ sum
+    let next = drop_more bytes i 0 within in
+    rw (is_out, is_count, append_assoc) (rw next at sum)
 
 pub escaped_all : (out bytes all : List ℕ) (i count : ℕ) → length bytes ≤ i → out ++ escaped_after count (drop i bytes) ≡ all → out ≡ all
 unfolding escaped_after
