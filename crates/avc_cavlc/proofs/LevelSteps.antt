@@ -1,7 +1,7 @@
 -- One level more.
-use Rattle.std.proofs.Common.{◌≡◌, ℕ, zero, suc, ◌+◌, ◌-◌, ◌≤◌, ℤ, ◌<◌, Bool, false, List, [], ◌∷◌, ◌++◌, length, take, set, refl, ap, ◌∙◌, sym, arith, append_assoc, length-set, max}
-use Rattle.avc_cavlc.proofs.Common.{Result, Ok, Err, ◌==◌, nat_abs, All, take_more_set, Fault, Bits, ◌>>=◌, give}
-use Rattle.avc_cavlc.proofs.Common.{ne_eqb, level, levels, next_suffix_length, IsLevel}
+use Rattle.std.proofs.Common.{◌≡◌, ℕ, suc, ◌+◌, ◌-◌, ◌≤◌, ℤ, ◌<◌, Bool, false, List, [], ◌∷◌, ◌++◌, length, take, set, refl, ap, ◌∙◌, sym, arith, append_assoc, length-set, max}
+use Rattle.avc_cavlc.proofs.Common.{Result, Ok, Err, nat_abs, All, take_more_set, Fault, Bits, ◌>>=◌, give}
+use Rattle.avc_cavlc.proofs.Common.{level, levels, next_suffix_length, IsLevel}
 use Rattle.avc_cavlc.proofs.Common.{suffix_size, levels_after, raised}
 use Rattle.std.proofs.lemmas.Bool.Decides.{nat_tests}
 use Rattle.std.proofs.lemmas.List.Elements.{All-push}

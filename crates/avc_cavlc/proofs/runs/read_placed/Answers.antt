@@ -1,7 +1,7 @@
-use Rattle.avc_cavlc.proofs.Common.{◌≡◌, refl, ◌<◌, ◌≤◌, ◌+◌, ◌-◌, ◌++◌, ◌∷◌, ℤ, suc, pos, Ok, Err, arith, rules, length, take, drop, set}
-use Rattle.avc_cavlc.proofs.Common.{get_or, to_z, of_z, w16, ap, subst, ◌∙◌, sym, length-set, replicate, reverse, ints, drop-replicate}
-use Rattle.avc_cavlc.proofs.Common.{length-replicate, length-take, length-take-le, length-drop, get_or-take, take-take, take-replicate}
-use Rattle.avc_cavlc.proofs.Common.{take-append-drop, drop-cons, reader_bits, IsLevel, run, total_coeff, placed_before, placed_by_runs}
+use Rattle.avc_cavlc.proofs.Common.{◌≡◌, refl, ◌≤◌, ◌+◌, ◌-◌, ◌++◌, ◌∷◌, ℤ, suc, pos, Ok, Err, arith, rules, length, take, drop, set}
+use Rattle.avc_cavlc.proofs.Common.{get_or, to_z, of_z, w16, ap, ◌∙◌, sym, length-set, replicate, reverse, ints, drop-replicate}
+use Rattle.avc_cavlc.proofs.Common.{length-replicate, length-take-le, length-drop, take-take, take-replicate}
+use Rattle.avc_cavlc.proofs.Common.{take-append-drop, reader_bits, run, total_coeff, placed_before, placed_by_runs}
 use Rattle.avc_cavlc.proofs.RunSteps.{run_coded}
 use Rattle.avc_cavlc.proofs.Placing.{run_more, run_fault, first_runs, no_runs, open_first, open_more, done_more, no_coefficients, coefficient_more, front_none, small_none, small_more, value_at}
 use Rattle.avc_cavlc.proofs.runs.read_placed.Goals.{then-values-test+else-k-total, else-values-test}
