@@ -2,33 +2,29 @@
 use Rattle.avc_cavlc.proofs.Common.{◌≡◌, ◌≢◌, ℕ, zero, suc, ◌*◌, ◌^◌, ◌<◌, ◌≤◌, Bool, true, false, subst, arith, inl, inr, lit<, rules}
 use Rattle.avc_cavlc.proofs.Common.{◌==◌, ◌&&◌, IsTrue, if◌then◌else◌, cases_lt, ne_eqb, level_code, suffix_size}
 use Rattle.std.proofs.Math.Nat.{pow-le-pow_right, mul-le-mul}
+use Rattle.std.proofs.lemmas.Bool.Decides.{nat_tests}
+
+two : 0 < 2
+two = lit< tt
 
 -- with prefix 15
 longest : (sl suffix : ℕ) (above_one : Bool) → sl ≤ 6 → suffix < 4096 → (IsTrue above_one → sl ≤ 1) → level_code 15 sl suffix above_one ≤ 5055
-longest zero suffix true few small first = omega arith
-longest zero suffix false few small first = omega arith
-longest (suc zero) suffix true few small first = omega arith
-longest (suc zero) suffix false few small first = omega arith
-longest (suc (suc sl)) suffix true few small first = absurd (let one : suc (suc sl) ≤ 1 = first (search rules) in omega arith)
-longest (suc (suc zero)) suffix false few small first = omega arith
-longest (suc (suc (suc zero))) suffix false few small first = omega arith
-longest (suc (suc (suc (suc zero)))) suffix false few small first = omega arith
-longest (suc (suc (suc (suc (suc zero))))) suffix false few small first = omega arith
-longest (suc (suc (suc (suc (suc (suc zero)))))) suffix false few small first = omega arith
-longest (suc (suc (suc (suc (suc (suc (suc sl))))))) suffix false few small first = absurd (omega arith)
+longest zero suffix above_one few small first = grind arith
+longest (suc sl) suffix true few small first =
+    let power : 2 ^ suc sl ≤ 2 ^ 1 = pow-le-pow_right two (first (search rules)) in
+    grind (arith, nat_tests, power)
+longest (suc sl) suffix false few small first =
+    let power : 2 ^ suc sl ≤ 2 ^ 6 = pow-le-pow_right two few in
+    grind (arith, nat_tests, power)
 
 short : (a b : Bool) (sl : ℕ) → b ≡ false → sl ≤ 6 → (if a then 4 else if b then 12 else sl) ≤ 6
-short true b sl e few = omega arith
-short false true sl e few = cc
-short false false sl e few = few
+short a b sl e few = grind arith
 
 at_most : (b : Bool) (n : ℕ) → (if b then n else 0) ≤ n
-at_most true n = omega arith
-at_most false n = omega arith
+at_most b n = grind arith
 
 shorter : (prefix sl suffix : ℕ) (above_one : Bool) → prefix < 15 → sl ≤ 6 → suffix < 2 ^ suffix_size prefix sl → level_code prefix sl suffix above_one ≤ 5055
 shorter prefix sl suffix above_one less few small =
-    let two : 0 < 2 = lit< tt in
     let other : prefix ≢ 15 = omega arith in
     let size : suffix_size prefix sl ≤ 6 = short (prefix == 14 && sl == 0) (prefix == 15) sl (ne_eqb prefix 15 other) few in
     let power : 2 ^ suffix_size prefix sl ≤ 2 ^ 6 = pow-le-pow_right two size in

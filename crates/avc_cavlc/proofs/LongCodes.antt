@@ -1,29 +1,28 @@
 -- How many bits a level has.
-use Rattle.avc_cavlc.proofs.Common.{◌≡◌, ℕ, suc, ◌+◌, ◌≤◌, Bool, true, false, List, [], ◌∷◌, length, drop, refl, sym, ap, ◌∙◌, arith, inl}
-use Rattle.avc_cavlc.proofs.Common.{inr, nat_lt, Result, Ok, Err, cases_lt, drop-drop, length-drop, Fault, BadCode, Bits, passed, skip, u}
-use Rattle.avc_cavlc.proofs.Common.{zeros, zeros_before_one, skip_long, u_long, u_short, level, level_code, level_of_code, suffix_size}
+use Rattle.avc_cavlc.proofs.Common.{◌≡◌, ℕ, ◌+◌, ◌≤◌, ◌<◌, Bool, length, drop, refl, sym, ap, ◌∙◌, arith, inl, inr, Ok, Err, cases_lt}
+use Rattle.avc_cavlc.proofs.Common.{drop-drop, length-drop, Fault, BadCode, Bits, passed, skip, u, zeros_before_one, skip_long, u_long}
+use Rattle.avc_cavlc.proofs.Common.{u_short, level, level_code, level_of_code, suffix_size}
+use Rattle.avc_bits.proofs.Reading.{before_found, before_many, before_short}
+use Rattle.avc_bits.specs.Reader.{leading}
+use Rattle.avc_cavlc.proofs.RunSteps.{ok_parts}
 
--- the bits that were passed with the zeros and the 1
-record ArePassed (seen n : ℕ) (bits rest : List Bool) : Type 0 where
-  count : ℕ
-  is_count : seen + count ≡ n + 1
-  within : count ≤ length bits
-  rest_is : rest ≡ drop count bits
+-- what is read where zeros stand before a 1
+pub record IsFound (limit n : ℕ) (b after : Bits) : Type 0 where
+  pub zeros : leading b.ahead ≡ n
+  pub few : n ≤ limit
+  pub some : n < length b.ahead
+  pub left : after ≡ passed b (n + 1)
 
-zeros_passed : (limit : ℕ) (fault : Fault) (seen : ℕ) (bits : List Bool) (n : ℕ) (rest : List Bool) → zeros limit fault seen bits ≡ Ok (n, rest) → ArePassed seen n bits rest
-zeros_passed limit fault seen [] n rest is = cc
-zeros_passed limit fault seen (true ∷ bits) n rest is =
-    let count : seen ≡ n = ap (λ r. elim r [ Ok p ↦ p.0 | Err f ↦ seen ]) is in
-    let others : bits ≡ rest = ap (λ r. elim r [ Ok p ↦ p.1 | Err f ↦ bits ]) is in
-    record { count = 1; is_count = omega (arith, count); within = omega arith; rest_is = sym others }
-zeros_passed limit fault seen (false ∷ bits) n rest is = by_test (nat_lt seen limit) is (zeros_passed limit fault (seen + 1) bits n rest)
-  where
-    by_test : (t : Bool) → ◌≡◌ {A = Result (ℕ × List Bool) Fault} (elim t [ true ↦ zeros limit fault (seen + 1) bits | false ↦ Err fault ]) (Ok (n, rest)) →
-        (zeros limit fault (seen + 1) bits ≡ Ok (n, rest) → ArePassed (seen + 1) n bits rest) → ArePassed seen n (false ∷ bits) rest
-    by_test true on later =
-        let p = later on in
-        record { count = suc p.count; is_count = omega (arith, p.is_count); within = omega (arith, p.within); rest_is = p.rest_is }
-    by_test false on later = cc
+pub prefix_found : (limit : ℕ) (fault : Fault) (b after : Bits) (n : ℕ) → zeros_before_one limit fault b ≡ Ok (n, after) → IsFound limit n b after
+prefix_found limit fault b after n is = elim (cases_lt limit (leading b.ahead)) [
+  | inl many ↦ let over = before_many limit fault b many in cc
+  | inr few ↦ elim (cases_lt (leading b.ahead) (length b.ahead)) [
+    | inl some ↦
+        let both = ok_parts (sym (before_found limit fault b few some) ∙ is) in
+        record { zeros = both.0; few = omega (arith, both.0); some = omega (arith, both.0); left = sym both.1 ∙ ap (λ k. passed b (k + 1)) both.0 }
+    | inr none ↦ let cut = before_short limit fault b few none in cc
+  ]
+]
 
 -- so many bits were passed
 record IsPassed (b after : Bits) (n : ℕ) : Type 0 where
@@ -42,28 +41,10 @@ two_passed b mid after m n first second =
       within = omega (arith, first.within, second.within, ap length ahead, length-drop m b.ahead);
     }
 
-prefix_passed : (b after : Bits) (n : ℕ) → zeros_before_one 15 BadCode b ≡ Ok (n, after) → IsPassed b after (n + 1)
-prefix_passed b after n is = by_zeros (zeros 15 BadCode 0 b.ahead) refl
-  where
-    by_zeros : (r : Result (ℕ × List Bool) Fault) → zeros 15 BadCode 0 b.ahead ≡ r → IsPassed b after (n + 1)
-    by_zeros (Err f) e = let fault : zeros_before_one 15 BadCode b ≡ Err f = rw e refl in cc
-    by_zeros (Ok p) e =
-        let there : Bits = record { position = b.position + p.0 + 1; ahead = p.1 } in
-        let found : zeros_before_one 15 BadCode b ≡ Ok (p.0, there) = rw e refl in
-        let both : Ok (p.0, there) ≡ Ok (n, after) = sym found ∙ is in
-        let count : p.0 ≡ n = ap (λ r. elim r [ Ok q ↦ q.0 | Err f ↦ n ]) both in
-        let same : there ≡ after = ap (λ r. elim r [ Ok q ↦ q.1 | Err f ↦ after ]) both in
-        let few = zeros_passed 15 BadCode 0 b.ahead p.0 p.1 e in
-        let number : few.count ≡ n + 1 = omega (arith, few.is_count, count) in
-        let sum : b.position + p.0 + 1 ≡ b.position + (n + 1) = omega (arith, count) in
-        let rest : p.1 ≡ drop (n + 1) b.ahead = few.rest_is ∙ ap (λ k. drop k b.ahead) number in
-        let whole : there ≡ passed b (n + 1) = rw (sum, rest) refl in
-        record { same = sym same ∙ whole; within = omega (arith, few.within, number) }
-
 suffix_passed : (b after : Bits) (n value : ℕ) → u n b ≡ Ok (value, after) → IsPassed b after n
 suffix_passed b after n value is = elim (cases_lt (length b.ahead) n) [
   | inl short ↦ let cut = u_short n b short in cc
-  | inr long ↦ record { same = sym (ap (λ r. elim r [ Ok q ↦ q.1 | Err f ↦ after ]) (sym (u_long n b long) ∙ is)); within = long }
+  | inr long ↦ record { same = sym (ok_parts (sym (u_long n b long) ∙ is)).1; within = long }
 ]
 
 -- The level is read from as many bits as its prefix, the 1 and its suffix have.
@@ -74,13 +55,15 @@ pub record IsLong (sl : ℕ) (above_one : Bool) (prefix suffix : ℕ) (b : Bits)
 pub level_long : (sl : ℕ) (above_one : Bool) (prefix suffix : ℕ) (b mid after : Bits) → zeros_before_one 15 BadCode b ≡ Ok (prefix, mid) → u (suffix_size prefix sl) mid ≡ Ok (suffix, after) →
     IsLong sl above_one prefix suffix b
 level_long sl above_one prefix suffix b mid after is_prefix is_suffix =
-    let all = two_passed b mid after (prefix + 1) (suffix_size prefix sl) (prefix_passed b mid prefix is_prefix) (suffix_passed mid after (suffix_size prefix sl) suffix is_suffix) in
+    let found = prefix_found 15 BadCode b mid prefix is_prefix in
+    let first : IsPassed b mid (prefix + 1) = record { same = found.left; within = omega (arith, found.some) } in
+    let all = two_passed b mid after (prefix + 1) (suffix_size prefix sl) first (suffix_passed mid after (suffix_size prefix sl) suffix is_suffix) in
     let whole : level sl above_one b ≡ Ok (level_of_code (level_code prefix sl suffix above_one), after) = rw (is_prefix, is_suffix) refl in
     record { read = whole ∙ ap (λ left. Ok (level_of_code (level_code prefix sl suffix above_one), left)) all.same; within = all.within }
 
 -- what is left after so many bits
 pub skipped_is : (n : ℕ) (b after : Bits) → n ≤ length b.ahead → skip n b ≡ Ok (tt, after) → passed b n ≡ after
-skipped_is n b after within is = ap (λ r. elim r [ Ok q ↦ q.1 | Err f ↦ after ]) (sym (skip_long n b within) ∙ is)
+skipped_is n b after within is = (ok_parts (sym (skip_long n b within) ∙ is)).1
 
 pub never_cut : {P : Type 0} (n : ℕ) (b : Bits) (f : Fault) → n ≤ length b.ahead → skip n b ≡ Err f → P
 never_cut n b f within is = let whole = skip_long n b within in cc

@@ -3,9 +3,11 @@ use Rattle.std.proofs.Common.{◌≡◌, ℕ, zero, suc, ◌+◌, ◌-◌, ◌/�
 use Rattle.avc_cavlc.proofs.Common.{Ok, Err, replicate, ◌==◌, All, ints, take-take, take-append-le, take-append-drop, length-take-le, Fault}
 use Rattle.avc_cavlc.proofs.Common.{Truncated, Bits, bits_of, passed, times, skip, skip_short, skip_long, IsLevel, trailing_one}
 use Rattle.avc_cavlc.proofs.Common.{one_of_sign}
+use Rattle.std.proofs.lemmas.List.Elements.{All-map}
 use Rattle.std.proofs.lemmas.List.FromFn.{get_or-map-range_with_len}
 use Rattle.avc_bits.proofs.Repeating.{one_first, fault_later}
 use Rattle.avc_vlc.proofs.Entries.{skip-ok, skip-err}
+use Rattle.avc_cavlc.proofs.RunSteps.{ok_parts}
 
 abbrev from : ℕ → List Bool → Bits
 from position ahead = record { position = position; ahead = ahead }
@@ -33,18 +35,21 @@ short_read (suc n) p (x ∷ xs) short =
 abbrev pub three_ones : ℕ → List ℤ
 three_ones signs = one_of_sign (signs / 4 % 2 == 1) ∷ one_of_sign (signs / 2 % 2 == 1) ∷ one_of_sign (signs / 1 % 2 == 1) ∷ []
 
+up_to_three : (P : ℕ → Type 0) → P 0 → P 1 → P 2 → P 3 → (n : ℕ) → n ≤ 3 → P n
+up_to_three P none one two three zero few = none
+up_to_three P none one two three (suc zero) few = one
+up_to_three P none one two three (suc (suc zero)) few = two
+up_to_three P none one two three (suc (suc (suc zero))) few = three
+up_to_three P none one two three (suc (suc (suc (suc n)))) few = absurd (omega arith)
+
 some_ones : (n signs : ℕ) → n ≤ 3 → map one_of_sign (take n (bits_of 3 signs)) ≡ take n (three_ones signs)
-some_ones zero signs few = refl
-some_ones (suc zero) signs few = refl
-some_ones (suc (suc zero)) signs few = refl
-some_ones (suc (suc (suc zero))) signs few = refl
-some_ones (suc (suc (suc (suc n)))) signs few = absurd (omega arith)
+some_ones n signs few = up_to_three (λ k. map one_of_sign (take k (bits_of 3 signs)) ≡ take k (three_ones signs)) refl refl refl refl n few
 
 pub ones_read : (n signs : ℕ) (b after : Bits) → n ≤ 3 → bits_of 3 signs ≡ take 3 (b.ahead ++ replicate 3 false) → skip n b ≡ Ok (tt, after) →
     times n trailing_one b ≡ Ok (take n (three_ones signs), after)
 ones_read n signs b after few same skipped =
     let long : n ≤ length b.ahead = skip-ok n b (tt, after) skipped in
-    let there : passed b n ≡ after = ap (λ r. elim r [ Ok p ↦ p.1 | Err f ↦ b ]) (sym (skip_long n b long) ∙ skipped) in
+    let there : passed b n ≡ after = (ok_parts (sym (skip_long n b long) ∙ skipped)).1 in
     let front : take n (bits_of 3 signs) ≡ take n b.ahead =
     ap (take n) same ∙ take-take n 3 (b.ahead ++ replicate 3 false) few ∙ take-append-le n b.ahead (replicate 3 false) long in
     ap (λ l. times n trailing_one (from b.position l)) (sym (take-append-drop n b.ahead))
@@ -65,23 +70,14 @@ pub ones_put : (n : ℕ) (xs : List ℤ) (x y z : ℤ) → n ≤ 3 → 3 ≤ len
 ones_put n [] x y z few long = absurd (omega arith)
 ones_put n (a ∷ []) x y z few long = absurd (omega arith)
 ones_put n (a ∷ b ∷ []) x y z few long = absurd (omega arith)
-ones_put zero (a ∷ b ∷ c ∷ xs) x y z few long = refl
-ones_put (suc zero) (a ∷ b ∷ c ∷ xs) x y z few long = refl
-ones_put (suc (suc zero)) (a ∷ b ∷ c ∷ xs) x y z few long = refl
-ones_put (suc (suc (suc zero))) (a ∷ b ∷ c ∷ xs) x y z few long = refl
-ones_put (suc (suc (suc (suc n)))) (a ∷ b ∷ c ∷ xs) x y z few long = absurd (omega arith)
+ones_put n (a ∷ b ∷ c ∷ xs) x y z few long = up_to_three (λ k. take k (x ∷ y ∷ z ∷ xs) ≡ take k (x ∷ y ∷ z ∷ [])) refl refl refl refl n few
 
 one_level : (negative : Bool) → IsLevel (one_of_sign negative)
 one_level true = record { some = omega (arith, ints); most = omega (arith, ints) }
 one_level false = record { some = omega (arith, ints); most = omega (arith, ints) }
 
-all_map : (bits : List Bool) → All IsLevel (map one_of_sign bits)
-all_map [] k d within = absurd (omega arith)
-all_map (x ∷ bits) zero d within = one_level x
-all_map (x ∷ bits) (suc k) d within = all_map bits k d (omega arith)
-
 pub ones_levels : (n signs : ℕ) → n ≤ 3 → All IsLevel (take n (three_ones signs))
-ones_levels n signs few = subst (All IsLevel) (some_ones n signs few) (all_map (take n (bits_of 3 signs)))
+ones_levels n signs few = subst (All IsLevel) (some_ones n signs few) (All-map IsLevel one_of_sign (take n (bits_of 3 signs)) (λ k d within. one_level (get_or (take n (bits_of 3 signs)) k d)))
 
 -- a sign as 16 bits
 pub one_back : (x : ℤ) (negative : Bool) → x ≡ one_of_sign negative → to_z w16 (of_z w16 x) ≡ one_of_sign negative
@@ -97,11 +93,7 @@ table =
 of_signs : (signs : ℕ) → signs < 8 → get_or table signs [] ≡ three_ones signs
 of_signs signs few = get_or-map-range_with_len three_ones 0 8 signs signs [] few (omega arith)
 
-one_of : (signs k : ℕ) → k < 3 → get_or (three_ones signs) k (pos 0) ≡ one_of_sign (signs / 2 ^ (2 - k) % 2 == 1)
-one_of signs zero few = refl
-one_of signs (suc zero) few = refl
-one_of signs (suc (suc zero)) few = refl
-one_of signs (suc (suc (suc n))) few = absurd (omega arith)
-
 pub one_there : (signs k : ℕ) → signs < 8 → k < 3 → get_or (get_or table signs []) k (pos 0) ≡ one_of_sign (signs / 2 ^ (2 - k) % 2 == 1)
-one_there signs k three few = ap (λ l. get_or l k (pos 0)) (of_signs signs three) ∙ one_of signs k few
+one_there signs k three few =
+    ap (λ l. get_or l k (pos 0)) (of_signs signs three)
+    ∙ up_to_three (λ j. j < 3 → get_or (three_ones signs) j (pos 0) ≡ one_of_sign (signs / 2 ^ (2 - j) % 2 == 1)) (λ w. refl) (λ w. refl) (λ w. refl) (λ w. absurd (omega arith)) k (omega arith) few

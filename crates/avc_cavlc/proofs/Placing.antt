@@ -2,10 +2,11 @@
 use Rattle.std.proofs.Common.{◌≡◌, ℕ, zero, suc, ◌+◌, ◌-◌, ◌<◌, ◌≤◌, ℤ, pos, List, [], ◌∷◌, ◌++◌, length, reverse, take, drop, set, get_or, refl, ap, subst, ◌∙◌, sym, arith, append_assoc, length-set, inl, inr}
 use Rattle.avc_cavlc.proofs.Common.{Result, Ok, Err, replicate, cases_lt, cases_eq, ints, length-replicate}
 use Rattle.avc_cavlc.proofs.Common.{drop-replicate, take-replicate, take-take, take-set-le, drop-set, drop-take, take-append-drop}
-use Rattle.avc_cavlc.proofs.Common.{drop-drop, get_or-set_same, get_or-set_other, get_or-replicate, get_or_past, Fault, Bits}
+use Rattle.avc_cavlc.proofs.Common.{drop-drop, get_or-take, length-take, All, get_or-set_same, get_or-set_other, get_or-replicate, get_or_past, Fault, Bits}
 use Rattle.avc_cavlc.proofs.Common.{◌>>=◌, give, IsLevel, IsSmall, each_after_zeros, run, runs, total_coeff, placed_before, placed_by_runs}
 use Rattle.avc_cavlc.proofs.Common.{total-append, counted}
 use Rattle.std.proofs.lemmas.Grind.{reverse_onto}
+use Rattle.std.proofs.lemmas.List.{drop_more}
 use Rattle.avc_cavlc.proofs.RunSteps.{each_more, runs_length}
 
 -- ---- reading
@@ -74,6 +75,17 @@ no_runs done (v ∷ w ∷ values) n zeros_left b long some none =
 
 -- ---- the array
 
+-- the value at a place, and those after it
+pub record IsAt (values : List ℤ) (total k : ℕ) (v : ℤ) : Type 0 where
+  pub here : drop k (take total values) ≡ v ∷ drop (k + 1) (take total values)
+  pub is : IsLevel v
+
+pub value_at : (values : List ℤ) (total k : ℕ) → length values ≡ 16 → total ≤ 16 → k < total → All IsLevel (take total values) → IsAt values total k (get_or values k (pos 0))
+value_at values total k long few within all =
+    let there : k < length (take total values) = omega (arith, length-take total values) in
+    let same = get_or-take total values k (pos 0) within in
+    record { here = drop_more (take total values) k (pos 0) there ∙ ap (λ x. x ∷ drop (k + 1) (take total values)) same; is = subst IsLevel same (all k (pos 0) there) }
+
 -- the places in front have no level yet
 pub record IsOpen (place : ℕ) (levels : List ℤ) : Type 0 where
   pub within : place ≤ length levels
@@ -111,13 +123,12 @@ pub no_coefficients : (n : ℕ) → total_coeff (replicate n (pos 0)) ≡ 0
 no_coefficients zero = refl
 no_coefficients (suc n) = total-append (pos 0 ∷ []) (replicate n (pos 0)) ∙ omega (arith, no_coefficients n)
 
+pub parted : (n : ℕ) (levels : List ℤ) → total_coeff levels ≡ total_coeff (take n levels) + total_coeff (drop n levels)
+parted n levels = ap total_coeff (sym (take-append-drop n levels)) ∙ total-append (take n levels) (drop n levels)
+
 -- so many zeros in front count for nothing
 pub front_none : (n : ℕ) (levels : List ℤ) → take n levels ≡ replicate n (pos 0) → total_coeff levels ≡ total_coeff (drop n levels)
-front_none n levels front =
-    let both : total_coeff (take n levels ++ drop n levels) ≡ total_coeff (take n levels) + total_coeff (drop n levels) = total-append (take n levels) (drop n levels) in
-    let none : total_coeff (take n levels) ≡ 0 = ap total_coeff front ∙ no_coefficients n in
-    let all : total_coeff levels ≡ total_coeff (take n levels ++ drop n levels) = ap total_coeff (sym (take-append-drop n levels)) in
-    omega (arith, both, none, all)
+front_none n levels front = omega (arith, parted n levels, ap total_coeff front, no_coefficients n)
 
 pub coefficient_more : (gap : ℕ) (v : ℤ) (done : List ℤ) → IsLevel v → total_coeff (replicate gap (pos 0) ++ v ∷ done) ≡ total_coeff done + 1
 coefficient_more gap v done is = omega (arith, total-append (replicate gap (pos 0)) (v ∷ done), no_coefficients gap, counted v done is.some)

@@ -17,8 +17,14 @@ pub before : {A B : Type 0} (part : Result (A × Bits) Fault) (next : A → Read
 before (Ok p) next b y after is = record { value = p.0; left = p.1; first = refl; second = is }
 before (Err f) next b y after is = cc
 
+pub ok_parts : {A B : Type 0} {x y : A} {a b : B} → ◌≡◌ {A = Result (A × B) Fault} (Ok (x, a)) (Ok (y, b)) → (x ≡ y) × (a ≡ b)
+ok_parts is = grind arith
+
+pub given : {A : Type 0} (x y : A) (b after : Bits) → give x b ≡ Ok (y, after) → (x ≡ y) × (b ≡ after)
+given x y b after is = ok_parts is
+
 checked : (test : Bool) (f : Fault) (x y : ℕ) (b after : Bits) → ((check test f >> give x) b) ≡ Ok (y, after) → (test ≡ true) × (x ≡ y)
-checked true f x y b after is = (refl, ap (λ r. elim r [ Ok p ↦ p.0 | Err g ↦ x ]) is)
+checked true f x y b after is = (refl, (given x y b after is).0)
 checked false f x y b after is = cc
 
 -- ---- one run
@@ -36,16 +42,13 @@ run_before_most zeros_left gap b after is =
     let most : found.value ≤ zeros_left = leb-true found.value zeros_left test.0 in
     omega (arith, test.1)
 
-given : (x y : ℕ) (b after : Bits) → give x b ≡ Ok (y, after) → x ≡ y
-given x y b after is = ap (λ r. elim r [ Ok p ↦ p.0 | Err g ↦ x ]) is
-
 pub run_most : (others zeros_left gap : ℕ) (b after : Bits) → run others zeros_left b ≡ Ok (gap, after) → gap ≤ zeros_left
-run_most zero zeros_left gap b after is = omega (arith, given zeros_left gap b after is)
-run_most (suc others) zero gap b after is = omega (arith, given 0 gap b after is)
+run_most zero zeros_left gap b after is = omega (arith, (given zeros_left gap b after is).0)
+run_most (suc others) zero gap b after is = omega (arith, (given 0 gap b after is).0)
 run_most (suc others) (suc zeros_left) gap b after is = run_before_most (suc zeros_left) gap b after is
 
 pub run_last : (others zeros_left gap : ℕ) (b after : Bits) → run others zeros_left b ≡ Ok (gap, after) → others ≡ 0 → zeros_left ≡ gap
-run_last zero zeros_left gap b after is last = given zeros_left gap b after is
+run_last zero zeros_left gap b after is last = (given zeros_left gap b after is).0
 run_last (suc others) zeros_left gap b after is last = absurd (omega arith)
 
 -- ---- the places
@@ -67,9 +70,6 @@ length_each_more v values gap zero_runs =
 abbrev then_runs : ℕ → ℕ → ℕ → Read (List ℕ)
 then_runs n zeros_left gap = runs n (zeros_left - gap) >>= (λ others. give (gap ∷ others))
 
-list_given : (x y : List ℕ) (b after : Bits) → give x b ≡ Ok (y, after) → x ≡ y
-list_given x y b after is = ap (λ r. elim r [ Ok p ↦ p.0 | Err g ↦ x ]) is
-
 -- the levels and the gap before them
 pub runs_length : (n : ℕ) (values : List ℤ) (zeros_left : ℕ) (zero_runs : List ℕ) (b after : Bits) → length values ≡ n → (n ≡ 0 → zeros_left ≡ 0) → runs n zeros_left b ≡ Ok (zero_runs, after) →
     length (each_after_zeros values zero_runs) ≡ n + zeros_left
@@ -79,7 +79,7 @@ runs_length (suc n) [] zeros_left zero_runs b after long none is = absurd (omega
 runs_length (suc n) (v ∷ values) zeros_left zero_runs b after long none is =
     let one = before (run n zeros_left b) (then_runs n zeros_left) b zero_runs after is in
     let others = before (runs n (zeros_left - one.value) one.left) (λ o. give (one.value ∷ o)) one.left zero_runs after one.second in
-    let same : one.value ∷ others.value ≡ zero_runs = list_given (one.value ∷ others.value) zero_runs others.left after others.second in
+    let same : one.value ∷ others.value ≡ zero_runs = (given (one.value ∷ others.value) zero_runs others.left after others.second).0 in
     let most : one.value ≤ zeros_left = run_most n zeros_left one.value b one.left one.first in
     let last : n ≡ 0 → zeros_left - one.value ≡ 0 = λ e. let all : zeros_left ≡ one.value = run_last n zeros_left one.value b one.left one.first e in omega arith in
     let rest : length (each_after_zeros values others.value) ≡ n + (zeros_left - one.value) = runs_length n values (zeros_left - one.value) others.value one.left others.left (omega arith) last others.first in

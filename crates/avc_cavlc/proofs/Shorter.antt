@@ -1,10 +1,10 @@
 -- A block of 16 levels as one of fewer.
-use Rattle.avc_cavlc.proofs.Common.{◌≡◌, ℕ, ◌+◌, ◌-◌, ◌≤◌, ℤ, pos, List, [], ◌++◌, length, take, drop, refl, ap, ◌∙◌, sym}
-use Rattle.avc_cavlc.proofs.Common.{arith, Result, Ok, Err, replicate, take-replicate, drop-replicate, take-append-drop}
+use Rattle.avc_cavlc.proofs.Common.{◌≡◌, ℕ, ◌+◌, ◌-◌, ◌≤◌, ℤ, pos, List, ◌++◌, length, take, drop, refl, ap, ◌∙◌, sym}
+use Rattle.avc_cavlc.proofs.Common.{arith, Result, Ok, Err, replicate, take-replicate, drop-replicate}
 use Rattle.avc_cavlc.proofs.Common.{take-append-add, drop-append-add, Fault}
-use Rattle.avc_cavlc.proofs.Common.{total_coeff, Bits, each_after_zeros, runs, placed_by_runs, total-append}
-use Rattle.avc_cavlc.proofs.RunSteps.{runs_length}
-use Rattle.avc_cavlc.proofs.Placing.{no_coefficients}
+use Rattle.avc_cavlc.proofs.Common.{total_coeff, Bits, each_after_zeros, runs, placed_by_runs}
+use Rattle.avc_cavlc.proofs.RunSteps.{ok_parts, runs_length}
+use Rattle.avc_cavlc.proofs.Placing.{no_coefficients, parted}
 
 -- the first of 16 levels, of which those behind are 0
 abbrev pub ReadsShorter : (max : ℕ) → (values : List ℤ) → (n zeros : ℕ) → (b after : Bits) → (block : List ℤ) → Type 0
@@ -24,14 +24,6 @@ behind found max more is few =
     ∙ drop-replicate more (16 - length found) (pos 0)
     ∙ ap (λ k. replicate k (pos 0)) (omega arith)
 
-abbrev list_of : List ℤ → Result (List ℤ × Bits) Fault → List ℤ
-list_of x (Ok p) = p.0
-list_of x (Err f) = x
-
-abbrev left_of : Bits → Result (List ℤ × Bits) Fault → Bits
-left_of b (Ok p) = p.1
-left_of b (Err f) = b
-
 pub shorter : (max : ℕ) (values : List ℤ) (n zeros : ℕ) (b after : Bits) (block : List ℤ) → length values ≡ n → (n ≡ 0 → zeros ≡ 0) → n + zeros ≤ max → max ≤ 16 →
     placed_by_runs 16 values n zeros b ≡ Ok (block, after) → ReadsShorter max values n zeros b after block
 shorter max values n zeros b after block long none room few is_block = by_runs (runs n zeros b) refl
@@ -45,8 +37,9 @@ shorter max values n zeros b after block long none room few is_block = by_runs (
         let found = each_after_zeros values p.0 in
         let size : length found ≡ n + zeros = runs_length n values zeros p.0 b p.1 long none is in
         let all : placed_by_runs 16 values n zeros b ≡ Ok (found ++ replicate (16 - length found) (pos 0), p.1) = rw is refl in
-        let same : found ++ replicate (16 - length found) (pos 0) ≡ block = ap (list_of []) (sym all ∙ is_block) in
-        let there : p.1 ≡ after = ap (left_of b) (sym all ∙ is_block) in
+        let both = ok_parts (sym all ∙ is_block) in
+        let same = both.0 in
+        let there = both.1 in
         let gap : length found + (max - length found) ≡ max = omega arith in
         let some : placed_by_runs max values n zeros b ≡ Ok (found ++ replicate (max - length found) (pos 0), p.1) = rw is refl in (
           some ∙ rw (there, ← same, front found max (max - length found) gap few) refl,
@@ -54,8 +47,4 @@ shorter max values n zeros b after block long none room few is_block = by_runs (
         )
 
 pub shorter_count : (max : ℕ) (block : List ℤ) (k : ℕ) → drop max block ≡ replicate k (pos 0) → total_coeff (take max block) ≡ total_coeff block
-shorter_count max block k rest =
-    let both : total_coeff (take max block ++ drop max block) ≡ total_coeff (take max block) + total_coeff (drop max block) = total-append (take max block) (drop max block) in
-    let none : total_coeff (drop max block) ≡ 0 = ap total_coeff rest ∙ no_coefficients k in
-    let all : total_coeff block ≡ total_coeff (take max block ++ drop max block) = ap total_coeff (sym (take-append-drop max block)) in
-    omega (arith, both, none, all)
+shorter_count max block k rest = omega (arith, parted max block, ap total_coeff rest, no_coefficients k)

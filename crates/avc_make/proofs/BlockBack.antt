@@ -2,16 +2,17 @@
 use Rattle.std.proofs.Common.{◌≡◌, ◌≢◌, ℕ, zero, suc, ◌+◌, ◌-◌, ◌<◌, ◌≤◌, ◌<ℤ◌, ℤ, pos, negsuc, neg_ℤ, nat_abs, List, [], ◌∷◌, ◌++◌, length, take, drop, reverse, Bool, true, false, refl, ap, subst, ◌∙◌, sym, arith, inl, inr, append_assoc, append-nil, length-append}
 use Rattle.avc_make.proofs.Common.{Option, Some, None, ◌==◌, ◌||◌, if◌then◌else◌, int_lt, nat_lt, replicate, flat_map, sum, zip, nat_tests}
 use Rattle.avc_make.proofs.Common.{cases_eq, cases_lt, eq-eqb, ne_eqb, le-leb, le-ltb, lt-ltb, length-drop, length-map, length-replicate}
-use Rattle.avc_make.proofs.Common.{reverse-reverse, take-append-drop, Read, ◌>>=◌, bits_of, give, or_none, times, u, IsReadBack, IsToken}
+use Rattle.avc_make.proofs.Common.{replicate-append-replicate, reverse-reverse, take-append-drop, Read, ◌>>=◌, bits_of, give, or_none, times, u, IsReadBack, IsToken}
 use Rattle.avc_make.proofs.Common.{coeff_token, run_before, token, total_zeros, run_word, token_word, zeros_word, run_back, run_whole}
 use Rattle.avc_make.proofs.Common.{token_back, token_whole, zeros_back, AreCodes, BlocksAreRead, HasCodes, IsCode, after_zeros, block_bits}
 use Rattle.avc_make.proofs.Common.{code_of_level, coded, first_length, least_code, level_bits, levels_bits, ones_first, prefix_of, run_bits}
-use Rattle.avc_make.proofs.Common.{runs_bits, runs_of, sign_bits, values_of, zeros_bits, Each, ints}
+use Rattle.avc_make.proofs.Common.{runs_bits, runs_of, sign_bits, values_of, zeros_bits, All, ints}
+use Rattle.std.proofs.lemmas.List.Elements.{All-drop, All-head, All-tail}
 use Rattle.std.specs.Option.{is_some}
 use Rattle.avc_types.specs.declared.fault.Fault.TheVariants as faults
 use Rattle.avc_cavlc.specs.Block.{level, level_code, level_of_code, levels, next_suffix_length, placed, residual_block, run, runs, suffix_size, token_levels, trailing_one}
 use Rattle.avc_make.specs.BlockWriting.{IsWritable}
-use Rattle.avc_make.proofs.BlockPutting.{IsNonzero, coded_size, coded_some, each_drop, ones_few, ones_within, sum-cons, zeros_there}
+use Rattle.avc_make.proofs.BlockPutting.{IsNonzero, coded_size, coded_some, ones_few, ones_within, sum-cons, zeros_there}
 use Rattle.avc_make.proofs.LevelWords.{prefix_is}
 use Rattle.avc_make.proofs.ReadingBack.{GivesBack, with_value, with_word, back-bind, back-check, back-flag, back-give, back-last, back-u, back-zeros, reads_back}
 
@@ -59,28 +60,29 @@ IsAboveOne above_one (l ∷ values) = above_one ≡ true → 2 ≤ nat_abs l
 not_above : (values : List ℤ) → IsAboveOne false values
 not_above values = grind arith
 
-back-levels : (sl : ℕ) (above_one : Bool) (values : List ℤ) → AreCodes sl above_one values → Each IsNonzero values → IsAboveOne above_one values →
+back-levels : (sl : ℕ) (above_one : Bool) (values : List ℤ) → AreCodes sl above_one values → All IsNonzero values → IsAboveOne above_one values →
     GivesBack (levels (length values) sl above_one) (levels_bits sl above_one values) values
 back-levels sl above_one [] codes some above = back-give
 back-levels sl above_one (l ∷ values) codes some above =
-    back-bind _ (back-level sl above_one l codes.0 some.0 above) (back-last _ (back-levels (next_suffix_length sl l) false values codes.1 some.1 (not_above values)))
+    back-bind _ (back-level sl above_one l codes.0 (All-head IsNonzero l values some) above)
+    (back-last _ (back-levels (next_suffix_length sl l) false values codes.1 (All-tail IsNonzero l values some) (not_above values)))
 
 -- what stands after the trailing ones
-stops_above : (most : ℕ) (values : List ℤ) → Each IsNonzero values → ones_first most values < most → IsAboveOne true (drop (ones_first most values) values)
+stops_above : (most : ℕ) (values : List ℤ) → All IsNonzero values → ones_first most values < most → IsAboveOne true (drop (ones_first most values) values)
 stops_above zero values some few = absurd (omega arith)
 stops_above (suc most) [] some few = tt
 stops_above (suc most) (l ∷ values) some few = elim (cases_eq (nat_abs l) 1) [
-  | inl one ↦ let is = eq-eqb (nat_abs l) 1 one in rw is (stops_above most values some.1 (omega (arith, rw is at few)))
-  | inr other ↦ rw (ne_eqb (nat_abs l) 1 other) (λ _. omega (arith, some.0))
+  | inl one ↦ let is = eq-eqb (nat_abs l) 1 one in rw is (stops_above most values (All-tail IsNonzero l values some) (omega (arith, rw is at few)))
+  | inr other ↦ rw (ne_eqb (nat_abs l) 1 other) (λ _. omega (arith, All-head IsNonzero l values some))
 ]
 
-ones_above : (values : List ℤ) → Each IsNonzero values → IsAboveOne (nat_lt (ones_first 3 values) 3) (drop (ones_first 3 values) values)
+ones_above : (values : List ℤ) → All IsNonzero values → IsAboveOne (nat_lt (ones_first 3 values) 3) (drop (ones_first 3 values) values)
 ones_above values some = elim (cases_lt (ones_first 3 values) 3) [
   | inl few ↦ rw (lt-ltb (ones_first 3 values) 3 few) (stops_above 3 values some few)
   | inr most ↦ rw (le-ltb (ones_first 3 values) 3 most) (not_above (drop (ones_first 3 values) values))
 ]
 
-back-values : (found : List (ℤ × ℕ)) → HasCodes found → Each IsNonzero (values_of found) →
+back-values : (found : List (ℤ × ℕ)) → HasCodes found → All IsNonzero (values_of found) →
     GivesBack (token_levels (token (length found) (ones_first 3 (values_of found))))
     (sign_bits (ones_first 3 (values_of found)) (values_of found)
     ++ levels_bits (first_length (length found) (ones_first 3 (values_of found))) (nat_lt (ones_first 3 (values_of found)) 3) (drop (ones_first 3 (values_of found)) (values_of found)))
@@ -92,7 +94,7 @@ back-values found codes some =
     let above_one = nat_lt ones 3 in
     let others = drop ones values in
     let count : length others ≡ length found - ones = length-drop ones values ∙ ap (λ n. n - ones) (length-map found (λ c. c.0)) in
-    let read = back-levels sl above_one others codes (each_drop IsNonzero ones values some) (ones_above values some) in
+    let read = back-levels sl above_one others codes (All-drop IsNonzero ones values some) (ones_above values some) in
     let counted = subst (λ n. GivesBack (levels n sl above_one) (levels_bits sl above_one others) others) count read in
     with_value (take-append-drop ones values) (back-bind _ (back-ones 3 values) (back-last (λ vs. take ones values ++ vs) counted))
 
@@ -120,7 +122,7 @@ pairs_back : (found : List (ℤ × ℕ)) → zip (values_of found) (runs_of foun
 pairs_back [] = refl
 pairs_back (c ∷ found) = ap (λ f. c ∷ f) (pairs_back found)
 
-abbrev after : ℤ × ℕ → List ℤ
+abbrev pub after : ℤ × ℕ → List ℤ
 after p = replicate p.1 (pos 0) ++ p.0 ∷ []
 
 abbrev all_after : List (ℤ × ℕ) → List ℤ
@@ -130,8 +132,7 @@ is_zero : (l : ℤ) → nat_abs l ≡ 0 → l ≡ pos 0
 is_zero l e = grind (arith, ints)
 
 replicate_more : (n : ℕ) (levels : List ℤ) → replicate (n + 1) (pos 0) ++ levels ≡ replicate n (pos 0) ++ pos 0 ∷ levels
-replicate_more zero levels = refl
-replicate_more (suc n) levels = let next : suc n + 1 ≡ suc (n + 1) = omega arith in ap (λ k. replicate k (pos 0) ++ levels) next ∙ ap (λ t. pos 0 ∷ t) (replicate_more n levels)
+replicate_more n levels = rw (← replicate-append-replicate n 1 (pos 0), append_assoc) refl
 
 -- the zeros at the end fill up the levels
 abbrev Fills : ℕ → List ℤ → Type 0

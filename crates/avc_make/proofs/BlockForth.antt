@@ -1,14 +1,17 @@
 -- What reading says of a residual block: it can be written, and its bits are those that were read.
 use Rattle.std.proofs.Common.{◌≡◌, ℕ, zero, suc, ◌+◌, ◌-◌, ◌^◌, ◌<◌, ◌≤◌, ℤ, pos, neg_ℤ, nat_abs, nat_le, List, [], ◌∷◌, ◌++◌, length, map, take, drop, reverse, Bool, true, false, refl, ap, subst, ◌∙◌, sym, arith, inl, inr, append_assoc, append-nil, length-append}
-use Rattle.avc_make.proofs.Common.{Option, Result, Ok, Err, ◌==◌, ◌||◌, if◌then◌else◌, int_lt, nat_lt, replicate, flat_map, sum, zip}
-use Rattle.avc_make.proofs.Common.{cases_lt, eq-eqb, ne_eqb, lt-ltb, le-ltb, Fault, Bits, Read, ◌>>=◌, ◌>>◌, bits_of, check, give, or_none}
-use Rattle.avc_make.proofs.Common.{times, IsReadBy, IsU, Takes, flag, u, zeros, zeros_before_one, drop-append_seam, take-append_seam}
+use Rattle.avc_make.proofs.Common.{Option, Result, Ok, Err, ◌==◌, ◌||◌, if◌then◌else◌, int_lt, nat_lt, replicate, flat_map, sum, zip, All}
+use Rattle.avc_make.proofs.Common.{cases_lt, eq-eqb, ne_eqb, lt-ltb, Fault, Bits, Read, ◌>>=◌, ◌>>◌, bits_of, check, give, or_none}
+use Rattle.avc_make.proofs.Common.{times, IsReadBy, IsU, Takes, flag, u, zeros_before_one, drop-append_seam, take-append_seam}
 use Rattle.avc_make.proofs.Common.{length-map, reverse-reverse, IsIn, IsToken, coeff_token, token, token_table, total_zeros, IsRead}
 use Rattle.avc_make.proofs.Common.{token_word, zeros_word, joined, AreCodes, BlocksAreWritable, block_bits, IsCode, after_zeros}
 use Rattle.avc_make.proofs.Common.{code_of_level, coded, first_length, least_code, level_bits, levels_bits, ones_first, run_bits, runs_bits}
-use Rattle.avc_make.proofs.Common.{sign_bits, zeros_bits, Each, nat_tests, ints}
+use Rattle.avc_make.proofs.Common.{sign_bits, zeros_bits, nat_tests, ints}
 use Rattle.avc_types.specs.declared.fault.Fault.TheVariants as faults
 use Rattle.avc_bits.proofs.CodeLaws.{u_reads}
+use Rattle.avc_bits.proofs.Reading.{before_found, before_many, before_short}
+use Rattle.avc_bits.specs.Bits.{passed}
+use Rattle.avc_bits.specs.Reader.{leading}
 use Rattle.avc_cavlc.specs.Block.{each_after_zeros, level, level_code, level_of_code, levels, next_suffix_length, placed, residual_block, run, runs, suffix_size, token_levels, trailing_one}
 use Rattle.avc_cavlc.proofs.RunSteps.{before, run_last, run_most}
 use Rattle.avc_vlc.specs.declared.token.Token.{Token}
@@ -16,11 +19,13 @@ use Rattle.avc_vlc.proofs.Codes.{table_read}
 use Rattle.avc_vlc.proofs.Values.{all_in, is_token, token_tested, tokens_tested}
 use Rattle.avc_vlc.proofs.OwnWords.{run_own, token_own, zeros_own}
 use Rattle.avc_make.specs.BlockWriting.{IsWritable}
-use Rattle.avc_make.proofs.BlockPutting.{IsNonzero, each_reverse, sum-cons}
-use Rattle.avc_make.proofs.BlockBack.{IsAboveOne}
+use Rattle.avc_make.proofs.BlockPutting.{IsNonzero, sum-cons}
+use Rattle.avc_make.proofs.BlockBack.{IsAboveOne, after}
 use Rattle.avc_make.proofs.LevelWords.{IsPrefix, only_prefix, prefix_code}
+use Rattle.std.proofs.lemmas.List.Elements.{All-append, All-cons, All-head, All-nil, All-tail, All-weaker}
+use Rattle.std.proofs.lemmas.List.Sorted.{All-permutation, IsPermutation-reverse}
 use Rattle.std.proofs.lemmas.Slice.Zip.{firsts-zip, seconds-zip}
-use Rattle.avc_make.proofs.Cutting.{bit_read}
+use Rattle.avc_make.proofs.UnitsBack.{bit_read}
 
 -- ---- what a part reads
 
@@ -42,8 +47,8 @@ took-give {A} {Of} x of = record {
 }
 
 -- one part after another
-took-bind : {A B : Type 0} {Of : A → List Bool → Type 0} {All : B → List Bool → Type 0} {part : Read A} (next : A → Read B) →
-    Took part Of → ((x : A) (w : List Bool) → Of x w → Took (next x) (λ y w'. All y (w ++ w'))) → Took (part >>= next) All
+took-bind : {A B : Type 0} {Of : A → List Bool → Type 0} {Whole : B → List Bool → Type 0} {part : Read A} (next : A → Read B) →
+    Took part Of → ((x : A) (w : List Bool) → Of x w → Took (next x) (λ y w'. Whole y (w ++ w'))) → Took (part >>= next) Whole
 took-bind {part = part} next first others = record {
   took = λ b left y is.
       let parts = before (part b) next b y left is in
@@ -53,11 +58,11 @@ took-bind {part = part} next first others = record {
 }
 
 -- a part of whose value another is made
-took-last : {A B : Type 0} {Of : A → List Bool → Type 0} {All : B → List Bool → Type 0} {part : Read A} (f : A → B) →
-    Took part Of → ((x : A) (w : List Bool) → Of x w → All (f x) w) → Took (part >>= λ x. give (f x)) All
-took-last {All = All} f first of_all = took-bind _ first (λ x w of. took-give (f x) (subst (All (f x)) (sym (append-nil w)) (of_all x w of)))
+took-last : {A B : Type 0} {Of : A → List Bool → Type 0} {Whole : B → List Bool → Type 0} {part : Read A} (f : A → B) →
+    Took part Of → ((x : A) (w : List Bool) → Of x w → Whole (f x) w) → Took (part >>= λ x. give (f x)) Whole
+took-last {Whole = Whole} f first of_all = took-bind _ first (λ x w of. took-give (f x) (subst (Whole (f x)) (sym (append-nil w)) (of_all x w of)))
 
-took-check : {B : Type 0} {All : B → List Bool → Type 0} {next : Read B} (test : Bool) (f : Fault) → (test ≡ true → Took next All) → Took (check test f >> next) All
+took-check : {B : Type 0} {Whole : B → List Bool → Type 0} {next : Read B} (test : Bool) (f : Fault) → (test ≡ true → Took next Whole) → Took (check test f >> next) Whole
 took-check true f others = record { took = λ b left y is. (others refl).took b left y is }
 took-check false f others = record { took = λ b left y is. cc }
 
@@ -83,39 +88,28 @@ pair_is : {A B : Type 0} (x y : A) (a b : B) → ◌≡◌ {A = Result (A × B) 
 pair_is x y a b is = grind arith
 
 -- zeros and a 1
-record TookZeros (limit seen n : ℕ) (bits rest : List Bool) : Type 0 where
-  pub more : ℕ
-  pub sum : n ≡ seen + more
-  pub few : n ≤ limit
-  pub ahead : bits ≡ replicate more false ++ true ∷ rest
-
-zeros_took : (limit seen n : ℕ) (f : Fault) (bits rest : List Bool) → seen ≤ limit → zeros limit f seen bits ≡ Ok (n, rest) → TookZeros limit seen n bits rest
-zeros_took limit seen n f [] rest few is = cc
-zeros_took limit seen n f (true ∷ bits) rest few is =
-    let both = pair_is seen n bits rest is in
-    record { more = 0; sum = omega (arith, both.0); few = omega (arith, both.0); ahead = ap (λ r. true ∷ r) both.1 }
-zeros_took limit seen n f (false ∷ bits) rest few is = elim (cases_lt seen limit) [
-  | inl below ↦
-      let took = zeros_took limit (seen + 1) n f bits rest (omega arith) (rw (zeros, lt-ltb seen limit below) at is) in
-      record { more = suc took.more; sum = omega (arith, took.sum); few = took.few; ahead = ap (λ t. false ∷ t) took.ahead }
-  | inr above ↦ let wrong = rw (zeros, le-ltb seen limit above) at is in cc
-]
+split_at_one : (bits : List Bool) → leading bits < length bits → bits ≡ (replicate (leading bits) false ++ true ∷ []) ++ drop (leading bits + 1) bits
+unfolding leading
+split_at_one [] some = absurd (omega arith)
+split_at_one (true ∷ bits) some = refl
+split_at_one (false ∷ bits) some =
+    let one : suc (leading bits) + 1 ≡ suc (leading bits + 1) = omega arith in
+    rw one (ap (λ t. false ∷ t) (split_at_one bits (omega arith)))
 
 prefix_took : (limit n : ℕ) (f : Fault) (b left : Bits) → zeros_before_one limit f b ≡ Ok (n, left) → (n ≤ limit) × (b.ahead ≡ (replicate n false ++ true ∷ []) ++ left.ahead)
-prefix_took limit n f b left is = by_result (zeros limit f 0 b.ahead) refl is
-  where
-    by_result : (r : Result (ℕ × List Bool) Fault) → zeros limit f 0 b.ahead ≡ r →
-        ◌≡◌ {A = Result (ℕ × Bits) Fault} (elim r [ Err g ↦ Err g | Ok p ↦ Ok (p.0, record { position = b.position + p.0 + 1; ahead = p.1 }) ]) (Ok (n, left)) → (n ≤ limit) × (b.ahead ≡ (replicate n false ++ true ∷ []) ++ left.ahead)
-    by_result (Err g) e is = cc
-    by_result (Ok p) e is =
-        let both = pair_is p.0 n (record { position = b.position + p.0 + 1; ahead = p.1 }) left is in
-        let first = both.0 in
-        let second = ap (λ (c : Bits). c.ahead) both.1 in
-        let took = zeros_took limit 0 p.0 f b.ahead p.1 (omega arith) e in
-        let same : took.more ≡ n = omega (arith, took.sum) in (
-          omega (arith, took.few),
-          took.ahead ∙ ap (λ m. replicate m false ++ true ∷ p.1) same ∙ ap (λ t. replicate n false ++ true ∷ t) second ∙ sym (append_assoc (replicate n false) (true ∷ []) left.ahead),
+prefix_took limit n f b left is = elim (cases_lt limit (leading b.ahead)) [
+  | inl many ↦ let over = before_many limit f b many in cc
+  | inr few ↦ elim (cases_lt (leading b.ahead) (length b.ahead)) [
+    | inl some ↦
+        let both = pair_is (leading b.ahead) n (passed b (leading b.ahead + 1)) left (sym (before_found limit f b few some) ∙ is) in (
+          omega (arith, both.0),
+          split_at_one b.ahead some
+              ∙ ap (λ t. (replicate (leading b.ahead) false ++ true ∷ []) ++ t) (ap (λ (c : Bits). c.ahead) both.1)
+              ∙ ap (λ m. (replicate m false ++ true ∷ []) ++ left.ahead) both.0,
         )
+    | inr none ↦ let cut = before_short limit f b few none in cc
+  ]
+]
 
 took-prefix : (limit : ℕ) (f : Fault) → Took (zeros_before_one limit f) (λ n w. (n ≤ limit) × (w ≡ replicate n false ++ true ∷ []))
 took-prefix limit f = record {
@@ -138,13 +132,13 @@ signs values = map (λ l. int_lt l (pos 0)) values
 
 record AreOnes (n : ℕ) (values : List ℤ) (word : List Bool) : Type 0 where
   count : length values ≡ n
-  ones : Each IsOne values
+  ones : All IsOne values
   is_word : word ≡ signs values
 
 took-ones : (n : ℕ) → Took (times n trailing_one) (AreOnes n)
-took-ones zero = took-give [] (record { count = refl; ones = tt; is_word = refl })
+took-ones zero = took-give [] (record { count = refl; ones = All-nil IsOne; is_word = refl })
 took-ones (suc n) = took-bind _ took-one (λ l w one. took-last _ (took-ones n) (λ ls w' others.
-    record { count = ap (λ k. suc k) others.count; ones = (one.0, others.ones); is_word = ap (λ t. t ++ w') one.1 ∙ ap (λ t. int_lt l (pos 0) ∷ t) others.is_word }))
+    record { count = ap (λ k. suc k) others.count; ones = All-cons IsOne l ls one.0 others.ones; is_word = ap (λ t. t ++ w') one.1 ∙ ap (λ t. int_lt l (pos 0) ∷ t) others.is_word }))
 
 -- what a levelCode stands for
 record IsValue (above_one : Bool) (code : ℕ) (l : ℤ) : Type 0 where
@@ -185,17 +179,17 @@ took-level sl above_one = took-bind _ (took-prefix 15 faults.BadCode) (λ prefix
 record AreLevels (n sl : ℕ) (above_one : Bool) (values : List ℤ) (word : List Bool) : Type 0 where
   count : length values ≡ n
   codes : AreCodes sl above_one values
-  some : Each IsNonzero values
+  some : All IsNonzero values
   above : IsAboveOne above_one values
   is_word : word ≡ levels_bits sl above_one values
 
 took-levels : (n sl : ℕ) (above_one : Bool) → Took (levels n sl above_one) (AreLevels n sl above_one)
-took-levels zero sl above_one = took-give [] (record { count = refl; codes = tt; some = tt; above = tt; is_word = refl })
+took-levels zero sl above_one = took-give [] (record { count = refl; codes = tt; some = All-nil IsNonzero; above = tt; is_word = refl })
 took-levels (suc n) sl above_one = took-bind _ (took-level sl above_one) (λ l w one. took-last _ (took-levels n (next_suffix_length sl l) false) (λ ls w' others.
     record {
       count = ap (λ k. suc k) others.count;
       codes = (one.code, others.codes);
-      some = (one.some, others.some);
+      some = All-cons IsNonzero l ls one.some others.some;
       above = one.above;
       is_word = ap (λ t. t ++ w') one.is_word ∙ ap (λ t. level_bits sl (code_of_level above_one l) ++ t) others.is_word;
     }))
@@ -203,7 +197,7 @@ took-levels (suc n) sl above_one = took-bind _ (took-level sl above_one) (λ l w
 -- ---- all levels
 
 -- the trailing ones are those at the front
-ones_count : (most : ℕ) (ones others : List ℤ) → Each IsOne ones → length ones ≤ most → (length ones < most → IsAboveOne true others) → ones_first most (ones ++ others) ≡ length ones
+ones_count : (most : ℕ) (ones others : List ℤ) → All IsOne ones → length ones ≤ most → (length ones < most → IsAboveOne true others) → ones_first most (ones ++ others) ≡ length ones
 ones_count zero [] others each few above = refl
 ones_count zero (l ∷ ones) others each few above = absurd (omega arith)
 ones_count (suc most) [] [] each few above = refl
@@ -211,22 +205,14 @@ ones_count (suc most) [] (l ∷ others) each few above =
     let two : 2 ≤ nat_abs l = above (omega arith) refl in
     ap (λ t. if t then suc (ones_first most others) else 0) (ne_eqb (nat_abs l) 1 (omega arith))
 ones_count (suc most) (l ∷ ones) others each few above =
-    ap (λ t. if t then suc (ones_first most (ones ++ others)) else 0) (eq-eqb (nat_abs l) 1 each.0)
-    ∙ ap (λ n. suc n) (ones_count most ones others each.1 (omega arith) (λ less. above (omega arith)))
-
-each_append : {A : Type 0} (P : A → Type 0) (xs ys : List A) → Each P xs → Each P ys → Each P (xs ++ ys)
-each_append P [] ys first second = second
-each_append P (x ∷ xs) ys first second = (first.0, each_append P xs ys first.1 second)
-
-ones_some : (values : List ℤ) → Each IsOne values → Each IsNonzero values
-ones_some [] each = tt
-ones_some (l ∷ values) each = (omega (arith, each.0), ones_some values each.1)
+    ap (λ t. if t then suc (ones_first most (ones ++ others)) else 0) (eq-eqb (nat_abs l) 1 (All-head IsOne l ones each))
+    ∙ ap (λ n. suc n) (ones_count most ones others (All-tail IsOne l ones each) (omega arith) (λ less. above (omega arith)))
 
 record AreValues (total ones : ℕ) (values : List ℤ) (word : List Bool) : Type 0 where
   count : length values ≡ total
   trailing : ones_first 3 values ≡ ones
   codes : AreCodes (first_length total ones) (nat_lt ones 3) (drop ones values)
-  some : Each IsNonzero values
+  some : All IsNonzero values
   is_word : word ≡ sign_bits ones values ++ levels_bits (first_length total ones) (nat_lt ones 3) (drop ones values)
 
 above_few : (ones : ℕ) (others : List ℤ) → IsAboveOne (nat_lt ones 3) others → ones < 3 → IsAboveOne true others
@@ -240,7 +226,7 @@ values_took total ones xs vs w w' within few o v =
       count = length-append xs vs ∙ omega (arith, o.count, v.count);
       trailing = ones_count 3 xs vs o.ones (omega (arith, o.count)) (λ less. above_few ones vs v.above (omega (arith, o.count))) ∙ o.count;
       codes = rw rest (v.codes);
-      some = each_append IsNonzero xs vs (ones_some xs o.ones) v.some;
+      some = All-append IsNonzero xs vs (All-weaker IsOne IsNonzero (λ l one. omega arith) xs o.ones) v.some;
       is_word = rw (rest, front) (ap (λ t. t ++ w') o.is_word ∙ ap (λ t. signs xs ++ t) v.is_word);
     }
 
@@ -283,26 +269,27 @@ zeros_on : (n count : ℕ) (levels : List ℤ) → after_zeros count (replicate 
 zeros_on zero count levels = ap (λ k. after_zeros k levels) (omega arith)
 zeros_on (suc n) count levels = zeros_on n (count + 1) levels ∙ ap (λ k. after_zeros k levels) (omega arith)
 
-abbrev after : ℤ × ℕ → List ℤ
-after p = replicate p.1 (pos 0) ++ p.0 ∷ []
+abbrev HasLevel : ℤ × ℕ → Type 0
+HasLevel p = IsNonzero p.0
 
-found_back : (found : List (ℤ × ℕ)) (n : ℕ) → Each (λ p. IsNonzero p.0) found → after_zeros 0 (flat_map after found ++ replicate n (pos 0)) ≡ found
-found_back [] n each = rw (← (append-nil (replicate n (pos 0)))) (zeros_on n 0 [])
-found_back (p ∷ found) n each =
-    let some : (nat_abs p.0 == 0) ≡ false = ne_eqb (nat_abs p.0) 0 (omega (arith, each.0)) in
+found_back : (found : List (ℤ × ℕ)) (n : ℕ) → All HasLevel found → after_zeros 0 (flat_map after found ++ replicate n (pos 0)) ≡ found
+found_back [] n all = rw (← (append-nil (replicate n (pos 0)))) (zeros_on n 0 [])
+found_back (p ∷ found) n all =
+    let some : (nat_abs p.0 == 0) ≡ false = ne_eqb (nat_abs p.0) 0 (omega (arith, All-head HasLevel p found all)) in
     let same : 0 + p.1 ≡ p.1 = omega arith in
-    simp (append_assoc, zeros_on, same, some, found_back found n each.1)
+    simp (append_assoc, zeros_on, same, some, found_back found n (All-tail HasLevel p found all))
 
-each_zip : (values : List ℤ) (zero_runs : List ℕ) → Each IsNonzero values → Each (λ p. IsNonzero p.0) (zip values zero_runs)
-each_zip [] zero_runs each = tt
-each_zip (l ∷ values) [] each = tt
-each_zip (l ∷ values) (z ∷ zero_runs) each = (each.0, each_zip values zero_runs each.1)
+all_zip : (values : List ℤ) (zero_runs : List ℕ) → All IsNonzero values → All HasLevel (zip values zero_runs)
+all_zip [] zero_runs all = All-nil HasLevel
+all_zip (l ∷ values) [] all = All-nil HasLevel
+all_zip (l ∷ values) (z ∷ zero_runs) all =
+    All-cons HasLevel (l, z) (zip values zero_runs) (All-head IsNonzero l values all) (all_zip values zero_runs (All-tail IsNonzero l values all))
 
-coded_placed : (most : ℕ) (values : List ℤ) (zero_runs : List ℕ) → Each IsNonzero values → coded (placed most values zero_runs) ≡ zip values zero_runs
-coded_placed most values zero_runs each =
-    let found = reverse (zip values zero_runs) in
-    ap reverse (found_back found (most - length (each_after_zeros values zero_runs)) (each_reverse (λ p. IsNonzero p.0) (zip values zero_runs) (each_zip values zero_runs each)))
-    ∙ reverse-reverse (zip values zero_runs)
+coded_placed : (most : ℕ) (values : List ℤ) (zero_runs : List ℕ) → All IsNonzero values → coded (placed most values zero_runs) ≡ zip values zero_runs
+coded_placed most values zero_runs all =
+    let pairs = zip values zero_runs in
+    let each = All-permutation HasLevel pairs (reverse pairs) (IsPermutation-reverse pairs) (all_zip values zero_runs all) in
+    ap reverse (found_back (reverse pairs) (most - length (each_after_zeros values zero_runs)) each) ∙ reverse-reverse pairs
 
 -- ---- blocks
 

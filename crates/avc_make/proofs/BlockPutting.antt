@@ -2,18 +2,17 @@
 use Rattle.std.proofs.Common.{◌≡◌, ◌≢◌, ℕ, zero, suc, ◌+◌, ◌<◌, ◌≤◌, ℤ, pos, nat_abs, List, [], ◌∷◌, ◌++◌, length, take, drop, get_or, reverse, Bool, true, false, refl, ap, subst, ◌∙◌, sym, arith, inl, inr, append_assoc}
 use Rattle.avc_make.proofs.Common.{Option, ◌==◌, int_lt, option_map, sum, cases_eq, eq-eqb, ne_eqb, get_or-map, get_or-take, length-map}
 use Rattle.avc_make.proofs.Common.{length-reverse, length-take-le, drop_more, after_zeros, coded, ones_first, runs_of, sign_bits, values_of}
-use Rattle.avc_make.proofs.Common.{Each, zeros_word, chroma_zeros_whole, zeros_whole, nat_tests, ints}
+use Rattle.avc_make.proofs.Common.{All, zeros_word, chroma_zeros_whole, zeros_whole, nat_tests, ints}
 use Rattle.std.specs.Option.{is_some}
 use Rattle.std.proofs.lemmas.Grind.{reverse_onto}
-use Rattle.std.proofs.lemmas.List.Sums.{sum_by-append}
+use Rattle.std.proofs.lemmas.List.Elements.{All-cons, All-head, All-map, All-nil, All-tail}
+use Rattle.std.proofs.lemmas.List.Sorted.{All-permutation, IsPermutation-map, IsPermutation-reverse, sum_by-IsPermutation}
+use Rattle.std.proofs.lemmas.List.Sums.{sum_by-cons}
 
 -- ---- lists
 
-pub length_view : (n : ℕ) (found : List (ℤ × ℕ)) → n ≤ length found → length (reverse (take n found)) ≡ n
-length_view n found within = length-reverse (take n found) ∙ length-take-le n found within
-
 pub sum-cons : (x : ℕ) (xs : List ℕ) → sum (x ∷ xs) ≡ x + sum xs
-sum-cons x xs = sum_by-append (λ n. n) (x ∷ []) xs ∙ omega arith
+sum-cons x xs = sum_by-cons (λ n. n) x xs
 
 -- the place k of a list
 pub at_place : {A : Type 0} (xs : List A) (k : ℕ) (d x : A) → k < length xs → x ≡ get_or xs k d → drop k xs ≡ x ∷ drop (k + 1) xs
@@ -69,28 +68,6 @@ sign_at n k values l small within is =
 
 -- ---- how much is coded
 
-pub each_at : {A : Type 0} (P : A → Type 0) (xs : List A) → Each P xs → (k : ℕ) (d : A) → k < length xs → P (get_or xs k d)
-each_at P [] all k d within = absurd (omega arith)
-each_at P (x ∷ xs) all zero d within = all.0
-each_at P (x ∷ xs) all (suc k) d within = each_at P xs all.1 k d (omega arith)
-
-each_more : {A : Type 0} (P : A → Type 0) (xs : List A) (x : A) → Each P xs → P x → Each P (xs ++ x ∷ [])
-each_more P [] x all here = (here, tt)
-each_more P (y ∷ xs) x all here = (all.0, each_more P xs x all.1 here)
-
-pub each_reverse : {A : Type 0} (P : A → Type 0) (xs : List A) → Each P xs → Each P (reverse xs)
-each_reverse P [] all = tt
-each_reverse P (x ∷ xs) all = subst (Each P) (sym (reverse_onto xs x [])) (each_more P (reverse xs) x (each_reverse P xs all.1) all.0)
-
-runs_more : (found : List (ℤ × ℕ)) (c : ℤ × ℕ) → sum (runs_of (found ++ c ∷ [])) ≡ sum (runs_of found) + c.1
-runs_more [] c = omega (arith, sum-cons c.1 [])
-runs_more (f ∷ found) c = omega (arith, sum-cons f.1 (runs_of (found ++ c ∷ [])), sum-cons f.1 (runs_of found), runs_more found c)
-
-runs_reverse : (found : List (ℤ × ℕ)) → sum (runs_of (reverse found)) ≡ sum (runs_of found)
-runs_reverse [] = refl
-runs_reverse (f ∷ found) =
-    ap (λ t. sum (runs_of t)) (reverse_onto found f []) ∙ runs_more (reverse found) f ∙ omega (arith, runs_reverse found, sum-cons f.1 (runs_of found))
-
 -- so many levels with so many zeros
 abbrev size_of : List (ℤ × ℕ) → ℕ
 size_of found = length found + sum (runs_of found)
@@ -100,26 +77,33 @@ found_size before [] = omega arith
 found_size before (l ∷ levels) = grind (arith, nat_tests, found_size (before + 1) levels, found_size 0 levels, sum-cons)
 
 pub coded_size : (levels : List ℤ) → length (coded levels) + sum (runs_of (coded levels)) ≤ length levels
-coded_size levels = omega (arith, found_size 0 levels, length-reverse (after_zeros 0 levels), runs_reverse (after_zeros 0 levels))
+coded_size levels =
+    let found = after_zeros 0 levels in
+    let order = IsPermutation-map (λ (c : ℤ × ℕ). c.1) found (reverse found) (IsPermutation-reverse found) in
+    omega (arith, found_size 0 levels, length-reverse found, sum_by-IsPermutation (λ n. n) (runs_of found) (runs_of (reverse found)) order)
+
+found_all : (P : ℤ → Type 0) (before : ℕ) (levels : List ℤ) → All (λ l. nat_abs l ≢ 0 → P l) levels → All (λ (c : ℤ × ℕ). P c.0) (after_zeros before levels)
+found_all P before [] all = All-nil (λ (c : ℤ × ℕ). P c.0)
+found_all P before (l ∷ levels) all =
+    let others = All-tail (λ v. nat_abs v ≢ 0 → P v) l levels all in
+    elim (cases_eq (nat_abs l) 0) [
+      | inl none ↦ rw (eq-eqb (nat_abs l) 0 none) (found_all P (before + 1) levels others)
+      | inr some ↦
+          let here = All-head (λ v. nat_abs v ≢ 0 → P v) l levels all some in
+          rw (ne_eqb (nat_abs l) 0 some) (All-cons (λ (c : ℤ × ℕ). P c.0) (l, before) (after_zeros 0 levels) here (found_all P 0 levels others))
+    ]
+
+-- what holds of each level that is not 0
+pub coded_all : (P : ℤ → Type 0) (levels : List ℤ) → All (λ l. nat_abs l ≢ 0 → P l) levels → All P (values_of (coded levels))
+coded_all P levels all =
+    let found = after_zeros 0 levels in
+    All-map P (λ (c : ℤ × ℕ). c.0) (reverse found) (All-permutation (λ (c : ℤ × ℕ). P c.0) found (reverse found) (IsPermutation-reverse found) (found_all P 0 levels all))
 
 abbrev pub IsNonzero : ℤ → Type 0
 IsNonzero l = 1 ≤ nat_abs l
 
-found_some : (before : ℕ) (levels : List ℤ) → Each (λ c. IsNonzero c.0) (after_zeros before levels)
-found_some before [] = tt
-found_some before (l ∷ levels) = grind (arith, nat_tests, found_some (before + 1) levels, found_some 0 levels)
-
-pub each_value : (P : ℤ → Type 0) (found : List (ℤ × ℕ)) → Each (λ c. P c.0) found → Each P (values_of found)
-each_value P [] all = tt
-each_value P (c ∷ found) all = (all.0, each_value P found all.1)
-
-pub each_drop : {A : Type 0} (P : A → Type 0) (n : ℕ) (xs : List A) → Each P xs → Each P (drop n xs)
-each_drop P zero xs all = all
-each_drop P (suc n) [] all = tt
-each_drop P (suc n) (x ∷ xs) all = each_drop P n xs all.1
-
-pub coded_some : (levels : List ℤ) → Each IsNonzero (values_of (coded levels))
-coded_some levels = each_value IsNonzero (coded levels) (each_reverse (λ c. IsNonzero c.0) (after_zeros 0 levels) (found_some 0 levels))
+pub coded_some : (levels : List ℤ) → All IsNonzero (values_of (coded levels))
+coded_some levels = coded_all IsNonzero levels (λ k d within some. omega arith)
 
 -- where a block is neither empty nor full, total_zeros has a codeword
 pub zeros_there : (most total zeros : ℕ) → 1 ≤ total → total ≢ most → most ≤ 16 → total + zeros ≤ most → is_some (zeros_word total (most == 4) zeros) ≡ true

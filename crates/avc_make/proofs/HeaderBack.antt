@@ -14,7 +14,7 @@ use Rattle.avc_types.specs.declared.references.Operation.{Operation}
 use Rattle.avc_types.specs.declared.references.Operation.TheVariants.{UnmarkShortTerm, UnmarkLongTerm, AssignLongTerm, MaxLongTermFrameIdx, UnmarkAll, CurrentToLongTerm}
 use Rattle.avc_params.specs.Tables.{Sets}
 use Rattle.avc_params.specs.declared.sps.OrderCount.TheVariants as orders
-use Rattle.avc_slice.specs.Reading.{active_count, active_override, back, coded_order, deblocking, filtering, front, header_in_rbsp, header_of, is_qp, list_part, marking, modification, modifications, most_operations, numbers, operation, optional_se, position_here, redundant_pic_cnt, slice_header, slice_type_of, up_to}
+use Rattle.avc_slice.specs.Reading.{active_count, active_override, coded_order, deblocking, filtering, front, header_in_rbsp, header_of, is_qp, list_part, marking, modification, modifications, most_operations, numbers, operation, optional_se, position_here, redundant_pic_cnt, slice_header, slice_type_of, up_to}
 use Rattle.avc_slice.specs.declared.header.CodedOrder.{CodedOrder}
 use Rattle.avc_slice.specs.declared.header.Deblocking.{Deblocking}
 use Rattle.avc_slice.specs.declared.header.SliceType.{SliceType}
@@ -228,20 +228,6 @@ at-here : {A : Type 0} {position total : ℕ} {rest : List Bool} (f : ℕ → A)
 at-here {A} {position} {total} {rest} f is =
     record { read = ap (λ k. Ok (f k, record { position = position; ahead = rest })) is ∙ ap (λ k. Ok (f total, record { position = k; ahead = rest })) (omega arith) }
 
-at-back : (rest : List Bool) (position total : ℕ) (sps : Sps) (pps : Pps) (h : Header) → IsHeader sps pps h →
-    total ≡ position + length (numbers_bits sps pps h ++ (list_bits_where (is_p h) h ++ (where_bits marking_bits h.marking ++ filtering_bits h))) →
-    ReadsAt position rest (numbers_bits sps pps h ++ (list_bits_where (is_p h) h ++ (where_bits marking_bits h.marking ++ filtering_bits h))) (back h.nal_ref_idc (is_idr h) (front_in h) pps sps) (record h { position = total })
-at-back rest position total sps pps h is sum =
-    let a = numbers_bits sps pps h in
-    let b = list_bits_where (is_p h) h in
-    let m = where_bits marking_bits h.marking in
-    let f = filtering_bits h in
-    let place : position + length {A = Bool} [] + length a + length b + length m + length f ≡ total =
-    omega (arith, sum, length-append a (b ++ (m ++ f)), length-append b (m ++ f), length-append m f) in
-    at-bind _ ((back-check _ (lt-ltb h.first_mb_in_slice (size_in_mbs sps) is.first)).back _ _) (at-bind _ ((back-numbers sps pps h is).back _ _)
-    (at-bind _ ((back-list (is_p h) sps pps h is.sps_within is.list).back _ _) (at-bind _ ((back-where (is_reference h) is.is_marked (back-marking (is_idr h)) is.marked).back _ _)
-    (at-then _ ((back-filtering sps pps h is).back _ _) (at-here (λ k. record h { position = k }) place)))))
-
 -- ---- in a unit
 
 -- nal_ref_idc and whether the type is 5, in the first byte
@@ -251,13 +237,19 @@ first_byte ref idr few = grind (arith, nat_tests)
 at-slice_header : (rest : List Bool) (sets : Sets) (sps : Sps) (pps : Pps) (h : Header) → AreInForce sets sps pps → IsHeader sps pps h →
     ReadsAt 0 rest (header_bits sps pps h) (slice_header h.nal_ref_idc (is_idr h) sets) (placed_header sps pps h)
 at-slice_header rest sets sps pps h force is =
-    let others = numbers_bits sps pps h ++ (list_bits_where (is_p h) h ++ (where_bits marking_bits h.marking ++ filtering_bits h)) in
+    let a = numbers_bits sps pps h in
+    let b = list_bits_where (is_p h) h in
+    let m = where_bits marking_bits h.marking in
+    let f = filtering_bits h in
     let none = length {A = Bool} [] in
     let of_pps : sets.pps h.pic_parameter_set_id ≡ Some pps = ap sets.pps is.pps_id ∙ force.has_pps in
     let of_sps : sets.sps pps.seq_parameter_set_id ≡ Some sps = ap sets.sps is.sps_id ∙ force.has_sps in
-    let sum : length (header_bits sps pps h) ≡ 0 + length (front_bits h) + none + none + length others = omega (arith, length-append (front_bits h) others) in
+    let place : 0 + length (front_bits h) + none + none + none + length a + length b + length m + length f ≡ length (header_bits sps pps h) =
+    omega (arith, length-append (front_bits h) (a ++ (b ++ (m ++ f))), length-append a (b ++ (m ++ f)), length-append b (m ++ f), length-append m f) in
     at-bind _ ((back-front sps pps h is).back _ _) (at-bind _ ((back-found faults.NoParameterSet of_pps).back _ _) (at-bind _ ((back-found faults.NoParameterSet of_sps).back _ _)
-    (at-back rest _ _ sps pps h is sum)))
+    (at-bind _ ((back-check _ (lt-ltb h.first_mb_in_slice (size_in_mbs sps) is.first)).back _ _) (at-bind _ ((back-numbers sps pps h is).back _ _)
+    (at-bind _ ((back-list (is_p h) sps pps h is.sps_within is.list).back _ _) (at-bind _ ((back-where (is_reference h) is.is_marked (back-marking (is_idr h)) is.marked).back _ _)
+    (at-then _ ((back-filtering sps pps h is).back _ _) (at-here (λ k. record h { position = k }) place))))))))
 
 pub at-header : (rest : List Bool) (sets : Sets) (sps : Sps) (pps : Pps) (h : Header) → AreInForce sets sps pps → IsHeader sps pps h →
     ReadsAt 0 rest (header_bits sps pps h) (header_of (slice_unit_header h) sets) (placed_header sps pps h)
@@ -277,3 +269,29 @@ pub header_unit_is_read : (sets : Sets) (sps : Sps) (pps : Pps) (h : Header) (ot
 header_unit_is_read sets sps pps h others unit force is written =
     let read = at-header others sets sps pps h force is in
     ap (λ b. value_in (header_of (slice_unit_header h) sets b)) (unit_start (slice_unit_header h) (header_bits sps pps h ++ others) unit written) ∙ ap value_in (read.read)
+
+-- ---- the numbers of a header that can be written are within their codes
+
+modification_small : (n : ℕ) → n ≤ 65536 → (m : Modification) → IsModification n m → IsModification 65536 m
+modification_small n few m is = grind arith
+
+each_small : (n : ℕ) → n ≤ 65536 → (list : List Modification) → Each (IsModification n) list → Each (IsModification 65536) list
+each_small n few [] all = tt
+each_small n few (m ∷ list) all = (modification_small n few m all.0, each_small n few list all.1)
+
+some_small : (n room : ℕ) → n ≤ 65536 → (o : Option (List Modification)) → IfSome o (IsModificationList n room) → IfSome o (Each (IsModification 65536))
+some_small n room few None is = tt
+some_small n room few (Some list) is = each_small n few list is.1
+
+list_small : (p : Bool) (sps : Sps) (pps : Pps) (h : Header) → IsSps sps → IsListWhere p sps pps h → IfSome h.modifications (Each (IsModification 65536))
+list_small true sps pps h within is = some_small (max_frame_num sps) (active_count pps h.active_override) (max_frame_num_few sps within) h.modifications is.list
+list_small false sps pps h within is = subst (λ o. IfSome o (Each (IsModification 65536))) (sym is.list) tt
+
+weights_where : (p : Bool) (sps : Sps) (pps : Pps) (h : Header) → IsListWhere p sps pps h → IfSome h.pred_weight_table (IsPredWeightTable h.active_count)
+weights_where p sps pps h is = grind arith
+
+pub weights_small : (sps : Sps) (pps : Pps) (h : Header) → IsHeader sps pps h → IfSome h.pred_weight_table (IsPredWeightTable h.active_count)
+weights_small sps pps h is = weights_where (is_p h) sps pps h is.list
+
+pub modifications_small : (sps : Sps) (pps : Pps) (h : Header) → IsHeader sps pps h → IfSome h.modifications (Each (IsModification 65536))
+modifications_small sps pps h is = list_small (is_p h) sps pps h is.sps_within is.list

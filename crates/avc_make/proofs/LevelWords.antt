@@ -57,11 +57,7 @@ only_prefix sl code prefix is =
 
 -- what is put for a levelCode
 pub level_word : (sl code prefix least size : ℕ) → prefix ≡ prefix_of sl code → least ≡ level_code prefix sl 0 false → size ≡ suffix_size prefix sl → bits_of prefix 0 ++ true ∷ bits_of size (code - least) ≡ level_bits sl code
-level_word sl code prefix least size is_prefix is_least is_size =
-    ap (λ t. t ++ true ∷ bits_of size (code - least)) (bits_of-zero prefix)
-    ∙ ap (λ n. replicate prefix false ++ true ∷ bits_of n (code - least)) is_size
-    ∙ ap (λ n. replicate prefix false ++ true ∷ bits_of (suffix_size prefix sl) (code - n)) is_least
-    ∙ ap (λ p. replicate p false ++ true ∷ bits_of (suffix_size p sl) (code - least_code sl p)) is_prefix
+level_word sl code prefix least size is_prefix is_least is_size = rw (is_size, is_least, is_prefix, bits_of-zero) refl
 
 -- ---- how great a level is
 

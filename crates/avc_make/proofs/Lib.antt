@@ -2,19 +2,14 @@ mod Common
 pub mod CodedSliceBack
 pub mod Filling
 pub mod HeaderBack
-pub mod HeaderRanges
-pub mod MbRows
 pub mod PatternNumbers
 pub mod PpsBack
 pub mod Putting
-pub mod PuttingEach
 pub mod ReadingBack
 pub mod ResidualPutting
-pub mod RefIdxPutting
 pub mod Removing
 pub mod Rows
 pub mod SlicePutting
-pub mod SliceRows
 pub mod SpsBack
 pub mod UnitsBack
 pub mod VuiBack
@@ -28,4 +23,3 @@ pub mod SmallLevels
 pub mod MbBack
 pub mod SliceDataBack
 pub mod DataAlone
-pub mod Cutting

@@ -1,7 +1,7 @@
 -- Macroblocks read from their bits.
 use Rattle.std.proofs.Common.{◌≡◌, ℕ, zero, suc, ◌+◌, ◌-◌, ◌*◌, ◌/◌, ◌%◌, ◌<◌, ◌≤◌, nat_le, nat_lt, List, [], ◌∷◌, ◌++◌, length, Bool, true, false, refl, ◌∙◌, sym, subst, arith, append_assoc, append-nil, map, ℤ, pos, negsuc, ◌<ℤ◌, Some, None}
-use Rattle.std.proofs.Common.{◌≤ℤ◌, ◌&&◌, inl, inr}
-use Rattle.avc_make.proofs.Common.{ints, cases_eq, le-leb, lt-ltb, le-ltb, ltb-true, ne_eqb, nat_tests, length-replicate, ◌==◌, not}
+use Rattle.std.proofs.Common.{◌≤ℤ◌, ◌&&◌}
+use Rattle.avc_make.proofs.Common.{ints, le-leb, lt-ltb, le-ltb, ltb-true, ne_eqb, nat_tests, length-replicate, ◌==◌, not}
 use Rattle.avc_make.proofs.Common.{replicate, Option, range_with_len, Residual, Mb, MbSyntax, p_skip, i_pcm, i_nxn, i_16x16, p_inter}
 use Rattle.avc_make.proofs.Common.{total_coeff, parts_of, partitions, Read, ◌>>=◌, bits_of, byte_bits, give, refuse, times, align, skip}
 use Rattle.avc_make.proofs.Common.{te_to, u, ue_to, nc, Context, after_pattern, block_mode, block_where, blocks, chroma_dc, residual_blocks}
@@ -12,6 +12,7 @@ use Rattle.avc_make.proofs.Common.{mb_bits, mvd_bits, p_inter_bits, p_mb_number,
 use Rattle.avc_make.proofs.Common.{zeros_to_byte, IsCodedMode, IsI16x16, IsINxN, IsPattern, i_16x16_bits, i_nxn_bits, mode_bits}
 use Rattle.avc_make.proofs.Common.{pattern_number, pattern_of, qp_delta_bits, AreBlocks, IsBlock, IsChromaDc, IsResidual, bits_where_coded}
 use Rattle.avc_make.proofs.Common.{block_words, blocks_bits, chroma_dc_bits, luma_max, residual_bits, se_word, te_word, ue_word}
+use Rattle.std.proofs.lemmas.Bool.{agree_below, agree_below_at, and_parts}
 use Rattle.avc_types.specs.declared.fault.Fault.TheVariants as faults
 use Rattle.avc_types.specs.declared.macroblock.Mvd.{Mvd}
 use Rattle.avc_types.specs.declared.macroblock.PMbType.{PMbType}
@@ -19,7 +20,7 @@ use Rattle.avc_types.specs.declared.macroblock.PMbType.TheVariants.{P16x16, P16x
 use Rattle.avc_types.specs.declared.macroblock.SubMbType.{SubMbType}
 use Rattle.avc_make.proofs.BlockBack.{back-block}
 use Rattle.avc_make.proofs.ReadingBack.{GivesBack, GivesEach, ReadsAt, at-bind, back-bind, back-bits, back-check, back-flag, back-give, back-last, back-se, back-se_within, back-te, back-then, back-times, back-u, back-ue, back-ue_to, with_value}
-use Rattle.avc_make.proofs.PuttingEach.{any_each}
+use Rattle.avc_make.proofs.Putting.{any_each}
 
 -- ---- residual
 
@@ -70,12 +71,10 @@ pub is_number : ℕ → Option ℕ → Bool
 is_number n None = false
 is_number n (Some m) = n == m
 
--- each pattern below n has a number
-abbrev pub has_numbers : (intra : Bool) → ℕ → Bool
-has_numbers intra zero = true
-has_numbers intra (suc n) = has_numbers intra n && is_number n (pattern_at intra (pattern_number intra n)) && nat_lt (pattern_number intra n) 48
+abbrev pub has_number : (intra : Bool) → ℕ → Bool
+has_number intra n = is_number n (pattern_at intra (pattern_number intra n)) && nat_lt (pattern_number intra n) 48
 
-pub all_have_numbers : (intra : Bool) → has_numbers intra 48 ≡ true
+all_have_numbers : (intra : Bool) → agree_below (has_number intra) (λ n. true) 48 ≡ true
 unfolding is_number
 all_have_numbers true = refl
 all_have_numbers false = refl
@@ -84,32 +83,19 @@ is_number_true : (n : ℕ) (found : Option ℕ) → is_number n found ≡ true �
 unfolding is_number
 is_number_true n found is = grind (arith, nat_tests)
 
-all_three : (a b c : Bool) → (a && b && c) ≡ true → (a ≡ true) × ((b ≡ true) × (c ≡ true))
-all_three a b c all = grind arith
-
 pub record HasNumber (intra : Bool) (n : ℕ) : Type 0 where
   pub place : pattern_at intra (pattern_number intra n) ≡ Some n
   pub small : pattern_number intra n < 48
 
--- the last of those below suc k, from which the others follow
-split_numbers : (intra : Bool) (k : ℕ) → has_numbers intra (suc k) ≡ true → (has_numbers intra k ≡ true) × HasNumber intra k
-split_numbers intra k all =
-    let place = pattern_number intra k in
-    let each = all_three (has_numbers intra k) (is_number k (pattern_at intra place)) (nat_lt place 48) all in
-    (each.0, record { place = is_number_true k (pattern_at intra place) each.1.0; small = ltb-true place 48 each.1.1 })
-
-pub number_below : (intra : Bool) (k n : ℕ) → n < k → has_numbers intra k ≡ true → HasNumber intra n
-number_below intra zero n below all = absurd (omega (arith, below))
-number_below intra (suc k) n below all =
-    let here = split_numbers intra k all in
-    elim (cases_eq n k) [
-      | inl same ↦ subst (HasNumber intra) (sym same) here.1
-      | inr other ↦ number_below intra k n (omega (arith, below, other)) here.0
-    ]
+pub number_below : (intra : Bool) (n : ℕ) → n < 48 → HasNumber intra n
+number_below intra n below =
+    let place = pattern_number intra n in
+    let both = and_parts (is_number n (pattern_at intra place)) (nat_lt place 48) (agree_below_at (has_number intra) (λ k. true) 48 n (all_have_numbers intra) below) in
+    record { place = is_number_true n (pattern_at intra place) both.0; small = ltb-true place 48 both.1 }
 
 back-coded_block_pattern : (intra : Bool) {pattern : ℕ} → pattern < 48 → GivesBack (coded_block_pattern intra) (ue_word (pattern_number intra pattern)) pattern
 back-coded_block_pattern intra {pattern} below =
-    let is = number_below intra 48 pattern below (all_have_numbers intra) in
+    let is = number_below intra pattern below in
     let there = is.place in
     back-then (λ k. elim (pattern_at intra k) [ Some p ↦ give p | None ↦ refuse faults.BadCode ]) (back-ue (omega (arith, is.small))) (rw there back-give)
 
@@ -150,20 +136,6 @@ back-i_nxn c modes chroma_mode r is =
     back-bind _ (back-times 16 is.all back-mode is.modes_fit) (back-bind _ (back-ue_to 3 refl is.chroma)
     (back-bind _ (back-coded_block_pattern true (pattern_small r is.pattern)) (back-last _ (back-after_pattern c r is.pattern))))
 
--- Intra 16x16 with its mode and its patterns
-abbrev mb_16x16 : Context → (mode luma chroma : ℕ) → Read Mb
-mb_16x16 c mode luma chroma = do
-  chroma_mode ← ue_to 3
-  delta ← qp_delta
-  r ← residual c true luma chroma delta
-  give (mb_of c r (i_16x16 mode chroma_mode r))
-
-back-mb_16x16 : (c : Context) (mode chroma_mode : ℕ) (r : Residual) → IsI16x16 mode chroma_mode r →
-    GivesBack (mb_16x16 c mode r.luma_pattern r.chroma_pattern) (i_16x16_bits c chroma_mode r) (mb_of c r (i_16x16 mode chroma_mode r))
-back-mb_16x16 c mode chroma_mode r is =
-    let all = is.residual in
-    back-bind _ (back-ue_to 3 refl is.chroma) (back-bind _ (back-qp_delta all.least all.most) (back-last _ (back-residual c true r all)))
-
 -- what mb_type says of Intra 16x16
 record Is16x16 (n mode luma chroma : ℕ) : Type 0 where
   few : n ≤ 23
@@ -178,11 +150,13 @@ type_says mode luma chroma none m ch is = grind (arith, nat_tests)
 back-i_16x16 : (c : Context) (mode chroma_mode n : ℕ) (r : Residual) → Is16x16 n mode r.luma_pattern r.chroma_pattern → IsI16x16 mode chroma_mode r →
     GivesBack (i_mb c (suc n)) (i_16x16_bits c chroma_mode r) (mb_of c r (i_16x16 mode chroma_mode r))
 back-i_16x16 c mode chroma_mode n r says is =
+    let all = is.residual in
     let other : (n == 24) ≡ false = ne_eqb n 24 (λ e. omega (arith, says.few, e)) in
     let mode_is = says.mode_is in
     let chroma_is = says.chroma_is in
     let luma_is = says.luma_is in
-    rw (i_mb, other, mode_is, chroma_is, luma_is) (back-mb_16x16 c mode chroma_mode r is)
+    rw (i_mb, other, mode_is, chroma_is, luma_is)
+    (back-bind _ (back-ue_to 3 refl is.chroma) (back-bind _ (back-qp_delta all.least all.most) (back-last _ (back-residual c true r all))))
 
 back-byte : GivesEach (u 8) (bits_of 8) (λ v. v < 256)
 back-byte = record { each = λ v fits. back-u 8 fits }

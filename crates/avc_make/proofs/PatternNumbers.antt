@@ -2,7 +2,7 @@
 use Rattle.avc_make.proofs.Common.{◌≡◌, ◌≢◌, ℕ, suc, ◌+◌, ◌<◌, List, ◌∷◌, drop, Bool, true, false, Some, ap, ◌∙◌, arith, slice_get}
 use Rattle.avc_make.proofs.Common.{pattern_at, pattern_number, place_of, drop_more, nat_tests, slice_get_within, get_or_from_slice_get}
 use Rattle.avc_vlc.specs.Tables.{cbp_intra, cbp_inter}
-use Rattle.avc_make.proofs.MbBack.{all_have_numbers, number_below}
+use Rattle.avc_make.proofs.MbBack.{number_below}
 
 abbrev pub table_of : (intra : Bool) → List ℕ
 table_of true = cbp_intra
@@ -12,7 +12,7 @@ pub number_is_place : (intra : Bool) (n : ℕ) → pattern_number intra n ≡ pl
 number_is_place intra n = grind arith
 
 pub number_few : (intra : Bool) (n : ℕ) → n < 48 → pattern_number intra n < 48
-number_few intra n below = let is = number_below intra 48 n below (all_have_numbers intra) in is.small
+number_few intra n below = (number_below intra n below).small
 
 found_at : (intra : Bool) (k m : ℕ) → pattern_at intra k ≡ Some m → slice_get (table_of intra) k ≡ Some m
 found_at intra k m is = grind arith

@@ -1,15 +1,11 @@
 -- Picture parameter sets read from their bits.
 use Rattle.avc_make.proofs.Common.{◌≡◌, ℕ, List, [], ◌++◌, false, not, drop, pos, negsuc, Ok, refl, ap, ◌∙◌, sym, arith, append-nil, rbsp}
-use Rattle.avc_make.proofs.Common.{Read, ◌>>◌, give, check, start, pps_id, pps_of, whole, IsPps, Pps, default_counts_bits, pps_bits}
+use Rattle.avc_make.proofs.Common.{◌>>◌, give, check, start, pps_id, pps_of, whole, IsPps, Pps, default_counts_bits, pps_bits}
 use Rattle.avc_make.proofs.Common.{quantisation_bits, switches_bits, IsUnit, pps_header}
 use Rattle.avc_types.specs.declared.fault.Fault.TheVariants as faults
 use Rattle.avc_params.specs.PpsReading.{default_counts, pps, pps_after, quantisation, switches}
-use Rattle.avc_make.proofs.ReadingBack.{GivesBack, ReadsAt, at-bind, at-give, at-no_more, at-then, back-bind, back-flag, back-last, back-se_within, back-u_to, back-ue, back-ue_to}
+use Rattle.avc_make.proofs.ReadingBack.{GivesBack, ReadsAt, at-bind, at-give, at-no_more, at-then, back-bind, back-flag, back-last, back-se_within, back-u_to, back-ue, back-ue_to, of_part}
 use Rattle.avc_make.proofs.UnitsBack.{unit_start}
-
--- the type of what a part gives
-abbrev of_part : {A : Type 0} → Read A → Type 0
-of_part {A} part = A
 
 abbrev counts_in : Pps → of_part default_counts
 counts_in p = record { num_ref_idx_l0_default_active_minus1 = p.num_ref_idx_l0_default_active_minus1; num_ref_idx_l1_default_active_minus1 = p.num_ref_idx_l1_default_active_minus1 }

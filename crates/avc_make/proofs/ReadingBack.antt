@@ -14,6 +14,10 @@ use Rattle.avc_make.proofs.Words.{index_small, low_bits, signed_back, top_of}
 pub record ReadsAt {A : Type 0} (position : ℕ) (rest word : List Bool) (part : Read A) (value : A) : Type 0 where
   pub read : part (record { position = position; ahead = word ++ rest }) ≡ Ok (value, record { position = position + length word; ahead = rest })
 
+-- the type of what a part gives
+abbrev pub of_part : {A : Type 0} → Read A → Type 0
+of_part {A} part = A
+
 -- That at each place, whatever comes after the word.
 pub record GivesBack {A : Type 0} (part : Read A) (word : List Bool) (value : A) : Type 0 where
   pub back : (position : ℕ) (rest : List Bool) → ReadsAt position rest word part value

@@ -4,40 +4,29 @@ use Rattle.avc_make.proofs.Common.{length-append, append_assoc, append-nil, drop
 use Rattle.avc_make.proofs.Common.{HasNoStart, escaped_after, escaped_byte, zeros_with}
 
 -- after no zero, after one and after two
-none_removed : (b : ℕ) (bytes : List ℕ) → rbsp (escaped_after 0 bytes) ≡ bytes → rbsp (0 ∷ escaped_after 1 bytes) ≡ 0 ∷ bytes →
-    rbsp (escaped_after 0 (b ∷ bytes)) ≡ b ∷ bytes
+byte_removed : (b : ℕ) (bytes : List ℕ) → rbsp (escaped_after 0 bytes) ≡ bytes → rbsp (0 ∷ escaped_after 1 bytes) ≡ 0 ∷ bytes → rbsp (0 ∷ 0 ∷ escaped_after 2 bytes) ≡ 0 ∷ 0 ∷ bytes →
+    (count : ℕ) → count ≤ 2 → rbsp (replicate count 0 ++ escaped_after count (b ∷ bytes)) ≡ replicate count 0 ++ b ∷ bytes
 unfolding escaped_after
-none_removed b bytes none one = grind (arith, nat_tests)
-
-one_removed : (b : ℕ) (bytes : List ℕ) → rbsp (escaped_after 0 bytes) ≡ bytes → rbsp (0 ∷ 0 ∷ escaped_after 2 bytes) ≡ 0 ∷ 0 ∷ bytes →
-    rbsp (0 ∷ escaped_after 1 (b ∷ bytes)) ≡ 0 ∷ b ∷ bytes
-unfolding escaped_after
-one_removed b bytes none two = grind (arith, nat_tests)
-
-two_removed : (b : ℕ) (bytes : List ℕ) → rbsp (escaped_after 0 bytes) ≡ bytes → rbsp (0 ∷ escaped_after 1 bytes) ≡ 0 ∷ bytes →
-    rbsp (0 ∷ 0 ∷ escaped_after 2 (b ∷ bytes)) ≡ 0 ∷ 0 ∷ b ∷ bytes
-unfolding escaped_after
-two_removed b bytes none one = grind (arith, nat_tests)
+byte_removed b bytes none one two zero few = grind (arith, nat_tests)
+byte_removed b bytes none one two (suc zero) few = grind (arith, nat_tests)
+byte_removed b bytes none one two (suc (suc zero)) few = grind (arith, nat_tests)
+byte_removed b bytes none one two (suc (suc (suc count))) few = absurd (omega arith)
 
 pub removed : (count : ℕ) (bytes : List ℕ) → count ≤ 2 → rbsp (replicate count 0 ++ escaped_after count bytes) ≡ replicate count 0 ++ bytes
 unfolding escaped_after
 removed zero [] few = refl
 removed (suc zero) [] few = refl
 removed (suc (suc zero)) [] few = refl
-removed zero (b ∷ bytes) few = none_removed b bytes (removed 0 bytes (omega arith)) (removed 1 bytes (omega arith))
-removed (suc zero) (b ∷ bytes) few = one_removed b bytes (removed 0 bytes (omega arith)) (removed 2 bytes (omega arith))
-removed (suc (suc zero)) (b ∷ bytes) few = two_removed b bytes (removed 0 bytes (omega arith)) (removed 1 bytes (omega arith))
-removed (suc (suc (suc count))) bytes few = absurd (omega arith)
+removed (suc (suc (suc count))) [] few = absurd (omega arith)
+removed count (b ∷ bytes) few = byte_removed b bytes (removed 0 bytes (omega arith)) (removed 1 bytes (omega arith)) (removed 2 bytes (omega arith)) count few
 
 -- one byte more
 pub escaped_more : (out out' bytes all : List ℕ) (i count count' : ℕ) → i < length bytes → out' ≡ out ++ escaped_byte count (get_or bytes i 0) → count' ≡ zeros_with count (get_or bytes i 0) →
     out ++ escaped_after count (drop i bytes) ≡ all → out' ++ escaped_after count' (drop (i + 1) bytes) ≡ all
 unfolding escaped_after
 escaped_more out out' bytes all i count count' within is_out is_count sum =
-    let b = get_or bytes i 0 in
-    let rest = drop (i + 1) bytes in
-    ap (λ t. t ++ escaped_after count' rest) is_out ∙ append_assoc out (escaped_byte count b) (escaped_after count' rest)
-    ∙ ap (λ k. out ++ (escaped_byte count b ++ escaped_after k rest)) is_count ∙ ap (λ l. out ++ escaped_after count l) (sym (drop_more bytes i 0 within)) ∙ sum
+    let next = drop_more bytes i 0 within in
+    rw (is_out, is_count, append_assoc) (rw next at sum)
 
 pub escaped_all : (out bytes all : List ℕ) (i count : ℕ) → length bytes ≤ i → out ++ escaped_after count (drop i bytes) ≡ all → out ≡ all
 unfolding escaped_after

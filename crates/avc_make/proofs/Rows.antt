@@ -1,7 +1,12 @@
 -- Worked examples of what is written.
-use Rattle.avc_make.proofs.Common.{◌≡◌, pos, negsuc, true, false, [], ◌∷◌, refl, arith, count_leading_zeros, byte_bits, block_bits, escaped}
-use Rattle.avc_make.proofs.Common.{escaped_after, pps_bits, IsUnit, pps_header, sps_header, se_word, ue_word, plain, small}
+use Rattle.avc_make.proofs.Common.{◌≡◌, pos, negsuc, true, false, [], ◌∷◌, refl, arith, count_leading_zeros, byte_bits, block_bits}
+use Rattle.avc_make.proofs.Common.{escaped, escaped_after, pps_bits, IsUnit, pps_header, sps_header, se_word, ue_word, plain, small, take}
+use Rattle.avc_make.proofs.Common.{replicate, None, Residual, i_16x16, Context, mb_bits, ◌++◌, Some, Type0, Header, i_type, zeros_to_byte}
 use Rattle.avc_make.specs.SpsWriting.{sps_bits}
+use Rattle.avc_params.specs.declared.sps.OrderCount.TheVariants as orders
+use Rattle.avc_slice.specs.declared.header.SliceType.TheVariants.{AllI}
+use Rattle.avc_make.specs.HeaderWriting.{header_bits, slice_unit_header}
+use Rattle.avc_slice.proofs.Rows as Read
 
 zero_word : ue_word 0 ≡ true ∷ []
 unfolding ue_word count_leading_zeros
@@ -38,3 +43,71 @@ writes_block = refl
 writes_weighted : IsUnit pps_header (pps_bits (record plain { weighted_pred_flag = true })) (0x68 ∷ 0xCF ∷ 0x38 ∷ 0x80 ∷ [])
 unfolding escaped_after se_word ue_word count_leading_zeros
 writes_weighted = record { raw = 0xCF ∷ 0x38 ∷ 0x80 ∷ []; padding = 7; filled = record { few = omega arith; filled = refl }; body = refl }
+
+-- ---- macroblocks
+
+abbrev first : Context
+first = record { is_p = false; active_count = 0; qp = 26; left = None; up = None }
+
+abbrev one_level : Residual
+one_level = record {
+  luma_pattern = 0;
+  chroma_pattern = 0;
+  mb_qp_delta = pos 0;
+  luma_dc = pos 1 ∷ replicate 15 (pos 0);
+  luma = replicate 16 (replicate 15 (pos 0));
+  cb_dc = replicate 4 (pos 0);
+  cr_dc = replicate 4 (pos 0);
+  cb_ac = replicate 4 (replicate 15 (pos 0));
+  cr_ac = replicate 4 (replicate 15 (pos 0));
+}
+
+intra_16x16 : mb_bits first 0 (i_16x16 2 0 one_level) ≡ take 11 (byte_bits (0x26 ∷ 0xB0 ∷ []))
+unfolding se_word ue_word count_leading_zeros
+intra_16x16 = refl
+
+-- ---- slice headers, and what stands before the samples of an I_PCM macroblock
+
+-- of the only slice of an IDR picture
+abbrev of_i : Header
+of_i = record Read.of_i { idr_pic_id = Some 0; position = 0 }
+
+writes_i : header_bits small plain of_i ≡ take 17 (byte_bits (0x88 ∷ 0x84 ∷ 0x93 ∷ []))
+unfolding se_word ue_word count_leading_zeros
+writes_i = refl
+
+i_byte : slice_unit_header of_i ≡ 0x65
+i_byte = refl
+
+-- what stands before the samples, in bytes
+writes_i_pcm : header_bits small plain of_i ++ (ue_word (i_type false 25) ++ zeros_to_byte 26) ≡ byte_bits (0x88 ∷ 0x84 ∷ 0x86 ∷ 0x80 ∷ [])
+unfolding se_word ue_word count_leading_zeros
+writes_i_pcm = refl
+
+-- of a P slice of the next picture
+abbrev of_p : Header
+of_p = record Read.of_p { position = 0 }
+
+writes_p : header_bits small plain of_p ≡ take 15 (byte_bits (0x9A ∷ 0x22 ∷ []))
+unfolding se_word ue_word count_leading_zeros
+writes_p = refl
+
+p_byte : slice_unit_header of_p ≡ 0x41
+p_byte = refl
+
+-- with pic_order_cnt_lsb 4
+writes_lsb : header_bits (record small { order_count = orders.Type0 0 }) plain (record of_p { slice_type = AllI; active_count = 0; order = Type0 4 (pos 0) }) ≡ take 19 (byte_bits (0x88 ∷ 0x8A ∷ 0x24 ∷ []))
+unfolding se_word ue_word count_leading_zeros
+writes_lsb = refl
+
+-- with weight 1 and offset 2 of luma
+writes_weights : header_bits small (record plain { weighted_pred_flag = true })
+    (record of_p {
+      pred_weight_table = Some (record {
+        luma_log2_weight_denom = 0;
+        chroma_log2_weight_denom = 0;
+        entries = record { luma = Some (record { weight = pos 1; offset = pos 2 }); chroma = None } ∷ [];
+      });
+    }) ≡ take 27 (byte_bits (0x9A ∷ 0x27 ∷ 0x44 ∷ 0x2A ∷ []))
+unfolding se_word ue_word count_leading_zeros
+writes_weights = refl

@@ -102,21 +102,12 @@ p_turn : (s : SliceStart) (turns : ℕ) (before : List PicMb) (qp run : ℕ) (b 
     p_data s (suc turns) before qp b ≡ after (replicate run (skipped qp)) (turn s turns (before ++ replicate run (placed s (skipped qp))) qp b')
 p_turn s turns before qp run b b' below fits read = rw (p_data, where_room, below, read, from_run, fits) refl
 
--- what is read of one macroblock, and the rest
-abbrev after_read : SliceStart → (turns : ℕ) → List PicMb → Result (Mb × Bits) Fault → SliceMbs
-after_read s turns before (Err f) = stopped f
-after_read s turns before (Ok r) = after (r.0 ∷ []) (elim (more_data r.1) [ true ↦ p_data s turns (before ++ placed s r.0 ∷ []) (r.0).qp r.1 | false ↦ ended ])
-
-abbrev unless_full : SliceStart → (turns : ℕ) → List PicMb → (qp : ℕ) → Bits → (full : Bool) → SliceMbs
-unless_full s turns before qp b full = elim full [ true ↦ stopped faults.TooManyMacroblocks | false ↦ after_read s turns before (macroblock (context s before qp) b) ]
-
 p_mb : (s : SliceStart) (turns : ℕ) (before : List PicMb) (qp position : ℕ) (ahead : List Bool) (b' : Bits) (m : Mb) → 0 < length ahead → (length before == s.size) ≡ false
     → macroblock (context s before qp) (record { position = position; ahead = ahead }) ≡ Ok (m, b') →
     turn s turns before qp (record { position = position; ahead = ahead })
     ≡ after (m ∷ []) (elim (more_data b') [ true ↦ p_data s turns (before ++ placed s m ∷ []) m.qp b' | false ↦ ended ])
 p_mb s turns before qp position [] b' m some below read = absurd (omega (arith, some))
-p_mb s turns before qp position (x ∷ ahead) b' m some below read =
-    ap (unless_full s turns before qp (record { position = position; ahead = x ∷ ahead })) below ∙ ap (after_read s turns before) read
+p_mb s turns before qp position (x ∷ ahead) b' m some below read = rw (where_room, below, read) refl
 
 -- a run read from its word
 run_read : (position run : ℕ) (rest : List Bool) → run < 4294967295 → ue (record { position = position; ahead = ue_word run ++ rest }) ≡ Ok (run, record { position = position + length (ue_word run); ahead = rest })

@@ -1,9 +1,10 @@
 -- The macroblocks of a slice put one after another.
 use Rattle.std.proofs.Common.{◌≡◌, ℕ, ◌+◌, ◌<◌, ◌≤◌, List, [], ◌∷◌, ◌++◌, length, drop, get_or, take, Bool, false, refl, ap, ◌∙◌, sym, subst, arith, length-append, append_assoc, append-nil}
-use Rattle.avc_make.proofs.Common.{drop_more, length-map, map-append, take_more, map, Option, option_map, Mb, MbSyntax, PicMb}
+use Rattle.avc_make.proofs.Common.{length-map, map-append, take_more, map, Option, option_map, Mb, MbSyntax, PicMb}
 use Rattle.avc_make.proofs.Common.{total_coeffs_of, Context, CanFollow, CanStand, data_bits, i_data_bits, p_data_bits, Made, nothing}
 use Rattle.avc_make.proofs.Common.{with_bits, qp_of, IsOf, AreFactsOf, last_run_bits_where, own_bits, rest_bits, run_after, some_bits}
 use Rattle.avc_make.proofs.Common.{IsCodedSlice, coded_slice_bits, earlier_mbs, own_start, IsUnit}
+use Rattle.avc_make.proofs.BlockPutting.{at_place}
 use Rattle.avc_neigh.specs.declared.facts.NeighbourFacts.{NeighbourFacts}
 use Rattle.avc_neigh.specs.declared.facts.TotalCoeffs.{TotalCoeffs}
 use Rattle.avc_neigh.specs.Around.{PictureFacts, mb_a, mb_b, with_facts}
@@ -56,27 +57,11 @@ own_first : (p : Bool) (s : SliceStart) (before : List PicMb) (qp position run :
 unfolding i_data_bits p_data_bits
 own_first p s before qp position run m ms same stands is_qp = grind (arith, append_assoc, length-append {A = Bool})
 
--- one macroblock more in the loop
-pub own_put : (s : SliceStart) (before : List PicMb) (qp run : ℕ) (m : Mb) (ms left : List Mb) (old new : Made) (all : List Bool) → left ≡ m ∷ ms → CanStand (context s before qp) m.syntax
-    → m.qp ≡ qp_of qp m.syntax → new ≡ with_bits old (own_bits (context s before qp) (length old.bits) run m.syntax) → old.bits ++ rest_bits s.is_p s before qp (length old.bits) run left ≡ all →
-    new.bits ++ rest_bits s.is_p s (before ++ placed s m ∷ []) m.qp (length new.bits) (run_after run m.syntax) ms ≡ all
-own_put s before qp run m ms left old new all is_left stands is_qp is_new sum =
-    let w = own_bits (context s before qp) (length old.bits) run m.syntax in
-    let first = own_first s.is_p s before qp (length old.bits) run m ms refl stands is_qp in
-    rw (is_new, length-append old.bits w, append_assoc) (rw (is_left, first) at sum)
-
 -- ---- the end
 
 none_left : (p : Bool) (s : SliceStart) (before : List PicMb) (qp position run : ℕ) → rest_bits p s before qp position run [] ≡ last_run_bits_where p run
 unfolding i_data_bits p_data_bits
 none_left p s before qp position run = grind arith
-
--- the last run after all macroblocks
-pub all_put : (s : SliceStart) (before : List PicMb) (qp run : ℕ) (p : Bool) (left : List Mb) (old now new : Made) (all : List Bool) → left ≡ [] → s.is_p ≡ p → new ≡ with_bits now (last_run_bits_where p run)
-    → now.bits ++ rest_bits s.is_p s before qp (length now.bits) run left ≡ old.bits ++ all → new ≡ with_bits old all
-all_put s before qp run p left old now new all none same is_new sum =
-    let last = none_left s.is_p s before qp (length now.bits) run in
-    is_new ∙ ap (λ t. record { bits = t; failed = false }) (rw (← same, ← last, ← none) sum)
 
 -- ---- so many macroblocks
 
@@ -112,10 +97,7 @@ pub record IsAt (ms : List Mb) (i : ℕ) (m : Mb) : Type 0 where
   pub last : take (i + 1) ms ≡ take i ms ++ m ∷ []
 
 pub is_at : (ms : List Mb) (i : ℕ) (m : Mb) → i < length ms → m ≡ get_or ms i m → IsAt ms i m
-is_at ms i m within is = record {
-  first = drop_more ms i m within ∙ ap (λ x. x ∷ drop (i + 1) ms) (sym is);
-  last = take_more ms i m within ∙ ap (λ x. take i ms ++ x ∷ []) (sym is);
-}
+is_at ms i m within is = record { first = at_place ms i m m within is; last = take_more ms i m within ∙ ap (λ x. take i ms ++ x ∷ []) (sym is) }
 
 before_more : (c : CodedSlice) (i : ℕ) (m : Mb) → IsAt c.macroblocks i m → before_of c i ++ placed (own_start c) m ∷ [] ≡ before_of c (i + 1)
 before_more c i m here =
@@ -140,9 +122,11 @@ put_next c old now new i row row' qp qp' run run' m k syntax is here is_k is_syn
     let all = old.bits ++ some_bits s (earlier_mbs c) (length old.bits) c.macroblocks in
     let follow : CanFollow s before qp (m ∷ ms) = subst (λ l. CanFollow s before qp l) here.first is.follow in
     let grown = before_more c i m here in
+    let w = own_bits (context s before qp) (length now.bits) run m.syntax in
+    let first = own_first s.is_p s before qp (length now.bits) run m ms refl follow.0 follow.1 in
     let put : new ≡ with_bits now (own_bits (context s before qp) (length now.bits) run m.syntax) = rw (← is_k, ← is_syntax) is_new in
     let sum : new.bits ++ rest_bits s.is_p s before' m.qp (length new.bits) (run_after run m.syntax) ms ≡ all =
-    own_put s before qp run m ms (drop i c.macroblocks) now new all here.first follow.0 follow.1 put is.sum in
+    rw (put, length-append now.bits w, append_assoc) (rw (here.first, first) at is.sum) in
     record {
       going = ap (λ t. t.failed) is_new;
       told = subst (λ b. AreFactsOf s.width b row') grown told;
@@ -154,7 +138,8 @@ put_next c old now new i row row' qp qp' run run' m k syntax is here is_k is_syn
 pub put_end : (c : CodedSlice) (old now new : Made) (i : ℕ) (row : PictureFacts) (qp run : ℕ) (p : Bool) → IsPut c old i row qp run now → drop i c.macroblocks ≡ [] → (own_start c).is_p ≡ p
     → new ≡ with_bits now (last_run_bits_where p run) → new ≡ with_bits old (some_bits (own_start c) (earlier_mbs c) (length old.bits) c.macroblocks)
 put_end c old now new i row qp run p is none same is_new =
-    all_put (own_start c) (before_of c i) qp run p (drop i c.macroblocks) old now new (some_bits (own_start c) (earlier_mbs c) (length old.bits) c.macroblocks) none same is_new is.sum
+    let last = none_left (own_start c).is_p (own_start c) (before_of c i) qp (length now.bits) run in
+    is_new ∙ ap (λ t. record { bits = t; failed = false }) (rw (← same, ← last, ← none) is.sum)
 
 -- ---- the unit
 

@@ -1,18 +1,14 @@
 -- Sequence parameter sets read from their bits.
 use Rattle.std.proofs.Common.{◌≡◌, ℕ, ◌+◌, ◌*◌, ◌^◌, ◌<◌, ◌&&◌, nat_le, nat_lt, List, [], ◌++◌, length, Bool, true, is_some, Ok, refl, ap, ◌∙◌, sym, arith, append-nil, drop}
-use Rattle.avc_make.proofs.Common.{le-leb, lt-ltb, rbsp, Read, start, se, max_dpb_mbs, max_macroblocks, max_side, sps_id, sps_of, whole}
+use Rattle.avc_make.proofs.Common.{le-leb, lt-ltb, rbsp, start, se, max_dpb_mbs, max_macroblocks, max_side, sps_id, sps_of, whole}
 use Rattle.avc_make.proofs.Common.{IsCropping, IsOrderCount, IsSps, OrderCount, Sps, IsUnit, sps_header, se_word}
 use Rattle.avc_params.specs.SpsReading.{constraint_flags, cropping, identity, order_count, order_count_of, size, sps}
 use Rattle.avc_params.specs.declared.sps.ConstraintFlags.{ConstraintFlags}
 use Rattle.avc_params.specs.declared.sps.OrderCount.TheVariants as orders
 use Rattle.avc_make.specs.SpsWriting.{size_bits, HasSeValues, IsSeValue, IsWritable, constraint_bits, cropping_bits, identity_bits, order_bits, sps_bits}
-use Rattle.avc_make.proofs.ReadingBack.{GivesBack, GivesEach, back-bind, back-check, back-flag, back-give, back-last, back-optional, back-se, back-then, back-times, back-u, back-ue, back-ue_to}
+use Rattle.avc_make.proofs.ReadingBack.{GivesBack, GivesEach, back-bind, back-check, back-flag, back-give, back-last, back-optional, back-se, back-then, back-times, back-u, back-ue, back-ue_to, of_part}
 use Rattle.avc_make.proofs.UnitsBack.{unit_start}
 use Rattle.avc_make.proofs.VuiBack.{back-vui}
-
--- the type of what a part gives
-abbrev of_part : {A : Type 0} → Read A → Type 0
-of_part {A} part = A
 
 back-constraints : {c : ConstraintFlags} → GivesBack constraint_flags (constraint_bits c) c
 back-constraints = back-bind _ back-flag (back-bind _ back-flag (back-bind _ back-flag (back-bind _ back-flag (back-bind _ back-flag (back-last _ back-flag)))))

@@ -1,6 +1,6 @@
-use Rattle.std.proofs.Common.{◌≡◌, ◌+◌, ◌-◌, ◌<◌, ◌++◌, ◌∷◌, ℤ, suc, pos, arith, length, take, drop, set, get_or, to_z, of_z, w16, ap, subst, ◌∙◌, sym, length-set}
-use Rattle.avc_cavlc.proofs.Common.{reverse, ints, drop-set, take-set-le, get_or-take, length-take, drop-cons, IsLevel, total_coeff}
-use Rattle.avc_cavlc.proofs.Placing.{coefficient_more, last_first, small_more}
+use Rattle.std.proofs.Common.{◌≡◌, ◌+◌, ◌-◌, ◌<◌, ◌++◌, ◌∷◌, ℤ, pos, arith, length, take, drop, set, get_or, to_z, of_z, w16, ap, ◌∙◌, sym, length-set}
+use Rattle.avc_cavlc.proofs.Common.{reverse, ints, drop-set, take-set-le, total_coeff}
+use Rattle.avc_cavlc.proofs.Placing.{coefficient_more, last_first, small_more, value_at}
 use Rattle.avc_cavlc.proofs.runs.place_others.Goals as goal
 
 pub values-preserved : goal.values-preserved
@@ -8,16 +8,11 @@ values-preserved c =
     let values = take c.args.total c.args.values.now in
     let at = c.values.place - 1 in
     let v = get_or c.args.values.now c.values.k (pos 0) in
-    let wide : length c.args.values.now ≡ 16 = c.told-values in
-    let within : c.values.k < length values = omega (arith, length-take c.args.total c.args.values.now) in
-    let same : get_or values c.values.k (pos 0) ≡ v = get_or-take c.args.total c.args.values.now c.values.k (pos 0) (omega arith) in
-    let is : IsLevel v = subst IsLevel same (c.requires.size c.values.k (pos 0) within) in
+    let value = value_at c.args.values.now c.args.total c.values.k c.told-values c.requires.few (omega arith) c.requires.size in
+    let is = value.is in
     let back : to_z w16 (of_z w16 v) ≡ v = omega (arith, ints, is.most) in
     let inside : at < length c.values.block = omega (arith, c.values.invariant.long, c.values.invariant.place) in
     let after : at + 1 ≡ c.values.place = omega (arith, c.values.invariant.place) in
-    let more : suc c.values.k ≡ c.values.k + 1 = omega arith in
-    let here : drop c.values.k values ≡ v ∷ drop (c.values.k + 1) values =
-    drop-cons values c.values.k (pos 0) within ∙ ap (λ x. x ∷ drop (suc c.values.k) values) same ∙ ap (λ k. v ∷ drop k values) more in
     let there : drop at (set c.values.block at v) ≡ v ∷ drop c.values.place c.values.block = drop-set c.values.block at v inside ∙ ap (λ k. v ∷ drop k c.values.block) after in
     let counted : total_coeff (v ∷ drop c.values.place c.values.block) ≡ total_coeff (drop c.values.place c.values.block) + 1 = coefficient_more 0 v (drop c.values.place c.values.block) is in
     let count : total_coeff (drop at (set c.values.block at v)) ≡ total_coeff (drop c.values.place c.values.block) + 1 = ap total_coeff there ∙ counted in
@@ -27,7 +22,7 @@ values-preserved c =
       front = take-set-le c.args.zeros c.values.block at v (omega (arith, c.values.invariant.place)) ∙ c.values.invariant.front;
       behind = ap (λ l. reverse (drop (c.values.k + 1) values) ++ l) there
           ∙ last_first (drop c.values.place c.values.block) (drop (c.values.k + 1) values) v
-          ∙ ap (λ l. reverse l ++ drop c.values.place c.values.block) (sym here)
+          ∙ ap (λ l. reverse l ++ drop c.values.place c.values.block) (sym value.here)
           ∙ c.values.invariant.behind;
       count = omega (arith, count, c.values.invariant.count);
       small = small_more c.values.block at v c.values.invariant.small is inside;

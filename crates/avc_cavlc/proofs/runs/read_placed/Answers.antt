@@ -1,9 +1,9 @@
-use Rattle.avc_cavlc.proofs.Common.{◌≡◌, refl, ◌<◌, ◌≤◌, ◌+◌, ◌-◌, ◌++◌, ◌∷◌, ℤ, suc, pos, Ok, Err, arith, rules, length, take, drop, set}
-use Rattle.avc_cavlc.proofs.Common.{get_or, to_z, of_z, w16, ap, subst, ◌∙◌, sym, length-set, replicate, reverse, ints, drop-replicate}
-use Rattle.avc_cavlc.proofs.Common.{length-replicate, length-take, length-take-le, length-drop, get_or-take, take-take, take-replicate}
-use Rattle.avc_cavlc.proofs.Common.{take-append-drop, drop-cons, reader_bits, IsLevel, run, total_coeff, placed_before, placed_by_runs}
+use Rattle.avc_cavlc.proofs.Common.{◌≡◌, refl, ◌≤◌, ◌+◌, ◌-◌, ◌++◌, ◌∷◌, ℤ, suc, pos, Ok, Err, arith, rules, length, take, drop, set}
+use Rattle.avc_cavlc.proofs.Common.{get_or, to_z, of_z, w16, ap, ◌∙◌, sym, length-set, replicate, reverse, ints, drop-replicate}
+use Rattle.avc_cavlc.proofs.Common.{length-replicate, length-take-le, length-drop, take-take, take-replicate}
+use Rattle.avc_cavlc.proofs.Common.{take-append-drop, reader_bits, run, total_coeff, placed_before, placed_by_runs}
 use Rattle.avc_cavlc.proofs.RunSteps.{run_coded}
-use Rattle.avc_cavlc.proofs.Placing.{run_more, run_fault, first_runs, no_runs, open_first, open_more, done_more, no_coefficients, coefficient_more, front_none, small_none, small_more}
+use Rattle.avc_cavlc.proofs.Placing.{run_more, run_fault, first_runs, no_runs, open_first, open_more, done_more, no_coefficients, coefficient_more, front_none, small_none, small_more, value_at}
 use Rattle.avc_cavlc.proofs.runs.read_placed.Goals.{then-values-test+else-k-total, else-values-test}
 use Rattle.avc_cavlc.proofs.runs.read_placed.Goals as goal
 
@@ -51,17 +51,12 @@ values-preserved c =
     let next = at - zeros in
     let v = get_or c.args.values.now c.values.k (pos 0) in
     let done = drop c.values.place c.values.block in
-    let wide : length c.args.values.now ≡ 16 = c.told-values in
-    let within : c.values.k < length values = omega (arith, length-take c.args.total c.args.values.now) in
-    let same : get_or values c.values.k (pos 0) ≡ v = get_or-take c.args.total c.args.values.now c.values.k (pos 0) (omega arith) in
-    let is : IsLevel v = subst IsLevel same (c.requires.size c.values.k (pos 0) within) in
+    let value = value_at c.args.values.now c.args.total c.values.k c.told-values (omega arith) (omega arith) c.requires.size in
+    let is = value.is in
     let back : to_z w16 (of_z w16 v) ≡ v = omega (arith, ints, is.most) in
     let left : c.args.total - c.values.k ≡ suc n = omega arith in
     let place : c.values.place ≡ suc at = omega (arith, c.values.invariant.place) in
     let gap : at ≡ next + zeros = omega (arith, c.in_ok-zeros.ensures.most, c.values.invariant.place) in
-    let more : suc c.values.k ≡ c.values.k + 1 = omega arith in
-    let here : drop c.values.k values ≡ v ∷ drop (c.values.k + 1) values =
-    drop-cons values c.values.k (pos 0) within ∙ ap (λ x. x ∷ drop (suc c.values.k) values) same ∙ ap (λ k. v ∷ drop k values) more in
     let behind : drop next (set c.values.block at v) ≡ replicate zeros (pos 0) ++ v ∷ done = done_more c.values.place at zeros next c.values.block v c.values.invariant.is_open place gap in
     let fewer : n ≡ c.args.total - (c.values.k + 1) = omega arith in
     let coded : run n c.values.zeros_left b ≡ Ok (zeros, reader_bits c.read_run_before.new.reader) =
@@ -72,7 +67,7 @@ values-preserved c =
       place = omega (arith, c.in_ok-zeros.ensures.most, c.values.invariant.place);
       is_open = open_more c.values.place at zeros next c.values.block v c.values.invariant.is_open place gap;
       read = c.values.invariant.read
-          ∙ run_more done (drop c.values.k values) (drop (c.values.k + 1) values) v n (c.args.total - c.values.k) c.values.zeros_left zeros b (reader_bits c.read_run_before.new.reader) left here coded
+          ∙ run_more done (drop c.values.k values) (drop (c.values.k + 1) values) v n (c.args.total - c.values.k) c.values.zeros_left zeros b (reader_bits c.read_run_before.new.reader) left value.here coded
           ∙ ap (λ l. placed_before l (drop (c.values.k + 1) values) n (c.values.zeros_left - zeros) (reader_bits c.read_run_before.new.reader)) (sym behind)
           ∙ ap (λ k. placed_before (drop next (set c.values.block at v)) (drop (c.values.k + 1) values) k (c.values.zeros_left - zeros) (reader_bits c.read_run_before.new.reader)) fewer;
       bytes = c.in_ok-zeros.ensures.read.1 ∙ c.values.invariant.bytes;

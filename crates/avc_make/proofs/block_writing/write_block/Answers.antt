@@ -1,5 +1,5 @@
-use Rattle.avc_make.proofs.Common.{◌≡◌, ◌≤◌, ◌<ℤ◌, ℤ, pos, w8, to_z, of_z, subst, sym, arith, append_assoc, ints, values_of, Each}
-use Rattle.avc_make.proofs.BlockPutting.{IsNonzero, coded_some, each_at}
+use Rattle.avc_make.proofs.Common.{◌≡◌, ◌≤◌, ◌<ℤ◌, ℤ, pos, w8, to_z, of_z, subst, sym, arith, append_assoc, ints, nat_abs, values_of, All}
+use Rattle.avc_make.proofs.BlockPutting.{coded_some}
 use Rattle.avc_make.proofs.block_writing.write_block.Goals as goal
 
 pub put_token-requires-clause-chroma_dc : goal.put_token-requires-clause-chroma_dc
@@ -10,8 +10,7 @@ put_token-requires-clause-chroma_dc g c =
 
 pub put_levels-requires-clause-some : goal.put_levels-requires-clause-some
 put_levels-requires-clause-some g c =
-    let all : Each IsNonzero (values_of c.of-found.result) = subst (λ f. Each IsNonzero (values_of f)) (sym c.of-found.ensures.value) (coded_some c.as_array.result.now) in
-    λ k d within. each_at IsNonzero (values_of c.of-found.result) all k d within
+    subst (λ f. All (λ l. 1 ≤ nat_abs l) (values_of f)) (sym c.of-found.ensures.value) (coded_some c.as_array.result.now)
 
 pub zeros-zeros-requires : goal.zeros-zeros-requires
 zeros-zeros-requires g c = omega (arith, c.of-found.ensures.size, c.requires.most)

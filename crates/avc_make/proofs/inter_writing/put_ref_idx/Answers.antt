@@ -1,18 +1,16 @@
 use Rattle.avc_make.proofs.Common.{ℕ, ◌-◌, ◌<◌, ◌≤◌, take, ◌∙◌, sym, subst, arith, partitions, has_ref_idx, Each}
-use Rattle.avc_make.proofs.RefIdxPutting.{indices_active}
 use Rattle.avc_make.proofs.inter_writing.put_ref_idx.Goals as goal
 
 pub put_indices-requires : goal.put_indices-requires
 put_indices-requires c =
     let t = c.args.mb_type.now in
     let active = c.args.active_count in
-    let indices = take (partitions t) c.args.ref_idx.now in
     let is = sym c.has_ref_idx.ensures.value ∙ c.if-has_ref_idx.true in
-    let all = indices_active active (partitions t) (has_ref_idx active t) indices is c.requires.ranges in
+    let ranges = rw is at c.requires.ranges in
     record {
       going = c.requires.going;
       some = omega (arith, c.has_ref_idx.ensures.many c.if-has_ref_idx.true);
-      within = subst (λ n. Each (λ (i : ℕ). (i ≤ active - 1) × (i < 4294967295)) (take n c.args.ref_idx.now)) (sym c.partitions.ensures.value) all;
+      within = subst (λ n. Each (λ (i : ℕ). (i ≤ active - 1) × (i < 4294967295)) (take n c.args.ref_idx.now)) (sym c.partitions.ensures.value) ranges.active;
     }
 
 pub returns-then-has_ref_idx : goal.returns-then-has_ref_idx
