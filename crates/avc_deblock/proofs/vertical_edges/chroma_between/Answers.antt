@@ -7,7 +7,7 @@ pub returns-then-are_zero-clause-cb : goal.returns-then-are_zero-clause-cb
 returns-then-are_zero-clause-cb g c =
     sym
     (chroma_zero c.args.place.column c.args.place.row c.args.n (strength_of c.args.p.now c.args.q.now true c.args.n) (chroma_qp_of c.args.place.chroma_qp_index_offset c.args.p.now c.args.q.now)
-    c.args.cb.now (λ k low. sym (c.requires.value k low) ∙ c.are_zero.ensures c.if-are_zero.true k low) true (λ e. c.requires.some) (λ e. absurd (cc)))
+    c.args.cb.now (λ k low. sym (c.requires.value k low) ∙ c.are_zero.ensures c.if-are_zero.true k low) true)
 
 pub returns-clause-cb : goal.returns-clause-cb
 returns-clause-cb g c =
@@ -28,7 +28,7 @@ pub returns-then-are_zero-clause-cr : goal.returns-then-are_zero-clause-cr
 returns-then-are_zero-clause-cr g c =
     sym
     (chroma_zero c.args.place.column c.args.place.row c.args.n (strength_of c.args.p.now c.args.q.now true c.args.n) (chroma_qp_of c.args.place.chroma_qp_index_offset c.args.p.now c.args.q.now)
-    c.args.cr.now (λ k low. sym (c.requires.value k low) ∙ c.are_zero.ensures c.if-are_zero.true k low) true (λ e. c.requires.some) (λ e. absurd (cc)))
+    c.args.cr.now (λ k low. sym (c.requires.value k low) ∙ c.are_zero.ensures c.if-are_zero.true k low) true)
 
 pub returns-clause-cr : goal.returns-clause-cr
 returns-clause-cr g c =

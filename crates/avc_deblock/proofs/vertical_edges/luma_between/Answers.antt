@@ -7,7 +7,7 @@ pub returns-then-are_zero-clause-lines : goal.returns-then-are_zero-clause-lines
 returns-then-are_zero-clause-lines g c =
     sym
     (luma_zero c.args.place.column c.args.place.row c.args.n (strength_of c.args.p.now c.args.q.now true c.args.n) (luma_qp_of c.args.p.now c.args.q.now) c.args.luma.now
-    (λ k low. sym (c.requires.value k low) ∙ c.are_zero.ensures c.if-are_zero.true k low) true (λ e. c.requires.some) (λ e. absurd (cc)))
+    (λ k low. sym (c.requires.value k low) ∙ c.are_zero.ensures c.if-are_zero.true k low) true)
 
 pub returns-clause-lines : goal.returns-clause-lines
 returns-clause-lines g c =
