@@ -1,5 +1,5 @@
 -- What the lines of one edge leave of a plane: each sample of it, and the block that they change.
-use Rattle.avc_deblock.proofs.Common.{◌≡◌, ◌≢◌, ℕ, zero, suc, ◌+◌, ◌-◌, ◌*◌, ◌/◌, ◌%◌, ◌<◌, ◌≤◌, List, [], ◌∷◌, Bool, true, false, not, length, slice_index}
+use Rattle.avc_deblock.proofs.Common.{[], ◌≡◌, ◌≢◌, ℕ, zero, suc, ◌+◌, ◌-◌, ◌*◌, ◌/◌, ◌%◌, ◌<◌, ◌≤◌, List, ◌∷◌, Bool, true, false, not, length, slice_index}
 use Rattle.avc_deblock.proofs.Common.{slice_set, arith, refl, sym, ap, ◌∙◌, ⊎_elim, mul_comm, if◌then◌else◌, range_with_len, cases_lt, cases_eq}
 use Rattle.avc_deblock.proofs.Common.{div-lt_iff_lt-mul, mul-add-lt, same_from_place, mod_below, Plane, sample, with_block, is_inside}
 use Rattle.avc_deblock.proofs.Common.{by_place, Line, Setting, filtered, line, line_of, lines_filtered, edge_filtered}
@@ -35,6 +35,12 @@ module _ {w h n : ℕ} where
 -- the size stays
 pub edge_size : (f : ℕ → Setting) (v : Bool) (x y n : ℕ) (s : Plane) → IsSized s.width s.height (length s.samples) (edge_filtered f v x y n s)
 edge_size f v x y n s = edge_sized f v x y n s (record { width = refl; height = refl; long = refl })
+
+pub edge_width : (f : ℕ → Setting) (v : Bool) (x y n : ℕ) (s : Plane) → (edge_filtered f v x y n s).width ≡ s.width
+edge_width f v x y n s = (edge_size f v x y n s).width
+
+pub edge_height : (f : ℕ → Setting) (v : Bool) (x y n : ℕ) (s : Plane) → (edge_filtered f v x y n s).height ≡ s.height
+edge_height f v x y n s = (edge_size f v x y n s).height
 
 abbrev pub with_samples : Plane → List ℕ → Plane
 with_samples s xs = record { width = s.width; height = s.height; samples = xs }
@@ -87,13 +93,15 @@ module _ (xs : List ℕ) (at f : ℕ → ℕ) where
   unfolding sets
   sets_value zero j u within put kept = kept (λ k some low. absurd (omega arith))
   sets_value (suc n) j u within put kept =
-      ⊎_elim
-      (λ same. ap (slice_index (slice_set (sets xs at f n) (at (suc n)) (f (suc n)))) same
-      ∙ get_or-set_same (sets xs at f n) (at (suc n)) (f (suc n)) 0 (omega (arith, length-sets n, within (suc n) (omega arith))) ∙ put (suc n) (omega arith) (omega arith) same)
-      (λ other. get_or-set_other (sets xs at f n) (at (suc n)) j (f (suc n)) 0 other
-      ∙ sets_value n j u (λ k low. within k (omega arith)) (λ k some low. put k some (omega arith))
-      (λ none. kept (λ k some low e. ⊎_elim (λ less. none k some (omega arith) e) (λ last. let is : k ≡ suc n = omega arith in other (e ∙ ap at is)) (cases_lt k (suc n)))))
-      (cases_eq j (at (suc n)))
+      grind (
+        arith,
+        get_or-set_same,
+        get_or-set_other,
+        length-sets,
+        cases_eq,
+        cases_lt,
+        sets_value n j u (λ k low. within k (omega arith)) (λ k some low. put k some (omega arith)),
+      )
 
 -- a coordinate of sample k of a line, from p3 to q3, where that of p3 is z: that across the edge, or that along it
 abbrev pub place : Bool → (z k : ℕ) → ℕ

@@ -1,8 +1,8 @@
 -- The lines of a macroblock in their order, as its edges one after another.
-use Rattle.avc_deblock.proofs.Common.{◌≡◌, ℕ, zero, suc, ◌+◌, ◌*◌, ◌/◌, ◌%◌, List, [], ◌∷◌, ◌++◌, map, Bool, true, false, refl, ap, ◌∙◌}
-use Rattle.avc_deblock.proofs.Common.{if◌then◌else◌, not, range_with_len, flat_map, Coded, Motion, Plane, Planes, Setting, lines_filtered}
+use Rattle.avc_deblock.proofs.Common.{[], ◌≡◌, ℕ, zero, suc, ◌+◌, ◌*◌, ◌/◌, ◌%◌, List, ◌∷◌, ◌++◌, map, Bool, true, false, arith, refl, ap, ◌∙◌}
+use Rattle.avc_deblock.proofs.Common.{if◌then◌else◌, not, range_with_len, flat_map, Coded, Motion, Plane, Planes, lines_filtered}
 use Rattle.avc_deblock.proofs.Common.{edge_filtered, component_edge, planes_edges, planes_mb}
-use Rattle.avc_deblock.specs.Edges.{LineFilter, setting_at, line_filtered, in_component, step_filtered, all_filtered, filters_edge_to, filters_vertical, filters_horizontal, edges_below, vertical_lines, horizontal_lines, component_lines, luma_per_sample}
+use Rattle.avc_deblock.specs.Edges.{LineFilter, setting_at, in_component, step_filtered, all_filtered, filters_edge_to, filters_vertical, filters_horizontal, edges_below, vertical_lines, horizontal_lines, component_lines, luma_per_sample}
 
 pub all_filtered-append : (c : Coded) (motion : List (List Motion)) (s : Planes) (fs gs : List LineFilter) → all_filtered c motion s (fs ++ gs) ≡ all_filtered c motion (all_filtered c motion s fs) gs
 all_filtered-append c motion s [] gs = refl
@@ -49,10 +49,7 @@ module _ (c : Coded) (motion : List (List Motion)) (k : ℕ) (filters : ℕ → 
       all_filtered c motion s (flat_map (λ e. if filters e then lines e else []) es) ≡ in_component k (edges_filtered filters edge es) s
   edges_in_order [] s = nothing k s
   edges_in_order (e ∷ es) s =
-      all_filtered-append c motion s (if filters e then lines e else []) (flat_map (λ e. if filters e then lines e else []) es)
-      ∙ ap (λ (t : Planes). all_filtered c motion t (flat_map (λ e. if filters e then lines e else []) es)) (one_edge (filters e) e s)
-      ∙ edges_in_order es (in_component k (λ p. if filters e then edge e p else p) s)
-      ∙ twice k (edges_filtered filters edge es) (λ p. if filters e then edge e p else p) s
+      grind (arith, all_filtered-append, one_edge, twice, edges_in_order es (in_component k (λ p. if filters e then edge e p else p) s))
 
 -- the plane of component k after the edges of macroblock a
 abbrev component_mb : Coded → List (List Motion) → ℕ → ℕ → Plane → Plane

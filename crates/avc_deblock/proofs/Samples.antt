@@ -1,5 +1,5 @@
 -- The eight samples of a line, and what a line filter leaves of them.
-use Rattle.avc_deblock.proofs.Common.{◌≡◌, ℕ, zero, suc, ◌+◌, ◌-◌, ◌<◌, ◌≤◌, [], ◌∷◌, Bool, true, false, slice_index, arith, refl, sym, ap, ◌∙◌}
+use Rattle.avc_deblock.proofs.Common.{[], ◌≡◌, ℕ, zero, suc, ◌+◌, ◌-◌, ◌<◌, ◌≤◌, ◌∷◌, Bool, true, false, slice_index, arith, refl, sym, ap, ◌∙◌}
 use Rattle.avc_deblock.proofs.Common.{if◌then◌else◌, ◌==◌, ◌&&◌, ◌||◌, nat_tests, Line, Setting, filtered, filtered_weakly}
 use Rattle.avc_deblock.proofs.Common.{filtered_strongly, is_filtered, line, line_of}
 use Rattle.avc_deblock.proofs.OfFour.{each_of_four}

@@ -1,5 +1,5 @@
 -- A macroblock of one motion without coefficients has no edge inside it that is filtered.
-use Rattle.avc_deblock.proofs.Common.{◌≡◌, ◌∙◌, ℕ, suc, ◌<◌, ◌≤◌, Bool, true, false, arith, refl, ap, ℤ, nat_lt, not, ◌&&◌, Planes, MbFacts}
+use Rattle.avc_deblock.proofs.Common.{◌≡◌, ◌∙◌, ℕ, suc, ◌<◌, Bool, true, false, arith, refl, ap, ℤ, nat_lt, not, ◌&&◌, Planes, MbFacts}
 use Rattle.avc_deblock.proofs.Common.{inter_strength, filters_between, strength_of, edge_by_facts, edges_by_facts, mb_by_facts}
 use Rattle.avc_deblock.proofs.Between.{low_block}
 use Rattle.avc_deblock.proofs.EdgePlanes.{edge_zero}

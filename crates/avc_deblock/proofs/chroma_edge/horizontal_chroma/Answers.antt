@@ -1,4 +1,4 @@
-use Rattle.avc_deblock.proofs.Common.{◌+◌, false, arith, sym, strength_along, chroma_setting}
+use Rattle.avc_deblock.proofs.Common.{◌+◌, false, sym, strength_along, chroma_setting}
 use Rattle.avc_deblock.proofs.Settings.{edge_off}
 use Rattle.avc_deblock.proofs.chroma_edge.horizontal_chroma.Goals as goal
 

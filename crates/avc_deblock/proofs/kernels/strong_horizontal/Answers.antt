@@ -1,4 +1,4 @@
-use Rattle.avc_deblock.proofs.Common.{false, ◌+◌, ◌*◌, arith, sym, ap, ◌∙◌, slice_index, sample, filtered}
+use Rattle.avc_deblock.proofs.Common.{false, ◌+◌, ◌*◌, sym, ap, ◌∙◌, slice_index, sample, filtered}
 use Rattle.avc_deblock.proofs.Samples.{same_samples}
 use Rattle.avc_deblock.proofs.OnPlane.{edge_block}
 use Rattle.avc_deblock.proofs.kernels.strong_horizontal.Goals as goal
