@@ -4,7 +4,8 @@ use Rattle.avc_deblock.proofs.Common.{not, if◌then◌else◌, div-mul-add, mod
 use Rattle.avc_deblock.proofs.Common.{setting_of, EdgeQp, edge_filtered, luma_setting, chroma_setting, component_edge, planes_edge}
 use Rattle.avc_deblock.proofs.Common.{lines_of_edge, HasRoom, edge_block, p_address, IsAt}
 use Rattle.avc_deblock.specs.Edges.{slice_at, strength_between, component_qp, luma_per_sample, setting_at}
-use Rattle.avc_deblock.proofs.Settings.{edge_same, edge_size, edge_none}
+use Rattle.avc_deblock.proofs.Settings.{edge_same, edge_none}
+use Rattle.avc_deblock.proofs.OnPlane.{edge_size}
 use Rattle.avc_deblock.proofs.Places.{along, setting_along}
 
 -- the strengths and the QPs of edge n of macroblock a, for component k
@@ -101,20 +102,15 @@ kept_if false p s h = refl
 pub far_enough : (column n : ℕ) → 1 ≤ 4 * column + n → (n % 2 == 0) ≡ true → 4 ≤ 8 * column + 2 * n
 far_enough column n some even = grind (arith, nat_tests)
 
-far_behind : (v : Bool) (x y d : ℕ) → (v ≡ true → 4 ≤ x + d) → (v ≡ false → 4 ≤ y + d) → (v ≡ true → 4 ≤ behind v x d) × (v ≡ false → 4 ≤ behind (not v) y d)
-far_behind true x y d across down = (across, λ e. absurd (cc))
-far_behind false x y d across down = ((λ e. absurd (cc)), down)
-
-module _ (column row n : ℕ) (st : ℕ → ℕ) (qp : EdgeQp) (s : Plane) (none : (k : ℕ) → k < 4 → st k ≡ 0) (v : Bool) (across : v ≡ true → 1 ≤ 4 * column + n) (down : v ≡ false → 1 ≤ 4 * row + n) where
+module _ (column row n : ℕ) (st : ℕ → ℕ) (qp : EdgeQp) (s : Plane) (none : (k : ℕ) → k < 4 → st k ≡ 0) (v : Bool) where
   pub luma_zero : luma_of_edge v column row n st qp s ≡ s
-  luma_zero = grind (arith, nat_tests, far_behind, edge_none)
+  luma_zero = grind (arith, nat_tests, edge_none)
 
   pub chroma_zero : chroma_behind v column row n st qp s ≡ s
-  chroma_zero = grind (arith, nat_tests, kept_if, far_behind, far_enough, edge_none)
+  chroma_zero = grind (arith, nat_tests, kept_if, edge_none)
 
-pub edge_zero : (v : Bool) (column row n : ℕ) (st : ℕ → ℕ) (luma chroma : EdgeQp) (s : Planes) → (v ≡ true → 1 ≤ 4 * column + n) → (v ≡ false → 1 ≤ 4 * row + n) →
-    ((k : ℕ) → k < 4 → st k ≡ 0) → lines_of_edge v column row n st luma chroma s ≡ s
-edge_zero v column row n st luma chroma s across down none = grind (arith, nat_tests, in_parts, three, luma_zero, chroma_zero)
+pub edge_zero : (v : Bool) (column row n : ℕ) (st : ℕ → ℕ) (luma chroma : EdgeQp) (s : Planes) → ((k : ℕ) → k < 4 → st k ≡ 0) → lines_of_edge v column row n st luma chroma s ≡ s
+edge_zero v column row n st luma chroma s none = grind (arith, nat_tests, in_parts, three, luma_zero, chroma_zero)
 
 -- ---- sizes
 
@@ -124,10 +120,10 @@ size_if false p s h = (refl, refl)
 
 module _ (v : Bool) (column row n : ℕ) (st : ℕ → ℕ) (qp : EdgeQp) (s : Plane) where
   pub luma_size : ((luma_of_edge v column row n st qp s).width ≡ s.width) × ((luma_of_edge v column row n st qp s).height ≡ s.height)
-  luma_size = edge_size (luma_setting st qp) v _ _ 16 s
+  luma_size = let e = edge_size (luma_setting st qp) v _ _ 16 s in (e.width, e.height)
 
   pub chroma_size : ((chroma_behind v column row n st qp s).width ≡ s.width) × ((chroma_behind v column row n st qp s).height ≡ s.height)
-  chroma_size = size_if (n % 2 == 0) _ s (edge_size (chroma_setting st qp) v _ _ 8 s)
+  chroma_size = let e = edge_size (chroma_setting st qp) v _ _ 8 s in size_if (n % 2 == 0) _ s (e.width, e.height)
 
 pub room_kept : (v : Bool) (at_column at_row n : ℕ) (st : ℕ → ℕ) (luma chroma : EdgeQp) (s t : Planes) → t ≡ lines_of_edge v at_column at_row n st luma chroma s →
     (column row : ℕ) → HasRoom column row s → HasRoom column row t

@@ -1,14 +1,15 @@
 -- The filter of a row of macroblocks reads and changes samples of a few rows alone.
-use Rattle.avc_deblock.proofs.Common.{◌≡◌, ℕ, zero, suc, ◌+◌, ◌-◌, ◌*◌, ◌/◌, ◌%◌, ◌<◌, ◌≤◌, ℤ, List, Bool, true, false, length, slice_index}
-use Rattle.avc_deblock.proofs.Common.{arith, refl, sym, ap, subst, ◌∙◌, ⊎_elim, mul_comm, if◌then◌else◌, ◌==◌, nat_lt, ◌&&◌, slice_index_or}
-use Rattle.avc_deblock.proofs.Common.{cases_lt, nat_tests, mul-add-lt, mod_below, mul-le-mul_right, Plane, sample, with_block, is_inside}
-use Rattle.avc_deblock.proofs.Common.{length-plane_of, Planes, MbFacts, filters_between, Setting, luma_setting, chroma_setting, strength_of}
+use Rattle.avc_deblock.proofs.Common.{◌≡◌, ℕ, zero, suc, ◌+◌, ◌-◌, ◌*◌, ◌/◌, ◌%◌, ◌<◌, ◌≤◌, ℤ, List, Bool, true, false, length}
+use Rattle.avc_deblock.proofs.Common.{arith, refl, sym, ap, subst, ◌∙◌, ⊎_elim, if◌then◌else◌, ◌==◌, nat_lt, ◌&&◌, slice_index_or}
+use Rattle.avc_deblock.proofs.Common.{cases_lt, nat_tests, Plane, sample, with_block, is_inside}
+use Rattle.avc_deblock.proofs.Common.{length-plane_of, Planes, MbFacts, filters_between, Setting, luma_setting, chroma_setting, strength_of, edge_filtered}
 use Rattle.avc_deblock.proofs.Common.{luma_qp_of, chroma_qp_of, edge_by_facts, edges_by_facts, mb_by_facts, row_by_facts, no_facts}
 use Rattle.avc_deblock.specs.Edges.{in_component, luma_per_sample}
-use Rattle.avc_deblock.proofs.OnPlane.{with_samples, some_column, row_of, block_is}
-use Rattle.avc_deblock.proofs.Within.{inside_block, outside_block}
 use Rattle.avc_deblock.specs.Locality.{AgreesAbove, ChangesWithin, AgreesToRow, ChangesInRow, HasRow}
-use Rattle.avc_deblock.proofs.Local.{IsLocal, HasReach, local_none, local_then, local_if, luma_reach, chroma_reach, local_vertical, local_horizontal}
+use Rattle.avc_deblock.proofs.Samples.{HasReach, luma_reach, chroma_reach}
+use Rattle.avc_deblock.proofs.OnPlane.{IsSized, block_is}
+use Rattle.avc_deblock.proofs.Within.{inside_block, outside_block}
+use Rattle.avc_deblock.proofs.Local.{IsLocal, local_none, local_then, local_if, local_edge}
 use Rattle.avc_deblock.proofs.EdgePlanes.{edge_behind, luma_of_edge, chroma_behind, in_parts, far_enough}
 use Rattle.avc_deblock.proofs.PictureFacts.{some}
 
@@ -19,9 +20,9 @@ pub record ActsApart (wl wb wr row : ℕ) (g : Planes → Planes) : Type 0 where
   pub cb : Plane → Plane
   pub cr : Plane → Plane
   pub is : (s : Planes) → g s ≡ record { luma = luma s.luma; cb = cb s.cb; cr = cr s.cr }
-  pub luma_local : IsLocal wl ((16 * row - 3) * wl) ((16 * row + 16) * wl) luma
-  pub cb_local : IsLocal wb ((8 * row - 1) * wb) ((8 * row + 8) * wb) cb
-  pub cr_local : IsLocal wr ((8 * row - 1) * wr) ((8 * row + 8) * wr) cr
+  pub luma_local : IsLocal wl (16 * row - 3) (16 * row + 16) luma
+  pub cb_local : IsLocal wb (8 * row - 1) (8 * row + 8) cb
+  pub cr_local : IsLocal wr (8 * row - 1) (8 * row + 8) cr
 
 abbrev three : Plane → Plane → Plane → Planes
 three l b r = record { luma = l; cb = b; cr = r }
@@ -60,13 +61,17 @@ module _ (wl wb wr row : ℕ) where
 
   module _ (column : ℕ) (luma_fits : 16 * column + 16 ≤ wl) (cb_fits : 8 * column + 8 ≤ wb) (cr_fits : 8 * column + 8 ≤ wr) (offset : ℤ) where
     -- d samples behind a side
-    acts_behind : (w size reach d : ℕ) (f : ℕ → Setting) → ((i : ℕ) → HasReach (f i) reach) → reach ≤ 4 → size * column + size ≤ w → d + 4 ≤ size → (v : Bool) →
-        (v ≡ true → 4 ≤ size * column + d) → (v ≡ false → 4 ≤ size * row + d) → IsLocal w ((size * row - reach) * w) ((size * row + size) * w) (edge_behind size f v column row d)
-    acts_behind w size reach d f keeps near fits inside true across down =
-        local_vertical w (size * row - reach) (size * row + size) f (size * column + d) (size * row) size (across refl) (omega arith) (omega arith) (omega arith)
-    acts_behind w size reach d f keeps near fits inside false across down =
+    acts_behind : (w size reach d : ℕ) (f : ℕ → Setting) → ((i : ℕ) → HasReach (f i) reach) → size * column + size ≤ w → d + 4 ≤ size → (v : Bool) →
+        (v ≡ true → 4 ≤ size * column + d) → (v ≡ false → 4 ≤ size * row + d) → IsLocal w (size * row - reach) (size * row + size) (edge_behind size f v column row d)
+    acts_behind w size reach d f keeps fits inside true across down =
+        let back : (size * column + d) - 4 + 4 ≡ size * column + d = (let far = across refl in omega arith) in
+        subst (λ x. IsLocal w (size * row - reach) (size * row + size) (edge_filtered f true x (size * row) size)) back
+        (local_edge w (size * row - reach) (size * row + size) f true (size * column + d - 4) (size * row) size reach keeps (λ i k less low. (omega arith, omega arith)) (λ i k less p q. omega arith))
+    acts_behind w size reach d f keeps fits inside false across down =
         let far = down refl in
-        local_horizontal w (size * row - reach) (size * row + size) f (size * column) (size * row + d) size reach keeps near far (omega arith) (omega arith) (omega arith)
+        let back : (size * row + d) - 4 + 4 ≡ size * row + d = omega arith in
+        subst (λ y. IsLocal w (size * row - reach) (size * row + size) (edge_filtered f false (size * column) y size)) back
+        (local_edge w (size * row - reach) (size * row + size) f false (size * column) (size * row + d - 4) size reach keeps (λ i k less low. (omega arith, omega arith)) (λ i k less p q. omega arith))
 
     edge_acts : (v : Bool) (n : ℕ) → n < 4 → (v ≡ true → 1 ≤ 4 * column + n) → (v ≡ false → 1 ≤ 4 * row + n) → (p q : MbFacts) →
         ActsApart wl wb wr row (edge_by_facts v column row n offset p q)
@@ -74,19 +79,19 @@ module _ (wl wb wr row : ℕ) where
         let st = strength_of p q v n in
         let luma = luma_qp_of p q in
         let chroma = chroma_qp_of offset p q in
-        let acts_chroma : (w : ℕ) → 8 * column + 8 ≤ w → IsLocal w ((8 * row - 1) * w) ((8 * row + 8) * w) (chroma_behind v column row n st chroma) =
+        let acts_chroma : (w : ℕ) → 8 * column + 8 ≤ w → IsLocal w (8 * row - 1) (8 * row + 8) (chroma_behind v column row n st chroma) =
         λ w fits.
         local_if w _ _ (n % 2 == 0) (edge_behind 8 (chroma_setting st chroma) v column row (2 * n))
         (λ even.
         let two = even_low n low even in
-        acts_behind w 8 1 (2 * n) (chroma_setting st chroma) (λ i. chroma_reach (chroma_setting st chroma i) refl) (omega arith) fits (omega arith) v
+        acts_behind w 8 1 (2 * n) (chroma_setting st chroma) (λ i. chroma_reach (chroma_setting st chroma i) refl) fits (omega arith) v
         (λ e. far_enough column n (across e) even) (λ e. far_enough row n (down e) even)) in
         record {
           luma = luma_of_edge v column row n st luma;
           cb = chroma_behind v column row n st chroma;
           cr = chroma_behind v column row n st chroma;
           is = in_parts v column row n st luma chroma;
-          luma_local = acts_behind wl 16 3 (4 * n) (luma_setting st luma) (λ i. luma_reach (luma_setting st luma i)) (omega arith) luma_fits (omega arith) v
+          luma_local = acts_behind wl 16 3 (4 * n) (luma_setting st luma) (λ i. luma_reach (luma_setting st luma i)) luma_fits (omega arith) v
               (λ e. let some = across e in omega arith) (λ e. let some = down e in omega arith);
           cb_local = acts_chroma wb cb_fits;
           cr_local = acts_chroma wr cr_fits;
@@ -117,103 +122,50 @@ module _ (wl wb wr row : ℕ) where
       (mb_acts n (l n (omega arith)) (b n (omega arith)) (r n (omega arith)) offset
       (slice_index_or facts (n - 1) no_facts) (slice_index_or above n no_facts) (slice_index_or facts n no_facts))
 
--- ---- from places to rows
+-- ---- one plane
 
-module _ (first end : ℕ) (g : Plane → Plane) (s : Plane) (a : IsLocal s.width (first * s.width) (end * s.width) g) (full : length s.samples ≡ s.width * s.height) (rows : end ≤ s.height) where
-  high : end * s.width ≤ length s.samples
-  high = let all : end * s.width ≤ s.height * s.width = mul-le-mul_right s.width rows in omega (arith, all, full, mul_comm s.width s.height)
+module _ (first end : ℕ) (g : Plane → Plane) (s : Plane) (a : IsLocal s.width first end g) (full : length s.samples ≡ s.width * s.height) (rows : end ≤ s.height) where
+  size : IsSized s.width s.height (s.width * s.height) s
+  size = record { width = refl; height = refl; long = full }
 
-  pub changes_of : ChangesWithin first end s (g s)
-  changes_of = record {
-    width = a.width s;
-    height = a.height s;
-    long = a.long s refl;
-    samples = λ x y column row out.
-        ap (λ v. slice_index (g s).samples (y * v + x)) (a.width s)
-        ∙ a.kept s refl high (y * s.width + x)
-        (λ lo hi.
-        out
-        (⊎_elim (λ less. let over : (y + 1) * s.width ≤ first * s.width = mul-le-mul_right s.width (omega arith) in absurd (omega arith)) (λ no. omega arith) (cases_lt y first))
-        (⊎_elim (λ less. less) (λ no. let under : end * s.width ≤ y * s.width = mul-le-mul_right s.width (omega arith) in absurd (omega arith)) (cases_lt y end)));
+  changes_of : ChangesWithin first end s (g s)
+  changes_of = record { width = a.width s; height = a.height s; long = a.long s; samples = λ x y column row out. a.kept s.height s size rows x y column out }
+
+  reads_of : (t : Plane) → AgreesAbove end s t → AgreesAbove end (g s) (g t)
+  reads_of t agrees = record {
+    width = a.width t ∙ agrees.width ∙ sym (a.width s);
+    height = a.height t ∙ agrees.height ∙ sym (a.height s);
+    long = a.long t ∙ agrees.long ∙ sym (a.long s);
+    samples = λ x y column row.
+        a.same s.height s t size (record { width = agrees.width; height = agrees.height; long = agrees.long ∙ full }) rows agrees.samples x y (omega (arith, a.width s)) row;
   }
 
-  module _ (t : Plane) (agrees : AgreesAbove end s t) where
-    agree : (j : ℕ) → j < end * s.width → slice_index t.samples j ≡ slice_index s.samples j
-    agree j less =
-        let below : j < s.width * end = omega (arith, mul_comm s.width end) in
-        let x = j % s.width in
-        let y = j / s.width in
-        let parts : j ≡ y * s.width + x = sym (omega (arith, mul_comm y s.width)) in
-        ap (slice_index t.samples) parts ∙ ap (λ v. slice_index t.samples (y * v + x)) (sym agrees.width)
-        ∙ agrees.samples x y (mod_below j s.width (some_column j s.width end below)) (row_of j s.width end below) ∙ ap (slice_index s.samples) (sym parts)
+  -- a block below
+  module _ (left top width height : ℕ) (f : ℕ → ℕ → ℕ) (below : end ≤ top) where
+    abbrev built : Plane
+    built = with_block s left top width height f
 
-    pub reads_of : AgreesAbove end (g s) (g t)
-    reads_of = record {
-      width = a.width t ∙ agrees.width ∙ sym (a.width s);
-      height = a.height t ∙ agrees.height ∙ sym (a.height s);
-      long = a.long t agrees.width ∙ agrees.long ∙ sym (a.long s refl);
-      samples = λ x y column row.
-          let narrow : x < s.width = subst (λ v. x < v) (a.width s) column in
-          let place : y * s.width + x < s.width * end = mul-add-lt y s.width x end row narrow in
-          ap (λ v. slice_index (g t).samples (y * v + x)) (a.width t ∙ agrees.width)
-          ∙ a.same s t refl agrees.width high agrees.long agree (y * s.width + x) (omega (arith, mul_comm s.width end))
-          ∙ sym (ap (λ v. slice_index (g s).samples (y * v + x)) (a.width s));
+    built_size : IsSized s.width s.height (s.width * s.height) built
+    built_size = record {
+      width = refl;
+      height = refl;
+      long = length-plane_of s.width s.height (λ x y. if is_inside left top width height x y then f (x - left) (y - top) else sample s x y);
     }
 
--- ---- a block below
-
-sized : (p q : Plane) → p.width ≡ q.width → p.height ≡ q.height → p ≡ with_samples q p.samples
-sized p q e h = rw (sym e, sym h) refl
-
-module _ (first end : ℕ) (g : Plane → Plane) (s : Plane) (a : IsLocal s.width (first * s.width) (end * s.width) g) (full : length s.samples ≡ s.width * s.height) (rows : end ≤ s.height)
-    (left top width height : ℕ) (f : ℕ → ℕ → ℕ) (below : end ≤ top) where
-  abbrev built : Plane
-  built = with_block s left top width height f
-
-  built_long : length built.samples ≡ s.width * s.height
-  built_long = length-plane_of s.width s.height (λ x y. if is_inside left top width height x y then f (x - left) (y - top) else sample s x y)
-
-  agrees : AgreesAbove end s built
-  agrees = record {
-    width = refl;
-    height = refl;
-    long = built_long ∙ sym full;
-    samples = λ x y column row. outside_block s left top width height f x y column (omega arith) (λ p q r u. omega arith);
-  }
-
-  after : ChangesWithin first end built (g built)
-  after = changes_of first end g built a built_long rows
-
-  before : ChangesWithin first end s (g s)
-  before = changes_of first end g s a full rows
-
-  both_read : AgreesAbove end (g s) (g built)
-  both_read = reads_of first end g s a full rows built agrees
-
-  sample_of : (p : Plane) → (x y : ℕ) → p.width ≡ s.width → slice_index p.samples (y * (g s).width + x) ≡ sample p x y
-  sample_of p x y e = ap (λ v. slice_index p.samples (y * v + x)) (a.width s ∙ sym e)
-
-  pub commute_of : g built ≡ with_block (g s) left top width height f
-  commute_of =
-      let wide : (g built).width ≡ (g s).width = a.width built ∙ sym (a.width s) in
-      let tall : (g built).height ≡ (g s).height = a.height built ∙ sym (a.height s) in
-      let size : (g s).width * (g s).height ≡ s.width * s.height = ap (λ v. v * (g s).height) (a.width s) ∙ ap (λ v. s.width * v) (a.height s) in
-      sized (g built) (g s) wide tall
-      ∙ block_is (g s) (g built).samples left top width height f (after.long ∙ built_long ∙ sym size)
-      (λ x y column row p q r u.
-      let narrow : x < s.width = subst (λ v. x < v) (a.width s) column in
-      let low : y < s.height = subst (λ v. y < v) (a.height s) row in
-      sample_of (g built) x y (a.width built)
-      ∙ after.samples x y narrow low (λ lo hi. omega arith)
-      ∙ inside_block s left top width height f x y narrow low p q r u)
-      (λ x y column row out.
-      let narrow : x < s.width = subst (λ v. x < v) (a.width s) column in
-      let low : y < s.height = subst (λ v. y < v) (a.height s) row in
-      sample_of (g built) x y (a.width built)
-      ∙ ⊎_elim
-      (λ less. both_read.samples x y column less)
-      (λ no. after.samples x y narrow low (λ lo hi. omega arith) ∙ outside_block s left top width height f x y narrow low out ∙ sym (before.samples x y narrow low (λ lo hi. omega arith)))
-      (cases_lt y end))
+    commute_of : g built ≡ with_block (g s) left top width height f
+    commute_of =
+        let wide = a.width s in
+        let tall = a.height s in
+        block_is (g s) (g built) left top width height f
+        (record { width = a.width built ∙ sym wide; height = a.height built ∙ sym tall; long = rw (wide, tall) (a.long built ∙ built_size.long) })
+        (λ x y column row p q r u.
+        a.kept s.height built built_size rows x y (omega arith) (λ lo hi. omega arith) ∙ inside_block s left top width height f x y (omega arith) (omega arith) p q r u)
+        (λ x y column row out.
+        ⊎_elim
+        (λ less. a.same s.height s built size built_size rows (λ i j i_low j_low. outside_block s left top width height f i j i_low (omega arith) (λ p q r u. omega arith)) x y (omega arith) less)
+        (λ no. a.kept s.height built built_size rows x y (omega arith) (λ lo hi. omega arith) ∙ outside_block s left top width height f x y (omega arith) (omega arith) out
+        ∙ sym (a.kept s.height s size rows x y (omega arith) (λ lo hi. omega arith)))
+        (cases_lt y end))
 
 -- ---- the laws
 

@@ -1,8 +1,8 @@
 -- The lines of a macroblock in their order, as its edges one after another.
-use Rattle.avc_deblock.proofs.Common.{◌≡◌, ℕ, zero, suc, ◌+◌, ◌*◌, ◌/◌, ◌%◌, List, [], ◌∷◌, ◌++◌, map, Bool, true, false, refl, ap, ◌∙◌}
-use Rattle.avc_deblock.proofs.Common.{if◌then◌else◌, range_with_len, flat_map, Coded, Motion, Plane, Planes, Setting, lines_filtered}
+use Rattle.avc_deblock.proofs.Common.{[], ◌≡◌, ℕ, zero, suc, ◌+◌, ◌*◌, ◌/◌, ◌%◌, List, ◌∷◌, ◌++◌, map, Bool, true, false, arith, refl, ap, ◌∙◌}
+use Rattle.avc_deblock.proofs.Common.{if◌then◌else◌, not, range_with_len, flat_map, Coded, Motion, Plane, Planes, lines_filtered}
 use Rattle.avc_deblock.proofs.Common.{edge_filtered, component_edge, planes_edges, planes_mb}
-use Rattle.avc_deblock.specs.Edges.{LineFilter, setting_at, line_filtered, in_component, step_filtered, all_filtered, filters_edge_to, filters_vertical, filters_horizontal, edges_below, vertical_lines, horizontal_lines, component_lines, luma_per_sample}
+use Rattle.avc_deblock.specs.Edges.{LineFilter, setting_at, in_component, step_filtered, all_filtered, filters_edge_to, filters_vertical, filters_horizontal, edges_below, vertical_lines, horizontal_lines, component_lines, luma_per_sample}
 
 pub all_filtered-append : (c : Coded) (motion : List (List Motion)) (s : Planes) (fs gs : List LineFilter) → all_filtered c motion s (fs ++ gs) ≡ all_filtered c motion (all_filtered c motion s fs) gs
 all_filtered-append c motion s [] gs = refl
@@ -18,24 +18,21 @@ nothing zero s = refl
 nothing (suc zero) s = refl
 nothing (suc (suc k)) s = refl
 
-module _ (c : Coded) (motion : List (List Motion)) (k x y : ℕ) where
-  vertical_edge : (is : List ℕ) (s : Planes) →
-      all_filtered c motion s (map (λ i. record { component = k; is_vertical = true; x = x; y = y + i }) is)
-      ≡ in_component k (lines_filtered (λ i. setting_at c motion (record { component = k; is_vertical = true; x = x; y = y + i })) true x y is) s
-  vertical_edge [] s = nothing k s
-  vertical_edge (i ∷ is) s =
-      let setting : ℕ → Setting = λ i. setting_at c motion (record { component = k; is_vertical = true; x = x; y = y + i }) in
-      vertical_edge is (in_component k (line_filtered (setting i) true x (y + i)) s)
-      ∙ twice k (lines_filtered setting true x y is) (line_filtered (setting i) true x (y + i)) s
+-- a coordinate of line i of an edge, where that of line 0 is x: that across the edge, or that along it
+abbrev beside : Bool → (x i : ℕ) → ℕ
+beside true x i = x
+beside false x i = x + i
 
-  horizontal_edge : (is : List ℕ) (s : Planes) →
-      all_filtered c motion s (map (λ i. record { component = k; is_vertical = false; x = x + i; y = y }) is)
-      ≡ in_component k (lines_filtered (λ i. setting_at c motion (record { component = k; is_vertical = false; x = x + i; y = y })) false x y is) s
-  horizontal_edge [] s = nothing k s
-  horizontal_edge (i ∷ is) s =
-      let setting : ℕ → Setting = λ i. setting_at c motion (record { component = k; is_vertical = false; x = x + i; y = y }) in
-      horizontal_edge is (in_component k (line_filtered (setting i) false (x + i) y) s)
-      ∙ twice k (lines_filtered setting false x y is) (line_filtered (setting i) false (x + i) y) s
+module _ (c : Coded) (motion : List (List Motion)) (k x y : ℕ) where
+  abbrev line_of_edge : Bool → ℕ → LineFilter
+  line_of_edge v i = record { component = k; is_vertical = v; x = beside v x i; y = beside (not v) y i }
+
+  lines_in_order : (v : Bool) (is : List ℕ) (s : Planes) →
+      all_filtered c motion s (map (line_of_edge v) is) ≡ in_component k (lines_filtered (λ i. setting_at c motion (line_of_edge v i)) v x y is) s
+  lines_in_order true [] s = nothing k s
+  lines_in_order false [] s = nothing k s
+  lines_in_order true (i ∷ is) s = lines_in_order true is _ ∙ twice k _ _ s
+  lines_in_order false (i ∷ is) s = lines_in_order false is _ ∙ twice k _ _ s
 
 -- edges of one direction, those that are filtered
 abbrev pub edges_filtered : (filters : ℕ → Bool) (edge : ℕ → Plane → Plane) → List ℕ → Plane → Plane
@@ -52,10 +49,7 @@ module _ (c : Coded) (motion : List (List Motion)) (k : ℕ) (filters : ℕ → 
       all_filtered c motion s (flat_map (λ e. if filters e then lines e else []) es) ≡ in_component k (edges_filtered filters edge es) s
   edges_in_order [] s = nothing k s
   edges_in_order (e ∷ es) s =
-      all_filtered-append c motion s (if filters e then lines e else []) (flat_map (λ e. if filters e then lines e else []) es)
-      ∙ ap (λ (t : Planes). all_filtered c motion t (flat_map (λ e. if filters e then lines e else []) es)) (one_edge (filters e) e s)
-      ∙ edges_in_order es (in_component k (λ p. if filters e then edge e p else p) s)
-      ∙ twice k (edges_filtered filters edge es) (λ p. if filters e then edge e p else p) s
+      grind (arith, all_filtered-append, one_edge, twice, edges_in_order es (in_component k (λ p. if filters e then edge e p else p) s))
 
 -- the plane of component k after the edges of macroblock a
 abbrev component_mb : Coded → List (List Motion) → ℕ → ℕ → Plane → Plane
@@ -76,8 +70,8 @@ component_in_order c motion a k s =
     let h = edges_filtered (filters_horizontal c a) (component_edge c motion k false a) (edges_below n) in
     all_filtered-append c motion s vs hs
     ∙ ap (λ (t : Planes). all_filtered c motion t hs)
-    (edges_in_order c motion k (filters_vertical c a) (component_edge c motion k true a) (vertical_lines k left top n) (λ e t. vertical_edge c motion k (left + e) top (range_with_len 0 n) t) (edges_below n) s)
-    ∙ edges_in_order c motion k (filters_horizontal c a) (component_edge c motion k false a) (horizontal_lines k left top n) (λ e t. horizontal_edge c motion k left (top + e) (range_with_len 0 n) t) (edges_below n) (in_component k v s)
+    (edges_in_order c motion k (filters_vertical c a) (component_edge c motion k true a) (vertical_lines k left top n) (λ e t. lines_in_order c motion k (left + e) top true (range_with_len 0 n) t) (edges_below n) s)
+    ∙ edges_in_order c motion k (filters_horizontal c a) (component_edge c motion k false a) (horizontal_lines k left top n) (λ e t. lines_in_order c motion k left (top + e) false (range_with_len 0 n) t) (edges_below n) (in_component k v s)
     ∙ twice k h v s
 
 -- whether an edge is filtered, from whether the outer one is and whether the inner ones are

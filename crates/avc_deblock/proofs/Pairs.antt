@@ -3,9 +3,9 @@ use Rattle.avc_deblock.proofs.Common.{◌≡◌, ℕ, ◌+◌, ◌*◌, ◌<◌,
 use Rattle.avc_deblock.proofs.Common.{sample, with_block, EdgeQp, filtered, line_of, line_down, line_near, IsTransposed, IsNearSet}
 use Rattle.avc_deblock.proofs.Common.{edge_filtered, chroma_setting}
 use Rattle.avc_deblock.proofs.Blocks.{filtered_across, down_near}
-use Rattle.avc_deblock.proofs.Samples.{same_samples, chroma_keeps}
+use Rattle.avc_deblock.proofs.Samples.{same_samples, chroma_reach, kept_by}
 use Rattle.avc_deblock.proofs.Within.{within_block}
-use Rattle.avc_deblock.proofs.OnPlane.{vertical_block, horizontal_block}
+use Rattle.avc_deblock.proofs.OnPlane.{edge_block}
 
 module _ (st : ℕ → ℕ) (qp : EdgeQp) (left top b : ℕ) (s : Plane) (before after : List ℕ) (bit : b < 2)
     (long : length s.samples ≡ s.width * s.height) (columns : left + 8 ≤ s.width) (rows : top + 8 ≤ s.height)
@@ -18,7 +18,7 @@ module _ (st : ℕ → ℕ) (qp : EdgeQp) (left top b : ℕ) (s : Plane) (before
       ((k : ℕ) → k < 64 → slice_index after k ≡ slice_index w (64 * b + k)) →
       with_block s left top 8 8 (λ x y. slice_index after (8 * y + x)) ≡ edge_filtered (chroma_setting st qp) true (left + 4) top 8 s
   vertical_part t w joined from to parted = sym
-      (vertical_block (chroma_setting st qp) left top 8 s long (λ x y. slice_index after (8 * y + x)) columns rows
+      (edge_block true (chroma_setting st qp) left top 8 s long (λ x y. slice_index after (8 * y + x)) columns rows
       (λ i low.
       ap (filtered (chroma_setting st qp i))
       (same_samples (λ k. sample s (left + k) (top + i)) (λ k. slice_index t (8 * (8 * b + i) + k))
@@ -40,5 +40,5 @@ module _ (st : ℕ → ℕ) (qp : EdgeQp) (left top b : ℕ) (s : Plane) (before
       within_block s left top 8 8 0 3 8 2 left (top + 3) (λ x y. slice_index v (16 * y + (8 * b + x))) (λ x y. slice_index after (8 * y + x)) (omega arith) refl (omega arith) (omega arith)
       (λ x y x_low y_low. parted y x y_low x_low ∙ ap (slice_index v) (omega arith))
       (λ x y x_low y_low out.
-      chroma_keeps (chroma_setting st qp x) (λ k. sample s (left + x) (top + k)) (λ k. slice_index v (16 * k + (8 * b + x))) refl (all x x_low) y y_low (λ p q. out (omega arith) (omega arith) p (omega arith)))
-      ∙ sym (horizontal_block (chroma_setting st qp) left top 8 s long (λ x y. slice_index v (16 * y + (8 * b + x))) columns rows (omega arith) all)
+      kept_by (chroma_setting st qp x) (λ k. sample s (left + x) (top + k)) (λ k. slice_index v (16 * k + (8 * b + x))) 1 (chroma_reach (chroma_setting st qp x) refl) (all x x_low) y y_low (λ p q. out (omega arith) (omega arith) p (omega arith)))
+      ∙ sym (edge_block false (chroma_setting st qp) left top 8 s long (λ x y. slice_index v (16 * y + (8 * b + x))) columns rows all)

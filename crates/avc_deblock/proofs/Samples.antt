@@ -1,5 +1,5 @@
 -- The eight samples of a line, and what a line filter leaves of them.
-use Rattle.avc_deblock.proofs.Common.{◌≡◌, ℕ, zero, suc, ◌<◌, ◌≤◌, [], ◌∷◌, Bool, true, false, slice_index, arith, refl, sym, ap, ◌∙◌}
+use Rattle.avc_deblock.proofs.Common.{[], ◌≡◌, ℕ, zero, suc, ◌+◌, ◌-◌, ◌<◌, ◌≤◌, ◌∷◌, Bool, true, false, slice_index, arith, refl, sym, ap, ◌∙◌}
 use Rattle.avc_deblock.proofs.Common.{if◌then◌else◌, ◌==◌, ◌&&◌, ◌||◌, nat_tests, Line, Setting, filtered, filtered_weakly}
 use Rattle.avc_deblock.proofs.Common.{filtered_strongly, is_filtered, line, line_of}
 use Rattle.avc_deblock.proofs.OfFour.{each_of_four}
@@ -25,10 +25,6 @@ sample_of l k = slice_index (l.p3 ∷ l.p2 ∷ l.p1 ∷ l.p0 ∷ l.q0 ∷ l.q1 �
 pub sample_is : (f : ℕ → ℕ) (k : ℕ) → k < 8 → sample_of (line_of f) k ≡ f k
 sample_is f = each_of_eight (λ k. sample_of (line_of f) k ≡ f k) refl refl refl refl refl refl refl refl
 
--- equal lines have equal samples
-pub each_sample : (f g : ℕ → ℕ) → line_of f ≡ line_of g → (k : ℕ) → k < 8 → f k ≡ g k
-each_sample f g e k low = sym (sample_is f k low) ∙ ap (λ (l : Line). sample_of l k) e ∙ sample_is g k low
-
 -- ---- samples that stay
 
 either : (F : Line → ℕ) (a b : Bool) (f g l : Line) → (b ≡ true → F f ≡ F l) → F g ≡ F l → F (if a then (if b then f else g) else l) ≡ F l
@@ -40,40 +36,54 @@ module _ (s : Setting) (l : Line) where
   stays : (F : Line → ℕ) → (s.strength == 4 ≡ true → F (filtered_strongly s l) ≡ F l) → F (filtered_weakly s l) ≡ F l → F (filtered s l) ≡ F l
   stays F = either F (is_filtered s l) (s.strength == 4) (filtered_strongly s l) (filtered_weakly s l) l
 
-  pub filtered_p3 : (filtered s l).p3 ≡ l.p3
-  filtered_p3 = stays (λ m. m.p3) (λ e. refl) refl
+  p3_kept : (filtered s l).p3 ≡ l.p3
+  p3_kept = stays (λ m. m.p3) (λ e. refl) refl
 
-  pub filtered_q3 : (filtered s l).q3 ≡ l.q3
-  filtered_q3 = stays (λ m. m.q3) (λ e. refl) refl
+  q3_kept : (filtered s l).q3 ≡ l.q3
+  q3_kept = stays (λ m. m.q3) (λ e. refl) refl
+
+  ends_kept : (k : ℕ) → k < 8 → (1 ≤ k → k < 7 → ⊥) → sample_of (filtered s l) k ≡ sample_of l k
+  ends_kept =
+      each_of_eight (λ k. (1 ≤ k → k < 7 → ⊥) → sample_of (filtered s l) k ≡ sample_of l k)
+      (λ out. p3_kept) (λ out. absurd (out (omega arith) (omega arith))) (λ out. absurd (out (omega arith) (omega arith)))
+      (λ out. absurd (out (omega arith) (omega arith))) (λ out. absurd (out (omega arith) (omega arith)))
+      (λ out. absurd (out (omega arith) (omega arith))) (λ out. absurd (out (omega arith) (omega arith))) (λ out. q3_kept)
 
   -- below strength 4 only p1 to q1 change
-  pub weak_kept : s.strength < 4 → (k : ℕ) → k < 8 → (2 ≤ k → k < 6 → ⊥) → sample_of (filtered s l) k ≡ sample_of l k
+  weak_kept : s.strength < 4 → (k : ℕ) → k < 8 → (2 ≤ k → k < 6 → ⊥) → sample_of (filtered s l) k ≡ sample_of l k
   weak_kept low =
       let not_four : s.strength == 4 ≡ true → ⊥ = λ e. grind (arith, nat_tests) in
       each_of_eight (λ k. (2 ≤ k → k < 6 → ⊥) → sample_of (filtered s l) k ≡ sample_of l k)
-      (λ out. filtered_p3) (λ out. stays (λ m. m.p2) (λ e. absurd (not_four e)) refl)
+      (λ out. p3_kept) (λ out. stays (λ m. m.p2) (λ e. absurd (not_four e)) refl)
       (λ out. absurd (out (omega arith) (omega arith))) (λ out. absurd (out (omega arith) (omega arith)))
       (λ out. absurd (out (omega arith) (omega arith))) (λ out. absurd (out (omega arith) (omega arith)))
-      (λ out. stays (λ m. m.q2) (λ e. absurd (not_four e)) refl) (λ out. filtered_q3)
+      (λ out. stays (λ m. m.q2) (λ e. absurd (not_four e)) refl) (λ out. q3_kept)
 
   -- of chroma only p0 and q0 change
-  pub chroma_kept : s.is_luma ≡ false → (k : ℕ) → k < 8 → (3 ≤ k → k < 5 → ⊥) → sample_of (filtered s l) k ≡ sample_of l k
+  chroma_kept : s.is_luma ≡ false → (k : ℕ) → k < 8 → (3 ≤ k → k < 5 → ⊥) → sample_of (filtered s l) k ≡ sample_of l k
   chroma_kept chroma =
       let strong : (b c : Bool) (x y : ℕ) → (if s.is_luma && b && c then x else y) ≡ y = λ b c x y. ap (λ z. if z && b && c then x else y) chroma in
       let weak : (b : Bool) (x y : ℕ) → (if s.is_luma && b then x else y) ≡ y = λ b x y. ap (λ z. if z && b then x else y) chroma in
       each_of_eight (λ k. (3 ≤ k → k < 5 → ⊥) → sample_of (filtered s l) k ≡ sample_of l k)
-      (λ out. filtered_p3) (λ out. stays (λ m. m.p2) (λ e. strong _ _ _ l.p2) refl) (λ out. stays (λ m. m.p1) (λ e. strong _ _ _ l.p1) (weak _ _ l.p1))
+      (λ out. p3_kept) (λ out. stays (λ m. m.p2) (λ e. strong _ _ _ l.p2) refl) (λ out. stays (λ m. m.p1) (λ e. strong _ _ _ l.p1) (weak _ _ l.p1))
       (λ out. absurd (out (omega arith) (omega arith))) (λ out. absurd (out (omega arith) (omega arith)))
-      (λ out. stays (λ m. m.q1) (λ e. strong _ _ _ l.q1) (weak _ _ l.q1)) (λ out. stays (λ m. m.q2) (λ e. strong _ _ _ l.q2) refl) (λ out. filtered_q3)
+      (λ out. stays (λ m. m.q1) (λ e. strong _ _ _ l.q1) (weak _ _ l.q1)) (λ out. stays (λ m. m.q2) (λ e. strong _ _ _ l.q2) refl) (λ out. q3_kept)
 
-still_in : (f g : ℕ → ℕ) (m : Line) → m ≡ line_of g → (k : ℕ) → k < 8 → sample_of m k ≡ sample_of (line_of f) k → g k ≡ f k
-still_in f g m e k low kept = sym (sample_is g k low) ∙ ap (λ (l : Line). sample_of l k) (sym e) ∙ kept ∙ sample_is f k low
+-- no more than `reach` samples change on each side of the edge
+abbrev pub HasReach : Setting → ℕ → Type 0
+HasReach s reach = (l : Line) (k : ℕ) → k < 8 → (4 - reach ≤ k → k < 4 + reach → ⊥) → sample_of (filtered s l) k ≡ sample_of l k
 
-pub weak_keeps : (s : Setting) (f g : ℕ → ℕ) → s.strength < 4 → filtered s (line_of f) ≡ line_of g → (k : ℕ) → k < 8 → (2 ≤ k → k < 6 → ⊥) → g k ≡ f k
-weak_keeps s f g low e k less out = still_in f g _ e k less (weak_kept s (line_of f) low k less out)
+pub luma_reach : (s : Setting) → HasReach s 3
+luma_reach s l = ends_kept s l
 
-pub chroma_keeps : (s : Setting) (f g : ℕ → ℕ) → s.is_luma ≡ false → filtered s (line_of f) ≡ line_of g → (k : ℕ) → k < 8 → (3 ≤ k → k < 5 → ⊥) → g k ≡ f k
-chroma_keeps s f g chroma e k less out = still_in f g _ e k less (chroma_kept s (line_of f) chroma k less out)
+pub weak_reach : (s : Setting) → s.strength < 4 → HasReach s 2
+weak_reach s low l = weak_kept s l low
+
+pub chroma_reach : (s : Setting) → s.is_luma ≡ false → HasReach s 1
+chroma_reach s chroma l = chroma_kept s l chroma
+
+pub kept_by : (s : Setting) (f g : ℕ → ℕ) (reach : ℕ) → HasReach s reach → filtered s (line_of f) ≡ line_of g → (k : ℕ) → k < 8 → (4 - reach ≤ k → k < 4 + reach → ⊥) → g k ≡ f k
+kept_by s f g reach has e k low out = sym (sample_is g k low) ∙ ap (λ (l : Line). sample_of l k) (sym e) ∙ has (line_of f) k low out ∙ sample_is f k low
 
 -- ---- alpha or beta 0
 

@@ -1,10 +1,8 @@
 -- Edges whose lines have equal settings, and edges of strength 0.
-use Rattle.std.proofs.Common.{◌≡◌, ℕ, zero, suc, ◌+◌, ◌*◌, ◌<◌, ◌≤◌, List, [], ◌∷◌, Bool, true, false, slice_index, arith, refl, ap, ◌∙◌}
-use Rattle.avc_deblock.proofs.Common.{◌==◌, ◌||◌, range_with_len, set-get_or, Plane, Line, Setting, filtered, lines_filtered, edge_filtered}
-use Rattle.avc_deblock.specs.Edges.{line_filtered}
-use Rattle.avc_deblock.proofs.Strided.{sets, six_set, strided, all_set}
-use Rattle.avc_deblock.proofs.Samples.{sample_is, filtered_off}
-use Rattle.avc_deblock.proofs.OnPlane.{with_samples, line_from, edge_shown}
+use Rattle.avc_deblock.proofs.Common.{◌≡◌, ℕ, zero, suc, ◌+◌, ◌<◌, Bool, true, false, arith, refl, ap, ◌∙◌, ◌==◌, ◌||◌}
+use Rattle.avc_deblock.proofs.Common.{range_with_len, set-get_or, Plane, Line, Setting, filtered, lines_filtered, edge_filtered}
+use Rattle.avc_deblock.specs.Edges.{line_at, with_line, line_filtered}
+use Rattle.avc_deblock.proofs.Samples.{filtered_off}
 
 -- ---- equal settings
 
@@ -20,44 +18,31 @@ pub edge_same : (f g : ℕ → Setting) (v : Bool) (x y n : ℕ) (s : Plane) →
 unfolding edge_filtered
 edge_same f g v x y n s same = lines_same f g v x y 0 n s (λ i low. same i (omega arith))
 
--- ---- the size stays
-
-lines_size : (f : ℕ → Setting) (v : Bool) (x y : ℕ) (is : List ℕ) (s : Plane) → ((lines_filtered f v x y is s).width ≡ s.width) × ((lines_filtered f v x y is s).height ≡ s.height)
-lines_size f true x y [] s = (refl, refl)
-lines_size f false x y [] s = (refl, refl)
-lines_size f true x y (i ∷ is) s = lines_size f true x y is (line_filtered (f i) true x (y + i) s)
-lines_size f false x y (i ∷ is) s = lines_size f false x y is (line_filtered (f i) false (x + i) y s)
-
-pub edge_size : (f : ℕ → Setting) (v : Bool) (x y n : ℕ) (s : Plane) → ((edge_filtered f v x y n s).width ≡ s.width) × ((edge_filtered f v x y n s).height ≡ s.height)
-unfolding edge_filtered
-edge_size f v x y n s = lines_size f v x y (range_with_len 0 n) s
-
 -- ---- strength 0
 
 filtered_none : (s : Setting) (l : Line) → s.strength ≡ 0 → filtered s l ≡ l
 filtered_none s l e = grind arith
 
-sets_kept : (xs : List ℕ) (base step : ℕ) (f : ℕ → ℕ) (n : ℕ) → ((k : ℕ) → k ≤ n → f k ≡ slice_index xs (base + k * step)) → sets xs base step f n ≡ xs
-unfolding sets
-sets_kept xs base step f zero same = refl
-sets_kept xs base step f (suc n) same = grind (arith, set-get_or, sets_kept xs base step f n (λ k low. same k (omega arith)))
+still_line : (setting : Setting) (v : Bool) (x y : ℕ) (s : Plane) → ((l : Line) → filtered setting l ≡ l) → line_filtered setting v x y s ≡ s
+still_line setting true x y s none = ap (with_line s true x y) (none (line_at s true x y)) ∙ simp set-get_or
+still_line setting false x y s none = ap (with_line s false x y) (none (line_at s false x y)) ∙ simp set-get_or
 
-all_kept : (f : ℕ → Setting) (from : ℕ → ℕ) (step a m : ℕ) (xs : List ℕ) → ((i : ℕ) → i < a + m → (l : Line) → filtered (f i) l ≡ l) → all_set f from step (range_with_len a m) xs ≡ xs
-unfolding all_set
-all_kept f from step a zero xs none = refl
-all_kept f from step a (suc m) xs none =
-    ap (λ (l : Line). all_set f from step (range_with_len (a + 1) m) (six_set xs (from a) step l)) (none a (omega arith) (strided xs (from a) step))
-    ∙ ap (all_set f from step (range_with_len (a + 1) m)) (sets_kept xs (from a) step _ 6 (λ k low. sample_is (λ j. slice_index xs (from a + j * step)) k (omega arith)))
-    ∙ all_kept f from step (a + 1) m xs (λ i low. none i (omega arith))
+lines_kept : (f : ℕ → Setting) (v : Bool) (x y a m : ℕ) (s : Plane) → ((i : ℕ) → i < a + m → (l : Line) → filtered (f i) l ≡ l) → lines_filtered f v x y (range_with_len a m) s ≡ s
+lines_kept f true x y a zero s none = refl
+lines_kept f false x y a zero s none = refl
+lines_kept f true x y a (suc m) s none =
+    ap (lines_filtered f true x y (range_with_len (a + 1) m)) (still_line (f a) true x (y + a) s (none a (omega arith))) ∙ lines_kept f true x y (a + 1) m s (λ i low. none i (omega arith))
+lines_kept f false x y a (suc m) s none =
+    ap (lines_filtered f false x y (range_with_len (a + 1) m)) (still_line (f a) false (x + a) y s (none a (omega arith))) ∙ lines_kept f false x y (a + 1) m s (λ i low. none i (omega arith))
 
-pub edge_kept : (f : ℕ → Setting) (v : Bool) (x y n : ℕ) (s : Plane) → (v ≡ true → 4 ≤ x) → (v ≡ false → 4 ≤ y) → ((i : ℕ) → i < n → (l : Line) → filtered (f i) l ≡ l) → edge_filtered f v x y n s ≡ s
-edge_kept f v x y n s far low none = grind (arith, edge_shown, with_samples, all_kept, line_from)
+edge_kept : (f : ℕ → Setting) (v : Bool) (x y n : ℕ) (s : Plane) → ((i : ℕ) → i < n → (l : Line) → filtered (f i) l ≡ l) → edge_filtered f v x y n s ≡ s
+unfolding edge_filtered
+edge_kept f v x y n s none = lines_kept f v x y 0 n s (λ i low. none i (omega arith))
 
-pub edge_none : (f : ℕ → Setting) (v : Bool) (x y n : ℕ) (s : Plane) → (v ≡ true → 4 ≤ x) → (v ≡ false → 4 ≤ y) → ((i : ℕ) → i < n → (f i).strength ≡ 0) → edge_filtered f v x y n s ≡ s
-edge_none f v x y n s far low none = edge_kept f v x y n s far low (λ i less l. filtered_none (f i) l (none i less))
+pub edge_none : (f : ℕ → Setting) (v : Bool) (x y n : ℕ) (s : Plane) → ((i : ℕ) → i < n → (f i).strength ≡ 0) → edge_filtered f v x y n s ≡ s
+edge_none f v x y n s none = edge_kept f v x y n s (λ i less l. filtered_none (f i) l (none i less))
 
 -- ---- alpha or beta 0
 
-pub edge_off : (f : ℕ → Setting) (v : Bool) (x y n : ℕ) (s : Plane) → (v ≡ true → 4 ≤ x) → (v ≡ false → 4 ≤ y) → ((i : ℕ) → i < n → ((f i).alpha == 0 || (f i).beta == 0) ≡ true) →
-    edge_filtered f v x y n s ≡ s
-edge_off f v x y n s far low off = edge_kept f v x y n s far low (λ i less l. filtered_off (f i) l (off i less))
+pub edge_off : (f : ℕ → Setting) (v : Bool) (x y n : ℕ) (s : Plane) → ((i : ℕ) → i < n → ((f i).alpha == 0 || (f i).beta == 0) ≡ true) → edge_filtered f v x y n s ≡ s
+edge_off f v x y n s off = edge_kept f v x y n s (λ i less l. filtered_off (f i) l (off i less))

@@ -1,9 +1,8 @@
 -- A macroblock of one motion without coefficients has no edge inside it that is filtered.
-use Rattle.avc_deblock.proofs.Common.{◌≡◌, ◌∙◌, ℕ, suc, ◌<◌, ◌≤◌, Bool, true, false, arith, refl, ap, ℤ, nat_lt, not, ◌&&◌, Planes, MbFacts}
+use Rattle.avc_deblock.proofs.Common.{◌≡◌, ◌∙◌, ℕ, suc, ◌<◌, Bool, true, false, arith, refl, ap, ℤ, nat_lt, not, ◌&&◌, Planes, MbFacts}
 use Rattle.avc_deblock.proofs.Common.{inter_strength, filters_between, strength_of, edge_by_facts, edges_by_facts, mb_by_facts}
 use Rattle.avc_deblock.proofs.Between.{low_block}
 use Rattle.avc_deblock.proofs.EdgePlanes.{edge_zero}
-use Rattle.avc_deblock.proofs.PictureFacts.{some}
 
 module _ (column row : ℕ) (offset : ℤ) (f : MbFacts) (inter : f.is_intra ≡ false) (none : (j k : ℕ) → j < 16 → k < 16 → inter_strength f j f k ≡ 0) (v : Bool) where
   still_edge : (n : ℕ) → suc n < 4 → (s : Planes) → edge_by_facts v column row (suc n) offset f f s ≡ s
@@ -30,13 +29,13 @@ over v true i column row e p q s = refl
 over v false i column row e p q s = refl
 
 -- an outer edge at strength 0 can go
-outer_kept : (v : Bool) (column row : ℕ) (e : ℤ) (p q : MbFacts) (acts joins : Bool) → (joins ≡ true → v ≡ true → 1 ≤ column) → (joins ≡ true → v ≡ false → 1 ≤ row) →
-    (acts ≡ true → joins ≡ true) → (acts ≡ false → joins ≡ true → (k : ℕ) → k < 4 → strength_of p q v 0 k ≡ 0) → (s : Planes) →
+outer_kept : (v : Bool) (column row : ℕ) (e : ℤ) (p q : MbFacts) (acts joins : Bool) → (acts ≡ true → joins ≡ true) →
+    (acts ≡ false → joins ≡ true → (k : ℕ) → k < 4 → strength_of p q v 0 k ≡ 0) → (s : Planes) →
     edges_by_facts v column row e acts false p q s ≡ edges_by_facts v column row e joins false p q s
-outer_kept v column row e p q true true across down on off s = refl
-outer_kept v column row e p q true false across down on off s = let never : false ≡ true = on refl in absurd (cc)
-outer_kept v column row e p q false false across down on off s = refl
-outer_kept v column row e p q false true across down on off s = grind (arith, edge_zero, some)
+outer_kept v column row e p q true true on off s = refl
+outer_kept v column row e p q true false on off s = let never : false ≡ true = on refl in absurd (cc)
+outer_kept v column row e p q false false on off s = refl
+outer_kept v column row e p q false true on off s = grind (arith, edge_zero)
 
 module _ (column row : ℕ) (e : ℤ) (left above mb : MbFacts) (still i l u : Bool)
     (inter : still ≡ true → mb.is_intra ≡ false) (none : still ≡ true → (j k : ℕ) → j < 16 → k < 16 → inter_strength mb j mb k ≡ 0)
@@ -57,8 +56,8 @@ module _ (column row : ℕ) (e : ℤ) (left above mb : MbFacts) (still i l u : B
       ∙ without_still column row e mb still inter none false inside (at_top u (inner true (inside && not still) (at_left l)))
       ∙ ap (λ (t : Planes). inner false inside (at_top u t)) (without_still column row e mb still inter none true inside (at_left l))
       ∙ ap (inner false inside)
-      (outer_kept false column row e above mb u joins_top (λ h g. absurd (cc)) (λ h g. some (filters_between mb above) row h) top_on top_off (inner true inside (at_left l)))
+      (outer_kept false column row e above mb u joins_top top_on top_off (inner true inside (at_left l)))
       ∙ ap (λ (t : Planes). inner false inside (at_top joins_top (inner true inside t)))
-      (outer_kept true column row e left mb l joins_left (λ h g. some (filters_between mb left) column h) (λ h g. absurd (cc)) left_on left_off s)
+      (outer_kept true column row e left mb l joins_left left_on left_off s)
       ∙ over false joins_top inside column row e above mb (inner true inside (at_left joins_left))
       ∙ ap (edges_by_facts false column row e joins_top inside above mb) (over true joins_left inside column row e left mb s)

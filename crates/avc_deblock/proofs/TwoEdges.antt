@@ -5,7 +5,7 @@ use Rattle.avc_deblock.proofs.Common.{length-plane_of, Setting, filtered, line, 
 use Rattle.avc_deblock.proofs.OfFour.{each_of_four}
 use Rattle.avc_deblock.proofs.Samples.{same_line, each_of_eight, sample_of}
 use Rattle.avc_deblock.proofs.Within.{inside_block, outside_block, within_block}
-use Rattle.avc_deblock.proofs.OnPlane.{vertical_block}
+use Rattle.avc_deblock.proofs.OnPlane.{edge_block}
 
 -- a block that covers one that was changed before
 covered : (s : Plane) (l t w h l' w' : ℕ) (f k : ℕ → ℕ → ℕ) → l ≤ l' → l' + w' ≤ l + w → with_block (with_block s l' t w' h f) l t w h k ≡ with_block s l t w h k
@@ -37,7 +37,7 @@ one_edge : (setting : ℕ → Setting) (left top : ℕ) (s : Plane) (g : ℕ →
     ≡ line p3 p2 (g 0 i) (g 1 i) (g 2 i) (g 3 i) q2 q3) →
     edge_filtered setting true (left + 4) top 8 s ≡ with_block s (left + 2) top 4 8 g
 one_edge setting left top s g long columns rows lines =
-    vertical_block setting left top 8 s long (across_edge s left top g) columns rows
+    edge_block true setting left top 8 s long (across_edge s left top g) columns rows
     (λ i low. lines (sample s (left + 0) (top + i)) (sample s (left + 1) (top + i)) (sample s (left + 6) (top + i)) (sample s (left + 7) (top + i)) i low)
     ∙ sym (within_block s left top 8 8 2 0 4 8 (left + 2) top (across_edge s left top g) g refl (omega arith) (omega arith) (omega arith)
     (λ x y x_low y_low. new_samples s left top g x y x_low ∙ ap (across_edge s left top g (2 + x)) (let e : y ≡ 0 + y = omega arith in e))

@@ -2,7 +2,7 @@
 use Rattle.avc_deblock.proofs.Common.{◌≡◌, ◌∙◌, ℕ, ◌+◌, ◌-◌, ◌*◌, ◌<◌, ◌≤◌, true, false, arith, refl, sym, ap, subst, ℤ, Plane, Planes}
 use Rattle.avc_deblock.proofs.Common.{MbFacts, EdgeQp, edge_filtered, luma_setting, chroma_setting, chroma_of_edge, HasRoom, strength_of}
 use Rattle.avc_deblock.proofs.Common.{luma_qp_of, chroma_qp_of, edge_by_facts, edges_by_facts}
-use Rattle.avc_deblock.proofs.EdgePlanes.{luma_same, chroma_same, luma_size, chroma_size, room_kept}
+use Rattle.avc_deblock.proofs.EdgePlanes.{luma_same, chroma_same, room_kept}
 
 module _ (column row n : ℕ) (f g : ℕ → ℕ) (qp : EdgeQp) (s t : Plane) where
   pub luma_lines : 1 ≤ 4 * column + n → ((k : ℕ) → k < 4 → f k ≡ g k) →
@@ -11,15 +11,6 @@ module _ (column row n : ℕ) (f g : ℕ → ℕ) (qp : EdgeQp) (s t : Plane) wh
   luma_lines some same is =
       is ∙ ap (λ x. edge_filtered (luma_setting f qp) true x (16 * row) 16 s) (let e : 16 * column + 4 * n - 4 + 4 ≡ 16 * column + 4 * n = omega arith in e)
       ∙ luma_same column row n f g qp same true s
-
--- the size stays
-pub luma_sized : (column row n : ℕ) (p q : MbFacts) (s t : Plane) → t ≡ edge_filtered (luma_setting (strength_of p q true n) (luma_qp_of p q)) true (16 * column + 4 * n) (16 * row) 16 s →
-    (t.width ≡ s.width) × (t.height ≡ s.height)
-luma_sized column row n p q s t is = rw is (luma_size true column row n (strength_of p q true n) (luma_qp_of p q) s)
-
-pub chroma_sized : (column row n : ℕ) (offset : ℤ) (p q : MbFacts) (s t : Plane) → t ≡ chroma_of_edge true column row n (strength_of p q true n) (chroma_qp_of offset p q) s →
-    (t.width ≡ s.width) × (t.height ≡ s.height)
-chroma_sized column row n offset p q s t is = rw is (chroma_size true column row n (strength_of p q true n) (chroma_qp_of offset p q) s)
 
 -- the left edge of chroma and the one in the middle
 pub both_chroma : (column row : ℕ) (f f' g g' : ℕ → ℕ) (qp next : EdgeQp) (s t : Plane) → 1 ≤ column →

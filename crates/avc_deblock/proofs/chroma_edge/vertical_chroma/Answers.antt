@@ -23,8 +23,8 @@ returns-clause-cr g c qp are =
 
 pub returns-then-not-limits-clause-cb : goal.returns-then-not-limits-clause-cb
 returns-then-not-limits-clause-cb g c qp are =
-    sym (edge_off (chroma_setting (strength_along c.args.strengths.now) qp) true (c.args.left + 4) c.args.top 8 c.args.cb.now (λ e. omega arith) (λ e. absurd (cc)) (λ i low. are.off c.if-not-limits.true))
+    sym (edge_off (chroma_setting (strength_along c.args.strengths.now) qp) true (c.args.left + 4) c.args.top 8 c.args.cb.now (λ i low. are.off c.if-not-limits.true))
 
 pub returns-then-not-limits-clause-cr : goal.returns-then-not-limits-clause-cr
 returns-then-not-limits-clause-cr g c qp are =
-    sym (edge_off (chroma_setting (strength_along c.args.strengths.now) qp) true (c.args.left + 4) c.args.top 8 c.args.cr.now (λ e. omega arith) (λ e. absurd (cc)) (λ i low. are.off c.if-not-limits.true))
+    sym (edge_off (chroma_setting (strength_along c.args.strengths.now) qp) true (c.args.left + 4) c.args.top 8 c.args.cr.now (λ i low. are.off c.if-not-limits.true))

@@ -1,6 +1,6 @@
 use Rattle.avc_deblock.proofs.Common.{ℕ, true, ◌+◌, ◌*◌, ◌/◌, ◌≡◌, ◌<◌, arith, refl, sym, ap, ◌∙◌, slice_index, sample, filtered, line_of}
-use Rattle.avc_deblock.proofs.OnPlane.{vertical_block}
-use Rattle.avc_deblock.proofs.Samples.{same_samples, weak_keeps}
+use Rattle.avc_deblock.proofs.OnPlane.{edge_block}
+use Rattle.avc_deblock.proofs.Samples.{same_samples, weak_reach, kept_by}
 use Rattle.avc_deblock.proofs.Within.{within_block}
 use Rattle.avc_deblock.proofs.Limits.{weak_row}
 use Rattle.avc_deblock.proofs.kernels.weak_vertical.Goals as goal
@@ -24,5 +24,5 @@ returns g c setting fits =
     ∙ within_block s left top 8 16 2 0 4 16 (left + 2) top (λ x y. slice_index after (16 * x + y)) (λ x y. slice_index c.rows_of_middle-after.result (4 * y + x)) refl (omega arith) (omega arith) (omega arith)
     (λ x y x_low y_low. c.rows_of_middle-after.ensures y x y_low x_low ∙ ap (slice_index after) (omega arith))
     (λ x y x_low y_low out.
-    weak_keeps (setting y) (λ k. sample s (left + k) (top + y)) (λ k. slice_index after (16 * k + y)) (fits y y_low).weak (lines y y_low) x x_low (λ p q. out p (omega arith) (omega arith) (omega arith)))
-    ∙ sym (vertical_block setting left top 16 s c.rectangle-block.ensures.all (λ x y. slice_index after (16 * x + y)) c.requires.columns c.requires.rows lines)
+    kept_by (setting y) (λ k. sample s (left + k) (top + y)) (λ k. slice_index after (16 * k + y)) 2 (weak_reach (setting y) (fits y y_low).weak) (lines y y_low) x x_low (λ p q. out p (omega arith) (omega arith) (omega arith)))
+    ∙ sym (edge_block true setting left top 16 s c.rectangle-block.ensures.all (λ x y. slice_index after (16 * x + y)) c.requires.columns c.requires.rows lines)

@@ -5,7 +5,7 @@ use Rattle.avc_deblock.proofs.luma_edge.vertical_luma.Goals as goal
 
 pub returns-then-not-limits : goal.returns-then-not-limits
 returns-then-not-limits g c qp are =
-    sym (edge_off (luma_setting (strength_along c.args.strengths.now) qp) true (c.args.left + 4) c.args.top 16 c.args.plane.now (λ e. omega arith) (λ e. absurd (cc)) (λ i low. are.off c.if-not-limits.true))
+    sym (edge_off (luma_setting (strength_along c.args.strengths.now) qp) true (c.args.left + 4) c.args.top 16 c.args.plane.now (λ i low. are.off c.if-not-limits.true))
 
 pub returns-in-Four : goal.returns-in-Four
 returns-in-Four g c qp are =

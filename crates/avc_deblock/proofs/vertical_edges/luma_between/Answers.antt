@@ -1,13 +1,11 @@
-use Rattle.avc_deblock.proofs.Common.{◌∙◌, true, sym, strength_of, luma_qp_of}
-use Rattle.avc_deblock.proofs.EdgePlanes.{luma_zero}
-use Rattle.avc_deblock.proofs.VerticalEdges.{luma_lines, luma_sized}
+use Rattle.avc_deblock.proofs.Common.{arith, nat_tests, luma_qp_of}
+use Rattle.avc_deblock.proofs.Settings.{edge_none}
+use Rattle.avc_deblock.proofs.OnPlane.{edge_width, edge_height}
+use Rattle.avc_deblock.proofs.VerticalEdges.{luma_lines}
 use Rattle.avc_deblock.proofs.vertical_edges.luma_between.Goals as goal
 
 pub returns-then-are_zero-clause-lines : goal.returns-then-are_zero-clause-lines
-returns-then-are_zero-clause-lines g c =
-    sym
-    (luma_zero c.args.place.column c.args.place.row c.args.n (strength_of c.args.p.now c.args.q.now true c.args.n) (luma_qp_of c.args.p.now c.args.q.now) c.args.luma.now
-    (λ k low. sym (c.requires.value k low) ∙ c.are_zero.ensures c.if-are_zero.true k low) true (λ e. c.requires.some) (λ e. absurd (cc)))
+returns-then-are_zero-clause-lines g c = grind (arith, nat_tests, edge_none)
 
 pub returns-clause-lines : goal.returns-clause-lines
 returns-clause-lines g c =
@@ -15,9 +13,7 @@ returns-clause-lines g c =
     luma_lines c.args.place.column c.args.place.row c.args.n _ _ qp c.args.luma.now c.vertical_luma.new.plane c.requires.some c.requires.value (c.vertical_luma.ensures qp c.requires.limits)
 
 pub returns-clause-width : goal.returns-clause-width
-returns-clause-width g c =
-    (luma_sized c.args.place.column c.args.place.row c.args.n c.args.p.now c.args.q.now c.args.luma.now c.vertical_luma.new.plane (returns-clause-lines g c)).0
+returns-clause-width g c = grind (arith, edge_width, returns-clause-lines g c)
 
 pub returns-clause-height : goal.returns-clause-height
-returns-clause-height g c =
-    (luma_sized c.args.place.column c.args.place.row c.args.n c.args.p.now c.args.q.now c.args.luma.now c.vertical_luma.new.plane (returns-clause-lines g c)).1
+returns-clause-height g c = grind (arith, edge_height, returns-clause-lines g c)
