@@ -1,18 +1,14 @@
--- Which 4x4 block a sample is of, and what a residual of 0 adds.
-use Rattle.avc_picture_core.proofs.Common.{◌≡◌, ℕ, ◌+◌, ◌-◌, ◌*◌, ◌/◌, ◌%◌, ◌<◌, ◌≤◌, ℤ, pos, List, length, slice_index_or, arith}
-use Rattle.avc_picture_core.proofs.Common.{nat_tests, ints, block_at, block_x, block_y, sum_of}
-use Rattle.std.proofs.lemmas.Option.{get_or_from_slice_get, slice_get-get_or}
+-- The 4x4 blocks of a macroblock, and what their residuals add.
+use Rattle.avc_picture_core.proofs.Common.{◌≡◌, ℕ, ◌+◌, ◌-◌, ◌*◌, ◌/◌, ◌%◌, ◌<◌, ◌≤◌, ℤ, pos, List, [], length, slice_index_or, arith}
+use Rattle.avc_picture_core.proofs.Common.{nat_tests, ints, block_at, block_x, block_y, sum_of, residual4x4, residual4x4_with_dc}
+use Rattle.avc_picture_core.proofs.InPlace.{IsTile}
 
--- a residual of 0 changes nothing
-pub unchanged : (v : ℕ) (z : ℤ) → v ≤ 255 → z ≡ pos 0 → sum_of v z ≡ v
-unchanged v z small none = rw none (grind (arith, ints, nat_tests))
+-- ---- the blocks of a macroblock
 
--- ---- the luma blocks of a macroblock
-
-pub luma_number : (k x y : ℕ) → k < 16 → block_x k ≤ x → x < block_x k + 4 → block_y k ≤ y → y < block_y k + 4 → block_at x y ≡ k
+luma_number : (k x y : ℕ) → k < 16 → block_x k ≤ x → x < block_x k + 4 → block_y k ≤ y → y < block_y k + 4 → block_at x y ≡ k
 luma_number k x y few p q r s = grind (arith, ints, nat_tests)
 
-pub luma_place : (x y : ℕ) → x < 16 → y < 16 → (block_x (block_at x y) ≡ 4 * (x / 4)) × (block_y (block_at x y) ≡ 4 * (y / 4))
+luma_place : (x y : ℕ) → x < 16 → y < 16 → (block_x (block_at x y) ≡ 4 * (x / 4)) × (block_y (block_at x y) ≡ 4 * (y / 4))
 luma_place x y column row =
     parts (y / 8) (x / 8) ((y / 4) % 2) ((x / 4) % 2) (omega arith) (omega arith) (omega arith) (omega arith) x y (omega arith) (omega arith) where
       parts : (p q r s : ℕ) → p < 2 → q < 2 → r < 2 → s < 2 → (x y : ℕ) → 4 * (x / 4) ≡ 8 * q + 4 * s → 4 * (y / 4) ≡ 8 * p + 4 * r
@@ -26,38 +22,40 @@ luma_place x y column row =
           let eighth : (8 * p + 4 * q + 2 * r + s) / 8 ≡ p = omega arith in
           (omega (arith, low, odd, across), omega (arith, middle, eighth, down))
 
--- a place of block k is that of its own column and row
-pub luma_remainders : (k x y : ℕ) → block_x k ≤ x → x < block_x k + 4 → block_y k ≤ y → y < block_y k + 4 → (x - block_x k ≡ x % 4) × (y - block_y k ≡ y % 4)
-luma_remainders k x y p q r s = (omega arith, omega arith)
+luma_within : (k x y : ℕ) → x < 16 → y < 16 → block_at x y ≡ k → (block_x k ≤ x) × (x < block_x k + 4) × (block_y k ≤ y) × (y < block_y k + 4)
+luma_within k x y column row is = grind (arith, ints, nat_tests, luma_place)
 
--- ---- the blocks of a chroma component
+pub luma_tile : (k l t : ℕ) → k < 16 → l ≡ block_x k → t ≡ block_y k → IsTile 16 block_at k l t
+luma_tile k l t few across down = record {
+  across = omega (arith, across);
+  down = omega (arith, down);
+  column = omega (arith, across);
+  row = omega (arith, down);
+  number = λ i j near low. luma_number k (l + i) (t + j) few (omega (arith, across)) (omega (arith, across)) (omega (arith, down)) (omega (arith, down));
+  place = λ x y column row is.
+      let w = luma_within k x y column row is in
+      (omega (arith, across, w.0), omega (arith, across, w.1), omega (arith, down, w.2), omega (arith, down, w.3));
+}
 
 abbrev pub chroma_number : ℕ → ℕ → ℕ
 chroma_number x y = 2 * (y / 4) + x / 4
 
-pub chroma_spot : (k x y : ℕ) → k < 4 → 4 * (k % 2) ≤ x → x < 4 * (k % 2) + 4 → 4 * (k / 2) ≤ y → y < 4 * (k / 2) + 4
-    → (chroma_number x y ≡ k) × (x - 4 * (k % 2) ≡ x % 4) × (y - 4 * (k / 2) ≡ y % 4) × (x / 4 ≡ k % 2) × (y / 4 ≡ k / 2)
-chroma_spot k x y few p q r s = (omega arith, omega arith, omega arith, omega arith, omega arith)
+pub chroma_tile : (k : ℕ) → k < 4 → IsTile 8 chroma_number k (4 * (k % 2)) (4 * (k / 2))
+chroma_tile k few = record {
+  across = omega arith;
+  down = omega arith;
+  column = omega arith;
+  row = omega arith;
+  number = λ i j near low. omega arith;
+  place = λ x y column row is. (omega arith, omega arith, omega arith, omega arith);
+}
 
-pub chroma_within : (k x y : ℕ) → x < 8 → y < 8 → chroma_number x y ≡ k → (4 * (k % 2) ≤ x) × (x < 4 * (k % 2) + 4) × (4 * (k / 2) ≤ y) × (y < 4 * (k / 2) + 4)
-chroma_within k x y column row is = grind (arith, ints, nat_tests)
+-- ---- their residuals
 
--- ---- what a place of a luma block is
+-- by sixteen levels a block
+abbrev pub residual_by_levels : ℕ → List (List ℤ) → (u v k x y : ℕ) → ℤ
+residual_by_levels qp blocks u v k x y = residual4x4 qp (slice_index_or blocks k []) x y
 
-pub luma_spot : (k left top x y : ℕ) → k < 16 → left ≡ block_x k → top ≡ block_y k → left ≤ x → x < left + 4 → top ≤ y → y < top + 4
-    → (block_at x y ≡ k) × (x - left ≡ x % 4) × (y - top ≡ y % 4) × (x / 4 ≡ left / 4) × (y / 4 ≡ top / 4)
-luma_spot k left top x y few at_left at_top p q r s = (
-  luma_number k x y few (omega (arith, at_left)) (omega (arith, at_left)) (omega (arith, at_top)) (omega (arith, at_top)),
-  omega (arith, at_left),
-  omega (arith, at_top),
-  omega (arith, at_left),
-  omega (arith, at_top),
-)
-
-pub luma_within : (k left top x y : ℕ) → left ≡ block_x k → top ≡ block_y k → x < 16 → y < 16 → block_at x y ≡ k
-    → (left ≤ x) × (x < left + 4) × (top ≤ y) × (y < top + 4)
-luma_within k left top x y at_left at_top column row is = grind (arith, ints, nat_tests, luma_place)
-
--- an element that is there stands for any default
-pub any_default : {X : Type 0} (xs : List X) (i : ℕ) (x d : X) → i < length xs → slice_index_or xs i d ≡ slice_index_or xs i x
-any_default xs i x d there = get_or_from_slice_get xs i (slice_index_or xs i x) d (slice_get-get_or xs i x there)
+-- by fifteen, and a DC value for the block in column u and row v
+abbrev pub residual_by_dc : ℕ → (ℕ → ℕ → ℤ) → List (List ℤ) → (u v k x y : ℕ) → ℤ
+residual_by_dc qp dc blocks u v k x y = residual4x4_with_dc qp (dc u v) (slice_index_or blocks k []) x y

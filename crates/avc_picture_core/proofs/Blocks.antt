@@ -1,7 +1,7 @@
 -- Blocks predicted and laid into a plane.
 use Rattle.avc_picture_core.proofs.Common.{◌≡◌, ℕ, ◌+◌, ◌-◌, ◌*◌, ◌<◌, ◌≤◌, Bool, true, false, slice_index, if◌then◌else◌, arith, refl, ap}
 use Rattle.avc_picture_core.proofs.Common.{◌∙◌, Some, None, unwrap_or, Plane, sample, with_block, is_inside, sample-plane_of, plane_of_same}
-use Rattle.avc_picture_core.proofs.Common.{by_place, block4x4}
+use Rattle.avc_picture_core.proofs.Common.{by_place, block4x4, sum_of, ints, nat_tests, ℤ, pos}
 
 -- a block set to the same samples is the same
 pub with_block_same : (s : Plane) (left top w h : ℕ) (f g : ℕ → ℕ → ℕ) → ((x y : ℕ) → x < w → y < h → f x y ≡ g x y)
@@ -24,3 +24,7 @@ sample4x4 f x y column row = ap (slice_index (block4x4 f)) (omega arith) ∙ sam
 -- a place outside a rectangle
 pub outside : (left top width height x y : ℕ) → (left ≤ x → x < left + width → top ≤ y → y < top + height → ⊥) → is_inside left top width height x y ≡ false
 outside left top width height x y none = grind (arith, by_place)
+
+-- a residual of 0 changes nothing
+pub unchanged : (v : ℕ) (z : ℤ) → v ≤ 255 → z ≡ pos 0 → sum_of v z ≡ v
+unchanged v z small none = rw none (grind (arith, ints, nat_tests))

@@ -7,7 +7,7 @@ pub use Rattle.std.proofs.Math.Nat.{add-mul, mul-add, mul-le-mul_right, div-lt_i
 pub use Rattle.std.proofs.lemmas.Bool.{and_parts, cases_lt, or_cases, ltb-true, le-ltb, true≢false, false≢true, cases_Bool}
 pub use Rattle.std.proofs.lemmas.Bool.Decides.{nat_tests}
 pub use Rattle.std.proofs.lemmas.Int.{ints, to_z-of_z}
-pub use Rattle.std.proofs.lemmas.List.{get_or-map, get_or_past, get_or-replicate}
+pub use Rattle.std.proofs.lemmas.List.{get_or-map, get_or_default, get_or_past, get_or-replicate}
 pub use Rattle.std.proofs.lemmas.List.Elements.{All-get_or, All-from_get_or}
 pub use Rattle.std.proofs.lemmas.List.Folds.{list_all_at}
 pub use Rattle.std.proofs.lemmas.List.FromFn.{get_or-map-range_with_len, length-map-range_with_len, get_or-range_with_len}

@@ -8,10 +8,9 @@ use Rattle.avc_picture_core.proofs.Common.{ArePlanesBuilt, IsAt, with_residual}
 use Rattle.avc_types.specs.declared.macroblock.Mvd.{Mvd}
 use Rattle.avc_types.specs.declared.macroblock.PMbType.{PMbType}
 use Rattle.avc_transform.specs.MacroblockResidual.{residual_of}
-use Rattle.avc_picture_core.proofs.Adding.{unchanged}
-use Rattle.avc_picture_core.proofs.Blocks.{with_block_same}
+use Rattle.avc_picture_core.proofs.Blocks.{unchanged, with_block_same}
 use Rattle.avc_picture_core.proofs.InPlace.{residual_over}
-use Rattle.avc_picture_core.proofs.Tiles.{whole_cb, whole_cr, whole_luma}
+use Rattle.avc_picture_core.proofs.Tiles.{whole_part, with_square}
 use Rattle.avc_picture_core.proofs.Ties.{planes_inter, refused_by}
 
 -- each block has a picture to be predicted from
@@ -57,27 +56,22 @@ module _ (p : Place) (column row qp qp_of_chroma : ℕ) (motion : List Motion) (
   abbrev f : (k x y : ℕ) → ℕ
   f = predicted_at p.coded p.slice column row motion
 
-  luma : new.luma ≡ with_block s.luma (16 * column) (16 * row) 16 16 (f 0)
-  luma = ap (λ (t : Planes). t.luma) are.1 ∙ whole_luma column row f s
-
-  cb : new.cb ≡ with_block s.cb (8 * column) (8 * row) 8 8 (f 1)
-  cb = ap (λ (t : Planes). t.cb) are.1 ∙ whole_cb column row f s
-
-  cr : new.cr ≡ with_block s.cr (8 * column) (8 * row) 8 8 (f 2)
-  cr = ap (λ (t : Planes). t.cr) are.1 ∙ whole_cr column row f s
+  all : new ≡ with_square column row f s
+  all = are.1 ∙ whole_part column row f s
 
   kept : (k x y : ℕ) → f k x y ≤ 255 → f k x y ≡ inter_at p k x y
   kept k x y small = grind (arith, unchanged, predicted_there)
 
   each_kept : (k x y : ℕ) → k < 3 → x < size_of k → y < size_of k → f k x y ≡ inter_at p k x y
-  each_kept zero x y few left top = kept 0 x y (laid_small s.luma new.luma (16 * column) (16 * row) 16 (f 0) luma room.luma_columns room.luma_rows l x y left top)
-  each_kept (suc zero) x y few left top = kept 1 x y (laid_small s.cb new.cb (8 * column) (8 * row) 8 (f 1) cb room.cb_columns room.cb_rows b x y left top)
-  each_kept (suc (suc zero)) x y few left top = kept 2 x y (laid_small s.cr new.cr (8 * column) (8 * row) 8 (f 2) cr room.cr_columns room.cr_rows r x y left top)
+  each_kept zero x y few left top = kept 0 x y (laid_small s.luma new.luma (16 * column) (16 * row) 16 (f 0) (ap (λ (t : Planes). t.luma) all) room.luma_columns room.luma_rows l x y left top)
+  each_kept (suc zero) x y few left top = kept 1 x y (laid_small s.cb new.cb (8 * column) (8 * row) 8 (f 1) (ap (λ (t : Planes). t.cb) all) room.cb_columns room.cb_rows b x y left top)
+  each_kept (suc (suc zero)) x y few left top = kept 2 x y (laid_small s.cr new.cr (8 * column) (8 * row) 8 (f 2) (ap (λ (t : Planes). t.cr) all) room.cr_columns room.cr_rows r x y left top)
   each_kept (suc (suc (suc k))) x y few left top = absurd (omega (arith, few))
 
   pub planes_skip : (refusal p ≡ None) × (new ≡ planes_after p s)
   planes_skip =
-      planes_inter p column row p_skip true at.column_is at.row_is at.syntax_is (ap (have_all p) mine ∙ are.0) refl s new refl refl refl f each_kept luma cb cr
+      planes_inter p column row p_skip true at.column_is at.row_is at.syntax_is (ap (have_all p) mine ∙ are.0) refl s new refl refl refl f each_kept
+      (ap (λ (t : Planes). t.luma) all) (ap (λ (t : Planes). t.cb) all) (ap (λ (t : Planes). t.cr) all)
 
 -- ---- with a residual
 
@@ -113,8 +107,9 @@ module _ (p : Place) (column row qp qp_of_chroma : ℕ) (mb_type : PMbType) (ref
       → new.cr ≡ with_residual mid.cr (8 * column) (8 * row) 8 8 (chroma_residual qp_of_chroma r.cr_dc r.cr_ac)
       → (refusal p ≡ None) × (new ≡ planes_after p s)
   planes_parted l b c =
+      let laid : mid ≡ with_square column row first s = are.1 ∙ whole_part column row first s in
       planes_inter p column row (p_inter mb_type ref_idx mvd r) true at.column_is at.row_is at.syntax_is (ap (have_all p) mine ∙ are.0) refl s new refl refl refl summed
       (λ k x y few left top. predicted_there p column row motion at.column_is at.row_is mine k x y)
-      (over s.luma mid.luma new.luma 0 (16 * column) (16 * row) 16 (luma_residual qp r) room.luma_columns room.luma_rows (ap (λ (t : Planes). t.luma) are.1 ∙ whole_luma column row first s) l is_luma)
-      (over s.cb mid.cb new.cb 1 (8 * column) (8 * row) 8 (chroma_residual qp_of_chroma r.cb_dc r.cb_ac) room.cb_columns room.cb_rows (ap (λ (t : Planes). t.cb) are.1 ∙ whole_cb column row first s) b is_cb)
-      (over s.cr mid.cr new.cr 2 (8 * column) (8 * row) 8 (chroma_residual qp_of_chroma r.cr_dc r.cr_ac) room.cr_columns room.cr_rows (ap (λ (t : Planes). t.cr) are.1 ∙ whole_cr column row first s) c is_cr)
+      (over s.luma mid.luma new.luma 0 (16 * column) (16 * row) 16 (luma_residual qp r) room.luma_columns room.luma_rows (ap (λ (t : Planes). t.luma) laid) l is_luma)
+      (over s.cb mid.cb new.cb 1 (8 * column) (8 * row) 8 (chroma_residual qp_of_chroma r.cb_dc r.cb_ac) room.cb_columns room.cb_rows (ap (λ (t : Planes). t.cb) laid) b is_cb)
+      (over s.cr mid.cr new.cr 2 (8 * column) (8 * row) 8 (chroma_residual qp_of_chroma r.cr_dc r.cr_ac) room.cr_columns room.cr_rows (ap (λ (t : Planes). t.cr) laid) c is_cr)

@@ -31,12 +31,12 @@ sides a r l c = record { above = a; above_right = r; left = l; corner = c }
 abbrev IsSame4x4 : Sides → Around → Mode4x4 → Type 0
 IsSame4x4 s p mode = block4x4 (predict4x4 s (extended s (beside 4 s p)) mode) ≡ block4x4 (predict4x4 s (extended s p) mode)
 
-corner4x4 : (a r l c : Bool) → (a && l && c) ≡ true → (p : Around) (mode : Mode4x4)
-    → IsSame4x4 (sides true r true true) p mode → IsSame4x4 (sides a r l c) p mode
-corner4x4 true r true true can p mode same = same
-corner4x4 true r true false can p mode same = absurd cc
-corner4x4 true r false c can p mode same = absurd cc
-corner4x4 false r l c can p mode same = absurd cc
+-- what the three sides that meet at the corner are for a prediction that needs them
+pub with_corner : (P : (a l c : Bool) → Type 0) (a l c : Bool) → (a && l && c) ≡ true → P true true true → P a l c
+with_corner P true true true can holds = holds
+with_corner P true true false can holds = absurd cc
+with_corner P true false c can holds = absurd cc
+with_corner P false l c can holds = absurd cc
 
 all4x4 : (a r l c : Bool) (p : Around) (mode : Mode4x4) → can_predict4x4 (sides a r l c) mode ≡ true → IsSame4x4 (sides a r l c) p mode
 all4x4 true r l c p Vertical can = refl
@@ -50,9 +50,9 @@ all4x4 false r false c p Dc can = refl
 all4x4 true true l c p DiagonalDownLeft can = refl
 all4x4 true false l c p DiagonalDownLeft can = refl
 all4x4 false r l c p DiagonalDownLeft can = absurd cc
-all4x4 a r l c p DiagonalDownRight can = corner4x4 a r l c can p DiagonalDownRight refl
-all4x4 a r l c p VerticalRight can = corner4x4 a r l c can p VerticalRight refl
-all4x4 a r l c p HorizontalDown can = corner4x4 a r l c can p HorizontalDown refl
+all4x4 a r l c p DiagonalDownRight can = with_corner (λ a l c. IsSame4x4 (sides a r l c) p DiagonalDownRight) a l c can refl
+all4x4 a r l c p VerticalRight can = with_corner (λ a l c. IsSame4x4 (sides a r l c) p VerticalRight) a l c can refl
+all4x4 a r l c p HorizontalDown can = with_corner (λ a l c. IsSame4x4 (sides a r l c) p HorizontalDown) a l c can refl
 all4x4 true true l c p VerticalLeft can = refl
 all4x4 true false l c p VerticalLeft can = refl
 all4x4 false r l c p VerticalLeft can = absurd cc
@@ -65,12 +65,6 @@ IsSame16x16 s p mode x y = predict16x16 s (beside 16 s p) mode x y ≡ predict16
 test : (x n : ℕ) → x < n → nat_lt x n ≡ true
 test x n low = grind (arith, nat_tests)
 
-plane16x16 : (a r l c : Bool) → (a && l && c) ≡ true → (p : Around) (x y : ℕ) → IsSame16x16 (sides a r l c) p of16x16.Plane x y
-plane16x16 true r true true can p x y = refl
-plane16x16 true r true false can p x y = absurd cc
-plane16x16 true r false c can p x y = absurd cc
-plane16x16 false r l c can p x y = absurd cc
-
 all16x16 : (a r l c : Bool) (p : Around) (mode : Mode16x16) → can_predict16x16 (sides a r l c) mode ≡ true → (x y : ℕ) → x < 16 → y < 16
     → IsSame16x16 (sides a r l c) p mode x y
 all16x16 true r l c p of16x16.Vertical can x y low high = rw (test x 16 low) refl
@@ -81,16 +75,10 @@ all16x16 true r true c p of16x16.Dc can x y low high = refl
 all16x16 true r false c p of16x16.Dc can x y low high = refl
 all16x16 false r true c p of16x16.Dc can x y low high = refl
 all16x16 false r false c p of16x16.Dc can x y low high = refl
-all16x16 a r l c p of16x16.Plane can x y low high = plane16x16 a r l c can p x y
+all16x16 a r l c p of16x16.Plane can x y low high = with_corner (λ a l c. IsSame16x16 (sides a r l c) p of16x16.Plane x y) a l c can refl
 
 abbrev IsSameChroma : Sides → Around → ModeChroma → ℕ → ℕ → Type 0
 IsSameChroma s p mode x y = predict_chroma s (beside 8 s p) mode x y ≡ predict_chroma s p mode x y
-
-plane_chroma : (a r l c : Bool) → (a && l && c) ≡ true → (p : Around) (x y : ℕ) → IsSameChroma (sides a r l c) p of_chroma.Plane x y
-plane_chroma true r true true can p x y = refl
-plane_chroma true r true false can p x y = absurd cc
-plane_chroma true r false c can p x y = absurd cc
-plane_chroma false r l c can p x y = absurd cc
 
 abbrev IsSameDc : Sides → Around → ℕ → ℕ → Type 0
 IsSameDc s p u v = predict_dc_chroma s (beside 8 s p) u v ≡ predict_dc_chroma s p u v
@@ -116,7 +104,7 @@ all_chroma a r true c p of_chroma.Horizontal can x y low high = rw (test y 8 hig
 all_chroma a r false c p of_chroma.Horizontal can x y low high = absurd cc
 all_chroma true r l c p of_chroma.Vertical can x y low high = rw (test x 8 low) refl
 all_chroma false r l c p of_chroma.Vertical can x y low high = absurd cc
-all_chroma a r l c p of_chroma.Plane can x y low high = plane_chroma a r l c can p x y
+all_chroma a r l c p of_chroma.Plane can x y low high = with_corner (λ a l c. IsSameChroma (sides a r l c) p of_chroma.Plane x y) a l c can refl
 
 -- ---- where two pictures agree beside the block
 

@@ -5,8 +5,8 @@ use Rattle.avc_picture_core.proofs.Common.{div-mul-add, mod-mul-add, Weight, Pla
 use Rattle.avc_types.specs.Blocks.{block_of}
 use Rattle.avc_picture_core.proofs.Blocks.{with_block_same}
 
-pub length-block : (w h : ℕ) (f : ℕ → ℕ → ℕ) → length (block_of w h f) ≡ w * h
-length-block w h f = length-map-range_with_len (λ n. f (n % w) (n / w)) 0 (w * h)
+pub length_block : (w h : ℕ) (f : ℕ → ℕ → ℕ) → length (block_of w h f) ≡ w * h
+length_block w h f = length-map-range_with_len (λ n. f (n % w) (n / w)) 0 (w * h)
 
 block_sample : (w h i j : ℕ) (f : ℕ → ℕ → ℕ) → i < w → j < h → slice_index (block_of w h f) (j * w + i) ≡ f i j
 block_sample w h i j f column row =

@@ -9,8 +9,8 @@ pub mod InPlace
 mod Weighted
 mod Laid
 mod Tiles
-mod Shapes
-mod Predicting
+pub mod Shapes
+pub mod Predicting
 mod Inters
 mod PlaceOn
 mod Seen

@@ -1,6 +1,6 @@
 -- A macroblock's place on a canvas, as the code knows it: what its blocks may read, and what was built of it.
-use Rattle.std.proofs.Common.{◌≡◌, ℕ, ◌+◌, ◌*◌, ◌/◌, ◌%◌, ◌≤◌, nat_lt, ℤ, pos, negsuc, Bool, true, false, not, ◌||◌, List, Option, None, Result, Ok, Err, arith, refl, sym, ap, subst, ◌∙◌}
-use Rattle.avc_picture_core.proofs.Common.{cases_lt, le-ltb, true≢false, ints, Fault, Mb, MbSyntax, Coded, is_intra_facts, Location}
+use Rattle.std.proofs.Common.{◌≡◌, ℕ, ◌+◌, ◌*◌, ◌/◌, ◌%◌, ◌<◌, ◌≤◌, nat_lt, ℤ, pos, negsuc, Bool, true, false, not, ◌||◌, List, Option, None, Result, Ok, Err, arith, refl, sym, ap, subst, ◌∙◌}
+use Rattle.avc_picture_core.proofs.Common.{cases_lt, le-ltb, true≢false, ints, Fault, Mb, Coded, is_intra_facts, Location}
 use Rattle.avc_picture_core.proofs.Common.{block_x, block_y, block_at, location_in, is_intra, chroma_qp, Sides, Planes, Place, is_there}
 use Rattle.avc_picture_core.proofs.Common.{sides_of, ArePlanesBuilt, IsPlaceIn, MayRead, AreInside, is_readable, readable_near}
 use Rattle.avc_picture_core.proofs.Common.{readable_sides, ReferencePicture, ReadableNeighbours}
@@ -48,65 +48,41 @@ sides_inside c a k = grind (arith, ints, pos, cases_lt, on_picture, up_off, left
 
 -- ---- all of it
 
-abbrev pub state : (width height : ℕ) (offset : ℤ) (constrained : Bool) (planes : Planes) → CanvasState
-state width height offset constrained planes =
-    record { width = width; height = height; chroma_qp_index_offset = offset; constrained_intra_pred = constrained; planes = planes }
-
-module _ {PAD : ℕ} (width height : ℕ) (offset : ℤ) (constrained : Bool) (planes : Planes) (syntax : MbSyntax) (qp address : ℕ)
-    (facts : NeighbourFacts) (n : Around) (references : List (Option (ReferencePicture PAD))) (p : Place) where
-  place_in : (qp_of_chroma : ℕ) → qp_of_chroma ≡ chroma_qp offset qp
-      → IsPlaceOn (state width height offset constrained planes) address (record { syntax = syntax; qp = qp }) facts n references p
-      → IsPlaceIn (address % width) (address / width) width height syntax qp qp_of_chroma facts (readable_near constrained n) references p
-  place_in qp_of_chroma chroma on =
-      let near = readable_near constrained n in
-      let inside : (k : ℕ) → AreInside (16 * (address % width) + block_x k) (16 * (address / width) + block_y k) (16 * width) (sides_of p.coded p.address k) =
-      λ k. rw (← on.width, ← on.address_is) (sides_inside p.coded p.address k) in
+module _ {PAD : ℕ} (canvas : CanvasState) (address qp_of_chroma : ℕ) (mb : Mb) (facts : NeighbourFacts) (n : Around) (r : ReadableNeighbours)
+    (references : List (Option (ReferencePicture PAD))) (p : Place) (on : IsPlaceOn canvas address mb facts n references p) where
+  -- what its blocks may read
+  place_reads : is_intra mb.syntax ≡ true → r ≡ readable_near canvas.constrained_intra_pred n → MayRead (address % canvas.width) (address / canvas.width) (16 * canvas.width) r p
+  place_reads intra near =
+      let sides : (k : ℕ) → k < 16 → sides_of p.coded p.address k ≡ readable_sides r k =
+      λ k low. on.sides intra k low ∙ near_readable canvas.constrained_intra_pred n k ∙ ap (λ x. readable_sides x k) (sym near) in
       record {
-        at = record {
-          column_is = ap (λ a. a % p.coded.width) on.address_is ∙ ap (λ w. address % w) on.width;
-          row_is = ap (λ a. a / p.coded.width) on.address_is ∙ ap (λ w. address / w) on.width;
-          syntax_is = ap (λ m. m.syntax) on.mb_is;
-          qp_is = ap (λ m. m.qp) on.mb_is;
-          chroma_is = ap (λ o. chroma_qp o p.mb.qp) on.offset ∙ ap (λ m. chroma_qp offset m.qp) on.mb_is ∙ sym chroma;
-        };
-        may_read = λ intra. record {
-          sides = λ k low. on.sides intra k low ∙ near_readable constrained n k;
-          inside = λ k low. subst (λ s. AreInside (16 * (address % width) + block_x k) (16 * (address / width) + block_y k) (16 * width) s)
-              (on.sides intra k low ∙ near_readable constrained n k) (inside k);
-        };
-        width_is = on.width;
-        height_is = on.height;
-        modes_are = on.modes;
-        motion_is = on.motion;
-        references_are = on.references_are;
+        sides = sides;
+        inside = λ k low. subst (λ s. AreInside (16 * (address % canvas.width) + block_x k) (16 * (address / canvas.width) + block_y k) (16 * canvas.width) s) (sides k low)
+            (rw (← on.width, ← on.address_is) (sides_inside p.coded p.address k));
       }
 
--- the planes of a canvas that is else as it was
-planes_built : (width height : ℕ) (offset : ℤ) (constrained : Bool) (p : Place) (result : Result (Unit {0}) Fault) (old new : Planes)
-    → ArePlanesBuilt p result old new → IsBuilt p result (state width height offset constrained old) (state width height offset constrained new)
-planes_built width height offset constrained p (Ok done) old new built = (built.0, ap (λ s. state width height offset constrained s) built.1)
-planes_built width height offset constrained p (Err f) old new refused = refused
+  place_in : qp_of_chroma ≡ chroma_qp canvas.chroma_qp_index_offset mb.qp → (is_intra mb.syntax ≡ true → r ≡ readable_near canvas.constrained_intra_pred n)
+      → IsPlaceIn (address % canvas.width) (address / canvas.width) canvas.width canvas.height mb.syntax mb.qp qp_of_chroma facts r references p
+  place_in chroma near = record {
+    at = record {
+      column_is = ap (λ a. a % p.coded.width) on.address_is ∙ ap (λ w. address % w) on.width;
+      row_is = ap (λ a. a / p.coded.width) on.address_is ∙ ap (λ w. address / w) on.width;
+      syntax_is = ap (λ m. m.syntax) on.mb_is;
+      qp_is = ap (λ m. m.qp) on.mb_is;
+      chroma_is = ap (λ o. chroma_qp o p.mb.qp) on.offset ∙ ap (λ m. chroma_qp canvas.chroma_qp_index_offset m.qp) on.mb_is ∙ sym chroma;
+    };
+    may_read = λ intra. place_reads intra (near intra);
+    width_is = on.width;
+    height_is = on.height;
+    modes_are = on.modes;
+    motion_is = on.motion;
+    references_are = on.references_are;
+  }
 
--- the canvas, from what its fields and those of the macroblock are
-pub canvas_built : {PAD : ℕ} (width height : ℕ) (offset : ℤ) (constrained : Bool) (old new : Planes) (syntax : MbSyntax) (qp qp_of_chroma address : ℕ)
-    (facts : NeighbourFacts) (n : Around) (r : ReadableNeighbours) (references : List (Option (ReferencePicture PAD))) (result : Result (Unit {0}) Fault)
-    (canvas : CanvasState) (mb : Mb) (p : Place)
-    → state width height offset constrained old ≡ canvas → record { syntax = syntax; qp = qp } ≡ mb
-    → qp_of_chroma ≡ chroma_qp offset qp → (is_intra syntax ≡ true → r ≡ readable_near constrained n)
-    → (IsPlaceIn (address % width) (address / width) width height syntax qp qp_of_chroma facts r references p → ArePlanesBuilt p result old new)
-    → IsPlaceOn canvas address mb facts n references p → IsBuilt p result canvas (state width height offset constrained new)
-canvas_built width height offset constrained old new syntax qp qp_of_chroma address facts n r references result canvas mb p view of_mb chroma near built on =
-    let same = subst (λ s. IsPlaceOn s address (record { syntax = syntax; qp = qp }) facts n references p) (sym view)
-    (subst (λ m. IsPlaceOn canvas address m facts n references p) (sym of_mb) on) in
-    let all = place_in width height offset constrained old syntax qp address facts n references p qp_of_chroma chroma same in
-    let there : IsPlaceIn (address % width) (address / width) width height syntax qp qp_of_chroma facts r references p = record {
-      at = all.at;
-      may_read = λ intra. subst (λ t. MayRead (address % width) (address / width) (16 * width) t p) (sym (near intra)) (all.may_read intra);
-      width_is = all.width_is;
-      height_is = all.height_is;
-      modes_are = all.modes_are;
-      motion_is = all.motion_is;
-      references_are = all.references_are;
-    } in
-    subst (λ s. IsBuilt p result s (state width height offset constrained new)) view
-    (planes_built width height offset constrained p result old new (built there))
+  -- the planes of a canvas that is else as it was
+  pub canvas_built : qp_of_chroma ≡ chroma_qp canvas.chroma_qp_index_offset mb.qp → (is_intra mb.syntax ≡ true → r ≡ readable_near canvas.constrained_intra_pred n)
+      → (result : Result (Unit {0}) Fault) (new : Planes)
+      → (IsPlaceIn (address % canvas.width) (address / canvas.width) canvas.width canvas.height mb.syntax mb.qp qp_of_chroma facts r references p
+      → ArePlanesBuilt p result canvas.planes new) → IsBuilt p result canvas (record canvas { planes = new })
+  canvas_built chroma near (Ok done) new built = let all = built (place_in chroma near) in (all.0, ap (λ s. record canvas { planes = s }) all.1)
+  canvas_built chroma near (Err f) new built = built (place_in chroma near)

@@ -1,11 +1,12 @@
 -- Samples that are predicted by the list of reference pictures are the predictions of every coded picture with these pictures.
 use Rattle.avc_picture_core.proofs.Common.{ℕ, zero, suc, ◌≡◌, ◌+◌, ◌*◌, ◌%◌, ◌<◌, arith, Bool, true, false, ◌&&◌, List, [], ◌∷◌, length}
 use Rattle.avc_picture_core.proofs.Common.{refl, sym, ap, subst, ◌∙◌, inl, inr, Option, Some, None, IfSome, is_some, slice_index_or}
-use Rattle.avc_picture_core.proofs.Common.{list_all, cases_lt, false≢true, get_or_past, All-get_or, list_all_at, Coded, Mv, block_at}
+use Rattle.avc_picture_core.proofs.Common.{list_all, cases_lt, false≢true, get_or_past, All-get_or, All-from_get_or, AllPass-from_list_all, list_all-from_AllPass, list_all_at, Coded, Mv, block_at}
 use Rattle.avc_picture_core.proofs.Common.{Motion, frame_named, vector_of, Planes, padded_planes_of, size_of, luma_place, fetched}
 use Rattle.avc_picture_core.proofs.Common.{inter_predicted, reference_of, is_picture, AreUsableAt, HaveOneMotion, IsMacroblockShape}
 use Rattle.avc_picture_core.proofs.Common.{IsUsableAt, block_motion, fetched_from, have_pictures, motion_at, picture_in, predicted_at}
 use Rattle.avc_picture_core.proofs.Common.{predicted_from, predicted_in, wanted, with_part, ReferencePicture, Whole}
+use Rattle.std.specs.Prelude.{All}
 use Rattle.avc_neigh.specs.declared.facts.Motion.TheVariants as motions
 use Rattle.avc_picture_core.specs.References.{AreReferences, AreUsable, IsReference, IsUsable, ShowsReference}
 use Rattle.avc_picture_core.proofs.Tiles.{part_same}
@@ -20,15 +21,16 @@ some_map P Q (Some x) f p = f x p
 usable_on : {PAD : ℕ} (w h column row : ℕ) (p : ReferencePicture PAD) → column < w → row < h → IsUsable w h p → IsUsableAt column row p
 usable_on w h column row p a b u = grind arith
 
-usable_at : {PAD : ℕ} (w h : ℕ) (references : List (Option (ReferencePicture PAD))) (r : ℕ) → AreUsable w h references → IfSome (slice_index_or references r None) (IsUsable w h)
-usable_at w h references r all = elim (cases_lt r (length references)) [
-  | inl less ↦ All-get_or (λ entry. IfSome entry (IsUsable w h)) references r None less all
-  | inr past ↦ subst (λ o. IfSome o (IsUsable w h)) (sym (get_or_past references r None past)) tt
+-- what holds of each entry that is there
+pub some_at : {X : Type 0} (P : X → Type 0) (xs : List (Option X)) (r : ℕ) → All (λ o. IfSome o P) xs → IfSome (slice_index_or xs r None) P
+some_at P xs r all = elim (cases_lt r (length xs)) [
+  | inl less ↦ All-get_or (λ o. IfSome o P) xs r None less all
+  | inr past ↦ subst (λ o. IfSome o P) (sym (get_or_past xs r None past)) tt
 ]
 
 pub usable_each : {PAD : ℕ} (w h column row : ℕ) (references : List (Option (ReferencePicture PAD))) → AreUsable w h references → column < w → row < h → AreUsableAt column row references
 usable_each w h column row references all a b = record {
-  each = λ r. some_map (IsUsable w h) (IsUsableAt column row) (slice_index_or references r None) (λ p u. usable_on w h column row p a b u) (usable_at w h references r all);
+  each = λ r. some_map (IsUsable w h) (IsUsableAt column row) (slice_index_or references r None) (λ p u. usable_on w h column row p a b u) (some_at (IsUsable w h) references r all);
 }
 
 -- ---- pictures of a coded picture and of the list
@@ -76,17 +78,13 @@ predicted_is : {PAD : ℕ} (c : Coded) (slice w h : ℕ) (references : List (Opt
     → (m : Motion) → is_some (picture_in references m) ≡ true → predicted_in references m k x y ≡ inter_predicted c slice m k x y
 predicted_is c slice w h references k x y wide high are all motions.Absent there = absurd (false≢true there)
 predicted_is c slice w h references k x y wide high are all motions.Intra there = absurd (false≢true there)
-predicted_is c slice w h references k x y wide high are all (motions.Inter r v) there = grind (arith, by_entry, usable_at, there)
+predicted_is c slice w h references k x y wide high are all (motions.Inter r v) there = grind (arith, by_entry, some_at (IsUsable w h) references r all, there)
 
 -- a block has a picture where all have
-has_picture : {PAD : ℕ} (references : List (Option (ReferencePicture PAD))) (motion : List Motion) (i : ℕ) → i < length motion → have_pictures references motion ≡ true
-    → (b : Bool) → is_some (picture_in references (block_motion motion i)) ≡ b → b ≡ true
-has_picture references motion i within all true e = refl
-has_picture references motion i within all false e = grind (arith, false≢true, list_all_at)
-
-pub there : {PAD : ℕ} (references : List (Option (ReferencePicture PAD))) (motion : List Motion) (i : ℕ) → length motion ≡ 16 → i < 16 → have_pictures references motion ≡ true
+there : {PAD : ℕ} (references : List (Option (ReferencePicture PAD))) (motion : List Motion) (i : ℕ) → length motion ≡ 16 → i < 16 → have_pictures references motion ≡ true
     → is_some (picture_in references (block_motion motion i)) ≡ true
-there references motion i long few all = has_picture references motion i (omega (arith, long)) all (is_some (picture_in references (block_motion motion i))) refl
+there references motion i long few all =
+    All-get_or (λ m. is_some (picture_in references m) ≡ true) motion i motions.Absent (omega (arith, long, few)) (AllPass-from_list_all (λ m. is_some (picture_in references m)) motion all)
 
 pub all_predicted : {PAD : ℕ} (references : List (Option (ReferencePicture PAD))) (w h column row : ℕ) (motion : List Motion) (old new : Planes) (c : Coded) (slice : ℕ)
     → length motion ≡ 16 → AreUsable w h references → have_pictures references motion ≡ true → new ≡ with_part column row 0 0 16 16 (wanted references column row motion) old
@@ -114,8 +112,7 @@ part_is references column row motion left top w h r v p old new left_even top_ev
 -- ---- blocks that all have one motion
 
 all_from : {X : Type 0} (p : X → Bool) (d : X) (xs : List X) → ((k : ℕ) → k < length xs → p (slice_index_or xs k d) ≡ true) → list_all p xs ≡ true
-all_from p d [] f = refl
-all_from p d (x ∷ xs) f = ap (λ b. b && list_all p xs) (f 0 (omega arith)) ∙ all_from p d xs (λ k h. f (suc k) (omega (arith, h)))
+all_from p d xs f = list_all-from_AllPass p xs (All-from_get_or (λ x. p x ≡ true) xs d f)
 
 as_first : (p : Motion → Bool) (motion : List Motion) → length motion ≡ 16 → IsMacroblockShape motion Whole → (b : Bool) → p (block_motion motion 0) ≡ b → p (block_motion motion 0) ≡ list_all p motion
 as_first p motion long shape true e =

@@ -1,8 +1,12 @@
 -- The samples around a block of a plane, in the rows that the plane lends.
 use Rattle.avc_picture_core.proofs.Common.{◌≡◌, ℕ, ◌+◌, ◌-◌, ◌*◌, ◌<◌, ◌≤◌, pos, negsuc, ◌+ℤ◌, List, slice_index, arith, ap, subst, sym}
 use Rattle.avc_picture_core.proofs.Common.{◌∙◌, nat_abs, add-mul, ints, Plane, sample, Sides, seen_from, AreInside}
+use Rattle.avc_picture_core.proofs.Common.{Bool, true, Some, None, if◌then◌else◌, unwrap_or, with_block, block_lent}
+use Rattle.avc_plane.specs.Lending.{with_rows}
 use Rattle.avc_plane.specs.Padded.{HaveSamples, stored_place}
+use Rattle.avc_plane.specs.Strided.{IsStridedSet}
 use Rattle.avc_intra.specs.InRows.{IsSeen, IsSeen4x4}
+use Rattle.avc_picture_core.proofs.Blocks.{predicted, with_block_same}
 
 module _ (pad left upper size first stride : ℕ) (s : Plane) (sides : Sides) (rows : List ℕ) (have : HaveSamples pad s rows)
     (columns : left + size ≤ s.width) (lines : upper + size ≤ s.height) (inside : AreInside left upper s.width sides)
@@ -47,3 +51,11 @@ module _ (pad left upper size first stride : ℕ) (s : Plane) (sides : Sides) (r
     beside = subst (λ n. IsSeen (seen_from s left upper) sides n first stride rows) four (seen (omega arith));
     tops_right = λ there. (is_below (inside.above_right there).0, λ i from low. above_at i (inside.above_right there).0 (omega (arith, (inside.above_right there).1)) (omega (arith, lines)));
   }
+
+  -- what is laid from there is the prediction
+  pub laid : 0 < size → (can : Bool) (of : ℕ → ℕ → ℕ) (new : List ℕ) → can ≡ true
+      → (IsSeen (seen_from s left upper) sides size first stride rows → IsStridedSet size size first stride of rows new)
+      → with_rows pad s new ≡ with_block s left upper size size (λ x y. unwrap_or (if can then Some (of x y) else None) 0)
+  laid some can of new there set =
+      block_lent pad s left upper size size first stride rows have columns lines is_first is_stride of new (set (seen some))
+      ∙ with_block_same s left upper size size of (λ x y. unwrap_or (if can then Some (of x y) else None) 0) (λ x y column row. sym (predicted can (of x y) there))

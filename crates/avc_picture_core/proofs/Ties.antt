@@ -1,7 +1,7 @@
 -- What is built without a place, as the built picture has it at its place.
 use Rattle.std.proofs.Common.{arith, suc, [], slice_index_or, ◌≡◌, ℕ, ◌+◌, ◌*◌, ◌/◌, ◌%◌, ◌<◌, ◌≤◌, ℤ, Bool, true, not, ◌&&◌, List, slice_index, if◌then◌else◌, refl, sym, ap, ◌∙◌}
 use Rattle.avc_picture_core.proofs.Common.{Some, None, Option, unwrap_or, Fault, RefMissing, IntraUnavailable, MbSyntax, Residual, i_16x16}
-use Rattle.avc_picture_core.proofs.Common.{i_nxn, i_pcm, luma_residual, luma_residual_16x16, Plane, with_block, Planes, Sides, Mode4x4}
+use Rattle.avc_picture_core.proofs.Common.{i_nxn, i_pcm, chroma_residual, luma_residual, luma_residual_16x16, Plane, with_block, Planes, Sides, Mode4x4}
 use Rattle.avc_picture_core.proofs.Common.{Mode16x16, ModeChroma, can_predict4x4, intra4x4, mode4x4_of, block_x, block_y, block_at, absent}
 use Rattle.avc_picture_core.proofs.Common.{residual4x4, intra16x16, mode16x16_of, can_predict_chroma, intra_chroma, mode_chroma_of, Place}
 use Rattle.avc_picture_core.proofs.Common.{chroma_after, inter_at, left_of_mb, mode_number, top_of_mb, with_block4x4, size_of}
@@ -10,7 +10,8 @@ use Rattle.avc_picture_core.proofs.Common.{has_references, has_sides, refusal, I
 use Rattle.avc_picture_core.proofs.Common.{AreInside, readable_sides, IsNxnAt}
 use Rattle.avc_transform.specs.MacroblockResidual.{residual_of}
 use Rattle.avc_intra.specs.Neighbourhood.{Around}
-use Rattle.avc_picture_core.proofs.Adding.{luma_number, luma_remainders}
+use Rattle.avc_picture_core.proofs.Adding.{luma_tile, residual_by_levels}
+use Rattle.avc_picture_core.proofs.InPlace.{in_tile}
 use Rattle.avc_neigh.specs.declared.facts.NearMode.{NearMode}
 use Rattle.avc_picture_core.proofs.IntraRows.{chroma_from}
 use Rattle.avc_picture_core.proofs.Sixteens.{same_sixteen}
@@ -58,7 +59,7 @@ luma_16x16 p column row m chroma qp qp_of_chroma r sides s new mode at mine of i
     ∙ sym (ap (λ t. luma_after p t s) at.syntax_is)
 
 -- of a chroma component
-pub chroma_intra : (p : Place) (column row k chroma : ℕ) (sides : Sides) (residual : ℕ → ℕ → ℤ) (s new : Plane) (mode : ModeChroma)
+chroma_intra : (p : Place) (column row k chroma : ℕ) (sides : Sides) (residual : ℕ → ℕ → ℤ) (s new : Plane) (mode : ModeChroma)
     → p.address % p.coded.width ≡ column → p.address / p.coded.width ≡ row → sides_of p.coded p.address 0 ≡ sides → ((x y : ℕ) → residual_at p (suc k) x y ≡ residual x y)
     → mode ≡ mode_chroma_of chroma
     → new ≡ with_block s (8 * column) (8 * row) 8 8 (λ x y. sum_of (unwrap_or (intra_chroma sides (seen_from s (8 * column) (8 * row)) mode x y) 0) (residual x y))
@@ -94,6 +95,31 @@ inside_chroma column row width wide sides room i = record {
   corner = λ h. let q = i.corner h in (omega (arith, q.0), omega (arith, q.1));
 }
 
+-- ---- an intra macroblock that has its sides
+
+-- planes with the luma of the macroblock, and with an intra prediction and a residual for each chroma component
+pub planes_intra : (p : Place) (column row qp qp_of_chroma chroma : ℕ) (syntax : MbSyntax) (r : Residual) (sides : Sides) (mode : ModeChroma) (s new : Planes)
+    → IsAt column row syntax qp qp_of_chroma p → sides_of p.coded p.address 0 ≡ sides → mode ≡ mode_chroma_of chroma → has_references p syntax ≡ true → has_sides p syntax ≡ true
+    → AreInside (16 * column + 0) (16 * row + 0) s.luma.width sides → 8 * column + 8 ≤ s.cb.width → 8 * column + 8 ≤ s.cr.width
+    → ((k : ℕ) (t : Plane) → chroma_after p (suc k) syntax t ≡ with_macroblock p (suc k) (chroma_from p chroma (suc k) t) t)
+    → ((x y : ℕ) → residual_at p 1 x y ≡ chroma_residual qp_of_chroma r.cb_dc r.cb_ac x y) → ((x y : ℕ) → residual_at p 2 x y ≡ chroma_residual qp_of_chroma r.cr_dc r.cr_ac x y)
+    → new.luma ≡ luma_after p p.mb.syntax s.luma
+    → (AreInside (8 * column) (8 * row) s.cb.width sides → new.cb ≡ with_block s.cb (8 * column) (8 * row) 8 8
+    (λ x y. sum_of (unwrap_or (intra_chroma sides (seen_from s.cb (8 * column) (8 * row)) mode x y) 0) (chroma_residual qp_of_chroma r.cb_dc r.cb_ac x y)))
+    → (AreInside (8 * column) (8 * row) s.cr.width sides → new.cr ≡ with_block s.cr (8 * column) (8 * row) 8 8
+    (λ x y. sum_of (unwrap_or (intra_chroma sides (seen_from s.cr (8 * column) (8 * row)) mode x y) 0) (chroma_residual qp_of_chroma r.cr_dc r.cr_ac x y)))
+    → (refusal p ≡ None) × (new ≡ planes_after p s)
+planes_intra p column row qp qp_of_chroma chroma syntax r sides mode s new at mine of references has inside cb_room cr_room chroma_is of_cb of_cr luma cb cr =
+    let after : (k : ℕ) (t u : Plane) → u ≡ with_macroblock p (suc k) (chroma_from p chroma (suc k) t) t → u ≡ chroma_after p (suc k) p.mb.syntax t =
+    λ k t u e. e ∙ sym (chroma_is k t) ∙ sym (ap (λ x. chroma_after p (suc k) x t) at.syntax_is) in (
+      refused_by p syntax true true at.syntax_is references has,
+      planes_same new (planes_after p s) luma
+          (after 0 s.cb new.cb (chroma_intra p column row 0 chroma sides (chroma_residual qp_of_chroma r.cb_dc r.cb_ac) s.cb new.cb mode at.column_is at.row_is mine of_cb of
+          (cb (inside_chroma column row s.luma.width s.cb.width sides cb_room inside))))
+          (after 1 s.cr new.cr (chroma_intra p column row 1 chroma sides (chroma_residual qp_of_chroma r.cr_dc r.cr_ac) s.cr new.cr mode at.column_is at.row_is mine of_cr of
+          (cr (inside_chroma column row s.luma.width s.cr.width sides cr_room inside)))),
+    )
+
 -- ---- one block of I_NxN
 
 pub nxn_block : (p : Place) (k : ℕ) (cur : Plane) (left top : ℕ) (sides : Sides) (mode : Mode4x4) (f : ℕ → ℕ → ℤ)
@@ -113,15 +139,8 @@ nxn_block p k cur left top sides mode f across down mine of same =
 pub nxn_residual : (qp k : ℕ) (r : Residual) (levels : List ℤ) → k < 16 → slice_index_or r.luma k [] ≡ levels → (x y : ℕ) → x < 4 → y < 4
     → residual4x4 qp levels x y ≡ luma_residual qp r (block_x k + x) (block_y k + y)
 nxn_residual qp k r levels few mine x y column row =
-    let u = block_x k + x in
-    let v = block_y k + y in
-    let number : block_at u v ≡ k = luma_number k u v few (omega arith) (omega arith) (omega arith) (omega arith) in
-    let left = luma_remainders k u v (omega arith) (omega arith) (omega arith) (omega arith) in
-    let across : x ≡ u % 4 = omega (arith, left.0) in
-    let down : y ≡ v % 4 = omega (arith, left.1) in
-    ap (λ l. residual4x4 qp l x y) (sym mine ∙ ap (λ n. slice_index_or r.luma n []) (sym number))
-    ∙ ap (λ c. residual4x4 qp (slice_index_or r.luma (block_at u v) []) c y) across
-    ∙ ap (λ d. residual4x4 qp (slice_index_or r.luma (block_at u v) []) (u % 4) d) down
+    ap (λ l. residual4x4 qp l x y) (sym mine)
+    ∙ sym (in_tile 16 block_at (residual_by_levels qp r.luma) k (block_x k) (block_y k) (luma_tile k (block_x k) (block_y k) few refl refl) x y column row)
 
 -- ---- I_NxN
 

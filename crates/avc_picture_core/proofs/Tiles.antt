@@ -1,9 +1,10 @@
 -- Rectangles of a macroblock's components, laid into the planes.
 use Rattle.avc_picture_core.proofs.Common.{ℕ, ◌≡◌, ◌+◌, ◌-◌, ◌*◌, ◌/◌, ◌%◌, ◌<◌, ◌≤◌, arith, Bool, true, refl, sym, ap, ◌∙◌, inl, inr}
-use Rattle.avc_picture_core.proofs.Common.{if◌then◌else◌, Option, option_map, cases_lt, Mv, Weight, Plane, sample, is_inside, with_block}
+use Rattle.avc_picture_core.proofs.Common.{if◌then◌else◌, Option, None, option_map, cases_lt, Mv, Weight, Plane, sample, is_inside, with_block}
 use Rattle.avc_picture_core.proofs.Common.{Planes, inside, plane_of_same, sample-with_block, by_place, inter_luma, inter_chroma, size_of}
 use Rattle.avc_picture_core.proofs.Common.{luma_place, component_weight, weighted_by, predicted_from, with_part, ReferencePicture}
 use Rattle.avc_picture_core.proofs.Blocks.{outside, with_block_same}
+use Rattle.avc_picture_core.proofs.Laid.{laid_by}
 use Rattle.avc_picture_core.proofs.Ties.{planes_same}
 
 -- ---- two blocks that are one
@@ -34,24 +35,27 @@ module _ (p : Plane) (l1 t1 w1 h1 l2 t2 w2 h2 l t w h : ℕ) (f1 f2 f : ℕ → 
   tiles : with_block (with_block p l1 t1 w1 h1 f1) l2 t2 w2 h2 f2 ≡ with_block p l t w h f
   tiles = plane_of_same p.width p.height (λ x y. lower x y (is_inside l2 t2 w2 h2 x y)) (λ x y. whole x y (is_inside l t w h x y)) each
 
-blocks_below : (p : Plane) (l t t2 w h h2 all : ℕ) (f1 f2 f : ℕ → ℕ → ℕ) → t2 ≡ t + h → all ≡ h + h2
-    → ((x y : ℕ) → f1 x y ≡ f x y) → ((x y : ℕ) → f2 x y ≡ f x (h + y)) → with_block (with_block p l t w h f1) l t2 w h2 f2 ≡ with_block p l t w all f
-blocks_below p l t t2 w h h2 all f1 f2 f at sum same1 same2 =
-    tiles p l t w h l t2 w h2 l t w all f1 f2 f
-    (λ x y a b c d. (inside l t w all x y a b c (omega (arith, sum)), same1 (x - l) (y - t)))
-    (λ x y a b c d. (inside l t w all x y a b (omega (arith, at)) (omega (arith, at, sum)), same2 (x - l) (y - t2) ∙ ap (f (x - l)) (omega (arith, at))))
-    (λ x y a b c d none1 none2. elim (cases_lt y t2) [
+-- two blocks of a component in the macroblock whose upper left sample is (u, v), one below the other, or beside it
+blocks_below : (p : Plane) (u v l t t2 w h all : ℕ) (f : ℕ → ℕ → ℕ) → t2 ≡ t + h → all ≡ h + h
+    → with_block (with_block p (u + l) (v + t) w h (λ x y. f (l + x) (t + y))) (u + l) (v + t2) w h (λ x y. f (l + x) (t2 + y))
+    ≡ with_block p (u + l) (v + t) w all (λ x y. f (l + x) (t + y))
+blocks_below p u v l t t2 w h all f at sum =
+    tiles p (u + l) (v + t) w h (u + l) (v + t2) w h (u + l) (v + t) w all (λ x y. f (l + x) (t + y)) (λ x y. f (l + x) (t2 + y)) (λ x y. f (l + x) (t + y))
+    (λ x y a b c d. (inside (u + l) (v + t) w all x y a b c (omega (arith, sum)), refl))
+    (λ x y a b c d. (inside (u + l) (v + t) w all x y a b (omega (arith, at)) (omega (arith, at, sum)), ap (f (l + (x - (u + l)))) (omega (arith, at))))
+    (λ x y a b c d none1 none2. elim (cases_lt y (v + t2)) [
       | inl less ↦ none1 a b c (omega (arith, at))
       | inr from ↦ none2 a b from (omega (arith, at, sum))
     ])
 
-blocks_beside : (p : Plane) (l l2 t w w2 h all : ℕ) (f1 f2 f : ℕ → ℕ → ℕ) → l2 ≡ l + w → all ≡ w + w2
-    → ((x y : ℕ) → f1 x y ≡ f x y) → ((x y : ℕ) → f2 x y ≡ f (w + x) y) → with_block (with_block p l t w h f1) l2 t w2 h f2 ≡ with_block p l t all h f
-blocks_beside p l l2 t w w2 h all f1 f2 f at sum same1 same2 =
-    tiles p l t w h l2 t w2 h l t all h f1 f2 f
-    (λ x y a b c d. (inside l t all h x y a (omega (arith, sum)) c d, same1 (x - l) (y - t)))
-    (λ x y a b c d. (inside l t all h x y (omega (arith, at)) (omega (arith, at, sum)) c d, same2 (x - l2) (y - t) ∙ ap (λ u. f u (y - t)) (omega (arith, at))))
-    (λ x y a b c d none1 none2. elim (cases_lt x l2) [
+blocks_beside : (p : Plane) (u v l l2 t w h all : ℕ) (f : ℕ → ℕ → ℕ) → l2 ≡ l + w → all ≡ w + w
+    → with_block (with_block p (u + l) (v + t) w h (λ x y. f (l + x) (t + y))) (u + l2) (v + t) w h (λ x y. f (l2 + x) (t + y))
+    ≡ with_block p (u + l) (v + t) all h (λ x y. f (l + x) (t + y))
+blocks_beside p u v l l2 t w h all f at sum =
+    tiles p (u + l) (v + t) w h (u + l2) (v + t) w h (u + l) (v + t) all h (λ x y. f (l + x) (t + y)) (λ x y. f (l2 + x) (t + y)) (λ x y. f (l + x) (t + y))
+    (λ x y a b c d. (inside (u + l) (v + t) all h x y a (omega (arith, sum)) c d, refl))
+    (λ x y a b c d. (inside (u + l) (v + t) all h x y (omega (arith, at)) (omega (arith, at, sum)) c d, ap (λ n. f n (t + (y - (v + t)))) (omega (arith, at))))
+    (λ x y a b c d none1 none2. elim (cases_lt x (u + l2)) [
       | inl less ↦ none1 a (omega (arith, at)) c d
       | inr from ↦ none2 from (omega (arith, at, sum)) c d
     ])
@@ -59,35 +63,23 @@ blocks_beside p l l2 t w w2 h all f1 f2 f at sum same1 same2 =
 -- ---- two rectangles of a macroblock
 
 module _ (column row : ℕ) (f : ℕ → ℕ → ℕ → ℕ) (s : Planes) where
-  pub parts_below : (left top w h all : ℕ) → top % 2 ≡ 0 → h % 2 ≡ 0 → h + h ≡ all
+  parts_below : (left top w h all : ℕ) → top % 2 ≡ 0 → h % 2 ≡ 0 → h + h ≡ all
       → with_part column row left (top + h) w h f (with_part column row left top w h f s) ≡ with_part column row left top w all f s
   parts_below left top w h all even even_height sum =
       let half : (top + h) / 2 ≡ top / 2 + h / 2 = omega (arith, even, even_height) in
       let halves : all / 2 ≡ h / 2 + h / 2 = omega (arith, even_height, sum) in
-      let chroma = λ (p : Plane) (k : ℕ).
-      blocks_below p (8 * column + left / 2) (8 * row + top / 2) (8 * row + (top + h) / 2) (w / 2) (h / 2) (h / 2) (all / 2)
-      (λ x y. f k (left / 2 + x) (top / 2 + y)) (λ x y. f k (left / 2 + x) ((top + h) / 2 + y)) (λ x y. f k (left / 2 + x) (top / 2 + y)) (omega (arith, half)) halves
-      (λ x y. refl) (λ x y. ap (f k (left / 2 + x)) (omega (arith, half))) in
+      let chroma = λ (p : Plane) (k : ℕ). blocks_below p (8 * column) (8 * row) (left / 2) (top / 2) ((top + h) / 2) (w / 2) (h / 2) (all / 2) (f k) half halves in
       planes_same (with_part column row left (top + h) w h f (with_part column row left top w h f s)) (with_part column row left top w all f s)
-      (blocks_below s.luma (16 * column + left) (16 * row + top) (16 * row + (top + h)) w h h all
-      (λ x y. f 0 (left + x) (top + y)) (λ x y. f 0 (left + x) (top + h + y)) (λ x y. f 0 (left + x) (top + y)) (omega arith) (omega (arith, sum))
-      (λ x y. refl) (λ x y. ap (f 0 (left + x)) (omega arith)))
-      (chroma s.cb 1) (chroma s.cr 2)
+      (blocks_below s.luma (16 * column) (16 * row) left top (top + h) w h all (f 0) refl (sym sum)) (chroma s.cb 1) (chroma s.cr 2)
 
-  pub parts_beside : (left top w h all : ℕ) → left % 2 ≡ 0 → w % 2 ≡ 0 → w + w ≡ all
+  parts_beside : (left top w h all : ℕ) → left % 2 ≡ 0 → w % 2 ≡ 0 → w + w ≡ all
       → with_part column row (left + w) top w h f (with_part column row left top w h f s) ≡ with_part column row left top all h f s
   parts_beside left top w h all even even_width sum =
       let half : (left + w) / 2 ≡ left / 2 + w / 2 = omega (arith, even, even_width) in
       let halves : all / 2 ≡ w / 2 + w / 2 = omega (arith, even_width, sum) in
-      let chroma = λ (p : Plane) (k : ℕ).
-      blocks_beside p (8 * column + left / 2) (8 * column + (left + w) / 2) (8 * row + top / 2) (w / 2) (w / 2) (h / 2) (all / 2)
-      (λ x y. f k (left / 2 + x) (top / 2 + y)) (λ x y. f k ((left + w) / 2 + x) (top / 2 + y)) (λ x y. f k (left / 2 + x) (top / 2 + y)) (omega (arith, half)) halves
-      (λ x y. refl) (λ x y. ap (λ u. f k u (top / 2 + y)) (omega (arith, half))) in
+      let chroma = λ (p : Plane) (k : ℕ). blocks_beside p (8 * column) (8 * row) (left / 2) ((left + w) / 2) (top / 2) (w / 2) (h / 2) (all / 2) (f k) half halves in
       planes_same (with_part column row (left + w) top w h f (with_part column row left top w h f s)) (with_part column row left top all h f s)
-      (blocks_beside s.luma (16 * column + left) (16 * column + (left + w)) (16 * row + top) w w h all
-      (λ x y. f 0 (left + x) (top + y)) (λ x y. f 0 (left + w + x) (top + y)) (λ x y. f 0 (left + x) (top + y)) (omega arith) (omega (arith, sum))
-      (λ x y. refl) (λ x y. ap (λ u. f 0 u (top + y)) (omega arith)))
-      (chroma s.cb 1) (chroma s.cr 2)
+      (blocks_beside s.luma (16 * column) (16 * row) left (left + w) top w h all (f 0) refl (sym sum)) (chroma s.cb 1) (chroma s.cr 2)
 
 -- the four quarters of a square
 pub four_parts : (column row left top half all : ℕ) (f : ℕ → ℕ → ℕ → ℕ) (s0 s1 s2 s3 s4 : Planes) → left % 2 ≡ 0 → top % 2 ≡ 0 → half % 2 ≡ 0 → half + half ≡ all
@@ -121,18 +113,18 @@ part_same column row left top w h f g s left_even top_even same = grind (arith, 
 
 -- ---- a whole macroblock
 
-module _ (column row : ℕ) (f : ℕ → ℕ → ℕ → ℕ) (s : Planes) where
-  whole_component : (p : Plane) (k left top size : ℕ) → with_block p (left + 0) (top + 0) size size (λ x y. f k (0 + x) (0 + y)) ≡ with_block p left top size size (f k)
-  whole_component p k left top size = grind (arith, with_block_same)
+abbrev pub with_square : (column row : ℕ) → (ℕ → ℕ → ℕ → ℕ) → Planes → Planes
+with_square column row f s = record {
+  luma = with_block s.luma (16 * column) (16 * row) 16 16 (f 0);
+  cb = with_block s.cb (8 * column) (8 * row) 8 8 (f 1);
+  cr = with_block s.cr (8 * column) (8 * row) 8 8 (f 2);
+}
 
-  pub whole_luma : (with_part column row 0 0 16 16 f s).luma ≡ with_block s.luma (16 * column) (16 * row) 16 16 (f 0)
-  whole_luma = whole_component s.luma 0 (16 * column) (16 * row) 16
-
-  pub whole_cb : (with_part column row 0 0 16 16 f s).cb ≡ with_block s.cb (8 * column) (8 * row) 8 8 (f 1)
-  whole_cb = whole_component s.cb 1 (8 * column) (8 * row) 8
-
-  pub whole_cr : (with_part column row 0 0 16 16 f s).cr ≡ with_block s.cr (8 * column) (8 * row) 8 8 (f 2)
-  whole_cr = whole_component s.cr 2 (8 * column) (8 * row) 8
+pub whole_part : (column row : ℕ) (f : ℕ → ℕ → ℕ → ℕ) (s : Planes) → with_part column row 0 0 16 16 f s ≡ with_square column row f s
+whole_part column row f s = planes_same _ _ (whole s.luma 0 (16 * column) (16 * row) 16) (whole s.cb 1 (8 * column) (8 * row) 8) (whole s.cr 2 (8 * column) (8 * row) 8)
+  where
+    whole : (p : Plane) (k left top size : ℕ) → with_block p (left + 0) (top + 0) size size (λ x y. f k (0 + x) (0 + y)) ≡ with_block p left top size size (f k)
+    whole p k left top size = grind (arith, with_block_same)
 
 -- ---- a rectangle that is predicted from one picture
 
@@ -159,3 +151,20 @@ module _ {PAD : ℕ} (p : ReferencePicture PAD) (v : Mv) (column row left top w 
       (luma ∙ ap (λ b. with_block s.luma (16 * column + left) (16 * row + top) w h (from_luma b)) is0)
       (cb ∙ narrowed s.cb p.planes.now.cb b1 (option_map (component_weight 1) p.weights) is1)
       (cr ∙ narrowed s.cr p.planes.now.cr b2 (option_map (component_weight 2) p.weights) is2)
+
+-- the same without weights, from the places that the code counts
+pub part_unweighted : {PAD : ℕ} (p : ReferencePicture PAD) (v : Mv) (column row left top w h cw ch : ℕ) (s new : Planes) → w ≡ 2 * cw → h ≡ 2 * ch → p.weights ≡ None
+    → new.luma ≡ with_block s.luma (16 * column + left) (16 * row + top) w h
+    (λ x y. inter_luma p.planes.now.luma.width p.planes.now.luma.height (sample p.planes.now.luma) v (16 * column + left + x) (16 * row + top + y))
+    → new.cb ≡ with_block s.cb (8 * column + left / 2) (8 * row + top / 2) cw ch
+    (λ x y. inter_chroma p.planes.now.cb.width p.planes.now.cb.height (sample p.planes.now.cb) v (8 * column + left / 2 + x) (8 * row + top / 2 + y))
+    → new.cr ≡ with_block s.cr (8 * column + left / 2) (8 * row + top / 2) cw ch
+    (λ x y. inter_chroma p.planes.now.cr.width p.planes.now.cr.height (sample p.planes.now.cr) v (8 * column + left / 2 + x) (8 * row + top / 2 + y))
+    → new ≡ with_part column row left top w h (λ k x y. predicted_from p v k (size_of k * column + x) (size_of k * row + y)) s
+part_unweighted p v column row left top w h cw ch s new wide high none luma cb cr =
+    let planes = p.planes.now in
+    let weight : (k : ℕ) → None ≡ option_map (component_weight k) p.weights = λ k. ap (option_map (component_weight k)) (sym none) in
+    part_predicted p v column row left top w h cw ch None None None s new wide high (weight 0) (weight 1) (weight 2)
+    (luma ∙ laid_by s.luma (16 * column) (16 * row) left top w h (inter_luma planes.luma.width planes.luma.height (sample planes.luma) v) None refl)
+    (cb ∙ laid_by s.cb (8 * column) (8 * row) (left / 2) (top / 2) cw ch (inter_chroma planes.cb.width planes.cb.height (sample planes.cb) v) None refl)
+    (cr ∙ laid_by s.cr (8 * column) (8 * row) (left / 2) (top / 2) cw ch (inter_chroma planes.cr.width planes.cr.height (sample planes.cr) v) None refl)

@@ -1,7 +1,7 @@
 use Rattle.avc_picture_core.proofs.Common.{◌≡◌, ◌+◌, ◌*◌, true, false, refl, ap, sym, subst, ◌∙◌, arith, i_16x16, chroma_residual}
 use Rattle.avc_picture_core.proofs.Common.{planes_of, chroma_after, planes_after, sides_of, has_sides, AreInside}
 use Rattle.avc_types.specs.MacroblockFields.{residual_of}
-use Rattle.avc_picture_core.proofs.Ties.{chroma_intra, inside_chroma, inside_luma, luma_16x16, planes_same, refused_by}
+use Rattle.avc_picture_core.proofs.Ties.{inside_luma, luma_16x16, planes_intra, refused_by}
 use Rattle.avc_picture_core.proofs.intra.build_i_16x16.Goals as goal
 
 pub returns-then-not-has_sides16x16-clause-built : goal.returns-then-not-has_sides16x16-clause-built
@@ -23,20 +23,12 @@ returns-clause-built g c = λ p at may.
     let column = c.args.place.column in
     let row = c.args.place.row in
     let old = c.args.planes.now in
-    let room = c.requires.room in
     let mine : sides_of p.coded p.address 0 ≡ sides = may.sides 0 (omega arith) ∙ sym c.sides-sides.ensures in
     let within = subst (λ t. AreInside (16 * column + 0) (16 * row + 0) old.luma.width t) (sym c.sides-sides.ensures) (may.inside 0 (omega arith)) in
-    let test : has_sides p syntax ≡ c.has_sides16x16.result = cc (mine, c.mode16x16-luma_mode.ensures, c.mode_chroma-mode.ensures, c.has_sides16x16.ensures) in (
-      refused_by p syntax true true at.syntax_is refl (test ∙ c.if-not-has_sides16x16.false),
-      planes_same _ (planes_after p (planes_of old))
-          (luma_16x16 p column row m chroma c.args.qp.luma c.args.qp.chroma r sides old.luma c.build_luma16x16.new.plane c.mode16x16-luma_mode.result at mine c.mode16x16-luma_mode.ensures
-          (c.build_luma16x16.ensures.samples (inside_luma (16 * column) (16 * row) old.luma.width sides within)))
-          (chroma_intra p column row 0 chroma sides (chroma_residual c.args.qp.chroma r.cb_dc r.cb_ac) old.cb c.build_component.new.plane c.mode_chroma-mode.result
-          at.column_is at.row_is mine (λ x y. rw (at.syntax_is, at.chroma_is) refl) c.mode_chroma-mode.ensures
-          (c.build_component.ensures.samples (inside_chroma column row old.luma.width old.cb.width sides room.cb_columns within))
-          ∙ sym (ap (λ t. chroma_after p 1 t old.cb) at.syntax_is))
-          (chroma_intra p column row 1 chroma sides (chroma_residual c.args.qp.chroma r.cr_dc r.cr_ac) old.cr c.build_component-2.new.plane c.mode_chroma-mode.result
-          at.column_is at.row_is mine (λ x y. rw (at.syntax_is, at.chroma_is) refl) c.mode_chroma-mode.ensures
-          (c.build_component-2.ensures.samples (inside_chroma column row old.luma.width old.cr.width sides room.cr_columns within))
-          ∙ sym (ap (λ t. chroma_after p 2 t old.cr) at.syntax_is)),
-    )
+    let test : has_sides p syntax ≡ c.has_sides16x16.result = cc (mine, c.mode16x16-luma_mode.ensures, c.mode_chroma-mode.ensures, c.has_sides16x16.ensures) in
+    planes_intra p column row c.args.qp.luma c.args.qp.chroma chroma syntax r sides c.mode_chroma-mode.result (planes_of old) _ at mine c.mode_chroma-mode.ensures refl
+    (test ∙ c.if-not-has_sides16x16.false) within c.requires.room.cb_columns c.requires.room.cr_columns (λ k t. refl)
+    (λ x y. rw (at.syntax_is, at.chroma_is) refl) (λ x y. rw (at.syntax_is, at.chroma_is) refl)
+    (luma_16x16 p column row m chroma c.args.qp.luma c.args.qp.chroma r sides old.luma c.build_luma16x16.new.plane c.mode16x16-luma_mode.result at mine c.mode16x16-luma_mode.ensures
+    (c.build_luma16x16.ensures.samples (inside_luma (16 * column) (16 * row) old.luma.width sides within)))
+    c.build_component.ensures.samples c.build_component-2.ensures.samples

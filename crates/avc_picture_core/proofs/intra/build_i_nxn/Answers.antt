@@ -3,7 +3,7 @@ use Rattle.avc_picture_core.proofs.Common.{i_nxn, chroma_residual, absent, plane
 use Rattle.avc_picture_core.proofs.Common.{chroma_after, luma_after, mode_number, planes_after, sides_of, AreInside, readable_sides}
 use Rattle.avc_types.specs.MacroblockFields.{residual_of}
 use Rattle.avc_picture_core.proofs.Sixteens.{each_sixteen}
-use Rattle.avc_picture_core.proofs.Ties.{chroma_intra, has_nxn, inside_chroma, nxn_at, planes_same, refused_by}
+use Rattle.avc_picture_core.proofs.Ties.{has_nxn, nxn_at, planes_intra, refused_by}
 use Rattle.avc_picture_core.proofs.intra.build_i_nxn.Goals as goal
 
 pub build_luma4x4-requires : goal.build_luma4x4-requires
@@ -39,20 +39,12 @@ returns-clause-built g c = λ p coded at may modes.
     let column = c.args.place.column in
     let row = c.args.place.row in
     let old = c.args.planes.now in
-    let room = c.requires.room in
     let mine : sides_of p.coded p.address 0 ≡ sides = may.sides 0 (omega arith) ∙ sym c.sides-sides.ensures in
-    let within = subst (λ t. AreInside (16 * column + 0) (16 * row + 0) old.luma.width t) (sym c.sides-sides.ensures) (may.inside 0 (omega arith)) in (
-      refused_by p (i_nxn coded chroma r) true true at.syntax_is refl
-          (has_nxn p coded chroma r c.args.readable c.args.modes.now c.mode_chroma-mode.result may.sides modes c.mode_chroma-mode.ensures ∙ sym c.has_sides_nxn.ensures ∙ c.if-not-has_sides_nxn.false),
-      planes_same _ (planes_after p (planes_of old))
-          (c.build_luma4x4.ensures.blocks p (nxn_at p column row old.luma.width chroma c.args.qp.luma c.args.qp.chroma coded r c.args.readable c.args.modes.now at may modes)
-          ∙ sym (ap (λ t. luma_after p t old.luma) at.syntax_is))
-          (chroma_intra p column row 0 chroma sides (chroma_residual c.args.qp.chroma r.cb_dc r.cb_ac) old.cb c.build_component.new.plane c.mode_chroma-mode.result
-          at.column_is at.row_is mine (λ x y. rw (at.syntax_is, at.chroma_is) refl) c.mode_chroma-mode.ensures
-          (c.build_component.ensures.samples (inside_chroma column row old.luma.width old.cb.width sides room.cb_columns within))
-          ∙ sym (ap (λ t. chroma_after p 1 t old.cb) at.syntax_is))
-          (chroma_intra p column row 1 chroma sides (chroma_residual c.args.qp.chroma r.cr_dc r.cr_ac) old.cr c.build_component-2.new.plane c.mode_chroma-mode.result
-          at.column_is at.row_is mine (λ x y. rw (at.syntax_is, at.chroma_is) refl) c.mode_chroma-mode.ensures
-          (c.build_component-2.ensures.samples (inside_chroma column row old.luma.width old.cr.width sides room.cr_columns within))
-          ∙ sym (ap (λ t. chroma_after p 2 t old.cr) at.syntax_is)),
-    )
+    let within = subst (λ t. AreInside (16 * column + 0) (16 * row + 0) old.luma.width t) (sym c.sides-sides.ensures) (may.inside 0 (omega arith)) in
+    let test = has_nxn p coded chroma r c.args.readable c.args.modes.now c.mode_chroma-mode.result may.sides modes c.mode_chroma-mode.ensures ∙ sym c.has_sides_nxn.ensures in
+    planes_intra p column row c.args.qp.luma c.args.qp.chroma chroma (i_nxn coded chroma r) r sides c.mode_chroma-mode.result (planes_of old) _ at mine c.mode_chroma-mode.ensures refl
+    (test ∙ c.if-not-has_sides_nxn.false) within c.requires.room.cb_columns c.requires.room.cr_columns (λ k t. refl)
+    (λ x y. rw (at.syntax_is, at.chroma_is) refl) (λ x y. rw (at.syntax_is, at.chroma_is) refl)
+    (c.build_luma4x4.ensures.blocks p (nxn_at p column row old.luma.width chroma c.args.qp.luma c.args.qp.chroma coded r c.args.readable c.args.modes.now at may modes)
+    ∙ sym (ap (λ t. luma_after p t old.luma) at.syntax_is))
+    c.build_component.ensures.samples c.build_component-2.ensures.samples

@@ -1,7 +1,6 @@
-use Rattle.avc_picture_core.proofs.Common.{◌≡◌, ◌+◌, ◌*◌, [], suc, slice_index_or, ap, sym, ◌∙◌, arith, rules, block_x, block_y, absent}
+use Rattle.avc_picture_core.proofs.Common.{get_or_default, ◌≡◌, ◌+◌, ◌*◌, [], suc, slice_index_or, ap, sym, ◌∙◌, arith, rules, block_x, block_y, absent}
 use Rattle.avc_picture_core.proofs.Common.{mode4x4_of, residual4x4, mode_number, with_block4x4, with_blocks4x4, AreInside}
 use Rattle.avc_types.specs.MacroblockFields.{residual_of}
-use Rattle.avc_picture_core.proofs.Adding.{any_default}
 use Rattle.avc_picture_core.proofs.Ties.{nxn_block, nxn_residual}
 use Rattle.avc_picture_core.proofs.luma4x4.build_luma4x4.Goals as goal
 
@@ -15,7 +14,7 @@ loop-k-preserved g c =
     let top = c.first_row-row.result + c.top_of_block.result in
     let blocks = c.args.levels.now.luma in
     let levels = slice_index_or blocks k c.index-levels-k.result in
-    let mine : slice_index_or blocks k [] ≡ levels = any_default blocks k c.index-levels-k.result [] (search rules) in
+    let mine : slice_index_or blocks k [] ≡ levels = get_or_default blocks k [] c.index-levels-k.result (search rules) in
     let f = residual4x4 c.args.qp levels in
     let at_left : left ≡ 16 * c.args.place.column + block_x k = omega (arith, inv.left, c.left_of_block.ensures.value) in
     let at_top : top ≡ 16 * c.args.place.row + block_y k = omega (arith, inv.top, c.top_of_block.ensures.value) in

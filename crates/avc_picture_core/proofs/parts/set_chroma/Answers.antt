@@ -1,9 +1,6 @@
-use Rattle.avc_picture_core.proofs.Common.{◌*◌, ◌∙◌, arith, sample, inter_chroma}
-use Rattle.avc_picture_core.proofs.Laid.{laid_by, laid_weighted, length-block}
+use Rattle.avc_picture_core.proofs.Common.{◌*◌, ◌∙◌, sample, inter_chroma}
+use Rattle.avc_picture_core.proofs.Laid.{laid_by, laid_weighted}
 use Rattle.avc_picture_core.proofs.parts.set_chroma.Goals as goal
-
-pub set_weighted-requires : goal.set_weighted-requires
-set_weighted-requires g c = grind (arith, length-block)
 
 pub returns-in-None : goal.returns-in-None
 returns-in-None g c =

@@ -1,13 +1,8 @@
-use Rattle.avc_picture_core.proofs.Common.{◌≡◌, ◌*◌, block_at, luma_residual_16x16}
-use Rattle.avc_types.specs.MacroblockFields.{residual_of}
-use Rattle.avc_picture_core.proofs.InPlace.{with_blocks_before}
+use Rattle.avc_picture_core.proofs.Common.{block_at, luma_dc}
+use Rattle.avc_picture_core.proofs.Adding.{residual_by_dc}
+use Rattle.avc_picture_core.proofs.InPlace.{AddedBefore}
 use Rattle.avc_picture_core.proofs.residual.add_luma_residual_16x16.Given as goal
 
 abbrev pub invariant-loop-k : goal.invariant-loop-k
-invariant-loop-k g l = record {
-  wide : l.plane.width ≡ l.fn.plane.width;
-  high : l.plane.height ≡ l.fn.plane.height;
-  left : l.column ≡ 16 * l.fn.place.column;
-  top : l.row ≡ 16 * l.fn.place.row;
-  done : l.plane ≡ with_blocks_before l.fn.plane (16 * l.fn.place.column) (16 * l.fn.place.row) 16 block_at (luma_residual_16x16 l.qp (residual_of l.fn.dc l.levels)) l.k;
-}
+invariant-loop-k g l =
+    AddedBefore l.fn.plane l.plane 16 l.fn.place.column l.fn.place.row l.column l.row block_at (residual_by_dc l.qp (luma_dc l.qp l.dc) l.levels.luma) l.k
