@@ -21,11 +21,11 @@ pub use Rattle.avc_types.specs.Arithmetic.{◌==ℤ◌ as same_number}
 pub use Rattle.avc_types.specs.References.{sorted_by, placed_by}
 pub use Rattle.avc_dpb.specs.Contents.{IsRising, slot_of, changed_at, Contents, IsBuffer, IsReferenceAmong, Stores, OutputsAll, OutputsSome}
 pub use Rattle.avc_dpb.specs.Contents.{arrival_of, changed_at as slot_changed_at, with_mark}
-pub use Rattle.avc_dpb.specs.Laws.{held_in_order, StandsInDecodingOrder, AllHeldGoOut, OutOnlyGrows, GoesOutInTurn, HoldsAtMost}
+pub use Rattle.avc_dpb.specs.Laws.{needed_in_order, StandsInDecodingOrder, AllHeldGoOut, OutOnlyGrows, GoesOutInTurn, HoldsAtMost}
 pub use Rattle.avc_dpb.specs.Laws.{MissingFramesFindRoom, IsNextOutput, LeastGoesOut, AllGoOutByBumping}
 pub use Rattle.avc_dpb.specs.Laws.{MissingFramesKeepTheOrder, occurrences, pictures, GoesOutOnce, places_of_references, HasRoom}
 pub use Rattle.avc_dpb.specs.Laws.{ReferencesStay}
-pub use Rattle.avc_dpb.specs.Places.{first_output_from, first_of_two, are_needed, chosen, goes_on, no_longer_held as slot_let_go}
+pub use Rattle.avc_dpb.specs.Places.{first_output_from, first_of_two, are_needed, chosen, goes_on, no_longer_needed as slot_let_go}
 pub use Rattle.avc_dpb.specs.Reordering.{whole_output, reordered, last_emptying, limit_after, references_after, CanGoOutEarly}
 pub use Rattle.avc_dpb.specs.Reordering.{AllCanGoOutEarly, EarlyOutputKeepsTheOrder, places_after}
 pub use Rattle.avc_dpb.specs.Steps.{StandFor, Become, ShowsFirst, goes_on_in, BumpsWhile, ShowsWhile, PlacesFrame}

@@ -10,18 +10,18 @@ use Rattle.avc_dpb.proofs.Common.{PlacesFrame, is_used_for_reference, shown_fram
 use Rattle.avc_types.specs.declared.picture.Picture.{Picture}
 use Rattle.avc_dpb.specs.declared.arriving_frame.ArrivingFrame.{ArrivingFrame}
 use Rattle.avc_dpb.specs.declared.waiting.Bumping.{Bumping}
-use Rattle.avc_dpb.specs.Bumping.{Stored, Buffer, is_reference_in, needed_frames, no_longer_held, after_bumping, after_bumping_while, after_making_room, with_all_output}
+use Rattle.avc_dpb.specs.Bumping.{Stored, Buffer, is_reference_in, needed_frames, no_longer_needed, after_bumping, after_bumping_while, after_making_room, with_all_output}
 use Rattle.avc_dpb.specs.Bumping.{is_full, after_frame}
 use Rattle.avc_dpb.specs.Steps.{Bumps}
-use Rattle.avc_dpb.proofs.Held.{first_held, head_held, Agree, agree, not_held, changed_at}
+use Rattle.avc_dpb.proofs.Held.{first_needed, head_needed, Agree, agree, not_needed, changed_at}
 use Rattle.avc_dpb.proofs.Bumped.{bumped_none, bumped_some, keep}
 use Rattle.avc_dpb.proofs.Rising.{filter_rising, rising_more, rising_push, same_head, same_tail}
-use Rattle.avc_dpb.proofs.Early.{Each, each_filter, each_unheld, each_push, one_more, stops}
+use Rattle.avc_dpb.proofs.Early.{Each, each_filter, each_unneeded, each_push, one_more, stops}
 use Rattle.avc_dpb.proofs.BumpingTimes.{each_also}
 use Rattle.avc_dpb.proofs.Conserved.{grows_while, grown}
 use Rattle.avc_dpb.proofs.Least.{all_go_out_by_bumping}
 use Rattle.avc_dpb.proofs.Picking.{nil_middle}
-use Rattle.avc_dpb.proofs.Rising.{unheld_rising}
+use Rattle.avc_dpb.proofs.Rising.{unneeded_rising}
 use Rattle.avc_dpb.proofs.Common.{nat_tests}
 
 -- ---- the marks of all frames
@@ -68,7 +68,7 @@ chosen_map {A} p f (x ∷ fs) = grind (arith, (chosen_map p f fs))
 needed_are : (references : List ℕ) (frame_of : ℕ → Frame 32) (fs : List Stored) → Each (Tells frame_of references) fs
     → are_needed (map slot_of fs) (map (λ s. frame_of s.entry) fs) ≡ map (keep references) fs
 needed_are references frame_of [] h = refl
-needed_are references frame_of (s ∷ fs) h = ap₂ (λ (r : Bool) (l : List Bool). (s.held || r) ∷ l) h.0 (needed_are references frame_of fs h.1)
+needed_are references frame_of (s ∷ fs) h = ap₂ (λ (r : Bool) (l : List Bool). (s.needed_for_output || r) ∷ l) h.0 (needed_are references frame_of fs h.1)
 
 pub needless_leave : {slots : List Slot} {frames : List (Frame 32)} {references : List ℕ} {b : Buffer} {next : ℕ} {frame_of : ℕ → Frame 32}
     (slots' : List Slot) (frames' : List (Frame 32)) → StandFor slots frames references b next frame_of
@@ -91,9 +91,9 @@ find_by frames k o p s e = grind (arith, none-some, same_Some)
 find_none : (frames : List Stored) (o : Option Stored) (p : Option (ℕ × ℤ)) → Agree frames 0 o p → None ≡ option_map (λ (p : ℕ × ℤ). p.0) p → o ≡ None
 find_none frames o p a e = grind (arith, none-some)
 
-unheld_entries : {A : Type 0} (g : ℕ → A) (first : Stored) (fs : List Stored) → map (λ s. g s.entry) (map (no_longer_held first) fs) ≡ map (λ s. g s.entry) fs
-unheld_entries g first [] = refl
-unheld_entries g first (s ∷ fs) = grind (arith, not_held, (unheld_entries g first fs))
+unneeded_entries : {A : Type 0} (g : ℕ → A) (first : Stored) (fs : List Stored) → map (λ s. g s.entry) (map (no_longer_needed first) fs) ≡ map (λ s. g s.entry) fs
+unneeded_entries g first [] = refl
+unneeded_entries g first (s ∷ fs) = grind (arith, not_needed, (unneeded_entries g first fs))
 
 read_at : {A : Type 0} (xs : List A) (k : ℕ) (d x : A) → slice_get xs k ≡ Some x → get_or xs k d ≡ x
 read_at [] k d x e = absurd (none-some x e)
@@ -109,18 +109,18 @@ changed_there change (y ∷ xs) (suc k) x e = ap (λ l. y ∷ l) (changed_there 
 record IsFound (frames : List (Frame 32)) (k : ℕ) (references : List ℕ) (b : Buffer) (frame_of : ℕ → Frame 32) : Type 0 where
   first : Stored
   there : slice_get b.frames k ≡ Some first
-  after : after_bumping references b ≡ record { frames = needed_frames references (map (no_longer_held first) b.frames); out = b.out ++ first.entry ∷ [] }
+  after : after_bumping references b ≡ record { frames = needed_frames references (map (no_longer_needed first) b.frames); out = b.out ++ first.entry ∷ [] }
   frame : (d : Frame 32) → get_or frames k d ≡ frame_of first.entry
 
 found : (slots : List Slot) (frames : List (Frame 32)) (k : ℕ) (references : List ℕ) (b : Buffer) (next : ℕ) (frame_of : ℕ → Frame 32)
     → Some k ≡ option_map (λ (p : ℕ × ℤ). p.0) (first_output_from 0 slots) → StandFor slots frames references b next frame_of → IsFound frames k references b frame_of
 found slots frames k references b next frame_of is h =
-    let f = find_by b.frames k (first_held b.frames) (first_output_from 0 (map slot_of b.frames)) (agree b.frames 0 next h.rising)
+    let f = find_by b.frames k (first_needed b.frames) (first_output_from 0 (map slot_of b.frames)) (agree b.frames 0 next h.rising)
     (is ∙ ap (λ l. option_map (λ (p : ℕ × ℤ). p.0) (first_output_from 0 l)) h.slots_are) in
     record {
       first = f.0;
       there = f.2;
-      after = bumped_some references b f.0 (head_held b.frames ∙ f.1);
+      after = bumped_some references b f.0 (head_needed b.frames ∙ f.1);
       frame = λ d. read_at frames k d (frame_of (f.0).entry)
           (ap (λ l. slice_get l k) h.frames_are ∙ slice_get-map (λ s. frame_of s.entry) b.frames k ∙ ap (option_map (λ s. frame_of s.entry)) f.2);
     }
@@ -132,15 +132,15 @@ pub bumped : (slots slots1 slots' : List Slot) (frames frames' : List (Frame 32)
 bumped slots slots1 slots' frames frames' out out' k f is f_is set slots_is frames_is out_is = λ b next frame_of references h.
     let o = found slots frames k references b next frame_of is h in
     let first = o.first in
-    let mid : Buffer = record { frames = map (no_longer_held first) b.frames; out = b.out ++ first.entry ∷ [] } in
-    let changed : mid.frames ≡ slice_set b.frames k (not_held first) = changed_at b.frames next k first h.rising o.there in
+    let mid : Buffer = record { frames = map (no_longer_needed first) b.frames; out = b.out ++ first.entry ∷ [] } in
+    let changed : mid.frames ≡ slice_set b.frames k (not_needed first) = changed_at b.frames next k first h.rising o.there in
     let slots_are : slots1 ≡ map slot_of mid.frames =
     set ∙ ap (λ l. slot_changed_at slot_let_go l k) h.slots_are
     ∙ changed_there slot_let_go (map slot_of b.frames) k (slot_of first) (slice_get-map slot_of b.frames k ∙ ap (option_map slot_of) o.there)
-    ∙ sym (map-set slot_of b.frames k (not_held first)) ∙ ap (map slot_of) (sym changed) in
-    let stands = stand_for slots1 frames references mid next frame_of slots_are (h.frames_are ∙ sym (unheld_entries frame_of first b.frames))
-    (each_unheld (Tells frame_of references) first b.frames (told h))
-    (unheld_rising first b.frames next h.rising) in
+    ∙ sym (map-set slot_of b.frames k (not_needed first)) ∙ ap (map slot_of) (sym changed) in
+    let stands = stand_for slots1 frames references mid next frame_of slots_are (h.frames_are ∙ sym (unneeded_entries frame_of first b.frames))
+    (each_unneeded (Tells frame_of references) first b.frames (told h))
+    (unneeded_rising first b.frames next h.rising) in
     record {
       since = first.entry ∷ [];
       grows = ap (λ c. c.out) o.after;
@@ -151,9 +151,9 @@ bumped slots slots1 slots' frames frames' out out' k f is f_is set slots_is fram
 pub none_bumped : (slots : List Slot) (frames : List (Frame 32)) (out : List Picture) → None ≡ option_map (λ (p : ℕ × ℤ). p.0) (first_output_from 0 slots)
     → Bumps slots frames out slots frames out
 none_bumped slots frames out is = λ b next frame_of references h.
-    let none = find_none b.frames (first_held b.frames) (first_output_from 0 (map slot_of b.frames)) (agree b.frames 0 next h.rising)
+    let none = find_none b.frames (first_needed b.frames) (first_output_from 0 (map slot_of b.frames)) (agree b.frames 0 next h.rising)
     (is ∙ ap (λ l. option_map (λ (p : ℕ × ℤ). p.0) (first_output_from 0 l)) h.slots_are) in
-    same_buffer (after_bumping references b) out (bumped_none references b (head_held b.frames ∙ none)) h
+    same_buffer (after_bumping references b) out (bumped_none references b (head_needed b.frames ∙ none)) h
 
 pub shows_first : (slots : List Slot) (frames : List (Frame 32)) (k : ℕ) (f : Frame 32)
     → Some k ≡ option_map (λ (p : ℕ × ℤ). p.0) (first_output_from 0 slots) → f ≡ get_or frames k f → filter_map shown_frame (f ∷ []) ≢ []
@@ -168,94 +168,94 @@ shows_first slots frames k f is f_is some = λ b next frame_of references h.
 
 -- ---- how long it goes on
 
-count_slots : (fs : List Stored) → count_by (λ s. s.held) (map slot_of fs) ≡ count_by (λ s. s.held) fs
+count_slots : (fs : List Stored) → count_by (λ s. s.needed_for_output) (map slot_of fs) ≡ count_by (λ s. s.needed_for_output) fs
 count_slots fs = from' 0 fs
   where
-    from' : (n : ℕ) (fs : List Stored) → fold (λ n (s : Slot). n + cond s.held 1 0) n (map slot_of fs) ≡ fold (λ n (s : Stored). n + cond s.held 1 0) n fs
+    from' : (n : ℕ) (fs : List Stored) → fold (λ n (s : Slot). n + cond s.needed_for_output 1 0) n (map slot_of fs) ≡ fold (λ n (s : Stored). n + cond s.needed_for_output 1 0) n fs
     from' n [] = refl
-    from' n (s ∷ fs) = from' (n + cond s.held 1 0) fs
+    from' n (s ∷ fs) = from' (n + cond s.needed_for_output 1 0) fs
 
-first_slots : (order : ℤ) (fs : List Stored) → list_all (λ s. not s.held || int_lt order s.order) (map slot_of fs) ≡ list_all (λ s. not s.held || int_lt order s.order) fs
+first_slots : (order : ℤ) (fs : List Stored) → list_all (λ s. not s.needed_for_output || int_lt order s.pic_order_cnt) (map slot_of fs) ≡ list_all (λ s. not s.needed_for_output || int_lt order s.pic_order_cnt) fs
 first_slots order [] = refl
-first_slots order (s ∷ fs) = ap (λ t. (not s.held || int_lt order s.order) && t) (first_slots order fs)
+first_slots order (s ∷ fs) = ap (λ t. (not s.needed_for_output || int_lt order s.pic_order_cnt) && t) (first_slots order fs)
 
 same_test : (bumping : Bumping) (references : List ℕ) (slots : List Slot) (b : Buffer) → slots ≡ map slot_of b.frames → goes_on bumping slots ≡ goes_on_in bumping references b
 same_test bumping references slots b is = grind (arith, ℕ, nat_le, length-map, first_slots, count_slots)
 
 -- So many bumpings were made of those that may be; `now` is the buffer after them.
-pub record IsSoFar (bumping : Bumping) (held turn : ℕ) (slots : List Slot) (frames : List (Frame 32)) (references : List ℕ) (b : Buffer) (next : ℕ)
+pub record IsSoFar (bumping : Bumping) (needed_for_output turn : ℕ) (slots : List Slot) (frames : List (Frame 32)) (references : List ℕ) (b : Buffer) (next : ℕ)
     (frame_of : ℕ → Frame 32) (out out' : List Picture) : Type 0 where
   pub now : Buffer
   pub become : Become slots frames references b now next frame_of out out'
-  pub left : after_bumping_while (goes_on_in bumping references) references (held - turn) now ≡ after_bumping_while (goes_on_in bumping references) references held b
+  pub left : after_bumping_while (goes_on_in bumping references) references (needed_for_output - turn) now ≡ after_bumping_while (goes_on_in bumping references) references needed_for_output b
 
-abbrev pub SoFar : Bumping → (held turn : ℕ) (slots : List Slot) (frames : List (Frame 32)) (out : List Picture) (slots' : List Slot) (frames' : List (Frame 32))
+abbrev pub SoFar : Bumping → (needed_for_output turn : ℕ) (slots : List Slot) (frames : List (Frame 32)) (out : List Picture) (slots' : List Slot) (frames' : List (Frame 32))
     (out' : List Picture) → Type 0
-SoFar bumping held turn slots frames out slots' frames' out' =
+SoFar bumping needed_for_output turn slots frames out slots' frames' out' =
     (b : Buffer) (next : ℕ) (frame_of : ℕ → Frame 32) (references : List ℕ) → StandFor slots frames references b next frame_of
-    → IsSoFar bumping held turn slots' frames' references b next frame_of out out'
+    → IsSoFar bumping needed_for_output turn slots' frames' references b next frame_of out out'
 
-pub at_start : (bumping : Bumping) (held : ℕ) (slots : List Slot) (frames : List (Frame 32)) (out : List Picture) → SoFar bumping held 0 slots frames out slots frames out
-at_start bumping held slots frames out = grind (arith, same_buffer)
+pub at_start : (bumping : Bumping) (needed_for_output : ℕ) (slots : List Slot) (frames : List (Frame 32)) (out : List Picture) → SoFar bumping needed_for_output 0 slots frames out slots frames out
+at_start bumping needed_for_output slots frames out = grind (arith, same_buffer)
 
-goes_more : (bumping : Bumping) (references : List ℕ) (held turn : ℕ) (slots : List Slot) (b : Buffer) → turn < held → goes_on bumping slots ≡ true → slots ≡ map slot_of b.frames
-    → after_bumping_while (goes_on_in bumping references) references (held - (turn + 1)) (after_bumping references b)
-    ≡ after_bumping_while (goes_on_in bumping references) references (held - turn) b
-goes_more bumping references held turn slots b low goes is =
-    let count : suc (held - (turn + 1)) ≡ held - turn = omega arith in
-    sym (one_more (goes_on_in bumping references) references (held - (turn + 1)) b (sym (same_test bumping references slots b is) ∙ goes))
+goes_more : (bumping : Bumping) (references : List ℕ) (needed_for_output turn : ℕ) (slots : List Slot) (b : Buffer) → turn < needed_for_output → goes_on bumping slots ≡ true → slots ≡ map slot_of b.frames
+    → after_bumping_while (goes_on_in bumping references) references (needed_for_output - (turn + 1)) (after_bumping references b)
+    ≡ after_bumping_while (goes_on_in bumping references) references (needed_for_output - turn) b
+goes_more bumping references needed_for_output turn slots b low goes is =
+    let count : suc (needed_for_output - (turn + 1)) ≡ needed_for_output - turn = omega arith in
+    sym (one_more (goes_on_in bumping references) references (needed_for_output - (turn + 1)) b (sym (same_test bumping references slots b is) ∙ goes))
     ∙ ap (λ n. after_bumping_while (goes_on_in bumping references) references n b) count
 
-pub one_so_far : (bumping : Bumping) (held turn : ℕ) (slots0 slots slots' : List Slot) (frames0 frames frames' : List (Frame 32)) (out0 out out' : List Picture)
-    → turn < held → goes_on bumping slots ≡ true → SoFar bumping held turn slots0 frames0 out0 slots frames out → Bumps slots frames out slots' frames' out'
-    → SoFar bumping held (turn + 1) slots0 frames0 out0 slots' frames' out'
-one_so_far bumping held turn slots0 slots slots' frames0 frames frames' out0 out out' low goes so_far bumps = λ b next frame_of references h.
+pub one_so_far : (bumping : Bumping) (needed_for_output turn : ℕ) (slots0 slots slots' : List Slot) (frames0 frames frames' : List (Frame 32)) (out0 out out' : List Picture)
+    → turn < needed_for_output → goes_on bumping slots ≡ true → SoFar bumping needed_for_output turn slots0 frames0 out0 slots frames out → Bumps slots frames out slots' frames' out'
+    → SoFar bumping needed_for_output (turn + 1) slots0 frames0 out0 slots' frames' out'
+one_so_far bumping needed_for_output turn slots0 slots slots' frames0 frames frames' out0 out out' low goes so_far bumps = λ b next frame_of references h.
     let f = so_far b next frame_of references h in
     record {
       now = after_bumping references f.now;
       become = in_turn f.become (bumps f.now next frame_of references f.become.stand);
-      left = goes_more bumping references held turn slots f.now low goes f.become.stand.slots_are ∙ f.left;
+      left = goes_more bumping references needed_for_output turn slots f.now low goes f.become.stand.slots_are ∙ f.left;
     }
 
--- all that may be are as many as are held
-all_are : (bumping : Bumping) (references : List ℕ) (held : ℕ) (slots : List Slot) (b : Buffer) → held ≡ count_by (λ s. s.held) slots → slots ≡ map slot_of b.frames
-    → after_bumping_while (goes_on_in bumping references) references held b ≡ after_making_room (goes_on_in bumping references) references b
-all_are bumping references held slots b count is = grind (arith, count_slots)
+-- all that may be are as many as are needed for output
+all_are : (bumping : Bumping) (references : List ℕ) (needed_for_output : ℕ) (slots : List Slot) (b : Buffer) → needed_for_output ≡ count_by (λ s. s.needed_for_output) slots → slots ≡ map slot_of b.frames
+    → after_bumping_while (goes_on_in bumping references) references needed_for_output b ≡ after_making_room (goes_on_in bumping references) references b
+all_are bumping references needed_for_output slots b count is = grind (arith, count_slots)
 
-ended : (bumping : Bumping) (held turn : ℕ) (slots0 slots : List Slot) (frames0 frames : List (Frame 32)) (out0 out : List Picture)
-    → held ≡ count_by (λ s. s.held) slots0 → SoFar bumping held turn slots0 frames0 out0 slots frames out
-    → ((references : List ℕ) (b : Buffer) → slots ≡ map slot_of b.frames → after_bumping_while (goes_on_in bumping references) references (held - turn) b ≡ b)
+ended : (bumping : Bumping) (needed_for_output turn : ℕ) (slots0 slots : List Slot) (frames0 frames : List (Frame 32)) (out0 out : List Picture)
+    → needed_for_output ≡ count_by (λ s. s.needed_for_output) slots0 → SoFar bumping needed_for_output turn slots0 frames0 out0 slots frames out
+    → ((references : List ℕ) (b : Buffer) → slots ≡ map slot_of b.frames → after_bumping_while (goes_on_in bumping references) references (needed_for_output - turn) b ≡ b)
     → BumpsWhile bumping slots0 frames0 out0 slots frames out
-ended bumping held turn slots0 slots frames0 frames out0 out count so_far end = λ b next frame_of references h.
+ended bumping needed_for_output turn slots0 slots frames0 frames out0 out count so_far end = λ b next frame_of references h.
     let f = so_far b next frame_of references h in
     subst (λ c. Become slots frames references b c next frame_of out0 out)
-    (sym (end references f.now f.become.stand.slots_are) ∙ f.left ∙ all_are bumping references held slots0 b count h.slots_are) f.become
+    (sym (end references f.now f.become.stand.slots_are) ∙ f.left ∙ all_are bumping references needed_for_output slots0 b count h.slots_are) f.become
 
-pub stopped : (bumping : Bumping) (held turn : ℕ) (slots0 slots : List Slot) (frames0 frames : List (Frame 32)) (out0 out : List Picture)
-    → held ≡ count_by (λ s. s.held) slots0 → goes_on bumping slots ≡ false → SoFar bumping held turn slots0 frames0 out0 slots frames out
+pub stopped : (bumping : Bumping) (needed_for_output turn : ℕ) (slots0 slots : List Slot) (frames0 frames : List (Frame 32)) (out0 out : List Picture)
+    → needed_for_output ≡ count_by (λ s. s.needed_for_output) slots0 → goes_on bumping slots ≡ false → SoFar bumping needed_for_output turn slots0 frames0 out0 slots frames out
     → BumpsWhile bumping slots0 frames0 out0 slots frames out
-stopped bumping held turn slots0 slots frames0 frames out0 out count stop so_far =
-    ended bumping held turn slots0 slots frames0 frames out0 out count so_far
-    (λ references b is. stops (goes_on_in bumping references) references (held - turn) b (sym (same_test bumping references slots b is) ∙ stop))
+stopped bumping needed_for_output turn slots0 slots frames0 frames out0 out count stop so_far =
+    ended bumping needed_for_output turn slots0 slots frames0 frames out0 out count so_far
+    (λ references b is. stops (goes_on_in bumping references) references (needed_for_output - turn) b (sym (same_test bumping references slots b is) ∙ stop))
 
-pub all_turns : (bumping : Bumping) (held turn : ℕ) (slots0 slots : List Slot) (frames0 frames : List (Frame 32)) (out0 out : List Picture)
-    → held ≡ count_by (λ s. s.held) slots0 → held - turn ≡ 0 → SoFar bumping held turn slots0 frames0 out0 slots frames out
+pub all_turns : (bumping : Bumping) (needed_for_output turn : ℕ) (slots0 slots : List Slot) (frames0 frames : List (Frame 32)) (out0 out : List Picture)
+    → needed_for_output ≡ count_by (λ s. s.needed_for_output) slots0 → needed_for_output - turn ≡ 0 → SoFar bumping needed_for_output turn slots0 frames0 out0 slots frames out
     → BumpsWhile bumping slots0 frames0 out0 slots frames out
-all_turns bumping held turn slots0 slots frames0 frames out0 out count none so_far =
-    ended bumping held turn slots0 slots frames0 frames out0 out count so_far
+all_turns bumping needed_for_output turn slots0 slots frames0 frames out0 out count none so_far =
+    ended bumping needed_for_output turn slots0 slots frames0 frames out0 out count so_far
     (λ references b is. ap (λ n. after_bumping_while (goes_on_in bumping references) references n b) none)
 
 -- a picture that could not be added is one of those that go out
-pub shows_while : (bumping : Bumping) (held turn : ℕ) (slots0 slots : List Slot) (frames0 frames : List (Frame 32)) (out0 out : List Picture)
-    → held ≡ count_by (λ s. s.held) slots0 → turn < held → goes_on bumping slots ≡ true → SoFar bumping held turn slots0 frames0 out0 slots frames out
+pub shows_while : (bumping : Bumping) (needed_for_output turn : ℕ) (slots0 slots : List Slot) (frames0 frames : List (Frame 32)) (out0 out : List Picture)
+    → needed_for_output ≡ count_by (λ s. s.needed_for_output) slots0 → turn < needed_for_output → goes_on bumping slots ≡ true → SoFar bumping needed_for_output turn slots0 frames0 out0 slots frames out
     → ShowsFirst slots frames → ShowsWhile bumping slots0 frames0
-shows_while bumping held turn slots0 slots frames0 frames out0 out count low goes so_far shows = λ b next frame_of references h.
+shows_while bumping needed_for_output turn slots0 slots frames0 frames out0 out count low goes so_far shows = λ b next frame_of references h.
     let f = so_far b next frame_of references h in
     let first = shows f.now next frame_of references f.become.stand in
     let after = after_bumping references f.now in
-    let more = grows_while (goes_on_in bumping references) references (held - (turn + 1)) after in
-    let all : after_bumping_while (goes_on_in bumping references) references (held - (turn + 1)) after ≡ after_making_room (goes_on_in bumping references) references b =
-    goes_more bumping references held turn slots f.now low goes f.become.stand.slots_are ∙ f.left ∙ all_are bumping references held slots0 b count h.slots_are in
+    let more = grows_while (goes_on_in bumping references) references (needed_for_output - (turn + 1)) after in
+    let all : after_bumping_while (goes_on_in bumping references) references (needed_for_output - (turn + 1)) after ≡ after_making_room (goes_on_in bumping references) references b =
+    goes_more bumping references needed_for_output turn slots f.now low goes f.become.stand.slots_are ∙ f.left ∙ all_are bumping references needed_for_output slots0 b count h.slots_are in
     let shown : List ℕ → List Picture = filter_map (λ e. shown_frame (frame_of e)) in
     record {
       since = f.become.since ++ (first.since ++ more.0);
@@ -281,7 +281,7 @@ pub goes_at_once : (slots : List Slot) (frames : List (Frame 32)) (out out' : Li
 goes_at_once slots frames out out' frame a full out_is = grind (arith, full_is, rising_more, shown_if)
 
 pub is_stored : (slots slots' : List Slot) (frames frames' : List (Frame 32)) (out : List Picture) (frame : Frame 32) (a : ArrivingFrame)
-    → nat_le a.capacity (length slots) ≡ false → slots' ≡ slots ++ record { order = a.order; held = a.existing } ∷ [] → frames' ≡ frames ++ frame ∷ []
+    → nat_le a.capacity (length slots) ≡ false → slots' ≡ slots ++ record { pic_order_cnt = a.pic_order_cnt; needed_for_output = a.existing } ∷ [] → frames' ≡ frames ++ frame ∷ []
     → PlacesFrame slots frames out frame a slots' frames' out
 is_stored slots slots' frames frames' out frame a full slots_is frames_is =
     grind (arith, full_is, append-nil, stand_for, map-append, each_push, told, rising_push)

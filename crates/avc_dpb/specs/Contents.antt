@@ -26,10 +26,10 @@ IsRising (s ∷ t ∷ frames) next = (s.entry < t.entry) × IsRising (t ∷ fram
 
 -- what output keeps of a stored frame
 abbrev pub slot_of : Stored → Slot
-slot_of s = record { order = s.order; held = s.held }
+slot_of s = record { pic_order_cnt = s.pic_order_cnt; needed_for_output = s.needed_for_output }
 
 -- The contents stand for the buffer b before the history's entry at the place `next`: they have its frames with their order counts, and
--- know which are held. `frame_of` is the frame of each entry.
+-- know which are needed for output. `frame_of` is the frame of each entry.
 pub record IsBuffer (c : Contents) (b : Buffer) (next : ℕ) (frame_of : ℕ → Frame 32) : Type 0 where
   pub works : c.failed ≡ false
   pub slots : c.slots ≡ map slot_of b.frames
@@ -44,7 +44,7 @@ AreReferences frames references b = map is_used_for_reference frames ≡ map (is
 -- before it is asked for by other calls.
 abbrev pub arrival_of : ArrivingFrame → (references : List ℕ) → Arrival
 arrival_of a references = record {
-  order = a.order;
+  pic_order_cnt = a.pic_order_cnt;
   existing = a.existing;
   is_reference = a.is_reference;
   prior_pictures = remain;
@@ -64,7 +64,7 @@ pub record HasBuffer (new : Contents) (out : List Picture) (b b' : Buffer) (next
 
 -- ---- what a call makes of every buffer that the contents stand for, and what it hands out
 
--- A frame is stored, or its picture goes out where there is no room, and then no more are held than may stay so (C.4.5); the
+-- A frame is stored, or its picture goes out where there is no room, and then no more are needed for output than may stay so (C.4.5); the
 -- contents' frames and this one have the marks that they have once this frame is marked.
 abbrev pub Stores : (old : Contents) (frame : Frame 32) → ArrivingFrame → (out : List Picture) (new : Contents) → Type 0
 Stores old frame arriving out new =
@@ -83,9 +83,9 @@ OutputsSome old =
     (b : Buffer) (next : ℕ) (frame_of : ℕ → Frame 32) → IsBuffer old b next frame_of →
     filter_map (λ entry. shown_frame (frame_of entry)) (new_output b (with_all_output b)) ≢ []
 
--- the frame at a place is held
-abbrev pub is_held_at : List Slot → (place : ℕ) → Bool
-is_held_at slots place = elim (slice_get slots place) [ None ↦ false | Some s ↦ s.held ]
+-- the frame at a place is needed for output
+abbrev pub is_needed_for_output_at : List Slot → (place : ℕ) → Bool
+is_needed_for_output_at slots place = elim (slice_get slots place) [ None ↦ false | Some s ↦ s.needed_for_output ]
 
 -- the list with the element at one place changed
 abbrev pub changed_at : {A : Type 0} → (A → A) → List A → (place : ℕ) → List A

@@ -2,41 +2,41 @@
 use Rattle.std.specs.Prelude.{◌≡◌, ℕ, ◌+◌, ◌≤◌, pos, ◌==◌, ◌≤ℤ◌, if◌then◌else◌, true, false, not, ◌||◌, List, [], ◌∷◌, ◌++◌, length, map, count_by, slice_get, Option, Some, None}
 use Rattle.std.specs.List.{filter, list_any}
 use Rattle.avc_dpb.specs.declared.output.Output.{Output}
-use Rattle.avc_dpb.specs.Bumping.{remain, Arrival, Stored, Buffer, held_in_output_order, is_reference_in, needed_frames, after_bumping, after_bumping_while, with_all_output, after_prior_pictures, after_frame, after_entry, buffer_after, new_output}
+use Rattle.avc_dpb.specs.Bumping.{remain, Arrival, Stored, Buffer, needed_in_output_order, is_reference_in, needed_frames, after_bumping, after_bumping_while, with_all_output, after_prior_pictures, after_frame, after_entry, buffer_after, new_output}
 use Rattle.avc_dpb.specs.Contents.{IsRising}
 
 -- ---- C.4.5.3
 
--- It is one of these frames, it is held, and no held frame has a smaller order count; of equals it was decoded first.
+-- It is one of these frames, it is needed for output, and no held frame has a smaller order count; of equals it was decoded first.
 pub record IsNextOutput (frames : List Stored) (s : Stored) : Type 0 where
   pub place : ℕ
   pub among : slice_get frames place ≡ Some s
-  pub held : s.held ≡ true
-  pub least : (k : ℕ) (t : Stored) → slice_get frames k ≡ Some t → t.held ≡ true → s.order ≤ℤ t.order
-  pub first : (k : ℕ) (t : Stored) → slice_get frames k ≡ Some t → t.held ≡ true → t.order ≡ s.order → s.entry ≤ t.entry
+  pub needed_for_output : s.needed_for_output ≡ true
+  pub least : (k : ℕ) (t : Stored) → slice_get frames k ≡ Some t → t.needed_for_output ≡ true → s.pic_order_cnt ≤ℤ t.pic_order_cnt
+  pub first : (k : ℕ) (t : Stored) → slice_get frames k ≡ Some t → t.needed_for_output ≡ true → t.pic_order_cnt ≡ s.pic_order_cnt → s.entry ≤ t.entry
 
--- Bumping puts out the picture that goes next; it does nothing only where no picture is held.
+-- Bumping puts out the picture that goes next; it does nothing only where no picture is needed for output.
 abbrev pub Bumps : (references : List ℕ) → Buffer → Option Stored → Type 0
 Bumps references b (Some s) = IsNextOutput b.frames s × ((after_bumping references b).out ≡ b.out ++ s.entry ∷ [])
 Bumps references b None =
-    ((k : ℕ) (t : Stored) → slice_get b.frames k ≡ Some t → t.held ≡ true → ⊥) × (after_bumping references b ≡ b)
+    ((k : ℕ) (t : Stored) → slice_get b.frames k ≡ Some t → t.needed_for_output ≡ true → ⊥) × (after_bumping references b ≡ b)
 
 -- Bumping puts out the held picture that is first in output order (C.4.5.3).
 abbrev pub LeastGoesOut : Type 0
 LeastGoesOut =
     (references : List ℕ) (b : Buffer) (next : ℕ) → IsRising b.frames next
-    → Bumps references b (slice_get (held_in_output_order b.frames) 0)
+    → Bumps references b (slice_get (needed_in_output_order b.frames) 0)
 
 -- ---- C.4.4: all held pictures go out by bumping again and again
 
--- What goes out at once is what bumping puts out, until nothing is held (C.4.4).
+-- What goes out at once is what bumping puts out, until nothing is needed for output (C.4.4).
 abbrev pub AllGoOutByBumping : Type 0
 AllGoOutByBumping = (references : List ℕ) (b : Buffer) (next : ℕ) → IsRising b.frames next
-    → (with_all_output b).out ≡ (after_bumping_while (λ _. true) references (count_by (λ s. s.held) b.frames) b).out
+    → (with_all_output b).out ≡ (after_bumping_while (λ _. true) references (count_by (λ s. s.needed_for_output) b.frames) b).out
 
--- They are those that are held, in the order in which they go out.
+-- They are those that are needed for output, in the order in which they go out.
 abbrev pub AllHeldGoOut : Type 0
-AllHeldGoOut = (b : Buffer) → new_output b (with_all_output b) ≡ map (λ s. s.entry) (held_in_output_order b.frames)
+AllHeldGoOut = (b : Buffer) → new_output b (with_all_output b) ≡ map (λ s. s.entry) (needed_in_output_order b.frames)
 
 -- ---- over a history
 
@@ -82,14 +82,14 @@ GoesOutOnce = (output : Output) (history : List Arrival) (place : ℕ)
 -- ---- the frames that stay
 
 -- the places of the held pictures, in the order in which they go out
-abbrev pub held_in_order : Buffer → List ℕ
-held_in_order b = map (λ s. s.entry) (held_in_output_order b.frames)
+abbrev pub needed_in_order : Buffer → List ℕ
+needed_in_order b = map (λ s. s.entry) (needed_in_output_order b.frames)
 
--- A non-existing frame is not held: what goes out to make room for it is what goes first of those that are held.
+-- A non-existing frame is not needed for output: what goes out to make room for it is what goes first of those that are needed for output.
 abbrev pub MissingFramesKeepTheOrder : Type 0
 MissingFramesKeepTheOrder = (output : Output) (entry : ℕ) (a : Arrival) (b : Buffer)
     → IsRising b.frames entry → a.existing ≡ false → a.prior_pictures ≡ remain
-    → held_in_order b ≡ new_output b (after_entry output entry a b) ++ held_in_order (after_entry output entry a b)
+    → needed_in_order b ≡ new_output b (after_entry output entry a b) ++ needed_in_order (after_entry output entry a b)
 
 -- the places of the frames in the buffer that are among these reference frames
 abbrev pub places_of_references : (references : List ℕ) → Buffer → List ℕ
@@ -112,7 +112,7 @@ ReferencesStay = (output : Output) (entry : ℕ) (a : Arrival) (b : Buffer)
 -- a non-existing frame, with the places of the reference frames once it is marked (8.2.5.2)
 abbrev pub missing_arrival : (capacity : ℕ) → (references : List ℕ) → Arrival
 missing_arrival capacity references = record {
-  order = pos 0;
+  pic_order_cnt = pos 0;
   existing = false;
   is_reference = true;
   prior_pictures = remain;
@@ -123,7 +123,7 @@ missing_arrival capacity references = record {
 
 -- that frame in the buffer (C.4.2)
 abbrev pub missing_stored : (entry : ℕ) → Stored
-missing_stored entry = record { entry = entry; order = pos 0; held = false }
+missing_stored entry = record { entry = entry; pic_order_cnt = pos 0; needed_for_output = false }
 
 -- Where the frames that are still needed leave room for it, a non-existing frame is stored, and nothing goes out (C.4.2, C.4.5.3).
 abbrev pub MissingFramesFindRoom : Type 0

@@ -28,7 +28,7 @@ abbrev pub last_emptying : List Arrival → ℕ
 last_emptying [] = 0
 last_emptying (a ∷ older) = elim a.prior_pictures [ remain ↦ last_emptying older | are_output ↦ length older ]
 
--- how many pictures may stay held after these entries: non-existing frames set no limit
+-- how many pictures may stay needed for output after these entries: non-existing frames set no limit
 abbrev pub limit_after : List Arrival → Option ℕ
 limit_after [] = None
 limit_after (a ∷ older) = if a.existing then a.max_num_reorder_frames else limit_after older

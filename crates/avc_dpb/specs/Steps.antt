@@ -44,7 +44,7 @@ ShowsFirst slots frames =
     (b : Buffer) (next : ℕ) (frame_of : ℕ → Frame 32) (references : List ℕ) → StandFor slots frames references b next frame_of
     → ShowsSome b (after_bumping references b) frame_of
 
--- bumping goes on, where a picture is held: what `goes_on` says, of the buffer
+-- bumping goes on, where a picture is needed for output: what `goes_on` says, of the buffer
 abbrev pub goes_on_in : Bumping → (references : List ℕ) → Buffer → Bool
 goes_on_in (ForRoom a) references b = must_bump (arrival_of a references) b
 goes_on_in (ForFew output a) references b = holds_too_many output (arrival_of a references) b

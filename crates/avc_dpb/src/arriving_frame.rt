@@ -3,7 +3,7 @@
 #[derive(Clone, Copy, Debug)]
 pub struct ArrivingFrame {
     /// PicOrderCnt; any number for a non-existing frame.
-    pub order: i32,
+    pub pic_order_cnt: i32,
 
     /// No for a non-existing frame.
     pub existing: bool,
@@ -14,6 +14,6 @@ pub struct ArrivingFrame {
     /// The buffer's size in frames, 1 to 16.
     pub capacity: usize,
 
-    /// max_num_reorder_frames: at most so many pictures stay held under `Output::Early`; none: no limit.
+    /// max_num_reorder_frames: at most so many pictures stay needed for output under `Output::Early`; none: no limit.
     pub max_num_reorder_frames: Option<u32>,
 }

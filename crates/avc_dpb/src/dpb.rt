@@ -1,7 +1,7 @@
 ghost use Rattle.avc_plane.specs.declared.frame.Frame.{Frame as StoredFrame};
 ghost use Rattle.std.specs.Prelude.{◌≡◌, ◌+◌, ◌<◌, ◌≤◌, ℕ, [], true, false, length, IfOk, OnErr, OnOk, IsErr};
 ghost use Rattle.avc_dpb.specs.Bumping.{empty_buffer};
-ghost use Rattle.avc_dpb.specs.Contents.{IsBuffer, OutputsAll, OutputsSome, Stores, is_held_at, with_mark};
+ghost use Rattle.avc_dpb.specs.Contents.{IsBuffer, OutputsAll, OutputsSome, Stores, is_needed_for_output_at, with_mark};
 ghost use Rattle.avc_dpb.specs.Steps.{PlacesFrame};
 
 use crate::arriving_frame::ArrivingFrame;
@@ -64,12 +64,12 @@ impl Dpb {
         self.frames.as_slice()
     }
 
-    /// Whether the stored frame at this place is held: it has not gone out yet.
-    pub fn is_held(&self, place: usize) -> bool
-        ensures { result ≡ is_held_at self.now.slots place }
+    /// Whether the stored frame at this place is needed for output: it has not gone out yet.
+    pub fn is_needed_for_output(&self, place: usize) -> bool
+        ensures { result ≡ is_needed_for_output_at self.now.slots place }
     {
         match self.slots.get(place) {
-            Some(slot) => slot.held,
+            Some(slot) => slot.needed_for_output,
             None => false,
         }
     }
@@ -83,7 +83,7 @@ impl Dpb {
     }
 
     /// Makes room for a frame and stores it, or hands its picture out where there is no room (C.4.5.1, C.4.5.2, C.4.2), and then
-    /// hands out what is held too many (E.2.1). The stored frames have the marks that they have once this frame is marked. Answers
+    /// hands out what is needed for output too many (E.2.1). The stored frames have the marks that they have once this frame is marked. Answers
     /// the pictures that go out, in order.
     pub fn store(
         &mut self,
@@ -131,7 +131,7 @@ impl Dpb {
         Ok(out)
     }
 
-    /// Hands out all held pictures, by bumping, and is then empty (C.4.4). Where none is held no memory is wanted.
+    /// Hands out all held pictures, by bumping, and is then empty (C.4.4). Where none is needed for output no memory is wanted.
     pub fn empty(&mut self) -> Result<Vec<Picture>, OutOfMemory>
         ensures ok { IfOk result (λ out. OutputsAll self.old out.items self.new) }
         ensures err { OnErr result (self.new.failed ≡ true) }
@@ -208,8 +208,8 @@ fn place(
     }
     frames.push(frame)?;
     slots.push(Slot {
-        order: arriving.order,
-        held: arriving.existing,
+        pic_order_cnt: arriving.pic_order_cnt,
+        needed_for_output: arriving.existing,
     });
     Ok(())
 }

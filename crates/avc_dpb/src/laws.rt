@@ -15,7 +15,7 @@ pub fn all_go_out_by_bumping()
     ensures { AllGoOutByBumping }
 {}
 
-/// What goes out where the buffer is emptied: all that is held, in order.
+/// What goes out where the buffer is emptied: all that is needed for output, in order.
 #[tactic(auto, using(crate::proofs::Conserved::all_held_go_out))]
 pub fn all_held_go_out()
     ensures { AllHeldGoOut }
@@ -50,7 +50,7 @@ pub fn goes_out_once()
     ensures { GoesOutOnce }
 {}
 
-/// What goes out to make room for a non-existing frame goes out first of what is held (C.4.2).
+/// What goes out to make room for a non-existing frame goes out first of what is needed for output (C.4.2).
 pub fn missing_frames_keep_the_order()
     ensures { MissingFramesKeepTheOrder }
 {}

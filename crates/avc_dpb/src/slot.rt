@@ -2,8 +2,8 @@
 #[derive(Clone, Copy, Default)]
 pub struct Slot {
     /// PicOrderCnt.
-    pub order: i32,
+    pub pic_order_cnt: i32,
 
     /// Needed for output.
-    pub held: bool,
+    pub needed_for_output: bool,
 }

@@ -6,11 +6,11 @@ use avc_types::{Crop, Mark, OutOfMemory, Picture};
 use std::alloc::{AllocError, Global};
 use std::test::Fail;
 
-fn reference(order: i32, capacity: usize) -> ArrivingFrame
+fn reference(pic_order_cnt: i32, capacity: usize) -> ArrivingFrame
     ensures { result.capacity ≡ capacity }
 {
     ArrivingFrame {
-        order,
+        pic_order_cnt,
         existing: true,
         is_reference: true,
         capacity,
@@ -18,11 +18,11 @@ fn reference(order: i32, capacity: usize) -> ArrivingFrame
     }
 }
 
-fn other(order: i32, capacity: usize) -> ArrivingFrame
+fn other(pic_order_cnt: i32, capacity: usize) -> ArrivingFrame
     ensures { result.capacity ≡ capacity }
 {
     ArrivingFrame {
-        order,
+        pic_order_cnt,
         existing: true,
         is_reference: false,
         capacity,
@@ -34,7 +34,7 @@ fn missing(capacity: usize) -> ArrivingFrame
     ensures { result.capacity ≡ capacity }
 {
     ArrivingFrame {
-        order: 0,
+        pic_order_cnt: 0,
         existing: false,
         is_reference: true,
         capacity,
@@ -71,8 +71,8 @@ fn numbers(alloc: Global, pictures: &[Picture]) -> Result<Vec<u32>, AllocError> 
 #[test]
 fn by_order_count(rt: HostRuntime) -> Result<(), Fail> {
     let mut dpb = Dpb::new(rt.alloc(), Output::Full);
-    for (number, order) in [(0, 0), (1, 4)] {
-        let out = dpb.store(frame(rt.alloc(), number, None)?, &other(order, 2))?;
+    for (number, pic_order_cnt) in [(0, 0), (1, 4)] {
+        let out = dpb.store(frame(rt.alloc(), number, None)?, &other(pic_order_cnt, 2))?;
         assert_eq!(rt;
             numbers(rt.alloc(), out.as_slice())?.as_slice(),
             [].as_slice()
@@ -156,8 +156,8 @@ fn number_of(frame: Option<Frame<PADDING>>) -> Option<u32> {
 fn hands_out_emptied_frames(rt: HostRuntime) -> Result<(), Fail> {
     let mut dpb = Dpb::new(rt.alloc(), Output::Full);
     assert_eq!(rt; number_of(dpb.emptied_frame()), None);
-    for (number, order) in [(0, 0), (1, 4), (2, 2)] {
-        dpb.store(frame(rt.alloc(), number, None)?, &other(order, 2))?;
+    for (number, pic_order_cnt) in [(0, 0), (1, 4), (2, 2)] {
+        dpb.store(frame(rt.alloc(), number, None)?, &other(pic_order_cnt, 2))?;
     }
     assert_eq!(rt; number_of(dpb.emptied_frame()), Some(0));
     assert_eq!(rt; number_of(dpb.emptied_frame()), None);
@@ -171,13 +171,13 @@ fn hands_out_emptied_frames(rt: HostRuntime) -> Result<(), Fail> {
     Ok(())
 }
 
-// A reference picture, one of four for which there is room; one picture may stay held.
-fn one_of_four(order: i32) -> ArrivingFrame
+// A reference picture, one of four for which there is room; one picture may stay needed for output.
+fn one_of_four(pic_order_cnt: i32) -> ArrivingFrame
     ensures { result.capacity ≡ 4 }
 {
     ArrivingFrame {
         max_num_reorder_frames: Some(1),
-        ..reference(order, 4)
+        ..reference(pic_order_cnt, 4)
     }
 }
 
@@ -185,10 +185,10 @@ fn one_of_four(order: i32) -> ArrivingFrame
 #[test]
 fn only_where_room_is_needed(rt: HostRuntime) -> Result<(), Fail> {
     let mut dpb = Dpb::new(rt.alloc(), Output::Full);
-    for (number, order) in [(0, 0), (1, 4), (2, 2)] {
+    for (number, pic_order_cnt) in [(0, 0), (1, 4), (2, 2)] {
         let out = dpb.store(
             frame(rt.alloc(), number, Some(Mark::Short))?,
-            &one_of_four(order),
+            &one_of_four(pic_order_cnt),
         )?;
         assert_eq!(rt;
             numbers(rt.alloc(), out.as_slice())?.as_slice(),
@@ -203,9 +203,9 @@ fn only_where_room_is_needed(rt: HostRuntime) -> Result<(), Fail> {
     Ok(())
 }
 
-// The same early: the second of two that are held goes out later. The frames stay for reference.
+// The same early: the second of two that are needed for output goes out later. The frames stay for reference.
 #[test]
-fn no_more_than_may_stay_held(rt: HostRuntime) -> Result<(), Fail> {
+fn no_more_than_may_stay_needed(rt: HostRuntime) -> Result<(), Fail> {
     let mut dpb = Dpb::new(rt.alloc(), Output::Early);
     let out = dpb.store(frame(rt.alloc(), 0, Some(Mark::Short))?, &one_of_four(0))?;
     assert_eq!(rt;
@@ -235,10 +235,10 @@ fn no_more_than_may_stay_held(rt: HostRuntime) -> Result<(), Fail> {
 #[test]
 fn no_limit(rt: HostRuntime) -> Result<(), Fail> {
     let mut dpb = Dpb::new(rt.alloc(), Output::Early);
-    for (number, order) in [(0, 0), (1, 4)] {
+    for (number, pic_order_cnt) in [(0, 0), (1, 4)] {
         let out = dpb.store(
             frame(rt.alloc(), number, Some(Mark::Short))?,
-            &reference(order, 4),
+            &reference(pic_order_cnt, 4),
         )?;
         assert_eq!(rt;
             numbers(rt.alloc(), out.as_slice())?.as_slice(),
