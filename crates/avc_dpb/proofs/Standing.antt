@@ -13,7 +13,7 @@ use Rattle.avc_dpb.specs.declared.waiting.Bumping.{Bumping}
 use Rattle.avc_dpb.specs.Bumping.{Stored, Buffer, is_reference_in, needed_frames, no_longer_needed, after_bumping, after_bumping_while, after_making_room, with_all_output}
 use Rattle.avc_dpb.specs.Bumping.{is_full, after_frame}
 use Rattle.avc_dpb.specs.Steps.{Bumps}
-use Rattle.avc_dpb.proofs.Held.{first_needed, head_needed, Agree, agree, not_needed, changed_at}
+use Rattle.avc_dpb.proofs.NextOutput.{first_needed, head_needed, Agree, agree, not_needed, changed_at}
 use Rattle.avc_dpb.proofs.Bumped.{bumped_none, bumped_some, keep}
 use Rattle.avc_dpb.proofs.Rising.{filter_rising, rising_more, rising_push, same_head, same_tail}
 use Rattle.avc_dpb.proofs.Early.{Each, each_filter, each_unneeded, each_push, one_more, stops}

@@ -72,7 +72,7 @@ Stores old frame arriving out new =
     AreReferences old.frames references b → frame_of next ≡ frame → IsReferenceAmong frame next references →
     HasBuffer new out b (after_frame old.output next (arrival_of arriving references) b) (next + 1) frame_of
 
--- All held pictures go out (C.4.4).
+-- All pictures needed for output go out (C.4.4).
 abbrev pub OutputsAll : (old : Contents) (out : List Picture) (new : Contents) → Type 0
 OutputsAll old out new =
     (b : Buffer) (next : ℕ) (frame_of : ℕ → Frame 32) → IsBuffer old b next frame_of → HasBuffer new out b (with_all_output b) next frame_of

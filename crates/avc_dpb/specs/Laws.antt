@@ -7,7 +7,7 @@ use Rattle.avc_dpb.specs.Contents.{IsRising}
 
 -- ---- C.4.5.3
 
--- It is one of these frames, it is needed for output, and no held frame has a smaller order count; of equals it was decoded first.
+-- It is one of these frames, it is needed for output, and no frame needed for output has a smaller order count; of equals it was decoded first.
 pub record IsNextOutput (frames : List Stored) (s : Stored) : Type 0 where
   pub place : ℕ
   pub among : slice_get frames place ≡ Some s
@@ -21,13 +21,13 @@ Bumps references b (Some s) = IsNextOutput b.frames s × ((after_bumping referen
 Bumps references b None =
     ((k : ℕ) (t : Stored) → slice_get b.frames k ≡ Some t → t.needed_for_output ≡ true → ⊥) × (after_bumping references b ≡ b)
 
--- Bumping puts out the held picture that is first in output order (C.4.5.3).
+-- Bumping puts out the picture needed for output that is first in output order (C.4.5.3).
 abbrev pub LeastGoesOut : Type 0
 LeastGoesOut =
     (references : List ℕ) (b : Buffer) (next : ℕ) → IsRising b.frames next
     → Bumps references b (slice_get (needed_in_output_order b.frames) 0)
 
--- ---- C.4.4: all held pictures go out by bumping again and again
+-- ---- C.4.4: all pictures needed for output go out by bumping again and again
 
 -- What goes out at once is what bumping puts out, until nothing is needed for output (C.4.4).
 abbrev pub AllGoOutByBumping : Type 0
@@ -81,7 +81,7 @@ GoesOutOnce = (output : Output) (history : List Arrival) (place : ℕ)
 
 -- ---- the frames that stay
 
--- the places of the held pictures, in the order in which they go out
+-- the places of the pictures needed for output, in the order in which they go out
 abbrev pub needed_in_order : Buffer → List ℕ
 needed_in_order b = map (λ s. s.entry) (needed_in_output_order b.frames)
 

@@ -131,7 +131,7 @@ impl Dpb {
         Ok(out)
     }
 
-    /// Hands out all held pictures, by bumping, and is then empty (C.4.4). Where none is needed for output no memory is wanted.
+    /// Hands out all pictures needed for output, by bumping, and is then empty (C.4.4). Where none is needed for output no memory is wanted.
     pub fn empty(&mut self) -> Result<Vec<Picture>, OutOfMemory>
         ensures ok { IfOk result (λ out. OutputsAll self.old out.items self.new) }
         ensures err { OnErr result (self.new.failed ≡ true) }

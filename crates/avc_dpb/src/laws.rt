@@ -5,12 +5,12 @@ ghost use Rattle.avc_dpb.specs.Laws.{OutOnlyGrows, GoesOutInTurn, HoldsAtMost, G
 ghost use Rattle.avc_dpb.specs.Laws.{MissingFramesKeepTheOrder, MissingFramesFindRoom, ReferencesStay};
 ghost use Rattle.avc_dpb.specs.Reordering.{EarlyOutputKeepsTheOrder};
 
-/// Bumping puts out the held picture with the least order count, of equals the one that was decoded first (C.4.5.3).
+/// Bumping puts out the picture needed for output with the least order count, of equals the one that was decoded first (C.4.5.3).
 pub fn least_goes_out()
     ensures { LeastGoesOut }
 {}
 
-/// Where the buffer is emptied, all held pictures go out by bumping again and again (C.4.4).
+/// Where the buffer is emptied, all pictures needed for output go out by bumping again and again (C.4.4).
 pub fn all_go_out_by_bumping()
     ensures { AllGoOutByBumping }
 {}
