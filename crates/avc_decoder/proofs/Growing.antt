@@ -31,8 +31,7 @@ pub events-append : (s : State) (us vs : List Unit) (ended : Bool) → events_fr
 events-append s [] vs ended = refl
 events-append s (u ∷ us) vs ended =
     let o = after_unit s u in
-    ap (λ es. o.events ++ es) (events-append (state_after s u o) us vs ended)
-    ∙ sym (append_assoc o.events (events_from (state_after s u o) us false) (events_from (state_through (state_after s u o) us) vs ended))
+    cc (events-append (state_after s u o) us vs ended, append_assoc o.events (events_from (state_after s u o) us false) (events_from (state_through (state_after s u o) us) vs ended))
 
 -- how many macroblocks of some units and then others are read
 pub read-append : (s : State) (us vs : List Unit) → read_from s (us ++ vs) ≡ read_from s us + read_from (state_through s us) vs

@@ -192,11 +192,11 @@ after_it : (t t1 : Stream) (table1 : List SetUnit) (u : Piece) (w : Step) (silen
     → let o = closed_in t.sequence.output (phase_of t.sequence t.phase) in
     unless_silent silent o (after_next t.sequence.output (sets_after t.table) u.index o.phase w.next) ≡ after_unit (stream_state t).state u
 after_it t t1 table1 u w silent stands k shuts r is =
-    let o = closed_in t.sequence.output (phase_of t.sequence t.phase) in
-    let waits = ap (λ b. b && not w.even_after_fault) (ap is_waiting (sym r.phase) ∙ waits_here t1.sequence t1.phase) ∙ is in
-    ap (λ b. unless_silent b o (after_next t.sequence.output (sets_after t.table) u.index o.phase w.next)) (sym waits)
-    ∙ sym (closes_as t.sequence.output (sets_after t.table) u.index w t.sequence t.phase stands shuts)
-    ∙ unit_is t table1 u w stands k
+    cc (
+      waits_here t1.sequence t1.phase,
+      closes_as t.sequence.output (sets_after t.table) u.index w t.sequence t.phase stands shuts,
+      unit_is t table1 u w stands k,
+    )
 
 -- it was closed; that was a fault, and nothing comes after it
 pub closes_silently : (t t' : Stream) {table1 : List SetUnit} {u : Piece} {w : Step} → IsPhase t.sequence t.phase

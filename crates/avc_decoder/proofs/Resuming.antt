@@ -19,7 +19,7 @@ use Rattle.std.proofs.lemmas.Option.{slice_get-get_or, slice_get_within}
 use Rattle.std.specs.List.{flat_map}
 use Rattle.avc_types.specs.declared.fault.Fault.TheVariants as faults
 use Rattle.avc_annexb.specs.Written.{start_code, written}
-use Rattle.avc_decoder.proofs.Cases.{either}
+use Rattle.avc_decoder.proofs.Cases.{chosen, either}
 use Rattle.avc_decoder.proofs.Draining.{drop_some}
 use Rattle.avc_decoder.proofs.Renumbering.{at_end-same, either-same, in_phase-same, open_facts-same, renumbered_event}
 use Rattle.avc_decoder.proofs.Renumbering.{renumbered_outcome, renumbered_phase, renumbered_slice, renumbered_step, running-same}
@@ -116,15 +116,16 @@ after_unit-same : (r : ℕ → ℕ) (s s' : State) (u u' : Piece) → s'.output 
     → after_unit s' u' ≡ renumbered_outcome r (after_unit s u)
 after_unit-same r s s' u u' m e f a =
     let sets = sets_after s.sets in
-    let p = renumbered_phase r s.phase in
-    ap (λ o. in_phase o (sets_after s'.sets) u'.index (step (sets_after s'.sets) (is_running s'.phase) (open_facts_in s'.phase) u') s'.phase) m
-    ∙ ap (λ ss. in_phase s.output ss u'.index (step ss (is_running s'.phase) (open_facts_in s'.phase) u') s'.phase) e
-    ∙ ap (λ q. in_phase s.output sets u'.index (step sets (is_running q) (open_facts_in q) u') q) f
-    ∙ ap (λ (v : Piece). in_phase s.output sets v.index (step sets (is_running p) (open_facts_in p) v) p) (is_moved r u u' a)
-    ∙ ap (λ b. in_phase s.output sets (r u.index) (step sets b (open_facts_in p) (moved r u u')) p) (running-same r s.phase)
-    ∙ ap (λ o. in_phase s.output sets (r u.index) (step sets (is_running s.phase) o (moved r u u')) p) (open_facts-same r s.phase)
-    ∙ ap (λ what. in_phase s.output sets (r u.index) what p) (step-same r sets (is_running s.phase) (open_facts_in s.phase) u u')
-    ∙ in_phase-same s.output r sets u.index (step sets (is_running s.phase) (open_facts_in s.phase) u) s.phase
+    cc (
+      m,
+      e,
+      f,
+      is_moved r u u' a,
+      running-same r s.phase,
+      open_facts-same r s.phase,
+      step-same r sets (is_running s.phase) (open_facts_in s.phase) u u',
+      in_phase-same s.output r sets u.index (step sets (is_running s.phase) (open_facts_in s.phase) u) s.phase,
+    )
 
 -- The events are the same but for the numbers.
 pub events-same : SetsComeAlike → (r : ℕ → ℕ) (us us' : List Piece) (s s' : State) (ended : Bool)
@@ -378,20 +379,10 @@ next_alike sets o u e closes even =
     ∙ ap (λ (w : Step). w.next) (sym (says sets u e).waits)
 
 -- after a closing that is a fault, a unit that begins a picture even then
-fault_first : (output : Output) (sets : Sets) (unit : ℕ) (what : Step) (closed : Outcome) → closed.phase ≡ waiting → what.even_after_fault ≡ true
-    → after_closing output sets unit what closed ≡ followed_by closed (after_next output sets unit waiting what.next)
-fault_first output sets unit what closed waits even =
-    ap (λ p. elim (is_waiting p && not what.even_after_fault) [ true ↦ closed | false ↦ followed_by closed (after_next output sets unit p what.next) ]) waits
-    ∙ ap (λ b. elim (true && not b) [ true ↦ closed | false ↦ followed_by closed (after_next output sets unit waiting what.next) ]) even
-
-closing_first : (output : Output) (sets : Sets) (unit : ℕ) (what : Step) (next : Next) (h : History) (o : OpenPicture) → what.closes ≡ true
-    → (closed_picture output o).phase ≡ waiting → what.even_after_fault ≡ true → what.next ≡ next
-    → in_phase output sets unit what (running h (Some o)) ≡ followed_by (closed_picture output o) (after_next output sets unit waiting next)
-closing_first output sets unit what next h o closes waits even same =
-    let closed = closed_picture output o in
-    ap (λ b. elim b [ true ↦ after_closing output sets unit what closed | false ↦ after_next output sets unit (running h (Some o)) what.next ]) closes
-    ∙ fault_first output sets unit what closed waits even
-    ∙ ap (λ n. followed_by closed (after_next output sets unit waiting n)) same
+fault_first : (output : Output) (sets : Sets) (unit : ℕ) (what : Step) (next : Next) (closed rest : Outcome) → what.closes ≡ true
+    → closed.phase ≡ waiting → what.even_after_fault ≡ true → what.next ≡ next
+    → chosen what.closes (after_closing output sets unit what closed) rest ≡ followed_by closed (after_next output sets unit waiting next)
+fault_first output sets unit what next closed rest closes waits even same = cc (closes, waits, even, same)
 
 -- The events of the closing come first, and then those that come where decoding waits.
 starts_in : (output : Output) (units : List SetUnit) (u : Piece) (us : List Piece) (ended : Bool) (p : Phase) → is_start u ≡ true
@@ -408,7 +399,8 @@ starts_in output units u us ended (running h (Some o)) e can =
     let y = after_next output sets u.index waiting here.next in
     let rest : Outcome → List Event = λ x. events_from (record { output = output; sets = units ++ set_units (u ∷ []); phase = x.phase }) us ended in
     ap (λ (x : Outcome). x.events ++ rest x)
-    (closing_first output sets u.index what here.next h o can.0 can.1 can.2 (next_alike sets (open_picture_facts o) u e can.0 can.2))
+    (fault_first output sets u.index what here.next closed (after_next output sets u.index (running h (Some o)) what.next)
+    can.0 can.1 can.2 (next_alike sets (open_picture_facts o) u e can.0 can.2))
     ∙ append_assoc closed.events y.events (rest y)
 
 pub starts_anew : UnitsStay → WrittenUnitsStand → UnitsAreNumbered → SetsAreInForceAgain → SetsInForceAreUnits → SetsInForceAreFew → SetsComeAlike
