@@ -1,6 +1,6 @@
 -- Places of the history that rise.
-use Rattle.avc_decoder_core.proofs.Common.{◌≡◌, ℕ, zero, suc, ◌+◌, ◌<◌, Bool, true, false, cond, List, [], ◌∷◌, ◌++◌, length, map, ap, sym}
-use Rattle.avc_decoder_core.proofs.Common.{arith, subst, slice_index, All, All-nil, All-cons, filter, Stored, IsRising, Each}
+use Rattle.avc_decoder_core.proofs.Common.{ℕ, zero, suc, ◌+◌, ◌<◌, Bool, cond, List, [], ◌∷◌, ◌++◌, length, map}
+use Rattle.avc_decoder_core.proofs.Common.{arith, slice_index, All, All-nil, All-cons, filter, Stored, IsRising, Each}
 use Rattle.std.specs.List.Sorted.{IsStrictlyIncreasing}
 
 pub each_implies : {A : Type 0} (P Q : A → Type 0) (xs : List A) → ((x : A) → P x → Q x) → Each P xs → Each Q xs
