@@ -36,7 +36,7 @@ pub opened_state : (sps : Sps) (h : Header) (closed history : History) (o : Open
     → IsSps sps → (is_idr h ≡ true → has_idr_marking h ≡ true) → is_some h.marking ≡ is_reference h → buffer.failed ≡ false → closed ≡ history → set ≡ sequence_sps history
     → IsOpening sps h closed o → with_missing sps o.missing history ≡ Ok buffer.history
     → IsStateOf closed (Some (record { sps = sps; header = h; order = o.order })) buffer o.poc set
-opened_state sps h closed history o buffer set limits marking reference going rest is_set found stored = grind (arith, opened_on, counted, ok_same, follows, can_follow, set_at_opening)
+opened_state sps h closed history o buffer set limits marking reference going rest is_set found stored = grind (arith, opened_on, ok_same, can_follow, set_at_opening)
 
 -- ---- a picture is closed
 
@@ -65,7 +65,7 @@ all_before h before other = grind arith
 
 pub can_store : (closed : History) (p : OpenPicture) (b there : FrameBufferState) (prior : List Picture) → b.failed ≡ false → StandsOn closed b.history p
     → BeginsSequence b p.header prior there → CanStore p.sps p.header there p.order
-can_store closed p b there prior going stands begins = grind (arith, history_there, going_there, follows, all_before, none_before)
+can_store closed p b there prior going stands begins = grind (arith, history_there, going_there, all_before, none_before)
 
 -- It was stored, and these pictures go out.
 pub record IsStoredOn (sps : Sps) (h : Header) (planes : Planes) (b : FrameBufferState) (out : List Picture) (after : FrameBufferState) : Type 0 where
