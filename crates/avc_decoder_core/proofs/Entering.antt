@@ -1,11 +1,11 @@
 -- An entry comes: the marks and the buffer of the longer history.
-use Rattle.avc_decoder_core.proofs.Common.{◌≡◌, ℕ, ◌+◌, ◌<◌, true, List, [], ◌∷◌, ◌++◌, length, map, Option, Some, None, is_some, Result}
-use Rattle.avc_decoder_core.proofs.Common.{Ok, refl, ap, ap₂, sym, ◌∙◌, subst, arith, inl, inr, length-append, length-map, map-map, Fault}
+use Rattle.avc_decoder_core.proofs.Common.{◌≡◌, ℕ, ◌+◌, ◌<◌, true, List, [], ◌∷◌, ◌++◌, length, map, Option, Result}
+use Rattle.avc_decoder_core.proofs.Common.{Ok, refl, ap, ap₂, sym, ◌∙◌, subst, arith, length-append, length-map, map-map, Fault}
 use Rattle.avc_decoder_core.proofs.Common.{MarkedFrame, Short, Reference, reference_of, references_at, Frame, marked_frame, MarksFrame}
-use Rattle.avc_decoder_core.proofs.Common.{StandBefore, marks_at, or_fault, IsSameFrame, IsPartUpToMarks, unmarks_all, ◌>>=◌, Marks}
+use Rattle.avc_decoder_core.proofs.Common.{StandBefore, marks_at, or_fault, IsSameFrame, IsPartUpToMarks, unmarks_all, Marks}
 use Rattle.avc_decoder_core.proofs.Common.{current_frame, marks_after, adds_own_frame_alone, leaves_own_frame_alone, Output, Buffer}
-use Rattle.avc_decoder_core.proofs.Common.{Contents, IsBuffer, frame_of, frame_at, mark_in, Each, IsStateAfter, places_in}
-use Rattle.avc_decoder_core.specs.History.{Entry, decoded_picture, missing_frame, History, buffer_of, entry_at, marking_entries, marking_entry, marks_of}
+use Rattle.avc_decoder_core.proofs.Common.{Contents, IsBuffer, frame_at, mark_in, Each, IsStateAfter, places_in}
+use Rattle.avc_decoder_core.specs.History.{Entry, History, buffer_of, entry_at, marking_entry, marks_of}
 use Rattle.avc_decoder_core.proofs.Places.{each_all, each_append, each_implies, below, increasing, rise, rise_more}
 use Rattle.avc_decoder_core.proofs.References.{IsOf, each_entry, each_reference, marks_are, same_references}
 use Rattle.avc_decoder_core.proofs.FramesAt.{entry_before, entry_newest, mark_is}

@@ -1,10 +1,10 @@
 -- The frames of a history, as the buffer stores them.
-use Rattle.avc_decoder_core.proofs.Common.{◌≡◌, ℕ, zero, suc, ◌-◌, ◌<◌, Bool, true, false, List, [], ◌∷◌, ◌++◌, length, map, Option, Some}
-use Rattle.avc_decoder_core.proofs.Common.{None, is_some, refl, ap, ap₂, sym, ◌∙◌, arith, slice_get, slice_index_or, IfSome, option_map}
+use Rattle.avc_decoder_core.proofs.Common.{◌≡◌, ℕ, zero, suc, ◌<◌, List, [], ◌∷◌, ◌++◌, length, map, Option, Some}
+use Rattle.avc_decoder_core.proofs.Common.{is_some, refl, ap, ap₂, sym, ◌∙◌, arith, slice_index_or, IfSome, option_map}
 use Rattle.avc_decoder_core.proofs.Common.{cons_option, filter_map, MarkedFrame, Mark, Reference, reference_of, references_at, marked_frame}
 use Rattle.avc_decoder_core.proofs.Common.{padded_planes_of, stored_at, stored_frame, AreSized, Stored, is_reference_in, shown_frame}
 use Rattle.avc_decoder_core.proofs.Common.{frame_of, frame_at, mark_in, Each, with_marks, entry_pictures, pictures_at}
-use Rattle.avc_decoder_core.specs.History.{Entry, decoded_picture, missing_frame, History, entry_at, planes_in, stored}
+use Rattle.avc_decoder_core.specs.History.{Entry, History, entry_at, planes_in, stored}
 use Rattle.avc_decoder_core.proofs.References.{entries, is_entry, is_entry_marked}
 
 -- ---- of an entry

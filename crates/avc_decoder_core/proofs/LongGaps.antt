@@ -1,15 +1,14 @@
 -- The frames that a long gap leaves are those of its last numbers.
-use Rattle.std.proofs.Common.{◌≡◌, ℕ, zero, suc, ◌+◌, ◌<◌, ◌≤◌, Bool, true, false, List, [], ◌∷◌, ◌++◌, length, map, drop, Option, Some, None, Ok, is_ok, is_some, refl, ap, ap₂}
-use Rattle.std.proofs.Common.{sym, ◌∙◌, subst, arith, length-append}
-use Rattle.avc_decoder_core.proofs.Common.{map-map, nat_tests, ◌%◌, ◌-◌, IfSome, length-map, map-append, append_cancel_right, eq-eqb, MarkedFrame, Short}
-use Rattle.avc_decoder_core.proofs.Common.{Reference, reference_of, references_at, Frame, marked_frame, AreSized, dpb_size, max_frame_num}
-use Rattle.avc_decoder_core.proofs.Common.{reference_limit, width_in_mbs, height_in_mbs, Sps, CountFrom, StandBelow, StandFrom, Marks}
+use Rattle.std.proofs.Common.{◌≡◌, ℕ, zero, suc, ◌+◌, ◌<◌, ◌≤◌, true, List, [], ◌∷◌, ◌++◌, length, map, drop, Option, Some, None, Ok, is_ok, refl, ap, ap₂}
+use Rattle.std.proofs.Common.{length-drop, sym, ◌∙◌, subst, arith, length-append}
+use Rattle.avc_decoder_core.proofs.Common.{map-map, nat_tests, ◌%◌, ◌-◌, IfSome, length-map, map-append, append_cancel_right, MarkedFrame, Short}
+use Rattle.avc_decoder_core.proofs.Common.{Reference, references_at, Frame, marked_frame, AreSized, dpb_size, max_frame_num}
+use Rattle.avc_decoder_core.proofs.Common.{reference_limit, width_in_mbs, height_in_mbs, Sps, StandBelow, StandFrom, Marks}
 use Rattle.avc_decoder_core.proofs.Common.{frame_nums_from, prev_ref_frame_num, Output, Buffer, Stored, Contents, IsRising, slot_of}
 use Rattle.avc_decoder_core.proofs.Common.{IsWithin, missing_stored, stands_in_decoding_order, coded_frame, frame_at, frame_of, mark_in}
 use Rattle.avc_decoder_core.proofs.Common.{Each, IsSizedAt, IsStateAfter, places_in, AreBefore, AreNotHeld, IsLongGap}
 use Rattle.avc_decoder_core.proofs.Common.{LongGapsLeaveTheirEnd, IsSettled, Staying, missing_reference, missing_references, stored_missing}
-use Rattle.avc_decoder_core.proofs.Common.{with_all_missing, output_pictures, pictures_at}
-use Rattle.std.proofs.Common.{length-drop}
+use Rattle.avc_decoder_core.proofs.Common.{with_all_missing, output_pictures}
 use Rattle.std.proofs.Math.Seq.{drop-append-add, drop-length}
 use Rattle.avc_decoder_core.specs.History.{Entry, History, arrivals, buffer_of, entry_at, marking_entries, marks_of, missing_frame, planes_in, sequence_sps, with_missing}
 use Rattle.avc_decoder_core.proofs.FramesAt.{entry_before, entry_newest}

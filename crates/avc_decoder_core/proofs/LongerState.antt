@@ -1,9 +1,9 @@
 -- The state once an entry's frame is stored, and the pictures that go out.
-use Rattle.avc_decoder_core.proofs.Common.{◌≡◌, ℕ, ◌<◌, ◌≤◌, Bool, true, false, List, [], ◌∷◌, ◌++◌, length, map, Option, Some, None, Ok}
+use Rattle.avc_decoder_core.proofs.Common.{◌≡◌, ℕ, ◌<◌, ◌≤◌, Bool, true, false, List, [], ◌∷◌, ◌++◌, length, Option, Some, None, Ok}
 use Rattle.avc_decoder_core.proofs.Common.{refl, ap, ap₂, sym, ◌∙◌, subst, arith, IfSome, max, filter_map, filter_map-append, Picture}
-use Rattle.avc_decoder_core.proofs.Common.{AreSized, Planes, width_in_mbs, height_in_mbs, reference_limit, Sps, is_idr, Header, Marks}
-use Rattle.avc_decoder_core.proofs.Common.{limit_of, marks_after, Output, PriorPictures, remain, are_output, Stored, after_prior_pictures}
-use Rattle.avc_decoder_core.proofs.Common.{empty_buffer, shown_frame, goes_out_in_turn, frame_at, Each, IsSizedAt, places_in, CanFollow}
+use Rattle.avc_decoder_core.proofs.Common.{AreSized, width_in_mbs, height_in_mbs, reference_limit, Sps, is_idr, Marks}
+use Rattle.avc_decoder_core.proofs.Common.{limit_of, marks_after, Output}
+use Rattle.avc_decoder_core.proofs.Common.{shown_frame, goes_out_in_turn, frame_at, Each, IsSizedAt, places_in, CanFollow}
 use Rattle.avc_decoder_core.proofs.Common.{output_pictures}
 use Rattle.avc_marking.proofs.Limits.{stays-with_max_long_term_frame_idx}
 use Rattle.avc_dpb.specs.Bumping.{new_output}

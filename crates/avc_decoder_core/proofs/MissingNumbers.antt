@@ -1,14 +1,13 @@
 -- Missing numbers before a picture.
 use Rattle.std.proofs.Common.{◌≡◌, ℕ, zero, suc, ◌+◌, ◌%◌, ℤ, Bool, true, false, List, [], ◌∷◌, length, drop, Some, None, slice_get, Result, Ok, Err, is_ok, is_some, refl}
-use Rattle.std.proofs.Common.{ap, ap₂, sym, subst, ◌∙◌, ◌<◌, arith, rules}
-use Rattle.avc_decoder_core.proofs.Common.{false≢true, none-some, same_Some, int_min, result_map, Fault, Sps, max_frame_num, Header, is_idr}
+use Rattle.std.proofs.Common.{ap, ap₂, sym, ◌∙◌, ◌<◌, arith}
+use Rattle.avc_decoder_core.proofs.Common.{int_min, result_map, Fault, Sps, max_frame_num, Header, is_idr}
 use Rattle.avc_decoder_core.proofs.Common.{is_reference, has_idr_marking, Counts, order_counts, picture, OrderCountState, order_count_state}
 use Rattle.avc_decoder_core.proofs.Common.{count_pair, pair, with_missing_from, SlidingWindow, slides_again, MarkingEntry, Marks}
-use Rattle.avc_decoder_core.proofs.Common.{frame_nums_from, marks_after, missing_frame_nums, prev_ref_frame_num, ◌>>=◌, CanFollow}
+use Rattle.avc_decoder_core.proofs.Common.{frame_nums_from, marks_after, ◌>>=◌, CanFollow}
 use Rattle.avc_decoder_core.proofs.Common.{counts_over, missing_before, opening_on, with_all_missing, Finds, Opening}
-use Rattle.avc_types.specs.declared.fault.Fault.TheVariants as faults
-use Rattle.avc_decoder_core.specs.History.{missing_frame, History, earlier_in_sequence, history_at_opening, is_same_sps, marking_entries, marking_entry, marks_of}
-use Rattle.avc_decoder_core.specs.History.{order_or_0, picture_entry, pasts, sequence_sps, with_missing, with_order_counts}
+use Rattle.avc_decoder_core.specs.History.{missing_frame, History, earlier_in_sequence, history_at_opening, is_same_sps, marks_of}
+use Rattle.avc_decoder_core.specs.History.{order_or_0, pasts, sequence_sps, with_missing, with_order_counts}
 
 pub ok_same : {A : Type 0} (x y : A) → ◌≡◌ {A = Result A Fault} (Ok x) (Ok y) → x ≡ y
 ok_same x y e = cc

@@ -1,7 +1,7 @@
 -- What goes out entry after entry.
-use Rattle.avc_decoder_core.proofs.Common.{◌≡◌, ℕ, zero, suc, ◌+◌, ◌-◌, ◌<◌, ◌≤◌, ◌==◌, if◌then◌else◌, Bool, true, false, List, [], ◌∷◌}
-use Rattle.avc_decoder_core.proofs.Common.{◌++◌, length, drop, Option, None, slice_get, refl, ap, ap₂, sym, ◌∙◌, subst, arith, append-nil}
-use Rattle.avc_decoder_core.proofs.Common.{append_assoc, All, lt_of_not-le, false≢true, eq-eqb, nat_tests, flat_map-append, All-nil}
+use Rattle.avc_decoder_core.proofs.Common.{◌≡◌, ℕ, suc, ◌+◌, ◌<◌, ◌≤◌, List, [], ◌∷◌}
+use Rattle.avc_decoder_core.proofs.Common.{◌++◌, length, refl, ap, ap₂, sym, ◌∙◌, subst, arith, append-nil}
+use Rattle.avc_decoder_core.proofs.Common.{append_assoc, All, nat_tests, flat_map-append, All-nil}
 use Rattle.avc_decoder_core.proofs.Common.{All-cons, All-head, All-tail, Output, Arrival, occurrences, pictures, out_only_grows}
 use Rattle.avc_decoder_core.proofs.Common.{entry_pictures, pictures_at, output_pictures}
 use Rattle.std.proofs.Math.Seq.{drop-append_seam, drop-length}

@@ -1,7 +1,7 @@
 -- An entry adds no reference frame but its own.
-use Rattle.std.proofs.Common.{◌≡◌, ◌⊎◌, ℕ, ◌<◌, ◌==◌, Bool, true, false, List, [], ◌∷◌, ◌++◌, length}
-use Rattle.std.proofs.Common.{Some, Result, Ok, Err, is_ok, inl, inr, refl, ap, sym, ◌∙◌, subst, arith}
-use Rattle.avc_decoder_core.proofs.Common.{list_any, eqb-true, or_cases, or_left, or_right, nat_tests, Fault, Short, SlidingWindow}
+use Rattle.std.proofs.Common.{◌≡◌, ◌⊎◌, ℕ, ◌<◌, ◌==◌, Bool, true, List, [], ◌∷◌, ◌++◌, length}
+use Rattle.std.proofs.Common.{Some, Result, Ok, is_ok, inl, inr, refl, ap, sym, ◌∙◌, subst, arith}
+use Rattle.avc_decoder_core.proofs.Common.{list_any, nat_tests, Fault, Short, SlidingWindow}
 use Rattle.avc_decoder_core.proofs.Common.{Reference, ◌>>=◌, Sps, IsPartUpToMarks, AddsOwnFrameAlone, MarkingEntry, Marks}
 use Rattle.avc_decoder_core.proofs.Common.{after_sliding_window, current_frame, marks_after, references_after, Each}
 use Rattle.avc_decoder_core.specs.History.{Entry, decoded_picture, missing_frame, History, arrival, arrivals, marking_entry, marks_of}

@@ -1,6 +1,6 @@
 -- Places of the history that rise.
-use Rattle.avc_decoder_core.proofs.Common.{◌≡◌, ℕ, zero, suc, ◌+◌, ◌<◌, Bool, true, false, cond, List, [], ◌∷◌, ◌++◌, length, map, ap, sym}
-use Rattle.avc_decoder_core.proofs.Common.{arith, subst, slice_index, All, All-nil, All-cons, filter, Stored, IsRising, Each}
+use Rattle.avc_decoder_core.proofs.Common.{ℕ, zero, suc, ◌+◌, ◌<◌, Bool, cond, List, [], ◌∷◌, ◌++◌, length, map}
+use Rattle.avc_decoder_core.proofs.Common.{arith, slice_index, All, All-nil, All-cons, filter, Stored, IsRising, Each}
 use Rattle.std.specs.List.Sorted.{IsStrictlyIncreasing}
 
 pub each_implies : {A : Type 0} (P Q : A → Type 0) (xs : List A) → ((x : A) → P x → Q x) → Each P xs → Each Q xs
@@ -23,12 +23,9 @@ pub each_from_map : {A B : Type 0} (P : B → Type 0) (f : A → B) (xs : List A
 each_from_map P f [] h = tt
 each_from_map P f (x ∷ xs) h = (h.0, each_from_map P f xs h.1)
 
-each_kept : {A : Type 0} (P : A → Type 0) (b : Bool) (x : A) (xs : List A) → P x → Each P xs → Each P (cond b (x ∷ xs) xs)
-each_kept P b x xs first rest = grind arith
-
 pub each_filter : {A : Type 0} (P : A → Type 0) (test : A → Bool) (xs : List A) → Each P xs → Each P (filter test xs)
 each_filter P test [] h = tt
-each_filter P test (x ∷ xs) h = each_kept P (test x) x (filter test xs) h.0 (each_filter P test xs h.1)
+each_filter P test (x ∷ xs) h = grind (arith, each_filter P test xs h.1)
 
 -- they rise, and all are below n
 abbrev pub Rise : List ℕ → (n : ℕ) → Type 0

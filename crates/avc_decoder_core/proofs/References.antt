@@ -1,7 +1,7 @@
 -- The reference frames among frames of the buffer.
-use Rattle.avc_decoder_core.proofs.Common.{◌≡◌, ℕ, ◌<◌, Bool, true, false, cond, ◌||◌, List, [], ◌∷◌, length, map, Option, Some, None}
+use Rattle.avc_decoder_core.proofs.Common.{◌≡◌, ℕ, ◌<◌, Bool, false, ◌||◌, List, [], ◌∷◌, length, map, None}
 use Rattle.avc_decoder_core.proofs.Common.{is_some, refl, ap₂, ◌∙◌, arith, ◌==◌, ◌++◌, filter, list_any, nat_tests}
-use Rattle.avc_decoder_core.proofs.Common.{Mark, MarkedFrame, Reference, reference_of, references_at, mark_in, Each}
+use Rattle.avc_decoder_core.proofs.Common.{MarkedFrame, Reference, reference_of, references_at, mark_in, Each}
 use Rattle.avc_decoder_core.proofs.Places.{Rise}
 
 abbrev pub entries : List Reference → List ℕ

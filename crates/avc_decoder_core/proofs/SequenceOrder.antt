@@ -1,17 +1,15 @@
 -- Where the reordering of pictures stays within its limits, early output hands them out in the order of full output.
-use Rattle.std.proofs.Common.{◌≡◌, ℕ, ◌+◌, ◌≤◌, ◌==◌, nat_le, nat_lt, Bool, true, false, cond, ◌&&◌, List, [], ◌∷◌, length}
-use Rattle.std.proofs.Common.{Option, Some, None, is_ok, ◌⊎◌, inl, inr, refl, ap, sym, ◌∙◌, subst, arith}
-use Rattle.avc_decoder_core.proofs.Common.{count_by, IfSome, option_eq, option_map, eqb-true, and_parts, nat_tests, sum_by-cons, Planes}
+use Rattle.std.proofs.Common.{◌≡◌, ℕ, ◌≤◌, nat_le, nat_lt, Bool, true, false, cond, ◌&&◌, List, [], ◌∷◌, length}
+use Rattle.std.proofs.Common.{Option, Some, None, is_ok, ◌⊎◌, refl, ap, sym, ◌∙◌, subst, arith}
+use Rattle.avc_decoder_core.proofs.Common.{count_by, IfSome, option_eq, option_map, eqb-true, nat_tests, sum_by-cons, Planes}
 use Rattle.avc_decoder_core.proofs.Common.{Sps, is_idr, Header, AddsOwnFrameAlone, last_emptying, limit_after, places_after, reordered}
 use Rattle.avc_decoder_core.proofs.Common.{AllCanGoOutEarly, CanGoOutEarly, EarlyOutputKeepsTheOrder}
-use Rattle.avc_params.specs.Same.{same_aspect, same_constraints, same_cropping, same_flag, same_hrd, same_location, same_order}
-use Rattle.avc_params.specs.Same.{same_restriction, same_signal, same_sps, same_timing, same_vui}
+use Rattle.avc_params.specs.Same.{same_restriction, same_sps, same_vui}
 use Rattle.avc_params.specs.declared.vui.Restriction.{Restriction}
 use Rattle.avc_params.specs.declared.vui.Vui.{Vui}
-use Rattle.avc_dpb.specs.declared.output.Output.TheVariants.{Full}
 use Rattle.avc_decoder_core.specs.History.{Entry, decoded_picture, missing_frame, History, arrival, arrivals, is_same_sps, marks_of}
 use Rattle.avc_decoder_core.specs.History.{reorder_limit, sequence_sps}
-use Rattle.avc_decoder_core.specs.SequenceOrder.{output_order, CanCome, EachCanCome, EachIsWithin, NewestIsWithin}
+use Rattle.avc_decoder_core.specs.SequenceOrder.{CanCome, EachCanCome, EachIsWithin, NewestIsWithin}
 use Rattle.avc_decoder_core.specs.SequenceOrder.{EarlyOutputKeepsHistories}
 use Rattle.avc_decoder_core.proofs.OwnReferences.{adds_own_place, marked_before, missing_is_reference}
 use Rattle.avc_decoder_core.proofs.Outputs.{length-arrivals}

@@ -1,12 +1,12 @@
 -- The state of a sequence as pictures are opened and closed.
-use Rattle.std.proofs.Common.{◌≡◌, ℤ, Bool, true, false, List, [], ◌∷◌, ◌++◌, Option, Some, None, Result, Ok, Err, is_ok, is_some, refl, ap, ap₂, sym, subst, ◌∙◌, arith}
-use Rattle.avc_decoder_core.proofs.Common.{false≢true, none-some, same_Some, option_map, Fault, Picture, Planes, Frame, Sps, IsSps, Header}
-use Rattle.avc_decoder_core.proofs.Common.{is_idr, is_reference, has_idr_marking, Marks, no_marks, Output, order_counts, OrderCountState}
-use Rattle.avc_decoder_core.proofs.Common.{◌>>=◌, opening_on, set_with, IsOpening, output_at_closing, output_pictures, FrameBufferState}
-use Rattle.avc_decoder_core.proofs.Common.{BeginsSequence, CanFollow, at_sequence_of, empty_frame_buffer, OpenPictureStart, SequenceState}
-use Rattle.avc_decoder_core.proofs.Common.{current_history, or_before, IsClosed, OpenPicture, Opening}
-use Rattle.avc_decoder_core.specs.History.{Entry, decoded_picture, History, earlier_in_sequence, history_after_closing, history_at_opening, is_same_sps}
-use Rattle.avc_decoder_core.specs.History.{marks_of, order_or_0, pasts, picture_entry, sequence_sps, with_missing, with_picture}
+use Rattle.std.proofs.Common.{◌≡◌, ℤ, Bool, true, false, List, [], ◌∷◌, ◌++◌, Option, Some, None, Ok, Err, is_ok, is_some, ap, sym, ◌∙◌, arith}
+use Rattle.avc_decoder_core.proofs.Common.{none-some, same_Some, option_map, Fault, Picture, Planes, Frame, Sps, IsSps, Header}
+use Rattle.avc_decoder_core.proofs.Common.{is_idr, is_reference, has_idr_marking, Output, order_counts}
+use Rattle.avc_decoder_core.proofs.Common.{set_with, IsOpening, output_at_closing, FrameBufferState}
+use Rattle.avc_decoder_core.proofs.Common.{BeginsSequence, CanFollow, at_sequence_of, OpenPictureStart, SequenceState}
+use Rattle.avc_decoder_core.proofs.Common.{current_history, IsClosed, OpenPicture, Opening}
+use Rattle.avc_decoder_core.specs.History.{decoded_picture, History, earlier_in_sequence, history_after_closing, history_at_opening}
+use Rattle.avc_decoder_core.specs.History.{marks_of, order_or_0, pasts, sequence_sps, with_missing, with_picture}
 use Rattle.avc_decoder_core.specs.FrameBufferState.{Stores}
 use Rattle.avc_decoder_core.specs.SequenceFields.{IsStateOf, StandsOn, StandsOnIf, counted, open_picture_of}
 use Rattle.avc_decoder_core.proofs.MissingNumbers.{can_follow, fault_stays, follows, ok_same, set_at_opening}
@@ -36,7 +36,7 @@ pub opened_state : (sps : Sps) (h : Header) (closed history : History) (o : Open
     → IsSps sps → (is_idr h ≡ true → has_idr_marking h ≡ true) → is_some h.marking ≡ is_reference h → buffer.failed ≡ false → closed ≡ history → set ≡ sequence_sps history
     → IsOpening sps h closed o → with_missing sps o.missing history ≡ Ok buffer.history
     → IsStateOf closed (Some (record { sps = sps; header = h; order = o.order })) buffer o.poc set
-opened_state sps h closed history o buffer set limits marking reference going rest is_set found stored = grind (arith, opened_on, counted, ok_same, follows, can_follow, set_at_opening)
+opened_state sps h closed history o buffer set limits marking reference going rest is_set found stored = grind (arith, opened_on, ok_same, can_follow, set_at_opening)
 
 -- ---- a picture is closed
 
@@ -65,7 +65,7 @@ all_before h before other = grind arith
 
 pub can_store : (closed : History) (p : OpenPicture) (b there : FrameBufferState) (prior : List Picture) → b.failed ≡ false → StandsOn closed b.history p
     → BeginsSequence b p.header prior there → CanStore p.sps p.header there p.order
-can_store closed p b there prior going stands begins = grind (arith, history_there, going_there, follows, all_before, none_before)
+can_store closed p b there prior going stands begins = grind (arith, history_there, going_there, all_before, none_before)
 
 -- It was stored, and these pictures go out.
 pub record IsStoredOn (sps : Sps) (h : Header) (planes : Planes) (b : FrameBufferState) (out : List Picture) (after : FrameBufferState) : Type 0 where

@@ -1,8 +1,8 @@
 -- One more missing number in a settled window.
-use Rattle.avc_decoder_core.proofs.Common.{nat_tests, ◌≡◌, ℕ, zero, suc, ◌+◌, ◌<◌, ◌≤◌, Bool, true, false, cond, ◌||◌, List, [], ◌∷◌, ◌++◌, length}
-use Rattle.avc_decoder_core.proofs.Common.{drop, Ok, refl, ap, ap₂, sym, ◌∙◌, subst, arith, length-append, append_assoc, append-nil, ◌==◌}
-use Rattle.avc_decoder_core.proofs.Common.{◌%◌, filter, filter-append, or_right, Reference, dpb_size, max_frame_num, reference_limit, Sps}
-use Rattle.avc_decoder_core.proofs.Common.{CountFrom, StandBelow, StandFrom, Marks, frame_nums_from, Output, Buffer, Stored, after_entry}
+use Rattle.avc_decoder_core.proofs.Common.{nat_tests, ◌≡◌, ℕ, zero, suc, ◌+◌, ◌<◌, ◌≤◌, true, false, cond, ◌||◌, List, [], ◌∷◌, ◌++◌, length}
+use Rattle.avc_decoder_core.proofs.Common.{drop, Ok, refl, ap, ap₂, ◌∙◌, arith, length-append, append_assoc, append-nil, ◌==◌}
+use Rattle.avc_decoder_core.proofs.Common.{◌%◌, filter-append, Reference, dpb_size, max_frame_num, reference_limit, Sps}
+use Rattle.avc_decoder_core.proofs.Common.{CountFrom, StandBelow, StandFrom, Marks, frame_nums_from, Output, Stored, after_entry}
 use Rattle.avc_decoder_core.proofs.Common.{needed_frames, missing_arrival, missing_stored, AreBefore, AreNotHeld, IsSettled, Staying}
 use Rattle.avc_decoder_core.proofs.Common.{missing_reference, missing_references, stored_missing, with_all_missing}
 use Rattle.avc_marking.proofs.FullWindow.{window_takes_the_first}

@@ -1,15 +1,13 @@
 -- Where the buffer's frames pass the test for a settled window.
-use Rattle.avc_decoder_core.proofs.Common.{◌≡◌, ℕ, zero, suc, ◌+◌, ◌-◌, ◌<◌, ◌≤◌, Bool, true, false, ◌&&◌, ◌||◌, cond, List, [], ◌∷◌, ◌++◌}
-use Rattle.avc_decoder_core.proofs.Common.{length, map, Option, Some, None, slice_get, is_some, unwrap_or, refl, ap, ap₂, Ok, sym, ◌∙◌}
-use Rattle.avc_decoder_core.proofs.Common.{subst, arith, length-append, ◌==◌, ◌%◌, nat_lt, if◌then◌else◌, option_map, filter, eqb-true}
-use Rattle.avc_decoder_core.proofs.Common.{and_parts, or_right, nat_tests, slice_get-map, length-map, map-map, add-mod_right, Mark, Short}
-use Rattle.avc_decoder_core.proofs.Common.{Long, Reference, is_short, references_at, Frame, marked_frame, dpb_size, max_frame_num}
+use Rattle.avc_decoder_core.proofs.Common.{◌≡◌, ℕ, zero, suc, ◌+◌, ◌<◌, ◌≤◌, Bool, true, false, List, [], ◌∷◌, ◌++◌}
+use Rattle.avc_decoder_core.proofs.Common.{length, map, Option, Some, None, slice_get, is_some, refl, ap, Ok, sym, ◌∙◌}
+use Rattle.avc_decoder_core.proofs.Common.{subst, arith, length-append, ◌%◌, filter}
+use Rattle.avc_decoder_core.proofs.Common.{nat_tests, slice_get-map, length-map, map-map, add-mod_right, Short}
+use Rattle.avc_decoder_core.proofs.Common.{Reference, is_short, references_at, Frame, marked_frame, dpb_size, max_frame_num}
 use Rattle.avc_decoder_core.proofs.Common.{reference_limit, Sps, CountsReferences, CountFrom, StandBelow, StandFrom, frame_nums_from}
-use Rattle.avc_decoder_core.proofs.Common.{Stored, needed_frames, Contents, is_held_at, slot_of, frame_at, Each, IsStateAfter, places_in}
-use Rattle.avc_decoder_core.proofs.Common.{AreBefore, AreNotHeld, IsLongGap, has_its_place, is_leaving, is_staying, settles_at}
-use Rattle.avc_decoder_core.proofs.SameSequence.{wrong}
+use Rattle.avc_decoder_core.proofs.Common.{Stored, needed_frames, Contents, slot_of, frame_at, Each, IsStateAfter, places_in}
+use Rattle.avc_decoder_core.proofs.Common.{AreBefore, AreNotHeld, IsLongGap, has_its_place, is_staying, settles_at}
 use Rattle.avc_marking.proofs.Numbers.{numbers-mod}
-use Rattle.avc_dpb.specs.declared.slot.Slot.{Slot}
 use Rattle.avc_decoder_core.specs.History.{History, buffer_of}
 use Rattle.avc_decoder_core.proofs.Places.{Rise, each_implies, increasing, rise}
 use Rattle.avc_decoder_core.proofs.References.{entries, is_entry}

@@ -1,7 +1,7 @@
 -- What the state of a frame buffer says of its frames, and the state once an entry's frame is stored.
 use Rattle.avc_decoder_core.proofs.Common.{nat_tests, MarksFrame, marks_at, slice_index_or, frame_of, length-append, ◌≡◌, ◌≢◌, ℕ, ◌+◌, ◌<◌, ◌≤◌, true, false, not, ◌||◌, List, [], ◌∷◌, ◌++◌, length, map, Option}
 use Rattle.avc_decoder_core.proofs.Common.{Some, None, is_some, Result, Ok, Err, IfErr, refl, ap, ap₂, sym, ◌∙◌, subst, arith, length-map}
-use Rattle.avc_decoder_core.proofs.Common.{map-map, IfSome, max, min, filter_map, MarkedFrame, Picture, Marking, Fault, PictureError}
+use Rattle.avc_decoder_core.proofs.Common.{map-map, IfSome, filter_map, MarkedFrame, Picture, Marking, Fault, PictureError}
 use Rattle.avc_decoder_core.proofs.Common.{Faulty, Reference, references_at, result_map, or_fault, Frame, AreFrames, AreSized, marked_frame}
 use Rattle.avc_decoder_core.proofs.Common.{padded_planes_of, stored_at, width_in_mbs, height_in_mbs, dpb_size, reference_limit, IsSps, Sps}
 use Rattle.avc_decoder_core.proofs.Common.{is_reference, unmarks_all, Marks, marks_after, no_marks, prev_ref_frame_num, ArrivingFrame}
@@ -11,7 +11,7 @@ use Rattle.avc_decoder_core.proofs.Common.{OutputsPrior, places_in, with_all_mar
 use Rattle.avc_decoder_core.proofs.Common.{output_pictures, AreFramesIn, AreStoredIn}
 use Rattle.std.specs.Result.{is_ok}
 use Rattle.avc_dpb.specs.Contents.{Stores}
-use Rattle.avc_decoder_core.specs.History.{Entry, decoded_picture, missing_frame, History, all_held, arrival, arrivals, buffer_of, entry_at}
+use Rattle.avc_decoder_core.specs.History.{Entry, decoded_picture, missing_frame, History, all_held, arrival, buffer_of, entry_at}
 use Rattle.avc_decoder_core.specs.History.{marking_entries, marking_entry, marks_of, or_no_references, sequence_sps, stored}
 use Rattle.avc_decoder_core.specs.FrameBufferFields.{IsFrameBufferState}
 use Rattle.avc_decoder_core.specs.declared.frame_buffer.FrameBuffer.TheInside.{Inside as FrameBuffer}

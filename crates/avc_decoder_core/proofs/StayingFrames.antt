@@ -1,7 +1,7 @@
 -- The frames that are in the buffer once an entry has come were there before, but for its own.
-use Rattle.avc_decoder_core.proofs.Common.{◌≡◌, ℕ, zero, suc, Bool, true, false, List, [], ◌∷◌, ◌++◌, map, Option, Some, None, refl, sym}
-use Rattle.avc_decoder_core.proofs.Common.{subst, ◌==◌, count_by, slice_get, if◌then◌else◌, Output, Arrival, Stored, Buffer, PriorPictures}
-use Rattle.avc_decoder_core.proofs.Common.{arith, remain, are_output, needed_frames, no_longer_held, held_in_output_order, after_bumping}
+use Rattle.avc_decoder_core.proofs.Common.{ℕ, zero, suc, Bool, true, false, List, [], ◌∷◌, map}
+use Rattle.avc_decoder_core.proofs.Common.{count_by, if◌then◌else◌, Output, Arrival, Stored, Buffer, PriorPictures}
+use Rattle.avc_decoder_core.proofs.Common.{arith, remain, are_output, needed_frames, no_longer_held, after_bumping}
 use Rattle.avc_decoder_core.proofs.Common.{after_bumping_while, after_making_room, must_bump, with_frame, with_direct_output, is_full}
 use Rattle.avc_decoder_core.proofs.Common.{after_placing, holds_too_many, after_frame, after_prior_pictures, Each}
 use Rattle.avc_decoder_core.proofs.Places.{each_append, each_filter}

@@ -1,15 +1,13 @@
 -- An entry's frame is marked and stored, in the terms of the calls that do it.
-use Rattle.avc_decoder_core.proofs.Common.{◌≡◌, ℕ, ◌+◌, ℤ, pos, Bool, true, false, List, [], ◌∷◌, ◌++◌, length, map, Option, Some, None}
-use Rattle.avc_decoder_core.proofs.Common.{is_some, Ok, refl, ap, ap₂, sym, ◌∙◌, arith, length-append, length-map, slice_index_or}
-use Rattle.avc_decoder_core.proofs.Common.{if◌then◌else◌, filter_map, MarkedFrame, Picture, Frame, marked_frame, Planes, dpb_size, IsSps}
-use Rattle.avc_decoder_core.proofs.Common.{Sps, order_counts, is_reference, Header, MarksFrame, marks_at, Marks, frame_num_after_marking}
-use Rattle.avc_decoder_core.proofs.Common.{marks_after, prev_ref_frame_num, ArrivingFrame, Output, are_output, remain, Contents, OutputsAll}
-use Rattle.avc_decoder_core.proofs.Common.{shown_frame, frame_at, frame_of, mark_in, IsStateAfter, OutputsPrior, places_in, with_all_marks}
+use Rattle.avc_decoder_core.proofs.Common.{◌≡◌, ℕ, ℤ, pos, Bool, true, false, List, [], ◌∷◌, Option, Some, None}
+use Rattle.avc_decoder_core.proofs.Common.{is_some, Ok, ap, ap₂, sym, ◌∙◌, arith, slice_index_or}
+use Rattle.avc_decoder_core.proofs.Common.{if◌then◌else◌, filter_map, MarkedFrame, Picture, Frame, Planes, dpb_size}
+use Rattle.avc_decoder_core.proofs.Common.{Sps, order_counts, is_reference, Header, Marks, frame_num_after_marking}
+use Rattle.avc_decoder_core.proofs.Common.{prev_ref_frame_num, ArrivingFrame, are_output, remain, Contents, OutputsAll}
+use Rattle.avc_decoder_core.proofs.Common.{shown_frame, frame_of, OutputsPrior}
 use Rattle.std.proofs.Math.Seq.{drop-length}
-use Rattle.std.specs.Result.{is_ok}
-use Rattle.avc_dpb.specs.Contents.{Stores}
-use Rattle.avc_decoder_core.specs.History.{Entry, decoded_picture, missing_frame, History, arrival, buffer_of, marking_entries, marking_entry}
-use Rattle.avc_decoder_core.specs.History.{marks_of, or_no_references, order_or_0, pasts, picture_entry, prior_pictures_of, reorder_limit}
+use Rattle.avc_decoder_core.specs.History.{Entry, decoded_picture, missing_frame, History, marking_entries}
+use Rattle.avc_decoder_core.specs.History.{marks_of, order_or_0, pasts, picture_entry, reorder_limit}
 use Rattle.avc_decoder_core.proofs.SameSequence.{wrong}
 use Rattle.avc_decoder_core.proofs.Storing.{Arrives}
 

@@ -1,14 +1,14 @@
 -- An entry's frame is stored: the buffer of the longer history.
-use Rattle.avc_decoder_core.proofs.Common.{◌≡◌, ℕ, suc, ◌+◌, ◌<◌, ◌≤◌, Bool, true, false, not, ◌||◌, cond, List, [], ◌∷◌, ◌++◌, length, map}
-use Rattle.avc_decoder_core.proofs.Common.{Option, is_some, refl, ap, ap₂, sym, ◌∙◌, subst, arith, length-append, length-map, count_by}
+use Rattle.avc_decoder_core.proofs.Common.{◌≡◌, ℕ, ◌+◌, ◌<◌, ◌≤◌, Bool, true, false, not, ◌||◌, cond, List, [], ◌∷◌, ◌++◌, length, map}
+use Rattle.avc_decoder_core.proofs.Common.{Option, is_some, ap, ap₂, sym, ◌∙◌, subst, arith, length-append, length-map, count_by}
 use Rattle.avc_decoder_core.proofs.Common.{if◌then◌else◌, filter, filter-append, length-filter, map-map, MarkedFrame, Picture, Reference}
 use Rattle.avc_decoder_core.proofs.Common.{reference_of, references_at, Frame, marked_frame, Marks, ArrivingFrame, Output, Buffer}
-use Rattle.avc_decoder_core.proofs.Common.{PriorPictures, remain, are_output, after_frame, after_prior_pictures, is_reference_in, Contents}
+use Rattle.avc_decoder_core.proofs.Common.{PriorPictures, remain, after_frame, after_prior_pictures, is_reference_in, Contents}
 use Rattle.avc_decoder_core.proofs.Common.{HasBuffer, IsBuffer, arrival_of, HasRoom, places_of_references, frame_at, Each, IsStateAfter}
 use Rattle.avc_decoder_core.proofs.Common.{places_in, with_all_marks, with_marks}
 use Rattle.avc_dpb.specs.Contents.{Stores}
 use Rattle.avc_dpb.proofs.Staying.{references_stay}
-use Rattle.avc_decoder_core.specs.History.{Entry, History, arrival, arrivals, buffer_of}
+use Rattle.avc_decoder_core.specs.History.{Entry, History, arrival, buffer_of}
 use Rattle.avc_decoder_core.proofs.Places.{below, each_implies, rise}
 use Rattle.avc_decoder_core.proofs.References.{entries, filter_map_places, is_entry, no_entry, no_filter, references_by, same_filter}
 use Rattle.avc_decoder_core.proofs.FramesAt.{marked_again, referenced_are, referenced_is}

@@ -1,4 +1,4 @@
-use Rattle.avc_decoder_core.proofs.Common.{◌≡◌, ◌∙◌, ◌≤◌, ◌∷◌, length, map, ap, sym, subst, false, Some, length-map, result_map}
+use Rattle.avc_decoder_core.proofs.Common.{◌≡◌, ◌∙◌, ◌∷◌, map, ap, sym, subst, false, Some, result_map}
 use Rattle.avc_decoder_core.proofs.Common.{SlidingWindow, marked_frame, MarksFrame, marks_after, history_of}
 use Rattle.avc_marking.specs.Frames.{marking_entry}
 use Rattle.avc_decoder_core.specs.History.{marks_of, missing_frame}

@@ -1,5 +1,5 @@
-use Rattle.avc_decoder_core.proofs.Common.{◌≡◌, ◌∙◌, ◌≤◌, ◌∷◌, ◌+◌, ◌-◌, [], length, map, ap, ap₂, refl, sym, subst, false, Some, Ok, Err}
-use Rattle.avc_decoder_core.proofs.Common.{arith, false≢true, length-map, SlidingWindow, marked_frame, MarksFrame, marks_after, history_of}
+use Rattle.avc_decoder_core.proofs.Common.{◌≡◌, ◌∙◌, ◌∷◌, ◌+◌, ◌-◌, [], length, map, ap, ap₂, refl, sym, subst, false, Some, Ok, Err}
+use Rattle.avc_decoder_core.proofs.Common.{arith, false≢true, SlidingWindow, marked_frame, MarksFrame, marks_after, history_of}
 use Rattle.avc_decoder_core.proofs.Common.{with_all_marks, IsStateAfter, output_pictures}
 use Rattle.avc_marking.specs.Frames.{marking_entry}
 use Rattle.std.specs.Result.{is_ok}

@@ -1,5 +1,5 @@
-use Rattle.avc_decoder_core.proofs.Common.{◌≡◌, ◌∙◌, ◌≤◌, ◌∷◌, ◌+◌, ◌-◌, length, map, ap, ap₂, refl, rules, to_z, of_z, w32, sym, subst}
-use Rattle.avc_decoder_core.proofs.Common.{OnOk, false, Ok, Err, arith, length-map, Faulty, NoMemory, order_counts, CanFollow, marked_frame}
+use Rattle.avc_decoder_core.proofs.Common.{◌≡◌, ◌∙◌, ◌∷◌, ◌+◌, ◌-◌, length, map, ap, ap₂, refl, rules, to_z, of_z, w32, sym, subst}
+use Rattle.avc_decoder_core.proofs.Common.{OnOk, false, Ok, Err, arith, Faulty, NoMemory, order_counts, CanFollow, marked_frame}
 use Rattle.avc_decoder_core.proofs.Common.{padded_planes_of, MarksFrame, frame_num_after_marking, marks_after, history_of, with_all_marks}
 use Rattle.avc_decoder_core.proofs.Common.{IsStateAfter, output_pictures}
 use Rattle.avc_marking.specs.Frames.{marking_entry}
