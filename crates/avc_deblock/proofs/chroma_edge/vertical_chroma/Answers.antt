@@ -1,5 +1,4 @@
-use Rattle.avc_deblock.proofs.Common.{◌+◌, true, arith, sym, ap, ◌∙◌, slice_index, strength_along, chroma_setting}
-use Rattle.avc_deblock.proofs.Settings.{edge_off}
+use Rattle.avc_deblock.proofs.Common.{arith, ap, ◌∙◌, slice_index, strength_along}
 use Rattle.avc_deblock.proofs.Pairs.{vertical_part}
 use Rattle.avc_deblock.proofs.chroma_edge.vertical_chroma.Goals as goal
 
@@ -20,11 +19,3 @@ returns-clause-cr g c qp are =
     of_cr.ensures.all c.requires.cr_columns c.requires.cr_rows of_cr.ensures.samples c.columns-lines.result c.filter_chroma.new.t c.filter_chroma.ensures.others (c.filter_chroma.ensures.lines qp are)
     c.joined-block.result c.rows_of-after.result (λ k low. ap (slice_index c.joined-block.result) (omega arith) ∙ c.joined-block.ensures.second k low)
     c.columns-lines.ensures c.rows_of-after.ensures c.half-new_cr.ensures
-
-pub returns-then-not-limits-clause-cb : goal.returns-then-not-limits-clause-cb
-returns-then-not-limits-clause-cb g c qp are =
-    sym (edge_off (chroma_setting (strength_along c.args.strengths.now) qp) true (c.args.left + 4) c.args.top 8 c.args.cb.now (λ i low. are.off c.if-not-limits.true))
-
-pub returns-then-not-limits-clause-cr : goal.returns-then-not-limits-clause-cr
-returns-then-not-limits-clause-cr g c qp are =
-    sym (edge_off (chroma_setting (strength_along c.args.strengths.now) qp) true (c.args.left + 4) c.args.top 8 c.args.cr.now (λ i low. are.off c.if-not-limits.true))

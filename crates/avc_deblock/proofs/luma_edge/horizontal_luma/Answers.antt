@@ -1,11 +1,6 @@
-use Rattle.avc_deblock.proofs.Common.{◌+◌, ◌/◌, arith, sym, subst, true, false, luma_setting, strength_along, AreStrengths}
-use Rattle.avc_deblock.proofs.Settings.{edge_off}
+use Rattle.avc_deblock.proofs.Common.{◌/◌, arith, subst, true, false, luma_setting, strength_along, AreStrengths}
 use Rattle.avc_deblock.proofs.Limits.{fits_weak, fits_strong}
 use Rattle.avc_deblock.proofs.luma_edge.horizontal_luma.Goals as goal
-
-pub returns-then-not-limits : goal.returns-then-not-limits
-returns-then-not-limits g c qp are =
-    sym (edge_off (luma_setting (strength_along c.args.strengths.now) qp) false c.args.left (c.args.top + 4) 16 c.args.plane.now (λ i low. are.off c.if-not-limits.true))
 
 pub returns-in-Four : goal.returns-in-Four
 returns-in-Four g c qp are =

@@ -1,11 +1,6 @@
-use Rattle.avc_deblock.proofs.Common.{◌+◌, ◌/◌, arith, sym, subst, true, luma_setting, strength_along, AreStrengths}
-use Rattle.avc_deblock.proofs.Settings.{edge_off}
+use Rattle.avc_deblock.proofs.Common.{◌/◌, arith, subst, true, luma_setting, strength_along, AreStrengths}
 use Rattle.avc_deblock.proofs.Limits.{fits_weak, fits_strong}
 use Rattle.avc_deblock.proofs.luma_edge.vertical_luma.Goals as goal
-
-pub returns-then-not-limits : goal.returns-then-not-limits
-returns-then-not-limits g c qp are =
-    sym (edge_off (luma_setting (strength_along c.args.strengths.now) qp) true (c.args.left + 4) c.args.top 16 c.args.plane.now (λ i low. are.off c.if-not-limits.true))
 
 pub returns-in-Four : goal.returns-in-Four
 returns-in-Four g c qp are =
