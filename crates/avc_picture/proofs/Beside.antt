@@ -1,5 +1,5 @@
 -- total_coeff of the neighbours of the macroblock that comes next.
-use Rattle.avc_picture.proofs.Common.{refl, Option, Mb, ℕ, ◌<◌, List, length, take, option_map, ◌≡◌, ◌∙◌, sym, ap, subst, length-take-le, Coded, PicMb, mb_a}
+use Rattle.avc_picture.proofs.Common.{refl, Option, Mb, ℕ, ◌<◌, List, length, take, option_map, ◌≡◌, ◌∙◌, sym, subst, length-take-le, Coded, PicMb, mb_a}
 use Rattle.avc_picture.proofs.Common.{mb_b, next_address, above, left_of, TellSlices, TellTotalCoeffs, total_coeffs_of, total_coeffs_found}
 use Rattle.avc_picture.proofs.Common.{SliceStart, left_total_coeffs, up_total_coeffs, Names, HoldsFirst, MbsState, PartsAgree}
 use Rattle.avc_picture.proofs.Tells.{tells_first}

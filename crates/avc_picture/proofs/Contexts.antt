@@ -1,15 +1,15 @@
 -- What the code knows of a slice.
 use Rattle.avc_picture.proofs.Common.{list_any, option_map, IfOk, IfSome, slice_get, slice_index, slice_index_or, is_some, unwrap_or}
-use Rattle.avc_picture.proofs.Common.{nat_lt, ◌==◌, nat_tests, ints, get_or_default, get_or_past, length-map, All-map, All-nil, All-weaker}
+use Rattle.avc_picture.proofs.Common.{◌==◌, nat_tests, ints, get_or_default, get_or_past, length-map, All-map, All-nil, All-weaker}
 use Rattle.avc_picture.proofs.Common.{get_or_from_slice_get, slice_get_within, Fault, Coded, Sps, Pps, is_p, IsChromaWeights, IsCodedWeight}
 use Rattle.avc_picture.proofs.Common.{IsEntryWeights, IsPredWeightTable, Header, frame_named, slice_facts, marked_frame, padded_planes_of}
 use Rattle.avc_picture.proofs.Common.{AreFrames, AreSized, PaddedPlanes, Names, is_picture, AreUsable, AreWeights, IsUsable, IsWeight}
-use Rattle.avc_picture.proofs.Common.{ShowsReference, ReferencePicture, AreNames, AreNumbersAt, ArePicturesAt, ArePlacesIn, FramesStandAt}
+use Rattle.avc_picture.proofs.Common.{ShowsReference, ReferencePicture, AreNames, ArePicturesAt, ArePlacesIn, FramesStandAt}
 use Rattle.avc_picture.proofs.Common.{HasPlaces, IsContextAt, IsContextOf, IsPictureAt, picture_start, planes_at, HasNumber, IsSlice, cases_lt, inl, inr}
 use Rattle.avc_picture_core.proofs.Predicting.{some_at}
-use Rattle.avc_picture.proofs.Common.{PictureStart, current_of, deblocking_of, frame_of, list_of, or_empty, references_in, SliceContext}
+use Rattle.avc_picture.proofs.Common.{PictureStart, current_of, frame_of, list_of, or_empty, references_in, SliceContext}
 use Rattle.std.specs.Prelude.{All}
-use Rattle.std.proofs.Common.{◌≡◌, ℕ, zero, suc, ◌^◌, ◌<◌, ◌≤◌, ◌+ℤ◌, Bool, true, false, List, [], ◌∷◌, length, map, Option, Some, None, Result, Ok, refl, ap, sym, subst, ◌∙◌, arith, lit≤}
+use Rattle.std.proofs.Common.{◌≡◌, ℕ, zero, suc, ◌^◌, ◌<◌, ◌≤◌, Bool, true, false, List, [], ◌∷◌, length, map, Option, Some, None, Result, Ok, refl, ap, sym, subst, ◌∙◌, arith, lit≤}
 use Rattle.std.proofs.Math.ListN.{get_or-map}
 use Rattle.avc_types.specs.References.{Reference, reference_at}
 use Rattle.avc_types.specs.declared.weight.Weights.{Weights}

@@ -1,5 +1,5 @@
 -- What refuses a macroblock, step by step.
-use Rattle.avc_picture.proofs.Common.{ℕ, zero, suc, ◌<◌, List, [], ◌∷◌, length, Bool, true, false, not, Option, Some, None, Ok, Err}
+use Rattle.avc_picture.proofs.Common.{ℕ, suc, ◌<◌, List, [], length, Bool, true, false, not, Option, Some, None, Ok, Err}
 use Rattle.avc_picture.proofs.Common.{slice_get, slice_index_or, if◌then◌else◌, list_all, ◌≡◌, ◌∙◌, refl, ap, arith, Fault, VectorRange}
 use Rattle.avc_picture.proofs.Common.{RefMissing, MbSyntax, p_skip, i_pcm, i_nxn, i_16x16, p_inter, Coded, PicMb, Motion, absent}
 use Rattle.avc_picture.proofs.Common.{modes_before, is_in_range, is_intra, motion_before, motion_or_fault, Place}

@@ -3,7 +3,7 @@ use Rattle.avc_picture.proofs.Common.{cases_lt, inl, inr, option_map, IfOk, IfSo
 use Rattle.avc_picture.proofs.Common.{get_or_past, length-map, get_or_from_slice_get, slice_get_within, unwrap_or-slice_get, Fault}
 use Rattle.avc_picture.proofs.Common.{max_frame_num, Sps, Pps, is_p, Header, marked_frame, ArePlacesIn, FramesStandAt, IsListAt}
 use Rattle.avc_picture.proofs.Common.{picture_start, PictureStart, current_of, list_of, or_empty, references_in}
-use Rattle.std.proofs.Common.{◌≡◌, ℕ, zero, suc, ◌<◌, ◌≤◌, Bool, true, false, List, [], length, map, replicate, Option, Some, None, Result, Ok, refl, ap, sym, subst, ◌∙◌, arith}
+use Rattle.std.proofs.Common.{◌≡◌, ℕ, zero, suc, ◌<◌, ◌≤◌, true, false, List, [], length, map, replicate, Option, Some, None, Result, Ok, refl, ap, sym, subst, ◌∙◌, arith}
 use Rattle.std.proofs.Math.ListN.{get_or-map}
 use Rattle.avc_types.specs.References.{NamesFrames, Reference, reference_at}
 use Rattle.avc_reflist.specs.Lists.{AreEntriesIn, each_entry, reference_list}

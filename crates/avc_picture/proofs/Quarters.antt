@@ -1,6 +1,6 @@
 -- The blocks of a quarter of a macroblock are predicted from one reference index.
-use Rattle.avc_picture.proofs.Common.{if◌then◌else◌, ◌&&◌, slice_index, slice_index_or, ◌≡◌, ◌<◌, ◌≤◌, ◌+◌, ◌*◌, ◌/◌, ◌%◌, ℕ, List, [], ◌∷◌}
-use Rattle.avc_picture.proofs.Common.{◌++◌, Bool, true, false, refl, sym, ap, arith, nat_lt, nat_le, subst, nat_tests, get_or-replicate}
+use Rattle.avc_picture.proofs.Common.{if◌then◌else◌, slice_index, slice_index_or, ◌≡◌, ◌<◌, ◌≤◌, ◌+◌, ◌/◌, ◌%◌, ℕ, List, [], ◌∷◌}
+use Rattle.avc_picture.proofs.Common.{◌++◌, Bool, true, false, refl, sym, ap, arith, subst, nat_tests, get_or-replicate}
 use Rattle.avc_picture.proofs.Common.{P16x16, P16x8, P8x16, P8x8, P8x8Ref0, MbSyntax, p_skip, i_pcm, i_nxn, i_16x16, p_inter, parts_of}
 use Rattle.avc_picture.proofs.Common.{parts_of_quarter, parts_of_quarters, quarter_x, quarter_y, block_x, block_y, Motion, absent, intra}
 use Rattle.avc_picture.proofs.Common.{inter, Near, is_in_part, motion_by, motion_of_part, motion_of_parts, no_motion, with_part, is_intra}

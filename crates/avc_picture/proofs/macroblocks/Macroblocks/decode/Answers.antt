@@ -1,4 +1,4 @@
-use Rattle.avc_picture.proofs.Common.{Err, slice_get, suc, [], ◌∷◌, ◌++◌, ◌≡◌, ◌∙◌, ◌<◌, ◌*◌, ◌+◌, ℕ, refl, sym, ap, subst, arith, rules}
+use Rattle.avc_picture.proofs.Common.{Err, slice_get, suc, [], ◌∷◌, ◌++◌, ◌≡◌, ◌∙◌, ◌<◌, ◌*◌, ◌+◌, ℕ, refl, sym, ap, subst, rules}
 use Rattle.avc_picture.proofs.Common.{length, add-one, w8, to_z, of_z, Around, PictureFacts, HasModes, macroblock_fault, HoldsFirst}
 use Rattle.avc_picture.proofs.Common.{MbsState, planes_of, AreFactsOf, FilterFacts, FiltersUpTo, filtered_rows, PartsAgree, state_of}
 use Rattle.avc_neigh.specs.Around.{facts_of, with_facts}
