@@ -1,5 +1,5 @@
 -- total_coeff of the neighbours of the macroblock that comes next.
-use Rattle.avc_picture.proofs.Common.{ℕ, ◌<◌, List, length, take, option_map, ◌≡◌, ◌∙◌, sym, ap, subst, length-take-le, Coded, PicMb, mb_a}
+use Rattle.avc_picture.proofs.Common.{refl, Option, Mb, ℕ, ◌<◌, List, length, take, option_map, ◌≡◌, ◌∙◌, sym, subst, length-take-le, Coded, PicMb, mb_a}
 use Rattle.avc_picture.proofs.Common.{mb_b, next_address, above, left_of, TellSlices, TellTotalCoeffs, total_coeffs_of, total_coeffs_found}
 use Rattle.avc_picture.proofs.Common.{SliceStart, left_total_coeffs, up_total_coeffs, Names, HoldsFirst, MbsState, PartsAgree}
 use Rattle.avc_picture.proofs.Tells.{tells_first}
@@ -24,16 +24,12 @@ module _ (c : Coded) (names : Names) (m : MbsState) (holds : HoldsFirst c names 
   wide : 0 < m.row.width
   wide = subst (λ w. 0 < w) (sym kept.row_width) kept.wide
 
+  moved : (near : List PicMb → (width slice a : ℕ) → Option Mb) → option_map (λ x. total_coeffs_of x.syntax) (near first m.row.width slice (next_address m.row))
+      ≡ option_map (λ x. total_coeffs_of x.syntax) (near first s.width s.slice (length first))
+  moved near = rw (row_width, number, first_long) refl
+
   pub left_is : option_map (λ f. f.total_coeffs) (mb_a m.row slice) ≡ left_total_coeffs s first
-  left_is =
-      sym (total_coeffs_found first m.row slice wide slices counts).0
-      ∙ ap (λ a. option_map (λ x. total_coeffs_of x.syntax) (left_of first m.row.width slice a)) (sym first_long)
-      ∙ ap (λ w. option_map (λ x. total_coeffs_of x.syntax) (left_of first w slice (length first))) (sym row_width)
-      ∙ ap (λ n. option_map (λ x. total_coeffs_of x.syntax) (left_of first s.width n (length first))) (sym number)
+  left_is = sym (total_coeffs_found first m.row slice wide slices counts).0 ∙ moved left_of
 
   pub up_is : option_map (λ f. f.total_coeffs) (mb_b m.row slice) ≡ up_total_coeffs s first
-  up_is =
-      sym (total_coeffs_found first m.row slice wide slices counts).1
-      ∙ ap (λ a. option_map (λ x. total_coeffs_of x.syntax) (above first m.row.width slice a)) (sym first_long)
-      ∙ ap (λ w. option_map (λ x. total_coeffs_of x.syntax) (above first w slice (length first))) (sym row_width)
-      ∙ ap (λ n. option_map (λ x. total_coeffs_of x.syntax) (above first s.width n (length first))) (sym number)
+  up_is = sym (total_coeffs_found first m.row slice wide slices counts).1 ∙ moved above

@@ -84,7 +84,7 @@ pub use Rattle.avc_picture.specs.DecoderState.{GoesOn, GoesOnFrom, IsDataAnswer,
 pub use Rattle.avc_picture.specs.DecoderState.{IsWellSoFar, IsWellSomewhere, CanHaveFirst, HasFirst, IsDataOf, IsStateOrFault}
 pub use Rattle.avc_picture.specs.DecoderState.{address_fault, number_after}
 pub use Rattle.avc_picture.specs.FilterRows.{AreFrom, AreLastRows}
-pub use Rattle.avc_picture.specs.FirstMbs.{HasNeighbourFacts, HoldsFirst, MbsState, HasNumber, IsSlice, HasSameSize, HasSets, BeginsWith}
+pub use Rattle.avc_picture.specs.FirstMbs.{HasNeighbourFacts, HoldsFirst, MbsState, HasNumber, IsSlice, HasSameSize, HasSets, BeginsWith, IsDecoded}
 pub use Rattle.avc_picture.specs.MacroblockFacts.{IsRead, IsFilterFacts, number_of, IsNeighbourFacts}
 pub use Rattle.avc_picture.specs.MacroblocksState.{PartsAgree, HaveModes, state_of}
 pub use Rattle.avc_picture.specs.OpenPicture.{planes_so_far, IsCovered}

@@ -1,14 +1,15 @@
 -- What the code knows of a slice.
 use Rattle.avc_picture.proofs.Common.{list_any, option_map, IfOk, IfSome, slice_get, slice_index, slice_index_or, is_some, unwrap_or}
-use Rattle.avc_picture.proofs.Common.{nat_lt, ◌==◌, nat_tests, ints, get_or_default, get_or_past, length-map, All-map, All-nil, All-weaker}
+use Rattle.avc_picture.proofs.Common.{◌==◌, nat_tests, ints, get_or_default, get_or_past, length-map, All-map, All-nil, All-weaker}
 use Rattle.avc_picture.proofs.Common.{get_or_from_slice_get, slice_get_within, Fault, Coded, Sps, Pps, is_p, IsChromaWeights, IsCodedWeight}
 use Rattle.avc_picture.proofs.Common.{IsEntryWeights, IsPredWeightTable, Header, frame_named, slice_facts, marked_frame, padded_planes_of}
 use Rattle.avc_picture.proofs.Common.{AreFrames, AreSized, PaddedPlanes, Names, is_picture, AreUsable, AreWeights, IsUsable, IsWeight}
-use Rattle.avc_picture.proofs.Common.{ShowsReference, ReferencePicture, AreNames, AreNumbersAt, ArePicturesAt, ArePlacesIn, FramesStandAt}
-use Rattle.avc_picture.proofs.Common.{HasPlaces, IsContextAt, IsContextOf, IsPictureAt, picture_start, planes_at, HasNumber, IsSlice}
-use Rattle.avc_picture.proofs.Common.{PictureStart, current_of, deblocking_of, frame_of, list_of, or_empty, references_in, SliceContext}
+use Rattle.avc_picture.proofs.Common.{ShowsReference, ReferencePicture, AreNames, ArePicturesAt, ArePlacesIn, FramesStandAt}
+use Rattle.avc_picture.proofs.Common.{HasPlaces, IsContextAt, IsContextOf, IsPictureAt, picture_start, planes_at, HasNumber, IsSlice, cases_lt, inl, inr}
+use Rattle.avc_picture_core.proofs.Predicting.{some_at}
+use Rattle.avc_picture.proofs.Common.{PictureStart, current_of, frame_of, list_of, or_empty, references_in, SliceContext}
 use Rattle.std.specs.Prelude.{All}
-use Rattle.std.proofs.Common.{◌≡◌, ℕ, zero, suc, ◌^◌, ◌<◌, ◌≤◌, ◌+ℤ◌, Bool, true, false, List, [], ◌∷◌, length, map, Option, Some, None, Result, Ok, refl, ap, sym, subst, ◌∙◌, arith, lit≤}
+use Rattle.std.proofs.Common.{◌≡◌, ℕ, zero, suc, ◌^◌, ◌<◌, ◌≤◌, Bool, true, false, List, [], ◌∷◌, length, map, Option, Some, None, Result, Ok, refl, ap, sym, subst, ◌∙◌, arith, lit≤}
 use Rattle.std.proofs.Math.ListN.{get_or-map}
 use Rattle.avc_types.specs.References.{Reference, reference_at}
 use Rattle.avc_types.specs.declared.weight.Weights.{Weights}
@@ -117,24 +118,13 @@ module _ {PAD : ℕ} (sps : Sps) (pps : Pps) (es : List ℕ) (fs : List (Frame P
       → slice_index_or places r None ≡ Some k → slice_get fs k ≡ Some f → is_some f.mark ≡ true
   marked list places r k f e has place at =
       let named : slice_index_or list r None ≡ Some (reference_at es (map marked_frame fs) k) = has r ∙ ap (option_map (reference_at es (map marked_frame fs))) place in
-      let listed = subst (λ o. IfSome o IsListed) named (by_length (nat_lt r (length list)) refl (all-in-list list e)) in
+      let listed = subst (λ o. IfSome o IsListed) named (some_at IsListed list r (all-in-list list e)) in
       listed-is-marked es fs k f stand at (ap (list_any (λ s. s.entry == slice_index es k)) (sym (stored-references es fs)) ∙ listed)
-    where
-      by_length : (b : Bool) → nat_lt r (length list) ≡ b → All (λ o. IfSome o IsListed) list → IfSome (slice_index_or list r None) IsListed
-      by_length true inside all = let within : r < length list = grind (arith, nat_tests) in all r None within
-      by_length false past all =
-          let behind : length list ≤ r = grind (arith, nat_tests) in
-          subst (λ o. IfSome o IsListed) (sym (get_or_past list r None behind)) tt
 
   -- ---- what the code knows
 
-  module _ (places : List (Option ℕ)) (s : SliceContext PAD) (long : length places ≡ 16) (within : ArePlacesIn fs places)
-      (full : length s.references ≡ 16) (pictures : ArePicturesAt fs h 16 places s.references)
-      (numbers : AreNumbersAt 16 places s.frame_numbers)
-      (edges : s.filtered_edges ≡ (deblocking_of h.deblocking).disable_deblocking_filter_idc)
-      (offset_a : s.offset_a ≡ (deblocking_of h.deblocking).slice_alpha_c0_offset_div2 +ℤ (deblocking_of h.deblocking).slice_alpha_c0_offset_div2)
-      (offset_b : s.offset_b ≡ (deblocking_of h.deblocking).slice_beta_offset_div2 +ℤ (deblocking_of h.deblocking).slice_beta_offset_div2)
-      (list : List (Option Reference)) (is : list_of p h ≡ Ok list) (has : HasPlaces es fs list places)
+  module _ (number : ℕ) (places : List (Option ℕ)) (s : SliceContext PAD) (long : length places ≡ 16) (within : ArePlacesIn fs places)
+      (at : IsContextAt number fs h places s) (list : List (Option Reference)) (is : list_of p h ≡ Ok list) (has : HasPlaces es fs list places)
       (c : Coded) (names : Names) (are : AreNames es names) (facts : slice_facts c s.number ≡ facts_of p h list) where
     abbrev reference : ℕ → Reference
     reference k = reference_at es (map marked_frame fs) k
@@ -151,39 +141,33 @@ module _ {PAD : ℕ} (sps : Sps) (pps : Pps) (es : List ℕ) (fs : List (Frame P
 
     by-frame : (r k : ℕ) (f : Frame PAD) (o : Option (ReferencePicture PAD)) → slice_index_or places r None ≡ Some k → slice_get fs k ≡ Some f → IsPictureAt fs h r (Some k) o
         → ShowsReference c s.number r o
-    by-frame r k f None place got at =
-        let none : f.planes ≡ None = rw got at at in
+    by-frame r k f None place got shown =
+        let none : f.planes ≡ None = rw got at shown in
         ap is_picture (named-at r ∙ ap (λ x. option_map (frame_of p) (option_map reference x)) place) ∙ named-missing sps pps es fs k f stand got none
-    by-frame r k f (Some q) place got at =
-        let some : f.planes ≡ Some q.planes.now = rw got at at.0 in
+    by-frame r k f (Some q) place got shown =
+        let some : f.planes ≡ Some q.planes.now = rw got at shown.0 in
         record {
           entry = slice_index es k;
           frame =
               named-at r ∙ ap (λ x. option_map (frame_of p) (option_map reference x)) place
               ∙ ap Some (named-picture sps pps es fs k f stand got q.planes.now (marked list places r k f is has place got) some);
-          weights = ap (λ x. slice_get x.weights r) facts ∙ at.1;
+          weights = ap (λ x. slice_get x.weights r) facts ∙ shown.1;
         }
 
     by-place : (r : ℕ) (place : Option ℕ) (o : Option (ReferencePicture PAD)) → r < 16 → slice_index_or places r None ≡ place → IsPictureAt fs h r place o
         → ShowsReference c s.number r o
-    by-place r None None inside e at = ap is_picture (named-at r ∙ ap (λ x. option_map (frame_of p) (option_map reference x)) e)
-    by-place r None (Some q) inside e at = let wrong = at.0 in cc
-    by-place r (Some k) o inside e at = let found = frame-at r k inside e in by-frame r k found.0 o e found.1 at
+    by-place r None None inside e shown = ap is_picture (named-at r ∙ ap (λ x. option_map (frame_of p) (option_map reference x)) e)
+    by-place r None (Some q) inside e shown = let wrong = shown.0 in cc
+    by-place r (Some k) o inside e shown = let found = frame-at r k inside e in by-frame r k found.0 o e found.1 shown
 
     unnamed : (r : ℕ) → 16 ≤ r → is_picture (frame_named c s.number r) ≡ false
     unnamed r past = grind (arith, ints, nat_tests, get_or_past, named-at)
 
     shows : (r : ℕ) → ShowsReference c s.number r (slice_index_or s.references r None)
-    shows r = by_length (nat_lt r 16) refl
-      where
-        by_length : (b : Bool) → nat_lt r 16 ≡ b → ShowsReference c s.number r (slice_index_or s.references r None)
-        by_length true e =
-            let inside : r < 16 = grind (arith, nat_tests) in
-            by-place r (slice_index_or places r None) (slice_index_or s.references r None) inside refl (pictures r inside)
-        by_length false e =
-            let past : 16 ≤ r = grind (arith, nat_tests) in
-            let none : slice_index_or s.references r None ≡ None = get_or_past s.references r None (omega (arith, full, past)) in
-            subst (ShowsReference c s.number r) (sym none) (unnamed r past)
+    shows r = elim (cases_lt r 16) [
+      | inl inside ↦ by-place r (slice_index_or places r None) (slice_index_or s.references r None) inside refl (at.pictures r inside)
+      | inr past ↦ subst (ShowsReference c s.number r) (sym (get_or_past s.references r None (omega (arith, at.full, past)))) (unnamed r past)
+    ]
 
     numbered : (r : ℕ) (place : Option ℕ) → r < 16 → slice_index_or places r None ≡ place → is_picture (frame_named c s.number r) ≡ true
         → HasNumber c names s.number r (slice_index_or s.frame_numbers r 0)
@@ -192,7 +176,7 @@ module _ {PAD : ℕ} (sps : Sps) (pps : Pps) (es : List ℕ) (fs : List (Frame P
         cc
     numbered r (Some k) inside e shown =
         let found = frame-at r k inside e in
-        let number : slice_index_or s.frame_numbers r 0 ≡ k = numbers r inside ∙ ap (λ x. unwrap_or x 0) e in
+        let number : slice_index_or s.frame_numbers r 0 ≡ k = at.numbers r inside ∙ ap (λ x. unwrap_or x 0) e in
         let there : k < names.count = omega (arith, slice_get_within fs k found.0 found.1, are.all, stand.each, length-map fs marked_frame) in
         record {
           frame = frame_of p (reference k);
@@ -204,19 +188,15 @@ module _ {PAD : ℕ} (sps : Sps) (pps : Pps) (es : List ℕ) (fs : List (Frame P
     is-slice : IsSlice c names s
     is-slice = record {
       references = record { each = shows };
-      numbers = λ r shown. by_length r shown (nat_lt r 16) refl;
-      edges = edges ∙ sym (ap (λ x. x.disable_deblocking_filter_idc) facts);
-      offset_a = offset_a ∙ sym (ap (λ x. x.filter_offset_a) facts);
-      offset_b = offset_b ∙ sym (ap (λ x. x.filter_offset_b) facts);
-    } where
-      by_length : (r : ℕ) → is_picture (frame_named c s.number r) ≡ true → (b : Bool) → nat_lt r 16 ≡ b → HasNumber c names s.number r (slice_index_or s.frame_numbers r 0)
-      by_length r shown true e = let inside : r < 16 = grind (arith, nat_tests) in numbered r (slice_index_or places r None) inside refl shown
-      by_length r shown false e =
-          let past : 16 ≤ r = grind (arith, nat_tests) in
-          let wrong : false ≡ true = sym (unnamed r past) ∙ shown in
-          cc
+      numbers = λ r shown. elim (cases_lt r 16) [
+        | inl inside ↦ numbered r (slice_index_or places r None) inside refl shown
+        | inr past ↦ let wrong : false ≡ true = sym (unnamed r past) ∙ shown in cc
+      ];
+      edges = at.edges ∙ sym (ap (λ x. x.disable_deblocking_filter_idc) facts);
+      offset_a = at.offset_a ∙ sym (ap (λ x. x.filter_offset_a) facts);
+      offset_b = at.offset_b ∙ sym (ap (λ x. x.filter_offset_b) facts);
+    }
 
   pub is-context : (number : ℕ) (places : List (Option ℕ)) (s : SliceContext PAD) → length places ≡ 16 → ArePlacesIn fs places → IsContextAt number fs h places s
       → (list : List (Option Reference)) → list_of p h ≡ Ok list → HasPlaces es fs list places → IsContextOf p es h list s
-  is-context number places s long within at list is has = λ c names are facts.
-      is-slice places s long within at.full at.pictures at.numbers at.edges at.offset_a at.offset_b list is has c names are facts
+  is-context number places s long within at list is has = λ c names are facts. is-slice number places s long within at list is has c names are facts

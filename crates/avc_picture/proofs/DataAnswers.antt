@@ -25,8 +25,9 @@ module _ {PAD : ℕ} (c : Coded) (names : Names) (s : SliceStart) (context : Sli
   pub ends-well : outcome_from c s m' d' ≡ (0, None) → IsDataAnswer c names m.next (outcome_from c s m d) (Ok tt) read m'
   ends-well e = grind (arith, ints)
 
-  pub ends-badly : (k : ℕ) (f : Fault) (new : MbsState) → outcome_from c s m' d' ≡ (k, Some f) → IsDataAnswer c names m.next (outcome_from c s m d) (Err f) (read + k) new
-  ends-badly k f new e = grind (arith, ints)
+  pub ends-badly : (k read' : ℕ) (f : Fault) (new : MbsState) → read' ≡ read + k → outcome_from c s m' d' ≡ (k, Some f)
+      → IsDataAnswer c names m.next (outcome_from c s m d) (Err f) read' new
+  ends-badly k read' f new count e = grind (arith, ints)
 
   pub goes-further : (m'' : MbsState) (d'' : SliceData) → GoesOnFrom c names s context m' d' m'' d'' → GoesOnFrom c names s context m d m'' d''
   goes-further m'' d'' more = record { goes_on = more.goes_on; count = far.count ∙ more.count; fault = far.fault ∙ more.fault }

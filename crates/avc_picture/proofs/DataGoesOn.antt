@@ -1,7 +1,7 @@
 -- One macroblock more of a slice's data.
 use Rattle.avc_picture.proofs.Common.{option_map, slice_get, length-append, length-take-le, Fault, Mb, Coded, PicMb, IsHandedOut, rest_of}
 use Rattle.avc_picture.proofs.Common.{SliceMbs, SliceStart, after, placed, SliceData, Names, macroblock_fault, GoesOn, GoesOnFrom, first_of}
-use Rattle.avc_picture.proofs.Common.{outcome, outcome_from, HoldsFirst, IsSlice, MbsState, first_mb_fault, IsRead, SliceContext}
+use Rattle.avc_picture.proofs.Common.{outcome, outcome_from, HoldsFirst, IsDecoded, IsSlice, MbsState, Result, first_mb_fault, IsRead, SliceContext}
 use Rattle.std.proofs.Common.{◌≡◌, ℕ, suc, ◌+◌, ◌*◌, ◌<◌, List, [], ◌∷◌, ◌++◌, length, take, map, Option, Some, None, Ok, Err, refl, ap, ◌∙◌, arith, append_assoc, add-one}
 
 -- ---- lists
@@ -51,7 +51,7 @@ module _ {PAD : ℕ} (c : Coded) (names : Names) (s : SliceStart) (m : MbsState)
   all-mbs : c.mbs ≡ before ++ placed s mb ∷ (map (placed s) rest.mbs ++ g.later)
   all-mbs = g.mbs ∙ ap (λ ms. before ++ (map (placed s) ms.mbs ++ g.later)) out.0
 
-  pub next-mb : slice_get c.mbs m.next ≡ Some (record { slice = context.number; mb = mb })
+  next-mb : slice_get c.mbs m.next ≡ Some (record { slice = context.number; mb = mb })
   next-mb = grind (arith, all-mbs, long, get-here)
 
   pub room : m.next < m.canvas.width * m.canvas.height
@@ -61,20 +61,28 @@ module _ {PAD : ℕ} (c : Coded) (names : Names) (s : SliceStart) (m : MbsState)
   is-read = record { active_count = s.active_count; syntax = (out.2).range; quantiser = (out.2).quantiser g.quantiser }
 
   -- the slice has a macroblock
-  pub slice-is : IsSlice c names context
+  slice-is : IsSlice c names context
   slice-is = g.is_slice mb rest.mbs (ap (λ ms. ms.mbs) out.0)
 
   taken : (next : ℕ) → next ≡ suc m.next → take next c.mbs ≡ before ++ placed s mb ∷ []
   taken next e = grind (arith, long, all-mbs, take-here)
 
-  pub goes-on : (m' : MbsState) → m'.next ≡ suc m.next → HoldsFirst c names m' → GoesOn c names s m' d' context
+  goes-on : (m' : MbsState) → m'.next ≡ suc m.next → HoldsFirst c names m' → GoesOn c names s m' d' context
   goes-on m' e holds = grind (arith, taken, slice-is, all-mbs, append_assoc)
 
-  pub goes-on-from : (m' : MbsState) → m'.next ≡ suc m.next → macroblock_fault c m.next ≡ None → HoldsFirst c names m' → GoesOnFrom c names s context m d m' d'
-  goes-on-from m' e none holds = grind (arith, taken, with-one, goes-on)
+  -- what decoding it answers, in this picture
+  abbrev Decodes : Result (Unit {0}) Fault → MbsState → Type 0
+  Decodes result m' =
+      HoldsFirst c names m → slice_get c.mbs m.next ≡ Some (record { slice = context.number; mb = mb }) → IsSlice c names context → IsDecoded c names m.next result m'
 
-  pub faulty : (f : Fault) → macroblock_fault c m.next ≡ Some f → outcome_from c s m d ≡ (1, Some f)
-  faulty f is = ap (λ ms. outcome c m.next ms) out.0 ∙ faulty-one c m.next mb rest f is
+  pub goes-on-from : (m' : MbsState) → m'.next ≡ suc m.next → Decodes (Ok tt) m' → GoesOnFrom c names s context m d m' d'
+  goes-on-from m' e decodes = let decoded = decodes g.holds next-mb slice-is in further m' e decoded.0 decoded.1
+    where
+      further : (m' : MbsState) → m'.next ≡ suc m.next → macroblock_fault c m.next ≡ None → HoldsFirst c names m' → GoesOnFrom c names s context m d m' d'
+      further m' e none holds = grind (arith, taken, with-one, goes-on)
+
+  pub faulty : (f : Fault) (m' : MbsState) → Decodes (Err f) m' → outcome_from c s m d ≡ (1, Some f)
+  faulty f m' decodes = ap (λ ms. outcome c m.next ms) out.0 ∙ faulty-one c m.next mb rest f (decodes g.holds next-mb slice-is)
 
 -- ---- the end
 

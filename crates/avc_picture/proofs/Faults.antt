@@ -1,9 +1,11 @@
 -- What refuses a macroblock, step by step.
-use Rattle.avc_picture.proofs.Common.{ℕ, zero, suc, ◌<◌, List, [], ◌∷◌, length, Bool, true, false, not, Option, Some, None, Ok, Err}
+use Rattle.avc_picture.proofs.Common.{ℕ, suc, ◌<◌, List, [], length, Bool, true, false, not, Option, Some, None, Ok, Err}
 use Rattle.avc_picture.proofs.Common.{slice_get, slice_index_or, if◌then◌else◌, list_all, ◌≡◌, ◌∙◌, refl, ap, arith, Fault, VectorRange}
 use Rattle.avc_picture.proofs.Common.{RefMissing, MbSyntax, p_skip, i_pcm, i_nxn, i_16x16, p_inter, Coded, PicMb, Motion, absent}
-use Rattle.avc_picture.proofs.Common.{modes_before, is_in_range, is_intra, motion_before, motion_or_fault, and_first, and_second, Place}
+use Rattle.avc_picture.proofs.Common.{modes_before, is_in_range, is_intra, motion_before, motion_or_fault, Place}
 use Rattle.avc_picture.proofs.Common.{place_of, fault_at, fault_of, has_references, is_picture, macroblock_fault, refusal}
+use Rattle.std.proofs.lemmas.List.Elements.{All-get_or}
+use Rattle.std.proofs.lemmas.List.Sums.{AllPass-from_list_all}
 use Rattle.avc_picture_core.specs.Built.{reference_of}
 
 pub macroblock_fault_is : (c : Coded) (a : ℕ) (m : PicMb) → slice_get c.mbs a ≡ Some m
@@ -40,9 +42,7 @@ no_first false x e = cc
 
 list_all_each : {X : Type 0} (test : X → Bool) (xs : List X) (d : X) → list_all test xs ≡ true → (k : ℕ) → k < length xs
     → test (slice_index_or xs k d) ≡ true
-list_all_each test [] d e k h = absurd (omega (arith, h))
-list_all_each test (x ∷ xs) d e zero h = and_first (test x) (list_all test xs) e
-list_all_each test (x ∷ xs) d e (suc k) h = list_all_each test xs d (and_second (test x) (list_all test xs) e) k (omega (arith, h))
+list_all_each test xs d e k h = All-get_or (λ x. test x ≡ true) xs k d h (AllPass-from_list_all test xs e)
 
 each_picture : (p : Place) (s : MbSyntax) → is_intra s ≡ false → has_references p s ≡ true → (k : ℕ) → k < length p.motion
     → is_picture (reference_of p.coded p.slice (slice_index_or p.motion k absent)) ≡ true

@@ -1,9 +1,9 @@
 -- RefPicList0 of a slice by the places of its frames in the buffer.
-use Rattle.avc_picture.proofs.Common.{option_map, IfOk, IfSome, nat_lt, slice_get, slice_index_or, unwrap_or, nat_tests, get_or_default}
+use Rattle.avc_picture.proofs.Common.{cases_lt, inl, inr, option_map, IfOk, IfSome, slice_get, slice_index_or, unwrap_or, nat_tests, get_or_default}
 use Rattle.avc_picture.proofs.Common.{get_or_past, length-map, get_or_from_slice_get, slice_get_within, unwrap_or-slice_get, Fault}
 use Rattle.avc_picture.proofs.Common.{max_frame_num, Sps, Pps, is_p, Header, marked_frame, ArePlacesIn, FramesStandAt, IsListAt}
 use Rattle.avc_picture.proofs.Common.{picture_start, PictureStart, current_of, list_of, or_empty, references_in}
-use Rattle.std.proofs.Common.{◌≡◌, ℕ, zero, suc, ◌<◌, ◌≤◌, Bool, true, false, List, [], length, map, replicate, Option, Some, None, Result, Ok, refl, ap, sym, subst, ◌∙◌, arith}
+use Rattle.std.proofs.Common.{◌≡◌, ℕ, zero, suc, ◌<◌, ◌≤◌, true, false, List, [], length, map, replicate, Option, Some, None, Result, Ok, refl, ap, sym, subst, ◌∙◌, arith}
 use Rattle.std.proofs.Math.ListN.{get_or-map}
 use Rattle.avc_types.specs.References.{NamesFrames, Reference, reference_at}
 use Rattle.avc_reflist.specs.Lists.{AreEntriesIn, each_entry, reference_list}
@@ -16,13 +16,10 @@ abbrev AreThose : List (Option ℕ) → List (Option ℕ) → Type 0
 AreThose list places = (r : ℕ) → r < 16 → slice_index_or places r None ≡ unwrap_or (slice_get list r) None
 
 same-entries : (list places : List (Option ℕ)) → length places ≡ 16 → length list ≤ 16 → AreThose list places → (r : ℕ) → slice_index_or places r None ≡ slice_index_or list r None
-same-entries list places long short those r = by_test (nat_lt r 16) refl
-  where
-    by_test : (b : Bool) → nat_lt r 16 ≡ b → slice_index_or places r None ≡ slice_index_or list r None
-    by_test true e = let inside : r < 16 = grind (arith, nat_tests) in those r inside ∙ unwrap_or-slice_get list r None
-    by_test false e =
-        let past : 16 ≤ r = grind (arith, nat_tests) in
-        get_or_past places r None (omega (arith, long, past)) ∙ sym (get_or_past list r None (omega (arith, short, past)))
+same-entries list places long short those r = elim (cases_lt r 16) [
+  | inl inside ↦ those r inside ∙ unwrap_or-slice_get list r None
+  | inr past ↦ get_or_past places r None (omega (arith, long, past)) ∙ sym (get_or_past list r None (omega (arith, short, past)))
+]
 
 -- ---- they are places
 

@@ -1,10 +1,12 @@
 -- The blocks of a quarter of a macroblock are predicted from one reference index.
-use Rattle.avc_picture.proofs.Common.{if◌then◌else◌, ◌&&◌, slice_index, slice_index_or, ◌≡◌, ◌<◌, ◌≤◌, ◌+◌, ◌*◌, ◌/◌, ◌%◌, ℕ, List, [], ◌∷◌}
-use Rattle.avc_picture.proofs.Common.{◌++◌, Bool, true, false, refl, sym, ap, arith, nat_lt, nat_le, subst, nat_tests, get_or-replicate}
+use Rattle.avc_picture.proofs.Common.{if◌then◌else◌, slice_index, slice_index_or, ◌≡◌, ◌<◌, ◌≤◌, ◌+◌, ◌/◌, ◌%◌, ℕ, List, [], ◌∷◌}
+use Rattle.avc_picture.proofs.Common.{◌++◌, Bool, true, false, refl, sym, ap, arith, subst, nat_tests, get_or-replicate}
 use Rattle.avc_picture.proofs.Common.{P16x16, P16x8, P8x16, P8x8, P8x8Ref0, MbSyntax, p_skip, i_pcm, i_nxn, i_16x16, p_inter, parts_of}
 use Rattle.avc_picture.proofs.Common.{parts_of_quarter, parts_of_quarters, quarter_x, quarter_y, block_x, block_y, Motion, absent, intra}
 use Rattle.avc_picture.proofs.Common.{inter, Near, is_in_part, motion_by, motion_of_part, motion_of_parts, no_motion, with_part, is_intra}
-use Rattle.avc_picture.proofs.Common.{and_first, and_second}
+use Rattle.avc_picture.proofs.Common.{not, ◌||◌, ◌==◌, list_all, range_with_len}
+use Rattle.avc_picture_core.proofs.Shapes.{bounds}
+use Rattle.avc_picture_core.proofs.Sixteens.{each_sixteen}
 use Rattle.avc_types.specs.declared.macroblock.Mvd.{Mvd}
 use Rattle.avc_types.specs.declared.macroblock.Part.{Part}
 use Rattle.avc_types.specs.declared.macroblock.PMbType.{PMbType}
@@ -28,46 +30,16 @@ abbrev AreOf : PMbType → List Part → Type 0
 AreOf shape [] = Unit {0}
 AreOf shape (p ∷ ps) = IsOf shape p × AreOf shape ps
 
--- block k lies in this rectangle
-record IsIn (x y width height k : ℕ) : Type 0 where
-  left : x ≤ block_x k
-  right : block_x k < x + width
-  top : y ≤ block_y k
-  bottom : block_y k < y + height
+abbrev part_at : (x y width height p : ℕ) → Part
+part_at x y width height p = record { x = x; y = y; width = width; height = height; partition = p }
 
-at_least : (a b : ℕ) → nat_le a b ≡ true → a ≤ b
-at_least a b e = grind (arith, nat_tests)
-
-below : (a b : ℕ) → nat_lt a b ≡ true → a < b
-below a b e = grind (arith, nat_tests)
-
-part_in : (p : Part) (k : ℕ) → is_in_part p k ≡ true → IsIn p.x p.y p.width p.height k
-part_in p k e =
-    let l = nat_le p.x (block_x k) in
-    let r = nat_lt (block_x k) (p.x + p.width) in
-    let t = nat_le p.y (block_y k) in
-    let b = nat_lt (block_y k) (p.y + p.height) in
-    let three = and_first (l && r && t) b e in
-    let two = and_first (l && r) t three in
-    record {
-      left = at_least p.x (block_x k) (and_first l r two);
-      right = below (block_x k) (p.x + p.width) (and_second l r two);
-      top = at_least p.y (block_y k) (and_second (l && r) t three);
-      bottom = below (block_y k) (p.y + p.height) (and_second (l && r && t) b e);
-    }
-
-in_quarter : (q k : ℕ) → k < 16 → IsIn (quarter_x q) (quarter_y q) 8 8 k → q ≡ k / 4
-in_quarter q k h i = omega (arith, h, i.left, i.right, i.top, i.bottom)
+-- block k lies in the part
+part_in : (p : Part) (k : ℕ) → is_in_part p k ≡ true → (p.x ≤ block_x k) × (block_x k < p.x + p.width) × (p.y ≤ block_y k) × (block_y k < p.y + p.height)
+part_in p k e = bounds p.x p.y p.width p.height (block_x k) (block_y k) e
 
 part_of_quarter : (x y width height q u v k : ℕ) → u + width ≤ 8 → v + height ≤ 8 → x ≡ quarter_x q + u → y ≡ quarter_y q + v → k < 16
-    → IsIn x y width height k → q ≡ k / 4
-part_of_quarter x y width height q u v k wide high at_x at_y h i =
-    in_quarter q k h (record {
-      left = omega (arith, i.left, at_x);
-      right = omega (arith, i.right, wide, at_x);
-      top = omega (arith, i.top, at_y);
-      bottom = omega (arith, i.bottom, high, at_y);
-    })
+    → (x ≤ block_x k) × (block_x k < x + width) × (y ≤ block_y k) × (block_y k < y + height) → q ≡ k / 4
+part_of_quarter x y width height q u v k wide high at_x at_y h i = omega (arith, h, wide, high, at_x, at_y, i.0, i.1, i.2, i.3)
 
 module _ (shape : PMbType) where
   both_of : (ps qs : List Part) → AreOf shape ps → AreOf shape qs → AreOf shape (ps ++ qs)
@@ -77,7 +49,8 @@ module _ (shape : PMbType) where
   module _ (q : ℕ) (is : (k : ℕ) → k < 16 → q ≡ k / 4 → q ≡ partition_of shape (k / 4)) where
     one_of : (x y width height u v : ℕ) → u + width ≤ 8 → v + height ≤ 8 → x ≡ quarter_x q + u → y ≡ quarter_y q + v
         → IsOf shape (record { x = x; y = y; width = width; height = height; partition = q })
-    one_of x y width height u v wide high at_x at_y k h e = grind (arith, nat_tests, part_of_quarter, part_in)
+    one_of x y width height u v wide high at_x at_y k h e =
+        is k h (part_of_quarter x y width height q u v k wide high at_x at_y h (part_in (part_at x y width height q) k e))
 
     quarter_of : (s : SubMbType) → AreOf shape (parts_of_quarter s (quarter_x q) (quarter_y q) q)
     quarter_of Sub8x8 = (one_of _ _ 8 8 0 0 (omega arith) (omega arith) (omega arith) (omega arith), tt)
@@ -100,25 +73,18 @@ module _ (shape : PMbType) where
   quarters_of is [] q = tt
   quarters_of is (s ∷ subs) q = grind (arith, nat_tests, both_of, quarter_of, quarters_of is subs (q + 1))
 
-halves_16x8 : (x y height p k : ℕ) → y ≡ 8 * p → height ≡ 8 → k < 16 → IsIn x y 16 height k → p ≡ k / 4 / 2
-halves_16x8 x y height p k at high h i = omega (arith, at, high, h, i.top, i.bottom)
-
-halves_8x16 : (x y width p k : ℕ) → x ≡ 8 * p → width ≡ 8 → k < 16 → IsIn x y width 16 k → p ≡ k / 4 % 2
-halves_8x16 x y width p k at wide h i = omega (arith, at, wide, h, i.left, i.right)
-
-abbrev part_at : (x y width height p : ℕ) → Part
-part_at x y width height p = record { x = x; y = y; width = width; height = height; partition = p }
+-- a part of which each block is looked at
+part_of : (shape : PMbType) (p : Part) → list_all (λ k. not (is_in_part p k) || (p.partition == partition_of shape (k / 4))) (range_with_len 0 16) ≡ true → IsOf shape p
+part_of shape p all k h e = told (is_in_part p k) (each_sixteen (λ n. not (is_in_part p n) || (p.partition == partition_of shape (n / 4))) all k h) e
+  where
+    told : (b : Bool) → (not b || (p.partition == partition_of shape (k / 4))) ≡ true → b ≡ true → p.partition ≡ partition_of shape (k / 4)
+    told true test e = grind (arith, nat_tests)
+    told false test e = absurd cc
 
 parts_are_of : (shape : PMbType) → AreOf shape (parts_of shape)
 parts_are_of P16x16 = (λ k h e. refl, tt)
-parts_are_of P16x8 = (
-  λ k h e. halves_16x8 0 0 8 0 k refl refl h (part_in (part_at 0 0 16 8 0) k e),
-  (λ k h e. halves_16x8 0 8 8 1 k refl refl h (part_in (part_at 0 8 16 8 1) k e), tt),
-)
-parts_are_of P8x16 = (
-  λ k h e. halves_8x16 0 0 8 0 k refl refl h (part_in (part_at 0 0 8 16 0) k e),
-  (λ k h e. halves_8x16 8 0 8 1 k refl refl h (part_in (part_at 8 0 8 16 1) k e), tt),
-)
+parts_are_of P16x8 = (part_of P16x8 (part_at 0 0 16 8 0) refl, (part_of P16x8 (part_at 0 8 16 8 1) refl, tt))
+parts_are_of P8x16 = (part_of P8x16 (part_at 0 0 8 16 0) refl, (part_of P8x16 (part_at 8 0 8 16 1) refl, tt))
 parts_are_of (P8x8 subs) = quarters_of (P8x8 subs) (λ q k h e. e) subs 0
 parts_are_of (P8x8Ref0 subs) = quarters_of (P8x8Ref0 subs) (λ q k h e. e) subs 0
 

@@ -41,3 +41,6 @@ modes_left row slice h =
 
 pub modes_above : (row : PictureFacts) (slice : ℕ) → HaveModes row.facts → HasModes (mb_b row slice)
 modes_above row slice h = modes_in_slice slice (back row.facts row.width) (modes_back row.facts row.width h)
+
+-- what the parts of a macroblock's decoding ask
+pub ruleset asked = (in_range_of, modes_left, modes_above)

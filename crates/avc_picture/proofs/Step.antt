@@ -120,9 +120,6 @@ module _ {PAD : ℕ} (c : Coded) (names : Names) (old : MbsState) (holds : Holds
       here : IsBuilt place (Ok done) old.canvas canvas
       here = built place place_on
 
-      pub no_fault : macroblock_fault c a ≡ None
-      no_fault = not_out ∙ here.0
-
       pictures : is_intra mb.syntax ≡ false → (k : ℕ) → k < 16 → is_picture (reference_of c s.number (slice_index_or facts.motion k absent)) ≡ true
       pictures e k h =
           ap (λ xs. is_picture (reference_of c s.number (slice_index_or xs k absent))) (sym motion_is)
@@ -154,27 +151,29 @@ module _ {PAD : ℕ} (c : Coded) (names : Names) (old : MbsState) (holds : Holds
       below : a < length c.mbs
       below = slice_get_within c.mbs a m is
 
-      -- the row above is filtered where the macroblock ends its own
-      pub holds_more : a < old.canvas.width * old.canvas.height → (last : Planes)
-          → FiltersUpTo c (filtered_rows c.width a) (filtered_rows c.width (suc a)) canvas.planes last
-          → HoldsFirst c names (record { canvas = record canvas { planes = last }; row = with_facts old.row facts; filter_facts = old.filter_facts ++ f ∷ []; next = suc a })
-      holds_more room last filters =
+      -- It is built, and the row above is filtered where the macroblock ends its own.
+      pub decoded_more : a < old.canvas.width * old.canvas.height → (last : Planes)
+          → FiltersUpTo c (filtered_rows c.width a) (filtered_rows c.width (suc a)) canvas.planes last → (macroblock_fault c a ≡ None)
+          × HoldsFirst c names (record { canvas = record canvas { planes = last }; row = with_facts old.row facts; filter_facts = old.filter_facts ++ f ∷ []; next = suc a })
+      decoded_more room last filters =
           let told_so_far : FilterFacts = record { width = c.width; facts = old.filter_facts } in
           let of : AreFactsOf c names c.chroma_qp_index_offset told_so_far = record { width_is = refl; offset_is = refl; facts_are = holds.filter } in
-          let in_picture : a < c.width * c.height = subst (λ h. a < c.width * h) holds.height (subst (λ w. a < w * old.canvas.height) holds.width room) in
-          record {
-            within = omega (arith, below);
-            width = ap (λ x. x.width) here.1 ∙ holds.width;
-            height = ap (λ x. x.height) here.1 ∙ holds.height;
-            offset = ap (λ x. x.chroma_qp_index_offset) here.1 ∙ holds.offset;
-            constrained = ap (λ x. x.constrained_intra_pred) here.1 ∙ holds.constrained;
-            begun = holds.begun;
-            begun_sized = holds.begun_sized;
-            built = filters (first_built c holds.begun (suc a))
-                (ap (λ x. x.planes) here.1
-                ∙ late_more c names c.chroma_qp_index_offset told_so_far of a m is kept.filter_count wide in_picture holds.begun holds.begun_sized old.canvas.planes holds.built);
-            neighbours = neighbours_more;
-            filter = facts_more c (motion_before c (length c.mbs)) names a old.filter_facts f kept.filter_count holds.filter
-                (has_facts c names s slice a mb is facts.motion long (quarter_reference mb.syntax) f filter_told (motion_before c (length c.mbs))
-                (motion_stays c (suc a) (length c.mbs) a (omega arith) (omega (arith, below)) ∙ motion_is) pictures one);
-          }
+          let in_picture : a < c.width * c.height = subst (λ h. a < c.width * h) holds.height (subst (λ w. a < w * old.canvas.height) holds.width room) in (
+            not_out ∙ here.0,
+            record {
+              within = omega (arith, below);
+              width = ap (λ x. x.width) here.1 ∙ holds.width;
+              height = ap (λ x. x.height) here.1 ∙ holds.height;
+              offset = ap (λ x. x.chroma_qp_index_offset) here.1 ∙ holds.offset;
+              constrained = ap (λ x. x.constrained_intra_pred) here.1 ∙ holds.constrained;
+              begun = holds.begun;
+              begun_sized = holds.begun_sized;
+              built = filters (first_built c holds.begun (suc a))
+                  (ap (λ x. x.planes) here.1
+                  ∙ late_more c names c.chroma_qp_index_offset told_so_far of a m is kept.filter_count wide in_picture holds.begun holds.begun_sized old.canvas.planes holds.built);
+              neighbours = neighbours_more;
+              filter = facts_more c (motion_before c (length c.mbs)) names a old.filter_facts f kept.filter_count holds.filter
+                  (has_facts c names s slice a mb is facts.motion long (quarter_reference mb.syntax) f filter_told (motion_before c (length c.mbs))
+                  (motion_stays c (suc a) (length c.mbs) a (omega arith) (omega (arith, below)) ∙ motion_is) pictures one);
+            },
+          )

@@ -1,6 +1,6 @@
 -- The 4x4 blocks of a macroblock, and what their residuals add.
-use Rattle.avc_picture_core.proofs.Common.{◌≡◌, ℕ, ◌+◌, ◌-◌, ◌*◌, ◌/◌, ◌%◌, ◌<◌, ◌≤◌, ℤ, pos, List, [], length, slice_index_or, arith}
-use Rattle.avc_picture_core.proofs.Common.{nat_tests, ints, block_at, block_x, block_y, sum_of, residual4x4, residual4x4_with_dc}
+use Rattle.avc_picture_core.proofs.Common.{◌≡◌, ℕ, ◌+◌, ◌*◌, ◌/◌, ◌%◌, ◌<◌, ◌≤◌, ℤ, List, [], slice_index_or, arith}
+use Rattle.avc_picture_core.proofs.Common.{nat_tests, ints, block_at, block_x, block_y, residual4x4, residual4x4_with_dc}
 use Rattle.avc_picture_core.proofs.InPlace.{IsTile}
 
 -- ---- the blocks of a macroblock

@@ -1,6 +1,6 @@
-use Rattle.avc_picture.proofs.Common.{◌≡◌, ◌+◌, ◌*◌, Err, sym, subst, ◌∙◌, arith, rules, IsDataAnswer, outcome_from}
+use Rattle.avc_picture.proofs.Common.{◌≡◌, ◌*◌, Err, refl, ◌∙◌, arith, rules}
 use Rattle.avc_picture.proofs.DataAnswers.{ends-badly, ends-well, goes-further, less-left, same-area, usable-still}
-use Rattle.avc_picture.proofs.DataGoesOn.{at-end, at-fault, faulty, goes-on-from, is-read, next-mb, room, slice-is}
+use Rattle.avc_picture.proofs.DataGoesOn.{at-end, at-fault, faulty, goes-on-from, is-read, room}
 use Rattle.avc_picture.proofs.slice_decoding.decode_data.Goals as goal
 
 pub returns-in_err-next_macroblock-clause-answer : goal.returns-in_err-next_macroblock-clause-answer
@@ -10,12 +10,9 @@ returns-in_err-next_macroblock-clause-answer g c = λ coded names s go.
     let here = far.goes_on in
     let out = c.in_err-next_macroblock.ensures coded names s here.holds here.width here.number here.follows in
     let f = c.in_err-next_macroblock.field-0.0 in
-    let same : c.macroblocks.read + 0 ≡ c.macroblocks.read = omega arith in
     let e : c.from_residual.result ≡ Err f = search rules in
-    subst (λ r. IsDataAnswer coded names c.args.macroblocks.now.next (outcome_from coded s c.args.macroblocks.now c.args.unread.now) r c.macroblocks.read m) (sym e)
-    (subst (λ n. IsDataAnswer coded names c.args.macroblocks.now.next (outcome_from coded s c.args.macroblocks.now c.args.unread.now) (Err f) n m) same
-    (ends-badly coded names s c.args.context.now c.args.macroblocks.now c.args.unread.now m c.macroblocks.unread far c.macroblocks.read c.macroblocks.invariant.reached 0 f m
-    (at-fault coded names s m c.macroblocks.unread c.next_macroblock.new.unread c.args.context.now here f out)))
+    rw e (ends-badly coded names s c.args.context.now c.args.macroblocks.now c.args.unread.now m c.macroblocks.unread far c.macroblocks.read c.macroblocks.invariant.reached 0 _ f m (omega arith)
+    (at-fault coded names s m c.macroblocks.unread c.next_macroblock.new.unread c.args.context.now here f out))
 
 pub decode-requires : goal.decode-requires
 decode-requires g c =
@@ -60,9 +57,8 @@ macroblocks-preserved g c =
           let far = before.goes_on coded names s go in
           let at = far.goes_on in
           let out' = rw (c.if-branch.true) at (c.in_ok-next_macroblock.ensures coded names s at.holds at.width at.number at.follows) in
-          let decoded = c.in_ok-decode.ensures.decoded coded names at.holds (next-mb coded names s m d d' c.args.context.now c.next_macroblock.new.mb at out') (slice-is coded names s m d d' c.args.context.now c.next_macroblock.new.mb at out') in
           goes-further coded names s c.args.context.now c.args.macroblocks.now c.args.unread.now m d far c.macroblocks.read before.reached m' d'
-          (goes-on-from coded names s m d d' c.args.context.now c.next_macroblock.new.mb at out' m' next decoded.0 decoded.1);
+          (goes-on-from coded names s m d d' c.args.context.now c.next_macroblock.new.mb at out' m' next (c.in_ok-decode.ensures.decoded coded names));
     }
 
 pub returns-in_err-decode-clause-within : goal.returns-in_err-decode-clause-within
@@ -85,11 +81,9 @@ returns-in_err-decode-clause-answer g c = λ coded names s go.
     let at = far.goes_on in
     let out = rw (c.if-branch.true) at (c.in_ok-next_macroblock.ensures coded names s at.holds at.width at.number at.follows) in
     let f = c.in_err-decode.field-0.0 in
-    let wrong = c.in_err-decode.ensures.decoded coded names at.holds (next-mb coded names s m d d' c.args.context.now c.next_macroblock.new.mb at out) (slice-is coded names s m d d' c.args.context.now c.next_macroblock.new.mb at out) in
     let e : c.from_residual-in_err-decode.result ≡ Err f = search rules in
-    subst (λ r. IsDataAnswer coded names c.args.macroblocks.now.next (outcome_from coded s c.args.macroblocks.now c.args.unread.now) r (c.macroblocks.read + 1) c.decode.new.self) (sym e)
-    (ends-badly coded names s c.args.context.now c.args.macroblocks.now c.args.unread.now m d far c.macroblocks.read c.macroblocks.invariant.reached 1 f c.decode.new.self
-    (faulty coded names s m d d' c.args.context.now c.next_macroblock.new.mb at out f wrong))
+    rw e (ends-badly coded names s c.args.context.now c.args.macroblocks.now c.args.unread.now m d far c.macroblocks.read c.macroblocks.invariant.reached 1 _ f c.decode.new.self refl
+    (faulty coded names s m d d' c.args.context.now c.next_macroblock.new.mb at out f c.decode.new.self (c.in_err-decode.ensures.decoded coded names)))
 
 pub returns-clause-answer : goal.returns-clause-answer
 returns-clause-answer g c = λ coded names s go.

@@ -1,7 +1,7 @@
-use Rattle.avc_picture.proofs.Common.{◌≡◌, ◌+◌, Err, sym, subst, arith, rules, IsDataAnswer, outcome_from}
+use Rattle.avc_picture.proofs.Common.{◌≡◌, Err, refl, arith, rules}
 use Rattle.avc_picture.proofs.Contexts.{usable-pictures}
 use Rattle.avc_picture.proofs.DataAnswers.{answers-further, ends-badly, from-here, same-area, usable-still}
-use Rattle.avc_picture.proofs.DataGoesOn.{faulty, goes-on-from, is-read, next-mb, room, slice-is}
+use Rattle.avc_picture.proofs.DataGoesOn.{faulty, goes-on-from, is-read, room}
 use Rattle.avc_picture.proofs.slice_decoding.decode_macroblocks.Goals as goal
 
 pub decode-requires : goal.decode-requires
@@ -25,10 +25,9 @@ returns-in_err-decode-clause-answer g c = λ coded names s d h.
     let context = c.new-context.result in
     let go = h.goes_on context c.new-context.ensures in
     let f = c.in_err-decode.field-0.0 in
-    let wrong = c.in_err-decode.ensures.decoded coded names go.holds (next-mb coded names s m d d' context mb go h.first) (slice-is coded names s m d d' context mb go h.first) in
     let e : c.from_residual.result ≡ Err f = search rules in
-    subst (λ r. IsDataAnswer coded names m.next (outcome_from coded s m d) r (c.args.read.now + 1) c.decode.new.self) (sym e)
-    (ends-badly coded names s context m d m d (from-here coded names s context m d go) c.args.read.now c.requires.read 1 f c.decode.new.self (faulty coded names s m d d' context mb go h.first f wrong))
+    rw e (ends-badly coded names s context m d m d (from-here coded names s context m d go) c.args.read.now c.requires.read 1 _ f c.decode.new.self refl
+    (faulty coded names s m d d' context mb go h.first f c.decode.new.self (c.in_err-decode.ensures.decoded coded names)))
 
 pub decode_data-requires : goal.decode_data-requires
 decode_data-requires g c =
@@ -45,9 +44,7 @@ decode_data-requires g c =
     let next = c.in_ok-decode.ensures.next in
     let inside = room w.coded w.names w.start m w.unread d' context mb go h.first in
     let area = same-area m m' kept in
-    let decoded =
-    c.in_ok-decode.ensures.decoded w.coded w.names go.holds (next-mb w.coded w.names w.start m w.unread d' context mb go h.first) (slice-is w.coded w.names w.start m w.unread d' context mb go h.first) in
-    let far = goes-on-from w.coded w.names w.start m w.unread d' context mb go h.first m' next decoded.0 decoded.1 in
+    let far = goes-on-from w.coded w.names w.start m w.unread d' context mb go h.first m' next (c.in_ok-decode.ensures.decoded w.coded w.names) in
     let usable = usable-still context.references m m' kept
     (usable-pictures m.canvas.width m.canvas.height c.args.frames.now c.args.header.now c.requires.frames c.requires.weights c.args.places.now context.references knows.full knows.pictures) in
     (omega arith, (omega arith, (record { coded = w.coded; names = w.names; start = w.start; goes_on = far.goes_on }, (usable, (omega (arith, next, c.requires.read), (omega (arith, inside, area, c.requires.read), omega (arith, area, c.requires.small)))))))
@@ -60,6 +57,5 @@ returns-clause-answer g c = λ coded names s d h.
     let mb = c.args.mb.now in
     let context = c.new-context.result in
     let go = h.goes_on context c.new-context.ensures in
-    let decoded = c.in_ok-decode.ensures.decoded coded names go.holds (next-mb coded names s m d d' context mb go h.first) (slice-is coded names s m d d' context mb go h.first) in
-    let far = goes-on-from coded names s m d d' context mb go h.first m' c.in_ok-decode.ensures.next decoded.0 decoded.1 in
+    let far = goes-on-from coded names s m d d' context mb go h.first m' c.in_ok-decode.ensures.next (c.in_ok-decode.ensures.decoded coded names) in
     answers-further coded names s context m d m' d' far c.decode_data.result c.decode_data.new.read c.decode_data.new.macroblocks (c.decode_data.ensures.answer coded names s far.goes_on)

@@ -1,5 +1,5 @@
-use Rattle.avc_picture_core.proofs.Common.{◌≡◌, ◌+◌, ◌*◌, true, false, refl, ap, sym, subst, ◌∙◌, arith, i_16x16, chroma_residual}
-use Rattle.avc_picture_core.proofs.Common.{planes_of, chroma_after, planes_after, sides_of, has_sides, AreInside}
+use Rattle.avc_picture_core.proofs.Common.{◌≡◌, ◌+◌, ◌*◌, true, false, refl, sym, subst, ◌∙◌, arith, i_16x16}
+use Rattle.avc_picture_core.proofs.Common.{planes_of, sides_of, has_sides, AreInside}
 use Rattle.avc_types.specs.MacroblockFields.{residual_of}
 use Rattle.avc_picture_core.proofs.Ties.{inside_luma, luma_16x16, planes_intra, refused_by}
 use Rattle.avc_picture_core.proofs.intra.build_i_16x16.Goals as goal

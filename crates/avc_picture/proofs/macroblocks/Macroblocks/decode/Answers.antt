@@ -1,12 +1,11 @@
-use Rattle.avc_picture.proofs.Common.{Err, slice_get, suc, [], ◌∷◌, ◌++◌, ◌≡◌, ◌∙◌, ◌<◌, ◌*◌, ◌+◌, ℕ, refl, sym, ap, subst, arith, rules}
+use Rattle.avc_picture.proofs.Common.{Err, slice_get, suc, [], ◌∷◌, ◌++◌, ◌≡◌, ◌∙◌, ◌<◌, ◌*◌, ◌+◌, ℕ, refl, sym, ap, subst, rules}
 use Rattle.avc_picture.proofs.Common.{length, add-one, w8, to_z, of_z, Around, PictureFacts, HasModes, macroblock_fault, HoldsFirst}
 use Rattle.avc_picture.proofs.Common.{MbsState, planes_of, AreFactsOf, FilterFacts, FiltersUpTo, filtered_rows, PartsAgree, state_of}
 use Rattle.avc_neigh.specs.Around.{facts_of, with_facts}
 use Rattle.avc_picture_core.specs.CanvasFields.{with_planes}
 use Rattle.avc_picture.proofs.Keeping.{kept_more}
-use Rattle.avc_picture.proofs.Whole.{late_room}
-use Rattle.avc_picture.proofs.Ranges.{in_range_of, modes_above, modes_left}
-use Rattle.avc_picture.proofs.Step.{build_fault, holds_more, no_fault, vector_fault}
+use Rattle.avc_picture.proofs.Ranges.{modes_above, modes_left}
+use Rattle.avc_picture.proofs.Step.{build_fault, decoded_more, vector_fault}
 use Rattle.avc_picture.proofs.macroblocks.Macroblocks.decode.Goals as goal
 
 pub returns-in_err-set_neighbour_facts-clause-decoded : goal.returns-in_err-set_neighbour_facts-clause-decoded
@@ -19,9 +18,6 @@ returns-in_err-set_neighbour_facts-clause-decoded g c = λ coded names holds is 
     (c.sources-sources.ensures.neighbours ∙ c.around.ensures) c.in_err-set_neighbour_facts.field-0.0 c.in_err-set_neighbour_facts.ensures.motion in
     rw e (ap (λ (o : MbsState). macroblock_fault coded o.next) back ∙ fault)
 
-pub build-requires : goal.build-requires
-build-requires g c = grind (arith, in_range_of, modes_left, modes_above)
-
 pub returns-in_err-build-clause-decoded : goal.returns-in_err-build-clause-decoded
 returns-in_err-build-clause-decoded g c = λ coded names holds is slice.
     let back = sym c.self.view_is in
@@ -33,9 +29,6 @@ returns-in_err-build-clause-decoded g c = λ coded names holds is slice.
     (c.sources-sources.ensures.neighbours ∙ c.around.ensures) c.set_neighbour_facts.new.facts c.in_ok-set_neighbour_facts.ensures.motion c.self.inside.canvas.constrained_intra_pred refl c.in_ok-set_neighbour_facts.ensures.told c.sources-sources.result.references.now c.sources-sources.ensures.references
     c.in_err-build.field-0.0 built c.in_err-build.ensures.built in
     rw e (ap (λ (o : MbsState). macroblock_fault coded o.next) back ∙ fault)
-
-pub filter_late-requires : goal.filter_late-requires
-filter_late-requires g c = grind (arith, late_room)
 
 pub invariant_of-self-2 : goal.invariant_of-self-2
 invariant_of-self-2 g c =
@@ -86,16 +79,13 @@ returns-clause-decoded g c = λ coded names holds is slice.
     subst (λ k. FiltersUpTo coded (filtered_rows k old.next) (filtered_rows k (suc old.next)) before after) width
     (subst (λ k. FiltersUpTo coded (filtered_rows i.filter_rows.width k) (filtered_rows i.filter_rows.width (suc k)) before after) kept.filter_count
     (c.filter_late.ensures.lines coded names of)) in
-    let none = no_fault coded names old held kept c.args.slice.now slice c.args.mb.now there n n_is facts told.motion i.canvas.constrained_intra_pred refl
-    told.told c.sources-sources.result.references.now c.sources-sources.ensures.references built
-    c.in_ok-build.field-0 c.in_ok-build.ensures.built long adds.facts adds.told in
-    let more = holds_more coded names old held kept c.args.slice.now slice c.args.mb.now there n n_is facts told.motion i.canvas.constrained_intra_pred refl
+    let more = decoded_more coded names old held kept c.args.slice.now slice c.args.mb.now there n n_is facts told.motion i.canvas.constrained_intra_pred refl
     told.told c.sources-sources.result.references.now c.sources-sources.ensures.references built
     c.in_ok-build.field-0 c.in_ok-build.ensures.built long adds.facts adds.told room after filters in
     let canvas = with_planes i.canvas after in (
-      ap (λ (o : MbsState). macroblock_fault coded o.next) back ∙ none,
+      ap (λ (o : MbsState). macroblock_fault coded o.next) back ∙ more.0,
       subst (λ (f : FilterFacts). HoldsFirst coded names (record { canvas = canvas; row = c.put-2.new.self; filter_facts = f.facts; next = old.next + 1 })) (sym adds.new_is)
           (subst (λ (r : PictureFacts). HoldsFirst coded names (record { canvas = canvas; row = r; filter_facts = old.filter_facts ++ adds.facts ∷ []; next = old.next + 1 })) (sym c.put-2.ensures)
           (subst (λ (k : ℕ). HoldsFirst coded names (record { canvas = canvas; row = with_facts i.row facts; filter_facts = old.filter_facts ++ adds.facts ∷ []; next = k }))
-          (sym (add-one old.next)) more)),
+          (sym (add-one old.next)) more.1)),
     )
