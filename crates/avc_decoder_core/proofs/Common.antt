@@ -18,7 +18,7 @@ pub use Rattle.std.specs.Option.{option_map, option_eq}
 pub use Rattle.std.specs.Prelude.{slice_index_or, IfSome, max, All, slice_index, count_by}
 pub use Rattle.avc_dpb.proofs.Conserved.{stands_in_decoding_order, goes_out_in_turn, out_only_grows, all_held_go_out, holds_at_most}
 pub use Rattle.avc_dpb.specs.Bumping.{Buffer, Stored, is_reference_in, PriorPictures, remain, are_output, after_prior_pictures}
-pub use Rattle.avc_dpb.specs.Bumping.{empty_buffer, Arrival, after_entry, needed_frames, no_longer_held}
+pub use Rattle.avc_dpb.specs.Bumping.{empty_buffer, Arrival, after_entry, needed_frames, no_longer_needed}
 pub use Rattle.avc_dpb.specs.Bumping.{after_bumping, after_bumping_while, after_making_room, must_bump, with_frame, with_direct_output}
 pub use Rattle.avc_dpb.specs.Bumping.{is_full, after_placing, holds_too_many, after_frame}
 pub use Rattle.avc_dpb.specs.Contents.{Contents, IsBuffer, IsRising, slot_of, changed_at, with_mark, OutputsAll, OutputsSome}
@@ -60,7 +60,7 @@ pub use Rattle.avc_decoder_core.specs.FrameBufferFields.{OutputsPrior}
 pub use Rattle.avc_decoder_core.specs.FrameBufferState.{CanFollow, FrameBufferState, BeginsSequence, at_sequence_of, empty_frame_buffer}
 pub use Rattle.avc_decoder_core.specs.FrameBufferState.{Refuses}
 pub use Rattle.avc_decoder_core.specs.Frames.{frame_of, frame_at, mark_in, coded_frame}
-pub use Rattle.avc_decoder_core.specs.Gaps.{AreBefore, AreNotHeld, IsLongGap, LongGapsLeaveTheirEnd, IsSettled, Staying, missing_reference}
+pub use Rattle.avc_decoder_core.specs.Gaps.{AreBefore, AreNotNeeded, IsLongGap, LongGapsLeaveTheirEnd, IsSettled, Staying, missing_reference}
 pub use Rattle.avc_decoder_core.specs.Gaps.{missing_references, stored_missing, has_its_place, is_staying, settles_at, KeepsTheSame}
 pub use Rattle.avc_decoder_core.specs.Opening.{with_all_missing, counts_over, missing_before, opening_on, Finds, set_with, IsOpening}
 pub use Rattle.avc_decoder_core.specs.Opening.{StoresAll}

@@ -12,7 +12,7 @@ pub mod State
 pub mod StoredEntry
 pub mod SettingMarks
 pub mod MissingNumbers
-pub mod Held
+pub mod NeededForOutput
 pub mod Sequences
 pub mod OwnReferences
 pub mod SequenceOrder

@@ -6,7 +6,7 @@ use Rattle.avc_decoder_core.proofs.Common.{Reference, references_at, Frame, mark
 use Rattle.avc_decoder_core.proofs.Common.{reference_limit, width_in_mbs, height_in_mbs, Sps, StandBelow, StandFrom, Marks}
 use Rattle.avc_decoder_core.proofs.Common.{frame_nums_from, prev_ref_frame_num, Output, Buffer, Stored, Contents, IsRising, slot_of}
 use Rattle.avc_decoder_core.proofs.Common.{IsWithin, missing_stored, stands_in_decoding_order, coded_frame, frame_at, frame_of, mark_in}
-use Rattle.avc_decoder_core.proofs.Common.{Each, IsSizedAt, IsStateAfter, places_in, AreBefore, AreNotHeld, IsLongGap}
+use Rattle.avc_decoder_core.proofs.Common.{Each, IsSizedAt, IsStateAfter, places_in, AreBefore, AreNotNeeded, IsLongGap}
 use Rattle.avc_decoder_core.proofs.Common.{LongGapsLeaveTheirEnd, IsSettled, Staying, missing_reference, missing_references, stored_missing}
 use Rattle.avc_decoder_core.proofs.Common.{with_all_missing, output_pictures}
 use Rattle.std.proofs.Math.Seq.{drop-append-add, drop-length}
@@ -35,7 +35,7 @@ frames_from zero n m place is = grind arith
 frames_from (suc k) n zero place is = absurd (omega arith)
 frames_from (suc k) n (suc m) place is = grind (arith, frames_from k n m (place + 1) (omega arith))
 
-as_many : (rs : List Reference) (frames : List Stored) → AreNotHeld rs frames → length frames ≡ length rs
+as_many : (rs : List Reference) (frames : List Stored) → AreNotNeeded rs frames → length frames ≡ length rs
 as_many [] [] h = refl
 as_many [] (s ∷ frames) h = absurd h
 as_many (r ∷ rs) [] h = absurd h
@@ -54,7 +54,7 @@ last_left output sps k h low number place stays shorts lasts settled near some =
     let shorts_are : drop (w + k) (shorts ++ references) ≡ missing_references max (number + k) (length h + k) w =
     drop-append-add shorts references k ∙ references_from max k w (w + k) number (length h) (omega arith) in
     let lasts_are : drop (w + k) (lasts ++ frames) ≡ stored_missing (length h + k) w =
-    ap (λ n. drop (n + k) (lasts ++ frames)) (sym (as_many shorts lasts settled.not_held))
+    ap (λ n. drop (n + k) (lasts ++ frames)) (sym (as_many shorts lasts settled.not_needed))
     ∙ drop-append-add lasts frames k ∙ frames_from k w (w + k) (length h) (omega arith) in
     rw (← shorts_are, ← lasts_are) (settled_on output sps (w + k) (length h) h low number place stays shorts lasts refl settled near some)
 
@@ -360,7 +360,7 @@ one_marked : (output : Output) (sps : Sps) (h : History) (low number place : ℕ
     IsSettled output sps h low number place stays shorts lasts → number < low + max_frame_num sps → 0 < length shorts →
     is_ok (marks_of (missing_frame sps (number % max_frame_num sps) ∷ h)) ≡ true
 one_marked output sps h low number place stays [] lasts settled near some = absurd (omega (arith, some))
-one_marked output sps h low number place stays (r ∷ rs) [] settled near some = absurd settled.not_held
+one_marked output sps h low number place stays (r ∷ rs) [] settled near some = absurd settled.not_needed
 one_marked output sps h low number place stays (r ∷ rs) (s ∷ ss) settled near some =
     ap is_ok (settled_once output sps h low number place stays r rs s ss settled near).marked
 

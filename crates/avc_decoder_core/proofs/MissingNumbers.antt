@@ -106,14 +106,14 @@ all_counted sps numbers n history counts e marked told = grind (arith, next_numb
 -- the order count of the picture
 pub counted_next : (sps : Sps) (h : Header) (missing : List ℕ) (history : History) (top bottom order : ℤ) (counts : OrderCountState) → order ≡ int_min top bottom
     → Ok (top, bottom) ≡ count_pair (order_counts sps h (pasts history)) → counts ≡ order_count_state (picture sps h ∷ pasts history)
-    → Ok (record { missing = missing; order = order; poc = counts }) ≡ result_map (opening_on sps h missing) (with_order_counts sps h history)
+    → Ok (record { missing = missing; pic_order_cnt = order; poc = counts }) ≡ result_map (opening_on sps h missing) (with_order_counts sps h history)
 counted_next sps h missing history top bottom order counts least told after = by (order_counts sps h (pasts history)) refl
   where
     by : (r : Result Counts Fault) → order_counts sps h (pasts history) ≡ r
-        → Ok (record { missing = missing; order = order; poc = counts }) ≡ result_map (opening_on sps h missing) (r >>= λ c. Ok history)
+        → Ok (record { missing = missing; pic_order_cnt = order; poc = counts }) ≡ result_map (opening_on sps h missing) (r >>= λ c. Ok history)
     by (Ok c) is =
         let pairs = ok_same (top, bottom) (pair c) (told ∙ ap count_pair is) in
-        ap₂ (λ (n : ℤ) (kept : OrderCountState). Ok (record { missing = missing; order = n; poc = kept }))
+        ap₂ (λ (n : ℤ) (kept : OrderCountState). Ok (record { missing = missing; pic_order_cnt = n; poc = kept }))
         (least ∙ ap (λ (p : ℤ × ℤ). int_min p.0 p.1) pairs ∙ sym (ap order_or_0 is)) after
     by (Err f) is = let fault = told ∙ ap count_pair is in cc
 

@@ -31,7 +31,7 @@ none_above : (history : List Arrival) (place : ℕ) → length history ≤ place
 none_above [] place low = refl
 none_above (a ∷ older) place low = let none = none_above older place (omega arith) in grind (arith, nat_tests, occurrences-append, none)
 
--- of the pictures that have gone out and of those that are held
+-- of the pictures that have gone out and of those that are needed for output
 pub places_below : (output : Output) (history : History) → All (λ p. p < length history) ((buffer_of output history).out ++ all_held output history)
 places_below output history = grind (arith, length-arrivals, all_below, goes_out_once, none_above)
 
@@ -80,8 +80,8 @@ out_below output old history x =
     let out = (all_parts (λ p. p < length history) (buffer_of output history).out (all_held output history) (places_below output history)).0 in
     (all_parts (λ p. p < length history) (buffer_of output old).out (new_output output old history) (subst (All (λ p. p < length history)) x out)).1
 
-pub held_below : (output : Output) (history : History) → All (λ p. p < length history) (all_held output history)
-held_below output history = (all_parts (λ p. p < length history) (buffer_of output history).out (all_held output history) (places_below output history)).1
+pub needed_below : (output : Output) (history : History) → All (λ p. p < length history) (all_held output history)
+needed_below output history = (all_parts (λ p. p < length history) (buffer_of output history).out (all_held output history) (places_below output history)).1
 
 -- what goes out with one entry more
 pub output_more : (output : Output) (e : Entry) (old history : History) → Extends output old history

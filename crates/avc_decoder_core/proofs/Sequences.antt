@@ -35,7 +35,7 @@ opened_on sps h closed history o reached rest found stored = found.opens ∙ sym
 pub opened_state : (sps : Sps) (h : Header) (closed history : History) (o : Opening) (buffer : FrameBufferState) (set : Option Sps)
     → IsSps sps → (is_idr h ≡ true → has_idr_marking h ≡ true) → is_some h.marking ≡ is_reference h → buffer.failed ≡ false → closed ≡ history → set ≡ sequence_sps history
     → IsOpening sps h closed o → with_missing sps o.missing history ≡ Ok buffer.history
-    → IsStateOf closed (Some (record { sps = sps; header = h; order = o.order })) buffer o.poc set
+    → IsStateOf closed (Some (record { sps = sps; header = h; pic_order_cnt = o.pic_order_cnt })) buffer o.poc set
 opened_state sps h closed history o buffer set limits marking reference going rest is_set found stored = grind (arith, opened_on, ok_same, can_follow, set_at_opening)
 
 -- ---- a picture is closed
@@ -64,7 +64,7 @@ all_before : (h : Header) (before : History) → is_idr h ≡ false → earlier_
 all_before h before other = grind arith
 
 pub can_store : (closed : History) (p : OpenPicture) (b there : FrameBufferState) (prior : List Picture) → b.failed ≡ false → StandsOn closed b.history p
-    → BeginsSequence b p.header prior there → CanStore p.sps p.header there p.order
+    → BeginsSequence b p.header prior there → CanStore p.sps p.header there p.pic_order_cnt
 can_store closed p b there prior going stands begins = grind (arith, history_there, going_there, all_before, none_before)
 
 -- It was stored, and these pictures go out.

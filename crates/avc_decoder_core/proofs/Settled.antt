@@ -3,7 +3,7 @@ use Rattle.avc_decoder_core.proofs.Common.{nat_tests, ◌≡◌, ℕ, zero, suc,
 use Rattle.avc_decoder_core.proofs.Common.{drop, Ok, refl, ap, ap₂, ◌∙◌, arith, length-append, append_assoc, append-nil, ◌==◌}
 use Rattle.avc_decoder_core.proofs.Common.{◌%◌, filter-append, Reference, dpb_size, max_frame_num, reference_limit, Sps}
 use Rattle.avc_decoder_core.proofs.Common.{CountFrom, StandBelow, StandFrom, Marks, frame_nums_from, Output, Stored, after_entry}
-use Rattle.avc_decoder_core.proofs.Common.{needed_frames, missing_arrival, missing_stored, AreBefore, AreNotHeld, IsSettled, Staying}
+use Rattle.avc_decoder_core.proofs.Common.{needed_frames, missing_arrival, missing_stored, AreBefore, AreNotNeeded, IsSettled, Staying}
 use Rattle.avc_decoder_core.proofs.Common.{missing_reference, missing_references, stored_missing, with_all_missing}
 use Rattle.avc_marking.proofs.FullWindow.{window_takes_the_first}
 use Rattle.avc_dpb.proofs.FindingRoom.{missing_frames_find_room}
@@ -30,7 +30,7 @@ stays_below place rs all [] same h = refl
 stays_below place rs all (s ∷ frames) same h = grind (arith, same s.entry h.0, stays_below place rs all frames same h.1)
 
 -- the frames of reference frames are among them
-lasts_stay : (all rs : List Reference) (frames : List Stored) → ((p : ℕ) → is_entry rs p ≡ true → is_entry all p ≡ true) → AreNotHeld rs frames →
+lasts_stay : (all rs : List Reference) (frames : List Stored) → ((p : ℕ) → is_entry rs p ≡ true → is_entry all p ≡ true) → AreNotNeeded rs frames →
     needed_frames (entries all) frames ≡ frames
 lasts_stay all [] [] among h = refl
 lasts_stay all [] (s ∷ frames) among h = absurd h
@@ -52,12 +52,12 @@ count_on max low lower number place [] less h = (number, (omega (arith, less, h)
 count_on max low lower number place (r ∷ rs) less h =
     (h.0, (omega (arith, less, (h.1).0), (h.1).1, count_on max (h.0 + 1) (h.0 + 1) number place rs (omega arith) (h.1).2))
 
-not_held_on : (number place : ℕ) (rs : List Reference) (frames : List Stored) → AreNotHeld rs frames →
-    AreNotHeld (rs ++ missing_reference number place ∷ []) (frames ++ missing_stored place ∷ [])
-not_held_on number place [] [] h = (refl, refl, tt)
-not_held_on number place [] (s ∷ frames) h = absurd h
-not_held_on number place (r ∷ rs) [] h = absurd h
-not_held_on number place (r ∷ rs) (s ∷ frames) h = (h.0, h.1, not_held_on number place rs frames h.2)
+not_needed_on : (number place : ℕ) (rs : List Reference) (frames : List Stored) → AreNotNeeded rs frames →
+    AreNotNeeded (rs ++ missing_reference number place ∷ []) (frames ++ missing_stored place ∷ [])
+not_needed_on number place [] [] h = (refl, refl, tt)
+not_needed_on number place [] (s ∷ frames) h = absurd h
+not_needed_on number place (r ∷ rs) [] h = absurd h
+not_needed_on number place (r ∷ rs) (s ∷ frames) h = (h.0, h.1, not_needed_on number place rs frames h.2)
 
 -- ---- one missing number
 
@@ -75,7 +75,7 @@ settled_once output sps h low number place stays r rs s ss settled near = record
     longs_before = (settled.window).longs_before;
   };
   counts = count_on max (counts.0 + 1) low number n rs (omega (arith, (counts.1).0)) (counts.1).2;
-  not_held = not_held_on (number % max) n rs ss (settled.not_held).2;
+  not_needed = not_needed_on (number % max) n rs ss (settled.not_needed).2;
   needed = settled.needed;
   before = settled.before;
   room = room;
@@ -127,12 +127,12 @@ settled_once output sps h low number place stays r rs s ss settled near = record
         let first = below_all (r.entry + 1) (suc n) r.entry (rs ++ new ∷ []) (omega arith) behind_first in
         let long = above_all place r.entry stays.longs ((settled.window).places).0 (settled.window).longs_before in
         let before = stays_below place stays.longs all stays.frames (λ p low. let none = below_all place (suc n) p (rs ++ new ∷ []) low behind in grind (arith, is_entry-append, none)) settled.before in
-        let rest = lasts_stay all rs ss (λ p here. let there = among p in grind (arith, there)) (settled.not_held).2 in
+        let rest = lasts_stay all rs ss (λ p here. let there = among p in grind (arith, there)) (settled.not_needed).2 in
         let gone : is_entry all r.entry ≡ false = is_entry-append stays.longs (rs ++ new ∷ []) r.entry ∙ ap₂ (λ a b. a || b) long first in
-        let test : (s.held || is_entry all s.entry) ≡ false = rw ((settled.not_held).1, (settled.not_held).0) gone in
+        let test : (s.needed_for_output || is_entry all s.entry) ≡ false = rw ((settled.not_needed).1, (settled.not_needed).0) gone in
         let out : needed_frames (entries all) (s ∷ ss) ≡ ss =
         ap (λ b. cond b (s ∷ needed_frames (entries all) ss) (needed_frames (entries all) ss)) test ∙ rest in
-        filter-append (λ s. s.held || is_entry all s.entry) stays.frames (s ∷ ss) ∙ ap₂ (λ l r. l ++ r) (before ∙ settled.needed) out
+        filter-append (λ s. s.needed_for_output || is_entry all s.entry) stays.frames (s ∷ ss) ∙ ap₂ (λ l r. l ++ r) (before ∙ settled.needed) out
 
     fits : length (needed_frames (entries all) (stays.frames ++ s ∷ ss)) + 1 ≤ dpb_size sps
     fits = let l = ap length stay ∙ length-append stays.frames ss in omega (arith, settled.room, l)
@@ -155,7 +155,7 @@ settled_later output sps h low number later place stays shorts lasts less settle
   buffer = settled.buffer;
   window = settled.window;
   counts = counts_later low shorts settled.counts;
-  not_held = settled.not_held;
+  not_needed = settled.not_needed;
   needed = settled.needed;
   before = settled.before;
   room = settled.room;
@@ -173,7 +173,7 @@ pub settled_on : (output : Output) (sps : Sps) (n q : ℕ) (h : History) (low nu
 settled_on output sps zero q h low number place stays shorts lasts long settled near some =
     simp append-nil (settled_later output sps h low number (number + 0) place stays shorts lasts (omega arith) settled)
 settled_on output sps (suc n) q h low number place stays [] lasts long settled near some = absurd (omega (arith, some))
-settled_on output sps (suc n) q h low number place stays (r ∷ rs) [] long settled near some = absurd settled.not_held
+settled_on output sps (suc n) q h low number place stays (r ∷ rs) [] long settled near some = absurd settled.not_needed
 settled_on output sps (suc n) q h low number place stays (r ∷ rs) (s ∷ ss) long settled near some =
     let max = max_frame_num sps in
     let new = missing_reference (number % max) q in

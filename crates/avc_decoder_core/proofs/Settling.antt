@@ -6,7 +6,7 @@ use Rattle.avc_decoder_core.proofs.Common.{nat_tests, slice_get-map, length-map,
 use Rattle.avc_decoder_core.proofs.Common.{Reference, is_short, references_at, Frame, marked_frame, dpb_size, max_frame_num}
 use Rattle.avc_decoder_core.proofs.Common.{reference_limit, Sps, CountsReferences, CountFrom, StandBelow, StandFrom, frame_nums_from}
 use Rattle.avc_decoder_core.proofs.Common.{Stored, needed_frames, Contents, slot_of, frame_at, Each, IsStateAfter, places_in}
-use Rattle.avc_decoder_core.proofs.Common.{AreBefore, AreNotHeld, IsLongGap, has_its_place, is_staying, settles_at}
+use Rattle.avc_decoder_core.proofs.Common.{AreBefore, AreNotNeeded, IsLongGap, has_its_place, is_staying, settles_at}
 use Rattle.avc_marking.proofs.Numbers.{numbers-mod}
 use Rattle.avc_decoder_core.specs.History.{History, buffer_of}
 use Rattle.avc_decoder_core.proofs.Places.{Rise, each_implies, increasing, rise}
@@ -25,19 +25,19 @@ references_apart at (s ∷ ts) us = grind (arith, references_apart at ts us)
 -- ---- what the test says of each frame
 
 abbrev test_of : (at : ℕ → Frame 32) → (first low max place : ℕ) → Option Stored → Bool
-test_of at first low max place o = elim o [ None ↦ false | Some s ↦ has_its_place first low max place s.held (at s.entry) ]
+test_of at first low max place o = elim o [ None ↦ false | Some s ↦ has_its_place first low max place s.needed_for_output (at s.entry) ]
 
 abbrev AllPass : (at : ℕ → Frame 32) → (first low max : ℕ) → List Stored → Type 0
 AllPass at first low max ts = (p : ℕ) → p < length ts → test_of at first low max p (slice_get ts p) ≡ true
 
 -- a frame that leaves
-record IsLeaving (low max : ℕ) (held : Bool) (f : Frame 32) : Type 0 where
+record IsLeaving (low max : ℕ) (needed_for_output : Bool) (f : Frame 32) : Type 0 where
   short : f.mark ≡ Some Short
-  not_held : held ≡ false
+  not_needed : needed_for_output ≡ false
   number : f.frame_num ≡ low % max
 
-leaving : (low max : ℕ) (held : Bool) (f : Frame 32) → has_its_place 0 low max 0 held f ≡ true → IsLeaving low max held f
-leaving low max held f e = grind (arith, nat_tests)
+leaving : (low max : ℕ) (needed_for_output : Bool) (f : Frame 32) → has_its_place 0 low max 0 needed_for_output f ≡ true → IsLeaving low max needed_for_output f
+leaving low max needed_for_output f e = grind (arith, nat_tests)
 
 -- the others
 rest_leaving : (at : ℕ → Frame 32) (low max : ℕ) (s : Stored) (ts : List Stored) → AllPass at 0 low max (s ∷ ts) → AllPass at 0 (low + 1) max ts
@@ -51,15 +51,15 @@ rest_staying at first low max s ts all = λ p within. let h = all (suc p) (omega
 record AreLeaving (max low number place next : ℕ) (shorts : List Reference) (ts : List Stored) : Type 0 where
   places : StandFrom place next shorts
   counts : CountFrom max low number shorts
-  not_held : AreNotHeld shorts ts
+  not_needed : AreNotNeeded shorts ts
   many : length shorts ≡ length ts
 
 are_leaving : (at : ℕ → Frame 32) (max low number place next : ℕ) (ts : List Stored) → low + length ts ≡ number → place ≤ next →
     Each (λ p. place ≤ p) (map (λ s. s.entry) ts) → Rise (map (λ s. s.entry) ts) next →
     AllPass at 0 low max ts → AreLeaving max low number place next (references_in at ts) ts
-are_leaving at max low number place next [] last less above rises all = record { places = less; counts = omega arith; not_held = tt; many = refl }
+are_leaving at max low number place next [] last less above rises all = record { places = less; counts = omega arith; not_needed = tt; many = refl }
 are_leaving at max low number place next (s ∷ ts) last less above rises all =
-    let here = leaving low max s.held (at s.entry) (all 0 (omega arith)) in
+    let here = leaving low max s.needed_for_output (at s.entry) (all 0 (omega arith)) in
     let rest = are_leaving at max (low + 1) number (s.entry + 1) next ts (omega (arith, last)) (omega (arith, rises.0))
     (each_implies (λ p. s.entry < p) (λ p. s.entry + 1 ≤ p) (map (λ s. s.entry) ts) (λ p l. omega (arith, l)) rises.1) rises.2 (rest_leaving at low max s ts all) in
     let own : Reference = record { entry = s.entry; frame_num = (at s.entry).frame_num; existing = is_some (at s.entry).planes; mark = Short } in
@@ -67,14 +67,14 @@ are_leaving at max low number place next (s ∷ ts) last less above rises all =
     subst (λ rs. AreLeaving max low number place next rs (s ∷ ts)) (sym first) (record {
       places = (above.0, rest.places);
       counts = (low, (omega arith, record { frame_num = here.number; short = refl }, rest.counts));
-      not_held = (refl, here.not_held, rest.not_held);
+      not_needed = (refl, here.not_needed, rest.not_needed);
       many = ap suc rest.many;
     })
 
 -- ---- the frames that stay
 
 abbrev AreStaying : (at : ℕ → Frame 32) → List Stored → Type 0
-AreStaying at ts = Each (λ s. is_staying s.held (at s.entry).mark ≡ true) ts
+AreStaying at ts = Each (λ s. is_staying s.needed_for_output (at s.entry).mark ≡ true) ts
 
 no_shorts : (at : ℕ → Frame 32) (ts : List Stored) → AreStaying at ts → filter is_short (references_in at ts) ≡ []
 no_shorts at [] h = refl
@@ -84,7 +84,7 @@ longs_before : (at : ℕ → Frame 32) (place : ℕ) (ts : List Stored) → AreB
 longs_before at place [] h = tt
 longs_before at place (s ∷ ts) h = grind (arith, longs_before at place ts h.1)
 
--- they are held, or among these reference frames
+-- they are needed for output, or among these reference frames
 all_needed : (at : ℕ → Frame 32) (longs : List Reference) (ts : List Stored) → AreStaying at ts →
     ((p : ℕ) → is_entry (references_in at ts) p ≡ true → is_entry longs p ≡ true) → needed_frames (entries longs) ts ≡ ts
 all_needed at longs [] h among = refl
@@ -167,7 +167,7 @@ long_gap h c idx previous state sps numbers number shorts first low count from' 
       longs_before = longs_before at parts.place parts.frames parts.before;
     };
     counts = subst (λ n. CountFrom max low n shorts_in) (omega (arith, parts.many, many, low_is, long)) (parts.leave).counts;
-    not_held = (parts.leave).not_held;
+    not_needed = (parts.leave).not_needed;
     needed = all_needed at longs parts.frames parts.stay (λ p here. here);
     before = parts.before;
     room = let l = sym (length-append parts.frames parts.lasts) ∙ ap length (sym parts.all) in omega (arith, l, room, long);

@@ -29,12 +29,12 @@ pub few_frames : (h : History) (c : Contents) (idx : Option ℕ) (previous : ℕ
 few_frames h c idx previous s = grind (arith, length-map, holds_at_most)
 
 -- a frame buffer that works holds no more, and no more are marked
-pub few_held : (i : FrameBuffer) → IsFrameBufferState i → i.failed ≡ false → length i.dpb.frames ≤ 16
-few_held i invariant on = few_frames (history_of i.history.items) i.dpb i.max_long_term_frame_idx i.prev_ref_frame_num (invariant on)
+pub few_needed : (i : FrameBuffer) → IsFrameBufferState i → i.failed ≡ false → length i.dpb.frames ≤ 16
+few_needed i invariant on = few_frames (history_of i.history.items) i.dpb i.max_long_term_frame_idx i.prev_ref_frame_num (invariant on)
 
 pub few_marked : (i : FrameBuffer) (frames : List (Frame 32)) (marked : List MarkedFrame) → IsFrameBufferState i → i.failed ≡ false → frames ≡ i.dpb.frames →
     marked ≡ map marked_frame frames → (length frames ≤ 16) × (length marked ≤ 16)
-few_marked i frames marked invariant on is marked_is = rw (marked_is, length-map, is) (few_held i invariant on, few_held i invariant on)
+few_marked i frames marked invariant on is marked_is = rw (marked_is, length-map, is) (few_needed i invariant on, few_needed i invariant on)
 
 frames_are : (h : History) (c : Contents) (idx : Option ℕ) (previous : ℕ) (s : IsStateAfter h c idx previous) → c.frames ≡ map (frame_at h (s.marks).references) (places_in (buffer_of c.output h))
 frames_are h c idx previous s = (s.buffer).frames ∙ sym (map-map (frame_at h (s.marks).references) (λ t. t.entry) (buffer_of c.output h).frames)
@@ -138,13 +138,13 @@ taken e h c idx previous s follows limits old new new_idx old_is long marks afte
     let arrives = arrives_as m marked in
     let rs = m.references in
     let at = frame_at (e ∷ h) rs in
-    let held : after_prior.output ≡ c.output = kept_prior ∙ ap (λ v. v.output) set in
-    let same : after_store.output ≡ c.output = kept_store ∙ held in
+    let needed_for_output : after_prior.output ≡ c.output = kept_prior ∙ ap (λ v. v.output) set in
+    let same : after_store.output ≡ c.output = kept_store ∙ needed_for_output in
     let low = below (places_in (buffer_of c.output h)) n (rise (buffer_of c.output h).frames n (s.buffer).rising) in
     let was = marked_buffer e h c idx previous s m new is after_marks set in
     let before = outputs (buffer_of c.output h) n at was in
     let own = own_frame c.output e h m new is k d last ∙ sym made in
-    let has = stored_buffer c.output e h arriving m arrives after_prior after_store frame out before.buffer held own stores in
+    let has = stored_buffer c.output e h arriving m arrives after_prior after_store frame out before.buffer needed_for_output own stores in
     let after : marks_after (marking_entry e) n (marking_entry e).marking s.marks ≡ Ok m = sym (marks_then e h s.marks s.marked) ∙ marked in
     let old_below : Each (λ r. r.entry < n) (s.marks).references = subst (Each (λ r. r.entry < n)) s.references (each_entry (λ p. p < n) (places_in (buffer_of c.output h)) (map marked_frame c.frames) low) in
     let few = is_few e h s.marks m follows s.few after in
@@ -210,7 +210,7 @@ emptied_all h c idx previous s out new outputs kept =
       pictures = has.pictures ∙ ap (filter_map (λ p. shown_frame (frame_at h rs p))) (all_held_go_out b) ∙ pictures_are h rs (all_held c.output h);
     }
 
--- where none is held, nothing goes out
+-- where none is needed for output, nothing goes out
 pub holds_some : (h : History) (c : Contents) (idx : Option ℕ) (previous : ℕ) → IsStateAfter h c idx previous → OutputsSome c → held_pictures c.output h ≢ []
 holds_some h c idx previous s some =
     let rs = (s.marks).references in

@@ -28,7 +28,7 @@ all_output true old new out is outputs = outputs
 all_output false old new out is outputs = wrong is
 
 abbrev pub missing_arrival : (capacity : ℕ) → ArrivingFrame
-missing_arrival capacity = record { order = pos 0; existing = false; is_reference = true; capacity = capacity; max_num_reorder_frames = None }
+missing_arrival capacity = record { pic_order_cnt = pos 0; existing = false; is_reference = true; capacity = capacity; max_num_reorder_frames = None }
 
 pub missing_arrives : (sps : Sps) (frame_num : ℕ) (h : History) (capacity : ℕ) → capacity ≡ dpb_size sps → (m : Marks) → marks_of (missing_frame sps frame_num ∷ h) ≡ Ok m →
     Arrives (missing_frame sps frame_num) h (missing_arrival capacity) m
@@ -37,7 +37,7 @@ missing_arrives sps frame_num h capacity is m marked = grind arith
 -- ---- of a picture
 
 abbrev pub picture_arrival : (order : ℤ) (reference : Bool) (capacity : ℕ) (limit : Option ℕ) → ArrivingFrame
-picture_arrival order reference capacity limit = record { order = order; existing = true; is_reference = reference; capacity = capacity; max_num_reorder_frames = limit }
+picture_arrival order reference capacity limit = record { pic_order_cnt = order; existing = true; is_reference = reference; capacity = capacity; max_num_reorder_frames = limit }
 
 pub picture_arrives : (sps : Sps) (header : Header) (planes : Planes) (h : History) (order : ℤ) (reference : Bool) (capacity : ℕ) (limit : Option ℕ) → order ≡ order_or_0 (order_counts sps header (pasts h)) →
     reference ≡ is_reference header → capacity ≡ dpb_size sps → limit ≡ reorder_limit sps → (m : Marks) → marks_of (decoded_picture sps header planes ∷ h) ≡ Ok m →

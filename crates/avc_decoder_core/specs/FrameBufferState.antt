@@ -44,7 +44,7 @@ pub record Stores (old : FrameBufferState) (e : Entry) (out : List Picture) (new
 abbrev pub at_sequence_of : Header → FrameBufferState → FrameBufferState
 at_sequence_of h b = elim (is_idr h) [ true ↦ empty_frame_buffer b.output | false ↦ b ]
 
--- An IDR picture begins a sequence: what is held goes out, unless it is dropped (C.4.4), and the history is forgotten. At another
+-- An IDR picture begins a sequence: what is needed for output goes out, unless it is dropped (C.4.4), and the history is forgotten. At another
 -- picture nothing changes.
 pub record BeginsSequence (old : FrameBufferState) (h : Header) (out : List Picture) (new : FrameBufferState) : Type 0 where
   pub state : new ≡ at_sequence_of h old
@@ -55,7 +55,7 @@ abbrev pub Refuses : (old : FrameBufferState) → Result Marks Fault → Picture
 Refuses old marked (Faulty f) new = (old.failed ≡ false) × (new ≡ old) × (marked ≡ Err f)
 Refuses old marked OutOfMemory new = new.failed ≡ true
 
--- All held pictures go out, and the history is forgotten.
+-- All pictures needed for output go out, and the history is forgotten.
 pub record IsEmptied (old : FrameBufferState) (out : List Picture) (new : FrameBufferState) : Type 0 where
   pub going : old.failed ≡ false
   pub state : new ≡ empty_frame_buffer old.output

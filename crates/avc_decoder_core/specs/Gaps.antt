@@ -1,4 +1,4 @@
--- A long gap in frame_num (8.2.5.2): once the sliding window is full of frames that are not held, further missing numbers let nothing
+-- A long gap in frame_num (8.2.5.2): once the sliding window is full of frames that are not needed for output, further missing numbers let nothing
 -- go out, and only the last of them leave frames.
 use Rattle.std.specs.Prelude.{◌≡◌, ℕ, zero, suc, ◌+◌, ◌%◌, ◌-◌, ◌<◌, ◌≤◌, ◌==◌, ◌&&◌, nat_lt, if◌then◌else◌, Bool, true, false, not, List, [], ◌∷◌, ◌++◌, length, map, drop, slice_get, Option, Some, None, Ok}
 use Rattle.avc_types.specs.declared.references.Mark.{Mark}
@@ -10,7 +10,7 @@ use Rattle.avc_marking.specs.Laws.{CountFrom, IsFullWindow}
 use Rattle.avc_marking.specs.Marks.{frame_nums_from}
 use Rattle.avc_dpb.specs.declared.output.Output.{Output}
 use Rattle.avc_dpb.specs.Bumping.{Stored, needed_frames}
-use Rattle.avc_dpb.specs.Contents.{Contents, is_held_at}
+use Rattle.avc_dpb.specs.Contents.{Contents, is_needed_for_output_at}
 use Rattle.avc_dpb.specs.Laws.{missing_stored}
 use Rattle.avc_plane.specs.declared.frame.Frame.{Frame}
 use Rattle.avc_decoder_core.specs.FrameBufferFields.{IsStateAfter}
@@ -33,19 +33,19 @@ abbrev pub stored_missing : (place n : ℕ) → List Stored
 stored_missing place zero = []
 stored_missing place (suc n) = missing_stored place ∷ stored_missing (place + 1) n
 
--- The buffer's frames are these reference frames, and none is held.
-abbrev pub AreNotHeld : List Reference → List Stored → Type 0
-AreNotHeld [] [] = Unit {0}
-AreNotHeld [] (s ∷ frames) = ⊥
-AreNotHeld (r ∷ rs) [] = ⊥
-AreNotHeld (r ∷ rs) (s ∷ frames) = (s.entry ≡ r.entry) × (s.held ≡ false) × AreNotHeld rs frames
+-- The buffer's frames are these reference frames, and none is needed for output.
+abbrev pub AreNotNeeded : List Reference → List Stored → Type 0
+AreNotNeeded [] [] = Unit {0}
+AreNotNeeded [] (s ∷ frames) = ⊥
+AreNotNeeded (r ∷ rs) [] = ⊥
+AreNotNeeded (r ∷ rs) (s ∷ frames) = (s.entry ≡ r.entry) × (s.needed_for_output ≡ false) × AreNotNeeded rs frames
 
 -- each stands before this place
 abbrev pub AreBefore : (place : ℕ) → List Stored → Type 0
 AreBefore place [] = Unit {0}
 AreBefore place (s ∷ frames) = (s.entry < place) × AreBefore place frames
 
--- What stays through a gap: the long-term frames and MaxLongTermFrameIdx, the buffer's frames that are held or long-term, and what has
+-- What stays through a gap: the long-term frames and MaxLongTermFrameIdx, the buffer's frames that are needed for output or long-term, and what has
 -- gone out.
 pub record Staying : Type 0 where
   pub longs : List Reference
@@ -61,7 +61,7 @@ pub record IsSettled (output : Output) (sps : Sps) (h : History) (low number pla
   pub buffer : buffer_of output h ≡ record { frames = stays.frames ++ lasts; out = stays.out }
   pub window : IsFullWindow place (length h) (reference_limit sps) stays.longs shorts
   pub counts : CountFrom (max_frame_num sps) low number shorts
-  pub not_held : AreNotHeld shorts lasts
+  pub not_needed : AreNotNeeded shorts lasts
   pub needed : needed_frames (map (λ r. r.entry) stays.longs) stays.frames ≡ stays.frames
   pub before : AreBefore place stays.frames
   pub room : length stays.frames + length lasts ≤ dpb_size sps
@@ -83,27 +83,27 @@ pub record IsLongGap (output : Output) (sps : Sps) (h : History) (numbers : List
 
 -- ---- the test for it
 
--- a frame with this mark that stays through a gap: it is held or long-term
-abbrev pub is_staying : (held : Bool) → Option Mark → Bool
-is_staying held None = held
-is_staying held (Some Short) = false
-is_staying held (Some (Long index)) = true
+-- a frame with this mark that stays through a gap: it is needed for output or long-term
+abbrev pub is_staying : (needed_for_output : Bool) → Option Mark → Bool
+is_staying needed_for_output None = needed_for_output
+is_staying needed_for_output (Some Short) = false
+is_staying needed_for_output (Some (Long index)) = true
 
--- a short-term frame that is not held
-abbrev pub is_leaving : (held : Bool) → Option Mark → Bool
-is_leaving held None = false
-is_leaving held (Some Short) = not held
-is_leaving held (Some (Long index)) = false
+-- a short-term frame that is not needed for output
+abbrev pub is_leaving : (needed_for_output : Bool) → Option Mark → Bool
+is_leaving needed_for_output None = false
+is_leaving needed_for_output (Some Short) = not needed_for_output
+is_leaving needed_for_output (Some (Long index)) = false
 
 -- The frame at a place of the buffer stays if that is before `first`; from there on it leaves, and numbers go on from `low`.
-abbrev pub has_its_place : (first low max place : ℕ) → (held : Bool) → Frame 32 → Bool
-has_its_place first low max place held f =
-    if nat_lt place first then is_staying held f.mark else is_leaving held f.mark && f.frame_num == (low + (place - first)) % max
+abbrev pub has_its_place : (first low max place : ℕ) → (needed_for_output : Bool) → Frame 32 → Bool
+has_its_place first low max place needed_for_output f =
+    if nat_lt place first then is_staying needed_for_output f.mark else is_leaving needed_for_output f.mark && f.frame_num == (low + (place - first)) % max
 
 -- the frame that stands there does
 abbrev pub settles_at : Contents → (first low max place : ℕ) → Bool
 settles_at c first low max place =
-    elim (slice_get c.frames place) [ None ↦ false | Some f ↦ has_its_place first low max place (is_held_at c.slots place) f ]
+    elim (slice_get c.frames place) [ None ↦ false | Some f ↦ has_its_place first low max place (is_needed_for_output_at c.slots place) f ]
 
 -- ---- the law
 

@@ -17,7 +17,7 @@ use Rattle.avc_slice.specs.Header.{is_idr, is_reference, has_operation_5}
 use Rattle.avc_poc.specs.OrderCounts.{Counts, Past, picture, missing, order_counts, order_of}
 use Rattle.avc_marking.specs.Marks.{MarkingEntry, Marks, marks, prev_ref_frame_num, missing_frame_nums}
 use Rattle.avc_dpb.specs.declared.output.Output.{Output}
-use Rattle.avc_dpb.specs.Bumping.{PriorPictures, remain, are_output, Arrival, Buffer, buffer_after, held_in_output_order}
+use Rattle.avc_dpb.specs.Bumping.{PriorPictures, remain, are_output, Arrival, Buffer, buffer_after, needed_in_output_order}
 
 -- A closed picture with its parameter set, its first slice's header and its planes; or a frame number
 -- that is missing (8.2.5.2).
@@ -101,7 +101,7 @@ reorder_limit sps = option_map (λ r. r.max_num_reorder_frames) (restriction_of 
 -- missing frame number sets no limit, since its frame is never held.
 abbrev pub arrival : Entry → (older : History) → Arrival
 arrival (decoded_picture sps h planes) older = record {
-  order = order_or_0 (order_counts sps h (pasts older));
+  pic_order_cnt = order_or_0 (order_counts sps h (pasts older));
   existing = true;
   is_reference = is_reference h;
   prior_pictures = prior_pictures_of h;
@@ -110,7 +110,7 @@ arrival (decoded_picture sps h planes) older = record {
   references = map (λ r. r.entry) (references_of (decoded_picture sps h planes ∷ older));
 }
 arrival (missing_frame sps frame_num) older = record {
-  order = pos 0;
+  pic_order_cnt = pos 0;
   existing = false;
   is_reference = true;
   prior_pictures = remain;
@@ -132,9 +132,9 @@ buffer_of output h = buffer_after output (arrivals h)
 abbrev pub new_output : Output → (old new : History) → List ℕ
 new_output output old new = drop (length (buffer_of output old).out) (buffer_of output new).out
 
--- the places of the pictures that are held, in the order in which they go out (C.4.5.3)
+-- the places of the pictures that are needed for output, in the order in which they go out (C.4.5.3)
 abbrev pub all_held : Output → History → List ℕ
-all_held output h = map (λ s. s.entry) (held_in_output_order (buffer_of output h).frames)
+all_held output h = map (λ s. s.entry) (needed_in_output_order (buffer_of output h).frames)
 
 -- ---- entries by their places (this decoder's form of the buffer's frames)
 

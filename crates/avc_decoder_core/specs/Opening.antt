@@ -34,7 +34,7 @@ with_all_missing sps (n ∷ numbers) history = with_all_missing sps numbers (mis
 abbrev pub opening_on : Sps → Header → (missing : List ℕ) → History → Opening
 opening_on sps h missing history = record {
   missing = missing;
-  order = order_or_0 (order_counts sps h (pasts history));
+  pic_order_cnt = order_or_0 (order_counts sps h (pasts history));
   poc = order_count_state (picture sps h ∷ pasts history);
 }
 

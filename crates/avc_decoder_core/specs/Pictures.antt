@@ -49,7 +49,7 @@ pictures_at h places = flat_map (λ place. entry_pictures (entry_at h place)) pl
 abbrev pub output_pictures : Output → (old new : History) → List Picture
 output_pictures output old new = pictures_at new (new_output output old new)
 
--- all held pictures, in the order in which they go out (C.4.5.3)
+-- all pictures needed for output, in the order in which they go out (C.4.5.3)
 abbrev pub held_pictures : Output → History → List Picture
 held_pictures output h = pictures_at h (all_held output h)
 
@@ -60,7 +60,7 @@ abbrev pub no_output_of_prior_pics : Option Marking → Bool
 no_output_of_prior_pics (Some (Idr no_output long_term)) = no_output
 no_output_of_prior_pics _ = false
 
--- what goes out of the sequence before where a picture with this header is closed: before an IDR picture all that is held, or
+-- what goes out of the sequence before where a picture with this header is closed: before an IDR picture all that is needed for output, or
 -- nothing by no_output_of_prior_pics_flag (C.4.4)
 abbrev pub prior_output : Output → Header → (before : History) → List Picture
 prior_output output h before =

@@ -31,7 +31,7 @@ pub record StandsOn (closed history : History) (o : OpenPicture) : Type 0 where
   pub limits : IsSps o.sps
   pub opened : history_at_opening o.sps o.header closed ≡ Ok history
   pub follows : CanFollow history o.sps o.header
-  pub order : o.order ≡ order_or_0 (order_counts o.sps o.header (pasts (earlier_in_sequence o.header history)))
+  pub pic_order_cnt : o.pic_order_cnt ≡ order_or_0 (order_counts o.sps o.header (pasts (earlier_in_sequence o.header history)))
 
 -- The history is the closed one, with the open picture's missing numbers where a picture is open.
 abbrev pub StandsOnIf : (closed history : History) → Option OpenPicture → Type 0

@@ -65,13 +65,13 @@ abbrev pub Fails : (old : SequenceState) → Result History Fault → PictureErr
 Fails old what (Faulty f) new = (old.failed ≡ false) × (new ≡ old) × (what ≡ Err f)
 Fails old what OutOfMemory new = new.failed ≡ true
 
--- All that was held goes out, and the history is forgotten.
+-- All that was needed for output goes out, and the history is forgotten.
 pub record IsCleared (old : SequenceState) (out : List Picture) (new : SequenceState) : Type 0 where
   pub going : old.failed ≡ false
   pub state : new ≡ empty_sequence old.output
   pub pictures : out ≡ held_pictures old.output (current_history old)
 
--- Some picture is held.
+-- Some picture is needed for output.
 abbrev pub HoldsPictures : SequenceState → Type 0
 HoldsPictures s = held_pictures s.output (current_history s) ≢ []
 

@@ -183,7 +183,7 @@ fn no_output_of_prior_pics(header: &Header) -> bool
     )
 }
 
-/// What becomes of the held pictures of the sequence before this one is stored (C.4.4). Answers those that go out.
+/// What becomes of the pictures needed for output of the sequence before this one is stored (C.4.4). Answers those that go out.
 fn output_prior_pictures(
     alloc: Global,
     dpb: &mut Dpb,
@@ -253,7 +253,7 @@ impl FrameBuffer {
     }
 
     /// Whether a frame can be marked that stands for a missing number, or TooManyReferences (8.2.5.3).
-    #[tactic(auto, using(crate::proofs::State::few_held))]
+    #[tactic(auto, using(crate::proofs::State::few_needed))]
     pub fn can_store_missing(&self, sps: &Sps, frame_num: u32) -> Result<(), Fault>
         requires going { self.now.failed ≡ false }
         requires sps { IsSps sps.now }
@@ -264,7 +264,7 @@ impl FrameBuffer {
     }
 
     /// Stores a frame that stands for a missing number (8.2.5.2), which can be marked. Answers the pictures that go out.
-    #[tactic(auto, using(crate::proofs::State::few_held))]
+    #[tactic(auto, using(crate::proofs::State::few_needed))]
     pub fn store_missing(&mut self, sps: &Sps, frame_num: u32) -> Result<Vec<Picture>, OutOfMemory>
         requires going { self.old.failed ≡ false }
         requires sps { IsSps sps.now }
@@ -286,7 +286,7 @@ impl FrameBuffer {
         let history = self.history.with_newest(&entry);
         let frame = entry_frame(entry, frame_num, marked[marked.len() - 1].mark);
         let arriving = ArrivingFrame {
-            order: 0,
+            pic_order_cnt: 0,
             existing: false,
             is_reference: true,
             capacity: sps.dpb_size() as usize,
@@ -299,9 +299,9 @@ impl FrameBuffer {
         Ok(out)
     }
 
-    /// Whether only the last of these missing numbers matter: the sliding window is full, and takes only frames that are not held. A
+    /// Whether only the last of these missing numbers matter: the sliding window is full, and takes only frames that are not needed for output. A
     /// window is so after at most twice as many missing numbers as it has frames.
-    #[tactic(auto, using(crate::proofs::State::few_held))]
+    #[tactic(auto, using(crate::proofs::State::few_needed))]
     pub fn is_settled(&self, sps: &Sps, numbers: &MissingFrameNums) -> bool
         requires going { self.now.failed ≡ false }
         requires sps { IsSps sps.now }
@@ -345,7 +345,7 @@ impl FrameBuffer {
         self.history = history;
     }
 
-    /// Before an IDR picture, which begins a sequence, hands out all held pictures, or drops them by no_output_of_prior_pics_flag, and
+    /// Before an IDR picture, which begins a sequence, hands out all pictures needed for output, or drops them by no_output_of_prior_pics_flag, and
     /// forgets the history (C.4.4). Before another picture it does nothing.
     pub fn begin_sequence(&mut self, header: &Header) -> Result<Vec<Picture>, OutOfMemory>
         requires { self.old.failed ≡ false }
@@ -376,12 +376,12 @@ impl FrameBuffer {
 
     /// Marks a decoded picture (8.2.5.1) with this PicOrderCnt and stores it. `closed` becomes the history with it. Answers the
     /// pictures that go out.
-    #[tactic(auto, using(crate::proofs::State::few_held))]
+    #[tactic(auto, using(crate::proofs::State::few_needed))]
     pub fn store_picture(
         &mut self,
         sps: &Sps,
         header: &Header,
-        order: i32,
+        pic_order_cnt: i32,
         planes: PaddedPlanes<PADDING>,
         closed: &mut History<HistoryEntry>,
     ) -> Result<Vec<Picture>, PictureError>
@@ -389,7 +389,7 @@ impl FrameBuffer {
         requires sps { IsSps sps.now }
         requires follows { CanFollow self.old.history sps.now header.now }
         requires first { is_idr header.now ≡ true → self.old.history ≡ [] }
-        requires order { order ≡ order_or_0 (order_counts sps.now header.now (pasts self.old.history)) }
+        requires pic_order_cnt { pic_order_cnt ≡ order_or_0 (order_counts sps.now header.now (pasts self.old.history)) }
         requires sized { AreSized (width_in_mbs sps.now) (height_in_mbs sps.now) (padded_planes_of planes) }
         ensures ok { IfOk result (λ out. Stores self.old (decoded_picture sps.now header.now (padded_planes_of planes)) out.items self.new) }
         ensures err { IfErr result (λ error.
@@ -419,7 +419,7 @@ impl FrameBuffer {
         let with_picture = self.history.with_newest(&entry);
         let frame = entry_frame(entry, frame_num, marked[marked.len() - 1].mark);
         let arriving = ArrivingFrame {
-            order,
+            pic_order_cnt,
             existing: true,
             is_reference: header.is_reference(),
             capacity: sps.dpb_size() as usize,
@@ -439,7 +439,7 @@ impl FrameBuffer {
         Ok(out)
     }
 
-    /// Hands out all held pictures, and forgets the history. Where none is held no memory is wanted.
+    /// Hands out all pictures needed for output, and forgets the history. Where none is needed for output no memory is wanted.
     pub fn empty(&mut self) -> Result<Vec<Picture>, OutOfMemory>
         ensures ok { IfOk result (λ out. IsEmptied self.old out.items self.new) }
         ensures err { OnErr result (self.new.failed ≡ true) }

@@ -7,7 +7,7 @@ ghost use Rattle.avc_decoder_core.specs.SequenceOrder.{EarlyOutputKeepsHistories
 use avc_dpb::laws::early_output_keeps_the_order;
 use avc_marking::laws::marking_keeps_frames;
 
-/// What goes out for missing frame numbers goes first of what is held.
+/// What goes out for missing frame numbers goes first of what is needed for output.
 #[tactic(auto, using(crate::proofs::Held::missing_numbers_keep_the_order))]
 pub fn missing_numbers_keep_the_order()
     ensures { MissingNumbersKeepTheOrder }
@@ -24,7 +24,7 @@ pub fn early_output_keeps_histories()
 }
 
 /// Of a long gap in frame_num only the last 16 missing numbers matter to what is kept, once the sliding window is full of frames that
-/// are not held (8.2.5.2).
+/// are not needed for output (8.2.5.2).
 pub fn long_gaps_leave_their_end()
     ensures { LongGapsLeaveTheirEnd }
 {}

@@ -7,23 +7,23 @@ use avc_dpb::Dpb;
 use avc_plane::{Frame, PADDING};
 use avc_types::Mark;
 
-/// A frame that stays through a gap: it is held or long-term.
-fn is_staying(held: bool, mark: Option<Mark>) -> bool
-    ensures { result ≡ is_staying held mark }
+/// A frame that stays through a gap: it is needed for output or long-term.
+fn is_staying(needed_for_output: bool, mark: Option<Mark>) -> bool
+    ensures { result ≡ is_staying needed_for_output mark }
 {
     match mark {
-        None => held,
+        None => needed_for_output,
         Some(Mark::Short) => false,
         Some(Mark::Long(_)) => true,
     }
 }
 
-/// A short-term frame that is not held.
-fn is_leaving(held: bool, mark: Option<Mark>) -> bool
-    ensures { result ≡ is_leaving held mark }
+/// A short-term frame that is not needed for output.
+fn is_leaving(needed_for_output: bool, mark: Option<Mark>) -> bool
+    ensures { result ≡ is_leaving needed_for_output mark }
 {
     match mark {
-        Some(Mark::Short) => !held,
+        Some(Mark::Short) => !needed_for_output,
         _ => false,
     }
 }
@@ -34,18 +34,18 @@ fn has_its_place(
     low: u64,
     max: u64,
     place: usize,
-    held: bool,
+    needed_for_output: bool,
     frame: &Frame<PADDING>,
 ) -> bool
     requires max { 0 < max }
     requires small { low < 2 ^ 33 }
     requires few { place < 2 ^ 33 }
-    ensures { result ≡ has_its_place first low max place held frame.now }
+    ensures { result ≡ has_its_place first low max place needed_for_output frame.now }
 {
     if place < first {
-        return is_staying(held, frame.mark);
+        return is_staying(needed_for_output, frame.mark);
     }
-    is_leaving(held, frame.mark)
+    is_leaving(needed_for_output, frame.mark)
         && u64::from(frame.frame_num) == (low + (place - first) as u64) % max
 }
 
@@ -56,7 +56,14 @@ fn settles_at(dpb: &Dpb, first: usize, low: u64, max: u64, place: usize) -> bool
     ensures { result ≡ settles_at dpb.now first low max place }
 {
     match dpb.frames().get(place) {
-        Some(frame) => has_its_place(first, low, max, place, dpb.is_held(place), frame),
+        Some(frame) => has_its_place(
+            first,
+            low,
+            max,
+            place,
+            dpb.is_needed_for_output(place),
+            frame,
+        ),
         None => false,
     }
 }

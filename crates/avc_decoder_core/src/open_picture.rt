@@ -10,5 +10,5 @@ pub struct OpenPicture {
     pub header: Header,
 
     /// PicOrderCnt.
-    pub order: i32,
+    pub pic_order_cnt: i32,
 }

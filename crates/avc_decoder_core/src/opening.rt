@@ -21,7 +21,7 @@ pub struct Opening {
     pub missing: MissingFrameNums,
 
     /// PicOrderCnt.
-    pub order: i32,
+    pub pic_order_cnt: i32,
 
     /// The order counts after it.
     pub poc: Poc,
@@ -98,7 +98,7 @@ impl Opening {
         let (top, bottom) = poc.next(header, sps)?;
         Ok(Opening {
             missing,
-            order: top.min(bottom),
+            pic_order_cnt: top.min(bottom),
             poc,
         })
     }

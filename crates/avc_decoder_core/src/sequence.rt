@@ -105,7 +105,7 @@ impl Sequence {
         self.open_picture = Some(OpenPicture {
             sps: sps.copied(),
             header: header.copied(),
-            order: opening.order,
+            pic_order_cnt: opening.pic_order_cnt,
         });
         self.failed = false;
         Ok(out)
@@ -149,7 +149,7 @@ impl Sequence {
         match self.buffer.store_picture(
             &open_picture.sps,
             &open_picture.header,
-            open_picture.order,
+            open_picture.pic_order_cnt,
             planes,
             &mut self.closed,
         ) {
@@ -168,8 +168,8 @@ impl Sequence {
         }
     }
 
-    /// Hands out all held pictures and forgets the history, with the open picture, if there is one. When pictures go out stays
-    /// as it was. Where no picture is held no memory is wanted.
+    /// Hands out all pictures needed for output and forgets the history, with the open picture, if there is one. When pictures go out stays
+    /// as it was. Where no picture is needed for output no memory is wanted.
     pub fn clear(&mut self) -> Result<Vec<Picture>, OutOfMemory>
         ensures ok { IfOk result (λ out. IsCleared self.old out.items self.new) }
         ensures err { OnErr result (self.new.failed ≡ true) }

@@ -83,9 +83,9 @@ stored c =
     frame_made e _ new c.deref.result.now c.entry_frame-frame.result (c.len.result - 1) _ same
     c.deref.ensures.0 c.entry_frame-frame.ensures in
     let follows = subst (λ h. CanFollow h sps header) (sym before) c.requires.follows in
-    let count = to_z w32 (of_z w32 c.args.order) in
-    let back : count ≡ c.args.order = search rules in
-    let order = back ∙ c.requires.order ∙ ap (λ h. order_or_0 (order_counts sps header (pasts h))) (sym before) in
+    let count = to_z w32 (of_z w32 c.args.pic_order_cnt) in
+    let back : count ≡ c.args.pic_order_cnt = search rules in
+    let order = back ∙ c.requires.pic_order_cnt ∙ ap (λ h. order_or_0 (order_counts sps header (pasts h))) (sym before) in
     let state = c.self.invariant on in
     record {
       history = ap history_of c.with_newest-history.ensures ∙ ap (λ e. e ∷ h) same;

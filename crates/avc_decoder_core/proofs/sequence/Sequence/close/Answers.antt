@@ -20,13 +20,13 @@ store_picture-requires c =
     let opened : s.open_picture ≡ Some p = sym c.take.ensures.value ∙ c.in-Some.is in
     let state = kept s p c.self.invariant c.if-self.false opened in
     let can = can_store (history_of s.closed.items) p s.buffer c.begin_sequence.new.self c.in_ok-prior.prior.items state.going state.stands c.in_ok-prior.ensures.ok in
-    let back : to_z w32 (of_z w32 p.order) ≡ p.order = search rules in
+    let back : to_z w32 (of_z w32 p.pic_order_cnt) ≡ p.pic_order_cnt = search rules in
     record {
       going = can.going;
       sps = state.stands.limits;
       follows = can.follows;
       first = can.first;
-      order = back ∙ can.order_is;
+      pic_order_cnt = back ∙ can.order_is;
       sized = c.requires.sized (open_picture_of p) (sym (ap (λ (v : SequenceState). v.open_picture) c.self.view_is) ∙ ap (option_map open_picture_of) opened);
     }
 

@@ -21,7 +21,7 @@ invariant_of-self-2 c = λ going.
     let rest = at_start s c.args.self.now c.self.invariant c.self.view_is c.if-self.false c.requires.rest in
     let found : IsOpening sps h (history_of s.closed.items) o =
     subst (λ (v : SequenceState). IsOpening sps h v.history o) (sym c.self.view_is) c.in_ok-opening.ensures in
-    let back : to_z w32 (of_z w32 o.order) ≡ o.order = search rules in
+    let back : to_z w32 (of_z w32 o.pic_order_cnt) ≡ o.pic_order_cnt = search rules in
     let stores = c.in_ok-out.ensures in
     rw (c.copied.ensures, c.copied-2.ensures, back)
     (opened_state sps h (history_of s.closed.items) s.buffer.history o c.store_missing.new.buffer s.sps
