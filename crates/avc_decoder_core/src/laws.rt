@@ -8,7 +8,7 @@ use avc_dpb::laws::early_output_keeps_the_order;
 use avc_marking::laws::marking_keeps_frames;
 
 /// What goes out for missing frame numbers goes first of what is needed for output.
-#[tactic(auto, using(crate::proofs::Held::missing_numbers_keep_the_order))]
+#[tactic(auto, using(crate::proofs::NeededForOutput::missing_numbers_keep_the_order))]
 pub fn missing_numbers_keep_the_order()
     ensures { MissingNumbersKeepTheOrder }
 {}
