@@ -1,7 +1,7 @@
 -- Units are taken one after the other, until decoding can start with one.
 use Rattle.avc_formats.proofs.Common.{◌≡◌, true, false, List, [], ◌∷◌, ◌++◌, Option, Some, None, refl, ap, sym, subst, ◌∙◌, append_assoc}
-use Rattle.avc_formats.proofs.Common.{append-nil, arith, is_some, SplitterState, after_next_unit, next_unit_of, SetUnit, Sps, list_of}
-use Rattle.avc_formats.proofs.Common.{set_unit, set_units, IsDraining, one_more, set_units-append, sets_then, units_left, max_unit}
+use Rattle.avc_formats.proofs.Common.{append-nil, arith, is_some, SplitterState, after_next_unit, next_unit_of, SetUnit, Sps}
+use Rattle.avc_formats.proofs.Common.{set_units, IsDraining, one_more, set_units-append, sets_then, units_left, max_unit}
 use Rattle.avc_formats.proofs.Common.{first_of, first_sps, starting_sps, IsFound, IsSaid, Presentation}
 use Rattle.avc_annexb.specs.declared.unit.Unit.{Unit}
 use Rattle.avc_params.specs.Tables.{sets_after}
@@ -42,9 +42,6 @@ not_said a said = grind arith
 pub record ArePassed (before now : List SetUnit) (done : List Unit) : Type 0 where
   pub sets : now ≡ before ++ set_units done
   pub none : first_sps before done ≡ None
-
-pub passed_none : (before : List SetUnit) → ArePassed before before []
-passed_none before = record { sets = sym (append-nil before); none = refl }
 
 -- the set of one unit more
 first_next : (before old : List SetUnit) (u : Unit) (done : List Unit) → ArePassed before old done

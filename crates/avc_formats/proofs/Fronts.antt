@@ -1,9 +1,9 @@
 -- The front of a stream, piece after piece.
-use Rattle.std.proofs.Common.{◌≡◌, ℕ, ◌≤◌, Bool, true, false, List, [], ◌++◌, length, take, Option, Some, None, Result, Ok, Err, refl, ap, sym, subst, ◌∙◌, append-nil, arith}
-use Rattle.avc_formats.proofs.Common.{if◌then◌else◌, unwrap_or, IsErrAnd, prepend_known, Consumes, IsAtEnd, Keeps, Appends-nil}
-use Rattle.avc_formats.proofs.Common.{Consumes-kept, Consumes-nil, Consumes-trans, SplitterState, after_feed, after_finish, new_splitter}
-use Rattle.avc_formats.proofs.Common.{SetUnit, Sps, set_units, set_units-append, units_left, max_unit, DecodesAs, Format, HasRead, RunFault}
-use Rattle.avc_formats.proofs.Common.{Read, Endless, Write, Memory, Size, first_sps, front_length, in_front, stream_sps, Decodes, IsFound}
+use Rattle.std.proofs.Common.{◌≡◌, ℕ, true, false, List, [], ◌++◌, take, Option, Some, None, Result, refl, ap, sym, subst, ◌∙◌, arith}
+use Rattle.avc_formats.proofs.Common.{if◌then◌else◌, unwrap_or, IsErrAnd, Consumes, IsAtEnd, Keeps, Appends-nil}
+use Rattle.avc_formats.proofs.Common.{Consumes-kept, Consumes-trans, SplitterState, after_feed, after_finish}
+use Rattle.avc_formats.proofs.Common.{SetUnit, Sps, set_units, set_units-append, units_left, max_unit, Format, RunFault}
+use Rattle.avc_formats.proofs.Common.{Read, Memory, first_sps, in_front, stream_sps, Decodes, IsFound}
 use Rattle.avc_formats.proofs.Common.{IsFront, IsLooking, IsSaid, NoFront, Presentation}
 use Rattle.avc_annexb.specs.Laws.{UnitsStay}
 use Rattle.avc_annexb.specs.Units.{units}
@@ -14,16 +14,6 @@ use Rattle.avc_run.proofs.Running.{err_is}
 use Rattle.avc_formats.specs.Presenting.{no_presentation, Says}
 use Rattle.avc_formats.proofs.Finding.{first_behind}
 use Rattle.avc_run.proofs.StreamWriting.{nothing_more}
-
-pub looking_begins : (unread : Option (List ℕ)) (bytes : List ℕ) (s : SplitterState) (sets : List SetUnit) → bytes ≡ [] → s ≡ new_splitter → sets ≡ [] → IsLooking unread unread bytes s sets
-looking_begins unread bytes s sets none new empty = record {
-  consumed = subst (Consumes unread unread) (sym none) (Consumes-nil unread);
-  drained = record { going = ap (λ t. t.failed) new; taken = ap (λ t. t.taken) new ∙ sym (ap (λ t. length (units max_unit t.bytes t.ended)) new) };
-  open_end = ap (λ t. t.ended) new;
-  bytes_are = ap (λ t. t.bytes) new ∙ sym none;
-  sets_are = empty ∙ sym (ap (λ bs. set_units (units max_unit bs false)) none);
-  none = ap (λ bs. stream_sps bs false) none;
-}
 
 -- the units of the bytes
 units_are : (unread left : Option (List ℕ)) (bytes : List ℕ) (s : SplitterState) (sets : List SetUnit) → IsLooking unread left bytes s sets
@@ -122,15 +112,6 @@ front_ended stay unread left left' bytes piece len s mid new sets now said p i n
     by None found set_is = says_nothing (stream_sps bytes true) (set_is ∙ found.0)
     by (Some p) found set_is = says_of (stream_sps bytes true) p (subst (λ o. IsSaid o (Some p)) (sym set_is) found)
 
-pub front_full : (unread left : Option (List ℕ)) (bytes : List ℕ) (s : SplitterState) (sets : List SetUnit) → IsLooking unread left bytes s sets → front_length ≤ length bytes
-    → IsFront unread left bytes no_presentation
-front_full unread left bytes s sets i full = record {
-  all = false;
-  has_read = record { consumed = i.consumed; whole = λ is. cc };
-  says = says_nothing (stream_sps bytes false) i.none;
-  enough = λ _ none. full;
-}
-
 -- ---- there is none
 
 pub unread_on : (unread left left' : Option (List ℕ)) (bytes : List ℕ) (s : SplitterState) (sets : List SetUnit) (fault : RunFault) → IsLooking unread left bytes s sets → Keeps left left'
@@ -142,24 +123,6 @@ pub no_memory : (unread left left' : Option (List ℕ)) (bytes : List ℕ) (s : 
 no_memory unread left left' bytes s sets piece fault i more is = rw is (bytes ++ piece, Consumes-trans unread left left' bytes piece i.consumed more)
 
 -- ---- what is decoded behind the front
-
--- of a reader that tells no bytes nothing is said
-read_of_none : (u left : Option (List ℕ)) (bytes : List ℕ) (all : Bool) → HasRead u left bytes all → HasRead None left bytes all
-read_of_none u left bytes all h = record { consumed = tt; whole = h.whole }
-
-of_none : (f : Format) (output : Output) (u left held holds : Option (List ℕ)) (r : Result Report RunFault) → DecodesAs f output u left held holds r → DecodesAs f output None left held holds r
-of_none f output u left held holds (Ok report) (bytes, all, read, wrote, told, wanted) = (bytes, all, read_of_none u left bytes all read, wrote, told, wanted)
-of_none f output u left held holds (Err Read) (bytes, read, rest) = (bytes, read_of_none u left bytes false read, rest)
-of_none f output u left held holds (Err Endless) (bytes, read, wrote, many) = (bytes, read_of_none u left bytes false read, wrote, many)
-of_none f output u left held holds (Err Write) (bytes, all, read, rest) = (bytes, all, read_of_none u left bytes all read, rest)
-of_none f output u left held holds (Err Memory) (bytes, all, read, rest) = (bytes, all, read_of_none u left bytes all read, rest)
-of_none f output u left held holds (Err Size) (bytes, all, read, rest) = (bytes, all, read_of_none u left bytes all read, rest)
-
-pub behind_front : (f : Format) (output : Output) (unread middle left held holds : Option (List ℕ)) (front : List ℕ) (r : Result Report RunFault) → Consumes unread middle front
-    → DecodesAs f output (prepend_known front middle) left held holds r → DecodesAs f output unread left held holds r
-behind_front f output None middle left held holds front r read d = of_none f output (prepend_known front middle) left held holds r d
-behind_front f output (Some xs) None left held holds front r read d = absurd read
-behind_front f output (Some xs) (Some ys) left held holds front r read d = subst (λ bs. DecodesAs f output (Some bs) left held holds r) (sym read) d
 
 -- where there is none
 pub decodes_not : (format : Presentation → Format) (output : Output) (unread left holds : Option (List ℕ)) (r : Result Report RunFault) (fault : RunFault) → IsErrAnd r (λ e. e ≡ fault)
