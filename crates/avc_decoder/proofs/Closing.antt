@@ -4,7 +4,7 @@ use Rattle.avc_decoder.proofs.Common.{Fault, MissingMacroblocks, PictureError, F
 use Rattle.avc_decoder.proofs.Common.{Planes, Slice, is_full, progress, Progress, deblocked, coded_of, padded_planes_of, CanStandAt}
 use Rattle.avc_decoder.proofs.Common.{Decoding, IsFinishAnswer, fault_at_end, progress_at, Output, History, history_after_closing}
 use Rattle.avc_decoder.proofs.Common.{stored_frames, Decoded, output_at_closing, AreSizedAs, Fails, IsClosed, OpenPictureStart}
-use Rattle.avc_decoder.proofs.Common.{SequenceState, current_history, OpenPicture, first_header, history_of, oldest, progress_on, start_on}
+use Rattle.avc_decoder.proofs.Common.{SequenceState, current_history, OpenPicture, first_header, oldest, progress_on, start_on}
 use Rattle.avc_decoder.proofs.Common.{Outcome, at_last_slice, closed_outcome, closing_result, failed_at, pictures, running, waiting}
 use Rattle.avc_decoder.proofs.Common.{start_with, QueueState, with_events, CurrentPicture, PhaseHere, Running}
 use Rattle.avc_plane.specs.declared.frame.PaddedPlanes.{PaddedPlanes}

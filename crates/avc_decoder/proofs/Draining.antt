@@ -1,8 +1,8 @@
 -- The units that were not taken are handled, and with them all.
 use Rattle.std.proofs.Common.{◌≡◌, ◌+◌, ◌<◌, ℕ, zero, suc, Bool, true, false, List, [], ◌∷◌, ◌++◌, length, drop, Option, Some, None, Result, Ok, Err, refl, ap, sym, ◌∙◌, arith, add-one, add-zero, add_assoc, append_assoc, append-nil, le_of_eq, le_trans, length-append, subst}
 use Rattle.avc_decoder.proofs.Common.{ap₂, false≢true, ◌==◌, IfOk, is_none, is_some, not, slice_get, nat_tests, drop-append_seam, saturated}
-use Rattle.avc_decoder.proofs.Common.{units, Piece, units_stay_first, Output, State, after_unit, at_end, events_from, first_state}
-use Rattle.avc_decoder.proofs.Common.{read_from, state_after, turns, state_through, Machine, IsFeedAnswer, new_machine, next_event}
+use Rattle.avc_decoder.proofs.Common.{units, Piece, units_stay_first, Output, State, after_unit, events_from, first_state}
+use Rattle.avc_decoder.proofs.Common.{read_from, state_after, turns, state_through, Machine, IsFeedAnswer}
 use Rattle.avc_decoder.proofs.Common.{NoMemory}
 use Rattle.avc_annexb.specs.SplitterState.{SplitterState, after_feed, after_finish, next_unit_of, after_next_unit}
 use Rattle.avc_types.specs.declared.memory.OutOfMemory.{OutOfMemory}

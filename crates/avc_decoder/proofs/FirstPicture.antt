@@ -1,6 +1,6 @@
 -- An open IDR picture: it gives what it gives with no sequence before it, and when it is closed, or refused, what that sequence holds
 -- goes out.
-use Rattle.avc_decoder.proofs.Common.{◌≡◌, ℕ, zero, suc, ◌-◌, ◌==◌, Bool, true, false, not, ◌&&◌, All, List, [], ◌∷◌, ◌++◌, length, Option}
+use Rattle.avc_decoder.proofs.Common.{◌≡◌, ℕ, zero, ◌-◌, ◌==◌, Bool, true, false, not, ◌&&◌, All, List, [], ◌∷◌, ◌++◌, length, Option}
 use Rattle.avc_decoder.proofs.Common.{Some, None, Result, Ok, Err, IsTrue, refl, if◌then◌else◌, list_all, ap, ap₂, sym, subst, ◌∙◌}
 use Rattle.avc_decoder.proofs.Common.{append_assoc, map-append, All-cons, Fault, size_in_mbs, Sets, Sps, Planes, is_idr, is_p, Header}
 use Rattle.avc_decoder.proofs.Common.{Slice, Progress, planes-other, progress-other, Next, Nothing, Refusal, FaultOfOpen, FaultOfOwn}

@@ -1,8 +1,8 @@
 -- What a unit does, joined from its parts: closing the open picture, and what comes next.
-use Rattle.std.proofs.Common.{◌≡◌, ℕ, Bool, true, false, not, ◌&&◌, List, [], ◌∷◌, ◌++◌, Option, Some, None, Result, Ok, Err, refl, ap, sym, ◌∙◌, append_assoc, append-nil, arith, subst}
+use Rattle.std.proofs.Common.{◌≡◌, ℕ, Bool, true, false, not, ◌&&◌, List, [], ◌∷◌, ◌++◌, Some, None, Result, Ok, Err, refl, ap, sym, ◌∙◌, append_assoc, append-nil, arith, subst}
 use Rattle.avc_decoder.proofs.Common.{ap₂, false≢true, slice_in, Slice, is_some, Fault, Piece, Sets, sets_after, SetUnit, IfSlice}
-use Rattle.avc_decoder.proofs.Common.{IsSliceUnder, open_picture_of, set_units, step, Next, Begins, Continues, FaultOfOpen, FaultOfOwn}
-use Rattle.avc_decoder.proofs.Common.{Nothing, Refusal, Step, Output, History, held_pictures, SequenceState, current_history, Outcome}
+use Rattle.avc_decoder.proofs.Common.{IsSliceUnder, open_picture_of, set_units, step, Next, Begins, Continues}
+use Rattle.avc_decoder.proofs.Common.{Step, Output, History, held_pictures, SequenceState, current_history, Outcome}
 use Rattle.avc_decoder.proofs.Common.{Phase, State, after_closing, after_next, after_unit, at_end, closed_outcome, closing_result}
 use Rattle.avc_decoder.proofs.Common.{followed_by, held_after, in_phase, is_running, is_waiting, open_facts_in, pictures, running}
 use Rattle.avc_decoder.proofs.Common.{state_after, waiting, OpenPicture, QueueState, with_events, Event, CurrentPicture, PhaseHere, Waiting}

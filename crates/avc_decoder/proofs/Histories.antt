@@ -1,5 +1,5 @@
 -- What has gone out of a history as it grows, and that each of its pictures could come.
-use Rattle.avc_decoder.proofs.Common.{◌≡◌, ℕ, zero, suc, ◌<◌, Bool, true, false, List, [], ◌∷◌, ◌++◌, All, length, Option, Some, None}
+use Rattle.avc_decoder.proofs.Common.{◌≡◌, ℕ, zero, ◌<◌, Bool, true, false, List, [], ◌∷◌, ◌++◌, All, length, Option, Some, None}
 use Rattle.avc_decoder.proofs.Common.{Result, Ok, Err, refl, ap, sym, subst, ◌∙◌, append_assoc, append-nil, false≢true, flat_map-append}
 use Rattle.avc_decoder.proofs.Common.{All-cons, All-head, All-nil, All-tail, Fault, Decoded, Sps, Planes, Marks, has_idr_marking, is_idr}
 use Rattle.avc_decoder.proofs.Common.{Header, Output, Entry, History, all_held, arrival, arrivals, buffer_of, decoded_picture}

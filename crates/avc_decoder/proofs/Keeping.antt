@@ -1,10 +1,10 @@
 -- What the phase knows of the open picture.
 use Rattle.avc_decoder.proofs.Common.{◌≡◌, ℕ, Bool, false, not, ◌∷◌, List, Option, Some, None, refl, ap, sym, ◌∙◌, IfSome, Sets, Pps}
-use Rattle.avc_decoder.proofs.Common.{SetUnit, Sps, Frame, begins, Header, Slice, is_idr, IsHeader, is_full, progress_on, start_on, IsFull}
-use Rattle.avc_decoder.proofs.Common.{IsSliceUnder, open_picture_of, History, stored_frames, SequenceState, current_history, base_in}
-use Rattle.avc_decoder.proofs.Common.{history_in, is_running, open_facts_in, running, sets_named, CanHave, start_with, QueueState}
+use Rattle.avc_decoder.proofs.Common.{Sps, Frame, begins, Header, Slice, is_idr, IsHeader, is_full, progress_on, start_on, IsFull}
+use Rattle.avc_decoder.proofs.Common.{IsSliceUnder, open_picture_of, History, SequenceState, current_history, base_in}
+use Rattle.avc_decoder.proofs.Common.{is_running, open_facts_in, running, sets_named, CanHave}
 use Rattle.avc_decoder.proofs.Common.{CurrentPicture, PhaseHere, Waiting, Running}
-use Rattle.avc_decoder.specs.States.{IsNamed, IsOpenIn, IsPhase, Works, current_in, is_waiting_in, last_header_in, phase_of, with_last}
+use Rattle.avc_decoder.specs.States.{IsNamed, IsPhase, Works, current_in, is_waiting_in, last_header_in, phase_of, with_last}
 use Rattle.avc_decoder.proofs.Closing.{on_open, opened_as, opened_phase, some_is, stands_as}
 use Rattle.avc_decoder.proofs.FirstFaults.{history_is}
 use Rattle.avc_decoder.proofs.PictureFrames.{same_frames}

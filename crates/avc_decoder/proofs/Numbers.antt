@@ -1,6 +1,6 @@
 -- Pictures show no unit's number.
-use Rattle.avc_decoder.proofs.Common.{◌≡◌, ℕ, true, ◌&&◌, List, [], ◌∷◌, map, refl, ap, ap₂, sym, ◌∙◌, first_so, second_so, list_all}
-use Rattle.avc_decoder.proofs.Common.{contents, Piece, SetsComeAlike, State, events_from, waiting, PicturesNameNoUnits, is_picture, Event}
+use Rattle.avc_decoder.proofs.Common.{◌≡◌, ℕ, true, ◌&&◌, List, [], ◌∷◌, map, refl, ap, ap₂, sym, ◌∙◌, list_all}
+use Rattle.avc_decoder.proofs.Common.{contents, Piece, SetsComeAlike, events_from, PicturesNameNoUnits, is_picture, Event}
 use Rattle.avc_decoder.proofs.Common.{Picture, Refused}
 use Rattle.avc_decoder.proofs.Renumbering.{renumbered_event, renumbered_phase}
 use Rattle.avc_decoder.proofs.Resuming.{AreAlike, events-same, like}

@@ -1,10 +1,10 @@
 -- What a picture decoder says holds on the history of the sequence, and the frames have the picture's size.
 use Rattle.avc_decoder.proofs.Common.{◌≡◌, ℕ, Bool, true, false, List, [], map, All, Option, Some, None, Ok, refl, ap, ap₂, sym, subst, ◌∙◌}
 use Rattle.avc_decoder.proofs.Common.{arith, first_so, second_so, eqb-true, All-cons, All-nil, ◌+◌, ◌-◌, ◌==◌, ◌&&◌, IfSome, StandAt, Fault}
-use Rattle.avc_decoder.proofs.Common.{Decoded, height_in_mbs, width_in_mbs, Sps, AreFrames, marked_frame, stored_at, Planes, Frame, Pps}
-use Rattle.avc_decoder.proofs.Common.{is_idr, IsHeader, Header, Slice, deblocked, Progress, coded_of, is_full, planes_after_slices}
-use Rattle.avc_decoder.proofs.Common.{progress, AreFramesOf, CanStandAt, Decoding, HasNoFault, HasRead, IsFull, Refuses, end_fault}
-use Rattle.avc_decoder.proofs.Common.{fault_at_end, no_slice_yet, progress_at, start_at, with_slice_more, progress-other, History}
+use Rattle.avc_decoder.proofs.Common.{Decoded, height_in_mbs, width_in_mbs, Sps, AreFrames, marked_frame, stored_at, Frame}
+use Rattle.avc_decoder.proofs.Common.{is_idr, Header, Slice, Progress}
+use Rattle.avc_decoder.proofs.Common.{progress, AreFramesOf, CanStandAt, Decoding, HasNoFault, HasRead, Refuses}
+use Rattle.avc_decoder.proofs.Common.{progress_at, start_at, with_slice_more, progress-other, History}
 use Rattle.avc_decoder.proofs.Common.{history_at_opening, is_same_sps, sequence_sps, stored_frames, opened_by, set_at_opening, AreFramesIn}
 use Rattle.avc_decoder.proofs.Common.{AreStoredIn, IsOpened, SequenceState, current_history, CanHave, HasItsFrames, IsISlice, frames_for}
 use Rattle.avc_decoder.proofs.Common.{progress_on_history, read_of_slice, start_with}

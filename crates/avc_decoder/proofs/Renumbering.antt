@@ -1,5 +1,5 @@
 -- Units with other numbers: slices, pictures and events are the same but for these.
-use Rattle.avc_decoder.proofs.Common.{◌≡◌, ℕ, zero, suc, ◌+◌, ◌-◌, Bool, true, false, not, ◌&&◌, nat_lt, List, [], ◌∷◌, ◌++◌, length, map}
+use Rattle.avc_decoder.proofs.Common.{◌≡◌, ℕ, zero, ◌+◌, ◌-◌, Bool, true, false, not, ◌&&◌, nat_lt, List, [], ◌∷◌, ◌++◌, length, map}
 use Rattle.avc_decoder.proofs.Common.{Option, Some, None, Result, Ok, Err, refl, if◌then◌else◌, ap, ap₂, sym, ◌∙◌, map-append, Fault}
 use Rattle.avc_decoder.proofs.Common.{Decoded, Reference, Sets, Pps, Sps, Header, Slice, deblocked, PictureStart, Progress, coded_of}
 use Rattle.avc_decoder.proofs.Common.{is_full, list_of, progress, read_whole, refused, with_first_fault, with_reference_list}

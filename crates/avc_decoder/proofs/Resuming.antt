@@ -1,17 +1,17 @@
 -- A stream that begins at one of its units decodes as it did there.
 use Rattle.avc_decoder.proofs.Common.{◌≡◌, ℕ, zero, suc, ◌+◌, ◌-◌, ◌^◌, ◌<◌, ◌≤◌, Bool, true, false, List, [], ◌∷◌, ◌++◌, length, map, take}
-use Rattle.avc_decoder.proofs.Common.{drop, not, ◌&&◌, Option, Some, None, Result, Ok, Err, All, slice_get, refl, ap, sym, subst, ◌∙◌}
+use Rattle.avc_decoder.proofs.Common.{drop, ◌&&◌, Option, Some, None, Result, Ok, Err, All, slice_get, refl, ap, sym, subst, ◌∙◌}
 use Rattle.avc_decoder.proofs.Common.{arith, append_assoc, append-nil, drop-append_seam, take-append_seam, drop-map, length-append}
 use Rattle.avc_decoder.proofs.Common.{length-map, map-append, take-append-drop, take-map, All-cons, All-head, All-nil, All-tail, All-weaker}
 use Rattle.avc_decoder.proofs.Common.{Fault, IsUnitOf, UnitsAreNumbered, UnitsStay, WrittenUnitsStand, contents, forbidden_zero_bit}
 use Rattle.avc_decoder.proofs.Common.{saturated, units, Piece, Sets, sets_after, SetUnit, begins, header_in_rbsp, Header, Slice, Kind}
-use Rattle.avc_decoder.proofs.Common.{slice, partition, sps, pps, boundary, other, OpenPictureFacts, ends_picture, is_start, kind, rbsp_of}
+use Rattle.avc_decoder.proofs.Common.{slice, partition, sps, pps, other, OpenPictureFacts, ends_picture, is_start, kind, rbsp_of}
 use Rattle.avc_decoder.proofs.Common.{readable, refusal_of, running_step, set_fault, set_unit, set_units, slice_in, slice_step, step}
 use Rattle.avc_decoder.proofs.Common.{unreadable, waiting_step, with_header, IsSetOf, SetsAreInForceAgain, SetsComeAlike, SetsInForceAreFew}
-use Rattle.avc_decoder.proofs.Common.{SetsInForceAreUnits, resumed, sets_in_force, Next, Nothing, FaultOfOpen, FaultOfOwn, Begins}
-use Rattle.avc_decoder.proofs.Common.{Continues, Step, History, Outcome, Phase, State, after_closing, after_next, after_unit, at_end}
-use Rattle.avc_decoder.proofs.Common.{closed_picture, events_from, first_state, followed_by, in_phase, is_running, is_waiting, no_change}
-use Rattle.avc_decoder.proofs.Common.{open_facts_in, open_picture_facts, running, state_after, waiting, OpenPicture, CanStart}
+use Rattle.avc_decoder.proofs.Common.{SetsInForceAreUnits, resumed, sets_in_force, Next, Nothing, FaultOfOwn, Begins}
+use Rattle.avc_decoder.proofs.Common.{Step, Outcome, Phase, State, after_closing, after_next, after_unit, at_end}
+use Rattle.avc_decoder.proofs.Common.{closed_picture, events_from, first_state, followed_by, in_phase, is_running, no_change}
+use Rattle.avc_decoder.proofs.Common.{open_facts_in, open_picture_facts, running, state_after, waiting, CanStart}
 use Rattle.avc_decoder.proofs.Common.{HaveOwnNumbers, StartsAnew, closing_events, renumbered, state_through, Event, Output}
 use Rattle.std.proofs.Common.{get_or}
 use Rattle.std.proofs.lemmas.List.{take-append-le}

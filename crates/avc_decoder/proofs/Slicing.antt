@@ -5,7 +5,7 @@ use Rattle.avc_decoder.proofs.Common.{sets_after, SetUnit, Sps, Pps, Slice, Fram
 use Rattle.avc_decoder.proofs.Common.{Output, History, buffer_of, history_at_opening, stored_frames, held_pictures, pictures_at}
 use Rattle.avc_decoder.proofs.Common.{output_pictures, Fails, IsSliceAnswer, Refuses, CanHave, Result, Header, IsOpened, SequenceState}
 use Rattle.avc_decoder.proofs.Common.{empty_sequence, with_open_picture, current_history, HasItsFrames, oldest, read_of_slice, start_with}
-use Rattle.avc_decoder.proofs.Common.{OpenPicture, first_fault, history_of, progress_on, read_of, Outcome, after_first_slice}
+use Rattle.avc_decoder.proofs.Common.{OpenPicture, first_fault, history_of, read_of, after_first_slice}
 use Rattle.avc_decoder.proofs.Common.{after_next_slice, failed_at, no_change, pictures, sets_named, with_slice, QueueState, with_events}
 use Rattle.avc_decoder.proofs.Common.{CurrentPicture, PhaseHere, Waiting, Running, Picture, Refused}
 use Rattle.avc_decoder_core.specs.Laws.{MissingNumbersKeepTheOrder}

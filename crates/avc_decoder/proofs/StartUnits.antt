@@ -1,10 +1,10 @@
 -- A unit with which decoding could start, while it runs: what is held goes out, and then decoding goes on as from a new start.
 use Rattle.avc_decoder.proofs.Common.{◌≡◌, ℕ, Bool, true, false, ◌==◌, List, [], ◌∷◌, ◌++◌, Option, Some, None, Result, Ok, Err, is_some}
 use Rattle.avc_decoder.proofs.Common.{open_facts_in, IsTrue, false≢true, Next, refl, first_so, second_so, list_all, ap, ap₂, sym, subst}
-use Rattle.avc_decoder.proofs.Common.{◌∙◌, append_assoc, append-nil, All-cons, All-nil, Fault, forbidden_zero_bit, Piece, Sets, sets_after}
-use Rattle.avc_decoder.proofs.Common.{Pps, SetUnit, Sps, begins, is_idr, Slice, HeadersKeepIdrRules, KeepsIdrRules, Kind, slice, partition}
-use Rattle.avc_decoder.proofs.Common.{sps, pps, boundary, other, OpenPictureFacts, is_start, kind, kind_of, running_step, set_units}
-use Rattle.avc_decoder.proofs.Common.{slice_in, slice_step, step, unreadable, waiting_step, Nothing, Refusal, FaultOfOpen, FaultOfOwn}
+use Rattle.avc_decoder.proofs.Common.{◌∙◌, append_assoc, append-nil, All-cons, All-nil, Fault, Piece, Sets, sets_after}
+use Rattle.avc_decoder.proofs.Common.{Pps, SetUnit, Sps, begins, is_idr, Slice, HeadersKeepIdrRules, KeepsIdrRules, slice}
+use Rattle.avc_decoder.proofs.Common.{sps, pps, OpenPictureFacts, is_start, kind, kind_of, set_units}
+use Rattle.avc_decoder.proofs.Common.{slice_in, slice_step, step, FaultOfOpen, FaultOfOwn}
 use Rattle.avc_decoder.proofs.Common.{Begins, Continues, Step, Output, History, no_output_of_prior_pics, OpenPicture, history_of, Outcome}
 use Rattle.avc_decoder.proofs.Common.{Phase, after_closing, after_first_slice, after_next, after_unit, at_end, closed_outcome}
 use Rattle.avc_decoder.proofs.Common.{closing_result, events_and_held, events_from, failed_at, first_state, held_after, in_phase}

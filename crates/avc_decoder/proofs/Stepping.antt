@@ -2,9 +2,9 @@
 use Rattle.avc_decoder.proofs.Common.{◌≡◌, ℕ, Bool, true, false, [], ◌∷◌, ◌++◌, Option, Some, None, Result, Ok, Err, refl, ap, sym, ◌∙◌}
 use Rattle.avc_decoder.proofs.Common.{arith, nat_tests, is_some, not, if◌then◌else◌, Fault, DataPartition, ForbiddenBit, forbidden_zero_bit}
 use Rattle.avc_decoder.proofs.Common.{Piece, Sets, begins, is_idr, Header, Slice, HeadersKeepIdrRules, KeepsIdrRules, Kind}
-use Rattle.avc_decoder.proofs.Common.{OpenPictureFacts, boundary, is_start, kind, other, partition, no_effect, pps, running_step, set_fault}
+use Rattle.avc_decoder.proofs.Common.{OpenPictureFacts, is_start, kind, partition, pps, running_step, set_fault}
 use Rattle.avc_decoder.proofs.Common.{set_units, rbsp_of, refusal_of, ends_picture, slice, slice_step, sps, step, slice_in, unreadable}
-use Rattle.avc_decoder.proofs.Common.{waiting_step, Next, Begins, Continues, FaultOfOpen, FaultOfOwn, Refusal, Step}
+use Rattle.avc_decoder.proofs.Common.{waiting_step, Next, Begins, Continues, Refusal, Step}
 use Rattle.avc_units.specs.Grouping.{list_of, set_of}
 use Rattle.avc_decoder.proofs.Cases.{either}
 use Rattle.avc_decoder.proofs.Headers.{slice_of_unit}

@@ -2,16 +2,16 @@
 use Rattle.avc_decoder.proofs.Common.{◌≡◌, ℕ, zero, suc, ◌+◌, ◌-◌, ◌*◌, ◌/◌, ◌≤◌, Bool, true, false, not, ◌&&◌, if◌then◌else◌, List, []}
 use Rattle.avc_decoder.proofs.Common.{◌∷◌, ◌++◌, length, Option, Some, None, Result, Ok, Err, IfSome, slice_get, refl, ap, ap₂, sym, subst}
 use Rattle.avc_decoder.proofs.Common.{◌∙◌, arith, map-append, Fault, Decoded, units, StreamUnit, width_in_mbs, height_in_mbs, sets_after}
-use Rattle.avc_decoder.proofs.Common.{Pps, SetUnit, Sps, Planes, Marks, is_idr, Header, Slice, step, Next, Nothing, Refusal, FaultOfOpen}
+use Rattle.avc_decoder.proofs.Common.{Pps, SetUnit, Sps, Planes, is_idr, Header, Slice, step, Next, Nothing, Refusal, FaultOfOpen}
 use Rattle.avc_decoder.proofs.Common.{FaultOfOwn, Begins, Continues, Step, Output, Entry, History, all_held, decoded_picture}
-use Rattle.avc_decoder.proofs.Common.{earlier_in_sequence, entry_at, history_after_closing, history_at_opening, marks_of, missing_frame}
-use Rattle.avc_decoder.proofs.Common.{new_output, with_missing, with_picture, crop_of, entry_pictures, held_pictures}
-use Rattle.avc_decoder.proofs.Common.{no_output_of_prior_pics, output_at_closing, output_pictures, picture_of, pictures_at, ok_same}
-use Rattle.avc_decoder.proofs.Common.{opened_by, OpenPicture, first_header, first_fault, history_at_opening_of, history_of, read_of}
-use Rattle.avc_decoder.proofs.Common.{picture_planes, closed_history, start_on, slices_of, pictures, Phase, waiting, running, State}
-use Rattle.avc_decoder.proofs.Common.{first_state, Outcome, failed_at, at_last_slice, closing_result, closed_outcome, closed_picture}
+use Rattle.avc_decoder.proofs.Common.{earlier_in_sequence, entry_at, missing_frame}
+use Rattle.avc_decoder.proofs.Common.{new_output, crop_of, entry_pictures, held_pictures}
+use Rattle.avc_decoder.proofs.Common.{no_output_of_prior_pics, output_at_closing, picture_of, pictures_at}
+use Rattle.avc_decoder.proofs.Common.{OpenPicture, first_header, first_fault, history_of, read_of}
+use Rattle.avc_decoder.proofs.Common.{picture_planes, start_on, slices_of, pictures, Phase, waiting, running, State}
+use Rattle.avc_decoder.proofs.Common.{first_state, Outcome, failed_at, closing_result, closed_outcome, closed_picture}
 use Rattle.avc_decoder.proofs.Common.{with_slice, sets_named, both, after_first_slice, after_next_slice, base_in, history_in, after_next}
-use Rattle.avc_decoder.proofs.Common.{is_waiting, followed_by, after_closing, in_phase, after_unit, state_after, held_after, at_end}
+use Rattle.avc_decoder.proofs.Common.{is_waiting, after_closing, in_phase, after_unit, state_after, held_after, at_end}
 use Rattle.avc_decoder.proofs.Common.{is_running, open_facts_in, events_from, events, Event, Picture, Refused, PicturesAreWhole}
 use Rattle.avc_types.specs.Whole.{IsWhole}
 use Rattle.avc_params.specs.Within.{IsSps, IsCropping, SpsInForceKeepsLimits}

@@ -1,5 +1,5 @@
 -- Places of the history that rise.
-use Rattle.avc_decoder_core.proofs.Common.{ℕ, zero, suc, ◌+◌, ◌<◌, Bool, cond, List, [], ◌∷◌, ◌++◌, length, map}
+use Rattle.avc_decoder_core.proofs.Common.{ℕ, zero, suc, ◌+◌, ◌<◌, Bool, List, [], ◌∷◌, ◌++◌, length, map}
 use Rattle.avc_decoder_core.proofs.Common.{arith, slice_index, All, All-nil, All-cons, filter, Stored, IsRising, Each}
 use Rattle.std.specs.List.Sorted.{IsStrictlyIncreasing}
 
