@@ -12,8 +12,6 @@ use avc_plane::PADDING;
 use avc_types::{Fault, OutOfMemory, PictureError};
 
 /// Closes the open picture, if there is one. At a fault all held pictures go out, and then the refusal.
-// apart from its callers, so that units which close nothing don't clear the room for a picture
-#[inline(never)]
 pub fn close(stream: &mut Stream) -> Result<(), OutOfMemory>
     requires { IsPhase stream.old.sequence stream.old.phase }
     ensures { OnOk result (HasOutcome stream.old

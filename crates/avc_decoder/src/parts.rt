@@ -74,6 +74,15 @@ pub fn finish<const MAX: usize>(running: &mut Option<Parts<MAX>>) -> Result<u64,
     }
 }
 
+/// Nothing is left. What is dropped takes much room, which answers without a refusal don't clear then.
+#[cold]
+#[inline(never)]
+fn stop<const MAX: usize>(running: &mut Option<Parts<MAX>>)
+    ensures { running.new ≡ None }
+{
+    *running = None;
+}
+
 /// Where memory was refused nothing is left.
 pub fn stop_at_refusal<const MAX: usize>(
     running: &mut Option<Parts<MAX>>,
@@ -86,7 +95,7 @@ pub fn stop_at_refusal<const MAX: usize>(
     match answer {
         Ok(read) => Ok(read),
         Err(refused) => {
-            *running = None;
+            stop(running);
             Err(refused)
         }
     }

@@ -38,8 +38,6 @@ pub struct SliceAnswer {
 
 /// Opens a picture under the parameter sets that its first slice names, and decodes that slice. It is made and decoded in its place,
 /// since it is large.
-// apart from its callers, so that units which begin nothing don't clear the room for a picture
-#[inline(never)]
 pub fn first_slice(stream: &mut Stream, slice: &Slice) -> Result<(), OutOfMemory>
     requires phase { IsPhase stream.old.sequence stream.old.phase }
     requires rest { current_in stream.old.phase ≡ None }
