@@ -163,7 +163,7 @@ growing_at_most() {
 "$top/avcdec" --help >/dev/null || exit 1
 program=$top/crates/avc_cli/out/avc_cli
 # The tests' programs are those that the gate has built, or are built now.
-for crate in avc_tests avc_run; do
+for crate in avc_tests avc_stream_tests; do
     if [ ! -x "$top/crates/$crate/out/${crate}_tests" ] && ! (cd "$top/crates/$crate" && rt test) >"$room/built" 2>&1; then
         cat "$room/built"
         exit 1
@@ -182,11 +182,12 @@ for words in decode 'decode --early' units headers 'cut 0'; do
     # shellcheck disable=SC2086
     beside failing_in_program "$here/corners/five_g121.264" $words
 done
-for test in calls_that_begin_anew slices_begin_anew pictures_begin_anew texts_and_pieces splitters_want_memory_from_then_on tables_stay_as_they_are bit_makers_want_memory_from_then_on; do
+for test in calls_that_begin_anew slices_begin_anew pictures_begin_anew splitters_want_memory_from_then_on tables_stay_as_they_are bit_makers_want_memory_from_then_on; do
     beside refused_in_test avc_tests "want_of_memory::$test"
 done
-beside refused_in_test avc_run tests::decodes_again_after_want_of_memory
-beside growing_at_most 20000 avc_run tests::two_hundred_pictures_byte_by_byte
+beside refused_in_test avc_stream_tests stream_texts::texts_and_pieces
+beside refused_in_test avc_stream_tests decoder_calls::decodes_again_after_want_of_memory
+beside growing_at_most 20000 avc_stream_tests decoder_calls::two_hundred_pictures_byte_by_byte
 wait
 
 passed=0

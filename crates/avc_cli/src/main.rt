@@ -3,19 +3,16 @@
 
 mod progress;
 mod rate;
-mod request;
-#[cfg(test)]
-mod tests;
 
 use avc_formats::{Selected, decode_as, decode_headed, decode_md5, verify};
 use avc_info::{ForPeople, ForPrograms, info};
+use avc_request::{Form, Request, Showing, Task, Telling, requested, words_of};
 use avc_run::{
     Answer, Console, Ending, I420, Names, RunFault, Watch, answer_status, cut, decode, fail,
     headers, units,
 };
 use clap::error::ErrorKind;
 use progress::Progress;
-use request::{Form, Request, Showing, Task, Telling, requested, words_of};
 use std::alloc::Global;
 use std::fs::File;
 use std::io;

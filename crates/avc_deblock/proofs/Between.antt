@@ -1,7 +1,7 @@
--- The strength of facts is that of the picture.
+-- The strength of info is that of the picture.
 use Rattle.avc_deblock.proofs.Common.{◌≡◌, ℕ, ◌<◌, Bool, true, false, List, arith, refl, ◌==◌, nat_abs, ◌-ℤ◌, nat_le, not, ◌||◌}
-use Rattle.avc_deblock.proofs.Common.{if◌then◌else◌, Some, cases_eq, nat_tests, Mv, Coded, Motion, inter, Names, HasFacts, are_far}
-use Rattle.avc_deblock.proofs.Common.{inter_strength, edge_block, MbFacts}
+use Rattle.avc_deblock.proofs.Common.{if◌then◌else◌, Some, cases_eq, nat_tests, Mv, Coded, Motion, inter, Names, HasInfo, are_far}
+use Rattle.avc_deblock.proofs.Common.{inter_strength, edge_block, MbInfo}
 use Rattle.std.proofs.Math.Bool.{or_assoc}
 use Rattle.avc_deblock.specs.Edges.{picture_named, moves_differently, strength_between}
 
@@ -13,12 +13,12 @@ named_both : (c : Coded) (pa qa r s : ℕ) (u v : Mv) (x y : ℕ) → picture_na
     moves_differently c pa qa (inter r u) (inter s v) ≡ (not (x == y) || are_far u v)
 named_both c pa qa r s u v x y e f = rw (e, f) (or_assoc (not (x == y)) (nat_le 4 (nat_abs (u.x -ℤ v.x))) (nat_le 4 (nat_abs (u.y -ℤ v.y))))
 
-pub inter_between : (c : Coded) (motion : List (List Motion)) (names : Names) (pa qa : ℕ) (p : MbFacts) (kp : ℕ) (q : MbFacts) (kq : ℕ) → kp < 16 → kq < 16 →
-    HasFacts c motion names pa p → HasFacts c motion names qa q → p.is_intra ≡ false → q.is_intra ≡ false → inter_strength p kp q kq ≡ strength_between c motion pa kp qa kq
+pub inter_between : (c : Coded) (motion : List (List Motion)) (names : Names) (pa qa : ℕ) (p : MbInfo) (kp : ℕ) (q : MbInfo) (kq : ℕ) → kp < 16 → kq < 16 →
+    HasInfo c motion names pa p → HasInfo c motion names qa q → p.is_intra ≡ false → q.is_intra ≡ false → inter_strength p kp q kq ≡ strength_between c motion pa kp qa kq
 inter_between c motion names pa qa p kp q kq kp_low kq_low hp hq np nq = grind (arith, nat_tests, named_both, same_entry)
 
-pub intra_between : (c : Coded) (motion : List (List Motion)) (names : Names) (pa qa : ℕ) (p : MbFacts) (kp : ℕ) (q : MbFacts) (kq : ℕ) →
-    HasFacts c motion names pa p → HasFacts c motion names qa q → (p.is_intra || q.is_intra) ≡ true → strength_between c motion pa kp qa kq ≡ (if pa == qa then 3 else 4)
+pub intra_between : (c : Coded) (motion : List (List Motion)) (names : Names) (pa qa : ℕ) (p : MbInfo) (kp : ℕ) (q : MbInfo) (kq : ℕ) →
+    HasInfo c motion names pa p → HasInfo c motion names qa q → (p.is_intra || q.is_intra) ≡ true → strength_between c motion pa kp qa kq ≡ (if pa == qa then 3 else 4)
 intra_between c motion names pa qa p kp q kq hp hq either = grind (arith, nat_tests)
 
 pub both_false : (a b : Bool) → (a || b) ≡ false → (a ≡ false) × (b ≡ false)

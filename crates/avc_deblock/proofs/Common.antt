@@ -12,8 +12,8 @@ pub use Rattle.std.proofs.lemmas.Simd.{Each1-from_get_or, SwzOk-from_below, get_
 pub use Rattle.std.specs.List.{range_with_len, flat_map}
 pub use Rattle.std.specs.Prelude.{nat_le, not, ◌||◌, Some, slice_index_or, None}
 pub use Rattle.avc_motion.specs.Motion.{zero_vector, is_intra}
-pub use Rattle.avc_neigh.specs.declared.facts.Motion.{Motion}
-pub use Rattle.avc_neigh.specs.declared.facts.Motion.TheVariants.{Inter as inter, Absent as absent}
+pub use Rattle.avc_neigh.specs.declared.neighbour_info.Motion.{Motion}
+pub use Rattle.avc_neigh.specs.declared.neighbour_info.Motion.TheVariants.{Inter as inter, Absent as absent}
 pub use Rattle.avc_plane.proofs.Blocks.{plane_of_same, inside}
 pub use Rattle.avc_plane.proofs.PlaneMaps.{length-plane_of, sample-with_block}
 pub use Rattle.avc_plane.proofs.Rectangles.{by_place}
@@ -21,12 +21,12 @@ pub use Rattle.avc_plane.specs.Frames.{planes_of}
 pub use Rattle.avc_plane.specs.Plane.{Plane, sample, with_block, is_inside}
 pub use Rattle.avc_plane.specs.Planes.{Planes}
 pub use Rattle.avc_types.specs.Arithmetic.{clip1, distance}
-pub use Rattle.avc_types.specs.Pictures.{Coded, PicMb, SliceFacts}
+pub use Rattle.avc_types.specs.Pictures.{Coded, PicMb, SliceInfo}
 pub use Rattle.avc_types.specs.declared.vector.Mv.{Mv}
-pub use Rattle.avc_deblock.specs.ByFacts.{strength_of, luma_qp_of, chroma_qp_of, edge_by_facts, edges_by_facts, mb_by_facts, row_by_facts}
-pub use Rattle.avc_deblock.specs.ByFacts.{no_facts, AreOfRow}
-pub use Rattle.avc_deblock.specs.Facts.{Names, HasFacts, are_far, inter_strength, edge_block, p_address, IsAt, filters_between, HaveFacts}
-pub use Rattle.avc_deblock.specs.Facts.{filters_at, has_bit, HasMotion}
+pub use Rattle.avc_deblock.specs.ByInfo.{strength_of, luma_qp_of, chroma_qp_of, edge_by_info, edges_by_info, mb_by_info, row_by_info}
+pub use Rattle.avc_deblock.specs.ByInfo.{no_info, AreOfRow}
+pub use Rattle.avc_deblock.specs.FilterInfo.{Names, HasInfo, are_far, inter_strength, edge_block, p_address, IsAt, filters_between, HaveInfo}
+pub use Rattle.avc_deblock.specs.FilterInfo.{filters_at, has_bit, HasMotion}
 pub use Rattle.avc_deblock.specs.Line.{Setting, filtered, Line, filtered_weakly, filtered_strongly, setting_of, tc0_of, is_filtered}
 pub use Rattle.avc_deblock.specs.Line.{mirrored, strong_p0, strong_p1, strong_p2, alpha_of, beta_of}
 pub use Rattle.avc_deblock.specs.OneEdge.{luma_setting, chroma_setting, component_edge, planes_edge, lines_of_edge, HasRoom, strength_along}
@@ -35,6 +35,6 @@ pub use Rattle.avc_deblock.specs.OneEdge.{AreStrengths}
 unfoldable pub use Rattle.avc_deblock.specs.OneEdge.{edge_filtered}
 pub use Rattle.avc_deblock.specs.Rows.{line_of_rows, line_within, line_inside, line_across, line_down, line_near, IsTransposed, IsRowSet}
 pub use Rattle.avc_deblock.specs.Rows.{IsNearSet, line, IsWeak, IsStrong, slope, held, line_of, bend}
-pub use Rattle.avc_deblock.specs.declared.facts.MbFacts.{MbFacts}
+pub use Rattle.avc_deblock.specs.declared.mb_info.MbInfo.{MbInfo}
 pub use Rattle.avc_deblock.specs.declared.strengths.Strengths.TheVariants.{Four, BelowFour}
 pub use Rattle.avc_deblock.specs.declared.thresholds.EdgeQp.{EdgeQp}

@@ -1,4 +1,4 @@
--- The lines of an edge at the strengths and QPs of facts are those of the picture.
+-- The lines of an edge at the strengths and QPs of info are those of the picture.
 use Rattle.avc_deblock.proofs.Common.{◌≡◌, ℕ, suc, ◌+◌, ◌*◌, ◌/◌, ◌%◌, ◌<◌, ◌≤◌, List, Bool, true, false, arith, refl, sym, ap, ◌∙◌, ◌==◌}
 use Rattle.avc_deblock.proofs.Common.{not, if◌then◌else◌, div-mul-add, mod-mul-add, nat_tests, Coded, Motion, Plane, Planes, Setting}
 use Rattle.avc_deblock.proofs.Common.{setting_of, EdgeQp, edge_filtered, luma_setting, chroma_setting, component_edge, planes_edge}

@@ -2,8 +2,8 @@
 use Rattle.avc_deblock.proofs.Common.{◌≡◌, ℕ, zero, suc, ◌+◌, ◌-◌, ◌*◌, ◌/◌, ◌%◌, ◌<◌, ◌≤◌, ℤ, List, Bool, true, false, length}
 use Rattle.avc_deblock.proofs.Common.{arith, refl, sym, ap, subst, ◌∙◌, ⊎_elim, if◌then◌else◌, ◌==◌, nat_lt, ◌&&◌, slice_index_or}
 use Rattle.avc_deblock.proofs.Common.{cases_lt, nat_tests, Plane, sample, with_block, is_inside}
-use Rattle.avc_deblock.proofs.Common.{length-plane_of, Planes, MbFacts, filters_between, Setting, luma_setting, chroma_setting, strength_of, edge_filtered}
-use Rattle.avc_deblock.proofs.Common.{luma_qp_of, chroma_qp_of, edge_by_facts, edges_by_facts, mb_by_facts, row_by_facts, no_facts}
+use Rattle.avc_deblock.proofs.Common.{length-plane_of, Planes, MbInfo, filters_between, Setting, luma_setting, chroma_setting, strength_of, edge_filtered}
+use Rattle.avc_deblock.proofs.Common.{luma_qp_of, chroma_qp_of, edge_by_info, edges_by_info, mb_by_info, row_by_info, no_info}
 use Rattle.avc_deblock.specs.Edges.{in_component, luma_per_sample}
 use Rattle.avc_deblock.specs.Locality.{AgreesAbove, ChangesWithin, AgreesToRow, ChangesInRow, HasRow}
 use Rattle.avc_deblock.proofs.Samples.{HasReach, luma_reach, chroma_reach}
@@ -11,7 +11,7 @@ use Rattle.avc_deblock.proofs.OnPlane.{IsSized, block_is}
 use Rattle.avc_deblock.proofs.Within.{inside_block, outside_block}
 use Rattle.avc_deblock.proofs.Local.{IsLocal, local_none, local_then, local_if, local_edge}
 use Rattle.avc_deblock.proofs.EdgePlanes.{edge_behind, luma_of_edge, chroma_behind, in_parts, far_enough}
-use Rattle.avc_deblock.proofs.PictureFacts.{some}
+use Rattle.avc_deblock.proofs.PictureInfo.{some}
 
 -- ---- changes of the three planes, each by itself
 
@@ -73,8 +73,8 @@ module _ (wl wb wr row : ℕ) where
         subst (λ y. IsLocal w (size * row - reach) (size * row + size) (edge_filtered f false (size * column) y size)) back
         (local_edge w (size * row - reach) (size * row + size) f false (size * column) (size * row + d - 4) size reach keeps (λ i k less low. (omega arith, omega arith)) (λ i k less p q. omega arith))
 
-    edge_acts : (v : Bool) (n : ℕ) → n < 4 → (v ≡ true → 1 ≤ 4 * column + n) → (v ≡ false → 1 ≤ 4 * row + n) → (p q : MbFacts) →
-        ActsApart wl wb wr row (edge_by_facts v column row n offset p q)
+    edge_acts : (v : Bool) (n : ℕ) → n < 4 → (v ≡ true → 1 ≤ 4 * column + n) → (v ≡ false → 1 ≤ 4 * row + n) → (p q : MbInfo) →
+        ActsApart wl wb wr row (edge_by_info v column row n offset p q)
     edge_acts v n low across down p q =
         let st = strength_of p q v n in
         let luma = luma_qp_of p q in
@@ -99,28 +99,28 @@ module _ (wl wb wr row : ℕ) where
 
     -- ---- the edges of a macroblock
 
-    edges_act : (v o i : Bool) → (o ≡ true → v ≡ true → 1 ≤ column) → (o ≡ true → v ≡ false → 1 ≤ row) → (p q : MbFacts) →
-        ActsApart wl wb wr row (edges_by_facts v column row offset o i p q)
+    edges_act : (v o i : Bool) → (o ≡ true → v ≡ true → 1 ≤ column) → (o ≡ true → v ≡ false → 1 ≤ row) → (p q : MbInfo) →
+        ActsApart wl wb wr row (edges_by_info v column row offset o i p q)
     edges_act v o i across down p q =
-        let inner : (n : ℕ) → 1 ≤ n → n < 4 → ActsApart wl wb wr row (edge_by_facts v column row n offset q q) =
+        let inner : (n : ℕ) → 1 ≤ n → n < 4 → ActsApart wl wb wr row (edge_by_info v column row n offset q q) =
         λ n some low. edge_acts v n low (λ e. omega arith) (λ e. omega arith) q q in
         acts_then
         (acts_if o (λ on. edge_acts v 0 (omega arith) (λ e. let h : 1 ≤ column = across on e in omega arith) (λ e. let h : 1 ≤ row = down on e in omega arith) p q))
         (acts_if i (λ on. acts_then (acts_then (inner 1 (omega arith) (omega arith)) (inner 2 (omega arith) (omega arith))) (inner 3 (omega arith) (omega arith))))
 
-    mb_acts : (left above q : MbFacts) → ActsApart wl wb wr row (mb_by_facts offset column row left above q)
+    mb_acts : (left above q : MbInfo) → ActsApart wl wb wr row (mb_by_info offset column row left above q)
     mb_acts left above q =
         acts_then
         (edges_act true (nat_lt 0 column && filters_between q left) (filters_between q q) (λ o e. some (filters_between q left) column o) (λ o e. absurd (cc)) left q)
         (edges_act false (nat_lt 0 row && filters_between q above) (filters_between q q) (λ o e. absurd (cc)) (λ o e. some (filters_between q above) row o) above q)
 
-  pub row_acts : (offset : ℤ) (above facts : List MbFacts) (n : ℕ) → ((k : ℕ) → k < n → 16 * k + 16 ≤ wl) → ((k : ℕ) → k < n → 8 * k + 8 ≤ wb) →
-      ((k : ℕ) → k < n → 8 * k + 8 ≤ wr) → ActsApart wl wb wr row (row_by_facts offset row above facts n)
-  row_acts offset above facts zero l b r = acts_none
-  row_acts offset above facts (suc n) l b r =
-      acts_then (row_acts offset above facts n (λ k low. l k (omega arith)) (λ k low. b k (omega arith)) (λ k low. r k (omega arith)))
+  pub row_acts : (offset : ℤ) (above info : List MbInfo) (n : ℕ) → ((k : ℕ) → k < n → 16 * k + 16 ≤ wl) → ((k : ℕ) → k < n → 8 * k + 8 ≤ wb) →
+      ((k : ℕ) → k < n → 8 * k + 8 ≤ wr) → ActsApart wl wb wr row (row_by_info offset row above info n)
+  row_acts offset above info zero l b r = acts_none
+  row_acts offset above info (suc n) l b r =
+      acts_then (row_acts offset above info n (λ k low. l k (omega arith)) (λ k low. b k (omega arith)) (λ k low. r k (omega arith)))
       (mb_acts n (l n (omega arith)) (b n (omega arith)) (r n (omega arith)) offset
-      (slice_index_or facts (n - 1) no_facts) (slice_index_or above n no_facts) (slice_index_or facts n no_facts))
+      (slice_index_or info (n - 1) no_info) (slice_index_or above n no_info) (slice_index_or info n no_info))
 
 -- ---- one plane
 
@@ -169,13 +169,13 @@ module _ (first end : ℕ) (g : Plane → Plane) (s : Plane) (a : IsLocal s.widt
 
 -- ---- the laws
 
-module _ (offset : ℤ) (row : ℕ) (above facts : List MbFacts) (s : Planes) (has : HasRow row (length facts) s) where
-  acts : ActsApart s.luma.width s.cb.width s.cr.width row (row_by_facts offset row above facts (length facts))
-  acts = row_acts s.luma.width s.cb.width s.cr.width row offset above facts (length facts) (λ k low. (has.room k low).luma_columns) (λ k low. (has.room k low).cb_columns) (λ k low. (has.room k low).cr_columns)
+module _ (offset : ℤ) (row : ℕ) (above info : List MbInfo) (s : Planes) (has : HasRow row (length info) s) where
+  acts : ActsApart s.luma.width s.cb.width s.cr.width row (row_by_info offset row above info (length info))
+  acts = row_acts s.luma.width s.cb.width s.cr.width row offset above info (length info) (λ k low. (has.room k low).luma_columns) (λ k low. (has.room k low).cb_columns) (λ k low. (has.room k low).cr_columns)
 
-pub row_changes : (offset : ℤ) (row : ℕ) (above facts : List MbFacts) (s : Planes) → HasRow row (length facts) s → ChangesInRow row s (row_by_facts offset row above facts (length facts) s)
-row_changes offset row above facts s has =
-    let a = acts offset row above facts s has in
+pub row_changes : (offset : ℤ) (row : ℕ) (above info : List MbInfo) (s : Planes) → HasRow row (length info) s → ChangesInRow row s (row_by_info offset row above info (length info) s)
+row_changes offset row above info s has =
+    let a = acts offset row above info s has in
     subst (ChangesInRow row s) (sym (a.is s))
     (record {
       luma = changes_of (16 * row - 3) (16 * row + 16) a.luma s.luma a.luma_local has.full.luma has.luma_rows;
@@ -183,11 +183,11 @@ row_changes offset row above facts s has =
       cr = changes_of (8 * row - 1) (8 * row + 8) a.cr s.cr a.cr_local has.full.cr has.cr_rows;
     })
 
-pub row_reads : (offset : ℤ) (row : ℕ) (above facts : List MbFacts) (s t : Planes) → HasRow row (length facts) s → AgreesToRow row s t →
-    AgreesToRow row (row_by_facts offset row above facts (length facts) s) (row_by_facts offset row above facts (length facts) t)
-row_reads offset row above facts s t has agrees =
-    let a = acts offset row above facts s has in
-    let g : Planes → Planes = row_by_facts offset row above facts (length facts) in
+pub row_reads : (offset : ℤ) (row : ℕ) (above info : List MbInfo) (s t : Planes) → HasRow row (length info) s → AgreesToRow row s t →
+    AgreesToRow row (row_by_info offset row above info (length info) s) (row_by_info offset row above info (length info) t)
+row_reads offset row above info s t has agrees =
+    let a = acts offset row above info s has in
+    let g : Planes → Planes = row_by_info offset row above info (length info) in
     let built : Planes → Planes = λ p. three (a.luma p.luma) (a.cb p.cb) (a.cr p.cr) in
     subst (λ p. AgreesToRow row p (g t)) (sym (a.is s))
     (subst (AgreesToRow row (built s)) (sym (a.is t))
@@ -208,13 +208,13 @@ module _ (row n : ℕ) (s : Planes) (has : HasRow row n s) (g : Planes → Plane
   acts_commute (suc zero) below = grind (arith, nat_tests, commute_of)
   acts_commute (suc (suc k)) below = grind (arith, nat_tests, commute_of)
 
-pub row_commutes : (offset : ℤ) (row : ℕ) (above facts : List MbFacts) (s : Planes) → HasRow row (length facts) s → (k left top width height : ℕ) (f : ℕ → ℕ → ℕ) →
+pub row_commutes : (offset : ℤ) (row : ℕ) (above info : List MbInfo) (s : Planes) → HasRow row (length info) s → (k left top width height : ℕ) (f : ℕ → ℕ → ℕ) →
     16 / luma_per_sample k * (row + 1) ≤ top →
-    row_by_facts offset row above facts (length facts) (in_component k (λ p. with_block p left top width height f) s)
-    ≡ in_component k (λ p. with_block p left top width height f) (row_by_facts offset row above facts (length facts) s)
-row_commutes offset row above facts s has k left top width height f below =
-    let a = acts offset row above facts s has in
+    row_by_info offset row above info (length info) (in_component k (λ p. with_block p left top width height f) s)
+    ≡ in_component k (λ p. with_block p left top width height f) (row_by_info offset row above info (length info) s)
+row_commutes offset row above info s has k left top width height f below =
+    let a = acts offset row above info s has in
     let b : Plane → Plane = λ (p : Plane). with_block p left top width height f in
     a.is (in_component k b s)
-    ∙ acts_commute row (length facts) s has (row_by_facts offset row above facts (length facts)) a left top width height f k below
+    ∙ acts_commute row (length info) s has (row_by_info offset row above info (length info)) a left top width height f k below
     ∙ sym (ap (in_component k b) (a.is s))

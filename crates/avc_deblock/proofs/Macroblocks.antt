@@ -1,7 +1,7 @@
 -- The macroblocks of a row, one after another.
 use Rattle.std.proofs.Common.{◌≡◌, ℕ, zero, suc, ◌+◌, ◌-◌, ◌*◌, ◌<◌, ◌≤◌, List, [], ◌∷◌, ◌++◌, Bool, true, false, nat_lt, arith, refl, sym, ap, subst, ◌∙◌, append-nil, length, mul_comm}
 use Rattle.avc_deblock.proofs.Common.{◌==◌, ◌&&◌, slice_index_or, mul-add-lt, range_with_len, flat_map, nat_tests, Coded, Motion, Planes}
-use Rattle.avc_deblock.proofs.Common.{planes_mb, MbFacts, Names, HasFacts, HaveFacts, IsAt, filters_at, filters_between}
+use Rattle.avc_deblock.proofs.Common.{planes_mb, MbInfo, Names, HasInfo, HaveInfo, IsAt, filters_at, filters_between}
 use Rattle.std.proofs.lemmas.Grind.{flat_map-append}
 use Rattle.avc_types.specs.declared.edges.FilteredEdges.{FilteredEdges}
 use Rattle.avc_types.specs.declared.edges.FilteredEdges.TheVariants.{All, NoEdges, WithinSlice}
@@ -20,20 +20,20 @@ filters_is All b = refl
 filters_is NoEdges b = refl
 filters_is WithinSlice b = refl
 
-pub between_is : (c : Coded) (motion : List (List Motion)) (names : Names) (a b : ℕ) (f g : MbFacts) → HasFacts c motion names a f → HasFacts c motion names b g → filters_between f g ≡ filters_edge_to c a b
+pub between_is : (c : Coded) (motion : List (List Motion)) (names : Names) (a b : ℕ) (f g : MbInfo) → HasInfo c motion names a f → HasInfo c motion names b g → filters_between f g ≡ filters_edge_to c a b
 between_is c motion names a b f g hf hg =
     rw (hf.edges_is, hf.slice_is, hg.slice_is) (filters_is (slice_at c a).disable_deblocking_filter_idc ((mb_at c a).slice == (mb_at c b).slice))
 
-pub left_is : (c : Coded) (motion : List (List Motion)) (names : Names) (column row a : ℕ) (f g : MbFacts) → IsAt c column row a → HasFacts c motion names a f →
-    (1 ≤ column → HasFacts c motion names (a - 1) g) → (nat_lt 0 column && filters_between f g) ≡ filters_vertical c a 0
+pub left_is : (c : Coded) (motion : List (List Motion)) (names : Names) (column row a : ℕ) (f g : MbInfo) → IsAt c column row a → HasInfo c motion names a f →
+    (1 ≤ column → HasInfo c motion names (a - 1) g) → (nat_lt 0 column && filters_between f g) ≡ filters_vertical c a 0
 left_is c motion names zero row a f g at hf hg = rw (column_is c 0 row a at) refl
 left_is c motion names (suc column) row a f g at hf hg =
     let some : (suc column == 0) ≡ false = grind (arith, nat_tests) in
     let more : nat_lt 0 (suc column) ≡ true = grind (arith, nat_tests) in
     rw (column_is c (suc column) row a at, some, more) (between_is c motion names a (a - 1) f g hf (hg (omega arith)))
 
-pub above_is : (c : Coded) (motion : List (List Motion)) (names : Names) (column row a : ℕ) (f g : MbFacts) → IsAt c column row a → HasFacts c motion names a f →
-    (1 ≤ row → HasFacts c motion names (a - c.width) g) → (nat_lt 0 row && filters_between f g) ≡ filters_horizontal c a 0
+pub above_is : (c : Coded) (motion : List (List Motion)) (names : Names) (column row a : ℕ) (f g : MbInfo) → IsAt c column row a → HasInfo c motion names a f →
+    (1 ≤ row → HasInfo c motion names (a - c.width) g) → (nat_lt 0 row && filters_between f g) ≡ filters_horizontal c a 0
 above_is c motion names column zero a f g at hf hg = grind (arith, nat_tests, nat_lt)
 above_is c motion names column (suc row) a f g at hf hg = grind (arith, nat_tests, nat_lt, between_is)
 
@@ -62,8 +62,8 @@ one_more c motion first n m s t u next before here =
     ∙ sym (all_filtered-append c motion s (flat_map (mb_lines c) (range_with_len first n)) lines)
     ∙ ap (all_filtered c motion s) (sym (ap (λ k. flat_map (mb_lines c) (range_with_len first k)) suc_is ∙ flat_more (mb_lines c) first n))
 
-pub shifted : (c : Coded) (motion : List (List Motion)) (names : Names) (a b : ℕ) (f : MbFacts) → a ≡ b → HasFacts c motion names a f → HasFacts c motion names b f
-shifted c motion names a b f e h = subst (λ (n : ℕ). HasFacts c motion names n f) e h
+pub shifted : (c : Coded) (motion : List (List Motion)) (names : Names) (a b : ℕ) (f : MbInfo) → a ≡ b → HasInfo c motion names a f → HasInfo c motion names b f
+shifted c motion names a b f e h = subst (λ (n : ℕ). HasInfo c motion names n f) e h
 
 -- ---- one row more
 
@@ -84,7 +84,7 @@ pub one_row_more : (c : Coded) (motion : List (List Motion)) (n m : ℕ) (s t u 
     u ≡ all_filtered c motion t (row_lines c n) → u ≡ all_filtered c motion s (flat_map (row_lines c) (range_with_len 0 m))
 one_row_more c motion n m s t u next before here = grind (arith, nat_tests, all_filtered-append, row_more)
 
--- facts of one row, from those of all macroblocks
-pub part_facts : (c : Coded) (motion : List (List Motion)) (names : Names) (facts part : List MbFacts) (w y h : ℕ) → c.width ≡ w → length facts ≡ h * w → y < h → length part ≡ w →
-    ((k : ℕ) (other : MbFacts) → k < w → slice_index_or part k other ≡ slice_index_or facts (y * w + k) other) → HaveFacts c motion names 0 facts → HaveFacts c motion names (y * c.width) part
-part_facts c motion names facts part w y h width all low long value have k other k_low = grind (arith, nat_tests, shifted, mul-add-lt, mul_comm)
+-- info of one row, from those of all macroblocks
+pub part_info : (c : Coded) (motion : List (List Motion)) (names : Names) (info part : List MbInfo) (w y h : ℕ) → c.width ≡ w → length info ≡ h * w → y < h → length part ≡ w →
+    ((k : ℕ) (other : MbInfo) → k < w → slice_index_or part k other ≡ slice_index_or info (y * w + k) other) → HaveInfo c motion names 0 info → HaveInfo c motion names (y * c.width) part
+part_info c motion names info part w y h width all low long value have k other k_low = grind (arith, nat_tests, shifted, mul-add-lt, mul_comm)

@@ -1,7 +1,7 @@
 -- The vertical edges of a macroblock, component by component.
 use Rattle.avc_deblock.proofs.Common.{◌≡◌, ◌∙◌, ℕ, ◌+◌, ◌-◌, ◌*◌, ◌<◌, ◌≤◌, true, false, arith, refl, sym, ap, subst, ℤ, Plane, Planes}
-use Rattle.avc_deblock.proofs.Common.{MbFacts, EdgeQp, edge_filtered, luma_setting, chroma_setting, chroma_of_edge, HasRoom, strength_of}
-use Rattle.avc_deblock.proofs.Common.{luma_qp_of, chroma_qp_of, edge_by_facts, edges_by_facts}
+use Rattle.avc_deblock.proofs.Common.{MbInfo, EdgeQp, edge_filtered, luma_setting, chroma_setting, chroma_of_edge, HasRoom, strength_of}
+use Rattle.avc_deblock.proofs.Common.{luma_qp_of, chroma_qp_of, edge_by_info, edges_by_info}
 use Rattle.avc_deblock.proofs.EdgePlanes.{luma_same, chroma_same, room_kept}
 
 module _ (column row n : ℕ) (f g : ℕ → ℕ) (qp : EdgeQp) (s t : Plane) where
@@ -27,13 +27,13 @@ both_chroma column row f f' g g' qp next s t some first second is =
     ∙ ap (λ x. edge_filtered (chroma_setting g next) true x (8 * row) 8 (chroma_of_edge true column row 0 f' qp s)) right_is
     ∙ chroma_same column row 2 g g' next second true (chroma_of_edge true column row 0 f' qp s)
 
-pub edges_room : (column row : ℕ) (offset : ℤ) (p q : MbFacts) (s t : Planes) →
-    t ≡ edges_by_facts true column row offset false true q q (edges_by_facts true column row offset true false p q s) → (a b : ℕ) → HasRoom a b s → HasRoom a b t
+pub edges_room : (column row : ℕ) (offset : ℤ) (p q : MbInfo) (s t : Planes) →
+    t ≡ edges_by_info true column row offset false true q q (edges_by_info true column row offset true false p q s) → (a b : ℕ) → HasRoom a b s → HasRoom a b t
 edges_room column row offset p q s t is a b h =
-    let kept : (n : ℕ) (m : MbFacts) (r : Planes) → HasRoom a b r → HasRoom a b (edge_by_facts true column row n offset m q r) =
+    let kept : (n : ℕ) (m : MbInfo) (r : Planes) → HasRoom a b r → HasRoom a b (edge_by_info true column row n offset m q r) =
     λ n m r.
-    room_kept true column row n (strength_of m q true n) (luma_qp_of m q) (chroma_qp_of offset m q) r (edge_by_facts true column row n offset m q r) refl a b in
-    let s0 = edge_by_facts true column row 0 offset p q s in
-    let s1 = edge_by_facts true column row 1 offset q q s0 in
-    let s2 = edge_by_facts true column row 2 offset q q s1 in
+    room_kept true column row n (strength_of m q true n) (luma_qp_of m q) (chroma_qp_of offset m q) r (edge_by_info true column row n offset m q r) refl a b in
+    let s0 = edge_by_info true column row 0 offset p q s in
+    let s1 = edge_by_info true column row 1 offset q q s0 in
+    let s2 = edge_by_info true column row 2 offset q q s1 in
     subst (HasRoom a b) (sym is) (kept 3 q s2 (kept 2 q s1 (kept 1 q s0 (kept 0 p s h))))

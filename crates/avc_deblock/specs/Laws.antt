@@ -1,14 +1,14 @@
--- Laws of the order of the line filters, and of the facts of macroblocks.
+-- Laws of the order of the line filters, and of the info of macroblocks.
 use Rattle.std.specs.Prelude.{◌≡◌, ℕ, ◌+◌, ◌*◌, ◌<◌, ◌≤◌, List, [], ◌∷◌, true, length, slice_index_or}
 use Rattle.std.specs.List.{range_with_len, flat_map}
 use Rattle.avc_types.specs.Pictures.{Coded}
-use Rattle.avc_neigh.specs.declared.facts.Motion.{Motion}
+use Rattle.avc_neigh.specs.declared.neighbour_info.Motion.{Motion}
 use Rattle.avc_deblock.specs.Edges.{line_filters, row_lines, mb_at, slice_at}
-use Rattle.avc_deblock.specs.Facts.{Names, HaveFacts}
-use Rattle.avc_deblock.specs.declared.facts.MbFacts.{MbFacts}
+use Rattle.avc_deblock.specs.FilterInfo.{Names, HaveInfo}
+use Rattle.avc_deblock.specs.declared.mb_info.MbInfo.{MbInfo}
 use Rattle.avc_plane.specs.Plane.{Plane}
 use Rattle.avc_deblock.specs.OneEdge.{lines_filtered, luma_setting}
-use Rattle.avc_deblock.specs.ByFacts.{no_facts, strength_of, luma_qp_of}
+use Rattle.avc_deblock.specs.ByInfo.{no_info, strength_of, luma_qp_of}
 
 -- The line filters of a picture are those of its rows of macroblocks, one row after another.
 abbrev pub RowsInOrder : Type 0
@@ -20,18 +20,18 @@ pub record AgreeBelow (n : ℕ) (c d : Coded) (motion_c motion_d : List (List Mo
   pub slices : (a : ℕ) → a < n → slice_at d a ≡ slice_at c a
   pub motion : (a : ℕ) → a < n → slice_index_or motion_d a [] ≡ slice_index_or motion_c a []
 
--- Facts of a picture's first macroblocks are facts of every picture that begins with them.
-abbrev pub FactsOfFirstMacroblocksStay : Type 0
-FactsOfFirstMacroblocksStay =
-    (n : ℕ) (c d : Coded) (motion_c motion_d : List (List Motion)) (names : Names) (first : ℕ) (facts : List MbFacts) →
-    AgreeBelow n c d motion_c motion_d → first + length facts ≤ n →
-    HaveFacts c motion_c names first facts → HaveFacts d motion_d names first facts
+-- The info of a picture's first macroblocks is that of every picture that begins with them.
+abbrev pub InfoOfFirstMacroblocksStays : Type 0
+InfoOfFirstMacroblocksStays =
+    (n : ℕ) (c d : Coded) (motion_c motion_d : List (List Motion)) (names : Names) (first : ℕ) (info : List MbInfo) →
+    AgreeBelow n c d motion_c motion_d → first + length info ≤ n →
+    HaveInfo c motion_c names first info → HaveInfo d motion_d names first info
 
 -- ---- a worked row
 
 -- an intra macroblock of QP 51, at offsets 0
-abbrev intra_at_51 : MbFacts
-intra_at_51 = record no_facts { qp = 51 }
+abbrev intra_at_51 : MbInfo
+intra_at_51 = record no_info { qp = 51 }
 
 -- one row of luma after the first line of its macroblock's vertical edge n, which lies 4 + 4 * n samples from its left
 abbrev line_of_edge : (n : ℕ) → Plane → Plane

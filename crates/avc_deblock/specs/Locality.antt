@@ -2,10 +2,10 @@
 use Rattle.std.specs.Prelude.{◌≡◌, ℕ, ◌+◌, ◌-◌, ◌*◌, ◌/◌, ◌<◌, ◌≤◌, ℤ, List, length}
 use Rattle.avc_plane.specs.Plane.{Plane, sample, with_block}
 use Rattle.avc_plane.specs.Planes.{Planes}
-use Rattle.avc_deblock.specs.declared.facts.MbFacts.{MbFacts}
+use Rattle.avc_deblock.specs.declared.mb_info.MbInfo.{MbInfo}
 use Rattle.avc_deblock.specs.Edges.{in_component, luma_per_sample}
 use Rattle.avc_deblock.specs.OneEdge.{HasRoom}
-use Rattle.avc_deblock.specs.ByFacts.{row_by_facts}
+use Rattle.avc_deblock.specs.ByInfo.{row_by_info}
 
 -- t is of the size of s and has its samples in the first n rows
 pub record AgreesAbove (n : ℕ) (s t : Plane) : Type 0 where
@@ -50,19 +50,19 @@ pub record HasRow (row n : ℕ) (s : Planes) : Type 0 where
 -- The filter of a row changes nothing below the row, nor more than three luma rows above it and one of chroma.
 abbrev pub RowChangesItsRows : Type 0
 RowChangesItsRows =
-    (offset : ℤ) (row : ℕ) (above facts : List MbFacts) (s : Planes) → HasRow row (length facts) s →
-    ChangesInRow row s (row_by_facts offset row above facts (length facts) s)
+    (offset : ℤ) (row : ℕ) (above info : List MbInfo) (s : Planes) → HasRow row (length info) s →
+    ChangesInRow row s (row_by_info offset row above info (length info) s)
 
 -- It reads nothing below the row.
 abbrev pub RowReadsNoneBelow : Type 0
 RowReadsNoneBelow =
-    (offset : ℤ) (row : ℕ) (above facts : List MbFacts) (s t : Planes) → HasRow row (length facts) s → AgreesToRow row s t →
-    AgreesToRow row (row_by_facts offset row above facts (length facts) s) (row_by_facts offset row above facts (length facts) t)
+    (offset : ℤ) (row : ℕ) (above info : List MbInfo) (s t : Planes) → HasRow row (length info) s → AgreesToRow row s t →
+    AgreesToRow row (row_by_info offset row above info (length info) s) (row_by_info offset row above info (length info) t)
 
 -- So a block of component k that is built below the row can be built before the filter or after it.
 abbrev pub RowCommutesWithBlocksBelow : Type 0
 RowCommutesWithBlocksBelow =
-    (offset : ℤ) (row : ℕ) (above facts : List MbFacts) (s : Planes) → HasRow row (length facts) s →
+    (offset : ℤ) (row : ℕ) (above info : List MbInfo) (s : Planes) → HasRow row (length info) s →
     (k left top width height : ℕ) (f : ℕ → ℕ → ℕ) → 16 / luma_per_sample k * (row + 1) ≤ top →
-    row_by_facts offset row above facts (length facts) (in_component k (λ p. with_block p left top width height f) s)
-    ≡ in_component k (λ p. with_block p left top width height f) (row_by_facts offset row above facts (length facts) s)
+    row_by_info offset row above info (length info) (in_component k (λ p. with_block p left top width height f) s)
+    ≡ in_component k (λ p. with_block p left top width height f) (row_by_info offset row above info (length info) s)

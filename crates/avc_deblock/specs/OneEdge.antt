@@ -5,7 +5,7 @@ use Rattle.avc_plane.specs.Plane.{Plane}
 use Rattle.avc_deblock.specs.Line.{Setting, setting_of, threshold_index, alpha_of, beta_of, tc0_of}
 use Rattle.avc_deblock.specs.Rows.{IsWeak}
 use Rattle.avc_types.specs.Pictures.{Coded}
-use Rattle.avc_neigh.specs.declared.facts.Motion.{Motion}
+use Rattle.avc_neigh.specs.declared.neighbour_info.Motion.{Motion}
 use Rattle.avc_plane.specs.Planes.{Planes}
 use Rattle.avc_deblock.specs.Edges.{line_filtered, luma_per_sample, setting_at, filters_vertical, filters_horizontal, filters_edge_to}
 use Rattle.avc_deblock.specs.declared.strengths.Strengths.{Strengths}

@@ -1,11 +1,11 @@
 ghost use Rattle.std.specs.Prelude.{◌≡◌, ℕ, ◌/◌, ◌<◌, ◌==◌, ◌-ℤ◌, nat_le, nat_abs, List, not, ◌||◌, slice_index, slice_index_or};
 ghost use Rattle.avc_types.specs.Pictures.{Coded};
-ghost use Rattle.avc_neigh.specs.declared.facts.Motion.{Motion};
+ghost use Rattle.avc_neigh.specs.declared.neighbour_info.Motion.{Motion};
 ghost use Rattle.avc_motion.specs.Motion.{zero_vector};
 ghost use Rattle.avc_deblock.specs.Edges.{strength_between};
-ghost use Rattle.avc_deblock.specs.Facts.{Names, HasFacts, has_bit, are_far, inter_strength};
+ghost use Rattle.avc_deblock.specs.FilterInfo.{Names, HasInfo, has_bit, are_far, inter_strength};
 
-use crate::facts::MbFacts;
+use crate::mb_info::MbInfo;
 use avc_types::Mv;
 
 /// The two differ by a whole sample or more.
@@ -24,7 +24,7 @@ fn are_far(u: Mv, v: Mv) -> bool
     is_far(u.x, v.x) || is_far(u.y, v.y)
 }
 
-impl MbFacts {
+impl MbInfo {
     #[inline(always)]
     pub(crate) fn has_coefficients(&self, block: usize) -> bool
         requires { block < 16 }
@@ -35,7 +35,7 @@ impl MbFacts {
 
     /// The strength between two blocks of inter macroblocks.
     #[inline(always)]
-    pub(crate) fn inter_strength(&self, block: usize, q: &MbFacts, q_block: usize) -> u8
+    pub(crate) fn inter_strength(&self, block: usize, q: &MbInfo, q_block: usize) -> u8
         requires p { block < 16 }
         requires q { q_block < 16 }
         ensures value { result ≡ inter_strength self.now block q.now q_block }
@@ -55,11 +55,11 @@ impl MbFacts {
 
 /// The filter strength bS between luma block `p_block` of macroblock `p` and luma block `q_block` of macroblock `q` (8.7.2.1), 0 to 4.
 /// `is_inside` says that they are one macroblock.
-pub fn strength(p: &MbFacts, p_block: usize, q: &MbFacts, q_block: usize, is_inside: bool) -> u8
+pub fn strength(p: &MbInfo, p_block: usize, q: &MbInfo, q_block: usize, is_inside: bool) -> u8
     requires p { p_block < 16 }
     requires q { q_block < 16 }
     ensures { (c : Coded) (motion : List (List Motion)) (names : Names) (ap aq : ℕ) →
-        HasFacts c motion names ap p.now → HasFacts c motion names aq q.now → is_inside ≡ (ap == aq) →
+        HasInfo c motion names ap p.now → HasInfo c motion names aq q.now → is_inside ≡ (ap == aq) →
         result ≡ strength_between c motion ap p_block aq q_block }
 {
     if p.is_intra || q.is_intra {

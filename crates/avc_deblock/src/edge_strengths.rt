@@ -1,9 +1,9 @@
 ghost use Rattle.std.specs.Prelude.{◌≡◌, ℕ, ◌+◌, ◌%◌, ◌<◌, slice_index};
 ghost use Rattle.avc_deblock.specs.OneEdge.{AreStrengths, strength_along};
-ghost use Rattle.avc_deblock.specs.Facts.{edge_block, inter_strength};
-ghost use Rattle.avc_deblock.specs.ByFacts.{strength_of};
+ghost use Rattle.avc_deblock.specs.FilterInfo.{edge_block, inter_strength};
+ghost use Rattle.avc_deblock.specs.ByInfo.{strength_of};
 
-use crate::facts::MbFacts;
+use crate::mb_info::MbInfo;
 use crate::strengths::Strengths;
 
 /// The luma block on the q side of edge `n` in its quarter `k`.
@@ -19,7 +19,7 @@ pub(crate) fn edge_block(is_vertical: bool, n: usize, k: usize) -> usize
 }
 
 #[inline(always)]
-fn inter_strengths(p: &MbFacts, q: &MbFacts, is_vertical: bool, n: usize) -> [u8; 4]
+fn inter_strengths(p: &MbInfo, q: &MbInfo, is_vertical: bool, n: usize) -> [u8; 4]
     requires { n < 4 }
     ensures value { (k : ℕ) → k < 4 →
         slice_index result k ≡ inter_strength p.now (edge_block is_vertical ((n + 3) % 4) k) q.now (edge_block is_vertical n k) }
@@ -38,7 +38,7 @@ fn inter_strengths(p: &MbFacts, q: &MbFacts, is_vertical: bool, n: usize) -> [u8
 
 /// The strengths along edge `n` of macroblock `q`, from its left or upper edge with number 0 on; `p` is the macroblock on the other side.
 #[inline(always)]
-pub(crate) fn edge_strengths(p: &MbFacts, q: &MbFacts, is_vertical: bool, n: usize) -> Strengths
+pub(crate) fn edge_strengths(p: &MbInfo, q: &MbInfo, is_vertical: bool, n: usize) -> Strengths
     requires { n < 4 }
     ensures low { AreStrengths result }
     ensures value { (k : ℕ) → k < 4 → strength_along result k ≡ strength_of p.now q.now is_vertical n k }

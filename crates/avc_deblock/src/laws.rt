@@ -1,6 +1,6 @@
-ghost use Rattle.avc_deblock.specs.ByFacts.{RowIsThePictures};
+ghost use Rattle.avc_deblock.specs.ByInfo.{RowIsThePictures};
 ghost use Rattle.avc_deblock.specs.Locality.{RowChangesItsRows, RowReadsNoneBelow, RowCommutesWithBlocksBelow};
-ghost use Rattle.avc_deblock.specs.Laws.{RowsInOrder, FactsOfFirstMacroblocksStay, TwoEdgesOfAStep};
+ghost use Rattle.avc_deblock.specs.Laws.{RowsInOrder, InfoOfFirstMacroblocksStays, TwoEdgesOfAStep};
 
 /// The line filters of a picture are those of its rows of macroblocks, one row after another.
 #[tactic(auto, using(crate::proofs::Macroblocks::rows_are_all))]
@@ -8,13 +8,13 @@ pub fn rows_in_order()
     ensures { RowsInOrder }
 {}
 
-/// Facts of a picture's first macroblocks are facts of every picture that begins with them.
-pub fn facts_of_first_macroblocks_stay()
-    ensures { FactsOfFirstMacroblocksStay }
+/// The info of a picture's first macroblocks is that of every picture that begins with them.
+pub fn info_of_first_macroblocks_stays()
+    ensures { InfoOfFirstMacroblocksStays }
 {}
 
-/// Where its facts are a coded picture's, a row is filtered as by the picture's line filters of that row.
-pub fn row_by_facts_is_the_pictures()
+/// Where its info is a coded picture's, a row is filtered as by the picture's line filters of that row.
+pub fn row_by_info_is_the_pictures()
     ensures { RowIsThePictures }
 {}
 

@@ -1,21 +1,21 @@
 ghost use Rattle.std.specs.Prelude.{◌≡◌, ℕ, ◌+◌, ◌*◌, ◌^◌, ◌<◌, ◌≤◌, ◌&&◌, true, false};
 ghost use Rattle.avc_plane.specs.Frames.{planes_of};
 ghost use Rattle.avc_deblock.specs.OneEdge.{HasRoom};
-ghost use Rattle.avc_deblock.specs.Facts.{filters_between};
+ghost use Rattle.avc_deblock.specs.FilterInfo.{filters_between};
 ghost use Rattle.avc_deblock.specs.MbLimits.{ArePairLimits};
-ghost use Rattle.avc_deblock.specs.ByFacts.{edges_by_facts, mb_by_facts, strength_of};
+ghost use Rattle.avc_deblock.specs.ByInfo.{edges_by_info, mb_by_info, strength_of};
 
-use crate::facts::MbFacts;
 use crate::line::{all_three, both};
+use crate::mb_info::MbInfo;
 use crate::planes_edge::{PairLimits, Place, edge_between, inner_limits, limits_beside};
 use crate::vertical_edges::vertical_edges;
 use avc_plane::Planes;
 use avc_types::FilteredEdges;
 
-impl MbFacts {
+impl MbInfo {
     /// The edge to macroblock `other`, which may be this one itself, is filtered.
     #[inline(always)]
-    fn filters_edge_to(&self, other: &MbFacts) -> bool
+    fn filters_edge_to(&self, other: &MbInfo) -> bool
         ensures { result ≡ filters_between self.now other.now }
     {
         match self.filtered_edges {
@@ -26,10 +26,10 @@ impl MbFacts {
     }
 }
 
-impl MbFacts {
+impl MbInfo {
     /// The outer edge to `other` is to be filtered, where `other` exists. An edge at strength 0 need not be.
     #[inline(always)]
-    fn reaches(&self, other: &MbFacts, is_vertical: bool, exists: bool) -> bool
+    fn reaches(&self, other: &MbInfo, is_vertical: bool, exists: bool) -> bool
         ensures on { result ≡ true → (exists && filters_between self.now other.now) ≡ true }
         ensures off { result ≡ false → (exists && filters_between self.now other.now) ≡ true →
             (k : ℕ) → k < 4 → strength_of other.now self.now is_vertical 0 k ≡ 0 }
@@ -46,8 +46,8 @@ impl MbFacts {
 #[inline(always)]
 fn outer_edge<const PAD: usize>(
     planes: &mut Planes<PAD>,
-    p: &MbFacts,
-    q: &MbFacts,
+    p: &MbInfo,
+    q: &MbInfo,
     is_vertical: bool,
     filters: bool,
     limits: &PairLimits,
@@ -61,7 +61,7 @@ fn outer_edge<const PAD: usize>(
     requires limits { ArePairLimits limits.now place.chroma_qp_index_offset p.now q.now }
     ensures room { (column row : ℕ) → HasRoom column row (planes_of planes.old) → HasRoom column row (planes_of planes.new) }
     ensures lines { planes_of planes.new
-        ≡ edges_by_facts is_vertical place.column place.row place.chroma_qp_index_offset filters false p.now q.now (planes_of planes.old) }
+        ≡ edges_by_info is_vertical place.column place.row place.chroma_qp_index_offset filters false p.now q.now (planes_of planes.old) }
 {
     if filters {
         edge_between(planes, p, q, is_vertical, 0, limits, place);
@@ -71,7 +71,7 @@ fn outer_edge<const PAD: usize>(
 #[inline(always)]
 fn inner_edges<const PAD: usize>(
     planes: &mut Planes<PAD>,
-    q: &MbFacts,
+    q: &MbInfo,
     is_vertical: bool,
     filters: bool,
     limits: &PairLimits,
@@ -83,7 +83,7 @@ fn inner_edges<const PAD: usize>(
     requires limits { ArePairLimits limits.now place.chroma_qp_index_offset q.now q.now }
     ensures room { (column row : ℕ) → HasRoom column row (planes_of planes.old) → HasRoom column row (planes_of planes.new) }
     ensures lines { planes_of planes.new
-        ≡ edges_by_facts is_vertical place.column place.row place.chroma_qp_index_offset false filters q.now q.now (planes_of planes.old) }
+        ≡ edges_by_info is_vertical place.column place.row place.chroma_qp_index_offset false filters q.now q.now (planes_of planes.old) }
 {
     if filters {
         edge_between(planes, q, q, is_vertical, 1, limits, place);
@@ -96,8 +96,8 @@ fn inner_edges<const PAD: usize>(
 #[inline(always)]
 fn all_vertical<const PAD: usize>(
     planes: &mut Planes<PAD>,
-    p: &MbFacts,
-    q: &MbFacts,
+    p: &MbInfo,
+    q: &MbInfo,
     outer: bool,
     inner: bool,
     outer_limits: &PairLimits,
@@ -111,8 +111,8 @@ fn all_vertical<const PAD: usize>(
     requires outer_limits { ArePairLimits outer_limits.now place.chroma_qp_index_offset p.now q.now }
     requires inner_limits { ArePairLimits inner_limits.now place.chroma_qp_index_offset q.now q.now }
     ensures room { (column row : ℕ) → HasRoom column row (planes_of planes.old) → HasRoom column row (planes_of planes.new) }
-    ensures lines { planes_of planes.new ≡ edges_by_facts true place.column place.row place.chroma_qp_index_offset false inner q.now q.now
-        (edges_by_facts true place.column place.row place.chroma_qp_index_offset outer false p.now q.now (planes_of planes.old)) }
+    ensures lines { planes_of planes.new ≡ edges_by_info true place.column place.row place.chroma_qp_index_offset false inner q.now q.now
+        (edges_by_info true place.column place.row place.chroma_qp_index_offset outer false p.now q.now (planes_of planes.old)) }
 {
     if outer && inner {
         vertical_edges(planes, p, q, outer_limits, inner_limits, place);
@@ -125,9 +125,9 @@ fn all_vertical<const PAD: usize>(
 /// Filters all edges of macroblock `mb`. `left` and `above` are the macroblocks there, and any where there is none.
 pub(crate) fn macroblock<const PAD: usize>(
     planes: &mut Planes<PAD>,
-    mb: &MbFacts,
-    left: &MbFacts,
-    above: &MbFacts,
+    mb: &MbInfo,
+    left: &MbInfo,
+    above: &MbInfo,
     place: Place,
 )
     requires columns_fit { 16 * place.column + 16 < 2 ^ 64 }
@@ -135,7 +135,7 @@ pub(crate) fn macroblock<const PAD: usize>(
     requires room { HasRoom place.column place.row (planes_of planes.old) }
     ensures room { (column row : ℕ) → HasRoom column row (planes_of planes.old) → HasRoom column row (planes_of planes.new) }
     ensures lines { planes_of planes.new
-        ≡ mb_by_facts place.chroma_qp_index_offset place.column place.row left.now above.now mb.now (planes_of planes.old) }
+        ≡ mb_by_info place.chroma_qp_index_offset place.column place.row left.now above.now mb.now (planes_of planes.old) }
 {
     let inner = both(mb.filters_edge_to(mb), !mb.is_still());
     let from_left = mb.reaches(left, true, place.column > 0);

@@ -3,12 +3,12 @@ ghost use Rattle.avc_plane.specs.Frames.{planes_of};
 ghost use Rattle.avc_deblock.specs.OneEdge.{AreLimits, AreStrengths, chroma_of_edge, lines_of_edge, strength_along, HasRoom};
 ghost use Rattle.avc_deblock.specs.MbLimits.{ArePairLimits};
 ghost use Rattle.avc_deblock.specs.declared.thresholds.EdgeQp.{EdgeQp as Qps};
-ghost use Rattle.avc_deblock.specs.ByFacts.{edge_by_facts, luma_qp_of, chroma_qp_of, strength_of};
+ghost use Rattle.avc_deblock.specs.ByInfo.{edge_by_info, luma_qp_of, chroma_qp_of, strength_of};
 
 use crate::chroma_edge::{horizontal_chroma, vertical_chroma};
 use crate::edge_strengths::edge_strengths;
-use crate::facts::MbFacts;
 use crate::luma_edge::{horizontal_luma, vertical_luma};
+use crate::mb_info::MbInfo;
 use crate::strengths::Strengths;
 use crate::thresholds::{EdgeQp, QpLimits};
 use avc_plane::{Plane, Planes};
@@ -48,7 +48,7 @@ pub(crate) struct PairLimits {
 }
 
 #[inline(always)]
-fn luma_qps(p: &MbFacts, q: &MbFacts) -> EdgeQp
+fn luma_qps(p: &MbInfo, q: &MbInfo) -> EdgeQp
     ensures { result ≡ luma_qp_of p.now q.now }
 {
     EdgeQp {
@@ -60,7 +60,7 @@ fn luma_qps(p: &MbFacts, q: &MbFacts) -> EdgeQp
 }
 
 #[inline(always)]
-fn chroma_qps(p: &MbFacts, q: &MbFacts, place: Place) -> EdgeQp
+fn chroma_qps(p: &MbInfo, q: &MbInfo, place: Place) -> EdgeQp
     ensures { result ≡ chroma_qp_of place.chroma_qp_index_offset p.now q.now }
 {
     EdgeQp {
@@ -73,7 +73,7 @@ fn chroma_qps(p: &MbFacts, q: &MbFacts, place: Place) -> EdgeQp
 
 /// Those between `p` and `q`, with the offsets of the slice of `q`.
 #[inline(always)]
-pub(crate) fn pair_limits(p: &MbFacts, q: &MbFacts, place: Place) -> PairLimits
+pub(crate) fn pair_limits(p: &MbInfo, q: &MbInfo, place: Place) -> PairLimits
     ensures { ArePairLimits result place.chroma_qp_index_offset p.now q.now }
 {
     PairLimits {
@@ -84,7 +84,7 @@ pub(crate) fn pair_limits(p: &MbFacts, q: &MbFacts, place: Place) -> PairLimits
 
 /// The same of the lines inside `q`: both sides have one QP.
 #[inline(always)]
-fn inner_chroma_qps(q: &MbFacts, place: Place) -> EdgeQp
+fn inner_chroma_qps(q: &MbInfo, place: Place) -> EdgeQp
     ensures { result ≡ chroma_qp_of place.chroma_qp_index_offset q.now q.now }
 {
     let qp = chroma_qp(place.chroma_qp_index_offset, q.qp);
@@ -98,7 +98,7 @@ fn inner_chroma_qps(q: &MbFacts, place: Place) -> EdgeQp
 
 /// Those inside `q`.
 #[inline(always)]
-pub(crate) fn inner_limits(q: &MbFacts, place: Place) -> PairLimits
+pub(crate) fn inner_limits(q: &MbInfo, place: Place) -> PairLimits
     ensures { ArePairLimits result place.chroma_qp_index_offset q.now q.now }
 {
     PairLimits {
@@ -109,7 +109,7 @@ pub(crate) fn inner_limits(q: &MbFacts, place: Place) -> PairLimits
 
 /// The same where those inside `q` are known.
 #[inline(always)]
-pub(crate) fn limits_beside(p: &MbFacts, q: &MbFacts, own: PairLimits, place: Place) -> PairLimits
+pub(crate) fn limits_beside(p: &MbInfo, q: &MbInfo, own: PairLimits, place: Place) -> PairLimits
     requires { ArePairLimits own place.chroma_qp_index_offset q.now q.now }
     ensures { ArePairLimits result place.chroma_qp_index_offset p.now q.now }
 {
@@ -255,8 +255,8 @@ fn horizontal<const PAD: usize>(
 #[inline(always)]
 pub(crate) fn edge_at<const PAD: usize>(
     planes: &mut Planes<PAD>,
-    p: &MbFacts,
-    q: &MbFacts,
+    p: &MbInfo,
+    q: &MbInfo,
     is_vertical: bool,
     n: usize,
     strengths: &Strengths,
@@ -274,7 +274,7 @@ pub(crate) fn edge_at<const PAD: usize>(
     requires strengths { (k : ℕ) → k < 4 → strength_along strengths.now k ≡ strength_of p.now q.now is_vertical n k }
     ensures room { (column row : ℕ) → HasRoom column row (planes_of planes.old) → HasRoom column row (planes_of planes.new) }
     ensures lines { planes_of planes.new
-        ≡ edge_by_facts is_vertical place.column place.row n place.chroma_qp_index_offset p.now q.now (planes_of planes.old) }
+        ≡ edge_by_info is_vertical place.column place.row n place.chroma_qp_index_offset p.now q.now (planes_of planes.old) }
 {
     let (_p, _q) = (p, q);
     if is_vertical {
@@ -289,8 +289,8 @@ pub(crate) fn edge_at<const PAD: usize>(
 #[tactic(auto, using(crate::proofs::EdgePlanes::edge_zero))]
 pub(crate) fn edge_between<const PAD: usize>(
     planes: &mut Planes<PAD>,
-    p: &MbFacts,
-    q: &MbFacts,
+    p: &MbInfo,
+    q: &MbInfo,
     is_vertical: bool,
     n: usize,
     limits: &PairLimits,
@@ -305,7 +305,7 @@ pub(crate) fn edge_between<const PAD: usize>(
     requires limits { ArePairLimits limits.now place.chroma_qp_index_offset p.now q.now }
     ensures room { (column row : ℕ) → HasRoom column row (planes_of planes.old) → HasRoom column row (planes_of planes.new) }
     ensures lines { planes_of planes.new
-        ≡ edge_by_facts is_vertical place.column place.row n place.chroma_qp_index_offset p.now q.now (planes_of planes.old) }
+        ≡ edge_by_info is_vertical place.column place.row n place.chroma_qp_index_offset p.now q.now (planes_of planes.old) }
 {
     let strengths = edge_strengths(p, q, is_vertical, n);
     if strengths.are_zero() {
@@ -319,8 +319,8 @@ pub(crate) fn edge_between<const PAD: usize>(
 /// every second edge.
 pub fn edge<const VERTICAL: bool, const PAD: usize>(
     planes: &mut Planes<PAD>,
-    p: &MbFacts,
-    q: &MbFacts,
+    p: &MbInfo,
+    q: &MbInfo,
     n: usize,
     place: Place,
 )
@@ -332,7 +332,7 @@ pub fn edge<const VERTICAL: bool, const PAD: usize>(
     requires room { HasRoom place.column place.row (planes_of planes.old) }
     ensures room { (column row : ℕ) → HasRoom column row (planes_of planes.old) → HasRoom column row (planes_of planes.new) }
     ensures lines { planes_of planes.new
-        ≡ edge_by_facts VERTICAL place.column place.row n place.chroma_qp_index_offset p.now q.now (planes_of planes.old) }
+        ≡ edge_by_info VERTICAL place.column place.row n place.chroma_qp_index_offset p.now q.now (planes_of planes.old) }
 {
     let limits = pair_limits(p, q, place);
     edge_between(planes, p, q, VERTICAL, n, &limits, place);

@@ -1,13 +1,13 @@
 ghost use Rattle.std.specs.Prelude.{◌≡◌, ℕ, ◌+◌, ◌%◌, ◌<◌, slice_index, slice_index_or, true, false};
 ghost use Rattle.avc_motion.specs.Motion.{zero_vector};
-ghost use Rattle.avc_deblock.specs.Facts.{edge_block, inter_strength};
-ghost use Rattle.avc_deblock.specs.ByFacts.{strength_of};
+ghost use Rattle.avc_deblock.specs.FilterInfo.{edge_block, inter_strength};
+ghost use Rattle.avc_deblock.specs.ByInfo.{strength_of};
 
 use crate::edge_strengths::edge_block;
-use crate::facts::MbFacts;
 use crate::line::{all_three, both, either};
+use crate::mb_info::MbInfo;
 
-impl MbFacts {
+impl MbInfo {
     #[inline(always)]
     fn has_one_picture(&self) -> bool
         ensures { result ≡ true → (k : ℕ) → k < 4 → slice_index self.now.pictures k ≡ slice_index self.now.pictures 0 }
@@ -48,10 +48,10 @@ impl MbFacts {
     }
 }
 
-impl MbFacts {
+impl MbInfo {
     /// The blocks have no coefficients, one picture and one vector.
     #[inline(always)]
-    fn moves_as(&self, block: usize, q: &MbFacts, q_block: usize) -> bool
+    fn moves_as(&self, block: usize, q: &MbInfo, q_block: usize) -> bool
         requires p { block < 16 }
         requires q { q_block < 16 }
         ensures { result ≡ true → inter_strength self.now block q.now q_block ≡ 0 }
@@ -66,7 +66,7 @@ impl MbFacts {
     /// The strengths along edge `n` of `q`, of which `self` is the other side, are 0, as one look tells: no coefficients, and each two blocks
     /// have one picture and one vector.
     #[inline(always)]
-    pub(crate) fn is_quiet(&self, q: &MbFacts, is_vertical: bool, n: usize) -> bool
+    pub(crate) fn is_quiet(&self, q: &MbInfo, is_vertical: bool, n: usize) -> bool
         requires { n < 4 }
         ensures { result ≡ true → (k : ℕ) → k < 4 →
             inter_strength self.now (edge_block is_vertical ((n + 3) % 4) k) q.now (edge_block is_vertical n k) ≡ 0 }
@@ -85,7 +85,7 @@ impl MbFacts {
 
     /// A block beside edge `n` of `q` has coefficients.
     #[inline(always)]
-    pub(crate) fn has_coefficients_beside(&self, q: &MbFacts, is_vertical: bool, n: usize) -> bool
+    pub(crate) fn has_coefficients_beside(&self, q: &MbInfo, is_vertical: bool, n: usize) -> bool
         requires { n < 4 }
     {
         let mut any = false;
@@ -99,7 +99,7 @@ impl MbFacts {
 
     /// The strengths along the edge from `self` to `q`, which is another macroblock without coefficients, are 0, as one look tells.
     #[inline(always)]
-    pub(crate) fn meets_quietly(&self, q: &MbFacts, is_vertical: bool) -> bool
+    pub(crate) fn meets_quietly(&self, q: &MbInfo, is_vertical: bool) -> bool
         ensures { result ≡ true → (k : ℕ) → k < 4 → strength_of self.now q.now is_vertical 0 k ≡ 0 }
     {
         if self.is_intra | q.is_intra | (q.coefficients != 0) {

@@ -5,13 +5,13 @@ ghost use Rattle.std.specs.Prelude.{◌≡◌, ℕ, ◌+◌, ◌*◌, ◌^◌, �
 ghost use Rattle.avc_plane.specs.Frames.{planes_of};
 ghost use Rattle.avc_deblock.specs.OneEdge.{AreLimits, AreStrengths, edge_filtered, luma_setting, chroma_of_edge, strength_along, HasRoom};
 ghost use Rattle.avc_deblock.specs.MbLimits.{ArePairLimits};
-ghost use Rattle.avc_deblock.specs.ByFacts.{edges_by_facts, luma_qp_of, chroma_qp_of, strength_of};
+ghost use Rattle.avc_deblock.specs.ByInfo.{edges_by_info, luma_qp_of, chroma_qp_of, strength_of};
 
 use crate::chroma_edge::two_vertical_chroma;
 use crate::edge_strengths::edge_strengths;
-use crate::facts::MbFacts;
 use crate::line::both;
 use crate::luma_edge::vertical_luma;
+use crate::mb_info::MbInfo;
 use crate::planes_edge::{PairLimits, Place, vertical_chroma_of};
 use crate::strengths::Strengths;
 use crate::thresholds::QpLimits;
@@ -21,8 +21,8 @@ use avc_plane::{Plane, Planes};
 #[inline(always)]
 fn luma_between<const PAD: usize>(
     luma: &mut Plane<PAD>,
-    p: &MbFacts,
-    q: &MbFacts,
+    p: &MbInfo,
+    q: &MbInfo,
     n: usize,
     strengths: &Strengths,
     limits: &QpLimits,
@@ -55,8 +55,8 @@ fn luma_between<const PAD: usize>(
 fn chroma_between<const PAD: usize>(
     cb: &mut Plane<PAD>,
     cr: &mut Plane<PAD>,
-    p: &MbFacts,
-    q: &MbFacts,
+    p: &MbInfo,
+    q: &MbInfo,
     n: usize,
     strengths: &Strengths,
     limits: &QpLimits,
@@ -94,8 +94,8 @@ fn chroma_between<const PAD: usize>(
 fn chroma_edges<const PAD: usize>(
     cb: &mut Plane<PAD>,
     cr: &mut Plane<PAD>,
-    p: &MbFacts,
-    q: &MbFacts,
+    p: &MbInfo,
+    q: &MbInfo,
     outer: &Strengths,
     middle: &Strengths,
     outer_limits: &QpLimits,
@@ -136,8 +136,8 @@ fn chroma_edges<const PAD: usize>(
 #[inline(always)]
 pub(crate) fn vertical_edges<const PAD: usize>(
     planes: &mut Planes<PAD>,
-    p: &MbFacts,
-    q: &MbFacts,
+    p: &MbInfo,
+    q: &MbInfo,
     outer_limits: &PairLimits,
     inner_limits: &PairLimits,
     place: Place,
@@ -149,8 +149,8 @@ pub(crate) fn vertical_edges<const PAD: usize>(
     requires outer { ArePairLimits outer_limits.now place.chroma_qp_index_offset p.now q.now }
     requires inner { ArePairLimits inner_limits.now place.chroma_qp_index_offset q.now q.now }
     ensures room { (column row : ℕ) → HasRoom column row (planes_of planes.old) → HasRoom column row (planes_of planes.new) }
-    ensures lines { planes_of planes.new ≡ edges_by_facts true place.column place.row place.chroma_qp_index_offset false true q.now q.now
-        (edges_by_facts true place.column place.row place.chroma_qp_index_offset true false p.now q.now (planes_of planes.old)) }
+    ensures lines { planes_of planes.new ≡ edges_by_info true place.column place.row place.chroma_qp_index_offset false true q.now q.now
+        (edges_by_info true place.column place.row place.chroma_qp_index_offset true false p.now q.now (planes_of planes.old)) }
 {
     let outer = edge_strengths(p, q, true, 0);
     let middle = edge_strengths(q, q, true, 2);

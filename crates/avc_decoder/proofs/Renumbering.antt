@@ -13,7 +13,7 @@ use Rattle.avc_decoder.proofs.Common.{history_in, in_phase, is_running, is_waiti
 use Rattle.avc_decoder.proofs.Common.{sets_named, waiting, with_slice, Event, Picture, Refused}
 use Rattle.std.specs.Option.{option_map}
 use Rattle.avc_types.specs.declared.fault.Fault.TheVariants as faults
-use Rattle.avc_types.specs.Pictures.{SliceFacts}
+use Rattle.avc_types.specs.Pictures.{SliceInfo}
 use Rattle.avc_mbsyntax.specs.SliceData.{SliceMbs}
 use Rattle.avc_decoder.proofs.Cases.{by_full, count_by, facts_by, fault_by, found_at_closing, history_by, outcome_of, slice_outcome}
 use Rattle.avc_decoder.proofs.Cases.{then_closing, unless_found, unless_silent}
@@ -76,7 +76,7 @@ unit-same : (r : ℕ → ℕ) (unit : ℕ) (f : Option Fault) → with_unit (r u
 unit-same r unit None = refl
 unit-same r unit (Some f) = refl
 
-whole-same : (r : ℕ → ℕ) (s : Slice) (before : Progress) (facts : SliceFacts) (ms : SliceMbs) (found : Option (ℕ × Fault))
+whole-same : (r : ℕ → ℕ) (s : Slice) (before : Progress) (facts : SliceInfo) (ms : SliceMbs) (found : Option (ℕ × Fault))
     → let s' = renumbered_slice r s in
     let before' = renumbered_progress r before in
     with_first_fault s' before' (read_whole s' before' facts ms) found

@@ -14,6 +14,3 @@ mod waiting;
 pub use arriving_frame::ArrivingFrame;
 pub use dpb::Dpb;
 pub use output::Output;
-
-#[cfg(test)]
-mod tests;

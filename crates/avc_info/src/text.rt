@@ -1,7 +1,8 @@
 ghost use Rattle.std.specs.Prelude.{◌≡◌, ◌++◌, IfOk, OnOk, string_bytes};
 ghost use Rattle.avc_info.specs.Text.{clock_text, counts_line, frame_rate, frames_line, info_text, is_level_1b};
 ghost use Rattle.avc_info.specs.Text.{level_name, level_text, profile_name, profile_text, rate_of, rate_text};
-ghost use Rattle.avc_info.specs.Text.{newline, references_text, reordering_text, refusal_text, refused_line, refused_text, sequence_text, shape_line, size_text};
+ghost use Rattle.avc_info.specs.Text.{newline, references_text, reordering_text, refusal_text, refused_line, refused_text};
+ghost use Rattle.avc_info.specs.Text.{sequence_text, shape_line, size_text};
 
 use crate::sequence_facts::SequenceFacts;
 use crate::slice_counts::SliceCounts;

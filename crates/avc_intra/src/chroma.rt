@@ -1,7 +1,8 @@
 ghost use Rattle.std.specs.Prelude.{◌≡◌, ℕ, ◌+◌, ◌*◌, ◌/◌, ◌<◌, ◌≤◌, pos, ◌+ℤ◌, ◌*ℤ◌, true, length, slice_index};
 ghost use Rattle.avc_types.specs.Arithmetic.{◌>>ℤ◌};
 ghost use Rattle.avc_intra.specs.Neighbourhood.{Around, Predicts};
-ghost use Rattle.avc_intra.specs.Chroma.{ShowsChroma, can_predict_chroma, intra_chroma, predict_chroma, predict_dc_chroma, predict_plane_chroma, sum_above, sum_left};
+ghost use Rattle.avc_intra.specs.Chroma.{ShowsChroma, can_predict_chroma, intra_chroma, predict_chroma, predict_dc_chroma, predict_plane_chroma};
+ghost use Rattle.avc_intra.specs.Chroma.{sum_above, sum_left};
 ghost use Rattle.avc_intra.specs.Slopes.{IsWithin};
 ghost use Rattle.avc_intra.specs.InRows.{IsSeen};
 ghost use Rattle.avc_plane.specs.Strided.{IsRoom, IsStridedSet};

@@ -1,25 +1,2 @@
-mod Common
-pub mod CodedSliceBack
-pub mod Filling
-pub mod HeaderBack
-pub mod PatternNumbers
-pub mod PpsBack
-pub mod Putting
-pub mod ReadingBack
-pub mod ResidualPutting
-pub mod Removing
 pub mod Rows
-pub mod SlicePutting
-pub mod SpsBack
-pub mod UnitsBack
-pub mod VuiBack
-pub mod WeightsBack
-pub mod Words
-pub mod BlockBack
-pub mod BlockForth
-pub mod BlockPutting
-pub mod LevelWords
-pub mod SmallLevels
-pub mod MbBack
-pub mod SliceDataBack
-pub mod DataAlone
+pub mod Slices

@@ -1,24 +1,14 @@
 -- Worked examples of what is written.
-use Rattle.avc_make.proofs.Common.{◌≡◌, pos, negsuc, true, false, [], ◌∷◌, refl, arith, count_leading_zeros, byte_bits, block_bits}
-use Rattle.avc_make.proofs.Common.{escaped, escaped_after, pps_bits, IsUnit, pps_header, sps_header, se_word, ue_word, plain, small, take}
-use Rattle.avc_make.proofs.Common.{replicate, None, Residual, i_16x16, Context, mb_bits, ◌++◌, Some, Type0, Header, i_type, zeros_to_byte}
-use Rattle.avc_make.specs.SpsWriting.{sps_bits}
+use Rattle.avc_make.proofs.Slices.{◌≡◌, pos, negsuc, true, false, [], ◌∷◌, refl, arith, count_leading_zeros, byte_bits, block_bits, escaped, escaped_after}
+use Rattle.avc_make.proofs.Slices.{pps_bits, IsUnit, pps_header, sps_header, se_word, ue_word, plain, small, take, replicate, None, Residual, i_16x16, Context}
+use Rattle.avc_make.proofs.Slices.{mb_bits, ◌++◌, Some, Type0, Header, i_type, zeros_to_byte, sps_bits, header_bits, slice_unit_header}
 use Rattle.avc_params.specs.declared.sps.OrderCount.TheVariants as orders
 use Rattle.avc_slice.specs.declared.header.SliceType.TheVariants.{AllI}
-use Rattle.avc_make.specs.HeaderWriting.{header_bits, slice_unit_header}
 use Rattle.avc_slice.proofs.Rows as Read
 
-zero_word : ue_word 0 ≡ true ∷ []
-unfolding ue_word count_leading_zeros
-zero_word = refl
-
-four_word : ue_word 4 ≡ false ∷ false ∷ true ∷ false ∷ true ∷ []
-unfolding ue_word count_leading_zeros
-four_word = refl
-
-minus_one_word : se_word (negsuc 0) ≡ false ∷ true ∷ true ∷ []
+codewords : (ue_word 0 ≡ true ∷ []) × (ue_word 4 ≡ false ∷ false ∷ true ∷ false ∷ true ∷ []) × (se_word (negsuc 0) ≡ false ∷ true ∷ true ∷ [])
 unfolding se_word ue_word count_leading_zeros
-minus_one_word = refl
+codewords = (refl, refl, refl)
 
 -- the unit of a plain picture parameter set
 writes_plain : IsUnit pps_header (pps_bits plain) (0x68 ∷ 0xCE ∷ 0x38 ∷ 0x80 ∷ [])
@@ -47,7 +37,7 @@ writes_weighted = record { raw = 0xCF ∷ 0x38 ∷ 0x80 ∷ []; padding = 7; fil
 -- ---- macroblocks
 
 abbrev first : Context
-first = record { is_p = false; active_count = 0; qp = 26; left = None; up = None }
+first = record { is_p = false; num_ref_idx_active = 0; qp = 26; left = None; up = None }
 
 abbrev one_level : Residual
 one_level = record {
@@ -72,12 +62,9 @@ intra_16x16 = refl
 abbrev of_i : Header
 of_i = record Read.of_i { idr_pic_id = Some 0; position = 0 }
 
-writes_i : header_bits small plain of_i ≡ take 17 (byte_bits (0x88 ∷ 0x84 ∷ 0x93 ∷ []))
+writes_i : (header_bits small plain of_i ≡ take 17 (byte_bits (0x88 ∷ 0x84 ∷ 0x93 ∷ []))) × (slice_unit_header of_i ≡ 0x65)
 unfolding se_word ue_word count_leading_zeros
-writes_i = refl
-
-i_byte : slice_unit_header of_i ≡ 0x65
-i_byte = refl
+writes_i = (refl, refl)
 
 -- what stands before the samples, in bytes
 writes_i_pcm : header_bits small plain of_i ++ (ue_word (i_type false 25) ++ zeros_to_byte 26) ≡ byte_bits (0x88 ∷ 0x84 ∷ 0x86 ∷ 0x80 ∷ [])
@@ -88,15 +75,12 @@ writes_i_pcm = refl
 abbrev of_p : Header
 of_p = record Read.of_p { position = 0 }
 
-writes_p : header_bits small plain of_p ≡ take 15 (byte_bits (0x9A ∷ 0x22 ∷ []))
+writes_p : (header_bits small plain of_p ≡ take 15 (byte_bits (0x9A ∷ 0x22 ∷ []))) × (slice_unit_header of_p ≡ 0x41)
 unfolding se_word ue_word count_leading_zeros
-writes_p = refl
-
-p_byte : slice_unit_header of_p ≡ 0x41
-p_byte = refl
+writes_p = (refl, refl)
 
 -- with pic_order_cnt_lsb 4
-writes_lsb : header_bits (record small { order_count = orders.Type0 0 }) plain (record of_p { slice_type = AllI; active_count = 0; order = Type0 4 (pos 0) }) ≡ take 19 (byte_bits (0x88 ∷ 0x8A ∷ 0x24 ∷ []))
+writes_lsb : header_bits (record small { order_count = orders.Type0 0 }) plain (record of_p { slice_type = AllI; num_ref_idx_active = 0; order = Type0 4 (pos 0) }) ≡ take 19 (byte_bits (0x88 ∷ 0x8A ∷ 0x24 ∷ []))
 unfolding se_word ue_word count_leading_zeros
 writes_lsb = refl
 

@@ -78,7 +78,7 @@ DataIsRead =
 -- Two slices that are read alike, each in its picture.
 pub record IsLike (s s' : SliceStart) : Type 0 where
   pub is_p : s.is_p ≡ s'.is_p
-  pub active_count : s.active_count ≡ s'.active_count
+  pub num_ref_idx_active : s.num_ref_idx_active ≡ s'.num_ref_idx_active
   pub qp : s.qp ≡ s'.qp
   pub width : s.width ≡ s'.width
 

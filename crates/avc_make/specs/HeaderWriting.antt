@@ -21,7 +21,7 @@ use Rattle.avc_params.specs.declared.sps.OrderCount.{OrderCount}
 use Rattle.avc_params.specs.declared.sps.OrderCount.TheVariants as orders
 use Rattle.avc_params.specs.declared.sps.Sps.{Sps}
 use Rattle.avc_slice.specs.Header.{is_idr, is_p, is_reference, slice_qp}
-use Rattle.avc_slice.specs.Reading.{active_count, most_operations}
+use Rattle.avc_slice.specs.Reading.{num_ref_idx_active, most_operations}
 use Rattle.avc_slice.specs.Within.{IsPredWeightTable}
 use Rattle.avc_slice.specs.declared.header.CodedOrder.{CodedOrder}
 use Rattle.avc_slice.specs.declared.header.CodedOrder.TheVariants.{Type0, Type1, Type2}
@@ -153,15 +153,15 @@ IsOverride pps None = pps.num_ref_idx_l0_default_active_minus1 < 16
 -- What a P slice's header says of its list fits the parameter sets.
 pub record IsListOf (sps : Sps) (pps : Pps) (h : Header) : Type 0 where
   pub override : IsOverride pps h.active_override
-  pub count : h.active_count ≡ active_count pps h.active_override
-  pub list : IfSome h.modifications (IsModificationList (max_frame_num sps) (active_count pps h.active_override))
+  pub count : h.num_ref_idx_active ≡ num_ref_idx_active pps h.active_override
+  pub list : IfSome h.modifications (IsModificationList (max_frame_num sps) (num_ref_idx_active pps h.active_override))
   pub is_weighted : is_some h.pred_weight_table ≡ pps.weighted_pred_flag
-  pub weights : IfSome h.pred_weight_table (IsPredWeightTable h.active_count)
+  pub weights : IfSome h.pred_weight_table (IsPredWeightTable h.num_ref_idx_active)
 
 -- An I slice's header says nothing of a list.
 pub record HasNoList (h : Header) : Type 0 where
   pub override : h.active_override ≡ None
-  pub count : h.active_count ≡ 0
+  pub count : h.num_ref_idx_active ≡ 0
   pub list : h.modifications ≡ None
   pub weights : h.pred_weight_table ≡ None
 

@@ -203,24 +203,24 @@ HasQuarters P16x8 = Unit {0}
 HasQuarters P8x16 = Unit {0}
 
 -- ref_idx_l0 is coded where there is more than one index
-abbrev pub has_ref_idx : (active_count : ℕ) → PMbType → Bool
-has_ref_idx active_count (P8x8Ref0 subs) = false
-has_ref_idx active_count t = not (nat_le active_count 1)
+abbrev pub has_ref_idx : (num_ref_idx_active : ℕ) → PMbType → Bool
+has_ref_idx num_ref_idx_active (P8x8Ref0 subs) = false
+has_ref_idx num_ref_idx_active t = not (nat_le num_ref_idx_active 1)
 
 -- ref_idx_l0 of each partition, where it is coded (7.3.5.1)
-abbrev pub ref_idx_bits : (active_count : ℕ) → (coded : Bool) → List ℕ → List Bool
-ref_idx_bits active_count true indices = flat_map (te_word (active_count - 1)) indices
-ref_idx_bits active_count false indices = []
+abbrev pub ref_idx_bits : (num_ref_idx_active : ℕ) → (coded : Bool) → List ℕ → List Bool
+ref_idx_bits num_ref_idx_active true indices = flat_map (te_word (num_ref_idx_active - 1)) indices
+ref_idx_bits num_ref_idx_active false indices = []
 
 -- so many reference indices, each of an entry of the list
-pub record AreIndices (active_count n : ℕ) (indices : List ℕ) : Type 0 where
+pub record AreIndices (num_ref_idx_active n : ℕ) (indices : List ℕ) : Type 0 where
   pub all : length indices ≡ n
-  pub active : Each (λ i. (i ≤ active_count - 1) × (i < 4294967295)) indices
+  pub active : Each (λ i. (i ≤ num_ref_idx_active - 1) × (i < 4294967295)) indices
 
 -- the reference indices can be written; where they are not coded they are 0 (7.4.5.1)
-abbrev pub IsRefIdx : (active_count n : ℕ) → (coded : Bool) → List ℕ → Type 0
-IsRefIdx active_count n true indices = AreIndices active_count n indices
-IsRefIdx active_count n false indices = indices ≡ replicate n 0
+abbrev pub IsRefIdx : (num_ref_idx_active n : ℕ) → (coded : Bool) → List ℕ → Type 0
+IsRefIdx num_ref_idx_active n true indices = AreIndices num_ref_idx_active n indices
+IsRefIdx num_ref_idx_active n false indices = indices ≡ replicate n 0
 
 -- mvd_l0: the horizontal component, then the vertical one (7.3.5.1)
 abbrev pub mvd_bits : Mvd → List Bool
@@ -237,7 +237,7 @@ IsMvd d = IsSe32 d.x × IsSe32 d.y
 -- an inter macroblock after mb_type (7.3.5.1, 7.3.5.2)
 abbrev pub p_inter_bits : Context → PMbType → (ref_idx : List ℕ) → (mvd : List Mvd) → Residual → List Bool
 p_inter_bits c t ref_idx mvd r =
-    joined (sub_mb_types_bits t ∷ ref_idx_bits c.active_count (has_ref_idx c.active_count t) ref_idx ∷ flat_map mvd_bits mvd ∷ pattern_bits c false r ∷ [])
+    joined (sub_mb_types_bits t ∷ ref_idx_bits c.num_ref_idx_active (has_ref_idx c.num_ref_idx_active t) ref_idx ∷ flat_map mvd_bits mvd ∷ pattern_bits c false r ∷ [])
 
 -- ---- macroblock_layer
 
@@ -279,7 +279,7 @@ pub record IsIPcm (luma cb cr : List ℕ) : Type 0 where
 pub record IsPInter (c : Context) (t : PMbType) (indices : List ℕ) (mvds : List Mvd) (r : Residual) : Type 0 where
   pub in_p : c.is_p ≡ true
   pub quarters : HasQuarters t
-  pub ref_idx : IsRefIdx c.active_count (partitions t) (has_ref_idx c.active_count t) indices
+  pub ref_idx : IsRefIdx c.num_ref_idx_active (partitions t) (has_ref_idx c.num_ref_idx_active t) indices
   pub all : length mvds ≡ length (parts_of t)
   pub mvd : Each IsMvd mvds
   pub pattern : IsPattern r

@@ -18,7 +18,7 @@ use Rattle.avc_make.specs.declared.slice.CodedSlice.{CodedSlice}
 abbrev pub own_start : CodedSlice → SliceStart
 own_start c = record {
   is_p = is_p c.header;
-  active_count = c.header.active_count;
+  num_ref_idx_active = c.header.num_ref_idx_active;
   qp = nat_abs (slice_qp c.pps c.header.slice_qp_delta);
   slice = 1;
   width = width_in_mbs c.sps;

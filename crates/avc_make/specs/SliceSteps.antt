@@ -2,7 +2,7 @@
 use Rattle.std.specs.Prelude.{◌≡◌, ℕ, ◌+◌, ◌<◌, Bool, true, false, List, [], ◌++◌, length, map}
 use Rattle.avc_types.specs.Macroblock.{Mb, MbSyntax}
 use Rattle.avc_types.specs.Pictures.{PicMb}
-use Rattle.avc_neigh.specs.Around.{PictureFacts}
+use Rattle.avc_neigh.specs.Around.{PictureInfo}
 use Rattle.avc_neigh.specs.TotalCoeffs.{total_coeffs_of}
 use Rattle.avc_mbsyntax.specs.declared.context.Context.{Context}
 use Rattle.avc_mbsyntax.specs.SliceData.{SliceStart}
@@ -10,18 +10,18 @@ use Rattle.avc_make.specs.DataWriting.{i_data_bits, is_skip, last_run_bits, p_da
 use Rattle.avc_make.specs.MbWriting.{mb_bits}
 use Rattle.avc_make.specs.Words.{ue_word}
 
--- The facts are those of the macroblocks so far, as far as nC asks for them.
-pub record AreFactsOf (width : ℕ) (before : List PicMb) (p : PictureFacts) : Type 0 where
+-- The info is that of the macroblocks so far, as far as nC asks for them.
+pub record AreInfoOf (width : ℕ) (before : List PicMb) (p : PictureInfo) : Type 0 where
   pub some : 0 < width
   pub wide : p.width ≡ width
-  pub slices : map (λ m. m.slice) before ≡ map (λ f. f.slice) p.facts
-  pub total_coeffs : map (λ m. total_coeffs_of m.mb.syntax) before ≡ map (λ f. f.total_coeffs) p.facts
+  pub slices : map (λ m. m.slice) before ≡ map (λ f. f.slice) p.info
+  pub total_coeffs : map (λ m. total_coeffs_of m.mb.syntax) before ≡ map (λ f. f.total_coeffs) p.info
 
 -- The context is one of the slice, but for QP_Y and for what stands beside the macroblock.
 pub record IsOf (s : SliceStart) (c : Context) : Type 0 where
   pub own : s.slice ≡ 1
   pub is_p : s.is_p ≡ c.is_p
-  pub active_count : s.active_count ≡ c.active_count
+  pub num_ref_idx_active : s.num_ref_idx_active ≡ c.num_ref_idx_active
 
 -- mb_skip_run before a macroblock that is not skipped, in a P slice
 abbrev pub run_bits : (p : Bool) → (run : ℕ) → List Bool

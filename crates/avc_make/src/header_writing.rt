@@ -152,7 +152,7 @@ fn put_list(maker: &mut BitMaker, header: &Header) -> Result<(), OutOfMemory>
     requires going { maker.old.failed ≡ false }
     requires count { IfSome header.now.active_override IsUeValue }
     requires list { IfSome header.now.modifications (Each (IsModification 65536)) }
-    requires weights { IfSome header.now.pred_weight_table (IsPredWeightTable header.now.active_count) }
+    requires weights { IfSome header.now.pred_weight_table (IsPredWeightTable header.now.num_ref_idx_active) }
     ensures { Puts result (list_bits_where (is_p header.now) header.now) maker.old maker.new }
 {
     if header.is_p() {

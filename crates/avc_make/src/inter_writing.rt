@@ -32,7 +32,7 @@ pub(crate) fn put_p_inter(
 {
     put_p_type(maker, mb_type)?;
     put_sub_mb_types(maker, mb_type)?;
-    put_ref_idx(maker, context.active_count, mb_type, ref_idx)?;
+    put_ref_idx(maker, context.num_ref_idx_active, mb_type, ref_idx)?;
     put_mvd(maker, mb_type, mvd)?;
     put_pattern(maker, context, false, levels)?;
     Ok(())
@@ -81,18 +81,20 @@ fn put_sub_mb_types(maker: &mut BitMaker, mb_type: &PMbType) -> Result<(), OutOf
 // ref_idx_l0 of each partition, where there is more than one index
 fn put_ref_idx(
     maker: &mut BitMaker,
-    active_count: u8,
+    num_ref_idx_active: u8,
     mb_type: &PMbType,
     ref_idx: &[u8; 4],
 ) -> Result<(), OutOfMemory>
     requires going { maker.old.failed ≡ false }
-    requires ranges { IsRefIdx active_count (partitions mb_type.now) (has_ref_idx active_count mb_type.now) (take (partitions mb_type.now) ref_idx.now) }
-    ensures { Puts result (ref_idx_bits active_count (has_ref_idx active_count mb_type.now) (take (partitions mb_type.now) ref_idx.now)) maker.old maker.new }
+    requires ranges { IsRefIdx num_ref_idx_active (partitions mb_type.now) (has_ref_idx num_ref_idx_active mb_type.now)
+        (take (partitions mb_type.now) ref_idx.now) }
+    ensures { Puts result (ref_idx_bits num_ref_idx_active (has_ref_idx num_ref_idx_active mb_type.now)
+        (take (partitions mb_type.now) ref_idx.now)) maker.old maker.new }
 {
-    if has_ref_idx(active_count, mb_type) {
+    if has_ref_idx(num_ref_idx_active, mb_type) {
         put_indices(
             maker,
-            active_count as u32 - 1,
+            num_ref_idx_active as u32 - 1,
             &ref_idx[..partitions(mb_type)],
         )
     } else {
@@ -100,13 +102,13 @@ fn put_ref_idx(
     }
 }
 
-fn has_ref_idx(active_count: u8, mb_type: &PMbType) -> bool
-    ensures value { result ≡ has_ref_idx active_count mb_type.now }
-    ensures many { result ≡ true → 2 ≤ active_count }
+fn has_ref_idx(num_ref_idx_active: u8, mb_type: &PMbType) -> bool
+    ensures value { result ≡ has_ref_idx num_ref_idx_active mb_type.now }
+    ensures many { result ≡ true → 2 ≤ num_ref_idx_active }
 {
     match mb_type {
         PMbType::P8x8Ref0(_) => false,
-        _ => active_count > 1,
+        _ => num_ref_idx_active > 1,
     }
 }
 

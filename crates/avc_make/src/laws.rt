@@ -15,6 +15,7 @@ ghost use Rattle.avc_make.specs.Units.{PpsIsRead, SpsIsRead};
 ghost use Rattle.avc_make.specs.Words.{ReadsBack, se_word, te_word, ue_word};
 
 /// The words that are put for ue(v), se(v) and te(v) are codewords of their values.
+#[tactic(auto, using(crate::proofs::Slices::ue_is_word, crate::proofs::Slices::se_is_word, crate::proofs::Slices::te_is_word))]
 pub fn words_are_codewords()
     ensures ue { (v : ℕ) → v < 4294967295 → IsUe (ue_word v) v }
     ensures se { (v : ℤ) → neg_ℤ (pos 2147483648) <ℤ v → v <ℤ pos 2147483648 → IsSe (se_word v) v }
@@ -47,19 +48,19 @@ pub fn pps_is_read()
 {}
 
 /// The unit of a sequence parameter set in its ranges and of a size that is taken is read as that set, with no fault.
-#[tactic(auto, using(crate::proofs::SpsBack::sps_unit_is_read))]
+#[tactic(auto, using(crate::proofs::Slices::sps_unit_is_read))]
 pub fn sps_is_read()
     ensures { SpsIsRead }
 {}
 
 /// The bits of a residual block that has codes are read as that block, with no fault.
-#[tactic(auto, using(crate::proofs::BlockBack::block_back))]
+#[tactic(auto, using(crate::proofs::Slices::block_back))]
 pub fn blocks_are_read()
     ensures { BlocksAreRead }
 {}
 
 /// A block can be written if none of its levels is above 2,063 in size.
-#[tactic(auto, using(crate::proofs::SmallLevels::small_writable))]
+#[tactic(auto, using(crate::proofs::Slices::small_writable))]
 pub fn small_levels_are_writable()
     ensures { SmallAreWritable }
 {}
@@ -75,13 +76,13 @@ pub fn header_is_read()
 {}
 
 /// The bits of a macroblock whose elements are in their ranges are read as that macroblock, with no fault.
-#[tactic(auto, using(crate::proofs::MbBack::mb_is_read))]
+#[tactic(auto, using(crate::proofs::Slices::mb_is_read))]
 pub fn macroblocks_are_read()
     ensures { MbIsRead }
 {}
 
 /// The data of a slice of macroblocks that can follow one another is read as those macroblocks, with no fault.
-#[tactic(auto, using(crate::proofs::SliceDataBack::all_data_is_read))]
+#[tactic(auto, using(crate::proofs::Slices::all_data_is_read))]
 pub fn data_is_read()
     ensures { DataIsRead }
 {}
@@ -93,7 +94,7 @@ pub fn data_stands_alone()
 
 /// In the unit of a slice of any macroblocks that can follow one another, header and macroblocks are read as they are, with no
 /// fault, whatever the picture's earlier slices are.
-#[tactic(auto, using(crate::proofs::CodedSliceBack::coded_slice_back))]
+#[tactic(auto, using(crate::proofs::Slices::coded_slice_back))]
 pub fn coded_slices_are_read()
     ensures { CodedSlicesAreRead }
 {}

@@ -8,11 +8,11 @@ ghost use Rattle.avc_neigh.specs.TotalCoeffs.{all_total_coeffs, residual_total_c
 ghost use Rattle.avc_mbsyntax.specs.SliceData.{SliceStart, context, placed};
 ghost use Rattle.avc_make.specs.HeaderWriting.{IsHeader};
 ghost use Rattle.avc_make.specs.SliceMbs.{earlier_mbs, own_start};
-ghost use Rattle.avc_make.specs.SliceSteps.{IsOf, AreFactsOf};
+ghost use Rattle.avc_make.specs.SliceSteps.{IsOf, AreInfoOf};
 
 use crate::slice::CodedSlice;
 use avc_mbsyntax::Context;
-use avc_neigh::{Motion, NearMode, NeighbourFacts, Row, TotalCoeffs};
+use avc_neigh::{Motion, NearMode, NeighbourInfo, Row, TotalCoeffs};
 use avc_types::{BlockLevels, Levels, OutOfMemory, Syntax};
 use std::alloc::Global;
 
@@ -26,10 +26,10 @@ const QP_AT_FIRST: i32 = 26;
 
 /// A row before the slice's first macroblock.
 pub(crate) fn row_before(alloc: Global, slice: &CodedSlice) -> Result<Row, OutOfMemory>
-    ensures { IfOk result (λ row. AreFactsOf (own_start slice.now).width (earlier_mbs slice.now) row) }
+    ensures { IfOk result (λ row. AreInfoOf (own_start slice.now).width (earlier_mbs slice.now) row) }
 {
     let mut row = Row::new(alloc, slice.sps.width_in_mbs() as usize)?;
-    let earlier = facts(EARLIER_SLICE, all_total_coeffs(0));
+    let earlier = info(EARLIER_SLICE, all_total_coeffs(0));
     'earlier: for _ in 0..slice.header.first_mb_in_slice.get() {
         row.put(&earlier);
     }
@@ -37,11 +37,11 @@ pub(crate) fn row_before(alloc: Global, slice: &CodedSlice) -> Result<Row, OutOf
 }
 
 /// Adds the slice's next macroblock.
-pub(crate) fn put_facts(row: &mut Row, syntax: &Syntax)
+pub(crate) fn put_info(row: &mut Row, syntax: &Syntax)
     ensures { (s : SliceStart) (before : List PicMb) (m : Mb) → s.slice ≡ 1 → m.syntax ≡ syntax_of syntax.now
-        → AreFactsOf s.width before row.old → AreFactsOf s.width (before ++ placed s m ∷ []) row.new }
+        → AreInfoOf s.width before row.old → AreInfoOf s.width (before ++ placed s m ∷ []) row.new }
 {
-    row.put(&facts(OWN_SLICE, total_coeffs_of(syntax)));
+    row.put(&info(OWN_SLICE, total_coeffs_of(syntax)));
 }
 
 /// The context of the slice's first macroblock, but for what stands beside it.
@@ -52,7 +52,7 @@ pub(crate) fn first_context(slice: &CodedSlice) -> Context
 {
     Context {
         is_p: slice.header.is_p(),
-        active_count: slice.header.active_count as u8,
+        num_ref_idx_active: slice.header.num_ref_idx_active as u8,
         qp: (QP_AT_FIRST + slice.pps.pic_init_qp_minus26 + slice.header.slice_qp_delta) as u8,
         left: None,
         up: None,
@@ -61,33 +61,33 @@ pub(crate) fn first_context(slice: &CodedSlice) -> Context
 
 /// The context of the slice's next macroblock, after one with this QP_Y.
 pub(crate) fn context_beside(first: &Context, qp: u8, row: &Row) -> Context
-    ensures { (s : SliceStart) (before : List PicMb) → IsOf s first.now → AreFactsOf s.width before row.now → result ≡ context s before qp }
+    ensures { (s : SliceStart) (before : List PicMb) → IsOf s first.now → AreInfoOf s.width before row.now → result ≡ context s before qp }
 {
     let around = row.around(OWN_SLICE);
     Context {
         is_p: first.is_p,
-        active_count: first.active_count,
+        num_ref_idx_active: first.num_ref_idx_active,
         qp,
         left: total_coeffs_in(around.a),
         up: total_coeffs_in(around.b),
     }
 }
 
-fn total_coeffs_in(facts: Option<&NeighbourFacts>) -> Option<TotalCoeffs>
-    ensures { result ≡ option_map (λ f. f.total_coeffs) (option_copied facts.entry) }
+fn total_coeffs_in(info: Option<&NeighbourInfo>) -> Option<TotalCoeffs>
+    ensures { result ≡ option_map (λ f. f.total_coeffs) (option_copied info.entry) }
 {
-    match facts {
-        Some(facts) => Some(facts.total_coeffs),
+    match info {
+        Some(info) => Some(info.total_coeffs),
         None => None,
     }
 }
 
 // what is asked of a macroblock while others are written: not its modes and not its motion
-fn facts(slice: u32, total_coeffs: TotalCoeffs) -> NeighbourFacts
+fn info(slice: u32, total_coeffs: TotalCoeffs) -> NeighbourInfo
     ensures slice { result.slice ≡ slice }
     ensures total_coeffs { result.total_coeffs ≡ total_coeffs }
 {
-    NeighbourFacts {
+    NeighbourInfo {
         slice,
         total_coeffs,
         modes: [NearMode::Absent; 16],

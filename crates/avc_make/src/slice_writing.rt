@@ -5,14 +5,14 @@ ghost use Rattle.avc_make.specs.DataWriting.{CanStand, data_bits, is_skip};
 ghost use Rattle.avc_make.specs.HeaderWriting.{slice_unit_header};
 ghost use Rattle.avc_make.specs.Made.{Puts};
 ghost use Rattle.avc_make.specs.SliceMbs.{IsCodedSlice, IsReadBack, coded_slice_bits, earlier_mbs, own_start};
-ghost use Rattle.avc_make.specs.SliceSteps.{AreFactsOf, coded_bits, last_run_bits_where, own_bits, run_after, run_bits, some_bits};
+ghost use Rattle.avc_make.specs.SliceSteps.{AreInfoOf, coded_bits, last_run_bits_where, own_bits, run_after, run_bits, some_bits};
 ghost use Rattle.avc_make.specs.Units.{IsUnit};
 
 use crate::header_writing::{header_byte, put_header};
 use crate::macroblock_writing::write_macroblock;
 use crate::maker::BitMaker;
 use crate::slice::CodedSlice;
-use crate::slice_context::{context_beside, first_context, put_facts, row_before};
+use crate::slice_context::{context_beside, first_context, put_info, row_before};
 use crate::units::unit_of;
 use avc_mbsyntax::Context;
 use avc_neigh::Row;
@@ -38,7 +38,7 @@ pub fn write_slice(alloc: Global, slice: &CodedSlice) -> Result<Vec<u8>, OutOfMe
 fn put_data(maker: &mut BitMaker, row: &mut Row, slice: &CodedSlice) -> Result<(), OutOfMemory>
     requires going { maker.old.failed ≡ false }
     requires slice { IsCodedSlice slice.now }
-    requires row { AreFactsOf (own_start slice.now).width (earlier_mbs slice.now) row.old }
+    requires row { AreInfoOf (own_start slice.now).width (earlier_mbs slice.now) row.old }
     ensures { Puts result (data_bits (own_start slice.now) (earlier_mbs slice.now) (length maker.old.bits) slice.now.macroblocks) maker.old maker.new }
 {
     if slice.macroblocks.as_slice().is_empty() {
@@ -56,7 +56,7 @@ fn put_macroblocks(
 ) -> Result<(), OutOfMemory>
     requires going { maker.old.failed ≡ false }
     requires slice { IsCodedSlice slice.now }
-    requires row { AreFactsOf (own_start slice.now).width (earlier_mbs slice.now) row.old }
+    requires row { AreInfoOf (own_start slice.now).width (earlier_mbs slice.now) row.old }
     ensures { Puts result (some_bits (own_start slice.now) (earlier_mbs slice.now) (length maker.old.bits) slice.now.macroblocks) maker.old maker.new }
 {
     let first = first_context(slice);
@@ -65,7 +65,7 @@ fn put_macroblocks(
     'each: for mb in slice.macroblocks.as_slice() {
         let context = context_beside(&first, qp, row);
         put_macroblock(maker, &context, run, &mb.syntax)?;
-        put_facts(row, &mb.syntax);
+        put_info(row, &mb.syntax);
         run = run_after(run, &mb.syntax);
         qp = mb.qp;
     }

@@ -49,7 +49,7 @@ impl Part for EntryWeights {
 impl Part for PredWeightTable {
     ghost bits = { pred_weight_table_bits };
 
-    ghost fits = { λ table. (active_count : ℕ) × IsPredWeightTable active_count table };
+    ghost fits = { λ table. (num_ref_idx_active : ℕ) × IsPredWeightTable num_ref_idx_active table };
 
     fn put(&self, maker: &mut BitMaker) -> Result<(), OutOfMemory> {
         maker.ue(self.luma_log2_weight_denom as u32)?;

@@ -7,7 +7,7 @@ use Rattle.avc_mbsyntax.proofs.Common.{up_total_coeffs, where_room, after_skippe
 use Rattle.std.proofs.lemmas.List.{length-replicate}
 use Rattle.avc_types.specs.declared.fault.Fault.TheVariants as faults
 use Rattle.avc_types.specs.Pictures.{PicMb}
-use Rattle.avc_neigh.specs.declared.facts.TotalCoeffs.{TotalCoeffs}
+use Rattle.avc_neigh.specs.declared.neighbour_info.TotalCoeffs.{TotalCoeffs}
 use Rattle.avc_mbsyntax.specs.declared.stage.Stage.{Stage}
 use Rattle.avc_mbsyntax.specs.Stages.{stage_after}
 
@@ -55,8 +55,8 @@ pub stage_is : (more : Bool) (s : SliceStart) (remaining : ℕ) → IsStage (sta
 stage_is true s remaining = tt
 stage_is false s remaining = tt
 
-pub context_is : (s : SliceStart) (before : List PicMb) (p : Bool) (count qp : ℕ) (left up : Option TotalCoeffs) → s.is_p ≡ p → s.active_count ≡ count → left ≡ left_total_coeffs s before → up ≡ up_total_coeffs s before →
-    context s before qp ≡ record { is_p = p; active_count = count; qp = qp; left = left; up = up }
+pub context_is : (s : SliceStart) (before : List PicMb) (p : Bool) (count qp : ℕ) (left up : Option TotalCoeffs) → s.is_p ≡ p → s.num_ref_idx_active ≡ count → left ≡ left_total_coeffs s before → up ≡ up_total_coeffs s before →
+    context s before qp ≡ record { is_p = p; num_ref_idx_active = count; qp = qp; left = left; up = up }
 context_is s before p count qp left up is_p is_count is_left is_up = rw (is_p, is_count, is_left, is_up) refl
 
 pub one_longer : (before : List PicMb) (m : PicMb) (size r : ℕ) → size ≡ length before + r → 0 < r → size ≡ length (before ++ m ∷ []) + (r - 1)

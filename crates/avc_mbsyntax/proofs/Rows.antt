@@ -4,7 +4,7 @@ use Rattle.avc_mbsyntax.proofs.Common.{Mb, start, blocks, macroblock, Context}
 use Rattle.avc_types.specs.declared.fault.Fault.TheVariants as faults
 
 abbrev first : Context
-first = record { is_p = false; active_count = 0; qp = 26; left = None; up = None }
+first = record { is_p = false; num_ref_idx_active = 0; qp = 26; left = None; up = None }
 
 abbrev mb_at : List ℕ → Result (Mb × ℕ) Fault
 mb_at rbsp = elim (macroblock first (start rbsp)) [ Ok r ↦ Ok (r.0, r.1.position) | Err f ↦ Err f ]

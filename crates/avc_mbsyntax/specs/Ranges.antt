@@ -20,9 +20,9 @@ pub record IsResidual (r : Residual) : Type 0 where
   pub blocks_of_cr : All AreSmall r.cr_ac
 
 -- rem_intra4x4_pred_mode, intra_chroma_pred_mode, Intra16x16PredMode and ref_idx_l0 are in their ranges
-abbrev pub IsSyntax : (active_count : ℕ) → MbSyntax → Type 0
-IsSyntax active_count p_skip = Unit {0}
-IsSyntax active_count (i_pcm luma cb cr) = Unit {0}
-IsSyntax active_count (i_nxn modes chroma_mode r) = All (λ m. IfSome m (λ rem. rem ≤ 7)) modes × (chroma_mode ≤ 3) × IsResidual r
-IsSyntax active_count (i_16x16 mode chroma_mode r) = (mode ≤ 3) × (chroma_mode ≤ 3) × IsResidual r
-IsSyntax active_count (p_inter mb_type ref_idx mvd r) = All (λ ref. ref ≤ active_count - 1) ref_idx × IsResidual r
+abbrev pub IsSyntax : (num_ref_idx_active : ℕ) → MbSyntax → Type 0
+IsSyntax num_ref_idx_active p_skip = Unit {0}
+IsSyntax num_ref_idx_active (i_pcm luma cb cr) = Unit {0}
+IsSyntax num_ref_idx_active (i_nxn modes chroma_mode r) = All (λ m. IfSome m (λ rem. rem ≤ 7)) modes × (chroma_mode ≤ 3) × IsResidual r
+IsSyntax num_ref_idx_active (i_16x16 mode chroma_mode r) = (mode ≤ 3) × (chroma_mode ≤ 3) × IsResidual r
+IsSyntax num_ref_idx_active (p_inter mb_type ref_idx mvd r) = All (λ ref. ref ≤ num_ref_idx_active - 1) ref_idx × IsResidual r

@@ -12,7 +12,7 @@ use Rattle.avc_bits.specs.Bits.{Read, ◌>>=◌, ◌>>◌, give, times}
 use Rattle.avc_bits.specs.Codes.{u, flag, ue_to, se, se_within, te_to, align}
 use Rattle.avc_vlc.specs.Reading.{coded_block_pattern}
 use Rattle.avc_cavlc.specs.Block.{residual_block}
-use Rattle.avc_neigh.specs.declared.facts.TotalCoeffs.{TotalCoeffs}
+use Rattle.avc_neigh.specs.declared.neighbour_info.TotalCoeffs.{TotalCoeffs}
 use Rattle.avc_neigh.specs.TotalCoeffs.{nc}
 use Rattle.avc_mbsyntax.specs.declared.context.Context.{Context}
 
@@ -180,10 +180,10 @@ p_mb_type (suc (suc (suc zero))) = sub_mb_types >>= λ subs. give (P8x8 subs)
 p_mb_type (suc (suc (suc (suc _)))) = sub_mb_types >>= λ subs. give (P8x8Ref0 subs)
 
 -- ref_idx_l0 of each partition (7.3.5.1, 7.3.5.2); 0 where it is not coded (7.4.5.1, 7.4.5.2)
-abbrev pub ref_idx_l0 : (active_count : ℕ) → PMbType → Read (List ℕ)
-ref_idx_l0 active_count (P8x8Ref0 subs) = give (replicate 4 0)
-ref_idx_l0 active_count s =
-    elim (nat_le active_count 1) [ true ↦ give (replicate (partitions s) 0) | false ↦ times (partitions s) (te_to (active_count - 1)) ]
+abbrev pub ref_idx_l0 : (num_ref_idx_active : ℕ) → PMbType → Read (List ℕ)
+ref_idx_l0 num_ref_idx_active (P8x8Ref0 subs) = give (replicate 4 0)
+ref_idx_l0 num_ref_idx_active s =
+    elim (nat_le num_ref_idx_active 1) [ true ↦ give (replicate (partitions s) 0) | false ↦ times (partitions s) (te_to (num_ref_idx_active - 1)) ]
 
 -- mvd_l0 of a part, its horizontal and its vertical component (7.3.5.1, 7.3.5.2)
 abbrev pub mvd_l0 : Read Mvd
@@ -196,7 +196,7 @@ mvd_l0 = do
 abbrev pub p_mb : Context → (mb_type : ℕ) → Read Mb
 p_mb c mb_type = do
   s ← p_mb_type mb_type
-  ref_idx ← ref_idx_l0 c.active_count s
+  ref_idx ← ref_idx_l0 c.num_ref_idx_active s
   mvd ← times (length (parts_of s)) mvd_l0
   pattern ← coded_block_pattern false
   r ← after_pattern c pattern

@@ -37,14 +37,14 @@ IsStage Ended s remaining = Unit {0}
 -- The data is that of a slice with this start, and has come to the end of `before`.
 pub record Follows (s : SliceStart) (before : List PicMb) (d : SliceData) : Type 0 where
   pub is_p : s.is_p ≡ d.is_p
-  pub active_count : s.active_count ≡ d.active_count
+  pub num_ref_idx_active : s.num_ref_idx_active ≡ d.num_ref_idx_active
   pub size : s.size ≡ length before + d.remaining
   pub quantiser : s.qp ≤ 51 → d.qp ≤ 51
   pub stage : IsStage d.stage s d.remaining
 
 -- a macroblock of a slice with this start
 pub record IsOfSlice (s : SliceStart) (mb : Mb) : Type 0 where
-  pub range : IsSyntax s.active_count mb.syntax
+  pub range : IsSyntax s.num_ref_idx_active mb.syntax
   pub quantiser : s.qp ≤ 51 → mb.qp ≤ 51
 
 -- what is handed out by a call that answers whether there is a macroblock, which then stands in this place

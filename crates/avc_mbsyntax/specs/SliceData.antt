@@ -8,7 +8,7 @@ use Rattle.avc_types.specs.Pictures.{PicMb}
 use Rattle.avc_bits.specs.Bits.{Bits, more_data}
 use Rattle.avc_bits.specs.Codes.{ue}
 use Rattle.avc_neigh.specs.Blocks.{left_of, above}
-use Rattle.avc_neigh.specs.declared.facts.TotalCoeffs.{TotalCoeffs}
+use Rattle.avc_neigh.specs.declared.neighbour_info.TotalCoeffs.{TotalCoeffs}
 use Rattle.avc_neigh.specs.TotalCoeffs.{total_coeffs_of}
 use Rattle.avc_mbsyntax.specs.Reading.{macroblock}
 use Rattle.avc_mbsyntax.specs.declared.context.Context.{Context}
@@ -16,7 +16,7 @@ use Rattle.avc_mbsyntax.specs.declared.context.Context.{Context}
 -- What a slice's data is read under (7.3.3).
 pub record SliceStart : Type 0 where
   pub is_p : Bool
-  pub active_count : ℕ
+  pub num_ref_idx_active : ℕ
   -- SliceQP_Y
   pub qp : ℕ
   -- the slice's number in the picture
@@ -64,7 +64,7 @@ up_total_coeffs s before = option_map (λ m. total_coeffs_of m.syntax) (above be
 abbrev pub context : SliceStart → (before : List PicMb) → (qp : ℕ) → Context
 context s before qp = record {
   is_p = s.is_p;
-  active_count = s.active_count;
+  num_ref_idx_active = s.num_ref_idx_active;
   qp = qp;
   left = left_total_coeffs s before;
   up = up_total_coeffs s before;

@@ -90,7 +90,7 @@ is_ref0 (P8x8Ref0 subs) = true
 abbrev pub context_of : LentContext → Context
 context_of c = record {
   is_p = c.is_p;
-  active_count = c.active_count;
+  num_ref_idx_active = c.num_ref_idx_active;
   qp = c.qp;
   left = option_copied c.left;
   up = option_copied c.up;

@@ -10,7 +10,7 @@ pub struct Context {
     pub is_p: bool,
 
     /// num_ref_idx_l0_active_minus1 + 1 of a P slice.
-    pub active_count: u8,
+    pub num_ref_idx_active: u8,
 
     /// QP_Y,PRED (7.4.5): that of the macroblock before in the slice, at first the slice's.
     pub qp: u8,
@@ -26,7 +26,7 @@ pub struct Context {
 #[derive(Clone, Copy)]
 pub(crate) struct LentContext<'a> {
     pub is_p: bool,
-    pub active_count: u8,
+    pub num_ref_idx_active: u8,
     pub qp: u8,
     pub left: Option<&'a TotalCoeffs>,
     pub up: Option<&'a TotalCoeffs>,
@@ -38,7 +38,7 @@ impl Context {
     {
         LentContext {
             is_p: self.is_p,
-            active_count: self.active_count,
+            num_ref_idx_active: self.num_ref_idx_active,
             qp: self.qp,
             left: self.left.as_ref(),
             up: self.up.as_ref(),

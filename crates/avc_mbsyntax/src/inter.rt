@@ -26,12 +26,12 @@ pub(crate) fn read_p_mb(
     mb: &mut Mb,
 ) -> Result<(), Fault>
     ensures read { ReadsInto result mb.new (p_mb (context_of context.now) mb_type) reader.old reader.new }
-    ensures range { IfOk result (λ _. IsSyntax context.now.active_count mb.new.syntax) }
+    ensures range { IfOk result (λ _. IsSyntax context.now.num_ref_idx_active mb.new.syntax) }
     ensures quantiser { context.now.qp ≤ 51 → IfOk result (λ _. mb.new.qp ≤ 51) }
 {
     let mb_type = read_p_mb_type(reader, mb_type)?;
     let mut ref_idx = [0; 4];
-    read_ref_idx(reader, context.active_count, &mb_type, &mut ref_idx)?;
+    read_ref_idx(reader, context.num_ref_idx_active, &mb_type, &mut ref_idx)?;
     set_inter(&mut mb.syntax, mb_type, ref_idx);
     let Syntax::PInter { mvd, .. } = &mut mb.syntax else {
         unreachable!()
@@ -91,21 +91,21 @@ fn read_p_mb_type(reader: &mut BitReader, mb_type: u32) -> Result<PMbType, Fault
 // Where none is coded each is 0, as before.
 fn read_ref_idx(
     reader: &mut BitReader,
-    active_count: u8,
+    num_ref_idx_active: u8,
     mb_type: &PMbType,
     ref_idx: &mut [u8; 4],
 ) -> Result<(), Fault>
     requires zero { ref_idx.old ≡ replicate 4 0 }
-    ensures range { IfOk result (λ _. All (λ ref. ref ≤ active_count - 1) (take (partitions mb_type.now) ref_idx.new)) }
-    ensures read { ReadsInto result (take (partitions mb_type.now) ref_idx.new) (ref_idx_l0 active_count mb_type.now) reader.old reader.new }
+    ensures range { IfOk result (λ _. All (λ ref. ref ≤ num_ref_idx_active - 1) (take (partitions mb_type.now) ref_idx.new)) }
+    ensures read { ReadsInto result (take (partitions mb_type.now) ref_idx.new) (ref_idx_l0 num_ref_idx_active mb_type.now) reader.old reader.new }
 {
     if is_ref0(mb_type) {
         return Ok(());
     }
-    if active_count <= 1 {
+    if num_ref_idx_active <= 1 {
         return Ok(());
     }
-    let most = u32::from(active_count) - 1;
+    let most = u32::from(num_ref_idx_active) - 1;
     read_elements(reader, partitions(mb_type), most, ref_idx)
 }
 

@@ -25,7 +25,7 @@ pub(crate) fn read_i_mb(
 ) -> Result<(), Fault>
     requires { mb_type ≤ 25 }
     ensures read { ReadsInto result mb.new (i_mb (context_of context.now) mb_type) reader.old reader.new }
-    ensures range { IfOk result (λ _. IsSyntax context.now.active_count mb.new.syntax) }
+    ensures range { IfOk result (λ _. IsSyntax context.now.num_ref_idx_active mb.new.syntax) }
     ensures quantiser { context.now.qp ≤ 51 → IfOk result (λ _. mb.new.qp ≤ 51) }
 {
     match mb_type {
@@ -44,7 +44,7 @@ fn read_modes(reader: &mut BitReader, modes: &mut [Option<u8>; 16]) -> Result<()
 
 fn read_i_nxn(reader: &mut BitReader, context: &LentContext<'_>, mb: &mut Mb) -> Result<(), Fault>
     ensures read { ReadsInto result mb.new (i_nxn_mb (context_of context.now)) reader.old reader.new }
-    ensures range { IfOk result (λ _. IsSyntax context.now.active_count mb.new.syntax) }
+    ensures range { IfOk result (λ _. IsSyntax context.now.num_ref_idx_active mb.new.syntax) }
     ensures quantiser { context.now.qp ≤ 51 → IfOk result (λ _. mb.new.qp ≤ 51) }
 {
     let mut modes = [None; 16];
@@ -92,7 +92,7 @@ fn read_i_16x16(
 ) -> Result<(), Fault>
     requires { n ≤ 24 }
     ensures read { ReadsInto result mb.new (i_16x16_mb (context_of context.now) n) reader.old reader.new }
-    ensures range { IfOk result (λ _. IsSyntax context.now.active_count mb.new.syntax) }
+    ensures range { IfOk result (λ _. IsSyntax context.now.num_ref_idx_active mb.new.syntax) }
     ensures quantiser { context.now.qp ≤ 51 → IfOk result (λ _. mb.new.qp ≤ 51) }
 {
     let chroma_mode = reader.ue_to(3)? as u8;
@@ -148,7 +148,7 @@ fn luma_pattern_of(n: u8) -> u8
 
 fn read_i_pcm(reader: &mut BitReader, context: &LentContext<'_>, mb: &mut Mb) -> Result<(), Fault>
     ensures read { ReadsInto result mb.new (i_pcm_mb (context_of context.now)) reader.old reader.new }
-    ensures range { IfOk result (λ _. IsSyntax context.now.active_count mb.new.syntax) }
+    ensures range { IfOk result (λ _. IsSyntax context.now.num_ref_idx_active mb.new.syntax) }
     ensures quantiser { context.now.qp ≤ 51 → IfOk result (λ _. mb.new.qp ≤ 51) }
 {
     reader.align()?;

@@ -19,6 +19,3 @@ pub use macroblock::read_macroblock;
 pub use near::{cb_side, cr_side, luma_side};
 pub use slice_data::SliceData;
 pub use stage::Stage;
-
-#[cfg(test)]
-mod tests;

@@ -15,7 +15,7 @@ use avc_types::{Fault, Mb, Syntax};
 /// OutOfRange, BadCode and TooManyCoefficients; the reader then stays.
 pub fn read_macroblock(reader: &mut BitReader, context: &Context) -> Result<Mb, Fault>
     ensures read { Reads result (macroblock context.now) reader.old reader.new }
-    ensures range { IfOk result (λ mb. IsSyntax context.now.active_count mb.syntax) }
+    ensures range { IfOk result (λ mb. IsSyntax context.now.num_ref_idx_active mb.syntax) }
     ensures quantiser { context.now.qp ≤ 51 → IfOk result (λ mb. mb.qp ≤ 51) }
     ensures stays { OnErr result (reader.new ≡ reader.old) }
 {
@@ -36,7 +36,7 @@ pub(crate) fn read_into(
     mb: &mut Mb,
 ) -> Result<(), Fault>
     ensures read { ReadsInto result mb.new (macroblock (context_of context.now)) reader.old reader.new }
-    ensures range { IfOk result (λ _. IsSyntax context.now.active_count mb.new.syntax) }
+    ensures range { IfOk result (λ _. IsSyntax context.now.num_ref_idx_active mb.new.syntax) }
     ensures quantiser { context.now.qp ≤ 51 → IfOk result (λ _. mb.new.qp ≤ 51) }
 {
     if !context.is_p {

@@ -18,7 +18,7 @@ use avc_types::{Fault, Mb, Syntax};
 pub struct SliceData<'a> {
     reader: BitReader<'a>,
     is_p: bool,
-    active_count: u8,
+    num_ref_idx_active: u8,
     // QP_Y of the macroblock before in the slice, at first SliceQP_Y
     qp: u8,
     // how many macroblocks of the picture remain
@@ -40,17 +40,23 @@ impl<'a> SliceData<'a> {
     ghost use Rattle.avc_mbsyntax.specs.Rest.{Follows, IsHandedOut, IsOneMore, IsRun, IsSkipped, handed_out, read_out, rest_of};
     ghost use Rattle.avc_mbsyntax.specs.declared.stage.Stage.TheVariants.{Next, Skipped};
 
-    /// The data that a reader has ahead: of a P slice or an I slice, with `active_count` entries in RefPicList0 and the
+    /// The data that a reader has ahead: of a P slice or an I slice, with `num_ref_idx_active` entries in RefPicList0 and the
     /// quantiser `qp` (SliceQP_Y), where so many macroblocks of the picture remain.
-    pub fn new(reader: BitReader<'a>, is_p: bool, active_count: u8, qp: u8, remaining: u32) -> Self
-        ensures { (s : SliceStart) (before : List PicMb) → s.is_p ≡ is_p → s.active_count ≡ active_count → s.qp ≡ qp
+    pub fn new(
+        reader: BitReader<'a>,
+        is_p: bool,
+        num_ref_idx_active: u8,
+        qp: u8,
+        remaining: u32,
+    ) -> Self
+        ensures { (s : SliceStart) (before : List PicMb) → s.is_p ≡ is_p → s.num_ref_idx_active ≡ num_ref_idx_active → s.qp ≡ qp
             → s.size ≡ length before + remaining
             → Follows s before result × (rest_of s before result ≡ slice_data s before (reader_bits reader.entry)) }
     {
         SliceData {
             reader,
             is_p,
-            active_count,
+            num_ref_idx_active,
             qp,
             remaining,
             stage: Stage::Next,
@@ -185,7 +191,7 @@ impl<'a> SliceData<'a> {
         }
         let context = LentContext {
             is_p: self.is_p,
-            active_count: self.active_count,
+            num_ref_idx_active: self.num_ref_idx_active,
             qp: self.qp,
             left,
             up,

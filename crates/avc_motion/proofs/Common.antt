@@ -9,10 +9,10 @@ pub use Rattle.std.proofs.lemmas.List.{length-drop, take_rest, get_or-replicate}
 pub use Rattle.std.proofs.lemmas.Option.{same_Some}
 pub use Rattle.std.specs.List.{list_all}
 pub use Rattle.std.specs.Prelude.{negsuc, slice_index, if◌then◌else◌, Some, None, not, ◌&&◌, Option, Result, Ok, Err, replicate}
-pub use Rattle.avc_neigh.specs.Around.{facts_of}
+pub use Rattle.avc_neigh.specs.Around.{info_of}
 pub use Rattle.avc_neigh.specs.BlockNear.{IsAsked, motion_near}
-pub use Rattle.avc_neigh.specs.declared.facts.Motion.{Motion}
-pub use Rattle.avc_neigh.specs.declared.facts.Motion.TheVariants.{Inter as inter, Absent as absent, Intra as intra}
+pub use Rattle.avc_neigh.specs.declared.neighbour_info.Motion.{Motion}
+pub use Rattle.avc_neigh.specs.declared.neighbour_info.Motion.TheVariants.{Inter as inter, Absent as absent, Intra as intra}
 pub use Rattle.avc_types.specs.Macroblock.{part, parts_of, parts_of_quarter, parts_of_quarters, partitions, quarter_x, quarter_y, MbSyntax}
 pub use Rattle.avc_types.specs.Macroblock.{Residual, p_skip, p_inter}
 pub use Rattle.avc_types.specs.declared.fault.Fault.{Fault}

@@ -8,10 +8,10 @@ use Rattle.avc_types.specs.declared.macroblock.PMbType.{PMbType}
 use Rattle.avc_types.specs.declared.macroblock.PMbType.TheVariants.{P16x16, P16x8, P8x16, P8x8, P8x8Ref0}
 use Rattle.avc_types.specs.declared.macroblock.SubMbType.{SubMbType}
 use Rattle.avc_types.specs.Macroblock.{parts_of, parts_of_quarter, quarter_x, quarter_y}
-use Rattle.avc_neigh.specs.Around.{facts_of}
+use Rattle.avc_neigh.specs.Around.{info_of}
 use Rattle.avc_neigh.specs.BlockNear.{motion_near}
-use Rattle.avc_neigh.specs.declared.facts.Motion.{Motion}
-use Rattle.avc_neigh.specs.declared.facts.Motion.TheVariants.{Absent as absent}
+use Rattle.avc_neigh.specs.declared.neighbour_info.Motion.{Motion}
+use Rattle.avc_neigh.specs.declared.neighbour_info.Motion.TheVariants.{Absent as absent}
 use Rattle.avc_motion.specs.declared.parts.Inter.{Inter}
 use Rattle.avc_motion.specs.Motion.{Near, motion_of_part, with_part, is_in_part, is_in_range, no_motion}
 
@@ -26,11 +26,11 @@ decoded near shape ref_idx mine (part ∷ parts) (mvd ∷ mvds) =
 -- a part of a macroblock, and parts in their order, by what the code knows of the macroblock
 abbrev pub moved_by : Inter → List Motion → Part → Mvd → Motion
 moved_by i mine part mvd =
-    motion_of_part (motion_near (facts_of i.neighbours.now)) i.mb_type.now (slice_index i.ref_idx.now part.partition) mine part mvd
+    motion_of_part (motion_near (info_of i.neighbours.now)) i.mb_type.now (slice_index i.ref_idx.now part.partition) mine part mvd
 
 -- the same as the code has it at hand
 abbrev pub decoded_by : Inter → List Motion → List Part → List Mvd → Option (List Motion)
-decoded_by i mine parts mvds = decoded (motion_near (facts_of i.neighbours.now)) i.mb_type.now i.ref_idx.now mine parts mvds
+decoded_by i mine parts mvds = decoded (motion_near (info_of i.neighbours.now)) i.mb_type.now i.ref_idx.now mine parts mvds
 
 -- the parts of a sub-macroblock (Table 7-17)
 abbrev pub parts_in_quarter : SubMbType → ℕ → List Part

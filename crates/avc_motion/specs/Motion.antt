@@ -11,9 +11,9 @@ use Rattle.avc_types.specs.declared.macroblock.PMbType.{PMbType}
 use Rattle.avc_types.specs.declared.macroblock.PMbType.TheVariants.{P16x16, P16x8, P8x16, P8x8, P8x8Ref0}
 use Rattle.avc_types.specs.declared.edges.FilteredEdges.TheVariants.{NoEdges}
 use Rattle.avc_types.specs.Macroblock.{MbSyntax, p_skip, i_pcm, i_nxn, i_16x16, p_inter, parts_of}
-use Rattle.avc_types.specs.Pictures.{Coded, PicMb, SliceFacts, Frame}
-use Rattle.avc_neigh.specs.declared.facts.Motion.{Motion}
-use Rattle.avc_neigh.specs.declared.facts.Motion.TheVariants.{Absent as absent, Intra as intra, Inter as inter}
+use Rattle.avc_types.specs.Pictures.{Coded, PicMb, SliceInfo, Frame}
+use Rattle.avc_neigh.specs.declared.neighbour_info.Motion.{Motion}
+use Rattle.avc_neigh.specs.declared.neighbour_info.Motion.TheVariants.{Absent as absent, Intra as intra, Inter as inter}
 use Rattle.avc_motion.specs.declared.neighbouring.NeighbouringPartitions.{NeighbouringPartitions}
 use Rattle.avc_neigh.specs.Blocks.{block_x, block_y, location_at}
 use Rattle.avc_neigh.specs.Nearby.{nearby}
@@ -238,13 +238,13 @@ abbrev pub AreOfOneMotion : List Motion → Type 0
 AreOfOneMotion motion = motion ≡ replicate 16 (slice_index_or motion 0 absent)
 
 -- A slice that is not there: part of no picture, but the definitions are total.
-abbrev pub no_slice : SliceFacts
+abbrev pub no_slice : SliceInfo
 no_slice = record { is_p = false; references = []; weights = []; disable_deblocking_filter_idc = NoEdges; filter_offset_a = pos 0; filter_offset_b = pos 0 }
 
--- the facts of the slice with this number
-abbrev pub slice_facts : Coded → ℕ → SliceFacts
-slice_facts p slice = slice_index_or p.slices slice no_slice
+-- the info of the slice with this number
+abbrev pub slice_info : Coded → ℕ → SliceInfo
+slice_info p slice = slice_index_or p.slices slice no_slice
 
 -- the frame that a reference index names in a slice; no frame where the entry is empty or missing (8.4.2.1)
 abbrev pub frame_named : Coded → (slice reference : ℕ) → Option Frame
-frame_named p slice r = slice_index_or (slice_facts p slice).references r None
+frame_named p slice r = slice_index_or (slice_info p slice).references r None

@@ -2,9 +2,9 @@ ghost use Rattle.std.specs.Prelude.{◌≡◌, true, map, replicate, OnOk};
 ghost use Rattle.std.specs.List.{list_all};
 ghost use Rattle.avc_types.specs.Macroblock.{p_skip};
 ghost use Rattle.avc_types.specs.References.{result_map};
-ghost use Rattle.avc_neigh.specs.Around.{facts_of};
+ghost use Rattle.avc_neigh.specs.Around.{info_of};
 ghost use Rattle.avc_neigh.specs.BlockNear.{motion_near};
-ghost use Rattle.avc_neigh.specs.declared.facts.Motion.TheVariants.{Absent as absent};
+ghost use Rattle.avc_neigh.specs.declared.neighbour_info.Motion.TheVariants.{Absent as absent};
 ghost use Rattle.avc_motion.specs.Motion.{AreOfOneMotion, HasMotion, HasVectors, is_in_range, motion_by, vector_of as motion_vector};
 ghost use Rattle.avc_motion.specs.Motion.{has_one_motion as has_one_motion_by, is_one_partition as is_one_partition_by};
 ghost use Rattle.avc_motion.specs.Motion.{neighbours_of, skip_vector, zero_vector};
@@ -48,7 +48,7 @@ fn set_all(blocks: &mut [Motion; 16], motion: Motion)
 
 /// A skipped macroblock does not move by what A and B have alone (8.4.1.1).
 fn is_held(neighbours: &Neighbours<'_>) -> bool
-    ensures { result ≡ true → skip_vector (neighbours_of (motion_near (facts_of neighbours.now)) (replicate 16 absent) 0 0 16) ≡ zero_vector }
+    ensures { result ≡ true → skip_vector (neighbours_of (motion_near (info_of neighbours.now)) (replicate 16 absent) 0 0 16) ≡ zero_vector }
 {
     let mine = [Motion::Absent; 16];
     is_still(left_of(neighbours, &mine, 0, 0)) || is_still(above(neighbours, &mine, 0, 0))
@@ -56,7 +56,7 @@ fn is_held(neighbours: &Neighbours<'_>) -> bool
 
 /// The blocks of a skipped macroblock that may move.
 fn set_moving(neighbours: &Neighbours<'_>, blocks: &mut [Motion; 16])
-    ensures motion { blocks.new ≡ motion_by (motion_near (facts_of neighbours.now)) p_skip }
+    ensures motion { blocks.new ≡ motion_by (motion_near (info_of neighbours.now)) p_skip }
     ensures within { list_all is_in_range blocks.new ≡ true }
     ensures alike { AreOfOneMotion blocks.new }
 {
@@ -67,7 +67,7 @@ fn set_moving(neighbours: &Neighbours<'_>, blocks: &mut [Motion; 16])
 
 /// The blocks of a skipped macroblock (8.4.1.1).
 fn set_skipped(neighbours: &Neighbours<'_>, blocks: &mut [Motion; 16])
-    ensures motion { blocks.new ≡ motion_by (motion_near (facts_of neighbours.now)) p_skip }
+    ensures motion { blocks.new ≡ motion_by (motion_near (info_of neighbours.now)) p_skip }
     ensures within { list_all is_in_range blocks.new ≡ true }
     ensures alike { AreOfOneMotion blocks.new }
 {
@@ -87,7 +87,7 @@ fn set_inter(
     neighbours: &Neighbours<'_>,
     blocks: &mut [Motion; 16],
 ) -> Result<(), Fault>
-    ensures motion { let near = motion_near (facts_of neighbours.now) in
+    ensures motion { let near = motion_near (info_of neighbours.now) in
         result_map (λ _. blocks.new) result ≡ blocks_or_fault (decoded_whole near mb_type.now ref_idx.now mvd.now) }
     ensures quarters { HasFourQuarters mb_type.now }
     ensures alike { is_one_partition_by mb_type.now ≡ true → OnOk result (AreOfOneMotion blocks.new) }
@@ -105,7 +105,7 @@ fn set_inter(
 /// Writes into `blocks` the reference index and the vector of each luma block of a macroblock (8.4.1), in block order. `neighbours`
 /// are those of the macroblock. `VectorRange` where a component of a vector is no 16-bit number; the blocks are then any.
 pub fn motion(mb: &Mb, neighbours: &Neighbours<'_>, blocks: &mut [Motion; 16]) -> Result<(), Fault>
-    ensures motion { HasMotion (facts_of neighbours.now) mb.now.syntax (result_map (λ _. blocks.new) result) }
+    ensures motion { HasMotion (info_of neighbours.now) mb.now.syntax (result_map (λ _. blocks.new) result) }
     ensures alike { has_one_motion_by mb.now.syntax ≡ true → OnOk result (AreOfOneMotion blocks.new) }
 {
     match &mb.syntax {
@@ -140,7 +140,7 @@ fn vectors_of(motion: &[Motion; 16]) -> [Mv; 16]
 /// The vector of each luma block of a macroblock (8.4.1), in block order, in quarter luma samples: 0 in an intra macroblock.
 /// `neighbours` are those of the macroblock. `VectorRange` where a component of a vector is no 16-bit number.
 pub fn vectors(mb: &Mb, neighbours: &Neighbours<'_>) -> Result<[Mv; 16], Fault>
-    ensures { HasVectors (facts_of neighbours.now) mb.now.syntax result }
+    ensures { HasVectors (info_of neighbours.now) mb.now.syntax result }
 {
     let mut blocks = [Motion::Absent; 16];
     match motion(mb, neighbours, &mut blocks) {

@@ -1,12 +1,12 @@
 ghost use Rattle.std.specs.Prelude.{◌≡◌, ◌+◌, ◌<◌, ◌≤◌, pos, ◌-ℤ◌};
 ghost use Rattle.avc_neigh.specs.Blocks as blocks;
 ghost use Rattle.std.specs.Option.{option_copied};
-ghost use Rattle.avc_neigh.specs.Around.{facts_of};
+ghost use Rattle.avc_neigh.specs.Around.{info_of};
 ghost use Rattle.avc_neigh.specs.BlockNear.{block_of, motion_near};
-ghost use Rattle.avc_neigh.specs.declared.facts.Motion.TheVariants.{Absent as absent};
+ghost use Rattle.avc_neigh.specs.declared.neighbour_info.Motion.TheVariants.{Absent as absent};
 ghost use Rattle.avc_motion.specs.Motion.{neighbours_of};
 
-use avc_neigh::{Motion, NeighbourFacts, Neighbours};
+use avc_neigh::{Motion, NeighbourInfo, Neighbours};
 
 /// What the neighbouring partitions of a part of a macroblock have (6.4.11.7).
 #[derive(Clone, Copy, Debug, PartialEq, Eq)]
@@ -32,12 +32,12 @@ fn block_at(x: usize, y: usize) -> usize
 }
 
 /// What a block of a neighbouring macroblock has.
-fn block_of(facts: Option<&NeighbourFacts>, block: usize) -> Motion
+fn block_of(info: Option<&NeighbourInfo>, block: usize) -> Motion
     requires { block < 16 }
-    ensures { result ≡ block_of absent (λ f. f.motion) (option_copied facts.entry) block }
+    ensures { result ≡ block_of absent (λ f. f.motion) (option_copied info.entry) block }
 {
-    match facts {
-        Some(facts) => facts.motion[block],
+    match info {
+        Some(info) => info.motion[block],
         None => Motion::Absent,
     }
 }
@@ -51,7 +51,7 @@ pub(crate) fn left_of(
 ) -> Motion
     requires column { x < 16 }
     requires row { y < 16 }
-    ensures { result ≡ motion_near (facts_of neighbours.now) mine.now (pos x -ℤ pos 1) (pos y) }
+    ensures { result ≡ motion_near (info_of neighbours.now) mine.now (pos x -ℤ pos 1) (pos y) }
 {
     if x == 0 {
         block_of(neighbours.a, block_at(15, y))
@@ -64,7 +64,7 @@ pub(crate) fn left_of(
 pub(crate) fn above(neighbours: &Neighbours<'_>, mine: &[Motion; 16], x: usize, y: usize) -> Motion
     requires column { x ≤ 16 }
     requires row { y < 16 }
-    ensures { result ≡ motion_near (facts_of neighbours.now) mine.now (pos x) (pos y -ℤ pos 1) }
+    ensures { result ≡ motion_near (info_of neighbours.now) mine.now (pos x) (pos y -ℤ pos 1) }
 {
     match (y == 0, x < 16) {
         (true, true) => block_of(neighbours.b, block_at(x, 15)),
@@ -78,7 +78,7 @@ pub(crate) fn above(neighbours: &Neighbours<'_>, mine: &[Motion; 16], x: usize, 
 fn above_left(neighbours: &Neighbours<'_>, mine: &[Motion; 16], x: usize, y: usize) -> Motion
     requires column { x < 16 }
     requires row { y < 16 }
-    ensures { result ≡ motion_near (facts_of neighbours.now) mine.now (pos x -ℤ pos 1) (pos y -ℤ pos 1) }
+    ensures { result ≡ motion_near (info_of neighbours.now) mine.now (pos x -ℤ pos 1) (pos y -ℤ pos 1) }
 {
     if x != 0 {
         above(neighbours, mine, x - 1, y)
@@ -101,7 +101,7 @@ impl NeighbouringPartitions {
         requires column { x < 16 }
         requires within { x + width ≤ 16 }
         requires row { y < 16 }
-        ensures { result ≡ neighbours_of (motion_near (facts_of neighbours.now)) mine.now x y width }
+        ensures { result ≡ neighbours_of (motion_near (info_of neighbours.now)) mine.now x y width }
     {
         let c = match above(neighbours, mine, x + width, y) {
             Motion::Absent => above_left(neighbours, mine, x, y),

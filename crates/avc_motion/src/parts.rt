@@ -1,6 +1,6 @@
 ghost use Rattle.std.specs.Prelude.{◌≡◌, ℕ, ◌≤◌, ◌<◌, ◌+◌, ◌*◌, pos, ◌+ℤ◌, true, false, if◌then◌else◌, length, slice_index_or, Some, None};
 ghost use Rattle.std.specs.List.{All};
-ghost use Rattle.avc_neigh.specs.declared.facts.Motion.TheVariants.{Absent as absent, Inter as inter};
+ghost use Rattle.avc_neigh.specs.declared.neighbour_info.Motion.TheVariants.{Absent as absent, Inter as inter};
 ghost use Rattle.avc_types.specs.Macroblock as macroblocks;
 ghost use Rattle.avc_motion.specs.Motion as motions;
 ghost use Rattle.avc_motion.specs.Decoding.{in_range_only, IsOfQuarter, IsQuarterFilled};

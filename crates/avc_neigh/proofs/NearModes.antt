@@ -2,10 +2,10 @@
 use Rattle.std.proofs.Common.{ℕ, ◌≡◌, ◌+◌, ◌<◌, ◌≤◌, pos, ◌-ℤ◌, arith, Bool, List, [], ◌∷◌, ◌++◌, Option, Some, None, length, refl, sym, ap, ◌∙◌, length-append, true, false, nat_lt, if◌then◌else◌, negsuc, ℤ, suc, inl, inr, get_or, set, take, drop, drop-cons, length-drop, get_or-set_other, get_or-set_same, add-one, lit≤, IfSome}
 use Rattle.std.proofs.Math.Seq.{take-suc-set}
 use Rattle.avc_neigh.proofs.Common.{cases_lt, get_or-take, get_or_past, length-take, length-take-le, take_all, ints, nat_tests, All, Coded}
-use Rattle.avc_neigh.proofs.Common.{NeighbourFacts, absent, inter, mode, Around, block_x, block_y, mode_near, HasModes, IsAsked}
+use Rattle.avc_neigh.proofs.Common.{NeighbourInfo, absent, inter, mode, Around, block_x, block_y, mode_near, HasModes, IsAsked}
 use Rattle.avc_neigh.proofs.Common.{ModesAreAround, block_of, chosen_mode, mode_of_neighbour, nxn_modes, predicted_mode, prediction_for}
 use Rattle.avc_neigh.proofs.Common.{IsMode, IsRem}
-use Rattle.avc_neigh.specs.declared.facts.NearMode.{NearMode}
+use Rattle.avc_neigh.specs.declared.neighbour_info.NearMode.{NearMode}
 
 abbrev pub prediction_near : Around → Bool → List NearMode → (k : ℕ) → ℕ
 prediction_near n constrained mine k =
@@ -93,7 +93,7 @@ mode_in modes all k = elim (cases_lt k (length modes)) [
   | inr h ↦ rw (get_or_past modes k absent h) tt
 ]
 
-mode_of_side : (f : Option NeighbourFacts) → HasModes f → (k : ℕ) → IsMode (block_of absent (λ f. f.modes) f k)
+mode_of_side : (f : Option NeighbourInfo) → HasModes f → (k : ℕ) → IsMode (block_of absent (λ f. f.modes) f k)
 mode_of_side None h k = tt
 mode_of_side (Some f) h k = mode_in f.modes h k
 

@@ -1,25 +1,25 @@
 -- The block that covers a sample beside a macroblock, from the macroblock's four neighbours (6.4.12.1).
 use Rattle.std.specs.Prelude.{◌≡◌, ℕ, nat_lt, Bool, ℤ, pos, negsuc, ◌≤ℤ◌, if◌then◌else◌, List, [], Option, Some, None, slice_index_or, All}
 use Rattle.avc_types.specs.Pictures.{Coded, PicMb}
-use Rattle.avc_neigh.specs.declared.facts.NeighbourFacts.{NeighbourFacts}
-use Rattle.avc_neigh.specs.declared.facts.Motion.{Motion}
-use Rattle.avc_neigh.specs.declared.facts.Motion.TheVariants as motions
-use Rattle.avc_neigh.specs.declared.facts.NearMode.{NearMode}
-use Rattle.avc_neigh.specs.declared.facts.NearMode.TheVariants as modes
+use Rattle.avc_neigh.specs.declared.neighbour_info.NeighbourInfo.{NeighbourInfo}
+use Rattle.avc_neigh.specs.declared.neighbour_info.Motion.{Motion}
+use Rattle.avc_neigh.specs.declared.neighbour_info.Motion.TheVariants as motions
+use Rattle.avc_neigh.specs.declared.neighbour_info.NearMode.{NearMode}
+use Rattle.avc_neigh.specs.declared.neighbour_info.NearMode.TheVariants as modes
 use Rattle.avc_neigh.specs.Around.{Around}
 use Rattle.avc_neigh.specs.Blocks.{block_at, location_at}
 use Rattle.avc_neigh.specs.Modes.{nxn_modes, IsMode}
 use Rattle.avc_neigh.specs.Nearby.{nearby}
 
 -- what block k of a neighbour has, where that is available (6.4.8)
-abbrev pub block_of : {X : Type 0} → X → (NeighbourFacts → List X) → Option NeighbourFacts → (k : ℕ) → X
+abbrev pub block_of : {X : Type 0} → X → (NeighbourInfo → List X) → Option NeighbourInfo → (k : ℕ) → X
 block_of absent blocks None k = absent
 block_of absent blocks (Some f) k = slice_index_or (blocks f) k absent
 
 -- The block that covers the sample (x, y) as seen from the upper left one of the macroblock: x from -1
 -- to 16 and y from -1 to 15 (6.4.12.1, Table 6-3). `mine` has the macroblock's own blocks, and `blocks`
 -- says what a neighbour's have.
-abbrev pub block_near : {X : Type 0} → X → (NeighbourFacts → List X) → Around → (mine : List X) → (x y : ℤ) → X
+abbrev pub block_near : {X : Type 0} → X → (NeighbourInfo → List X) → Around → (mine : List X) → (x y : ℤ) → X
 block_near absent blocks n mine (pos x) (pos y) = if nat_lt x 16 then slice_index_or mine (block_at x y) absent else absent
 block_near absent blocks n mine (negsuc _) (pos y) = block_of absent blocks n.a (block_at 15 y)
 block_near absent blocks n mine (pos x) (negsuc _) =
@@ -43,7 +43,7 @@ pub record IsAsked (x y : ℤ) : Type 0 where
 
 -- These are the neighbours of macroblock a: their blocks are those that are found by sample coordinates
 -- (6.4.12.1). `known` has the blocks of the macroblocks before a.
-pub record AreAround {X : Type 0} (absent : X) (blocks : NeighbourFacts → List X) (n : Around)
+pub record AreAround {X : Type 0} (absent : X) (blocks : NeighbourInfo → List X) (n : Around)
     (mbs : List PicMb) (width : ℕ) (known : List (List X)) (a : ℕ) : Type 0 where
   pub block : (mine : List X) (x y : ℤ) → IsAsked x y
       → nearby absent mbs known mine a (location_at width a x y) ≡ block_near absent blocks n mine x y
@@ -63,6 +63,6 @@ AreNxnModes n constrained_intra_pred coded modes =
     → ModesAreAround n c.mbs c.width known a → modes ≡ nxn_modes c known a [] coded
 
 -- The modes of a neighbour, where it is available, are 0 to 8 (Table 8-2).
-abbrev pub HasModes : Option NeighbourFacts → Type 0
+abbrev pub HasModes : Option NeighbourInfo → Type 0
 HasModes None = Unit {0}
 HasModes (Some f) = All IsMode f.modes

@@ -1,7 +1,7 @@
 -- total_coeff of the blocks of a macroblock, and nC (9.2.1).
 use Rattle.std.specs.Prelude.{ℕ, zero, suc, ◌+◌, ◌-◌, ◌/◌, List, map, replicate, Option, Some, None, slice_index}
 use Rattle.std.specs.Option.{option_map}
-use Rattle.avc_neigh.specs.declared.facts.TotalCoeffs.{TotalCoeffs}
+use Rattle.avc_neigh.specs.declared.neighbour_info.TotalCoeffs.{TotalCoeffs}
 use Rattle.avc_types.specs.Macroblock.{total_coeff, Residual, MbSyntax, p_skip, i_pcm, i_nxn, i_16x16, p_inter}
 use Rattle.avc_neigh.specs.Blocks.{block_x, block_y, block_at}
 

@@ -1,12 +1,12 @@
 ghost use Rattle.std.specs.Prelude.{◌≡◌, ◌<◌, ◌-ℤ◌, pos, take, All};
 ghost use Rattle.std.specs.Option.{option_copied};
-ghost use Rattle.avc_neigh.specs.Around.{facts_of};
+ghost use Rattle.avc_neigh.specs.Around.{info_of};
 ghost use Rattle.avc_neigh.specs.BlockNear.{mode_near, AreNxnModes, HasModes};
 ghost use Rattle.avc_neigh.specs.Blocks.{block_x, block_y};
 ghost use Rattle.avc_neigh.specs.Modes.{chosen_mode, mode_of_neighbour, predicted_mode, IsMode, IsRem};
 
 use crate::block_order::{above_block, is_leftmost, is_topmost, left_block};
-use crate::facts::NearMode;
+use crate::neighbour_info::NearMode;
 use crate::neighbours::Neighbours;
 
 /// Intra_4x4_DC, which is predicted where a neighbour brings no mode.
@@ -55,12 +55,12 @@ fn chosen(predicted: u8, coded: Option<u8>) -> u8
 #[inline]
 fn mode_at_left(neighbours: &Neighbours, modes: &[NearMode; 16], k: usize) -> NearMode
     requires { k < 16 }
-    ensures { result ≡ mode_near (facts_of neighbours.now) (take k modes.now) (pos (block_x k) -ℤ pos 1) (pos (block_y k)) }
+    ensures { result ≡ mode_near (info_of neighbours.now) (take k modes.now) (pos (block_x k) -ℤ pos 1) (pos (block_y k)) }
 {
     let place = left_block(k);
     if is_leftmost(k) {
         match neighbours.a {
-            Some(facts) => facts.modes[place],
+            Some(info) => info.modes[place],
             None => NearMode::Absent,
         }
     } else {
@@ -72,12 +72,12 @@ fn mode_at_left(neighbours: &Neighbours, modes: &[NearMode; 16], k: usize) -> Ne
 #[inline]
 fn mode_above(neighbours: &Neighbours, modes: &[NearMode; 16], k: usize) -> NearMode
     requires { k < 16 }
-    ensures { result ≡ mode_near (facts_of neighbours.now) (take k modes.now) (pos (block_x k)) (pos (block_y k) -ℤ pos 1) }
+    ensures { result ≡ mode_near (info_of neighbours.now) (take k modes.now) (pos (block_x k)) (pos (block_y k) -ℤ pos 1) }
 {
     let place = above_block(k);
     if is_topmost(k) {
         match neighbours.b {
-            Some(facts) => facts.modes[place],
+            Some(info) => info.modes[place],
             None => NearMode::Absent,
         }
     } else {
@@ -94,7 +94,7 @@ pub fn intra4x4_modes(
     coded: &[Option<u8>; 16],
 ) -> [NearMode; 16]
     requires { All IsRem coded.now }
-    ensures modes { AreNxnModes (facts_of neighbours.now) constrained_intra_pred coded.now result }
+    ensures modes { AreNxnModes (info_of neighbours.now) constrained_intra_pred coded.now result }
     ensures within { HasModes (option_copied neighbours.now.a) → HasModes (option_copied neighbours.now.b) → All IsMode result }
 {
     let mut modes = [NearMode::Absent; 16];

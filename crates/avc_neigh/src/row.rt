@@ -1,9 +1,9 @@
 ghost use Rattle.std.specs.Prelude.{◌≡◌, ◌<◌, IfOk, Some};
 ghost use Rattle.std.specs.Option.{option_copied};
-ghost use Rattle.avc_neigh.specs.Around.{mb_a, mb_b, mb_c, mb_d, no_facts, of_slice, with_facts};
+ghost use Rattle.avc_neigh.specs.Around.{mb_a, mb_b, mb_c, mb_d, no_info, of_slice, with_info};
 ghost use Rattle.avc_neigh.specs.RowEntries.{place_after};
 
-use crate::facts::NeighbourFacts;
+use crate::neighbour_info::NeighbourInfo;
 use crate::neighbours::Neighbours;
 use avc_types::{History, OutOfMemory};
 use std::alloc::Global;
@@ -21,13 +21,13 @@ struct Place {
     first_above: usize,
 }
 
-/// What is known of a picture's macroblocks so far, for the neighbours of the one that comes next. A contract sees the facts
+/// What is known of a picture's macroblocks so far, for the neighbours of the one that comes next. A contract sees the info
 /// of all of them, in decoding order; the row itself keeps those that can still be asked for: those of the row of the macroblock
 /// that comes next, and those of the row above.
 #[derive(Drop)]
 pub struct Row {
     /// One for each column and each of two rows; nothing where no macroblock was yet.
-    entries: Vec<Option<NeighbourFacts>>,
+    entries: Vec<Option<NeighbourInfo>>,
 
     /// In macroblocks.
     width: usize,
@@ -37,25 +37,25 @@ pub struct Row {
     /// Whether a row of this picture has ended: else what stands in the row above is of none of its macroblocks.
     has_above: bool,
 
-    facts: History<NeighbourFacts>,
+    info: History<NeighbourInfo>,
 }
 
 impl Model for Row {
-    ghost use Rattle.avc_neigh.specs.Around.{PictureFacts};
+    ghost use Rattle.avc_neigh.specs.Around.{PictureInfo};
     ghost use Rattle.avc_neigh.specs.RowEntries.{AreRowEntries};
 
-    ghost Value = { PictureFacts };
+    ghost Value = { PictureInfo };
 
-    ghost view = { λ r. record { width = r.width; facts = r.facts.items } };
+    ghost view = { λ r. record { width = r.width; info = r.info.items } };
 
-    ghost invariant = { λ r. AreRowEntries r.facts.items r.width r.next r.has_above r.entries.items };
+    ghost invariant = { λ r. AreRowEntries r.info.items r.width r.next r.has_above r.entries.items };
 }
 
 /// What is known of a macroblock, where it is of this slice (6.4.8).
-fn in_slice<'a>(facts: Option<&'a NeighbourFacts>, slice: u32) -> Option<&'a NeighbourFacts>
-    ensures { option_copied result ≡ of_slice slice (option_copied facts.entry) }
+fn in_slice<'a>(info: Option<&'a NeighbourInfo>, slice: u32) -> Option<&'a NeighbourInfo>
+    ensures { option_copied result ≡ of_slice slice (option_copied info.entry) }
 {
-    match facts {
+    match info {
         Some(f) if f.slice == slice => Some(f),
         _ => None,
     }
@@ -80,23 +80,23 @@ fn place_after(place: Place, width: usize) -> Place
     }
 }
 
-/// Writes facts into an entry: over those that are there, which makes no entry first.
-fn write(entry: &mut Option<NeighbourFacts>, facts: &NeighbourFacts)
-    ensures { entry.new ≡ Some facts.now }
+/// Writes info into an entry: over what is there, which makes no entry first.
+fn write(entry: &mut Option<NeighbourInfo>, info: &NeighbourInfo)
+    ensures { entry.new ≡ Some info.now }
 {
     match entry {
-        Some(known) => *known = *facts,
-        None => *entry = Some(*facts),
+        Some(known) => *known = *info,
+        None => *entry = Some(*info),
     }
 }
 
 impl Row {
-    ghost use Rattle.avc_neigh.specs.Around.{around, facts_of};
+    ghost use Rattle.avc_neigh.specs.Around.{around, info_of};
 
     /// A row for a picture of this width in macroblocks, at least 1, before its first macroblock. Only this call takes memory.
     pub fn new(alloc: Global, width: usize) -> Result<Row, OutOfMemory>
         requires { 0 < width }
-        ensures { IfOk result (λ row. row ≡ no_facts width) }
+        ensures { IfOk result (λ row. row ≡ no_info width) }
     {
         let Some(count) = width.checked_add(width) else {
             return Err(OutOfMemory);
@@ -110,7 +110,7 @@ impl Row {
                 first_above: width,
             },
             has_above: false,
-            facts: History::new(),
+            info: History::new(),
         })
     }
 
@@ -124,15 +124,15 @@ impl Row {
     /// Forgets all macroblocks, for a picture of the same width. What is kept of them is not cleared, since it is asked for only where
     /// this picture has a macroblock.
     pub fn restart(&mut self)
-        ensures { self.new ≡ no_facts self.old.width }
+        ensures { self.new ≡ no_info self.old.width }
     {
         self.next.column = 0;
         self.has_above = false;
-        self.facts = History::new();
+        self.info = History::new();
     }
 
     /// mbAddrA of the macroblock that comes next.
-    fn left(&self, slice: u32) -> Option<&NeighbourFacts>
+    fn left(&self, slice: u32) -> Option<&NeighbourInfo>
         ensures { option_copied result ≡ mb_a self.now slice }
     {
         if self.next.column == 0 {
@@ -145,7 +145,7 @@ impl Row {
     }
 
     /// mbAddrB of the macroblock that comes next.
-    fn above(&self, slice: u32) -> Option<&NeighbourFacts>
+    fn above(&self, slice: u32) -> Option<&NeighbourInfo>
         ensures { option_copied result ≡ mb_b self.now slice }
     {
         if !self.has_above {
@@ -158,7 +158,7 @@ impl Row {
     }
 
     /// mbAddrC of the macroblock that comes next.
-    fn above_right(&self, slice: u32) -> Option<&NeighbourFacts>
+    fn above_right(&self, slice: u32) -> Option<&NeighbourInfo>
         ensures { option_copied result ≡ mb_c self.now slice }
     {
         if !self.has_above {
@@ -174,7 +174,7 @@ impl Row {
     }
 
     /// mbAddrD of the macroblock that comes next.
-    fn above_left(&self, slice: u32) -> Option<&NeighbourFacts>
+    fn above_left(&self, slice: u32) -> Option<&NeighbourInfo>
         ensures { option_copied result ≡ mb_d self.now slice }
     {
         if !self.has_above {
@@ -191,7 +191,7 @@ impl Row {
 
     /// The neighbours of the macroblock that comes next, which is of this slice of the picture.
     pub fn around(&self, slice: u32) -> Neighbours<'_>
-        ensures { facts_of result ≡ around self.now slice }
+        ensures { info_of result ≡ around self.now slice }
     {
         Neighbours {
             a: self.left(slice),
@@ -202,11 +202,11 @@ impl Row {
     }
 
     /// Takes what is known of the macroblock that came next, now that it is decoded.
-    pub fn put(&mut self, facts: &NeighbourFacts)
-        ensures { self.new ≡ with_facts self.old facts.now }
+    pub fn put(&mut self, info: &NeighbourInfo)
+        ensures { self.new ≡ with_info self.old info.now }
     {
-        write(&mut self.entries[self.next.first + self.next.column], facts);
-        self.facts = self.facts.with(facts);
+        write(&mut self.entries[self.next.first + self.next.column], info);
+        self.info = self.info.with(info);
         self.next = place_after(self.next, self.width);
         self.has_above = (self.next.column == 0) | self.has_above;
     }

@@ -15,11 +15,11 @@ module _ (c : Coded) (names : Names) (m : MbsState) (holds : HoldsFirst c names 
   first_long : length first ≡ next_address m.row
   first_long = length-take-le m.next c.mbs holds.within ∙ sym kept.count
 
-  slices : TellSlices first m.row.facts
-  slices = tells_first (λ x. x.slice) (λ f. f.slice) c.mbs m.row.facts m.next kept.count holds.neighbours.slices
+  slices : TellSlices first m.row.info
+  slices = tells_first (λ x. x.slice) (λ f. f.slice) c.mbs m.row.info m.next kept.count holds.neighbours.slices
 
-  counts : TellTotalCoeffs first m.row.facts
-  counts = tells_first (λ x. total_coeffs_of x.mb.syntax) (λ f. f.total_coeffs) c.mbs m.row.facts m.next kept.count holds.neighbours.total_coeffs
+  counts : TellTotalCoeffs first m.row.info
+  counts = tells_first (λ x. total_coeffs_of x.mb.syntax) (λ f. f.total_coeffs) c.mbs m.row.info m.next kept.count holds.neighbours.total_coeffs
 
   wide : 0 < m.row.width
   wide = subst (λ w. 0 < w) (sym kept.row_width) kept.wide

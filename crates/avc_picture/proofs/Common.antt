@@ -22,34 +22,34 @@ pub use Rattle.std.specs.List.Sorted.{IsStrictlyIncreasing}
 pub use Rattle.std.specs.Option.{option_map}
 pub use Rattle.std.specs.Prelude.{◌&&◌, ◌||◌, negsuc, ◌-ℤ◌, if◌then◌else◌, slice_index, IfOk, IfSome, is_some}
 pub use Rattle.avc_deblock.proofs.LocalRows.{row_acts, row_changes, row_commutes, row_reads}
-pub use Rattle.avc_deblock.proofs.PictureFacts.{row_is}
-pub use Rattle.avc_deblock.specs.ByFacts.{row_by_facts, AreOfRow}
+pub use Rattle.avc_deblock.proofs.PictureInfo.{row_is}
+pub use Rattle.avc_deblock.specs.ByInfo.{row_by_info, AreOfRow}
 pub use Rattle.avc_deblock.specs.Edges.{filter_qp, has_coefficients, mb_at, picture_named, all_filtered, in_component, luma_per_sample}
 pub use Rattle.avc_deblock.specs.Edges.{LineFilter, line_at, with_line, line_filtered, setting_at, step_filtered, line_filters}
 pub use Rattle.avc_deblock.specs.Edges.{deblocked_planes}
 unfoldable pub use Rattle.avc_deblock.specs.Edges.{row_lines}
-pub use Rattle.avc_deblock.specs.Facts.{Names, HasFacts, HaveFacts, has_bit}
+pub use Rattle.avc_deblock.specs.FilterInfo.{Names, HasInfo, HaveInfo, has_bit}
 pub use Rattle.avc_deblock.specs.Locality.{ChangesWithin, ChangesInRow, HasRow, AgreesAbove}
 pub use Rattle.avc_deblock.specs.OneEdge.{HasRoom}
-pub use Rattle.avc_deblock.specs.declared.facts.MbFacts.{MbFacts}
+pub use Rattle.avc_deblock.specs.declared.mb_info.MbInfo.{MbInfo}
 pub use Rattle.avc_mbsyntax.specs.Rest.{IsHandedOut, rest_of, Follows, handed_out}
 pub use Rattle.avc_mbsyntax.specs.SliceData.{SliceStart, left_total_coeffs, up_total_coeffs, SliceMbs, after, placed, slice_data}
 pub use Rattle.avc_mbsyntax.specs.declared.slice_data.SliceData.{SliceData}
 pub use Rattle.avc_motion.proofs.Apart.{and_first, and_second}
-pub use Rattle.avc_motion.specs.Motion.{is_intra, motion_before, motion_of, frame_named, slice_facts, is_in_range, motion_or_fault}
+pub use Rattle.avc_motion.specs.Motion.{is_intra, motion_before, motion_of, frame_named, slice_info, is_in_range, motion_or_fault}
 pub use Rattle.avc_motion.specs.Motion.{vector_of, zero_vector, Near, is_in_part, motion_by, motion_of_part, motion_of_parts, no_motion}
 unfoldable pub use Rattle.avc_motion.specs.Motion.{with_part}
 pub use Rattle.avc_neigh.proofs.Found.{availability_found, blocks_found, total_coeffs_found}
-pub use Rattle.avc_neigh.specs.Around.{Around, PictureFacts, around, is_intra_facts, next_address, mb_a, mb_b, no_facts, back, of_slice}
+pub use Rattle.avc_neigh.specs.Around.{Around, PictureInfo, around, is_intra_info, next_address, mb_a, mb_b, no_info, back, of_slice}
 pub use Rattle.avc_neigh.specs.BlockNear.{AreAround, IsAsked, MotionIsAround, ModesAreAround, HasModes}
 pub use Rattle.avc_neigh.specs.Blocks.{Location, block_at, block_x, block_y, location_at, above, left_of}
-pub use Rattle.avc_neigh.specs.Laws.{IsNext, is_there_by, is_there_near, TellSlices, TellTotalCoeffs, FactsTell}
+pub use Rattle.avc_neigh.specs.Laws.{IsNext, is_there_by, is_there_near, TellSlices, TellTotalCoeffs, InfoTell}
 pub use Rattle.avc_neigh.specs.Modes.{modes_before, modes_of, IsMode}
 pub use Rattle.avc_neigh.specs.TotalCoeffs.{total_coeffs_of}
-pub use Rattle.avc_neigh.specs.declared.facts.Motion.{Motion}
-pub use Rattle.avc_neigh.specs.declared.facts.Motion.TheVariants.{Absent as absent, Intra as intra, Inter as inter}
-pub use Rattle.avc_neigh.specs.declared.facts.NearMode.{NearMode}
-pub use Rattle.avc_neigh.specs.declared.facts.NeighbourFacts.{NeighbourFacts}
+pub use Rattle.avc_neigh.specs.declared.neighbour_info.Motion.{Motion}
+pub use Rattle.avc_neigh.specs.declared.neighbour_info.Motion.TheVariants.{Absent as absent, Intra as intra, Inter as inter}
+pub use Rattle.avc_neigh.specs.declared.neighbour_info.NearMode.{NearMode}
+pub use Rattle.avc_neigh.specs.declared.neighbour_info.NeighbourInfo.{NeighbourInfo}
 pub use Rattle.avc_params.specs.Limits.{max_macroblocks, height_in_mbs, size_in_mbs, width_in_mbs, max_frame_num}
 pub use Rattle.avc_params.specs.declared.pps.Pps.{Pps}
 pub use Rattle.avc_params.specs.declared.sps.Sps.{Sps}
@@ -72,7 +72,7 @@ pub use Rattle.avc_slice.specs.declared.slice.Slice.{Slice}
 pub use Rattle.avc_types.proofs.Frames.{find-filter, below_rest, seen-at, stand_rest}
 pub use Rattle.avc_types.specs.Macroblock.{Mb, MbSyntax, p_skip, i_pcm, i_nxn, i_16x16, p_inter, total_coeff, parts_of, parts_of_quarter}
 pub use Rattle.avc_types.specs.Macroblock.{parts_of_quarters, quarter_x, quarter_y, Residual}
-pub use Rattle.avc_types.specs.Pictures.{Coded, PicMb, SliceFacts, Frame as Shown, Samples}
+pub use Rattle.avc_types.specs.Pictures.{Coded, PicMb, SliceInfo, Frame as Shown, Samples}
 pub use Rattle.avc_types.specs.declared.fault.Fault.{Fault}
 pub use Rattle.avc_types.specs.declared.fault.Fault.TheVariants.{VectorRange, RefMissing, MissingMacroblocks, BadRefList}
 pub use Rattle.avc_types.specs.declared.fault.Fault.TheVariants.{ArbitrarySliceOrder}
@@ -84,11 +84,11 @@ pub use Rattle.avc_picture.specs.DecoderState.{GoesOn, GoesOnFrom, IsDataAnswer,
 pub use Rattle.avc_picture.specs.DecoderState.{IsWellSoFar, IsWellSomewhere, CanHaveFirst, HasFirst, IsDataOf, IsStateOrFault}
 pub use Rattle.avc_picture.specs.DecoderState.{address_fault, number_after}
 pub use Rattle.avc_picture.specs.FilterRows.{AreFrom, AreLastRows}
-pub use Rattle.avc_picture.specs.FirstMbs.{HasNeighbourFacts, HoldsFirst, MbsState, HasNumber, IsSlice, HasSameSize, HasSets, BeginsWith, IsDecoded}
-pub use Rattle.avc_picture.specs.MacroblockFacts.{IsRead, IsFilterFacts, number_of, IsNeighbourFacts}
+pub use Rattle.avc_picture.specs.FirstMbs.{HasNeighbourInfo, HoldsFirst, MbsState, HasNumber, IsSlice, HasSameSize, HasSets, BeginsWith, IsDecoded}
+pub use Rattle.avc_picture.specs.MacroblockInfo.{IsRead, IsFilterInfo, number_of, IsNeighbourInfo}
 pub use Rattle.avc_picture.specs.MacroblocksState.{PartsAgree, HaveModes, state_of}
 pub use Rattle.avc_picture.specs.OpenPicture.{planes_so_far, IsCovered}
-pub use Rattle.avc_picture.specs.RowLate.{first_built, filtered_rows, rows_filtered, covering_address, row_late, AreFactsOf, FilterFacts}
+pub use Rattle.avc_picture.specs.RowLate.{first_built, filtered_rows, rows_filtered, covering_address, row_late, AreInfoOf, FilterInfo}
 pub use Rattle.avc_picture.specs.RowLate.{FiltersUpTo}
 pub use Rattle.avc_picture.specs.Sizes.{HasSize, IsSized, PicturesAreSized}
 pub use Rattle.avc_picture.specs.Slices.{PictureStart, current_of, deblocking_of, frame_of, list_of, or_empty, references_in}

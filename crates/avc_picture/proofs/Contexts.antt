@@ -2,7 +2,7 @@
 use Rattle.avc_picture.proofs.Common.{list_any, option_map, IfOk, IfSome, slice_get, slice_index, slice_index_or, is_some, unwrap_or}
 use Rattle.avc_picture.proofs.Common.{◌==◌, nat_tests, ints, get_or_default, get_or_past, length-map, All-map, All-nil, All-weaker}
 use Rattle.avc_picture.proofs.Common.{get_or_from_slice_get, slice_get_within, Fault, Coded, Sps, Pps, is_p, IsChromaWeights, IsCodedWeight}
-use Rattle.avc_picture.proofs.Common.{IsEntryWeights, IsPredWeightTable, Header, frame_named, slice_facts, marked_frame, padded_planes_of}
+use Rattle.avc_picture.proofs.Common.{IsEntryWeights, IsPredWeightTable, Header, frame_named, slice_info, marked_frame, padded_planes_of}
 use Rattle.avc_picture.proofs.Common.{AreFrames, AreSized, PaddedPlanes, Names, is_picture, AreUsable, AreWeights, IsUsable, IsWeight}
 use Rattle.avc_picture.proofs.Common.{ShowsReference, ReferencePicture, AreNames, ArePicturesAt, ArePlacesIn, FramesStandAt}
 use Rattle.avc_picture.proofs.Common.{HasPlaces, IsContextAt, IsContextOf, IsPictureAt, picture_start, planes_at, HasNumber, IsSlice, cases_lt, inl, inr}
@@ -21,7 +21,7 @@ use Rattle.avc_slice.specs.declared.weights.PredWeightTable.{PredWeightTable}
 use Rattle.avc_reflist.specs.Lists.{reference_list}
 use Rattle.avc_plane.specs.declared.frame.Frame.{Frame}
 use Rattle.avc_deblock.proofs.Samples.{each_of_eight}
-use Rattle.avc_picture.specs.Slices.{facts_of}
+use Rattle.avc_picture.specs.Slices.{info_of}
 use Rattle.avc_picture.proofs.Members.{all-listed, own-entries}
 use Rattle.avc_picture.proofs.Stored.{listed-is-marked, named-missing, named-picture, stored-references}
 
@@ -59,18 +59,18 @@ are-weights t e l c is = record {
   of_cr None h = tt
   of_cr (Some x) h = h.cr
 
-all-weights-by : (h : Header) (t : Option PredWeightTable) → IfSome t (IsPredWeightTable h.active_count) → All AreWeights (weights (record h { pred_weight_table = t }))
+all-weights-by : (h : Header) (t : Option PredWeightTable) → IfSome t (IsPredWeightTable h.num_ref_idx_active) → All AreWeights (weights (record h { pred_weight_table = t }))
 all-weights-by h None is = All-nil AreWeights
 all-weights-by h (Some t) is =
     All-map AreWeights (weights_of t) t.entries
     (All-weaker IsEntryWeights (λ e. AreWeights (weights_of t e)) (λ e w. are-weights t e is.luma_denom is.chroma_denom w) t.entries is.entries)
 
-all-weights : (h : Header) → IfSome h.pred_weight_table (IsPredWeightTable h.active_count) → All AreWeights (weights h)
+all-weights : (h : Header) → IfSome h.pred_weight_table (IsPredWeightTable h.num_ref_idx_active) → All AreWeights (weights h)
 all-weights h is = all-weights-by h h.pred_weight_table is
 
 -- ---- pictures that can be predicted from
 
-module _ {PAD : ℕ} (width height : ℕ) (fs : List (Frame PAD)) (h : Header) (frames : AreFrames width height fs) (table : IfSome h.pred_weight_table (IsPredWeightTable h.active_count)) where
+module _ {PAD : ℕ} (width height : ℕ) (fs : List (Frame PAD)) (h : Header) (frames : AreFrames width height fs) (table : IfSome h.pred_weight_table (IsPredWeightTable h.num_ref_idx_active)) where
   sized-at : (place : Option ℕ) (planes : PaddedPlanes PAD) → planes_at fs place ≡ Some planes → AreSized width height (padded_planes_of planes)
   sized-at None planes e = cc
   sized-at (Some k) planes e = by_frame (slice_get fs k) refl e
@@ -105,10 +105,10 @@ module _ {PAD : ℕ} (sps : Sps) (pps : Pps) (es : List ℕ) (fs : List (Frame P
   IsListed r = list_any (λ s. s.entry == r.entry) (references_in p) ≡ true
 
   abbrev listed-by : Bool → Result (List (Option Reference)) Fault
-  listed-by b = elim b [ true ↦ reference_list (current_of p h) h.active_count (or_empty h.modifications) (references_in p) | false ↦ Ok [] ]
+  listed-by b = elim b [ true ↦ reference_list (current_of p h) h.num_ref_idx_active (or_empty h.modifications) (references_in p) | false ↦ Ok [] ]
 
   all-listed-by : (b : Bool) → IfOk (listed-by b) (All (λ o. IfSome o IsListed))
-  all-listed-by true = all-listed IsListed (current_of p h) (references_in p) (own-entries (references_in p)) h.active_count (or_empty h.modifications)
+  all-listed-by true = all-listed IsListed (current_of p h) (references_in p) (own-entries (references_in p)) h.num_ref_idx_active (or_empty h.modifications)
   all-listed-by false = All-nil (λ o. IfSome o IsListed)
 
   all-in-list : (list : List (Option Reference)) → list_of p h ≡ Ok list → All (λ o. IfSome o IsListed) list
@@ -125,13 +125,13 @@ module _ {PAD : ℕ} (sps : Sps) (pps : Pps) (es : List ℕ) (fs : List (Frame P
 
   module _ (number : ℕ) (places : List (Option ℕ)) (s : SliceContext PAD) (long : length places ≡ 16) (within : ArePlacesIn fs places)
       (at : IsContextAt number fs h places s) (list : List (Option Reference)) (is : list_of p h ≡ Ok list) (has : HasPlaces es fs list places)
-      (c : Coded) (names : Names) (are : AreNames es names) (facts : slice_facts c s.number ≡ facts_of p h list) where
+      (c : Coded) (names : Names) (are : AreNames es names) (info : slice_info c s.number ≡ info_of p h list) where
     abbrev reference : ℕ → Reference
     reference k = reference_at es (map marked_frame fs) k
 
     named-at : (r : ℕ) → frame_named c s.number r ≡ option_map (frame_of p) (option_map reference (slice_index_or places r None))
     named-at r =
-        ap (λ x. slice_index_or x.references r None) facts
+        ap (λ x. slice_index_or x.references r None) info
         ∙ get_or-map (option_map (frame_of p)) list r None
         ∙ ap (option_map (frame_of p)) (has r)
 
@@ -151,7 +151,7 @@ module _ {PAD : ℕ} (sps : Sps) (pps : Pps) (es : List ℕ) (fs : List (Frame P
           frame =
               named-at r ∙ ap (λ x. option_map (frame_of p) (option_map reference x)) place
               ∙ ap Some (named-picture sps pps es fs k f stand got q.planes.now (marked list places r k f is has place got) some);
-          weights = ap (λ x. slice_get x.weights r) facts ∙ shown.1;
+          weights = ap (λ x. slice_get x.weights r) info ∙ shown.1;
         }
 
     by-place : (r : ℕ) (place : Option ℕ) (o : Option (ReferencePicture PAD)) → r < 16 → slice_index_or places r None ≡ place → IsPictureAt fs h r place o
@@ -192,11 +192,11 @@ module _ {PAD : ℕ} (sps : Sps) (pps : Pps) (es : List ℕ) (fs : List (Frame P
         | inl inside ↦ numbered r (slice_index_or places r None) inside refl shown
         | inr past ↦ let wrong : false ≡ true = sym (unnamed r past) ∙ shown in cc
       ];
-      edges = at.edges ∙ sym (ap (λ x. x.disable_deblocking_filter_idc) facts);
-      offset_a = at.offset_a ∙ sym (ap (λ x. x.filter_offset_a) facts);
-      offset_b = at.offset_b ∙ sym (ap (λ x. x.filter_offset_b) facts);
+      edges = at.edges ∙ sym (ap (λ x. x.disable_deblocking_filter_idc) info);
+      offset_a = at.offset_a ∙ sym (ap (λ x. x.filter_offset_a) info);
+      offset_b = at.offset_b ∙ sym (ap (λ x. x.filter_offset_b) info);
     }
 
   pub is-context : (number : ℕ) (places : List (Option ℕ)) (s : SliceContext PAD) → length places ≡ 16 → ArePlacesIn fs places → IsContextAt number fs h places s
       → (list : List (Option Reference)) → list_of p h ≡ Ok list → HasPlaces es fs list places → IsContextOf p es h list s
-  is-context number places s long within at list is has = λ c names are facts. is-slice number places s long within at list is has c names are facts
+  is-context number places s long within at list is has = λ c names are info. is-slice number places s long within at list is has c names are info

@@ -58,7 +58,7 @@ module _ {PAD : ℕ} (c : Coded) (names : Names) (s : SliceStart) (m : MbsState)
   room = grind (arith, length-append, long)
 
   pub is-read : IsRead mb
-  is-read = record { active_count = s.active_count; syntax = (out.2).range; quantiser = (out.2).quantiser g.quantiser }
+  is-read = record { num_ref_idx_active = s.num_ref_idx_active; syntax = (out.2).range; quantiser = (out.2).quantiser g.quantiser }
 
   -- the slice has a macroblock
   slice-is : IsSlice c names context

@@ -2,17 +2,17 @@
 use Rattle.avc_picture.proofs.Common.{ℕ, ◌/◌, ◌<◌, List, [], ◌∷◌, ◌++◌, length, true, false, Some, slice_get, slice_index, slice_index_or}
 use Rattle.avc_picture.proofs.Common.{◌≡◌, ◌∙◌, refl, sym, ap, subst, arith, cases_lt, get_or_append_left, get_or-append_right}
 use Rattle.avc_picture.proofs.Common.{length-append, get_or_from_slice_get, Mb, Coded, PicMb, Motion, absent, intra, inter, frame_named}
-use Rattle.avc_picture.proofs.Common.{is_intra, slice_facts, vector_of, zero_vector, filter_qp, has_coefficients, mb_at, picture_named}
-use Rattle.avc_picture.proofs.Common.{Names, HasFacts, HaveFacts, MbFacts, is_picture, IsSlice, IsFilterFacts, number_of, SliceContext}
+use Rattle.avc_picture.proofs.Common.{is_intra, slice_info, vector_of, zero_vector, filter_qp, has_coefficients, mb_at, picture_named}
+use Rattle.avc_picture.proofs.Common.{Names, HasInfo, HaveInfo, MbInfo, is_picture, IsSlice, IsFilterInfo, number_of, SliceContext}
 use Rattle.std.proofs.lemmas.List.{get_or-map}
 use Rattle.avc_types.specs.Pictures.{Frame}
-use Rattle.avc_deblock.specs.Facts.{HasMotion}
+use Rattle.avc_deblock.specs.FilterInfo.{HasMotion}
 use Rattle.avc_picture_core.specs.Built.{reference_of}
 use Rattle.avc_picture.proofs.Quarters.{IsFrom}
 
-pub facts_more : (c : Coded) (all : List (List Motion)) (names : Names) (a : ℕ) (facts : List MbFacts) (f : MbFacts) → length facts ≡ a
-    → HaveFacts c all names 0 facts → HasFacts c all names a f → HaveFacts c all names 0 (facts ++ f ∷ [])
-facts_more c all names a facts f long have has = λ k other below. grind (arith, length-append, cases_lt, get_or_append_left, get_or-append_right)
+pub info_more : (c : Coded) (all : List (List Motion)) (names : Names) (a : ℕ) (info : List MbInfo) (f : MbInfo) → length info ≡ a
+    → HaveInfo c all names 0 info → HasInfo c all names a f → HaveInfo c all names 0 (info ++ f ∷ [])
+info_more c all names a info f long have has = λ k other below. grind (arith, length-append, cases_lt, get_or_append_left, get_or-append_right)
 
 picture_of : (c : Coded) (a slice i : ℕ) (frame : Frame) → (mb_at c a).slice ≡ slice → frame_named c slice i ≡ Some frame
     → picture_named c a i ≡ Some frame.entry
@@ -27,7 +27,7 @@ number_from c slice numbers r (inter i v) there from = ap (λ j. slice_index_or 
 
 module _ {PAD : ℕ} (c : Coded) (names : Names) (s : SliceContext PAD) (slice : IsSlice c names s) (a : ℕ) (mb : Mb)
     (is : slice_get c.mbs a ≡ Some (record { slice = s.number; mb = mb })) (motion : List Motion) (long : length motion ≡ 16)
-    (r : ℕ → ℕ) (f : MbFacts) (told : IsFilterFacts mb motion s f) where
+    (r : ℕ → ℕ) (f : MbInfo) (told : IsFilterInfo mb motion s f) where
   abbrev mb_there : PicMb
   mb_there = record { slice = s.number; mb = mb }
 
@@ -59,11 +59,11 @@ module _ {PAD : ℕ} (c : Coded) (names : Names) (s : SliceContext PAD) (slice :
     block_motion : (k : ℕ) → k < 16 → HasMotion c names a f k (block k)
     block_motion k h = block_has k h (block k) refl (pictures k h) (one k h)
 
-  pub has_facts : (all : List (List Motion)) → slice_index_or all a [] ≡ motion
+  pub has_info : (all : List (List Motion)) → slice_index_or all a [] ≡ motion
       → (is_intra mb.syntax ≡ false → (k : ℕ) → k < 16 → is_picture (reference_of c s.number (block k)) ≡ true)
       → (is_intra mb.syntax ≡ false → (k : ℕ) → k < 16 → IsFrom (r (k / 4)) (block k))
-      → HasFacts c all names a f
-  has_facts all at pictures one = record {
+      → HasInfo c all names a f
+  has_info all at pictures one = record {
     intra_is = told.intra_is ∙ ap (λ x. is_intra x.mb.syntax) (sym mb_is);
     coefficients_is = λ k h. told.coefficients_is k h ∙ ap (λ x. has_coefficients x.mb.syntax k) (sym mb_is);
     motion_is = λ inter k h.
@@ -71,7 +71,7 @@ module _ {PAD : ℕ} (c : Coded) (names : Names) (s : SliceContext PAD) (slice :
         subst (λ xs. HasMotion c names a f k (slice_index_or xs k absent)) (sym at) (block_motion (pictures e) (one e) k h);
     qp_is = told.qp_is ∙ ap (λ x. filter_qp x.mb.qp x.mb.syntax) (sym mb_is);
     slice_is = told.slice_is ∙ ap (λ x. x.slice) (sym mb_is);
-    edges_is = told.edges_is ∙ slice.edges ∙ ap (λ x. (slice_facts c x.slice).disable_deblocking_filter_idc) (sym mb_is);
-    offset_a_is = told.offset_a_is ∙ slice.offset_a ∙ ap (λ x. (slice_facts c x.slice).filter_offset_a) (sym mb_is);
-    offset_b_is = told.offset_b_is ∙ slice.offset_b ∙ ap (λ x. (slice_facts c x.slice).filter_offset_b) (sym mb_is);
+    edges_is = told.edges_is ∙ slice.edges ∙ ap (λ x. (slice_info c x.slice).disable_deblocking_filter_idc) (sym mb_is);
+    offset_a_is = told.offset_a_is ∙ slice.offset_a ∙ ap (λ x. (slice_info c x.slice).filter_offset_a) (sym mb_is);
+    offset_b_is = told.offset_b_is ∙ slice.offset_b ∙ ap (λ x. (slice_info c x.slice).filter_offset_b) (sym mb_is);
   }

@@ -2,7 +2,7 @@
 use Rattle.avc_picture.proofs.Common.{ℕ, zero, suc, ◌+◌, ◌-◌, ◌*◌, ◌/◌, ◌%◌, ◌<◌, ◌≤◌, ℤ, List, length, slice_index, ◌==◌, if◌then◌else◌}
 use Rattle.avc_picture.proofs.Common.{◌≡◌, ◌∙◌, refl, sym, ap, arith, ⊎_elim, cases_lt, get_or_past, mod_below, mul-le-mul_right, MbSyntax}
 use Rattle.avc_picture.proofs.Common.{p_skip, i_pcm, i_nxn, i_16x16, p_inter, block_x, block_y, Plane, sample, with_block, Planes}
-use Rattle.avc_picture.proofs.Common.{component, in_component, luma_per_sample, MbFacts, row_by_facts, ChangesWithin, ChangesInRow, HasRow}
+use Rattle.avc_picture.proofs.Common.{component, in_component, luma_per_sample, MbInfo, row_by_info, ChangesWithin, ChangesInRow, HasRow}
 use Rattle.avc_picture.proofs.Common.{row_changes, row_commutes, Place, chroma_after, inter_at, left_of_mb, luma_after, planes_after}
 use Rattle.avc_picture.proofs.Common.{top_of_mb, with_block4x4, with_blocks4x4, with_macroblock, size_of, IsSized}
 use Rattle.std.proofs.Common.{mul_comm}
@@ -44,11 +44,11 @@ same_in (suc (suc k)) g h s e = ap (λ p. record { luma = s.luma; cb = s.cb; cr 
 
 -- ---- the row of a filter, in planes of a picture's size
 
-module _ (offset : ℤ) (row : ℕ) (above facts : List MbFacts) (w h : ℕ) (wide : length facts ≡ w) (in_picture : row < h) where
+module _ (offset : ℤ) (row : ℕ) (above info : List MbInfo) (w h : ℕ) (wide : length info ≡ w) (in_picture : row < h) where
   abbrev filter : Planes → Planes
-  filter s = row_by_facts offset row above facts (length facts) s
+  filter s = row_by_info offset row above info (length info) s
 
-  pub has_row : (s : Planes) → IsSized w h s → HasRow row (length facts) s
+  pub has_row : (s : Planes) → IsSized w h s → HasRow row (length info) s
   has_row s sized = record {
     full = record {
       luma = sized.luma.all ∙ sym (ap (λ n. n * s.luma.height) sized.luma.columns ∙ ap (λ n. 16 * w * n) sized.luma.rows);
@@ -69,7 +69,7 @@ module _ (offset : ℤ) (row : ℕ) (above facts : List MbFacts) (w h : ℕ) (wi
   }
 
   changes : (s : Planes) → IsSized w h s → ChangesInRow row s (filter s)
-  changes s sized = row_changes offset row above facts s (has_row s sized)
+  changes s sized = row_changes offset row above info s (has_row s sized)
 
   -- the samples of a component across a macroblock
   abbrev size : ℕ → ℕ
@@ -87,7 +87,7 @@ module _ (offset : ℤ) (row : ℕ) (above facts : List MbFacts) (w h : ℕ) (wi
   block_built k left top width height f s sized below same =
       let given : Plane → Plane = λ p. with_block p left top width height (f (component s k)) in
       ap filter (same_in k (λ p. with_block p left top width height (f p)) given s refl)
-      ∙ row_commutes offset row above facts s (has_row s sized) k left top width height (f (component s k)) below
+      ∙ row_commutes offset row above info s (has_row s sized) k left top width height (f (component s k)) below
       ∙ same_in k given (λ p. with_block p left top width height (f p)) (filter s)
       (sym (with_block_same (component (filter s) k) left top width height (f (component (filter s) k)) (f (component s k)) same))
 

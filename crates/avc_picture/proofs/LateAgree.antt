@@ -2,13 +2,13 @@
 use Rattle.avc_picture.proofs.Common.{ℕ, zero, suc, ◌+◌, ◌-◌, ◌*◌, ◌/◌, ◌<◌, ◌≤◌, ℤ, List, length, take, add-mul, mul-le-mul_right}
 use Rattle.avc_picture.proofs.Common.{div-lt_iff_lt-mul, div-mul-le_self, cases_lt, length-take-le, Coded, modes_before, motion_before}
 use Rattle.avc_picture.proofs.Common.{Plane, AreSized, Planes, component, empty_planes, samples_of, all_filtered, row_lines, Names}
-use Rattle.avc_picture.proofs.Common.{row_by_facts, AgreesAbove, ChangesWithin, MbFacts, row_changes, row_reads, row_is, size_of, Agree}
-use Rattle.avc_picture.proofs.Common.{AgreeBefore, address_at, HoldsFirst, MbsState, PartsAgree, AreFactsOf, FilterFacts, covering_address}
+use Rattle.avc_picture.proofs.Common.{row_by_info, AgreesAbove, ChangesWithin, MbInfo, row_changes, row_reads, row_is, size_of, Agree}
+use Rattle.avc_picture.proofs.Common.{AgreeBefore, address_at, HoldsFirst, MbsState, PartsAgree, AreInfoOf, FilterInfo, covering_address}
 use Rattle.avc_picture.proofs.Common.{filtered_rows, first_built, row_late, rows_filtered, IsSized}
 use Rattle.std.proofs.Common.{◌≡◌, ◌∙◌, refl, sym, ap, subst, arith, mul_comm, ⊎_elim}
 use Rattle.avc_picture.proofs.Begun.{built_agrees, none_agree}
 use Rattle.avc_picture.proofs.Late.{has_row}
-use Rattle.avc_picture.proofs.LateRows.{from_long, row_facts, row_facts_are, rows_sized}
+use Rattle.avc_picture.proofs.LateRows.{from_long, row_info, row_info_are, rows_sized}
 use Rattle.avc_picture.proofs.SizesKept.{built_on_sized, empty_sized}
 
 -- ---- one plane, over the filter of a row
@@ -53,7 +53,7 @@ module _ (size w h row n first : ℕ) (some : 0 < size) (within : (row + 1) * w 
 
 -- ---- the three planes, over rows that are filtered
 
-module _ (c : Coded) (names : Names) (offset : ℤ) (f : FilterFacts) (of : AreFactsOf c names offset f) (h n : ℕ) (counted : n ≤ length f.facts) where
+module _ (c : Coded) (names : Names) (offset : ℤ) (f : FilterInfo) (of : AreInfoOf c names offset f) (h n : ℕ) (counted : n ≤ length f.info) where
   pub rows_agree : (rows : ℕ) → rows ≤ h → rows * f.width ≤ n → (s t : Planes) → IsSized f.width h s → IsSized f.width h t
       → AgreeBefore f.width h n s t → AgreeBefore f.width h n (rows_filtered c rows s) (rows_filtered c rows t)
   rows_agree zero high whole s t s_sized t_sized agree = agree
@@ -64,24 +64,24 @@ module _ (c : Coded) (names : Names) (offset : ℤ) (f : FilterFacts) (of : AreF
       let a : Planes = rows_filtered c row s in
       let b : Planes = rows_filtered c row t in
       let so_far : AgreeBefore f.width h n a b = rows_agree row (omega (arith, high)) (omega (arith, earlier, whole)) s t s_sized t_sized agree in
-      let above : List MbFacts = row_facts c names offset f of (row - 1) in
-      let facts : List MbFacts = row_facts c names offset f of row in
-      let there : row * f.width + f.width ≤ length f.facts = omega (arith, before, whole, counted) in
-      let long = from_long f.facts (row * f.width) f.width there in
+      let above : List MbInfo = row_info c names offset f of (row - 1) in
+      let info : List MbInfo = row_info c names offset f of row in
+      let there : row * f.width + f.width ≤ length f.info = omega (arith, before, whole, counted) in
+      let long = from_long f.info (row * f.width) f.width there in
       let a_sized = rows_sized c names offset f of f.width h row s s_sized in
       let b_sized = rows_sized c names offset f of f.width h row t t_sized in
-      let a_has = has_row offset row above facts f.width h long (omega (arith, high)) a a_sized in
-      let b_has = has_row offset row above facts f.width h long (omega (arith, high)) b b_sized in
-      let g : Planes → Planes = λ u. row_by_facts offset row above facts (length facts) u in
+      let a_has = has_row offset row above info f.width h long (omega (arith, high)) a a_sized in
+      let b_has = has_row offset row above info f.width h long (omega (arith, high)) b b_sized in
+      let g : Planes → Planes = λ u. row_by_info offset row above info (length info) u in
       let by_row : (u : Planes) → g u ≡ all_filtered c (motion_before c (length c.mbs)) u (row_lines c row) =
-      λ u. row_is c (motion_before c (length c.mbs)) names row offset above facts u (row_facts_are c names offset f of row there) in
-      let reads = row_reads offset row above facts a b a_has (record {
+      λ u. row_is c (motion_before c (length c.mbs)) names row offset above info u (row_info_are c names offset f of row there) in
+      let reads = row_reads offset row above info a b a_has (record {
         luma = agrees_above 16 f.width h row n (16 * row - 3) (omega arith) next (omega (arith, high)) a.luma b.luma (g a).luma (g b).luma so_far.luma (b_sized.luma.all ∙ sym a_sized.luma.all);
         cb = agrees_above 8 f.width h row n (8 * row - 1) (omega arith) next (omega (arith, high)) a.cb b.cb (g a).cb (g b).cb so_far.cb (b_sized.cb.all ∙ sym a_sized.cb.all);
         cr = agrees_above 8 f.width h row n (8 * row - 1) (omega arith) next (omega (arith, high)) a.cr b.cr (g a).cr (g b).cr so_far.cr (b_sized.cr.all ∙ sym a_sized.cr.all);
       }) in
-      let a_changes = row_changes offset row above facts a a_has in
-      let b_changes = row_changes offset row above facts b b_has in
+      let a_changes = row_changes offset row above info a a_has in
+      let b_changes = row_changes offset row above info b b_has in
       let then : AgreeBefore f.width h n (g a) (g b) = record {
         luma = agree_then 16 f.width h row n (16 * row - 3) (omega arith) next (omega (arith, high)) a.luma b.luma (g a).luma (g b).luma so_far.luma reads.luma a_changes.luma b_changes.luma;
         cb = agree_then 8 f.width h row n (8 * row - 1) (omega arith) next (omega (arith, high)) a.cb b.cb (g a).cb (g b).cb so_far.cb reads.cb a_changes.cb b_changes.cb;
@@ -117,8 +117,8 @@ module _ (c : Coded) (names : Names) (m : MbsState) (holds : HoldsFirst c names 
       let built : AgreeBefore w h n (first_built c holds.begun n) (first_built c empty n) =
       subst (λ v. AgreeBefore w h v (first_built c holds.begun n) (first_built c empty n)) (omega (arith, long))
       (built_agrees c wide modes motion 0 holds.begun empty (take n c.mbs) (omega (arith, long, within)) none) in
-      let told : FilterFacts = record { width = w; facts = m.filter_facts } in
-      let of : AreFactsOf c names c.chroma_qp_index_offset told = record { width_is = refl; offset_is = refl; facts_are = holds.filter } in
+      let told : FilterInfo = record { width = w; info = m.filter_info } in
+      let of : AreInfoOf c names c.chroma_qp_index_offset told = record { width_is = refl; offset_is = refl; info_are = holds.filter } in
       let rows = filtered_rows w n in
       let fewer : n / w < suc h = (div-lt_iff_lt-mul wide).1 (omega (arith, within, mul_comm w h, wide, add-mul h 1 w)) in
       let below : rows * w ≤ (n / w) * w = mul-le-mul_right w (omega arith) in

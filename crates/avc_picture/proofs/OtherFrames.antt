@@ -9,7 +9,7 @@ use Rattle.avc_reflist.specs.Lists.{reference_list}
 
 pub list_of_intra : (p : PictureStart) (h : Header) → is_p h ≡ false → list_of p h ≡ Ok []
 list_of_intra p h intra =
-    ap (λ b. elim b [ true ↦ reference_list (current_of p h) h.active_count (or_empty h.modifications) (references_in p) | false ↦ Ok [] ]) intra
+    ap (λ b. elim b [ true ↦ reference_list (current_of p h) h.num_ref_idx_active (or_empty h.modifications) (references_in p) | false ↦ Ok [] ]) intra
 
 list_of_other : (p : PictureStart) (other : List StoredFrame) (s : Slice) (before : Progress) → is_p s.header ≡ false
     → with_reference_list p s before (list_of p s.header) ≡ with_reference_list (record p { frames = other }) s before (list_of (record p { frames = other }) s.header)

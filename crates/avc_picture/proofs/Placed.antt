@@ -50,7 +50,7 @@ module _ {PAD : ℕ} (sps : Sps) (pps : Pps) (es : List ℕ) (fs : List (Frame P
   p = picture_start sps pps es fs
 
   abbrev listed : List Reference → Result (List (Option Reference)) Fault
-  listed references = reference_list (record { frame_num = h.frame_num; max_frame_num = max_frame_num sps }) h.active_count (or_empty h.modifications) references
+  listed references = reference_list (record { frame_num = h.frame_num; max_frame_num = max_frame_num sps }) h.num_ref_idx_active (or_empty h.modifications) references
 
   pub no-list : is_p h ≡ false → IsListAt p es fs h (Ok (replicate 16 None))
   no-list i = ([], ap (λ b. elim b [ true ↦ listed (references_in p) | false ↦ Ok [] ]) i, λ r. sym (ap (option_map (reference_at es (map marked_frame fs))) (none-at 16 r)))
@@ -61,13 +61,13 @@ module _ {PAD : ℕ} (sps : Sps) (pps : Pps) (es : List ℕ) (fs : List (Frame P
       → list_of p h ≡ each_entry (reference_at es (map marked_frame fs)) answer
   p-list answer is stand names = grind (arith, nat_tests, stored-references)
 
-  long-list : (list : List (Option ℕ)) → is_p h ≡ true → list_of p h ≡ Ok (map (option_map (reference_at es (map marked_frame fs))) list) → length list ≡ h.active_count
+  long-list : (list : List (Option ℕ)) → is_p h ≡ true → list_of p h ≡ Ok (map (option_map (reference_at es (map marked_frame fs))) list) → length list ≡ h.num_ref_idx_active
   long-list list is e =
       let at : listed (references_in p) ≡ Ok (map (option_map (reference_at es (map marked_frame fs))) list) = sym (ap (λ b. elim b [ true ↦ listed (references_in p) | false ↦ Ok [] ]) is) ∙ e in
       sym (length-map list (option_map (reference_at es (map marked_frame fs))))
-      ∙ subst (λ r. IfOk r (λ xs. length xs ≡ h.active_count)) at (listed-length (current_of p h) h.active_count (or_empty h.modifications) (references_in p))
+      ∙ subst (λ r. IfOk r (λ xs. length xs ≡ h.num_ref_idx_active)) at (listed-length (current_of p h) h.num_ref_idx_active (or_empty h.modifications) (references_in p))
 
-  pub p-places : (list places : List (Option ℕ)) → h.active_count ≤ 16 → is_p h ≡ true → FramesStandAt es fs → NamesFrames (map marked_frame fs) each_entry listed (Ok list)
+  pub p-places : (list places : List (Option ℕ)) → h.num_ref_idx_active ≤ 16 → is_p h ≡ true → FramesStandAt es fs → NamesFrames (map marked_frame fs) each_entry listed (Ok list)
       → length places ≡ 16 → AreThose list places → IsListAt p es fs h (Ok places)
   p-places list places few is stand names long those =
       let made = p-list (Ok list) is stand names in

@@ -1,8 +1,8 @@
 -- One slice more of a picture.
 use Rattle.avc_picture.proofs.Common.{IsStrictlyIncreasing, nat_lt, slice_index, slice_index_or, if◌then◌else◌, nat_tests, append-nil}
 use Rattle.avc_picture.proofs.Common.{length-append, length-map, take_at, Fault, ArbitrarySliceOrder, MissingMacroblocks, Mb, Coded}
-use Rattle.avc_picture.proofs.Common.{SliceFacts, width_in_mbs, Sps, Pps, Slice, Follows, IsHandedOut, rest_of, SliceMbs, SliceStart}
-use Rattle.avc_picture.proofs.Common.{placed, slice_data, SliceData, slice_facts, Names, AreNames, IsContextOf, picture_start, CanHaveFirst}
+use Rattle.avc_picture.proofs.Common.{SliceInfo, width_in_mbs, Sps, Pps, Slice, Follows, IsHandedOut, rest_of, SliceMbs, SliceStart}
+use Rattle.avc_picture.proofs.Common.{placed, slice_data, SliceData, slice_info, Names, AreNames, IsContextOf, picture_start, CanHaveFirst}
 use Rattle.avc_picture.proofs.Common.{GoesOn, HasFirst, IsDataAnswer, IsDataOf, IsStateOrFault, IsWellSoFar, address_fault, first_of}
 use Rattle.avc_picture.proofs.Common.{number_after, outcome, outcome_from, BeginsWith, HoldsFirst, MbsState, PictureStart, Progress}
 use Rattle.avc_picture.proofs.Common.{coded_of, data_of, first_mb_fault, list_of, read_whole, refused, start_of, with_first_fault}
@@ -11,7 +11,7 @@ use Rattle.std.proofs.Common.{◌≡◌, ℕ, ◌+◌, ◌*◌, ◌<◌, ◌≤�
 use Rattle.std.proofs.lemmas.List.Kept.{AllPairs-from_increasing}
 use Rattle.avc_types.specs.References.{Reference}
 use Rattle.avc_plane.specs.declared.frame.Frame.{Frame}
-use Rattle.avc_picture.specs.Slices.{facts_of, with_facts}
+use Rattle.avc_picture.specs.Slices.{info_of, with_info}
 
 -- ---- the frames' numbers
 
@@ -53,24 +53,24 @@ begins-itself c = record {
 
 -- ---- the slices that macroblocks lie in
 
--- the facts of a slice with these macroblocks, where it has any
-abbrev facts-in : SliceFacts → List Mb → List SliceFacts
-facts-in facts [] = []
-facts-in facts (mb ∷ mbs) = facts ∷ []
+-- the info of a slice with these macroblocks, where it has any
+abbrev info-in : SliceInfo → List Mb → List SliceInfo
+info-in info [] = []
+info-in info (mb ∷ mbs) = info ∷ []
 
-with-facts-is : (slices : List SliceFacts) (facts : SliceFacts) (mbs : List Mb) → with_facts slices facts mbs ≡ slices ++ facts-in facts mbs
-with-facts-is slices facts [] = sym (append-nil slices)
-with-facts-is slices facts (mb ∷ mbs) = refl
+with-info-is : (slices : List SliceInfo) (info : SliceInfo) (mbs : List Mb) → with_info slices info mbs ≡ slices ++ info-in info mbs
+with-info-is slices info [] = sym (append-nil slices)
+with-info-is slices info (mb ∷ mbs) = refl
 
-numbered : (slices : List SliceFacts) (facts : SliceFacts) (mbs : List Mb) (number read read' : ℕ) → length slices ≡ number → read' ≡ read + length mbs
-    → number_after number read read' ≡ length (with_facts slices facts mbs)
-numbered slices facts [] number read read' e h = grind (arith, nat_tests)
-numbered slices facts (mb ∷ mbs) number read read' e h = grind (arith, nat_tests, length-append)
+numbered : (slices : List SliceInfo) (info : SliceInfo) (mbs : List Mb) (number read read' : ℕ) → length slices ≡ number → read' ≡ read + length mbs
+    → number_after number read read' ≡ length (with_info slices info mbs)
+numbered slices info [] number read read' e h = grind (arith, nat_tests)
+numbered slices info (mb ∷ mbs) number read read' e h = grind (arith, nat_tests, length-append)
 
-few-after : (slices : List SliceFacts) (facts : SliceFacts) (mbs : List Mb) (number read read' : ℕ) → length slices ≡ number → number ≤ read → read' ≡ read + length mbs
-    → length (with_facts slices facts mbs) ≤ read'
-few-after slices facts [] number read read' e few h = omega (arith, e, few, h)
-few-after slices facts (mb ∷ mbs) number read read' e few h = grind (arith, nat_tests, length-append)
+few-after : (slices : List SliceInfo) (info : SliceInfo) (mbs : List Mb) (number read read' : ℕ) → length slices ≡ number → number ≤ read → read' ≡ read + length mbs
+    → length (with_info slices info mbs) ≤ read'
+few-after slices info [] number read read' e few h = omega (arith, e, few, h)
+few-after slices info (mb ∷ mbs) number read read' e few h = grind (arith, nat_tests, length-append)
 
 -- ---- what refuses a slice
 
@@ -102,14 +102,14 @@ module _ {PAD : ℕ} (sps : Sps) (pps : Pps) (es : List ℕ) (fs : List (Frame P
   abbrev start : SliceStart
   start = start_of p s.header (length g.slices)
 
-  abbrev facts : SliceFacts
-  facts = facts_of p s.header list
+  abbrev info : SliceInfo
+  info = info_of p s.header list
 
   abbrev ms : SliceMbs
   ms = slice_data start g.mbs (data_of s)
 
   abbrev whole : Progress
-  whole = read_whole s g facts ms
+  whole = read_whole s g info ms
 
   module _ (well : IsWellSoFar p es g number read m) (dat : IsDataOf start g.mbs (data_of s) unread) where
     abbrev begins-before : (c : Coded) → BeginsWith c (coded_of p whole) → BeginsWith c (coded_of p g)
@@ -120,8 +120,8 @@ module _ {PAD : ℕ} (sps : Sps) (pps : Pps) (es : List ℕ) (fs : List (Frame P
       constrained = b.constrained;
       later_mbs = map (placed start) ms.mbs ++ b.later_mbs;
       mbs = b.mbs ∙ append_assoc g.mbs (map (placed start) ms.mbs) b.later_mbs;
-      later_slices = facts-in facts ms.mbs ++ b.later_slices;
-      slices = b.slices ∙ ap (λ xs. xs ++ b.later_slices) (with-facts-is g.slices facts ms.mbs) ∙ append_assoc g.slices (facts-in facts ms.mbs) b.later_slices;
+      later_slices = info-in info ms.mbs ++ b.later_slices;
+      slices = b.slices ∙ ap (λ xs. xs ++ b.later_slices) (with-info-is g.slices info ms.mbs) ∙ append_assoc g.slices (info-in info ms.mbs) b.later_slices;
     }
 
     taken : (c : Coded) → BeginsWith c (coded_of p whole) → take m.next c.mbs ≡ g.mbs
@@ -152,17 +152,17 @@ module _ {PAD : ℕ} (sps : Sps) (pps : Pps) (es : List ℕ) (fs : List (Frame P
     fault-first c names b are f d' out = grind (arith, nat_tests)
 
     module _ (context : SliceContext PAD) (num : context.number ≡ number) (made : IsContextOf p es s.header list context) (qp : start.qp ≤ 51) where
-      facts-are : (c : Coded) (mb : Mb) (mbs : List Mb) → BeginsWith c (coded_of p whole) → ms.mbs ≡ mb ∷ mbs → slice_facts c context.number ≡ facts
-      facts-are c mb mbs b some =
-          ap (λ n. slice_facts c n) (num ∙ sym well.decoded.count)
-          ∙ ap (λ xs. slice_facts (record c { slices = xs }) (length g.slices))
-          ((begins-before c b).slices ∙ ap (λ xs. g.slices ++ (facts-in facts xs ++ b.later_slices)) some)
-          ∙ get-here g.slices b.later_slices facts _
+      info-are : (c : Coded) (mb : Mb) (mbs : List Mb) → BeginsWith c (coded_of p whole) → ms.mbs ≡ mb ∷ mbs → slice_info c context.number ≡ info
+      info-are c mb mbs b some =
+          ap (λ n. slice_info c n) (num ∙ sym well.decoded.count)
+          ∙ ap (λ xs. slice_info (record c { slices = xs }) (length g.slices))
+          ((begins-before c b).slices ∙ ap (λ xs. g.slices ++ (info-in info xs ++ b.later_slices)) some)
+          ∙ get-here g.slices b.later_slices info _
 
       pub slice-goes-on : (c : Coded) (names : Names) → BeginsWith c (coded_of p whole) → AreNames es names → GoesOn c names start m unread context
       slice-goes-on c names b are = record {
         holds = holds-before c names b are;
-        is_slice = λ mb mbs e. made c names are (facts-are c mb mbs b (sym (ap (λ r. r.mbs) (ap (λ xs. rest_of start xs unread) (taken c b) ∙ dat.1)) ∙ e));
+        is_slice = λ mb mbs e. made c names are (info-are c mb mbs b (sym (ap (λ r. r.mbs) (ap (λ xs. rest_of start xs unread) (taken c b) ∙ dat.1)) ∙ e));
         width = sym b.width;
         size = sym (ap (λ w. w * c.height) b.width ∙ ap (λ h. width_in_mbs sps * h) b.height);
         number = well.decoded.count ∙ sym num;
@@ -239,15 +239,15 @@ module _ {PAD : ℕ} (sps : Sps) (pps : Pps) (es : List ℕ) (fs : List (Frame P
           let coded : coded_of p (with_slice p s g) ≡ coded_of p whole = ap (coded_of p) sliced ∙ coded-after found in
           let mbs-length : length (with_slice p s g).mbs ≡ length g.mbs + length ms.mbs =
           ap (λ c. length c.mbs) coded ∙ length-append g.mbs (map (placed start) ms.mbs) ∙ ap (λ n. length g.mbs + n) (length-map ms.mbs (placed start)) in
-          let slices-length : length (with_slice p s g).slices ≡ length (with_facts g.slices facts ms.mbs) = ap (λ c. length c.slices) coded in
+          let slices-length : length (with_slice p s g).slices ≡ length (with_info g.slices info ms.mbs) = ap (λ c. length c.slices) coded in
           let reads : read' ≡ read + length ms.mbs = omega (arith, same, count, mine.1, well.reached) in
-          let number-is : number_after number read read' ≡ length (with_facts g.slices facts ms.mbs) = numbered g.slices facts ms.mbs number read read' well.decoded.count reads in
+          let number-is : number_after number read read' ≡ length (with_info g.slices info ms.mbs) = numbered g.slices info ms.mbs number read read' well.decoded.count reads in
           let read-is : (with_slice p s g).read ≡ g.read + (first_of found ms).0 = ap (λ x. x.read) sliced ∙ read-after found in
           record {
             none = ap (λ x. x.fault) sliced ∙ fault-after found ∙ ap (with_unit s.unit) no;
             read_is = omega (arith, read-is, well.read_is, well.reached, same, mine.1);
             reached = mine.2;
-            few = subst (λ n. n ≤ read') (sym number-is) (few-after g.slices facts ms.mbs number read read' well.decoded.count well.few reads);
+            few = subst (λ n. n ≤ read') (sym number-is) (few-after g.slices info ms.mbs number read read' well.decoded.count well.few reads);
             decoded = record {
               next = omega (arith, mbs-length, well.decoded.next, count, same, mine.1, mine.2);
               count = slices-length ∙ sym number-is;

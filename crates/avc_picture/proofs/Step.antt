@@ -2,37 +2,37 @@
 use Rattle.avc_picture.proofs.Common.{ℕ, suc, ◌/◌, ◌<◌, List, [], ◌∷◌, ◌++◌, length, Bool, true, false, Option, Some, None, Ok, Err}
 use Rattle.avc_picture.proofs.Common.{slice_get, slice_index_or, replicate, ◌*◌, ◌≡◌, ◌∙◌, refl, sym, ap, subst, arith, length-append}
 use Rattle.avc_picture.proofs.Common.{map-append, slice_get_within, Fault, Mb, MbSyntax, p_skip, i_pcm, i_nxn, i_16x16, p_inter, Coded}
-use Rattle.avc_picture.proofs.Common.{PicMb, Around, around, is_intra_facts, MotionIsAround, ModesAreAround, modes_before, modes_of}
-use Rattle.avc_picture.proofs.Common.{total_coeffs_of, NeighbourFacts, Motion, absent, intra, inter, is_intra, motion_before, motion_of}
-use Rattle.avc_picture.proofs.Common.{Names, MbFacts, Planes, Place, place_of, CanvasState, IsBuilt, IsPlaceOn, sides_near, is_picture}
-use Rattle.avc_picture.proofs.Common.{macroblock_fault, refusal, AreReferences, ReferencePicture, HasNeighbourFacts, HoldsFirst, IsSlice}
-use Rattle.avc_picture.proofs.Common.{MbsState, AreFactsOf, FilterFacts, FiltersUpTo, filtered_rows, first_built, PartsAgree, IsFilterFacts}
-use Rattle.avc_picture.proofs.Common.{IsNeighbourFacts, SliceContext}
-use Rattle.avc_neigh.specs.Around.{with_facts}
+use Rattle.avc_picture.proofs.Common.{PicMb, Around, around, is_intra_info, MotionIsAround, ModesAreAround, modes_before, modes_of}
+use Rattle.avc_picture.proofs.Common.{total_coeffs_of, NeighbourInfo, Motion, absent, intra, inter, is_intra, motion_before, motion_of}
+use Rattle.avc_picture.proofs.Common.{Names, MbInfo, Planes, Place, place_of, CanvasState, IsBuilt, IsPlaceOn, sides_near, is_picture}
+use Rattle.avc_picture.proofs.Common.{macroblock_fault, refusal, AreReferences, ReferencePicture, HasNeighbourInfo, HoldsFirst, IsSlice}
+use Rattle.avc_picture.proofs.Common.{MbsState, AreInfoOf, FilterInfo, FiltersUpTo, filtered_rows, first_built, PartsAgree, IsFilterInfo}
+use Rattle.avc_picture.proofs.Common.{IsNeighbourInfo, SliceContext}
+use Rattle.avc_neigh.specs.Around.{with_info}
 use Rattle.avc_motion.specs.Motion.{HasMotion}
 use Rattle.avc_picture_core.specs.Built.{reference_of}
 use Rattle.avc_picture.proofs.Around.{modes_around, motion_around, sides_are}
 use Rattle.avc_picture.proofs.Before.{modes_last, modes_more, motion_last, motion_more, motion_stays}
 use Rattle.avc_picture.proofs.Faults.{has_pictures, in_range, macroblock_fault_is, motion_found, out_of_range}
-use Rattle.avc_picture.proofs.Filtered.{facts_more, has_facts}
+use Rattle.avc_picture.proofs.Filtered.{info_more, has_info}
 use Rattle.avc_picture.proofs.LateRows.{late_more}
 use Rattle.avc_picture.proofs.Quarters.{IsFrom, one_reference, quarter_reference}
 use Rattle.avc_picture.proofs.Tells.{tells_more}
 
 -- whether a macroblock is intra, by its first block
-intra_seen : (f : NeighbourFacts) (motion : List Motion) → f.motion ≡ motion → motion ≡ replicate 16 intra → is_intra_facts f ≡ true
-intra_seen f motion e is = ap (λ xs. is_intra_facts (record f { motion = xs })) (e ∙ is)
+intra_seen : (f : NeighbourInfo) (motion : List Motion) → f.motion ≡ motion → motion ≡ replicate 16 intra → is_intra_info f ≡ true
+intra_seen f motion e is = ap (λ xs. is_intra_info (record f { motion = xs })) (e ∙ is)
 
-inter_seen : (c : Coded) (slice : ℕ) (f : NeighbourFacts) (m : Motion) → slice_index_or f.motion 0 absent ≡ m
-    → is_picture (reference_of c slice m) ≡ true → is_intra_facts f ≡ false
+inter_seen : (c : Coded) (slice : ℕ) (f : NeighbourInfo) (m : Motion) → slice_index_or f.motion 0 absent ≡ m
+    → is_picture (reference_of c slice m) ≡ true → is_intra_info f ≡ false
 inter_seen c slice f absent e there = cc
 inter_seen c slice f intra e there = cc
 inter_seen c slice f (inter r v) e there = rw e refl
 
-seen : (c : Coded) (slice : ℕ) (f : NeighbourFacts) (s : MbSyntax)
+seen : (c : Coded) (slice : ℕ) (f : NeighbourInfo) (s : MbSyntax)
     → (is_intra s ≡ true → f.motion ≡ replicate 16 intra)
     → (is_intra s ≡ false → is_picture (reference_of c slice (slice_index_or f.motion 0 absent)) ≡ true)
-    → is_intra_facts f ≡ is_intra s
+    → is_intra_info f ≡ is_intra s
 seen c slice f p_skip e there = inter_seen c slice f _ refl (there refl)
 seen c slice f (p_inter shape refs mvds r) e there = inter_seen c slice f _ refl (there refl)
 seen c slice f (i_pcm luma cb cr) e there = intra_seen f _ refl (e refl)
@@ -78,19 +78,19 @@ module _ {PAD : ℕ} (c : Coded) (names : Names) (old : MbsState) (holds : Holds
   vector_fault f has =
       macroblock_fault_is c a m is ∙ out_of_range place moved (motion_last c a m is) f (has c (motion_before c a) a motion_in)
 
-  module _ (facts : NeighbourFacts) (has : HasMotion n mb.syntax (Ok facts.motion)) (constrained : Bool)
-      (flag : constrained ≡ old.canvas.constrained_intra_pred) (told : IsNeighbourFacts s.number n constrained mb facts)
+  module _ (info : NeighbourInfo) (has : HasMotion n mb.syntax (Ok info.motion)) (constrained : Bool)
+      (flag : constrained ≡ old.canvas.constrained_intra_pred) (told : IsNeighbourInfo s.number n constrained mb info)
       (references : List (Option (ReferencePicture PAD))) (references_are : references ≡ s.references) where
-    motion_is : slice_index_or (motion_before c (suc a)) a [] ≡ facts.motion
-    motion_is = motion_found place moved (motion_last c a m is) facts.motion (has c (motion_before c a) a motion_in)
+    motion_is : slice_index_or (motion_before c (suc a)) a [] ≡ info.motion
+    motion_is = motion_found place moved (motion_last c a m is) info.motion (has c (motion_before c a) a motion_in)
 
-    moved_is : moved ≡ facts.motion
+    moved_is : moved ≡ info.motion
     moved_is = sym (motion_last c a m is) ∙ motion_is
 
-    modes_are : modes_of c (modes_before c a) a mb.syntax ≡ facts.modes
+    modes_are : modes_of c (modes_before c a) a mb.syntax ≡ info.modes
     modes_are = sym (told.modes_are c (modes_before c a) a (sym (flag ∙ holds.constrained)) modes_in)
 
-    place_on : IsPlaceOn old.canvas a mb facts n references place
+    place_on : IsPlaceOn old.canvas a mb info n references place
     place_on = record {
       width = sym holds.width;
       height = sym holds.height;
@@ -107,44 +107,44 @@ module _ {PAD : ℕ} (c : Coded) (names : Names) (old : MbsState) (holds : Holds
     }
 
     not_out : macroblock_fault c a ≡ refusal place
-    not_out = macroblock_fault_is c a m is ∙ in_range place moved (motion_last c a m is) facts.motion (has c (motion_before c a) a motion_in)
+    not_out = macroblock_fault_is c a m is ∙ in_range place moved (motion_last c a m is) info.motion (has c (motion_before c a) a motion_in)
 
     -- It is refused where its samples are to be built.
     pub build_fault : (f : Fault) (canvas : CanvasState)
-        → ((p : Place) → IsPlaceOn old.canvas a mb facts n references p → IsBuilt p (Err f) old.canvas canvas) → macroblock_fault c a ≡ Some f
+        → ((p : Place) → IsPlaceOn old.canvas a mb info n references p → IsBuilt p (Err f) old.canvas canvas) → macroblock_fault c a ≡ Some f
     build_fault f canvas built = not_out ∙ built place place_on
 
     module _ (canvas : CanvasState) (done : Unit {0})
-        (built : (p : Place) → IsPlaceOn old.canvas a mb facts n references p → IsBuilt p (Ok done) old.canvas canvas)
-        (long : length facts.motion ≡ 16) (f : MbFacts) (filter_told : IsFilterFacts mb facts.motion s f) where
+        (built : (p : Place) → IsPlaceOn old.canvas a mb info n references p → IsBuilt p (Ok done) old.canvas canvas)
+        (long : length info.motion ≡ 16) (f : MbInfo) (filter_told : IsFilterInfo mb info.motion s f) where
       here : IsBuilt place (Ok done) old.canvas canvas
       here = built place place_on
 
-      pictures : is_intra mb.syntax ≡ false → (k : ℕ) → k < 16 → is_picture (reference_of c s.number (slice_index_or facts.motion k absent)) ≡ true
+      pictures : is_intra mb.syntax ≡ false → (k : ℕ) → k < 16 → is_picture (reference_of c s.number (slice_index_or info.motion k absent)) ≡ true
       pictures e k h =
           ap (λ xs. is_picture (reference_of c s.number (slice_index_or xs k absent))) (sym motion_is)
           ∙ has_pictures place here.0 e k (omega (arith, h, long, ap length motion_is))
 
-      one : is_intra mb.syntax ≡ false → (k : ℕ) → k < 16 → IsFrom (quarter_reference mb.syntax (k / 4)) (slice_index_or facts.motion k absent)
+      one : is_intra mb.syntax ≡ false → (k : ℕ) → k < 16 → IsFrom (quarter_reference mb.syntax (k / 4)) (slice_index_or info.motion k absent)
       one e k h = grind (arith, IsFrom, quarter_reference, moved_is, one_reference)
 
-      intra_is : is_intra mb.syntax ≡ is_intra_facts facts
+      intra_is : is_intra mb.syntax ≡ is_intra_info info
       intra_is =
-          sym (seen c s.number facts mb.syntax
+          sym (seen c s.number info mb.syntax
           (λ e. sym moved_is ∙ intra_motion c (motion_before c a) a mb.syntax e) (λ e. pictures e 0 (omega arith)))
 
-      neighbours_more : HasNeighbourFacts c (suc a) (old.row.facts ++ facts ∷ [])
+      neighbours_more : HasNeighbourInfo c (suc a) (old.row.info ++ info ∷ [])
       neighbours_more =
           let has = holds.neighbours in
-          let at : slice_get c.mbs (length old.row.facts) ≡ Some m = ap (λ k. slice_get c.mbs k) has.count ∙ is in
+          let at : slice_get c.mbs (length old.row.info) ≡ Some m = ap (λ k. slice_get c.mbs k) has.count ∙ is in
           record {
-            count = omega (arith, length-append old.row.facts (facts ∷ []), has.count);
-            slices = tells_more (λ x. x.slice) (λ x. x.slice) c.mbs old.row.facts m facts at (sym told.slice_is) has.slices;
-            total_coeffs = tells_more (λ x. total_coeffs_of x.mb.syntax) (λ x. x.total_coeffs) c.mbs old.row.facts m facts at (sym told.total_coeffs_is) has.total_coeffs;
-            intra = tells_more (λ x. is_intra x.mb.syntax) is_intra_facts c.mbs old.row.facts m facts at intra_is has.intra;
-            motion = map-append (λ x. x.motion) old.row.facts (facts ∷ []) ∙ ap (λ xs. xs ++ facts.motion ∷ []) has.motion
+            count = omega (arith, length-append old.row.info (info ∷ []), has.count);
+            slices = tells_more (λ x. x.slice) (λ x. x.slice) c.mbs old.row.info m info at (sym told.slice_is) has.slices;
+            total_coeffs = tells_more (λ x. total_coeffs_of x.mb.syntax) (λ x. x.total_coeffs) c.mbs old.row.info m info at (sym told.total_coeffs_is) has.total_coeffs;
+            intra = tells_more (λ x. is_intra x.mb.syntax) is_intra_info c.mbs old.row.info m info at intra_is has.intra;
+            motion = map-append (λ x. x.motion) old.row.info (info ∷ []) ∙ ap (λ xs. xs ++ info.motion ∷ []) has.motion
                 ∙ ap (λ x. motion_before c a ++ x ∷ []) (sym moved_is) ∙ sym (motion_more c a m is);
-            modes = map-append (λ x. x.modes) old.row.facts (facts ∷ []) ∙ ap (λ xs. xs ++ facts.modes ∷ []) has.modes
+            modes = map-append (λ x. x.modes) old.row.info (info ∷ []) ∙ ap (λ xs. xs ++ info.modes ∷ []) has.modes
                 ∙ ap (λ x. modes_before c a ++ x ∷ []) (sym modes_are) ∙ sym (modes_more c a m is);
           }
 
@@ -154,10 +154,10 @@ module _ {PAD : ℕ} (c : Coded) (names : Names) (old : MbsState) (holds : Holds
       -- It is built, and the row above is filtered where the macroblock ends its own.
       pub decoded_more : a < old.canvas.width * old.canvas.height → (last : Planes)
           → FiltersUpTo c (filtered_rows c.width a) (filtered_rows c.width (suc a)) canvas.planes last → (macroblock_fault c a ≡ None)
-          × HoldsFirst c names (record { canvas = record canvas { planes = last }; row = with_facts old.row facts; filter_facts = old.filter_facts ++ f ∷ []; next = suc a })
+          × HoldsFirst c names (record { canvas = record canvas { planes = last }; row = with_info old.row info; filter_info = old.filter_info ++ f ∷ []; next = suc a })
       decoded_more room last filters =
-          let told_so_far : FilterFacts = record { width = c.width; facts = old.filter_facts } in
-          let of : AreFactsOf c names c.chroma_qp_index_offset told_so_far = record { width_is = refl; offset_is = refl; facts_are = holds.filter } in
+          let told_so_far : FilterInfo = record { width = c.width; info = old.filter_info } in
+          let of : AreInfoOf c names c.chroma_qp_index_offset told_so_far = record { width_is = refl; offset_is = refl; info_are = holds.filter } in
           let in_picture : a < c.width * c.height = subst (λ h. a < c.width * h) holds.height (subst (λ w. a < w * old.canvas.height) holds.width room) in (
             not_out ∙ here.0,
             record {
@@ -172,8 +172,8 @@ module _ {PAD : ℕ} (c : Coded) (names : Names) (old : MbsState) (holds : Holds
                   (ap (λ x. x.planes) here.1
                   ∙ late_more c names c.chroma_qp_index_offset told_so_far of a m is kept.filter_count wide in_picture holds.begun holds.begun_sized old.canvas.planes holds.built);
               neighbours = neighbours_more;
-              filter = facts_more c (motion_before c (length c.mbs)) names a old.filter_facts f kept.filter_count holds.filter
-                  (has_facts c names s slice a mb is facts.motion long (quarter_reference mb.syntax) f filter_told (motion_before c (length c.mbs))
+              filter = info_more c (motion_before c (length c.mbs)) names a old.filter_info f kept.filter_count holds.filter
+                  (has_info c names s slice a mb is info.motion long (quarter_reference mb.syntax) f filter_told (motion_before c (length c.mbs))
                   (motion_stays c (suc a) (length c.mbs) a (omega arith) (omega (arith, below)) ∙ motion_is) pictures one);
             },
           )

@@ -51,5 +51,5 @@ sized_room width height column row s sized h k = record {
 
 -- room for the row that is filtered next
 pub late_room : (m : MbsState) → PartsAgree m → (w : ℕ) → w ≡ m.canvas.width → (s : Planes) → AreSized m.canvas.width m.canvas.height s
-    → (column : ℕ) → column < w → HasRoom column (length m.filter_facts / w - 1) s
+    → (column : ℕ) → column < w → HasRoom column (length m.filter_info / w - 1) s
 late_room m kept w w_is s sized column low = grind (arith, mul_comm, div-lt_iff_lt-mul, sized_room)

@@ -8,14 +8,14 @@ use Rattle.avc_params.specs.declared.sps.Sps.{Sps}
 use Rattle.avc_params.specs.declared.pps.Pps.{Pps}
 use Rattle.avc_slice.specs.declared.header.Header.{Header}
 use Rattle.avc_slice.specs.Weights.{weights}
-use Rattle.avc_motion.specs.Motion.{slice_facts}
+use Rattle.avc_motion.specs.Motion.{slice_info}
 use Rattle.avc_plane.specs.Frames.{marked_frame, stored_at}
 use Rattle.avc_plane.specs.declared.frame.Frame.{Frame}
 use Rattle.avc_plane.specs.declared.frame.PaddedPlanes.{PaddedPlanes}
-use Rattle.avc_deblock.specs.Facts.{Names}
+use Rattle.avc_deblock.specs.FilterInfo.{Names}
 use Rattle.avc_picture_core.specs.declared.references.ReferencePicture.{ReferencePicture}
 use Rattle.avc_picture.specs.FirstMbs.{IsSlice}
-use Rattle.avc_picture.specs.Slices.{PictureStart, deblocking_of, facts_of, list_of}
+use Rattle.avc_picture.specs.Slices.{PictureStart, deblocking_of, info_of, list_of}
 use Rattle.avc_picture.specs.declared.slice_context.SliceContext.{SliceContext}
 
 -- what a picture is decoded with, where its frames are those of these places in the history
@@ -76,10 +76,10 @@ ArePicturesAt frames h count places pictures =
 
 -- ---- the whole
 
--- In every picture in which the slice with this number has the facts of the header and the list, this is what the code knows of it.
+-- In every picture in which the slice with this number has the info of the header and the list, this is what the code knows of it.
 abbrev pub IsContextOf : {PAD : ℕ} → PictureStart → (entries : List ℕ) → Header → List (Option Reference) → SliceContext PAD → Type 0
 IsContextOf p entries h list s =
-    (c : Coded) (names : Names) → AreNames entries names → slice_facts c s.number ≡ facts_of p h list → IsSlice c names s
+    (c : Coded) (names : Names) → AreNames entries names → slice_info c s.number ≡ info_of p h list → IsSlice c names s
 
 -- each of the first `count` reference indices has the place of its frame as its number; 0 without a place
 abbrev pub AreNumbersAt : (count : ℕ) → List (Option ℕ) → (numbers : List ℕ) → Type 0

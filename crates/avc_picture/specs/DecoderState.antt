@@ -15,7 +15,7 @@ use Rattle.avc_bits.specs.Bits.{Bits}
 use Rattle.avc_mbsyntax.specs.SliceData.{SliceMbs, SliceStart, placed, slice_data}
 use Rattle.avc_mbsyntax.specs.declared.slice_data.SliceData.{SliceData}
 use Rattle.avc_plane.specs.declared.frame.Frame.{Frame}
-use Rattle.avc_deblock.specs.Facts.{Names}
+use Rattle.avc_deblock.specs.FilterInfo.{Names}
 use Rattle.avc_picture.specs.Context.{AreNames, FramesStandAt, picture_start}
 use Rattle.avc_picture.specs.Decoding.{AreFramesOf}
 use Rattle.avc_picture.specs.FirstMbs.{BeginsWith, HoldsFirst, IsSlice, MbsState}

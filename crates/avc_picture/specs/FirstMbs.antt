@@ -1,18 +1,18 @@
 -- The first macroblocks of a picture as they are decoded one after another, whatever macroblocks and slices come behind them.
 use Rattle.std.specs.Prelude.{◌≡◌, ℕ, ◌≤◌, ◌<◌, true, List, ◌++◌, length, map, Some, None, Result, Ok, Err, slice_index_or}
 use Rattle.avc_types.specs.declared.fault.Fault.{Fault}
-use Rattle.avc_types.specs.Pictures.{Coded, PicMb, SliceFacts, Frame}
+use Rattle.avc_types.specs.Pictures.{Coded, PicMb, SliceInfo, Frame}
 use Rattle.avc_params.specs.declared.sps.Sps.{Sps}
 use Rattle.avc_params.specs.declared.pps.Pps.{Pps}
 use Rattle.avc_params.specs.Limits.{width_in_mbs, height_in_mbs}
-use Rattle.avc_neigh.specs.declared.facts.NeighbourFacts.{NeighbourFacts}
-use Rattle.avc_neigh.specs.Around.{PictureFacts, is_intra_facts}
-use Rattle.avc_neigh.specs.Laws.{FactsTell, TellSlices, TellTotalCoeffs}
+use Rattle.avc_neigh.specs.declared.neighbour_info.NeighbourInfo.{NeighbourInfo}
+use Rattle.avc_neigh.specs.Around.{PictureInfo, is_intra_info}
+use Rattle.avc_neigh.specs.Laws.{InfoTell, TellSlices, TellTotalCoeffs}
 use Rattle.avc_neigh.specs.Modes.{modes_before}
-use Rattle.avc_motion.specs.Motion.{motion_before, is_intra, slice_facts, frame_named}
+use Rattle.avc_motion.specs.Motion.{motion_before, is_intra, slice_info, frame_named}
 use Rattle.avc_plane.specs.Planes.{Planes}
-use Rattle.avc_deblock.specs.Facts.{Names, HaveFacts}
-use Rattle.avc_deblock.specs.declared.facts.MbFacts.{MbFacts}
+use Rattle.avc_deblock.specs.FilterInfo.{Names, HaveInfo}
+use Rattle.avc_deblock.specs.declared.mb_info.MbInfo.{MbInfo}
 use Rattle.avc_picture_core.specs.Canvas.{CanvasState}
 use Rattle.avc_picture_core.specs.Faults.{is_picture, macroblock_fault}
 use Rattle.avc_picture_core.specs.References.{AreReferences}
@@ -25,9 +25,9 @@ pub record MbsState : Type 0 where
   -- their samples, filtered one row late
   pub canvas : CanvasState
   -- what their neighbours are told
-  pub row : PictureFacts
+  pub row : PictureInfo
   -- what the deblocking filter is told of them
-  pub filter_facts : List MbFacts
+  pub filter_info : List MbInfo
   -- the address of the macroblock that comes next
   pub next : ℕ
 
@@ -44,7 +44,7 @@ pub record BeginsWith (d c : Coded) : Type 0 where
   pub constrained : d.constrained_intra_pred ≡ c.constrained_intra_pred
   pub later_mbs : List PicMb
   pub mbs : d.mbs ≡ c.mbs ++ later_mbs
-  pub later_slices : List SliceFacts
+  pub later_slices : List SliceInfo
   pub slices : d.slices ≡ c.slices ++ later_slices
 
 -- c is a picture of these parameter sets.
@@ -55,19 +55,19 @@ pub record HasSets (sps : Sps) (pps : Pps) (c : Coded) : Type 0 where
   pub constrained : c.constrained_intra_pred ≡ pps.constrained_intra_pred_flag
 
 -- whether each is intra
-abbrev pub TellIntra : List PicMb → List NeighbourFacts → Type 0
-TellIntra = FactsTell (λ m. is_intra m.mb.syntax) is_intra_facts
+abbrev pub TellIntra : List PicMb → List NeighbourInfo → Type 0
+TellIntra = InfoTell (λ m. is_intra m.mb.syntax) is_intra_info
 
 -- What neighbours are told of the first n macroblocks.
-pub record HasNeighbourFacts (c : Coded) (n : ℕ) (facts : List NeighbourFacts) : Type 0 where
-  pub count : length facts ≡ n
-  pub slices : TellSlices c.mbs facts
-  pub total_coeffs : TellTotalCoeffs c.mbs facts
-  pub intra : TellIntra c.mbs facts
-  pub motion : map (λ f. f.motion) facts ≡ motion_before c n
-  pub modes : map (λ f. f.modes) facts ≡ modes_before c n
+pub record HasNeighbourInfo (c : Coded) (n : ℕ) (info : List NeighbourInfo) : Type 0 where
+  pub count : length info ≡ n
+  pub slices : TellSlices c.mbs info
+  pub total_coeffs : TellTotalCoeffs c.mbs info
+  pub intra : TellIntra c.mbs info
+  pub motion : map (λ f. f.motion) info ≡ motion_before c n
+  pub modes : map (λ f. f.modes) info ≡ modes_before c n
 
--- The first macroblocks of picture c have been decoded: their samples, filtered one row late, and their facts for neighbours and filter.
+-- The first macroblocks of picture c have been decoded: their samples, filtered one row late, and their info for neighbours and filter.
 -- `names` has the numbers of the stored frames.
 pub record HoldsFirst (c : Coded) (names : Names) (m : MbsState) : Type 0 where
   pub within : m.next ≤ length c.mbs
@@ -79,8 +79,8 @@ pub record HoldsFirst (c : Coded) (names : Names) (m : MbsState) : Type 0 where
   pub begun : Planes
   pub begun_sized : IsSized c.width c.height begun
   pub built : m.canvas.planes ≡ row_late c begun m.next
-  pub neighbours : HasNeighbourFacts c m.next m.row.facts
-  pub filter : HaveFacts c (motion_before c (length c.mbs)) names 0 m.filter_facts
+  pub neighbours : HasNeighbourInfo c m.next m.row.info
+  pub filter : HaveInfo c (motion_before c (length c.mbs)) names 0 m.filter_info
 
 -- Reference index r of the slice names the frame with this number.
 pub record HasNumber (c : Coded) (names : Names) (slice r number : ℕ) : Type 0 where
@@ -94,9 +94,9 @@ pub record IsSlice {PAD : ℕ} (c : Coded) (names : Names) (s : SliceContext PAD
   pub references : AreReferences c s.number s.references
   -- of each reference index that names a picture
   pub numbers : (r : ℕ) → is_picture (frame_named c s.number r) ≡ true → HasNumber c names s.number r (slice_index_or s.frame_numbers r 0)
-  pub edges : s.filtered_edges ≡ (slice_facts c s.number).disable_deblocking_filter_idc
-  pub offset_a : s.offset_a ≡ (slice_facts c s.number).filter_offset_a
-  pub offset_b : s.offset_b ≡ (slice_facts c s.number).filter_offset_b
+  pub edges : s.filtered_edges ≡ (slice_info c s.number).disable_deblocking_filter_idc
+  pub offset_a : s.offset_a ≡ (slice_info c s.number).filter_offset_a
+  pub offset_b : s.offset_b ≡ (slice_info c s.number).filter_offset_b
 
 -- One macroblock more was decoded, or refused by the first of its faults.
 abbrev pub IsDecoded : Coded → Names → (address : ℕ) → Result (Unit {0}) Fault → (new : MbsState) → Type 0

@@ -7,8 +7,8 @@ use Rattle.avc_neigh.specs.Modes.{modes_before}
 use Rattle.avc_motion.specs.Motion.{motion_before}
 use Rattle.avc_plane.specs.Planes.{Planes}
 use Rattle.avc_deblock.specs.Edges.{all_filtered, row_lines}
-use Rattle.avc_deblock.specs.Facts.{Names, HaveFacts}
-use Rattle.avc_deblock.specs.declared.facts.MbFacts.{MbFacts}
+use Rattle.avc_deblock.specs.FilterInfo.{Names, HaveInfo}
+use Rattle.avc_deblock.specs.declared.mb_info.MbInfo.{MbInfo}
 use Rattle.avc_picture_core.specs.Built.{built_on, size_of}
 
 -- the planes with the picture's first n macroblocks in them, which were s before the first
@@ -33,16 +33,16 @@ abbrev pub covering_address : (width component x y : ℕ) → ℕ
 covering_address width component x y = (y / size_of component) * width + x / size_of component
 
 -- What the filter is told of a picture's macroblocks so far, in decoding order.
-pub record FilterFacts : Type 0 where
+pub record FilterInfo : Type 0 where
   -- of the picture, in macroblocks
   pub width : ℕ
-  pub facts : List MbFacts
+  pub info : List MbInfo
 
--- these are facts of the picture's first macroblocks
-pub record AreFactsOf (c : Coded) (names : Names) (offset : ℤ) (f : FilterFacts) : Type 0 where
+-- this is the info of the picture's first macroblocks
+pub record AreInfoOf (c : Coded) (names : Names) (offset : ℤ) (f : FilterInfo) : Type 0 where
   pub width_is : c.width ≡ f.width
   pub offset_is : c.chroma_qp_index_offset ≡ offset
-  pub facts_are : HaveFacts c (motion_before c (length c.mbs)) names 0 f.facts
+  pub info_are : HaveInfo c (motion_before c (length c.mbs)) names 0 f.info
 
 -- Of planes in which so many rows are filtered, so many are filtered then.
 abbrev pub FiltersUpTo : Coded → (before after : ℕ) → (old new : Planes) → Type 0

@@ -9,7 +9,7 @@ use Rattle.avc_types.specs.declared.fault.Fault.TheVariants as faults
 use Rattle.avc_types.specs.declared.references.Modification.{Modification}
 use Rattle.avc_types.specs.References.{Reference}
 use Rattle.avc_types.specs.Macroblock.{Mb}
-use Rattle.avc_types.specs.Pictures.{Samples, Frame, SliceFacts, PicMb, Coded}
+use Rattle.avc_types.specs.Pictures.{Samples, Frame, SliceInfo, PicMb, Coded}
 use Rattle.avc_params.specs.declared.sps.Sps.{Sps}
 use Rattle.avc_params.specs.declared.pps.Pps.{Pps}
 use Rattle.avc_params.specs.Limits.{width_in_mbs, height_in_mbs, size_in_mbs, max_frame_num}
@@ -76,14 +76,14 @@ current_of p h = record { frame_num = h.frame_num; max_frame_num = max_frame_num
 abbrev pub list_of : PictureStart → Header → Result (List (Option Reference)) Fault
 list_of p h =
     elim (is_p h) [
-      | true ↦ reference_list (current_of p h) h.active_count (or_empty h.modifications) (references_in p)
+      | true ↦ reference_list (current_of p h) h.num_ref_idx_active (or_empty h.modifications) (references_in p)
       | false ↦ Ok []
     ]
 
 -- what decoding asks of a slice: its RefPicList0, its weights (8.4.2.3), and FilterOffsetA and FilterOffsetB, which are
 -- slice_alpha_c0_offset_div2 and slice_beta_offset_div2 shifted by one (7.4.3)
-abbrev pub facts_of : PictureStart → Header → List (Option Reference) → SliceFacts
-facts_of p h list =
+abbrev pub info_of : PictureStart → Header → List (Option Reference) → SliceInfo
+info_of p h list =
     let d = deblocking_of h.deblocking in
     record {
       is_p = is_p h;
@@ -98,7 +98,7 @@ facts_of p h list =
 abbrev pub start_of : PictureStart → Header → (n : ℕ) → SliceStart
 start_of p h n = record {
   is_p = is_p h;
-  active_count = h.active_count;
+  num_ref_idx_active = h.num_ref_idx_active;
   qp = nat_abs (slice_qp p.pps h.slice_qp_delta);
   slice = n;
   width = width_in_mbs p.sps;
@@ -111,7 +111,7 @@ start_of p h n = record {
 -- many macroblocks have been read up to there (this decoder's rule).
 pub record Progress : Type 0 where
   pub mbs : List PicMb
-  pub slices : List SliceFacts
+  pub slices : List SliceInfo
   pub fault : Option (ℕ × Fault)
   pub read : ℕ
 
@@ -146,15 +146,15 @@ abbrev pub with_unit : (unit : ℕ) → Option Fault → Option (ℕ × Fault)
 with_unit unit f = option_map (λ g. (unit, g)) f
 
 -- the slices that macroblocks lie in, with one more where these macroblocks are its own: without any it takes no number
-abbrev pub with_facts : List SliceFacts → SliceFacts → List Mb → List SliceFacts
-with_facts slices facts [] = slices
-with_facts slices facts (mb ∷ mbs) = slices ++ facts ∷ []
+abbrev pub with_info : List SliceInfo → SliceInfo → List Mb → List SliceInfo
+with_info slices info [] = slices
+with_info slices info (mb ∷ mbs) = slices ++ info ∷ []
 
--- all of the slice's data, as it is read under these facts (7.3.4)
-abbrev pub read_whole : Slice → (before : Progress) → SliceFacts → SliceMbs → Progress
-read_whole s before facts ms = record {
+-- all of the slice's data, as it is read under this info (7.3.4)
+abbrev pub read_whole : Slice → (before : Progress) → SliceInfo → SliceMbs → Progress
+read_whole s before info ms = record {
   mbs = before.mbs ++ map (λ mb. record { slice = length before.slices; mb = mb }) ms.mbs;
-  slices = with_facts before.slices facts ms.mbs;
+  slices = with_info before.slices info ms.mbs;
   fault = with_unit s.unit ms.fault;
   read = before.read + length ms.mbs;
 }
@@ -167,16 +167,16 @@ with_first_fault s before whole (Some found) = record whole { fault = Some (s.un
 
 -- The slice's data has been read: its faults are those of its macroblocks, lowest address first, and then its own (this
 -- decoder's rule).
-abbrev pub with_slice_data : PictureStart → Slice → (before : Progress) → SliceFacts → SliceMbs → Progress
-with_slice_data p s before facts ms =
-    let whole = read_whole s before facts ms in
+abbrev pub with_slice_data : PictureStart → Slice → (before : Progress) → SliceInfo → SliceMbs → Progress
+with_slice_data p s before info ms =
+    let whole = read_whole s before info ms in
     with_first_fault s before whole (first_mb_fault (coded_of p whole) (length before.mbs) (length ms.mbs))
 
 -- its list, then its macroblocks (the order is this decoder's rule)
 abbrev pub with_reference_list : PictureStart → Slice → Progress → Result (List (Option Reference)) Fault → Progress
 with_reference_list p s before (Err f) = refused before s.unit f
 with_reference_list p s before (Ok list) =
-    with_slice_data p s before (facts_of p s.header list) (slice_data (start_of p s.header (length before.slices)) before.mbs (data_of s))
+    with_slice_data p s before (info_of p s.header list) (slice_data (start_of p s.header (length before.slices)) before.mbs (data_of s))
 
 -- One slice more where there is no fault yet: its first address, its list, its macroblocks. It has to go on where
 -- the slice before it ended, in a picture's first slice at 0 (this decoder's rule).

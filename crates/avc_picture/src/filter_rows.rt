@@ -3,15 +3,15 @@
 ghost use Rattle.std.specs.Prelude.{◌≡◌, ℕ, suc, ◌+◌, ◌-◌, ◌/◌, ◌^◌, ◌<◌, true, [], length, IfOk};
 ghost use Rattle.avc_types.specs.Pictures.{Coded};
 ghost use Rattle.avc_plane.specs.Frames.{planes_of, AreSized};
-ghost use Rattle.avc_deblock.specs.Facts.{Names};
+ghost use Rattle.avc_deblock.specs.FilterInfo.{Names};
 ghost use Rattle.avc_deblock.specs.OneEdge.{HasRoom};
-ghost use Rattle.avc_picture.specs.RowLate.{filtered_rows, AreFactsOf, FiltersUpTo};
+ghost use Rattle.avc_picture.specs.RowLate.{filtered_rows, AreInfoOf, FiltersUpTo};
 ghost use Rattle.avc_motion.specs.Motion.{AreOfOneMotion, has_one_motion};
-ghost use Rattle.avc_picture.specs.FilterRows.{AddsFacts};
+ghost use Rattle.avc_picture.specs.FilterRows.{AddsInfo};
 
-use crate::filter_facts::set_filter_facts;
+use crate::filter_info::set_filter_info;
 use crate::slice_context::SliceContext;
-use avc_deblock::{MbFacts, row};
+use avc_deblock::{MbInfo, row};
 use avc_neigh::Motion;
 use avc_plane::Planes;
 use avc_types::{FilteredEdges, History, Mb, Mv, OutOfMemory};
@@ -19,8 +19,8 @@ use std::alloc::Global;
 use std::marker::Model;
 use std::mem::swap;
 
-/// What stands for the facts of a macroblock that is not decoded yet.
-const NO_FACTS: MbFacts = MbFacts {
+/// What stands for the info of a macroblock that is not decoded yet.
+const NO_FACTS: MbInfo = MbInfo {
     is_intra: true,
     coefficients: 0,
     pictures: [0; 4],
@@ -32,8 +32,8 @@ const NO_FACTS: MbFacts = MbFacts {
     offset_b: 0,
 };
 
-/// What the filter asks of a picture's macroblocks so far. A contract sees the facts of all of them, in decoding order; three rows
-/// keep those that can still be asked for: a row is filtered when the one below it is built, by its own facts and those of the row
+/// What the filter asks of a picture's macroblocks so far. A contract sees the info of all of them, in decoding order; three rows
+/// keep those that can still be asked for: a row is filtered when the one below it is built, by its own info and those of the row
 /// above it.
 #[derive(Drop)]
 pub(crate) struct FilterRows {
@@ -41,37 +41,37 @@ pub(crate) struct FilterRows {
     width: usize,
 
     /// The row of the macroblock that comes next.
-    current: Vec<MbFacts>,
+    current: Vec<MbInfo>,
 
     /// The row above it.
-    last: Vec<MbFacts>,
+    last: Vec<MbInfo>,
 
     /// The row above that.
-    above: Vec<MbFacts>,
+    above: Vec<MbInfo>,
 
     /// Where the macroblock stands that comes next.
     column: usize,
     row: usize,
 
-    facts: History<MbFacts>,
+    info: History<MbInfo>,
 }
 
 impl Model for FilterRows {
-    ghost use Rattle.avc_picture.specs.RowLate.{FilterFacts};
+    ghost use Rattle.avc_picture.specs.RowLate.{FilterInfo};
     ghost use Rattle.avc_picture.specs.FilterRows.{AreLastRows};
 
-    ghost Value = { FilterFacts };
+    ghost Value = { FilterInfo };
 
-    ghost view = { λ r. record { width = r.width; facts = r.facts.items } };
+    ghost view = { λ r. record { width = r.width; info = r.info.items } };
 
-    ghost invariant = { λ r. AreLastRows r.facts.items r.width r.column r.row r.current.items r.last.items r.above.items };
+    ghost invariant = { λ r. AreLastRows r.info.items r.width r.column r.row r.current.items r.last.items r.above.items };
 }
 
 impl FilterRows {
     /// For a picture of this width in macroblocks, before its first macroblock. Only this call takes memory.
     pub(crate) fn new(alloc: Global, width: usize) -> Result<Self, OutOfMemory>
         requires { 0 < width }
-        ensures { IfOk result (λ rows. rows ≡ record { width = width; facts = [] }) }
+        ensures { IfOk result (λ rows. rows ≡ record { width = width; info = [] }) }
     {
         Ok(FilterRows {
             width,
@@ -80,7 +80,7 @@ impl FilterRows {
             above: vec![in alloc; NO_FACTS; width]?,
             column: 0,
             row: 0,
-            facts: History::new(),
+            info: History::new(),
         })
     }
 
@@ -93,11 +93,11 @@ impl FilterRows {
 
     /// Forgets all macroblocks. What is kept of them is not cleared: a row is asked for only once it is there.
     pub(crate) fn restart(&mut self)
-        ensures { self.new ≡ record { width = self.old.width; facts = [] } }
+        ensures { self.new ≡ record { width = self.old.width; info = [] } }
     {
         self.column = 0;
         self.row = 0;
-        self.facts = History::new();
+        self.info = History::new();
     }
 
     /// Filters the last whole row, where there is one.
@@ -106,10 +106,11 @@ impl FilterRows {
         planes: &mut Planes<PAD>,
         chroma_qp_index_offset: i8,
     )
-        requires room { (column : ℕ) → column < self.now.width → HasRoom column (length self.now.facts / self.now.width - 1) (planes_of planes.old) }
+        requires room { (column : ℕ) → column < self.now.width → HasRoom column (length self.now.info / self.now.width - 1) (planes_of planes.old) }
         ensures sized { (width height : ℕ) → AreSized width height (planes_of planes.old) → AreSized width height (planes_of planes.new) }
-        ensures lines { (c : Coded) (names : Names) → AreFactsOf c names chroma_qp_index_offset self.now
-            → FiltersUpTo c (filtered_rows self.now.width (length self.now.facts)) (length self.now.facts / self.now.width) (planes_of planes.old) (planes_of planes.new) }
+        ensures lines { (c : Coded) (names : Names) → AreInfoOf c names chroma_qp_index_offset self.now
+            → FiltersUpTo c (filtered_rows self.now.width (length self.now.info)) (length self.now.info / self.now.width)
+            (planes_of planes.old) (planes_of planes.new) }
     {
         if self.row > 0 {
             row(
@@ -128,30 +129,31 @@ impl FilterRows {
         planes: &mut Planes<PAD>,
         chroma_qp_index_offset: i8,
     )
-        requires room { (column : ℕ) → column < self.now.width → HasRoom column (length self.now.facts / self.now.width - 1) (planes_of planes.old) }
+        requires room { (column : ℕ) → column < self.now.width → HasRoom column (length self.now.info / self.now.width - 1) (planes_of planes.old) }
         ensures sized { (width height : ℕ) → AreSized width height (planes_of planes.old) → AreSized width height (planes_of planes.new) }
-        ensures lines { (c : Coded) (names : Names) → AreFactsOf c names chroma_qp_index_offset self.now
-            → FiltersUpTo c (filtered_rows self.now.width (length self.now.facts)) (filtered_rows self.now.width (suc (length self.now.facts))) (planes_of planes.old) (planes_of planes.new) }
+        ensures lines { (c : Coded) (names : Names) → AreInfoOf c names chroma_qp_index_offset self.now
+            → FiltersUpTo c (filtered_rows self.now.width (length self.now.info))
+            (filtered_rows self.now.width (suc (length self.now.info))) (planes_of planes.old) (planes_of planes.new) }
     {
         if self.column + 1 == self.width {
             self.filter_last_row(planes, chroma_qp_index_offset);
         }
     }
 
-    /// Adds the facts of the macroblock that comes next. It has this motion.
+    /// Adds the info of the macroblock that comes next. It has this motion.
     pub(crate) fn put<const PAD: usize>(
         &mut self,
         mb: &Mb,
         motion: &[Motion; 16],
         slice: &SliceContext<'_, PAD>,
     )
-        requires small { length self.old.facts < 2 ^ 32 }
+        requires small { length self.old.info < 2 ^ 32 }
         requires one { has_one_motion mb.now.syntax ≡ true → AreOfOneMotion motion.now }
-        ensures facts { AddsFacts mb.now motion.now slice.now self.old self.new }
+        ensures info { AddsInfo mb.now motion.now slice.now self.old self.new }
         ensures blocks { length motion.now ≡ 16 }
     {
-        set_filter_facts(&mut self.current[self.column], mb, motion, slice);
-        self.facts = self.facts.with(&self.current[self.column]);
+        set_filter_info(&mut self.current[self.column], mb, motion, slice);
+        self.info = self.info.with(&self.current[self.column]);
         self.column += 1;
         if self.column == self.width {
             // the oldest row gives its place to the next

@@ -2,13 +2,13 @@
 #![tactic(auto)]
 
 mod decoder;
-mod filter_facts;
+mod filter_info;
 mod filter_rows;
 mod header_checks;
+mod info_for_neighbours;
 pub mod laws;
 mod macroblocks;
 mod memory;
-mod neighbour_facts;
 mod reference_places;
 mod slice_context;
 mod slice_decoding;

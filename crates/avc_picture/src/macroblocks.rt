@@ -5,24 +5,24 @@ ghost use Rattle.std.specs.Option.{option_copied, option_map};
 ghost use Rattle.avc_types.specs.Pictures.{Coded};
 ghost use Rattle.avc_params.specs.Limits.{height_in_mbs, width_in_mbs};
 ghost use Rattle.avc_params.specs.Within.{IsPps, IsSps};
-ghost use Rattle.avc_neigh.specs.Around.{facts_of};
+ghost use Rattle.avc_neigh.specs.Around.{info_of};
 ghost use Rattle.avc_mbsyntax.specs.SliceData.{SliceStart, left_total_coeffs, up_total_coeffs};
 ghost use Rattle.avc_plane.specs.Frames.{planes_of};
 ghost use Rattle.avc_plane.specs.Plane.{HasSamples};
 ghost use Rattle.avc_plane.specs.Planes.{component as plane_at, empty_planes, samples_of};
 ghost use Rattle.avc_picture_core.specs.Built.{size_of};
-ghost use Rattle.avc_deblock.specs.Facts.{Names};
+ghost use Rattle.avc_deblock.specs.FilterInfo.{Names};
 ghost use Rattle.avc_picture_core.specs.References.{AreUsable};
 ghost use Rattle.avc_picture.specs.Decoded.{deblocked};
 ghost use Rattle.avc_picture.specs.FirstMbs.{HasSameSize, HasSets, HoldsFirst, IsDecoded, IsSlice};
-ghost use Rattle.avc_picture.specs.MacroblockFacts.{IsRead};
+ghost use Rattle.avc_picture.specs.MacroblockInfo.{IsRead};
 ghost use Rattle.avc_picture.specs.RowLate.{covering_address, row_late};
 
 use crate::filter_rows::FilterRows;
+use crate::info_for_neighbours::set_neighbour_info;
 use crate::memory::{FactRows, PictureMemory};
-use crate::neighbour_facts::set_neighbour_facts;
 use crate::slice_context::SliceContext;
-use avc_neigh::{Motion, NearMode, NeighbourFacts, Neighbours, Row, TotalCoeffs};
+use avc_neigh::{Motion, NearMode, NeighbourInfo, Neighbours, Row, TotalCoeffs};
 use avc_params::{Pps, Sps};
 use avc_picture_core::{Canvas, ReferencePicture, Sources};
 use avc_plane::Planes;
@@ -31,7 +31,7 @@ use std::alloc::Global;
 use std::marker::Model;
 
 /// What stands for what neighbours are told of a macroblock, until it is known.
-pub(crate) const NOTHING_TOLD: NeighbourFacts = NeighbourFacts {
+pub(crate) const NOTHING_TOLD: NeighbourInfo = NeighbourInfo {
     slice: 0,
     total_coeffs: TotalCoeffs {
         luma: [0; 16],
@@ -69,11 +69,11 @@ impl<const PAD: usize> Model for Macroblocks<PAD> {
 }
 
 /// total_coeff of a neighbouring macroblock, where it is available.
-fn total_coeffs_of(facts: Option<&NeighbourFacts>) -> Option<&TotalCoeffs>
-    ensures { option_copied result ≡ option_map (λ f. f.total_coeffs) (option_copied facts.entry) }
+fn total_coeffs_of(info: Option<&NeighbourInfo>) -> Option<&TotalCoeffs>
+    ensures { option_copied result ≡ option_map (λ f. f.total_coeffs) (option_copied info.entry) }
 {
-    match facts {
-        Some(facts) => Some(&facts.total_coeffs),
+    match info {
+        Some(info) => Some(&info.total_coeffs),
         None => None,
     }
 }
@@ -83,7 +83,7 @@ fn sources<'a, const PAD: usize>(
     neighbours: Neighbours<'a>,
     references: &'a [Option<ReferencePicture<'a, PAD>>],
 ) -> Sources<'a, PAD>
-    ensures neighbours { facts_of result.neighbours ≡ facts_of neighbours.entry }
+    ensures neighbours { info_of result.neighbours ≡ info_of neighbours.entry }
     ensures references { result.references.now ≡ references.now }
 {
     Sources {
@@ -127,7 +127,7 @@ impl<const PAD: usize> Macroblocks<PAD> {
         planes.luma.holds_bytes();
         planes.cb.holds_bytes();
         planes.cr.holds_bytes();
-        let facts = memory.facts(alloc, width)?;
+        let info = memory.info(alloc, width)?;
         Ok(Macroblocks {
             canvas: Canvas {
                 width,
@@ -136,8 +136,8 @@ impl<const PAD: usize> Macroblocks<PAD> {
                 constrained_intra_pred: pps.constrained_intra_pred_flag,
             },
             planes,
-            row: facts.row,
-            filter_rows: facts.filter_rows,
+            row: info.row,
+            filter_rows: info.filter_rows,
             next: 0,
         })
     }
@@ -157,13 +157,13 @@ impl<const PAD: usize> Macroblocks<PAD> {
     /// Decodes the macroblock that comes next, and filters the row above where it is the last of its own (8.7). `VectorRange` where a
     /// component of one of its vectors is no 16-bit number, `RefMissing` where a block has no reference picture, `IntraUnavailable` where
     /// an intra prediction has not the samples that it needs: the first of these. After a fault nothing more is to be asked of the
-    /// macroblocks. Anything may stand in `facts`, which is where what its neighbours are told is written.
+    /// macroblocks. Anything may stand in `info`, which is where what its neighbours are told is written.
     #[tactic(auto, using(crate::proofs::Ranges::asked, crate::proofs::Whole::late_room))]
     pub(crate) fn decode(
         &mut self,
         mb: &Mb,
         slice: &SliceContext<'_, PAD>,
-        facts: &mut NeighbourFacts,
+        info: &mut NeighbourInfo,
     ) -> Result<(), Fault>
         requires room { self.old.next < self.old.canvas.width * self.old.canvas.height }
         requires mb { IsRead mb.now }
@@ -175,19 +175,19 @@ impl<const PAD: usize> Macroblocks<PAD> {
             → IsSlice c names slice.now → IsDecoded c names self.old.next result self.new }
     {
         let sources = sources(self.row.around(slice.number), &slice.references);
-        set_neighbour_facts(
-            facts,
+        set_neighbour_info(
+            info,
             mb,
             slice.number,
             &sources.neighbours,
             self.canvas.constrained_intra_pred,
         )?;
         self.canvas
-            .build(&mut self.planes, self.next, mb, facts, &sources)?;
+            .build(&mut self.planes, self.next, mb, info, &sources)?;
         self.filter_rows
             .filter_late(&mut self.planes, self.canvas.chroma_qp_index_offset);
-        self.filter_rows.put(mb, &facts.motion, slice);
-        self.row.put(facts);
+        self.filter_rows.put(mb, &info.motion, slice);
+        self.row.put(info);
         self.next += 1;
         Ok(())
     }
@@ -214,7 +214,7 @@ impl<const PAD: usize> Macroblocks<PAD> {
         let mut planes = self.planes;
         self.filter_rows
             .filter_last_row(&mut planes, self.canvas.chroma_qp_index_offset);
-        memory.keep_facts(FactRows {
+        memory.keep_info(FactRows {
             row: self.row,
             filter_rows: self.filter_rows,
         });
@@ -224,7 +224,7 @@ impl<const PAD: usize> Macroblocks<PAD> {
     /// Gives the memory of a picture back that is refused.
     pub(crate) fn discard(self, memory: &mut PictureMemory<PAD>) {
         memory.keep_open(self.planes);
-        memory.keep_facts(FactRows {
+        memory.keep_info(FactRows {
             row: self.row,
             filter_rows: self.filter_rows,
         });

@@ -1,7 +1,7 @@
 //! What a picture is decoded in, kept from one picture to the next.
 
 ghost use Rattle.std.specs.Prelude.{◌≡◌, ◌+◌, ◌*◌, ◌^◌, ◌<◌, [], IfOk};
-ghost use Rattle.avc_neigh.specs.Around.{no_facts};
+ghost use Rattle.avc_neigh.specs.Around.{no_info};
 ghost use Rattle.avc_plane.specs.Frames.{planes_of, AreSized};
 
 use crate::filter_rows::FilterRows;
@@ -21,8 +21,8 @@ impl FactRows {
     /// For a picture of this width in macroblocks, before its first macroblock.
     fn new(alloc: Global, width: usize) -> Result<Self, OutOfMemory>
         requires { 0 < width }
-        ensures row { IfOk result (λ facts. facts.row ≡ no_facts width) }
-        ensures filter_rows { IfOk result (λ facts. facts.filter_rows ≡ record { width = width; facts = [] }) }
+        ensures row { IfOk result (λ info. info.row ≡ no_info width) }
+        ensures filter_rows { IfOk result (λ info. info.filter_rows ≡ record { width = width; info = [] }) }
     {
         Ok(FactRows {
             row: Row::new(alloc, width)?,
@@ -31,12 +31,12 @@ impl FactRows {
     }
 }
 
-/// The memory of pictures that are over: planes and facts, in which later pictures are decoded. A picture takes memory only where
+/// The memory of pictures that are over: planes and info, in which later pictures are decoded. A picture takes memory only where
 /// there is none of its size. What stands in it counts for nothing: contracts say nothing of it.
 #[derive(Drop)]
 pub struct PictureMemory<const PAD: usize> {
     planes: SparePlanes<PAD>,
-    facts: Option<FactRows>,
+    info: Option<FactRows>,
 }
 
 impl<const PAD: usize> PictureMemory<PAD> {
@@ -44,7 +44,7 @@ impl<const PAD: usize> PictureMemory<PAD> {
     pub fn new() -> Self {
         PictureMemory {
             planes: SparePlanes::new(),
-            facts: None,
+            info: None,
         }
     }
 
@@ -58,9 +58,9 @@ impl<const PAD: usize> PictureMemory<PAD> {
         self.planes.put_open(planes);
     }
 
-    /// Keeps the facts of a picture that is over.
-    pub(crate) fn keep_facts(&mut self, facts: FactRows) {
-        self.facts = Some(facts);
+    /// Keeps the info of a picture that is over.
+    pub(crate) fn keep_info(&mut self, info: FactRows) {
+        self.info = Some(info);
     }
 
     /// The planes of a picture of this size in macroblocks, with any samples.
@@ -77,18 +77,18 @@ impl<const PAD: usize> PictureMemory<PAD> {
         Planes::of_size(alloc, width, height, &mut self.planes)
     }
 
-    /// The facts of a picture of this width in macroblocks, before its first macroblock.
-    pub(crate) fn facts(&mut self, alloc: Global, width: usize) -> Result<FactRows, OutOfMemory>
+    /// The info of a picture of this width in macroblocks, before its first macroblock.
+    pub(crate) fn info(&mut self, alloc: Global, width: usize) -> Result<FactRows, OutOfMemory>
         requires { 0 < width }
-        ensures row { IfOk result (λ facts. facts.row ≡ no_facts width) }
-        ensures filter_rows { IfOk result (λ facts. facts.filter_rows ≡ record { width = width; facts = [] }) }
+        ensures row { IfOk result (λ info. info.row ≡ no_info width) }
+        ensures filter_rows { IfOk result (λ info. info.filter_rows ≡ record { width = width; info = [] }) }
     {
-        match self.facts.take() {
-            Some(facts) if facts.row.width() == width && facts.filter_rows.width() == width => {
-                let mut facts = facts;
-                facts.row.restart();
-                facts.filter_rows.restart();
-                Ok(facts)
+        match self.info.take() {
+            Some(info) if info.row.width() == width && info.filter_rows.width() == width => {
+                let mut info = info;
+                info.row.restart();
+                info.filter_rows.restart();
+                Ok(info)
             }
             _ => FactRows::new(alloc, width),
         }

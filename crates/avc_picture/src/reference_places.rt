@@ -53,11 +53,11 @@ fn p_list<const PAD: usize>(
     frames: &[Frame<PAD>],
 ) -> Result<ReferenceList, Fault>
     requires sps { IsSps sps.now }
-    requires count { header.now.active_count ≤ 16 }
+    requires count { header.now.num_ref_idx_active ≤ 16 }
     requires frames { length frames.now ≤ 16 }
     ensures within { IfOk result (AreEntriesIn (map marked_frame frames.now)) }
     ensures list { NamesFrames (map marked_frame frames.now) each_entry
-        (lists.reference_list (record { frame_num = header.now.frame_num; max_frame_num = max_frame_num sps.now }) header.now.active_count
+        (lists.reference_list (record { frame_num = header.now.frame_num; max_frame_num = max_frame_num sps.now }) header.now.num_ref_idx_active
         (or_empty header.now.modifications)) result }
 {
     let marked = marked_frames(frames);
@@ -65,7 +65,7 @@ fn p_list<const PAD: usize>(
         frame_num: header.frame_num,
         max_frame_num: sps.max_frame_num(),
     };
-    let count = header.active_count as usize;
+    let count = header.num_ref_idx_active as usize;
     reference_list(marked.as_slice(), current, count, modifications(header))
 }
 
@@ -88,7 +88,7 @@ pub(crate) fn reference_places<const PAD: usize>(
     frames: &[Frame<PAD>],
 ) -> Result<Places, Fault>
     requires sps { IsSps sps.now }
-    requires count { header.now.active_count ≤ 16 }
+    requires count { header.now.num_ref_idx_active ≤ 16 }
     requires frames { length frames.now ≤ 16 }
     ensures long { IfOk result (λ places. length places ≡ 16) }
     ensures within { IfOk result (ArePlacesIn frames.now) }

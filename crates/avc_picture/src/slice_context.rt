@@ -41,7 +41,7 @@ fn picture_at<'a, const PAD: usize>(
     place: Option<usize>,
 ) -> Option<ReferencePicture<'a, PAD>>
     requires within { IfSome place (λ k. k < length frames.now) }
-    requires weights { IfSome header.now.pred_weight_table (IsPredWeightTable header.now.active_count) }
+    requires weights { IfSome header.now.pred_weight_table (IsPredWeightTable header.now.num_ref_idx_active) }
     ensures { IsPictureAt frames.now header.now reference_index place result }
 {
     let place = place?;
@@ -61,7 +61,7 @@ fn pictures<'a, const PAD: usize>(
     places: &Places,
 ) -> [Option<ReferencePicture<'a, PAD>>; 16]
     requires within { ArePlacesIn frames.now places.now }
-    requires weights { IfSome header.now.pred_weight_table (IsPredWeightTable header.now.active_count) }
+    requires weights { IfSome header.now.pred_weight_table (IsPredWeightTable header.now.num_ref_idx_active) }
     ensures long { length result ≡ 16 }
     ensures each { ArePicturesAt frames.now header.now 16 places.now result }
 {
@@ -134,7 +134,7 @@ impl<'a, const PAD: usize> SliceContext<'a, PAD> {
         requires few { length frames.now ≤ 16 }
         requires within { ArePlacesIn frames.now places.now }
         requires deblocking { IfSome header.now.deblocking IsDeblocking }
-        requires weights { IfSome header.now.pred_weight_table (IsPredWeightTable header.now.active_count) }
+        requires weights { IfSome header.now.pred_weight_table (IsPredWeightTable header.now.num_ref_idx_active) }
         ensures { IsContextAt number frames.now header.now places.now result }
     {
         let deblocking = deblocking(header);

@@ -11,7 +11,7 @@ ghost use Rattle.avc_mbsyntax.specs.SliceData.{SliceStart};
 ghost use Rattle.avc_mbsyntax.specs.declared.slice_data.SliceData.{SliceData as SliceFrom};
 ghost use Rattle.avc_plane.specs.Frames.{AreFrames};
 ghost use Rattle.avc_plane.specs.Planes.{StoredFrame};
-ghost use Rattle.avc_deblock.specs.Facts.{Names};
+ghost use Rattle.avc_deblock.specs.FilterInfo.{Names};
 ghost use Rattle.avc_picture_core.specs.References.{AreUsable};
 ghost use Rattle.avc_picture.specs.Context.{ArePlacesIn, IsContextAt};
 ghost use Rattle.avc_picture.specs.Decoding.{AreFramesOf};
@@ -26,7 +26,7 @@ use crate::reference_places::{Places, reference_places};
 use crate::slice_context::SliceContext;
 use avc_bits::BitReader;
 use avc_mbsyntax::SliceData;
-use avc_neigh::NeighbourFacts;
+use avc_neigh::NeighbourInfo;
 use avc_params::{Pps, Sps};
 use avc_plane::Frame;
 use avc_slice::{Header, Slice};
@@ -57,7 +57,7 @@ fn slice_data<'a>(sps: &Sps, pps: &Pps, slice: &'a Slice, read: u32) -> SliceDat
     SliceData::new(
         BitReader::at(slice.rbsp.as_slice(), slice.header.position),
         slice.header.is_p(),
-        slice.header.active_count as u8,
+        slice.header.num_ref_idx_active as u8,
         slice_quantiser(pps, slice),
         sps.size_in_mbs() - read,
     )
@@ -82,14 +82,14 @@ fn next_macroblock<const PAD: usize>(
 }
 
 /// Decodes the macroblocks of a slice, and counts in `read` those that are read, a faulty one included. Answers the first fault.
-/// Anything may stand in `mb`, which is where they are read, and in `facts`, which is where the facts of each are written.
+/// Anything may stand in `mb`, which is where they are read, and in `info`, which is where the info of each is written.
 fn decode_data<const PAD: usize>(
     unread: &mut SliceData<'_>,
     context: &SliceContext<'_, PAD>,
     macroblocks: &mut Macroblocks<PAD>,
     read: &mut u32,
     mb: &mut Mb,
-    facts: &mut NeighbourFacts,
+    info: &mut NeighbourInfo,
 ) -> Result<(), Fault>
     requires some { CanGoOn macroblocks.old unread.old context.now }
     requires usable { AreUsable macroblocks.old.canvas.width macroblocks.old.canvas.height context.now.references }
@@ -103,7 +103,7 @@ fn decode_data<const PAD: usize>(
 {
     'macroblocks: while next_macroblock(unread, macroblocks, context.number, mb)? {
         *read += 1;
-        macroblocks.decode(mb, context, facts)?;
+        macroblocks.decode(mb, context, info)?;
     }
     Ok(())
 }
@@ -124,7 +124,7 @@ fn decode_macroblocks<const PAD: usize>(
     requires frames { AreFrames macroblocks.old.canvas.width macroblocks.old.canvas.height frames.now }
     requires places { ArePlacesIn frames.now places.now }
     requires deblocking { IfSome header.now.deblocking IsDeblocking }
-    requires weights { IfSome header.now.pred_weight_table (IsPredWeightTable header.now.active_count) }
+    requires weights { IfSome header.now.pred_weight_table (IsPredWeightTable header.now.num_ref_idx_active) }
     requires some { CanHaveFirst (IsContextAt number frames.now header.now places.now) macroblocks.old mb.old unread.old }
     requires read { macroblocks.old.next ≡ read.old }
     requires small { macroblocks.old.canvas.width * macroblocks.old.canvas.height ≤ max_macroblocks }
@@ -135,10 +135,10 @@ fn decode_macroblocks<const PAD: usize>(
         → IsDataAnswer c names macroblocks.old.next (outcome_from c s macroblocks.old d) result read.new macroblocks.new }
 {
     let context = SliceContext::new(number, header, frames, places);
-    let mut facts = NOTHING_TOLD;
+    let mut info = NOTHING_TOLD;
     *read += 1;
-    macroblocks.decode(mb, &context, &mut facts)?;
-    decode_data(unread, &context, macroblocks, read, mb, &mut facts)
+    macroblocks.decode(mb, &context, &mut info)?;
+    decode_data(unread, &context, macroblocks, read, mb, &mut info)
 }
 
 /// Decodes slice `number` of a picture, of which `read` macroblocks have been read. Answers the first fault.

@@ -28,10 +28,10 @@ pub use Rattle.avc_intra.specs.declared.luma16x16.Mode16x16.{Mode16x16}
 pub use Rattle.avc_intra.specs.declared.luma4x4.Mode4x4.{Mode4x4}
 pub use Rattle.avc_intra.specs.declared.sides.Sides.{Sides}
 pub use Rattle.avc_motion.specs.Motion.{is_intra, frame_named, vector_of, AreOfOneMotion}
-pub use Rattle.avc_neigh.specs.Around.{is_intra_facts, facts_of}
+pub use Rattle.avc_neigh.specs.Around.{is_intra_info, info_of}
 pub use Rattle.avc_neigh.specs.Blocks.{block_at, block_x, block_y, Location, location_in, same_slice}
-pub use Rattle.avc_neigh.specs.declared.facts.Motion.{Motion}
-pub use Rattle.avc_neigh.specs.declared.facts.NearMode.TheVariants.{Absent as absent}
+pub use Rattle.avc_neigh.specs.declared.neighbour_info.Motion.{Motion}
+pub use Rattle.avc_neigh.specs.declared.neighbour_info.NearMode.TheVariants.{Absent as absent}
 pub use Rattle.avc_plane.proofs.Blocks.{plane_of_same, inside, no_line}
 pub use Rattle.avc_plane.proofs.Lending.{block_lent, room_lent}
 pub use Rattle.avc_plane.proofs.PlaneMaps.{sample-plane_of, sample-with_block}
@@ -48,7 +48,7 @@ pub use Rattle.avc_types.specs.Arithmetic.{◌>>ℤ◌}
 pub use Rattle.avc_types.specs.Macroblock.{total_coeff, MbSyntax, p_skip, i_pcm, i_nxn, i_16x16, p_inter, Residual, Mb, parts_of}
 pub use Rattle.avc_types.specs.Macroblock.{partitions}
 pub use Rattle.avc_types.specs.MacroblockFields.{syntax_of}
-pub use Rattle.avc_types.specs.Pictures.{Coded, Frame, SliceFacts}
+pub use Rattle.avc_types.specs.Pictures.{Coded, Frame, SliceInfo}
 pub use Rattle.avc_types.specs.declared.fault.Fault.{Fault}
 pub use Rattle.avc_types.specs.declared.fault.Fault.TheVariants.{RefMissing, IntraUnavailable}
 pub use Rattle.avc_types.specs.declared.vector.Mv.{Mv}

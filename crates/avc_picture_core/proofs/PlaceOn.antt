@@ -1,19 +1,19 @@
 -- A macroblock's place on a canvas, as the code knows it: what its blocks may read, and what was built of it.
 use Rattle.std.proofs.Common.{◌≡◌, ℕ, ◌+◌, ◌*◌, ◌/◌, ◌%◌, ◌<◌, ◌≤◌, nat_lt, ℤ, pos, negsuc, Bool, true, false, not, ◌||◌, List, Option, None, Result, Ok, Err, arith, refl, sym, ap, subst, ◌∙◌}
-use Rattle.avc_picture_core.proofs.Common.{cases_lt, le-ltb, true≢false, ints, Fault, Mb, Coded, is_intra_facts, Location}
+use Rattle.avc_picture_core.proofs.Common.{cases_lt, le-ltb, true≢false, ints, Fault, Mb, Coded, is_intra_info, Location}
 use Rattle.avc_picture_core.proofs.Common.{block_x, block_y, block_at, location_in, is_intra, chroma_qp, Sides, Planes, Place, is_there}
 use Rattle.avc_picture_core.proofs.Common.{sides_of, ArePlanesBuilt, IsPlaceIn, MayRead, AreInside, is_readable, readable_near}
 use Rattle.avc_picture_core.proofs.Common.{readable_sides, ReferencePicture, ReadableNeighbours}
 use Rattle.avc_neigh.specs.Around.{Around}
 use Rattle.avc_neigh.specs.Laws.{is_there_near}
-use Rattle.avc_neigh.specs.declared.facts.NeighbourFacts.{NeighbourFacts}
+use Rattle.avc_neigh.specs.declared.neighbour_info.NeighbourInfo.{NeighbourInfo}
 use Rattle.avc_picture_core.specs.Canvas.{CanvasState, IsBuilt, IsPlaceOn, sides_near}
 
 -- ---- what its blocks may read
 
 -- one sample, by the neighbour that covers it
 readable_as : (constrained : Bool) (n : Around) (k : ℕ) (x y : ℤ)
-    → is_there_near (λ f. not constrained || is_intra_facts f) (λ u v. nat_lt (block_at u v) k) n x y ≡ is_readable (readable_near constrained n) k x y
+    → is_there_near (λ f. not constrained || is_intra_info f) (λ u v. nat_lt (block_at u v) k) n x y ≡ is_readable (readable_near constrained n) k x y
 readable_as constrained n k (pos x) (pos y) = refl
 readable_as constrained n k (negsuc x) (pos y) = refl
 readable_as constrained n k (pos x) (negsuc y) = refl
@@ -48,8 +48,8 @@ sides_inside c a k = grind (arith, ints, pos, cases_lt, on_picture, up_off, left
 
 -- ---- all of it
 
-module _ {PAD : ℕ} (canvas : CanvasState) (address qp_of_chroma : ℕ) (mb : Mb) (facts : NeighbourFacts) (n : Around) (r : ReadableNeighbours)
-    (references : List (Option (ReferencePicture PAD))) (p : Place) (on : IsPlaceOn canvas address mb facts n references p) where
+module _ {PAD : ℕ} (canvas : CanvasState) (address qp_of_chroma : ℕ) (mb : Mb) (info : NeighbourInfo) (n : Around) (r : ReadableNeighbours)
+    (references : List (Option (ReferencePicture PAD))) (p : Place) (on : IsPlaceOn canvas address mb info n references p) where
   -- what its blocks may read
   place_reads : is_intra mb.syntax ≡ true → r ≡ readable_near canvas.constrained_intra_pred n → MayRead (address % canvas.width) (address / canvas.width) (16 * canvas.width) r p
   place_reads intra near =
@@ -62,7 +62,7 @@ module _ {PAD : ℕ} (canvas : CanvasState) (address qp_of_chroma : ℕ) (mb : M
       }
 
   place_in : qp_of_chroma ≡ chroma_qp canvas.chroma_qp_index_offset mb.qp → (is_intra mb.syntax ≡ true → r ≡ readable_near canvas.constrained_intra_pred n)
-      → IsPlaceIn (address % canvas.width) (address / canvas.width) canvas.width canvas.height mb.syntax mb.qp qp_of_chroma facts r references p
+      → IsPlaceIn (address % canvas.width) (address / canvas.width) canvas.width canvas.height mb.syntax mb.qp qp_of_chroma info r references p
   place_in chroma near = record {
     at = record {
       column_is = ap (λ a. a % p.coded.width) on.address_is ∙ ap (λ w. address % w) on.width;
@@ -82,7 +82,7 @@ module _ {PAD : ℕ} (canvas : CanvasState) (address qp_of_chroma : ℕ) (mb : M
   -- the planes of a canvas that is else as it was
   pub canvas_built : qp_of_chroma ≡ chroma_qp canvas.chroma_qp_index_offset mb.qp → (is_intra mb.syntax ≡ true → r ≡ readable_near canvas.constrained_intra_pred n)
       → (result : Result (Unit {0}) Fault) (new : Planes)
-      → (IsPlaceIn (address % canvas.width) (address / canvas.width) canvas.width canvas.height mb.syntax mb.qp qp_of_chroma facts r references p
+      → (IsPlaceIn (address % canvas.width) (address / canvas.width) canvas.width canvas.height mb.syntax mb.qp qp_of_chroma info r references p
       → ArePlanesBuilt p result canvas.planes new) → IsBuilt p result canvas (record canvas { planes = new })
   canvas_built chroma near (Ok done) new built = let all = built (place_in chroma near) in (all.0, ap (λ s. record canvas { planes = s }) all.1)
   canvas_built chroma near (Err f) new built = built (place_in chroma near)

@@ -7,7 +7,7 @@ use Rattle.avc_picture_core.proofs.Common.{inter_predicted, reference_of, is_pic
 use Rattle.avc_picture_core.proofs.Common.{IsUsableAt, block_motion, fetched_from, have_pictures, motion_at, picture_in, predicted_at}
 use Rattle.avc_picture_core.proofs.Common.{predicted_from, predicted_in, wanted, with_part, ReferencePicture, Whole}
 use Rattle.std.specs.Prelude.{All}
-use Rattle.avc_neigh.specs.declared.facts.Motion.TheVariants as motions
+use Rattle.avc_neigh.specs.declared.neighbour_info.Motion.TheVariants as motions
 use Rattle.avc_picture_core.specs.References.{AreReferences, AreUsable, IsReference, IsUsable, ShowsReference}
 use Rattle.avc_picture_core.proofs.Tiles.{part_same}
 use Rattle.avc_picture_core.proofs.Shapes.{bounds, whole_blocks, whole_macroblock}

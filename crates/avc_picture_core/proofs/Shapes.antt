@@ -3,7 +3,7 @@ use Rattle.avc_picture_core.proofs.Common.{ℕ, ◌≡◌, ◌+◌, ◌*◌, ◌
 use Rattle.avc_picture_core.proofs.Common.{false≢true, get_or-replicate, block_at, Motion, AreOfOneMotion, is_inside, by_place}
 use Rattle.avc_picture_core.proofs.Common.{HasWholeQuarters, HaveOneMotion, IsMacroblockShape, IsQuarterShape, block_motion, Whole}
 use Rattle.avc_picture_core.proofs.Common.{WideHalves, TallHalves}
-use Rattle.avc_neigh.specs.declared.facts.Motion.TheVariants as motions
+use Rattle.avc_neigh.specs.declared.neighbour_info.Motion.TheVariants as motions
 
 -- the bounds of a place in a rectangle
 pub bounds : (left top w h x y : ℕ) → is_inside left top w h x y ≡ true → (left ≤ x) × (x < left + w) × (top ≤ y) × (y < top + h)

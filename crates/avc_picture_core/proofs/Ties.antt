@@ -12,7 +12,7 @@ use Rattle.avc_transform.specs.MacroblockResidual.{residual_of}
 use Rattle.avc_intra.specs.Neighbourhood.{Around}
 use Rattle.avc_picture_core.proofs.Adding.{luma_tile, residual_by_levels}
 use Rattle.avc_picture_core.proofs.InPlace.{in_tile}
-use Rattle.avc_neigh.specs.declared.facts.NearMode.{NearMode}
+use Rattle.avc_neigh.specs.declared.neighbour_info.NearMode.{NearMode}
 use Rattle.avc_picture_core.proofs.IntraRows.{chroma_from}
 use Rattle.avc_picture_core.proofs.Sixteens.{same_sixteen}
 use Rattle.avc_picture_core.proofs.Blocks.{with_block_same}

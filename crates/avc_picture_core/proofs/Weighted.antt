@@ -1,9 +1,9 @@
 -- Worked example of explicit weights: two reference indices that name one frame have each their own.
-use Rattle.avc_picture_core.proofs.Common.{◌≡◌, ℤ, pos, negsuc, true, false, [], ◌∷◌, Some, refl, Coded, Frame, SliceFacts, Mv, Weight}
+use Rattle.avc_picture_core.proofs.Common.{◌≡◌, ℤ, pos, negsuc, true, false, [], ◌∷◌, Some, refl, Coded, Frame, SliceInfo, Mv, Weight}
 use Rattle.avc_picture_core.proofs.Common.{inter_predicted}
 use Rattle.avc_types.specs.declared.edges.FilteredEdges.TheVariants.{NoEdges}
 use Rattle.avc_types.specs.declared.weight.Weights.{Weights}
-use Rattle.avc_neigh.specs.declared.facts.Motion.TheVariants.{Inter as inter}
+use Rattle.avc_neigh.specs.declared.neighbour_info.Motion.TheVariants.{Inter as inter}
 
 abbrev grey : Frame
 grey = record { entry = 0; existing = true; samples = λ k x y. 128 }
@@ -18,7 +18,7 @@ of_first = record { luma = halves (pos 3) (negsuc 3); cb = halves (pos 2) (pos 1
 abbrev of_second : Weights
 of_second = record { luma = halves (pos 1) (pos 0); cb = halves (pos 2) (pos 0); cr = halves (pos 2) (pos 0) }
 
-abbrev slice : SliceFacts
+abbrev slice : SliceInfo
 slice = record {
   is_p = true;
   references = Some grey ∷ Some grey ∷ [];
@@ -29,7 +29,7 @@ slice = record {
 }
 
 -- 16x16 luma samples
-abbrev coded : SliceFacts → Coded
+abbrev coded : SliceInfo → Coded
 coded s = record {
   width = 1;
   height = 1;

@@ -2,10 +2,10 @@
 use Rattle.std.specs.Prelude.{◌≡◌, ℕ, ◌<◌, ◌≤◌, ℤ, pos, ◌+ℤ◌, ◌-ℤ◌, nat_lt, Bool, true, not, ◌||◌, List, Option, Some, None, Result, Ok, Err}
 use Rattle.avc_types.specs.declared.fault.Fault.{Fault}
 use Rattle.avc_types.specs.Macroblock.{Mb, MbSyntax, p_skip, i_pcm, i_nxn, i_16x16, p_inter}
-use Rattle.avc_neigh.specs.Around.{Around, is_intra_facts}
+use Rattle.avc_neigh.specs.Around.{Around, is_intra_info}
 use Rattle.avc_neigh.specs.Blocks.{block_x, block_y, block_at}
 use Rattle.avc_neigh.specs.Laws.{is_there_near}
-use Rattle.avc_neigh.specs.declared.facts.NeighbourFacts.{NeighbourFacts}
+use Rattle.avc_neigh.specs.declared.neighbour_info.NeighbourInfo.{NeighbourInfo}
 use Rattle.avc_motion.specs.Motion.{is_intra}
 use Rattle.avc_mbsyntax.specs.Ranges.{IsResidual}
 use Rattle.avc_intra.specs.declared.sides.Sides.{Sides}
@@ -37,7 +37,7 @@ blank width height offset constrained = record {
 -- constrained_intra_pred_flag asks for that, intra; and of the macroblock's own blocks before it (6.4.12, 8.3.1.2).
 abbrev pub sides_near : (constrained_intra_pred : Bool) → Around → (k : ℕ) → Sides
 sides_near constrained n k =
-    let at : ℤ → ℤ → Bool = is_there_near (λ f. not constrained || is_intra_facts f) (λ x y. nat_lt (block_at x y) k) n in
+    let at : ℤ → ℤ → Bool = is_there_near (λ f. not constrained || is_intra_info f) (λ x y. nat_lt (block_at x y) k) n in
     let x = pos (block_x k) in
     let y = pos (block_y k) in
     record {
@@ -48,15 +48,15 @@ sides_near constrained n k =
     }
 
 -- The place of the macroblock at this address of the canvas, with these modes, motion, neighbours and reference pictures.
-pub record IsPlaceOn {PAD : ℕ} (canvas : CanvasState) (address : ℕ) (mb : Mb) (facts : NeighbourFacts) (n : Around)
+pub record IsPlaceOn {PAD : ℕ} (canvas : CanvasState) (address : ℕ) (mb : Mb) (info : NeighbourInfo) (n : Around)
     (references : List (Option (ReferencePicture PAD))) (p : Place) : Type 0 where
   pub width : p.coded.width ≡ canvas.width
   pub height : p.coded.height ≡ canvas.height
   pub offset : p.coded.chroma_qp_index_offset ≡ canvas.chroma_qp_index_offset
   pub address_is : p.address ≡ address
   pub mb_is : p.mb ≡ mb
-  pub modes : p.modes ≡ facts.modes
-  pub motion : p.motion ≡ facts.motion
+  pub modes : p.modes ≡ info.modes
+  pub motion : p.motion ≡ info.motion
   pub sides : is_intra mb.syntax ≡ true → (k : ℕ) → k < 16 → sides_of p.coded p.address k ≡ sides_near canvas.constrained_intra_pred n k
   pub references_are : AreReferences p.coded p.slice references
 

@@ -7,8 +7,8 @@ use Rattle.avc_types.specs.declared.fault.Fault.{Fault}
 use Rattle.avc_types.specs.declared.fault.Fault.TheVariants.{RefMissing}
 use Rattle.avc_types.specs.declared.vector.Mv.{Mv}
 use Rattle.avc_neigh.specs.Blocks.{block_at}
-use Rattle.avc_neigh.specs.declared.facts.Motion.{Motion}
-use Rattle.avc_neigh.specs.declared.facts.Motion.TheVariants as motions
+use Rattle.avc_neigh.specs.declared.neighbour_info.Motion.{Motion}
+use Rattle.avc_neigh.specs.declared.neighbour_info.Motion.TheVariants as motions
 use Rattle.avc_motion.specs.Motion.{vector_of}
 use Rattle.avc_plane.specs.Plane.{sample, is_inside, with_block}
 use Rattle.avc_plane.specs.Planes.{Planes}

@@ -1,7 +1,7 @@
 -- What the luma of an I_NxN macroblock is built from.
 use Rattle.std.specs.Prelude.{◌≡◌, ℕ, ◌*◌, List}
 use Rattle.avc_types.specs.Macroblock.{Residual}
-use Rattle.avc_neigh.specs.declared.facts.NearMode.{NearMode}
+use Rattle.avc_neigh.specs.declared.neighbour_info.NearMode.{NearMode}
 use Rattle.avc_transform.specs.MacroblockResidual.{luma_residual}
 use Rattle.avc_picture_core.specs.Built.{Place, left_of_mb, residual_at, top_of_mb}
 use Rattle.avc_picture_core.specs.Places.{MayRead}

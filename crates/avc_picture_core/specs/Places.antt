@@ -3,7 +3,7 @@ use Rattle.std.specs.Prelude.{◌≡◌, ℕ, true, ◌+◌, ◌*◌, ◌/◌, �
 use Rattle.avc_types.specs.declared.fault.Fault.{Fault}
 use Rattle.avc_types.specs.Macroblock.{MbSyntax}
 use Rattle.avc_neigh.specs.Blocks.{block_x, block_y}
-use Rattle.avc_neigh.specs.declared.facts.NeighbourFacts.{NeighbourFacts}
+use Rattle.avc_neigh.specs.declared.neighbour_info.NeighbourInfo.{NeighbourInfo}
 use Rattle.avc_motion.specs.Motion.{is_intra}
 use Rattle.avc_transform.specs.Residual.{chroma_qp}
 use Rattle.avc_plane.specs.Plane.{Plane}
@@ -45,13 +45,13 @@ AreSameSize old new = IsSameSize old.luma new.luma × IsSameSize old.cb new.cb �
 
 -- ---- all of it
 
--- p is the place of a macroblock of a picture of this size, with these elements, quantisers, facts, neighbours and reference pictures.
-pub record IsPlaceIn {PAD : ℕ} (column row width height : ℕ) (syntax : MbSyntax) (qp qp_of_chroma : ℕ) (facts : NeighbourFacts) (r : ReadableNeighbours)
+-- p is the place of a macroblock of a picture of this size, with these elements, quantisers, info, neighbours and reference pictures.
+pub record IsPlaceIn {PAD : ℕ} (column row width height : ℕ) (syntax : MbSyntax) (qp qp_of_chroma : ℕ) (info : NeighbourInfo) (r : ReadableNeighbours)
     (references : List (Option (ReferencePicture PAD))) (p : Place) : Type 0 where
   pub at : IsAt column row syntax qp qp_of_chroma p
   pub may_read : is_intra syntax ≡ true → MayRead column row (16 * width) r p
   pub width_is : p.coded.width ≡ width
   pub height_is : p.coded.height ≡ height
-  pub modes_are : p.modes ≡ facts.modes
-  pub motion_is : p.motion ≡ facts.motion
+  pub modes_are : p.modes ≡ info.modes
+  pub motion_is : p.motion ≡ info.motion
   pub references_are : AreReferences p.coded p.slice references

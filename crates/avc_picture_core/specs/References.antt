@@ -3,7 +3,7 @@ use Rattle.std.specs.Prelude.{◌≡◌, ℕ, ◌≤◌, true, false, List, Opti
 use Rattle.avc_types.specs.Pictures.{Coded}
 use Rattle.avc_types.specs.declared.weight.Weight.{Weight}
 use Rattle.avc_types.specs.declared.weight.Weights.{Weights}
-use Rattle.avc_motion.specs.Motion.{frame_named, slice_facts}
+use Rattle.avc_motion.specs.Motion.{frame_named, slice_info}
 use Rattle.avc_plane.specs.Planes.{samples_of}
 use Rattle.avc_plane.specs.Frames.{AreSized, padded_planes_of}
 use Rattle.avc_inter.specs.Bounds.{IsWithin}
@@ -14,7 +14,7 @@ use Rattle.avc_picture_core.specs.declared.references.ReferencePicture.{Referenc
 pub record IsReference {PAD : ℕ} (c : Coded) (slice r : ℕ) (p : ReferencePicture PAD) : Type 0 where
   pub entry : ℕ
   pub frame : frame_named c slice r ≡ Some (record { entry = entry; existing = true; samples = samples_of (padded_planes_of p.planes.now) })
-  pub weights : slice_get (slice_facts c slice).weights r ≡ p.weights
+  pub weights : slice_get (slice_info c slice).weights r ≡ p.weights
 
 -- the entry is the frame that reference index r names in the slice; there is none where it names no picture (8.4.2.1)
 abbrev pub ShowsReference : {PAD : ℕ} → Coded → (slice r : ℕ) → Option (ReferencePicture PAD) → Type 0

@@ -1,6 +1,6 @@
 -- Which samples around the blocks of a macroblock an intra prediction may read, ITU-T H.264 clauses 6.4.12 and 8.3.1.2.
 use Rattle.std.specs.Prelude.{◌≡◌, ℕ, ◌+◌, ◌<◌, ◌≤◌, ℤ, pos, negsuc, ◌+ℤ◌, ◌-ℤ◌, nat_lt, Bool, true, false, not, ◌||◌, if◌then◌else◌}
-use Rattle.avc_neigh.specs.Around.{Around, is_intra_facts}
+use Rattle.avc_neigh.specs.Around.{Around, is_intra_info}
 use Rattle.avc_neigh.specs.Blocks.{block_x, block_y, block_at}
 use Rattle.avc_neigh.specs.Laws.{holds_of}
 use Rattle.avc_intra.specs.declared.sides.Sides.{Sides}
@@ -9,10 +9,10 @@ use Rattle.avc_picture_core.specs.declared.sides.ReadableNeighbours.{ReadableNei
 -- the neighbours that are there and, where constrained_intra_pred_flag asks for that, intra
 abbrev pub readable_near : (constrained_intra_pred : Bool) → Around → ReadableNeighbours
 readable_near constrained n = record {
-  a = holds_of (λ f. not constrained || is_intra_facts f) n.a;
-  b = holds_of (λ f. not constrained || is_intra_facts f) n.b;
-  c = holds_of (λ f. not constrained || is_intra_facts f) n.c;
-  d = holds_of (λ f. not constrained || is_intra_facts f) n.d;
+  a = holds_of (λ f. not constrained || is_intra_info f) n.a;
+  b = holds_of (λ f. not constrained || is_intra_info f) n.b;
+  c = holds_of (λ f. not constrained || is_intra_info f) n.c;
+  d = holds_of (λ f. not constrained || is_intra_info f) n.d;
 }
 
 -- Block k may read the sample (x, y), counted from the upper left one of the macroblock: of a neighbour (Table 6-4), or of the

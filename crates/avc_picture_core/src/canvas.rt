@@ -1,6 +1,6 @@
 ghost use Rattle.std.specs.Prelude.{◌≡◌, ◌*◌, ◌<◌, ◌≤◌, true, All};
 ghost use Rattle.avc_types.specs.MacroblockFields.{syntax_of};
-ghost use Rattle.avc_neigh.specs.Around.{facts_of};
+ghost use Rattle.avc_neigh.specs.Around.{info_of};
 ghost use Rattle.avc_neigh.specs.Modes.{IsMode};
 ghost use Rattle.avc_motion.specs.Motion.{AreOfOneMotion, has_one_motion, is_intra};
 ghost use Rattle.avc_plane.specs.Frames.{planes_of, AreSized};
@@ -15,7 +15,7 @@ use crate::places::{MbPlace, PictureSize};
 use crate::quantisers::Quantisers;
 use crate::references::ReferencePicture;
 use crate::sides::ReadableNeighbours;
-use avc_neigh::{NeighbourFacts, Neighbours};
+use avc_neigh::{NeighbourInfo, Neighbours};
 use avc_plane::Planes;
 use avc_transform::chroma_qp;
 use avc_types::{Fault, Mb, Syntax};
@@ -48,7 +48,7 @@ fn readable_neighbours(
     neighbours: &Neighbours<'_>,
     constrained_intra_pred: bool,
 ) -> ReadableNeighbours
-    ensures { is_intra (syntax_of syntax.now) ≡ true → result ≡ readable_near constrained_intra_pred (facts_of neighbours.now) }
+    ensures { is_intra (syntax_of syntax.now) ≡ true → result ≡ readable_near constrained_intra_pred (info_of neighbours.now) }
 {
     match syntax {
         Syntax::PSkip | Syntax::PInter { .. } => ReadableNeighbours {
@@ -64,24 +64,25 @@ fn readable_neighbours(
 }
 
 impl Canvas {
-    /// Builds the macroblock at this address (6.4.1) in the planes, of which `facts` are known. RefMissing where a block has no reference
+    /// Builds the macroblock at this address (6.4.1) in the planes, of which `info` is known. RefMissing where a block has no reference
     /// picture, IntraUnavailable where an intra prediction needs samples that are not there: any samples may stand in the planes then.
     pub fn build<const PAD: usize>(
         &self,
         planes: &mut Planes<PAD>,
         address: usize,
         mb: &Mb,
-        facts: &NeighbourFacts,
+        info: &NeighbourInfo,
         sources: &Sources<'_, PAD>,
     ) -> Result<(), Fault>
         requires address { address < self.now.width * self.now.height }
         requires sized { AreSized self.now.width self.now.height (planes_of planes.old) }
         requires syntax { IsInRange mb.now.syntax }
         requires quantiser { mb.now.qp ≤ 51 }
-        requires modes { All IsMode facts.now.modes }
-        requires one { has_one_motion mb.now.syntax ≡ true → AreOfOneMotion facts.now.motion }
+        requires modes { All IsMode info.now.modes }
+        requires one { has_one_motion mb.now.syntax ≡ true → AreOfOneMotion info.now.motion }
         requires references { AreUsable self.now.width self.now.height sources.now.references.now }
-        ensures built { (p : Place) → IsPlaceOn (with_planes self.now (planes_of planes.old)) address mb.now facts.now (facts_of sources.now.neighbours) sources.now.references.now p →
+        ensures built { (p : Place) → IsPlaceOn (with_planes self.now (planes_of planes.old)) address mb.now info.now (info_of sources.now.neighbours)
+            sources.now.references.now p →
             IsBuilt p result (with_planes self.now (planes_of planes.old)) (with_planes self.now (planes_of planes.new)) }
         ensures sized { AreSized self.now.width self.now.height (planes_of planes.new) }
     {
@@ -108,7 +109,7 @@ impl Canvas {
             size,
             &mb.syntax,
             qp,
-            facts,
+            info,
             readable,
             sources.references,
         )

@@ -5,7 +5,7 @@ ghost use Rattle.std.specs.Option.{unwrap_or};
 ghost use Rattle.avc_types.specs.Macroblock.{i_16x16, i_nxn};
 ghost use Rattle.avc_types.specs.MacroblockFields.{residual_of};
 ghost use Rattle.avc_neigh.specs.Modes.{IsMode};
-ghost use Rattle.avc_neigh.specs.declared.facts.NearMode.TheVariants.{Absent as absent};
+ghost use Rattle.avc_neigh.specs.declared.neighbour_info.NearMode.TheVariants.{Absent as absent};
 ghost use Rattle.avc_mbsyntax.specs.Ranges.{AreSmall, IsResidual};
 ghost use Rattle.avc_transform.specs.MacroblockResidual.{chroma_residual, luma_residual_16x16};
 ghost use Rattle.avc_plane.specs.Frames.{planes_of};

@@ -4,7 +4,7 @@ ghost use Rattle.std.specs.List.{list_all, range_with_len};
 ghost use Rattle.std.specs.Option.{unwrap_or};
 ghost use Rattle.avc_types.specs.MacroblockFields.{residual_of};
 ghost use Rattle.avc_neigh.specs.Modes.{IsMode};
-ghost use Rattle.avc_neigh.specs.declared.facts.NearMode.TheVariants.{Absent as absent};
+ghost use Rattle.avc_neigh.specs.declared.neighbour_info.NearMode.TheVariants.{Absent as absent};
 ghost use Rattle.avc_mbsyntax.specs.Ranges.{AreSmall, IsResidual};
 ghost use Rattle.avc_transform.specs.Residual.{residual4x4};
 ghost use Rattle.avc_transform.specs.MacroblockResidual.{luma_residual};

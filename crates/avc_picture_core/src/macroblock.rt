@@ -25,7 +25,7 @@ use crate::references::ReferencePicture;
 use crate::residual::{add_chroma_residual, add_luma_residual};
 use crate::sides::ReadableNeighbours;
 use avc_motion::is_one_partition;
-use avc_neigh::{Motion, NeighbourFacts};
+use avc_neigh::{Motion, NeighbourInfo};
 use avc_plane::{Plane, Planes};
 use avc_types::{BlockLevels, Fault, PMbType, Syntax};
 
@@ -181,7 +181,7 @@ pub(crate) fn build_macroblock<const PAD: usize>(
     size: PictureSize,
     syntax: &Syntax,
     qp: Quantisers,
-    facts: &NeighbourFacts,
+    info: &NeighbourInfo,
     readable: ReadableNeighbours,
     references: &[Option<ReferencePicture<'_, PAD>>],
 ) -> Result<(), Fault>
@@ -191,16 +191,16 @@ pub(crate) fn build_macroblock<const PAD: usize>(
     requires syntax { IsInRange (syntax_of syntax.now) }
     requires luma { qp.luma ≤ 51 }
     requires chroma { qp.chroma ≤ 39 }
-    requires modes { All IsMode facts.now.modes }
+    requires modes { All IsMode info.now.modes }
     requires usable { AreUsable size.width size.height references.now }
-    requires one { has_one_motion (syntax_of syntax.now) ≡ true → AreOfOneMotion facts.now.motion }
+    requires one { has_one_motion (syntax_of syntax.now) ≡ true → AreOfOneMotion info.now.motion }
     ensures size { AreSameSize (planes_of planes.old) (planes_of planes.new) }
     ensures built { (p : Place) →
-        IsPlaceIn place.column place.row size.width size.height (syntax_of syntax.now) qp.luma qp.chroma facts.now readable references.now p →
+        IsPlaceIn place.column place.row size.width size.height (syntax_of syntax.now) qp.luma qp.chroma info.now readable references.now p →
         ArePlanesBuilt p result (planes_of planes.old) (planes_of planes.new) }
 {
     match syntax {
-        Syntax::PSkip => build_p_skip(planes, place, size, &facts.motion, references),
+        Syntax::PSkip => build_p_skip(planes, place, size, &info.motion, references),
         Syntax::IPcm { luma, cb, cr } => build_i_pcm(planes, place, luma, cb, cr),
         Syntax::INxN {
             chroma_mode,
@@ -210,7 +210,7 @@ pub(crate) fn build_macroblock<const PAD: usize>(
             planes,
             place,
             readable,
-            &facts.modes,
+            &info.modes,
             *chroma_mode,
             levels,
             qp,
@@ -238,7 +238,7 @@ pub(crate) fn build_macroblock<const PAD: usize>(
             planes,
             place,
             size,
-            &facts.motion,
+            &info.motion,
             mb_type,
             levels,
             qp,

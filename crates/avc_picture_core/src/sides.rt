@@ -1,13 +1,13 @@
 ghost use Rattle.std.specs.Prelude.{◌≡◌, ℕ, ◌<◌, not, ◌||◌, if◌then◌else◌, true};
 ghost use Rattle.std.specs.Option.{option_copied};
-ghost use Rattle.avc_neigh.specs.Around.{facts_of, is_intra_facts};
+ghost use Rattle.avc_neigh.specs.Around.{info_of, is_intra_info};
 ghost use Rattle.avc_neigh.specs.Blocks.{block_x, block_y};
 ghost use Rattle.avc_neigh.specs.Laws.{holds_of};
 ghost use Rattle.avc_intra.specs.declared.luma4x4.Mode4x4.{Mode4x4};
 ghost use Rattle.avc_intra.specs.Luma4x4.{can_predict4x4};
 
 use avc_intra::Sides;
-use avc_neigh::{NeighbourFacts, Neighbours, is_leftmost, is_topmost};
+use avc_neigh::{NeighbourInfo, Neighbours, is_leftmost, is_topmost};
 
 /// Which neighbouring macroblocks (6.4.9) have samples that an intra prediction may read.
 #[derive(Clone, Copy)]
@@ -26,12 +26,12 @@ pub struct ReadableNeighbours {
 }
 
 /// Whether the samples of a neighbour may be read.
-fn is_readable(neighbour: Option<&NeighbourFacts>, constrained_intra_pred: bool) -> bool
-    ensures { result ≡ holds_of (λ f. not constrained_intra_pred || is_intra_facts f) (option_copied neighbour.entry) }
+fn is_readable(neighbour: Option<&NeighbourInfo>, constrained_intra_pred: bool) -> bool
+    ensures { result ≡ holds_of (λ f. not constrained_intra_pred || is_intra_info f) (option_copied neighbour.entry) }
 {
     match neighbour {
         None => false,
-        Some(facts) => !constrained_intra_pred || facts.is_intra(),
+        Some(info) => !constrained_intra_pred || info.is_intra(),
     }
 }
 
@@ -43,7 +43,7 @@ impl ReadableNeighbours {
         neighbours: &Neighbours<'_>,
         constrained_intra_pred: bool,
     ) -> ReadableNeighbours
-        ensures { result ≡ readable_near constrained_intra_pred (facts_of neighbours.now) }
+        ensures { result ≡ readable_near constrained_intra_pred (info_of neighbours.now) }
     {
         ReadableNeighbours {
             a: is_readable(neighbours.a, constrained_intra_pred),

@@ -133,8 +133,10 @@ fn take_in<F: PictureFormat, W: Write>(
 ) -> Result<(), RunFault>
     requires drained { IsDrained decoder.old }
     requires finder { finder.now ≡ start_code }
-    ensures ok { OnOk result (IsHandled (F.format format.now) (after_feed piece.now decoder.old) decoder.new report.old report.new (W.contents writer.old) (W.contents writer.new)) }
-    ensures err { IfErr result (λ fault. BreaksOff (F.format format.now) report.old.pictures fault (W.contents writer.old) (W.contents writer.new) (events_left (after_feed piece.now decoder.old))) }
+    ensures ok { OnOk result (IsHandled (F.format format.now) (after_feed piece.now decoder.old) decoder.new report.old report.new
+        (W.contents writer.old) (W.contents writer.new)) }
+    ensures err { IfErr result (λ fault. BreaksOff (F.format format.now) report.old.pictures fault
+        (W.contents writer.old) (W.contents writer.new) (events_left (after_feed piece.now decoder.old))) }
 {
     events_only_grow();
     let mut done = 0;
@@ -154,8 +156,10 @@ fn take_part<F: PictureFormat, W: Write>(
     writer: &mut W,
     report: &mut Report,
 ) -> Result<(), RunFault>
-    ensures ok { OnOk result (IsHandled (F.format format.now) (after_feed piece.now decoder.old) decoder.new report.old report.new (W.contents writer.old) (W.contents writer.new)) }
-    ensures err { IfErr result (λ fault. BreaksOff (F.format format.now) report.old.pictures fault (W.contents writer.old) (W.contents writer.new) (events_left (after_feed piece.now decoder.old))) }
+    ensures ok { OnOk result (IsHandled (F.format format.now) (after_feed piece.now decoder.old) decoder.new report.old report.new
+        (W.contents writer.old) (W.contents writer.new)) }
+    ensures err { IfErr result (λ fault. BreaksOff (F.format format.now) report.old.pictures fault
+        (W.contents writer.old) (W.contents writer.new) (events_left (after_feed piece.now decoder.old))) }
 {
     decoder.feed(piece)?;
     drain(decoder, format, writer, report)?;
@@ -169,8 +173,10 @@ fn finish<F: PictureFormat, W: Write>(
     writer: &mut W,
     report: &mut Report,
 ) -> Result<(), RunFault>
-    ensures ok { OnOk result (IsHandled (F.format format.now) (after_flush decoder.old) decoder.new report.old report.new (W.contents writer.old) (W.contents writer.new)) }
-    ensures err { IfErr result (λ fault. BreaksOff (F.format format.now) report.old.pictures fault (W.contents writer.old) (W.contents writer.new) (events_left (after_flush decoder.old))) }
+    ensures ok { OnOk result (IsHandled (F.format format.now) (after_flush decoder.old) decoder.new report.old report.new
+        (W.contents writer.old) (W.contents writer.new)) }
+    ensures err { IfErr result (λ fault. BreaksOff (F.format format.now) report.old.pictures fault
+        (W.contents writer.old) (W.contents writer.new) (events_left (after_flush decoder.old))) }
 {
     decoder.flush()?;
     drain(decoder, format, writer, report)?;
@@ -184,8 +190,10 @@ fn drain<F: PictureFormat, W: Write>(
     writer: &mut W,
     report: &mut Report,
 ) -> Result<(), RunFault>
-    ensures ok { OnOk result (IsHandled (F.format format.now) decoder.old decoder.new report.old report.new (W.contents writer.old) (W.contents writer.new)) }
-    ensures err { IfErr result (λ fault. BreaksOff (F.format format.now) report.old.pictures fault (W.contents writer.old) (W.contents writer.new) (events_left decoder.old)) }
+    ensures ok { OnOk result (IsHandled (F.format format.now) decoder.old decoder.new report.old report.new
+        (W.contents writer.old) (W.contents writer.new)) }
+    ensures err { IfErr result (λ fault. BreaksOff (F.format format.now) report.old.pictures fault
+        (W.contents writer.old) (W.contents writer.new) (events_left decoder.old)) }
 {
     pictures_are_whole();
     'events: while let Some(event) = decoder.take()? {

@@ -14,8 +14,6 @@ mod program;
 mod read;
 mod report;
 mod streaming;
-#[cfg(test)]
-mod tests;
 
 pub use avc_decoder::Output;
 pub use console::{Console, Names, Unwatched, Watch};

@@ -14,7 +14,7 @@ use Rattle.avc_params.specs.declared.pps.Pps.{Pps}
 use Rattle.avc_params.specs.declared.sps.OrderCount.{OrderCount}
 use Rattle.avc_params.specs.declared.sps.OrderCount.TheVariants as orders
 use Rattle.avc_params.specs.declared.sps.Sps.{Sps}
-use Rattle.avc_slice.specs.Reading.{active_count, active_override, back, coded_order, deblocking, filtering, found, front, header_in_rbsp, header_of, idr_pic_id, is_qp, list_part, marking, modification, modification_list, most_operations, no_edges, numbers, offset_pair, operation, operations, optional_se, overridden_count, p_list, position_here, redundant_pic_cnt, slice_type_of, unless_ended, up_to, value_or_fault}
+use Rattle.avc_slice.specs.Reading.{num_ref_idx_active, active_override, back, coded_order, deblocking, filtering, found, front, header_in_rbsp, header_of, idr_pic_id, is_qp, list_part, marking, modification, modification_list, most_operations, no_edges, numbers, offset_pair, operation, operations, optional_se, overridden_count, p_list, position_here, redundant_pic_cnt, slice_type_of, unless_ended, up_to, value_or_fault}
 use Rattle.avc_slice.specs.declared.parts.Filtering.{Filtering}
 use Rattle.avc_slice.specs.declared.parts.Front.{Front}
 use Rattle.avc_slice.specs.declared.parts.ListPart.{ListPart}
@@ -212,31 +212,31 @@ gives-filtering pps =
     (gives-where_set IsDeblocking pps.deblocking_filter_control_present_flag deblocking gives-deblocking) (λ given is.
     gives-give (IsFiltering pps) _ (record { qp = quantiser _ qp; deblocking = is }))))
 
-gives-overridden_count : (pps : Pps) → Gives (λ override. active_count pps override ≤ 16) overridden_count
+gives-overridden_count : (pps : Pps) → Gives (λ override. num_ref_idx_active pps override ≤ 16) overridden_count
 gives-overridden_count pps =
-    gives-bind (λ n. n ≤ 15) (λ override. active_count pps override ≤ 16) (ue_to 15) _ (gives-ue_to 15) (λ n is.
-    gives-give (λ override. active_count pps override ≤ 16) (Some n) (omega (arith, is)))
+    gives-bind (λ n. n ≤ 15) (λ override. num_ref_idx_active pps override ≤ 16) (ue_to 15) _ (gives-ue_to 15) (λ n is.
+    gives-give (λ override. num_ref_idx_active pps override ≤ 16) (Some n) (omega (arith, is)))
 
-gives-active_override : (pps : Pps) → Gives (λ override. active_count pps override ≤ 16) (active_override pps)
+gives-active_override : (pps : Pps) → Gives (λ override. num_ref_idx_active pps override ≤ 16) (active_override pps)
 gives-active_override pps =
-    gives-then (λ override. active_count pps override ≤ 16) flag _ (elim [
+    gives-then (λ override. num_ref_idx_active pps override ≤ 16) flag _ (elim [
       | true ↦ gives-overridden_count pps
       | false ↦
-          gives-check (λ override. active_count pps override ≤ 16) (nat_lt pps.num_ref_idx_l0_default_active_minus1 16) _ _ (λ less.
-          gives-give (λ override. active_count pps override ≤ 16) None (few (ltb-true pps.num_ref_idx_l0_default_active_minus1 16 less)))
+          gives-check (λ override. num_ref_idx_active pps override ≤ 16) (nat_lt pps.num_ref_idx_l0_default_active_minus1 16) _ _ (λ less.
+          gives-give (λ override. num_ref_idx_active pps override ≤ 16) None (few (ltb-true pps.num_ref_idx_l0_default_active_minus1 16 less)))
     ])
   where
     few : pps.num_ref_idx_l0_default_active_minus1 < 16 → pps.num_ref_idx_l0_default_active_minus1 + 1 ≤ 16
     few less = omega (arith, less)
 
 record IsListPart (l : ListPart) : Type 0 where
-  active : l.active_count ≤ 16
-  weights : IfSome l.pred_weight_table (IsPredWeightTable l.active_count)
+  active : l.num_ref_idx_active ≤ 16
+  weights : IfSome l.pred_weight_table (IsPredWeightTable l.num_ref_idx_active)
 
 gives-p_list : (pps : Pps) (sps : Sps) → Gives IsListPart (p_list pps sps)
 gives-p_list pps sps =
-    gives-bind (λ override. active_count pps override ≤ 16) IsListPart (active_override pps) _ (gives-active_override pps) (λ override few.
-    let count = active_count pps override in
+    gives-bind (λ override. num_ref_idx_active pps override ≤ 16) IsListPart (active_override pps) _ (gives-active_override pps) (λ override few.
+    let count = num_ref_idx_active pps override in
     gives-then IsListPart (modification_list (max_frame_num sps) count) _ (λ given.
     gives-bind (λ t. IfSome t (IsPredWeightTable count)) IsListPart (where_set pps.weighted_pred_flag (pred_weight_table count)) _
     (gives-where_set (IsPredWeightTable count) pps.weighted_pred_flag (pred_weight_table count) (gives-table count)) (λ weights is.
@@ -254,8 +254,8 @@ record IsBack (nal_ref_idc : ℕ) (idr : Bool) (start : Front) (pps : Pps) (sps 
   idr_is : is_idr h ≡ idr
   reference : is_some h.marking ≡ is_reference h
   marking : idr ≡ true → not (nal_ref_idc == 0) ≡ true → has_idr_marking h ≡ true
-  active : h.active_count ≤ 16
-  weights : IfSome h.pred_weight_table (IsPredWeightTable h.active_count)
+  active : h.num_ref_idx_active ≤ 16
+  weights : IfSome h.pred_weight_table (IsPredWeightTable h.num_ref_idx_active)
   filters : IsFiltering pps (record { slice_qp_delta = h.slice_qp_delta; deblocking = h.deblocking })
 
 gives-back : (nal_ref_idc : ℕ) (idr : Bool) (start : Front) (pps : Pps) (sps : Sps) →

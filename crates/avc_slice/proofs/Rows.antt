@@ -22,7 +22,7 @@ of_p = record empty_header {
   nal_ref_idc = 2;
   slice_type = AllP;
   frame_num = 1;
-  active_count = 1;
+  num_ref_idx_active = 1;
   marking = Some SlidingWindow;
   position = 15;
 }
@@ -74,7 +74,7 @@ table_of_two = record {
 }
 
 two_entries : weighted_at 0x41 (0x9A ∷ 0x34 ∷ 0x33 ∷ 0x40 ∷ 0x20 ∷ 0x20 ∷ 0x3F ∷ 0x8C ∷ 0x26 ∷ 0x03 ∷ 0xF8 ∷ 0x02 ∷ 0x02 ∷ 0x60 ∷ [])
-    ≡ Ok (record of_p { active_override = Some 1; active_count = 2; pred_weight_table = Some table_of_two; position = 106 })
+    ≡ Ok (record of_p { active_override = Some 1; num_ref_idx_active = 2; pred_weight_table = Some table_of_two; position = 106 })
 two_entries = refl
 
 -- what is not coded is 2 ^ 5 at the denominator 5, and no offset

@@ -29,7 +29,7 @@ adaptive = operations most_operations >>= λ list. give (Adaptive list)
 abbrev pub list_of : ActiveCount → Option (List Modification) → Option PredWeightTable → ListPart
 list_of c modifications table = record {
   active_override = c.active_override;
-  active_count = c.active_count;
+  num_ref_idx_active = c.num_ref_idx_active;
   modifications = modifications;
   pred_weight_table = table;
 }
@@ -57,7 +57,7 @@ empty_header = record {
   order = Type2;
   redundant_pic_cnt = None;
   active_override = None;
-  active_count = 0;
+  num_ref_idx_active = 0;
   modifications = None;
   pred_weight_table = None;
   marking = None;

@@ -216,22 +216,22 @@ numbers idr pps sps = do
   give (record { frame_num = frame_num; idr_pic_id = of_idr; order = order; redundant_pic_cnt = redundant })
 
 -- RefPicList0's length in a P slice: the overriding count or the default one (7.4.3)
-abbrev pub active_count : Pps → Option ℕ → ℕ
-active_count pps (Some count_minus1) = count_minus1 + 1
-active_count pps None = pps.num_ref_idx_l0_default_active_minus1 + 1
+abbrev pub num_ref_idx_active : Pps → Option ℕ → ℕ
+num_ref_idx_active pps (Some count_minus1) = count_minus1 + 1
+num_ref_idx_active pps None = pps.num_ref_idx_l0_default_active_minus1 + 1
 
 -- of a P slice: the active count, the modification and pred_weight_table (7.3.3)
 abbrev pub p_list : Pps → Sps → Read ListPart
 p_list pps sps = do
   override ← active_override pps
-  given ← modification_list (max_frame_num sps) (active_count pps override)
-  weights ← where_set pps.weighted_pred_flag (pred_weight_table (active_count pps override))
-  give (record { active_override = override; active_count = active_count pps override; modifications = given; pred_weight_table = weights })
+  given ← modification_list (max_frame_num sps) (num_ref_idx_active pps override)
+  weights ← where_set pps.weighted_pred_flag (pred_weight_table (num_ref_idx_active pps override))
+  give (record { active_override = override; num_ref_idx_active = num_ref_idx_active pps override; modifications = given; pred_weight_table = weights })
 
 -- what RefPicList0 is made by, and by what its predictions are weighted; an I slice has neither (7.3.3)
 abbrev pub list_part : (p : Bool) → Pps → Sps → Read ListPart
 list_part true pps sps = p_list pps sps
-list_part false pps sps = give (record { active_override = None; active_count = 0; modifications = None; pred_weight_table = None })
+list_part false pps sps = give (record { active_override = None; num_ref_idx_active = 0; modifications = None; pred_weight_table = None })
 
 -- SliceQPY is 0 to 51 at 8 bits (7.4.3)
 abbrev pub is_qp : ℤ → Bool
@@ -271,7 +271,7 @@ back nal_ref_idc idr start pps sps = do
     order = of_picture.order;
     redundant_pic_cnt = of_picture.redundant_pic_cnt;
     active_override = list.active_override;
-    active_count = list.active_count;
+    num_ref_idx_active = list.num_ref_idx_active;
     modifications = list.modifications;
     pred_weight_table = list.pred_weight_table;
     marking = marked;

@@ -30,11 +30,11 @@ entry_weights = do
   give (record { luma = luma; chroma = chroma })
 
 -- pred_weight_table of a P slice: the denominators, 0 to 7, then each reference index (7.3.3.2, 7.4.3.2)
-abbrev pub pred_weight_table : (active_count : ℕ) → Read PredWeightTable
-pred_weight_table active_count = do
+abbrev pub pred_weight_table : (num_ref_idx_active : ℕ) → Read PredWeightTable
+pred_weight_table num_ref_idx_active = do
   luma_log2_weight_denom ← ue_to 7
   chroma_log2_weight_denom ← ue_to 7
-  entries ← times active_count entry_weights
+  entries ← times num_ref_idx_active entry_weights
   give (record {
     luma_log2_weight_denom = luma_log2_weight_denom;
     chroma_log2_weight_denom = chroma_log2_weight_denom;

@@ -42,10 +42,10 @@ pub record IsEntryWeights (e : EntryWeights) : Type 0 where
   pub chroma : IfSome e.chroma IsChromaWeights
 
 -- an entry for each reference index
-pub record IsPredWeightTable (active_count : ℕ) (t : PredWeightTable) : Type 0 where
+pub record IsPredWeightTable (num_ref_idx_active : ℕ) (t : PredWeightTable) : Type 0 where
   pub luma_denom : t.luma_log2_weight_denom ≤ 7
   pub chroma_denom : t.chroma_log2_weight_denom ≤ 7
-  pub count : length t.entries ≡ active_count
+  pub count : length t.entries ≡ num_ref_idx_active
   pub entries : All IsEntryWeights t.entries
 
 -- A header that was read in this RBSP under these sets.
@@ -61,8 +61,8 @@ pub record IsHeader (sps : Sps) (pps : Pps) (rbsp : List ℕ) (h : Header) : Typ
   pub qp_high : slice_qp pps h.slice_qp_delta ≤ℤ pos 51
   pub deblocking : IfSome h.deblocking IsDeblocking
   -- RefPicList0 has at most 16 entries
-  pub active : h.active_count ≤ 16
-  pub weights : IfSome h.pred_weight_table (IsPredWeightTable h.active_count)
+  pub active : h.num_ref_idx_active ≤ 16
+  pub weights : IfSome h.pred_weight_table (IsPredWeightTable h.num_ref_idx_active)
   pub position : h.position ≤ length (bits_before_stop rbsp)
 
 -- The sets that a header names, and that it was read under.

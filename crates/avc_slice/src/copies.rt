@@ -62,7 +62,7 @@ impl Header {
             order: self.order,
             redundant_pic_cnt: self.redundant_pic_cnt,
             active_override: self.active_override,
-            active_count: self.active_count,
+            num_ref_idx_active: self.num_ref_idx_active,
             modifications: copied_modifications(&self.modifications),
             pred_weight_table: copied_weights(&self.pred_weight_table),
             marking: copied_marking(&self.marking),

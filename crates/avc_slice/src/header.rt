@@ -76,7 +76,7 @@ pub struct Header {
     pub active_override: Option<u32>,
 
     /// The length of RefPicList0, with or without override, 1 to 16; 0 in I slices.
-    pub active_count: u32,
+    pub num_ref_idx_active: u32,
 
     /// In P slices, where ref_pic_list_modification_flag_l0 is 1.
     pub modifications: Option<UpTo<Modification, 16>>,
@@ -136,7 +136,7 @@ impl Header {
             order: CodedOrder::Type2,
             redundant_pic_cnt: None,
             active_override: None,
-            active_count: 0,
+            num_ref_idx_active: 0,
             modifications: None,
             pred_weight_table: None,
             marking: None,
@@ -169,7 +169,7 @@ impl Header {
 
     /// By what predictions from a reference index are weighted (8.4.2.3), where the slice has explicit weights.
     pub fn weights(&self, reference_index: usize) -> Option<Weights>
-        requires { IfSome self.now.pred_weight_table (IsPredWeightTable self.now.active_count) }
+        requires { IfSome self.now.pred_weight_table (IsPredWeightTable self.now.num_ref_idx_active) }
         ensures { result ≡ slice_get (weights self.now) reference_index }
     {
         match &self.pred_weight_table {

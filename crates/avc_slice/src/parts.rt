@@ -23,7 +23,7 @@ pub struct Numbers {
 #[derive(Drop)]
 pub struct ListPart {
     pub active_override: Option<u32>,
-    pub active_count: u32,
+    pub num_ref_idx_active: u32,
     pub modifications: Option<UpTo<Modification, 16>>,
     pub pred_weight_table: Option<PredWeightTable>,
 }
@@ -32,7 +32,7 @@ pub struct ListPart {
 #[derive(Clone, Copy)]
 pub struct ActiveCount {
     pub active_override: Option<u32>,
-    pub active_count: u32,
+    pub num_ref_idx_active: u32,
 }
 
 /// The quantiser and the deblocking fields.

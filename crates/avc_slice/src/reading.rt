@@ -6,7 +6,7 @@ ghost use Rattle.avc_params.specs.Tables.{sets_after};
 ghost use Rattle.avc_params.specs.Within.{IsPps, IsSps};
 ghost use Rattle.avc_slice.specs.Filling.{Fills, FillsList, filled};
 ghost use Rattle.avc_slice.specs.Header.{is_idr, slice_qp};
-ghost use Rattle.avc_slice.specs.Reading.{active_count, active_override, back, deblocking, idr_pic_id, is_qp};
+ghost use Rattle.avc_slice.specs.Reading.{num_ref_idx_active, active_override, back, deblocking, idr_pic_id, is_qp};
 ghost use Rattle.avc_slice.specs.Reading.{marking, redundant_pic_cnt, filtering, front, header_in_rbsp};
 ghost use Rattle.avc_slice.specs.Reading.{list_part, modification_list, modifications, numbers, p_list, slice_type_of};
 ghost use Rattle.avc_slice.specs.WeightsReading.{pred_weight_table};
@@ -109,7 +109,7 @@ fn read_numbers(reader: &mut BitReader, idr: bool, pps: &Pps, sps: &Sps) -> Resu
 /// num_ref_idx_l0_active_minus1 where the override flag is 1; a default count that is used is at most 16.
 fn read_active_override(reader: &mut BitReader, pps: &Pps) -> Result<Option<u32>, Fault>
     ensures read { Reads result (active_override pps.now) reader.old reader.new }
-    ensures count { IfOk result (λ active_override. active_count pps.now active_override ≤ 16) }
+    ensures count { IfOk result (λ active_override. num_ref_idx_active pps.now active_override ≤ 16) }
     ensures small { IfOk result (λ active_override. IfSome active_override (λ count_minus1. count_minus1 ≤ 15)) }
 {
     let num_ref_idx_active_override_flag = reader.flag()?;
@@ -127,14 +127,14 @@ fn read_active_override(reader: &mut BitReader, pps: &Pps) -> Result<Option<u32>
 fn put_modifications(
     reader: &mut BitReader,
     max_frame_num: u32,
-    active_count: u32,
+    num_ref_idx_active: u32,
     place: &mut Option<UpTo<Modification, 16>>,
 ) -> Result<(), Fault>
     requires numbers { 1 ≤ max_frame_num }
-    requires room { active_count ≤ 16 }
-    ensures { Fills result place.new (where_set true (modifications max_frame_num active_count)) reader.old reader.new }
+    requires room { num_ref_idx_active ≤ 16 }
+    ensures { Fills result place.new (where_set true (modifications max_frame_num num_ref_idx_active)) reader.old reader.new }
 {
-    *place = Some(read_modifications(reader, max_frame_num, active_count)?);
+    *place = Some(read_modifications(reader, max_frame_num, num_ref_idx_active)?);
     Ok(())
 }
 
@@ -151,16 +151,16 @@ fn clear<T: Drop>(place: &mut Option<T>)
 fn put_modification_list(
     reader: &mut BitReader,
     max_frame_num: u32,
-    active_count: u32,
+    num_ref_idx_active: u32,
     place: &mut Option<UpTo<Modification, 16>>,
 ) -> Result<(), Fault>
     requires numbers { 1 ≤ max_frame_num }
-    requires room { active_count ≤ 16 }
-    ensures { Fills result place.new (modification_list max_frame_num active_count) reader.old reader.new }
+    requires room { num_ref_idx_active ≤ 16 }
+    ensures { Fills result place.new (modification_list max_frame_num num_ref_idx_active) reader.old reader.new }
 {
     let ref_pic_list_modification_flag_l0 = reader.flag()?;
     if ref_pic_list_modification_flag_l0 {
-        put_modifications(reader, max_frame_num, active_count, place)
+        put_modifications(reader, max_frame_num, num_ref_idx_active, place)
     } else {
         clear(place);
         Ok(())
@@ -168,9 +168,9 @@ fn put_modification_list(
 }
 
 /// RefPicList0's length in a P slice: the overriding count or the default one.
-fn active_count_of(pps: &Pps, active_override: Option<u32>) -> u32
+fn num_ref_idx_active_of(pps: &Pps, active_override: Option<u32>) -> u32
     requires { IfSome active_override (λ count_minus1. count_minus1 ≤ 15) }
-    ensures { result ≡ active_count pps.now active_override }
+    ensures { result ≡ num_ref_idx_active pps.now active_override }
 {
     match active_override {
         Some(count_minus1) => count_minus1 + 1,
@@ -182,13 +182,13 @@ fn active_count_of(pps: &Pps, active_override: Option<u32>) -> u32
 #[inline(never)]
 fn put_pred_weight_table(
     reader: &mut BitReader,
-    active_count: u32,
+    num_ref_idx_active: u32,
     place: &mut Option<PredWeightTable>,
 ) -> Result<(), Fault>
-    requires { active_count ≤ 16 }
-    ensures { Fills result place.new (where_set true (pred_weight_table active_count)) reader.old reader.new }
+    requires { num_ref_idx_active ≤ 16 }
+    ensures { Fills result place.new (where_set true (pred_weight_table num_ref_idx_active)) reader.old reader.new }
 {
-    *place = Some(read_pred_weight_table(reader, active_count)?);
+    *place = Some(read_pred_weight_table(reader, num_ref_idx_active)?);
     Ok(())
 }
 
@@ -196,14 +196,14 @@ fn put_pred_weight_table(
 fn put_optional_weights(
     reader: &mut BitReader,
     present: bool,
-    active_count: u32,
+    num_ref_idx_active: u32,
     place: &mut Option<PredWeightTable>,
 ) -> Result<(), Fault>
-    requires room { active_count ≤ 16 }
-    ensures { Fills result place.new (where_set present (pred_weight_table active_count)) reader.old reader.new }
+    requires room { num_ref_idx_active ≤ 16 }
+    ensures { Fills result place.new (where_set present (pred_weight_table num_ref_idx_active)) reader.old reader.new }
 {
     if present {
-        put_pred_weight_table(reader, active_count, place)
+        put_pred_weight_table(reader, num_ref_idx_active, place)
     } else {
         clear(place);
         Ok(())
@@ -222,12 +222,17 @@ fn put_p_list(
     ensures { FillsList result modifications.new table.new (p_list pps.now sps.now) reader.old reader.new }
 {
     let active_override = read_active_override(reader, pps)?;
-    let active_count = active_count_of(pps, active_override);
-    put_modification_list(reader, sps.max_frame_num(), active_count, modifications)?;
-    put_optional_weights(reader, pps.weighted_pred_flag, active_count, table)?;
+    let num_ref_idx_active = num_ref_idx_active_of(pps, active_override);
+    put_modification_list(
+        reader,
+        sps.max_frame_num(),
+        num_ref_idx_active,
+        modifications,
+    )?;
+    put_optional_weights(reader, pps.weighted_pred_flag, num_ref_idx_active, table)?;
     Ok(ActiveCount {
         active_override,
-        active_count,
+        num_ref_idx_active,
     })
 }
 
@@ -250,7 +255,7 @@ fn put_list_part(
         clear(table);
         Ok(ActiveCount {
             active_override: None,
-            active_count: 0,
+            num_ref_idx_active: 0,
         })
     }
 }
@@ -354,7 +359,7 @@ fn put_back(
     place.order = numbers.order;
     place.redundant_pic_cnt = numbers.redundant_pic_cnt;
     place.active_override = list.active_override;
-    place.active_count = list.active_count;
+    place.num_ref_idx_active = list.num_ref_idx_active;
     place.slice_qp_delta = filtering.slice_qp_delta;
     place.deblocking = filtering.deblocking;
     place.position = reader.position();

@@ -43,14 +43,14 @@ impl Syntax for EntryWeights {
 /// pred_weight_table (7.3.3.2) for so many reference indices.
 pub(crate) fn read_pred_weight_table(
     reader: &mut BitReader,
-    active_count: u32,
+    num_ref_idx_active: u32,
 ) -> Result<PredWeightTable, Fault>
-    requires { active_count ≤ 16 }
-    ensures { Reads result (pred_weight_table active_count) reader.old reader.new }
+    requires { num_ref_idx_active ≤ 16 }
+    ensures { Reads result (pred_weight_table num_ref_idx_active) reader.old reader.new }
 {
     Ok(PredWeightTable {
         luma_log2_weight_denom: reader.ue_to(7)? as u8,
         chroma_log2_weight_denom: reader.ue_to(7)? as u8,
-        entries: read_times(reader, active_count)?,
+        entries: read_times(reader, num_ref_idx_active)?,
     })
 }

@@ -15,7 +15,7 @@ unfolding FollowOn
 follow_more p n first last [] m all stands is = (stands, is ∙ ap (λ q. qp_of q m.syntax) (sym all), refl)
 follow_more p n first last (x ∷ ms) m all stands is = (all.0, all.1, follow_more p n x.qp last ms m all.2 stands is)
 
-pub follow_any : (s : SliceStart) (before : List PicMb) (first last : ℕ) (ms : List Mb) → FollowOn s.is_p s.active_count first last ms → CanFollow s before first ms
+pub follow_any : (s : SliceStart) (before : List PicMb) (first last : ℕ) (ms : List Mb) → FollowOn s.is_p s.num_ref_idx_active first last ms → CanFollow s before first ms
 unfolding FollowOn
 follow_any s before first last [] all = tt
 follow_any s before first last (m ∷ ms) all = (all.0 (context s before first) refl refl, all.1, follow_any s (before ++ placed s m ∷ []) m.qp last ms all.2)
@@ -25,7 +25,7 @@ unfolding FollowOn
 follow_none p n first = refl
 
 -- a slice of QP_Y 26 can be written
-pub coded : (c : CodedSlice) (p : Bool) (n last : ℕ) → IsHeader c.sps c.pps c.header → (p ≡ false → 1 ≤ length c.macroblocks) → length c.macroblocks ≤ 38 → is_p c.header ≡ p → c.header.active_count ≡ n
+pub coded : (c : CodedSlice) (p : Bool) (n last : ℕ) → IsHeader c.sps c.pps c.header → (p ≡ false → 1 ≤ length c.macroblocks) → length c.macroblocks ≤ 38 → is_p c.header ≡ p → c.header.num_ref_idx_active ≡ n
     → nat_abs (slice_qp c.pps c.header.slice_qp_delta) ≡ 26 → FollowOn p n 26 last c.macroblocks → IsCodedSlice c
 coded c p n last header some few is_type is_count is_qp all = record {
   header = header;
@@ -34,7 +34,7 @@ coded c p n last header some few is_type is_count is_qp all = record {
   follow =
       let all' = subst (λ q. FollowOn p n q last c.macroblocks) (sym is_qp) all in
       let all'' = subst (λ k. FollowOn p k (own_start c).qp last c.macroblocks) (sym is_count) all' in
-      follow_any (own_start c) (earlier_mbs c) (own_start c).qp last c.macroblocks (subst (λ b. FollowOn b c.header.active_count (own_start c).qp last c.macroblocks) (sym is_type) all'');
+      follow_any (own_start c) (earlier_mbs c) (own_start c).qp last c.macroblocks (subst (λ b. FollowOn b c.header.num_ref_idx_active (own_start c).qp last c.macroblocks) (sym is_type) all'');
 }
 
 -- ---- elements

@@ -1,5 +1,5 @@
 // A slice of two macroblocks, cut to each number of its bits.
-use crate::written_slices::{facts, total_coeffs_in};
+use crate::written_slices::{info, total_coeffs_in};
 use avc_bits::BitReader;
 use avc_make::{cut_bits, total_coeffs_of};
 use avc_mbsyntax::SliceData;
@@ -44,7 +44,7 @@ fn read(alloc: Global, rbsp: &[u8], table: &ParamTable) -> Result<(u32, Option<F
             total_coeffs_in(around.b),
             &mut mb,
         ) {
-            Ok(true) => row.put(&facts(0, total_coeffs_of(&mb.syntax))),
+            Ok(true) => row.put(&info(0, total_coeffs_of(&mb.syntax))),
             Ok(false) => return Ok((count, None)),
             Err(fault) => return Ok((count, Some(fault))),
         }

@@ -1,7 +1,7 @@
 // The deblocking filter beside a plain one, which follows clause 8.7 line after line.
 ghost use Rattle.std.specs.Prelude.{◌≡◌, ◌*◌, ◌^◌, ◌≤◌, ◌<◌, length, true};
 
-use avc_deblock::{MbFacts, picture};
+use avc_deblock::{MbInfo, picture};
 use avc_plane::{Plane, Planes};
 use avc_types::{FilteredEdges, Mv, OutOfMemory};
 use std::alloc::Global;
@@ -93,7 +93,7 @@ const QP_C: [i32; 22] = [
 struct Coded {
     width: i32,
     height: i32,
-    mbs: [MbFacts; 9],
+    mbs: [MbInfo; 9],
     chroma_qp_index_offset: i32,
 }
 
@@ -168,7 +168,7 @@ impl Coded {
         self.width.wrapping_mul(y >> 4).wrapping_add(x >> 4)
     }
 
-    fn mb(&self, address: i32) -> MbFacts {
+    fn mb(&self, address: i32) -> MbInfo {
         self.mbs[(address.max(0) as usize).min(8)]
     }
 }
@@ -187,14 +187,14 @@ fn block_of(x: i32, y: i32) -> usize
     8 * bit(y, 3) + 4 * bit(x, 3) + 2 * bit(y, 2) + bit(x, 2)
 }
 
-fn has_coefficients(mb: &MbFacts, block: usize) -> bool
+fn has_coefficients(mb: &MbInfo, block: usize) -> bool
     requires { block < 16 }
 {
     mb.coefficients >> block & 1 == 1
 }
 
 // bS 1 or 0, of two blocks of inter macroblocks without coefficients
-fn motion_strength(p: &MbFacts, kp: usize, q: &MbFacts, kq: usize) -> i32
+fn motion_strength(p: &MbInfo, kp: usize, q: &MbInfo, kq: usize) -> i32
     requires p { kp < 16 }
     requires q { kq < 16 }
 {
@@ -230,7 +230,7 @@ fn strength(c: &Coded, is_vertical: bool, x: i32, y: i32) -> i32 {
 }
 
 // QPy for luma, and for chroma the QPc that belongs to it (8.5.8)
-fn qp_of(c: &Coded, component: i32, mb: &MbFacts) -> i32 {
+fn qp_of(c: &Coded, component: i32, mb: &MbInfo) -> i32 {
     let qp = i32::from(mb.qp);
     if component == 0 {
         return qp;
@@ -561,7 +561,7 @@ impl Random {
     }
 
     // a macroblock of the slice of `before`, or of the next one
-    fn mb(&mut self, before: &MbFacts) -> MbFacts {
+    fn mb(&mut self, before: &MbInfo) -> MbInfo {
         let mut mb = *before;
         if self.below(3) == 0 {
             mb.slice = before.slice.wrapping_add(1);
@@ -577,8 +577,8 @@ impl Random {
         mb
     }
 
-    fn mbs(&mut self) -> [MbFacts; 9] {
-        let mut mb = MbFacts {
+    fn mbs(&mut self) -> [MbInfo; 9] {
+        let mut mb = MbInfo {
             is_intra: false,
             coefficients: 0,
             pictures: [0; 4],
@@ -653,7 +653,7 @@ fn has_size(plane: &Plane<0>, width: usize, height: usize) -> bool
 }
 
 // The filter under test, if the planes have this many macroblocks.
-fn deblock(planes: &mut Planes<0>, mbs: &[MbFacts], width: usize, height: usize, offset: i8) -> bool
+fn deblock(planes: &mut Planes<0>, mbs: &[MbInfo], width: usize, height: usize, offset: i8) -> bool
     requires all { length mbs.now ≡ height * width }
     requires columns { width ≤ 3 }
     requires rows { height ≤ 3 }

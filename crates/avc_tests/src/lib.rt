@@ -1,6 +1,8 @@
-//! Tests of crates that are proved without tests of their own, and over several of them.
+//! Tests of the crates up to pictures: of what no contract says, as that memory is found, and of worked rows.
 #![tactic(auto)]
 
+#[cfg(test)]
+mod byte_streams;
 #[cfg(test)]
 mod cut_slices;
 #[cfg(test)]
@@ -10,7 +12,13 @@ mod inter_prediction;
 #[cfg(test)]
 mod macroblock_types;
 #[cfg(test)]
+mod macroblocks_read;
+#[cfg(test)]
 mod open_picture;
+#[cfg(test)]
+mod output_order;
+#[cfg(test)]
+mod planes;
 #[cfg(test)]
 mod same_macroblocks;
 #[cfg(test)]

@@ -27,7 +27,7 @@ fn reads_under_the_sets_that_were_put(rt: HostRuntime) -> Result<(), Fail> {
         Ok(header) => {
             assert_eq!(rt; header.slice_type, SliceType::AllP);
             assert_eq!(rt; header.frame_num, 1);
-            assert_eq!(rt; header.active_count, 1);
+            assert_eq!(rt; header.num_ref_idx_active, 1);
             assert_eq!(rt; header.slice_qp_delta, 0);
             assert_eq!(rt; header.position, 15);
         }

@@ -1,13 +1,13 @@
 // A worked row of the deblocking filter: two edges of a step, of which the second filters what the first left (8.7).
 ghost use Rattle.std.specs.Prelude.{◌≡◌, ◌<◌, true};
 
-use avc_deblock::{MbFacts, Place, edge};
+use avc_deblock::{MbInfo, Place, edge};
 use avc_plane::{Plane, Planes};
 use avc_types::{FilteredEdges, Mv};
 use std::test::Fail;
 
 /// An intra macroblock of QP 51.
-const INTRA: MbFacts = MbFacts {
+const INTRA: MbInfo = MbInfo {
     is_intra: true,
     coefficients: 0,
     pictures: [0; 4],

@@ -10,7 +10,7 @@ use avc_annexb::unescape;
 use avc_bits::BitReader;
 use avc_make::{CodedSlice, Macroblocks, total_coeffs_of, write_pps, write_slice, write_sps};
 use avc_mbsyntax::SliceData;
-use avc_neigh::{Motion, NearMode, NeighbourFacts, Row, TotalCoeffs};
+use avc_neigh::{Motion, NearMode, NeighbourInfo, Row, TotalCoeffs};
 use avc_params::ParamTable;
 use avc_slice::{CodedOrder, Header, SliceType, read_header};
 use avc_types::{Marking, Mb, MbAddr, Syntax};
@@ -51,7 +51,7 @@ fn i_slice(macroblocks: Macroblocks) -> CodedSlice
             order: CodedOrder::Type2,
             redundant_pic_cnt: None,
             active_override: None,
-            active_count: 0,
+            num_ref_idx_active: 0,
             modifications: None,
             pred_weight_table: None,
             marking: Some(Marking::Idr {
@@ -88,7 +88,7 @@ pub(crate) fn p_slice(macroblocks: Macroblocks) -> CodedSlice
             order: CodedOrder::Type2,
             redundant_pic_cnt: None,
             active_override: Some(1),
-            active_count: 2,
+            num_ref_idx_active: 2,
             modifications: None,
             pred_weight_table: None,
             marking: Some(Marking::SlidingWindow),
@@ -100,9 +100,9 @@ pub(crate) fn p_slice(macroblocks: Macroblocks) -> CodedSlice
     }
 }
 
-// A macroblock's facts, as far as reading others asks for them.
-pub(crate) fn facts(slice: u32, total_coeffs: TotalCoeffs) -> NeighbourFacts {
-    NeighbourFacts {
+// A macroblock's info, as far as reading others asks for them.
+pub(crate) fn info(slice: u32, total_coeffs: TotalCoeffs) -> NeighbourInfo {
+    NeighbourInfo {
         slice,
         total_coeffs,
         modes: [NearMode::Absent; 16],
@@ -110,9 +110,9 @@ pub(crate) fn facts(slice: u32, total_coeffs: TotalCoeffs) -> NeighbourFacts {
     }
 }
 
-pub(crate) fn total_coeffs_in(facts: Option<&NeighbourFacts>) -> Option<&TotalCoeffs> {
-    match facts {
-        Some(facts) => Some(&facts.total_coeffs),
+pub(crate) fn total_coeffs_in(info: Option<&NeighbourInfo>) -> Option<&TotalCoeffs> {
+    match info {
+        Some(info) => Some(&info.total_coeffs),
         None => None,
     }
 }
@@ -157,12 +157,18 @@ fn has_macroblocks(
         cr: [9; 4],
     };
     for _ in 0..header.first_mb_in_slice.get() {
-        row.put(&facts(0, earlier));
+        row.put(&info(0, earlier));
     }
     let reader = BitReader::at(rbsp, header.position);
-    let active_count = header.active_count.min(16) as u8;
+    let num_ref_idx_active = header.num_ref_idx_active.min(16) as u8;
     let remaining = u32::from(WIDTH) * u32::from(HEIGHT) - FIRST;
-    let mut data = SliceData::new(reader, header.is_p(), active_count, SLICE_QP, remaining);
+    let mut data = SliceData::new(
+        reader,
+        header.is_p(),
+        num_ref_idx_active,
+        SLICE_QP,
+        remaining,
+    );
     let mut mb = Mb {
         syntax: Syntax::PSkip,
         qp: 0,
@@ -180,7 +186,7 @@ fn has_macroblocks(
         if !is_same(&mb, written) {
             return Ok(false);
         }
-        row.put(&facts(1, total_coeffs_of(&mb.syntax)));
+        row.put(&info(1, total_coeffs_of(&mb.syntax)));
     }
     match data.next(None, None, &mut mb) {
         Ok(false) => Ok(true),

@@ -116,7 +116,7 @@ fn only_slice(macroblocks: Macroblocks) -> CodedSlice
             order: CodedOrder::Type2,
             redundant_pic_cnt: None,
             active_override: None,
-            active_count: 0,
+            num_ref_idx_active: 0,
             modifications: None,
             pred_weight_table: None,
             marking: Some(Marking::Idr {
@@ -166,7 +166,7 @@ fn only_p_slice(macroblocks: Macroblocks) -> CodedSlice
             order: CodedOrder::Type2,
             redundant_pic_cnt: None,
             active_override: None,
-            active_count: 1,
+            num_ref_idx_active: 1,
             modifications: None,
             pred_weight_table: None,
             marking: Some(Marking::SlidingWindow),

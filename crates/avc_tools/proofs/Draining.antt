@@ -1,7 +1,9 @@
 -- Taking all units whose end has been seen, one after the other.
-use Rattle.std.proofs.Common.{◌≡◌, ◌+◌, ℕ, List, [], ◌∷◌, ◌++◌, length, drop, Option, Some, None, true, false, if◌then◌else◌, refl, ap, sym, subst, ◌∙◌, inl, inr, rules, arith, append_assoc, append-nil, length-append}
-use Rattle.avc_tools.proofs.Common.{slice_get, slice_get_cases, slice_get_within, get_or_from_slice_get, drop_more, drop_all, units}
-use Rattle.avc_tools.proofs.Common.{SplitterState, next_unit_of, after_next_unit, Unit, after_units_left, units_left}
+pub use Rattle.avc_tools.proofs.Common.{◌≡◌, ◌+◌, ℕ, List, [], ◌∷◌, ◌++◌, length, drop, Option, Some, None, true, false, if◌then◌else◌, refl, ap, sym, subst}
+pub use Rattle.avc_tools.proofs.Common.{◌∙◌, inl, inr, rules, arith, append_assoc, append-nil, length-append, slice_get, slice_get_cases, slice_get_within}
+pub use Rattle.avc_tools.proofs.Common.{get_or_from_slice_get, drop_more, drop_all, units, SplitterState, next_unit_of, after_next_unit, Unit, after_units_left}
+pub use Rattle.avc_tools.proofs.Common.{units_left, after_feed, after_finish, max_unit, units_waiting, flat_map, flat_map-append, unit_line, string_bytes}
+pub use Rattle.avc_tools.proofs.Lengths.{whole_units}
 
 -- a splitter that has a whole stream, of which no unit was taken
 abbrev pub whole_stream : (bytes : List ℕ) → SplitterState

@@ -1,8 +1,7 @@
 -- The units that come with more bytes, or with the end.
-use Rattle.avc_tools.proofs.Common.{◌≡◌, ◌+◌, ◌≤◌, ℕ, Bool, true, false, List, [], ◌∷◌, ◌++◌, length, refl, ap, sym}
-use Rattle.avc_tools.proofs.Common.{◌∙◌, arith, append-nil, length-append, flat_map, drop-append_seam, flat_map-append, UnitsStay}
-use Rattle.avc_tools.proofs.Common.{SplitterState, after_feed, after_finish, PlacedUnit, numbered, placed_units, unit_of, units, Unit}
-use Rattle.avc_tools.proofs.Common.{unit_line, unit_lines_so_far, IsDrained, OnlyGrows, after_units_left, units_left}
+pub use Rattle.avc_tools.proofs.Common.{◌≡◌, ◌+◌, ◌≤◌, ℕ, Bool, true, false, List, [], ◌∷◌, ◌++◌, length, refl, ap, sym, ◌∙◌, arith, append-nil, length-append}
+pub use Rattle.avc_tools.proofs.Common.{flat_map, drop-append_seam, flat_map-append, UnitsStay, SplitterState, after_feed, after_finish, PlacedUnit, numbered}
+pub use Rattle.avc_tools.proofs.Common.{placed_units, unit_of, units, Unit, unit_line, unit_lines_so_far, IsDrained, OnlyGrows, after_units_left, units_left}
 
 -- No line tells of a body, so it makes no difference how long a body is kept.
 same_lines : (few many index : ℕ) (all : List PlacedUnit) → flat_map unit_line (numbered few index all) ≡ flat_map unit_line (numbered many index all)

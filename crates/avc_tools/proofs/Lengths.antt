@@ -1,6 +1,7 @@
 -- No unit of a stream is longer than the stream.
-use Rattle.std.proofs.Common.{◌≡◌, ◌+◌, ◌≤◌, ℕ, Bool, true, false, List, [], ◌∷◌, length, drop, slice_index, Some, None, nat_le, All, refl, ap, sym, ◌∙◌, arith}
+use Rattle.avc_tools.proofs.Common.{◌≡◌, ◌+◌, ◌≤◌, ℕ, Bool, true, false, List, [], ◌∷◌, length, drop, Some, None, nat_le, All, refl, ap, sym, ◌∙◌, arith}
 use Rattle.avc_tools.proofs.Common.{nat_tests, All-head, All-tail, PlacedUnit, placed_units, numbered, unit_of, units, saturated, Piece}
+use Rattle.std.proofs.Common.{slice_index}
 use Rattle.avc_annexb.proofs.Limits.{IsShort, are_short}
 
 -- with its body or without

@@ -1,12 +1,13 @@
 -- The units of pieces: of which a stream's pieces are written, which facts they keep, and what a lower limit of a unit's bytes does.
-use Rattle.avc_tools.proofs.Common.{◌≡◌, ℕ, Bool, true, false, not, ◌||◌, List, [], ◌∷◌, ◌++◌, length, map, reverse, drop, All, arith}
-use Rattle.avc_tools.proofs.Common.{Option, Some, None, is_some, if◌then◌else◌, refl, ap, ap₂, sym, ◌∙◌, filter, flat_map, list_any}
-use Rattle.avc_tools.proofs.Common.{prefix_len, range_with_len, take_while, option_map, length-map, drop-map, map-append, reverse-append}
-use Rattle.avc_tools.proofs.Common.{All-nil, All-cons, All-head, All-tail, All-append, All-take, All-drop, All-same, All-push, All-filter}
-use Rattle.avc_tools.proofs.Common.{take_while-cons, Unit, unit_within, written, is_pps, is_sps, last, pps_in_force, sps_in_force, SetUnit}
-use Rattle.avc_tools.proofs.Common.{is_start, list_of, set_unit, set_units, deciding_unit, satisfies, sets_in_force, unit_list, piece_units, pps_unit, sps_unit}
-use Rattle.avc_tools.proofs.Common.{after_slices, is_left_out, is_slice, leads, piece, pieces_from, rest_of_piece, through_slices}
-use Rattle.std.proofs.Common.{cond}
+use Rattle.avc_tools.proofs.Common.{◌≡◌, ℕ, Bool, true, false, not, ◌||◌, List, [], ◌∷◌, ◌++◌, length, map, reverse, drop, All, arith, Option, Some, None}
+use Rattle.avc_tools.proofs.Common.{is_some, if◌then◌else◌, refl, ap, ap₂, sym, ◌∙◌, filter, flat_map, list_any, prefix_len, range_with_len, take_while}
+use Rattle.avc_tools.proofs.Common.{reverse-append, All-nil, All-cons, All-head, All-tail, All-append, All-take, All-drop, All-same, All-push, All-filter}
+use Rattle.avc_tools.proofs.Common.{take_while-cons, Unit, unit_within, written, is_pps, is_sps, last, pps_in_force, sps_in_force, SetUnit, is_start, list_of}
+use Rattle.avc_tools.proofs.Common.{set_unit, set_units, deciding_unit, satisfies, sets_in_force, unit_list, piece_units, pps_unit, sps_unit, after_slices}
+use Rattle.avc_tools.proofs.Common.{is_left_out, is_slice, leads, piece, pieces_from, rest_of_piece, through_slices, ◌+◌, ◌&&◌, ◌==◌, nat_le, IsTrue}
+use Rattle.avc_tools.proofs.Common.{slice_get-get_or, rbsp, IsUnitOf, UnitsAreWhole, WrittenUnitsStandAlone, body_within, contents, contents_within}
+use Rattle.avc_tools.proofs.Common.{forbidden_zero_bit, nal_unit_type, units, start, ue, Kind, kind, pps, rbsp_of, reads_zero, set_fault, set_of, sps, cond}
+use Rattle.avc_tools.proofs.Stages.{goes_before}
 
 -- ---- the pieces, of their units
 
@@ -44,6 +45,10 @@ taken_pass test (x ∷ xs) = rw (take_while-cons test x xs) (first (test x) refl
     first true e h = All-cons (λ x. test x ≡ true) x (take_while test xs) e h
     first false e h = All-nil (λ x. test x ≡ true)
 
+-- what a piece has before its cut point
+abbrev pub front : List Unit → List Unit
+front before = sets_in_force before ++ filter leads (after_slices before)
+
 module _ (P : Unit → Type 0) where
   all_last : (us : List Unit) → All P us → All P (unit_list (last us))
   all_last [] h = All-nil P
@@ -66,166 +71,143 @@ module _ (P : Unit → Type 0) where
   all_through_slices us h = all_reversed P (drop (length (after_slices us)) (reverse us)) (All-drop P (length (after_slices us)) (reverse us) (all_reversed P us h))
 
   -- the rest of a piece, of the units up to the next cut point, if there is one
-  pub all_of_rest : (starts : Bool) (us after : List Unit) → All P us → (starts ≡ false → All P after) →
+  all_of_rest : (starts : Bool) (us after : List Unit) → All P us → All P after →
       All P (if starts then through_slices us ++ filter (λ u. not (is_left_out u)) (after_slices us) else after)
   all_of_rest true us after h k =
       All-append P (through_slices us) _ (all_through_slices us h) (All-filter (λ u. not (is_left_out u)) P (after_slices us) (all_after_slices us h))
-  all_of_rest false us after h k = k refl
+  all_of_rest false us after h k = k
 
-  pub all_rest : (after : List Unit) → All P after → All P (rest_of_piece after)
-  all_rest after h = all_of_rest (list_any is_start after) (take_while (λ u. not (is_start u)) after) after (all_taken P (λ u. not (is_start u)) after h) (λ _. h)
+  pub all_front : (before : List Unit) → All P before → All P (front before)
+  all_front before h = All-append P (sets_in_force before) _ (all_sets before h) (All-filter leads P (after_slices before) (all_after_slices before h))
 
-  pub all_from_parts : (before rest : List Unit) (u : Unit) → All P before → P u → All P rest →
-      All P (sets_in_force before ++ filter leads (after_slices before) ++ u ∷ rest)
-  all_from_parts before rest u h p k =
-      All-append P (sets_in_force before ++ filter leads (after_slices before)) (u ∷ rest)
-      (All-append P (sets_in_force before) (filter leads (after_slices before))
-      (all_sets before h) (All-filter leads P (after_slices before) (all_after_slices before h)))
-      (All-cons P u rest p k)
+  all_of_piece : (before after : List Unit) (u : Unit) → All P before → P u → All P after → All P (piece before u after)
+  all_of_piece before after u h p k =
+      All-append P (front before) (u ∷ rest_of_piece after) (all_front before h)
+      (All-cons P u (rest_of_piece after) p (all_of_rest (list_any is_start after) (take_while goes_before after) after (all_taken P goes_before after k) k))
 
-  pub all_of_piece : (before after : List Unit) (u : Unit) → All P before → P u → All P after → All P (piece before u after)
-  all_of_piece before after u h p k = all_from_parts before (rest_of_piece after) u h p (all_rest after k)
+  added : (starts : Bool) (p : List Unit) (others : List (List Unit)) → All P p → All (All P) others →
+      All (All P) (elim starts [ true ↦ p ∷ others | false ↦ others ])
+  added true p others h k = All-cons (All P) p others h k
+  added false p others h k = k
 
--- ---- lists whose elements are changed, and tests that agree
+  -- each unit of the pieces is one of the stream
+  all_units_of : (before after : List Unit) → All P before → All P after → All (All P) (piece_units before after)
+  all_units_of before [] h k = All-nil (All P)
+  all_units_of before (u ∷ after) h k =
+      let p = All-head P u after k in
+      let behind = All-tail P u after k in
+      added (is_start u) (piece before u after) (piece_units (before ++ u ∷ []) after) (all_of_piece before after u h p behind)
+      (all_units_of (before ++ u ∷ []) after (All-push P before u h p) behind)
 
-reverse-map : {X Y : Type 0} (f : X → Y) (xs : List X) → reverse (map f xs) ≡ map f (reverse xs)
-reverse-map f [] = refl
-reverse-map f (x ∷ xs) =
-    reverse-append (f x ∷ []) (map f xs) ∙ ap (λ t. t ++ f x ∷ []) (reverse-map f xs)
-    ∙ sym (map-append f (reverse xs) (x ∷ [])) ∙ ap (map f) (sym (reverse-append (x ∷ []) xs))
+-- ---- units that a lower limit leaves as they are
 
-module _ {X Y : Type 0} (f : X → Y) (p : Y → Bool) (q : X → Bool) where
-  abbrev Agree : X → Type 0
-  Agree x = p (f x) ≡ q x
+-- The unit is not refused by itself, whatever stands before it.
+pub record IsAccepted (u : Unit) : Type 0 where
+  pub bit : forbidden_zero_bit u.header ≡ false
+  pub set : set_fault (kind u) (rbsp_of u) ≡ None
 
-  take_while-map : (xs : List X) → All Agree xs → take_while p (map f xs) ≡ map f (take_while q xs)
-  take_while-map [] h = refl
-  take_while-map (x ∷ xs) h =
-      let here = All-head Agree x xs h in
-      let later = take_while-map xs (All-tail Agree x xs h) in
-      rw (take_while-cons p, take_while-cons q) (grind (arith, here, later))
+abbrev pub cut : (max : ℕ) → List Unit → List Unit
+cut max us = map (unit_within max) us
 
-  filter-map : (xs : List X) → All Agree xs → filter p (map f xs) ≡ map f (filter q xs)
-  filter-map [] h = refl
-  filter-map (x ∷ xs) h =
-      let here = All-head Agree x xs h in
-      let later = filter-map xs (All-tail Agree x xs h) in
-      grind (arith, here, later)
+-- So is what a lower limit leaves of it.
+abbrev pub IsAcceptedWithin : (max : ℕ) → Unit → Type 0
+IsAcceptedWithin max u = IsAccepted (unit_within max u)
 
-  list_any-map : (xs : List X) → All Agree xs → list_any p (map f xs) ≡ list_any q xs
-  list_any-map [] h = refl
-  list_any-map (x ∷ xs) h = ap₂ (λ b c. b || c) (All-head Agree x xs h) (list_any-map xs (All-tail Agree x xs h))
+-- Decoding can start with it if its bytes say so: it is not too long.
+abbrev pub IsWholeStart : Unit → Type 0
+IsWholeStart u = (nal_unit_type u.header == 5) ≡ true → IsTrue (is_some u.body)
 
-flat_map-map : {X Y N : Type 0} (f : X → Y) (g : N → List Y) (h : N → List X) → ((n : N) → g n ≡ map f (h n)) → (ns : List N) →
-    flat_map g ns ≡ map f (flat_map h ns)
-flat_map-map f g h same [] = refl
-flat_map-map f g h same (n ∷ ns) =
-    ap₂ (λ a b. a ++ b) (same n) (flat_map-map f g h same ns) ∙ sym (map-append f (h n) (flat_map h ns))
+abbrev rbsp_in : Option (List ℕ) → Option (List ℕ)
+rbsp_in o = elim o [ Some body ↦ Some (rbsp body) | None ↦ None ]
 
-last-map : {X Y : Type 0} (f : X → Y) (xs : List X) → last (map f xs) ≡ option_map f (last xs)
-last-map f [] = refl
-last-map f (x ∷ []) = refl
-last-map f (x ∷ y ∷ xs) = last-map f (y ∷ xs)
+abbrev body_if : Bool → List ℕ → Option (List ℕ)
+body_if short body = elim short [ true ↦ Some body | false ↦ None ]
 
--- ---- a lower limit of a unit's bytes
+set_of_short : (k : Kind) (short : Bool) (body : List ℕ) → set_fault k (rbsp_in (body_if short body)) ≡ None →
+    set_of k (rbsp_in (body_if short body)) ≡ set_of k (Some (rbsp body))
+set_of_short k true body h = refl
+set_of_short sps false body h = (cc)
+set_of_short pps false body h = (cc)
+set_of_short _ false body h = refl
 
--- it makes no difference to whether decoding can start with the unit
-abbrev pub SameStart : (max : ℕ) → Unit → Type 0
-SameStart max u = is_start (unit_within max u) ≡ is_start u
+set_of_within : (max : ℕ) (k : Kind) (o : Option (List ℕ)) → set_fault k (rbsp_in (body_within max o)) ≡ None →
+    set_of k (rbsp_in (body_within max o)) ≡ set_of k (rbsp_in o)
+set_of_within max k None h = refl
+set_of_within max k (Some body) h = set_of_short k (nat_le (1 + length body) max) body h
 
--- nor to the parameter set that the unit brings
-abbrev pub SameSet : (max : ℕ) → Unit → Type 0
-SameSet max u = set_unit (unit_within max u) ≡ set_unit u
+pub same_set : (max : ℕ) (u : Unit) → IsAcceptedWithin max u → set_unit (unit_within max u) ≡ set_unit u
+same_set max u a = ap (λ s. if forbidden_zero_bit u.header then None else s) (set_of_within max (kind u) u.body a.set)
 
-module _ (max : ℕ) where
-  abbrev cut : List Unit → List Unit
-  cut us = map (unit_within max) us
+pub same_sets : (max : ℕ) (us : List Unit) → All (IsAcceptedWithin max) us → set_units (cut max us) ≡ set_units us
+same_sets max [] h = refl
+same_sets max (u ∷ us) h =
+    ap₂ (λ s t. list_of s ++ t) (same_set max u (All-head (IsAcceptedWithin max) u us h)) (same_sets max us (All-tail (IsAcceptedWithin max) u us h))
 
-  abbrev is_other : Unit → Bool
-  is_other u = not (is_slice u)
+-- whether decoding can start with a unit, by its header's bits and its bytes
+abbrev starts_in : Option (List ℕ) → Bool
+starts_in o = elim o [ None ↦ false | Some bytes ↦ reads_zero (ue (start bytes)) ]
 
-  abbrev stays : Unit → Bool
-  stays u = not (is_left_out u)
+short_is_same : (short : Bool) (body : List ℕ) → IsTrue (is_some (body_if short body)) → body_if short body ≡ Some body
+short_is_same short body h = grind arith
 
-  after_slices-cut : (us : List Unit) → after_slices (cut us) ≡ cut (after_slices us)
-  after_slices-cut us =
-      ap (λ r. reverse (take_while is_other r)) (reverse-map (unit_within max) us)
-      ∙ ap reverse (take_while-map (unit_within max) is_other is_other (reverse us) (λ k d within. refl))
-      ∙ reverse-map (unit_within max) (take_while is_other (reverse us))
+within_is_same : (max : ℕ) (o : Option (List ℕ)) → IsTrue (is_some (body_within max o)) → body_within max o ≡ o
+within_is_same max None h = refl
+within_is_same max (Some body) h = short_is_same (nat_le (1 + length body) max) body h
 
-  through_slices-cut : (us : List Unit) → through_slices (cut us) ≡ cut (through_slices us)
-  through_slices-cut us =
-      let count = length (after_slices us) in
-      ap (λ n. reverse (drop n (reverse (cut us)))) (ap length (after_slices-cut us) ∙ length-map (after_slices us) (unit_within max))
-      ∙ ap (λ r. reverse (drop count r)) (reverse-map (unit_within max) us)
-      ∙ ap reverse (drop-map (unit_within max) count (reverse us))
-      ∙ reverse-map (unit_within max) (drop count (reverse us))
+same_start_by : (bit five : Bool) (max : ℕ) (o : Option (List ℕ)) → (five ≡ true → IsTrue (is_some (body_within max o))) →
+    (not bit && five && starts_in (rbsp_in (body_within max o))) ≡ (not bit && five && starts_in (rbsp_in o))
+same_start_by bit true max o h = ap (λ b. not bit && true && starts_in (rbsp_in b)) (within_is_same max o (h refl))
+same_start_by true false max o h = refl
+same_start_by false false max o h = refl
 
-  rest_if-cut : (starts : Bool) (us after : List Unit) →
-      (if starts then through_slices (cut us) ++ filter stays (after_slices (cut us)) else cut after)
-      ≡ cut (if starts then through_slices us ++ filter stays (after_slices us) else after)
-  rest_if-cut true us after =
-      ap₂ (λ a b. a ++ filter stays b) (through_slices-cut us) (after_slices-cut us)
-      ∙ ap (λ b. cut (through_slices us) ++ b) (filter-map (unit_within max) stays stays (after_slices us) (λ k d within. refl))
-      ∙ sym (map-append (unit_within max) (through_slices us) (filter stays (after_slices us)))
-  rest_if-cut false us after = refl
+pub same_start : (max : ℕ) (u : Unit) → IsWholeStart (unit_within max u) → is_start (unit_within max u) ≡ is_start u
+same_start max u h = same_start_by (forbidden_zero_bit u.header) (nal_unit_type u.header == 5) max u.body h
 
-  rest-cut : (after : List Unit) → All (SameStart max) after → rest_of_piece (cut after) ≡ cut (rest_of_piece after)
-  rest-cut after same =
-      let before_start : take_while (λ u. not (is_start u)) (cut after) ≡ cut (take_while (λ u. not (is_start u)) after) =
-      take_while-map (unit_within max) (λ u. not (is_start u)) (λ u. not (is_start u)) after (λ k d within. ap not (same k d within)) in
-      ap₂ (λ b us. if b then through_slices us ++ filter stays (after_slices us) else cut after)
-      (list_any-map (unit_within max) is_start is_start after same) before_start
-      ∙ rest_if-cut (list_any is_start after) (take_while (λ u. not (is_start u)) after) after
+no_start_if : (bit five short : Bool) (body : List ℕ) → (not bit && five && starts_in (Some (rbsp body))) ≡ false →
+    (not bit && five && starts_in (rbsp_in (body_if short body))) ≡ false
+no_start_if bit five true body h = h
+no_start_if bit five false body h = grind arith
 
-  set_units-cut : (us : List Unit) → All (SameSet max) us → set_units (cut us) ≡ set_units us
-  set_units-cut [] same = refl
-  set_units-cut (u ∷ us) same =
-      ap₂ (λ s t. list_of s ++ t) (All-head (SameSet max) u us same) (set_units-cut us (All-tail (SameSet max) u us same))
+no_start_within : (bit five : Bool) (max : ℕ) (o : Option (List ℕ)) → (not bit && five && starts_in (rbsp_in o)) ≡ false →
+    (not bit && five && starts_in (rbsp_in (body_within max o))) ≡ false
+no_start_within bit five max None h = h
+no_start_within bit five max (Some body) h = no_start_if bit five (nat_le (1 + length body) max) body h
 
-  unit_list-cut : (o : Option Unit) → unit_list (option_map (unit_within max) o) ≡ cut (unit_list o)
-  unit_list-cut None = refl
-  unit_list-cut (Some u) = refl
+-- a unit with which decoding can't start doesn't become one
+pub no_start : (max : ℕ) (u : Unit) → is_start u ≡ false → is_start (unit_within max u) ≡ false
+no_start max u h = no_start_within (forbidden_zero_bit u.header) (nal_unit_type u.header == 5) max u.body h
 
-  deciding-cut : (in_force : Bool) (test : SetUnit → Bool) (us : List Unit) → All (SameSet max) us →
-      deciding_unit in_force test (cut us) ≡ cut (deciding_unit in_force test us)
-  deciding-cut false test us same = refl
-  deciding-cut true test us same =
-      let passes : Unit → Bool = λ u. satisfies test (set_unit u) in
-      ap (λ l. unit_list (last l)) (filter-map (unit_within max) passes passes us (λ k d within. ap (satisfies test) (same k d within)))
-      ∙ ap unit_list (last-map (unit_within max) (filter passes us)) ∙ unit_list-cut (last (filter passes us))
+-- Where decoding waits, the unit gives nothing, and decoding still waits.
+pub record IsSilent (u : Unit) : Type 0 where
+  pub accepted : IsAccepted u
+  pub no_start : is_start u ≡ false
 
-  sets-cut : (us : List Unit) → All (SameSet max) us → sets_in_force (cut us) ≡ cut (sets_in_force us)
-  sets-cut us same =
-      let all = set_units-cut us same in
-      ap₂ (λ a b. a ++ b)
-      (flat_map-map (unit_within max) (sps_unit (cut us)) (sps_unit us)
-      (λ id. ap (λ s. deciding_unit (is_some (sps_in_force s id)) (is_sps id) (cut us)) all ∙ deciding-cut (is_some (sps_in_force (set_units us) id)) (is_sps id) us same) (range_with_len 0 32))
-      (flat_map-map (unit_within max) (pps_unit (cut us)) (pps_unit us)
-      (λ id. ap (λ s. deciding_unit (is_some (pps_in_force s id)) (is_pps id) (cut us)) all ∙ deciding-cut (is_some (pps_in_force (set_units us) id)) (is_pps id) us same) (range_with_len 0 256))
-      ∙ sym (map-append (unit_within max) (flat_map (sps_unit us) (range_with_len 0 32)) _)
+abbrev pub IsSilentWithin : (max : ℕ) → Unit → Type 0
+IsSilentWithin max u = IsSilent (unit_within max u)
 
-  piece-cut : (before after : List Unit) (u : Unit) → All (SameSet max) before → All (SameStart max) after →
-      piece (cut before) (unit_within max u) (cut after) ≡ cut (piece before u after)
-  piece-cut before after u sets starts =
-      let leading = filter leads (after_slices before) in
-      let leading-cut : filter leads (after_slices (cut before)) ≡ cut leading =
-      ap (filter leads) (after_slices-cut before) ∙ filter-map (unit_within max) leads leads (after_slices before) (λ k d within. refl) in
-      ap₂ (λ a b. a ++ b ++ unit_within max u ∷ rest_of_piece (cut after)) (sets-cut before sets) leading-cut
-      ∙ ap (λ r. cut (sets_in_force before) ++ cut leading ++ unit_within max u ∷ r) (rest-cut after starts)
-      ∙ ap (λ t. t ++ cut (u ∷ rest_of_piece after)) (sym (map-append (unit_within max) (sets_in_force before) leading))
-      ∙ sym (map-append (unit_within max) (sets_in_force before ++ leading) (u ∷ rest_of_piece after))
+pub neither : (a b : Bool) → (a || b) ≡ false → (a ≡ false) × (b ≡ false)
+neither a b h = grind arith
 
-  pub piece_units-cut : (before after : List Unit) → All (SameSet max) before → All (SameSet max) after → All (SameStart max) after →
-      piece_units (cut before) (cut after) ≡ map (map (unit_within max)) (piece_units before after)
-  piece_units-cut before [] sets more starts = refl
-  piece_units-cut before (u ∷ after) sets more starts =
-      let starts_after = All-tail (SameStart max) u after starts in
-      let sets_too = All-push (SameSet max) before u sets (All-head (SameSet max) u after more) in
-      let others : piece_units (cut before ++ unit_within max u ∷ []) (cut after) ≡ map (map (unit_within max)) (piece_units (before ++ u ∷ []) after) =
-      ap (λ b. piece_units b (cut after)) (sym (map-append (unit_within max) before (u ∷ [])))
-      ∙ piece_units-cut (before ++ u ∷ []) after sets_too (All-tail (SameSet max) u after more) starts_after in
-      ap₂ (λ b t. elim b [ true ↦ piece (cut before) (unit_within max u) (cut after) ∷ t | false ↦ t ]) (All-head (SameStart max) u after starts) others
-      ∙ ap (λ p. elim (is_start u) [ true ↦ p ∷ map (map (unit_within max)) (piece_units (before ++ u ∷ []) after) | false ↦ map (map (unit_within max)) (piece_units (before ++ u ∷ []) after) ])
-      (piece-cut before after u sets starts_after)
-      ∙ made_if (map (unit_within max)) (is_start u) (piece before u after) (piece_units (before ++ u ∷ []) after)
+-- ---- the bytes of the pieces
+
+-- one of a whole stream's units
+abbrev pub IsOf : List ℕ → Unit → Type 0
+IsOf bytes u = IsUnitOf (length bytes) bytes u
+
+says_cut : (max : ℕ) (us : List Unit) → map contents (cut max us) ≡ map (contents_within max) us
+says_cut max [] = refl
+says_cut max (u ∷ us) = ap (λ t. contents_within max u ∷ t) (says_cut max us)
+
+-- What is written of such units has them.
+pub read_back : WrittenUnitsStandAlone → (max : ℕ) (bytes : List ℕ) (us : List Unit) → All (IsOf bytes) us →
+    map contents (cut max us) ≡ map contents (units max (flat_map written us) true)
+read_back alone max bytes us h = says_cut max us ∙ sym (alone (length bytes) max bytes us h)
+
+pub pieces_of_stream : UnitsAreWhole → (bytes : List ℕ) → All (All (IsOf bytes)) (piece_units [] (units (length bytes) bytes true))
+pieces_of_stream are_whole bytes =
+    let us = units (length bytes) bytes true in
+    all_units_of (IsOf bytes) [] us (All-nil (IsOf bytes)) (λ k d within. record {
+      place = k;
+      is_there = slice_get-get_or us k d within;
+      short = are_whole (length bytes) bytes true (omega arith) k d within;
+    })

@@ -1,20 +1,19 @@
--- The units whose parameter sets are in force, after one unit more.
-use Rattle.std.proofs.Common.{◌≡◌, ◌+◌, ◌<◌, ℕ, suc, Bool, true, false, List, [], ◌∷◌, ◌++◌, length, Option, Some, None, is_some, Result, Ok, Err, if◌then◌else◌, refl, ap, sym, subst, ◌∙◌, arith, append-nil, take, get_or}
-use Rattle.avc_tools.proofs.Common.{replicate, eq-eqb, filter-append, flat_map-append, get_or-replicate, length-replicate, take_more}
-use Rattle.avc_tools.proofs.Common.{option_map, filter, flat_map, range_with_len, Fault, Unit, Bits, Read, ◌>>=◌, start}
-use Rattle.avc_tools.proofs.Common.{ue_to, accepted, is_id, is_pps, is_sps, last, pps_in_force, pps_record, sps_in_force, sps_record, Pps}
-use Rattle.avc_tools.proofs.Common.{SetUnit, Sps, kind, list_of, pps, set_unit, set_units, sps, written, deciding_unit, satisfies}
-use Rattle.avc_tools.proofs.Common.{sets_in_force, unit_list, AreKept, AreReplaced, HasSets, kept_bytes, pps_unit, replaced, sps_unit}
-use Rattle.avc_tools.proofs.Common.{SetsInForce}
-use Rattle.std.proofs.Math.Bool.{cond}
+-- The units whose parameter sets are in force, after one unit more; and pieces, one after the other.
+pub use Rattle.avc_tools.proofs.Common.{◌≡◌, ◌+◌, ◌<◌, ℕ, suc, Bool, true, false, List, [], ◌∷◌, ◌++◌, length, Option, Some, None, is_some, Result, Ok, Err}
+pub use Rattle.avc_tools.proofs.Common.{if◌then◌else◌, refl, ap, sym, subst, ◌∙◌, arith, append-nil, take, get_or, replicate, eq-eqb, filter-append}
+pub use Rattle.avc_tools.proofs.Common.{flat_map-append, get_or-replicate, length-replicate, take_more, option_map, filter, flat_map, range_with_len, Fault}
+pub use Rattle.avc_tools.proofs.Common.{Unit, Bits, Read, ◌>>=◌, start, ue_to, accepted, is_id, is_pps, is_sps, last, pps_in_force, pps_record, sps_in_force}
+pub use Rattle.avc_tools.proofs.Common.{sps_record, Pps, SetUnit, Sps, list_of, pps, set_unit, set_units, sps, written, deciding_unit, satisfies, sets_in_force}
+pub use Rattle.avc_tools.proofs.Common.{unit_list, AreKept, AreReplaced, HasSets, kept_bytes, pps_unit, replaced, sps_unit, SetsInForce, cond, pps_id, sps_id}
+pub use Rattle.avc_tools.proofs.Common.{OfPps, OfSps, set_units-append, ◌-◌, map, drop, append_assoc, drop-map, drop_more, length-map, is_start, piece_at}
+pub use Rattle.avc_tools.proofs.Common.{piece_in, pieces_at, pieces_in, after_slices, leads, piece, pieces_from, rest_of_piece, through_slices}
 use Rattle.avc_params.specs.PpsReading.{pps_after}
-use Rattle.avc_params.specs.Reading.{pps_id, pps_of, read_value, sps_id, sps_of, whole}
+use Rattle.avc_params.specs.Reading.{pps_of, read_value, sps_of, whole}
 use Rattle.avc_params.specs.SpsReading.{identity, sps_after}
 use Rattle.avc_params.specs.Stored.{stored}
 use Rattle.avc_params.specs.Within.{PpsInForceKeepsLimits, SpsInForceKeepsLimits}
 use Rattle.avc_params.specs.declared.set_fault.SetFault.{SetFault}
-use Rattle.avc_params.specs.declared.set_unit.SetUnit.TheVariants.{OfPps, OfSps}
-use Rattle.avc_units.proofs.Deciding.{set_units-append}
+pub use Rattle.avc_tools.proofs.Stages.{after_is_rest, part_from}
 
 -- ---- ids
 
@@ -176,3 +175,62 @@ sets_written before sets h =
     ap (λ w. w ++ flat_map kept_bytes sets.pps.items) (all_written (sps_unit before) 32 sets.sps.items h.sps)
     ∙ ap (λ w. flat_map written (flat_map (sps_unit before) (range_with_len 0 32)) ++ w) (all_written (pps_unit before) 256 sets.pps.items h.pps)
     ∙ sym (flat_map-append written (flat_map (sps_unit before) (range_with_len 0 32)) (flat_map (pps_unit before) (range_with_len 0 256)))
+
+-- ---- pieces, one after the other
+
+-- the five parts
+joined : (sets leading : List Unit) (u : Unit) (rest : List Unit)
+    → ((flat_map written sets ++ flat_map written leading) ++ written u) ++ flat_map written rest ≡ flat_map written (sets ++ leading ++ u ∷ rest)
+joined sets leading u rest = rw (flat_map-append written (sets ++ leading), flat_map-append written sets) (append_assoc _ (written u) (flat_map written rest))
+
+pub piece_written : (us : List Unit) (place k : ℕ) (u : Unit) (sets : SetsInForce) (s0 s1 s2 s3 s4 s5 : List ℕ) → place < length us → u ≡ get_or us place u → HasSets (take place us) sets
+    → k ≡ length (through_slices (take place us)) → s0 ≡ []
+    → s1 ≡ s0 ++ flat_map kept_bytes sets.sps.items → s2 ≡ s1 ++ flat_map kept_bytes sets.pps.items
+    → s3 ≡ s2 ++ flat_map written (filter leads (take (length (take place us) - k) (drop k (take place us)))) → s4 ≡ s3 ++ written u
+    → s5 ≡ s4 ++ flat_map written (rest_of_piece (take (length us - (place + 1)) (drop (place + 1) us)))
+    → s5 ≡ piece_at us place
+piece_written us place k u sets s0 s1 s2 s3 s4 s5 low at h is_k e0 e1 e2 e3 e4 e5 =
+    let before = take place us in
+    let after = drop (place + 1) us in
+    let leading = filter leads (after_slices before) in
+    let kept : take (length before - k) (drop k before) ≡ after_slices before =
+    part_from k before ∙ ap (λ n. drop n before) is_k ∙ sym (after_is_rest before) in
+    let two : s2 ≡ flat_map written (sets_in_force before) =
+    e2 ∙ ap (λ w. w ++ flat_map kept_bytes sets.pps.items) (e1 ∙ ap (λ w. w ++ flat_map kept_bytes sets.sps.items) e0) ∙ sets_written before sets h in
+    let three : s3 ≡ flat_map written (sets_in_force before) ++ flat_map written leading =
+    e3 ∙ ap (λ w. w ++ flat_map written (filter leads (take (length before - k) (drop k before)))) two
+    ∙ ap (λ l. flat_map written (sets_in_force before) ++ flat_map written (filter leads l)) kept in
+    let five : s5 ≡ flat_map written (piece before u after) =
+    e5 ∙ ap (λ w. w ++ flat_map written (rest_of_piece (take (length us - (place + 1)) after))) (e4 ∙ ap (λ w. w ++ written u) three)
+    ∙ ap (λ l. ((flat_map written (sets_in_force before) ++ flat_map written leading) ++ written u) ++ flat_map written (rest_of_piece l)) (part_from (place + 1) us)
+    ∙ joined (sets_in_force before) leading u (rest_of_piece after) in
+    five ∙ ap (piece_in before) (sym (drop_more us place u low ∙ ap (λ v. v ∷ after) (sym at)))
+
+-- ---- one place more
+
+by_start : {X : Type 0} (starts : Bool) (x : X) (others : List X) → elim starts [ true ↦ x ∷ others | false ↦ others ] ≡ elim starts [ true ↦ x ∷ [] | false ↦ [] ] ++ others
+by_start true x others = refl
+by_start false x others = refl
+
+pieces_first : (before : List Unit) (u : Unit) (after : List Unit) → pieces_from before (u ∷ after) ≡ pieces_in before (u ∷ after) ++ pieces_from (before ++ u ∷ []) after
+pieces_first before u after = by_start (is_start u) (flat_map written (piece before u after)) (pieces_from (before ++ u ∷ []) after)
+
+pub pieces_more : (us : List Unit) (i : ℕ) (u : Unit) (all more : List (List ℕ)) → i < length us → u ≡ get_or us i u → all ++ pieces_from (take i us) (drop i us) ≡ pieces_from [] us
+    → more ≡ all ++ pieces_at us i → more ++ pieces_from (take (i + 1) us) (drop (i + 1) us) ≡ pieces_from [] us
+pieces_more us i u all more low at sum is =
+    let here : drop i us ≡ u ∷ drop (i + 1) us = drop_more us i u low ∙ ap (λ v. v ∷ drop (i + 1) us) (sym at) in
+    let front : take (i + 1) us ≡ take i us ++ u ∷ [] = take_more us i u low ∙ ap (λ y. take i us ++ y ∷ []) (sym at) in
+    rw (is, front, append_assoc, here) (rw (here, pieces_first (take i us) u (drop (i + 1) us)) at sum)
+
+one_piece : (before here : List Unit) (starts : List Bool) (b : Bool) → b ∷ starts ≡ map is_start here → pieces_in before here ≡ elim b [ true ↦ piece_in before here ∷ [] | false ↦ [] ]
+one_piece before [] starts b e = cc
+one_piece before (u ∷ after) starts b e =
+    let same : b ≡ is_start u = cc in
+    ap (λ s. elim s [ true ↦ flat_map written (piece before u after) ∷ [] | false ↦ [] ]) (sym same)
+
+pub piece_if : (us : List Unit) (place : ℕ) (starts : List Bool) (b : Bool) → place < length us → b ≡ get_or starts place false → starts ≡ map is_start us
+    → pieces_at us place ≡ elim b [ true ↦ piece_at us place ∷ [] | false ↦ [] ]
+piece_if us place starts b low at is =
+    let long : place < length starts = omega (arith, low, ap length is ∙ length-map us is_start) in
+    one_piece (take place us) (drop place us) (drop (place + 1) starts) b
+    (ap (λ v. v ∷ drop (place + 1) starts) at ∙ sym (drop_more starts place false long) ∙ ap (drop place) is ∙ drop-map is_start place us)

@@ -1,15 +1,13 @@
 -- Headers, one line after the other.
-use Rattle.std.proofs.Common.{◌≡◌, ◌^◌, ◌≤◌, ℕ, Bool, false, List, [], ◌∷◌, ◌++◌, length, Option, Some, None, Ok, Err, refl, ap, sym, ◌∙◌, arith, append_assoc, append-nil, length-append}
-use Rattle.avc_tools.proofs.Common.{UnitsStay, SplitterState, units, Unit, Sets, sets_after, SetUnit}
-use Rattle.avc_tools.proofs.Common.{rbsp_of, set_units, slice_in, with_header, AreShown, header_lines_under, OnlyGrows}
-use Rattle.avc_tools.proofs.Common.{after_units_left, units_left, header_line, header_lines_from, header_lines_so_far}
-use Rattle.avc_tools.proofs.Common.{header_text, slice_text}
-use Rattle.avc_types.specs.declared.fault.Fault.TheVariants as faults
-use Rattle.avc_slice.specs.declared.header.Header.{Header}
-use Rattle.avc_slice.specs.Reading.{header_in_rbsp}
+pub use Rattle.avc_tools.proofs.Common.{◌≡◌, ◌^◌, ◌≤◌, ℕ, Bool, false, List, [], ◌∷◌, ◌++◌, length, refl, ap, sym, ◌∙◌, arith, append_assoc, append-nil}
+pub use Rattle.avc_tools.proofs.Common.{length-append, UnitsStay, SplitterState, units, Unit, sets_after, SetUnit, set_units, AreShown, header_lines_under}
+pub use Rattle.avc_tools.proofs.Common.{OnlyGrows, after_units_left, units_left, header_line, header_lines_from, header_lines_so_far, max_unit, decimal}
+pub use Rattle.avc_tools.proofs.Common.{newline, pps_fields, pps_flags, pps_identity, slice_fields, slice_picture, slice_place, sps_frames, sps_identity}
+pub use Rattle.avc_tools.proofs.Common.{sps_size, units_waiting, string_bytes, true, after_feed, after_finish}
 pub use Rattle.avc_units.proofs.Deciding.{set_units-append, sets_then}
-use Rattle.avc_tools.proofs.Growing.{AreLeft, drained}
+pub use Rattle.avc_tools.proofs.Growing.{AreLeft, drained, left_by_feed, left_by_finish}
 use Rattle.avc_tools.proofs.Lengths.{whole_units}
+pub use Rattle.avc_tools.proofs.Draining.{IsDraining, all_taken, one_more}
 
 under-append : (sets : List SetUnit) (us vs : List Unit) → header_lines_under sets (us ++ vs) ≡ header_lines_under sets us ++ header_lines_under (sets ++ set_units us) vs
 under-append sets [] vs = rw (append-nil sets) refl
@@ -72,15 +70,6 @@ pub header_lines_grow : UnitsStay → OnlyGrows header_lines_so_far
 header_lines_grow stay bytes more ended short =
     let later = stay (2 ^ 64) bytes more ended in
     (_, lines_behind (2 ^ 64) (bytes ++ more) bytes ended false later.0 (omega (arith, short)) (omega (arith, short, length-append bytes more)) later.1)
-
--- the text of a slice's unit, by what its header reads as
-abbrev header_by : Sets → Unit → Option (List ℕ) → List ℕ
-header_by sets u read = header_text sets (elim read [ None ↦ Err faults.NalTooLong | Some bytes ↦ with_header u bytes (header_in_rbsp u.header sets bytes) ])
-
-pub header_read : (sets : Sets) (u : Unit) (bytes : List ℕ) (h : Header) → rbsp_of u ≡ Some bytes → Ok h ≡ header_in_rbsp u.header sets bytes
-    → slice_text sets h ≡ header_text sets (slice_in sets u)
-header_read sets u bytes h read is =
-    ap (λ r. header_text sets (with_header u bytes r)) is ∙ ap (header_by sets u) (sym read)
 
 -- a line of three parts, with a number in front and its end
 pub line_put : (old index a b c last s1 s2 s3 s4 s5 : List ℕ) → s1 ≡ old ++ index → s2 ≡ s1 ++ a → s3 ≡ s2 ++ b → s4 ≡ s3 ++ c → s5 ≡ s4 ++ last

@@ -116,7 +116,8 @@ impl Cutter {
         ensures phase { OnOk result (self.new.phase ≡ phases.Writing) }
         ensures held { OnOk result (self.new.held.items ≡ []) }
         ensures staying { OnOk result (self.new.staying.items ≡ []) }
-        ensures piece { OnOk result ((before : List Piece) → StandsAt (waiting 0 before) self.old → piece.new.items ≡ piece.old.items ++ made before unit.now []) }
+        ensures piece { OnOk result ((before : List Piece) → StandsAt (waiting 0 before) self.old
+            → piece.new.items ≡ piece.old.items ++ made before unit.now []) }
     {
         write_kept(piece, &self.sets.sps)?;
         write_kept(piece, &self.sets.pps)?;

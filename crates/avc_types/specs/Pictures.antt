@@ -18,7 +18,7 @@ pub record Frame : Type 0 where
   pub samples : Samples
 
 -- What the samples of a slice's macroblocks depend on, beside the macroblocks (7.4.3).
-pub record SliceFacts : Type 0 where
+pub record SliceInfo : Type 0 where
   pub is_p : Bool
   -- RefPicList0; no frame where an entry is empty
   pub references : List (Option Frame)
@@ -41,5 +41,5 @@ pub record Coded : Type 0 where
   pub height : ℕ
   pub chroma_qp_index_offset : ℤ
   pub constrained_intra_pred : Bool
-  pub slices : List SliceFacts
+  pub slices : List SliceInfo
   pub mbs : List PicMb

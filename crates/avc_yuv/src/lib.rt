@@ -15,6 +15,3 @@ pub use copy::{copy_i420, copy_plane, i420_len, plane_columns, plane_len};
 pub use fault::WriteFault;
 pub use window::Window;
 pub use write::write_i420;
-
-#[cfg(test)]
-mod tests;

@@ -1,8 +1,8 @@
 use Rattle.avc_deblock.proofs.Common.{◌≡◌, ◌∙◌, ℕ, ◌+◌, ◌-◌, ◌*◌, length, w8, to_z, of_z, arith, refl, sym, ap, subst, range_with_len}
-use Rattle.avc_deblock.proofs.Common.{flat_map, to_z-of_z, planes_of, HaveFacts}
+use Rattle.avc_deblock.proofs.Common.{flat_map, to_z-of_z, planes_of, HaveInfo}
 use Rattle.avc_deblock.specs.Edges.{all_filtered, mb_lines, row_lines}
-use Rattle.avc_deblock.proofs.Macroblocks.{one_row_more, part_facts, rows_are_all}
-use Rattle.avc_deblock.proofs.PictureFacts.{row_is}
+use Rattle.avc_deblock.proofs.Macroblocks.{one_row_more, part_info, rows_are_all}
+use Rattle.avc_deblock.proofs.PictureInfo.{row_is}
 use Rattle.avc_deblock.proofs.filter.picture.Goals as goal
 
 pub row-requires : goal.row-requires
@@ -20,7 +20,7 @@ loop-y-preserved g c = record {
   room = λ column row h. c.row.ensures.room column row (c.loop-y.invariant.room column row h);
   lines = λ coded motion names width offset have.
       let y = c.loop-y.y in
-      let facts = c.args.facts.now in
+      let info = c.args.info.now in
       let w = c.args.width in
       one_row_more coded motion y (y + 1) (planes_of c.args.planes.now) (planes_of c.loop-y.planes) (planes_of c.row.new.planes) refl
       (c.loop-y.invariant.lines coded motion names width offset have)
@@ -30,12 +30,12 @@ loop-y-preserved g c = record {
         width_is = width ∙ sym c.row_of.ensures.long;
         same = c.row_of-above.ensures.long ∙ sym c.row_of.ensures.long;
         offset_is = offset;
-        facts_are =
-            (part_facts coded motion names facts c.row_of.result.now w y c.args.height width c.requires.all c.loop-y-test.true c.row_of.ensures.long c.row_of.ensures.value have);
+        info_are =
+            (part_info coded motion names info c.row_of.result.now w y c.args.height width c.requires.all c.loop-y-test.true c.row_of.ensures.long c.row_of.ensures.value have);
         above_are = (λ some.
             let before : c.max.result - 1 ≡ y - 1 = omega (arith, c.max.ensures, some) in
-            subst (λ (r : ℕ). HaveFacts coded motion names (r * coded.width) c.row_of-above.result.now) before
-            (part_facts coded motion names facts c.row_of-above.result.now w (c.max.result - 1) c.args.height width c.requires.all (omega (arith, before, c.loop-y-test.true)) c.row_of-above.ensures.long c.row_of-above.ensures.value have));
+            subst (λ (r : ℕ). HaveInfo coded motion names (r * coded.width) c.row_of-above.result.now) before
+            (part_info coded motion names info c.row_of-above.result.now w (c.max.result - 1) c.args.height width c.requires.all (omega (arith, before, c.loop-y-test.true)) c.row_of-above.ensures.long c.row_of-above.ensures.value have));
       }));
 }
 

@@ -1,5 +1,5 @@
 use Rattle.avc_deblock.proofs.Common.{◌≡◌, ◌∙◌, ℕ, suc, ◌+◌, ◌-◌, ℤ, w8, to_z, of_z, arith, refl, ap, slice_index_or, get_or_default}
-use Rattle.avc_deblock.proofs.Common.{planes_of, Planes, MbFacts, mb_by_facts, row_by_facts, no_facts}
+use Rattle.avc_deblock.proofs.Common.{planes_of, Planes, MbInfo, mb_by_info, row_by_info, no_info}
 use Rattle.avc_deblock.proofs.filter.row.Goals as goal
 
 pub macroblock-requires : goal.macroblock-requires
@@ -15,9 +15,9 @@ macroblock-requires g c =
       ),
     )
 
--- the same facts, by any number for the place and any default
-same_mb : (offset other : ℤ) (column row : ℕ) (l l' u u' f f' : MbFacts) (s t r : Planes) → other ≡ offset → l ≡ l' → u ≡ u' → f ≡ f' → t ≡ r →
-    s ≡ mb_by_facts other column row l u f t → s ≡ mb_by_facts offset column row l' u' f' r
+-- the same info, by any number for the place and any default
+same_mb : (offset other : ℤ) (column row : ℕ) (l l' u u' f f' : MbInfo) (s t r : Planes) → other ≡ offset → l ≡ l' → u ≡ u' → f ≡ f' → t ≡ r →
+    s ≡ mb_by_info other column row l u f t → s ≡ mb_by_info offset column row l' u' f' r
 same_mb offset other column row l l' u u' f f' s t r e el eu ef et is = is ∙ rw (e, el, eu, ef, et)
 
 pub loop-column-preserved : goal.loop-column-preserved
@@ -26,11 +26,11 @@ loop-column-preserved g c = record {
   lines =
       let n = c.loop-column.column in
       let above = c.args.above.now in
-      let facts = c.args.facts.now in
+      let info = c.args.info.now in
       let back : c.max.result - 1 ≡ n - 1 = omega (arith, c.max.ensures) in
       let next : suc n ≡ n + 1 = omega arith in
       same_mb (to_z w8 (of_z w8 c.args.chroma_qp_index_offset)) (to_z w8 (of_z w8 c.args.chroma_qp_index_offset)) n c.args.row _ _ _ _ _ _ (planes_of c.macroblock.new.planes) _ _ refl
-      (get_or_default facts (c.max.result - 1) _ no_facts (omega (arith, back)) ∙ ap (λ (k : ℕ). slice_index_or facts k no_facts) back)
-      (get_or_default above n _ no_facts (omega (arith, c.requires.same))) (get_or_default facts n _ no_facts (omega arith)) c.loop-column.invariant.lines c.macroblock.ensures.lines
-      ∙ ap (λ (k : ℕ). row_by_facts (to_z w8 (of_z w8 c.args.chroma_qp_index_offset)) c.args.row above facts k (planes_of c.args.planes.now)) next;
+      (get_or_default info (c.max.result - 1) _ no_info (omega (arith, back)) ∙ ap (λ (k : ℕ). slice_index_or info k no_info) back)
+      (get_or_default above n _ no_info (omega (arith, c.requires.same))) (get_or_default info n _ no_info (omega arith)) c.loop-column.invariant.lines c.macroblock.ensures.lines
+      ∙ ap (λ (k : ℕ). row_by_info (to_z w8 (of_z w8 c.args.chroma_qp_index_offset)) c.args.row above info k (planes_of c.args.planes.now)) next;
 }

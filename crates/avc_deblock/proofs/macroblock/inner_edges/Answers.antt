@@ -1,4 +1,4 @@
-use Rattle.avc_deblock.proofs.Common.{◌∙◌, ℕ, Bool, arith, sym, ap, if◌then◌else◌, planes_of, Planes, edge_by_facts}
+use Rattle.avc_deblock.proofs.Common.{◌∙◌, ℕ, Bool, arith, sym, ap, if◌then◌else◌, planes_of, Planes, edge_by_info}
 use Rattle.avc_deblock.proofs.macroblock.inner_edges.Goals as goal
 
 pub edge_between-requires-then-filters : goal.edge_between-requires-then-filters
@@ -20,7 +20,7 @@ returns-then-filters-clause-lines g c =
     let s = planes_of c.args.planes.now in
     let place = c.args.place in
     let q = c.args.q.now in
-    let next : ℕ → Planes → Planes = λ (n : ℕ) (t : Planes). edge_by_facts c.args.is_vertical place.column place.row n place.chroma_qp_index_offset q q t in
+    let next : ℕ → Planes → Planes = λ (n : ℕ) (t : Planes). edge_by_info c.args.is_vertical place.column place.row n place.chroma_qp_index_offset q q t in
     c.edge_between-then-filters-2.ensures.lines
     ∙ ap (next 3) (c.edge_between-then-filters.ensures.lines ∙ ap (next 2) c.edge_between.ensures.lines)
     ∙ ap (λ (b : Bool). if b then next 3 (next 2 (next 1 s)) else s) (sym c.if-filters.true)

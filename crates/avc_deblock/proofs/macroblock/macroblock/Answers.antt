@@ -1,6 +1,6 @@
 use Rattle.avc_deblock.proofs.Common.{◌≡◌, ◌∙◌, ◌≤◌, Bool, true, false, arith, refl, ap, ◌&&◌, not, Planes, planes_of, filters_between}
-use Rattle.avc_deblock.proofs.Common.{edges_by_facts}
-use Rattle.avc_deblock.proofs.PictureFacts.{some}
+use Rattle.avc_deblock.proofs.Common.{edges_by_info}
+use Rattle.avc_deblock.proofs.PictureInfo.{some}
 use Rattle.avc_deblock.proofs.StillEdges.{mb_kept}
 use Rattle.avc_deblock.proofs.macroblock.macroblock.Goals as goal
 
@@ -48,8 +48,8 @@ returns-clause-lines g c =
     let l = c.reaches-from_left.result in
     let u = c.reaches-from_above.result in
     c.inner_edges.ensures.lines
-    ∙ ap (edges_by_facts false column row e false i mb mb)
-    (c.outer_edge.ensures.lines ∙ ap (edges_by_facts false column row e u false above mb) c.all_vertical.ensures.lines)
+    ∙ ap (edges_by_info false column row e false i mb mb)
+    (c.outer_edge.ensures.lines ∙ ap (edges_by_info false column row e u false above mb) c.all_vertical.ensures.lines)
     ∙ mb_kept column row e left above mb c.is_still.result i l u
     c.is_still.ensures.inter c.is_still.ensures.strengths
     (c.both-inner.ensures ∙ ap (λ (b : Bool). b && not c.is_still.result) c.filters_edge_to.ensures)

@@ -1,4 +1,4 @@
-use Rattle.avc_deblock.specs.ByFacts.{chroma_qp_of}
+use Rattle.avc_deblock.specs.ByInfo.{chroma_qp_of}
 use Rattle.avc_deblock.proofs.VerticalEdges.{both_chroma}
 use Rattle.avc_deblock.proofs.vertical_edges.chroma_edges.Goals as goal
 

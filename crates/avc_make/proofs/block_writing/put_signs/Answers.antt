@@ -1,6 +1,5 @@
-use Rattle.avc_make.proofs.Common.{◌≡◌, ◌+◌, ◌∷◌, pos, drop, to_z, of_z, w16, ap, ◌∙◌, sym, arith, append_assoc, int_lt, ints, length-map}
-use Rattle.avc_make.proofs.Common.{sign_bits, values_of}
-use Rattle.avc_make.proofs.BlockPutting.{sign_at}
+use Rattle.avc_make.proofs.Slices.{◌≡◌, ◌+◌, ◌∷◌, pos, drop, to_z, of_z, w16, ap, ◌∙◌, sym, arith, append_assoc, int_lt, ints, length-map, sign_bits, values_of}
+use Rattle.avc_make.proofs.Slices.{sign_at}
 use Rattle.avc_make.proofs.block_writing.put_signs.Goals as goal
 
 pub ones-preserved : goal.ones-preserved

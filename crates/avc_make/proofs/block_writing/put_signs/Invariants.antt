@@ -1,4 +1,4 @@
-use Rattle.avc_make.proofs.Common.{◌≡◌, ◌++◌, drop, false, sign_bits, values_of}
+use Rattle.avc_make.proofs.Slices.{◌≡◌, ◌++◌, drop, false, sign_bits, values_of}
 use Rattle.avc_make.proofs.block_writing.put_signs.Given as goal
 
 -- what was put and the signs that are left are all

@@ -1,6 +1,4 @@
-use Rattle.avc_make.proofs.Common.{◌≡◌, ℤ, pos, ◌<ℤ◌, ◌≤◌, w8, to_z, of_z, subst, sym, arith, ints, token, token_word, word_bits}
-use Rattle.avc_make.proofs.Common.{token_whole}
-use Rattle.avc_make.proofs.BlockPutting.{is_some_given}
+use Rattle.avc_make.proofs.Slices.{◌≡◌, ℤ, pos, ◌<ℤ◌, ◌≤◌, w8, to_z, of_z, subst, sym, arith, ints, token, token_word, word_bits, token_whole, is_some_given}
 use Rattle.avc_make.proofs.block_writing.put_token.Goals as goal
 
 pub put_word-requires : goal.put_word-requires

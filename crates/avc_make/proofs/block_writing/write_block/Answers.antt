@@ -1,5 +1,4 @@
-use Rattle.avc_make.proofs.Common.{◌≡◌, ◌≤◌, ◌<ℤ◌, ℤ, pos, w8, to_z, of_z, subst, sym, arith, append_assoc, ints, nat_abs, values_of, All}
-use Rattle.avc_make.proofs.BlockPutting.{coded_some}
+use Rattle.avc_make.proofs.Slices.{pair, ◌≡◌, ◌≤◌, ◌<ℤ◌, ℤ, pos, w8, to_z, of_z, subst, sym, arith, append_assoc, ints, nat_abs, values_of, All, coded_some}
 use Rattle.avc_make.proofs.block_writing.write_block.Goals as goal
 
 pub put_token-requires-clause-chroma_dc : goal.put_token-requires-clause-chroma_dc
@@ -23,20 +22,7 @@ put_runs-requires-clause-few g c = omega (arith, c.of-found.ensures.size, c.zero
 
 pub returns : goal.returns
 returns g c =
-    let nc : to_z w8 (of_z w8 c.args.nc) ≡ c.args.nc = omega (arith, ints, c.ranges.nc.sfits) in (
-      c.in_ok-put_token.ensures.0,
-      rw (
-        c.in_ok-put_runs.ensures.1,
-        c.in_ok-put_zeros.ensures.1,
-        c.in_ok-put_levels.ensures.1,
-        c.in_ok-put_signs.ensures.1,
-        c.in_ok-put_token.ensures.1,
-        nc,
-        c.zeros-zeros.ensures,
-        c.trailing_ones-ones.ensures.value,
-        c.len.ensures.value,
-        c.len-2.ensures.value,
-        c.of-found.ensures.value,
-        c.as_array.ensures,
-      ) (simp append_assoc),
-    )
+    let nc : to_z w8 (of_z w8 c.args.nc) ≡ c.args.nc = omega (arith, ints, c.ranges.nc.sfits) in
+    pair c.in_ok-put_token.ensures.0 (rw (c.in_ok-put_runs.ensures.1, c.in_ok-put_zeros.ensures.1, c.in_ok-put_levels.ensures.1, c.in_ok-put_signs.ensures.1)
+    (rw (c.in_ok-put_token.ensures.1, nc, c.zeros-zeros.ensures, c.trailing_ones-ones.ensures.value, c.len.ensures.value, c.len-2.ensures.value)
+    (rw (c.of-found.ensures.value, c.as_array.ensures) (simp append_assoc))))

@@ -1,5 +1,4 @@
-use Rattle.avc_make.proofs.Common.{◌≡◌, ◌+◌, ◌-◌, suc, ap, append_assoc, arith, reader_bits}
-use Rattle.avc_make.proofs.UnitsBack.{bit_read}
+use Rattle.avc_make.proofs.Slices.{◌≡◌, ◌+◌, ◌-◌, suc, ap, append_assoc, arith, reader_bits, bit_read}
 use Rattle.avc_make.proofs.cut.put_first.Goals as goal
 
 pub bits-preserved : goal.bits-preserved

@@ -1,4 +1,4 @@
-use Rattle.avc_make.proofs.Common.{◌≡◌, ◌++◌, ◌-◌, take, false, bits_before_stop, reader_bits}
+use Rattle.avc_make.proofs.Slices.{◌≡◌, ◌++◌, ◌-◌, take, false, bits_before_stop, reader_bits}
 use Rattle.avc_make.proofs.cut.put_first.Given as goal
 
 -- what was put and what is left to put are all

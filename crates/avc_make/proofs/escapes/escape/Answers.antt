@@ -1,5 +1,4 @@
-use Rattle.avc_make.specs.Escaping.{escaped}
-use Rattle.avc_make.proofs.Removing.{escaped_all, escaped_more}
+use Rattle.avc_make.proofs.Slices.{escaped, escaped_all, escaped_more}
 use Rattle.avc_make.proofs.escapes.escape.Goals as goal
 
 pub loop-byte-preserved : goal.loop-byte-preserved

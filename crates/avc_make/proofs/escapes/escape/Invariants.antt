@@ -1,4 +1,4 @@
-use Rattle.avc_make.proofs.Common.{◌≡◌, ◌≤◌, ◌++◌, drop, escaped, escaped_after}
+use Rattle.avc_make.proofs.Slices.{◌≡◌, ◌≤◌, ◌++◌, drop, escaped, escaped_after}
 use Rattle.avc_make.proofs.escapes.escape.Given as goal
 
 -- what was written and what is still to come are all

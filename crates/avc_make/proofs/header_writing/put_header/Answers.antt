@@ -1,4 +1,4 @@
-use Rattle.avc_make.proofs.HeaderBack.{modifications_small, weights_small}
+use Rattle.avc_make.proofs.Slices.{modifications_small, weights_small}
 use Rattle.avc_make.proofs.header_writing.put_header.Goals as goal
 
 pub put_list-requires-clause-list : goal.put_list-requires-clause-list

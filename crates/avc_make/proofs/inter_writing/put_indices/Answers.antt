@@ -1,5 +1,4 @@
-use Rattle.avc_make.proofs.Common.{append_assoc, ap, drop_of_length-le, drop_more}
-use Rattle.avc_make.proofs.Putting.{put_all}
+use Rattle.avc_make.proofs.Slices.{append_assoc, ap, drop_of_length-le, drop_more, put_all}
 use Rattle.avc_make.proofs.inter_writing.put_indices.Goals as goal
 
 pub loop-index-preserved : goal.loop-index-preserved

@@ -1,4 +1,4 @@
-use Rattle.avc_make.proofs.Common.{◌≡◌, ◌≤◌, ◌<◌, ◌++◌, drop, false, flat_map, Each, te_word}
+use Rattle.avc_make.proofs.Slices.{◌≡◌, ◌≤◌, ◌<◌, ◌++◌, drop, false, flat_map, Each, te_word}
 use Rattle.avc_make.proofs.inter_writing.put_indices.Given as goal
 
 -- what was put and the indices that are left are all

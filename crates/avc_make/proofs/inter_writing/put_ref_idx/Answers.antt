@@ -1,10 +1,10 @@
-use Rattle.avc_make.proofs.Common.{ℕ, ◌-◌, ◌<◌, ◌≤◌, take, ◌∙◌, sym, subst, arith, partitions, has_ref_idx, Each}
+use Rattle.avc_make.proofs.Slices.{ℕ, ◌-◌, ◌<◌, ◌≤◌, take, ◌∙◌, sym, subst, arith, partitions, has_ref_idx, Each}
 use Rattle.avc_make.proofs.inter_writing.put_ref_idx.Goals as goal
 
 pub put_indices-requires : goal.put_indices-requires
 put_indices-requires c =
     let t = c.args.mb_type.now in
-    let active = c.args.active_count in
+    let active = c.args.num_ref_idx_active in
     let is = sym c.has_ref_idx.ensures.value ∙ c.if-has_ref_idx.true in
     let ranges = rw is at c.requires.ranges in
     record {

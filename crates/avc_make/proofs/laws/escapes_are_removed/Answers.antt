@@ -1,5 +1,4 @@
-use Rattle.std.proofs.Common.{arith}
-use Rattle.avc_make.proofs.Removing.{no_start, removed}
+use Rattle.avc_make.proofs.Slices.{arith, no_start, removed}
 use Rattle.avc_make.proofs.laws.escapes_are_removed.Goals as goal
 
 pub returns : goal.returns

@@ -1,4 +1,4 @@
-use Rattle.avc_make.proofs.HeaderBack.{header_unit_is_read}
+use Rattle.avc_make.proofs.Slices.{header_unit_is_read}
 use Rattle.avc_make.proofs.laws.header_is_read.Goals as goal
 
 pub returns : goal.returns

@@ -1,4 +1,4 @@
-use Rattle.avc_make.proofs.PpsBack.{pps_unit_is_read}
+use Rattle.avc_make.proofs.Slices.{pps_unit_is_read}
 use Rattle.avc_make.proofs.laws.pps_is_read.Goals as goal
 
 pub returns : goal.returns

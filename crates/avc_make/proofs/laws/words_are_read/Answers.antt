@@ -1,4 +1,4 @@
-use Rattle.avc_make.proofs.ReadingBack.{back-flag, back-se, back-te, back-u, back-ue, reads_back}
+use Rattle.avc_make.proofs.Slices.{back-flag, back-se, back-te, back-u, back-ue, reads_back}
 use Rattle.avc_make.proofs.laws.words_are_read.Goals as goal
 
 pub returns : goal.returns

@@ -1,5 +1,4 @@
-use Rattle.std.proofs.Common.{append_assoc, arith}
-use Rattle.avc_make.proofs.LevelWords.{level_word, prefix_is}
+use Rattle.avc_make.proofs.Slices.{append_assoc, arith, level_word, prefix_is}
 use Rattle.avc_make.proofs.level_writing.put_level.Goals as goal
 
 pub level_code-requires-clause-prefix : goal.level_code-requires-clause-prefix

@@ -1,4 +1,4 @@
-use Rattle.avc_make.proofs.Common.{◌≡◌, ◌≤◌, ◌++◌, drop, length, false, IsTrue, nat_lt, AreCodes, first_length, levels_bits, values_of}
+use Rattle.avc_make.proofs.Slices.{◌≡◌, ◌≤◌, ◌++◌, drop, length, false, IsTrue, nat_lt, AreCodes, first_length, levels_bits, values_of}
 use Rattle.avc_make.proofs.level_writing.put_levels.Given as goal
 
 -- what was put and the levels that are left are all

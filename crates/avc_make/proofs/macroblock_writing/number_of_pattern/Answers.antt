@@ -1,5 +1,4 @@
-use Rattle.std.proofs.Common.{◌+◌, drop, arith}
-use Rattle.avc_make.proofs.PatternNumbers.{drop_at, number_few, number_is_place, place_behind, place_here, table_of}
+use Rattle.avc_make.proofs.Slices.{◌+◌, drop, arith, drop_at, number_below, number_is_place, place_behind, place_here, table_of}
 use Rattle.avc_make.proofs.macroblock_writing.number_of_pattern.Goals as goal
 
 pub numbers-init : goal.numbers-init
@@ -18,4 +17,4 @@ numbers-preserved c =
     record { place = omega (arith, behind, c.numbers.invariant.place) }
 
 pub returns-clause-value : goal.returns-clause-value
-returns-clause-value c = omega (arith, c.numbers.invariant.place, number_few c.args.intra c.args.pattern c.requires)
+returns-clause-value c = omega (arith, c.numbers.invariant.place, (number_below c.args.intra c.args.pattern c.requires).small)

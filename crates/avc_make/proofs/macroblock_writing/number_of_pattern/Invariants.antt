@@ -1,5 +1,4 @@
-use Rattle.avc_make.proofs.Common.{◌≡◌, ◌+◌, drop, pattern_number, place_of}
-use Rattle.avc_make.proofs.PatternNumbers.{table_of}
+use Rattle.avc_make.proofs.Slices.{◌≡◌, ◌+◌, drop, pattern_number, place_of, table_of}
 use Rattle.avc_make.proofs.macroblock_writing.number_of_pattern.Given as goal
 
 -- those that were passed, and its place among the others

@@ -1,4 +1,4 @@
-use Rattle.std.proofs.Common.{append_assoc, length-append}
+use Rattle.avc_make.proofs.Slices.{append_assoc, length-append}
 use Rattle.avc_make.proofs.macroblock_writing.put_i_pcm.Goals as goal
 
 pub returns : goal.returns

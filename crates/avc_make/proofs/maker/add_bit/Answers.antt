@@ -1,5 +1,4 @@
-use Rattle.avc_make.proofs.Common.{◌≡◌, ◌-◌, ◌∷◌, ◌++◌, [], suc, arith, IsFilled}
-use Rattle.avc_make.proofs.Filling.{filled_length, filled_more}
+use Rattle.avc_make.proofs.Slices.{◌≡◌, ◌-◌, ◌∷◌, ◌++◌, [], suc, arith, IsFilled, filled_length, filled_more}
 use Rattle.avc_make.proofs.maker.add_bit.Goals as goal
 
 pub returns-in-None : goal.returns-in-None

@@ -1,5 +1,4 @@
-use Rattle.std.proofs.Common.{arith}
-use Rattle.avc_make.proofs.Filling.{set_bit}
+use Rattle.avc_make.proofs.Slices.{arith, set_bit}
 use Rattle.avc_make.proofs.maker.with_bit.Goals as goal
 
 pub returns-then-bit : goal.returns-then-bit

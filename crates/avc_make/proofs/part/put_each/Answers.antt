@@ -1,6 +1,4 @@
-use Rattle.avc_make.proofs.Common.{ap, append_assoc, drop_of_length-le}
-use Rattle.avc_make.proofs.BlockPutting.{at_place}
-use Rattle.avc_make.proofs.Putting.{put_all}
+use Rattle.avc_make.proofs.Slices.{ap, append_assoc, drop_of_length-le, at_place, put_all}
 use Rattle.avc_make.proofs.part.put_each.Goals as goal
 
 pub loop-part-preserved : goal.loop-part-preserved

@@ -1,4 +1,4 @@
-use Rattle.avc_make.proofs.Common.{◌≡◌, ◌++◌, drop, false, flat_map, Each}
+use Rattle.avc_make.proofs.Slices.{◌≡◌, ◌++◌, drop, false, flat_map, Each}
 use Rattle.avc_make.proofs.part.put_each.Given as goal
 
 -- what was put and the parts that are left are all

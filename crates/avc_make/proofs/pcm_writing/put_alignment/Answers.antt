@@ -1,5 +1,4 @@
-use Rattle.avc_make.proofs.Common.{◌-◌, ◌%◌, ◌≡◌, ap, ◌∙◌, length, with_bits}
-use Rattle.avc_make.proofs.Putting.{zeros_put}
+use Rattle.avc_make.proofs.Slices.{◌-◌, ◌%◌, ◌≡◌, ap, ◌∙◌, length, with_bits, zeros_put}
 use Rattle.avc_make.proofs.pcm_writing.put_alignment.Goals as goal
 
 pub returns : goal.returns

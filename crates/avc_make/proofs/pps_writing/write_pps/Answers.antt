@@ -1,4 +1,4 @@
-use Rattle.avc_make.proofs.PpsBack.{pps_unit_is_read}
+use Rattle.avc_make.proofs.Slices.{pps_unit_is_read}
 use Rattle.avc_make.proofs.pps_writing.write_pps.Goals as goal
 
 pub returns-clause-read : goal.returns-clause-read

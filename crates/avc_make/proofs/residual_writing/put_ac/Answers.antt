@@ -1,5 +1,4 @@
-use Rattle.std.proofs.Common.{◌≡◌, length, arith, rules}
-use Rattle.avc_make.proofs.ResidualPutting.{block_here, block_put, blocks_put}
+use Rattle.avc_make.proofs.Slices.{◌≡◌, length, arith, rules, block_here, block_put, blocks_put}
 use Rattle.avc_make.proofs.residual_writing.put_ac.Goals as goal
 
 pub put_block_where-requires : goal.put_block_where-requires

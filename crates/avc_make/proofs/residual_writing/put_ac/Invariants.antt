@@ -1,5 +1,4 @@
-use Rattle.avc_make.proofs.Common.{◌==◌, option_copied}
-use Rattle.avc_make.proofs.ResidualPutting.{ArePut}
+use Rattle.avc_make.proofs.Slices.{◌==◌, option_copied, ArePut}
 use Rattle.avc_make.proofs.residual_writing.put_ac.Given as goal
 
 abbrev pub invariant-each : goal.invariant-each

@@ -1,5 +1,6 @@
-use Rattle.avc_make.proofs.Common.{ap, ◌∙◌, option_copied, cb_side, ac_words}
-use Rattle.avc_make.proofs.ResidualPutting.{puts_same}
+use Rattle.avc_make.proofs.Slices.{ap, ◌∙◌, option_copied, puts_same}
+use Rattle.avc_mbsyntax.specs.Reading.{cb_side}
+use Rattle.avc_make.specs.MbWriting.{ac_words}
 use Rattle.avc_make.proofs.residual_writing.put_cb_ac.Goals as goal
 
 pub returns : goal.returns

@@ -1,5 +1,5 @@
-use Rattle.avc_make.proofs.Common.{[], ap, ◌∙◌, range_with_len, option_copied, is_coded, luma_side, blocks_bits}
-use Rattle.avc_make.proofs.ResidualPutting.{puts_same}
+use Rattle.avc_make.proofs.Slices.{[], ap, ◌∙◌, range_with_len, option_copied, is_coded, blocks_bits, puts_same}
+use Rattle.avc_mbsyntax.specs.Reading.{luma_side}
 use Rattle.avc_make.proofs.residual_writing.put_luma.Goals as goal
 
 pub returns : goal.returns

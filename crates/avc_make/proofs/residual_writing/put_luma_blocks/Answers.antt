@@ -1,5 +1,4 @@
-use Rattle.avc_make.proofs.Common.{◌≡◌, length, arith, rules, get_or, sym, subst, IsBlock}
-use Rattle.avc_make.proofs.ResidualPutting.{block_here, block_put, blocks_put}
+use Rattle.avc_make.proofs.Slices.{◌≡◌, length, arith, rules, get_or, sym, subst, IsBlock, block_here, block_put, blocks_put}
 use Rattle.avc_make.proofs.residual_writing.put_luma_blocks.Goals as goal
 
 pub put_block_where-requires : goal.put_block_where-requires

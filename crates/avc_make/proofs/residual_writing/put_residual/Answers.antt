@@ -1,4 +1,4 @@
-use Rattle.std.proofs.Common.{append_assoc}
+use Rattle.avc_make.proofs.Slices.{append_assoc}
 use Rattle.avc_make.proofs.residual_writing.put_residual.Goals as goal
 
 pub returns : goal.returns

@@ -1,5 +1,4 @@
-use Rattle.avc_make.proofs.Common.{arith, run_word, word_bits, run_whole}
-use Rattle.avc_make.proofs.BlockPutting.{is_some_given}
+use Rattle.avc_make.proofs.Slices.{arith, run_word, word_bits, run_whole, is_some_given}
 use Rattle.avc_make.proofs.run_writing.put_run.Goals as goal
 
 pub put_word-requires : goal.put_word-requires

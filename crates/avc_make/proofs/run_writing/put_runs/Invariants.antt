@@ -1,4 +1,4 @@
-use Rattle.avc_make.proofs.Common.{◌≡◌, ◌++◌, ◌+◌, ◌≤◌, drop, length, false, sum, runs_bits, runs_of}
+use Rattle.avc_make.proofs.Slices.{◌≡◌, ◌++◌, ◌+◌, ◌≤◌, drop, length, false, sum, runs_bits, runs_of}
 use Rattle.avc_make.proofs.run_writing.put_runs.Given as goal
 
 -- what was put and the runs that are left are all

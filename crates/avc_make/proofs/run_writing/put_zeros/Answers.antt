@@ -1,5 +1,4 @@
-use Rattle.avc_make.proofs.Common.{eqb, arith, word_bits, zeros_word}
-use Rattle.avc_make.proofs.BlockPutting.{is_some_given, zeros_there}
+use Rattle.avc_make.proofs.Slices.{eqb, arith, word_bits, zeros_word, is_some_given, zeros_there}
 use Rattle.avc_make.proofs.run_writing.put_zeros.Goals as goal
 
 pub put_word-requires : goal.put_word-requires

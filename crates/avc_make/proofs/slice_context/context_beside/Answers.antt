@@ -1,5 +1,4 @@
-use Rattle.avc_make.proofs.Common.{ap, ◌∙◌, option_map}
-use Rattle.avc_make.proofs.SlicePutting.{context_told}
+use Rattle.avc_make.proofs.Slices.{ap, ◌∙◌, option_map, context_told}
 use Rattle.avc_make.proofs.slice_context.context_beside.Goals as goal
 
 pub returns : goal.returns

@@ -1,4 +1,4 @@
-use Rattle.avc_make.proofs.Common.{◌≡◌, length, take, map, total_coeff}
+use Rattle.avc_make.proofs.Slices.{◌≡◌, length, take, map, total_coeff}
 use Rattle.avc_make.proofs.slice_context.total_coeffs.Given as goal
 
 abbrev pub invariant-blocks-2 : goal.invariant-blocks-2

@@ -1,5 +1,4 @@
-use Rattle.avc_make.proofs.Common.{append_assoc, length-append, syntax_of}
-use Rattle.avc_make.proofs.SliceDataBack.{ranges_of}
+use Rattle.avc_make.proofs.Slices.{append_assoc, length-append, syntax_of, ranges_of}
 use Rattle.avc_make.proofs.slice_writing.put_coded.Goals as goal
 
 pub write_macroblock-requires-clause-ranges : goal.write_macroblock-requires-clause-ranges

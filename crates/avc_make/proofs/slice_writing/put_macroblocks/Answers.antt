@@ -1,5 +1,5 @@
-use Rattle.avc_make.proofs.Common.{◌≡◌, [], drop, refl, ap, ◌∙◌, sym, subst, drop_of_length-le, syntax_of, own_start}
-use Rattle.avc_make.proofs.SlicePutting.{IsAt, before_of, is_at, put_end, put_next, put_none, stands_at}
+use Rattle.avc_make.proofs.Slices.{◌≡◌, [], drop, refl, ap, ◌∙◌, sym, subst, drop_of_length-le, syntax_of, own_start, IsAt, before_of, is_at, put_end, put_next}
+use Rattle.avc_make.proofs.Slices.{put_none, stands_at}
 use Rattle.avc_make.proofs.slice_writing.put_macroblocks.Goals as goal
 
 pub each-init : goal.each-init
@@ -24,8 +24,8 @@ each-preserved c =
     let here = subst (λ l. IsAt l i m) c.as_slice-mb-items.ensures (is_at items i m c.each-test.true c.mb-item.is) in
     let beside = c.context_beside-context.ensures (own_start slice) (before_of slice i) c.first_context-first.ensures.own c.each.invariant.told in
     let syntax = ap (λ v. v.syntax) c.mb.view_is in
-    let told = c.put_facts.ensures (own_start slice) (before_of slice i) m refl (sym syntax) c.each.invariant.told in
-    put_next slice c.args.maker.now c.each.maker c.put_macroblock.new.maker i c.each.row c.put_facts.new.row c.each.qp c.mb.inside.qp c.each.run c.run_after-run.result m c.context_beside-context.result (syntax_of c.mb.inside.syntax)
+    let told = c.put_info.ensures (own_start slice) (before_of slice i) m refl (sym syntax) c.each.invariant.told in
+    put_next slice c.args.maker.now c.each.maker c.put_macroblock.new.maker i c.each.row c.put_info.new.row c.each.qp c.mb.inside.qp c.each.run c.run_after-run.result m c.context_beside-context.result (syntax_of c.mb.inside.syntax)
     c.each.invariant here beside syntax c.in_ok-put_macroblock.ensures.1 told c.run_after-run.ensures.value c.run_after-run.ensures.few (ap (λ v. v.qp) c.mb.view_is)
 
 pub returns : goal.returns

@@ -1,4 +1,4 @@
-use Rattle.avc_make.proofs.SlicePutting.{IsPut}
+use Rattle.avc_make.proofs.Slices.{IsPut}
 use Rattle.avc_make.proofs.slice_writing.put_macroblocks.Given as goal
 
 abbrev pub invariant-each : goal.invariant-each

@@ -1,5 +1,4 @@
-use Rattle.avc_make.proofs.CodedSliceBack.{coded_slice_back}
-use Rattle.avc_make.proofs.SlicePutting.{unit_put}
+use Rattle.avc_make.proofs.Slices.{coded_slice_back, unit_put}
 use Rattle.avc_make.proofs.slice_writing.write_slice.Goals as goal
 
 pub returns : goal.returns

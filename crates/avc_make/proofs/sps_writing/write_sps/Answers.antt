@@ -1,4 +1,4 @@
-use Rattle.avc_make.proofs.SpsBack.{sps_unit_is_read}
+use Rattle.avc_make.proofs.Slices.{sps_unit_is_read}
 use Rattle.avc_make.proofs.sps_writing.write_sps.Goals as goal
 
 pub returns-clause-read : goal.returns-clause-read

@@ -1,11 +1,11 @@
 use Rattle.avc_neigh.proofs.Common.{◌≡◌, ◌<◌, ◌∙◌, [], Option, None, get_or, length, take, refl, sym, ap, arith, length-set, ℕ}
-use Rattle.avc_neigh.proofs.Common.{get_or_default, facts_of, chosen_mode, absent}
+use Rattle.avc_neigh.proofs.Common.{get_or_default, info_of, chosen_mode, absent}
 use Rattle.avc_neigh.proofs.NearModes.{modes_end, modes_more, modes_near, modes_step, prediction_near, same_modes, small_mode}
 use Rattle.avc_neigh.proofs.modes.intra4x4_modes.Goals as goal
 
 pub returns-clause-modes : goal.returns-clause-modes
 returns-clause-modes c = λ p known a constrained near.
-    let n = facts_of c.args.neighbours.now in
+    let n = info_of c.args.neighbours.now in
     sym (
     same_modes n p known a near [] c.args.coded.now (omega (arith, c.told-coded))
     ∙ ap (λ b. modes_near n b [] c.args.coded.now) constrained
@@ -18,7 +18,7 @@ returns-clause-within c = λ a b k d h.
 
 pub loop-k-preserved : goal.loop-k-preserved
 loop-k-preserved c =
-    let n = facts_of c.args.neighbours.now in
+    let n = info_of c.args.neighbours.now in
     let x : Option ℕ = get_or c.args.coded.now c.loop-k.k None in
     let below : c.loop-k.k < 16 = c.loop-k-test.true in
     let many : c.loop-k.k < length c.args.coded.now = omega (arith, c.told-coded) in

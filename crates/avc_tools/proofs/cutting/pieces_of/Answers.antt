@@ -1,6 +1,4 @@
-use Rattle.avc_tools.proofs.Common.{◌++◌, [], ap, pieces_from}
-use Rattle.avc_tools.proofs.PieceWriting.{pieces_more}
-use Rattle.avc_tools.proofs.SetsInForce.{sets_next, sets_none}
+use Rattle.avc_tools.proofs.SetsInForce.{◌++◌, [], ap, pieces_from, pieces_more, sets_next, sets_none}
 use Rattle.avc_tools.proofs.cutting.pieces_of.Goals as goal
 
 pub loop-place-init : goal.loop-place-init

@@ -1,5 +1,4 @@
-use Rattle.avc_tools.proofs.Common.{decimal, newline, pps_fields, pps_flags, pps_identity}
-use Rattle.avc_tools.proofs.Shown.{line_put}
+use Rattle.avc_tools.proofs.Shown.{decimal, newline, pps_fields, pps_flags, pps_identity, line_put}
 use Rattle.avc_tools.proofs.headers.add_pps_line.Goals as goal
 
 pub returns : goal.returns

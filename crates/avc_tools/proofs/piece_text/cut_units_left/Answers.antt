@@ -1,6 +1,5 @@
-use Rattle.avc_tools.specs.Streams.{max_unit}
+use Rattle.avc_tools.proofs.Taking.{max_unit, cut_more, cut_none}
 use Rattle.avc_tools.proofs.Draining.{all_taken, begun, one_more}
-use Rattle.avc_tools.proofs.PieceTexts.{cut_more, cut_none}
 use Rattle.avc_tools.proofs.piece_text.cut_units_left.Goals as goal
 
 pub loop-unit-init : goal.loop-unit-init

@@ -1,6 +1,4 @@
-use Rattle.avc_tools.proofs.Common.{units_waiting, max_unit}
-use Rattle.avc_tools.proofs.Draining.{IsDraining}
-use Rattle.avc_tools.proofs.PieceTexts.{IsCutFrom}
+use Rattle.avc_tools.proofs.Taking.{units_waiting, max_unit, IsDraining, IsCutFrom}
 use Rattle.avc_tools.proofs.piece_text.cut_units_left.Given as goal
 
 abbrev pub invariant-loop-unit : goal.invariant-loop-unit

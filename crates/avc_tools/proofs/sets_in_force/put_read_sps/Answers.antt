@@ -1,8 +1,6 @@
-use Rattle.avc_tools.proofs.Common.{true, false, Some, is_some, ap, sym, ◌∙◌, accepted, is_id, is_sps, start, sps_record}
 use Rattle.avc_params.specs.SpsReading.{sps as sps_part}
-use Rattle.avc_params.specs.Reading.{sps_id}
-use Rattle.avc_params.specs.declared.set_unit.SetUnit.TheVariants.{OfSps}
-use Rattle.avc_tools.proofs.SetsInForce.{put_by, refused_id, sps_id_is}
+use Rattle.avc_tools.proofs.SetsInForce.{true, false, Some, is_some, ap, sym, ◌∙◌, accepted, is_id, is_sps, start, sps_record, sps_id, OfSps, put_by}
+use Rattle.avc_tools.proofs.SetsInForce.{refused_id, sps_id_is}
 use Rattle.avc_tools.proofs.sets_in_force.put_read_sps.Goals as goal
 
 pub returns-in-Ok : goal.returns-in-Ok

@@ -1,6 +1,5 @@
-use Rattle.avc_tools.proofs.Common.{◌≡◌, true, ◌++◌, ◌∷◌, [], ap, sym, subst, arith, refl, ◌∙◌, after_feed, after_finish, max_unit}
-use Rattle.avc_tools.proofs.Draining.{IsDraining, all_taken, begun, one_more, whole_stream}
-use Rattle.avc_tools.proofs.Lengths.{whole_units}
+use Rattle.avc_tools.proofs.Draining.{◌≡◌, true, ◌++◌, ◌∷◌, [], ap, sym, subst, arith, refl, ◌∙◌, after_feed, after_finish, max_unit, IsDraining, all_taken}
+use Rattle.avc_tools.proofs.Draining.{begun, one_more, whole_stream, whole_units}
 use Rattle.avc_tools.proofs.units.all_units.Goals as goal
 
 pub loop-unit-init : goal.loop-unit-init

@@ -1,5 +1,4 @@
-use Rattle.avc_tools.proofs.Common.{◌≡◌, units_waiting, max_unit}
-use Rattle.avc_tools.proofs.Draining.{IsDraining, whole_stream}
+use Rattle.avc_tools.proofs.Draining.{◌≡◌, units_waiting, max_unit, IsDraining, whole_stream}
 use Rattle.avc_tools.proofs.units.all_units.Given as goal
 
 abbrev pub invariant-loop-unit : goal.invariant-loop-unit

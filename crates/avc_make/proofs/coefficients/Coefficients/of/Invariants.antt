@@ -1,4 +1,4 @@
-use Rattle.avc_make.proofs.Common.{◌≡◌, ◌≤◌, ◌+◌, ◌++◌, drop, length, reverse, after_zeros, coded}
+use Rattle.avc_make.proofs.Slices.{◌≡◌, ◌≤◌, ◌+◌, ◌++◌, drop, length, reverse, after_zeros, coded}
 use Rattle.avc_make.proofs.coefficients.Coefficients.of.Given as goal
 
 -- what is left to be found and what was found are all

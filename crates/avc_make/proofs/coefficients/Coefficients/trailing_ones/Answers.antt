@@ -1,6 +1,5 @@
-use Rattle.avc_make.proofs.Common.{◌≡◌, ◌≢◌, ◌+◌, ◌-◌, ◌<◌, suc, pos, [], length, drop, nat_abs, to_z, of_z, w16, ap, arith, ints, drop_all}
-use Rattle.avc_make.proofs.Common.{length-map, ones_first, values_of}
-use Rattle.avc_make.proofs.BlockPutting.{at_place, ones_end, ones_more, ones_stop}
+use Rattle.avc_make.proofs.Slices.{◌≡◌, ◌≢◌, ◌+◌, ◌-◌, ◌<◌, suc, pos, [], length, drop, nat_abs, to_z, of_z, w16, ap, arith, ints, drop_all, length-map}
+use Rattle.avc_make.proofs.Slices.{ones_first, values_of, at_place, ones_end, ones_more, ones_stop}
 use Rattle.avc_make.proofs.coefficients.Coefficients.trailing_ones.Goals.{then-k-len-via-then-k-len, then-k-len-via-else-k-len+then-unsigned_abs-ne1}
 use Rattle.avc_make.proofs.coefficients.Coefficients.trailing_ones.Goals as goal
 

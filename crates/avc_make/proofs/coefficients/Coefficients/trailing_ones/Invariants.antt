@@ -1,4 +1,4 @@
-use Rattle.avc_make.proofs.Common.{◌≡◌, ◌≤◌, ◌+◌, ◌-◌, drop, length, ones_first, values_of}
+use Rattle.avc_make.proofs.Slices.{◌≡◌, ◌≤◌, ◌+◌, ◌-◌, drop, length, ones_first, values_of}
 use Rattle.avc_make.proofs.coefficients.Coefficients.trailing_ones.Given as goal
 
 -- those so far, and those among the others

@@ -1,4 +1,4 @@
-use Rattle.avc_make.proofs.Common.{◌≡◌, take, sum, runs_of}
+use Rattle.avc_make.proofs.Slices.{◌≡◌, take, sum, runs_of}
 use Rattle.avc_make.proofs.coefficients.Coefficients.zeros.Given as goal
 
 abbrev pub invariant-runs : goal.invariant-runs

@@ -1,4 +1,4 @@
-use Rattle.std.proofs.Common.{ap, ◌∙◌}
+use Rattle.avc_make.proofs.Slices.{ap, ◌∙◌}
 use Rattle.avc_make.proofs.maker.BitMaker.bytes.Goals as goal
 
 pub returns : goal.returns

@@ -1,5 +1,4 @@
-use Rattle.std.proofs.Common.{ap, ◌∙◌, ◌∷◌, ◌++◌, [], sym, false}
-use Rattle.avc_make.proofs.Filling.{filled_bits, filled_by}
+use Rattle.avc_make.proofs.Slices.{ap, ◌∙◌, ◌∷◌, ◌++◌, [], sym, false, filled_bits, filled_by}
 use Rattle.avc_make.proofs.maker.BitMaker.flag.Goals as goal
 
 pub invariant_of-self-2 : goal.invariant_of-self-2

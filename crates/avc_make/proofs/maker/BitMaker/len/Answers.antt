@@ -1,5 +1,4 @@
-use Rattle.std.proofs.Common.{ap, ◌∙◌, arith, length}
-use Rattle.avc_make.proofs.Filling.{filled_length}
+use Rattle.avc_make.proofs.Slices.{ap, ◌∙◌, arith, length, filled_length}
 use Rattle.avc_make.proofs.maker.BitMaker.len.Goals as goal
 
 pub returns : goal.returns

@@ -1,4 +1,4 @@
-use Rattle.std.proofs.Common.{◌≡◌, ◌-◌, suc, ap, append_assoc, arith}
+use Rattle.avc_make.proofs.Slices.{◌≡◌, ◌-◌, suc, ap, append_assoc, arith}
 use Rattle.avc_make.proofs.maker.BitMaker.put.Goals as goal
 
 pub loop-left-preserved : goal.loop-left-preserved

@@ -1,4 +1,4 @@
-use Rattle.avc_make.proofs.Common.{◌≡◌, ◌≤◌, ◌++◌, false, bits_of}
+use Rattle.avc_make.proofs.Slices.{◌≡◌, ◌≤◌, ◌++◌, false, bits_of}
 use Rattle.avc_make.proofs.maker.BitMaker.put.Given as goal
 
 -- what was put and the bits that are left are all

@@ -1,4 +1,4 @@
-use Rattle.avc_make.proofs.Common.{◌≡◌, arith, refl, to_z, of_z, w32, ints, se_word}
+use Rattle.avc_make.proofs.Slices.{◌≡◌, arith, refl, to_z, of_z, w32, ints, se_word}
 use Rattle.avc_make.proofs.maker.BitMaker.se.Goals as goal
 
 pub returns : goal.returns

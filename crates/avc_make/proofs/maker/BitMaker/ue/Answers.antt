@@ -1,5 +1,4 @@
-use Rattle.std.proofs.Common.{append_assoc, refl}
-use Rattle.avc_make.proofs.Putting.{ue_put}
+use Rattle.avc_make.proofs.Slices.{append_assoc, refl, ue_put}
 use Rattle.avc_make.proofs.maker.BitMaker.ue.Goals as goal
 
 pub returns : goal.returns

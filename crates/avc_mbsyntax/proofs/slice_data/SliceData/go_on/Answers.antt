@@ -43,5 +43,5 @@ returns c = λ s before f l u.
     let over : more_data (reader_bits c.args.self.now.reader) ≡ false = sym c.more_data-more.ensures ∙ c.if-more.false in (
       ap (λ t. rest_at t s before d.qp (reader_bits d.reader)) c.requires ∙ run_ends s c.args.count before d.qp (reader_bits d.reader) kept.0 none over,
       refl,
-      record { is_p = f.is_p; active_count = f.active_count; size = f.size; quantiser = f.quantiser; stage = tt },
+      record { is_p = f.is_p; num_ref_idx_active = f.num_ref_idx_active; size = f.size; quantiser = f.quantiser; stage = tt },
     )

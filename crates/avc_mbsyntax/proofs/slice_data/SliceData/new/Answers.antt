@@ -3,7 +3,7 @@ use Rattle.avc_mbsyntax.proofs.slice_data.SliceData.new.Goals as goal
 
 pub returns : goal.returns
 unfolding rest_of
-returns c = λ s before is_p active_count qp size. (
-  record { is_p = is_p; active_count = active_count; size = size; quantiser = λ small. omega (arith, small, qp); stage = tt },
+returns c = λ s before is_p num_ref_idx_active qp size. (
+  record { is_p = is_p; num_ref_idx_active = num_ref_idx_active; size = size; quantiser = λ small. omega (arith, small, qp); stage = tt },
   ap (λ q. data_from s before q (reader_bits c.args.reader)) (sym qp),
 )

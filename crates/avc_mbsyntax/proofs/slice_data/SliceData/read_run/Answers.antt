@@ -32,5 +32,5 @@ unfolding rest_of
 returns-clause-run c = λ s before f inter.
     let d = c.args.self.now in (
       ap (λ t. rest_at t s before d.qp (reader_bits d.reader)) c.requires ∙ p_run s before d.qp d.remaining c.in_ok-count.count (reader_bits d.reader) (reader_bits c.ue.new.self) inter f.size c.if-self-eq0.false c.in_ok-count.ensures.read.0 c.if-count-self.false,
-      record { is_p = f.is_p; active_count = f.active_count; size = f.size; quantiser = f.quantiser; stage = (inter, c.if-count-self.false) },
+      record { is_p = f.is_p; num_ref_idx_active = f.num_ref_idx_active; size = f.size; quantiser = f.quantiser; stage = (inter, c.if-count-self.false) },
     )

@@ -13,7 +13,7 @@ returns c = rw c.set_skipped.ensures (λ s before f.
       ap (λ t. rest_at t s before d.qp (reader_bits d.reader)) c.requires.stage ∙ skip_more s c.args.count (c.args.count - 1) before d.qp (reader_bits d.reader) count,
       record {
         is_p = f.is_p;
-        active_count = f.active_count;
+        num_ref_idx_active = f.num_ref_idx_active;
         size = one_longer before (placed s (skipped d.qp)) s.size d.remaining f.size some ∙ ap (λ n. length (before ++ placed s (skipped d.qp) ∷ []) + n) (sym c.saturating_sub-self.ensures);
         quantiser = f.quantiser;
         stage = (kept.0, omega (arith, kept.1, c.saturating_sub-self.ensures));

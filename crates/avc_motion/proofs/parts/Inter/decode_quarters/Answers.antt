@@ -1,11 +1,11 @@
 use Rattle.avc_motion.proofs.Common.{Err, slice_index_or, ◌≡◌, ◌∙◌, rules, arith, sym, ap}
-use Rattle.avc_motion.proofs.Common.{parts_of_quarter, quarter_x, quarter_y, Sub8x8, facts_of, motion_near, decoded}
+use Rattle.avc_motion.proofs.Common.{parts_of_quarter, quarter_x, quarter_y, Sub8x8, info_of, motion_near, decoded}
 use Rattle.avc_motion.proofs.Stepping.{decodes_ok, decodes_err, quarter_goes_on, quarter_stops, all_behind}
 use Rattle.avc_motion.proofs.parts.Inter.decode_quarters.Goals as goal
 
 pub returns-in_err-decode_quarter-clause-motion : goal.returns-in_err-decode_quarter-clause-motion
 returns-in_err-decode_quarter-clause-motion c =
-    let near = motion_near (facts_of c.args.self.now.neighbours.now) in
+    let near = motion_near (info_of c.args.self.now.neighbours.now) in
     let shape = c.args.self.now.mb_type.now in
     let refs = c.args.self.now.ref_idx.now in
     let mine = c.loop-quarter.mine in
@@ -22,7 +22,7 @@ returns-in_err-decode_quarter-clause-motion c =
 
 pub loop-quarter-preserved : goal.loop-quarter-preserved
 loop-quarter-preserved c =
-    let near = motion_near (facts_of c.args.self.now.neighbours.now) in
+    let near = motion_near (info_of c.args.self.now.neighbours.now) in
     let shape = c.args.self.now.mb_type.now in
     let refs = c.args.self.now.ref_idx.now in
     let mine = c.loop-quarter.mine in

@@ -1,5 +1,5 @@
 use Rattle.avc_picture.proofs.Common.{◌≡◌, ◌∙◌, ◌/◌, refl, sym, ap, subst, arith, length, rules, w8, to_z, of_z, planes_of, HoldsFirst}
-use Rattle.avc_picture.proofs.Common.{MbsState, AreFactsOf, FiltersUpTo, filtered_rows, state_of}
+use Rattle.avc_picture.proofs.Common.{MbsState, AreInfoOf, FiltersUpTo, filtered_rows, state_of}
 use Rattle.avc_picture.proofs.Whole.{filtered_is}
 use Rattle.avc_picture.proofs.macroblocks.Macroblocks.deblocked.Goals as goal
 
@@ -19,10 +19,10 @@ returns g c =
           let last : m.next ≡ length coded.mbs = ap (λ (o : MbsState). o.next) c.self.view_is ∙ whole in
           let back : to_z w8 (of_z w8 i.canvas.chroma_qp_index_offset) ≡ i.canvas.chroma_qp_index_offset = search rules in
           let width : i.filter_rows.width ≡ coded.width = w.filter_width ∙ h.width in
-          let of : AreFactsOf coded names (to_z w8 (of_z w8 i.canvas.chroma_qp_index_offset)) i.filter_rows = record {
+          let of : AreInfoOf coded names (to_z w8 (of_z w8 i.canvas.chroma_qp_index_offset)) i.filter_rows = record {
             width_is = sym width;
             offset_is = sym h.offset ∙ sym back;
-            facts_are = h.filter;
+            info_are = h.filter;
           } in
           let before = planes_of i.planes in
           let after = planes_of c.filter_last_row.new.planes in

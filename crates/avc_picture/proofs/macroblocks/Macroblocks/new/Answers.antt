@@ -1,5 +1,5 @@
 use Rattle.avc_picture.proofs.Common.{◌≡◌, ◌∙◌, ◌≤◌, ◌*◌, refl, sym, ap, subst, arith, w8, w32, to_z, of_z, ints, max_macroblocks}
-use Rattle.avc_picture.proofs.Common.{height_in_mbs, Planes, planes_of, FilterFacts, CanvasState, HoldsFirst, PartsAgree, IsSized}
+use Rattle.avc_picture.proofs.Common.{height_in_mbs, Planes, planes_of, FilterInfo, CanvasState, HoldsFirst, PartsAgree, IsSized}
 use Rattle.avc_picture.proofs.Keeping.{holds_none, kept_none, whole_plane}
 use Rattle.avc_picture.proofs.macroblocks.Macroblocks.new.Goals as goal
 
@@ -15,10 +15,10 @@ invariant_of-result g c =
     (subst (λ k. k * height_in_mbs c.args.sps.now ≤ max_macroblocks) (sym c.width_in_mbs-width.ensures) c.requires.sps.size) in
     record {
       sized = c.in_ok-planes.ensures;
-      filter_width = ap (λ (f : FilterFacts). f.width) c.in_ok-facts.ensures.filter_rows;
-      kept = subst (λ (f : FilterFacts). PartsAgree (record { canvas = state (planes_of c.in_ok-planes.planes); row = c.in_ok-facts.facts.row; filter_facts = f.facts; next = 0 }))
-          (sym c.in_ok-facts.ensures.filter_rows)
-          (kept_none _ _ w h offset constrained (planes_of c.in_ok-planes.planes) refl c.in_ok-facts.ensures.row (omega (arith, c.width_in_mbs-width.ensures))
+      filter_width = ap (λ (f : FilterInfo). f.width) c.in_ok-info.ensures.filter_rows;
+      kept = subst (λ (f : FilterInfo). PartsAgree (record { canvas = state (planes_of c.in_ok-planes.planes); row = c.in_ok-info.info.row; filter_info = f.info; next = 0 }))
+          (sym c.in_ok-info.ensures.filter_rows)
+          (kept_none _ _ w h offset constrained (planes_of c.in_ok-planes.planes) refl c.in_ok-info.ensures.row (omega (arith, c.width_in_mbs-width.ensures))
           (omega (arith, c.height_in_mbs-height.ensures)) size);
     }
 
@@ -39,7 +39,7 @@ returns-clause-holds g c = λ coded names sets.
       cb = whole_plane (8 * w) (8 * h) planes.cb size.cb_width size.cb_height c.holds_bytes-2.ensures.all;
       cr = whole_plane (8 * w) (8 * h) planes.cr size.cr_width size.cr_height c.holds_bytes-3.ensures.all;
     } in
-    subst (λ (f : FilterFacts). HoldsFirst coded names (record { canvas = state planes; row = c.in_ok-facts.facts.row; filter_facts = f.facts; next = 0 }))
-    (sym c.in_ok-facts.ensures.filter_rows)
-    (holds_none _ _ w h offset constrained planes refl c.in_ok-facts.ensures.row coded names whole (sets.width ∙ sym c.width_in_mbs-width.ensures)
+    subst (λ (f : FilterInfo). HoldsFirst coded names (record { canvas = state planes; row = c.in_ok-info.info.row; filter_info = f.info; next = 0 }))
+    (sym c.in_ok-info.ensures.filter_rows)
+    (holds_none _ _ w h offset constrained planes refl c.in_ok-info.ensures.row coded names whole (sets.width ∙ sym c.width_in_mbs-width.ensures)
     (sets.height ∙ sym c.height_in_mbs-height.ensures) (sets.offset ∙ sym cast) sets.constrained)

@@ -1,4 +1,4 @@
-use Rattle.avc_picture_core.proofs.Common.{rules, ◌≡◌, ◌∙◌, ℤ, w8, to_z, of_z, ap, subst, Mb, facts_of, planes_of, chroma_qp}
+use Rattle.avc_picture_core.proofs.Common.{rules, ◌≡◌, ◌∙◌, ℤ, w8, to_z, of_z, ap, subst, Mb, info_of, planes_of, chroma_qp}
 use Rattle.avc_picture_core.specs.Canvas.{IsBuilt, IsPlaceOn}
 use Rattle.avc_picture_core.specs.CanvasFields.{with_planes}
 use Rattle.avc_picture_core.proofs.PlaceOn.{canvas_built}
@@ -9,8 +9,8 @@ returns-clause-built g c = λ p.
     let s = c.args.self.now in
     let canvas = with_planes s (planes_of c.args.planes.now) in
     let back : to_z w8 (of_z w8 s.chroma_qp_index_offset) ≡ s.chroma_qp_index_offset = search rules in
-    subst (λ (m : Mb). IsPlaceOn canvas c.args.address m c.args.facts.now (facts_of c.args.sources.now.neighbours) c.args.sources.now.references.now p
+    subst (λ (m : Mb). IsPlaceOn canvas c.args.address m c.args.info.now (info_of c.args.sources.now.neighbours) c.args.sources.now.references.now p
     → IsBuilt p c.build_macroblock.result canvas (with_planes s (planes_of c.build_macroblock.new.planes))) c.mb.view_is
-    (λ on. canvas_built canvas c.args.address c.chroma_qp.result _ c.args.facts.now (facts_of c.args.sources.now.neighbours) c.readable_neighbours-readable.result
+    (λ on. canvas_built canvas c.args.address c.chroma_qp.result _ c.args.info.now (info_of c.args.sources.now.neighbours) c.readable_neighbours-readable.result
     c.args.sources.now.references.now p on (c.chroma_qp.ensures.value ∙ ap (λ (z : ℤ). chroma_qp z c.mb.inside.qp) back) c.readable_neighbours-readable.ensures
     c.build_macroblock.result (planes_of c.build_macroblock.new.planes) (c.build_macroblock.ensures.built p))

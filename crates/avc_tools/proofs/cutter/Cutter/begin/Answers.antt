@@ -1,5 +1,4 @@
-use Rattle.avc_tools.proofs.Common.{◌++◌, ap, ◌∙◌, flat_map, kept_bytes}
-use Rattle.avc_tools.proofs.Taking.{made_first}
+use Rattle.avc_tools.proofs.Taking.{◌++◌, ap, ◌∙◌, flat_map, kept_bytes, made_first}
 use Rattle.avc_tools.proofs.cutter.Cutter.begin.Goals as goal
 
 pub returns-clause-piece : goal.returns-clause-piece

@@ -1,5 +1,4 @@
-use Rattle.std.proofs.Common.{refl}
-use Rattle.avc_tools.proofs.Taking.{stands_new}
+use Rattle.avc_tools.proofs.Taking.{refl, stands_new}
 use Rattle.avc_tools.proofs.cutter.Cutter.new.Goals as goal
 
 pub returns : goal.returns

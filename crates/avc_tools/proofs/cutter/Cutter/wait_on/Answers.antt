@@ -1,5 +1,4 @@
-use Rattle.std.proofs.Common.{sym, ◌∙◌, true, false, arith}
-use Rattle.avc_tools.proofs.Taking.{begins, waits_on}
+use Rattle.avc_tools.proofs.Taking.{sym, ◌∙◌, true, false, arith, begins, waits_on}
 use Rattle.avc_tools.proofs.cutter.Cutter.wait_on.Goals as goal
 
 pub returns-then-self-eq0 : goal.returns-then-self-eq0

@@ -1,5 +1,4 @@
-use Rattle.avc_tools.proofs.Common.{◌++◌, [], refl, ap, sym, ◌∙◌, if◌then◌else◌, not, written}
-use Rattle.avc_tools.proofs.Taking.{ends_by, goes_on, goes_on_by_slice}
+use Rattle.avc_tools.proofs.Taking.{◌++◌, [], refl, ap, sym, ◌∙◌, if◌then◌else◌, not, written, ends_by, goes_on, goes_on_by_slice}
 use Rattle.avc_tools.proofs.cutter.Cutter.write_on.Goals as goal
 
 pub returns-then-branch : goal.returns-then-branch

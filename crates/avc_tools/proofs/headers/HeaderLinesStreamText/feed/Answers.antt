@@ -1,6 +1,4 @@
-use Rattle.avc_tools.proofs.Common.{ap, ◌∙◌, arith, max_unit}
-use Rattle.avc_tools.proofs.Growing.{left_by_feed}
-use Rattle.avc_tools.proofs.Shown.{header_lines_added, shown_again}
+use Rattle.avc_tools.proofs.Shown.{ap, ◌∙◌, arith, max_unit, left_by_feed, header_lines_added, shown_again}
 use Rattle.avc_tools.proofs.headers.HeaderLinesStreamText.feed.Goals as goal
 
 pub invariant_of-self-2 : goal.invariant_of-self-2

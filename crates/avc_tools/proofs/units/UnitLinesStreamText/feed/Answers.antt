@@ -1,5 +1,4 @@
-use Rattle.std.proofs.Common.{ap, ◌∙◌}
-use Rattle.avc_tools.proofs.Growing.{drained, left_by_feed, unit_lines_added}
+use Rattle.avc_tools.proofs.Growing.{ap, ◌∙◌, drained, left_by_feed, unit_lines_added}
 use Rattle.avc_tools.proofs.units.UnitLinesStreamText.feed.Goals as goal
 
 pub invariant_of-self-2 : goal.invariant_of-self-2

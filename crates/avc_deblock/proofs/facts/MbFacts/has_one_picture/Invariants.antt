@@ -1,5 +1,0 @@
-use Rattle.std.proofs.Common.{◌≡◌, ◌<◌, ℕ, true, slice_index}
-use Rattle.avc_deblock.proofs.facts.MbFacts.has_one_picture.Given as goal
-
-abbrev pub invariant-loop-k : goal.invariant-loop-k
-invariant-loop-k l = l.same ≡ true → (k : ℕ) → k < l.k → slice_index l.self.pictures k ≡ slice_index l.self.pictures 0

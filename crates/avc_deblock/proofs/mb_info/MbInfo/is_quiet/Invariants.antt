@@ -1,0 +1,7 @@
+use Rattle.avc_deblock.proofs.Common.{◌≡◌, ◌<◌, ◌+◌, ◌%◌, ℕ, true, edge_block, inter_strength}
+use Rattle.avc_deblock.proofs.mb_info.MbInfo.is_quiet.Given as goal
+
+abbrev pub invariant-loop-k : goal.invariant-loop-k
+invariant-loop-k l = record {
+  none : l.quiet ≡ true → (k : ℕ) → k < l.k → inter_strength l.self (edge_block l.is_vertical ((l.n + 3) % 4) k) l.q (edge_block l.is_vertical l.n k) ≡ 0;
+}

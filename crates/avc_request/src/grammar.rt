@@ -1,0 +1,261 @@
+// The words that the program takes, as clap reads them and shows them for help.
+use clap::{Arg, ArgAction, Command as Grammar, Error};
+use std::alloc::Global;
+
+pub(crate) const DECODE: &str = "decode";
+
+pub(crate) const UNITS: &str = "units";
+
+pub(crate) const HEADERS: &str = "headers";
+
+pub(crate) const INFO: &str = "info";
+
+pub(crate) const CUT: &str = "cut";
+
+pub(crate) const EARLY: &str = "early";
+
+pub(crate) const NUMBER: &str = "N";
+
+pub(crate) const INPUT: &str = "INPUT";
+
+pub(crate) const OUTPUT: &str = "output";
+
+pub(crate) const FORMAT: &str = "format";
+
+pub(crate) const I420: &str = "i420";
+
+pub(crate) const NULL: &str = "null";
+
+pub(crate) const MD5: &str = "md5";
+
+pub(crate) const Y4M: &str = "y4m";
+
+pub(crate) const FRAME_MD5: &str = "framemd5";
+
+const FORMATS: &[&str] = &[I420, Y4M, NULL, MD5, FRAME_MD5];
+
+pub(crate) const VERIFY: &str = "verify";
+
+pub(crate) const SKIP: &str = "skip";
+
+pub(crate) const LIMIT: &str = "limit";
+
+pub(crate) const PROGRESS: &str = "progress";
+
+pub(crate) const QUIET: &str = "quiet";
+
+pub(crate) const JSON: &str = "json";
+
+const STATUSES: &str = concat!(
+    "Exit status: 0 all well, 1 decode refused something or found another MD5 or cut has no such piece, 2 wrong words, ",
+    "3 reading or writing failed, 4 out of memory"
+);
+
+/// What stands for a word on the command line, and what it takes.
+#[derive(Clone, Copy)]
+enum Kind {
+    /// An option without a value.
+    Flag,
+
+    /// An option with a number of pictures.
+    Pictures,
+
+    /// An option with an MD5.
+    Digest,
+
+    /// An option with one of the formats.
+    Format,
+
+    /// An option with the file to write, which has a short name too.
+    Output,
+
+    /// The file to read, which may be left out.
+    Input,
+
+    /// The number of a piece.
+    Piece,
+}
+
+/// A word that a command takes.
+struct Word {
+    name: &'static str,
+    kind: Kind,
+    help: &'static str,
+
+    /// The options that may not stand beside it.
+    conflicts: &'static [&'static str],
+}
+
+/// A command, with the words that it takes.
+struct CommandWords {
+    name: &'static str,
+    about: &'static str,
+    example: &'static str,
+    words: &'static [Word],
+}
+
+const INPUT_WORD: Word = Word {
+    name: INPUT,
+    kind: Kind::Input,
+    help: "The file to read; standard input where none is named, and for -",
+    conflicts: &[],
+};
+
+const OUTPUT_WORD: Word = Word {
+    name: OUTPUT,
+    kind: Kind::Output,
+    help: "The file to write, which is emptied first; standard output where none is named, and for -",
+    conflicts: &[],
+};
+
+const COMMANDS: &[CommandWords] = &[
+    CommandWords {
+        name: DECODE,
+        about: "Writes the decoded pictures as I420, cropped, in output order",
+        example: concat!(
+            "Example: avcdec decode in.264 -o out.yuv\n",
+            "         avcdec decode --format framemd5 in.264 | diff - other.framemd5"
+        ),
+        words: &[
+            Word {
+                name: EARLY,
+                kind: Kind::Flag,
+                help: "Writes a picture as soon as the stream's reorder number lets it go out",
+                conflicts: &[],
+            },
+            Word {
+                name: FORMAT,
+                kind: Kind::Format,
+                help: "How the pictures are written: i420 unless FILE ends in .y4m, md5 writes their MD5 alone, framemd5 that of each, null nothing",
+                conflicts: &[],
+            },
+            Word {
+                name: VERIFY,
+                kind: Kind::Digest,
+                help: "Writes nothing; the status is 1 where the pictures have another MD5, in hex digits",
+                conflicts: &[FORMAT, OUTPUT],
+            },
+            Word {
+                name: SKIP,
+                kind: Kind::Pictures,
+                help: "Leaves out the first N pictures",
+                conflicts: &[],
+            },
+            Word {
+                name: LIMIT,
+                kind: Kind::Pictures,
+                help: "Decodes until N pictures are out, those left out not counted",
+                conflicts: &[],
+            },
+            Word {
+                name: PROGRESS,
+                kind: Kind::Flag,
+                help: "Shows on standard error how far decoding is, also where that is no terminal",
+                conflicts: &[QUIET],
+            },
+            Word {
+                name: QUIET,
+                kind: Kind::Flag,
+                help: "Shows no progress; refusals and faults are told",
+                conflicts: &[],
+            },
+            OUTPUT_WORD,
+            INPUT_WORD,
+        ],
+    },
+    CommandWords {
+        name: UNITS,
+        about: "Prints a line for each unit: INDEX OFFSET LENGTH TYPE REFIDC",
+        example: "Example: avcdec units in.264 | head -3",
+        words: &[INPUT_WORD],
+    },
+    CommandWords {
+        name: HEADERS,
+        about: "Prints a line for each parameter set and slice",
+        example: "Example: avcdec headers in.264 | grep sps",
+        words: &[INPUT_WORD],
+    },
+    CommandWords {
+        name: INFO,
+        about: "Prints the size, profile, level and frame rate, and counts of pictures and slices, without decoding",
+        example: "Example: avcdec info in.264",
+        words: &[
+            Word {
+                name: JSON,
+                kind: Kind::Flag,
+                help: "Prints one line of JSON, for programs",
+                conflicts: &[],
+            },
+            INPUT_WORD,
+        ],
+    },
+    CommandWords {
+        name: CUT,
+        about: "Writes one of the pieces that can be decoded by themselves, each from an IDR picture on",
+        example: "Example: avcdec cut 2 in.264 | avcdec decode -o piece.yuv",
+        words: &[
+            Word {
+                name: NUMBER,
+                kind: Kind::Piece,
+                help: "The number of the piece, from 0",
+                conflicts: &[],
+            },
+            OUTPUT_WORD,
+            INPUT_WORD,
+        ],
+    },
+];
+
+/// What words the program takes.
+pub(crate) fn grammar<'a>(alloc: Global) -> Result<Grammar<'a>, Error> {
+    let mut program = Grammar::new(alloc, "avcdec")
+        .bin_name("avcdec")?
+        .version("0.1.0")
+        .about("Reads an H.264 byte stream (Annex B)")
+        .after_help(STATUSES)
+        .subcommand_required(true);
+    for command in COMMANDS {
+        program = program.subcommand(command_of(alloc, command)?)?;
+    }
+    Ok(program)
+}
+
+fn command_of<'a>(alloc: Global, command: &CommandWords) -> Result<Grammar<'a>, Error> {
+    let mut grammar = Grammar::new(alloc, command.name)
+        .about(command.about)
+        .after_help(command.example);
+    for word in command.words {
+        grammar = grammar.arg(arg_of(alloc, word)?)?;
+    }
+    Ok(grammar)
+}
+
+fn arg_of<'a>(alloc: Global, word: &Word) -> Result<Arg<'a>, Error> {
+    let plain = Arg::new(alloc, word.name).help(word.help);
+    let mut arg = taking(plain, word.name, word.kind);
+    for other in word.conflicts {
+        arg = arg.conflicts_with(*other)?;
+    }
+    Ok(arg)
+}
+
+// The word, with what stands for it and what it takes.
+fn taking<'a>(arg: Arg<'a>, name: &'static str, kind: Kind) -> Arg<'a> {
+    match kind {
+        Kind::Flag => arg.long(name).action(ArgAction::SetTrue),
+        Kind::Pictures => option(arg, name, NUMBER).value_parser(clap::value_parser!(u64)),
+        Kind::Digest => option(arg, name, "MD5"),
+        Kind::Format => option(arg, name, "format").value_parser(FORMATS),
+        Kind::Output => option(arg, name, "FILE").short('o'),
+        Kind::Input => arg.action(ArgAction::Set),
+        Kind::Piece => arg
+            .required(true)
+            .action(ArgAction::Set)
+            .value_parser(clap::value_parser!(u32)),
+    }
+}
+
+// An option with a value, which help calls so.
+fn option<'a>(arg: Arg<'a>, name: &'static str, value_name: &'static str) -> Arg<'a> {
+    arg.long(name).value_name(value_name).action(ArgAction::Set)
+}

@@ -1,0 +1,85 @@
+use avc_formats::HeadedFormat;
+use avc_run::{Names, Output};
+
+/// What the words of the command line ask for.
+#[derive(Clone, Copy, Debug, PartialEq, Eq)]
+pub struct Request<'a> {
+    pub task: Task,
+
+    /// The files, where they are not the standard input and output.
+    pub names: Names<'a>,
+
+    pub progress: Telling,
+}
+
+/// When a line says how far decoding is.
+#[derive(Clone, Copy, Debug, PartialEq, Eq)]
+pub enum Telling {
+    Always,
+
+    /// Where the standard error is a terminal.
+    ToTerminals,
+
+    Never,
+}
+
+/// What is done with a stream.
+#[derive(Clone, Copy, Debug, PartialEq, Eq)]
+pub enum Task {
+    /// The pictures are written, each as soon as it goes out in this mode.
+    Decode(Output),
+
+    /// The pictures are decoded so, and not written.
+    Check(Output),
+
+    /// Some of the pictures are decoded so, and written or compared in another way.
+    Show(Showing),
+
+    /// A line for each unit.
+    Units,
+
+    /// A line for each parameter set and slice.
+    Headers,
+
+    /// What the headers say of the stream.
+    Info,
+
+    /// The same for programs.
+    InfoJson,
+
+    /// The piece of this number.
+    Cut(u32),
+}
+
+/// Which pictures, and what becomes of them.
+#[derive(Clone, Copy, Debug, PartialEq, Eq)]
+pub struct Showing {
+    pub mode: Output,
+
+    /// How many pictures are left out first.
+    pub skip: u64,
+
+    /// How many are decoded behind these at most.
+    pub limit: u64,
+
+    pub form: Form,
+}
+
+/// What becomes of pictures.
+#[derive(Clone, Copy, Debug, PartialEq, Eq)]
+pub enum Form {
+    /// They are written as I420.
+    I420,
+
+    /// They are not written.
+    Null,
+
+    /// Their MD5 is written.
+    Md5,
+
+    /// They are written in a format with a head.
+    Headed(HeadedFormat),
+
+    /// Their MD5 is compared with this one.
+    Verify([u8; 16]),
+}

@@ -1,0 +1,196 @@
+// What no contract says: what the words of the command line mean. Where an allocation is refused
+// (`rt try --test --fail-alloc N`), a test ends in that error, and not at an assertion.
+use avc_formats::HeadedFormat;
+use avc_request::{Form, Request, Showing, Task, Telling, requested};
+use avc_run::{Names, Output};
+use clap::error::ErrorKind;
+use std::alloc::Global;
+use std::test::Fail;
+
+// How the words are taken: a request, or an error of this kind with this exit status.
+fn taken(
+    alloc: Global,
+    line: &str,
+    wanted: Result<Request<'_>, (ErrorKind, i32)>,
+) -> Result<bool, clap::Error> {
+    let mut words = Vec::new(alloc);
+    for word in line.split_whitespace() {
+        words.push(String::from_str(alloc, word)?)?;
+    }
+    match requested(alloc, &words) {
+        Err(error) if error.kind() == ErrorKind::OutOfMemory => Err(error),
+        Err(error) => Ok(wanted == Err((error.kind(), error.exit_code()))),
+        Ok(request) => Ok(wanted == Ok(request)),
+    }
+}
+
+// When progress is told where no word says so.
+fn usual_progress(task: Task) -> Telling {
+    match task {
+        Task::Decode(_) | Task::Check(_) | Task::Show(_) => Telling::ToTerminals,
+        _ => Telling::Never,
+    }
+}
+
+// With these files.
+fn named(
+    task: Task,
+    input: Option<&'static str>,
+    output: Option<&'static str>,
+) -> Result<Request<'static>, (ErrorKind, i32)> {
+    Ok(Request {
+        task,
+        names: Names { input, output },
+        progress: usual_progress(task),
+    })
+}
+
+// From standard input to standard output.
+fn plain(task: Task) -> Result<Request<'static>, (ErrorKind, i32)> {
+    named(task, None, None)
+}
+
+// The same where progress is told so.
+fn telling(task: Task, progress: Telling) -> Result<Request<'static>, (ErrorKind, i32)> {
+    Ok(Request {
+        task,
+        names: Names {
+            input: None,
+            output: None,
+        },
+        progress,
+    })
+}
+
+// So many pictures in this form.
+fn shown(limit: u64, form: Form) -> Task {
+    Task::Show(Showing {
+        mode: Output::Full,
+        skip: 0,
+        limit,
+        form,
+    })
+}
+
+#[test]
+fn takes_words(rt: HostRuntime) -> Result<(), Fail> {
+    let full = Task::Decode(Output::Full);
+    let cases = [
+        ("avcdec decode", plain(full)),
+        ("avcdec decode - -o -", plain(full)),
+        (
+            "avcdec decode in.264 -o out.yuv",
+            named(full, Some("in.264"), Some("out.yuv")),
+        ),
+        ("avcdec decode --early", plain(Task::Decode(Output::Early))),
+        ("avcdec decode --format i420", plain(full)),
+        (
+            "avcdec decode --format null",
+            plain(Task::Check(Output::Full)),
+        ),
+        (
+            "avcdec decode --skip 1 --limit 2 --early",
+            plain(Task::Show(Showing {
+                mode: Output::Early,
+                skip: 1,
+                limit: 2,
+                form: Form::I420,
+            })),
+        ),
+        (
+            "avcdec decode --format null --limit 2",
+            plain(shown(2, Form::Null)),
+        ),
+        (
+            "avcdec decode --format md5",
+            plain(shown(u64::MAX, Form::Md5)),
+        ),
+        (
+            "avcdec decode --format y4m",
+            plain(shown(u64::MAX, Form::Headed(HeadedFormat::Y4m))),
+        ),
+        (
+            "avcdec decode --format framemd5",
+            plain(shown(u64::MAX, Form::Headed(HeadedFormat::FrameMd5))),
+        ),
+        (
+            "avcdec decode -o out.y4m",
+            named(
+                shown(u64::MAX, Form::Headed(HeadedFormat::Y4m)),
+                None,
+                Some("out.y4m"),
+            ),
+        ),
+        (
+            "avcdec decode --format i420 -o out.y4m",
+            named(full, None, Some("out.y4m")),
+        ),
+        (
+            "avcdec decode --verify 000102030405060708090a0b0c0d0e0F",
+            plain(shown(
+                u64::MAX,
+                Form::Verify([0, 1, 2, 3, 4, 5, 6, 7, 8, 9, 10, 11, 12, 13, 14, 15]),
+            )),
+        ),
+        (
+            "avcdec decode --verify 000102030405060708090a0b0c0d0e",
+            Err((ErrorKind::ValueValidation, 2)),
+        ),
+        (
+            "avcdec decode --verify 000102030405060708090a0b0c0d0e0F -o out",
+            Err((ErrorKind::ArgumentConflict, 2)),
+        ),
+        (
+            "avcdec decode --verify 000102030405060708090a0b0c0d0e0F --format null",
+            Err((ErrorKind::ArgumentConflict, 2)),
+        ),
+        (
+            "avcdec decode --skip -1",
+            Err((ErrorKind::UnknownArgument, 2)),
+        ),
+        (
+            "avcdec units --limit 2",
+            Err((ErrorKind::UnknownArgument, 2)),
+        ),
+        (
+            "avcdec decode --format png",
+            Err((ErrorKind::InvalidValue, 2)),
+        ),
+        ("avcdec units --early", Err((ErrorKind::UnknownArgument, 2))),
+        ("avcdec units", plain(Task::Units)),
+        ("avcdec info", plain(Task::Info)),
+        ("avcdec info --json", plain(Task::InfoJson)),
+        ("avcdec decode --json", Err((ErrorKind::UnknownArgument, 2))),
+        ("avcdec decode --progress", telling(full, Telling::Always)),
+        ("avcdec decode --quiet", telling(full, Telling::Never)),
+        (
+            "avcdec decode --quiet --progress",
+            Err((ErrorKind::ArgumentConflict, 2)),
+        ),
+        ("avcdec cut 0 --quiet", Err((ErrorKind::UnknownArgument, 2))),
+        (
+            "avcdec headers in.264",
+            named(Task::Headers, Some("in.264"), None),
+        ),
+        (
+            "avcdec cut 0 --output piece.264 in.264",
+            named(Task::Cut(0), Some("in.264"), Some("piece.264")),
+        ),
+        ("avcdec cut 4294967295", plain(Task::Cut(4_294_967_295))),
+        (
+            "avcdec cut 4294967296",
+            Err((ErrorKind::ValueValidation, 2)),
+        ),
+        ("avcdec cut", Err((ErrorKind::MissingRequiredArgument, 2))),
+        ("avcdec --help", Err((ErrorKind::DisplayHelp, 0))),
+        ("avcdec --version", Err((ErrorKind::DisplayVersion, 0))),
+        ("avcdec help units", Err((ErrorKind::DisplayHelp, 0))),
+        ("avcdec", Err((ErrorKind::MissingSubcommand, 2))),
+        ("avcdec unit", Err((ErrorKind::InvalidSubcommand, 2))),
+        ("avcdec units in more", Err((ErrorKind::UnknownArgument, 2))),
+    ];
+    for (line, wanted) in cases {
+        assert!(rt; taken(rt.alloc(), line, wanted)?, "{line}");
+    }
+    Ok(())
+}

@@ -1,0 +1,13 @@
+//! Tests of whole streams: of the decoder's calls, of what is written and told of a stream, and of the program's words.
+#![tactic(auto)]
+
+#[cfg(test)]
+mod command_line;
+#[cfg(test)]
+mod decoder_calls;
+#[cfg(test)]
+mod limited_writer;
+#[cfg(test)]
+mod stream_texts;
+#[cfg(test)]
+mod written_pictures;

@@ -1,0 +1,41 @@
+use std::io;
+use std::io::{ErrorKind, Write};
+
+/// How a writer answers when it takes no more.
+#[derive(Clone, Copy)]
+pub(crate) enum Refusal {
+    Error,
+    Zero,
+}
+
+/// Takes at most `piece` bytes a call and `room` in all.
+#[derive(Drop)]
+pub(crate) struct LimitedWriter {
+    pub piece: usize,
+    pub room: usize,
+    pub refusal: Refusal,
+
+    /// How many of the bytes are 128.
+    pub grey: usize,
+}
+
+impl Write for LimitedWriter {
+    fn write(&mut self, buf: &[u8]) -> io::Result<usize> {
+        let taken = buf.len().min(self.piece).min(self.room);
+        if taken == 0 {
+            return match self.refusal {
+                Refusal::Error => Err(ErrorKind::BrokenPipe.into()),
+                Refusal::Zero => Ok(0),
+            };
+        }
+        self.room -= taken;
+        self.grey = self.grey.saturating_add(
+            buf[..taken].iter().filter(|sample| **sample == 128).count(),
+        );
+        Ok(taken)
+    }
+
+    fn flush(&mut self) -> io::Result<()> {
+        Ok(())
+    }
+}

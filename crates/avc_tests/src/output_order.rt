@@ -1,0 +1,297 @@
+// Which pictures go out of the decoded picture buffer at each step, by worked rows (C.4).
+ghost use Rattle.std.specs.Prelude.{◌≡◌};
+
+use avc_dpb::{ArrivingFrame, Dpb, Output};
+use avc_plane::{Frame, PADDING, Planes};
+use avc_types::{Crop, Mark, OutOfMemory, Picture};
+use std::alloc::{AllocError, Global};
+use std::test::Fail;
+
+/// What happens to the buffer.
+#[derive(Clone, Copy)]
+enum Step {
+    /// A frame of this number is stored, with this mark.
+    Store(u32, Option<Mark>, ArrivingFrame),
+
+    /// The stored frame at this index is unused for reference from now on.
+    Unmark(usize),
+
+    /// All pictures go out.
+    Empty,
+
+    /// All frames leave, and no picture goes out.
+    DropAll,
+
+    /// A frame that has left is taken, to be used again.
+    TakeEmptied,
+}
+
+/// What stands behind the numbers that a step gives.
+const END: u32 = u32::MAX;
+
+const SHORT: Option<Mark> = Some(Mark::Short);
+
+// A reference picture.
+const fn reference(pic_order_cnt: i32, capacity: usize) -> ArrivingFrame {
+    ArrivingFrame {
+        pic_order_cnt,
+        existing: true,
+        is_reference: true,
+        capacity,
+        max_num_reorder_frames: None,
+    }
+}
+
+// A picture that is none.
+const fn other(pic_order_cnt: i32, capacity: usize) -> ArrivingFrame
+    ensures { result.capacity ≡ capacity }
+{
+    ArrivingFrame {
+        pic_order_cnt,
+        existing: true,
+        is_reference: false,
+        capacity,
+        max_num_reorder_frames: None,
+    }
+}
+
+// A frame that stands for a missing frame number.
+const fn missing(capacity: usize) -> ArrivingFrame {
+    ArrivingFrame {
+        pic_order_cnt: 0,
+        existing: false,
+        is_reference: true,
+        capacity,
+        max_num_reorder_frames: None,
+    }
+}
+
+// A reference picture, one of four for which there is room; one picture may stay needed for output.
+const fn one_of_four(pic_order_cnt: i32) -> ArrivingFrame {
+    ArrivingFrame {
+        pic_order_cnt,
+        existing: true,
+        is_reference: true,
+        capacity: 4,
+        max_num_reorder_frames: Some(1),
+    }
+}
+
+// A frame of one macroblock, whose width is its number.
+fn frame(alloc: Global, number: u32, mark: Option<Mark>) -> Result<Frame<PADDING>, OutOfMemory> {
+    Ok(Frame {
+        planes: Some(Planes::new(alloc, 1, 1)?.pad()),
+        frame_num: 0,
+        mark,
+        width: number,
+        height: 16,
+        crop: Crop {
+            left: 0,
+            right: 2,
+            top: 0,
+            bottom: 4,
+        },
+    })
+}
+
+fn add_numbers(given: &mut Vec<u32>, pictures: &[Picture]) -> Result<(), AllocError> {
+    for picture in pictures {
+        given.push(picture.width)?;
+    }
+    Ok(())
+}
+
+// Adds the numbers of the frames that this step gives.
+fn take_step(
+    alloc: Global,
+    dpb: &mut Dpb,
+    step: Step,
+    given: &mut Vec<u32>,
+) -> Result<(), OutOfMemory> {
+    match step {
+        Step::Store(number, mark, arriving) => {
+            if arriving.capacity <= 16 {
+                let stored = frame(alloc, number, mark)?;
+                add_numbers(given, &dpb.store(stored, &arriving)?)?;
+            }
+        }
+        Step::Unmark(index) => {
+            if index < dpb.frames().len() {
+                dpb.mark(index, None);
+            }
+        }
+        Step::Empty => add_numbers(given, &dpb.empty()?)?,
+        Step::DropAll => dpb.drop_all(),
+        Step::TakeEmptied => {
+            if let Some(emptied) = dpb.emptied_frame() {
+                given.push(emptied.width)?;
+            }
+        }
+    }
+    given.push(END)?;
+    Ok(())
+}
+
+fn take_steps(
+    alloc: Global,
+    dpb: &mut Dpb,
+    steps: &[Step],
+    given: &mut Vec<u32>,
+) -> Result<(), OutOfMemory> {
+    for step in steps {
+        take_step(alloc, dpb, *step, given)?;
+    }
+    Ok(())
+}
+
+// Whether these steps give these numbers, END behind those of each, and so many frames are stored then.
+fn gives(
+    alloc: Global,
+    output: Output,
+    steps: &[Step],
+    numbers: &[u32],
+    stored: usize,
+) -> Result<bool, OutOfMemory> {
+    let mut given = Vec::new(alloc);
+    let mut dpb = Dpb::new(alloc, output);
+    take_steps(alloc, &mut dpb, steps, &mut given)?;
+    Ok(given.as_slice() == numbers && dpb.frames().len() == stored)
+}
+
+// Room for two frames, none of which is a reference: order counts 0, 4, 2, 2.
+#[test]
+fn by_order_count(rt: HostRuntime) -> Result<(), Fail> {
+    let steps = [
+        Step::Store(0, None, other(0, 2)),
+        Step::Store(1, None, other(4, 2)),
+        Step::Store(2, None, other(2, 2)),
+        Step::Store(3, None, other(2, 2)),
+        Step::Empty,
+    ];
+    let numbers = [END, END, 0, END, 2, END, 3, 1, END];
+    assert!(rt; gives(rt.alloc(), Output::Full, &steps, &numbers, 0)?);
+    Ok(())
+}
+
+// Room for one frame: the reference picture goes out and stays, and a picture that is none finds no room until it is unmarked.
+#[test]
+fn references_stay(rt: HostRuntime) -> Result<(), Fail> {
+    let steps = [
+        Step::Store(0, SHORT, reference(0, 1)),
+        Step::Store(1, None, other(2, 1)),
+        Step::Unmark(0),
+        Step::Store(2, None, other(4, 1)),
+    ];
+    let numbers = [END, 0, 1, END, END, END];
+    assert!(rt; gives(rt.alloc(), Output::Full, &steps, &numbers, 1)?);
+    Ok(())
+}
+
+// A frame that stands for a missing number makes room and never goes out; what is dropped doesn't either.
+#[test]
+fn never_goes_out(rt: HostRuntime) -> Result<(), Fail> {
+    let steps = [
+        Step::Store(0, None, reference(0, 1)),
+        Step::Store(1, SHORT, missing(1)),
+        Step::Empty,
+        Step::Store(2, None, reference(0, 1)),
+        Step::DropAll,
+        Step::Empty,
+    ];
+    let numbers = [END, 0, END, END, END, END, END];
+    assert!(rt; gives(rt.alloc(), Output::Full, &steps, &numbers, 0)?);
+    Ok(())
+}
+
+// Frames that have left are handed out once each: one that goes out for another, and all where the buffer is emptied.
+#[test]
+fn hands_out_emptied_frames(rt: HostRuntime) -> Result<(), Fail> {
+    let steps = [
+        Step::TakeEmptied,
+        Step::Store(0, None, other(0, 2)),
+        Step::Store(1, None, other(4, 2)),
+        Step::Store(2, None, other(2, 2)),
+        Step::TakeEmptied,
+        Step::TakeEmptied,
+        Step::DropAll,
+        Step::TakeEmptied,
+        Step::TakeEmptied,
+        Step::TakeEmptied,
+        Step::Store(3, None, reference(0, 1)),
+        Step::Empty,
+        Step::TakeEmptied,
+    ];
+    let numbers = [
+        END, END, END, 0, END, 0, END, END, END, 1, END, 2, END, END, END, 3, END, 3, END,
+    ];
+    assert!(rt; gives(rt.alloc(), Output::Full, &steps, &numbers, 0)?);
+    Ok(())
+}
+
+// Order counts 0, 4, 2: no room is needed.
+#[test]
+fn only_where_room_is_needed(rt: HostRuntime) -> Result<(), Fail> {
+    let steps = [
+        Step::Store(0, SHORT, one_of_four(0)),
+        Step::Store(1, SHORT, one_of_four(4)),
+        Step::Store(2, SHORT, one_of_four(2)),
+        Step::Empty,
+    ];
+    let numbers = [END, END, END, 0, 2, 1, END];
+    assert!(rt; gives(rt.alloc(), Output::Full, &steps, &numbers, 0)?);
+    Ok(())
+}
+
+// The same early: the second of two that are needed for output goes out later. The frames stay for reference.
+#[test]
+fn no_more_than_may_stay_needed(rt: HostRuntime) -> Result<(), Fail> {
+    let steps = [
+        Step::Store(0, SHORT, one_of_four(0)),
+        Step::Store(1, SHORT, one_of_four(4)),
+        Step::Store(2, SHORT, one_of_four(2)),
+    ];
+    assert!(rt; gives(rt.alloc(), Output::Early, &steps, &[END, 0, END, 2, END], 3)?);
+    Ok(())
+}
+
+// Early too, where no number is given.
+#[test]
+fn no_limit(rt: HostRuntime) -> Result<(), Fail> {
+    let steps = [
+        Step::Store(0, SHORT, reference(0, 4)),
+        Step::Store(1, SHORT, reference(4, 4)),
+    ];
+    assert!(rt; gives(rt.alloc(), Output::Early, &steps, &[END, END], 2)?);
+    Ok(())
+}
+
+// Stores a picture and a frame that stands for a missing frame number, and hands out all.
+fn shown(alloc: Global, dpb: &mut Dpb) -> Result<Vec<Picture>, OutOfMemory> {
+    dpb.store(frame(alloc, 16, None)?, &other(0, 2))?;
+    let none = Frame {
+        planes: None,
+        ..frame(alloc, 16, None)?
+    };
+    dpb.store(none, &other(2, 2))?;
+    dpb.empty()
+}
+
+fn shown_by_a_new_buffer(alloc: Global) -> Result<Vec<Picture>, OutOfMemory> {
+    let mut dpb = Dpb::new(alloc, Output::Full);
+    shown(alloc, &mut dpb)
+}
+
+// A picture goes out with the samples and the size of its frame; a frame that stands for a missing frame number has none.
+#[test]
+fn shows_its_picture(rt: HostRuntime) -> Result<(), Fail> {
+    let out = shown_by_a_new_buffer(rt.alloc())?;
+    assert_eq!(rt; out.len(), 1);
+    for picture in out.as_slice() {
+        assert_eq!(rt; (picture.width, picture.crop.bottom), (16, 4));
+        assert_eq!(rt;
+            (picture.luma.as_slice().len(), picture.cr.as_slice().len()),
+            (256, 64)
+        );
+    }
+    Ok(())
+}
